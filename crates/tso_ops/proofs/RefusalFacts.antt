@@ -1,0 +1,144 @@
+-- That lists get one refusal at most, and none where they keep the limits.
+use Rattle.std.proofs.Common.{◌≡◌, eq-eqb, ◌⊎◌, ◌∙◌, ⊎_elim, inl, inr, sym, ap, subst, refl, ℕ, ◌+◌, ◌<◌, ◌≤◌, Bool, true, false, ◌||◌, eqb, List, [], ◌∷◌, ◌++◌, Option, Some, None, sum_by, arith}
+use Rattle.std.specs.List.{flat_map, list_any, IsDistinct, AllByRecursion}
+use Rattle.std.specs.Option.{option_to_list}
+use Rattle.std.proofs.lemmas.Bool.{false≢true, cases_lt, cases_eq}
+use Rattle.std.proofs.lemmas.Bool.Decides.{nat_tests}
+use Rattle.std.proofs.lemmas.List.Concat.{flat_map-append}
+use Rattle.std.proofs.lemmas.List.Sums.{sum_by-append, sum_by-cons}
+use Rattle.std.proofs.lemmas.List.Elements.{recursion_from_All}
+use Rattle.std.proofs.lemmas.Map.Keys.{IsDistinct-head, IsDistinct-tail}
+use Rattle.tso_ops.specs.declared.ops.Op.{Op}
+use Rattle.tso_ops.specs.declared.faults.ValueFault.{ValueFault}
+use Rattle.tso_ops.specs.declared.faults.ValueFault.TheVariants.{TooManyProcessors, TooManyEvents, AddressRange, ZeroValue, RepeatedValue, OutOfMemory}
+use Rattle.tso_ops.specs.Values.{ProgramValue, in_file_order}
+use Rattle.tso_ops.specs.Limits.{event_count, barrier_count, address_of, stored_by, total_events, total_barriers, addresses_of, stored_values, KeepsLimits, IsProgram, is_past_addresses, is_zero, is_repeated, has_fault, fault_number, IsFirstFault, IsFaultless, IsFaultOf, IsRefusal}
+
+-- ---- one refusal at most
+
+-- the number tells the refusal
+same_fault : (v w : ValueFault) → fault_number v ≡ fault_number w → v ≡ w
+same_fault TooManyProcessors TooManyProcessors e = refl
+same_fault TooManyEvents TooManyEvents e = refl
+same_fault AddressRange AddressRange e = refl
+same_fault ZeroValue ZeroValue e = refl
+same_fault RepeatedValue RepeatedValue e = refl
+same_fault OutOfMemory OutOfMemory e = refl
+same_fault v w e = absurd (omega arith)
+
+-- of two elements of one list, one stands before the other or they are one
+two_places : {X : Type 0} → (b : List X) (o : X) (a : List X) (c : List X) (q : X) (d : List X) → b ++ o ∷ a ≡ c ++ q ∷ d →
+    ((b ≡ c) × (o ≡ q)) ⊎ (((rest : List X) × (c ≡ b ++ o ∷ rest)) ⊎ ((rest : List X) × (b ≡ c ++ q ∷ rest)))
+two_places [] o a [] q d e = inl (refl, cc)
+two_places [] o a (x ∷ c) q d e = inr (inl (c, cc))
+two_places (y ∷ b) o a [] q d e = inr (inr (b, cc))
+two_places (y ∷ b) o a (x ∷ c) q d e =
+    let rest : b ++ o ∷ a ≡ c ++ q ∷ d = cc in
+    let head : y ≡ x = cc in
+    ⊎_elim (λ same. inl (cc, same.1)) (⊎_elim (λ before. inr (inl (before.0, cc))) (λ behind. inr (inr (behind.0, cc)))) (two_places b o a c q d rest)
+
+-- no operation before the first one with a fault has one
+not_before : (before : List Op) (op : Op) (why : ValueFault) (rest : List Op) (ops : List Op) → IsFaultless ops → ops ≡ before ++ op ∷ rest → has_fault before op why ≡ true → ⊥
+not_before before op why rest ops faultless parts fault = false≢true (sym (faultless before op rest why parts) ∙ fault)
+
+one_first_fault : (before : List Op) (op : Op) (v w : ValueFault) → IsFirstFault before op v → IsFirstFault before op w → v ≡ w
+one_first_fault before op v w first other =
+    same_fault v w
+    (⊎_elim (λ less. absurd (false≢true (sym (other.least v less) ∙ first.fault)))
+    (λ not_less. ⊎_elim (λ more. absurd (false≢true (sym (first.least w more) ∙ other.fault))) (λ not_more. omega arith) (cases_lt (fault_number w) (fault_number v)))
+    (cases_lt (fault_number v) (fault_number w)))
+
+one_fault : (ops : List Op) (v w : ValueFault) → IsFaultOf ops v → IsFaultOf ops w → v ≡ w
+one_fault ops v w f h =
+    ⊎_elim
+    (λ same. one_first_fault f.before f.op v w f.first (subst (λ b. IsFirstFault b f.op w) (sym same.0) (subst (λ o. IsFirstFault h.before o w) (sym same.1) h.first)))
+    (⊎_elim
+    (λ earlier. absurd (not_before f.before f.op v earlier.0 h.before h.faultless earlier.1 f.first.fault))
+    (λ later. absurd (not_before h.before h.op w later.0 f.before f.faultless later.1 h.first.fault)))
+    (two_places f.before f.op f.after h.before h.op h.after (sym f.parts ∙ h.parts))
+
+pub one_refusal : (p : ProgramValue) (v w : ValueFault) → IsRefusal p v → IsRefusal p w → v ≡ w
+one_refusal p v w first other =
+    ⊎_elim
+    (λ many. ⊎_elim (λ also. many.1 ∙ sym also.1) (λ few. absurd (omega (arith, many.0, few.0))) other)
+    (λ few. ⊎_elim (λ many. absurd (omega (arith, many.0, few.0))) (λ also. one_fault (in_file_order p) v w few.1 also.1) other)
+    first
+
+-- ---- what keeps the limits isn't refused
+
+each-middle : {X : Type 0} (P : X → Type 0) → (xs : List X) (x : X) (ys : List X) → AllByRecursion P (xs ++ x ∷ ys) → P x
+each-middle P [] x ys all = all.0
+each-middle P (y ∷ xs) x ys all = each-middle P xs x ys all.1
+
+-- what is given of the operation in the middle stands among what is given of all
+middle : (f : Op → Option ℕ) (before : List Op) (op : Op) (after : List Op) (v : ℕ) → f op ≡ Some v →
+    flat_map (λ o. option_to_list (f o)) (before ++ op ∷ after) ≡ flat_map (λ o. option_to_list (f o)) before ++ v ∷ flat_map (λ o. option_to_list (f o)) after
+middle f before op after v is =
+    flat_map-append (λ o. option_to_list (f o)) before (op ∷ after)
+    ∙ ap (λ o. flat_map (λ o. option_to_list (f o)) before ++ (option_to_list o ++ flat_map (λ o. option_to_list (f o)) after)) is
+
+or_second : (a b : Bool) → a ≡ false → (a || b) ≡ true → b ≡ true
+or_second true b differs either = absurd (false≢true (sym differs))
+or_second false b differs either = either
+
+differs_eqb : (a b : ℕ) → (a ≡ b → ⊥) → eqb a b ≡ false
+differs_eqb a b other = grind (arith, nat_tests)
+
+-- a value among those before makes the values not distinct
+not_distinct : (xs : List ℕ) (v : ℕ) (ys : List ℕ) → list_any (eqb v) xs ≡ true → IsDistinct eqb (xs ++ v ∷ ys) → ⊥
+not_distinct [] v ys found distinct = false≢true found
+not_distinct (x ∷ xs) v ys found distinct =
+    ⊎_elim
+    (λ (same : v ≡ x).
+    let differs = each-middle (λ y. eqb x y ≡ false) xs v ys (IsDistinct-head eqb x (xs ++ v ∷ ys) distinct) in
+    let equal : eqb x v ≡ true = eq-eqb x v (sym same) in
+    false≢true (sym differs ∙ equal))
+    (λ (other : v ≡ x → ⊥).
+    let differs : eqb v x ≡ false = differs_eqb v x other in
+    not_distinct xs v ys (or_second (eqb v x) (list_any (eqb v) xs) differs found) (IsDistinct-tail eqb x (xs ++ v ∷ ys) distinct))
+    (cases_eq v x)
+
+past_breaks : (a : Option ℕ) (before : List Op) (op : Op) (after : List Op) → address_of op ≡ a → is_past_addresses a ≡ true →
+    AllByRecursion (λ a. a < 256) (addresses_of (before ++ op ∷ after)) → ⊥
+past_breaks None before op after is fault all = false≢true fault
+past_breaks (Some a) before op after is fault all =
+    let within = each-middle (λ a. a < 256) (addresses_of before) a (addresses_of after) (subst (AllByRecursion (λ a. a < 256)) (middle address_of before op after a is) all) in
+    grind (arith, nat_tests)
+
+zero_breaks : (v : Option ℕ) (before : List Op) (op : Op) (after : List Op) → stored_by op ≡ v → is_zero v ≡ true →
+    AllByRecursion (λ v. 0 < v) (stored_values (before ++ op ∷ after)) → ⊥
+zero_breaks None before op after is fault all = false≢true fault
+zero_breaks (Some v) before op after is fault all =
+    let above = each-middle (λ v. 0 < v) (stored_values before) v (stored_values after) (subst (AllByRecursion (λ v. 0 < v)) (middle stored_by before op after v is) all) in
+    grind (arith, nat_tests)
+
+repeat_breaks : (v : Option ℕ) (before : List Op) (op : Op) (after : List Op) → stored_by op ≡ v → is_repeated (stored_values before) v ≡ true →
+    IsDistinct eqb (stored_values (before ++ op ∷ after)) → ⊥
+repeat_breaks None before op after is fault distinct = false≢true fault
+repeat_breaks (Some v) before op after is fault distinct =
+    not_distinct (stored_values before) v (stored_values after) fault (subst (IsDistinct eqb) (middle stored_by before op after v is) distinct)
+
+-- the numbers of events or of barriers up to an operation are part of the whole
+front_total : (count : Op → ℕ) (before : List Op) (op : Op) (after : List Op) → sum_by count before + count op ≤ sum_by count (before ++ op ∷ after)
+front_total count before op after = omega (arith, sum_by-append count before (op ∷ after), sum_by-cons count op after)
+
+many_breaks : (before : List Op) (op : Op) (after : List Op) → total_events (before ++ op ∷ after) ≤ 2000 → total_barriers (before ++ op ∷ after) ≤ 2000 →
+    has_fault before op TooManyEvents ≡ true → ⊥
+many_breaks before op after events barriers fault =
+    let few : total_events before + event_count op ≤ 2000 = omega (arith, front_total event_count before op after) in
+    let few_barriers : total_barriers before + barrier_count op ≤ 2000 = omega (arith, front_total barrier_count before op after) in
+    grind (arith, nat_tests)
+
+-- an operation that has a fault breaks a limit
+fault_breaks : (before : List Op) (op : Op) (after : List Op) (why : ValueFault) → KeepsLimits (before ++ op ∷ after) → has_fault before op why ≡ true → ⊥
+fault_breaks before op after TooManyProcessors limits fault = false≢true fault
+fault_breaks before op after TooManyEvents limits fault = many_breaks before op after limits.events limits.barriers fault
+fault_breaks before op after AddressRange limits fault = past_breaks (address_of op) before op after refl fault (recursion_from_All _ _ limits.addresses)
+fault_breaks before op after ZeroValue limits fault = zero_breaks (stored_by op) before op after refl fault (recursion_from_All _ _ limits.non_zero)
+fault_breaks before op after RepeatedValue limits fault = repeat_breaks (stored_by op) before op after refl fault limits.distinct
+fault_breaks before op after OutOfMemory limits fault = false≢true fault
+
+pub program_not_refused : (p : ProgramValue) (why : ValueFault) → IsProgram p → IsRefusal p why → ⊥
+program_not_refused p why program refusal =
+    ⊎_elim (λ many. omega (arith, many.0, program.processors))
+    (λ few. let f = few.1 in fault_breaks f.before f.op f.after why (subst KeepsLimits f.parts program.limits) f.first.fault) refusal

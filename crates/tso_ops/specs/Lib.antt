@@ -1,0 +1,5 @@
+pub mod Events
+pub mod Limits
+pub mod Tables
+pub mod Tally
+pub mod Values

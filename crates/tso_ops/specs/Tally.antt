@@ -1,0 +1,22 @@
+-- What a tally says of the operations that it has admitted.
+use Rattle.std.specs.Prelude.{◌≡◌, ◌⊎◌, ℕ, nat_eq, List}
+use Rattle.std.specs.List.{list_any}
+use Rattle.std.specs.Ordering.{nat_cmp}
+use Rattle.std.specs.BTreeSet.{contains}
+use Rattle.tso_ops.specs.declared.ops.Op.{Op}
+use Rattle.tso_ops.specs.declared.faults.ValueFault.{ValueFault}
+use Rattle.tso_ops.specs.declared.faults.ValueFault.TheVariants.{OutOfMemory}
+use Rattle.tso_ops.specs.declared.limits.Tally.{Tally}
+use Rattle.tso_ops.specs.Limits.{KeepsLimits, IsFaultless, IsFirstFault, total_events, total_barriers, stored_values}
+
+-- The tally has admitted just these operations, in this order.
+pub record Admitted (tally : Tally) (ops : List Op) : Type 0 where
+  pub events : tally.events ≡ total_events ops
+  pub barriers : tally.barriers ≡ total_barriers ops
+  pub stored : (v : ℕ) → contains nat_cmp tally.stored v ≡ list_any (nat_eq v) (stored_values ops)
+  pub limits : KeepsLimits ops
+  pub faultless : IsFaultless ops
+
+-- The refusal is the first fault of the operation behind these, or memory was refused.
+abbrev pub IsTurnedAway : List Op → Op → ValueFault → Type 0
+IsTurnedAway ops op why = (why ≡ OutOfMemory) ⊎ IsFirstFault ops op why

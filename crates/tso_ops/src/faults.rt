@@ -1,0 +1,56 @@
+ghost use Rattle.std.specs.Prelude.{◌≡◌};
+ghost use Rattle.tso_ops.specs.declared.faults.ValueFault.TheVariants.{OutOfMemory};
+
+use std::alloc::AllocFailed;
+use thiserror::Error;
+
+/// A growth was refused: std's error of the allocator.
+pub use std::alloc::AllocError as OutOfMemory;
+
+/// Why lists of operations are no program or no trace, in the order in which the refusals are tried.
+#[derive(Clone, Copy, Debug, PartialEq, Eq, Error)]
+pub enum ValueFault {
+    /// More than 16 processors.
+    #[error("TooManyProcessors")]
+    TooManyProcessors,
+    /// More than 2,000 events (a load 1, a store 1, a swap 2), or more than 2,000 barriers, over all processors.
+    #[error("TooManyEvents")]
+    TooManyEvents,
+    /// An address above 255.
+    #[error("AddressRange")]
+    AddressRange,
+    /// A store or a swap of the value 0, which every location has at first.
+    #[error("ZeroValue")]
+    ZeroValue,
+    /// A store or a swap of a value that an earlier one stored, at any address.
+    #[error("RepeatedValue")]
+    RepeatedValue,
+    /// A growth was refused.
+    #[error("OutOfMemory")]
+    OutOfMemory,
+}
+
+impl From<OutOfMemory> for ValueFault {
+    ghost from_gives = { λ _ fault. fault ≡ OutOfMemory };
+
+    fn from(_error: OutOfMemory) -> ValueFault {
+        ValueFault::OutOfMemory
+    }
+}
+
+impl<T: Drop> From<AllocFailed<T>> for ValueFault {
+    ghost from_gives = { λ _ fault. fault ≡ OutOfMemory };
+
+    fn from(_error: AllocFailed<T>) -> ValueFault {
+        ValueFault::OutOfMemory
+    }
+}
+
+/// Lists that were refused, and why. They are handed back as they came.
+#[derive(Debug, Drop)]
+pub struct Refused<T> {
+    /// The refusal.
+    pub why: ValueFault,
+    /// The lists that were handed in, a list for each processor.
+    pub lists: Vec<Vec<T>>,
+}

@@ -1,0 +1,23 @@
+//! The operations of a memory test, the programs made of them, and the traces that a run of one leaves.
+//!
+//! A program or a trace keeps its limits: whoever holds one needs no check of its own. `README.md` says what is proved.
+#![tactic(auto)]
+
+pub use events::{Event, Source};
+pub use faults::{OutOfMemory, Refused, ValueFault};
+pub use limits::Tally;
+pub use ops::{Op, Outcome};
+pub use programs::Program;
+pub use traces::Trace;
+
+mod checks;
+mod events;
+mod faults;
+pub mod laws;
+mod limits;
+mod ops;
+mod programs;
+mod tables;
+#[cfg(test)]
+mod tests;
+mod traces;
