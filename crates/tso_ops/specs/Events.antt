@@ -67,11 +67,12 @@ SameValue t u v = (d : Event) × (e : Event) × (event_at t u ≡ Some d) × (ev
 abbrev pub Earlier : TraceValue → ℕ → ℕ → Type 0
 Earlier t u v = (d : Event) × (e : Event) × (event_at t u ≡ Some d) × (event_at t v ≡ Some e) × (d.proc ≡ e.proc) × (u < v)
 
--- a barrier stands between the events u and v, of which u is program-earlier
+-- more barriers stand before v than before u on their processors: of two events of one processor, a barrier stands between them
 abbrev pub BarrierBetween : TraceValue → ℕ → ℕ → Type 0
 BarrierBetween t u v = (d : Event) × (e : Event) × (event_at t u ≡ Some d) × (event_at t v ≡ Some e) × (d.bars < e.bars)
 
--- Number s wrote the value that load l read: number 0 where it read 0, else a store to its address of its value.
+-- Number s wrote the value that load l read: number 0 if it read 0; a store if it wrote that value to the load's address.
+-- In a trace that is one number at most, since no store writes 0 and no two stores write one value.
 abbrev pub HasSource : TraceValue → ℕ → ℕ → Type 0
 HasSource t l zero = IsLoad t l × HasValue t l 0
 HasSource t l (suc k) = IsLoad t l × IsStore t (suc k) × SameAddress t (suc k) l × SameValue t (suc k) l

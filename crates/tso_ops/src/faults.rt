@@ -47,7 +47,9 @@ impl<T: Drop> From<AllocFailed<T>> for ValueFault {
 }
 
 /// Lists that were refused, and why. They are handed back as they came.
-#[derive(Debug, Drop)]
+#[derive(Debug, Drop, Error)]
+#[error_bound(T: std::fmt::Debug + Drop)]
+#[error("{why}")]
 pub struct Refused<T> {
     /// The refusal.
     pub why: ValueFault,

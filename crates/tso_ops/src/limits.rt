@@ -19,7 +19,7 @@ pub const MAX_ADDRESS: u16 = 255;
 
 /// What the operations so far come to, against the limits of a program: the one check of an operation against
 /// those before it.
-#[derive(Drop)]
+#[derive(Debug, Drop)]
 pub struct Tally {
     events: usize,
     barriers: usize,

@@ -1,0 +1,29 @@
+/// A rule that gives edges of rank 0, in the order in which a justification tries them.
+#[derive(Clone, Copy, Debug, PartialEq, Eq)]
+pub enum BaseRule {
+    /// From `init` to any event.
+    Init,
+    /// From a load to a program-later event (the axiom LoadOp: SPARC Architecture Manual Version 8, K.2).
+    LoadOp,
+    /// From a store to a program-later store (the axiom StoreStore: SPARC Architecture Manual Version 8, K.2).
+    StoreStore,
+    /// From a store to a program-later load behind a barrier (MEMBAR #StoreLoad: SPARC Architecture Manual Version 9, 8.4.3 and appendix D).
+    Membar,
+    /// From the store that is the source of a load, and isn't program-earlier, to the load.
+    Read,
+    /// From a program-earlier store to a load's address, which isn't the load's source, to that source.
+    Own,
+}
+
+/// A rule that gives edges by a path over the edges of lesser rank, in the order in which a justification tries them.
+#[derive(Clone, Copy, Debug, PartialEq, Eq)]
+pub enum InferredRule {
+    /// From a store to a load's address, which comes before the load and isn't its source, to that source.
+    LoadPast,
+    /// From a load to a store to its address, which comes after its source.
+    StorePast,
+    /// From a store that comes before the store of a swap, to the load of the swap.
+    SwapBefore,
+    /// From the store of a swap to another store, which comes after the load of the swap.
+    SwapAfter,
+}

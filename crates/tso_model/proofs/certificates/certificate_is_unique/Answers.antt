@@ -1,0 +1,6 @@
+use Rattle.tso_model.proofs.Events.{own_values}
+use Rattle.tso_model.proofs.CertificateUnique.{certificate_unique}
+use Rattle.tso_model.proofs.certificates.certificate_is_unique.Goals as goal
+
+pub returns : goal.returns
+returns c t certificate other trace of_trace again = certificate_unique t (own_values t trace) certificate other of_trace again

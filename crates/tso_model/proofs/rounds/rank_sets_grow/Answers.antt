@@ -1,0 +1,5 @@
+use Rattle.tso_model.proofs.rounds.rank_sets_grow.Goals as goal
+use Rattle.tso_model.proofs.LastRankSet.{F-mono}
+
+pub returns : goal.returns
+returns c = F-mono

@@ -1,0 +1,6 @@
+use Rattle.tso_model.proofs.Events.{own_values}
+use Rattle.tso_model.proofs.EdgesForward.{rank_before}
+use Rattle.tso_model.proofs.soundness.edges_lead_forwards.Goals as goal
+
+pub returns : goal.returns
+returns c t order trace tso k u v edge = rank_before t (own_values t trace) order tso k u v edge

@@ -1,0 +1,4 @@
+pub mod Certs
+pub mod Order
+pub mod Ranks
+pub mod Rules

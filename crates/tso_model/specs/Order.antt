@@ -1,0 +1,62 @@
+-- Memory orders, and the axioms of Total Store Order (TSO).
+-- The axioms are those of the SPARC Architecture Manual Version 8, appendix K 'Formal Specification of the Memory Model', section K.2,
+-- over the events of a trace, and one for the barrier MEMBAR #StoreLoad of the SPARC Architecture Manual Version 9.
+use Rattle.std.specs.Prelude.{◌≡◌, ◌≢◌, ◌⊎◌, ℕ, suc, ◌<◌, ◌≤◌, List, [], ◌∷◌, cond, ◌==◌}
+use Rattle.tso_ops.specs.Values.{TraceValue}
+use Rattle.tso_ops.specs.Events.{IsEvent, IsLoad, IsStore, IsSwapLoad, HasValue, SameAddress, SameValue, Earlier, BarrierBetween}
+
+-- how often the number stands in the list
+abbrev pub occurrences : ℕ → List ℕ → ℕ
+occurrences n [] = 0
+occurrences n (x ∷ rest) = cond (x == n) (suc (occurrences n rest)) (occurrences n rest)
+
+-- the place of the number, from 0; the list's length where it doesn't stand there
+abbrev pub place : List ℕ → ℕ → ℕ
+place [] n = 0
+place (x ∷ rest) n = cond (x == n) 0 (suc (place rest n))
+
+-- Order (V8, K.2): memory takes the events one after the other. This project's form of it is a list in which each event of the trace
+-- stands once and nothing else does: an order of all events, loads too, that is total. How it relates to the manual's wording is not claimed.
+-- Termination (V8, K.2): each store takes place in the end. A trace is finite and complete, so it says that each of its stores stands in the list.
+pub record IsMemoryOrder (t : TraceValue) (order : List ℕ) : Type 0 where
+  pub once : (n : ℕ) → IsEvent t n → occurrences n order ≡ 1
+  pub events : (n : ℕ) → (IsEvent t n → ⊥) → occurrences n order ≡ 0
+
+-- u stands no later than v
+abbrev pub IsUpTo : List ℕ → ℕ → ℕ → Type 0
+IsUpTo order u v = place order u ≤ place order v
+
+-- u stands strictly before v in the order with `init`, number 0, in front
+abbrev pub IsBefore : List ℕ → ℕ → ℕ → Type 0
+IsBefore order u v = place (0 ∷ order) u < place (0 ∷ order) v
+
+-- Store s is one that load l sees: to the load's address, and no later than the load in the order, or program-earlier than it.
+-- The second is store forwarding: a processor sees its own store before memory has it.
+abbrev pub IsVisible : TraceValue → List ℕ → ℕ → ℕ → Type 0
+IsVisible t order s l = IsStore t s × SameAddress t s l × (IsUpTo order s l ⊎ Earlier t s l)
+
+-- Load l returns the value of the greatest store that it sees, the last of them in the order, and the first value 0 where it sees none.
+abbrev pub ReadsGreatest : TraceValue → List ℕ → ℕ → Type 0
+ReadsGreatest t order l =
+    (HasValue t l 0 × ((s : ℕ) → IsVisible t order s l → ⊥))
+    ⊎ ((s : ℕ) × IsVisible t order s l × SameValue t s l × ((other : ℕ) → IsVisible t order other l → IsUpTo order other s))
+
+-- The order meets the axioms. A swap's load counts as a load in each of them, and its store, whose number is the next, as a store.
+pub record IsTsoOrder (t : TraceValue) (order : List ℕ) : Type 0 where
+  -- Order and Termination
+  pub memory_order : IsMemoryOrder t order
+  -- LoadOp (V8, K.2): what a processor does behind a load, memory orders behind that load.
+  pub load_op : (u v : ℕ) → IsLoad t u → Earlier t u v → IsUpTo order u v
+  -- StoreStore (V8, K.2): memory keeps the order of a processor's stores. Under TSO this holds of any two of them, with no barrier.
+  pub store_store : (u v : ℕ) → IsStore t u → IsStore t v → Earlier t u v → IsUpTo order u v
+  -- MEMBAR #StoreLoad (V9, 8.4.3 'The MEMBAR Instruction' and appendix D): memory orders a store before each load behind the barrier.
+  pub membar : (u v : ℕ) → IsStore t u → IsLoad t v → Earlier t u v → BarrierBetween t u v → IsUpTo order u v
+  -- Atomicity (V8, K.2): a swap's load comes before its store, and no other store, to any address, comes between the two.
+  pub swap : (l : ℕ) → IsSwapLoad t l → IsUpTo order l (suc l)
+  pub atomicity : (l s : ℕ) → IsSwapLoad t l → IsStore t s → s ≢ suc l → IsUpTo order s l ⊎ IsUpTo order (suc l) s
+  -- Value (V8, K.2): a load returns what the last store that it sees wrote.
+  pub value : (l : ℕ) → IsLoad t l → ReadsGreatest t order l
+
+-- some order meets the axioms
+abbrev pub IsConsistent : TraceValue → Type 0
+IsConsistent t = (order : List ℕ) × IsTsoOrder t order

@@ -1,0 +1,8 @@
+//! The model of total store order: axioms, rules, rank sets, certificates, and their laws.
+#![tactic(auto)]
+
+pub mod certificates;
+pub mod exactness;
+pub mod rounds;
+pub mod rules;
+pub mod soundness;
