@@ -7,12 +7,17 @@ pub mod Collected
 pub mod Decided
 pub mod DerivedPaths
 pub mod DifferentEnds
+pub mod EdgeFacts
 pub mod EdgesForward
 pub mod Events
 pub mod Justifications
 pub mod LastRankSet
 pub mod OrderedLists
+pub mod PathFacts
 pub mod Places
+pub mod RankFacts
+pub mod RoundFacts
 pub mod RoundsNumber
+pub mod Searches
 pub mod Swaps
 pub mod UsedEdges

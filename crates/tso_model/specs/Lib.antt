@@ -1,4 +1,5 @@
 pub mod Certs
+pub mod EdgeLists
 pub mod Order
 pub mod Ranks
 pub mod Rules

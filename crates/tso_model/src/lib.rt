@@ -3,6 +3,7 @@
 
 pub mod certificates;
 pub mod exactness;
+pub mod plain;
 pub mod rounds;
 pub mod rules;
 pub mod soundness;
