@@ -1,0 +1,116 @@
+//! The check of a certificate.
+ghost use Rattle.std.specs.Prelude.{◌≡◌, IsOk, OnOk, IfErr, MatchOption, MatchResult};
+ghost use Rattle.tso_ops.specs.Limits.{IsTrace};
+ghost use Rattle.tso_ops.specs.Events.{IsUnwritten};
+ghost use Rattle.order_paths.specs.Paths.{IsCycle};
+ghost use Rattle.tso_model.specs.Order.{IsConsistent};
+ghost use Rattle.tso_model.specs.Certs.{Holds, IsStep, StepsHold};
+ghost use Rattle.cert_check.specs.Refusals.{Follows, HasFault, IsCycleFault, IsCycleRefusal, IsRefusal, IsStepFault};
+
+use crate::faults::CertFault;
+use crate::listed::{is_cycle, is_linked};
+use crate::ranges::is_in_range;
+use crate::sides::has_sides;
+use tso_cert::{CertStep, Certificate, Reason};
+use tso_model::plain::events::is_unwritten;
+use tso_model::plain::is_base_pair;
+use tso_ops::Trace;
+
+/// Checks a certificate: Ok exactly where it holds for the trace, which then has no TSO order.
+///
+/// Where it doesn't hold, EventRange is looked for over the whole certificate first; then the first step with a
+/// fault decides; then the cycle. It takes no memory.
+pub fn check(trace: &Trace, certificate: &Certificate) -> Result<(), CertFault>
+    ensures holds { OnOk result (Holds trace.now certificate.now) }
+    ensures no_order { OnOk result (IsConsistent trace.now → ⊥) }
+    ensures accepted { Holds trace.now certificate.now → IsOk result }
+    ensures refused { IfErr result (IsRefusal trace.now certificate.now) }
+{
+    judge(trace, certificate)
+}
+
+/// Ok where the certificate holds, else its refusal.
+fn judge(trace: &Trace, certificate: &Certificate) -> Result<(), CertFault>
+    ensures told { MatchResult result (λ _. Holds trace.now certificate.now) (IsRefusal trace.now certificate.now) }
+    ensures kept { IsTrace trace.now }
+{
+    if !is_in_range(trace, certificate) {
+        return Err(CertFault::EventRange);
+    }
+    match certificate {
+        Certificate::Unwritten(n) => judge_load(trace, *n as usize),
+        Certificate::Cycle { steps, cycle } => judge_cycle(trace, steps.items(), cycle.items()),
+    }
+}
+
+/// Ok where the load is unwritten.
+fn judge_load(trace: &Trace, n: usize) -> Result<(), CertFault>
+    ensures { MatchResult result (λ _. IsUnwritten trace.now n) (λ fault. (fault ≡ CertFault.NotUnwritten) × (IsUnwritten trace.now n → ⊥)) }
+{
+    if is_unwritten(trace, n) {
+        Ok(())
+    } else {
+        Err(CertFault::NotUnwritten)
+    }
+}
+
+/// Ok where the steps hold and the cycle is one of them, else the first fault of the steps or that of the cycle.
+fn judge_cycle(trace: &Trace, steps: &[CertStep], cycle: &[u64]) -> Result<(), CertFault>
+    ensures { MatchResult result (λ _. StepsHold trace.now steps.now × IsCycle (λ x y. IsStep steps.now x y) cycle.now)
+        (IsCycleRefusal trace.now steps.now cycle.now) }
+{
+    check_steps(trace, steps)?;
+    check_cycle(steps, cycle)
+}
+
+/// Ok where the cycle is one of steps.
+fn check_cycle(steps: &[CertStep], cycle: &[u64]) -> Result<(), CertFault>
+    ensures { MatchResult result (λ _. IsCycle (λ x y. IsStep steps.now x y) cycle.now) (IsCycleFault steps.now cycle.now) }
+{
+    if cycle.is_empty() {
+        Err(CertFault::EmptyCycle)
+    } else if is_cycle(steps, cycle) {
+        Ok(())
+    } else {
+        Err(CertFault::CycleUnlisted)
+    }
+}
+
+/// Checks the steps up to the first with a fault.
+fn check_steps(trace: &Trace, steps: &[CertStep]) -> Result<(), CertFault>
+    ensures { MatchResult result (λ _. StepsHold trace.now steps.now) (IsStepFault trace.now steps.now) }
+{
+    for (k, step) in steps.iter().enumerate() {
+        if let Some(fault) = step_fault(trace, &steps[..k], k + 1, step) {
+            return Err(fault);
+        }
+    }
+    Ok(())
+}
+
+/// The fault of the step with this number, behind the earlier steps, if it has one.
+fn step_fault(
+    trace: &Trace,
+    earlier: &[CertStep],
+    number: usize,
+    step: &CertStep,
+) -> Option<CertFault>
+    ensures { MatchOption result (Follows trace.now earlier.now step.now) (HasFault trace.now earlier.now number step.now) }
+{
+    let from = step.from as usize;
+    let to = step.to as usize;
+    match &step.reason {
+        Reason::Base(rule) if is_base_pair(trace, *rule, from, to) => None,
+        Reason::Base(_) => Some(CertFault::BaseRefused(number)),
+        Reason::Inferred { rule, load, path } => {
+            let path = path.items();
+            if !has_sides(trace, *rule, *load as usize, from, to, path) {
+                Some(CertFault::SideRefused(number))
+            } else if is_linked(earlier, path) {
+                None
+            } else {
+                Some(CertFault::PathUnlisted(number))
+            }
+        }
+    }
+}

@@ -1,0 +1,14 @@
+//! An independent checker of certificates: it calls nothing of the program that finds violations.
+#![tactic(auto)]
+
+pub use checks::check;
+pub use faults::CertFault;
+
+mod checks;
+mod faults;
+pub mod laws;
+mod listed;
+mod ranges;
+mod sides;
+#[cfg(test)]
+mod tests;
