@@ -1,0 +1,6 @@
+pub mod Cycling
+pub mod Growth
+pub mod Keeping
+pub mod Reaching
+pub mod Searching
+pub mod Words

@@ -1,0 +1,22 @@
+use Rattle.std.proofs.lemmas.Bool.{both_ways}
+use Rattle.order_graph.specs.Tables.{Joined}
+use Rattle.order_graph.proofs.Cycling.{next_without, next_longer, next_found}
+use Rattle.order_graph.proofs.cycles.better.Goals as goal
+
+pub returns-then-not-bit : goal.returns-then-not-bit
+returns-then-not-bit c =
+    let a = c.args in
+    next_without (λ v. v.items) (Joined a.edges.now a.width a.nodes) a.start a.best
+    (λ p. both_ways c.bit.result c.if-not-bit.true (c.bit.ensures.1 ((c.requires.keeps.tells a.start a.start c.requires.within c.requires.within).1 p))) c.requires.best
+
+pub returns-in-Some : goal.returns-in-Some
+returns-in-Some c =
+    let a = c.args in
+    let found = rw c.in-Some.is at c.in_ok-cycle.ensures in
+    next_found (λ v. v.items) (Joined a.edges.now a.width a.nodes) a.start a.best c.limit_below-limit.result c.in-Some.cycle.items c.limit_below-limit.ensures found.0 found.1 c.requires.best
+
+pub returns-in-None : goal.returns-in-None
+returns-in-None c =
+    let a = c.args in
+    let found = rw c.in-None.is at c.in_ok-cycle.ensures in
+    next_longer (λ v. v.items) (Joined a.edges.now a.width a.nodes) a.start a.best c.limit_below-limit.result c.limit_below-limit.ensures found c.requires.best

@@ -1,0 +1,6 @@
+use Rattle.std.proofs.Common.{◌-◌}
+use Rattle.order_graph.proofs.Searching.{Descends}
+use Rattle.order_graph.proofs.searches.descend.Given as goal
+
+abbrev pub invariant-loop-done : goal.invariant-loop-done
+invariant-loop-done l = Descends l.edges l.paths l.width l.nodes l.u l.v l.count (l.count - l.done) l.at l.list.items

@@ -1,0 +1,12 @@
+use Rattle.std.proofs.Common.{◌+◌, ◌*◌, ◌/◌, ◌%◌, sym, ◌∙◌, slice_index_or}
+use Rattle.std.proofs.lemmas.Bool.{eqb-true, eq-eqb}
+use Rattle.std.proofs.lemmas.Nat.Bits.{shr_and_one}
+use Rattle.order_graph.specs.Tables.{HasBit, IsSet}
+use Rattle.order_graph.proofs.tables.bit.Goals as goal
+
+pub returns : goal.returns
+unfolding HasBit IsSet
+returns c =
+    let word = slice_index_or c.args.table.now (c.args.x * c.args.width + c.args.y / 64) 0 in
+    let same = shr_and_one word (c.args.y % 64) in
+    (λ t. sym same ∙ eqb-true _ 1 t, λ s. eq-eqb _ 1 (same ∙ s))

@@ -1,0 +1,37 @@
+-- Graphs of the numbers below a bound, and the tables that keep one.
+use Rattle.std.specs.Prelude.{◌≡◌, ◌↔◌, ◌==◌, ℕ, ◌+◌, ◌*◌, ◌/◌, ◌%◌, ◌^◌, ◌<◌, Bool, false, IsTrue, List, [], length, map, slice_index, slice_index_or}
+use Rattle.std.specs.Int.{bit_at}
+use Rattle.std.specs.List.{range_with_len}
+use Rattle.order_paths.specs.Paths.{Reaches}
+use Rattle.order_graph.specs.Tables.{IsSet, AreTurned, Joined}
+
+-- What contracts see of a graph: how many numbers it has, and a row of tests for each, which answer whether an edge
+-- leads from it to each number.
+pub record Digraph : Type 0 where
+  pub nodes : ℕ
+  pub edges : List (List Bool)
+
+-- an edge leads from u to v
+unfoldable pub HasEdge : Digraph → ℕ → ℕ → Type 0
+HasEdge g u v = IsTrue (slice_index_or (slice_index_or g.edges u []) v false)
+
+-- the edges lie below the number of nodes
+abbrev pub EdgesWithin : Digraph → Type 0
+EdgesWithin g = (x y : ℕ) → HasEdge g x y → (x < g.nodes) × (y < g.nodes)
+
+-- the tests of row x of a table of bits
+abbrev pub tests_of : List ℕ → ℕ → ℕ → ℕ → List Bool
+tests_of table width nodes x = map (λ y. bit_at (slice_index table (x * width + y / 64)) (y % 64) == 1) (range_with_len 0 nodes)
+
+-- the graph that a table of bits keeps
+abbrev pub graph_of : ℕ → ℕ → List ℕ → Digraph
+graph_of nodes width table = record { nodes = nodes; edges = map (tests_of table width nodes) (range_with_len 0 nodes) }
+
+-- A table of edges, that of their paths, and the table of paths turned.
+pub record Keeps (nodes width : ℕ) (edges paths turned : List ℕ) : Type 0 where
+  pub small : nodes < 2 ^ 32
+  pub fits : width ≡ (nodes + 63) / 64
+  pub edges_sized : length edges ≡ nodes * width
+  pub edges_within : (x y : ℕ) → x < nodes → y / 64 < width → IsSet edges width x y → y < nodes
+  pub paths_turned : AreTurned paths turned width nodes
+  pub tells : (x y : ℕ) → x < nodes → y < nodes → IsSet paths width x y ↔ Reaches (Joined edges width nodes) x y

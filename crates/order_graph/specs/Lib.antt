@@ -1,0 +1,3 @@
+pub mod Digraphs
+pub mod Tables
+pub mod Tracks

@@ -1,0 +1,48 @@
+//! The least cycle, start by start.
+
+ghost use Rattle.std.specs.Prelude.{◌≡◌, ◌<◌, ◌+◌, ◌-◌, IfOk, MatchOption, length};
+ghost use Rattle.order_graph.specs.Digraphs.{Keeps};
+ghost use Rattle.order_graph.specs.Tables.{Joined};
+ghost use Rattle.order_graph.specs.Tracks.{NoCycleBefore, IsLeastCycleBefore};
+
+use crate::searches::shortest;
+use crate::tables::bit;
+use std::alloc::{AllocError, Global};
+
+/// How many edges a cycle may have that is shorter than the best so far.
+pub fn limit_below(best: &Option<Vec<usize>>) -> Option<usize>
+    ensures { MatchOption best.now (result ≡ None) (λ cycle. result ≡ Some (length cycle.items - 1)) }
+{
+    match best {
+        Some(cycle) => Some(cycle.len().saturating_sub(1)),
+        None => None,
+    }
+}
+
+/// The least cycle of those that begin with `start` or a number below it, where `best` is that of those below it.
+pub fn better(
+    alloc: Global,
+    edges: &[u64],
+    paths: &[u64],
+    turned: &[u64],
+    width: usize,
+    nodes: usize,
+    start: usize,
+    best: Option<Vec<usize>>,
+) -> Result<Option<Vec<usize>>, AllocError>
+    requires keeps { Keeps nodes width edges.now paths.now turned.now }
+    requires within { start < nodes }
+    requires best { MatchOption best (NoCycleBefore (Joined edges.now width nodes) start) (λ cycle. IsLeastCycleBefore (Joined edges.now width nodes) start cycle.items) }
+    ensures { IfOk result (λ found. MatchOption found (NoCycleBefore (Joined edges.now width nodes) (start + 1)) (λ cycle. IsLeastCycleBefore (Joined edges.now width nodes) (start + 1) cycle.items)) }
+{
+    if !bit(paths, width, start, start) {
+        return Ok(best);
+    }
+    let limit = limit_below(&best);
+    match shortest(
+        alloc, edges, paths, turned, width, nodes, start, start, limit,
+    )? {
+        Some(cycle) => Ok(Some(cycle)),
+        None => Ok(best),
+    }
+}

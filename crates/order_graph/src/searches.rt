@@ -1,0 +1,166 @@
+//! The least way from one number to another, level by level.
+
+ghost use Rattle.std.specs.Prelude.{◌≡◌, ◌↔◌, ◌<◌, ◌≤◌, ◌+◌, ◌*◌, ◌/◌, ◌^◌, ℕ, IsTrue, IfOk, MatchOption, IsSomeAnd, IfSome, length};
+ghost use Rattle.order_paths.specs.Paths.{Reaches};
+ghost use Rattle.order_graph.specs.Tables.{IsSet, Adds, Joined};
+ghost use Rattle.order_graph.specs.Digraphs.{Keeps};
+ghost use Rattle.order_graph.specs.Tracks.{NoneShared, IsFirstShared, IsLevel, IsAbove, IsLeastTrack, NoShorter};
+
+use crate::tables::{bit, set_bit};
+use std::alloc::{AllocError, Global};
+
+/// The first column that is set in row x of one table and in the given row of the other.
+pub fn first_shared(
+    table: &[u64],
+    x: usize,
+    other: &[u64],
+    row: usize,
+    width: usize,
+) -> Option<usize>
+    requires fits { 64 * width < 2 ^ 64 }
+    requires row { x * width + width ≤ length table.now }
+    requires other_row { row * width + width ≤ length other.now }
+    ensures { MatchOption result (NoneShared table.now x other.now row width) (IsFirstShared table.now x other.now row width) }
+{
+    for j in 0..width {
+        let shared = table[x * width + j] & other[row * width + j];
+        if shared != 0 {
+            return Some(64 * j + shared.trailing_zeros() as usize);
+        }
+    }
+    None
+}
+
+/// Whether x is above level `count`.
+pub fn is_above(
+    edges: &[u64],
+    paths: &[u64],
+    turned: &[u64],
+    levels: &[u64],
+    width: usize,
+    nodes: usize,
+    u: usize,
+    v: usize,
+    count: usize,
+    x: usize,
+) -> bool
+    requires keeps { Keeps nodes width edges.now paths.now turned.now }
+    requires row { x < nodes }
+    requires from { u < nodes }
+    requires to { v < nodes }
+    requires level { count * width + width ≤ length levels.now }
+    ensures { IsTrue result ↔ IsAbove edges.now paths.now turned.now levels.now width u v count x }
+{
+    bit(turned, width, v, x)
+        && bit(paths, width, u, x)
+        && first_shared(edges, x, levels, count, width).is_some()
+}
+
+/// Fills the row behind level `count` with the numbers above it.
+pub fn raise(
+    edges: &[u64],
+    paths: &[u64],
+    turned: &[u64],
+    levels: &mut [u64],
+    width: usize,
+    nodes: usize,
+    u: usize,
+    v: usize,
+    count: usize,
+)
+    requires keeps { Keeps nodes width edges.now paths.now turned.now }
+    requires from { u < nodes }
+    requires to { v < nodes }
+    requires level { (count + 1) * width + width ≤ length levels.old }
+    ensures { Adds levels.old levels.new width (λ i y. (i ≡ count + 1) × (y < nodes) × IsAbove edges.now paths.now turned.now levels.old width u v count y) }
+{
+    for x in 0..nodes {
+        if is_above(edges, paths, turned, levels, width, nodes, u, v, count, x) {
+            set_bit(levels, width, count + 1, x);
+        }
+    }
+}
+
+/// The least list from u down the levels to v.
+pub fn descend(
+    alloc: Global,
+    edges: &[u64],
+    paths: &[u64],
+    turned: &[u64],
+    levels: &[u64],
+    width: usize,
+    nodes: usize,
+    u: usize,
+    v: usize,
+    count: usize,
+) -> Result<Vec<usize>, AllocError>
+    requires keeps { Keeps nodes width edges.now paths.now turned.now }
+    requires from { u < nodes }
+    requires to { v < nodes }
+    requires sized { length levels.now ≡ (count + 1) * width }
+    requires levels { (d : ℕ) → d ≤ count → IsLevel edges.now paths.now levels.now width nodes u v d }
+    requires meets { (y : ℕ) × (y / 64 < width) × IsSet edges.now width u y × IsSet levels.now width count y }
+    requires shortest { NoShorter edges.now width nodes u v count }
+    ensures { IfOk result (λ list. IsLeastTrack (Joined edges.now width nodes) u v list.items × (length list.items ≡ count + 1)) }
+{
+    let mut list = Vec::new(alloc);
+    list.push(u)?;
+    let mut at = u;
+    for done in 0..count {
+        let Some(next) = first_shared(edges, at, levels, count - done, width) else {
+            unreachable!()
+        };
+        list.push(next)?;
+        at = next;
+    }
+    Ok(list)
+}
+
+/// Whether there is a limit that this many edges come up to.
+pub fn is_passed(limit: Option<usize>, count: usize) -> bool
+    ensures { IsTrue result ↔ IsSomeAnd limit (λ most. most ≤ count) }
+{
+    match limit {
+        Some(most) => most <= count,
+        None => false,
+    }
+}
+
+/// The least list from u on the way to v, or None where each way has more edges than the limit.
+pub fn shortest(
+    alloc: Global,
+    edges: &[u64],
+    paths: &[u64],
+    turned: &[u64],
+    width: usize,
+    nodes: usize,
+    u: usize,
+    v: usize,
+    limit: Option<usize>,
+) -> Result<Option<Vec<usize>>, AllocError>
+    requires keeps { Keeps nodes width edges.now paths.now turned.now }
+    requires from { u < nodes }
+    requires to { v < nodes }
+    requires path { Reaches (Joined edges.now width nodes) u v }
+    ensures { IfOk result (λ found. MatchOption found (IsSomeAnd limit (NoShorter edges.now width nodes u v)) (λ list. IsLeastTrack (Joined edges.now width nodes) u v list.items × IfSome limit (λ most. length list.items ≤ most))) }
+{
+    let mut levels = vec![in alloc; 0; width]?;
+    set_bit(&mut levels, width, 0, v);
+    let mut count = 0;
+    'levels: loop {
+        if is_passed(limit, count) {
+            return Ok(None);
+        }
+        if first_shared(edges, u, &levels, count, width).is_some() {
+            break;
+        }
+        let size = levels.len() + width;
+        levels.resize(size, 0)?;
+        raise(edges, paths, turned, &mut levels, width, nodes, u, v, count);
+        count += 1;
+    }
+    let list = descend(
+        alloc, edges, paths, turned, &levels, width, nodes, u, v, count,
+    )?;
+    Ok(Some(list))
+}

@@ -1,0 +1,138 @@
+//! Flat tables of bits: rows of words, one behind another.
+
+ghost use Rattle.std.specs.Prelude.{◌≡◌, ◌⊎◌, ◌↔◌, ◌<◌, ◌≤◌, ◌+◌, ◌*◌, ◌/◌, ◌%◌, ◌^◌, ℕ, IsTrue, length};
+ghost use Rattle.order_graph.specs.Tables.{HasBit, IsSet, Adds, IsSelfOrSet, AreTurned, IsTransitive};
+
+/// Whether the bit of row x and column y is set.
+#[inline]
+pub fn bit(table: &[u64], width: usize, x: usize, y: usize) -> bool
+    requires column { y / 64 < width }
+    requires row { x * width + width ≤ length table.now }
+    ensures { IsTrue result ↔ IsSet table.now width x y }
+{
+    (table[x * width + y / 64] >> (y % 64)) & 1 == 1
+}
+
+/// Sets the bit of row x and column y.
+#[inline]
+pub fn set_bit(table: &mut [u64], width: usize, x: usize, y: usize)
+    requires column { y / 64 < width }
+    requires row { x * width + width ≤ length table.old }
+    ensures { Adds table.old table.new width (λ i j. (i ≡ x) × (j ≡ y)) }
+{
+    let place = x * width + y / 64;
+    table[place] |= 1 << (y % 64);
+}
+
+/// Word j of a row, with the bit of the number y if it lies there.
+#[inline]
+pub fn with_bit(word: u64, j: usize, y: usize) -> u64
+    ensures { (k : ℕ) → k < 64 → HasBit result k ↔ ((64 * j + k ≡ y) ⊎ HasBit word k) }
+{
+    if y / 64 == j {
+        word | 1 << (y % 64)
+    } else {
+        word
+    }
+}
+
+/// Sets the given bits in word j of row x, and returns those that were not set.
+#[inline]
+pub fn set_word(table: &mut [u64], width: usize, x: usize, j: usize, given: u64) -> u64
+    requires column { j < width }
+    requires row { x * width + width ≤ length table.old }
+    ensures added { Adds table.old table.new width (λ i y. (i ≡ x) × (y / 64 ≡ j) × HasBit given (y % 64)) }
+    ensures fresh { (y : ℕ) → y / 64 ≡ j → HasBit result (y % 64) ↔ (HasBit given (y % 64) × (IsSet table.old width x y → ⊥)) }
+{
+    let place = x * width + j;
+    let word = table[place];
+    table[place] = word | given;
+    given & !word
+}
+
+/// Sets the bit of column x in the rows whose numbers are the bits of word j.
+#[inline]
+pub fn set_column(table: &mut [u64], width: usize, x: usize, j: usize, rows: u64)
+    requires column { x / 64 < width }
+    requires fits { 64 * j + 64 < 2 ^ 64 }
+    requires within { (k : ℕ) → k < 64 → HasBit rows k → (64 * j + k) * width + width ≤ length table.old }
+    ensures { Adds table.old table.new width (λ i y. (y ≡ x) × (i / 64 ≡ j) × HasBit rows (i % 64)) }
+{
+    let mut left = rows;
+    while left != 0 {
+        let k = left.trailing_zeros() as usize;
+        set_bit(table, width, 64 * j + k, x);
+        left &= !(1 << k);
+    }
+}
+
+/// Gives row x the number v and the numbers of row v, in both tables.
+pub fn add_row(
+    table: &mut [u64],
+    turned: &mut [u64],
+    width: usize,
+    nodes: usize,
+    x: usize,
+    v: usize,
+)
+    requires turned { AreTurned table.old turned.old width nodes }
+    requires small { nodes < 2 ^ 32 }
+    requires fits { width ≡ (nodes + 63) / 64 }
+    requires row { x < nodes }
+    requires given { v < nodes }
+    ensures added { Adds table.old table.new width (λ i y. (i ≡ x) × IsSelfOrSet table.old width v y) }
+    ensures turned { AreTurned table.new turned.new width nodes }
+{
+    for j in 0..width {
+        let given = with_bit(table[v * width + j], j, v);
+        let fresh = set_word(table, width, x, j, given);
+        set_column(turned, width, x, j, fresh);
+    }
+}
+
+/// Gives each row whose number is a bit of word i the number v and the numbers of row v, in both tables.
+pub fn add_rows(
+    table: &mut [u64],
+    turned: &mut [u64],
+    width: usize,
+    nodes: usize,
+    i: usize,
+    rows: u64,
+    v: usize,
+)
+    requires turned { AreTurned table.old turned.old width nodes }
+    requires small { nodes < 2 ^ 32 }
+    requires fits { width ≡ (nodes + 63) / 64 }
+    requires rows { (k : ℕ) → k < 64 → HasBit rows k → 64 * i + k < nodes }
+    requires given { v < nodes }
+    requires word { i < width }
+    ensures added { Adds table.old table.new width (λ x y. (x / 64 ≡ i) × HasBit rows (x % 64) × IsSelfOrSet table.old width v y) }
+    ensures turned { AreTurned table.new turned.new width nodes }
+{
+    let mut left = rows;
+    while left != 0 {
+        let k = left.trailing_zeros() as usize;
+        add_row(table, turned, width, nodes, 64 * i + k, v);
+        left &= !(1 << k);
+    }
+}
+
+/// Gives u, and each number that leads to u, the number v and those that v leads to, in both tables.
+///
+/// A row that has v already has all of them, so it is left out.
+pub fn join(table: &mut [u64], turned: &mut [u64], width: usize, nodes: usize, u: usize, v: usize)
+    requires turned { AreTurned table.old turned.old width nodes }
+    requires transitive { IsTransitive table.old width nodes }
+    requires small { nodes < 2 ^ 32 }
+    requires fits { width ≡ (nodes + 63) / 64 }
+    requires from { u < nodes }
+    requires to { v < nodes }
+    ensures added { Adds table.old table.new width (λ x y. (x < nodes) × ((x ≡ u) ⊎ IsSet table.old width x u) × IsSelfOrSet table.old width v y) }
+    ensures turned { AreTurned table.new turned.new width nodes }
+{
+    for i in 0..width {
+        let sources = with_bit(turned[u * width + i], i, u);
+        let rows = sources & !turned[v * width + i];
+        add_rows(table, turned, width, nodes, i, rows, v);
+    }
+}

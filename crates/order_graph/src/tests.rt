@@ -1,0 +1,261 @@
+//! Graphs by hand, and small graphs beside a plain program over lists of edges.
+
+use crate::Graph;
+use std::alloc::{AllocError, Global};
+use std::process::Abort;
+use std::test::Fail;
+
+/// The edge from u to v, for numbers of the graph.
+fn join(graph: &mut Graph, u: usize, v: usize) {
+    if u < graph.nodes() && v < graph.nodes() {
+        graph.add(u, v);
+    }
+}
+
+/// A graph with these edges.
+fn graph_of(alloc: Global, nodes: usize, edges: &[(usize, usize)]) -> Result<Graph, AllocError> {
+    let mut graph = Graph::new(alloc, nodes)?;
+    for (u, v) in edges.iter().copied() {
+        join(&mut graph, u, v);
+    }
+    Ok(graph)
+}
+
+fn has(graph: &Graph, u: usize, v: usize) -> bool {
+    u < graph.nodes() && v < graph.nodes() && graph.has(u, v)
+}
+
+fn reaches(graph: &Graph, u: usize, v: usize) -> bool {
+    u < graph.nodes() && v < graph.nodes() && graph.reaches(u, v)
+}
+
+fn least_path(graph: &Graph, u: usize, v: usize) -> Result<Option<Vec<usize>>, AllocError> {
+    if u < graph.nodes() && v < graph.nodes() {
+        graph.least_path(u, v)
+    } else {
+        Ok(None)
+    }
+}
+
+/// Whether the answer is the numbers expected, of which none means that there is no answer.
+fn is_list(found: &Option<Vec<usize>>, expected: &[usize]) -> bool {
+    match found {
+        Some(list) => list.as_slice() == expected,
+        None => expected.is_empty(),
+    }
+}
+
+/// Of the paths from u to v with this many numbers between them, the least.
+fn plain_way(
+    alloc: Global,
+    edges: &[(usize, usize)],
+    nodes: usize,
+    u: usize,
+    v: usize,
+    between: usize,
+) -> Result<Vec<usize>, AllocError> {
+    let mut path = Vec::new(alloc);
+    if between == 0 {
+        if edges.contains(&(u, v)) {
+            path.push(u)?;
+            path.push(v)?;
+        }
+        return Ok(path);
+    }
+    for next in 0..nodes {
+        if edges.contains(&(u, next)) {
+            let rest = plain_way(alloc, edges, nodes, next, v, between - 1)?;
+            if !rest.is_empty() {
+                path.push(u)?;
+                path.extend_from_slice(&rest)?;
+                return Ok(path);
+            }
+        }
+    }
+    Ok(path)
+}
+
+/// The least path from u to v, or no number.
+fn plain_path(
+    alloc: Global,
+    edges: &[(usize, usize)],
+    nodes: usize,
+    u: usize,
+    v: usize,
+) -> Result<Vec<usize>, AllocError> {
+    for between in 0..nodes {
+        let path = plain_way(alloc, edges, nodes, u, v, between)?;
+        if !path.is_empty() {
+            return Ok(path);
+        }
+    }
+    Ok(Vec::new(alloc))
+}
+
+/// The least cycle, or no number.
+fn plain_cycle(
+    alloc: Global,
+    edges: &[(usize, usize)],
+    nodes: usize,
+) -> Result<Vec<usize>, AllocError> {
+    for between in 0..nodes {
+        for start in 0..nodes {
+            let mut cycle = plain_way(alloc, edges, nodes, start, start, between)?;
+            if cycle.pop().is_some() {
+                return Ok(cycle);
+            }
+        }
+    }
+    Ok(Vec::new(alloc))
+}
+
+/// Compares each call on the graph with the plain program.
+fn compare(
+    rt: &impl Abort,
+    alloc: Global,
+    edges: &[(usize, usize)],
+    nodes: usize,
+) -> Result<(), AllocError> {
+    let graph = graph_of(alloc, nodes, edges)?;
+    assert_eq!(rt; graph.nodes(), nodes);
+    for u in 0..nodes {
+        for v in 0..nodes {
+            let path = plain_path(alloc, edges, nodes, u, v)?;
+            assert_eq!(rt;
+                has(&graph, u, v),
+                edges.contains(&(u, v)),
+                "{u} {v} in {edges:?}"
+            );
+            assert_eq!(rt;
+                reaches(&graph, u, v),
+                !path.is_empty(),
+                "{u} {v} in {edges:?}"
+            );
+            let found = least_path(&graph, u, v)?;
+            assert!(rt;
+                is_list(&found, &path),
+                "{u} {v} in {edges:?}: {found:?}, not {path:?}"
+            );
+        }
+    }
+    let cycle = plain_cycle(alloc, edges, nodes)?;
+    let found = graph.least_cycle()?;
+    assert!(rt;
+        is_list(&found, &cycle),
+        "{edges:?}: {found:?}, not {cycle:?}"
+    );
+    Ok(())
+}
+
+/// The next of a row of numbers that looks like chance.
+fn next_word(word: u64) -> u64 {
+    word.wrapping_mul(6364136223846793005)
+        .wrapping_add(1442695040888963407)
+}
+
+#[test]
+fn small_graphs_as_by_lists(rt: HostRuntime) -> Result<(), Fail> {
+    let mut word = 1u64;
+    for number in 0usize..300 {
+        let nodes = number % 6 + 1;
+        let mut edges = Vec::new(rt.alloc());
+        for _ in 0..number % 11 {
+            word = next_word(word);
+            let u = (word >> 33) as usize % nodes;
+            word = next_word(word);
+            let v = (word >> 33) as usize % nodes;
+            edges.push((u, v))?;
+        }
+        compare(&rt, rt.alloc(), &edges, nodes)?;
+    }
+    Ok(())
+}
+
+#[test]
+fn diamond_graph(rt: HostRuntime) -> Result<(), Fail> {
+    let edges = [(0, 1), (0, 2), (1, 3), (2, 3), (3, 0)];
+    let graph = graph_of(rt.alloc(), 4, &edges)?;
+    assert!(rt; is_list(&least_path(&graph, 0, 3)?, &[0, 1, 3]));
+    assert!(rt; is_list(&graph.least_cycle()?, &[0, 1, 3]));
+    Ok(())
+}
+
+#[test]
+fn loop_edge(rt: HostRuntime) -> Result<(), Fail> {
+    let graph = graph_of(rt.alloc(), 3, &[(0, 1), (1, 1), (1, 2)])?;
+    assert!(rt; reaches(&graph, 1, 1));
+    assert!(rt; !reaches(&graph, 0, 0));
+    assert!(rt; is_list(&least_path(&graph, 1, 1)?, &[1, 1]));
+    assert!(rt; is_list(&least_path(&graph, 0, 2)?, &[0, 1, 2]));
+    assert!(rt; is_list(&graph.least_cycle()?, &[1]));
+    Ok(())
+}
+
+#[test]
+fn path_to_itself(rt: HostRuntime) -> Result<(), Fail> {
+    let graph = graph_of(rt.alloc(), 4, &[(0, 1), (1, 2), (2, 0), (2, 3)])?;
+    assert!(rt; is_list(&least_path(&graph, 1, 1)?, &[1, 2, 0, 1]));
+    assert!(rt; is_list(&least_path(&graph, 3, 3)?, &[]));
+    assert!(rt; is_list(&graph.least_cycle()?, &[0, 1, 2]));
+    Ok(())
+}
+
+#[test]
+fn empty_graphs(rt: HostRuntime) -> Result<(), Fail> {
+    for nodes in [0, 1, 64, 65, 8001] {
+        let graph = Graph::new(rt.alloc(), nodes)?;
+        assert_eq!(rt; graph.nodes(), nodes);
+        assert!(rt; !has(&graph, 0, 0));
+        assert!(rt; !reaches(&graph, 0, 0));
+        assert!(rt; is_list(&least_path(&graph, 0, 0)?, &[]));
+        assert!(rt; is_list(&graph.least_cycle()?, &[]));
+    }
+    assert!(rt; Graph::new(rt.alloc(), usize::MAX).is_err());
+    Ok(())
+}
+
+/// A ring of all numbers of a graph of each size: each reaches each, and the only cycle is the ring.
+#[test]
+fn rings(rt: HostRuntime) -> Result<(), Fail> {
+    for nodes in [1usize, 2, 63, 64, 65, 129] {
+        let mut graph = Graph::new(rt.alloc(), nodes)?;
+        for u in 1..nodes {
+            join(&mut graph, u - 1, u);
+        }
+        assert!(rt; is_list(&graph.least_cycle()?, &[]), "{nodes}");
+        let last = nodes.saturating_sub(1);
+        assert!(rt; nodes == 1 || !reaches(&graph, last, 0), "{nodes}");
+        join(&mut graph, last, 0);
+        let ring: Vec<usize> = (0..nodes).collect(rt.alloc())?;
+        assert!(rt; is_list(&graph.least_cycle()?, &ring), "{nodes}");
+        for u in 0..nodes {
+            assert!(rt;
+                reaches(&graph, u, 0) && reaches(&graph, 0, u),
+                "{u} of {nodes}"
+            );
+        }
+    }
+    Ok(())
+}
+
+#[test]
+fn many_numbers(rt: HostRuntime) -> Result<(), Fail> {
+    let last = 8000;
+    let graph = graph_of(
+        rt.alloc(),
+        8001,
+        &[
+            (63, 64),
+            (last, 63),
+            (64, 4096),
+            (4096, 127),
+            (64, 127),
+            (127, last),
+        ],
+    )?;
+    assert!(rt; reaches(&graph, last, 127));
+    assert!(rt; !reaches(&graph, 0, 127));
+    assert!(rt; is_list(&least_path(&graph, 63, last)?, &[63, 64, 127, last]));
+    assert!(rt; is_list(&graph.least_cycle()?, &[63, 64, 127, last]));
+    Ok(())
+}
