@@ -1,0 +1,122 @@
+-- A line that says something is written in one way: its pieces are those that the printers give.
+use Rattle.std.proofs.Common.{◌≡◌, ℕ, ◌+◌, ◌<◌, ◌≤◌, ◌^◌, min, Bool, true, false, cond, not, ◌&&◌, eqb, ltb, List, [], ◌∷◌, ◌++◌, length, get_or, map, Option, Some, None, Result, Ok, Err, refl, ap, sym, ◌∙◌, subst, arith, inl, inr, ⊎_elim, ◌⊎◌}
+use Rattle.std.specs.Prelude.{codes}
+use Rattle.std.specs.Char.{is_ascii_digit}
+use Rattle.std.specs.Fmt.{decimal}
+use Rattle.std.specs.List.{flat_map, list_all}
+use Rattle.std.specs.Str.{bytes_eq}
+use Rattle.std.specs.Str.Parse.{digits_value}
+use Rattle.std.proofs.lemmas.Bool.{false≢true}
+use Rattle.std.proofs.lemmas.Bool.Decides.{nat_tests}
+use Rattle.std.proofs.lemmas.Fmt.{decimal-digits_value}
+use Rattle.std.proofs.lemmas.Slice.Eq.{bytes_eq-Decides}
+use Rattle.tso_ops.specs.declared.ops.Outcome.{Outcome}
+use Rattle.tso_ops.specs.declared.ops.Outcome.TheVariants.{Ld, St, Sw, Mb}
+use Rattle.tso_text.specs.declared.faults.Why.{Why}
+use Rattle.tso_text.specs.declared.faults.Why.TheVariants.{BadLine, BadNumber, BeforeProc, AddressRange}
+use Rattle.tso_text.specs.declared.lines.Line.{Line}
+use Rattle.tso_text.specs.declared.lines.Line.TheVariants.{Proc, Item, End}
+use Rattle.tso_text.specs.Grammars.{trace_grammar, trace_line, is_word, address, outcome_fault, op_fault}
+use Rattle.tso_text.specs.Numbers.{◌>>=◌, number, numeral, or_bad, is_numeral, is_plain, no_number, one_number, two_numbers, three_numbers}
+use Rattle.tso_text.specs.Printed.{outcome_pieces}
+use Rattle.tso_text.specs.Spelling.{Grammar, line_fault, items_of, same_why, is_empty}
+use Rattle.tso_text.proofs.NumberFacts.{digits_model, length-plain}
+
+-- ---- numbers
+
+and_parts : (a b : Bool) → (a && b) ≡ true → (a ≡ true) × (b ≡ true)
+and_parts true b e = (refl, e)
+and_parts false b e = absurd cc
+
+some_parts : {X : Type 0} (b : Bool) (m n : X) → cond b (Some m) None ≡ Some n → (b ≡ true) × (m ≡ n)
+some_parts true m n e = (refl, cc)
+some_parts false m n e = absurd cc
+
+zero_alone : (p : List ℕ) → is_plain p ≡ true → get_or p 0 0 ≡ 48 → length p ≡ 1
+zero_alone [] plain first = absurd cc
+zero_alone (d ∷ []) plain first = refl
+zero_alone (d ∷ e ∷ ds) plain first = absurd (grind (arith, nat_tests))
+
+number_is : (p : List ℕ) (n : ℕ) → number p ≡ Some n → p ≡ decimal n
+unfolding number
+number_is p n e =
+    let whole = some_parts (is_numeral p) (digits_value 10 p) n e in
+    let outer = and_parts (list_all is_ascii_digit p && is_plain p) (ltb (digits_value 10 p) (2 ^ 64)) whole.0 in
+    let inner = and_parts (list_all is_ascii_digit p) (is_plain p) outer.0 in
+    let fits : digits_value 10 p < 2 ^ 64 = (let t = outer.1 in grind (arith, nat_tests)) in
+    sym (decimal-digits_value digits_model p inner.0 (length-plain p inner.1) (zero_alone p inner.1) fits) ∙ ap decimal whole.1
+
+or_bad_ok : (o : Option ℕ) (n : ℕ) → or_bad o ≡ Ok n → o ≡ Some n
+or_bad_ok None n e = absurd cc
+or_bad_ok (Some m) n e = cc
+
+numeral_is : (p : List ℕ) (n : ℕ) → numeral p ≡ Ok n → p ≡ decimal n
+numeral_is p n e = number_is p n (or_bad_ok (number p) n e)
+
+pub bind_ok : {A B : Type 0} (r : Result A Why) (f : A → Result B Why) (b : B) → (r >>= f) ≡ Ok b → (a : A) × (r ≡ Ok a) × (f a ≡ Ok b)
+bind_ok (Ok a) f b e = (a, refl, e)
+bind_ok (Err why) f b e = absurd cc
+
+pub none_is : (ps : List (List ℕ)) (u : Unit {0}) → no_number ps ≡ Ok u → ps ≡ []
+unfolding no_number
+none_is [] u e = refl
+none_is (p ∷ ps) u e = absurd cc
+
+pub one_is : (ps : List (List ℕ)) (n : ℕ) → one_number ps ≡ Ok n → ps ≡ decimal n ∷ []
+unfolding one_number
+one_is [] n e = absurd cc
+one_is (p ∷ []) n e = ap (λ q. q ∷ []) (numeral_is p n e)
+one_is (p ∷ q ∷ ps) n e = absurd cc
+
+pub two_is : (ps : List (List ℕ)) (n : ℕ × ℕ) → two_numbers ps ≡ Ok n → ps ≡ decimal n.0 ∷ decimal n.1 ∷ []
+unfolding two_numbers
+two_is [] n e = absurd cc
+two_is (p ∷ []) n e = absurd cc
+two_is (p ∷ q ∷ []) n e =
+    let first = bind_ok (numeral p) _ n e in
+    let second = bind_ok (numeral q) _ n first.2 in
+    let pair : (first.0, second.0) ≡ n = cc in
+    ap (λ d. d ∷ q ∷ []) (numeral_is p first.0 first.1) ∙ ap (λ d. decimal first.0 ∷ d ∷ []) (numeral_is q second.0 second.1) ∙ ap (λ m. decimal m.0 ∷ decimal m.1 ∷ []) pair
+two_is (p ∷ q ∷ r ∷ ps) n e = absurd cc
+
+pub three_is : (ps : List (List ℕ)) (n : ℕ × ℕ × ℕ) → three_numbers ps ≡ Ok n → ps ≡ decimal n.0 ∷ decimal n.1 ∷ decimal n.2 ∷ []
+unfolding three_numbers
+three_is [] n e = absurd cc
+three_is (p ∷ []) n e = absurd cc
+three_is (p ∷ q ∷ []) n e = absurd cc
+three_is (p ∷ q ∷ r ∷ []) n e =
+    let first = bind_ok (numeral p) _ n e in
+    let second = bind_ok (numeral q) _ n first.2 in
+    let third = bind_ok (numeral r) _ n second.2 in
+    let triple : (first.0, second.0, third.0) ≡ n = cc in
+    ap (λ d. d ∷ q ∷ r ∷ []) (numeral_is p first.0 first.1) ∙ ap (λ d. decimal first.0 ∷ d ∷ r ∷ []) (numeral_is q second.0 second.1)
+    ∙ ap (λ d. decimal first.0 ∷ decimal second.0 ∷ d ∷ []) (numeral_is r third.0 third.1) ∙ ap (λ m. decimal m.0 ∷ decimal m.1 ∷ decimal m.2 ∷ []) triple
+three_is (p ∷ q ∷ r ∷ s ∷ ps) n e = absurd cc
+
+-- ---- lines
+
+-- the pieces of a line
+abbrev pub pieces_by : {X : Type 0} → (X → List (List ℕ)) → Line X → List (List ℕ)
+pieces_by pieces Proc = codes "proc" ∷ []
+pieces_by pieces (Item x) = pieces x
+pieces_by pieces End = codes "end" ∷ []
+
+pub cond_parts : {X : Type 0} (b : Bool) (r s : Result (Line X) Why) (l : Line X) → cond b r s ≡ Ok l → ((b ≡ true) × (r ≡ Ok l)) ⊎ ((b ≡ false) × (s ≡ Ok l))
+cond_parts true r s l e = inl (refl, e)
+cond_parts false r s l e = inr (refl, e)
+
+pub word_is : (word text : List ℕ) → is_word word text ≡ true → word ≡ text
+word_is word text same = (bytes_eq-Decides word text).0 same
+
+-- an address without a fault is the number
+pub in_range : (n : ℕ) → ltb 255 (address n) ≡ false → n ≡ address n
+in_range n low = let t : address n ≤ 255 = grind (arith, nat_tests) in omega arith
+
+-- an item without a fault stands in a list, and has none behind the items before it
+pub record IsSound {X : Type 0} (g : Grammar X) (lists : List (List X)) (x : X) : Type 0 where
+  pub some : is_empty lists ≡ false
+  pub clean : (w : Why) → g.item_fault (items_of lists) x w ≡ false
+
+pub sound : {X : Type 0} (g : Grammar X) (lists : List (List X)) (x : X) → ((w : Why) → line_fault g lists (Item x) w ≡ false) → IsSound g lists x
+sound g [] x clean = absurd (let e = clean BeforeProc in cc)
+sound g (row ∷ lists) x clean = record { some = refl; clean = clean }

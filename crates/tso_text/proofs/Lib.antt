@@ -1,0 +1,11 @@
+pub mod CanonicalFacts
+pub mod CutFacts
+pub mod FaultFacts
+pub mod KeptFacts
+pub mod LineFacts
+pub mod NumberFacts
+pub mod OneTextFacts
+pub mod PrintFacts
+pub mod PrintedFacts
+pub mod Reaching
+pub mod SpellingFacts

@@ -1,0 +1,178 @@
+-- Each value has one text: what a text spells is printed as that text.
+use Rattle.std.proofs.Common.{◌≡◌, ℕ, ◌+◌, ◌<◌, ◌≤◌, min, Bool, true, false, cond, eqb, ltb, List, [], ◌∷◌, ◌++◌, length, map, Option, Some, None, Result, Ok, Err, refl, ap, sym, ◌∙◌, subst, arith, append_assoc, inl, inr, ⊎_elim}
+use Rattle.std.specs.Prelude.{codes}
+use Rattle.std.specs.Fmt.{decimal}
+use Rattle.std.specs.List.{flat_map}
+use Rattle.std.proofs.lemmas.Bool.{false≢true}
+use Rattle.std.proofs.lemmas.List.{append-nil, map-append}
+use Rattle.std.proofs.lemmas.List.Concat.{flat_map-append}
+use Rattle.tso_ops.specs.declared.ops.Op.{Op}
+use Rattle.tso_ops.specs.declared.ops.Op.TheVariants.{Ld as OpLd, St as OpSt, Sw as OpSw, Mb as OpMb}
+use Rattle.tso_ops.specs.declared.ops.Outcome.{Outcome}
+use Rattle.tso_ops.specs.declared.ops.Outcome.TheVariants.{Ld, St, Sw, Mb}
+use Rattle.tso_ops.specs.Limits.{address_of}
+use Rattle.tso_ops.specs.Values.{TraceValue, ProgramValue, op_of}
+use Rattle.tso_text.specs.declared.acts.Act.{Act}
+use Rattle.tso_text.specs.declared.acts.Act.TheVariants.{Issue, Drain}
+use Rattle.tso_text.specs.declared.faults.Why.{Why}
+use Rattle.tso_text.specs.declared.faults.Why.TheVariants.{BadLine, BeforeProc, AddressRange}
+use Rattle.tso_text.specs.declared.lines.Line.{Line}
+use Rattle.tso_text.specs.declared.lines.Line.TheVariants.{Proc, Item, End}
+use Rattle.tso_text.specs.Grammars.{trace_grammar, program_grammar, schedule_grammar, trace_line, program_line, schedule_line, is_word, address, outcome_fault, plain_fault, SpellsTrace, SpellsProgram, SpellsSchedule, trace_header, program_header, schedule_header}
+use Rattle.tso_text.specs.Numbers.{◌>>=◌, no_number, one_number, two_numbers, three_numbers}
+use Rattle.tso_text.specs.Printed.{line_text, items_text, processor_text, whole_text, outcome_pieces, op_pieces, act_pieces, trace_text, program_text, schedule_text}
+use Rattle.tso_text.specs.Spelling.{Grammar, Spells, line_fault, items_of, with_line, push_last, is_end, is_empty}
+use Rattle.tso_text.proofs.CanonicalFacts.{bind_ok, none_is, one_is, two_is, three_is, pieces_by, cond_parts, word_is, in_range, IsSound, sound}
+use Rattle.tso_text.proofs.KeptFacts.{not_proc}
+use Rattle.tso_text.proofs.LineFacts.{items_of-push_last}
+use Rattle.tso_text.proofs.PrintedFacts.{Prints, spelled_text}
+
+-- ---- one way to write a line
+
+-- a word alone
+plain_line : {X : Type 0} (p : X → List (List ℕ)) (word text : List ℕ) (pieces : List (List ℕ)) (m l : Line X) → is_word word text ≡ true → text ∷ [] ≡ pieces_by p m →
+    (no_number pieces >>= λ _. Ok m) ≡ Ok l → word ∷ pieces ≡ pieces_by p l
+plain_line p word text pieces m l is shows e =
+    let b = bind_ok (no_number pieces) _ l e in
+    let says = b.2 in
+    let same : m ≡ l = cc in
+    ap (λ w. w ∷ pieces) (word_is word text is) ∙ ap (λ q. text ∷ q) (none_is pieces b.0 b.1) ∙ shows ∙ ap (pieces_by p) same
+
+-- a word with numbers
+args_line : {X N : Type 0} (g : Grammar X) (lists : List (List X)) (p : X → List (List ℕ)) (r : Result N Why) (f : N → X) (word text : List ℕ) (pieces : List (List ℕ)) (shown : N → List (List ℕ)) (l : Line X) →
+    is_word word text ≡ true → ((n : N) → r ≡ Ok n → pieces ≡ shown n) → ((n : N) → IsSound g lists (f n) → text ∷ shown n ≡ p (f n)) →
+    ((w : Why) → line_fault g lists l w ≡ false) → (r >>= λ n. Ok (Item (f n))) ≡ Ok l → word ∷ pieces ≡ pieces_by p l
+args_line g lists p r f word text pieces shown l is reads shows clean e =
+    let b = bind_ok r _ l e in
+    let says = b.2 in
+    let same : Item (f b.0) ≡ l = cc in
+    let clean_item : (w : Why) → line_fault g lists (Item (f b.0)) w ≡ false = λ w. ap (λ m. line_fault g lists m w) same ∙ clean w in
+    ap (λ w. w ∷ pieces) (word_is word text is) ∙ ap (λ q. text ∷ q) (reads b.0 b.1) ∙ shows b.0 (sound g lists (f b.0) clean_item) ∙ ap (pieces_by p) same
+
+outcome_range : (lists : List (List Outcome)) (x : Outcome) (n : ℕ) → IsSound trace_grammar lists x → address_of (op_of x) ≡ Some (address n) → n ≡ address n
+unfolding outcome_fault
+outcome_range lists x n s at = in_range n (rw at at (s.clean AddressRange))
+
+op_range : (lists : List (List Op)) (x : Op) (n : ℕ) → IsSound program_grammar lists x → address_of x ≡ Some (address n) → n ≡ address n
+unfolding plain_fault
+op_range lists x n s at = in_range n (rw at at (s.clean AddressRange))
+
+trace_canonical : (lists : List (List Outcome)) (ps : List (List ℕ)) (l : Line Outcome) → trace_line ps ≡ Ok l → ((w : Why) → line_fault trace_grammar lists l w ≡ false) → ps ≡ pieces_by outcome_pieces l
+unfolding trace_line
+trace_canonical lists [] l e clean = absurd cc
+trace_canonical lists (word ∷ pieces) l e clean =
+    ⊎_elim (λ h. plain_line outcome_pieces word (codes "proc") pieces Proc l h.0 refl h.1) (λ h.
+    ⊎_elim (λ h. args_line trace_grammar lists outcome_pieces (two_numbers pieces) (λ n. Ld (address n.0) n.1) word (codes "ld") pieces (λ n. decimal n.0 ∷ decimal n.1 ∷ []) l h.0 (two_is pieces)
+    (λ n s. ap (λ a. codes "ld" ∷ decimal a ∷ decimal n.1 ∷ []) (outcome_range lists (Ld (address n.0) n.1) n.0 s refl)) clean h.1) (λ h.
+    ⊎_elim (λ h. args_line trace_grammar lists outcome_pieces (two_numbers pieces) (λ n. St (address n.0) n.1) word (codes "st") pieces (λ n. decimal n.0 ∷ decimal n.1 ∷ []) l h.0 (two_is pieces)
+    (λ n s. ap (λ a. codes "st" ∷ decimal a ∷ decimal n.1 ∷ []) (outcome_range lists (St (address n.0) n.1) n.0 s refl)) clean h.1) (λ h.
+    ⊎_elim (λ h. args_line trace_grammar lists outcome_pieces (three_numbers pieces) (λ n. Sw (address n.0) n.1 n.2) word (codes "sw") pieces (λ n. decimal n.0 ∷ decimal n.1 ∷ decimal n.2 ∷ []) l h.0 (three_is pieces)
+    (λ n s. ap (λ a. codes "sw" ∷ decimal a ∷ decimal n.1 ∷ decimal n.2 ∷ []) (outcome_range lists (Sw (address n.0) n.1 n.2) n.0 s refl)) clean h.1) (λ h.
+    ⊎_elim (λ h. plain_line outcome_pieces word (codes "mb") pieces (Item Mb) l h.0 refl h.1) (λ h.
+    ⊎_elim (λ h. plain_line outcome_pieces word (codes "end") pieces End l h.0 refl h.1) (λ h. absurd (let bad = h.1 in cc))
+    (cond_parts (is_word word (codes "end")) _ _ l h.1))
+    (cond_parts (is_word word (codes "mb")) _ _ l h.1))
+    (cond_parts (is_word word (codes "sw")) _ _ l h.1))
+    (cond_parts (is_word word (codes "st")) _ _ l h.1))
+    (cond_parts (is_word word (codes "ld")) _ _ l h.1))
+    (cond_parts (is_word word (codes "proc")) _ _ l e)
+
+program_canonical : (lists : List (List Op)) (ps : List (List ℕ)) (l : Line Op) → program_line ps ≡ Ok l → ((w : Why) → line_fault program_grammar lists l w ≡ false) → ps ≡ pieces_by op_pieces l
+unfolding program_line
+program_canonical lists [] l e clean = absurd cc
+program_canonical lists (word ∷ pieces) l e clean =
+    ⊎_elim (λ h. plain_line op_pieces word (codes "proc") pieces Proc l h.0 refl h.1) (λ h.
+    ⊎_elim (λ h. args_line program_grammar lists op_pieces (one_number pieces) (λ n. OpLd (address n)) word (codes "ld") pieces (λ n. decimal n ∷ []) l h.0 (one_is pieces)
+    (λ n s. ap (λ a. codes "ld" ∷ decimal a ∷ []) (op_range lists (OpLd (address n)) n s refl)) clean h.1) (λ h.
+    ⊎_elim (λ h. args_line program_grammar lists op_pieces (two_numbers pieces) (λ n. OpSt (address n.0) n.1) word (codes "st") pieces (λ n. decimal n.0 ∷ decimal n.1 ∷ []) l h.0 (two_is pieces)
+    (λ n s. ap (λ a. codes "st" ∷ decimal a ∷ decimal n.1 ∷ []) (op_range lists (OpSt (address n.0) n.1) n.0 s refl)) clean h.1) (λ h.
+    ⊎_elim (λ h. args_line program_grammar lists op_pieces (two_numbers pieces) (λ n. OpSw (address n.0) n.1) word (codes "sw") pieces (λ n. decimal n.0 ∷ decimal n.1 ∷ []) l h.0 (two_is pieces)
+    (λ n s. ap (λ a. codes "sw" ∷ decimal a ∷ decimal n.1 ∷ []) (op_range lists (OpSw (address n.0) n.1) n.0 s refl)) clean h.1) (λ h.
+    ⊎_elim (λ h. plain_line op_pieces word (codes "mb") pieces (Item OpMb) l h.0 refl h.1) (λ h.
+    ⊎_elim (λ h. plain_line op_pieces word (codes "end") pieces End l h.0 refl h.1) (λ h. absurd (let bad = h.1 in cc))
+    (cond_parts (is_word word (codes "end")) _ _ l h.1))
+    (cond_parts (is_word word (codes "mb")) _ _ l h.1))
+    (cond_parts (is_word word (codes "sw")) _ _ l h.1))
+    (cond_parts (is_word word (codes "st")) _ _ l h.1))
+    (cond_parts (is_word word (codes "ld")) _ _ l h.1))
+    (cond_parts (is_word word (codes "proc")) _ _ l e)
+
+schedule_canonical : (lists : List (List Act)) (ps : List (List ℕ)) (l : Line Act) → schedule_line ps ≡ Ok l → ((w : Why) → line_fault schedule_grammar lists l w ≡ false) → ps ≡ pieces_by act_pieces l
+unfolding schedule_line
+schedule_canonical lists [] l e clean = absurd cc
+schedule_canonical lists (word ∷ pieces) l e clean =
+    ⊎_elim (λ h. args_line schedule_grammar lists act_pieces (one_number pieces) (λ n. Issue n) word (codes "i") pieces (λ n. decimal n ∷ []) l h.0 (one_is pieces) (λ n s. refl) clean h.1) (λ h.
+    ⊎_elim (λ h. args_line schedule_grammar lists act_pieces (one_number pieces) (λ n. Drain n) word (codes "d") pieces (λ n. decimal n ∷ []) l h.0 (one_is pieces) (λ n s. refl) clean h.1) (λ h.
+    ⊎_elim (λ h. plain_line act_pieces word (codes "end") pieces End l h.0 refl h.1) (λ h. absurd (let bad = h.1 in cc))
+    (cond_parts (is_word word (codes "end")) _ _ l h.1))
+    (cond_parts (is_word word (codes "d")) _ _ l h.1))
+    (cond_parts (is_word word (codes "i")) _ _ l e)
+
+-- ---- the lines of lists
+
+-- the lines of processors
+abbrev pub made_by : {X : Type 0} → List (List X) → List (Line X)
+made_by lists = flat_map (λ row. Proc ∷ map Item row) lists
+
+made_by-push_last : {X : Type 0} (lists : List (List X)) (x : X) → is_empty lists ≡ false → made_by (push_last lists x) ≡ made_by lists ++ Item x ∷ []
+made_by-push_last [] x some = absurd cc
+made_by-push_last (row ∷ []) x some =
+    append-nil (Proc ∷ map Item (row ++ x ∷ [])) ∙ ap (λ r. Proc ∷ r) (map-append Item row (x ∷ [])) ∙ ap (λ r. r ++ Item x ∷ []) (sym (append-nil (Proc ∷ map Item row)))
+made_by-push_last (row ∷ next ∷ lists) x some =
+    ap (λ r. (Proc ∷ map Item row) ++ r) (made_by-push_last (next ∷ lists) x refl) ∙ sym (append_assoc (Proc ∷ map Item row) (made_by (next ∷ lists)) (Item x ∷ []))
+
+made_by-more : {X : Type 0} (g : Grammar X) (lists : List (List X)) (l : Line X) → ((w : Why) → line_fault g lists l w ≡ false) → is_end (Ok l) ≡ false → made_by (with_line lists l) ≡ made_by lists ++ l ∷ []
+made_by-more g lists Proc clean running = flat_map-append (λ row. Proc ∷ map Item row) lists ([] ∷ [])
+made_by-more g lists (Item x) clean running = made_by-push_last lists x (sound g lists x clean).some
+made_by-more g lists End clean running = absurd cc
+
+flat_map-Item : {X A : Type 0} (f : Line X → List A) (row : List X) → flat_map f (map Item row) ≡ flat_map (λ x. f (Item x)) row
+flat_map-Item f [] = refl
+flat_map-Item f (x ∷ row) = ap (λ r. f (Item x) ++ r) (flat_map-Item f row)
+
+-- the text of these lines
+made_by-text : {X : Type 0} (p : X → List (List ℕ)) (lists : List (List X)) → flat_map (λ l. line_text (pieces_by p l)) (made_by lists) ≡ flat_map (processor_text p) lists
+unfolding processor_text items_text
+made_by-text p [] = refl
+made_by-text p (row ∷ lists) =
+    flat_map-append (λ l. line_text (pieces_by p l)) (Proc ∷ map Item row) (made_by lists)
+    ∙ ap (λ r. (line_text (codes "proc" ∷ []) ++ r) ++ flat_map (λ l. line_text (pieces_by p l)) (made_by lists)) (flat_map-Item (λ l. line_text (pieces_by p l)) row)
+    ∙ ap (λ r. (line_text (codes "proc" ∷ []) ++ flat_map (λ x. line_text (p x)) row) ++ r) (made_by-text p lists)
+
+prints_trace : Prints trace_grammar made_by (pieces_by outcome_pieces)
+prints_trace = record { start = refl; canonical = trace_canonical; more = λ lists ps l says clean running. made_by-more trace_grammar lists l clean running }
+
+prints_program : Prints program_grammar made_by (pieces_by op_pieces)
+prints_program = record { start = refl; canonical = program_canonical; more = λ lists ps l says clean running. made_by-more program_grammar lists l clean running }
+
+whole : (header lines : List ℕ) (text others : List ℕ) → lines ≡ others → text ≡ header ++ 10 ∷ (lines ++ line_text (codes "end" ∷ [])) → text ≡ whole_text header others
+unfolding whole_text
+whole header lines text others same is = is ∙ ap (λ ls. header ++ 10 ∷ (ls ++ line_text (codes "end" ∷ []))) same ∙ sym (append_assoc header (10 ∷ others) (line_text (codes "end" ∷ [])))
+
+pub trace_printed : (text : List ℕ) (t : TraceValue) → SpellsTrace text t → text ≡ trace_text t
+unfolding trace_text
+trace_printed text t spells = whole trace_header _ text _ (made_by-text outcome_pieces t.lists) (spelled_text trace_grammar made_by (pieces_by outcome_pieces) prints_trace text t.lists spells)
+
+pub program_printed : (text : List ℕ) (p : ProgramValue) → SpellsProgram text p → text ≡ program_text p
+unfolding program_text
+program_printed text p spells = whole program_header _ text _ (made_by-text op_pieces p.lists) (spelled_text program_grammar made_by (pieces_by op_pieces) prints_program text p.lists spells)
+
+-- ---- schedules
+
+abbrev acts_made : List (List Act) → List (Line Act)
+acts_made lists = map Item (items_of lists)
+
+acts_made-more : (lists : List (List Act)) (ps : List (List ℕ)) (l : Line Act) → schedule_line ps ≡ Ok l → ((w : Why) → line_fault schedule_grammar lists l w ≡ false) → is_end (Ok l) ≡ false → acts_made (with_line lists l) ≡ acts_made lists ++ l ∷ []
+acts_made-more lists ps Proc says clean running = absurd (not_proc ps says)
+acts_made-more [] ps (Item x) says clean running = absurd (let e = (sound schedule_grammar [] x clean).some in cc)
+acts_made-more (row ∷ lists) ps (Item x) says clean running = ap (map Item) (items_of-push_last (row ∷ lists) x (omega arith)) ∙ map-append Item (items_of (row ∷ lists)) (x ∷ [])
+acts_made-more lists ps End says clean running = absurd cc
+
+prints_schedule : Prints schedule_grammar acts_made (pieces_by act_pieces)
+prints_schedule = record { start = refl; canonical = schedule_canonical; more = acts_made-more }
+
+pub schedule_printed : (text : List ℕ) (acts : List Act) → SpellsSchedule text acts → text ≡ schedule_text acts
+unfolding schedule_text items_text
+schedule_printed text acts spells =
+    whole schedule_header _ text (flat_map (λ x. line_text (act_pieces x)) acts) (flat_map-Item (λ l. line_text (pieces_by act_pieces l)) (acts ++ []) ∙ ap (flat_map (λ x. line_text (act_pieces x))) (append-nil acts))
+    (spelled_text schedule_grammar acts_made (pieces_by act_pieces) prints_schedule text (acts ∷ []) spells)

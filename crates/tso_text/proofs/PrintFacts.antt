@@ -1,0 +1,68 @@
+-- Lemmas on printing: one more line, and one more processor.
+use Rattle.std.proofs.Common.{◌≡◌, ℕ, ◌+◌, ◌<◌, ◌≤◌, List, [], ◌∷◌, ◌++◌, length, get_or, take, Result, Ok, Err, refl, ap, sym, ◌∙◌, arith, append_assoc}
+use Rattle.tso_ops.specs.Values.{TraceValue, ProgramValue}
+use Rattle.tso_text.specs.declared.acts.Act.{Act}
+use Rattle.std.specs.List.{flat_map}
+use Rattle.std.specs.Result.{OnOk}
+use Rattle.std.proofs.lemmas.List.{append-nil, take_more, take_all, get_or_read}
+use Rattle.std.proofs.lemmas.List.Concat.{flat_map-append}
+use Rattle.tso_text.specs.Grammars.{trace_header, program_header, schedule_header}
+use Rattle.tso_text.specs.Printed.{line_text, items_text, processor_text, whole_text, outcome_pieces, op_pieces, act_pieces, trace_text, program_text, schedule_text}
+
+-- the texts of one more element
+pub flat_map-take_more : {X A : Type 0} (f : X → List A) (xs : List X) (i : ℕ) (d : X) → i < length xs → flat_map f (take (i + 1) xs) ≡ flat_map f (take i xs) ++ f (get_or xs i d)
+flat_map-take_more f xs i d inside =
+    ap (flat_map f) (take_more xs i d inside) ∙ flat_map-append f (take i xs) (get_or xs i d ∷ []) ∙ ap (λ r. flat_map f (take i xs) ++ r) (append-nil (f (get_or xs i d)))
+
+-- the text behind one more item
+pub items_text-more : {X : Type 0} (pieces : X → List (List ℕ)) (start old new : List ℕ) (items : List X) (i : ℕ) (x : X) → i < length items → x ≡ get_or items i x →
+    old ≡ start ++ items_text pieces (take i items) → new ≡ old ++ line_text (pieces x) → new ≡ start ++ items_text pieces (take (i + 1) items)
+unfolding items_text
+items_text-more pieces start old new items i x inside is before added =
+    added ∙ ap (λ t. t ++ line_text (pieces x)) before ∙ append_assoc start _ (line_text (pieces x))
+    ∙ ap (λ t. start ++ t) (ap (λ y. flat_map (λ z. line_text (pieces z)) (take i items) ++ line_text (pieces y)) is ∙ sym (flat_map-take_more (λ z. line_text (pieces z)) items i x inside))
+
+pub items_text-none : {X : Type 0} (pieces : X → List (List ℕ)) (start : List ℕ) (items : List X) → start ≡ start ++ items_text pieces (take 0 items)
+unfolding items_text
+items_text-none pieces start items = sym (append-nil start)
+
+-- the text behind one more processor
+pub processors-more : {X : Type 0} (pieces : X → List (List ℕ)) (start old new : List ℕ) (lists : List (List X)) (i : ℕ) (row : List X) → i < length lists → row ≡ get_or lists i [] →
+    old ≡ start ++ flat_map (processor_text pieces) (take i lists) → new ≡ old ++ processor_text pieces row → new ≡ start ++ flat_map (processor_text pieces) (take (i + 1) lists)
+processors-more pieces start old new lists i row inside is before added =
+    added ∙ ap (λ t. t ++ processor_text pieces row) before ∙ append_assoc start _ (processor_text pieces row)
+    ∙ ap (λ t. start ++ t) (ap (λ y. flat_map (processor_text pieces) (take i lists) ++ processor_text pieces y) is ∙ sym (flat_map-take_more (processor_text pieces) lists i [] inside))
+
+-- the whole text, by its parts
+pub whole_text-parts : (header lines : List ℕ) (text : List ℕ) (start : List ℕ) → start ≡ header ++ 10 ∷ [] → text ≡ start ++ lines ++ 101 ∷ 110 ∷ 100 ∷ 10 ∷ [] → text ≡ whole_text header lines
+unfolding whole_text
+whole_text-parts header lines text start is parts = parts ∙ ap (λ s. s ++ lines ++ 101 ∷ 110 ∷ 100 ∷ 10 ∷ []) is ∙ ap (λ t. t ++ 101 ∷ 110 ∷ 100 ∷ 10 ∷ []) (append_assoc header (10 ∷ []) lines)
+
+-- the lines of a processor, by their parts
+pub processor_text-parts : {X E : Type 0} (pieces : X → List (List ℕ)) (r : Result (Unit {0}) E) (old mid new : List ℕ) (items : List X) → mid ≡ old ++ 112 ∷ 114 ∷ 111 ∷ 99 ∷ 10 ∷ [] →
+    OnOk r (new ≡ mid ++ items_text pieces items) → OnOk r (new ≡ old ++ processor_text pieces items)
+unfolding processor_text
+processor_text-parts pieces (Ok u) old mid new items is parts = parts ∙ ap (λ t. t ++ items_text pieces items) is ∙ append_assoc old _ (items_text pieces items)
+processor_text-parts pieces (Err e) old mid new items is parts = tt
+
+-- the text of a trace, behind all its processors
+pub trace_text-parts : (v : TraceValue) (p end : ℕ) (mid text : List ℕ) → end ≡ length v.lists → end ≤ p →
+    mid ≡ (trace_header ++ 10 ∷ []) ++ flat_map (processor_text outcome_pieces) (take p v.lists) → text ≡ mid ++ 101 ∷ 110 ∷ 100 ∷ 10 ∷ [] → text ≡ trace_text v
+unfolding trace_text
+trace_text-parts v p end mid text count past is added =
+    whole_text-parts trace_header (flat_map (processor_text outcome_pieces) v.lists) text (trace_header ++ 10 ∷ []) refl
+    (added ∙ ap (λ m. m ++ 101 ∷ 110 ∷ 100 ∷ 10 ∷ []) (is ∙ ap (λ l. (trace_header ++ 10 ∷ []) ++ flat_map (processor_text outcome_pieces) l) (take_all p v.lists (omega arith))))
+
+-- the text of a program, behind all its processors
+pub program_text-parts : (v : ProgramValue) (p end : ℕ) (mid text : List ℕ) → end ≡ length v.lists → end ≤ p →
+    mid ≡ (program_header ++ 10 ∷ []) ++ flat_map (processor_text op_pieces) (take p v.lists) → text ≡ mid ++ 101 ∷ 110 ∷ 100 ∷ 10 ∷ [] → text ≡ program_text v
+unfolding program_text
+program_text-parts v p end mid text count past is added =
+    whole_text-parts program_header (flat_map (processor_text op_pieces) v.lists) text (program_header ++ 10 ∷ []) refl
+    (added ∙ ap (λ m. m ++ 101 ∷ 110 ∷ 100 ∷ 10 ∷ []) (is ∙ ap (λ l. (program_header ++ 10 ∷ []) ++ flat_map (processor_text op_pieces) l) (take_all p v.lists (omega arith))))
+
+-- the text of a schedule, behind all its acts
+pub schedule_text-parts : (acts : List Act) (mid text : List ℕ) → mid ≡ (schedule_header ++ 10 ∷ []) ++ items_text act_pieces acts → text ≡ mid ++ 101 ∷ 110 ∷ 100 ∷ 10 ∷ [] → text ≡ schedule_text acts
+unfolding schedule_text
+schedule_text-parts acts mid text is added =
+    whole_text-parts schedule_header (items_text act_pieces acts) text (schedule_header ++ 10 ∷ []) refl (added ∙ ap (λ m. m ++ 101 ∷ 110 ∷ 100 ∷ 10 ∷ []) is)

@@ -1,0 +1,149 @@
+-- What a text spells is printed as that text: the lines of a spelled text are those of its value.
+use Rattle.std.proofs.Common.{◌≡◌, ℕ, zero, suc, ◌+◌, ◌<◌, ◌≤◌, ◌^◌, min, Bool, true, false, cond, not, ◌&&◌, eqb, ltb, List, [], ◌∷◌, ◌++◌, length, get_or, take, drop, ◌-◌, length-append, map, Option, Some, None, Result, Ok, Err, refl, ap, sym, ◌∙◌, subst, arith, append_assoc}
+use Rattle.std.specs.Prelude.{codes}
+use Rattle.std.specs.Char.{is_ascii_digit}
+use Rattle.std.specs.Fmt.{decimal}
+use Rattle.std.specs.List.{flat_map, slice_split, join_with_byte, list_all}
+use Rattle.std.specs.Str.Parse.{digits_value}
+use Rattle.std.proofs.lemmas.Bool.{false≢true}
+use Rattle.std.proofs.lemmas.Bool.Decides.{nat_tests}
+use Rattle.std.proofs.lemmas.Fmt.{decimal-digits_value}
+use Rattle.std.proofs.lemmas.List.{append-nil, take_at}
+use Rattle.std.proofs.lemmas.List.Concat.{flat_map-append}
+use Rattle.std.proofs.lemmas.List.Splits.{join_with_byte-slice_split}
+use Rattle.std.proofs.lemmas.Slice.Eq.{bytes_eq-Decides}
+use Rattle.tso_text.specs.declared.faults.Why.{Why}
+use Rattle.tso_text.specs.declared.faults.Why.TheVariants.{BadHeader, BadLine, MissingEnd, AfterEnd}
+use Rattle.tso_text.specs.declared.lines.Line.{Line}
+use Rattle.tso_text.specs.declared.lines.Line.TheVariants.{Proc, Item, End}
+use Rattle.tso_text.specs.Numbers.{number, is_numeral, is_plain}
+use Rattle.tso_text.specs.Printed.{line_text, items_text, processor_text, whole_text}
+use Rattle.tso_text.specs.Spelling.{Grammar, Spells, fault_at, part_fault, said_fault, line_fault, said, lists_of, with_line, with_said, has_ended, has_header, is_end, is_empty, unended, parts_of, pieces_of, body_of, lines_of, number_of, same_why, push_last, items_of}
+use Rattle.tso_text.proofs.LineFacts.{items_of-push_last}
+use Rattle.tso_text.proofs.NumberFacts.{digits_model}
+use Rattle.tso_text.proofs.Reaching.{part_fault-open, part_fault-last, part_fault-ended, fault_at-place, lists_of-push, has_ended-push}
+
+-- ---- the lines of a spelled text
+
+-- The lines of lists, in a grammar: `made` has them for lists, and a line has just these pieces.
+pub record Prints {X : Type 0} (g : Grammar X) (made : List (List X) → List (Line X)) (pieces : Line X → List (List ℕ)) : Type 0 where
+  pub start : made g.start ≡ []
+  pub canonical : (lists : List (List X)) (ps : List (List ℕ)) (l : Line X) → g.said_by ps ≡ Ok l → ((w : Why) → line_fault g lists l w ≡ false) → ps ≡ pieces l
+  pub more : (lists : List (List X)) (ps : List (List ℕ)) (l : Line X) → g.said_by ps ≡ Ok l → ((w : Why) → line_fault g lists l w ≡ false) → is_end (Ok l) ≡ false →
+      made (with_line lists l) ≡ made lists ++ l ∷ []
+
+-- The parts are the lines that make the last lists of these, and the line `end` with nothing behind it.
+record Rendered {X : Type 0} (made : List (List X) → List (Line X)) (pieces : Line X → List (List ℕ)) (lists : List (List X)) (parts : List (List ℕ)) (last : List (List X)) : Type 0 where
+  lines : List (Line X)
+  makes : made last ≡ made lists ++ lines
+  text : join_with_byte 10 parts ≡ flat_map (λ l. line_text (pieces l)) lines ++ line_text (pieces End)
+
+same_why-self : (w : Why) → same_why w w ≡ true
+same_why-self w = grind (arith, nat_tests)
+
+-- a line is its pieces
+part_text : {X : Type 0} (pieces : Line X → List (List ℕ)) (part : List ℕ) (l : Line X) → pieces_of part ≡ pieces l → part ≡ join_with_byte 32 (pieces l)
+unfolding pieces_of
+part_text pieces part l same = sym (join_with_byte-slice_split 32 part) ∙ ap (join_with_byte 32) same
+
+-- the lines of a text whose last part is empty
+lines_of-place : (text : List ℕ) (front : List (List ℕ)) → body_of text ≡ front ++ [] ∷ [] → lines_of text ≡ front
+lines_of-place text front body =
+    let n : length (front ++ [] ∷ []) - 1 ≡ length front = omega (arith, length-append front ([] ∷ [])) in
+    let t : take (length (front ++ [] ∷ []) - 1) (front ++ [] ∷ []) ≡ front = take_at front ([] ∷ []) (length (front ++ [] ∷ []) - 1) (sym n) in
+    rw (body, t) refl
+
+-- behind an `end` there is nothing
+nothing_left : (next : List ℕ) (parts : List (List ℕ)) → (true && not (is_empty parts && is_empty next)) ≡ false → (next ≡ []) × (parts ≡ [])
+nothing_left [] [] e = (refl, refl)
+nothing_left (b ∷ next) [] e = absurd cc
+nothing_left [] (p ∷ parts) e = absurd cc
+nothing_left (b ∷ next) (p ∷ parts) e = absurd cc
+
+rendered_more : {X : Type 0} (g : Grammar X) (made : List (List X) → List (Line X)) (pieces : Line X → List (List ℕ)) → Prints g made pieces →
+    (lists : List (List X)) (part next : List ℕ) (parts : List (List ℕ)) (last : List (List X)) (l : Line X) → said g part ≡ Ok l → ((w : Why) → line_fault g lists l w ≡ false) → is_end (Ok l) ≡ false →
+    Rendered made pieces (with_line lists l) (next ∷ parts) last → Rendered made pieces lists (part ∷ next ∷ parts) last
+rendered_more g made pieces prints lists part next parts last l says clean running rest = record {
+  lines = l ∷ rest.lines;
+  makes = rest.makes ∙ ap (λ m. m ++ rest.lines) (prints.more lists (pieces_of part) l says clean running) ∙ append_assoc (made lists) (l ∷ []) rest.lines;
+  text =
+      let bytes = part_text pieces part l (prints.canonical lists (pieces_of part) l says clean) in
+      ap (λ t. part ++ 10 ∷ t) rest.text ∙ ap (λ b. b ++ 10 ∷ (flat_map (λ l. line_text (pieces l)) rest.lines ++ line_text (pieces End))) bytes
+      ∙ sym (append_assoc (join_with_byte 32 (pieces l)) (10 ∷ []) (flat_map (λ l. line_text (pieces l)) rest.lines ++ line_text (pieces End)))
+      ∙ sym (append_assoc (line_text (pieces l)) (flat_map (λ l. line_text (pieces l)) rest.lines) (line_text (pieces End)));
+}
+
+rendered_end : {X : Type 0} (g : Grammar X) (made : List (List X) → List (Line X)) (pieces : Line X → List (List ℕ)) → Prints g made pieces →
+    (lists : List (List X)) (part : List ℕ) (last : List (List X)) → said g part ≡ Ok End → lists ≡ last → Rendered made pieces lists (part ∷ [] ∷ []) last
+rendered_end g made pieces prints lists part last says same = record {
+  lines = [];
+  makes = ap made (sym same) ∙ sym (append-nil (made lists));
+  text = ap (λ b. b ++ 10 ∷ []) (part_text pieces part End (prints.canonical lists (pieces_of part) End says (λ w. refl)));
+}
+
+-- what the parts behind a line are, where the lines go on
+abbrev GoesOn : {X : Type 0} → Grammar X → (List (List X) → List (Line X)) → (Line X → List (List ℕ)) → List (List ℕ) → List (List ℕ) → List (List X) → Type 0
+GoesOn {X} g made pieces front parts last = (lists : List (List X)) → has_ended g front ≡ false → lists_of g front ≡ lists → Rendered made pieces lists parts last
+
+rendered_line : {X : Type 0} (g : Grammar X) (made : List (List X) → List (Line X)) (pieces : Line X → List (List ℕ)) → Prints g made pieces → (text : List ℕ) (last : List (List X)) → Spells g text last →
+    (front : List (List ℕ)) (part next : List ℕ) (parts : List (List ℕ)) (lists : List (List X)) → body_of text ≡ (front ++ part ∷ []) ++ next ∷ parts → has_ended g front ≡ false → lists_of g front ≡ lists →
+    GoesOn g made pieces (front ++ part ∷ []) (next ∷ parts) last → (l : Line X) → said g part ≡ Ok l → ((w : Why) → line_fault g lists l w ≡ false) → Rendered made pieces lists (part ∷ next ∷ parts) last
+rendered_line g made pieces prints text last spells front part next parts lists behind running says go Proc is clean =
+    rendered_more g made pieces prints lists part next parts last Proc is clean refl
+    (go _ (has_ended-push g front part running ∙ ap is_end is) (lists_of-push g front part ∙ ap (λ l. with_said l (said g part)) says ∙ ap (with_said lists) is))
+rendered_line g made pieces prints text last spells front part next parts lists behind running says go (Item x) is clean =
+    rendered_more g made pieces prints lists part next parts last (Item x) is clean refl
+    (go _ (has_ended-push g front part running ∙ ap is_end is) (lists_of-push g front part ∙ ap (λ l. with_said l (said g part)) says ∙ ap (with_said lists) is))
+rendered_line g made pieces prints text last spells front part next parts lists behind running says go End is clean =
+    let ended : has_ended g (front ++ part ∷ []) ≡ true = has_ended-push g front part running ∙ ap is_end is in
+    let none = nothing_left next parts
+    (sym (part_fault-ended g (front ++ part ∷ []) next (is_empty parts) AfterEnd ended) ∙ sym (fault_at-place g text (front ++ part ∷ []) next parts (length (front ++ part ∷ [])) AfterEnd behind refl)
+    ∙ spells.clean (suc (suc (length (front ++ part ∷ [])))) AfterEnd) in
+    let whole : body_of text ≡ (front ++ part ∷ []) ++ [] ∷ [] = behind ∙ ap (λ p. (front ++ part ∷ []) ++ p ∷ parts) none.0 ∙ ap (λ ps. (front ++ part ∷ []) ++ [] ∷ ps) none.1 in
+    let same : lists ≡ last = sym (lists_of-push g front part ∙ ap (λ l. with_said l (said g part)) says ∙ ap (with_said lists) is) ∙ ap (lists_of g) (sym (lines_of-place text (front ++ part ∷ []) whole)) ∙ spells.says in
+    rw (none.0, none.1) (rendered_end g made pieces prints lists part last is same)
+
+rendered_said : {X : Type 0} (g : Grammar X) (made : List (List X) → List (Line X)) (pieces : Line X → List (List ℕ)) → Prints g made pieces → (text : List ℕ) (last : List (List X)) → Spells g text last →
+    (front : List (List ℕ)) (part next : List ℕ) (parts : List (List ℕ)) (lists : List (List X)) → body_of text ≡ (front ++ part ∷ []) ++ next ∷ parts → has_ended g front ≡ false → lists_of g front ≡ lists →
+    GoesOn g made pieces (front ++ part ∷ []) (next ∷ parts) last → (r : Result (Line X) Why) → said g part ≡ r → ((w : Why) → said_fault g lists r w ≡ false) → Rendered made pieces lists (part ∷ next ∷ parts) last
+rendered_said g made pieces prints text last spells front part next parts lists behind running says go (Err why) is clean = absurd (false≢true (sym (clean why) ∙ same_why-self why))
+rendered_said g made pieces prints text last spells front part next parts lists behind running says go (Ok l) is clean =
+    rendered_line g made pieces prints text last spells front part next parts lists behind running says go l is clean
+
+-- the parts of a spelled text, from a line on
+rendered : {X : Type 0} (g : Grammar X) (made : List (List X) → List (Line X)) (pieces : Line X → List (List ℕ)) → Prints g made pieces → (text : List ℕ) (last : List (List X)) → Spells g text last →
+    (front : List (List ℕ)) (part : List ℕ) (parts : List (List ℕ)) (lists : List (List X)) → body_of text ≡ front ++ part ∷ parts → has_ended g front ≡ false → lists_of g front ≡ lists →
+    Rendered made pieces lists (part ∷ parts) last
+rendered g made pieces prints text last spells front part [] lists body running says =
+    absurd (false≢true (sym (spells.clean (suc (suc (length front))) (unended part)) ∙ fault_at-place g text front part [] (length front) (unended part) body refl
+    ∙ part_fault-last g front part (unended part) running ∙ same_why-self (unended part)))
+rendered g made pieces prints text last spells front part (next ∷ parts) lists body running says =
+    let behind : body_of text ≡ (front ++ part ∷ []) ++ next ∷ parts = body ∙ sym (append_assoc front (part ∷ []) (next ∷ parts)) in
+    rendered_said g made pieces prints text last spells front part next parts lists behind running says
+    (λ ls runs is. rendered g made pieces prints text last spells (front ++ part ∷ []) next parts ls behind runs is)
+    (said g part) refl
+    (λ w. ap (λ l. said_fault g l (said g part) w) (sym says) ∙ sym (part_fault-open g front part w running) ∙ sym (fault_at-place g text front part (next ∷ parts) (length front) w body refl) ∙ spells.clean (suc (suc (length front))) w)
+
+header_place : (header : List ℕ) (parts : List (List ℕ)) → has_header header parts ≡ true → (first : List ℕ) × (others : List (List ℕ)) × (parts ≡ header ∷ first ∷ others)
+header_place header [] e = absurd cc
+header_place header (p ∷ []) e = absurd cc
+header_place header (p ∷ q ∷ ps) e = (q, ps, ap (λ h. h ∷ q ∷ ps) ((bytes_eq-Decides p header).0 e))
+
+not_false : (b : Bool) → (true && not b) ≡ false → b ≡ true
+not_false true e = refl
+not_false false e = absurd cc
+
+begins_so : {X : Type 0} (g : Grammar X) (text : List ℕ) (lists : List (List X)) → Spells g text lists → has_header g.header (parts_of text) ≡ true
+unfolding fault_at
+begins_so g text lists spells = not_false _ (spells.clean 1 BadHeader)
+
+-- a spelled text is the header, the lines of the value, and `end`
+pub spelled_text : {X : Type 0} (g : Grammar X) (made : List (List X) → List (Line X)) (pieces : Line X → List (List ℕ)) → Prints g made pieces → (text : List ℕ) (lists : List (List X)) → Spells g text lists →
+    text ≡ g.header ++ 10 ∷ (flat_map (λ l. line_text (pieces l)) (made lists) ++ line_text (pieces End))
+unfolding parts_of has_ended lists_of
+spelled_text g made pieces prints text lists spells =
+    let p = header_place g.header (parts_of text) (begins_so g text lists spells) in
+    let r = rendered g made pieces prints text lists spells [] p.0 p.1 g.start (ap (drop 1) p.2) refl refl in
+    let all : made lists ≡ r.lines = r.makes ∙ ap (λ m. m ++ r.lines) prints.start in
+    sym (join_with_byte-slice_split 10 text) ∙ ap (join_with_byte 10) p.2 ∙ ap (λ t. g.header ++ 10 ∷ t) r.text
+    ∙ ap (λ ls. g.header ++ 10 ∷ (flat_map (λ l. line_text (pieces l)) ls ++ line_text (pieces End))) (sym all)

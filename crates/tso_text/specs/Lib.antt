@@ -1,0 +1,6 @@
+pub mod Cuts
+pub mod Grammars
+pub mod Numbers
+pub mod Printed
+pub mod Spelling
+pub mod Taken

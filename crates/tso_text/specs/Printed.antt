@@ -1,0 +1,53 @@
+-- The lines of a value, as the printers give them.
+use Rattle.std.specs.Prelude.{ℕ, List, [], ◌∷◌, ◌++◌, codes}
+use Rattle.std.specs.List.{flat_map, join_with_byte}
+use Rattle.std.specs.Fmt.{decimal}
+use Rattle.tso_ops.specs.declared.ops.Op.{Op}
+use Rattle.tso_ops.specs.declared.ops.Op.TheVariants.{Ld as OpLd, St as OpSt, Sw as OpSw, Mb as OpMb}
+use Rattle.tso_ops.specs.declared.ops.Outcome.{Outcome}
+use Rattle.tso_ops.specs.declared.ops.Outcome.TheVariants.{Ld, St, Sw, Mb}
+use Rattle.tso_ops.specs.Values.{TraceValue, ProgramValue}
+use Rattle.tso_text.specs.declared.acts.Act.{Act}
+use Rattle.tso_text.specs.declared.acts.Act.TheVariants.{Issue, Drain}
+use Rattle.tso_text.specs.Grammars.{trace_header, program_header, schedule_header}
+
+-- a line of these pieces, with its line end
+abbrev pub line_text : List (List ℕ) → List ℕ
+line_text pieces = join_with_byte 32 pieces ++ 10 ∷ []
+
+abbrev pub outcome_pieces : Outcome → List (List ℕ)
+outcome_pieces (Ld a r) = codes "ld" ∷ decimal a ∷ decimal r ∷ []
+outcome_pieces (St a v) = codes "st" ∷ decimal a ∷ decimal v ∷ []
+outcome_pieces (Sw a r v) = codes "sw" ∷ decimal a ∷ decimal r ∷ decimal v ∷ []
+outcome_pieces Mb = codes "mb" ∷ []
+
+abbrev pub op_pieces : Op → List (List ℕ)
+op_pieces (OpLd a) = codes "ld" ∷ decimal a ∷ []
+op_pieces (OpSt a v) = codes "st" ∷ decimal a ∷ decimal v ∷ []
+op_pieces (OpSw a v) = codes "sw" ∷ decimal a ∷ decimal v ∷ []
+op_pieces OpMb = codes "mb" ∷ []
+
+abbrev pub act_pieces : Act → List (List ℕ)
+act_pieces (Issue p) = codes "i" ∷ decimal p ∷ []
+act_pieces (Drain p) = codes "d" ∷ decimal p ∷ []
+
+-- the lines of these items
+unfoldable pub items_text : {X : Type 0} → (X → List (List ℕ)) → List X → List ℕ
+items_text pieces items = flat_map (λ x. line_text (pieces x)) items
+
+-- the lines of a processor
+unfoldable pub processor_text : {X : Type 0} → (X → List (List ℕ)) → List X → List ℕ
+processor_text pieces items = line_text (codes "proc" ∷ []) ++ items_text pieces items
+
+-- a text with this header and these lines
+unfoldable pub whole_text : List ℕ → List ℕ → List ℕ
+whole_text header lines = header ++ 10 ∷ lines ++ line_text (codes "end" ∷ [])
+
+unfoldable pub trace_text : TraceValue → List ℕ
+trace_text t = whole_text trace_header (flat_map (processor_text outcome_pieces) t.lists)
+
+unfoldable pub program_text : ProgramValue → List ℕ
+program_text p = whole_text program_header (flat_map (processor_text op_pieces) p.lists)
+
+unfoldable pub schedule_text : List Act → List ℕ
+schedule_text acts = whole_text schedule_header (items_text act_pieces acts)

@@ -1,0 +1,152 @@
+-- What a text spells, and how it is refused: over the whole text, by its lines, for any grammar of lines.
+use Rattle.std.specs.Prelude.{◌≡◌, ℕ, zero, suc, ◌-◌, ◌<◌, ◌==◌, ◌&&◌, Bool, true, false, not, nat_lt, List, [], ◌∷◌, ◌++◌, length, take, drop, get_or, Result, Ok, Err, if◌then◌else◌}
+use Rattle.std.specs.List.{flat_map, list_any, slice_split}
+use Rattle.std.specs.Str.{bytes_eq}
+use Rattle.tso_text.specs.declared.faults.Why.{Why}
+use Rattle.tso_text.specs.declared.faults.Why.TheVariants.{BadHeader, BadLine, BadNumber, BeforeProc, TooManyProcessors, TooManyEvents, AddressRange, ZeroValue, RepeatedValue, MissingEnd, AfterEnd, TooLong, ProcessorRange, OutOfMemory}
+use Rattle.tso_text.specs.declared.lines.Line.{Line}
+use Rattle.tso_text.specs.declared.lines.Line.TheVariants.{Proc, Item, End}
+
+-- the number of the refusal: of two on one line the lesser counts
+abbrev pub number_of : Why → ℕ
+number_of BadHeader = 1
+number_of BadLine = 2
+number_of BadNumber = 3
+number_of BeforeProc = 4
+number_of TooManyProcessors = 5
+number_of TooManyEvents = 6
+number_of AddressRange = 7
+number_of ZeroValue = 8
+number_of RepeatedValue = 9
+number_of MissingEnd = 10
+number_of AfterEnd = 11
+number_of TooLong = 12
+number_of ProcessorRange = 13
+number_of OutOfMemory = 14
+
+abbrev pub same_why : Why → Why → Bool
+same_why v w = number_of v == number_of w
+
+-- ---- a text in parts
+
+-- The parts of a text between its line ends. The last part is what stands behind the last line end: it is no line.
+unfoldable pub parts_of : List ℕ → List (List ℕ)
+parts_of text = slice_split (λ b. b == 10) text
+
+-- the pieces of a line between its single spaces
+unfoldable pub pieces_of : List ℕ → List (List ℕ)
+pieces_of line = slice_split (λ b. b == 32) line
+
+-- the parts behind the first
+abbrev pub body_of : List ℕ → List (List ℕ)
+body_of text = drop 1 (parts_of text)
+
+-- the lines behind the header: the parts that a line end follows
+abbrev pub lines_of : List ℕ → List (List ℕ)
+lines_of text = take (length (body_of text) - 1) (body_of text)
+
+-- the first part is the header, and a line end follows it
+abbrev pub has_header : List ℕ → List (List ℕ) → Bool
+has_header header [] = false
+has_header header (part ∷ []) = false
+has_header header (part ∷ next ∷ parts) = bytes_eq part header
+
+abbrev pub is_empty : {X : Type 0} → List X → Bool
+is_empty [] = true
+is_empty (x ∷ xs) = false
+
+-- ---- what lines say
+
+-- A grammar of lines that make lists of items. A text that has no lines for lists has its one list from the start.
+pub record Grammar (X : Type 0) : Type 0 where
+  pub header : List ℕ
+  pub start : List (List X)
+  -- what the pieces of a line say, or their fault: BadLine or BadNumber
+  pub said_by : List (List ℕ) → Result (Line X) Why
+  -- the item has the fault, behind these items in file order
+  pub item_fault : List X → X → Why → Bool
+
+abbrev pub said : {X : Type 0} → Grammar X → List ℕ → Result (Line X) Why
+said g line = g.said_by (pieces_of line)
+
+-- the lists with one more item in the last of them
+abbrev pub push_last : {X : Type 0} → List (List X) → X → List (List X)
+push_last [] x = []
+push_last (row ∷ []) x = (row ++ x ∷ []) ∷ []
+push_last (row ∷ next ∷ lists) x = row ∷ push_last (next ∷ lists) x
+
+-- the lists behind one more line
+abbrev pub with_line : {X : Type 0} → List (List X) → Line X → List (List X)
+with_line lists Proc = lists ++ [] ∷ []
+with_line lists (Item x) = push_last lists x
+with_line lists End = lists
+
+-- the same, where a line with a fault says nothing
+abbrev pub with_said : {X : Type 0} → List (List X) → Result (Line X) Why → List (List X)
+with_said lists (Err why) = lists
+with_said lists (Ok line) = with_line lists line
+
+-- the lists behind these lines, from these lists on
+abbrev pub lists_after : {X : Type 0} → Grammar X → List (List X) → List (List ℕ) → List (List X)
+lists_after g lists [] = lists
+lists_after g lists (line ∷ lines) = lists_after g (with_said lists (said g line)) lines
+
+-- what these lines say
+unfoldable pub lists_of : {X : Type 0} → Grammar X → List (List ℕ) → List (List X)
+lists_of g lines = lists_after g (g.start) lines
+
+abbrev pub is_end : {X : Type 0} → Result (Line X) Why → Bool
+is_end (Ok Proc) = false
+is_end (Ok (Item x)) = false
+is_end (Ok End) = true
+is_end (Err why) = false
+
+-- one of these lines is the line `end`
+unfoldable pub has_ended : {X : Type 0} → Grammar X → List (List ℕ) → Bool
+has_ended g lines = list_any (λ line. is_end (said g line)) lines
+
+-- all items in file order
+abbrev pub items_of : {X : Type 0} → List (List X) → List X
+items_of lists = flat_map (λ row. row) lists
+
+-- ---- faults
+
+-- The line has the fault, behind what the lines before it say.
+abbrev pub line_fault : {X : Type 0} → Grammar X → List (List X) → Line X → Why → Bool
+line_fault g lists Proc w = same_why TooManyProcessors w && nat_lt 15 (length lists)
+line_fault g lists (Item x) w = if is_empty lists then same_why BeforeProc w else g.item_fault (items_of lists) x w
+line_fault g lists End w = false
+
+abbrev pub said_fault : {X : Type 0} → Grammar X → List (List X) → Result (Line X) Why → Why → Bool
+said_fault g lists (Err why) w = same_why why w
+said_fault g lists (Ok line) w = line_fault g lists line w
+
+-- what stands behind the last line end, where no `end` line came
+abbrev pub unended : List ℕ → Why
+unended part = if is_empty part then MissingEnd else BadLine
+
+-- The part has the fault, behind these lines; `last` where no line end follows it.
+unfoldable pub part_fault : {X : Type 0} → Grammar X → List (List ℕ) → List ℕ → Bool → Why → Bool
+part_fault g before part last w =
+    if has_ended g before then same_why AfterEnd w && not (last && is_empty part)
+    else if last then same_why (unended part) w
+    else said_fault g (lists_of g before) (said g part) w
+
+-- The text has the fault at this line. Line 0 is the text as a whole.
+unfoldable pub fault_at : {X : Type 0} → Grammar X → List ℕ → ℕ → Why → Bool
+fault_at g text zero w = same_why TooLong w && nat_lt 1048576 (length text)
+fault_at g text (suc zero) w = same_why BadHeader w && not (has_header g.header (parts_of text))
+fault_at g text (suc (suc i)) w =
+    nat_lt i (length (body_of text))
+    && part_fault g (take i (body_of text)) (get_or (body_of text) i []) (suc i == length (body_of text)) w
+
+-- The refusal of a text: the least line with a fault, and the fault of the least number there.
+pub record IsRefusal {X : Type 0} (g : Grammar X) (text : List ℕ) (line : ℕ) (why : Why) : Type 0 where
+  pub fault : fault_at g text line why ≡ true
+  pub first : (j : ℕ) (w : Why) → j < line → fault_at g text j w ≡ false
+  pub least : (w : Why) → number_of w < number_of why → fault_at g text line w ≡ false
+
+-- The text spells these lists: it has no fault, and its lines say them.
+pub record Spells {X : Type 0} (g : Grammar X) (text : List ℕ) (lists : List (List X)) : Type 0 where
+  pub clean : (line : ℕ) (w : Why) → fault_at g text line w ≡ false
+  pub says : lists_of g (lines_of text) ≡ lists

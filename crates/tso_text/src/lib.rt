@@ -1,0 +1,21 @@
+//! The texts of traces, programs and schedules: bytes in, values out, and back.
+//!
+//! A value has one text, and a text spells one value or gets one refusal. `README.md` says what is proved.
+#![tactic(auto)]
+
+pub use acts::Act;
+pub use faults::{TextFault, Why};
+pub use printers::{print_program, print_schedule, print_trace};
+pub use readers::{read_program, read_schedule, read_trace};
+
+mod acts;
+mod faults;
+mod forms;
+pub mod laws;
+mod lines;
+mod numbers;
+mod printers;
+mod readers;
+mod readings;
+#[cfg(test)]
+mod tests;

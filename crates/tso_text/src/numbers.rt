@@ -1,0 +1,113 @@
+ghost use Rattle.std.specs.Prelude.{◌≡◌, [], ◌∷◌, IfOk, OnOk, IfErr};
+ghost use Rattle.std.specs.List.{list_all};
+ghost use Rattle.std.specs.Char.{is_ascii_digit};
+ghost use Rattle.tso_text.specs.Cuts.{behind, SomePiece};
+ghost use Rattle.tso_text.specs.Grammars.{address};
+ghost use Rattle.tso_text.specs.declared.faults.Why.{Why};
+ghost use Rattle.tso_text.specs.Numbers.{is_plain, number, numeral, no_number, one_number, two_numbers, three_numbers};
+
+use crate::faults::Why;
+use crate::lines::next_piece;
+use std::str;
+
+/// The number that a piece spells: digits without a leading zero, within 64 bits.
+pub(crate) fn number_of(piece: &[u8]) -> Option<u64>
+    ensures { result ≡ number piece.now }
+{
+    if !is_plain(piece) {
+        return None;
+    }
+    if !are_digits(piece) {
+        return None;
+    }
+    str::from_utf8(piece).ok()?.parse().ok()
+}
+
+/// Whether each byte of a piece is a digit.
+fn are_digits(piece: &[u8]) -> bool
+    ensures { result ≡ list_all is_ascii_digit piece.now }
+{
+    piece.iter().all(|b| b.is_ascii_digit())
+}
+
+/// Whether a piece isn't empty and has no 0 before another byte.
+fn is_plain(piece: &[u8]) -> bool
+    ensures { result ≡ is_plain piece.now }
+{
+    match piece {
+        [] => false,
+        [_] => true,
+        [first, _, ..] => *first != 48,
+    }
+}
+
+/// The number that a piece spells, or BadNumber.
+fn numeral(piece: &[u8]) -> Result<u64, Why>
+    ensures { result ≡ numeral piece.now }
+{
+    number_of(piece).ok_or(Why::BadNumber)
+}
+
+/// The next piece, and what stands behind its space; BadLine where there is none.
+fn piece_of(pieces: Option<&[u8]>) -> Result<(&[u8], Option<&[u8]>), Why>
+    ensures found { IfOk result (λ found. behind pieces.entry ≡ found.0.now ∷ behind found.1) }
+    ensures none { IfErr result (λ why. (behind pieces.entry ≡ []) × (why ≡ Why.BadLine)) }
+{
+    match pieces {
+        None => Err(Why::BadLine),
+        Some(line) => Ok(next_piece(line)),
+    }
+}
+
+/// No piece.
+#[tactic(auto, using(crate::proofs::CutFacts::behind_some), unfolding(crate::specs::Numbers::no_number))]
+pub(crate) fn no_number(pieces: Option<&[u8]>) -> Result<(), Why>
+    ensures is { result ≡ no_number (behind pieces.entry) }
+    ensures none { OnOk result (behind pieces.entry ≡ []) }
+    ensures some { IfErr result (λ why. SomePiece (behind pieces.entry) × (why ≡ Why.BadLine)) }
+{
+    match pieces {
+        None => Ok(()),
+        Some(_) => Err(Why::BadLine),
+    }
+}
+
+/// The number of the only piece.
+#[tactic(auto, unfolding(crate::specs::Numbers::one_number))]
+pub(crate) fn one_number(pieces: Option<&[u8]>) -> Result<u64, Why>
+    ensures { result ≡ one_number (behind pieces.entry) }
+{
+    let (piece, rest) = piece_of(pieces)?;
+    no_number(rest)?;
+    numeral(piece)
+}
+
+/// The numbers of just two pieces.
+#[tactic(auto, unfolding(crate::specs::Numbers::two_numbers))]
+pub(crate) fn two_numbers(pieces: Option<&[u8]>) -> Result<(u64, u64), Why>
+    ensures { result ≡ two_numbers (behind pieces.entry) }
+{
+    let (first, rest) = piece_of(pieces)?;
+    let (second, rest) = piece_of(rest)?;
+    no_number(rest)?;
+    Ok((numeral(first)?, numeral(second)?))
+}
+
+/// The numbers of just three pieces.
+#[tactic(auto, unfolding(crate::specs::Numbers::three_numbers))]
+pub(crate) fn three_numbers(pieces: Option<&[u8]>) -> Result<(u64, u64, u64), Why>
+    ensures { result ≡ three_numbers (behind pieces.entry) }
+{
+    let (first, rest) = piece_of(pieces)?;
+    let (second, rest) = piece_of(rest)?;
+    let (third, rest) = piece_of(rest)?;
+    no_number(rest)?;
+    Ok((numeral(first)?, numeral(second)?, numeral(third)?))
+}
+
+/// The address of 16 bits that a number is. A greater number becomes the greatest, which is past the range as well.
+pub(crate) fn address(number: u64) -> u16
+    ensures { result ≡ address number }
+{
+    u16::try_from(number).unwrap_or(u16::MAX)
+}
