@@ -1,5 +1,5 @@
 -- That lists get one refusal at most, and none where they keep the limits.
-use Rattle.std.proofs.Common.{◌≡◌, eq-eqb, ◌⊎◌, ◌∙◌, ⊎_elim, inl, inr, sym, ap, subst, refl, ℕ, ◌+◌, ◌<◌, ◌≤◌, Bool, true, false, ◌||◌, eqb, List, [], ◌∷◌, ◌++◌, Option, Some, None, sum_by, arith}
+use Rattle.std.proofs.Common.{◌≡◌, eq-eqb, ◌⊎◌, ◌∙◌, ⊎_elim, inl, inr, sym, ap, subst, refl, ℕ, ◌+◌, ◌<◌, ◌≤◌, Bool, true, false, ◌||◌, eqb, List, [], ◌∷◌, ◌++◌, length, ◌^◌, Option, Some, None, sum_by, arith}
 use Rattle.std.specs.List.{flat_map, list_any, IsDistinct, AllByRecursion}
 use Rattle.std.specs.Option.{option_to_list}
 use Rattle.std.proofs.lemmas.Bool.{false≢true, cases_lt, cases_eq}
@@ -9,6 +9,7 @@ use Rattle.std.proofs.lemmas.List.Sums.{sum_by-append, sum_by-cons}
 use Rattle.std.proofs.lemmas.List.Elements.{recursion_from_All}
 use Rattle.std.proofs.lemmas.Map.Keys.{IsDistinct-head, IsDistinct-tail}
 use Rattle.tso_ops.specs.declared.ops.Op.{Op}
+use Rattle.tso_ops.specs.declared.ops.Op.TheVariants.{Ld, St, Sw, Mb}
 use Rattle.tso_ops.specs.declared.faults.ValueFault.{ValueFault}
 use Rattle.tso_ops.specs.declared.faults.ValueFault.TheVariants.{TooManyProcessors, TooManyEvents, AddressRange, ZeroValue, RepeatedValue, OutOfMemory}
 use Rattle.tso_ops.specs.Values.{ProgramValue, in_file_order}
@@ -66,7 +67,7 @@ one_refusal p v w first other =
 
 -- ---- what keeps the limits isn't refused
 
-each-middle : {X : Type 0} (P : X → Type 0) → (xs : List X) (x : X) (ys : List X) → AllByRecursion P (xs ++ x ∷ ys) → P x
+pub each-middle : {X : Type 0} (P : X → Type 0) → (xs : List X) (x : X) (ys : List X) → AllByRecursion P (xs ++ x ∷ ys) → P x
 each-middle P [] x ys all = all.0
 each-middle P (y ∷ xs) x ys all = each-middle P xs x ys all.1
 
@@ -137,6 +138,39 @@ fault_breaks before op after AddressRange limits fault = past_breaks (address_of
 fault_breaks before op after ZeroValue limits fault = zero_breaks (stored_by op) before op after refl fault (recursion_from_All _ _ limits.non_zero)
 fault_breaks before op after RepeatedValue limits fault = repeat_breaks (stored_by op) before op after refl fault limits.distinct
 fault_breaks before op after OutOfMemory limits fault = false≢true fault
+
+-- an operation of a list that keeps the limits has no fault
+pub kept_faultless : (before : List Op) (op : Op) (after : List Op) → KeepsLimits (before ++ op ∷ after) → (why : ValueFault) → has_fault before op why ≡ false
+kept_faultless before op after limits why = decided (has_fault before op why) (fault_breaks before op after why limits)
+  where
+    decided : (b : Bool) → (b ≡ true → ⊥) → b ≡ false
+    decided true not = absurd (not refl)
+    decided false not = refl
+
+-- its address is within the range
+pub kept_address : (before : List Op) (op : Op) (after : List Op) (a : ℕ) → KeepsLimits (before ++ op ∷ after) → address_of op ≡ Some a → a < 256
+kept_address before op after a limits is =
+    each-middle (λ a. a < 256) (addresses_of before) a (addresses_of after) (subst (AllByRecursion (λ a. a < 256)) (middle address_of before op after a is) (recursion_from_All _ _ limits.addresses))
+
+-- the value that it writes is one of 64 bits
+pub kept_value : (before : List Op) (op : Op) (after : List Op) (v : ℕ) → KeepsLimits (before ++ op ∷ after) → stored_by op ≡ Some v → v < 2 ^ 64
+kept_value before op after v limits is =
+    each-middle (λ v. v < 2 ^ 64) (stored_values before) v (stored_values after) (subst (AllByRecursion (λ v. v < 2 ^ 64)) (middle stored_by before op after v is) (recursion_from_All _ _ limits.fits))
+
+-- each operation is an event or a barrier at least
+counted : (ops : List Op) → length ops ≤ total_events ops + total_barriers ops
+counted [] = omega arith
+counted (op ∷ ops) = omega (arith, counted ops, sum_by-cons event_count op ops, sum_by-cons barrier_count op ops, counts op)
+  where
+    counts : (op : Op) → 1 ≤ event_count op + barrier_count op
+    counts (Ld a) = omega arith
+    counts (St a v) = omega arith
+    counts (Sw a v) = omega arith
+    counts Mb = omega arith
+
+-- lists that keep the limits have at most 4,000 operations
+pub kept_few : (ops : List Op) → KeepsLimits ops → length ops ≤ 4000
+kept_few ops limits = omega (arith, counted ops, limits.events, limits.barriers)
 
 pub program_not_refused : (p : ProgramValue) (why : ValueFault) → IsProgram p → IsRefusal p why → ⊥
 program_not_refused p why program refusal =

@@ -1,32 +1,24 @@
 -- A line that says something is written in one way: its pieces are those that the printers give.
-use Rattle.std.proofs.Common.{◌≡◌, ℕ, ◌+◌, ◌<◌, ◌≤◌, ◌^◌, min, Bool, true, false, cond, not, ◌&&◌, eqb, ltb, List, [], ◌∷◌, ◌++◌, length, get_or, map, Option, Some, None, Result, Ok, Err, refl, ap, sym, ◌∙◌, subst, arith, inl, inr, ⊎_elim, ◌⊎◌}
+use Rattle.std.proofs.Common.{◌≡◌, ℕ, ◌<◌, ◌≤◌, ◌^◌, Bool, true, false, cond, ◌&&◌, ltb, List, [], ◌∷◌, length, get_or, Option, Some, None, Result, Ok, Err, refl, ap, sym, ◌∙◌, arith, inl, inr, ◌⊎◌}
 use Rattle.std.specs.Prelude.{codes}
 use Rattle.std.specs.Char.{is_ascii_digit}
 use Rattle.std.specs.Fmt.{decimal}
-use Rattle.std.specs.List.{flat_map, list_all}
-use Rattle.std.specs.Str.{bytes_eq}
+use Rattle.std.specs.List.{list_all}
 use Rattle.std.specs.Str.Parse.{digits_value}
-use Rattle.std.proofs.lemmas.Bool.{false≢true}
 use Rattle.std.proofs.lemmas.Bool.Decides.{nat_tests}
 use Rattle.std.proofs.lemmas.Fmt.{decimal-digits_value}
 use Rattle.std.proofs.lemmas.Slice.Eq.{bytes_eq-Decides}
-use Rattle.tso_ops.specs.declared.ops.Outcome.{Outcome}
-use Rattle.tso_ops.specs.declared.ops.Outcome.TheVariants.{Ld, St, Sw, Mb}
 use Rattle.tso_text.specs.declared.faults.Why.{Why}
-use Rattle.tso_text.specs.declared.faults.Why.TheVariants.{BadLine, BadNumber, BeforeProc, AddressRange}
+use Rattle.tso_text.specs.declared.faults.Why.TheVariants.{BeforeProc}
 use Rattle.tso_text.specs.declared.lines.Line.{Line}
 use Rattle.tso_text.specs.declared.lines.Line.TheVariants.{Proc, Item, End}
-use Rattle.tso_text.specs.Grammars.{trace_grammar, trace_line, is_word, address, outcome_fault, op_fault}
+use Rattle.tso_text.specs.Grammars.{is_word, address}
 use Rattle.tso_text.specs.Numbers.{◌>>=◌, number, numeral, or_bad, is_numeral, is_plain, no_number, one_number, two_numbers, three_numbers}
-use Rattle.tso_text.specs.Printed.{outcome_pieces}
-use Rattle.tso_text.specs.Spelling.{Grammar, line_fault, items_of, same_why, is_empty}
+use Rattle.tso_text.specs.Spelling.{Grammar, line_fault, items_of, is_empty}
 use Rattle.tso_text.proofs.NumberFacts.{digits_model, length-plain}
+use Rattle.tso_text.proofs.SplitFacts.{and_parts}
 
 -- ---- numbers
-
-and_parts : (a b : Bool) → (a && b) ≡ true → (a ≡ true) × (b ≡ true)
-and_parts true b e = (refl, e)
-and_parts false b e = absurd cc
 
 some_parts : {X : Type 0} (b : Bool) (m n : X) → cond b (Some m) None ≡ Some n → (b ≡ true) × (m ≡ n)
 some_parts true m n e = (refl, cc)

@@ -1,11 +1,11 @@
 -- Lemmas on cutting a slice at the first of a byte.
-use Rattle.std.proofs.Common.{◌≡◌, ℕ, ◌+◌, ◌<◌, Bool, true, false, cond, ltb, eqb, List, [], ◌∷◌, ◌++◌, length, get_or, take, drop, Option, Some, None, Err, refl, ap, sym, ◌∙◌, arith, Bor}
+use Rattle.std.proofs.Common.{◌≡◌, ℕ, ◌+◌, ◌<◌, Bool, true, false, cond, ltb, eqb, List, [], ◌∷◌, length, take, drop, Option, Some, None, Err, refl, arith, Bor}
 use Rattle.std.specs.List.{slice_split, onto_first, position, position_or_len}
 use Rattle.std.proofs.lemmas.Bool.Decides.{nat_tests}
 use Rattle.std.proofs.lemmas.List.Splits.{slice_split_first, slice_split_none}
 use Rattle.std.proofs.lemmas.List.Sums.{fails_before_first}
 use Rattle.tso_text.specs.Cuts.{SomePiece, behind}
-use Rattle.tso_text.specs.Spelling.{pieces_of, parts_of, unended}
+use Rattle.tso_text.specs.Spelling.{pieces_of, unended}
 use Rattle.tso_text.specs.Numbers.{no_number}
 use Rattle.tso_text.specs.declared.faults.Why.TheVariants.{BadLine}
 

@@ -1,5 +1,5 @@
 -- The faults of items in texts, from those of operations in values.
-use Rattle.std.proofs.Common.{◌≡◌, ℕ, ◌+◌, ◌<◌, ◌≤◌, Bool, true, false, ◌&&◌, ltb, List, [], ◌∷◌, ◌++◌, map, refl, ap, sym, ◌∙◌, subst, arith, inl, inr, ⊎_elim}
+use Rattle.std.proofs.Common.{◌≡◌, ℕ, ◌+◌, ◌<◌, ◌≤◌, Bool, true, false, ◌&&◌, ltb, List, [], ◌∷◌, ◌++◌, map, refl, ap, arith, inl, inr, ⊎_elim}
 use Rattle.std.proofs.lemmas.Bool.{false≢true}
 use Rattle.std.proofs.lemmas.Bool.Decides.{nat_tests}
 use Rattle.tso_ops.specs.declared.ops.Op.{Op}
@@ -17,7 +17,7 @@ use Rattle.tso_text.specs.Spelling.{number_of, same_why}
 use Rattle.tso_text.specs.Taken.{IsFirst, IsTurnedAway, why_of}
 
 -- an operation without a fault has none in a text
-op_clean : (before : List Op) (op : Op) → ((why : ValueFault) → has_fault before op why ≡ false) → (w : Why) → op_fault before op w ≡ false
+pub op_clean : (before : List Op) (op : Op) → ((why : ValueFault) → has_fault before op why ≡ false) → (w : Why) → op_fault before op w ≡ false
 op_clean before op none BadHeader = refl
 op_clean before op none BadLine = refl
 op_clean before op none BadNumber = refl

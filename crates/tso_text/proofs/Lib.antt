@@ -7,5 +7,9 @@ pub mod NumberFacts
 pub mod OneTextFacts
 pub mod PrintFacts
 pub mod PrintedFacts
+pub mod PrintedItems
+pub mod PrintedLines
+pub mod PrintedSpelling
 pub mod Reaching
 pub mod SpellingFacts
+pub mod SplitFacts

@@ -1,5 +1,5 @@
 -- Lemmas on numbers in texts.
-use Rattle.std.proofs.Common.{◌≡◌, ℕ, ◌<◌, ◌^◌, Bool, true, false, cond, ltb, List, [], ◌∷◌, length, Option, Some, None, Result, Ok, Err, refl, ap, sym, ◌∙◌, arith, Bor, rules, not, ◌&&◌, eqb, subst}
+use Rattle.std.proofs.Common.{◌≡◌, ℕ, ◌<◌, ◌^◌, Bool, true, false, cond, ltb, List, [], ◌∷◌, length, get_or, zero, suc, Option, Some, None, Result, Ok, Err, refl, ap, arith, Bor, rules, ◌&&◌, subst}
 use Rattle.std.specs.Char.{is_ascii_digit}
 use Rattle.std.specs.List.{list_all}
 use Rattle.std.specs.Result.{result_ok, OkIff, MatchResult}
@@ -8,8 +8,9 @@ use Rattle.std.specs.Str.Parse.{digits_value, ParsesUnsigned}
 use Rattle.std.proofs.lemmas.Bool.Decides.{nat_tests}
 use Rattle.std.proofs.lemmas.Str.{IsUtf8-from_ascii}
 use Rattle.std.proofs.lemmas.Str.Parse.{IsNumeralModel, numerals_by_value, parse_digits}
-use Rattle.std.proofs.lemmas.Fmt.{IsAscii-from_digits}
-use Rattle.tso_text.specs.Numbers.{is_plain, is_numeral, number}
+use Rattle.std.proofs.lemmas.Fmt.{IsAscii-from_digits, first_decimal, decimal_nonempty, digits_decimal, digits_value-decimal, decimal-digits_value}
+use Rattle.std.specs.Fmt.{decimal}
+use Rattle.tso_text.specs.Numbers.{is_plain, number}
 
 -- the digits of a number, in std's words
 pub digits_model : IsNumeralModel (λ ds. list_all is_ascii_digit ds ≡ true) (digits_value 10)
@@ -60,3 +61,22 @@ pub text_not_refused : {E : Type 0} (P : Type 0) (Q : E → Type 0) (r : Result 
     list_all is_ascii_digit piece ≡ true → MatchResult r (λ s. (s.now ≡ piece) × P) (λ e. (IsUtf8 piece → ⊥) × Q e) → o ≡ result_ok r → o ≡ None → ⊥
 text_not_refused P Q (Ok s) o piece digits read ok is = absurd cc
 text_not_refused P Q (Err e) o piece digits read ok is = read.0 (IsUtf8-from_digits piece digits)
+
+-- ---- numbers in decimal
+
+plain_first : (ds : List ℕ) → 0 < length ds → 48 < get_or ds 0 0 → is_plain ds ≡ true
+plain_first [] some first = absurd (omega arith)
+plain_first (d ∷ []) some first = refl
+plain_first (d ∷ e ∷ ds) some first = grind (arith, nat_tests)
+
+plain_decimal : (n : ℕ) → n < 2 ^ 64 → is_plain (decimal n) ≡ true
+plain_decimal zero fits = ap is_plain (decimal-digits_value digits_model (48 ∷ []) refl (omega arith) (λ first. refl) (omega arith))
+plain_decimal (suc n) fits = plain_first (decimal (suc n)) (decimal_nonempty (suc n) fits) (first_decimal (suc n) (omega arith) fits)
+
+-- a number in decimal is a piece that spells it
+pub number-decimal : (n : ℕ) → n < 2 ^ 64 → number (decimal n) ≡ Some n
+unfolding number
+number-decimal n fits =
+    let value = digits_value-decimal digits_model n fits in
+    let low : ltb n (2 ^ 64) ≡ true = grind (arith, nat_tests) in
+    rw (digits_decimal digits_model n fits, plain_decimal n fits, value, low) refl

@@ -4,7 +4,7 @@ use Rattle.tso_ops.specs.Values.{TraceValue, ProgramValue}
 use Rattle.tso_text.specs.declared.acts.Act.{Act}
 use Rattle.std.specs.List.{flat_map}
 use Rattle.std.specs.Result.{OnOk}
-use Rattle.std.proofs.lemmas.List.{append-nil, take_more, take_all, get_or_read}
+use Rattle.std.proofs.lemmas.List.{append-nil, take_more, take_all}
 use Rattle.std.proofs.lemmas.List.Concat.{flat_map-append}
 use Rattle.tso_text.specs.Grammars.{trace_header, program_header, schedule_header}
 use Rattle.tso_text.specs.Printed.{line_text, items_text, processor_text, whole_text, outcome_pieces, op_pieces, act_pieces, trace_text, program_text, schedule_text}

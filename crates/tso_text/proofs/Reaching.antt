@@ -1,19 +1,18 @@
 -- How far a reader has come in a text: the lines so far have no fault, and what they say.
-use Rattle.std.proofs.Common.{◌≡◌, ℕ, zero, suc, ◌+◌, ◌<◌, ◌≤◌, Bool, true, false, cond, not, ◌&&◌, ◌||◌, ◌-◌, eqb, ltb, List, [], ◌∷◌, ◌++◌, length, get_or, take, drop, Result, Ok, Err, refl, ap, sym, ◌∙◌, subst, arith, ⊎_elim, inl, inr, length-append}
+use Rattle.std.proofs.Common.{◌≡◌, ℕ, zero, suc, ◌<◌, ◌≤◌, Bool, true, false, not, ◌&&◌, ◌||◌, ◌-◌, eqb, ltb, List, [], ◌∷◌, ◌++◌, length, get_or, take, drop, refl, ap, sym, ◌∙◌, subst, arith, ⊎_elim, length-append}
 use Rattle.std.specs.List.{list_any, slice_split, join_with_byte}
 use Rattle.std.proofs.lemmas.List.Splits.{join_with_byte-slice_split}
 use Rattle.std.specs.Str.{bytes_eq}
-use Rattle.std.proofs.lemmas.Bool.{false≢true, cases_lt}
+use Rattle.std.proofs.lemmas.Bool.{cases_lt}
 use Rattle.std.proofs.lemmas.Bool.Decides.{nat_tests}
 use Rattle.std.proofs.lemmas.List.{take_at, take-append-le, get_or_at, get_or_append_left, append_assoc}
 use Rattle.std.proofs.lemmas.Slice.Eq.{bytes_eq-Decides}
 use Rattle.tso_text.specs.declared.faults.Why.{Why}
-use Rattle.tso_text.specs.declared.faults.Why.TheVariants.{BadHeader, MissingEnd, BadLine, AfterEnd, TooLong, OutOfMemory}
-use Rattle.tso_text.specs.declared.lines.Line.{Line}
-use Rattle.tso_text.specs.declared.lines.Line.TheVariants.{Proc, Item, End}
-use Rattle.tso_text.specs.Spelling.{Grammar, Spells, IsRefusal, fault_at, part_fault, said_fault, line_fault, said, lists_of, lists_after, with_line, with_said, has_ended, has_header, is_end, is_empty, unended, parts_of, body_of, number_of, same_why}
-use Rattle.tso_text.specs.Taken.{IsFirst, IsTurnedAway, TakesSaid, TakesLine}
+use Rattle.tso_text.specs.declared.faults.Why.TheVariants.{BadHeader, AfterEnd, TooLong, OutOfMemory}
+use Rattle.tso_text.specs.Spelling.{Grammar, Spells, IsRefusal, fault_at, part_fault, said_fault, said, lists_of, lists_after, with_said, has_ended, has_header, is_end, is_empty, unended, parts_of, body_of, same_why}
+use Rattle.tso_text.specs.Taken.{IsFirst, IsTurnedAway, TakesLine}
 use Rattle.tso_text.proofs.CutFacts.{split_parts}
+use Rattle.tso_text.proofs.SplitFacts.{or_false}
 
 -- ---- parts in front
 
@@ -26,11 +25,7 @@ pub lists_of-push : {X : Type 0} (g : Grammar X) (front : List (List ℕ)) (line
 unfolding lists_of
 lists_of-push g front line = lists_after-append g (g.start) front (line ∷ [])
 
-or_false : (a b : Bool) → (a || b) ≡ false → (a ≡ false) × (b ≡ false)
-or_false true b e = absurd cc
-or_false false b e = (refl, e)
-
-and_false : (a : Bool) → (a && false) ≡ false
+pub and_false : (a : Bool) → (a && false) ≡ false
 and_false true = refl
 and_false false = refl
 

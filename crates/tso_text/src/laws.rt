@@ -1,39 +1,44 @@
 //! What the definitions of spelling say of each other, proved of all texts.
 
-ghost use Rattle.std.specs.Prelude.{◌≡◌, ◌⊎◌, ℕ, List};
+ghost use Rattle.std.specs.Prelude.{◌≡◌, ◌⊎◌, ◌≤◌, ℕ, List, All, length};
+ghost use Rattle.tso_ops.specs.Limits.{IsTrace, IsProgram};
 ghost use Rattle.tso_ops.specs.Values.{TraceValue, ProgramValue};
-ghost use Rattle.tso_text.specs.Grammars.{SpellsTrace, SpellsProgram, SpellsSchedule, IsTraceRefusal, IsProgramRefusal, IsScheduleRefusal};
+ghost use Rattle.tso_text.specs.Grammars.{processor_of, SpellsTrace, SpellsProgram, SpellsSchedule, IsTraceRefusal, IsProgramRefusal, IsScheduleRefusal};
 ghost use Rattle.tso_text.specs.Grammars.{IsSpelledTrace, IsRefusedTrace, IsSpelledProgram, IsRefusedProgram, IsSpelledSchedule, IsRefusedSchedule};
 ghost use Rattle.tso_text.specs.Printed.{trace_text, program_text, schedule_text};
 ghost use Rattle.tso_text.specs.declared.acts.Act.{Act};
 ghost use Rattle.tso_text.specs.declared.faults.Why.{Why};
 
 /// Each text spells a trace or is refused, never both; it spells one trace, and gets one refusal;
-/// what spells a trace is its printed text.
+/// what spells a trace is its printed text, and the printed text of a trace within the limits spells it.
 pub fn traces()
     ensures spelled_or_refused { (text : List ℕ) → IsSpelledTrace text ⊎ IsRefusedTrace text }
     ensures never_both { (text : List ℕ) → IsSpelledTrace text → IsRefusedTrace text → ⊥ }
     ensures one_value { (text : List ℕ) (t u : TraceValue) → SpellsTrace text t → SpellsTrace text u → t ≡ u }
     ensures one_text { (text : List ℕ) (t : TraceValue) → SpellsTrace text t → text ≡ trace_text t }
+    ensures printed { (t : TraceValue) → IsTrace t → SpellsTrace (trace_text t) t }
     ensures one_refusal { (text : List ℕ) (j k : ℕ) (v w : Why) → IsTraceRefusal text j v → IsTraceRefusal text k w → (j ≡ k) × (v ≡ w) }
 {}
 
 /// Each text spells a program or is refused, never both; it spells one program, and gets one refusal;
-/// what spells a program is its printed text.
+/// what spells a program is its printed text, and the printed text of a program within the limits spells it.
 pub fn programs()
     ensures spelled_or_refused { (text : List ℕ) → IsSpelledProgram text ⊎ IsRefusedProgram text }
     ensures never_both { (text : List ℕ) → IsSpelledProgram text → IsRefusedProgram text → ⊥ }
     ensures one_value { (text : List ℕ) (p q : ProgramValue) → SpellsProgram text p → SpellsProgram text q → p ≡ q }
     ensures one_text { (text : List ℕ) (p : ProgramValue) → SpellsProgram text p → text ≡ program_text p }
+    ensures printed { (p : ProgramValue) → IsProgram p → SpellsProgram (program_text p) p }
     ensures one_refusal { (text : List ℕ) (j k : ℕ) (v w : Why) → IsProgramRefusal text j v → IsProgramRefusal text k w → (j ≡ k) × (v ≡ w) }
 {}
 
 /// Each text spells a schedule or is refused, never both; it spells one schedule, and gets one refusal;
-/// what spells a schedule is its printed text.
+/// what spells a schedule is its printed text. That text spells it where no act names a processor above 15 and the text
+/// is within the limit.
 pub fn schedules()
     ensures spelled_or_refused { (text : List ℕ) → IsSpelledSchedule text ⊎ IsRefusedSchedule text }
     ensures never_both { (text : List ℕ) → IsSpelledSchedule text → IsRefusedSchedule text → ⊥ }
     ensures one_value { (text : List ℕ) (acts others : List Act) → SpellsSchedule text acts → SpellsSchedule text others → acts ≡ others }
     ensures one_text { (text : List ℕ) (acts : List Act) → SpellsSchedule text acts → text ≡ schedule_text acts }
+    ensures printed { (acts : List Act) → All (λ act. processor_of act ≤ 15) acts → length (schedule_text acts) ≤ 1048576 → SpellsSchedule (schedule_text acts) acts }
     ensures one_refusal { (text : List ℕ) (j k : ℕ) (v w : Why) → IsScheduleRefusal text j v → IsScheduleRefusal text k w → (j ≡ k) × (v ≡ w) }
 {}

@@ -1,4 +1,5 @@
 ghost use Rattle.std.specs.Prelude.{◌≡◌, ◌++◌, ◌≤◌, All, length, string_bytes, OnOk, IfOk};
+ghost use Rattle.tso_text.specs.Grammars.{processor_of, SpellsTrace, SpellsProgram, SpellsSchedule};
 ghost use Rattle.tso_text.specs.Printed.{items_text, processor_text, trace_text, program_text, schedule_text};
 
 use crate::acts::Act;
@@ -7,9 +8,10 @@ use std::alloc::Global;
 use std::fmt::Write;
 use tso_ops::{OutOfMemory, Program, Trace};
 
-/// The text of a trace.
+/// The text of a trace. It spells the trace. OutOfMemory where a growth was refused.
 pub fn print_trace(alloc: Global, trace: &Trace) -> Result<String, OutOfMemory>
     ensures lines { IfOk result (λ text. string_bytes text ≡ trace_text trace.now) }
+    ensures spelled { IfOk result (λ text. SpellsTrace (string_bytes text) trace.now) }
 {
     let mut text = String::from_str(alloc, "tso trace 1\n")?;
     for p in 0..trace.processors() {
@@ -19,9 +21,10 @@ pub fn print_trace(alloc: Global, trace: &Trace) -> Result<String, OutOfMemory>
     Ok(text)
 }
 
-/// The text of a program.
+/// The text of a program. It spells the program. OutOfMemory where a growth was refused.
 pub fn print_program(alloc: Global, program: &Program) -> Result<String, OutOfMemory>
     ensures lines { IfOk result (λ text. string_bytes text ≡ program_text program.now) }
+    ensures spelled { IfOk result (λ text. SpellsProgram (string_bytes text) program.now) }
 {
     let mut text = String::from_str(alloc, "tso program 1\n")?;
     for p in 0..program.processors() {
@@ -32,9 +35,10 @@ pub fn print_program(alloc: Global, program: &Program) -> Result<String, OutOfMe
 }
 
 /// The text of a schedule. It spells the schedule where there is a spelling: where no act names a processor above 15,
-/// and the text is within the limit.
+/// and the text is within the limit. OutOfMemory where a growth was refused.
 pub fn print_schedule(alloc: Global, acts: &[Act]) -> Result<String, OutOfMemory>
     ensures lines { IfOk result (λ text. string_bytes text ≡ schedule_text acts.now) }
+    ensures spelled { IfOk result (λ text. All (λ act. processor_of act ≤ 15) acts.now → length (string_bytes text) ≤ 1048576 → SpellsSchedule (string_bytes text) acts.now) }
 {
     let mut text = String::from_str(alloc, "tso schedule 1\n")?;
     print_items(&mut text, acts)?;

@@ -6,6 +6,9 @@ use std::alloc::{AllocError, Global};
 use std::test::Fail;
 use tso_ops::Outcome;
 
+mod examples;
+mod growths;
+
 fn trace_fault(alloc: Global, text: &[u8]) -> Option<TextFault> {
     read_trace(alloc, text).err()
 }

@@ -1,5 +1,4 @@
-use Rattle.std.proofs.Common.{rules, ◌≡◌, ◌==◌, sym, ◌∙◌, List, ◌∷◌, take, drop, ◌-◌, ◌+◌, length}
-use Rattle.std.specs.List.{slice_split}
+use Rattle.std.proofs.Common.{sym, ◌∙◌}
 use Rattle.std.proofs.lemmas.List.{take_rest}
 use Rattle.tso_text.proofs.CutFacts.{split_found, split_missing}
 use Rattle.tso_text.proofs.lines.cut.Goals as goal

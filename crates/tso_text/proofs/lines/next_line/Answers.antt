@@ -1,4 +1,4 @@
-use Rattle.std.proofs.Common.{sym, arith, length}
+use Rattle.std.proofs.Common.{sym, arith}
 use Rattle.std.proofs.lemmas.Bool.Decides.{nat_tests}
 use Rattle.tso_text.proofs.CutFacts.{unended_some}
 use Rattle.tso_text.proofs.lines.next_line.Goals as goal

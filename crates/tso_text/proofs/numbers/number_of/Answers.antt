@@ -1,5 +1,4 @@
-use Rattle.std.proofs.Common.{rules, sym, ◌∙◌, ◌≡◌}
-use Rattle.std.specs.Str.Parse.{ParsesUnsigned}
+use Rattle.std.proofs.Common.{sym, ◌∙◌}
 use Rattle.tso_text.proofs.NumberFacts.{number-not_plain, number-not_digits, number-parsed, text_read, text_not_refused}
 use Rattle.tso_text.proofs.numbers.number_of.Goals as goal
 

@@ -1,0 +1,137 @@
+-- The printed lines of lists spell these lists, in any grammar: where each line says what it was printed from, and has no fault.
+use Rattle.std.proofs.Common.{◌≡◌, ℕ, ◌*◌, ◌<◌, ◌≤◌, false, eqb, List, [], ◌∷◌, ◌++◌, length, map, drop, Ok, refl, ap, sym, ◌∙◌, subst, arith, append_assoc, length-append}
+use Rattle.std.specs.Prelude.{codes}
+use Rattle.std.specs.List.{flat_map, slice_split, join_with_byte}
+use Rattle.std.proofs.lemmas.List.{append-nil}
+use Rattle.std.proofs.lemmas.Slice.Eq.{bytes_eq-Decides}
+use Rattle.tso_text.specs.declared.faults.Why.{Why}
+use Rattle.tso_text.specs.declared.lines.Line.{Line}
+use Rattle.tso_text.specs.declared.lines.Line.TheVariants.{End}
+use Rattle.tso_text.specs.Printed.{line_text, whole_text}
+use Rattle.tso_text.specs.Spelling.{Grammar, Spells, said, said_fault, line_fault, lists_of, with_line, with_said, has_ended, is_end, parts_of, pieces_of}
+use Rattle.tso_text.proofs.CanonicalFacts.{pieces_by}
+use Rattle.tso_text.proofs.Reaching.{IsClean, IsClean-push, Begins, part_fault-open, lists_of-push, has_ended-push, spelled}
+use Rattle.tso_text.proofs.SplitFacts.{has_byte, has_byte_in, split_part, split_joined, joined_without}
+
+-- ---- lines that are read back
+
+-- the bytes of a line, without its line end
+abbrev pub line_of : {X : Type 0} → (X → List (List ℕ)) → Line X → List ℕ
+line_of p l = join_with_byte 32 (pieces_by p l)
+
+-- The pieces of the line say it; there is a piece, no piece has a space or a line end, and the line isn't long.
+pub record IsReadBack {X : Type 0} (g : Grammar X) (p : X → List (List ℕ)) (l : Line X) : Type 0 where
+  pub says : g.said_by (pieces_by p l) ≡ Ok l
+  pub word : List ℕ
+  pub others : List (List ℕ)
+  pub some : pieces_by p l ≡ word ∷ others
+  pub no_space : has_byte_in 32 (pieces_by p l) ≡ false
+  pub no_end : has_byte_in 10 (pieces_by p l) ≡ false
+  pub short : length (line_of p l) < 70
+
+-- a printed line is read as what it was printed from
+said-line_of : {X : Type 0} (g : Grammar X) (p : X → List (List ℕ)) (l : Line X) → IsReadBack g p l → said g (line_of p l) ≡ Ok l
+unfolding pieces_of
+said-line_of g p l back =
+    let none : has_byte_in 32 (back.word ∷ back.others) ≡ false = ap (has_byte_in 32) (sym back.some) ∙ back.no_space in
+    let pieces : slice_split (λ b. eqb b 32) (join_with_byte 32 (pieces_by p l)) ≡ pieces_by p l =
+    ap (λ ps. slice_split (λ b. eqb b 32) (join_with_byte 32 ps)) back.some ∙ split_joined 32 back.word back.others none ∙ sym back.some in
+    ap (g.said_by) pieces ∙ back.says
+
+-- a printed line has no line end within
+line_of-whole : {X : Type 0} (g : Grammar X) (p : X → List (List ℕ)) (l : Line X) → IsReadBack g p l → has_byte 10 (line_of p l) ≡ false
+line_of-whole g p l back = joined_without 10 32 (pieces_by p l) refl back.no_end
+
+-- ---- lines that are taken one after another
+
+-- the line is read back, has no fault behind these lists, and doesn't end the text
+pub record IsTaken {X : Type 0} (g : Grammar X) (p : X → List (List ℕ)) (lists : List (List X)) (l : Line X) : Type 0 where
+  pub back : IsReadBack g p l
+  pub clean : (w : Why) → line_fault g lists l w ≡ false
+  pub goes_on : is_end (Ok l) ≡ false
+
+-- behind the first lists these lines are taken, and make the last
+abbrev pub AreTaken : {X : Type 0} → Grammar X → (X → List (List ℕ)) → List (List X) → List (Line X) → List (List X) → Type 0
+AreTaken g p first [] last = first ≡ last
+AreTaken g p first (l ∷ ls) last = (taken : IsTaken g p first l) × AreTaken g p (with_line first l) ls last
+
+-- the bytes of these lines in front of a rest are cut into the lines and the parts of the rest
+parts-lines : {X : Type 0} (g : Grammar X) (p : X → List (List ℕ)) (first : List (List X)) (ls : List (Line X)) (last : List (List X)) (rest : List ℕ) → AreTaken g p first ls last →
+    slice_split (λ b. eqb b 10) (flat_map (λ l. line_text (pieces_by p l)) ls ++ rest) ≡ map (line_of p) ls ++ slice_split (λ b. eqb b 10) rest
+parts-lines g p first [] last rest taken = refl
+parts-lines g p first (l ∷ ls) last rest taken =
+    let behind = flat_map (λ l. line_text (pieces_by p l)) ls in
+    let bytes : ((line_of p l ++ 10 ∷ []) ++ behind) ++ rest ≡ line_of p l ++ 10 ∷ (behind ++ rest) =
+    append_assoc (line_of p l ++ 10 ∷ []) behind rest ∙ append_assoc (line_of p l) (10 ∷ []) (behind ++ rest) in
+    ap (slice_split (λ b. eqb b 10)) bytes
+    ∙ split_part 10 (line_of p l) (behind ++ rest) (line_of-whole g p l taken.0.back)
+    ∙ ap (λ ps. line_of p l ∷ ps) (parts-lines g p (with_line first l) ls last rest taken.1)
+
+-- the lines are as long as their number allows
+pub length-lines : {X : Type 0} (g : Grammar X) (p : X → List (List ℕ)) (first : List (List X)) (ls : List (Line X)) (last : List (List X)) → AreTaken g p first ls last →
+    length (flat_map (λ l. line_text (pieces_by p l)) ls) ≤ 70 * length ls
+length-lines g p first [] last taken = omega arith
+length-lines g p first (l ∷ ls) last taken =
+    let short = taken.0.back.short in
+    let rest = length-lines g p (with_line first l) ls last taken.1 in
+    omega (arith, short, rest, length-append (line_text (pieces_by p l)) (flat_map (λ l. line_text (pieces_by p l)) ls), length-append (line_of p l) (10 ∷ []))
+
+-- the front is without a fault, no line of it ends the text, and it says these lists
+record Stands {X : Type 0} (g : Grammar X) (front : List (List ℕ)) (lists : List (List X)) : Type 0 where
+  clean : IsClean g front
+  running : has_ended g front ≡ false
+  says : lists_of g front ≡ lists
+
+stands-push : {X : Type 0} (g : Grammar X) (p : X → List (List ℕ)) (front : List (List ℕ)) (lists : List (List X)) (l : Line X) → Stands g front lists → IsTaken g p lists l →
+    Stands g (front ++ line_of p l ∷ []) (with_line lists l)
+stands-push g p front lists l stands taken =
+    let is = said-line_of g p l taken.back in
+    record {
+      clean = IsClean-push g front (line_of p l) stands.clean (λ w. part_fault-open g front (line_of p l) w stands.running ∙ ap (λ ls. said_fault g ls (said g (line_of p l)) w) stands.says ∙ ap (λ r. said_fault g lists r w) is ∙ taken.clean w);
+      running = has_ended-push g front (line_of p l) stands.running ∙ ap is_end is ∙ taken.goes_on;
+      says = lists_of-push g front (line_of p l) ∙ ap (λ ls. with_said ls (said g (line_of p l))) stands.says ∙ ap (with_said lists) is;
+    }
+
+stands-lines : {X : Type 0} (g : Grammar X) (p : X → List (List ℕ)) (front : List (List ℕ)) (first : List (List X)) (ls : List (Line X)) (last : List (List X)) → Stands g front first → AreTaken g p first ls last →
+    Stands g (front ++ map (line_of p) ls) last
+stands-lines {X} g p front first [] last stands taken = subst (λ (f : List (List ℕ)). Stands g f last) (sym (append-nil front)) (subst (Stands g front) taken stands)
+stands-lines g p front first (l ∷ ls) last stands taken =
+    subst (λ f. Stands g f last) (append_assoc front (line_of p l ∷ []) (map (line_of p) ls))
+    (stands-lines g p (front ++ line_of p l ∷ []) (with_line first l) ls last (stands-push g p front first l stands taken.0) taken.1)
+
+nothing_before : {X : Type 0} (g : Grammar X) → Stands g [] g.start
+unfolding has_ended lists_of
+nothing_before g = record { clean = λ i w low. absurd (omega arith); running = refl; says = refl }
+
+-- a text of the header, lines that are taken, and `end` spells what the lines make
+pub printed_spells : {X : Type 0} (g : Grammar X) (p : X → List (List ℕ)) (ls : List (Line X)) (last : List (List X)) (lines : List ℕ) →
+    has_byte 10 g.header ≡ false → IsReadBack g p End → AreTaken g p g.start ls last → flat_map (λ l. line_text (pieces_by p l)) ls ≡ lines →
+    length (whole_text g.header lines) ≤ 1048576 → Spells g (whole_text g.header lines) last
+unfolding parts_of whole_text
+printed_spells {X} g p ls last lines header end taken bytes short =
+    let ending = line_of p End in
+    let front = map (line_of p) ls in
+    let stands = stands-lines g p [] g.start ls last (nothing_before g) taken in
+    let is = said-line_of g p End end in
+    let behind : slice_split (λ b. eqb b 10) (lines ++ line_text (codes "end" ∷ [])) ≡ front ++ ending ∷ [] ∷ [] =
+    ap (λ b. slice_split (λ b. eqb b 10) (b ++ line_text (codes "end" ∷ []))) (sym bytes)
+    ∙ parts-lines g p g.start ls last (line_text (codes "end" ∷ [])) taken
+    ∙ ap (λ ps. front ++ ps) (split_part 10 ending [] (line_of-whole g p End end)) in
+    let parts : parts_of (whole_text g.header lines) ≡ g.header ∷ (front ++ ending ∷ [] ∷ []) =
+    ap (slice_split (λ b. eqb b 10)) (append_assoc g.header (10 ∷ lines) (line_text (codes "end" ∷ [])))
+    ∙ split_part 10 g.header (lines ++ line_text (codes "end" ∷ [])) header ∙ ap (λ ps. g.header ∷ ps) behind in
+    spelled g (whole_text g.header lines) (front ++ ending ∷ []) last
+    (begins g (whole_text g.header lines) front ending short parts)
+    (IsClean-push g front ending stands.clean (λ w. part_fault-open g front ending w stands.running ∙ ap (λ ls. said_fault g ls (said g ending) w) stands.says ∙ ap (λ r. said_fault g last r w) is))
+    (has_ended-push g front ending stands.running ∙ ap is_end is)
+    (lists_of-push g front ending ∙ ap (λ ls. with_said ls (said g ending)) stands.says ∙ ap (with_said last) is)
+    (ap (drop 1) parts ∙ sym (append_assoc front (ending ∷ []) ([] ∷ [])))
+  where
+    header_stands : (front : List (List ℕ)) (ending : List ℕ) (header : List ℕ) → (next : List ℕ) × (others : List (List ℕ)) × (front ++ ending ∷ [] ∷ [] ≡ next ∷ others)
+    header_stands [] ending header = (ending, [] ∷ [], refl)
+    header_stands (f ∷ front) ending header = (f, front ++ ending ∷ [] ∷ [], refl)
+
+    begins : {X : Type 0} (g : Grammar X) (text : List ℕ) (front : List (List ℕ)) (ending : List ℕ) → length text ≤ 1048576 → parts_of text ≡ g.header ∷ (front ++ ending ∷ [] ∷ []) → Begins g text
+    begins g text front ending short parts =
+        let p = header_stands front ending g.header in
+        record { short = short; header = rw (parts, p.2) ((bytes_eq-Decides g.header g.header).1 refl) }
