@@ -1,5 +1,5 @@
 -- Lists that a tally keeps are those of a trace; a schedule is one list.
-use Rattle.std.proofs.Common.{◌≡◌, ℕ, zero, suc, ◌≤◌, List, [], ◌∷◌, ◌++◌, length, map, All, Result, Ok, Err, refl, ap, sym, ◌∙◌, arith, subst, ⊎_elim, Option, Some, None, ◌<◌, ◌-◌, get_or, Bool, true, false, cond}
+use Rattle.std.proofs.Common.{◌≡◌, ℕ, List, [], ◌∷◌, ◌++◌, length, map, All, Result, Ok, Err, refl, ap, sym, ◌∙◌, arith, subst, Option, Some, ◌<◌, ◌-◌, get_or, Bool, true, false, cond}
 use Rattle.std.specs.Prelude.{codes}
 use Rattle.std.specs.Global.{Vec}
 use Rattle.std.specs.Option.{unwrap_or}
@@ -16,7 +16,7 @@ use Rattle.tso_text.specs.Grammars.{schedule_grammar, schedule_line, is_word}
 use Rattle.tso_text.specs.Numbers.{◌>>=◌, no_number, one_number}
 use Rattle.tso_ops.specs.Limits.{IsTrace, KeepsLimits}
 use Rattle.tso_ops.specs.Tally.{Admitted}
-use Rattle.tso_text.specs.Spelling.{items_of, Spells, with_said, said, lists_of, lists_after, lines_of}
+use Rattle.tso_text.specs.Spelling.{Spells, with_said, said, lists_of, lists_after, lines_of}
 use Rattle.tso_text.specs.Taken.{IsKept}
 use Rattle.tso_text.proofs.LineFacts.{items_of-map}
 

@@ -3,7 +3,6 @@ pub mod CutFacts
 pub mod FaultFacts
 pub mod KeptFacts
 pub mod LineFacts
-pub mod NumberFacts
 pub mod OneTextFacts
 pub mod PrintFacts
 pub mod PrintedFacts

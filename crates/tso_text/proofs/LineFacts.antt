@@ -1,5 +1,5 @@
 -- Lemmas on the lists that lines make.
-use Rattle.std.proofs.Common.{◌≡◌, ℕ, zero, suc, ◌-◌, ◌<◌, Bool, true, false, cond, eqb, List, [], ◌∷◌, ◌++◌, length, get_or, set, Result, Ok, Err, refl, ap, sym, ◌∙◌, subst, arith, map, append_assoc}
+use Rattle.std.proofs.Common.{◌≡◌, ℕ, zero, suc, ◌<◌, Bool, true, false, cond, eqb, List, [], ◌∷◌, ◌++◌, length, get_or, set, Result, Ok, Err, refl, ap, sym, ◌∙◌, arith, map, append_assoc}
 use Rattle.std.specs.Global.{Vec}
 use Rattle.std.specs.Result.{is_ok, OnOk}
 use Rattle.std.proofs.lemmas.List.{append-nil, map-append}

@@ -1,26 +1,17 @@
 -- What a text spells is printed as that text: the lines of a spelled text are those of its value.
-use Rattle.std.proofs.Common.{◌≡◌, ℕ, zero, suc, ◌+◌, ◌<◌, ◌≤◌, ◌^◌, min, Bool, true, false, cond, not, ◌&&◌, eqb, ltb, List, [], ◌∷◌, ◌++◌, length, get_or, take, drop, ◌-◌, length-append, map, Option, Some, None, Result, Ok, Err, refl, ap, sym, ◌∙◌, subst, arith, append_assoc}
-use Rattle.std.specs.Prelude.{codes}
-use Rattle.std.specs.Char.{is_ascii_digit}
-use Rattle.std.specs.Fmt.{decimal}
-use Rattle.std.specs.List.{flat_map, slice_split, join_with_byte, list_all}
-use Rattle.std.specs.Str.Parse.{digits_value}
+use Rattle.std.proofs.Common.{◌≡◌, ℕ, suc, Bool, true, false, not, ◌&&◌, List, [], ◌∷◌, ◌++◌, length, take, drop, ◌-◌, length-append, Result, Ok, Err, refl, ap, sym, ◌∙◌, arith, append_assoc}
+use Rattle.std.specs.List.{flat_map, join_with_byte}
 use Rattle.std.proofs.lemmas.Bool.{false≢true}
 use Rattle.std.proofs.lemmas.Bool.Decides.{nat_tests}
-use Rattle.std.proofs.lemmas.Fmt.{decimal-digits_value}
 use Rattle.std.proofs.lemmas.List.{append-nil, take_at}
-use Rattle.std.proofs.lemmas.List.Concat.{flat_map-append}
 use Rattle.std.proofs.lemmas.List.Splits.{join_with_byte-slice_split}
 use Rattle.std.proofs.lemmas.Slice.Eq.{bytes_eq-Decides}
+use Rattle.line_text.specs.Lines.{line_text, is_empty, parts_of, pieces_of}
 use Rattle.tso_text.specs.declared.faults.Why.{Why}
-use Rattle.tso_text.specs.declared.faults.Why.TheVariants.{BadHeader, BadLine, MissingEnd, AfterEnd}
+use Rattle.tso_text.specs.declared.faults.Why.TheVariants.{BadHeader, AfterEnd}
 use Rattle.tso_text.specs.declared.lines.Line.{Line}
 use Rattle.tso_text.specs.declared.lines.Line.TheVariants.{Proc, Item, End}
-use Rattle.tso_text.specs.Numbers.{number, is_numeral, is_plain}
-use Rattle.tso_text.specs.Printed.{line_text, items_text, processor_text, whole_text}
-use Rattle.tso_text.specs.Spelling.{Grammar, Spells, fault_at, part_fault, said_fault, line_fault, said, lists_of, with_line, with_said, has_ended, has_header, is_end, is_empty, unended, parts_of, pieces_of, body_of, lines_of, number_of, same_why, push_last, items_of}
-use Rattle.tso_text.proofs.LineFacts.{items_of-push_last}
-use Rattle.tso_text.proofs.NumberFacts.{digits_model}
+use Rattle.tso_text.specs.Spelling.{Grammar, Spells, fault_at, said_fault, line_fault, said, lists_of, with_line, with_said, has_ended, has_header, is_end, unended, body_of, lines_of, same_why}
 use Rattle.tso_text.proofs.Reaching.{part_fault-open, part_fault-last, part_fault-ended, fault_at-place, lists_of-push, has_ended-push}
 
 -- ---- the lines of a spelled text

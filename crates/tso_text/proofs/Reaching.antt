@@ -1,19 +1,17 @@
 -- How far a reader has come in a text: the lines so far have no fault, and what they say.
-use Rattle.std.proofs.Common.{◌≡◌, ℕ, zero, suc, ◌+◌, ◌<◌, ◌≤◌, Bool, true, false, cond, not, ◌&&◌, ◌||◌, ◌-◌, eqb, ltb, List, [], ◌∷◌, ◌++◌, length, get_or, take, drop, Result, Ok, Err, refl, ap, sym, ◌∙◌, subst, arith, ⊎_elim, inl, inr, length-append}
-use Rattle.std.specs.List.{list_any, slice_split, join_with_byte}
-use Rattle.std.proofs.lemmas.List.Splits.{join_with_byte-slice_split}
+use Rattle.std.proofs.Common.{◌≡◌, ℕ, zero, suc, ◌<◌, ◌≤◌, Bool, true, false, not, ◌&&◌, ◌||◌, ◌-◌, eqb, ltb, List, [], ◌∷◌, ◌++◌, length, get_or, take, drop, refl, ap, sym, ◌∙◌, subst, arith, ⊎_elim, length-append}
+use Rattle.std.specs.List.{list_any}
 use Rattle.std.specs.Str.{bytes_eq}
-use Rattle.std.proofs.lemmas.Bool.{false≢true, cases_lt}
+use Rattle.std.proofs.lemmas.Bool.{cases_lt}
 use Rattle.std.proofs.lemmas.Bool.Decides.{nat_tests}
 use Rattle.std.proofs.lemmas.List.{take_at, take-append-le, get_or_at, get_or_append_left, append_assoc}
 use Rattle.std.proofs.lemmas.Slice.Eq.{bytes_eq-Decides}
+use Rattle.line_text.specs.Lines.{is_empty, parts_of}
+use Rattle.line_text.proofs.CutFacts.{split_parts, some_part}
 use Rattle.tso_text.specs.declared.faults.Why.{Why}
-use Rattle.tso_text.specs.declared.faults.Why.TheVariants.{BadHeader, MissingEnd, BadLine, AfterEnd, TooLong, OutOfMemory}
-use Rattle.tso_text.specs.declared.lines.Line.{Line}
-use Rattle.tso_text.specs.declared.lines.Line.TheVariants.{Proc, Item, End}
-use Rattle.tso_text.specs.Spelling.{Grammar, Spells, IsRefusal, fault_at, part_fault, said_fault, line_fault, said, lists_of, lists_after, with_line, with_said, has_ended, has_header, is_end, is_empty, unended, parts_of, body_of, number_of, same_why}
-use Rattle.tso_text.specs.Taken.{IsFirst, IsTurnedAway, TakesSaid, TakesLine}
-use Rattle.tso_text.proofs.CutFacts.{split_parts}
+use Rattle.tso_text.specs.declared.faults.Why.TheVariants.{BadHeader, AfterEnd, TooLong, OutOfMemory}
+use Rattle.tso_text.specs.Spelling.{Grammar, Spells, IsRefusal, fault_at, part_fault, said_fault, said, lists_of, lists_after, with_said, has_ended, has_header, is_end, unended, body_of, same_why}
+use Rattle.tso_text.specs.Taken.{IsFirst, IsTurnedAway, TakesLine}
 
 -- ---- parts in front
 
@@ -215,12 +213,6 @@ Reached-next g text i rest lists line behind new r parts takes = record {
   running = line_ends g text i rest lists line false new r takes;
   says = line_says g text i rest lists line false new r takes;
 }
-
--- bytes leave a part that isn't empty
-some_part : (behind first : List ℕ) (others : List (List ℕ)) → slice_split (λ b. eqb b 10) behind ≡ first ∷ others → (length behind ≡ 0 → ⊥) → not (is_empty others && is_empty first) ≡ true
-some_part behind [] [] parts some = absurd (some (ap length (sym (join_with_byte-slice_split 10 behind) ∙ ap (join_with_byte 10) parts)))
-some_part behind (b ∷ first) [] parts some = refl
-some_part behind first (next ∷ others) parts some = refl
 
 -- a byte behind the `end` line
 pub ended_refused : {X : Type 0} (g : Grammar X) (text : List ℕ) (i : ℕ) (rest : List ℕ) (lists : List (List X)) (line behind : List ℕ) (new : List (List X)) →

@@ -1,18 +1,17 @@
 -- The grammars of traces, programs and schedules.
-use Rattle.std.specs.Prelude.{◌≡◌, ℕ, ◌&&◌, Bool, false, nat_lt, min, List, [], ◌∷◌, map, Result, Ok, Err, codes, if◌then◌else◌}
+use Rattle.std.specs.Prelude.{ℕ, ◌&&◌, Bool, false, nat_lt, min, List, [], ◌∷◌, map, Result, Ok, Err, codes, if◌then◌else◌}
 use Rattle.std.specs.Str.{bytes_eq}
 use Rattle.tso_ops.specs.declared.ops.Op.{Op}
 use Rattle.tso_ops.specs.declared.ops.Op.TheVariants.{Ld as OpLd, St as OpSt, Sw as OpSw, Mb as OpMb}
 use Rattle.tso_ops.specs.declared.ops.Outcome.{Outcome}
 use Rattle.tso_ops.specs.declared.ops.Outcome.TheVariants.{Ld, St, Sw, Mb}
-use Rattle.tso_ops.specs.declared.faults.ValueFault.{ValueFault}
 use Rattle.tso_ops.specs.declared.faults.ValueFault.TheVariants.{TooManyEvents as ManyEvents, AddressRange as PastAddresses, ZeroValue as ZeroStored, RepeatedValue as Repeated}
 use Rattle.tso_ops.specs.Values.{TraceValue, ProgramValue, op_of}
 use Rattle.tso_ops.specs.Limits.{has_fault}
 use Rattle.tso_text.specs.declared.acts.Act.{Act}
 use Rattle.tso_text.specs.declared.acts.Act.TheVariants.{Issue, Drain}
 use Rattle.tso_text.specs.declared.faults.Why.{Why}
-use Rattle.tso_text.specs.declared.faults.Why.TheVariants.{BadLine, BadNumber, TooManyEvents, AddressRange, ZeroValue, RepeatedValue, ProcessorRange}
+use Rattle.tso_text.specs.declared.faults.Why.TheVariants.{BadLine, TooManyEvents, AddressRange, ZeroValue, RepeatedValue, ProcessorRange}
 use Rattle.tso_text.specs.declared.lines.Line.{Line}
 use Rattle.tso_text.specs.declared.lines.Line.TheVariants.{Proc, Item, End}
 use Rattle.tso_text.specs.Numbers.{◌>>=◌, no_number, one_number, two_numbers, three_numbers}

@@ -1,5 +1,5 @@
 -- What a reader says of one line or one item: it is taken behind what came before, or it is refused.
-use Rattle.std.specs.Prelude.{◌≡◌, ◌⊎◌, ℕ, ◌<◌, ◌≤◌, Bool, true, false, List, length, Result, Ok, Err}
+use Rattle.std.specs.Prelude.{◌≡◌, ◌⊎◌, ℕ, ◌<◌, ◌≤◌, Bool, true, false, List, length, Ok}
 use Rattle.tso_ops.specs.declared.limits.Tally.{Tally}
 use Rattle.tso_ops.specs.declared.faults.ValueFault.{ValueFault}
 use Rattle.tso_ops.specs.declared.faults.ValueFault.TheVariants.{TooManyProcessors as ManyProcessors, TooManyEvents as ManyEvents, AddressRange as PastAddresses, ZeroValue as ZeroStored, RepeatedValue as Repeated, OutOfMemory as NoMemory}

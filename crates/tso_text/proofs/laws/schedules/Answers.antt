@@ -1,4 +1,4 @@
-use Rattle.std.proofs.Common.{◌≡◌, [], ◌∷◌, ap, ⊎_elim, inl, inr}
+use Rattle.std.proofs.Common.{[], ◌∷◌, ⊎_elim, inl, inr}
 use Rattle.tso_text.specs.Grammars.{schedule_grammar}
 use Rattle.tso_text.proofs.KeptFacts.{schedule_spelled}
 use Rattle.tso_text.proofs.SpellingFacts.{spelled_or_refused, not_both, one_value, one_refusal}

@@ -1,4 +1,3 @@
-use Rattle.std.proofs.Common.{string_bytes, rules}
 use Rattle.std.proofs.lemmas.List.{take_all}
 use Rattle.tso_text.proofs.PrintFacts.{items_text-none, items_text-more}
 use Rattle.tso_text.proofs.printers.print_items.Goals as goal

@@ -1,4 +1,4 @@
-use Rattle.std.proofs.Common.{arith, sym, ◌∙◌}
+use Rattle.std.proofs.Common.{sym, ◌∙◌}
 use Rattle.tso_text.proofs.Reaching.{too_long, other_header, no_header}
 use Rattle.tso_text.proofs.readers.body_of.Goals as goal
 

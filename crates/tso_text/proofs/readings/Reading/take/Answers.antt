@@ -1,4 +1,4 @@
-use Rattle.std.proofs.Common.{arith, ◌<◌, length, vec_len, sym}
+use Rattle.std.proofs.Common.{◌<◌, length, vec_len}
 use Rattle.tso_ops.specs.Values.{rows}
 use Rattle.tso_text.proofs.LineFacts.{items_of-push_last, length-push_last, some_lists, not_zero}
 use Rattle.tso_text.proofs.readings.Reading.take.Goals as goal
