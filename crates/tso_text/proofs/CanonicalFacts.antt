@@ -1,42 +1,21 @@
 -- A line that says something is written in one way: its pieces are those that the printers give.
-use Rattle.std.proofs.Common.{◌≡◌, ℕ, ◌<◌, ◌≤◌, ◌^◌, Bool, true, false, cond, ◌&&◌, ltb, List, [], ◌∷◌, length, get_or, Option, Some, None, Result, Ok, Err, refl, ap, sym, ◌∙◌, arith, inl, inr, ◌⊎◌}
+use Rattle.std.proofs.Common.{◌≡◌, ℕ, ◌≤◌, Bool, true, false, cond, ltb, List, [], ◌∷◌, Option, Some, None, Result, Ok, Err, refl, ap, ◌∙◌, arith, inl, inr, ◌⊎◌}
 use Rattle.std.specs.Prelude.{codes}
-use Rattle.std.specs.Char.{is_ascii_digit}
 use Rattle.std.specs.Fmt.{decimal}
-use Rattle.std.specs.List.{list_all}
-use Rattle.std.specs.Str.Parse.{digits_value}
 use Rattle.std.proofs.lemmas.Bool.Decides.{nat_tests}
-use Rattle.std.proofs.lemmas.Fmt.{decimal-digits_value}
 use Rattle.std.proofs.lemmas.Slice.Eq.{bytes_eq-Decides}
+use Rattle.line_text.specs.Lines.{is_empty}
+use Rattle.line_text.specs.Numbers.{number}
+use Rattle.line_text.proofs.NumberFacts.{number_is}
 use Rattle.tso_text.specs.declared.faults.Why.{Why}
 use Rattle.tso_text.specs.declared.faults.Why.TheVariants.{BeforeProc}
 use Rattle.tso_text.specs.declared.lines.Line.{Line}
 use Rattle.tso_text.specs.declared.lines.Line.TheVariants.{Proc, Item, End}
 use Rattle.tso_text.specs.Grammars.{is_word, address}
-use Rattle.tso_text.specs.Numbers.{◌>>=◌, number, numeral, or_bad, is_numeral, is_plain, no_number, one_number, two_numbers, three_numbers}
-use Rattle.tso_text.specs.Spelling.{Grammar, line_fault, items_of, is_empty}
-use Rattle.tso_text.proofs.NumberFacts.{digits_model, length-plain}
-use Rattle.tso_text.proofs.SplitFacts.{and_parts}
+use Rattle.tso_text.specs.Numbers.{◌>>=◌, numeral, or_bad, no_number, one_number, two_numbers, three_numbers}
+use Rattle.tso_text.specs.Spelling.{Grammar, line_fault, items_of}
 
 -- ---- numbers
-
-some_parts : {X : Type 0} (b : Bool) (m n : X) → cond b (Some m) None ≡ Some n → (b ≡ true) × (m ≡ n)
-some_parts true m n e = (refl, cc)
-some_parts false m n e = absurd cc
-
-zero_alone : (p : List ℕ) → is_plain p ≡ true → get_or p 0 0 ≡ 48 → length p ≡ 1
-zero_alone [] plain first = absurd cc
-zero_alone (d ∷ []) plain first = refl
-zero_alone (d ∷ e ∷ ds) plain first = absurd (grind (arith, nat_tests))
-
-number_is : (p : List ℕ) (n : ℕ) → number p ≡ Some n → p ≡ decimal n
-unfolding number
-number_is p n e =
-    let whole = some_parts (is_numeral p) (digits_value 10 p) n e in
-    let outer = and_parts (list_all is_ascii_digit p && is_plain p) (ltb (digits_value 10 p) (2 ^ 64)) whole.0 in
-    let inner = and_parts (list_all is_ascii_digit p) (is_plain p) outer.0 in
-    let fits : digits_value 10 p < 2 ^ 64 = (let t = outer.1 in grind (arith, nat_tests)) in
-    sym (decimal-digits_value digits_model p inner.0 (length-plain p inner.1) (zero_alone p inner.1) fits) ∙ ap decimal whole.1
 
 or_bad_ok : (o : Option ℕ) (n : ℕ) → or_bad o ≡ Ok n → o ≡ Some n
 or_bad_ok None n e = absurd cc

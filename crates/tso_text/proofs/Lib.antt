@@ -3,7 +3,6 @@ pub mod CutFacts
 pub mod FaultFacts
 pub mod KeptFacts
 pub mod LineFacts
-pub mod NumberFacts
 pub mod OneTextFacts
 pub mod PrintFacts
 pub mod PrintedFacts
@@ -12,4 +11,3 @@ pub mod PrintedLines
 pub mod PrintedSpelling
 pub mod Reaching
 pub mod SpellingFacts
-pub mod SplitFacts

@@ -5,6 +5,7 @@ use Rattle.std.specs.Fmt.{decimal}
 use Rattle.std.specs.List.{flat_map}
 use Rattle.std.proofs.lemmas.List.{append-nil, map-append}
 use Rattle.std.proofs.lemmas.List.Concat.{flat_map-append}
+use Rattle.line_text.specs.Lines.{line_text, is_empty}
 use Rattle.tso_ops.specs.declared.ops.Op.{Op}
 use Rattle.tso_ops.specs.declared.ops.Op.TheVariants.{Ld as OpLd, St as OpSt, Sw as OpSw, Mb as OpMb}
 use Rattle.tso_ops.specs.declared.ops.Outcome.{Outcome}
@@ -19,8 +20,8 @@ use Rattle.tso_text.specs.declared.lines.Line.{Line}
 use Rattle.tso_text.specs.declared.lines.Line.TheVariants.{Proc, Item, End}
 use Rattle.tso_text.specs.Grammars.{trace_grammar, program_grammar, schedule_grammar, trace_line, program_line, schedule_line, is_word, address, outcome_fault, plain_fault, SpellsTrace, SpellsProgram, SpellsSchedule, trace_header, program_header, schedule_header}
 use Rattle.tso_text.specs.Numbers.{◌>>=◌, no_number, one_number, two_numbers, three_numbers}
-use Rattle.tso_text.specs.Printed.{line_text, items_text, processor_text, whole_text, outcome_pieces, op_pieces, act_pieces, trace_text, program_text, schedule_text}
-use Rattle.tso_text.specs.Spelling.{Grammar, line_fault, items_of, with_line, push_last, is_end, is_empty}
+use Rattle.tso_text.specs.Printed.{items_text, processor_text, whole_text, outcome_pieces, op_pieces, act_pieces, trace_text, program_text, schedule_text}
+use Rattle.tso_text.specs.Spelling.{Grammar, line_fault, items_of, with_line, push_last, is_end}
 use Rattle.tso_text.proofs.CanonicalFacts.{bind_ok, none_is, one_is, two_is, three_is, pieces_by, cond_parts, word_is, in_range, IsSound, sound}
 use Rattle.tso_text.proofs.KeptFacts.{not_proc}
 use Rattle.tso_text.proofs.LineFacts.{items_of-push_last}

@@ -4,15 +4,11 @@ use Rattle.tso_ops.specs.Values.{TraceValue, ProgramValue}
 use Rattle.tso_text.specs.declared.acts.Act.{Act}
 use Rattle.std.specs.List.{flat_map}
 use Rattle.std.specs.Result.{OnOk}
-use Rattle.std.proofs.lemmas.List.{append-nil, take_more, take_all}
-use Rattle.std.proofs.lemmas.List.Concat.{flat_map-append}
+use Rattle.std.proofs.lemmas.List.{append-nil, take_all}
+use Rattle.line_text.specs.Lines.{line_text}
+use Rattle.line_text.proofs.PrintFacts.{flat_map-take_more}
 use Rattle.tso_text.specs.Grammars.{trace_header, program_header, schedule_header}
-use Rattle.tso_text.specs.Printed.{line_text, items_text, processor_text, whole_text, outcome_pieces, op_pieces, act_pieces, trace_text, program_text, schedule_text}
-
--- the texts of one more element
-pub flat_map-take_more : {X A : Type 0} (f : X → List A) (xs : List X) (i : ℕ) (d : X) → i < length xs → flat_map f (take (i + 1) xs) ≡ flat_map f (take i xs) ++ f (get_or xs i d)
-flat_map-take_more f xs i d inside =
-    ap (flat_map f) (take_more xs i d inside) ∙ flat_map-append f (take i xs) (get_or xs i d ∷ []) ∙ ap (λ r. flat_map f (take i xs) ++ r) (append-nil (f (get_or xs i d)))
+use Rattle.tso_text.specs.Printed.{items_text, processor_text, whole_text, outcome_pieces, op_pieces, act_pieces, trace_text, program_text, schedule_text}
 
 -- the text behind one more item
 pub items_text-more : {X : Type 0} (pieces : X → List (List ℕ)) (start old new : List ℕ) (items : List X) (i : ℕ) (x : X) → i < length items → x ≡ get_or items i x →

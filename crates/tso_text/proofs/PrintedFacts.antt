@@ -6,12 +6,12 @@ use Rattle.std.proofs.lemmas.Bool.Decides.{nat_tests}
 use Rattle.std.proofs.lemmas.List.{append-nil, take_at}
 use Rattle.std.proofs.lemmas.List.Splits.{join_with_byte-slice_split}
 use Rattle.std.proofs.lemmas.Slice.Eq.{bytes_eq-Decides}
+use Rattle.line_text.specs.Lines.{line_text, is_empty, parts_of, pieces_of}
 use Rattle.tso_text.specs.declared.faults.Why.{Why}
 use Rattle.tso_text.specs.declared.faults.Why.TheVariants.{BadHeader, AfterEnd}
 use Rattle.tso_text.specs.declared.lines.Line.{Line}
 use Rattle.tso_text.specs.declared.lines.Line.TheVariants.{Proc, Item, End}
-use Rattle.tso_text.specs.Printed.{line_text}
-use Rattle.tso_text.specs.Spelling.{Grammar, Spells, fault_at, said_fault, line_fault, said, lists_of, with_line, with_said, has_ended, has_header, is_end, is_empty, unended, parts_of, pieces_of, body_of, lines_of, same_why}
+use Rattle.tso_text.specs.Spelling.{Grammar, Spells, fault_at, said_fault, line_fault, said, lists_of, with_line, with_said, has_ended, has_header, is_end, unended, body_of, lines_of, same_why}
 use Rattle.tso_text.proofs.Reaching.{part_fault-open, part_fault-last, part_fault-ended, fault_at-place, lists_of-push, has_ended-push}
 
 -- ---- the lines of a spelled text

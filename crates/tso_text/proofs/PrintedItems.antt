@@ -7,7 +7,8 @@ use Rattle.tso_text.specs.declared.faults.Why.{Why}
 use Rattle.tso_text.specs.declared.faults.Why.TheVariants.{TooManyProcessors}
 use Rattle.tso_text.specs.declared.lines.Line.{Line}
 use Rattle.tso_text.specs.declared.lines.Line.TheVariants.{Proc, Item}
-use Rattle.tso_text.specs.Spelling.{Grammar, is_empty, push_last, items_of, same_why}
+use Rattle.line_text.specs.Lines.{is_empty}
+use Rattle.tso_text.specs.Spelling.{Grammar, push_last, items_of, same_why}
 use Rattle.tso_text.proofs.LineFacts.{items_of-push_last}
 use Rattle.tso_text.proofs.OneTextFacts.{made_by}
 use Rattle.tso_text.proofs.Reaching.{and_false}

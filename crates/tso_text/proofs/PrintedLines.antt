@@ -7,11 +7,12 @@ use Rattle.std.proofs.lemmas.Slice.Eq.{bytes_eq-Decides}
 use Rattle.tso_text.specs.declared.faults.Why.{Why}
 use Rattle.tso_text.specs.declared.lines.Line.{Line}
 use Rattle.tso_text.specs.declared.lines.Line.TheVariants.{End}
-use Rattle.tso_text.specs.Printed.{line_text, whole_text}
-use Rattle.tso_text.specs.Spelling.{Grammar, Spells, said, said_fault, line_fault, lists_of, with_line, with_said, has_ended, is_end, parts_of, pieces_of}
+use Rattle.tso_text.specs.Printed.{whole_text}
+use Rattle.line_text.specs.Lines.{line_text, parts_of, pieces_of}
+use Rattle.tso_text.specs.Spelling.{Grammar, Spells, said, said_fault, line_fault, lists_of, with_line, with_said, has_ended, is_end}
 use Rattle.tso_text.proofs.CanonicalFacts.{pieces_by}
 use Rattle.tso_text.proofs.Reaching.{IsClean, IsClean-push, Begins, part_fault-open, lists_of-push, has_ended-push, spelled}
-use Rattle.tso_text.proofs.SplitFacts.{has_byte, has_byte_in, split_part, split_joined, joined_without}
+use Rattle.line_text.proofs.SplitFacts.{has_byte, has_byte_in, split_part, split_joined, joined_without}
 
 -- ---- lines that are read back
 

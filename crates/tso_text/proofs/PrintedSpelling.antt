@@ -22,17 +22,18 @@ use Rattle.tso_text.specs.declared.lines.Line.{Line}
 use Rattle.tso_text.specs.declared.lines.Line.TheVariants.{Proc, Item, End}
 use Rattle.tso_text.specs.Grammars.{trace_grammar, program_grammar, schedule_grammar, trace_line, program_line, schedule_line, trace_header, program_header, outcome_fault, plain_fault, act_fault, processor_of, address, SpellsTrace, SpellsProgram, SpellsSchedule}
 use Rattle.tso_text.specs.Numbers.{numeral, or_bad, no_number, one_number, two_numbers, three_numbers}
-use Rattle.tso_text.specs.Printed.{line_text, items_text, processor_text, whole_text, outcome_pieces, op_pieces, act_pieces, trace_text, program_text, schedule_text}
+use Rattle.tso_text.specs.Printed.{items_text, processor_text, whole_text, outcome_pieces, op_pieces, act_pieces, trace_text, program_text, schedule_text}
+use Rattle.line_text.specs.Lines.{line_text}
 use Rattle.tso_text.specs.Spelling.{Grammar, items_of, same_why}
 use Rattle.tso_text.proofs.CanonicalFacts.{pieces_by}
 use Rattle.tso_text.proofs.FaultFacts.{op_clean}
 use Rattle.tso_text.proofs.LineFacts.{items_of-map}
-use Rattle.tso_text.proofs.NumberFacts.{number-decimal}
+use Rattle.line_text.proofs.NumberFacts.{number-decimal}
 use Rattle.tso_text.proofs.OneTextFacts.{made_by, made_by-text, flat_map-Item}
 use Rattle.tso_text.proofs.PrintedItems.{AreFit, lists_taken, items_taken, length-made_by}
 use Rattle.tso_text.proofs.PrintedLines.{IsReadBack, AreTaken, length-lines, printed_spells}
 use Rattle.tso_text.proofs.Reaching.{and_false}
-use Rattle.tso_text.proofs.SplitFacts.{has_byte, has_byte_in, decimal_without}
+use Rattle.line_text.proofs.SplitFacts.{has_byte, has_byte_in, decimal_without}
 
 -- ---- a word and numbers
 

@@ -1,18 +1,17 @@
 -- How far a reader has come in a text: the lines so far have no fault, and what they say.
 use Rattle.std.proofs.Common.{◌≡◌, ℕ, zero, suc, ◌<◌, ◌≤◌, Bool, true, false, not, ◌&&◌, ◌||◌, ◌-◌, eqb, ltb, List, [], ◌∷◌, ◌++◌, length, get_or, take, drop, refl, ap, sym, ◌∙◌, subst, arith, ⊎_elim, length-append}
-use Rattle.std.specs.List.{list_any, slice_split, join_with_byte}
-use Rattle.std.proofs.lemmas.List.Splits.{join_with_byte-slice_split}
+use Rattle.std.specs.List.{list_any}
 use Rattle.std.specs.Str.{bytes_eq}
 use Rattle.std.proofs.lemmas.Bool.{cases_lt}
 use Rattle.std.proofs.lemmas.Bool.Decides.{nat_tests}
 use Rattle.std.proofs.lemmas.List.{take_at, take-append-le, get_or_at, get_or_append_left, append_assoc}
 use Rattle.std.proofs.lemmas.Slice.Eq.{bytes_eq-Decides}
+use Rattle.line_text.specs.Lines.{is_empty, parts_of}
+use Rattle.line_text.proofs.CutFacts.{split_parts, some_part}
 use Rattle.tso_text.specs.declared.faults.Why.{Why}
 use Rattle.tso_text.specs.declared.faults.Why.TheVariants.{BadHeader, AfterEnd, TooLong, OutOfMemory}
-use Rattle.tso_text.specs.Spelling.{Grammar, Spells, IsRefusal, fault_at, part_fault, said_fault, said, lists_of, lists_after, with_said, has_ended, has_header, is_end, is_empty, unended, parts_of, body_of, same_why}
+use Rattle.tso_text.specs.Spelling.{Grammar, Spells, IsRefusal, fault_at, part_fault, said_fault, said, lists_of, lists_after, with_said, has_ended, has_header, is_end, unended, body_of, same_why}
 use Rattle.tso_text.specs.Taken.{IsFirst, IsTurnedAway, TakesLine}
-use Rattle.tso_text.proofs.CutFacts.{split_parts}
-use Rattle.tso_text.proofs.SplitFacts.{or_false}
 
 -- ---- parts in front
 
@@ -24,6 +23,10 @@ lists_after-append g lists (line ∷ front) behind = lists_after-append g (with_
 pub lists_of-push : {X : Type 0} (g : Grammar X) (front : List (List ℕ)) (line : List ℕ) → lists_of g (front ++ line ∷ []) ≡ with_said (lists_of g front) (said g line)
 unfolding lists_of
 lists_of-push g front line = lists_after-append g (g.start) front (line ∷ [])
+
+or_false : (a b : Bool) → (a || b) ≡ false → (a ≡ false) × (b ≡ false)
+or_false true b e = absurd cc
+or_false false b e = (refl, e)
 
 pub and_false : (a : Bool) → (a && false) ≡ false
 and_false true = refl
@@ -210,12 +213,6 @@ Reached-next g text i rest lists line behind new r parts takes = record {
   running = line_ends g text i rest lists line false new r takes;
   says = line_says g text i rest lists line false new r takes;
 }
-
--- bytes leave a part that isn't empty
-some_part : (behind first : List ℕ) (others : List (List ℕ)) → slice_split (λ b. eqb b 10) behind ≡ first ∷ others → (length behind ≡ 0 → ⊥) → not (is_empty others && is_empty first) ≡ true
-some_part behind [] [] parts some = absurd (some (ap length (sym (join_with_byte-slice_split 10 behind) ∙ ap (join_with_byte 10) parts)))
-some_part behind (b ∷ first) [] parts some = refl
-some_part behind first (next ∷ others) parts some = refl
 
 -- a byte behind the `end` line
 pub ended_refused : {X : Type 0} (g : Grammar X) (text : List ℕ) (i : ℕ) (rest : List ℕ) (lists : List (List X)) (line behind : List ℕ) (new : List (List X)) →

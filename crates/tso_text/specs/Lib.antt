@@ -1,4 +1,3 @@
-pub mod Cuts
 pub mod Grammars
 pub mod Numbers
 pub mod Printed

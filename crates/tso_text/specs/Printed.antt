@@ -1,7 +1,8 @@
 -- The lines of a value, as the printers give them.
 use Rattle.std.specs.Prelude.{ℕ, List, [], ◌∷◌, ◌++◌, codes}
-use Rattle.std.specs.List.{flat_map, join_with_byte}
+use Rattle.std.specs.List.{flat_map}
 use Rattle.std.specs.Fmt.{decimal}
+use Rattle.line_text.specs.Lines.{line_text}
 use Rattle.tso_ops.specs.declared.ops.Op.{Op}
 use Rattle.tso_ops.specs.declared.ops.Op.TheVariants.{Ld as OpLd, St as OpSt, Sw as OpSw, Mb as OpMb}
 use Rattle.tso_ops.specs.declared.ops.Outcome.{Outcome}
@@ -10,10 +11,6 @@ use Rattle.tso_ops.specs.Values.{TraceValue, ProgramValue}
 use Rattle.tso_text.specs.declared.acts.Act.{Act}
 use Rattle.tso_text.specs.declared.acts.Act.TheVariants.{Issue, Drain}
 use Rattle.tso_text.specs.Grammars.{trace_header, program_header, schedule_header}
-
--- a line of these pieces, with its line end
-abbrev pub line_text : List (List ℕ) → List ℕ
-line_text pieces = join_with_byte 32 pieces ++ 10 ∷ []
 
 abbrev pub outcome_pieces : Outcome → List (List ℕ)
 outcome_pieces (Ld a r) = codes "ld" ∷ decimal a ∷ decimal r ∷ []

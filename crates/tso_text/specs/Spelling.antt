@@ -1,7 +1,8 @@
 -- What a text spells, and how it is refused: over the whole text, by its lines, for any grammar of lines.
 use Rattle.std.specs.Prelude.{◌≡◌, ℕ, zero, suc, ◌-◌, ◌<◌, ◌==◌, ◌&&◌, Bool, true, false, not, nat_lt, List, [], ◌∷◌, ◌++◌, length, take, drop, get_or, Result, Ok, Err, if◌then◌else◌}
-use Rattle.std.specs.List.{flat_map, list_any, slice_split}
+use Rattle.std.specs.List.{flat_map, list_any}
 use Rattle.std.specs.Str.{bytes_eq}
+use Rattle.line_text.specs.Lines.{parts_of, pieces_of, is_empty}
 use Rattle.tso_text.specs.declared.faults.Why.{Why}
 use Rattle.tso_text.specs.declared.faults.Why.TheVariants.{BadHeader, BadLine, BadNumber, BeforeProc, TooManyProcessors, TooManyEvents, AddressRange, ZeroValue, RepeatedValue, MissingEnd, AfterEnd, TooLong, ProcessorRange, OutOfMemory}
 use Rattle.tso_text.specs.declared.lines.Line.{Line}
@@ -29,14 +30,6 @@ same_why v w = number_of v == number_of w
 
 -- ---- a text in parts
 
--- The parts of a text between its line ends. The last part is what stands behind the last line end: it is no line.
-unfoldable pub parts_of : List ℕ → List (List ℕ)
-parts_of text = slice_split (λ b. b == 10) text
-
--- the pieces of a line between its single spaces
-unfoldable pub pieces_of : List ℕ → List (List ℕ)
-pieces_of line = slice_split (λ b. b == 32) line
-
 -- the parts behind the first
 abbrev pub body_of : List ℕ → List (List ℕ)
 body_of text = drop 1 (parts_of text)
@@ -50,10 +43,6 @@ abbrev pub has_header : List ℕ → List (List ℕ) → Bool
 has_header header [] = false
 has_header header (part ∷ []) = false
 has_header header (part ∷ next ∷ parts) = bytes_eq part header
-
-abbrev pub is_empty : {X : Type 0} → List X → Bool
-is_empty [] = true
-is_empty (x ∷ xs) = false
 
 -- ---- what lines say
 

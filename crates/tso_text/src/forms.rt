@@ -1,18 +1,20 @@
 ghost use Rattle.std.specs.Prelude.{◌≡◌, ◌≢◌, ◌++◌, ◌∷◌, [], ◌≤◌, false, ℕ, List, map, length, All, string_bytes, OnOk, IfOk, IfErr};
+ghost use Rattle.line_text.specs.Lines.{line_text};
 ghost use Rattle.tso_ops.specs.declared.limits.Tally.{Tally};
 ghost use Rattle.tso_ops.specs.declared.faults.ValueFault.{ValueFault};
 ghost use Rattle.tso_ops.specs.Tally.{Admitted};
 ghost use Rattle.tso_ops.specs.Values.{rows, op_of, ReadFits};
 ghost use Rattle.tso_text.specs.Grammars.{trace_grammar, program_grammar, schedule_grammar, processor_of};
-ghost use Rattle.tso_text.specs.Printed.{line_text, outcome_pieces, op_pieces, act_pieces};
+ghost use Rattle.tso_text.specs.Printed.{outcome_pieces, op_pieces, act_pieces};
 ghost use Rattle.tso_text.specs.Spelling.{Grammar, said, items_of};
 ghost use Rattle.tso_text.specs.Taken.{IsItemTurnedAway, why_of};
 ghost use Rattle.tso_text.specs.declared.faults.Why.{Why};
 
 use crate::acts::Act;
 use crate::faults::Why;
-use crate::lines::{Line, next_piece};
+use crate::lines::Line;
 use crate::numbers::{address, no_number, one_number, three_numbers, two_numbers};
+use line_text::next_piece;
 use std::alloc::{AllocError, Global};
 use tso_ops::{Op, Outcome, Tally, ValueFault};
 

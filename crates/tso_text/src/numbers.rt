@@ -1,45 +1,11 @@
 ghost use Rattle.std.specs.Prelude.{◌≡◌, [], ◌∷◌, IfOk, OnOk, IfErr};
-ghost use Rattle.std.specs.List.{list_all};
-ghost use Rattle.std.specs.Char.{is_ascii_digit};
-ghost use Rattle.tso_text.specs.Cuts.{behind, SomePiece};
+ghost use Rattle.line_text.specs.Lines.{behind, SomePiece};
 ghost use Rattle.tso_text.specs.Grammars.{address};
 ghost use Rattle.tso_text.specs.declared.faults.Why.{Why};
-ghost use Rattle.tso_text.specs.Numbers.{is_plain, number, numeral, no_number, one_number, two_numbers, three_numbers};
+ghost use Rattle.tso_text.specs.Numbers.{numeral, no_number, one_number, two_numbers, three_numbers};
 
 use crate::faults::Why;
-use crate::lines::next_piece;
-use std::str;
-
-/// The number that a piece spells: digits without a leading zero, within 64 bits.
-pub(crate) fn number_of(piece: &[u8]) -> Option<u64>
-    ensures { result ≡ number piece.now }
-{
-    if !is_plain(piece) {
-        return None;
-    }
-    if !are_digits(piece) {
-        return None;
-    }
-    str::from_utf8(piece).ok()?.parse().ok()
-}
-
-/// Whether each byte of a piece is a digit.
-fn are_digits(piece: &[u8]) -> bool
-    ensures { result ≡ list_all is_ascii_digit piece.now }
-{
-    piece.iter().all(|b| b.is_ascii_digit())
-}
-
-/// Whether a piece isn't empty and has no 0 before another byte.
-fn is_plain(piece: &[u8]) -> bool
-    ensures { result ≡ is_plain piece.now }
-{
-    match piece {
-        [] => false,
-        [_] => true,
-        [first, _, ..] => *first != 48,
-    }
-}
+use line_text::{next_piece, number_of};
 
 /// The number that a piece spells, or BadNumber.
 fn numeral(piece: &[u8]) -> Result<u64, Why>
@@ -60,7 +26,7 @@ fn piece_of(pieces: Option<&[u8]>) -> Result<(&[u8], Option<&[u8]>), Why>
 }
 
 /// No piece.
-#[tactic(auto, using(crate::proofs::CutFacts::behind_some), unfolding(crate::specs::Numbers::no_number))]
+#[tactic(auto, using(line_text::proofs::CutFacts::behind_some), unfolding(crate::specs::Numbers::no_number))]
 pub(crate) fn no_number(pieces: Option<&[u8]>) -> Result<(), Why>
     ensures is { result ≡ no_number (behind pieces.entry) }
     ensures none { OnOk result (behind pieces.entry ≡ []) }

@@ -1,7 +1,8 @@
 ghost use Rattle.std.specs.Prelude.{◌≡◌, ◌≢◌, ◌∷◌, [], List, ◌<◌, ◌≤◌, length, MatchResult, IfOk, IfErr, OnOk};
+ghost use Rattle.line_text.specs.Lines.{parts_of};
 ghost use Rattle.tso_ops.specs.Values.{TraceValue, ProgramValue, rows};
 ghost use Rattle.tso_text.specs.Grammars.{SpellsTrace, SpellsProgram, SpellsSchedule, IsTraceRefusal, IsProgramRefusal, IsScheduleRefusal};
-ghost use Rattle.tso_text.specs.Spelling.{Spells, IsRefusal, parts_of};
+ghost use Rattle.tso_text.specs.Spelling.{Spells, IsRefusal};
 ghost use Rattle.tso_text.specs.Taken.{IsKept};
 ghost use Rattle.tso_text.specs.declared.acts.Act.{Act};
 ghost use Rattle.tso_text.specs.declared.faults.Why.{Why};

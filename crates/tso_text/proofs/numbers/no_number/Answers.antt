@@ -1,5 +1,6 @@
 use Rattle.std.proofs.Common.{sym}
-use Rattle.tso_text.proofs.CutFacts.{behind_some, no_number-some}
+use Rattle.line_text.proofs.CutFacts.{behind_some}
+use Rattle.tso_text.proofs.CutFacts.{no_number-some}
 use Rattle.tso_text.proofs.numbers.no_number.Goals as goal
 
 pub returns-in-Some-clause-is : goal.returns-in-Some-clause-is

@@ -1,7 +1,7 @@
 use Rattle.std.proofs.Common.{sym, ◌∙◌}
 use Rattle.std.proofs.lemmas.List.{take_rest}
-use Rattle.tso_text.proofs.CutFacts.{split_found, split_missing}
-use Rattle.tso_text.proofs.lines.cut.Goals as goal
+use Rattle.line_text.proofs.CutFacts.{split_found, split_missing}
+use Rattle.line_text.proofs.cuts.cut.Goals as goal
 
 pub returns-in-Some-clause-parts : goal.returns-in-Some-clause-parts
 returns-in-Some-clause-parts c = rw take_rest (split_found _ c.args.text.now c.in-Some.place 0 (sym c.first_place.ensures ∙ c.in-Some.is))

@@ -1,6 +1,6 @@
 use Rattle.std.proofs.Common.{sym, ◌∙◌}
-use Rattle.tso_text.proofs.NumberFacts.{number-not_plain, number-not_digits, number-parsed, text_read, text_not_refused}
-use Rattle.tso_text.proofs.numbers.number_of.Goals as goal
+use Rattle.line_text.proofs.NumberFacts.{number-not_plain, number-not_digits, number-parsed, text_read, text_not_refused}
+use Rattle.line_text.proofs.numbers.number_of.Goals as goal
 
 pub returns-then-not-is_plain : goal.returns-then-not-is_plain
 returns-then-not-is_plain c = sym (number-not_plain c.args.piece.now (sym c.is_plain.ensures ∙ c.if-not-is_plain.true))

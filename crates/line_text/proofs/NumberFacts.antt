@@ -1,5 +1,6 @@
 -- Lemmas on numbers in texts.
-use Rattle.std.proofs.Common.{◌≡◌, ℕ, ◌<◌, ◌^◌, Bool, true, false, cond, ltb, List, [], ◌∷◌, length, get_or, zero, suc, Option, Some, None, Result, Ok, Err, refl, ap, arith, Bor, rules, ◌&&◌, subst}
+use Rattle.std.proofs.Common.{◌≡◌, ℕ, zero, suc, ◌<◌, ◌^◌, Bool, true, false, cond, ltb, List, [], ◌∷◌, length, get_or, Option, Some, None, Result, Ok, Err, refl, ap, sym, ◌∙◌, arith, Bor, rules, ◌&&◌, subst}
+use Rattle.std.specs.Fmt.{decimal, digits}
 use Rattle.std.specs.Char.{is_ascii_digit}
 use Rattle.std.specs.List.{list_all}
 use Rattle.std.specs.Result.{result_ok, OkIff, MatchResult}
@@ -8,9 +9,8 @@ use Rattle.std.specs.Str.Parse.{digits_value, ParsesUnsigned}
 use Rattle.std.proofs.lemmas.Bool.Decides.{nat_tests}
 use Rattle.std.proofs.lemmas.Str.{IsUtf8-from_ascii}
 use Rattle.std.proofs.lemmas.Str.Parse.{IsNumeralModel, numerals_by_value, parse_digits}
-use Rattle.std.proofs.lemmas.Fmt.{IsAscii-from_digits, first_decimal, decimal_nonempty, digits_decimal, digits_value-decimal, decimal-digits_value}
-use Rattle.std.specs.Fmt.{decimal}
-use Rattle.tso_text.specs.Numbers.{is_plain, number}
+use Rattle.std.proofs.lemmas.Fmt.{IsAscii-from_digits, decimal-digits_value, digits_decimal, digits_value-decimal, decimal_nonempty, first_decimal}
+use Rattle.line_text.specs.Numbers.{is_plain, is_numeral, number}
 
 -- the digits of a number, in std's words
 pub digits_model : IsNumeralModel (λ ds. list_all is_ascii_digit ds ≡ true) (digits_value 10)
@@ -62,21 +62,53 @@ pub text_not_refused : {E : Type 0} (P : Type 0) (Q : E → Type 0) (r : Result 
 text_not_refused P Q (Ok s) o piece digits read ok is = absurd cc
 text_not_refused P Q (Err e) o piece digits read ok is = read.0 (IsUtf8-from_digits piece digits)
 
--- ---- numbers in decimal
+-- ---- one way to write a number
 
-plain_first : (ds : List ℕ) → 0 < length ds → 48 < get_or ds 0 0 → is_plain ds ≡ true
-plain_first [] some first = absurd (omega arith)
-plain_first (d ∷ []) some first = refl
-plain_first (d ∷ e ∷ ds) some first = grind (arith, nat_tests)
+pub and_parts : (a b : Bool) → (a && b) ≡ true → (a ≡ true) × (b ≡ true)
+and_parts true b e = (refl, e)
+and_parts false b e = absurd cc
+
+some_parts : {X : Type 0} (b : Bool) (m n : X) → cond b (Some m) None ≡ Some n → (b ≡ true) × (m ≡ n)
+some_parts true m n e = (refl, cc)
+some_parts false m n e = absurd cc
+
+zero_alone : (p : List ℕ) → is_plain p ≡ true → get_or p 0 0 ≡ 48 → length p ≡ 1
+zero_alone [] plain first = absurd cc
+zero_alone (d ∷ []) plain first = refl
+zero_alone (d ∷ e ∷ ds) plain first = absurd (grind (arith, nat_tests))
+
+-- a number is written in one way
+pub number_is : (p : List ℕ) (n : ℕ) → number p ≡ Some n → p ≡ decimal n
+unfolding number
+number_is p n e =
+    let whole = some_parts (is_numeral p) (digits_value 10 p) n e in
+    let outer = and_parts (list_all is_ascii_digit p && is_plain p) (ltb (digits_value 10 p) (2 ^ 64)) whole.0 in
+    let inner = and_parts (list_all is_ascii_digit p) (is_plain p) outer.0 in
+    let fits : digits_value 10 p < 2 ^ 64 = (let t = outer.1 in grind (arith, nat_tests)) in
+    sym (decimal-digits_value digits_model p inner.0 (length-plain p inner.1) (zero_alone p inner.1) fits) ∙ ap decimal whole.1
+
+-- a number has 64 bits
+pub number_fits : (p : List ℕ) (n : ℕ) → number p ≡ Some n → n < 2 ^ 64
+unfolding number
+number_fits p n e =
+    let whole = some_parts (is_numeral p) (digits_value 10 p) n e in
+    let outer = and_parts (list_all is_ascii_digit p && is_plain p) (ltb (digits_value 10 p) (2 ^ 64)) whole.0 in
+    let fits : digits_value 10 p < 2 ^ 64 = (let t = outer.1 in grind (arith, nat_tests)) in
+    subst (λ m. m < 2 ^ 64) whole.1 fits
+
+plain_some : (p : List ℕ) → 0 < length p → 48 < get_or p 0 0 → is_plain p ≡ true
+plain_some [] some first = absurd (omega arith)
+plain_some (d ∷ []) some first = refl
+plain_some (d ∷ e ∷ ds) some first = grind (arith, nat_tests)
 
 plain_decimal : (n : ℕ) → n < 2 ^ 64 → is_plain (decimal n) ≡ true
-plain_decimal zero fits = ap is_plain (decimal-digits_value digits_model (48 ∷ []) refl (omega arith) (λ first. refl) (omega arith))
-plain_decimal (suc n) fits = plain_first (decimal (suc n)) (decimal_nonempty (suc n) fits) (first_decimal (suc n) (omega arith) fits)
+unfolding digits
+plain_decimal zero fits = refl
+plain_decimal (suc n) fits = plain_some (decimal (suc n)) (decimal_nonempty (suc n) fits) (first_decimal (suc n) (omega arith) fits)
 
--- a number in decimal is a piece that spells it
+-- a number in decimal spells it
 pub number-decimal : (n : ℕ) → n < 2 ^ 64 → number (decimal n) ≡ Some n
 unfolding number
 number-decimal n fits =
-    let value = digits_value-decimal digits_model n fits in
     let low : ltb n (2 ^ 64) ≡ true = grind (arith, nat_tests) in
-    rw (digits_decimal digits_model n fits, plain_decimal n fits, value, low) refl
+    rw (digits_decimal digits_model n fits, plain_decimal n fits, digits_value-decimal digits_model n fits, low) refl

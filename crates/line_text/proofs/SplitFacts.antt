@@ -1,12 +1,12 @@
 -- Lemmas on joined parts: a text that is joined of parts without the byte between them is cut into these parts.
-use Rattle.std.proofs.Common.{◌≡◌, ℕ, ◌<◌, ◌^◌, Bool, true, false, ◌&&◌, ◌||◌, eqb, List, [], ◌∷◌, ◌++◌, refl, ap, ◌∙◌, arith}
+use Rattle.std.proofs.Common.{◌≡◌, ℕ, ◌<◌, ◌^◌, Bool, true, false, ◌||◌, eqb, List, [], ◌∷◌, ◌++◌, refl, ap, ◌∙◌, arith}
 use Rattle.std.specs.Char.{is_ascii_digit}
 use Rattle.std.specs.Fmt.{decimal}
 use Rattle.std.specs.List.{list_any, list_all, slice_split, onto_first, join_with_byte}
 use Rattle.std.proofs.lemmas.Bool.Decides.{nat_tests}
 use Rattle.std.proofs.lemmas.Fmt.{digits_decimal}
 use Rattle.std.proofs.lemmas.List.Splits.{slice_split-cons_yes, slice_split-cons_no}
-use Rattle.tso_text.proofs.NumberFacts.{digits_model}
+use Rattle.line_text.proofs.NumberFacts.{and_parts, digits_model}
 
 -- the byte stands among these
 abbrev pub has_byte : ℕ → List ℕ → Bool
@@ -65,10 +65,6 @@ joined_without c d (part ∷ []) other none = (or_false (has_byte c part) false 
 joined_without c d (part ∷ next ∷ parts) other none =
     let both = or_false (has_byte c part) (has_byte_in c (next ∷ parts)) none in
     has_byte-append c part (d ∷ join_with_byte d (next ∷ parts)) both.0 (rw other (joined_without c d (next ∷ parts) other both.1))
-
-pub and_parts : (a b : Bool) → (a && b) ≡ true → (a ≡ true) × (b ≡ true)
-and_parts true b e = (refl, e)
-and_parts false b e = absurd cc
 
 digit_other : (d c : ℕ) → is_ascii_digit d ≡ true → c < 48 → eqb d c ≡ false
 digit_other d c digit low = grind (arith, nat_tests)

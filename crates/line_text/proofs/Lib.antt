@@ -1,0 +1,5 @@
+pub mod CutFacts
+pub mod LeastFacts
+pub mod NumberFacts
+pub mod PrintFacts
+pub mod SplitFacts

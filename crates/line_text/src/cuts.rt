@@ -1,0 +1,50 @@
+ghost use Rattle.std.specs.Prelude.{◌≡◌, [], ◌∷◌, ◌==◌, ◌<◌, length, IfSome, IfNone, position};
+ghost use Rattle.std.specs.List.{slice_split};
+ghost use Rattle.line_text.specs.Lines.{parts_of, pieces_of, parts_behind, behind};
+
+/// The byte that ends a line.
+const LINE_END: u8 = 10;
+
+/// The byte between the pieces of a line.
+const SPACE: u8 = 32;
+
+/// The first line, without its line end, and what stands behind it; nothing where no byte ends a line.
+#[tactic(auto, unfolding(crate::specs::Lines::parts_of))]
+pub fn next_line(text: &[u8]) -> Option<(&[u8], &[u8])>
+    ensures line { IfSome result (λ found. parts_of text.now ≡ found.0.now ∷ parts_of found.1.now) }
+    ensures shorter { IfSome result (λ found. length found.1.now < length text.now) }
+    ensures none { IfNone result (parts_of text.now ≡ text.now ∷ []) }
+{
+    match cut(text, LINE_END) {
+        (line, Some(rest)) => Some((line, rest)),
+        (_, None) => None,
+    }
+}
+
+/// The first piece of a line, and what stands behind its space, if a space ends it.
+#[tactic(auto, unfolding(crate::specs::Lines::pieces_of))]
+pub fn next_piece(line: &[u8]) -> (&[u8], Option<&[u8]>)
+    ensures pieces { pieces_of line.now ≡ result.0.now ∷ behind result.1 }
+    ensures shorter { IfSome result.1 (λ rest. length rest.now < length line.now) }
+{
+    cut(line, SPACE)
+}
+
+/// Cuts at the first of these bytes: what stands before it, and what stands behind it, if there is one.
+fn cut(text: &[u8], at: u8) -> (&[u8], Option<&[u8]>)
+    ensures parts { slice_split (λ b. b == at) text.now ≡ result.0.now ∷ parts_behind (λ b. b == at) result.1 }
+    ensures whole { IfNone result.1 (result.0.now ≡ text.now) }
+    ensures shorter { IfSome result.1 (λ rest. length rest.now < length text.now) }
+{
+    match first_place(text, at) {
+        Some(place) => (&text[..place], Some(&text[place + 1..])),
+        None => (text, None),
+    }
+}
+
+/// The place of the first of these bytes.
+fn first_place(text: &[u8], at: u8) -> Option<usize>
+    ensures { result ≡ position (λ b. b == at) text.now }
+{
+    text.iter().position(|b| *b == at)
+}

@@ -1,0 +1,12 @@
+//! The lines and pieces of plain texts, and the numbers in them.
+//!
+//! A text is cut at its line ends, and a line at its single spaces. `README.md` says what is proved.
+#![tactic(auto)]
+
+pub use cuts::{next_line, next_piece};
+pub use numbers::number_of;
+
+mod cuts;
+mod numbers;
+#[cfg(test)]
+mod tests;
