@@ -145,17 +145,20 @@ impl Graph {
             (λ cycle. IsLeastCycle (HasEdge self.now) cycle.items)) }
     {
         let mut best: Option<Vec<usize>> = None;
+        let mut passed = vec![in *self.edges.allocator(); 0; self.width]?;
         for start in 0..self.nodes {
             best = better(
                 *self.edges.allocator(),
                 &self.edges,
                 &self.paths,
                 &self.turned,
+                &passed,
                 self.width,
                 self.nodes,
                 start,
                 best,
             )?;
+            set_bit(&mut passed, self.width, 0, start);
         }
         Ok(best)
     }

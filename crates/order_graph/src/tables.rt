@@ -136,3 +136,40 @@ pub fn join(table: &mut [u64], turned: &mut [u64], width: usize, nodes: usize, u
         add_rows(table, turned, width, nodes, i, rows, v);
     }
 }
+
+/// Gives row `row` of a table the columns, from word `first` on, that row x of another table has.
+#[inline]
+pub fn or_row(table: &mut [u64], row: usize, other: &[u64], x: usize, width: usize, first: usize)
+    requires row { row * width + width ≤ length table.old }
+    requires other_row { x * width + width ≤ length other.now }
+    ensures { Adds table.old table.new width (λ i y. (i ≡ row) × (first ≤ y / 64) × IsSet other.now width x y) }
+{
+    for j in first..width {
+        set_word(table, width, row, j, other[x * width + j]);
+    }
+}
+
+/// Gives row `row` of a table the columns, from word `first` on, of another table's rows whose numbers are the bits of
+/// word i.
+#[inline]
+pub fn or_rows(
+    table: &mut [u64],
+    row: usize,
+    other: &[u64],
+    i: usize,
+    rows: u64,
+    width: usize,
+    first: usize,
+)
+    requires fits { 64 * i + 64 < 2 ^ 64 }
+    requires row { row * width + width ≤ length table.old }
+    requires within { (k : ℕ) → k < 64 → HasBit rows k → (64 * i + k) * width + width ≤ length other.now }
+    ensures { Adds table.old table.new width (λ r y. (r ≡ row) × (first ≤ y / 64) × ((x : ℕ) × (x / 64 ≡ i) × HasBit rows (x % 64) × IsSet other.now width x y)) }
+{
+    let mut left = rows;
+    while left != 0 {
+        let k = left.trailing_zeros() as usize;
+        or_row(table, row, other, 64 * i + k, width, first);
+        left &= !(1 << k);
+    }
+}
