@@ -1,3 +1,4 @@
+pub mod ClosedNumbers
 pub mod Cycling
 pub mod Growth
 pub mod Keeping

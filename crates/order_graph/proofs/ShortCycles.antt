@@ -1,12 +1,12 @@
 -- How a search by words tells that no short cycle over open numbers begins with the start.
-use Rattle.std.proofs.Common.{◌≡◌, ◌⊎◌, ◌↔◌, inl, inr, ℕ, zero, suc, ◌+◌, ◌-◌, ◌*◌, ◌/◌, ◌<◌, ◌≤◌, List, [], ◌∷◌, ◌++◌, length, replicate, Option, Some, None, MatchOption, IsSomeAnd, refl, ap, subst, ◌∙◌, arith}
-use Rattle.std.proofs.lemmas.Bool.{cases_lt}
+use Rattle.std.proofs.Common.{◌≡◌, ◌⊎◌, ◌↔◌, inl, inr, ℕ, zero, suc, ◌+◌, ◌-◌, ◌*◌, ◌/◌, ◌<◌, ◌≤◌, List, [], ◌∷◌, ◌++◌, length, replicate, Option, Some, None, MatchOption, IsSomeAnd, refl, sym, ap, subst, ◌∙◌, arith}
+use Rattle.std.proofs.lemmas.Bool.{cases_eq, cases_lt}
 use Rattle.std.proofs.lemmas.List.{length-append, length-replicate}
-use Rattle.order_paths.specs.Paths.{Reaches}
-use Rattle.order_paths.proofs.Reach.{Reaches-edge, Reaches-front}
+use Rattle.order_paths.specs.Paths.{Reaches, IsCycle}
+use Rattle.order_paths.proofs.Reach.{Reaches-edge, Reaches-front, Reaches-join}
 use Rattle.order_graph.specs.Tables.{IsSet, Adds, Joined}
 use Rattle.order_graph.specs.Digraphs.{Keeps}
-use Rattle.order_graph.specs.Tracks.{Track, NoCycleBefore, IsLeastCycleBefore, IsOpen, OpenEdge, NoShorterOpen, IsNext, IsFresh}
+use Rattle.order_graph.specs.Tracks.{Track, NoCycleBefore, IsLeastCycleBefore, IsOpen, OpenEdge, NoShorterOpen, IsClosed, IsNext, IsFresh}
 use Rattle.order_graph.proofs.Words.{IsSet-decided}
 use Rattle.order_graph.proofs.Growth.{column_within, Adds-kept}
 use Rattle.order_graph.proofs.Keeping.{no_bit}
@@ -167,15 +167,11 @@ Track-reach : (Edge : ℕ → ℕ → Type 0) (x v : ℕ) (rest : List ℕ) → 
 Track-reach Edge x v [] t = Reaches-edge Edge x v t.0
 Track-reach Edge x v (y ∷ rest) t = Reaches-front Edge x y v t.0 (Track-reach Edge y v rest t.1)
 
--- A cycle that begins with the start and is shorter than the best before it has no number below the start: it could begin with that.
-pub NoShorter-open : (nodes width : ℕ) (edges paths turned : List ℕ) (start : ℕ) (best : List ℕ) → Keeps nodes width edges paths turned → start < nodes →
-    IsLeastCycleBefore (Joined edges width nodes) start best → NoShorterOpen edges turned width nodes start (length best - 1) →
-    (rest : List ℕ) → Track (Joined edges width nodes) start rest start → length best - 1 ≤ length rest
-NoShorter-open nodes width edges paths turned start [] keeps hs least none rest t = absurd least
-NoShorter-open nodes width edges paths turned start (b ∷ bs) keeps hs least none rest t = elim (cases_lt (length rest) (length bs)) [
-  | inl less ↦ none rest (opens rest t less)
-  | inr more ↦ omega (arith, more)
-]
+-- Where no cycle of as many numbers begins below the start, a cycle that begins with the start goes over open numbers: it could begin with each of them.
+Track-open : (nodes width : ℕ) (edges paths turned : List ℕ) (start : ℕ) (rest : List ℕ) → Keeps nodes width edges paths turned → start < nodes →
+    ((y : ℕ) (other : List ℕ) → y < start → IsCycle (Joined edges width nodes) (y ∷ other) → length other ≡ length rest → ⊥) →
+    Track (Joined edges width nodes) start rest start → Track (OpenEdge edges turned width nodes start) start rest start
+Track-open nodes width edges paths turned start rest keeps hs none track = opens rest track refl
   where
     Edge : ℕ → ℕ → Type 0
     Edge = Joined edges width nodes
@@ -183,38 +179,106 @@ NoShorter-open nodes width edges paths turned start (b ∷ bs) keeps hs least no
     Open : ℕ → ℕ → Type 0
     Open = OpenEdge edges turned width nodes start
 
+    at : IsOpen turned width start start
+    at = ((keeps.paths_turned.same start start hs hs).1 ((keeps.tells start start hs hs).1 (Track-reach Edge start start rest track)), omega arith)
+
     -- a number that lies on such a cycle is open
-    is_open : (y : ℕ) (before behind : List ℕ) → y < nodes → Track Edge start before y → Track Edge y behind start → suc (length before + length behind) < length bs → IsOpen turned width start y
-    is_open y before behind hy t s less = ((keeps.paths_turned.same y start hy hs).1 ((keeps.tells y start hy hs).1 (Track-reach Edge y start behind s)), not_below (cases_lt y start))
+    is_open : (y : ℕ) (before behind : List ℕ) → y < nodes → Track Edge start before y → Track Edge y behind start → suc (length before + length behind) ≡ length rest → IsOpen turned width start y
+    is_open y before behind hy t s sized = ((keeps.paths_turned.same y start hy hs).1 ((keeps.tells y start hy hs).1 (Track-reach Edge y start behind s)), not_below (cases_lt y start))
       where
         not_below : (y < start) ⊎ (start ≤ y) → start ≤ y
         not_below (inr le) = le
-        not_below (inl lt) = elim (least.2 y (behind ++ start ∷ before) lt ((IsCycle-track Edge y (behind ++ start ∷ before)).1 (Track-join Edge y start y behind before s t))) [
-          | inl fewer ↦ absurd (omega (arith, fewer, less, length-append behind (start ∷ before)))
-          | inr same ↦ absurd (omega (arith, same.0, less, length-append behind (start ∷ before)))
-        ]
+        not_below (inl lt) =
+            absurd (none y (behind ++ start ∷ before) lt ((IsCycle-track Edge y (behind ++ start ∷ before)).1 (Track-join Edge y start y behind before s t))
+            (omega (arith, sized, length-append behind (start ∷ before))))
 
-    -- the rest of such a cycle goes over open numbers
-    onward : (x : ℕ) (before behind : List ℕ) → IsOpen turned width start x → Track Edge start before x → Track Edge x behind start → suc (length before + length behind) < length bs → IsOpen turned width start start → Track Open x behind start
-    onward x before [] here t s less at = ((s.0, here, at), tt)
-    onward x before (y ∷ behind) here t s less at =
+    -- what follows on such a cycle goes over open numbers
+    onward : (x : ℕ) (before behind : List ℕ) → IsOpen turned width start x → Track Edge start before x → Track Edge x behind start → suc (length before + length behind) ≡ length rest → Track Open x behind start
+    onward x before [] here t s sized = ((s.0, here, at), tt)
+    onward x before (y ∷ behind) here t s sized =
         let t' = Track-join Edge start x y before [] t (s.0, tt) in
-        let less' : suc (length (before ++ x ∷ []) + length behind) < length bs = omega (arith, less, length-append before (x ∷ [])) in
-        let here' = is_open y (before ++ x ∷ []) behind s.0.1 t' s.1 less' in
-        ((s.0, here, here'), onward y (before ++ x ∷ []) behind here' t' s.1 less' at)
+        let sized' : suc (length (before ++ x ∷ []) + length behind) ≡ length rest = omega (arith, sized, length-append before (x ∷ [])) in
+        let here' = is_open y (before ++ x ∷ []) behind s.0.1 t' s.1 sized' in
+        ((s.0, here, here'), onward y (before ++ x ∷ []) behind here' t' s.1 sized')
 
-    opens : (r : List ℕ) → Track Edge start r start → length r < length bs → Track Open start r start
-    opens [] t less = ((t.0, at, at), tt)
+    opens : (r : List ℕ) → Track Edge start r start → length r ≡ length rest → Track Open start r start
+    opens [] t sized = ((t.0, at, at), tt)
+    opens (y ∷ r) t sized = ((t.0, at, here), onward y [] r here (t.0, tt) t.1 (omega (arith, sized)))
       where
-        at : IsOpen turned width start start
-        at = ((keeps.paths_turned.same start start hs hs).1 ((keeps.tells start start hs hs).1 (Reaches-edge Edge start start t.0)), omega arith)
-    opens (y ∷ r) t less = ((t.0, at, here), onward y [] r here (t.0, tt) t.1 (omega (arith, less)) at)
-      where
-        at : IsOpen turned width start start
-        at = ((keeps.paths_turned.same start start hs hs).1 ((keeps.tells start start hs hs).1 (Track-reach Edge start start (y ∷ r) t)), omega arith)
-
         here : IsOpen turned width start y
-        here = is_open y [] r t.0.1 (t.0, tt) t.1 (omega (arith, less))
+        here = is_open y [] r t.0.1 (t.0, tt) t.1 (omega (arith, sized))
+
+-- Where there is a best cycle before the start, a shorter one that begins with the start goes over open numbers.
+shorter_open : (nodes width : ℕ) (edges paths turned : List ℕ) (start : ℕ) (best : List ℕ) → Keeps nodes width edges paths turned → start < nodes →
+    IsLeastCycleBefore (Joined edges width nodes) start best → (rest : List ℕ) → length rest < length best - 1 →
+    Track (Joined edges width nodes) start rest start → Track (OpenEdge edges turned width nodes start) start rest start
+shorter_open nodes width edges paths turned start [] keeps hs least rest less t = absurd least
+shorter_open nodes width edges paths turned start (b ∷ bs) keeps hs least rest less t =
+    Track-open nodes width edges paths turned start rest keeps hs
+    (λ y other lt c same. elim (least.2 y other lt c) [ inl fewer ↦ absurd (omega (arith, fewer, less, same)) | inr equal ↦ absurd (omega (arith, equal.0, less, same)) ]) t
+
+pub NoShorter-open : (nodes width : ℕ) (edges paths turned : List ℕ) (start : ℕ) (best : List ℕ) → Keeps nodes width edges paths turned → start < nodes →
+    IsLeastCycleBefore (Joined edges width nodes) start best → NoShorterOpen edges turned width nodes start (length best - 1) →
+    (rest : List ℕ) → Track (Joined edges width nodes) start rest start → length best - 1 ≤ length rest
+NoShorter-open nodes width edges paths turned start best keeps hs least none rest t = elim (cases_lt (length rest) (length best - 1)) [
+  | inl less ↦ none rest (shorter_open nodes width edges paths turned start best keeps hs least rest less t)
+  | inr more ↦ more
+]
+
+-- a cycle over open numbers ends with an edge to the start from a number that isn't below it
+open_closes : (nodes width : ℕ) (edges paths turned : List ℕ) (start : ℕ) (rest : List ℕ) → Keeps nodes width edges paths turned → start < nodes →
+    Track (OpenEdge edges turned width nodes start) start rest start → IsClosed edges turned width nodes start
+open_closes nodes width edges paths turned start rest keeps hs t = at (length rest) (Ends-cycle Open start rest t)
+  where
+    Edge : ℕ → ℕ → Type 0
+    Edge = Joined edges width nodes
+
+    Open : ℕ → ℕ → Type 0
+    Open = OpenEdge edges turned width nodes start
+
+    reaches : (k x : ℕ) → Ends Open start (suc k) x → Reaches Edge start x
+    reaches zero x ends = Reaches-edge Edge start x (subst (λ n. Edge n x) ends.1 ends.2.0)
+    reaches (suc k) x ends = Reaches-join Edge start ends.0 x (reaches k ends.0 ends.1) (Reaches-edge Edge ends.0 x ends.2.0)
+
+    from : (k x : ℕ) → Ends Open start k x → Edge x start → Reaches Edge start x
+    from zero x ends e = subst (λ n. Reaches Edge start n) (sym ends) (Reaches-edge Edge start start (subst (λ n. Edge n start) ends e))
+    from (suc k) x ends e = reaches k x ends
+
+    at : (k : ℕ) → Ends Open start (suc k) start → IsClosed edges turned width nodes start
+    at k ends =
+        let x : ℕ = ends.0 in
+        let e = ends.2 in
+        (x, e.0.0, e.0.2, (keeps.paths_turned.same start x hs e.0.0).1 ((keeps.tells start x hs e.0.0).1 (from k x ends.1 e.0)), e.1.1)
+
+-- A number that is closed is on a cycle.
+pub IsClosed-reach : (nodes width : ℕ) (edges paths turned : List ℕ) (y : ℕ) → Keeps nodes width edges paths turned → y < nodes → IsClosed edges turned width nodes y → Reaches (Joined edges width nodes) y y
+IsClosed-reach nodes width edges paths turned y keeps hy closed =
+    let x : ℕ = closed.0 in
+    Reaches-join (Joined edges width nodes) y x y ((keeps.tells y x hy closed.1).0 ((keeps.paths_turned.same y x hy closed.1).0 closed.3))
+    (Reaches-edge (Joined edges width nodes) x y (closed.1, hy, closed.2))
+
+-- and so is the number from which the edge leads to it
+pub IsClosed-from : (nodes width : ℕ) (edges paths turned : List ℕ) (x y : ℕ) → Keeps nodes width edges paths turned → x < nodes → y < nodes → IsSet edges width x y → IsSet turned width x y → IsSet paths width x x
+IsClosed-from nodes width edges paths turned x y keeps hx hy e t =
+    (keeps.tells x x hx hx).1 (Reaches-front (Joined edges width nodes) x y x (hx, hy, e) ((keeps.tells y x hy hx).0 ((keeps.paths_turned.same y x hy hx).0 t)))
+
+-- Some best cycle or none, at the next start: the start isn't closed.
+pub next_unclosed : {V : Type 0} (items : V → List ℕ) (nodes width : ℕ) (edges paths turned : List ℕ) (start : ℕ) (best : Option V) → Keeps nodes width edges paths turned → start < nodes →
+    (IsClosed edges turned width nodes start → ⊥) →
+    MatchOption best (NoCycleBefore (Joined edges width nodes) start) (λ cycle. IsLeastCycleBefore (Joined edges width nodes) start (items cycle)) →
+    MatchOption best (NoCycleBefore (Joined edges width nodes) (start + 1)) (λ cycle. IsLeastCycleBefore (Joined edges width nodes) (start + 1) (items cycle))
+next_unclosed items nodes width edges paths turned start None keeps hs unclosed before = λ x rest h c. elim (cases_eq x start) [
+  | inl e ↦ unclosed (open_closes nodes width edges paths turned start rest keeps hs
+      (Track-open nodes width edges paths turned start rest keeps hs (λ y other lt cycle same. before y other lt cycle)
+      ((IsCycle-track (Joined edges width nodes) start rest).0 (subst (λ n. IsCycle (Joined edges width nodes) (n ∷ rest)) e c))))
+  | inr ne ↦ before x rest (omega arith) c
+]
+next_unclosed items nodes width edges paths turned start (Some cycle) keeps hs unclosed before =
+    before_more_longer (Joined edges width nodes) start (items cycle) before
+    (λ rest t. elim (cases_lt (length rest) (length (items cycle) - 1)) [
+      | inl less ↦ absurd (unclosed (open_closes nodes width edges paths turned start rest keeps hs (shorter_open nodes width edges paths turned start (items cycle) keeps hs before rest less t)))
+      | inr more ↦ more
+    ])
 
 -- Some best cycle or none, at the next start: a search over open numbers found no cycle within the limit.
 pub next_closed : {V : Type 0} (items : V → List ℕ) (nodes width : ℕ) (edges paths turned : List ℕ) (start : ℕ) (best : Option V) (limit : Option ℕ) → Keeps nodes width edges paths turned → start < nodes →

@@ -180,3 +180,40 @@ Advances-seen reached turned old_seen seen old_levels levels width start row fir
 pub Advances-some : (reached turned old_seen seen old_levels levels : List ℕ) (width start row first j : ℕ) → width ≤ j → Advances reached turned old_seen seen old_levels levels width start row first j 0 →
     (y : ℕ) → y / 64 < width → first ≤ y / 64 → IsFresh reached turned old_seen width start y → ⊥
 Advances-some reached turned old_seen seen old_levels levels width start row first j past advances y h l p = HasBit-zero (y % 64) (advances.some y (omega (arith, h, past)) l p)
+
+-- the numbers from word j on that x has an edge to, that reach x, and that a row has
+abbrev pub ClosedFrom : List ℕ → List ℕ → List ℕ → ℕ → ℕ → ℕ → ℕ → ℕ → Type 0
+ClosedFrom edges turned upto width x j i y = (i ≡ 0) × (j ≤ y / 64) × IsSet edges width x y × IsSet turned width x y × IsSet upto width 0 y
+
+pub ClosedFrom-start : (old edges turned upto : List ℕ) (width x : ℕ) → Leaves old old width (λ i y. (i ≡ 0) × IsSet edges width x y × IsSet turned width x y × IsSet upto width 0 y) (ClosedFrom edges turned upto width x 0)
+ClosedFrom-start old edges turned upto width x = Leaves-start old width _ _ (λ i y h. (λ p. (p.0, omega arith, p.1, p.2, p.3), λ p. (p.0, p.2, p.3, p.4)))
+
+pub ClosedFrom-step : (old now new edges turned upto : List ℕ) (width x j given : ℕ) →
+    Leaves old now width (λ i y. (i ≡ 0) × IsSet edges width x y × IsSet turned width x y × IsSet upto width 0 y) (ClosedFrom edges turned upto width x j) →
+    given ≡ bit_and (bit_and (get_or edges (x * width + j) 0) (get_or turned (x * width + j) 0)) (get_or upto j 0) →
+    Adds now new width (λ i y. (i ≡ 0) × (y / 64 ≡ j) × HasBit given (y % 64)) →
+    Leaves old new width (λ i y. (i ≡ 0) × IsSet edges width x y × IsSet turned width x y × IsSet upto width 0 y) (ClosedFrom edges turned upto width x (j + 1))
+ClosedFrom-step old now new edges turned upto width x j given leaves same adds = Leaves-step old now new width _ _ _ _ leaves adds
+    (λ i y h p. elim (cases_eq (y / 64) j) [
+      | inl e ↦ inr (inl (p.0, e, (given_is y e).1 (p.2, p.3, p.4)))
+      | inr ne ↦ inr (inr (p.0, omega (arith, p.1, ne), p.2, p.3, p.4))
+    ])
+    (λ i y h p. let g = (given_is y p.1).0 p.2 in (p.0, omega (arith, p.1), g.0, g.1, g.2))
+    (λ i y h p. (p.0, omega (arith, p.1), p.2, p.3, p.4))
+  where
+    given_is : (y : ℕ) → y / 64 ≡ j → HasBit given (y % 64) ↔ (IsSet edges width x y × IsSet turned width x y × IsSet upto width 0 y)
+    given_is y e =
+        let all = HasBit-and (bit_and (get_or edges (x * width + j) 0) (get_or turned (x * width + j) 0)) (get_or upto j 0) (y % 64) in
+        let both = HasBit-and (get_or edges (x * width + j) 0) (get_or turned (x * width + j) 0) (y % 64) in
+        let zero : 0 * width + j ≡ j = omega arith in
+        let u = subst (λ n. IsSet upto width 0 y ↔ HasBit (get_or upto n 0) (y % 64)) zero (IsSet-word upto width 0 j y e) in
+        let s = IsSet-word edges width x j y e in
+        let t = IsSet-word turned width x j y e in (
+          λ b. let p = all.0 (subst (λ n. HasBit n (y % 64)) same b) in let q = both.0 p.0 in (s.1 q.0, t.1 q.1, u.1 p.1),
+          λ p. subst (λ n. HasBit n (y % 64)) (sym same) (all.1 (both.1 (s.0 p.0, t.0 p.1), u.0 p.2)),
+        )
+
+pub ClosedFrom-end : (old now edges turned upto : List ℕ) (width x : ℕ) →
+    Leaves old now width (λ i y. (i ≡ 0) × IsSet edges width x y × IsSet turned width x y × IsSet upto width 0 y) (ClosedFrom edges turned upto width x width) →
+    Adds old now width (λ i y. (i ≡ 0) × IsSet edges width x y × IsSet turned width x y × IsSet upto width 0 y)
+ClosedFrom-end old now edges turned upto width x leaves = Leaves-end old now width _ _ leaves (λ i y h p. omega (arith, p.1, h))

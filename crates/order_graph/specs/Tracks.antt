@@ -65,6 +65,10 @@ OpenEdge edges turned width nodes start x y = Joined edges width nodes x y × Is
 abbrev pub NoShorterOpen : List ℕ → List ℕ → ℕ → ℕ → ℕ → ℕ → Type 0
 NoShorterOpen edges turned width nodes start limit = (rest : List ℕ) → Track (OpenEdge edges turned width nodes start) start rest start → limit ≤ length rest
 
+-- an edge leads to y from a number that y reaches and that isn't below it
+abbrev pub IsClosed : List ℕ → List ℕ → ℕ → ℕ → ℕ → Type 0
+IsClosed edges turned width nodes y = (x : ℕ) × (x < nodes) × IsSet edges width x y × IsSet turned width x y × (y ≤ x)
+
 -- an edge leads to y from a number of this level whose bit is in a word from `first` on
 abbrev pub IsNext : List ℕ → List ℕ → ℕ → ℕ → ℕ → ℕ → Type 0
 IsNext edges levels width count first y = (x : ℕ) × (first ≤ x / 64) × (x / 64 < width) × IsSet levels width count x × IsSet edges width x y

@@ -1,12 +1,57 @@
-//! Whether a number is on a short cycle: a search by words, which finds no cycle but tells where there is none.
+//! Which numbers can begin a short cycle: looks by words, which find no cycle but tell where there is none.
 
 ghost use Rattle.std.specs.Prelude.{◌≡◌, ◌⊎◌, ◌↔◌, ◌<◌, ◌≤◌, ◌+◌, ◌*◌, ◌/◌, ◌^◌, ℕ, IsTrue, IfOk, length};
 ghost use Rattle.order_graph.specs.Tables.{IsSet, Adds};
 ghost use Rattle.order_graph.specs.Digraphs.{Keeps};
-ghost use Rattle.order_graph.specs.Tracks.{IsNext, IsFresh, NoShorterOpen};
+ghost use Rattle.order_graph.specs.Tracks.{IsClosed, IsNext, IsFresh, NoShorterOpen};
 
 use crate::tables::{bit, or_rows, set_bit, set_word};
 use std::alloc::{AllocError, Global};
+
+/// Adds to a row the numbers that number x has an edge to, that reach x, and that are in the row `upto`.
+pub fn note_closed(
+    row: &mut [u64],
+    upto: &[u64],
+    edges: &[u64],
+    turned: &[u64],
+    x: usize,
+    width: usize,
+)
+    requires row { width ≤ length row.old }
+    requires upto_row { width ≤ length upto.now }
+    requires edges_row { x * width + width ≤ length edges.now }
+    requires turned_row { x * width + width ≤ length turned.now }
+    ensures { Adds row.old row.new width (λ i y. (i ≡ 0) × IsSet edges.now width x y × IsSet turned.now width x y × IsSet upto.now width 0 y) }
+{
+    for j in 0..width {
+        let given = edges[x * width + j] & turned[x * width + j] & upto[j];
+        set_word(row, width, 0, j, given);
+    }
+}
+
+/// A row of the numbers that an edge leads to from a number that they reach and that isn't below them: only they are
+/// the least number of a cycle.
+pub fn closed_numbers(
+    alloc: Global,
+    edges: &[u64],
+    paths: &[u64],
+    turned: &[u64],
+    width: usize,
+    nodes: usize,
+) -> Result<Vec<u64>, AllocError>
+    requires keeps { Keeps nodes width edges.now paths.now turned.now }
+    ensures { IfOk result (λ row. (length row.items ≡ width) × ((y : ℕ) → y / 64 < width → IsSet row.items width 0 y ↔ IsClosed edges.now turned.now width nodes y)) }
+{
+    let mut row = vec![in alloc; 0; width]?;
+    let mut upto = vec![in alloc; 0; width]?;
+    for x in 0..nodes {
+        set_bit(&mut upto, width, 0, x);
+        if bit(paths, width, x, x) {
+            note_closed(&mut row, &upto, edges, turned, x, width);
+        }
+    }
+    Ok(row)
+}
 
 /// Adds to the numbers reached those that edges lead to from the numbers of a level, in the words from `first` on.
 pub fn spread(

@@ -3,7 +3,7 @@
 ghost use Rattle.std.specs.Prelude.{◌≡◌, ◌⊎◌, ◌↔◌, ◌<◌, ◌+◌, ◌-◌, ◌/◌, ℕ, IsTrue, IfOk, MatchOption, IsSomeAnd, length};
 ghost use Rattle.order_graph.specs.Digraphs.{Keeps};
 ghost use Rattle.order_graph.specs.Tables.{IsSet, Joined};
-ghost use Rattle.order_graph.specs.Tracks.{NoShorterOpen, NoCycleBefore, IsLeastCycleBefore};
+ghost use Rattle.order_graph.specs.Tracks.{IsClosed, NoShorterOpen, NoCycleBefore, IsLeastCycleBefore};
 
 use crate::closing::closes_within;
 use crate::searches::shortest;
@@ -47,13 +47,14 @@ pub fn may_be_shorter(
     }
 }
 
-/// The least cycle of those that begin with `start` or a number below it, where `best` is that of those below it, and
-/// `passed` a row with the numbers below it.
+/// The least cycle of those that begin with `start` or a number below it, where `best` is that of those below it,
+/// `closed` a row of the numbers to which an edge closes a cycle, and `passed` one of the numbers below the start.
 pub fn better(
     alloc: Global,
     edges: &[u64],
     paths: &[u64],
     turned: &[u64],
+    closed: &[u64],
     passed: &[u64],
     width: usize,
     nodes: usize,
@@ -64,10 +65,12 @@ pub fn better(
     requires within { start < nodes }
     requires sized { length passed.now ≡ width }
     requires passed { (y : ℕ) → y / 64 < width → IsSet passed.now width 0 y ↔ (y < start) }
+    requires closed_row { length closed.now ≡ width }
+    requires closed { (y : ℕ) → y / 64 < width → IsSet closed.now width 0 y ↔ IsClosed edges.now turned.now width nodes y }
     requires best { MatchOption best (NoCycleBefore (Joined edges.now width nodes) start) (λ cycle. IsLeastCycleBefore (Joined edges.now width nodes) start cycle.items) }
     ensures { IfOk result (λ found. MatchOption found (NoCycleBefore (Joined edges.now width nodes) (start + 1)) (λ cycle. IsLeastCycleBefore (Joined edges.now width nodes) (start + 1) cycle.items)) }
 {
-    if !bit(paths, width, start, start) {
+    if !bit(closed, width, 0, start) {
         return Ok(best);
     }
     let limit = limit_below(&best);

@@ -4,6 +4,7 @@ ghost use Rattle.std.specs.Prelude.{◌≡◌, ◌⊎◌, ◌↔◌, ◌<◌, �
 ghost use Rattle.order_paths.specs.Paths.{Reaches, HasCycle, IsLeastPath, IsLeastCycle};
 ghost use Rattle.order_graph.specs.Digraphs.{HasEdge, EdgesWithin};
 
+use crate::closing::closed_numbers;
 use crate::cycles::better;
 use crate::searches::shortest;
 use crate::tables::{bit, join, set_bit};
@@ -144,14 +145,24 @@ impl Graph {
         ensures { IfOk result (λ found. MatchOption found (HasCycle (HasEdge self.now) → ⊥)
             (λ cycle. IsLeastCycle (HasEdge self.now) cycle.items)) }
     {
+        let alloc = *self.edges.allocator();
+        let closed = closed_numbers(
+            alloc,
+            &self.edges,
+            &self.paths,
+            &self.turned,
+            self.width,
+            self.nodes,
+        )?;
         let mut best: Option<Vec<usize>> = None;
-        let mut passed = vec![in *self.edges.allocator(); 0; self.width]?;
+        let mut passed = vec![in alloc; 0; self.width]?;
         for start in 0..self.nodes {
             best = better(
-                *self.edges.allocator(),
+                alloc,
                 &self.edges,
                 &self.paths,
                 &self.turned,
+                &closed,
                 &passed,
                 self.width,
                 self.nodes,
