@@ -383,3 +383,11 @@ none_from_match (Some x) P Q h e = absurd (true≢false e)
 pub some_from_match : (r : Option ℕ) (P : Type 0) (Q : ℕ → Type 0) → MatchOption r P Q → is_some r ≡ true → (x : ℕ) × Q x
 some_from_match None P Q h e = absurd (false≢true e)
 some_from_match (Some x) P Q h e = (x, h)
+
+-- a word that is 0 has no bit of its row
+pub used_more : (table : List ℕ) (row width j low high : ℕ) → ((y : ℕ) → y / 64 < j → IsSet table width row y → (low ≤ y / 64) × (y / 64 < high)) →
+    get_or table (row * width + j) 0 ≡ 0 → (y : ℕ) → y / 64 < j + 1 → IsSet table width row y → (low ≤ y / 64) × (y / 64 < high)
+used_more table row width j low high before none y h s = elim (cases_lt (y / 64) j) [
+  | inl earlier ↦ before y earlier s
+  | inr late ↦ absurd (HasBit-zero (y % 64) (subst (λ n. HasBit n (y % 64)) none ((IsSet-word table width row j y (omega (arith, h, late))).0 s)))
+]
