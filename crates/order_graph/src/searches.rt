@@ -28,6 +28,7 @@ pub fn used_words(table: &[u64], row: usize, width: usize) -> (usize, usize)
 
 /// The first column that is set in row x of one table and in the given row of the other, which has bits only in the
 /// words from `low` on and before `high`.
+#[inline]
 pub fn first_shared(
     table: &[u64],
     x: usize,
@@ -54,6 +55,7 @@ pub fn first_shared(
 }
 
 /// Whether x is above level `count`, whose bits lie in the words from `low` on and before `high`.
+#[inline]
 pub fn is_above(
     edges: &[u64],
     paths: &[u64],
