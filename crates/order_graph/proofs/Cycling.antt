@@ -2,18 +2,18 @@
 use Rattle.std.proofs.Common.{◌≡◌, ◌↔◌, inl, inr, ℕ, ◌+◌, ◌-◌, ◌<◌, ◌≤◌, List, [], ◌∷◌, ◌++◌, length, Option, Some, None, MatchOption, IsSomeAnd, IfSome, refl, sym, subst, arith}
 use Rattle.std.proofs.lemmas.Bool.{cases_order, cases_eq}
 use Rattle.std.proofs.lemmas.List.{length-append}
-use Rattle.order_paths.specs.Paths.{Linked, last_of, IsPath, Reaches, IsCycle, HasCycle, IsAtMost, IsNoGreater, IsLeastPath, IsLeastCycle}
+use Rattle.order_paths.specs.Paths.{Linked, last_of, HasEnds, IsPath, Reaches, IsCycle, HasCycle, IsAtMost, IsNoGreater, IsLeastPath, IsLeastCycle}
 use Rattle.order_paths.proofs.Reach.{IsPath-mono, IsCycle-mono, IsCycle-Reaches}
 use Rattle.order_graph.specs.Tracks.{Track, IsLeastTrack, NoCycleBefore, IsLeastCycleBefore}
 use Rattle.order_graph.proofs.Searching.{IsPath-track}
 
 -- linked numbers and an edge from their last are a track, and the other way round
 Track-from_linked : (Edge : ℕ → ℕ → Type 0) (x v : ℕ) (rest : List ℕ) → Linked Edge (x ∷ rest) → Edge (last_of x rest) v → Track Edge x rest v
-Track-from_linked Edge x v [] l e = e
+Track-from_linked Edge x v [] l e = (e, tt)
 Track-from_linked Edge x v (y ∷ rest) l e = (l.0, Track-from_linked Edge y v rest l.1 e)
 
 Track-linked : (Edge : ℕ → ℕ → Type 0) (x v : ℕ) (rest : List ℕ) → Track Edge x rest v → Linked Edge (x ∷ rest) × Edge (last_of x rest) v
-Track-linked Edge x v [] t = (tt, t)
+Track-linked Edge x v [] t = (tt, t.0)
 Track-linked Edge x v (y ∷ rest) t = let b = Track-linked Edge y v rest t.1 in ((t.0, b.0), b.1)
 
 pub IsCycle-track : (Edge : ℕ → ℕ → Type 0) (x : ℕ) (rest : List ℕ) → IsCycle Edge (x ∷ rest) ↔ Track Edge x rest x
@@ -21,15 +21,15 @@ IsCycle-track Edge x rest = (λ c. Track-from_linked Edge x x rest c.0 c.1, λ t
 
 -- a track with its ends is a path
 Track-path : (Edge : ℕ → ℕ → Type 0) (x v : ℕ) (rest : List ℕ) → Track Edge x rest v → IsPath Edge x v (x ∷ (rest ++ v ∷ []))
-Track-path Edge x v [] t = ((refl, refl), (t, tt))
-Track-path Edge x v (y ∷ rest) t = front (Track-path Edge y v rest t.1)
+Track-path Edge x v rest t = (ends rest, t)
   where
-    front : IsPath Edge y v (y ∷ (rest ++ v ∷ [])) → IsPath Edge x v (x ∷ y ∷ (rest ++ v ∷ []))
-    front p = ((refl, last_is rest p), (t.0, p.1))
-      where
-        last_is : (r : List ℕ) → IsPath Edge y v (y ∷ (r ++ v ∷ [])) → last_of y (r ++ v ∷ []) ≡ v
-        last_is [] p = refl
-        last_is (z ∷ zs) p = p.0.1
+    last_is : (y : ℕ) (r : List ℕ) → last_of y (r ++ v ∷ []) ≡ v
+    last_is y [] = refl
+    last_is y (z ∷ zs) = last_is z zs
+
+    ends : (r : List ℕ) → HasEnds (x ∷ (r ++ v ∷ [])) x v
+    ends [] = (refl, refl)
+    ends (y ∷ r) = (refl, last_is y r)
 
 -- lists stay in their order with one number behind both
 IsNoGreater-push : (xs ys : List ℕ) (u v : ℕ) → IsNoGreater xs ys → IsNoGreater (u ∷ (xs ++ v ∷ [])) (u ∷ (ys ++ v ∷ []))

@@ -61,40 +61,40 @@ Leaves-end old now width Given Left leaves none = record {
   );
 }
 
--- The rows whose numbers are bits of a word have the bit of column x, but for those of the bits left.
-pub record Marks (old now : List ℕ) (width x j rows left : ℕ) : Type 0 where
+-- The rows whose numbers are bits of word j have the bits given of word i, but for the rows of the bits left.
+pub record Marks (old now : List ℕ) (width j rows i given left : ℕ) : Type 0 where
   pub some : (k : ℕ) → k < 64 → HasBit left k → HasBit rows k
-  pub leaves : Leaves old now width (λ i y. (y ≡ x) × (i / 64 ≡ j) × HasBit rows (i % 64)) (λ i y. (y ≡ x) × (i / 64 ≡ j) × HasBit left (i % 64))
+  pub leaves : Leaves old now width (λ y x. (y / 64 ≡ j) × HasBit rows (y % 64) × (x / 64 ≡ i) × HasBit given (x % 64)) (λ y x. (y / 64 ≡ j) × HasBit left (y % 64) × (x / 64 ≡ i) × HasBit given (x % 64))
 
-pub Marks-start : (old : List ℕ) (width x j rows : ℕ) → Marks old old width x j rows rows
-Marks-start old width x j rows = record {
+pub Marks-start : (old : List ℕ) (width j rows i given : ℕ) → Marks old old width j rows i given rows
+Marks-start old width j rows i given = record {
   some = λ k h b. b;
-  leaves = Leaves-start old width _ _ (λ i y h. (λ p. p, λ p. p));
+  leaves = Leaves-start old width _ _ (λ y x h. (λ p. p, λ p. p));
 }
 
 -- the lowest of them is marked and left out
-pub Marks-step : (old now new : List ℕ) (width x j rows left : ℕ) → Marks old now width x j rows left → 0 < left → left < 2 ^ 64 →
-    Adds now new width (λ i y. (i ≡ 64 * j + trailing_zeros w64 left) × (y ≡ x)) →
-    Marks old new width x j rows (bit_and left (bit_not w64 (1 * 2 ^ trailing_zeros w64 left % 2 ^ 64)))
-Marks-step old now new width x j rows left marks some fits adds =
+pub Marks-step : (old now new : List ℕ) (width j rows i given left : ℕ) → Marks old now width j rows i given left → 0 < left → left < 2 ^ 64 →
+    Adds now new width (λ y x. (y ≡ 64 * j + trailing_zeros w64 left) × (x / 64 ≡ i) × HasBit given (x % 64)) →
+    Marks old new width j rows i given (bit_and left (bit_not w64 (1 * 2 ^ trailing_zeros w64 left % 2 ^ 64)))
+Marks-step old now new width j rows i given left marks some fits adds =
     let low = HasBit-lowest left some fits in
     let bound : trailing_zeros w64 left < 64 = low.0 in
     let clear = λ (k : ℕ) (h : k < 64). HasBit-clear left (trailing_zeros w64 left) k bound h in
     record {
       some = λ k h b. marks.some k h ((clear k h).0 b).1;
       leaves = Leaves-step old now new width _ _ _ _ marks.leaves adds
-          (λ i y h p. elim (cases_eq (i % 64) (trailing_zeros w64 left)) [
-            | inl e ↦ inr (inl (omega (arith, e, p.1), p.0))
-            | inr ne ↦ inr (inr (p.0, p.1, (clear (i % 64) (omega arith)).1 (ne, p.2)))
+          (λ y x h p. elim (cases_eq (y % 64) (trailing_zeros w64 left)) [
+            | inl e ↦ inr (inl (omega (arith, e, p.0), p.2, p.3))
+            | inr ne ↦ inr (inr (p.0, (clear (y % 64) (omega arith)).1 (ne, p.1), p.2, p.3))
           ])
-          (λ i y h p. let at : i ≡ 64 * j + trailing_zeros w64 left = p.0 in
-          let m : i % 64 ≡ trailing_zeros w64 left = omega arith in
-          (p.1, omega arith, subst (λ n. HasBit left n) (sym m) low.1))
-          (λ i y h p. (p.0, p.1, ((clear (i % 64) (omega arith)).0 p.2).1));
+          (λ y x h p. let at : y ≡ 64 * j + trailing_zeros w64 left = p.0 in
+          let m : y % 64 ≡ trailing_zeros w64 left = omega arith in
+          (omega arith, subst (λ n. HasBit left n) (sym m) low.1, p.1, p.2))
+          (λ y x h p. (p.0, ((clear (y % 64) (omega arith)).0 p.1).1, p.2, p.3));
     }
 
-pub Marks-end : (old now : List ℕ) (width x j rows : ℕ) → Marks old now width x j rows 0 → Adds old now width (λ i y. (y ≡ x) × (i / 64 ≡ j) × HasBit rows (i % 64))
-Marks-end old now width x j rows marks = Leaves-end old now width _ _ marks.leaves (λ i y h p. HasBit-zero (i % 64) p.2)
+pub Marks-end : (old now : List ℕ) (width j rows i given : ℕ) → Marks old now width j rows i given 0 → Adds old now width (λ y x. (y / 64 ≡ j) × HasBit rows (y % 64) × (x / 64 ≡ i) × HasBit given (x % 64))
+Marks-end old now width j rows i given marks = Leaves-end old now width _ _ marks.leaves (λ y x h p. HasBit-zero (y % 64) p.1)
 
 -- a row below `nodes` lies in a table of `nodes` rows
 pub row_within : (x nodes width : ℕ) → x < nodes → x * width + width ≤ nodes * width
@@ -104,35 +104,37 @@ row_within x nodes width h = row_fits x width nodes width h (omega arith)
 pub column_within : (y nodes width : ℕ) → width ≡ (nodes + 63) / 64 → y < nodes → y / 64 < width
 column_within y nodes width fits h = omega arith
 
--- Two tables that are turned stay so, where new bits of row x in one are new bits of column x in the other.
-pub AreTurned-step : (table turned new new_turned : List ℕ) (width nodes x j given fresh : ℕ) → AreTurned table turned width nodes → width ≡ (nodes + 63) / 64 → x < nodes →
-    length new ≡ length table → length new_turned ≡ length turned →
-    Adds table new width (λ i y. (i ≡ x) × (y / 64 ≡ j) × HasBit given (y % 64)) →
-    ((y : ℕ) → y / 64 ≡ j → HasBit fresh (y % 64) ↔ (HasBit given (y % 64) × (IsSet table width x y → ⊥))) →
-    ((y : ℕ) → y / 64 ≡ j → HasBit given (y % 64) → y < nodes) →
-    Adds turned new_turned width (λ i y. (y ≡ x) × (i / 64 ≡ j) × HasBit fresh (i % 64)) → AreTurned new new_turned width nodes
-AreTurned-step table turned new new_turned width nodes x j given fresh old fits hx sized turned_sized adds bits below turns = record {
+-- Two tables that are turned stay so, where the rows of word i gain v and the numbers of row v in the one, and v and the numbers of row v gain the rows in the other.
+pub AreTurned-both : (table turned new new_turned : List ℕ) (width nodes i rows v : ℕ) → AreTurned table turned width nodes → width ≡ (nodes + 63) / 64 → v < nodes →
+    ((x : ℕ) → x / 64 ≡ i → HasBit rows (x % 64) → x < nodes) → length new ≡ length table → length new_turned ≡ length turned →
+    Adds table new width (λ x y. (x / 64 ≡ i) × HasBit rows (x % 64) × IsSelfOrSet table width v y) →
+    Adds turned new_turned width (λ y x. (y / 64 < width) × IsSelfOrSet table width v y × (x / 64 ≡ i) × HasBit rows (x % 64)) → AreTurned new new_turned width nodes
+AreTurned-both table turned new new_turned width nodes i rows v old fits hv below sized turned_sized adds turns = record {
   table_sized = sized ∙ old.table_sized;
   turned_sized = turned_sized ∙ old.turned_sized;
-  within = λ a b ha hb s. elim ((adds.bits a b hb).0 s) [ inl o ↦ old.within a b ha hb o | inr g ↦ below b g.1 g.2 ];
-  turned_within = λ a b ha hb s. elim ((turns.bits a b hb).0 s) [ inl o ↦ old.turned_within a b ha hb o | inr g ↦ subst (λ n. n < nodes) (sym g.0) hx ];
+  within = λ a b ha hb s. elim ((adds.bits a b hb).0 s) [
+    | inl o ↦ old.within a b ha hb o
+    | inr g ↦ elim g.2 [ inl same ↦ subst (λ n. n < nodes) (sym same) hv | inr set ↦ old.within v b hv hb set ]
+  ];
+  turned_within = λ a b ha hb s. elim ((turns.bits a b hb).0 s) [ inl o ↦ old.turned_within a b ha hb o | inr g ↦ below b g.2 g.3 ];
   same = λ a b ha hb. (to a b ha hb, back a b ha hb);
 }
   where
     to : (a b : ℕ) → a < nodes → b < nodes → IsSet new_turned width b a → IsSet new width a b
     to a b ha hb s = elim ((turns.bits b a (column_within a nodes width fits ha)).0 s) [
       | inl o ↦ (adds.bits a b (column_within b nodes width fits hb)).1 (inl ((old.same a b ha hb).0 o))
-      | inr g ↦ (adds.bits a b (column_within b nodes width fits hb)).1 (inr (g.0, g.1, ((bits b g.1).0 g.2).0))
+      | inr g ↦ (adds.bits a b (column_within b nodes width fits hb)).1 (inr (g.2, g.3, g.1))
     ]
 
     back : (a b : ℕ) → a < nodes → b < nodes → IsSet new width a b → IsSet new_turned width b a
     back a b ha hb s = elim ((adds.bits a b (column_within b nodes width fits hb)).0 s) [
       | inl o ↦ (turns.bits b a (column_within a nodes width fits ha)).1 (inl ((old.same a b ha hb).1 o))
-      | inr g ↦ elim (IsSet-decided table width x b) [
-        | inl set ↦ (turns.bits b a (column_within a nodes width fits ha)).1 (inl ((old.same a b ha hb).1 (subst (λ n. IsSet table width n b) (sym g.0) set)))
-        | inr none ↦ (turns.bits b a (column_within a nodes width fits ha)).1 (inr (g.0, g.1, (bits b g.1).1 (g.2, none)))
-      ]
+      | inr g ↦ (turns.bits b a (column_within a nodes width fits ha)).1 (inr (column_within b nodes width fits hb, g.2, g.0, g.1))
     ]
+
+-- no row gains anything by a word without bits
+pub Adds-none : (table : List ℕ) (width i rows v : ℕ) → rows ≡ 0 → Adds table table width (λ x y. (x / 64 ≡ i) × HasBit rows (x % 64) × IsSelfOrSet table width v y)
+Adds-none table width i rows v none = record { bits = λ x y h. (λ s. inl s, λ s. elim s [ inl o ↦ o | inr g ↦ absurd (HasBit-zero (x % 64) (subst (λ n. HasBit n (x % 64)) none g.1)) ]) }
 
 -- While rows gain v and the numbers of row v, and no others, v and the numbers of row v stay the same.
 pub self_or_set_same : (old now : List ℕ) (width v : ℕ) (Given Left : ℕ → ℕ → Type 0) → Leaves old now width Given Left →
@@ -145,16 +147,12 @@ self_or_set_same old now width v Given Left leaves only y h = (
   λ s. elim s [ inl e ↦ inl e | inr set ↦ inr (leaves.kept v y h set) ],
 )
 
--- Row x has v and the numbers of row v in its words before word j, and both tables keep step.
-pub record Spreads (old now other : List ℕ) (width nodes x v j : ℕ) : Type 0 where
-  pub leaves : Leaves old now width (λ i y. (i ≡ x) × IsSelfOrSet old width v y) (λ i y. (i ≡ x) × (j ≤ y / 64) × IsSelfOrSet old width v y)
-  pub turned : AreTurned now other width nodes
+-- Row x gains v and the numbers of row v, from word j on.
+abbrev pub SpreadFrom : List ℕ → ℕ → ℕ → ℕ → ℕ → ℕ → ℕ → Type 0
+SpreadFrom old width x v j i y = (i ≡ x) × (j ≤ y / 64) × IsSelfOrSet old width v y
 
-pub Spreads-start : (old turned : List ℕ) (width nodes x v : ℕ) → AreTurned old turned width nodes → Spreads old old turned width nodes x v 0
-Spreads-start old turned width nodes x v are = record {
-  leaves = Leaves-start old width _ _ (λ i y h. (λ p. (p.0, omega arith, p.1), λ p. (p.0, p.2)));
-  turned = are;
-}
+pub SpreadFrom-start : (old : List ℕ) (width x v : ℕ) → Leaves old old width (λ i y. (i ≡ x) × IsSelfOrSet old width v y) (SpreadFrom old width x v 0)
+SpreadFrom-start old width x v = Leaves-start old width _ _ (λ i y h. (λ p. (p.0, omega arith, p.1), λ p. (p.0, p.2)))
 
 -- what word j of row v has with v: v and the numbers of row v there
 pub given_is : (now : List ℕ) (width v j given : ℕ) → ((k : ℕ) → k < 64 → HasBit given k ↔ ((64 * j + k ≡ v) ⊎ HasBit (get_or now (v * width + j) 0) k)) →
@@ -173,46 +171,63 @@ given_below now turned width nodes v j given are hv hj bits y e b = elim ((given
   | inr set ↦ are.within v y hv (omega arith) set
 ]
 
-pub Spreads-step : (old now turned new new_turned : List ℕ) (width nodes x v j given fresh : ℕ) → Spreads old now turned width nodes x v j → width ≡ (nodes + 63) / 64 → x < nodes → v < nodes → j < width →
+pub SpreadFrom-step : (old now new : List ℕ) (width x v j given : ℕ) → Leaves old now width (λ i y. (i ≡ x) × IsSelfOrSet old width v y) (SpreadFrom old width x v j) → j < width →
     ((k : ℕ) → k < 64 → HasBit given k ↔ ((64 * j + k ≡ v) ⊎ HasBit (get_or now (v * width + j) 0) k)) →
-    length new ≡ length now → length new_turned ≡ length turned →
-    Adds now new width (λ i y. (i ≡ x) × (y / 64 ≡ j) × HasBit given (y % 64)) →
-    ((y : ℕ) → y / 64 ≡ j → HasBit fresh (y % 64) ↔ (HasBit given (y % 64) × (IsSet now width x y → ⊥))) →
-    Adds turned new_turned width (λ i y. (y ≡ x) × (i / 64 ≡ j) × HasBit fresh (i % 64)) → Spreads old new new_turned width nodes x v (j + 1)
-Spreads-step old now turned new new_turned width nodes x v j given fresh spreads fits hx hv hj bits sized turned_sized adds news turns =
-    let stays = self_or_set_same old now width v _ _ spreads.leaves (λ a b h g. g.1) in
-    record {
-      leaves = Leaves-step old now new width _ _ _ _ spreads.leaves adds
-          (λ i y h p. elim (cases_eq (y / 64) j) [
-            | inl e ↦ inr (inl (p.0, e, (given_is now width v j given bits y e).1 ((stays y h).1 p.2)))
-            | inr ne ↦ inr (inr (p.0, omega (arith, p.1, ne), p.2))
-          ])
-          (λ i y h p. (p.0, omega (arith, p.1), (stays y h).0 ((given_is now width v j given bits y p.1).0 p.2)))
-          (λ i y h p. (p.0, omega (arith, p.1), p.2));
-      turned = AreTurned-step now turned new new_turned width nodes x j given fresh spreads.turned fits hx sized turned_sized adds news
-          (given_below now turned width nodes v j given spreads.turned hv hj bits) turns;
-    }
+    Adds now new width (λ i y. (i ≡ x) × (y / 64 ≡ j) × HasBit given (y % 64)) → Leaves old new width (λ i y. (i ≡ x) × IsSelfOrSet old width v y) (SpreadFrom old width x v (j + 1))
+SpreadFrom-step old now new width x v j given leaves hj bits adds =
+    let stays = self_or_set_same old now width v _ _ leaves (λ a b h g. g.1) in
+    Leaves-step old now new width _ _ _ _ leaves adds
+    (λ i y h p. elim (cases_eq (y / 64) j) [
+      | inl e ↦ inr (inl (p.0, e, (given_is now width v j given bits y e).1 ((stays y h).1 p.2)))
+      | inr ne ↦ inr (inr (p.0, omega (arith, p.1, ne), p.2))
+    ])
+    (λ i y h p. (p.0, omega (arith, p.1), (stays y h).0 ((given_is now width v j given bits y p.1).0 p.2)))
+    (λ i y h p. (p.0, omega (arith, p.1), p.2))
 
-pub Spreads-end : (old now turned : List ℕ) (width nodes x v : ℕ) → Spreads old now turned width nodes x v width → Adds old now width (λ i y. (i ≡ x) × IsSelfOrSet old width v y)
-Spreads-end old now turned width nodes x v spreads = Leaves-end old now width _ _ spreads.leaves (λ i y h p. omega (arith, p.1, h))
+pub SpreadFrom-end : (old now : List ℕ) (width x v : ℕ) → Leaves old now width (λ i y. (i ≡ x) × IsSelfOrSet old width v y) (SpreadFrom old width x v width) → Adds old now width (λ i y. (i ≡ x) × IsSelfOrSet old width v y)
+SpreadFrom-end old now width x v leaves = Leaves-end old now width _ _ leaves (λ i y h p. omega (arith, p.1, h))
+
+-- v and the numbers of row v, from word j on, gain the rows of word i in the turned table.
+abbrev pub ColumnFrom : List ℕ → ℕ → ℕ → ℕ → ℕ → ℕ → ℕ → ℕ → Type 0
+ColumnFrom table width v i rows j y x = (j ≤ y / 64) × (y / 64 < width) × IsSelfOrSet table width v y × (x / 64 ≡ i) × HasBit rows (x % 64)
+
+-- the same of all words
+abbrev pub Column : List ℕ → ℕ → ℕ → ℕ → ℕ → ℕ → ℕ → Type 0
+Column table width v i rows y x = (y / 64 < width) × IsSelfOrSet table width v y × (x / 64 ≡ i) × HasBit rows (x % 64)
+
+pub ColumnFrom-start : (old table : List ℕ) (width v i rows : ℕ) → Leaves old old width (Column table width v i rows) (ColumnFrom table width v i rows 0)
+ColumnFrom-start old table width v i rows = Leaves-start old width _ _ (λ y x h. (λ p. (omega arith, p.0, p.1, p.2, p.3), λ p. (p.1, p.2, p.3, p.4)))
+
+pub ColumnFrom-step : (old now new table : List ℕ) (width v i rows j given : ℕ) → Leaves old now width (Column table width v i rows) (ColumnFrom table width v i rows j) → j < width →
+    ((k : ℕ) → k < 64 → HasBit given k ↔ ((64 * j + k ≡ v) ⊎ HasBit (get_or table (v * width + j) 0) k)) →
+    Adds now new width (λ y x. (y / 64 ≡ j) × HasBit given (y % 64) × (x / 64 ≡ i) × HasBit rows (x % 64)) →
+    Leaves old new width (Column table width v i rows) (ColumnFrom table width v i rows (j + 1))
+ColumnFrom-step old now new table width v i rows j given leaves hj bits adds = Leaves-step old now new width _ _ _ _ leaves adds
+    (λ y x h p. elim (cases_eq (y / 64) j) [
+      | inl e ↦ inr (inl (e, (given_is table width v j given bits y e).1 p.2, p.3, p.4))
+      | inr ne ↦ inr (inr (omega (arith, p.0, ne), p.1, p.2, p.3, p.4))
+    ])
+    (λ y x h p. (omega (arith, p.0), omega (arith, p.0, hj), (given_is table width v j given bits y p.0).0 p.1, p.2, p.3))
+    (λ y x h p. (omega (arith, p.0), p.1, p.2, p.3, p.4))
+
+pub ColumnFrom-end : (old now table : List ℕ) (width v i rows : ℕ) → Leaves old now width (Column table width v i rows) (ColumnFrom table width v i rows width) → Adds old now width (Column table width v i rows)
+ColumnFrom-end old now table width v i rows leaves = Leaves-end old now width _ _ leaves (λ y x h p. omega (arith, p.0, p.1))
 
 -- Each row whose number is a bit of word i, but for those of the bits left, has v and the numbers of row v.
-pub record Widens (old now other : List ℕ) (width nodes i rows v left : ℕ) : Type 0 where
+pub record Widens (old now : List ℕ) (width i rows v left : ℕ) : Type 0 where
   pub some : (k : ℕ) → k < 64 → HasBit left k → HasBit rows k
   pub leaves : Leaves old now width (λ x y. (x / 64 ≡ i) × HasBit rows (x % 64) × IsSelfOrSet old width v y) (λ x y. (x / 64 ≡ i) × HasBit left (x % 64) × IsSelfOrSet old width v y)
-  pub turned : AreTurned now other width nodes
 
-pub Widens-start : (old turned : List ℕ) (width nodes i rows v : ℕ) → AreTurned old turned width nodes → Widens old old turned width nodes i rows v rows
-Widens-start old turned width nodes i rows v are = record {
+pub Widens-start : (old : List ℕ) (width i rows v : ℕ) → Widens old old width i rows v rows
+Widens-start old width i rows v = record {
   some = λ k h b. b;
   leaves = Leaves-start old width _ _ (λ x y h. (λ p. p, λ p. p));
-  turned = are;
 }
 
-pub Widens-step : (old now turned new new_turned : List ℕ) (width nodes i rows v left : ℕ) → Widens old now turned width nodes i rows v left → 0 < left → left < 2 ^ 64 →
-    Adds now new width (λ x y. (x ≡ 64 * i + trailing_zeros w64 left) × IsSelfOrSet now width v y) → AreTurned new new_turned width nodes →
-    Widens old new new_turned width nodes i rows v (bit_and left (bit_not w64 (1 * 2 ^ trailing_zeros w64 left % 2 ^ 64)))
-Widens-step old now turned new new_turned width nodes i rows v left widens some fits adds are =
+pub Widens-step : (old now new : List ℕ) (width i rows v left : ℕ) → Widens old now width i rows v left → 0 < left → left < 2 ^ 64 →
+    Adds now new width (λ x y. (x ≡ 64 * i + trailing_zeros w64 left) × IsSelfOrSet now width v y) →
+    Widens old new width i rows v (bit_and left (bit_not w64 (1 * 2 ^ trailing_zeros w64 left % 2 ^ 64)))
+Widens-step old now new width i rows v left widens some fits adds =
     let low = HasBit-lowest left some fits in
     let bound : trailing_zeros w64 left < 64 = low.0 in
     let clear = λ (k : ℕ) (h : k < 64). HasBit-clear left (trailing_zeros w64 left) k bound h in
@@ -228,12 +243,11 @@ Widens-step old now turned new new_turned width nodes i rows v left widens some 
           let m : x % 64 ≡ trailing_zeros w64 left = omega arith in
           (omega arith, subst (λ n. HasBit left n) (sym m) low.1, (stays y h).0 p.1))
           (λ x y h p. (p.0, ((clear (x % 64) (omega arith)).0 p.1).1, p.2));
-      turned = are;
     }
 
-pub Widens-end : (old now turned : List ℕ) (width nodes i rows v : ℕ) → Widens old now turned width nodes i rows v 0 →
+pub Widens-end : (old now : List ℕ) (width i rows v : ℕ) → Widens old now width i rows v 0 →
     Adds old now width (λ x y. (x / 64 ≡ i) × HasBit rows (x % 64) × IsSelfOrSet old width v y)
-Widens-end old now turned width nodes i rows v widens = Leaves-end old now width _ _ widens.leaves (λ x y h p. HasBit-zero (x % 64) p.1)
+Widens-end old now width i rows v widens = Leaves-end old now width _ _ widens.leaves (λ x y h p. HasBit-zero (x % 64) p.1)
 
 -- x is a number of the graph that is u or leads to it
 abbrev pub IsSource : List ℕ → ℕ → ℕ → ℕ → ℕ → Type 0

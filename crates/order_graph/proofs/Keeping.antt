@@ -9,7 +9,7 @@ use Rattle.order_paths.specs.Paths.{Reaches}
 use Rattle.order_paths.proofs.Decisions.{Decision, Decision-IsTrue}
 use Rattle.order_paths.proofs.Reach.{Reaches-join, Reaches-mono, Reaches-decided, Reaches-below}
 use Rattle.order_graph.specs.Tables.{HasBit, IsSet, Adds, IsSelfOrSet, AreTurned, IsTransitive, Joined}
-use Rattle.order_graph.specs.Digraphs.{Digraph, HasEdge, EdgesWithin, tests_of, graph_of, Keeps}
+use Rattle.order_graph.specs.Digraphs.{Digraph, IsEdge, EdgesWithin, tests_of, graph_of, Keeps}
 use Rattle.order_graph.proofs.Words.{HasBit-zero}
 use Rattle.order_graph.proofs.Growth.{column_within}
 use Rattle.order_graph.proofs.Reaching.{WithEdge, ReachesThrough, reach_split, reach_through, reach_same}
@@ -27,9 +27,9 @@ no_test nodes width table x y h t =
     false≢true (sym (get_or_past (tests_of table width nodes x) y false (omega (arith, length-map-range_with_len (λ z. bit_at (get_or table (x * width + z / 64) 0) (z % 64) == 1) 0 nodes))) ∙ t)
 
 -- The edges of the graph that a table keeps are the table's edges.
-pub HasEdge_of : (nodes width : ℕ) (table : List ℕ) (x y : ℕ) → HasEdge (graph_of nodes width table) x y ↔ Joined table width nodes x y
-unfolding HasEdge
-HasEdge_of nodes width table x y = (to, back)
+pub IsEdge_of : (nodes width : ℕ) (table : List ℕ) (x y : ℕ) → IsEdge (graph_of nodes width table) x y ↔ Joined table width nodes x y
+unfolding IsEdge
+IsEdge_of nodes width table x y = (to, back)
   where
     row : x < nodes → get_or (map (tests_of table width nodes) (range_with_len 0 nodes)) x [] ≡ tests_of table width nodes x
     row h = get_or-map-range_with_len (tests_of table width nodes) 0 nodes x x [] h (omega arith)
@@ -54,13 +54,13 @@ pub record Sees (g : Digraph) (size width : ℕ) (table : List ℕ) : Type 0 whe
 pub sees_nodes : (g : Digraph) (nodes width : ℕ) (table : List ℕ) → Sees g nodes width table → g.nodes ≡ nodes
 sees_nodes g nodes width table sees = ap (λ (d : Digraph). d.nodes) (sym sees.is)
 
-pub sees_edge : (g : Digraph) (nodes width : ℕ) (table : List ℕ) → Sees g nodes width table → (x y : ℕ) → HasEdge g x y ↔ Joined table width nodes x y
-sees_edge g nodes width table sees x y = subst (λ d. HasEdge d x y ↔ Joined table width nodes x y) sees.is (HasEdge_of nodes width table x y)
+pub sees_edge : (g : Digraph) (nodes width : ℕ) (table : List ℕ) → Sees g nodes width table → (x y : ℕ) → IsEdge g x y ↔ Joined table width nodes x y
+sees_edge g nodes width table sees x y = subst (λ d. IsEdge d x y ↔ Joined table width nodes x y) sees.is (IsEdge_of nodes width table x y)
 
-pub sees_path : (g : Digraph) (nodes width : ℕ) (table : List ℕ) → Sees g nodes width table → (x y : ℕ) → Reaches (HasEdge g) x y ↔ Reaches (Joined table width nodes) x y
+pub sees_path : (g : Digraph) (nodes width : ℕ) (table : List ℕ) → Sees g nodes width table → (x y : ℕ) → Reaches (IsEdge g) x y ↔ Reaches (Joined table width nodes) x y
 sees_path g nodes width table sees x y = (
-  Reaches-mono (HasEdge g) (Joined table width nodes) (λ a b. (sees_edge g nodes width table sees a b).0) x y,
-  Reaches-mono (Joined table width nodes) (HasEdge g) (λ a b. (sees_edge g nodes width table sees a b).1) x y,
+  Reaches-mono (IsEdge g) (Joined table width nodes) (λ a b. (sees_edge g nodes width table sees a b).0) x y,
+  Reaches-mono (Joined table width nodes) (IsEdge g) (λ a b. (sees_edge g nodes width table sees a b).1) x y,
 )
 
 pub sees_within : (g : Digraph) (nodes width : ℕ) (table : List ℕ) → Sees g nodes width table → EdgesWithin g
@@ -70,16 +70,16 @@ sees_within g nodes width table sees x y e =
     (omega (arith, p.0), omega (arith, p.1))
 
 -- whether there is an edge is decided
-pub HasEdge-decided : (g : Digraph) (x y : ℕ) → Decision (HasEdge g x y)
-unfolding HasEdge
-HasEdge-decided g x y = Decision-IsTrue (get_or (get_or g.edges x []) y false)
+pub IsEdge-decided : (g : Digraph) (x y : ℕ) → Decision (IsEdge g x y)
+unfolding IsEdge
+IsEdge-decided g x y = Decision-IsTrue (get_or (get_or g.edges x []) y false)
 
-pub sees_decided : (g : Digraph) (nodes width : ℕ) (table : List ℕ) → Sees g nodes width table → (x y : ℕ) → Decision (Reaches (HasEdge g) x y)
-sees_decided g nodes width table sees x y = Reaches-decided (HasEdge g) g.nodes (HasEdge-decided g) (sees_within g nodes width table sees) x y
+pub sees_decided : (g : Digraph) (nodes width : ℕ) (table : List ℕ) → Sees g nodes width table → (x y : ℕ) → Decision (Reaches (IsEdge g) x y)
+sees_decided g nodes width table sees x y = Reaches-decided (IsEdge g) g.nodes (IsEdge-decided g) (sees_within g nodes width table sees) x y
 
 -- The edges of the table with one more are those of the graph with one more.
 pub sees_more : (old new : Digraph) (nodes width : ℕ) (table more : List ℕ) (u v : ℕ) → Sees old nodes width table → Sees new nodes width more → width ≡ (nodes + 63) / 64 → u < nodes → v < nodes →
-    Adds table more width (λ x y. (x ≡ u) × (y ≡ v)) → (x y : ℕ) → HasEdge new x y ↔ (HasEdge old x y ⊎ ((x ≡ u) × (y ≡ v)))
+    Adds table more width (λ x y. (x ≡ u) × (y ≡ v)) → (x y : ℕ) → IsEdge new x y ↔ (IsEdge old x y ⊎ ((x ≡ u) × (y ≡ v)))
 sees_more old new nodes width table more u v sees_old sees_new fits hu hv adds x y =
     let o = sees_edge old nodes width table sees_old x y in
     let n = sees_edge new nodes width more sees_new x y in (
@@ -202,5 +202,5 @@ Keeps-empty nodes width edges paths turned small fits e p t = record {
     no_path x y r = omega (arith, (Reaches-below (Joined edges width nodes) 0 (λ a b j. absurd (none edges e a b j.2)) x y r).0)
 
 -- the graph of a table of zeros has no edge
-pub sees_empty : (g : Digraph) (nodes width : ℕ) (table : List ℕ) → Sees g nodes width table → table ≡ replicate (nodes * width) 0 → (x y : ℕ) → HasEdge g x y → ⊥
+pub sees_empty : (g : Digraph) (nodes width : ℕ) (table : List ℕ) → Sees g nodes width table → table ≡ replicate (nodes * width) 0 → (x y : ℕ) → IsEdge g x y → ⊥
 sees_empty g nodes width table sees same x y e = no_bit (nodes * width) width x y (subst (λ l. IsSet l width x y) same ((sees_edge g nodes width table sees x y).0 e).2)

@@ -16,7 +16,7 @@ use Rattle.order_graph.proofs.Keeping.{no_bit}
 
 -- a track has an edge to where a walk of as many edges as it has numbers begins
 pub Track-walks : (Edge : ℕ → ℕ → Type 0) (x v : ℕ) (rest : List ℕ) → Track Edge x rest v → (y : ℕ) × Edge x y × Walks Edge (length rest) y v
-Track-walks Edge x v [] t = (v, t, refl)
+Track-walks Edge x v [] t = (v, t.0, refl)
 Track-walks Edge x v (y ∷ rest) t = (y, t.0, Track-walks Edge y v rest t.1)
 
 -- a walk of edges is a path
@@ -32,7 +32,7 @@ pub record IsLeastRest (Edge : ℕ → ℕ → Type 0) (x v count : ℕ) (rest :
 
 -- an edge to v is the least track over no numbers
 pub IsLeastRest-end : (Edge : ℕ → ℕ → Type 0) (x v : ℕ) → Edge x v → IsLeastRest Edge x v 0 []
-IsLeastRest-end Edge x v e = record { sized = refl; track = e; least = λ other sized t. tt }
+IsLeastRest-end Edge x v e = record { sized = refl; track = (e, tt); least = λ other sized t. tt }
 
 -- The least number from which a walk of as many edges leads on, and the least list behind it, are the least list.
 pub IsLeastRest-step : (Edge : ℕ → ℕ → Type 0) (x v count next : ℕ) (rest : List ℕ) → Edge x next →
@@ -249,13 +249,13 @@ Levels-start edges paths zeros levels width nodes u v fits hv same sized adds = 
     }
 
 -- a row of a table that is cut out or has words behind it
-row_of_longer : (table rest : List ℕ) (width d y : ℕ) → d * width + width ≤ length table → y / 64 < width → IsSet (table ++ rest) width d y ↔ IsSet table width d y
+pub row_of_longer : (table rest : List ℕ) (width d y : ℕ) → d * width + width ≤ length table → y / 64 < width → IsSet (table ++ rest) width d y ↔ IsSet table width d y
 unfolding IsSet
 row_of_longer table rest width d y h hy =
     let same : get_or (table ++ rest) (d * width + y / 64) 0 ≡ get_or table (d * width + y / 64) 0 = get_or_append_left table rest 0 (d * width + y / 64) (omega arith) in
     (λ s. subst (λ n. HasBit n (y % 64)) same s, λ s. subst (λ n. HasBit n (y % 64)) (sym same) s)
 
-row_of_zeros : (table : List ℕ) (more width d y : ℕ) → length table ≡ d * width → IsSet (table ++ replicate more 0) width d y → ⊥
+pub row_of_zeros : (table : List ℕ) (more width d y : ℕ) → length table ≡ d * width → IsSet (table ++ replicate more 0) width d y → ⊥
 unfolding IsSet
 row_of_zeros table more width d y h s =
     let same : get_or (table ++ replicate more 0) (d * width + y / 64) 0 ≡ get_or (replicate more 0) (d * width + y / 64 - length table) 0 =
@@ -357,7 +357,7 @@ pub IsPath-track : (Edge : ℕ → ℕ → Type 0) (u v : ℕ) (path : List ℕ)
 IsPath-track Edge u v [] p = absurd p.0
 IsPath-track Edge u v (x ∷ []) p = absurd p.0
 IsPath-track Edge u v (x ∷ y ∷ []) p =
-    ([], let ex : x ≡ u = p.0.0 in let ey : y ≡ v = p.0.1 in cc, subst (λ n. Edge n v) p.0.0 (subst (λ n. Edge x n) p.0.1 p.1.0))
+    ([], let ex : x ≡ u = p.0.0 in let ey : y ≡ v = p.0.1 in cc, (subst (λ n. Edge n v) p.0.0 (subst (λ n. Edge x n) p.0.1 p.1.0), tt))
 IsPath-track Edge u v (x ∷ y ∷ z ∷ more) p =
     let behind = IsPath-track Edge y v (y ∷ z ∷ more) ((refl, p.0.1), p.1.1) in
     (y ∷ behind.0, let ex : x ≡ u = p.0.0 in let eb : (y ∷ z ∷ more) ≡ y ∷ (behind.0 ++ v ∷ []) = behind.1 in cc, (subst (λ n. Edge n y) p.0.0 p.1.0, behind.2))
@@ -383,3 +383,11 @@ none_from_match (Some x) P Q h e = absurd (true≢false e)
 pub some_from_match : (r : Option ℕ) (P : Type 0) (Q : ℕ → Type 0) → MatchOption r P Q → is_some r ≡ true → (x : ℕ) × Q x
 some_from_match None P Q h e = absurd (false≢true e)
 some_from_match (Some x) P Q h e = (x, h)
+
+-- a word that is 0 has no bit of its row
+pub used_more : (table : List ℕ) (row width j low high : ℕ) → ((y : ℕ) → y / 64 < j → IsSet table width row y → (low ≤ y / 64) × (y / 64 < high)) →
+    get_or table (row * width + j) 0 ≡ 0 → (y : ℕ) → y / 64 < j + 1 → IsSet table width row y → (low ≤ y / 64) × (y / 64 < high)
+used_more table row width j low high before none y h s = elim (cases_lt (y / 64) j) [
+  | inl earlier ↦ before y earlier s
+  | inr late ↦ absurd (HasBit-zero (y % 64) (subst (λ n. HasBit n (y % 64)) none ((IsSet-word table width row j y (omega (arith, h, late))).0 s)))
+]

@@ -12,12 +12,12 @@ pub record Digraph : Type 0 where
   pub edges : List (List Bool)
 
 -- an edge leads from u to v
-unfoldable pub HasEdge : Digraph → ℕ → ℕ → Type 0
-HasEdge g u v = IsTrue (slice_index_or (slice_index_or g.edges u []) v false)
+unfoldable pub IsEdge : Digraph → ℕ → ℕ → Type 0
+IsEdge g u v = IsTrue (slice_index_or (slice_index_or g.edges u []) v false)
 
 -- the edges lie below the number of nodes
 abbrev pub EdgesWithin : Digraph → Type 0
-EdgesWithin g = (x y : ℕ) → HasEdge g x y → (x < g.nodes) × (y < g.nodes)
+EdgesWithin g = (x y : ℕ) → IsEdge g x y → (x < g.nodes) × (y < g.nodes)
 
 -- the tests of row x of a table of bits
 abbrev pub tests_of : List ℕ → ℕ → ℕ → ℕ → List Bool

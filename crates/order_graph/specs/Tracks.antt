@@ -1,12 +1,11 @@
 -- Walks over the edges of a table: what a search finds level by level.
-use Rattle.std.specs.Prelude.{◌≡◌, ℕ, zero, suc, ◌/◌, ◌<◌, ◌≤◌, List, [], ◌∷◌, length}
-use Rattle.order_paths.specs.Paths.{IsCycle, IsNoGreater}
+use Rattle.std.specs.Prelude.{◌≡◌, ℕ, zero, suc, ◌/◌, ◌<◌, ◌≤◌, List, [], ◌∷◌, ◌++◌, length}
+use Rattle.order_paths.specs.Paths.{Linked, IsCycle, IsNoGreater}
 use Rattle.order_graph.specs.Tables.{IsSet, Joined}
 
 -- edges lead from x over the numbers listed to v
 abbrev pub Track : (ℕ → ℕ → Type 0) → ℕ → List ℕ → ℕ → Type 0
-Track Edge x [] v = Edge x v
-Track Edge x (y ∷ rest) v = Edge x y × Track Edge y rest v
+Track Edge x rest v = Linked Edge (x ∷ (rest ++ v ∷ []))
 
 -- a walk of this many edges leads from x to v
 abbrev pub Walks : (ℕ → ℕ → Type 0) → ℕ → ℕ → ℕ → Type 0
@@ -53,3 +52,27 @@ abbrev pub IsLeastCycleBefore : (ℕ → ℕ → Type 0) → ℕ → List ℕ �
 IsLeastCycleBefore Edge start [] = ⊥
 IsLeastCycleBefore Edge start (x ∷ rest) =
     (x < start) × IsCycle Edge (x ∷ rest) × ((y : ℕ) (other : List ℕ) → y < start → IsCycle Edge (y ∷ other) → IsNoGreater (x ∷ rest) (y ∷ other))
+
+-- a number on a cycle that begins with the start, and no number of which is below it, is open: it reaches the start, and isn't below it
+abbrev pub IsOpen : List ℕ → ℕ → ℕ → ℕ → Type 0
+IsOpen turned width start y = IsSet turned width start y × (start ≤ y)
+
+-- an edge between open numbers
+abbrev pub OpenEdge : List ℕ → List ℕ → ℕ → ℕ → ℕ → ℕ → ℕ → Type 0
+OpenEdge edges turned width nodes start x y = Joined edges width nodes x y × IsOpen turned width start x × IsOpen turned width start y
+
+-- all ways from the start over open numbers back to it have at least this many numbers between
+abbrev pub NoShorterOpen : List ℕ → List ℕ → ℕ → ℕ → ℕ → ℕ → Type 0
+NoShorterOpen edges turned width nodes start limit = (rest : List ℕ) → Track (OpenEdge edges turned width nodes start) start rest start → limit ≤ length rest
+
+-- an edge leads to y from a number that y reaches and that isn't below it
+abbrev pub IsClosed : List ℕ → List ℕ → ℕ → ℕ → ℕ → Type 0
+IsClosed edges turned width nodes y = (x : ℕ) × (x < nodes) × IsSet edges width x y × IsSet turned width x y × (y ≤ x)
+
+-- an edge leads to y from a number of this level whose bit is in a word from `first` on
+abbrev pub IsNext : List ℕ → List ℕ → ℕ → ℕ → ℕ → ℕ → Type 0
+IsNext edges levels width count first y = (x : ℕ) × (first ≤ x / 64) × (x / 64 < width) × IsSet levels width count x × IsSet edges width x y
+
+-- y is reached, leads to the start, and wasn't seen
+abbrev pub IsFresh : List ℕ → List ℕ → List ℕ → ℕ → ℕ → ℕ → Type 0
+IsFresh reached turned seen width start y = IsSet reached width 0 y × IsSet turned width start y × (IsSet seen width 0 y → ⊥)

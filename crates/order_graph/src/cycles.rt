@@ -1,10 +1,11 @@
 //! The least cycle, start by start.
 
-ghost use Rattle.std.specs.Prelude.{◌≡◌, ◌<◌, ◌+◌, ◌-◌, IfOk, MatchOption, length};
+ghost use Rattle.std.specs.Prelude.{◌≡◌, ◌⊎◌, ◌↔◌, ◌<◌, ◌+◌, ◌-◌, ◌/◌, ℕ, IsTrue, IfOk, MatchOption, IsSomeAnd, length};
 ghost use Rattle.order_graph.specs.Digraphs.{Keeps};
-ghost use Rattle.order_graph.specs.Tables.{Joined};
-ghost use Rattle.order_graph.specs.Tracks.{NoCycleBefore, IsLeastCycleBefore};
+ghost use Rattle.order_graph.specs.Tables.{IsSet, Joined};
+ghost use Rattle.order_graph.specs.Tracks.{IsClosed, NoShorterOpen, NoCycleBefore, IsLeastCycleBefore};
 
+use crate::closing::closes_within;
 use crate::searches::shortest;
 use crate::tables::bit;
 use std::alloc::{AllocError, Global};
@@ -19,12 +20,42 @@ pub fn limit_below(best: &Option<Vec<usize>>) -> Option<usize>
     }
 }
 
-/// The least cycle of those that begin with `start` or a number below it, where `best` is that of those below it.
+/// Whether the start may be on a cycle within the limit, none of whose numbers is below it. Where the answer is false,
+/// it is on none.
+pub fn may_be_shorter(
+    alloc: Global,
+    edges: &[u64],
+    paths: &[u64],
+    turned: &[u64],
+    passed: &[u64],
+    width: usize,
+    nodes: usize,
+    start: usize,
+    limit: Option<usize>,
+) -> Result<bool, AllocError>
+    requires keeps { Keeps nodes width edges.now paths.now turned.now }
+    requires within { start < nodes }
+    requires sized { length passed.now ≡ width }
+    requires passed { (y : ℕ) → y / 64 < width → IsSet passed.now width 0 y ↔ (y < start) }
+    ensures { IfOk result (λ may. IsTrue may ⊎ IsSomeAnd limit (NoShorterOpen edges.now turned.now width nodes start)) }
+{
+    match limit {
+        Some(most) => closes_within(
+            alloc, edges, paths, turned, passed, width, nodes, start, most,
+        ),
+        None => Ok(true),
+    }
+}
+
+/// The least cycle of those that begin with `start` or a number below it, where `best` is that of those below it,
+/// `closed` a row of the numbers to which an edge closes a cycle, and `passed` one of the numbers below the start.
 pub fn better(
     alloc: Global,
     edges: &[u64],
     paths: &[u64],
     turned: &[u64],
+    closed: &[u64],
+    passed: &[u64],
     width: usize,
     nodes: usize,
     start: usize,
@@ -32,13 +63,23 @@ pub fn better(
 ) -> Result<Option<Vec<usize>>, AllocError>
     requires keeps { Keeps nodes width edges.now paths.now turned.now }
     requires within { start < nodes }
+    requires sized { length passed.now ≡ width }
+    requires passed { (y : ℕ) → y / 64 < width → IsSet passed.now width 0 y ↔ (y < start) }
+    requires closed_row { length closed.now ≡ width }
+    requires closed { (y : ℕ) → y / 64 < width → IsSet closed.now width 0 y ↔ IsClosed edges.now turned.now width nodes y }
     requires best { MatchOption best (NoCycleBefore (Joined edges.now width nodes) start) (λ cycle. IsLeastCycleBefore (Joined edges.now width nodes) start cycle.items) }
     ensures { IfOk result (λ found. MatchOption found (NoCycleBefore (Joined edges.now width nodes) (start + 1)) (λ cycle. IsLeastCycleBefore (Joined edges.now width nodes) (start + 1) cycle.items)) }
 {
-    if !bit(paths, width, start, start) {
+    if !bit(closed, width, 0, start) {
         return Ok(best);
     }
     let limit = limit_below(&best);
+    let may = may_be_shorter(
+        alloc, edges, paths, turned, passed, width, nodes, start, limit,
+    )?;
+    if !may {
+        return Ok(best);
+    }
     match shortest(
         alloc, edges, paths, turned, width, nodes, start, start, limit,
     )? {

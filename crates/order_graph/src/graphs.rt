@@ -2,8 +2,9 @@
 
 ghost use Rattle.std.specs.Prelude.{◌≡◌, ◌⊎◌, ◌↔◌, ◌<◌, ◌^◌, ℕ, IsTrue, IfOk, MatchOption};
 ghost use Rattle.order_paths.specs.Paths.{Reaches, HasCycle, IsLeastPath, IsLeastCycle};
-ghost use Rattle.order_graph.specs.Digraphs.{HasEdge, EdgesWithin};
+ghost use Rattle.order_graph.specs.Digraphs.{IsEdge, EdgesWithin};
 
+use crate::closing::closed_numbers;
 use crate::cycles::better;
 use crate::searches::shortest;
 use crate::tables::{bit, join, set_bit};
@@ -36,7 +37,7 @@ impl Model for Graph {
 impl Graph {
     /// The graph of the numbers below `nodes` without edges, or OutOfMemory where its tables don't fit.
     pub fn new(alloc: Global, nodes: usize) -> Result<Graph, AllocError>
-        ensures { IfOk result (λ g. (g.nodes ≡ nodes) × ((x y : ℕ) → HasEdge g x y → ⊥)) }
+        ensures { IfOk result (λ g. (g.nodes ≡ nodes) × ((x y : ℕ) → IsEdge g x y → ⊥)) }
     {
         if nodes > u32::MAX as usize {
             return Err(AllocError);
@@ -68,10 +69,10 @@ impl Graph {
     pub fn add(&mut self, u: usize, v: usize)
         requires from { u < self.old.nodes }
         requires to { v < self.old.nodes }
-        ensures edges { (x y : ℕ) → HasEdge self.new x y ↔ (HasEdge self.old x y ⊎ ((x ≡ u) × (y ≡ v))) }
+        ensures edges { (x y : ℕ) → IsEdge self.new x y ↔ (IsEdge self.old x y ⊎ ((x ≡ u) × (y ≡ v))) }
         ensures nodes { self.new.nodes ≡ self.old.nodes }
         ensures within { EdgesWithin self.new }
-        ensures decided { (x y : ℕ) → Reaches (HasEdge self.new) x y ⊎ (Reaches (HasEdge self.new) x y → ⊥) }
+        ensures decided { (x y : ℕ) → Reaches (IsEdge self.new) x y ⊎ (Reaches (IsEdge self.new) x y → ⊥) }
     {
         set_bit(&mut self.edges, self.width, u, v);
         if bit(&self.paths, self.width, u, v) {
@@ -92,7 +93,7 @@ impl Graph {
     pub fn has(&self, u: usize, v: usize) -> bool
         requires from { u < self.now.nodes }
         requires to { v < self.now.nodes }
-        ensures { IsTrue result ↔ HasEdge self.now u v }
+        ensures { IsTrue result ↔ IsEdge self.now u v }
     {
         bit(&self.edges, self.width, u, v)
     }
@@ -102,8 +103,8 @@ impl Graph {
     pub fn reaches(&self, u: usize, v: usize) -> bool
         requires from { u < self.now.nodes }
         requires to { v < self.now.nodes }
-        ensures path { IsTrue result ↔ Reaches (HasEdge self.now) u v }
-        ensures decided { (x y : ℕ) → Reaches (HasEdge self.now) x y ⊎ (Reaches (HasEdge self.now) x y → ⊥) }
+        ensures path { IsTrue result ↔ Reaches (IsEdge self.now) u v }
+        ensures decided { (x y : ℕ) → Reaches (IsEdge self.now) x y ⊎ (Reaches (IsEdge self.now) x y → ⊥) }
     {
         bit(&self.paths, self.width, u, v)
     }
@@ -112,8 +113,8 @@ impl Graph {
     pub fn least_path(&self, u: usize, v: usize) -> Result<Option<Vec<usize>>, AllocError>
         requires from { u < self.now.nodes }
         requires to { v < self.now.nodes }
-        ensures { IfOk result (λ found. MatchOption found (Reaches (HasEdge self.now) u v → ⊥)
-            (λ path. IsLeastPath (HasEdge self.now) u v path.items)) }
+        ensures { IfOk result (λ found. MatchOption found (Reaches (IsEdge self.now) u v → ⊥)
+            (λ path. IsLeastPath (IsEdge self.now) u v path.items)) }
     {
         if !bit(&self.paths, self.width, u, v) {
             return Ok(None);
@@ -141,21 +142,34 @@ impl Graph {
     /// The cycle with the fewest numbers, and of these the least list, which begins with its least number; None where
     /// there is none.
     pub fn least_cycle(&self) -> Result<Option<Vec<usize>>, AllocError>
-        ensures { IfOk result (λ found. MatchOption found (HasCycle (HasEdge self.now) → ⊥)
-            (λ cycle. IsLeastCycle (HasEdge self.now) cycle.items)) }
+        ensures { IfOk result (λ found. MatchOption found (HasCycle (IsEdge self.now) → ⊥)
+            (λ cycle. IsLeastCycle (IsEdge self.now) cycle.items)) }
     {
+        let alloc = *self.edges.allocator();
+        let closed = closed_numbers(
+            alloc,
+            &self.edges,
+            &self.paths,
+            &self.turned,
+            self.width,
+            self.nodes,
+        )?;
         let mut best: Option<Vec<usize>> = None;
+        let mut passed = vec![in alloc; 0; self.width]?;
         for start in 0..self.nodes {
             best = better(
-                *self.edges.allocator(),
+                alloc,
                 &self.edges,
                 &self.paths,
                 &self.turned,
+                &closed,
+                &passed,
                 self.width,
                 self.nodes,
                 start,
                 best,
             )?;
+            set_bit(&mut passed, self.width, 0, start);
         }
         Ok(best)
     }

@@ -3,6 +3,7 @@
 
 pub use graphs::Graph;
 
+mod closing;
 mod cycles;
 mod graphs;
 mod searches;

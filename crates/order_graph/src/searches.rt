@@ -9,20 +9,43 @@ ghost use Rattle.order_graph.specs.Tracks.{NoneShared, IsFirstShared, IsLevel, I
 use crate::tables::{bit, set_bit};
 use std::alloc::{AllocError, Global};
 
-/// The first column that is set in row x of one table and in the given row of the other.
+/// The words of a row from its first word that isn't 0 to behind its last: the first of them, and the one behind them.
+pub fn used_words(table: &[u64], row: usize, width: usize) -> (usize, usize)
+    requires row { row * width + width ≤ length table.now }
+    ensures end { result.1 ≤ width }
+    ensures used { (y : ℕ) → y / 64 < width → IsSet table.now width row y → (result.0 ≤ y / 64) × (y / 64 < result.1) }
+{
+    let mut low = width;
+    let mut high = 0;
+    for j in 0..width {
+        if table[row * width + j] != 0 {
+            low = low.min(j);
+            high = j + 1;
+        }
+    }
+    (low, high)
+}
+
+/// The first column that is set in row x of one table and in the given row of the other, which has bits only in the
+/// words from `low` on and before `high`.
+#[inline]
 pub fn first_shared(
     table: &[u64],
     x: usize,
     other: &[u64],
     row: usize,
     width: usize,
+    low: usize,
+    high: usize,
 ) -> Option<usize>
     requires fits { 64 * width < 2 ^ 64 }
     requires row { x * width + width ≤ length table.now }
     requires other_row { row * width + width ≤ length other.now }
+    requires end { high ≤ width }
+    requires used { (y : ℕ) → y / 64 < width → IsSet other.now width row y → (low ≤ y / 64) × (y / 64 < high) }
     ensures { MatchOption result (NoneShared table.now x other.now row width) (IsFirstShared table.now x other.now row width) }
 {
-    for j in 0..width {
+    for j in low..high {
         let shared = table[x * width + j] & other[row * width + j];
         if shared != 0 {
             return Some(64 * j + shared.trailing_zeros() as usize);
@@ -31,7 +54,8 @@ pub fn first_shared(
     None
 }
 
-/// Whether x is above level `count`.
+/// Whether x is above level `count`, whose bits lie in the words from `low` on and before `high`.
+#[inline]
 pub fn is_above(
     edges: &[u64],
     paths: &[u64],
@@ -43,17 +67,21 @@ pub fn is_above(
     v: usize,
     count: usize,
     x: usize,
+    low: usize,
+    high: usize,
 ) -> bool
     requires keeps { Keeps nodes width edges.now paths.now turned.now }
     requires row { x < nodes }
     requires from { u < nodes }
     requires to { v < nodes }
     requires level { count * width + width ≤ length levels.now }
+    requires end { high ≤ width }
+    requires used { (y : ℕ) → y / 64 < width → IsSet levels.now width count y → (low ≤ y / 64) × (y / 64 < high) }
     ensures { IsTrue result ↔ IsAbove edges.now paths.now turned.now levels.now width u v count x }
 {
     bit(turned, width, v, x)
         && bit(paths, width, u, x)
-        && first_shared(edges, x, levels, count, width).is_some()
+        && first_shared(edges, x, levels, count, width, low, high).is_some()
 }
 
 /// Fills the row behind level `count` with the numbers above it.
@@ -74,8 +102,11 @@ pub fn raise(
     requires level { (count + 1) * width + width ≤ length levels.old }
     ensures { Adds levels.old levels.new width (λ i y. (i ≡ count + 1) × (y < nodes) × IsAbove edges.now paths.now turned.now levels.old width u v count y) }
 {
+    let (low, high) = used_words(levels, count, width);
     for x in 0..nodes {
-        if is_above(edges, paths, turned, levels, width, nodes, u, v, count, x) {
+        if is_above(
+            edges, paths, turned, levels, width, nodes, u, v, count, x, low, high,
+        ) {
             set_bit(levels, width, count + 1, x);
         }
     }
@@ -107,7 +138,7 @@ pub fn descend(
     list.push(u)?;
     let mut at = u;
     for done in 0..count {
-        let Some(next) = first_shared(edges, at, levels, count - done, width) else {
+        let Some(next) = first_shared(edges, at, levels, count - done, width, 0, width) else {
             unreachable!()
         };
         list.push(next)?;
@@ -151,7 +182,7 @@ pub fn shortest(
         if is_passed(limit, count) {
             return Ok(None);
         }
-        if first_shared(edges, u, &levels, count, width).is_some() {
+        if first_shared(edges, u, &levels, count, width, 0, width).is_some() {
             break;
         }
         let size = levels.len() + width;

@@ -50,48 +50,74 @@ pub fn set_word(table: &mut [u64], width: usize, x: usize, j: usize, given: u64)
     given & !word
 }
 
-/// Sets the bit of column x in the rows whose numbers are the bits of word j.
+/// Sets the given bits in word i of the rows whose numbers are the bits of word j.
 #[inline]
-pub fn set_column(table: &mut [u64], width: usize, x: usize, j: usize, rows: u64)
-    requires column { x / 64 < width }
+pub fn set_words(table: &mut [u64], width: usize, j: usize, rows: u64, i: usize, given: u64)
+    requires column { i < width }
     requires fits { 64 * j + 64 < 2 ^ 64 }
     requires within { (k : ℕ) → k < 64 → HasBit rows k → (64 * j + k) * width + width ≤ length table.old }
-    ensures { Adds table.old table.new width (λ i y. (y ≡ x) × (i / 64 ≡ j) × HasBit rows (i % 64)) }
+    ensures { Adds table.old table.new width (λ y x. (y / 64 ≡ j) × HasBit rows (y % 64) × (x / 64 ≡ i) × HasBit given (x % 64)) }
 {
     let mut left = rows;
     while left != 0 {
         let k = left.trailing_zeros() as usize;
-        set_bit(table, width, 64 * j + k, x);
+        set_word(table, width, 64 * j + k, i, given);
         left &= !(1 << k);
     }
 }
 
-/// Gives row x the number v and the numbers of row v, in both tables.
-pub fn add_row(
-    table: &mut [u64],
-    turned: &mut [u64],
-    width: usize,
-    nodes: usize,
-    x: usize,
-    v: usize,
-)
-    requires turned { AreTurned table.old turned.old width nodes }
-    requires small { nodes < 2 ^ 32 }
-    requires fits { width ≡ (nodes + 63) / 64 }
-    requires row { x < nodes }
-    requires given { v < nodes }
-    ensures added { Adds table.old table.new width (λ i y. (i ≡ x) × IsSelfOrSet table.old width v y) }
-    ensures turned { AreTurned table.new turned.new width nodes }
+/// Gives row x the number v and the numbers of row v.
+pub fn add_row(table: &mut [u64], width: usize, x: usize, v: usize)
+    requires row { x * width + width ≤ length table.old }
+    requires given { v * width + width ≤ length table.old }
+    ensures { Adds table.old table.new width (λ i y. (i ≡ x) × IsSelfOrSet table.old width v y) }
 {
     for j in 0..width {
         let given = with_bit(table[v * width + j], j, v);
-        let fresh = set_word(table, width, x, j, given);
-        set_column(turned, width, x, j, fresh);
+        set_word(table, width, x, j, given);
+    }
+}
+
+/// Gives each row whose number is a bit of word i the number v and the numbers of row v.
+pub fn add_rows(table: &mut [u64], width: usize, i: usize, rows: u64, v: usize)
+    requires fits { 64 * i + 64 < 2 ^ 64 }
+    requires within { (k : ℕ) → k < 64 → HasBit rows k → (64 * i + k) * width + width ≤ length table.old }
+    requires given { v * width + width ≤ length table.old }
+    ensures { Adds table.old table.new width (λ x y. (x / 64 ≡ i) × HasBit rows (x % 64) × IsSelfOrSet table.old width v y) }
+{
+    let mut left = rows;
+    while left != 0 {
+        let k = left.trailing_zeros() as usize;
+        add_row(table, width, 64 * i + k, v);
+        left &= !(1 << k);
+    }
+}
+
+/// Gives v, and each number of row v of the table, the numbers that are the bits of word i, in the turned table.
+pub fn add_columns(
+    turned: &mut [u64],
+    table: &[u64],
+    width: usize,
+    nodes: usize,
+    i: usize,
+    rows: u64,
+    v: usize,
+)
+    requires turned { AreTurned table.now turned.old width nodes }
+    requires small { nodes < 2 ^ 32 }
+    requires fits { width ≡ (nodes + 63) / 64 }
+    requires given { v < nodes }
+    requires word { i < width }
+    ensures { Adds turned.old turned.new width (λ y x. (y / 64 < width) × IsSelfOrSet table.now width v y × (x / 64 ≡ i) × HasBit rows (x % 64)) }
+{
+    for j in 0..width {
+        let given = with_bit(table[v * width + j], j, v);
+        set_words(turned, width, j, given, i, rows);
     }
 }
 
 /// Gives each row whose number is a bit of word i the number v and the numbers of row v, in both tables.
-pub fn add_rows(
+pub fn join_rows(
     table: &mut [u64],
     turned: &mut [u64],
     width: usize,
@@ -109,12 +135,11 @@ pub fn add_rows(
     ensures added { Adds table.old table.new width (λ x y. (x / 64 ≡ i) × HasBit rows (x % 64) × IsSelfOrSet table.old width v y) }
     ensures turned { AreTurned table.new turned.new width nodes }
 {
-    let mut left = rows;
-    while left != 0 {
-        let k = left.trailing_zeros() as usize;
-        add_row(table, turned, width, nodes, 64 * i + k, v);
-        left &= !(1 << k);
+    if rows == 0 {
+        return;
     }
+    add_columns(turned, table, width, nodes, i, rows, v);
+    add_rows(table, width, i, rows, v);
 }
 
 /// Gives u, and each number that leads to u, the number v and those that v leads to, in both tables.
@@ -133,6 +158,43 @@ pub fn join(table: &mut [u64], turned: &mut [u64], width: usize, nodes: usize, u
     for i in 0..width {
         let sources = with_bit(turned[u * width + i], i, u);
         let rows = sources & !turned[v * width + i];
-        add_rows(table, turned, width, nodes, i, rows, v);
+        join_rows(table, turned, width, nodes, i, rows, v);
+    }
+}
+
+/// Gives row `row` of a table the columns, from word `first` on, that row x of another table has.
+#[inline]
+pub fn or_row(table: &mut [u64], row: usize, other: &[u64], x: usize, width: usize, first: usize)
+    requires row { row * width + width ≤ length table.old }
+    requires other_row { x * width + width ≤ length other.now }
+    ensures { Adds table.old table.new width (λ i y. (i ≡ row) × (first ≤ y / 64) × IsSet other.now width x y) }
+{
+    for j in first..width {
+        set_word(table, width, row, j, other[x * width + j]);
+    }
+}
+
+/// Gives row `row` of a table the columns, from word `first` on, of another table's rows whose numbers are the bits of
+/// word i.
+#[inline]
+pub fn or_rows(
+    table: &mut [u64],
+    row: usize,
+    other: &[u64],
+    i: usize,
+    rows: u64,
+    width: usize,
+    first: usize,
+)
+    requires fits { 64 * i + 64 < 2 ^ 64 }
+    requires row { row * width + width ≤ length table.old }
+    requires within { (k : ℕ) → k < 64 → HasBit rows k → (64 * i + k) * width + width ≤ length other.now }
+    ensures { Adds table.old table.new width (λ r y. (r ≡ row) × (first ≤ y / 64) × ((x : ℕ) × (x / 64 ≡ i) × HasBit rows (x % 64) × IsSet other.now width x y)) }
+{
+    let mut left = rows;
+    while left != 0 {
+        let k = left.trailing_zeros() as usize;
+        or_row(table, row, other, 64 * i + k, width, first);
+        left &= !(1 << k);
     }
 }

@@ -259,3 +259,59 @@ fn many_numbers(rt: HostRuntime) -> Result<(), Fail> {
     assert!(rt; is_list(&graph.least_cycle()?, &[63, 64, 127, last]));
     Ok(())
 }
+
+/// A long cycle of low numbers, a short one that begins behind it, and another as short.
+#[test]
+fn short_cycle_behind_a_long_one(rt: HostRuntime) -> Result<(), Fail> {
+    let mut graph = Graph::new(rt.alloc(), 200)?;
+    for u in 0..99 {
+        join(&mut graph, u, u + 1);
+    }
+    join(&mut graph, 99, 0);
+    for (u, v) in [(160, 161), (161, 162), (162, 160)] {
+        join(&mut graph, u, v);
+    }
+    assert!(rt; is_list(&graph.least_cycle()?, &[160, 161, 162]));
+    for (u, v) in [(150, 70), (70, 199), (199, 150)] {
+        join(&mut graph, u, v);
+    }
+    assert!(rt; is_list(&graph.least_cycle()?, &[70, 199, 150]));
+    join(&mut graph, 199, 199);
+    assert!(rt; is_list(&graph.least_cycle()?, &[199]));
+    Ok(())
+}
+
+/// A ring with edges to the next three places: a cycle goes round it, so it has a third of the numbers at least, and
+/// one with so few begins at each number.
+#[test]
+fn ring_with_edges_to_three_places(rt: HostRuntime) -> Result<(), Fail> {
+    for step in [1usize, 37, 129] {
+        let mut graph = Graph::new(rt.alloc(), 130)?;
+        for place in 0..130 {
+            for further in 1..4 {
+                join(
+                    &mut graph,
+                    place * step % 130,
+                    (place + further) * step % 130,
+                );
+            }
+        }
+        let Some(cycle) = graph.least_cycle()? else {
+            assert!(rt; false, "no cycle at step {step}");
+            continue;
+        };
+        assert_eq!(rt; cycle.len(), 44, "{step}");
+        assert_eq!(rt; cycle.first(), Some(&0), "{step}");
+        for (u, v) in cycle.iter().zip(cycle.iter().skip(1)) {
+            assert!(rt; has(&graph, *u, *v), "{u} {v} at step {step}");
+        }
+        let found = least_path(&graph, 0, 0)?;
+        let Some(path) = found else {
+            assert!(rt; false, "no path at step {step}");
+            continue;
+        };
+        assert!(rt; path.starts_with(&cycle), "{step}");
+        assert_eq!(rt; path.len(), 45, "{step}");
+    }
+    Ok(())
+}

@@ -1,13 +1,29 @@
+use Rattle.std.proofs.Common.{inl, inr, arith}
 use Rattle.std.proofs.lemmas.Bool.{both_ways}
 use Rattle.order_graph.specs.Tables.{Joined}
-use Rattle.order_graph.proofs.Cycling.{next_without, next_longer, next_found}
+use Rattle.order_graph.proofs.Cycling.{next_longer, next_found}
+use Rattle.order_graph.proofs.ShortCycles.{IsClosed-reach, next_closed, next_unclosed}
 use Rattle.order_graph.proofs.cycles.better.Goals as goal
 
 pub returns-then-not-bit : goal.returns-then-not-bit
 returns-then-not-bit c =
     let a = c.args in
-    next_without (λ v. v.items) (Joined a.edges.now a.width a.nodes) a.start a.best
-    (λ p. both_ways c.bit.result c.if-not-bit.true (c.bit.ensures.1 ((c.requires.keeps.tells a.start a.start c.requires.within c.requires.within).1 p))) c.requires.best
+    next_unclosed (λ v. v.items) a.nodes a.width a.edges.now a.paths.now a.turned.now a.start a.best c.requires.keeps c.requires.within
+    (λ p. both_ways c.bit.result c.if-not-bit.true (c.bit.ensures.1 ((c.requires.closed a.start (omega arith)).1 p))) c.requires.best
+
+pub shortest-requires-clause-path : goal.shortest-requires-clause-path
+shortest-requires-clause-path c =
+    let a = c.args in
+    IsClosed-reach a.nodes a.width a.edges.now a.paths.now a.turned.now a.start c.requires.keeps c.requires.within ((c.requires.closed a.start (omega arith)).0 (c.bit.ensures.0 c.if-not-bit.false))
+
+pub returns-then-not-may : goal.returns-then-not-may
+returns-then-not-may c =
+    let a = c.args in
+    elim c.in_ok-may.ensures [
+      | inl may ↦ absurd (both_ways c.in_ok-may.may c.if-not-may.true may)
+      | inr none ↦ next_closed (λ v. v.items) a.nodes a.width a.edges.now a.paths.now a.turned.now a.start a.best c.limit_below-limit.result c.requires.keeps c.requires.within
+          c.limit_below-limit.ensures none c.requires.best
+    ]
 
 pub returns-in-Some : goal.returns-in-Some
 returns-in-Some c =

@@ -1,5 +1,7 @@
-use Rattle.order_graph.proofs.Growth.{Spreads}
+use Rattle.std.proofs.Common.{◌≡◌}
+use Rattle.order_graph.specs.Tables.{IsSelfOrSet}
+use Rattle.order_graph.proofs.Growth.{Leaves, SpreadFrom}
 use Rattle.order_graph.proofs.tables.add_row.Given as goal
 
 abbrev pub invariant-loop-j : goal.invariant-loop-j
-invariant-loop-j l = Spreads l.initial.table l.table l.turned l.width l.nodes l.x l.v l.j
+invariant-loop-j l = Leaves l.initial.table l.table l.width (λ i y. (i ≡ l.x) × IsSelfOrSet l.initial.table l.width l.v y) (SpreadFrom l.initial.table l.width l.x l.v l.j)

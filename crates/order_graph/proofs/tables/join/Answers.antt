@@ -4,8 +4,8 @@ use Rattle.order_graph.proofs.Words.{HasBit-and}
 use Rattle.order_graph.proofs.Growth.{Joins-step, AreTurned-swap, given_below}
 use Rattle.order_graph.proofs.tables.join.Goals as goal
 
-pub add_rows-requires-clause-rows : goal.add_rows-requires-clause-rows
-add_rows-requires-clause-rows c = λ k h b.
+pub join_rows-requires-clause-rows : goal.join_rows-requires-clause-rows
+join_rows-requires-clause-rows c = λ k h b.
     let m : (64 * c.loop-i.i + k) % 64 ≡ k = omega arith in
     let source = ((HasBit-and c.with_bit-sources.result (2 ^ 64 - 1 - slice_index_or c.loop-i.turned (c.args.v * c.args.width + c.loop-i.i) 0) k).0 b).0 in
     given_below c.loop-i.turned c.loop-i.table c.args.width c.args.nodes c.args.u c.loop-i.i c.with_bit-sources.result (AreTurned-swap _ _ _ _ c.loop-i.invariant.turned) c.requires.from (omega arith)
@@ -13,6 +13,6 @@ add_rows-requires-clause-rows c = λ k h b.
 
 pub loop-i-preserved : goal.loop-i-preserved
 loop-i-preserved c =
-    Joins-step c.args.table.now c.loop-i.table c.loop-i.turned c.add_rows.new.table c.add_rows.new.turned c.args.width c.args.nodes c.args.u c.args.v c.loop-i.i
+    Joins-step c.args.table.now c.loop-i.table c.loop-i.turned c.join_rows.new.table c.join_rows.new.turned c.args.width c.args.nodes c.args.u c.args.v c.loop-i.i
     c.with_bit-sources.result _ c.loop-i.invariant c.requires.transitive (omega arith) c.requires.fits c.requires.from c.requires.to (search rules) c.with_bit-sources.ensures refl
-    c.add_rows.ensures.added c.add_rows.ensures.turned
+    c.join_rows.ensures.added c.join_rows.ensures.turned

@@ -2,7 +2,7 @@ use Rattle.std.proofs.Common.{◌≡◌, [], ◌∷◌, ◌++◌, arith}
 use Rattle.std.proofs.lemmas.Bool.{both_ways}
 use Rattle.std.proofs.lemmas.Grind.{common_steps}
 use Rattle.order_graph.specs.Tables.{Joined}
-use Rattle.order_graph.specs.Digraphs.{HasEdge}
+use Rattle.order_graph.specs.Digraphs.{IsEdge}
 use Rattle.order_graph.proofs.Keeping.{sees_nodes, sees_edge, sees_path}
 use Rattle.order_graph.proofs.Cycling.{IsLeastPath-track}
 use Rattle.order_graph.proofs.graphs.Graph.least_path.Goals as goal
@@ -20,5 +20,5 @@ returns c =
     let g = c.self.inside in
     let found = rw (c.in-Some.is, c.deref-2.ensures.value) at c.in_ok-found.ensures in
     let items : c.push.new.self.items ≡ c.in-Some.list.items ++ c.args.v ∷ [] = grind (arith, common_steps, c.in_ok-push-in-Some.ensures.items) in
-    IsLeastPath-track (Joined g.edges.items g.width g.nodes) (HasEdge c.args.self.now) c.args.u c.args.v c.in-Some.list.items c.push.new.self.items
+    IsLeastPath-track (Joined g.edges.items g.width g.nodes) (IsEdge c.args.self.now) c.args.u c.args.v c.in-Some.list.items c.push.new.self.items
     (sees_edge c.args.self.now g.nodes g.width g.edges.items (record { is = c.self.view_is })) found.0 items

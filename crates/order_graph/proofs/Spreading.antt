@@ -1,0 +1,219 @@
+-- Rows that gain the columns of other rows, word by word.
+use Rattle.std.proofs.Common.{◌≡◌, ◌↔◌, inl, inr, ℕ, ◌+◌, ◌*◌, ◌/◌, ◌%◌, ◌^◌, ◌<◌, ◌≤◌, List, get_or, sym, subst, arith}
+use Rattle.std.specs.Int.{bit_not, trailing_zeros, w64}
+use Rattle.std.specs.Prelude.{bit_and, bit_or}
+use Rattle.std.proofs.lemmas.Bool.{cases_eq}
+use Rattle.order_graph.specs.Tables.{HasBit, IsSet, Adds}
+use Rattle.order_graph.specs.Tracks.{IsNext, IsFresh}
+use Rattle.order_graph.proofs.Words.{HasBit-zero, HasBit-or, HasBit-and, HasBit-clear, HasBit-lowest, IsSet-word}
+use Rattle.order_graph.proofs.Growth.{Leaves, Leaves-start, Leaves-step, Leaves-end}
+
+-- a row's columns from word j on, given to a row
+abbrev pub RowFrom : List ℕ → ℕ → ℕ → ℕ → ℕ → ℕ → ℕ → Type 0
+RowFrom other width row x j i y = (i ≡ row) × (j ≤ y / 64) × IsSet other width x y
+
+pub RowFrom-start : (old other : List ℕ) (width row x first : ℕ) → Leaves old old width (RowFrom other width row x first) (RowFrom other width row x first)
+RowFrom-start old other width row x first = Leaves-start old width _ _ (λ i y h. (λ p. p, λ p. p))
+
+pub RowFrom-step : (old now new other : List ℕ) (width row x first j : ℕ) → Leaves old now width (RowFrom other width row x first) (RowFrom other width row x j) →
+    Adds now new width (λ i y. (i ≡ row) × (y / 64 ≡ j) × HasBit (get_or other (x * width + j) 0) (y % 64)) →
+    Leaves old new width (RowFrom other width row x first) (RowFrom other width row x (j + 1))
+RowFrom-step old now new other width row x first j leaves adds = Leaves-step old now new width _ _ _ _ leaves adds
+    (λ i y h p. elim (cases_eq (y / 64) j) [
+      | inl e ↦ inr (inl (p.0, e, (IsSet-word other width x j y e).0 p.2))
+      | inr ne ↦ inr (inr (p.0, omega (arith, p.1, ne), p.2))
+    ])
+    (λ i y h p. (p.0, omega (arith, p.1), (IsSet-word other width x j y p.1).1 p.2))
+    (λ i y h p. (p.0, omega (arith, p.1), p.2))
+
+pub RowFrom-end : (old now other : List ℕ) (width row x first j : ℕ) → width ≤ j → Leaves old now width (RowFrom other width row x first) (RowFrom other width row x j) → Adds old now width (RowFrom other width row x first)
+RowFrom-end old now other width row x first j past leaves = Leaves-end old now width _ _ leaves (λ i y h p. omega (arith, p.1, h))
+
+-- the columns, from word `first` on, of the rows whose numbers are bits of word i
+abbrev pub RowsFrom : List ℕ → ℕ → ℕ → ℕ → ℕ → ℕ → ℕ → ℕ → Type 0
+RowsFrom other width row i first rows r y = (r ≡ row) × (first ≤ y / 64) × ((x : ℕ) × (x / 64 ≡ i) × HasBit rows (x % 64) × IsSet other width x y)
+
+-- All but the rows of the bits left were given.
+pub record Gathers (old now other : List ℕ) (width row i first rows left : ℕ) : Type 0 where
+  pub some : (k : ℕ) → k < 64 → HasBit left k → HasBit rows k
+  pub leaves : Leaves old now width (RowsFrom other width row i first rows) (RowsFrom other width row i first left)
+
+pub Gathers-start : (old other : List ℕ) (width row i first rows : ℕ) → Gathers old old other width row i first rows rows
+Gathers-start old other width row i first rows = record {
+  some = λ k h b. b;
+  leaves = Leaves-start old width _ _ (λ r y h. (λ p. p, λ p. p));
+}
+
+pub Gathers-step : (old now new other : List ℕ) (width row i first rows left : ℕ) → Gathers old now other width row i first rows left → 0 < left → left < 2 ^ 64 →
+    Adds now new width (RowFrom other width row (64 * i + trailing_zeros w64 left) first) →
+    Gathers old new other width row i first rows (bit_and left (bit_not w64 (1 * 2 ^ trailing_zeros w64 left % 2 ^ 64)))
+Gathers-step old now new other width row i first rows left gathers some fits adds =
+    let low = HasBit-lowest left some fits in
+    let bound : trailing_zeros w64 left < 64 = low.0 in
+    let clear = λ (k : ℕ) (h : k < 64). HasBit-clear left (trailing_zeros w64 left) k bound h in
+    let at : (64 * i + trailing_zeros w64 left) / 64 ≡ i = omega arith in
+    let m : (64 * i + trailing_zeros w64 left) % 64 ≡ trailing_zeros w64 left = omega arith in
+    record {
+      some = λ k h b. gathers.some k h ((clear k h).0 b).1;
+      leaves = Leaves-step old now new width _ _ _ _ gathers.leaves adds
+          (λ r y h p. let x : ℕ = p.2.0 in
+          elim (cases_eq (x % 64) (trailing_zeros w64 left)) [
+            | inl e ↦ (let here : x ≡ 64 * i + trailing_zeros w64 left = omega (arith, e, p.2.1) in inr (inl (p.0, p.1, subst (λ n. IsSet other width n y) here p.2.3)))
+            | inr ne ↦ inr (inr (p.0, p.1, (x, p.2.1, (clear (x % 64) (omega arith)).1 (ne, p.2.2), p.2.3)))
+          ])
+          (λ r y h p. (p.0, p.1, (64 * i + trailing_zeros w64 left, at, subst (λ n. HasBit left n) (sym m) low.1, p.2)))
+          (λ r y h p. (p.0, p.1, (p.2.0, p.2.1, ((clear (p.2.0 % 64) (omega arith)).0 p.2.2).1, p.2.3)));
+    }
+
+pub Gathers-end : (old now other : List ℕ) (width row i first rows : ℕ) → Gathers old now other width row i first rows 0 → Adds old now width (RowsFrom other width row i first rows)
+Gathers-end old now other width row i first rows gathers = Leaves-end old now width _ _ gathers.leaves (λ r y h p. HasBit-zero (p.2.0 % 64) p.2.2)
+
+-- what edges lead to from the numbers of a level from word i on
+abbrev pub NextFrom : List ℕ → List ℕ → ℕ → ℕ → ℕ → ℕ → ℕ → ℕ → Type 0
+NextFrom edges levels width count first i r y = (r ≡ 0) × (first ≤ y / 64) × IsNext edges levels width count i y
+
+pub NextFrom-start : (old edges levels : List ℕ) (width count first : ℕ) → Leaves old old width (NextFrom edges levels width count first first) (NextFrom edges levels width count first first)
+NextFrom-start old edges levels width count first = Leaves-start old width _ _ (λ r y h. (λ p. p, λ p. p))
+
+pub NextFrom-step : (old now new edges levels : List ℕ) (width count first i : ℕ) → first ≤ i → i < width → Leaves old now width (NextFrom edges levels width count first first) (NextFrom edges levels width count first i) →
+    Adds now new width (RowsFrom edges width 0 i first (get_or levels (count * width + i) 0)) →
+    Leaves old new width (NextFrom edges levels width count first first) (NextFrom edges levels width count first (i + 1))
+NextFrom-step old now new edges levels width count first i from within leaves adds = Leaves-step old now new width _ _ _ _ leaves adds
+    (λ r y h p. let x : ℕ = p.2.0 in
+    elim (cases_eq (x / 64) i) [
+      | inl e ↦ inr (inl (p.0, p.1, (x, e, (IsSet-word levels width count i x e).0 p.2.3, p.2.4)))
+      | inr ne ↦ inr (inr (p.0, p.1, (x, omega (arith, p.2.1, ne), p.2.2, p.2.3, p.2.4)))
+    ])
+    (λ r y h p. let x : ℕ = p.2.0 in
+    let e : x / 64 ≡ i = p.2.1 in
+    (p.0, p.1, (x, omega arith, omega arith, (IsSet-word levels width count i x e).1 p.2.2, p.2.3)))
+    (λ r y h p. let x : ℕ = p.2.0 in (p.0, p.1, (x, omega (arith, p.2.1), p.2.2, p.2.3, p.2.4)))
+
+pub NextFrom-end : (old now edges levels : List ℕ) (width count first i : ℕ) → width ≤ i → Leaves old now width (NextFrom edges levels width count first first) (NextFrom edges levels width count first i) →
+    Adds old now width (NextFrom edges levels width count first first)
+NextFrom-end old now edges levels width count first i past leaves = Leaves-end old now width _ _ leaves (λ r y h p. omega (arith, p.2.1, p.2.2))
+
+-- the numbers reached that lead to the start, and of them those that weren't seen, from word j on
+abbrev pub SeenFrom : List ℕ → List ℕ → ℕ → ℕ → ℕ → ℕ → ℕ → Type 0
+SeenFrom reached turned width start j i y = (i ≡ 0) × (j ≤ y / 64) × IsSet reached width 0 y × IsSet turned width start y
+
+abbrev pub FreshFrom : List ℕ → List ℕ → List ℕ → ℕ → ℕ → ℕ → ℕ → ℕ → ℕ → Type 0
+FreshFrom reached turned seen width start row j i y = (i ≡ row) × (j ≤ y / 64) × IsFresh reached turned seen width start y
+
+-- The words before word j are filled; `all` has the bits of the fresh numbers in them.
+pub record Advances (reached turned old_seen seen old_levels levels : List ℕ) (width start row first j all : ℕ) : Type 0 where
+  pub from : first ≤ j
+  pub seen_leaves : Leaves old_seen seen width (SeenFrom reached turned width start first) (SeenFrom reached turned width start j)
+  pub level_leaves : Leaves old_levels levels width (FreshFrom reached turned old_seen width start row first) (FreshFrom reached turned old_seen width start row j)
+  pub later : (y : ℕ) → y / 64 < width → j ≤ y / 64 → IsSet seen width 0 y → IsSet old_seen width 0 y
+  pub some : (y : ℕ) → y / 64 < j → first ≤ y / 64 → IsFresh reached turned old_seen width start y → HasBit all (y % 64)
+
+pub Advances-start : (reached turned seen levels : List ℕ) (width start row first : ℕ) → Advances reached turned seen seen levels levels width start row first first 0
+Advances-start reached turned seen levels width start row first = record {
+  from = omega arith;
+  seen_leaves = Leaves-start seen width _ _ (λ i y h. (λ p. p, λ p. p));
+  level_leaves = Leaves-start levels width _ _ (λ i y h. (λ p. p, λ p. p));
+  later = λ y h l s. s;
+  some = λ y h l p. absurd (omega (arith, h, l));
+}
+
+pub Advances-step : (reached turned old_seen seen new_seen old_levels levels new_levels : List ℕ) (width start row first j all given fresh : ℕ) →
+    Advances reached turned old_seen seen old_levels levels width start row first j all → j < width →
+    given ≡ bit_and (get_or reached j 0) (get_or turned (start * width + j) 0) →
+    Adds seen new_seen width (λ i y. (i ≡ 0) × (y / 64 ≡ j) × HasBit given (y % 64)) →
+    ((y : ℕ) → y / 64 ≡ j → HasBit fresh (y % 64) ↔ (HasBit given (y % 64) × (IsSet seen width 0 y → ⊥))) →
+    Adds levels new_levels width (λ i y. (i ≡ row) × (y / 64 ≡ j) × HasBit fresh (y % 64)) →
+    Advances reached turned old_seen new_seen old_levels new_levels width start row first (j + 1) (bit_or all fresh)
+Advances-step reached turned old_seen seen new_seen old_levels levels new_levels width start row first j all given fresh advances within same sees news fills = record {
+  from = omega (arith, advances.from);
+  seen_leaves = Leaves-step old_seen seen new_seen width _ _ _ _ advances.seen_leaves sees
+      (λ i y h p. elim (cases_eq (y / 64) j) [
+        | inl e ↦ inr (inl (p.0, e, (given_is y e).1 (p.2, p.3)))
+        | inr ne ↦ inr (inr (p.0, omega (arith, p.1, ne), p.2, p.3))
+      ])
+      (λ i y h p. let g = (given_is y p.1).0 p.2 in (p.0, omega (arith, p.1), g.0, g.1))
+      (λ i y h p. (p.0, omega (arith, p.1), p.2, p.3));
+  level_leaves = Leaves-step old_levels levels new_levels width _ _ _ _ advances.level_leaves fills
+      (λ i y h p. elim (cases_eq (y / 64) j) [
+        | inl e ↦ inr (inl (p.0, e, (fresh_is y h e).1 p.2))
+        | inr ne ↦ inr (inr (p.0, omega (arith, p.1, ne), p.2))
+      ])
+      (λ i y h p. (p.0, omega (arith, p.1), (fresh_is y h p.1).0 p.2))
+      (λ i y h p. (p.0, omega (arith, p.1), p.2));
+  later = λ y h l s. elim ((sees.bits 0 y h).0 s) [
+    | inl o ↦ advances.later y h (omega (arith, l)) o
+    | inr g ↦ absurd (omega (arith, g.1, l))
+  ];
+  some = λ y h l p. elim (cases_eq (y / 64) j) [
+    | inl e ↦ (HasBit-or all fresh (y % 64)).1 (inr ((fresh_is y (omega (arith, e, within)) e).1 p))
+    | inr ne ↦ (HasBit-or all fresh (y % 64)).1 (inl (advances.some y (omega (arith, h, ne)) l p))
+  ];
+}
+  where
+    given_is : (y : ℕ) → y / 64 ≡ j → HasBit given (y % 64) ↔ (IsSet reached width 0 y × IsSet turned width start y)
+    given_is y e =
+        let both = HasBit-and (get_or reached j 0) (get_or turned (start * width + j) 0) (y % 64) in
+        let zero : 0 * width + j ≡ j = omega arith in
+        let r = subst (λ n. IsSet reached width 0 y ↔ HasBit (get_or reached n 0) (y % 64)) zero (IsSet-word reached width 0 j y e) in
+        let t = IsSet-word turned width start j y e in (
+          λ b. let p = both.0 (subst (λ n. HasBit n (y % 64)) same b) in (r.1 p.0, t.1 p.1),
+          λ p. subst (λ n. HasBit n (y % 64)) (sym same) (both.1 (r.0 p.0, t.0 p.1)),
+        )
+
+    fresh_is : (y : ℕ) → y / 64 < width → y / 64 ≡ j → HasBit fresh (y % 64) ↔ IsFresh reached turned old_seen width start y
+    fresh_is y h e = (
+      λ b. let p = (news y e).0 b in let g = (given_is y e).0 p.0 in (g.0, g.1, λ s. p.1 (advances.seen_leaves.kept 0 y h s)),
+      λ p. (news y e).1 ((given_is y e).1 (p.0, p.1), λ s. p.2 (advances.later y h (omega (arith, e)) s)),
+    )
+
+pub Advances-level : (reached turned old_seen seen old_levels levels : List ℕ) (width start row first j all : ℕ) → width ≤ j → Advances reached turned old_seen seen old_levels levels width start row first j all →
+    Adds old_levels levels width (FreshFrom reached turned old_seen width start row first)
+Advances-level reached turned old_seen seen old_levels levels width start row first j all past advances =
+    Leaves-end old_levels levels width _ _ advances.level_leaves (λ i y h p. omega (arith, p.1, h))
+
+pub Advances-seen : (reached turned old_seen seen old_levels levels : List ℕ) (width start row first j all : ℕ) → width ≤ j → Advances reached turned old_seen seen old_levels levels width start row first j all →
+    Adds old_seen seen width (SeenFrom reached turned width start first)
+Advances-seen reached turned old_seen seen old_levels levels width start row first j all past advances =
+    Leaves-end old_seen seen width _ _ advances.seen_leaves (λ i y h p. omega (arith, p.1, h))
+
+-- where no bit of a fresh number was met, no number is fresh
+pub Advances-some : (reached turned old_seen seen old_levels levels : List ℕ) (width start row first j : ℕ) → width ≤ j → Advances reached turned old_seen seen old_levels levels width start row first j 0 →
+    (y : ℕ) → y / 64 < width → first ≤ y / 64 → IsFresh reached turned old_seen width start y → ⊥
+Advances-some reached turned old_seen seen old_levels levels width start row first j past advances y h l p = HasBit-zero (y % 64) (advances.some y (omega (arith, h, past)) l p)
+
+-- the numbers from word j on that x has an edge to, that reach x, and that a row has
+abbrev pub ClosedFrom : List ℕ → List ℕ → List ℕ → ℕ → ℕ → ℕ → ℕ → ℕ → Type 0
+ClosedFrom edges turned upto width x j i y = (i ≡ 0) × (j ≤ y / 64) × IsSet edges width x y × IsSet turned width x y × IsSet upto width 0 y
+
+pub ClosedFrom-start : (old edges turned upto : List ℕ) (width x : ℕ) → Leaves old old width (λ i y. (i ≡ 0) × IsSet edges width x y × IsSet turned width x y × IsSet upto width 0 y) (ClosedFrom edges turned upto width x 0)
+ClosedFrom-start old edges turned upto width x = Leaves-start old width _ _ (λ i y h. (λ p. (p.0, omega arith, p.1, p.2, p.3), λ p. (p.0, p.2, p.3, p.4)))
+
+pub ClosedFrom-step : (old now new edges turned upto : List ℕ) (width x j given : ℕ) →
+    Leaves old now width (λ i y. (i ≡ 0) × IsSet edges width x y × IsSet turned width x y × IsSet upto width 0 y) (ClosedFrom edges turned upto width x j) →
+    given ≡ bit_and (bit_and (get_or edges (x * width + j) 0) (get_or turned (x * width + j) 0)) (get_or upto j 0) →
+    Adds now new width (λ i y. (i ≡ 0) × (y / 64 ≡ j) × HasBit given (y % 64)) →
+    Leaves old new width (λ i y. (i ≡ 0) × IsSet edges width x y × IsSet turned width x y × IsSet upto width 0 y) (ClosedFrom edges turned upto width x (j + 1))
+ClosedFrom-step old now new edges turned upto width x j given leaves same adds = Leaves-step old now new width _ _ _ _ leaves adds
+    (λ i y h p. elim (cases_eq (y / 64) j) [
+      | inl e ↦ inr (inl (p.0, e, (given_is y e).1 (p.2, p.3, p.4)))
+      | inr ne ↦ inr (inr (p.0, omega (arith, p.1, ne), p.2, p.3, p.4))
+    ])
+    (λ i y h p. let g = (given_is y p.1).0 p.2 in (p.0, omega (arith, p.1), g.0, g.1, g.2))
+    (λ i y h p. (p.0, omega (arith, p.1), p.2, p.3, p.4))
+  where
+    given_is : (y : ℕ) → y / 64 ≡ j → HasBit given (y % 64) ↔ (IsSet edges width x y × IsSet turned width x y × IsSet upto width 0 y)
+    given_is y e =
+        let all = HasBit-and (bit_and (get_or edges (x * width + j) 0) (get_or turned (x * width + j) 0)) (get_or upto j 0) (y % 64) in
+        let both = HasBit-and (get_or edges (x * width + j) 0) (get_or turned (x * width + j) 0) (y % 64) in
+        let zero : 0 * width + j ≡ j = omega arith in
+        let u = subst (λ n. IsSet upto width 0 y ↔ HasBit (get_or upto n 0) (y % 64)) zero (IsSet-word upto width 0 j y e) in
+        let s = IsSet-word edges width x j y e in
+        let t = IsSet-word turned width x j y e in (
+          λ b. let p = all.0 (subst (λ n. HasBit n (y % 64)) same b) in let q = both.0 p.0 in (s.1 q.0, t.1 q.1, u.1 p.1),
+          λ p. subst (λ n. HasBit n (y % 64)) (sym same) (all.1 (both.1 (s.0 p.0, t.0 p.1), u.0 p.2)),
+        )
+
+pub ClosedFrom-end : (old now edges turned upto : List ℕ) (width x : ℕ) →
+    Leaves old now width (λ i y. (i ≡ 0) × IsSet edges width x y × IsSet turned width x y × IsSet upto width 0 y) (ClosedFrom edges turned upto width x width) →
+    Adds old now width (λ i y. (i ≡ 0) × IsSet edges width x y × IsSet turned width x y × IsSet upto width 0 y)
+ClosedFrom-end old now edges turned upto width x leaves = Leaves-end old now width _ _ leaves (λ i y h p. omega (arith, p.1, h))
