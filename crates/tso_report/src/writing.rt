@@ -24,9 +24,7 @@ pub fn write_text<W: Write>(writer: &mut W, text: &[u8]) -> Result<(), Fault>
         match writer.write(&text[written..]) {
             Ok(0) => return Err(Fault::Write),
             Ok(count) => written += count,
-            Err(error)
-                if error.kind() == ErrorKind::Interrupted && interrupts < MAX_INTERRUPTS =>
-            {
+            Err(error) if error.kind() == ErrorKind::Interrupted && interrupts < MAX_INTERRUPTS => {
                 interrupts += 1;
             }
             Err(_) => return Err(Fault::Write),
