@@ -1,13 +1,12 @@
 -- Laws on the report of an input.
-use Rattle.std.proofs.Common.{◌≡◌, ◌↔◌, ◌⊎◌, ℕ, ◌<◌, ◌≤◌, List, ◌++◌, length, take, Bool, true, false, Some, None, IfSome, refl, ap, sym, subst, ◌∙◌, arith, inl, inr, ⊎_elim}
+use Rattle.std.proofs.Common.{◌≡◌, ◌↔◌, ℕ, ◌<◌, ◌≤◌, List, ◌++◌, length, take, Bool, true, false, Some, None, IfSome, refl, ap, sym, subst, ◌∙◌, arith, inl, inr, ⊎_elim}
 use Rattle.std.proofs.lemmas.Bool.{false≢true, cases_lt}
 use Rattle.std.proofs.lemmas.List.{take_all, length-take-le}
 use Rattle.std.specs.Prelude.{Option}
 use Rattle.tso_ops.specs.Values.{TraceValue, trace_of_lists}
-use Rattle.tso_ops.specs.Events.{processor_count, event_total, IsUnwritten}
-use Rattle.tso_text.specs.declared.faults.Why.{Why}
+use Rattle.tso_ops.specs.Events.{processor_count, event_total}
 use Rattle.tso_text.specs.declared.faults.Why.TheVariants.{TooLong}
-use Rattle.tso_text.specs.Grammars.{trace_grammar, SpellsTrace, IsTraceRefusal, IsRefusedTrace}
+use Rattle.tso_text.specs.Grammars.{trace_grammar, SpellsTrace, IsRefusedTrace}
 use Rattle.tso_text.proofs.Reaching.{too_long}
 use Rattle.tso_text.proofs.SpellingFacts.{spelled_or_refused, not_both, one_value, one_refusal}
 use Rattle.tso_cert.specs.declared.steps.Certificate.{Certificate}
@@ -22,7 +21,7 @@ use Rattle.tso_report.specs.declared.verdicts.Verdict.TheVariants.{NoViolation, 
 use Rattle.tso_report.specs.declared.faults.Fault.{Fault}
 use Rattle.tso_report.specs.declared.faults.Fault.TheVariants.{Write}
 use Rattle.tso_report.specs.Judged.{IsViolation, IsCertificateText, unwritten_text}
-use Rattle.tso_report.specs.Reports.{head_text, no_violation_text, refusal_text, violation_text, SaysVerdict, IsReport, IsRefusalReport, IsReportOfReader, IsTraceReport, LeavesFault, SpellsViolation}
+use Rattle.tso_report.specs.Reports.{head_text, no_violation_text, refusal_text, violation_text, SaysVerdict, IsReport, IsReportOfReader, IsTraceReport, LeavesFault, SpellsViolation}
 use Rattle.tso_report.specs.Streams.{AppendsFront}
 
 -- ---- what is read of a long input

@@ -27,11 +27,11 @@ const MAX_BYTES: usize = 1_048_576;
 /// each nothing was written. Write where the writer failed, took no byte or was interrupted more than 1,048,576 times:
 /// then what was written is a front of the report.
 pub fn judge<H: Threads + Wait + Sync, R: Read, W: Write>(
-    _rt: &H,
+    rt: &H,
     alloc: Global,
     reader: &mut R,
     writer: &mut W,
-    _workers: usize,
+    workers: usize,
 ) -> Result<Verdict, Fault>
     ensures report { IfOk result (WritesReport (R.remaining reader.old) (W.contents writer.old) (W.contents writer.new)) }
     ensures violation { IfOk result (λ verdict. IfSome (R.remaining reader.old) (λ all. (verdict ≡ Verdict.Violation) ↔ SpellsViolation all)) }
