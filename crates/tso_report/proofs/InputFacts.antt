@@ -1,0 +1,165 @@
+-- Laws on the report of an input.
+use Rattle.std.proofs.Common.{◌≡◌, ◌↔◌, ℕ, ◌<◌, ◌≤◌, List, ◌++◌, length, take, Bool, true, false, Some, None, IfSome, refl, ap, sym, subst, ◌∙◌, arith, inl, inr, ⊎_elim}
+use Rattle.std.proofs.lemmas.Bool.{false≢true, cases_lt}
+use Rattle.std.proofs.lemmas.List.{take_all, length-take-le}
+use Rattle.std.specs.Prelude.{Option}
+use Rattle.tso_ops.specs.Values.{TraceValue, trace_of_lists}
+use Rattle.tso_ops.specs.Events.{processor_count, event_total}
+use Rattle.tso_text.specs.declared.faults.Why.TheVariants.{TooLong}
+use Rattle.tso_text.specs.Grammars.{trace_grammar, SpellsTrace, IsRefusedTrace}
+use Rattle.tso_text.proofs.Reaching.{too_long}
+use Rattle.tso_text.proofs.SpellingFacts.{spelled_or_refused, not_both, one_value, one_refusal}
+use Rattle.tso_cert.specs.declared.steps.Certificate.{Certificate}
+use Rattle.tso_cert.specs.declared.steps.Certificate.TheVariants.{Unwritten, Cycle}
+use Rattle.tso_model.specs.Certs.{IsCertificateOf}
+use Rattle.tso_model.specs.Order.{IsConsistent}
+use Rattle.tso_model.proofs.CertificateExists.{certificate_exists}
+use Rattle.tso_model.proofs.Decided.{unwritten_decided}
+use Rattle.tso_model.proofs.EdgesForward.{all_written}
+use Rattle.tso_report.specs.declared.verdicts.Verdict.{Verdict}
+use Rattle.tso_report.specs.declared.verdicts.Verdict.TheVariants.{NoViolation, Violation, Refused}
+use Rattle.tso_report.specs.declared.faults.Fault.{Fault}
+use Rattle.tso_report.specs.declared.faults.Fault.TheVariants.{Write}
+use Rattle.tso_report.specs.Judged.{IsViolation, IsCertificateText, unwritten_text}
+use Rattle.tso_report.specs.Reports.{head_text, no_violation_text, refusal_text, violation_text, SaysVerdict, IsReport, IsReportOfReader, IsTraceReport, LeavesFault, SpellsViolation}
+use Rattle.tso_report.specs.Streams.{AppendsFront}
+
+-- ---- what is read of a long input
+
+-- a refusal of a text that is too long
+too_long_report : (input text : List ℕ) (v : Verdict) → 1048576 < length input → text ≡ refusal_text 0 TooLong → v ≡ Refused → IsReport input text v
+too_long_report input text v long is refused = inr (0, TooLong, too_long trace_grammar input long, is, refused)
+
+-- a text that is too long has no other report
+only_too_long : (input text : List ℕ) (v : Verdict) → 1048576 < length input → IsReport input text v → (text ≡ refusal_text 0 TooLong) × (v ≡ Refused)
+only_too_long input text v long (inl spelled) = absurd (not_both trace_grammar input spelled.0.lists 0 TooLong spelled.1 (too_long trace_grammar input long))
+only_too_long input text v long (inr refused) =
+    let same = one_refusal trace_grammar input refused.0 0 refused.1 TooLong refused.2 (too_long trace_grammar input long) in
+    (refused.3 ∙ ap (λ line. refusal_text line refused.1) same.0 ∙ ap (refusal_text 0) same.1, refused.4)
+
+-- The report of the bytes up to one past the limit is that of all.
+pub report_of_front : (input text : List ℕ) (v : Verdict) → IsReport (take 1048577 input) text v → IsReport input text v
+report_of_front input text v report = ⊎_elim long short (cases_lt 1048576 (length input))
+  where
+    short : length input ≤ 1048576 → IsReport input text v
+    short fits = subst (λ front. IsReport front text v) (take_all 1048577 input (omega arith)) report
+
+    long : 1048576 < length input → IsReport input text v
+    long past =
+        let count = length-take-le 1048577 input (omega arith) in
+        let only = only_too_long (take 1048577 input) text v (omega (arith, count)) report in
+        too_long_report input text v past only.0 only.1
+
+-- ---- one report
+
+one_certificate_text : (t : TraceValue) (a b : List ℕ) → IsCertificateText t a → IsCertificateText t b → a ≡ b
+one_certificate_text t a b p q =
+    let same : p.0 ≡ q.0 = omega (arith, p.1.1 q.0 q.1.0, q.1.1 p.0 p.1.0) in
+    p.2 ∙ ap unwritten_text same ∙ sym q.2
+
+one_verdict : (t : TraceValue) (a b : List ℕ) (v w : Verdict) → SaysVerdict t a v → SaysVerdict t b w → (a ≡ b) × (v ≡ w)
+one_verdict t a b NoViolation NoViolation p q = (p.1 ∙ sym q.1, refl)
+one_verdict t a b NoViolation Violation p q = absurd (p.0 q.0)
+one_verdict t a b NoViolation Refused p q = absurd q
+one_verdict t a b Violation NoViolation p q = absurd (q.0 p.0)
+one_verdict t a b Violation Violation p q = (p.1.2 ∙ ap violation_text (one_certificate_text t p.1.0 q.1.0 p.1.1 q.1.1) ∙ sym q.1.2, refl)
+one_verdict t a b Violation Refused p q = absurd q
+one_verdict t a b Refused w p q = absurd p
+
+one_trace_report : (t : TraceValue) (a b : List ℕ) (v w : Verdict) → IsTraceReport t a v → IsTraceReport t b w → (a ≡ b) × (v ≡ w)
+one_trace_report t a b v w p q =
+    let same = one_verdict t p.lines q.lines v w p.says q.says in
+    let head : ℕ → List ℕ = head_text (processor_count t) (event_total t) in
+    (p.whole ∙ ap (λ rounds. head rounds ++ p.lines) (p.rounds_number ∙ sym q.rounds_number) ∙ ap (λ lines. head q.rounds ++ lines) same.0 ∙ sym q.whole, same.1)
+
+one_trace : (input : List ℕ) (t u : TraceValue) → SpellsTrace input t → SpellsTrace input u → t ≡ u
+one_trace input t u s r = ap trace_of_lists (one_value trace_grammar input t.lists u.lists s r)
+
+pub one_report : (input a b : List ℕ) (v w : Verdict) → IsReport input a v → IsReport input b w → (a ≡ b) × (v ≡ w)
+one_report input a b v w (inl p) (inl q) = one_trace_report q.0 a b v w (subst (λ t. IsTraceReport t a v) (one_trace input p.0 q.0 p.1 q.1) p.2) q.2
+one_report input a b v w (inl p) (inr q) = absurd (not_both trace_grammar input p.0.lists q.0 q.1 p.1 q.2)
+one_report input a b v w (inr p) (inl q) = absurd (not_both trace_grammar input q.0.lists p.0 p.1 q.1 p.2)
+one_report input a b v w (inr p) (inr q) =
+    let same = one_refusal trace_grammar input p.0 q.0 p.1 q.1 p.2 q.2 in
+    (p.3 ∙ ap (λ line. refusal_text line p.1) same.0 ∙ ap (refusal_text q.0) same.1 ∙ sym q.3, p.4 ∙ sym q.4)
+
+-- ---- some report
+
+violation_says : (t : TraceValue) (c : Certificate) → IsCertificateOf t c → IsViolation t → (lines : List ℕ) × SaysVerdict t lines Violation
+violation_says t (Unwritten n) of_trace violation = (violation_text (unwritten_text n), (violation, (unwritten_text n, (n, of_trace, refl), refl)))
+violation_says t (Cycle steps cycle) of_trace violation = absurd (of_trace.0 violation.0 violation.1)
+
+some_verdict : (t : TraceValue) → (lines : List ℕ) × (v : Verdict) × SaysVerdict t lines v
+some_verdict t = elim (unwritten_decided t) [
+  | inl violation ↦ let found = certificate_exists t (inl violation) in let says = violation_says t found.0 found.1 violation in (says.0, Violation, says.1)
+  | inr none ↦ (no_violation_text, NoViolation, (none, refl))
+]
+
+some_trace_report : (input : List ℕ) (t : TraceValue) → SpellsTrace input t → (text : List ℕ) × (v : Verdict) × IsReport input text v
+some_trace_report input t spells =
+    let says = some_verdict t in
+    let text = head_text (processor_count t) (event_total t) 0 ++ says.0 in
+    (text, says.1, inl (t, spells, record { rounds = 0; rounds_number = refl; lines = says.0; says = says.2; whole = refl }))
+
+pub some_report : (input : List ℕ) → (text : List ℕ) × (v : Verdict) × IsReport input text v
+some_report input =
+    ⊎_elim (λ s. some_trace_report input (trace_of_lists s.0) s.1) (λ r. (refusal_text r.0 r.1, Refused, inr (r.0, r.1, r.2, refl, refl))) (spelled_or_refused trace_grammar input)
+
+-- ---- what the verdict says
+
+is_violation : Verdict → Bool
+is_violation NoViolation = false
+is_violation Violation = true
+is_violation Refused = false
+
+said_violation : (t : TraceValue) (lines : List ℕ) (v : Verdict) → SaysVerdict t lines v → (v ≡ Violation) ↔ IsViolation t
+unfolding is_violation
+said_violation t lines NoViolation says = (λ e. absurd (false≢true (ap is_violation e)), λ violation. absurd (says.0 violation))
+said_violation t lines Violation says = (λ _. says.0, λ _. refl)
+said_violation t lines Refused says = absurd says
+
+-- VIOLATION stands there exactly where the input spells a violation
+pub violation_exactly : (input text : List ℕ) (v : Verdict) → IsReport input text v → (v ≡ Violation) ↔ SpellsViolation input
+unfolding is_violation
+violation_exactly input text v (inl p) =
+    let said = said_violation p.0 p.2.lines v p.2.says in
+    (λ e. (p.0, p.1, said.0 e), λ s. said.1 (subst IsViolation (one_trace input s.0 p.0 s.1 p.1) s.2))
+violation_exactly input text v (inr p) =
+    (λ e. absurd (false≢true (ap is_violation (sym p.4 ∙ e))), λ s. absurd (not_both trace_grammar input s.0.lists p.0 p.1 s.1 p.2))
+
+-- and REFUSED exactly where it spells no trace
+pub refused_exactly : (input text : List ℕ) (v : Verdict) → IsReport input text v → (v ≡ Refused) ↔ IsRefusedTrace input
+refused_exactly input text v (inl p) =
+    (λ e. absurd (subst (SaysVerdict p.0 p.2.lines) e p.2.says), λ r. absurd (not_both trace_grammar input p.0.lists r.0 r.1 p.1 r.2))
+refused_exactly input text v (inr p) = (λ _. (p.0, p.1, p.2), λ _. p.4)
+
+-- a violation leaves no order
+pub no_order : (input text : List ℕ) → IsReport input text Violation → (t : TraceValue) → SpellsTrace input t → IsConsistent t → ⊥
+no_order input text report t spells consistent =
+    let spelled = (violation_exactly input text Violation report).0 refl in
+    let unwritten = subst IsViolation (one_trace input spelled.0 t spelled.1 spells) spelled.2 in
+    all_written t consistent.0 consistent.1 unwritten.0 unwritten.1
+
+-- ---- what is judged of a reader
+
+pub report_of_reader : (remaining : Option (List ℕ)) (bytes seen text : List ℕ) (v : Verdict) → IfSome remaining (λ all. bytes ≡ take 1048577 all) → seen ≡ bytes →
+    IsReport seen text v → IsReportOfReader remaining text v
+report_of_reader None bytes seen text v front same report = record { bytes = seen; of_read = report; of_all = tt }
+report_of_reader (Some all) bytes seen text v front same report =
+    record { bytes = seen; of_read = report; of_all = report_of_front all text v (subst (λ b. IsReport b text v) (same ∙ front) report) }
+
+pub violation_of_reader : (remaining : Option (List ℕ)) (text : List ℕ) (v : Verdict) → IsReportOfReader remaining text v →
+    IfSome remaining (λ all. (v ≡ Violation) ↔ SpellsViolation all)
+violation_of_reader None text v report = tt
+violation_of_reader (Some all) text v report = violation_exactly all text v report.of_all
+
+pub no_order_of_reader : (remaining : Option (List ℕ)) (text : List ℕ) (v : Verdict) → IsReportOfReader remaining text v → v ≡ Violation →
+    IfSome remaining (λ all. (t : TraceValue) → SpellsTrace all t → IsConsistent t → ⊥)
+no_order_of_reader None text v report e = tt
+no_order_of_reader (Some all) text v report e = no_order all text (subst (IsReport all text) e report.of_all)
+
+-- the fault of a writer leaves a front of the report
+pub leaves_front : (remaining old new : Option (List ℕ)) (text written : List ℕ) (v : Verdict) (fault : Fault) → IsReportOfReader remaining text v → written ≡ text →
+    AppendsFront old new written → fault ≡ Write → LeavesFault remaining old new fault
+leaves_front remaining old new text written v fault report same front e =
+    subst (LeavesFault remaining old new) (sym e) (v, text, report, subst (AppendsFront old new) same front)

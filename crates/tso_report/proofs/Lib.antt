@@ -1,0 +1,3 @@
+pub mod InputFacts
+pub mod ReportFacts
+pub mod StreamFacts

@@ -1,0 +1,103 @@
+-- The report of an input: the text that is written for it, and the verdict that it gives.
+use Rattle.std.specs.Prelude.{◌≡◌, ◌⊎◌, ℕ, List, [], ◌∷◌, ◌++◌, codes, Option, IfSome}
+use Rattle.std.specs.Fmt.{decimal}
+use Rattle.std.specs.Io.KnownBytes.{Appends, Keeps}
+use Rattle.tso_ops.specs.Values.{TraceValue}
+use Rattle.tso_ops.specs.Events.{processor_count, event_total}
+use Rattle.tso_text.specs.declared.faults.Why.{Why}
+use Rattle.tso_text.specs.declared.faults.Why.TheVariants.{BadHeader, BadLine, BadNumber, BeforeProc, TooManyProcessors, TooManyEvents, AddressRange, ZeroValue, RepeatedValue, MissingEnd, AfterEnd, TooLong, ProcessorRange, OutOfMemory as NoMemory}
+use Rattle.tso_text.specs.Grammars.{SpellsTrace, IsTraceRefusal}
+use Rattle.tso_report.specs.declared.verdicts.Verdict.{Verdict}
+use Rattle.tso_report.specs.declared.verdicts.Verdict.TheVariants.{NoViolation, Violation, Refused}
+use Rattle.tso_report.specs.declared.faults.Fault.{Fault}
+use Rattle.tso_report.specs.declared.faults.Fault.TheVariants.{OutOfMemory, Read, Write, NoThread, Missing}
+use Rattle.tso_report.specs.Judged.{IsViolation, IsRoundsNumber, IsCertificateText}
+use Rattle.tso_report.specs.Streams.{AppendsFront}
+
+-- ---- texts
+
+-- the first two lines of a report on a trace
+abbrev pub head_text : ℕ → ℕ → ℕ → List ℕ
+head_text processors events rounds =
+    codes "TSO REPORT 1" ++ 10 ∷ codes "processors " ++ decimal processors ++ codes " events " ++ decimal events ++ codes " rounds " ++ decimal rounds ++ 10 ∷ []
+
+-- the lines that say the verdict
+abbrev pub no_violation_text : List ℕ
+no_violation_text = codes "NO VIOLATION FOUND" ++ 10 ∷ []
+
+abbrev pub violation_text : List ℕ → List ℕ
+violation_text certificate = codes "VIOLATION" ++ 10 ∷ certificate
+
+-- the name of a refusal
+abbrev pub name_of : Why → List ℕ
+name_of BadHeader = codes "BadHeader"
+name_of BadLine = codes "BadLine"
+name_of BadNumber = codes "BadNumber"
+name_of BeforeProc = codes "BeforeProc"
+name_of TooManyProcessors = codes "TooManyProcessors"
+name_of TooManyEvents = codes "TooManyEvents"
+name_of AddressRange = codes "AddressRange"
+name_of ZeroValue = codes "ZeroValue"
+name_of RepeatedValue = codes "RepeatedValue"
+name_of MissingEnd = codes "MissingEnd"
+name_of AfterEnd = codes "AfterEnd"
+name_of TooLong = codes "TooLong"
+name_of ProcessorRange = codes "ProcessorRange"
+name_of NoMemory = codes "OutOfMemory"
+
+-- the line of a refusal
+abbrev pub refusal_text : ℕ → Why → List ℕ
+refusal_text line why = codes "REFUSED " ++ name_of why ++ codes " line " ++ decimal line ++ 10 ∷ []
+
+-- ---- the report of a trace
+
+-- The lines say the verdict on the trace. That of no trace is Refused.
+abbrev pub SaysVerdict : TraceValue → List ℕ → Verdict → Type 0
+SaysVerdict t lines NoViolation = (IsViolation t → ⊥) × (lines ≡ no_violation_text)
+SaysVerdict t lines Violation = IsViolation t × ((certificate : List ℕ) × IsCertificateText t certificate × (lines ≡ violation_text certificate))
+SaysVerdict t lines Refused = ⊥
+
+pub record IsTraceReport (t : TraceValue) (text : List ℕ) (verdict : Verdict) : Type 0 where
+  pub rounds : ℕ
+  pub rounds_number : IsRoundsNumber t rounds
+  pub lines : List ℕ
+  pub says : SaysVerdict t lines verdict
+  pub whole : text ≡ head_text (processor_count t) (event_total t) rounds ++ lines
+
+-- ---- the report of an input
+
+-- the input is refused, and the text is the line of its refusal
+abbrev pub IsRefusalReport : List ℕ → List ℕ → Verdict → Type 0
+IsRefusalReport input text verdict = (line : ℕ) × (why : Why) × IsTraceRefusal input line why × (text ≡ refusal_text line why) × (verdict ≡ Refused)
+
+-- The text is the report of the input: that of the trace that it spells, or that of its refusal.
+abbrev pub IsReport : List ℕ → List ℕ → Verdict → Type 0
+IsReport input text verdict = ((t : TraceValue) × SpellsTrace input t × IsTraceReport t text verdict) ⊎ IsRefusalReport input text verdict
+
+-- the input spells a trace that is a violation
+abbrev pub SpellsViolation : List ℕ → Type 0
+SpellsViolation input = (t : TraceValue) × SpellsTrace input t × IsViolation t
+
+-- ---- what a call writes
+
+-- The text is the report of the bytes that were read, and of all bytes of the reader where these are known.
+pub record IsReportOfReader (remaining : Option (List ℕ)) (text : List ℕ) (verdict : Verdict) : Type 0 where
+  pub bytes : List ℕ
+  pub of_read : IsReport bytes text verdict
+  pub of_all : IfSome remaining (λ all. IsReport all text verdict)
+
+-- known bytes of the writer grow by the report of the reader's bytes, with this verdict
+abbrev pub WritesReport : Option (List ℕ) → Option (List ℕ) → Option (List ℕ) → Verdict → Type 0
+WritesReport remaining old new verdict = (text : List ℕ) × IsReportOfReader remaining text verdict × Appends old new text
+
+-- known bytes of the writer grow by a front of the report of the reader's bytes
+abbrev pub WritesFront : Option (List ℕ) → Option (List ℕ) → Option (List ℕ) → Type 0
+WritesFront remaining old new = (verdict : Verdict) × (text : List ℕ) × IsReportOfReader remaining text verdict × AppendsFront old new text
+
+-- What a fault leaves: on Write a front of the report, else nothing was written. A judged text has no seed to miss.
+abbrev pub LeavesFault : Option (List ℕ) → Option (List ℕ) → Option (List ℕ) → Fault → Type 0
+LeavesFault remaining old new OutOfMemory = Keeps old new
+LeavesFault remaining old new Read = Keeps old new
+LeavesFault remaining old new Write = WritesFront remaining old new
+LeavesFault remaining old new NoThread = Keeps old new
+LeavesFault remaining old new (Missing seed) = ⊥

@@ -1,0 +1,53 @@
+ghost use Rattle.std.specs.Prelude.{◌≡◌, ◌⊎◌, ◌↔◌, string_bytes, IfSome, IfOk, IfErr};
+ghost use Rattle.tso_ops.specs.Values.{TraceValue};
+ghost use Rattle.tso_text.specs.Grammars.{SpellsTrace};
+ghost use Rattle.tso_model.specs.Order.{IsConsistent};
+ghost use Rattle.tso_report.specs.declared.faults.Fault.{Fault};
+ghost use Rattle.tso_report.specs.declared.verdicts.Verdict.{Verdict};
+ghost use Rattle.tso_report.specs.Reports.{IsReportOfReader, LeavesFault, SpellsViolation, WritesReport};
+
+use crate::faults::Fault;
+use crate::reading::read_all;
+use crate::reports::{Report, report_of};
+use crate::verdicts::Verdict;
+use crate::writing::write_text;
+use std::alloc::Global;
+use std::io::{Read, Write};
+use std::sync::Wait;
+use std::thread::Threads;
+
+/// The greatest number of bytes of a trace's text.
+const MAX_BYTES: usize = 1_048_576;
+
+/// Judges a trace's text: reads it, judges it on `workers` workers (1 to 64), builds its whole report, and then writes it.
+///
+/// What is written is the one report of the input, for each number of workers, and the verdict is the one that it
+/// says. An input that is no trace is Refused, by its report of one line. Faults: OutOfMemory where a growth was
+/// refused; Read where the reader failed or passed 2,097,152 calls; NoThread where the system refused a thread; with
+/// each nothing was written. Write where the writer failed, took no byte or was interrupted more than 1,048,576 times:
+/// then what was written is a front of the report.
+pub fn judge<H: Threads + Wait + Sync, R: Read, W: Write>(
+    rt: &H,
+    alloc: Global,
+    reader: &mut R,
+    writer: &mut W,
+    workers: usize,
+) -> Result<Verdict, Fault>
+    ensures report { IfOk result (WritesReport (R.remaining reader.old) (W.contents writer.old) (W.contents writer.new)) }
+    ensures violation { IfOk result (λ verdict. IfSome (R.remaining reader.old) (λ all. (verdict ≡ Verdict.Violation) ↔ SpellsViolation all)) }
+    ensures no_order { IfOk result (λ verdict. verdict ≡ Verdict.Violation → IfSome (R.remaining reader.old) (λ all. (t : TraceValue) → SpellsTrace all t → IsConsistent t → ⊥)) }
+    ensures fault { IfErr result (LeavesFault (R.remaining reader.old) (W.contents writer.old) (W.contents writer.new)) }
+{
+    let report = read_report(alloc, reader)?;
+    write_text(writer, report.text.as_bytes())?;
+    Ok(report.verdict)
+}
+
+/// The report of what a reader has.
+fn read_report<R: Read>(alloc: Global, reader: &mut R) -> Result<Report, Fault>
+    ensures report { IfOk result (λ report. IsReportOfReader (R.remaining reader.old) (string_bytes report.text) report.verdict) }
+    ensures fault { IfErr result (λ fault. (fault ≡ Fault.OutOfMemory) ⊎ (fault ≡ Fault.Read)) }
+{
+    let bytes = read_all(alloc, reader, MAX_BYTES)?;
+    Ok(report_of(alloc, &bytes)?)
+}

@@ -1,0 +1,157 @@
+//! Faults of readers and of writers.
+
+use super::ends::{FailingReader, Full, ShortWriter, SlowReader, TornReader};
+use crate::{Fault, Verdict, judge, read_all, write_text};
+use std::alloc::Global;
+use std::io;
+use std::io::{ErrorKind, Read};
+use std::test::Fail;
+
+const TRACE: &[u8] = b"tso trace 1\nproc\nld 1 9\nend\n";
+
+const REPORT: &[u8] = b"TSO REPORT 1\nprocessors 1 events 1 rounds 0\nVIOLATION\nunwritten 1\n";
+
+fn short_writer(alloc: Global, room: usize, full: Full) -> ShortWriter {
+    ShortWriter {
+        taken: Vec::new(alloc),
+        room,
+        full,
+        calls: 0,
+    }
+}
+
+fn slow<R: Read>(inner: R) -> SlowReader<R> {
+    SlowReader {
+        inner,
+        interrupted: false,
+    }
+}
+
+#[test]
+fn reader_fails(rt: HostRuntime) -> Result<(), Fail> {
+    let alloc = rt.alloc();
+    for kind in [ErrorKind::Other, ErrorKind::OutOfMemory] {
+        let mut reader = FailingReader { kind, calls: 0 };
+        let mut written = Vec::new(alloc);
+        let fault = judge(&rt, alloc, &mut reader, &mut written, 1).err();
+        assert_eq!(rt; fault, Some(Fault::Read));
+        assert_eq!(rt; reader.calls, 1);
+        assert_eq!(rt; written.len(), 0);
+    }
+    let mut torn = TornReader { rest: TRACE };
+    let mut written = Vec::new(alloc);
+    let fault = judge(&rt, alloc, &mut torn, &mut written, 1).err();
+    assert_eq!(rt; fault, Some(Fault::Read));
+    assert_eq!(rt; written.len(), 0);
+    Ok(())
+}
+
+#[test]
+fn reader_always_interrupted(rt: HostRuntime) -> Result<(), Fail> {
+    let alloc = rt.alloc();
+    let mut reader = FailingReader {
+        kind: ErrorKind::Interrupted,
+        calls: 0,
+    };
+    let mut written = Vec::new(alloc);
+    let fault = judge(&rt, alloc, &mut reader, &mut written, 1).err();
+    assert_eq!(rt; fault, Some(Fault::Read));
+    assert_eq!(rt; reader.calls, 2_097_152);
+    assert_eq!(rt; written.len(), 0);
+    Ok(())
+}
+
+#[test]
+fn reader_one_byte_a_call(rt: HostRuntime) -> Result<(), Fail> {
+    let alloc = rt.alloc();
+    let mut reader = slow(TRACE);
+    let mut written = Vec::new(alloc);
+    let verdict = judge(&rt, alloc, &mut reader, &mut written, 1)?;
+    assert_eq!(rt; verdict, Verdict::Violation);
+    assert_eq!(rt; written.as_slice(), REPORT);
+    Ok(())
+}
+
+/// 1,048,575 bytes and the end take 2,097,152 calls, and one byte more is a call too many.
+#[test]
+fn calls_of_read_at_their_limit(rt: HostRuntime) -> Result<(), Fail> {
+    let alloc = rt.alloc();
+    let mut reader = slow(io::repeat(b'x').take(1_048_575));
+    assert_eq!(rt; read_all(alloc, &mut reader, usize::MAX)?.len(), 1_048_575);
+    let mut reader = slow(io::repeat(b'x').take(1_048_576));
+    let read = read_all(alloc, &mut reader, usize::MAX);
+    assert_eq!(rt; read.err(), Some(Fault::Read));
+    // the byte behind the limit, at the last call that is allowed
+    let mut reader = slow(io::repeat(b'x').take(1_048_577));
+    assert_eq!(rt; read_all(alloc, &mut reader, 1_048_575)?.len(), 1_048_576);
+    Ok(())
+}
+
+#[test]
+fn bytes_up_to_the_limit(rt: HostRuntime) -> Result<(), Fail> {
+    let alloc = rt.alloc();
+    let bytes = b"0123456789".as_slice();
+    for limit in 0..12usize {
+        let mut reader = bytes;
+        let read = read_all(alloc, &mut reader, limit)?;
+        let count = (limit + 1).min(10);
+        assert_eq!(rt; read.as_slice(), &bytes[..count], "{limit}");
+        assert_eq!(rt; reader, &bytes[count..], "{limit}");
+    }
+    Ok(())
+}
+
+/// writer_fails behind the first line, and writer_stops_after_n for each n
+#[test]
+fn writer_stops_short(rt: HostRuntime) -> Result<(), Fail> {
+    let alloc = rt.alloc();
+    for room in 0..REPORT.len() {
+        for full in [Full::Fails(ErrorKind::Other), Full::TakesNothing] {
+            let mut reader = TRACE;
+            let mut writer = short_writer(alloc, room, full);
+            let fault = judge(&rt, alloc, &mut reader, &mut writer, 1).err();
+            assert_eq!(rt; fault, Some(Fault::Write), "{room}");
+            assert_eq!(rt; writer.taken.as_slice(), &REPORT[..room], "{room}");
+        }
+    }
+    let mut reader = TRACE;
+    let mut writer = short_writer(alloc, 13, Full::Fails(ErrorKind::Other));
+    let fault = judge(&rt, alloc, &mut reader, &mut writer, 1).err();
+    assert_eq!(rt; fault, Some(Fault::Write));
+    assert_eq!(rt; writer.taken.as_slice(), b"TSO REPORT 1\n".as_slice());
+    let mut reader = TRACE;
+    let mut writer = short_writer(alloc, REPORT.len(), Full::TakesNothing);
+    let verdict = judge(&rt, alloc, &mut reader, &mut writer, 1)?;
+    assert_eq!(rt; verdict, Verdict::Violation);
+    assert_eq!(rt; writer.taken.as_slice(), REPORT);
+    Ok(())
+}
+
+/// The 1,048,577th interruption of one text is a fault.
+#[test]
+fn writer_always_interrupted(rt: HostRuntime) -> Result<(), Fail> {
+    let alloc = rt.alloc();
+    let mut writer = short_writer(alloc, 3, Full::Fails(ErrorKind::Interrupted));
+    let fault = write_text(&mut writer, b"12345").err();
+    assert_eq!(rt; fault, Some(Fault::Write));
+    assert_eq!(rt; writer.taken.as_slice(), b"123".as_slice());
+    assert_eq!(rt; writer.calls, 1 + 1_048_577);
+    Ok(())
+}
+
+#[test]
+fn faults_have_names(rt: HostRuntime) -> Result<(), Fail> {
+    let alloc = rt.alloc();
+    let names = [
+        (Fault::OutOfMemory, "OutOfMemory"),
+        (Fault::Read, "Read"),
+        (Fault::Write, "Write"),
+        (Fault::NoThread, "NoThread"),
+        (Fault::Missing(18), "Missing 18"),
+    ];
+    for (fault, name) in names {
+        let text = format!(in alloc; "{fault}")?;
+        assert_eq!(rt; text.as_str(), name);
+    }
+    Ok(())
+}

@@ -1,0 +1,10 @@
+/// What a report says.
+#[derive(Clone, Copy, Debug, PartialEq, Eq)]
+pub enum Verdict {
+    /// No violation was found. Nothing is proved about the trace.
+    NoViolation,
+    /// The trace has no order that meets the axioms, as its certificate shows.
+    Violation,
+    /// The input is no trace.
+    Refused,
+}
