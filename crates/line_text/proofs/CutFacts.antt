@@ -1,10 +1,10 @@
 -- Lemmas on cutting a slice at the first of a byte.
-use Rattle.std.proofs.Common.{◌≡◌, ℕ, ◌+◌, ◌<◌, Bool, true, false, cond, not, ◌&&◌, ltb, eqb, List, [], ◌∷◌, length, take, drop, Option, Some, None, refl, ap, sym, ◌∙◌, arith, Bor}
+use Rattle.std.proofs.Common.{◌≡◌, ℕ, ◌+◌, ◌<◌, Bool, true, false, cond, not, ◌&&◌, ltb, eqb, List, [], ◌∷◌, length, take, drop, Option, Some, None, refl, ap, sym, ◌∙◌, arith, Bor, ⊎_elim, ◌⊎◌, inl, inr, ◌++◌}
 use Rattle.std.specs.List.{slice_split, join_with_byte, onto_first, position, position_or_len}
 use Rattle.std.proofs.lemmas.Bool.Decides.{nat_tests}
-use Rattle.std.proofs.lemmas.List.Splits.{slice_split_first, slice_split_none, join_with_byte-slice_split}
+use Rattle.std.proofs.lemmas.List.Splits.{slice_split_first, slice_split_none, join_with_byte-slice_split, slice_split-cons_yes, slice_split-cons_no}
 use Rattle.std.proofs.lemmas.List.Sums.{fails_before_first}
-use Rattle.line_text.specs.Lines.{SomePiece, behind, pieces_of, is_empty}
+use Rattle.line_text.specs.Lines.{SomePiece, behind, pieces_of, parts_of, is_empty}
 
 some_place : (b : Bool) (n i : ℕ) → cond b (Some n) None ≡ Some i → (b ≡ true) × (n ≡ i)
 some_place true n i e = (refl, cc)
@@ -51,3 +51,34 @@ pub some_part : (behind first : List ℕ) (others : List (List ℕ)) → slice_s
 some_part behind [] [] parts some = absurd (some (ap length (sym (join_with_byte-slice_split 10 behind) ∙ ap (join_with_byte 10) parts)))
 some_part behind (b ∷ first) [] parts some = refl
 some_part behind first (next ∷ others) parts some = refl
+
+-- a text has no line, or a first one
+pub record HasLine (text : List ℕ) : Type 0 where
+  pub line : List ℕ
+  pub rest : List ℕ
+  pub parts : parts_of text ≡ line ∷ parts_of rest
+  pub bytes : text ≡ line ++ 10 ∷ rest
+
+pub first_line : (text : List ℕ) → (parts_of text ≡ text ∷ []) ⊎ HasLine text
+unfolding parts_of
+first_line [] = inl refl
+first_line (b ∷ text) =
+    ⊎_elim
+    (λ (at : eqb b 10 ≡ true).
+    let is : b ≡ 10 = grind (arith, nat_tests) in
+    inr (record { line = []; rest = text; parts = slice_split-cons_yes (λ c. eqb c 10) b text at; bytes = ap (λ c. c ∷ text) is }))
+    (λ (other : eqb b 10 ≡ false).
+    ⊎_elim
+    (λ (none : slice_split (λ c. eqb c 10) text ≡ text ∷ []). inl (slice_split-cons_no (λ c. eqb c 10) b text other ∙ ap (onto_first b) none))
+    (λ (some : HasLine text). inr (record {
+      line = b ∷ some.line;
+      rest = some.rest;
+      parts = slice_split-cons_no (λ c. eqb c 10) b text other ∙ ap (onto_first b) some.parts;
+      bytes = ap (λ t. b ∷ t) some.bytes;
+    }))
+    (first_line text))
+    (cases (eqb b 10))
+  where
+    cases : (c : Bool) → (c ≡ true) ⊎ (c ≡ false)
+    cases true = inl refl
+    cases false = inr refl

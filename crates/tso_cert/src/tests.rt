@@ -1,6 +1,9 @@
 use crate::{BaseRule, CertStep, Certificate, InferredRule, NumList, Reason, StepList};
 use std::test::Fail;
 
+mod growths;
+mod texts;
+
 #[test]
 fn lists_hold_what_they_are_made_of(rt: HostRuntime) -> Result<(), Fail> {
     let alloc = rt.alloc();

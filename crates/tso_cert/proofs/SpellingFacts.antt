@@ -1,0 +1,165 @@
+-- Laws on spelling: each text is spelled or refused, and only once; and the printed text of a certificate spells it.
+use Rattle.std.proofs.Common.{◌≡◌, ℕ, zero, suc, ◌-◌, ◌<◌, ◌≤◌, true, List, [], ◌∷◌, ◌++◌, length, get_or, Result, Ok, Err, refl, ap, sym, ◌∙◌, subst, arith, inl, inr, ⊎_elim, ◌⊎◌, append_assoc, length-append}
+use Rattle.std.specs.List.{flat_map, join_with_byte}
+use Rattle.std.proofs.lemmas.Bool.{false≢true, cases_lt}
+use Rattle.std.proofs.lemmas.List.{append-nil}
+use Rattle.std.proofs.lemmas.List.Concat.{flat_map-append}
+use Rattle.std.proofs.lemmas.List.Splits.{join_with_byte-slice_split}
+use Rattle.line_text.specs.Lines.{line_text, parts_of, pieces_of}
+use Rattle.line_text.proofs.CutFacts.{HasLine, first_line}
+use Rattle.tso_cert.specs.declared.steps.CertStep.{CertStep}
+use Rattle.tso_cert.specs.declared.steps.Certificate.{Certificate}
+use Rattle.tso_cert.specs.declared.steps.Certificate.TheVariants.{Unwritten as UnwrittenLoad, Cycle as CycleOf}
+use Rattle.tso_cert.specs.declared.lines.Line.{Line}
+use Rattle.tso_cert.specs.declared.lines.Line.TheVariants.{Step, Cycle, Unwritten}
+use Rattle.tso_cert.specs.declared.faults.Why.{Why}
+use Rattle.tso_cert.specs.declared.faults.Why.TheVariants.{BadLine, BadNumber, BadRule, NoCycle, AfterCycle, OutOfMemory}
+use Rattle.tso_cert.specs.Printed.{step_pieces, steps_pieces, cert_pieces, cert_text}
+use Rattle.tso_cert.specs.Spelling.{Spells, IsRefusal, number_of, unended}
+use Rattle.tso_cert.specs.Taken.{said}
+use Rattle.tso_cert.proofs.LineFacts.{told, line_pieces, ends}
+use Rattle.tso_cert.proofs.Reaching.{unended_refused}
+use Rattle.tso_cert.proofs.StepFacts.{IsRead, IsRead-start, IsRead-next, read_refused, read_after, read_cycle, read_unwritten, unwritten_alone, steps_pieces-next}
+
+-- ---- the refusals by their numbers
+
+whys : List Why
+whys = BadLine ∷ BadNumber ∷ BadRule ∷ NoCycle ∷ AfterCycle ∷ OutOfMemory ∷ []
+
+-- the refusal of the number k + 1
+why_at : ℕ → Why
+why_at k = get_or whys k OutOfMemory
+
+why_at-number_of : (w : Why) → why_at (number_of w - 1) ≡ w
+unfolding whys why_at
+why_at-number_of BadLine = refl
+why_at-number_of BadNumber = refl
+why_at-number_of BadRule = refl
+why_at-number_of NoCycle = refl
+why_at-number_of AfterCycle = refl
+why_at-number_of OutOfMemory = refl
+
+-- the number tells the refusal
+same_number : (v w : Why) → number_of v ≡ number_of w → v ≡ w
+same_number v w e = sym (why_at-number_of v) ∙ ap (λ n. why_at (n - 1)) e ∙ why_at-number_of w
+
+-- ---- spelled or refused
+
+-- the text spells a certificate, whose text it is; or it is refused
+abbrev pub IsJudged : List ℕ → Type 0
+IsJudged text = ((c : Certificate) × Spells text c × (text ≡ cert_text c)) ⊎ ((line : ℕ) × (why : Why) × IsRefusal text line why)
+
+-- How far a text was walked through: behind its steps so far, with their bytes.
+record Walked (text rest : List ℕ) (steps : List CertStep) : Type 0 where
+  read : IsRead text rest steps
+  bytes : text ≡ flat_map line_text (steps_pieces 1 steps) ++ rest
+
+line_bytes : (line : List ℕ) (pieces : List (List ℕ)) → pieces_of line ≡ pieces → line ≡ join_with_byte 32 pieces
+unfolding pieces_of
+line_bytes line pieces is = sym (join_with_byte-slice_split 32 line) ∙ ap (join_with_byte 32) is
+
+-- the bytes of one more line
+bytes-push : (text rest line behind : List ℕ) (front : List (List (List ℕ))) (pieces : List (List ℕ)) → text ≡ flat_map line_text front ++ rest → rest ≡ line ++ 10 ∷ behind → pieces_of line ≡ pieces →
+    text ≡ flat_map line_text (front ++ pieces ∷ []) ++ behind
+bytes-push text rest line behind front pieces whole cut is =
+    whole ∙ ap (λ r. flat_map line_text front ++ r) (cut ∙ ap (λ l. l ++ 10 ∷ behind) (line_bytes line pieces is) ∙ sym (append_assoc (join_with_byte 32 pieces) (10 ∷ []) behind))
+    ∙ sym (append_assoc (flat_map line_text front) (line_text pieces) behind) ∙ ap (λ t. (flat_map line_text front ++ t) ++ behind) (sym (append-nil (line_text pieces)))
+    ∙ ap (λ t. t ++ behind) (sym (flat_map-append line_text front (pieces ∷ [])))
+
+shorter : (text line rest : List ℕ) → text ≡ line ++ 10 ∷ rest → suc (length rest) ≤ length text
+shorter text line rest is = omega (arith, ap length is, length-append line (10 ∷ rest))
+
+no_bytes : (bytes : List ℕ) → length bytes ≡ 0 → bytes ≡ []
+no_bytes [] none = refl
+no_bytes (b ∷ bytes) none = absurd (omega arith)
+
+-- behind one more step
+walked_step : (text rest : List ℕ) (steps : List CertStep) (s : CertStep) → Walked text rest steps → (cut : HasLine rest) → said (suc (length steps)) (pieces_of cut.line) ≡ Ok (Step s) → Walked text cut.rest (steps ++ s ∷ [])
+walked_step text rest steps s w cut is = record {
+  read = IsRead-next text rest steps s cut.line cut.rest w.read cut.parts is;
+  bytes = bytes-push text rest cut.line cut.rest (steps_pieces 1 steps) (step_pieces (suc (length steps)) s) w.bytes cut.bytes (told (suc (length steps)) (pieces_of cut.line) (Step s) is).says
+      ∙ ap (λ p. flat_map line_text p ++ cut.rest) (sym (steps_pieces-next steps s));
+}
+
+-- behind a last line, which makes this certificate where nothing stands behind it
+judged_last : (text rest : List ℕ) (steps : List CertStep) (l : Line) (c : Certificate) → Walked text rest steps → (cut : HasLine rest) → said (suc (length steps)) (pieces_of cut.line) ≡ Ok l → ends l ≡ true →
+    steps_pieces 1 steps ++ line_pieces (suc (length steps)) l ∷ [] ≡ cert_pieces c → (length cut.rest ≡ 0 → Spells text c) → IsJudged text
+unfolding cert_text
+judged_last text rest steps l c w cut is last whole spells =
+    ⊎_elim
+    (λ (none : length cut.rest < 1).
+    let empty : length cut.rest ≡ 0 = omega arith in
+    let says = (told (suc (length steps)) (pieces_of cut.line) l is).says in
+    inl (
+      c,
+      spells empty,
+      bytes-push text rest cut.line cut.rest (steps_pieces 1 steps) (line_pieces (suc (length steps)) l) w.bytes cut.bytes says
+          ∙ ap (λ r. flat_map line_text (steps_pieces 1 steps ++ line_pieces (suc (length steps)) l ∷ []) ++ r) (no_bytes cut.rest empty)
+          ∙ append-nil (flat_map line_text (steps_pieces 1 steps ++ line_pieces (suc (length steps)) l ∷ [])) ∙ ap (flat_map line_text) whole,
+    ))
+    (λ (some : 1 ≤ length cut.rest). inr (suc (suc (length steps)), AfterCycle, read_after text rest steps l cut.line cut.rest w.read cut.parts is last (λ none. omega arith)))
+    (cases_lt (length cut.rest) 1)
+
+walked_line : (text rest : List ℕ) (steps : List CertStep) → Walked text rest steps → (cut : HasLine rest) → ((s : CertStep) → Walked text cut.rest (steps ++ s ∷ []) → IsJudged text) →
+    (r : Result Line Why) → said (suc (length steps)) (pieces_of cut.line) ≡ r → IsJudged text
+walked_line text rest steps w cut go (Err why) is = inr (suc (length steps), why, read_refused text rest steps cut.line cut.rest why w.read cut.parts is)
+walked_line text rest steps w cut go (Ok (Step s)) is = go s (walked_step text rest steps s w cut is)
+walked_line text rest steps w cut go (Ok (Cycle ns)) is =
+    judged_last text rest steps (Cycle ns) (CycleOf steps ns) w cut is refl refl (λ none. read_cycle text rest steps ns cut.line cut.rest w.read cut.parts is none)
+walked_line text rest steps w cut go (Ok (Unwritten n)) is =
+    judged_last text rest steps (Unwritten n) (UnwrittenLoad n) w cut is refl (unwritten_alone steps (pieces_of cut.line) n is) (λ none. read_unwritten text rest steps n cut.line cut.rest w.read cut.parts is none)
+
+judged_end : (text rest : List ℕ) (steps : List CertStep) → Walked text rest steps → parts_of rest ≡ rest ∷ [] → IsJudged text
+judged_end text rest steps w none = inr (suc (length steps), unended rest, unended_refused text (length steps) rest (steps_pieces 1 steps) (unended rest) w.read.reached none refl)
+
+-- from a place on, with at most n bytes left
+walk : (n : ℕ) (text rest : List ℕ) (steps : List CertStep) → length rest ≤ n → Walked text rest steps → IsJudged text
+walk zero text rest steps few w =
+    ⊎_elim (λ (none : parts_of rest ≡ rest ∷ []). judged_end text rest steps w none) (λ (cut : HasLine rest). absurd (omega (arith, few, shorter rest cut.line cut.rest cut.bytes))) (first_line rest)
+walk (suc n) text rest steps few w =
+    ⊎_elim
+    (λ (none : parts_of rest ≡ rest ∷ []). judged_end text rest steps w none)
+    (λ (cut : HasLine rest).
+    walked_line text rest steps w cut (λ s more. walk n text cut.rest (steps ++ s ∷ []) (omega (arith, few, shorter rest cut.line cut.rest cut.bytes)) more)
+    (said (suc (length steps)) (pieces_of cut.line)) refl)
+    (first_line rest)
+
+pub judged : (text : List ℕ) → IsJudged text
+judged text = walk (length text) text text [] (omega arith) (record { read = IsRead-start text; bytes = refl })
+
+pub spelled_or_refused : (text : List ℕ) → ((c : Certificate) × Spells text c) ⊎ ((line : ℕ) × (why : Why) × IsRefusal text line why)
+spelled_or_refused text =
+    ⊎_elim
+    (λ (s : (c : Certificate) × Spells text c × (text ≡ cert_text c)). inl (s.0, s.1))
+    (λ (r : (line : ℕ) × (why : Why) × IsRefusal text line why). inr r)
+    (judged text)
+
+-- never both
+pub not_both : (text : List ℕ) (c : Certificate) (line : ℕ) (why : Why) → Spells text c → IsRefusal text line why → ⊥
+not_both text c line why spells refusal = false≢true (sym (spells.clean line why) ∙ refusal.fault)
+
+-- what spells a certificate is its text
+pub one_text : (text : List ℕ) (c : Certificate) → Spells text c → text ≡ cert_text c
+unfolding cert_text
+one_text text c spells =
+    ⊎_elim
+    (λ (s : (d : Certificate) × Spells text d × (text ≡ cert_text d)). s.2 ∙ ap (flat_map line_text) (sym s.1.says ∙ spells.says))
+    (λ (r : (line : ℕ) × (why : Why) × IsRefusal text line why). absurd (not_both text c r.0 r.1 spells r.2))
+    (judged text)
+
+-- one refusal for a text
+pub one_refusal : (text : List ℕ) (j k : ℕ) (v w : Why) → IsRefusal text j v → IsRefusal text k w → (j ≡ k) × (v ≡ w)
+one_refusal text j k v w r s =
+    let line : j ≡ k =
+    ⊎_elim
+    (λ (less : j < k). absurd (false≢true (sym (s.first j v less) ∙ r.fault)))
+    (λ (not_less : k ≤ j). ⊎_elim (λ (more : k < j). absurd (false≢true (sym (r.first k w more) ∙ s.fault))) (λ (not_more : j ≤ k). omega arith) (cases_lt k j))
+    (cases_lt j k) in
+    let t : IsRefusal text j w = subst (λ n. IsRefusal text n w) (sym line) s in (
+      line,
+      same_number v w
+          (⊎_elim
+          (λ (less : number_of v < number_of w). absurd (false≢true (sym (t.least v less) ∙ r.fault)))
+          (λ (not_less : number_of w ≤ number_of v). ⊎_elim (λ (more : number_of w < number_of v). absurd (false≢true (sym (r.least w more) ∙ t.fault))) (λ (not_more : number_of v ≤ number_of w). omega arith) (cases_lt (number_of w) (number_of v)))
+          (cases_lt (number_of v) (number_of w))),
+    )

@@ -1,0 +1,84 @@
+-- The lines of a certificate.
+use Rattle.std.specs.Prelude.{ℕ, zero, suc, ◌^◌, ◌<◌, List, [], ◌∷◌, ◌++◌, map, length, All, codes}
+use Rattle.std.specs.List.{flat_map}
+use Rattle.std.specs.Fmt.{decimal}
+use Rattle.line_text.specs.Lines.{line_text}
+use Rattle.tso_cert.specs.declared.rules.BaseRule.{BaseRule}
+use Rattle.tso_cert.specs.declared.rules.BaseRule.TheVariants.{Init, LoadOp, StoreStore, Membar, Read, Own}
+use Rattle.tso_cert.specs.declared.rules.InferredRule.{InferredRule}
+use Rattle.tso_cert.specs.declared.rules.InferredRule.TheVariants.{LoadPast, StorePast, SwapBefore, SwapAfter}
+use Rattle.tso_cert.specs.declared.steps.Reason.{Reason}
+use Rattle.tso_cert.specs.declared.steps.Reason.TheVariants.{Base, Inferred}
+use Rattle.tso_cert.specs.declared.steps.CertStep.{CertStep}
+use Rattle.tso_cert.specs.declared.steps.Certificate.{Certificate}
+use Rattle.tso_cert.specs.declared.steps.Certificate.TheVariants.{Unwritten, Cycle}
+
+abbrev pub base_name : BaseRule → List ℕ
+base_name Init = codes "Init"
+base_name LoadOp = codes "LoadOp"
+base_name StoreStore = codes "StoreStore"
+base_name Membar = codes "Membar"
+base_name Read = codes "Read"
+base_name Own = codes "Own"
+
+abbrev pub inferred_name : InferredRule → List ℕ
+inferred_name LoadPast = codes "LoadPast"
+inferred_name StorePast = codes "StorePast"
+inferred_name SwapBefore = codes "SwapBefore"
+inferred_name SwapAfter = codes "SwapAfter"
+
+-- an event number: `init` for 0
+abbrev pub event_text : ℕ → List ℕ
+event_text zero = codes "init"
+event_text (suc n) = decimal (suc n)
+
+abbrev pub reason_pieces : Reason → List (List ℕ)
+reason_pieces (Base rule) = base_name rule ∷ []
+reason_pieces (Inferred rule load path) = inferred_name rule ∷ event_text load ∷ map event_text path
+
+-- the pieces of the step with this number
+abbrev pub step_pieces : ℕ → CertStep → List (List ℕ)
+step_pieces number s = decimal number ∷ event_text s.from ∷ event_text s.to ∷ reason_pieces s.reason
+
+-- the pieces of the lines of these steps, of which the first has this number
+abbrev pub steps_pieces : ℕ → List CertStep → List (List (List ℕ))
+steps_pieces number [] = []
+steps_pieces number (s ∷ steps) = step_pieces number s ∷ steps_pieces (suc number) steps
+
+-- the pieces of the line of a cycle
+abbrev pub cycle_pieces : List ℕ → List (List ℕ)
+cycle_pieces cycle = codes "cycle" ∷ map event_text cycle
+
+-- the pieces of the line of an unwritten load
+abbrev pub unwritten_pieces : ℕ → List (List ℕ)
+unwritten_pieces n = codes "unwritten" ∷ event_text n ∷ []
+
+-- the pieces of the lines of a certificate
+abbrev pub cert_pieces : Certificate → List (List (List ℕ))
+cert_pieces (Unwritten n) = unwritten_pieces n ∷ []
+cert_pieces (Cycle steps cycle) = steps_pieces 1 steps ++ cycle_pieces cycle ∷ []
+
+-- the text of a certificate
+unfoldable pub cert_text : Certificate → List ℕ
+cert_text c = flat_map line_text (cert_pieces c)
+
+-- ---- numbers that 64 bits hold
+
+abbrev pub Fits : ℕ → Type 0
+Fits n = n < 2 ^ 64
+
+abbrev pub ReasonFits : Reason → Type 0
+ReasonFits (Base rule) = Unit {0}
+ReasonFits (Inferred rule load path) = Fits load × All Fits path
+
+abbrev pub StepFits : CertStep → Type 0
+StepFits s = Fits s.from × Fits s.to × ReasonFits s.reason
+
+-- 64 bits hold every number of the certificate
+abbrev pub CertFits : Certificate → Type 0
+CertFits (Unwritten n) = Fits n
+CertFits (Cycle steps cycle) = All StepFits steps × All Fits cycle
+
+abbrev pub step_count : Certificate → ℕ
+step_count (Unwritten n) = 0
+step_count (Cycle steps cycle) = length steps

@@ -1,0 +1,141 @@
+-- What the text of a certificate spells, and how it is refused: over the whole text, by its lines.
+use Rattle.std.specs.Prelude.{◌≡◌, ℕ, zero, suc, ◌-◌, ◌<◌, ◌==◌, ◌&&◌, ◌||◌, Bool, true, false, not, nat_lt, List, [], ◌∷◌, length, take, drop, get_or, map, Option, Some, None, is_some, codes, if◌then◌else◌}
+use Rattle.std.specs.List.{list_all, list_any}
+use Rattle.std.specs.Str.{bytes_eq}
+use Rattle.std.specs.Fmt.{decimal}
+use Rattle.line_text.specs.Lines.{parts_of, pieces_of, is_empty}
+use Rattle.line_text.specs.Numbers.{number}
+use Rattle.tso_cert.specs.declared.rules.BaseRule.{BaseRule}
+use Rattle.tso_cert.specs.declared.rules.BaseRule.TheVariants.{Init, LoadOp, StoreStore, Membar, Read, Own}
+use Rattle.tso_cert.specs.declared.rules.InferredRule.{InferredRule}
+use Rattle.tso_cert.specs.declared.rules.InferredRule.TheVariants.{LoadPast, StorePast, SwapBefore, SwapAfter}
+use Rattle.tso_cert.specs.declared.steps.Certificate.{Certificate}
+use Rattle.tso_cert.specs.declared.faults.Why.{Why}
+use Rattle.tso_cert.specs.declared.faults.Why.TheVariants.{BadLine, BadNumber, BadRule, NoCycle, AfterCycle, OutOfMemory}
+use Rattle.tso_cert.specs.Printed.{base_name, inferred_name, cert_pieces, CertFits}
+
+-- the number of the refusal: of two on one line the lesser counts
+abbrev pub number_of : Why → ℕ
+number_of BadLine = 1
+number_of BadNumber = 2
+number_of BadRule = 3
+number_of NoCycle = 4
+number_of AfterCycle = 5
+number_of OutOfMemory = 6
+
+abbrev pub same_why : Why → Why → Bool
+same_why v w = number_of v == number_of w
+
+-- ---- pieces
+
+-- a number above 0
+abbrev pub above_zero : Option ℕ → Option ℕ
+above_zero None = None
+above_zero (Some zero) = None
+above_zero (Some (suc n)) = Some (suc n)
+
+-- the event number that a piece spells: `init` for 0, else a number from 1
+abbrev pub event_number : List ℕ → Option ℕ
+event_number piece = if bytes_eq piece (codes "init") then Some 0 else above_zero (number piece)
+
+-- each piece is an event number
+abbrev pub are_events : List (List ℕ) → Bool
+are_events pieces = list_all (λ piece. is_some (event_number piece)) pieces
+
+abbrev pub base_rules : List BaseRule
+base_rules = Init ∷ LoadOp ∷ StoreStore ∷ Membar ∷ Read ∷ Own ∷ []
+
+abbrev pub inferred_rules : List InferredRule
+inferred_rules = LoadPast ∷ StorePast ∷ SwapBefore ∷ SwapAfter ∷ []
+
+-- the piece is the name of one of these rules
+abbrev pub is_name : {R : Type 0} → (R → List ℕ) → List R → List ℕ → Bool
+is_name name_of rules piece = list_any (λ rule. bytes_eq piece (name_of rule)) rules
+
+-- a base rule with no piece behind its name, or an inferred rule with some
+abbrev pub is_rule : List ℕ → List (List ℕ) → Bool
+is_rule name [] = is_name base_name base_rules name
+is_rule name (load ∷ path) = is_name inferred_name inferred_rules name
+
+-- ---- the faults of a line
+
+abbrev pub begins_with : List ℕ → List (List ℕ) → Bool
+begins_with word pieces = bytes_eq (get_or pieces 0 []) word
+
+-- the line is the last of a certificate, by its first piece
+abbrev pub is_last_line : List (List ℕ) → Bool
+is_last_line pieces = begins_with (codes "cycle") pieces || begins_with (codes "unwritten") pieces
+
+-- a line `unwritten` elsewhere than on line 1, or not of two pieces; a step line of fewer than four
+abbrev pub is_bad_line : ℕ → List (List ℕ) → Bool
+is_bad_line number pieces =
+    if begins_with (codes "cycle") pieces then false
+    else if begins_with (codes "unwritten") pieces then not (number == 1 && length pieces == 2)
+    else nat_lt (length pieces) 4
+
+-- A last line with a piece behind its word that is no event number. A step line whose first piece isn't the line's number, or whose second or
+-- third piece, or a piece behind the fourth, is no event number.
+abbrev pub has_bad_number : ℕ → List (List ℕ) → Bool
+has_bad_number number pieces =
+    if is_last_line pieces then not (are_events (drop 1 pieces))
+    else not (bytes_eq (get_or pieces 0 []) (decimal number) && are_events (take 2 (drop 1 pieces)) && are_events (drop 4 pieces))
+
+-- a step line whose fourth piece is no rule's name, or has pieces behind it that its rule doesn't have
+abbrev pub has_bad_rule : List (List ℕ) → Bool
+has_bad_rule pieces = if is_last_line pieces then false else not (is_rule (get_or pieces 3 []) (drop 4 pieces))
+
+-- The line of this number and these pieces has the fault.
+unfoldable pub line_fault : ℕ → List (List ℕ) → Why → Bool
+line_fault number pieces BadLine = is_bad_line number pieces
+line_fault number pieces BadNumber = has_bad_number number pieces
+line_fault number pieces BadRule = has_bad_rule pieces
+line_fault number pieces NoCycle = false
+line_fault number pieces AfterCycle = false
+line_fault number pieces OutOfMemory = false
+
+-- ---- the faults of a text
+
+-- the lines: the parts that a line end follows
+abbrev pub lines_of : List ℕ → List (List ℕ)
+lines_of text = take (length (parts_of text) - 1) (parts_of text)
+
+-- one of these lines is the last of a certificate
+unfoldable pub has_ended : List (List ℕ) → Bool
+has_ended lines = list_any (λ line. is_last_line (pieces_of line)) lines
+
+-- what stands behind the last line end, where no last line came
+abbrev pub unended : List ℕ → Why
+unended part = if is_empty part then NoCycle else BadLine
+
+-- The part has the fault, behind these lines; `last` where no line end follows it.
+unfoldable pub part_fault : List (List ℕ) → List ℕ → Bool → Why → Bool
+part_fault before part last w =
+    if has_ended before then same_why AfterCycle w && not (last && is_empty part)
+    else if last then same_why (unended part) w
+    else line_fault (suc (length before)) (pieces_of part) w
+
+-- The text has the fault at this line. Lines count from 1.
+unfoldable pub fault_at : List ℕ → ℕ → Why → Bool
+fault_at text zero w = false
+fault_at text (suc i) w =
+    nat_lt i (length (parts_of text))
+    && part_fault (take i (parts_of text)) (get_or (parts_of text) i []) (suc i == length (parts_of text)) w
+
+-- The refusal of a text: the least line with a fault, and the fault of the least number there.
+pub record IsRefusal (text : List ℕ) (line : ℕ) (why : Why) : Type 0 where
+  pub fault : fault_at text line why ≡ true
+  pub first : (j : ℕ) (w : Why) → j < line → fault_at text j w ≡ false
+  pub least : (w : Why) → number_of w < number_of why → fault_at text line w ≡ false
+
+-- The text spells the certificate: it has no fault, its lines have the certificate's pieces, and 64 bits hold each number.
+pub record Spells (text : List ℕ) (c : Certificate) : Type 0 where
+  pub clean : (line : ℕ) (w : Why) → fault_at text line w ≡ false
+  pub says : map pieces_of (lines_of text) ≡ cert_pieces c
+  pub fits : CertFits c
+
+-- some certificate, some refusal
+abbrev pub IsSpelled : List ℕ → Type 0
+IsSpelled text = (c : Certificate) × Spells text c
+
+abbrev pub IsRefused : List ℕ → Type 0
+IsRefused text = (line : ℕ) × (why : Why) × IsRefusal text line why

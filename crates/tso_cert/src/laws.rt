@@ -1,0 +1,18 @@
+//! What the definitions of spelling say of each other, proved of all texts.
+
+ghost use Rattle.std.specs.Prelude.{◌≡◌, ◌⊎◌, ℕ, suc, List};
+ghost use Rattle.tso_cert.specs.Printed.{cert_text, CertFits, Fits, step_count};
+ghost use Rattle.tso_cert.specs.Spelling.{Spells, IsRefusal, IsSpelled, IsRefused};
+ghost use Rattle.tso_cert.specs.declared.faults.Why.{Why};
+ghost use Rattle.tso_cert.specs.declared.steps.Certificate.{Certificate};
+
+/// Each text spells a certificate or is refused, never both; it spells one certificate, and gets one refusal;
+/// what spells a certificate is its printed text, and the printed text of a certificate spells it.
+pub fn certificates()
+    ensures spelled_or_refused { (text : List ℕ) → IsSpelled text ⊎ IsRefused text }
+    ensures never_both { (text : List ℕ) → IsSpelled text → IsRefused text → ⊥ }
+    ensures one_value { (text : List ℕ) (c d : Certificate) → Spells text c → Spells text d → c ≡ d }
+    ensures one_text { (text : List ℕ) (c : Certificate) → Spells text c → text ≡ cert_text c }
+    ensures one_refusal { (text : List ℕ) (j k : ℕ) (v w : Why) → IsRefusal text j v → IsRefusal text k w → (j ≡ k) × (v ≡ w) }
+    ensures printed { (c : Certificate) → CertFits c → Fits (suc (step_count c)) → Spells (cert_text c) c }
+{}

@@ -1,0 +1,91 @@
+ghost use Rattle.std.specs.Prelude.{◌≡◌, ◌≢◌, [], ◌∷◌, Result, IfOk, IfErr};
+ghost use Rattle.line_text.specs.Lines.{pieces_of, behind};
+ghost use Rattle.tso_cert.specs.Taken.{said, step_said, unwritten_said, reason_said};
+ghost use Rattle.tso_cert.specs.declared.faults.Why.{Why};
+
+use crate::faults::Why;
+use crate::lists::NumList;
+use crate::pieces::{base_rule, event, events, inferred_rule, is_decimal, piece_of};
+use crate::steps::{CertStep, Reason};
+use line_text::next_piece;
+use std::alloc::Global;
+
+/// What a line of a certificate says.
+#[derive(Drop)]
+pub(crate) enum Line {
+    Step(CertStep),
+    Cycle(NumList),
+    Unwritten(u64),
+}
+
+/// What the line of this number says, or its fault.
+#[tactic(auto, unfolding(crate::specs::Taken::said))]
+pub(crate) fn read_line(alloc: Global, number: usize, line: &[u8]) -> Result<Line, Why>
+    ensures found { IfOk result (λ l. said number (pieces_of line.now) ≡ Result.Ok l) }
+    ensures refused { IfErr result (λ why. why ≢ Why.OutOfMemory → said number (pieces_of line.now) ≡ Result.Err why) }
+{
+    let (word, pieces) = next_piece(line);
+    if word == b"cycle".as_slice() {
+        let cycle = events(alloc, pieces)?;
+        Ok(Line::Cycle(NumList::new(cycle)))
+    } else if word == b"unwritten".as_slice() {
+        let n = read_unwritten(number, pieces)?;
+        Ok(Line::Unwritten(n))
+    } else {
+        let step = read_step(alloc, number, word, pieces)?;
+        Ok(Line::Step(step))
+    }
+}
+
+/// The load of a line `unwritten`, of the pieces behind the word.
+#[tactic(auto, unfolding(crate::specs::Taken::unwritten_said))]
+fn read_unwritten(number: usize, pieces: Option<&[u8]>) -> Result<u64, Why>
+    ensures { result ≡ unwritten_said number (behind pieces.entry) }
+{
+    let (piece, rest) = piece_of(pieces)?;
+    match rest {
+        None if number == 1 => event(piece),
+        None => Err(Why::BadLine),
+        Some(_) => Err(Why::BadLine),
+    }
+}
+
+/// The step of a line, of its first piece and the pieces behind it.
+#[tactic(auto, unfolding(crate::specs::Taken::step_said))]
+fn read_step(
+    alloc: Global,
+    number: usize,
+    first: &[u8],
+    pieces: Option<&[u8]>,
+) -> Result<CertStep, Why>
+    ensures found { IfOk result (λ step. step_said number (first.now ∷ behind pieces.entry) ≡ Result.Ok step) }
+    ensures refused { IfErr result (λ why. why ≢ Why.OutOfMemory → step_said number (first.now ∷ behind pieces.entry) ≡ Result.Err why) }
+{
+    let (from, rest) = piece_of(pieces)?;
+    let (to, rest) = piece_of(rest)?;
+    let (rule, rest) = piece_of(rest)?;
+    if !is_decimal(first, number) {
+        return Err(Why::BadNumber);
+    }
+    let from = event(from)?;
+    let to = event(to)?;
+    let reason = read_reason(alloc, rule, rest)?;
+    Ok(CertStep { from, to, reason })
+}
+
+/// The reason of the name of a rule and the pieces behind it.
+#[tactic(auto, unfolding(crate::specs::Taken::reason_said))]
+fn read_reason(alloc: Global, name: &[u8], pieces: Option<&[u8]>) -> Result<Reason, Why>
+    ensures found { IfOk result (λ reason. reason_said name.now (behind pieces.entry) ≡ Result.Ok reason) }
+    ensures refused { IfErr result (λ why. why ≢ Why.OutOfMemory → reason_said name.now (behind pieces.entry) ≡ Result.Err why) }
+{
+    let Some(line) = pieces else {
+        let rule = base_rule(name)?;
+        return Ok(Reason::Base(rule));
+    };
+    let (load, rest) = next_piece(line);
+    let load = event(load)?;
+    let path = NumList::new(events(alloc, rest)?);
+    let rule = inferred_rule(name)?;
+    Ok(Reason::Inferred { rule, load, path })
+}

@@ -1,0 +1,130 @@
+ghost use Rattle.std.specs.Prelude.{◌≡◌, ◌++◌, ◌∷◌, suc, All, length, string_bytes, OnOk, IfOk};
+ghost use Rattle.std.specs.List.{flat_map};
+ghost use Rattle.line_text.specs.Lines.{line_text};
+ghost use Rattle.tso_cert.specs.Printed.{base_name, inferred_name, event_text, reason_pieces, step_pieces, steps_pieces, cert_text, Fits, ReasonFits, StepFits, CertFits, step_count};
+ghost use Rattle.tso_cert.specs.Spelling.{Spells};
+
+use crate::faults::OutOfMemory;
+use crate::rules::{BaseRule, InferredRule};
+use crate::steps::{CertStep, Certificate, Reason};
+use std::alloc::Global;
+use std::fmt::Write;
+
+/// The text of a certificate. It spells the certificate, so `read_cert` reads it back. OutOfMemory where a growth was
+/// refused.
+pub fn print_cert(alloc: Global, certificate: &Certificate) -> Result<String, OutOfMemory>
+    ensures lines { IfOk result (λ text. string_bytes text ≡ cert_text certificate.now) }
+    ensures spells { IfOk result (λ text. Spells (string_bytes text) certificate.now) }
+{
+    let mut text = String::new(alloc);
+    print_lines(&mut text, certificate)?;
+    Ok(text)
+}
+
+/// Appends the lines of a certificate.
+fn print_lines(text: &mut String, certificate: &Certificate) -> Result<(), OutOfMemory>
+    ensures lines { OnOk result (string_bytes text.new ≡ string_bytes text.old ++ cert_text certificate.now) }
+    ensures fits { OnOk result (CertFits certificate.now) }
+    ensures count { OnOk result (Fits (suc (step_count certificate.now))) }
+{
+    match certificate {
+        Certificate::Unwritten(n) => {
+            text.push_str("unwritten")?;
+            print_event(text, *n)?;
+            text.push_str("\n")
+        }
+        Certificate::Cycle { steps, cycle } => {
+            print_steps(text, steps.items())?;
+            text.push_str("cycle")?;
+            print_events(text, cycle.items())?;
+            text.push_str("\n")
+        }
+    }
+}
+
+/// Appends the lines of steps.
+fn print_steps(text: &mut String, steps: &[CertStep]) -> Result<(), OutOfMemory>
+    ensures lines { OnOk result (string_bytes text.new ≡ string_bytes text.old ++ flat_map line_text (steps_pieces 1 steps.now)) }
+    ensures fits { OnOk result (All StepFits steps.now) }
+    ensures count { Fits (suc (length steps.now)) }
+{
+    for (k, step) in steps.iter().enumerate() {
+        print_step(text, k + 1, step)?;
+    }
+    Ok(())
+}
+
+/// Appends the line of the step with this number.
+fn print_step(text: &mut String, number: usize, step: &CertStep) -> Result<(), OutOfMemory>
+    ensures line { OnOk result (string_bytes text.new ≡ string_bytes text.old ++ line_text (step_pieces number step.now)) }
+    ensures fits { OnOk result (StepFits step.now) }
+{
+    write!(text, "{number}")?;
+    print_event(text, step.from)?;
+    print_event(text, step.to)?;
+    print_reason(text, &step.reason)?;
+    text.push_str("\n")
+}
+
+/// Appends the pieces of a reason, each behind a space.
+fn print_reason(text: &mut String, reason: &Reason) -> Result<(), OutOfMemory>
+    ensures pieces { OnOk result (string_bytes text.new ≡ string_bytes text.old ++ flat_map (λ piece. 32 ∷ piece) (reason_pieces reason.now)) }
+    ensures fits { OnOk result (ReasonFits reason.now) }
+{
+    match reason {
+        Reason::Base(rule) => write!(text, " {}", base_name(*rule)),
+        Reason::Inferred { rule, load, path } => {
+            write!(text, " {}", inferred_name(*rule))?;
+            print_event(text, *load)?;
+            print_events(text, path.items())
+        }
+    }
+}
+
+/// Appends a space and the event number, for each of them.
+fn print_events(text: &mut String, numbers: &[u64]) -> Result<(), OutOfMemory>
+    ensures pieces { OnOk result (string_bytes text.new ≡ string_bytes text.old ++ flat_map (λ n. 32 ∷ event_text n) numbers.now) }
+    ensures fits { OnOk result (All Fits numbers.now) }
+{
+    for number in numbers {
+        print_event(text, *number)?;
+    }
+    Ok(())
+}
+
+/// Appends a space and the event number.
+fn print_event(text: &mut String, number: u64) -> Result<(), OutOfMemory>
+    ensures piece { OnOk result (string_bytes text.new ≡ string_bytes text.old ++ 32 ∷ event_text number) }
+    ensures fits { Fits number }
+{
+    match number {
+        0 => text.push_str(" init"),
+        _ => write!(text, " {number}"),
+    }
+}
+
+/// The name of a base rule.
+fn base_name(rule: BaseRule) -> &'static str
+    ensures { result.now ≡ base_name rule }
+{
+    match rule {
+        BaseRule::Init => "Init",
+        BaseRule::LoadOp => "LoadOp",
+        BaseRule::StoreStore => "StoreStore",
+        BaseRule::Membar => "Membar",
+        BaseRule::Read => "Read",
+        BaseRule::Own => "Own",
+    }
+}
+
+/// The name of an inferred rule.
+fn inferred_name(rule: InferredRule) -> &'static str
+    ensures { result.now ≡ inferred_name rule }
+{
+    match rule {
+        InferredRule::LoadPast => "LoadPast",
+        InferredRule::StorePast => "StorePast",
+        InferredRule::SwapBefore => "SwapBefore",
+        InferredRule::SwapAfter => "SwapAfter",
+    }
+}
