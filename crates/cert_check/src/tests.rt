@@ -153,6 +153,19 @@ fn certificates_of_stale_reads_hold(rt: HostRuntime) -> Result<(), Fail> {
         "message_passing_stale"
     );
 
+    let past = trace(alloc, &[&[st(1, 1)], &[ld(1, 1), ld(1, 0)]])?;
+    let steps = vec![in alloc;
+        base(0, 1, Init),
+        base(1, 2, Read),
+        base(2, 3, LoadOp),
+        inferred(alloc, 1, 0, LoadPast, 3, &[1, 2, 3])?,
+    ]?;
+    assert_eq!(rt;
+        check(&past, &certificate(alloc, steps, &[0, 1])?),
+        Ok(()),
+        "replay_stale_load"
+    );
+
     Ok(())
 }
 
@@ -160,12 +173,12 @@ fn certificates_of_stale_reads_hold(rt: HostRuntime) -> Result<(), Fail> {
 fn certificates_of_one_location_hold(rt: HostRuntime) -> Result<(), Fail> {
     let alloc = rt.alloc();
     let missed = trace(alloc, &[&[st(1, 1), ld(1, 0)]])?;
-    let steps = vec![in alloc; base(0, 1, Init), base(1, 0, Own)]?;
-    assert_eq!(rt;
-        check(&missed, &certificate(alloc, steps, &[0, 1])?),
-        Ok(()),
-        "own_store_missed"
-    );
+    let lost = trace(alloc, &[&[st(1, 1), Outcome::Mb, ld(1, 0)]])?;
+    for (given, name) in [(missed, "own_store_missed"), (lost, "replay_lost_drain")] {
+        let steps = vec![in alloc; base(0, 1, Init), base(1, 0, Own)]?;
+        let given = check(&given, &certificate(alloc, steps, &[0, 1])?);
+        assert_eq!(rt; given, Ok(()), "{name}");
+    }
 
     let backwards = trace(alloc, &[&[st(1, 1), st(1, 2)], &[ld(1, 2), ld(1, 1)]])?;
     let steps = vec![in alloc;
@@ -281,5 +294,35 @@ fn other_certificates_are_refused(rt: HostRuntime) -> Result<(), Fail> {
     for (given, fault) in cases {
         assert_eq!(rt; check(&barriers, &given), Err(fault), "{given:?}");
     }
+    Ok(())
+}
+
+/// The numbers from 1 to `last`.
+fn numbers_to(alloc: Global, last: u64) -> Result<Vec<u64>, AllocError> {
+    let mut numbers = Vec::new(alloc);
+    for n in 1..=last {
+        numbers.push(n)?;
+    }
+    Ok(numbers)
+}
+
+/// A load reads what the last of 2,000 events of its processor stores: each event comes before the next, and the last
+/// before the first.
+#[test]
+fn two_thousand_steps_hold(rt: HostRuntime) -> Result<(), Fail> {
+    let alloc = rt.alloc();
+    let mut list = vec![in alloc; ld(1, 7)]?;
+    for _ in 0..1_998 {
+        list.push(ld(2, 0))?;
+    }
+    list.push(st(1, 7))?;
+    let given = trace(alloc, &[list.as_slice()])?;
+    let mut steps = Vec::new(alloc);
+    for n in 1..2_000 {
+        steps.push(base(n, n + 1, LoadOp))?;
+    }
+    steps.push(base(2_000, 1, Read))?;
+    let cycle = numbers_to(alloc, 2_000)?;
+    assert_eq!(rt; check(&given, &certificate(alloc, steps, &cycle)?), Ok(()));
     Ok(())
 }
