@@ -1,0 +1,31 @@
+-- Graphs of rank sets.
+use Rattle.std.specs.Prelude.{◌≡◌, ◌⊎◌, ◌↔◌, ℕ, suc, ◌+◌, ◌-◌, ◌<◌, ◌≤◌, List, [], length, get_or, Contains}
+use Rattle.order_graph.specs.Digraphs.{Digraph, IsEdge}
+use Rattle.tso_ops.specs.Values.{TraceValue}
+use Rattle.tso_ops.specs.Events.{event_total}
+use Rattle.tso_model.specs.Ranks.{F}
+use Rattle.tso_model.specs.EdgeLists.{IsNew}
+use Rattle.tso_rules.specs.Rows.{IsRow}
+
+-- The graph has a number for `init` and one for each event, and the edges of rank k or less.
+pub record IsRankGraph (t : TraceValue) (k : ℕ) (g : Digraph) : Type 0 where
+  pub nodes : g.nodes ≡ suc (event_total t)
+  pub edges : (x y : ℕ) → IsEdge g x y ↔ F t k x y
+
+-- The new graph has the old one's nodes, and besides its edges just these.
+pub record AddsEdges (old new : Digraph) (Added : ℕ → ℕ → Type 0) : Type 0 where
+  pub nodes : new.nodes ≡ old.nodes
+  pub edges : (x y : ℕ) → IsEdge new x y ↔ (IsEdge old x y ⊎ Added x y)
+
+-- the edges of these rows, of which the first is that of this number
+abbrev pub RowsEdges : ℕ → List (List ℕ) → ℕ → ℕ → Type 0
+RowsEdges first rows x y = (first ≤ x) × Contains (get_or rows (x - first) []) y
+
+-- There are so many rows, and each has the edges that a round adds to the graph's from its number.
+pub record AreRows (t : TraceValue) (g : Digraph) (first count : ℕ) (rows : List (List ℕ)) : Type 0 where
+  pub count_is : length rows ≡ count
+  pub row : (i : ℕ) → i < count → IsRow (get_or rows i []) (IsNew t (IsEdge g) (first + i))
+
+-- the numbers of the rows lie below this one
+pub record AreBelow (bound : ℕ) (rows : List (List ℕ)) : Type 0 where
+  pub below : (i v : ℕ) → Contains (get_or rows i []) v → v < bound

@@ -1,0 +1,4 @@
+pub mod BaseFacts
+pub mod InferredFacts
+pub mod LawFacts
+pub mod RowFacts

@@ -1,0 +1,16 @@
+//! The edges that the axioms force on a trace, row by row, and why each holds.
+#![tactic(auto)]
+
+pub use base::{base_edge, base_row};
+pub use inferred::row_edges;
+pub use reasons::justify;
+
+mod base;
+mod inferred;
+pub mod laws;
+mod marks;
+mod paths;
+mod reasons;
+mod sources;
+#[cfg(test)]
+mod tests;

@@ -1,0 +1,141 @@
+//! Drawn traces: every row is what the model's plain program finds.
+
+use super::graph_of;
+use crate::{base_edge, base_row, row_edges};
+use std::alloc::{AllocError, Global};
+use std::process::Abort;
+use std::test::Fail;
+use tso_model::plain::{base_edges, first_base_rule, has_edge, new_edges, node_count, rank_set};
+use tso_ops::{Outcome, Trace};
+
+/// The next of a row of numbers that looks like chance.
+fn next_word(word: u64) -> u64 {
+    word.wrapping_mul(6364136223846793005)
+        .wrapping_add(1442695040888963407)
+}
+
+/// The outcome that the word draws. A value that is stored stands at address 0 if it is even, else at address 1, and a
+/// load draws among the values that can stand at its address.
+fn drawn_outcome(word: u64, value: u64) -> Outcome {
+    let stored_at = (value % 2) as u16;
+    let loaded_at = (word >> 40) % 2;
+    let below = (word >> 45) % 3 * 2;
+    match (word >> 33) % 8 {
+        0 => Outcome::Mb,
+        1 => Outcome::Sw {
+            a: stored_at,
+            r: below + value % 2,
+            v: value,
+        },
+        2 => Outcome::Sw {
+            a: stored_at,
+            r: 0,
+            v: value,
+        },
+        3 | 4 => Outcome::St {
+            a: stored_at,
+            v: value,
+        },
+        5 => Outcome::Ld {
+            a: loaded_at as u16,
+            r: 0,
+        },
+        _ => Outcome::Ld {
+            a: loaded_at as u16,
+            r: below + loaded_at,
+        },
+    }
+}
+
+/// A trace of six operations on up to three processors.
+fn drawn_trace(alloc: Global, seed: u64) -> Result<Trace, Fail> {
+    let mut lists: [Vec<Outcome>; 3] = [Vec::new(alloc), Vec::new(alloc), Vec::new(alloc)];
+    let mut word = next_word(seed);
+    for value in 1..7 {
+        word = next_word(word);
+        lists[(word >> 50) as usize % 3].push(drawn_outcome(word, value))?;
+    }
+    Ok(Trace::new(alloc, Vec::from_array(alloc, lists)?)?)
+}
+
+/// The numbers below `nodes` to which the edges lead from `u`, ascending.
+fn plain_row(
+    alloc: Global,
+    edges: &[(usize, usize)],
+    nodes: usize,
+    u: usize,
+) -> Result<Vec<usize>, AllocError> {
+    let mut row = Vec::new(alloc);
+    for v in 0..nodes {
+        if has_edge(edges, u, v) {
+            row.push(v)?;
+        }
+    }
+    Ok(row)
+}
+
+/// Compares the base edges, by pairs and by rows, with the plain ones.
+fn compare_base(rt: &impl Abort, alloc: Global, trace: &Trace) -> Result<(), AllocError> {
+    let nodes = node_count(trace);
+    let edges = base_edges(alloc, trace)?;
+    for u in 0..nodes {
+        assert_eq!(rt;
+            base_row(alloc, trace, u)?,
+            plain_row(alloc, &edges, nodes, u)?,
+            "base row {u} of {trace:?}"
+        );
+        for v in 0..nodes {
+            assert_eq!(rt;
+                base_edge(trace, u, v),
+                first_base_rule(trace, u, v),
+                "{u} {v} of {trace:?}"
+            );
+        }
+    }
+    Ok(())
+}
+
+/// Compares the rows over a graph of the rank set with the plain new edges; whether there are any.
+fn compare_round(
+    rt: &impl Abort,
+    alloc: Global,
+    trace: &Trace,
+    rank: usize,
+) -> Result<bool, AllocError> {
+    let nodes = node_count(trace);
+    let edges = rank_set(alloc, trace, rank)?;
+    let new = new_edges(alloc, trace, &edges)?;
+    let graph = graph_of(alloc, nodes, &edges)?;
+    for u in 0..nodes {
+        assert_eq!(rt;
+            row_edges(alloc, trace, &graph, u)?,
+            plain_row(alloc, &new, nodes, u)?,
+            "row {u} of {trace:?}, rank {rank}"
+        );
+    }
+    Ok(!new.is_empty())
+}
+
+/// Compares every row of every rank set up to the first to which nothing is added, and returns its rank.
+fn compare(rt: &impl Abort, alloc: Global, trace: &Trace) -> Result<usize, AllocError> {
+    compare_base(rt, alloc, trace)?;
+    let mut rank = 0;
+    for next in 1..100 {
+        if !compare_round(rt, alloc, trace, rank)? {
+            break;
+        }
+        rank = next;
+    }
+    Ok(rank)
+}
+
+#[test]
+fn rows_as_by_the_plain_program(rt: HostRuntime) -> Result<(), Fail> {
+    let mut most = 0;
+    for seed in 0..300 {
+        let trace = drawn_trace(rt.alloc(), seed)?;
+        most = most.max(compare(&rt, rt.alloc(), &trace)?);
+    }
+    assert!(rt; (2..99).contains(&most), "{most} rounds at most");
+    Ok(())
+}
