@@ -1,68 +1,27 @@
 -- Lemmas on numbers in texts.
-use Rattle.std.proofs.Common.{◌≡◌, ℕ, zero, suc, ◌<◌, ◌^◌, Bool, true, false, cond, ltb, List, [], ◌∷◌, length, get_or, Option, Some, None, Result, Ok, Err, refl, ap, sym, ◌∙◌, arith, Bor, rules, ◌&&◌, subst}
+use Rattle.std.proofs.Common.{◌≡◌, ℕ, zero, suc, ◌+◌, ◌*◌, ◌<◌, ◌≤◌, ◌^◌, Bool, true, false, cond, ltb, List, [], ◌∷◌, length, get_or, Option, Some, None, refl, ap, sym, ◌∙◌, arith, rules, ◌&&◌, subst}
 use Rattle.std.specs.Fmt.{decimal, digits}
-use Rattle.std.specs.Char.{is_ascii_digit}
+use Rattle.std.specs.Char.{is_ascii_digit, digit_value}
 use Rattle.std.specs.List.{list_all}
-use Rattle.std.specs.Result.{result_ok, OkIff, MatchResult}
-use Rattle.std.specs.Str.{IsUtf8}
-use Rattle.std.specs.Str.Parse.{digits_value, ParsesUnsigned}
+use Rattle.std.specs.Str.Parse.{digits_value, digits_value_after}
 use Rattle.std.proofs.lemmas.Bool.Decides.{nat_tests}
-use Rattle.std.proofs.lemmas.Str.{IsUtf8-from_ascii}
-use Rattle.std.proofs.lemmas.Str.Parse.{IsNumeralModel, numerals_by_value, parse_digits}
-use Rattle.std.proofs.lemmas.Fmt.{IsAscii-from_digits, decimal-digits_value, digits_decimal, digits_value-decimal, decimal_nonempty, first_decimal}
+use Rattle.std.proofs.lemmas.Bool.{lt-ltb, le-ltb, ltb-true, ltb-false}
+use Rattle.std.proofs.lemmas.Str.Parse.{IsNumeralModel, numerals_by_value}
+use Rattle.std.proofs.lemmas.Fmt.{decimal-digits_value, digits_decimal, digits_value-decimal, decimal_nonempty, first_decimal}
 use Rattle.line_text.specs.Numbers.{is_plain, is_numeral, number}
 
 -- the digits of a number, in std's words
 pub digits_model : IsNumeralModel (λ ds. list_all is_ascii_digit ds ≡ true) (digits_value 10)
 digits_model = numerals_by_value _ (search rules)
 
--- digits are a text
-pub IsUtf8-from_digits : (piece : List ℕ) → list_all is_ascii_digit piece ≡ true → IsUtf8 piece
-IsUtf8-from_digits piece digits = IsUtf8-from_ascii piece (IsAscii-from_digits piece (digits_model.to piece digits))
-
 -- a piece that is not plain spells no number
 pub number-not_plain : (piece : List ℕ) → is_plain piece ≡ false → number piece ≡ None
 unfolding number
 number-not_plain piece off = rw off (elim (list_all is_ascii_digit piece) as (λ b. cond (b && false && ltb (digits_value 10 piece) (2 ^ 64)) (Some (digits_value 10 piece)) None ≡ None) [ true ↦ refl | false ↦ refl ])
 
--- nor does one that has another byte than digits
-pub number-not_digits : (piece : List ℕ) → list_all is_ascii_digit piece ≡ false → number piece ≡ None
-unfolding number
-number-not_digits piece off = rw off refl
-
 pub length-plain : (piece : List ℕ) → is_plain piece ≡ true → 0 < length piece
 length-plain [] plain = absurd cc
 length-plain (d ∷ ds) plain = omega arith
-
-parsed : {E : Type 0} (r : Result ℕ E) (fits : Bool) (P : Type 0) (n : ℕ) → OkIff r P n → (fits ≡ true → P) → (P → fits ≡ true) → result_ok r ≡ cond fits (Some n) None
-parsed (Ok m) true P n is to from = ap Some is.1
-parsed (Ok m) false P n is to from = absurd (let e = from is.0 in cc)
-parsed (Err e) true P n is to from = absurd (is (to refl))
-parsed (Err e) false P n is to from = refl
-
--- what `parse` reads of plain digits
-pub number-parsed : {E : Type 0} (piece : List ℕ) (r : Result ℕ E) → is_plain piece ≡ true → list_all is_ascii_digit piece ≡ true → ParsesUnsigned 64 10 piece r → result_ok r ≡ number piece
-unfolding number
-number-parsed piece r plain digits parses =
-    let long = length-plain piece plain in
-    rw (digits, plain)
-    (parsed r (ltb (digits_value 10 piece) (2 ^ 64)) _ (digits_value 10 piece) (parse_digits digits_model 64 piece r parses digits)
-    (λ e. (long, grind (arith, nat_tests)))
-    (λ p. grind (arith, nat_tests)))
-
--- a piece that is a text is read as one
-pub text_read : {E : Type 0} (P : Type 0) (Q : E → Type 0) (r : Result (Bor (List ℕ)) E) (o : Option (Bor (List ℕ))) (t : Bor (List ℕ)) (piece : List ℕ) →
-    MatchResult r (λ s. (s.now ≡ piece) × P) Q → o ≡ result_ok r → o ≡ Some t → t.now ≡ piece
-text_read P Q (Ok s) o t piece read ok is = let same : s ≡ t = cc in let R : Bor (List ℕ) → Type 0 = λ x. x.now ≡ piece in subst R same read.0
-text_read P Q (Err e) o t piece read ok is = absurd cc
-
--- digits are not turned away
-pub text_not_refused : {E : Type 0} (P : Type 0) (Q : E → Type 0) (r : Result (Bor (List ℕ)) E) (o : Option (Bor (List ℕ))) (piece : List ℕ) →
-    list_all is_ascii_digit piece ≡ true → MatchResult r (λ s. (s.now ≡ piece) × P) (λ e. (IsUtf8 piece → ⊥) × Q e) → o ≡ result_ok r → o ≡ None → ⊥
-text_not_refused P Q (Ok s) o piece digits read ok is = absurd cc
-text_not_refused P Q (Err e) o piece digits read ok is = read.0 (IsUtf8-from_digits piece digits)
-
--- ---- one way to write a number
 
 pub and_parts : (a b : Bool) → (a && b) ≡ true → (a ≡ true) × (b ≡ true)
 and_parts true b e = (refl, e)
@@ -71,6 +30,68 @@ and_parts false b e = absurd cc
 some_parts : {X : Type 0} (b : Bool) (m n : X) → cond b (Some m) None ≡ Some n → (b ≡ true) × (m ≡ n)
 some_parts true m n e = (refl, cc)
 some_parts false m n e = absurd cc
+
+-- ---- a number read digit by digit
+
+-- the number that a digit makes behind the number n
+abbrev pub number_with : ℕ → ℕ → Option ℕ
+number_with n d = cond (is_ascii_digit d && ltb (n * 10 + digit_value d) (2 ^ 64)) (Some (n * 10 + digit_value d)) None
+
+-- the number that digits make behind the number n
+unfoldable pub number_behind : ℕ → List ℕ → Option ℕ
+number_behind n ds = cond (list_all is_ascii_digit ds && ltb (digits_value_after 10 n ds) (2 ^ 64)) (Some (digits_value_after 10 n ds)) None
+
+and_false : (b : Bool) (n : ℕ) → cond (b && false) (Some n) None ≡ None
+and_false true n = refl
+and_false false n = refl
+
+number-by_parts : (a b : Bool) (n : ℕ) → cond ((a && true) && b) (Some n) None ≡ cond (a && b) (Some n) None
+number-by_parts true b n = refl
+number-by_parts false b n = refl
+
+pub number-plain : (piece : List ℕ) → is_plain piece ≡ true → number piece ≡ number_behind 0 piece
+unfolding number number_behind
+number-plain piece plain = rw plain (number-by_parts (list_all is_ascii_digit piece) (ltb (digits_value 10 piece) (2 ^ 64)) (digits_value 10 piece))
+
+pub number_behind-nil : (n : ℕ) → n < 2 ^ 64 → number_behind n [] ≡ Some n
+unfolding number_behind
+number_behind-nil n fits = rw (lt-ltb n (2 ^ 64) fits) refl
+
+-- more digits make no lesser number
+digits_value_after-least : (n : ℕ) (ds : List ℕ) → n ≤ digits_value_after 10 n ds
+digits_value_after-least n [] = omega arith
+digits_value_after-least n (d ∷ ds) = let rest = digits_value_after-least (n * 10 + digit_value d) ds in omega (arith, rest)
+
+taken_by_test : (n m d : ℕ) (ds : List ℕ) (digit : Bool) → digit ≡ is_ascii_digit d → cond (digit && ltb (n * 10 + digit_value d) (2 ^ 64)) (Some (n * 10 + digit_value d)) None ≡ Some m → number_behind n (d ∷ ds) ≡ number_behind m ds
+unfolding number_behind
+taken_by_test n m d ds true is e = let parts = some_parts (ltb (n * 10 + digit_value d) (2 ^ 64)) (n * 10 + digit_value d) m e in rw (sym is, sym parts.1) refl
+taken_by_test n m d ds false is e = absurd cc
+
+-- a digit that is taken leads on to the digits behind it
+pub number_behind-taken : (n m d : ℕ) (ds : List ℕ) → number_with n d ≡ Some m → number_behind n (d ∷ ds) ≡ number_behind m ds
+number_behind-taken n m d ds e = taken_by_test n m d ds (is_ascii_digit d) refl e
+
+-- what is taken has 64 bits
+pub number_with-fits : (n d m : ℕ) → number_with n d ≡ Some m → m < 2 ^ 64
+number_with-fits n d m e =
+    let parts = some_parts (is_ascii_digit d && ltb (n * 10 + digit_value d) (2 ^ 64)) (n * 10 + digit_value d) m e in
+    let tests = and_parts (is_ascii_digit d) (ltb (n * 10 + digit_value d) (2 ^ 64)) parts.0 in
+    subst (λ x. x < 2 ^ 64) parts.1 (ltb-true _ _ tests.1)
+
+refused_by_tests : (n d : ℕ) (ds : List ℕ) (digit low : Bool) → digit ≡ is_ascii_digit d → low ≡ ltb (n * 10 + digit_value d) (2 ^ 64) → cond (digit && low) (Some (n * 10 + digit_value d)) None ≡ None → number_behind n (d ∷ ds) ≡ None
+unfolding number_behind
+refused_by_tests n d ds true true is at e = absurd cc
+refused_by_tests n d ds true false is at e =
+    let least = digits_value_after-least (n * 10 + digit_value d) ds in
+    let high : ltb (digits_value_after 10 (n * 10 + digit_value d) ds) (2 ^ 64) ≡ false = le-ltb _ _ (omega (arith, least, ltb-false _ _ (sym at))) in
+    rw (sym is, high) (and_false (list_all is_ascii_digit ds) _)
+refused_by_tests n d ds false low is at e = rw (sym is) refl
+
+-- where no number has the digit there is none
+pub number_behind-refused : (n d : ℕ) (ds : List ℕ) → number_with n d ≡ None → number_behind n (d ∷ ds) ≡ None
+number_behind-refused n d ds e = refused_by_tests n d ds (is_ascii_digit d) (ltb (n * 10 + digit_value d) (2 ^ 64)) refl refl e
+
+-- ---- one way to write a number
 
 zero_alone : (p : List ℕ) → is_plain p ≡ true → get_or p 0 0 ≡ 48 → length p ≡ 1
 zero_alone [] plain first = absurd cc

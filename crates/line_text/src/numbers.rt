@@ -1,9 +1,6 @@
-ghost use Rattle.std.specs.Prelude.{◌≡◌};
-ghost use Rattle.std.specs.List.{list_all};
-ghost use Rattle.std.specs.Char.{is_ascii_digit};
+ghost use Rattle.std.specs.Prelude.{◌≡◌, ◌+◌, ◌*◌, ◌^◌, ◌&&◌, nat_lt, Some, None, if◌then◌else◌};
+ghost use Rattle.std.specs.Char.{is_ascii_digit, digit_value};
 ghost use Rattle.line_text.specs.Numbers.{is_plain, number};
-
-use std::str;
 
 /// The number that a piece spells: digits without a leading zero, within 64 bits.
 pub fn number_of(piece: &[u8]) -> Option<u64>
@@ -12,17 +9,23 @@ pub fn number_of(piece: &[u8]) -> Option<u64>
     if !is_plain(piece) {
         return None;
     }
-    if !are_digits(piece) {
-        return None;
+    let mut value: u64 = 0;
+    for byte in piece {
+        value = with_digit(value, *byte)?;
     }
-    str::from_utf8(piece).ok()?.parse().ok()
+    Some(value)
 }
 
-/// Whether each byte of a piece is a digit.
-fn are_digits(piece: &[u8]) -> bool
-    ensures { result ≡ list_all is_ascii_digit piece.now }
+/// The number that has this digit behind the digits of `front`; nothing where the byte is no digit or 64 bits don't
+/// hold the number.
+#[inline]
+fn with_digit(front: u64, byte: u8) -> Option<u64>
+    ensures { result ≡ if is_ascii_digit byte && nat_lt (front * 10 + digit_value byte) (2 ^ 64) then Some (front * 10 + digit_value byte) else None }
 {
-    piece.iter().all(|b| b.is_ascii_digit())
+    if !byte.is_ascii_digit() {
+        return None;
+    }
+    front.checked_mul(10)?.checked_add(u64::from(byte - 48))
 }
 
 /// Whether a piece isn't empty and has no 0 before another byte.

@@ -1,6 +1,6 @@
 -- A line that says something is written in one way: its pieces are those that the printers give.
 use Rattle.std.proofs.Common.{◌≡◌, ℕ, ◌≤◌, Bool, true, false, cond, ltb, List, [], ◌∷◌, Option, Some, None, Result, Ok, Err, refl, ap, ◌∙◌, arith, inl, inr, ◌⊎◌}
-use Rattle.std.specs.Prelude.{codes}
+use Rattle.std.specs.Prelude.{codes, IfOk}
 use Rattle.std.specs.Fmt.{decimal}
 use Rattle.std.proofs.lemmas.Bool.Decides.{nat_tests}
 use Rattle.std.proofs.lemmas.Slice.Eq.{bytes_eq-Decides}
@@ -17,7 +17,7 @@ use Rattle.tso_text.specs.Spelling.{Grammar, line_fault, items_of}
 
 -- ---- numbers
 
-or_bad_ok : (o : Option ℕ) (n : ℕ) → or_bad o ≡ Ok n → o ≡ Some n
+pub or_bad_ok : (o : Option ℕ) (n : ℕ) → or_bad o ≡ Ok n → o ≡ Some n
 or_bad_ok None n e = absurd cc
 or_bad_ok (Some m) n e = cc
 
@@ -27,6 +27,11 @@ numeral_is p n e = number_is p n (or_bad_ok (number p) n e)
 pub bind_ok : {A B : Type 0} (r : Result A Why) (f : A → Result B Why) (b : B) → (r >>= f) ≡ Ok b → (a : A) × (r ≡ Ok a) × (f a ≡ Ok b)
 bind_ok (Ok a) f b e = (a, refl, e)
 bind_ok (Err why) f b e = absurd cc
+
+-- what holds of each outcome of the next step holds of both steps
+pub if_bind : {A B : Type 0} (holds : B → Type 0) (r : Result A Why) (f : A → Result B Why) → ((a : A) → r ≡ Ok a → IfOk (f a) holds) → IfOk (r >>= f) holds
+if_bind holds (Ok a) f next = next a refl
+if_bind holds (Err why) f next = tt
 
 pub none_is : (ps : List (List ℕ)) (u : Unit {0}) → no_number ps ≡ Ok u → ps ≡ []
 unfolding no_number
@@ -75,6 +80,10 @@ pieces_by pieces End = codes "end" ∷ []
 pub cond_parts : {X : Type 0} (b : Bool) (r s : Result (Line X) Why) (l : Line X) → cond b r s ≡ Ok l → ((b ≡ true) × (r ≡ Ok l)) ⊎ ((b ≡ false) × (s ≡ Ok l))
 cond_parts true r s l e = inl (refl, e)
 cond_parts false r s l e = inr (refl, e)
+
+pub if_cond : {A : Type 0} (holds : A → Type 0) (b : Bool) (r s : Result A Why) → IfOk r holds → IfOk s holds → IfOk (cond b r s) holds
+if_cond holds true r s first second = first
+if_cond holds false r s first second = second
 
 pub word_is : (word text : List ℕ) → is_word word text ≡ true → word ≡ text
 word_is word text same = (bytes_eq-Decides word text).0 same

@@ -1,64 +1,54 @@
 -- Lists that a tally keeps are those of a trace; a schedule is one list.
-use Rattle.std.proofs.Common.{◌≡◌, ℕ, List, [], ◌∷◌, ◌++◌, length, map, All, Result, Ok, Err, refl, ap, sym, ◌∙◌, arith, subst, Option, Some, ◌<◌, ◌-◌, get_or, Bool, true, false, cond}
-use Rattle.std.specs.Prelude.{codes}
+use Rattle.std.proofs.Common.{◌≡◌, ℕ, List, [], ◌∷◌, ◌++◌, length, map, All, Result, Ok, Err, refl, ap, sym, ◌∙◌, arith, subst, Option, Some, ◌<◌, ◌≤◌, ◌-◌, get_or}
+use Rattle.std.specs.Prelude.{codes, IfOk}
 use Rattle.std.specs.Global.{Vec}
 use Rattle.std.specs.Option.{unwrap_or}
 use Rattle.std.proofs.lemmas.List.{length-map}
+use Rattle.std.proofs.lemmas.Result.{IfOk-at_ok}
 use Rattle.tso_ops.specs.declared.ops.Outcome.{Outcome}
 use Rattle.tso_ops.specs.Values.{op_of, ReadFits, trace_of_lists, rows}
 use Rattle.tso_text.specs.declared.acts.Act.{Act}
-use Rattle.tso_text.specs.declared.acts.Act.TheVariants.{Issue, Drain}
 use Rattle.tso_text.specs.declared.faults.Why.{Why}
-use Rattle.tso_text.specs.declared.faults.Why.TheVariants.{BadLine}
 use Rattle.tso_text.specs.declared.lines.Line.{Line}
 use Rattle.tso_text.specs.declared.lines.Line.TheVariants.{Proc, Item, End}
 use Rattle.tso_text.specs.Grammars.{schedule_grammar, schedule_line, is_word}
-use Rattle.tso_text.specs.Numbers.{◌>>=◌, no_number, one_number}
+use Rattle.tso_text.specs.Numbers.{no_number, one_number}
 use Rattle.tso_ops.specs.Limits.{IsTrace, KeepsLimits}
 use Rattle.tso_ops.specs.Tally.{Admitted}
-use Rattle.tso_text.specs.Spelling.{Spells, with_said, said, lists_of, lists_after, lines_of}
+use Rattle.tso_text.specs.Spelling.{Spells, with_said, said, lists_of, lists_after, lines_of, items_of}
 use Rattle.tso_text.specs.Taken.{IsKept}
+use Rattle.tso_text.proofs.CanonicalFacts.{if_bind, if_cond}
 use Rattle.tso_text.proofs.LineFacts.{items_of-map}
 
-pub trace_kept : (lists : List (List Outcome)) → IsKept (λ tally items. Admitted tally (map op_of items) × All ReadFits items) lists → IsTrace (trace_of_lists lists)
-trace_kept lists kept = record {
+-- lists of outcomes within the limits are those of a trace
+pub trace_within : (lists : List (List Outcome)) → length lists ≤ 16 → KeepsLimits (map op_of (items_of lists)) → All ReadFits (items_of lists) → IsTrace (trace_of_lists lists)
+trace_within lists few limits reads = record {
   program = record {
-    processors = omega (arith, length-map lists (map op_of), kept.few);
-    limits = subst KeepsLimits (sym (items_of-map op_of lists)) kept.keeps_items.0.limits;
+    processors = omega (arith, length-map lists (map op_of), few);
+    limits = subst KeepsLimits (sym (items_of-map op_of lists)) limits;
   };
-  reads = kept.keeps_items.1;
+  reads = reads;
 }
+
+pub trace_kept : (lists : List (List Outcome)) → IsKept (λ tally items. Admitted tally (map op_of items) × All ReadFits items) lists → IsTrace (trace_of_lists lists)
+trace_kept lists kept = trace_within lists kept.few kept.keeps_items.0.limits kept.keeps_items.1
 
 -- ---- a schedule is one list
 
-cond_not_proc : (b : Bool) (r s : Result (Line Act) Why) → (r ≡ Ok Proc → ⊥) → (s ≡ Ok Proc → ⊥) → cond b r s ≡ Ok Proc → ⊥
-cond_not_proc true r s not_r not_s = not_r
-cond_not_proc false r s not_r not_s = not_s
+abbrev BeginsNoList : Line Act → Type 0
+BeginsNoList l = l ≡ Proc → ⊥
 
-bind_not_proc : {A : Type 0} (r : Result A Why) (f : A → Result (Line Act) Why) → ((a : A) → f a ≡ Ok Proc → ⊥) → (r >>= f) ≡ Ok Proc → ⊥
-bind_not_proc (Ok a) f not_f e = not_f a e
-bind_not_proc (Err why) f not_f e = absurd cc
-
-issue_not_proc : (n : ℕ) → ◌≡◌ {A = Result (Line Act) Why} (Ok (Item (Issue n))) (Ok Proc) → ⊥
-issue_not_proc n e = absurd cc
-
-drain_not_proc : (n : ℕ) → ◌≡◌ {A = Result (Line Act) Why} (Ok (Item (Drain n))) (Ok Proc) → ⊥
-drain_not_proc n e = absurd cc
-
-end_not_proc : (u : Unit {0}) → ◌≡◌ {A = Result (Line Act) Why} (Ok End) (Ok Proc) → ⊥
-end_not_proc u e = absurd cc
-
-err_not_proc : ◌≡◌ {A = Result (Line Act) Why} (Err BadLine) (Ok Proc) → ⊥
-err_not_proc e = absurd cc
+begins_no_list : (pieces : List (List ℕ)) → IfOk (schedule_line pieces) BeginsNoList
+unfolding schedule_line
+begins_no_list [] = tt
+begins_no_list (word ∷ pieces) =
+    if_cond _ (is_word word (codes "i")) _ _ (if_bind BeginsNoList (one_number pieces) _ (λ n is e. absurd cc))
+    (if_cond _ (is_word word (codes "d")) _ _ (if_bind BeginsNoList (one_number pieces) _ (λ n is e. absurd cc))
+    (if_cond _ (is_word word (codes "end")) _ _ (if_bind BeginsNoList (no_number pieces) _ (λ u is e. absurd cc)) tt))
 
 -- no line of a schedule begins a list
 pub not_proc : (pieces : List (List ℕ)) → schedule_line pieces ≡ Ok Proc → ⊥
-unfolding schedule_line
-not_proc [] e = absurd cc
-not_proc (word ∷ pieces) e =
-    cond_not_proc (is_word word (codes "i")) _ _ (bind_not_proc (one_number pieces) _ issue_not_proc)
-    (cond_not_proc (is_word word (codes "d")) _ _ (bind_not_proc (one_number pieces) _ drain_not_proc)
-    (cond_not_proc (is_word word (codes "end")) _ _ (bind_not_proc (no_number pieces) _ end_not_proc) err_not_proc)) e
+not_proc pieces e = IfOk-at_ok BeginsNoList e (begins_no_list pieces) refl
 
 one_more : (row : List Act) (r : Result (Line Act) Why) → (r ≡ Ok Proc → ⊥) → (next : List Act) × (with_said (row ∷ []) r ≡ next ∷ [])
 one_more row (Err why) not = (row, refl)

@@ -10,4 +10,5 @@ pub mod PrintedItems
 pub mod PrintedLines
 pub mod PrintedSpelling
 pub mod Reaching
+pub mod SpelledLimits
 pub mod SpellingFacts

@@ -37,11 +37,11 @@ part_text : {X : Type 0} (pieces : Line X → List (List ℕ)) (part : List ℕ)
 unfolding pieces_of
 part_text pieces part l same = sym (join_with_byte-slice_split 32 part) ∙ ap (join_with_byte 32) same
 
--- the lines of a text whose last part is empty
-lines_of-place : (text : List ℕ) (front : List (List ℕ)) → body_of text ≡ front ++ [] ∷ [] → lines_of text ≡ front
-lines_of-place text front body =
-    let n : length (front ++ [] ∷ []) - 1 ≡ length front = omega (arith, length-append front ([] ∷ [])) in
-    let t : take (length (front ++ [] ∷ []) - 1) (front ++ [] ∷ []) ≡ front = take_at front ([] ∷ []) (length (front ++ [] ∷ []) - 1) (sym n) in
+-- the lines of a text are the parts in front of its last
+pub lines_of-place : (text : List ℕ) (front : List (List ℕ)) (last : List ℕ) → body_of text ≡ front ++ last ∷ [] → lines_of text ≡ front
+lines_of-place text front last body =
+    let n : length (front ++ last ∷ []) - 1 ≡ length front = omega (arith, length-append front (last ∷ [])) in
+    let t : take (length (front ++ last ∷ []) - 1) (front ++ last ∷ []) ≡ front = take_at front (last ∷ []) (length (front ++ last ∷ []) - 1) (sym n) in
     rw (body, t) refl
 
 -- behind an `end` there is nothing
@@ -91,7 +91,7 @@ rendered_line g made pieces prints text last spells front part next parts lists 
     (sym (part_fault-ended g (front ++ part ∷ []) next (is_empty parts) AfterEnd ended) ∙ sym (fault_at-place g text (front ++ part ∷ []) next parts (length (front ++ part ∷ [])) AfterEnd behind refl)
     ∙ spells.clean (suc (suc (length (front ++ part ∷ [])))) AfterEnd) in
     let whole : body_of text ≡ (front ++ part ∷ []) ++ [] ∷ [] = behind ∙ ap (λ p. (front ++ part ∷ []) ++ p ∷ parts) none.0 ∙ ap (λ ps. (front ++ part ∷ []) ++ [] ∷ ps) none.1 in
-    let same : lists ≡ last = sym (lists_of-push g front part ∙ ap (λ l. with_said l (said g part)) says ∙ ap (with_said lists) is) ∙ ap (lists_of g) (sym (lines_of-place text (front ++ part ∷ []) whole)) ∙ spells.says in
+    let same : lists ≡ last = sym (lists_of-push g front part ∙ ap (λ l. with_said l (said g part)) says ∙ ap (with_said lists) is) ∙ ap (lists_of g) (sym (lines_of-place text (front ++ part ∷ []) [] whole)) ∙ spells.says in
     rw (none.0, none.1) (rendered_end g made pieces prints lists part last is same)
 
 rendered_said : {X : Type 0} (g : Grammar X) (made : List (List X) → List (Line X)) (pieces : Line X → List (List ℕ)) → Prints g made pieces → (text : List ℕ) (last : List (List X)) → Spells g text last →

@@ -24,7 +24,7 @@ pub lists_of-push : {X : Type 0} (g : Grammar X) (front : List (List ℕ)) (line
 unfolding lists_of
 lists_of-push g front line = lists_after-append g (g.start) front (line ∷ [])
 
-or_false : (a b : Bool) → (a || b) ≡ false → (a ≡ false) × (b ≡ false)
+pub or_false : (a b : Bool) → (a || b) ≡ false → (a ≡ false) × (b ≡ false)
 or_false true b e = absurd cc
 or_false false b e = (refl, e)
 

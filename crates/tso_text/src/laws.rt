@@ -10,23 +10,27 @@ ghost use Rattle.tso_text.specs.declared.acts.Act.{Act};
 ghost use Rattle.tso_text.specs.declared.faults.Why.{Why};
 
 /// Each text spells a trace or is refused, never both; it spells one trace, and gets one refusal;
-/// what spells a trace is its printed text, and the printed text of a trace within the limits spells it.
+/// what it spells keeps the limits of a trace; what spells a trace is its printed text, and the printed text of a trace
+/// within the limits spells it.
 pub fn traces()
     ensures spelled_or_refused { (text : List ℕ) → IsSpelledTrace text ⊎ IsRefusedTrace text }
     ensures never_both { (text : List ℕ) → IsSpelledTrace text → IsRefusedTrace text → ⊥ }
     ensures one_value { (text : List ℕ) (t u : TraceValue) → SpellsTrace text t → SpellsTrace text u → t ≡ u }
     ensures one_text { (text : List ℕ) (t : TraceValue) → SpellsTrace text t → text ≡ trace_text t }
+    ensures lawful { (text : List ℕ) (t : TraceValue) → SpellsTrace text t → IsTrace t }
     ensures printed { (t : TraceValue) → IsTrace t → SpellsTrace (trace_text t) t }
     ensures one_refusal { (text : List ℕ) (j k : ℕ) (v w : Why) → IsTraceRefusal text j v → IsTraceRefusal text k w → (j ≡ k) × (v ≡ w) }
 {}
 
 /// Each text spells a program or is refused, never both; it spells one program, and gets one refusal;
-/// what spells a program is its printed text, and the printed text of a program within the limits spells it.
+/// what it spells keeps the limits of a program; what spells a program is its printed text, and the printed text of a
+/// program within the limits spells it.
 pub fn programs()
     ensures spelled_or_refused { (text : List ℕ) → IsSpelledProgram text ⊎ IsRefusedProgram text }
     ensures never_both { (text : List ℕ) → IsSpelledProgram text → IsRefusedProgram text → ⊥ }
     ensures one_value { (text : List ℕ) (p q : ProgramValue) → SpellsProgram text p → SpellsProgram text q → p ≡ q }
     ensures one_text { (text : List ℕ) (p : ProgramValue) → SpellsProgram text p → text ≡ program_text p }
+    ensures lawful { (text : List ℕ) (p : ProgramValue) → SpellsProgram text p → IsProgram p }
     ensures printed { (p : ProgramValue) → IsProgram p → SpellsProgram (program_text p) p }
     ensures one_refusal { (text : List ℕ) (j k : ℕ) (v w : Why) → IsProgramRefusal text j v → IsProgramRefusal text k w → (j ≡ k) × (v ≡ w) }
 {}

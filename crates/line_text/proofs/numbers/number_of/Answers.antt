@@ -1,19 +1,34 @@
-use Rattle.std.proofs.Common.{sym, ◌∙◌}
-use Rattle.line_text.proofs.NumberFacts.{number-not_plain, number-not_digits, number-parsed, text_read, text_not_refused}
+use Rattle.std.proofs.Common.{sym, ◌∙◌, refl, arith, ◌+◌, drop, get_or}
+use Rattle.std.proofs.lemmas.List.{drop_more, drop_all}
+use Rattle.line_text.proofs.NumberFacts.{number-not_plain, number-plain, number_behind-nil, number_behind-taken, number_behind-refused, number_with-fits}
 use Rattle.line_text.proofs.numbers.number_of.Goals as goal
 
 pub returns-then-not-is_plain : goal.returns-then-not-is_plain
 returns-then-not-is_plain c = sym (number-not_plain c.args.piece.now (sym c.is_plain.ensures ∙ c.if-not-is_plain.true))
 
-pub returns-then-not-are_digits : goal.returns-then-not-are_digits
-returns-then-not-are_digits c = sym (number-not_digits c.args.piece.now (sym c.are_digits.ensures ∙ c.if-not-are_digits.true))
+pub loop-byte-init : goal.loop-byte-init
+loop-byte-init c = record { read = refl; fits = omega arith }
 
-pub returns-in_err-ok : goal.returns-in_err-ok
-returns-in_err-ok c = absurd (text_not_refused _ _ c.from_utf8.result c.ok.result c.args.piece.now (sym c.are_digits.ensures ∙ c.if-not-are_digits.false) c.from_utf8.ensures.cases c.ok.ensures.value c.in_err-ok.was)
+pub returns-in_err-value : goal.returns-in_err-value
+returns-in_err-value c =
+    let piece = c.args.piece.now in
+    let i = c.loop-byte.byte-index in
+    let refused = number_behind-refused c.loop-byte.value _ (drop (i + 1) piece) (sym c.with_digit.ensures ∙ c.in_err-value.was) in
+    c.from_residual.ensures
+    ∙ sym (number-plain piece (sym c.is_plain.ensures ∙ c.if-not-is_plain.false) ∙ c.loop-byte.invariant.read ∙ rw (drop_more piece i 0 c.loop-byte-test.true) refused)
+
+pub loop-byte-preserved : goal.loop-byte-preserved
+loop-byte-preserved c =
+    let piece = c.args.piece.now in
+    let i = c.loop-byte.byte-index in
+    let taken = sym c.with_digit.ensures ∙ c.in_ok-value.was in
+    record {
+      read = c.loop-byte.invariant.read ∙ rw (drop_more piece i 0 c.loop-byte-test.true) (number_behind-taken c.loop-byte.value c.in_ok-value.value _ (drop (i + 1) piece) taken);
+      fits = number_with-fits c.loop-byte.value (get_or piece i 0) c.in_ok-value.value taken;
+    }
 
 pub returns : goal.returns
 returns c =
-    let same = text_read _ _ c.from_utf8.result c.ok.result c.in_ok-ok.field-0 c.args.piece.now c.from_utf8.ensures.cases c.ok.ensures.value c.in_ok-ok.was in
-    c.ok-2.ensures.value
-    ∙ number-parsed c.args.piece.now c.parse.result (sym c.is_plain.ensures ∙ c.if-not-is_plain.false) (sym c.are_digits.ensures ∙ c.if-not-are_digits.false)
-    (rw same at c.parse.ensures.value.0)
+    let piece = c.args.piece.now in
+    sym (number-plain piece (sym c.is_plain.ensures ∙ c.if-not-is_plain.false) ∙ c.loop-byte.invariant.read
+    ∙ rw (drop_all c.loop-byte.byte-index piece c.loop-byte-test.false) (number_behind-nil c.loop-byte.value c.loop-byte.invariant.fits))

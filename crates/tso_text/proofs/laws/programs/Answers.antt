@@ -4,6 +4,7 @@ use Rattle.tso_text.specs.Grammars.{program_grammar}
 use Rattle.tso_text.proofs.SpellingFacts.{spelled_or_refused, not_both, one_value, one_refusal}
 use Rattle.tso_text.proofs.OneTextFacts.{program_printed}
 use Rattle.tso_text.proofs.PrintedSpelling.{printed_program_spells}
+use Rattle.tso_text.proofs.SpelledLimits.{spelled_program}
 use Rattle.tso_text.proofs.laws.programs.Goals as goal
 
 pub returns : goal.returns
@@ -12,6 +13,7 @@ returns c = record {
   never_both = λ text s r. not_both program_grammar text s.0.lists r.0 r.1 s.1 r.2;
   one_value = λ text v w s r. ap program_of_lists (one_value program_grammar text v.lists w.lists s r);
   one_text = program_printed;
+  lawful = spelled_program;
   printed = printed_program_spells;
   one_refusal = λ text j k v w r s. one_refusal program_grammar text j k v w r s;
 }

@@ -4,6 +4,7 @@ use Rattle.tso_text.specs.Grammars.{trace_grammar}
 use Rattle.tso_text.proofs.SpellingFacts.{spelled_or_refused, not_both, one_value, one_refusal}
 use Rattle.tso_text.proofs.OneTextFacts.{trace_printed}
 use Rattle.tso_text.proofs.PrintedSpelling.{printed_trace_spells}
+use Rattle.tso_text.proofs.SpelledLimits.{spelled_trace}
 use Rattle.tso_text.proofs.laws.traces.Goals as goal
 
 pub returns : goal.returns
@@ -12,6 +13,7 @@ returns c = record {
   never_both = λ text s r. not_both trace_grammar text s.0.lists r.0 r.1 s.1 r.2;
   one_value = λ text v w s r. ap trace_of_lists (one_value trace_grammar text v.lists w.lists s r);
   one_text = trace_printed;
+  lawful = spelled_trace;
   printed = printed_trace_spells;
   one_refusal = λ text j k v w r s. one_refusal trace_grammar text j k v w r s;
 }
