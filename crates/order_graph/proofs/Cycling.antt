@@ -1,10 +1,14 @@
 -- The least path and the least cycle from the least way between two numbers.
-use Rattle.std.proofs.Common.{◌≡◌, ◌↔◌, inl, inr, ℕ, ◌+◌, ◌-◌, ◌<◌, ◌≤◌, List, [], ◌∷◌, ◌++◌, length, Option, Some, None, MatchOption, IsSomeAnd, IfSome, refl, sym, subst, arith}
-use Rattle.std.proofs.lemmas.Bool.{cases_order, cases_eq}
+use Rattle.std.proofs.Common.{◌≡◌, ◌↔◌, inl, inr, ℕ, ◌+◌, ◌-◌, ◌/◌, ◌<◌, ◌≤◌, IsTrue, List, [], ◌∷◌, ◌++◌, length, Option, Some, None, is_some, MatchOption, IsSomeAnd, IfSome, refl, sym, subst, arith}
+use Rattle.std.proofs.lemmas.Bool.{cases_order, cases_eq, false≢true}
 use Rattle.std.proofs.lemmas.List.{length-append}
 use Rattle.order_paths.specs.Paths.{Linked, last_of, HasEnds, IsPath, Reaches, IsCycle, HasCycle, IsAtMost, IsNoGreater, IsLeastPath, IsLeastCycle}
 use Rattle.order_paths.proofs.Reach.{IsPath-mono, IsCycle-mono, IsCycle-Reaches}
-use Rattle.order_graph.specs.Tracks.{Track, IsLeastTrack, NoCycleBefore, IsLeastCycleBefore}
+use Rattle.order_graph.specs.Digraphs.{Digraph, IsEdge}
+use Rattle.order_graph.specs.Tables.{IsSet}
+use Rattle.order_graph.specs.Tracks.{NoneShared, IsFirstShared, Track, IsLeastTrack, NoCycleBefore, IsLeastCycleBefore}
+use Rattle.order_graph.proofs.Growth.{column_within}
+use Rattle.order_graph.proofs.Keeping.{Sees, sees_edge}
 use Rattle.order_graph.proofs.Searching.{IsPath-track}
 
 -- linked numbers and an edge from their last are a track, and the other way round
@@ -56,6 +60,22 @@ IsLeastPath-track Edge Other u v (x ∷ rest) path same least e =
     no_greater other p =
         let t = IsPath-track Edge u v other (IsPath-mono Other Edge (λ a b. (same a b).0) u v other p) in
         subst (λ l. IsNoGreater (u ∷ (rest ++ v ∷ [])) l) (sym t.1) (IsNoGreater-push rest t.0 u v (least.2 t.0 t.2))
+
+-- a row shares its first column with itself where an edge leads from its number
+pub row_edge : (g : Digraph) (nodes width : ℕ) (edges : List ℕ) (u : ℕ) (found : Option ℕ) → Sees g nodes width edges → width ≡ (nodes + 63) / 64 →
+    ((x y : ℕ) → x < nodes → y / 64 < width → IsSet edges width x y → y < nodes) → u < nodes →
+    MatchOption found (NoneShared edges u edges u width) (IsFirstShared edges u edges u width) → IsTrue (is_some found) ↔ ((v : ℕ) × IsEdge g u v)
+row_edge g nodes width edges u None sees fits within hu none = (
+  λ t. absurd (false≢true t),
+  λ e. let p = (sees_edge g nodes width edges sees u e.0).0 e.1 in absurd (none e.0 (column_within e.0 nodes width fits p.1) p.2 p.2),
+)
+row_edge g nodes width edges u (Some v) sees fits within hu first =
+    (λ t. (v, (sees_edge g nodes width edges sees u v).1 (hu, within u v hu first.column first.first, first.first)), λ e. refl)
+
+-- a least path over the same edges in another form
+pub IsLeastPath-same : (Edge Other : ℕ → ℕ → Type 0) (u v : ℕ) (path : List ℕ) → ((x y : ℕ) → Other x y ↔ Edge x y) → IsLeastPath Edge u v path → IsLeastPath Other u v path
+IsLeastPath-same Edge Other u v path same least =
+    (IsPath-mono Edge Other (λ a b. (same a b).1) u v path least.0, λ other p. least.1 other (IsPath-mono Other Edge (λ a b. (same a b).0) u v other p))
 
 -- with a number in front, lists stay in their order
 IsNoGreater-front : (x : ℕ) (xs ys : List ℕ) → IsNoGreater xs ys → IsNoGreater (x ∷ xs) (x ∷ ys)

@@ -1,14 +1,14 @@
 -- The graph that tables keep, and how they keep it when an edge is added.
-use Rattle.std.proofs.Common.{◌≡◌, ◌==◌, ◌⊎◌, ◌↔◌, inl, inr, ℕ, ◌+◌, ◌*◌, ◌/◌, ◌%◌, ◌^◌, ◌<◌, ◌≤◌, false, IsTrue, List, [], length, get_or, map, replicate, sym, ap, subst, ◌∙◌, arith}
+use Rattle.std.proofs.Common.{◌≡◌, ◌==◌, ◌⊎◌, ◌↔◌, inl, inr, ℕ, ◌+◌, ◌*◌, ◌/◌, ◌%◌, ◌^◌, ◌<◌, ◌≤◌, false, IsTrue, List, [], length, get_or, take, drop, map, replicate, sym, ap, subst, ◌∙◌, arith}
 use Rattle.std.specs.Int.{bit_at}
 use Rattle.std.specs.List.{range_with_len}
 use Rattle.std.proofs.lemmas.Bool.{eqb-true, eq-eqb, cases_lt, false≢true}
-use Rattle.std.proofs.lemmas.List.{get_or_past, get_or-replicate, length-replicate}
+use Rattle.std.proofs.lemmas.List.{get_or_past, get_or-drop, get_or-replicate, get_or-take, length-replicate, length-take}
 use Rattle.std.proofs.lemmas.List.FromFn.{get_or-map-range_with_len, length-map-range_with_len}
 use Rattle.order_paths.specs.Paths.{Reaches}
 use Rattle.order_paths.proofs.Decisions.{Decision, Decision-IsTrue}
 use Rattle.order_paths.proofs.Reach.{Reaches-join, Reaches-mono, Reaches-decided, Reaches-below}
-use Rattle.order_graph.specs.Tables.{HasBit, IsSet, Adds, IsSelfOrSet, AreTurned, IsTransitive, Joined}
+use Rattle.order_graph.specs.Tables.{HasBit, HasNumber, IsSet, Adds, IsSelfOrSet, AreTurned, IsTransitive, Joined}
 use Rattle.order_graph.specs.Digraphs.{Digraph, IsEdge, EdgesWithin, tests_of, graph_of, Keeps}
 use Rattle.order_graph.proofs.Words.{HasBit-zero}
 use Rattle.order_graph.proofs.Growth.{column_within}
@@ -204,3 +204,31 @@ Keeps-empty nodes width edges paths turned small fits e p t = record {
 -- the graph of a table of zeros has no edge
 pub sees_empty : (g : Digraph) (nodes width : ℕ) (table : List ℕ) → Sees g nodes width table → table ≡ replicate (nodes * width) 0 → (x y : ℕ) → IsEdge g x y → ⊥
 sees_empty g nodes width table sees same x y e = no_bit (nodes * width) width x y (subst (λ l. IsSet l width x y) same ((sees_edge g nodes width table sees x y).0 e).2)
+
+-- a row that is cut out of a table has the numbers whose bits are set in the table's row
+pub HasNumber-row : (table : List ℕ) (width count x v : ℕ) → count ≡ width → HasNumber (take count (drop (x * width) table)) v ↔ ((v / 64 < width) × IsSet table width x v)
+unfolding IsSet
+HasNumber-row table width count x v e = (to, back)
+  where
+    word : v / 64 < count → get_or (take count (drop (x * width) table)) (v / 64) 0 ≡ get_or table (x * width + v / 64) 0
+    word h = get_or-take count (drop (x * width) table) (v / 64) 0 h ∙ get_or-drop (x * width) table (v / 64) 0
+
+    to : HasBit (get_or (take count (drop (x * width) table)) (v / 64) 0) (v % 64) → (v / 64 < width) × HasBit (get_or table (x * width + v / 64) 0) (v % 64)
+    to b = elim (cases_lt (v / 64) count) [
+      | inl h ↦ (subst (λ n. v / 64 < n) e h, subst (λ n. HasBit n (v % 64)) (word h) b)
+      | inr past ↦ absurd (HasBit-zero (v % 64) (subst (λ n. HasBit n (v % 64))
+          (get_or_past (take count (drop (x * width) table)) (v / 64) 0 (omega (arith, length-take count (drop (x * width) table)))) b))
+    ]
+
+    back : (v / 64 < width) × HasBit (get_or table (x * width + v / 64) 0) (v % 64) → HasBit (get_or (take count (drop (x * width) table)) (v / 64) 0) (v % 64)
+    back p = subst (λ n. HasBit n (v % 64)) (sym (word (subst (λ n. v / 64 < n) (sym e) p.0))) p.1
+
+-- the numbers of a row of the table of paths are those that the row's number has a path to
+pub row_paths : (nodes width : ℕ) (edges paths turned : List ℕ) → Keeps nodes width edges paths turned → (count x v : ℕ) → count ≡ width → x < nodes →
+    HasNumber (take count (drop (x * width) paths)) v ↔ Reaches (Joined edges width nodes) x v
+row_paths nodes width edges paths turned keeps count x v e h = (
+  λ b. let p = (HasNumber-row paths width count x v e).0 b in
+      (keeps.tells x v h (keeps.paths_turned.within x v h p.0 p.1)).0 p.1,
+  λ path. let low = (Reaches-below (Joined edges width nodes) nodes (λ a b j. (j.0, j.1)) x v path).1 in
+      (HasNumber-row paths width count x v e).1 (column_within v nodes width keeps.fits low, (keeps.tells x v h low).1 path),
+)

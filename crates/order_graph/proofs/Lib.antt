@@ -2,6 +2,8 @@ pub mod ClosedNumbers
 pub mod Cycling
 pub mod Growth
 pub mod Keeping
+pub mod Losing
+pub mod Reached
 pub mod Reaching
 pub mod Searching
 pub mod ShortCycles

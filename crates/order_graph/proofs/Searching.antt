@@ -1,5 +1,5 @@
 -- How a search goes down from the first level that the start's edges meet, always to the least number.
-use Rattle.std.proofs.Common.{◌≡◌, ◌⊎◌, ◌↔◌, inl, inr, ℕ, zero, suc, ◌+◌, ◌-◌, ◌*◌, ◌/◌, ◌%◌, ◌<◌, ◌≤◌, ◌^◌, List, [], ◌∷◌, ◌++◌, length, get_or, replicate, Option, Some, None, MatchOption, is_some, true, false, refl, sym, ap, subst, ◌∙◌, arith}
+use Rattle.std.proofs.Common.{◌≡◌, ◌↔◌, inl, inr, ℕ, zero, suc, ◌+◌, ◌-◌, ◌*◌, ◌/◌, ◌%◌, ◌<◌, ◌≤◌, ◌^◌, List, [], ◌∷◌, ◌++◌, length, get_or, replicate, Option, Some, None, MatchOption, is_some, true, false, refl, sym, ap, subst, ◌∙◌, arith}
 use Rattle.std.specs.Int.{trailing_zeros, w64}
 use Rattle.std.specs.Prelude.{bit_and}
 use Rattle.std.proofs.lemmas.Bool.{cases_order, cases_lt, true≢false, false≢true}
@@ -8,7 +8,7 @@ use Rattle.order_paths.specs.Paths.{IsPath, Reaches, IsAtMost, IsNoGreater}
 use Rattle.order_paths.proofs.Decisions.{Decision, Decision-lt, Decision-three}
 use Rattle.order_paths.proofs.Reach.{Reaches-edge, Reaches-front, Reaches-join, Reaches-decided}
 use Rattle.order_graph.specs.Tables.{HasBit, IsSet, Adds, Joined}
-use Rattle.order_graph.specs.Digraphs.{Keeps}
+use Rattle.order_graph.specs.Digraphs.{Keeps, Covers}
 use Rattle.order_graph.specs.Tracks.{Track, Walks, IsLeastTrack, IsFirstShared, IsLevel, IsAbove, NoneShared, NoShorter}
 use Rattle.order_graph.proofs.Words.{HasBit-zero, HasBit-and, HasBit-lowest, IsSet-decided, IsSet-word}
 use Rattle.order_graph.proofs.Growth.{column_within, row_within}
@@ -63,43 +63,52 @@ pub record Descends (edges paths : List ℕ) (width nodes u v count left at : �
   pub onward : (y : ℕ) × Joined edges width nodes at y × Walks (Joined edges width nodes) left y v
   pub continues : (rest : List ℕ) → IsLeastRest (Joined edges width nodes) at v left rest → IsLeastList (Joined edges width nodes) u v count (list ++ rest)
 
--- a number that an edge leads to from one that u reaches, or from u, is reached
-reached_on : (nodes width : ℕ) (edges paths turned : List ℕ) (u x y : ℕ) → Keeps nodes width edges paths turned → u < nodes → (x ≡ u) ⊎ IsSet paths width u x → Joined edges width nodes x y → IsSet paths width u y
-reached_on nodes width edges paths turned u x y keeps hu (inl same) e =
-    (keeps.tells u y hu e.1).1 (Reaches-edge (Joined edges width nodes) u y (subst (λ n. Joined edges width nodes n y) same e))
-reached_on nodes width edges paths turned u x y keeps hu (inr set) e =
-    (keeps.tells u y hu e.1).1 (Reaches-join (Joined edges width nodes) u x y ((keeps.tells u x hu e.0).0 set) (Reaches-edge (Joined edges width nodes) x y e))
+-- the tables of paths have just the paths, so they cover them
+pub Keeps-covers : (nodes width : ℕ) (edges paths turned : List ℕ) → Keeps nodes width edges paths turned → Covers nodes width edges paths turned
+Keeps-covers nodes width edges paths turned keeps = record {
+  small = keeps.small;
+  fits = keeps.fits;
+  edges_sized = keeps.edges_sized;
+  edges_within = keeps.edges_within;
+  paths_sized = keeps.paths_turned.table_sized;
+  turned_sized = keeps.paths_turned.turned_sized;
+  onward = λ x y z hx from e. elim from [
+    | inl same ↦ (keeps.tells x z hx e.1).1 (Reaches-edge (Joined edges width nodes) x z (subst (λ n. Joined edges width nodes n z) same e))
+    | inr set ↦ (keeps.tells x z hx e.1).1 (Reaches-join (Joined edges width nodes) x y z ((keeps.tells x y hx e.0).0 set) (Reaches-edge (Joined edges width nodes) y z e))
+  ];
+  back = λ x y hx hy p. (keeps.paths_turned.same x y hx hy).1 ((keeps.tells x y hx hy).1 p);
+}
 
-pub Descends-start : (nodes width : ℕ) (edges paths turned levels : List ℕ) (u v count : ℕ) → Keeps nodes width edges paths turned → u < nodes →
+pub Descends-start : (nodes width : ℕ) (edges paths turned levels : List ℕ) (u v count : ℕ) → Covers nodes width edges paths turned → u < nodes →
     IsLevel edges paths levels width nodes u v count → (y : ℕ) × (y / 64 < width) × IsSet edges width u y × IsSet levels width count y →
     Descends edges paths width nodes u v count count u (u ∷ [])
-Descends-start nodes width edges paths turned levels u v count keeps hu level meets =
+Descends-start nodes width edges paths turned levels u v count covers hu level meets =
     let on = level.sound meets.0 meets.1 meets.3 in
     record {
       below = hu;
-      reached = λ y e. reached_on nodes width edges paths turned u u y keeps hu (inl refl) e;
+      reached = λ y e. covers.onward u u y hu (inl refl) e;
       onward = (meets.0, (hu, on.0, meets.2), on.1);
       continues = λ rest least. (refl, least);
     }
 
 -- some number is shared with the next level, so the search for the first finds one
-pub Descends-meets : (nodes width : ℕ) (edges paths turned levels : List ℕ) (u v count left at : ℕ) (list : List ℕ) → Keeps nodes width edges paths turned →
+pub Descends-meets : (nodes width : ℕ) (edges paths turned levels : List ℕ) (u v count left at : ℕ) (list : List ℕ) → Covers nodes width edges paths turned →
     IsLevel edges paths levels width nodes u v left → Descends edges paths width nodes u v count left at list → NoneShared edges at levels left width → ⊥
-Descends-meets nodes width edges paths turned levels u v count left at list keeps level descends none =
+Descends-meets nodes width edges paths turned levels u v count left at list covers level descends none =
     let y = descends.onward.0 in
     let e = descends.onward.1 in
-    none y (column_within y nodes width keeps.fits e.1) e.2 (level.complete y e.1 (descends.reached y e) descends.onward.2)
+    none y (column_within y nodes width covers.fits e.1) e.2 (level.complete y e.1 (descends.reached y e) descends.onward.2)
 
-pub Descends-step : (nodes width : ℕ) (edges paths turned levels : List ℕ) (u v count left at next : ℕ) (list : List ℕ) → Keeps nodes width edges paths turned → u < nodes →
+pub Descends-step : (nodes width : ℕ) (edges paths turned levels : List ℕ) (u v count left at next : ℕ) (list : List ℕ) → Covers nodes width edges paths turned → u < nodes →
     IsLevel edges paths levels width nodes u v (suc left) → Descends edges paths width nodes u v count (suc left) at list → IsFirstShared edges at levels (suc left) width next →
     Descends edges paths width nodes u v count left next (list ++ next ∷ [])
-Descends-step nodes width edges paths turned levels u v count left at next list keeps hu level descends first =
+Descends-step nodes width edges paths turned levels u v count left at next list covers hu level descends first =
     let on = level.sound next first.column first.second in
     let edge : Joined edges width nodes at next = (descends.below, on.0, first.first) in
     let set = descends.reached next edge in
     record {
       below = on.0;
-      reached = λ y e. reached_on nodes width edges paths turned u next y keeps hu (inr set) e;
+      reached = λ y e. covers.onward u next y hu (inr set) e;
       onward = on.1;
       continues = λ rest least.
           subst (λ l. IsLeastList (Joined edges width nodes) u v count l) (sym (append_assoc list (next ∷ []) rest))
@@ -272,27 +281,27 @@ not_met edges paths levels width nodes u v count reached fits level none rest si
     let w = Track-walks (Joined edges width nodes) u v rest t in
     none w.0 (column_within w.0 nodes width fits w.1.1) w.1.2 (level.complete w.0 w.1.1 (reached w.0 w.1) (subst (λ n. Walks (Joined edges width nodes) n w.0 v) sized w.2))
 
-pub Levels-none : (nodes width : ℕ) (edges paths turned levels : List ℕ) (u v count : ℕ) → Keeps nodes width edges paths turned → u < nodes → Levels edges paths levels width nodes u v count →
+pub Levels-none : (nodes width : ℕ) (edges paths turned levels : List ℕ) (u v count : ℕ) → Covers nodes width edges paths turned → u < nodes → Levels edges paths levels width nodes u v count →
     NoneShared edges u levels count width → NoShorter edges width nodes u v (count + 1)
-Levels-none nodes width edges paths turned levels u v count keeps hu all none rest t =
+Levels-none nodes width edges paths turned levels u v count covers hu all none rest t =
     elim (cases_order count (length rest)) [
-      | inl same ↦ absurd (not_met edges paths levels width nodes u v count (λ y e. reached_on nodes width edges paths turned u u y keeps hu (inl refl) e) keeps.fits
+      | inl same ↦ absurd (not_met edges paths levels width nodes u v count (λ y e. covers.onward u u y hu (inl refl) e) covers.fits
           (all.each count (omega arith)) none rest (sym same) t)
       | inr (inl less) ↦ omega arith
       | inr (inr more) ↦ absurd (omega (arith, all.none rest t))
     ]
 
-pub Levels-step : (nodes width : ℕ) (edges paths turned levels more new : List ℕ) (u v count : ℕ) → Keeps nodes width edges paths turned → u < nodes → v < nodes → Levels edges paths levels width nodes u v count →
+pub Levels-step : (nodes width : ℕ) (edges paths turned levels more new : List ℕ) (u v count : ℕ) → Covers nodes width edges paths turned → u < nodes → v < nodes → Levels edges paths levels width nodes u v count →
     NoneShared edges u levels count width → more ≡ levels ++ replicate width 0 → length new ≡ length more →
     Adds more new width (λ i y. (i ≡ count + 1) × (y < nodes) × IsAbove edges paths turned more width u v count y) → Levels edges paths new width nodes u v (count + 1)
-Levels-step nodes width edges paths turned levels more new u v count keeps hu hv all none same sized adds = record {
+Levels-step nodes width edges paths turned levels more new u v count covers hu hv all none same sized adds = record {
   sized = omega (arith, sized, ap length same, length-append levels (replicate width 0), length-replicate {A = ℕ} width 0, all.sized);
   each = λ d h. elim (cases_order d (count + 1)) [
     | inl last ↦ subst (λ n. IsLevel edges paths new width nodes u v n) (sym last) next
     | inr (inl less) ↦ old d (omega arith)
     | inr (inr past) ↦ absurd (omega arith)
   ];
-  none = Levels-none nodes width edges paths turned levels u v count keeps hu all none;
+  none = Levels-none nodes width edges paths turned levels u v count covers hu all none;
 }
   where
     within : (d : ℕ) → d ≤ count → d * width + width ≤ length levels
@@ -304,7 +313,7 @@ Levels-step nodes width edges paths turned levels more new u v count keeps hu hv
     old : (d : ℕ) → d ≤ count → IsLevel edges paths new width nodes u v d
     old d h = record {
       sound = λ y hy s. (all.each d h).sound y hy (elim ((adds.bits d y hy).0 s) [ inl o ↦ (longer d y h hy).0 o | inr g ↦ absurd (omega (arith, g.0)) ]);
-      complete = λ y hy r w. (adds.bits d y (column_within y nodes width keeps.fits hy)).1 (inl ((longer d y h (column_within y nodes width keeps.fits hy)).1 ((all.each d h).complete y hy r w)));
+      complete = λ y hy r w. (adds.bits d y (column_within y nodes width covers.fits hy)).1 (inl ((longer d y h (column_within y nodes width covers.fits hy)).1 ((all.each d h).complete y hy r w)));
     }
 
     fresh : (y : ℕ) → IsSet more width (count + 1) y → ⊥
@@ -320,11 +329,11 @@ Levels-step nodes width edges paths turned levels more new u v count keeps hu hv
     is_above y hy r w =
         let z = w.0 in
         let e = w.1 in
-        let hz = column_within z nodes width keeps.fits e.1 in
+        let hz = column_within z nodes width covers.fits e.1 in
         record {
           reached = r;
-          reaching = (keeps.paths_turned.same y v hy hv).1 ((keeps.tells y v hy hv).1 (Walks-reach (Joined edges width nodes) count y v w));
-          edge = (z, hz, e.2, (longer count z (omega arith) hz).1 ((all.each count (omega arith)).complete z e.1 (reached_on nodes width edges paths turned u y z keeps hu (inr r) e) w.2));
+          reaching = covers.back y v hy hv (Walks-reach (Joined edges width nodes) count y v w);
+          edge = (z, hz, e.2, (longer count z (omega arith) hz).1 ((all.each count (omega arith)).complete z e.1 (covers.onward u y z hu (inr r) e) w.2));
         }
 
     next : IsLevel edges paths new width nodes u v (count + 1)
@@ -333,7 +342,7 @@ Levels-step nodes width edges paths turned levels more new u v count keeps hu hv
         | inl o ↦ absurd (fresh y o)
         | inr g ↦ (g.1, subst (λ n. Walks (Joined edges width nodes) n y v) (let e : suc count ≡ count + 1 = omega arith in e) (walks y g.1 g.2))
       ];
-      complete = λ y hy r w. (adds.bits (count + 1) y (column_within y nodes width keeps.fits hy)).1
+      complete = λ y hy r w. (adds.bits (count + 1) y (column_within y nodes width covers.fits hy)).1
           (inr (refl, hy, is_above y hy r (subst (λ n. Walks (Joined edges width nodes) n y v) (let e : count + 1 ≡ suc count = omega arith in e) w)));
     }
 

@@ -1,5 +1,5 @@
 -- Graphs of the numbers below a bound, and the tables that keep one.
-use Rattle.std.specs.Prelude.{◌≡◌, ◌↔◌, ◌==◌, ℕ, ◌+◌, ◌*◌, ◌/◌, ◌%◌, ◌^◌, ◌<◌, Bool, false, IsTrue, List, [], length, map, slice_index, slice_index_or}
+use Rattle.std.specs.Prelude.{◌≡◌, ◌⊎◌, ◌↔◌, ◌==◌, ℕ, ◌+◌, ◌*◌, ◌/◌, ◌%◌, ◌^◌, ◌<◌, Bool, false, IsTrue, List, [], length, map, slice_index, slice_index_or}
 use Rattle.std.specs.Int.{bit_at}
 use Rattle.std.specs.List.{range_with_len}
 use Rattle.order_paths.specs.Paths.{Reaches}
@@ -35,3 +35,15 @@ pub record Keeps (nodes width : ℕ) (edges paths turned : List ℕ) : Type 0 wh
   pub edges_within : (x y : ℕ) → x < nodes → y / 64 < width → IsSet edges width x y → y < nodes
   pub paths_turned : AreTurned paths turned width nodes
   pub tells : (x y : ℕ) → x < nodes → y < nodes → IsSet paths width x y ↔ Reaches (Joined edges width nodes) x y
+
+-- A table of edges, and two that have at least its paths: row x of the first has what edges lead to from x and from the numbers of that row, and
+-- row y of the second has the numbers with a path to y.
+pub record Covers (nodes width : ℕ) (edges paths turned : List ℕ) : Type 0 where
+  pub small : nodes < 2 ^ 32
+  pub fits : width ≡ (nodes + 63) / 64
+  pub edges_sized : length edges ≡ nodes * width
+  pub edges_within : (x y : ℕ) → x < nodes → y / 64 < width → IsSet edges width x y → y < nodes
+  pub paths_sized : length paths ≡ nodes * width
+  pub turned_sized : length turned ≡ nodes * width
+  pub onward : (x y z : ℕ) → x < nodes → (y ≡ x) ⊎ IsSet paths width x y → Joined edges width nodes y z → IsSet paths width x z
+  pub back : (x y : ℕ) → x < nodes → y < nodes → Reaches (Joined edges width nodes) x y → IsSet turned width y x

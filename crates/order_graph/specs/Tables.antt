@@ -6,6 +6,10 @@ use Rattle.std.specs.Int.{bit_at}
 unfoldable pub HasBit : ℕ → ℕ → Type 0
 HasBit word k = bit_at word k ≡ 1
 
+-- the number's bit is set in a row of words; a row has no bits past its words
+abbrev pub HasNumber : List ℕ → ℕ → Type 0
+HasNumber row v = HasBit (slice_index row (v / 64)) (v % 64)
+
 -- the bit of row x and column y is set, where a row has this many words
 unfoldable pub IsSet : List ℕ → ℕ → ℕ → ℕ → Type 0
 IsSet table width x y = HasBit (slice_index table (x * width + y / 64)) (y % 64)
@@ -13,6 +17,10 @@ IsSet table width x y = HasBit (slice_index table (x * width + y / 64)) (y % 64)
 -- the new table has the bits of the old one and the bits given
 pub record Adds (old new : List ℕ) (width : ℕ) (Given : ℕ → ℕ → Type 0) : Type 0 where
   pub bits : (x y : ℕ) → y / 64 < width → IsSet new width x y ↔ (IsSet old width x y ⊎ Given x y)
+
+-- the new table has the bits of the old one, without this one
+pub record Loses (old new : List ℕ) (width u v : ℕ) : Type 0 where
+  pub bits : (x y : ℕ) → y / 64 < width → IsSet new width x y ↔ (IsSet old width x y × ((x ≡ u) × (y ≡ v) → ⊥))
 
 -- y is the number itself, or its bit is set in the number's row
 abbrev pub IsSelfOrSet : List ℕ → ℕ → ℕ → ℕ → Type 0

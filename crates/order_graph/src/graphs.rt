@@ -1,12 +1,15 @@
 //! Graphs of the numbers below a bound, which know their paths.
 
-ghost use Rattle.std.specs.Prelude.{◌≡◌, ◌⊎◌, ◌↔◌, ◌<◌, ◌^◌, ℕ, IsTrue, IfOk, MatchOption};
+ghost use Rattle.std.specs.Prelude.{◌≡◌, ◌⊎◌, ◌↔◌, ◌<◌, ◌+◌, ◌/◌, ◌^◌, ℕ, false, IsTrue, IfOk, MatchOption, length, slice_index_or};
 ghost use Rattle.order_paths.specs.Paths.{Reaches, HasCycle, IsLeastPath, IsLeastCycle};
 ghost use Rattle.order_graph.specs.Digraphs.{IsEdge, EdgesWithin};
+ghost use Rattle.order_graph.specs.Tables.{HasNumber};
 
 use crate::closing::closed_numbers;
 use crate::cycles::better;
-use crate::searches::shortest;
+use crate::edge_sets::EdgeSet;
+use crate::forward::tests_of_row;
+use crate::searches::{first_shared, least_path_of};
 use crate::tables::{bit, join, set_bit};
 use std::alloc::{AllocError, Global};
 use std::marker::Model;
@@ -98,6 +101,16 @@ impl Graph {
         bit(&self.edges, self.width, u, v)
     }
 
+    /// Whether there is an edge from u.
+    #[inline]
+    pub fn has_from(&self, u: usize) -> bool
+        requires { u < self.now.nodes }
+        ensures { IsTrue result ↔ ((v : ℕ) × IsEdge self.now u v) }
+    {
+        let edges = &self.edges;
+        first_shared(edges, u, edges, u, self.width, 0, self.width).is_some()
+    }
+
     /// Whether there is a path from u to v, of one or more edges.
     #[inline]
     pub fn reaches(&self, u: usize, v: usize) -> bool
@@ -107,6 +120,30 @@ impl Graph {
         ensures decided { (x y : ℕ) → Reaches (IsEdge self.now) x y ⊎ (Reaches (IsEdge self.now) x y → ⊥) }
     {
         bit(&self.paths, self.width, u, v)
+    }
+
+    /// For each number whether a path of one or more edges leads from u to it. OutOfMemory where a growth was refused.
+    pub fn reached(&self, u: usize) -> Result<Vec<bool>, AllocError>
+        requires { u < self.now.nodes }
+        ensures sized { IfOk result (λ row. length row.items ≡ self.now.nodes) }
+        ensures path { IfOk result (λ row. (y : ℕ) → IsTrue (slice_index_or row.items y false) ↔ Reaches (IsEdge self.now) u y) }
+    {
+        let alloc = *self.edges.allocator();
+        let tests = tests_of_row(alloc, &self.paths, u, self.width, self.nodes)?;
+        Ok(tests)
+    }
+
+    /// The numbers that u has a path to, as a row of bits: that of the number v is bit `v % 64` of word `v / 64`.
+    ///
+    /// No bit is set for a number from `nodes()` on.
+    #[inline]
+    pub fn path_words(&self, u: usize) -> &[u64]
+        requires { u < self.now.nodes }
+        ensures paths { (v : ℕ) → HasNumber result.now v ↔ Reaches (IsEdge self.now) u v }
+        ensures size { length result.now ≡ (self.now.nodes + 63) / 64 }
+    {
+        let start = u * self.width;
+        &self.paths[start..start + self.width]
     }
 
     /// The path from u to v with the fewest edges, and of these the least list of numbers; None where there is none.
@@ -119,7 +156,7 @@ impl Graph {
         if !bit(&self.paths, self.width, u, v) {
             return Ok(None);
         }
-        let found = shortest(
+        let path = least_path_of(
             *self.edges.allocator(),
             &self.edges,
             &self.paths,
@@ -128,15 +165,22 @@ impl Graph {
             self.nodes,
             u,
             v,
-            None,
         )?;
-        match found {
-            Some(mut list) => {
-                list.push(v)?;
-                Ok(Some(list))
-            }
-            None => unreachable!(),
-        }
+        Ok(Some(path))
+    }
+
+    /// The graph's edges as a set from which edges can be taken away. OutOfMemory where a growth was refused.
+    pub fn edge_set(&self) -> Result<EdgeSet, AllocError>
+        ensures { IfOk result (λ set. (set.nodes ≡ self.now.nodes) × ((x y : ℕ) → IsEdge set x y ↔ IsEdge self.now x y)) }
+    {
+        EdgeSet::of_tables(
+            *self.edges.allocator(),
+            &self.edges,
+            &self.paths,
+            &self.turned,
+            self.width,
+            self.nodes,
+        )
     }
 
     /// The cycle with the fewest numbers, and of these the least list, which begins with its least number; None where

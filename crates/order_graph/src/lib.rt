@@ -1,11 +1,16 @@
 //! A graph of the numbers below a bound, which knows its paths. It keeps rows of bits.
 #![tactic(auto)]
 
+pub use edge_sets::EdgeSet;
 pub use graphs::Graph;
+pub use path_search::PathSearch;
 
 mod closing;
 mod cycles;
+mod edge_sets;
+mod forward;
 mod graphs;
+mod path_search;
 mod searches;
 mod tables;
 #[cfg(test)]

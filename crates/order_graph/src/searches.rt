@@ -1,9 +1,9 @@
 //! The least way from one number to another, level by level.
 
 ghost use Rattle.std.specs.Prelude.{◌≡◌, ◌↔◌, ◌<◌, ◌≤◌, ◌+◌, ◌*◌, ◌/◌, ◌^◌, ℕ, IsTrue, IfOk, MatchOption, IsSomeAnd, IfSome, length};
-ghost use Rattle.order_paths.specs.Paths.{Reaches};
+ghost use Rattle.order_paths.specs.Paths.{Reaches, IsLeastPath};
 ghost use Rattle.order_graph.specs.Tables.{IsSet, Adds, Joined};
-ghost use Rattle.order_graph.specs.Digraphs.{Keeps};
+ghost use Rattle.order_graph.specs.Digraphs.{Covers};
 ghost use Rattle.order_graph.specs.Tracks.{NoneShared, IsFirstShared, IsLevel, IsAbove, IsLeastTrack, NoShorter};
 
 use crate::tables::{bit, set_bit};
@@ -70,7 +70,7 @@ pub fn is_above(
     low: usize,
     high: usize,
 ) -> bool
-    requires keeps { Keeps nodes width edges.now paths.now turned.now }
+    requires covers { Covers nodes width edges.now paths.now turned.now }
     requires row { x < nodes }
     requires from { u < nodes }
     requires to { v < nodes }
@@ -96,7 +96,7 @@ pub fn raise(
     v: usize,
     count: usize,
 )
-    requires keeps { Keeps nodes width edges.now paths.now turned.now }
+    requires covers { Covers nodes width edges.now paths.now turned.now }
     requires from { u < nodes }
     requires to { v < nodes }
     requires level { (count + 1) * width + width ≤ length levels.old }
@@ -125,7 +125,7 @@ pub fn descend(
     v: usize,
     count: usize,
 ) -> Result<Vec<usize>, AllocError>
-    requires keeps { Keeps nodes width edges.now paths.now turned.now }
+    requires covers { Covers nodes width edges.now paths.now turned.now }
     requires from { u < nodes }
     requires to { v < nodes }
     requires sized { length levels.now ≡ (count + 1) * width }
@@ -169,7 +169,7 @@ pub fn shortest(
     v: usize,
     limit: Option<usize>,
 ) -> Result<Option<Vec<usize>>, AllocError>
-    requires keeps { Keeps nodes width edges.now paths.now turned.now }
+    requires covers { Covers nodes width edges.now paths.now turned.now }
     requires from { u < nodes }
     requires to { v < nodes }
     requires path { Reaches (Joined edges.now width nodes) u v }
@@ -194,4 +194,30 @@ pub fn shortest(
         alloc, edges, paths, turned, &levels, width, nodes, u, v, count,
     )?;
     Ok(Some(list))
+}
+
+/// The path from u to v with the fewest edges, and of these the least list.
+pub fn least_path_of(
+    alloc: Global,
+    edges: &[u64],
+    paths: &[u64],
+    turned: &[u64],
+    width: usize,
+    nodes: usize,
+    u: usize,
+    v: usize,
+) -> Result<Vec<usize>, AllocError>
+    requires covers { Covers nodes width edges.now paths.now turned.now }
+    requires from { u < nodes }
+    requires to { v < nodes }
+    requires path { Reaches (Joined edges.now width nodes) u v }
+    ensures { IfOk result (λ path. IsLeastPath (Joined edges.now width nodes) u v path.items) }
+{
+    match shortest(alloc, edges, paths, turned, width, nodes, u, v, None)? {
+        Some(mut list) => {
+            list.push(v)?;
+            Ok(list)
+        }
+        None => unreachable!(),
+    }
 }

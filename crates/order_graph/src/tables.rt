@@ -1,7 +1,7 @@
 //! Flat tables of bits: rows of words, one behind another.
 
 ghost use Rattle.std.specs.Prelude.{◌≡◌, ◌⊎◌, ◌↔◌, ◌<◌, ◌≤◌, ◌+◌, ◌*◌, ◌/◌, ◌%◌, ◌^◌, ℕ, IsTrue, length};
-ghost use Rattle.order_graph.specs.Tables.{HasBit, IsSet, Adds, IsSelfOrSet, AreTurned, IsTransitive};
+ghost use Rattle.order_graph.specs.Tables.{HasBit, IsSet, Adds, Loses, IsSelfOrSet, AreTurned, IsTransitive};
 
 /// Whether the bit of row x and column y is set.
 #[inline]
@@ -22,6 +22,17 @@ pub fn set_bit(table: &mut [u64], width: usize, x: usize, y: usize)
 {
     let place = x * width + y / 64;
     table[place] |= 1 << (y % 64);
+}
+
+/// Takes away the bit of row x and column y.
+#[inline]
+pub fn clear_bit(table: &mut [u64], width: usize, x: usize, y: usize)
+    requires column { y / 64 < width }
+    requires row { x * width + width ≤ length table.old }
+    ensures { Loses table.old table.new width x y }
+{
+    let place = x * width + y / 64;
+    table[place] &= !(1 << (y % 64));
 }
 
 /// Word j of a row, with the bit of the number y if it lies there.

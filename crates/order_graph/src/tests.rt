@@ -1,6 +1,6 @@
 //! Graphs by hand, and small graphs beside a plain program over lists of edges.
 
-use crate::Graph;
+use crate::{EdgeSet, Graph};
 use std::alloc::{AllocError, Global};
 use std::process::Abort;
 use std::test::Fail;
@@ -25,8 +25,29 @@ fn has(graph: &Graph, u: usize, v: usize) -> bool {
     u < graph.nodes() && v < graph.nodes() && graph.has(u, v)
 }
 
+fn has_from(graph: &Graph, u: usize) -> bool {
+    u < graph.nodes() && graph.has_from(u)
+}
+
 fn reaches(graph: &Graph, u: usize, v: usize) -> bool {
     u < graph.nodes() && v < graph.nodes() && graph.reaches(u, v)
+}
+
+/// The words of the row of paths from u, or none.
+fn path_words(graph: &Graph, u: usize) -> &[u64] {
+    if u < graph.nodes() {
+        graph.path_words(u)
+    } else {
+        &[]
+    }
+}
+
+fn reached(alloc: Global, graph: &Graph, u: usize) -> Result<Vec<bool>, AllocError> {
+    if u < graph.nodes() {
+        graph.reached(u)
+    } else {
+        Ok(Vec::new(alloc))
+    }
 }
 
 fn least_path(graph: &Graph, u: usize, v: usize) -> Result<Option<Vec<usize>>, AllocError> {
@@ -119,8 +140,16 @@ fn compare(
     let graph = graph_of(alloc, nodes, edges)?;
     assert_eq!(rt; graph.nodes(), nodes);
     for u in 0..nodes {
+        let reached = reached(alloc, &graph, u)?;
+        let mut some = false;
         for v in 0..nodes {
             let path = plain_path(alloc, edges, nodes, u, v)?;
+            some = some || edges.contains(&(u, v));
+            assert_eq!(rt;
+                reached.get(v),
+                Some(&!path.is_empty()),
+                "{u} {v} in {edges:?}"
+            );
             assert_eq!(rt;
                 has(&graph, u, v),
                 edges.contains(&(u, v)),
@@ -137,6 +166,7 @@ fn compare(
                 "{u} {v} in {edges:?}: {found:?}, not {path:?}"
             );
         }
+        assert_eq!(rt; has_from(&graph, u), some, "{u} in {edges:?}");
     }
     let cycle = plain_cycle(alloc, edges, nodes)?;
     let found = graph.least_cycle()?;
@@ -144,6 +174,62 @@ fn compare(
         is_list(&found, &cycle),
         "{edges:?}: {found:?}, not {cycle:?}"
     );
+    Ok(())
+}
+
+/// Compares each call on the set of edges with the plain program.
+fn compare_set(
+    rt: &impl Abort,
+    alloc: Global,
+    set: &EdgeSet,
+    edges: &[(usize, usize)],
+) -> Result<(), AllocError> {
+    for u in 0..set.nodes() {
+        let reached = set.reached(u)?;
+        for v in 0..set.nodes() {
+            let path = plain_path(alloc, edges, set.nodes(), u, v)?;
+            assert_eq!(rt;
+                set.has(u, v),
+                edges.contains(&(u, v)),
+                "{u} {v} in {edges:?}"
+            );
+            assert_eq!(rt;
+                reached.get(v),
+                Some(&!path.is_empty()),
+                "{u} {v} in {edges:?}"
+            );
+            let found = set.least_path(u, v)?;
+            assert!(rt;
+                is_list(&found, &path),
+                "{u} {v} in {edges:?}: {found:?}, not {path:?}"
+            );
+        }
+    }
+    Ok(())
+}
+
+/// Takes the edges away from the last to the first, and compares what is left with the plain program.
+fn compare_taking_away(
+    rt: &impl Abort,
+    alloc: Global,
+    edges: &[(usize, usize)],
+    nodes: usize,
+) -> Result<(), AllocError> {
+    let mut set = graph_of(alloc, nodes, edges)?.edge_set()?;
+    compare_set(rt, alloc, &set, edges)?;
+    for k in (0..edges.len()).rev() {
+        let (u, v) = edges[k];
+        if u < set.nodes() && v < set.nodes() {
+            set.remove(u, v);
+        }
+        let mut left = Vec::new(alloc);
+        for edge in edges[..k].iter().copied() {
+            if !edges[k..].contains(&edge) {
+                left.push(edge)?;
+            }
+        }
+        compare_set(rt, alloc, &set, &left)?;
+    }
     Ok(())
 }
 
@@ -172,6 +258,24 @@ fn small_graphs_as_by_lists(rt: HostRuntime) -> Result<(), Fail> {
 }
 
 #[test]
+fn edges_taken_away_as_by_lists(rt: HostRuntime) -> Result<(), Fail> {
+    let mut word = 5u64;
+    for number in 0usize..60 {
+        let nodes = number % 5 + 1;
+        let mut edges = Vec::new(rt.alloc());
+        for _ in 0..number % 9 {
+            word = next_word(word);
+            let u = (word >> 33) as usize % nodes;
+            word = next_word(word);
+            let v = (word >> 33) as usize % nodes;
+            edges.push((u, v))?;
+        }
+        compare_taking_away(&rt, rt.alloc(), &edges, nodes)?;
+    }
+    Ok(())
+}
+
+#[test]
 fn diamond_graph(rt: HostRuntime) -> Result<(), Fail> {
     let edges = [(0, 1), (0, 2), (1, 3), (2, 3), (3, 0)];
     let graph = graph_of(rt.alloc(), 4, &edges)?;
@@ -188,6 +292,15 @@ fn loop_edge(rt: HostRuntime) -> Result<(), Fail> {
     assert!(rt; is_list(&least_path(&graph, 1, 1)?, &[1, 1]));
     assert!(rt; is_list(&least_path(&graph, 0, 2)?, &[0, 1, 2]));
     assert!(rt; is_list(&graph.least_cycle()?, &[1]));
+    Ok(())
+}
+
+#[test]
+fn words_of_paths(rt: HostRuntime) -> Result<(), Fail> {
+    let graph = graph_of(rt.alloc(), 66, &[(1, 2), (2, 65), (0, 1)])?;
+    assert_eq!(rt; path_words(&graph, 0), [6, 2].as_slice());
+    assert_eq!(rt; path_words(&graph, 2), [0, 2].as_slice());
+    assert_eq!(rt; path_words(&graph, 65), [0, 0].as_slice());
     Ok(())
 }
 

@@ -137,7 +137,7 @@ in_range-lists p (ops ∷ lists) addresses stored reads =
     each-append InRange (events_from p 0 ops) (events_of_lists (suc p) lists)
     (in_range-from p 0 ops a.0 v.0 r.0) (in_range-lists (suc p) lists a.1 v.1 r.1)
 
-each-at : {X : Type 0} (P : X → Type 0) → (xs : List X) (k : ℕ) (x : X) → slice_get xs k ≡ Some x → AllByRecursion P xs → P x
+pub each-at : {X : Type 0} (P : X → Type 0) → (xs : List X) (k : ℕ) (x : X) → slice_get xs k ≡ Some x → AllByRecursion P xs → P x
 each-at P [] k x at all = absurd cc
 each-at P (y ∷ xs) zero x at all = let same : y ≡ x = cc in subst P same all.0
 each-at P (y ∷ xs) (suc k) x at all = each-at P xs k x at all.1

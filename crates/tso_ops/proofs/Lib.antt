@@ -1,6 +1,8 @@
 pub mod CheckFacts
 pub mod EventFacts
 pub mod LimitFacts
+pub mod LoadFacts
+pub mod ProcessorFacts
 pub mod ReadFacts
 pub mod RefusalFacts
 pub mod TableFacts

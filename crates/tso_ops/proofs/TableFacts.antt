@@ -34,7 +34,7 @@ events-all lists i all = ap (events_of_lists i) (drop_all i (rows lists) (omega 
 -- ---- stores by their values
 
 -- the event at a place of the list
-same_event : (events : List Event) (k : ℕ) (d e : Event) → slice_get events k ≡ Some d → slice_get events k ≡ Some e → d ≡ e
+pub same_event : (events : List Event) (k : ℕ) (d e : Event) → slice_get events k ≡ Some d → slice_get events k ≡ Some e → d ≡ e
 same_event events k d e at_d at_e = let same : Some d ≡ Some e = sym at_d ∙ at_e in cc
 
 pub FindsStores-none : (events : List Event) (stores : BTreeMap ℕ ℕ) → IsEmpty stores → FindsStores events 0 stores

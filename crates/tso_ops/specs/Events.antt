@@ -54,6 +54,10 @@ IsStore t n = (e : Event) × (event_at t n ≡ Some e) × IsFalse e.load
 abbrev pub IsSwapLoad : TraceValue → ℕ → Type 0
 IsSwapLoad t n = (e : Event) × (event_at t n ≡ Some e) × IsTrue e.load × IsTrue e.swap
 
+-- event n is a load of the address
+abbrev pub IsLoadAt : TraceValue → ℕ → ℕ → Type 0
+IsLoadAt t a n = (e : Event) × (event_at t n ≡ Some e) × IsTrue e.load × (e.a ≡ a)
+
 abbrev pub HasValue : TraceValue → ℕ → ℕ → Type 0
 HasValue t n value = (e : Event) × (event_at t n ≡ Some e) × (e.value ≡ value)
 

@@ -111,6 +111,11 @@ fn sources_of_loads(rt: HostRuntime) -> Result<(), Fail> {
     for (n, source) in wanted {
         assert_eq!(rt; trace.source(n), source, "source of {n}");
     }
+    assert_eq!(rt; trace.loads_at(0), [].as_slice());
+    assert_eq!(rt; trace.loads_at(1), [4, 5, 7].as_slice());
+    assert_eq!(rt; trace.loads_at(2), [2, 6].as_slice());
+    assert_eq!(rt; trace.loads_at(3), [8].as_slice());
+    assert_eq!(rt; trace.loads_at(256), [].as_slice());
     Ok(())
 }
 

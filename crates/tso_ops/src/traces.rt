@@ -1,15 +1,15 @@
-ghost use Rattle.std.specs.Prelude.{◌≡◌, ◌≢◌, ◌<◌, ◌↔◌, IsSome, IfSome, IfOk, IfErr, OnOk};
+ghost use Rattle.std.specs.Prelude.{◌≡◌, ◌≢◌, ◌<◌, ◌↔◌, ℕ, Contains, IsSome, IfSome, IfOk, IfErr, OnOk};
 ghost use Rattle.tso_ops.specs.declared.faults.ValueFault.{ValueFault};
 ghost use Rattle.tso_ops.specs.Values.{rows, trace_of_lists, program_of};
 ghost use Rattle.tso_ops.specs.Limits.{IsTrace, IsRefusal};
-ghost use Rattle.tso_ops.specs.Events.{processor_count, outcomes_at, event_total, event_at, IsLoad, SourceIs};
+ghost use Rattle.tso_ops.specs.Events.{processor_count, outcomes_at, event_total, event_at, IsLoad, IsLoadAt, SourceIs};
 ghost use Rattle.tso_ops.specs.Tables.{IsTabled};
 
 use crate::checks::check_lists;
 use crate::events::{Event, Source};
 use crate::faults::{OutOfMemory, Refused, ValueFault};
 use crate::ops::Outcome;
-use crate::tables::{list_events, list_sources};
+use crate::tables::{list_events, list_loads, list_sources};
 use std::alloc::Global;
 use std::marker::Model;
 
@@ -22,6 +22,7 @@ pub struct Trace {
     lists: Vec<Vec<Outcome>>,
     events: Vec<Event>,
     sources: Vec<Option<Source>>,
+    loads: Vec<Vec<usize>>,
 }
 
 impl Model for Trace {
@@ -32,7 +33,7 @@ impl Model for Trace {
 
     ghost view = { λ t. trace_of_lists (rows t.lists.items) };
 
-    ghost invariant = { λ t. IsTabled t.lists.items t.events.items t.sources.items };
+    ghost invariant = { λ t. IsTabled t.lists.items t.events.items t.sources.items t.loads.items };
 }
 
 impl Trace {
@@ -51,10 +52,11 @@ impl Trace {
             return Err(Refused { why, lists });
         }
         match tables(alloc, &lists) {
-            Ok((events, sources)) => Ok(Trace {
+            Ok((events, sources, loads)) => Ok(Trace {
                 lists,
                 events,
                 sources,
+                loads,
             }),
             Err(_) => Err(Refused {
                 why: ValueFault::OutOfMemory,
@@ -68,11 +70,12 @@ impl Trace {
         requires { IsTrace (trace_of_lists (rows lists.items)) }
         ensures { IfOk result (λ t. t ≡ trace_of_lists (rows lists.items)) }
     {
-        let (events, sources) = tables(alloc, &lists)?;
+        let (events, sources, loads) = tables(alloc, &lists)?;
         Ok(Trace {
             lists,
             events,
             sources,
+            loads,
         })
     }
 
@@ -114,17 +117,28 @@ impl Trace {
     {
         *self.sources.get(n.checked_sub(1)?)?
     }
+
+    /// The numbers of the loads of address `a`: none where it is above 255.
+    pub fn loads_at(&self, a: u16) -> &[usize]
+        ensures { (n : ℕ) → Contains result.now n ↔ IsLoadAt self.now a n }
+    {
+        match self.loads.get(a as usize) {
+            Some(list) => list,
+            None => &[],
+        }
+    }
 }
 
-/// The tables that a trace of these lists answers from.
+/// The tables that a trace of these lists answers from: its events, their sources, and the loads of each address.
 fn tables(
     alloc: Global,
     lists: &[Vec<Outcome>],
-) -> Result<(Vec<Event>, Vec<Option<Source>>), OutOfMemory>
+) -> Result<(Vec<Event>, Vec<Option<Source>>, Vec<Vec<usize>>), OutOfMemory>
     ensures { IsTrace (trace_of_lists (rows lists.now)) →
-        IfOk result (λ tables. IsTabled lists.now tables.0.items tables.1.items) }
+        IfOk result (λ tables. IsTabled lists.now tables.0.items tables.1.items tables.2.items) }
 {
     let events = list_events(alloc, lists)?;
     let sources = list_sources(alloc, &events)?;
-    Ok((events, sources))
+    let loads = list_loads(alloc, &events)?;
+    Ok((events, sources, loads))
 }

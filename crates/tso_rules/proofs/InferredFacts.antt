@@ -1,19 +1,25 @@
 -- Lemmas on the edges that the inferred rules give over a graph.
-use Rattle.std.proofs.Common.{◌≡◌, ◌⊎◌, ◌↔◌, inl, inr, ℕ, suc, ◌<◌, ◌≤◌, Option, Some, List, Bool, false, IsTrue, refl, sym, subst, arith, ⊎_elim}
+use Rattle.std.proofs.Common.{◌≡◌, ◌∙◌, ◌⊎◌, ◌↔◌, inl, inr, ℕ, zero, suc, ◌+◌, ◌-◌, ◌*◌, ◌/◌, ◌%◌, ◌^◌, ◌<◌, ◌≤◌, Option, Some, List, [], get_or, false, IsTrue, refl, sym, ap, subst, arith, ⊎_elim}
+use Rattle.std.specs.Prelude.{bit_and}
+use Rattle.std.specs.Int.{bit_at, bit_not, w64}
+use Rattle.std.proofs.lemmas.Nat.Bits.{bit_at_lowest, bit_at_cat_low, bit_at_cat_high}
+use Rattle.std.proofs.lemmas.Option.{same_Some}
 use Rattle.std.specs.Option.{IfSome}
 use Rattle.std.proofs.lemmas.Bool.{false≢true, cases_lt}
 use Rattle.order_graph.specs.Digraphs.{Digraph, IsEdge, EdgesWithin}
+use Rattle.order_graph.specs.Tables.{HasBit, HasNumber}
+use Rattle.order_graph.proofs.Words.{HasBit-and, HasBit-not}
 use Rattle.order_paths.specs.Paths.{Reaches}
 use Rattle.order_paths.proofs.Reach.{Reaches-below}
 use Rattle.tso_ops.specs.Values.{TraceValue}
-use Rattle.tso_ops.specs.Events.{event_total}
+use Rattle.tso_ops.specs.Events.{event_total, HasSource}
 use Rattle.tso_cert.specs.declared.rules.InferredRule.{InferredRule}
 use Rattle.tso_cert.specs.declared.rules.InferredRule.TheVariants.{LoadPast, StorePast, SwapBefore, SwapAfter}
 use Rattle.tso_model.specs.Certs.{inferred_index}
 use Rattle.tso_model.specs.EdgeLists.{IsNew, IsGivenBy}
-use Rattle.tso_model.proofs.RankFacts.{new_within, given_within}
+use Rattle.tso_model.proofs.RankFacts.{new_within}
 use Rattle.tso_rules.specs.Rows.{Marks, IsNewRow, IsCounted, counted_by, GivesBy, IsFirstGiven}
-use Rattle.tso_rules.proofs.RowFacts.{if_some, BySteps, marks_both, marks_as}
+use Rattle.tso_rules.proofs.RowFacts.{if_some, marks_both, marks_as, HasNumber-word, HasNumber-none}
 
 -- past the numbers of a graph there is no path
 pub no_path_past : (g : Digraph) (u v : ℕ) → EdgesWithin g → ((u < g.nodes) × (v < g.nodes) → ⊥) → IsTrue false ↔ Reaches (IsEdge g) u v
@@ -26,22 +32,81 @@ row_new t rule Edge u v new = let given = new.1.0 in ((rule, new.0, given.0, giv
 pub row_within : (t : TraceValue) (rule : InferredRule) (Edge : ℕ → ℕ → Type 0) (u v : ℕ) → IsNewRow t rule Edge u v → v < suc (event_total t)
 row_within t rule Edge u v new = (new_within t Edge u v (row_new t rule Edge u v new)).1
 
-pub counted_row : (t : TraceValue) (rule : InferredRule) (Edge : ℕ → ℕ → Type 0) (u n v : ℕ) → IsCounted t rule Edge u n v → IsNewRow t rule Edge u v
-counted_row t rule Edge u n v counted = (counted.0, counted.1)
+-- the new edges of a rule are those that its numbers count
+pub counted_row : (t : TraceValue) (rule : InferredRule) (Edge : ℕ → ℕ → Type 0) (u v : ℕ) → ((n : ℕ) × IsCounted t rule Edge u n v) ↔ IsNewRow t rule Edge u v
+counted_row t rule Edge u v = (λ by. (by.1.0, by.1.1), λ new. (counted_by rule new.0 v, (new.0, new.1, refl)))
 
-counted_within : (t : TraceValue) (rule : InferredRule) (l v : ℕ) → l < suc (event_total t) → v < suc (event_total t) → counted_by rule l v < suc (event_total t)
-counted_within t LoadPast l v low also = low
-counted_within t StorePast l v low also = also
-counted_within t SwapBefore l v low also = low
-counted_within t SwapAfter l v low also = also
+-- the numbers that count new edges of StorePast come after the source, and not after the load
+pub store_past_counted : (t : TraceValue) (Edge : ℕ → ℕ → Type 0) (u s n v : ℕ) → ((x : ℕ) → HasSource t u x → Some s ≡ Some x) → IsCounted t StorePast Edge u n v →
+    Reaches Edge s n × (Reaches Edge u n → ⊥)
+store_past_counted t Edge u s n v all counted =
+    let given = counted.1.0 in
+    let by = given.2 in
+    let one : s ≡ given.0 = same_Some s given.0 (all given.0 (subst (λ l. HasSource t l given.0) (sym by.0) by.3)) in
+    let end : given.1 ≡ n = by.5 ∙ sym counted.2 in
+    (subst (λ x. Reaches Edge x n) (sym one) (subst (λ y. Reaches Edge given.0 y) end given.3), λ path. counted.1.1 (subst (λ y. Reaches Edge u y) counted.2 path))
 
--- each new edge of a rule is counted by some number
-pub row_counted : (t : TraceValue) (rule : InferredRule) (Edge : ℕ → ℕ → Type 0) (u v : ℕ) → IsNewRow t rule Edge u v → BySteps (IsCounted t rule Edge u) (suc (event_total t)) v
-row_counted t rule Edge u v new = (
-  counted_by rule new.0 v,
-  counted_within t rule new.0 v (given_within t rule new.0 (Reaches Edge) u v new.1.0).0 (row_within t rule Edge u v new),
-  (new.0, new.1, refl),
-)
+-- the numbers that count new edges of SwapBefore are reached, and not the numbers below them
+pub swap_before_counted : (t : TraceValue) (Edge : ℕ → ℕ → Type 0) (u n v : ℕ) → IsCounted t SwapBefore Edge u n v → (n ≡ suc v) × Reaches Edge u n × (Reaches Edge u v → ⊥)
+swap_before_counted t Edge u n v counted =
+    let given = counted.1.0 in
+    let by = given.2 in (
+      counted.2 ∙ ap suc (sym by.1),
+      subst (λ y. Reaches Edge u y) (by.5 ∙ sym counted.2) (subst (λ x. Reaches Edge x given.1) by.4 given.3),
+      counted.1.1,
+    )
+
+-- the numbers that count new edges of SwapAfter come after the load of the swap, and not after its store
+pub swap_after_counted : (t : TraceValue) (Edge : ℕ → ℕ → Type 0) (u l n v : ℕ) → u ≡ suc l → IsCounted t SwapAfter Edge u n v → Reaches Edge l n × (Reaches Edge u n → ⊥)
+swap_after_counted t Edge u l n v is counted =
+    let given = counted.1.0 in
+    let by = given.2 in
+    let one : given.0 ≡ l = let store = by.1 in let from = by.4 in omega arith in (
+      subst (λ x. Reaches Edge x n) one (subst (λ y. Reaches Edge given.0 y) (by.5 ∙ sym counted.2) given.3),
+      λ path. counted.1.1 (subst (λ y. Reaches Edge u y) counted.2 path),
+    )
+
+-- ---- words
+
+-- a number of the one row that isn't in the other has its bit in the word of the one without the other
+pub kept_number : (row other : List ℕ) (j word without n : ℕ) → n / 64 ≡ j → word ≡ get_or row j 0 → without ≡ get_or other j 0 → without < 2 ^ 64 → HasNumber row n →
+    (HasNumber other n → ⊥) → HasBit (bit_and word (bit_not w64 without)) (n % 64)
+kept_number row other j word without n at is also fits has not =
+    (HasBit-and word (bit_not w64 without) (n % 64)).1 (
+      subst (λ w. HasBit w (n % 64)) (sym is) ((HasNumber-word row n j at).0 has),
+      (HasBit-not without (n % 64) fits (omega arith)).1 (λ bit. not ((HasNumber-word other n j at).1 (subst (λ w. HasBit w (n % 64)) also bit))),
+    )
+
+-- the bits of `word << 1` are those of the word, one place up
+shifted_bit : (word k : ℕ) → k < 64 → HasBit (word * 2 ^ 1 % 2 ^ 64) k → (m : ℕ) × (k ≡ suc m) × HasBit word m
+unfolding HasBit
+shifted_bit word zero low bit = absurd (let lowest = bit_at_lowest (word * 2 ^ 1 % 2 ^ 64) in omega arith)
+shifted_bit word (suc m) low bit =
+    let n : ℕ = word * 2 ^ 1 in
+    let parts : n ≡ n / 2 ^ 64 * 2 ^ 64 + n % 2 ^ 64 = omega arith in
+    let down : suc m - 1 ≡ m = omega arith in (
+      m,
+      refl,
+      sym (ap (bit_at word) down) ∙ sym (bit_at_cat_high word 1 0 (suc m) (omega arith) (omega arith)) ∙ ap (λ i. bit_at i (suc m)) (omega arith)
+          ∙ ap (λ i. bit_at i (suc m)) parts ∙ bit_at_cat_low (n / 2 ^ 64) 64 (n % 2 ^ 64) (suc m) low ∙ bit,
+    )
+
+-- a number whose number below isn't in the row has its bit in the word without the word that is shifted up by one
+pub first_number : (row : List ℕ) (j word m n : ℕ) → n / 64 ≡ j → word ≡ get_or row j 0 → n ≡ suc m → HasNumber row n → (HasNumber row m → ⊥) →
+    HasBit (bit_and word (bit_not w64 (word * 2 ^ 1 % 2 ^ 64))) (n % 64)
+first_number row j word m n at is next has not =
+    (HasBit-and word (bit_not w64 (word * 2 ^ 1 % 2 ^ 64)) (n % 64)).1 (
+      subst (λ w. HasBit w (n % 64)) (sym is) ((HasNumber-word row n j at).0 has),
+      (HasBit-not (word * 2 ^ 1 % 2 ^ 64) (n % 64) (omega arith) (omega arith)).1 (λ bit.
+          let below = shifted_bit word (n % 64) (omega arith) bit in
+          let place : m / 64 ≡ j = omega (arith, below.1) in
+          let same : m % 64 ≡ below.0 = omega (arith, below.1) in
+          not ((HasNumber-word row m j place).1 (subst (λ w. HasBit w (m % 64)) is (subst (λ k. HasBit word k) (sym same) below.2)))),
+    )
+
+-- a row without words has the numbers that are reached from past the graph's numbers: none
+pub no_row_past : (g : Digraph) (u v : ℕ) → EdgesWithin g → (u < g.nodes → ⊥) → HasNumber [] v ↔ Reaches (IsEdge g) u v
+no_row_past g u v within past = (λ has. absurd (HasNumber-none v has), λ path. absurd (past (Reaches-below (IsEdge g) g.nodes within u v path).0))
 
 -- the same for a rule under another name
 pub rule_is : (t : TraceValue) (Edge : ℕ → ℕ → Type 0) (u n : ℕ) (rule r : InferredRule) (o : Option ℕ) (P : ℕ → Type 0) → rule ≡ r → IfSome o P → ((v : ℕ) → P v → IsCounted t r Edge u n v) →
@@ -67,7 +132,7 @@ of_row t Edge u v (inl (inr new)) = row_new t SwapBefore Edge u v new
 of_row t Edge u v (inr new) = row_new t SwapAfter Edge u v new
 
 -- the marks of all rules
-pub marks_rules : (t : TraceValue) (Edge : ℕ → ℕ → Type 0) (u : ℕ) (first second third fourth last : List Bool) → Marks first second (IsNewRow t LoadPast Edge u) →
+pub marks_rules : (t : TraceValue) (Edge : ℕ → ℕ → Type 0) (u : ℕ) (first second third fourth last : List ℕ) → Marks first second (IsNewRow t LoadPast Edge u) →
     Marks second third (IsNewRow t StorePast Edge u) → Marks third fourth (IsNewRow t SwapBefore Edge u) → Marks fourth last (IsNewRow t SwapAfter Edge u) → Marks first last (IsNew t Edge u)
 marks_rules t Edge u first second third fourth last a b c d =
     let two = marks_both first second third (IsNewRow t LoadPast Edge u) (IsNewRow t StorePast Edge u) a b in

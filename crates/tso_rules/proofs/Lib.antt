@@ -1,4 +1,5 @@
 pub mod BaseFacts
 pub mod InferredFacts
 pub mod LawFacts
+pub mod ReasonFacts
 pub mod RowFacts

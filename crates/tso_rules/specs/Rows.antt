@@ -1,12 +1,13 @@
 -- Rows of edges: to which numbers edges lead from one number.
-use Rattle.std.specs.Prelude.{◌≡◌, ◌⊎◌, ◌↔◌, ℕ, ◌<◌, ◌≤◌, Bool, false, IsTrue, List, [], ◌∷◌, length, Contains, slice_index_or}
+use Rattle.std.specs.Prelude.{Bool, ◌≡◌, ◌⊎◌, ◌↔◌, ℕ, suc, ◌/◌, ◌%◌, ◌<◌, ◌≤◌, List, [], ◌∷◌, Contains, false, IsTrue, length, slice_index_or}
 use Rattle.tso_ops.specs.Values.{TraceValue}
 use Rattle.tso_cert.specs.declared.rules.BaseRule.{BaseRule}
-use Rattle.tso_cert.specs.declared.rules.BaseRule.TheVariants.{Init, LoadOp, StoreStore, Membar, Read}
+use Rattle.tso_cert.specs.declared.rules.BaseRule.TheVariants.{LoadOp, StoreStore, Membar, Read}
 use Rattle.tso_cert.specs.declared.rules.InferredRule.{InferredRule}
 use Rattle.tso_cert.specs.declared.rules.InferredRule.TheVariants.{LoadPast, StorePast, SwapBefore, SwapAfter}
 use Rattle.tso_cert.specs.declared.steps.Reason.{Reason}
 use Rattle.tso_cert.specs.declared.steps.Reason.TheVariants.{Base, Inferred}
+use Rattle.order_graph.specs.Tables.{HasBit, HasNumber}
 use Rattle.order_paths.specs.Paths.{Reaches, IsLeastPath}
 use Rattle.tso_model.specs.Rules.{BasePair, IsOwnBy, InferredBy}
 use Rattle.tso_model.specs.EdgeLists.{IsGivenBy}
@@ -23,22 +24,21 @@ pub record IsRow (row : List ℕ) (To : ℕ → Type 0) : Type 0 where
   pub only : (v : ℕ) → Contains row v → To v
   pub ascending : IsAscending row
 
--- the number is marked
-unfoldable pub IsMarked : List Bool → ℕ → Type 0
-IsMarked marks v = IsTrue (slice_index_or marks v false)
+-- the list has just the numbers below n that an edge leads to, ascending
+abbrev pub IsRowBelow : List ℕ → (ℕ → Type 0) → ℕ → Type 0
+IsRowBelow row To n = IsRow row (λ v. (v < n) × To v)
 
--- Numbers were marked: these, and no others.
-pub record Marks (old new : List Bool) (To : ℕ → Type 0) : Type 0 where
-  pub size : length new ≡ length old
-  pub marked : (v : ℕ) → IsMarked new v ↔ (IsMarked old v ⊎ To v)
+-- Numbers were marked in a row of bits: these, and no others.
+pub record Marks (old new : List ℕ) (To : ℕ → Type 0) : Type 0 where
+  pub marked : (v : ℕ) → HasNumber new v ↔ (HasNumber old v ⊎ To v)
 
--- a base rule other than Own gives the edge
-abbrev pub IsOrdered : TraceValue → ℕ → ℕ → Type 0
-IsOrdered t u v = BasePair t Init u v ⊎ BasePair t LoadOp u v ⊎ BasePair t StoreStore u v ⊎ BasePair t Membar u v ⊎ BasePair t Read u v
+-- program order gives the edge
+abbrev pub IsLater : TraceValue → ℕ → ℕ → Type 0
+IsLater t u v = BasePair t LoadOp u v ⊎ BasePair t StoreStore u v ⊎ BasePair t Membar u v
 
--- a base rule gives the edge by event n: as its end, or, the rule Own, as its load
-abbrev pub IsBaseBy : TraceValue → ℕ → ℕ → ℕ → Type 0
-IsBaseBy t u n v = ((v ≡ n) × IsOrdered t u v) ⊎ IsOwnBy t n u v
+-- load l gives the edge from store u: the load reads it, or reads past it what v wrote
+abbrev pub IsReadBy : TraceValue → ℕ → ℕ → ℕ → Type 0
+IsReadBy t u l v = ((v ≡ l) × BasePair t Read u l) ⊎ IsOwnBy t l u v
 
 -- the rule gives the edge for load l by a path over these edges, and no path leads from u to v
 abbrev pub IsNewBy : TraceValue → InferredRule → ℕ → (ℕ → ℕ → Type 0) → ℕ → ℕ → Type 0
@@ -48,16 +48,21 @@ IsNewBy t rule l Edge u v = IsGivenBy t rule l (Reaches Edge) u v × (Reaches Ed
 abbrev pub IsNewRow : TraceValue → InferredRule → (ℕ → ℕ → Type 0) → ℕ → ℕ → Type 0
 IsNewRow t rule Edge u v = (l : ℕ) × IsNewBy t rule l Edge u v
 
--- the load or the target by which the rule's edges from one number are counted: each has one at most
+-- the number by which the rule's edges from one number are counted, and which gives one at most: for LoadPast the load, for SwapBefore the
+-- swap's store, and else the end
 abbrev pub counted_by : InferredRule → ℕ → ℕ → ℕ
 counted_by LoadPast l v = l
 counted_by StorePast l v = v
-counted_by SwapBefore l v = l
+counted_by SwapBefore l v = suc l
 counted_by SwapAfter l v = v
 
 -- the rule gives the new edge, which is counted by this number
 abbrev pub IsCounted : TraceValue → InferredRule → (ℕ → ℕ → Type 0) → ℕ → ℕ → ℕ → Type 0
 IsCounted t rule Edge u n v = (l : ℕ) × IsNewBy t rule l Edge u v × (n ≡ counted_by rule l v)
+
+-- a number of word j, whose bit is set in this word, counts the rule's new edge
+abbrev pub IsCountedIn : TraceValue → InferredRule → (ℕ → ℕ → Type 0) → ℕ → ℕ → ℕ → ℕ → Type 0
+IsCountedIn t rule Edge u j word v = (n : ℕ) × (n / 64 ≡ j) × HasBit word (n % 64) × IsCounted t rule Edge u n v
 
 -- Rule and load come first among those that give the edge by a path over these edges: the first rule, then the least load.
 abbrev pub IsFirstGiven : TraceValue → (ℕ → ℕ → Type 0) → ℕ → ℕ → InferredRule → ℕ → Type 0
@@ -76,6 +81,10 @@ IsJustifiedOver t Edge u v (Inferred rule load path) =
 -- no rule gives the edge, by a path over these edges if it asks for one
 abbrev pub IsUngiven : TraceValue → (ℕ → ℕ → Type 0) → ℕ → ℕ → Type 0
 IsUngiven t Edge u v = ((rule : BaseRule) → BasePair t rule u v → ⊥) × ((rule : InferredRule) (l : ℕ) → IsGivenBy t rule l (Reaches Edge) u v → ⊥)
+
+-- the rule LoadPast gives the edge for load l, whose test answered true
+abbrev pub IsPastBy : TraceValue → List Bool → ℕ → ℕ → ℕ → Type 0
+IsPastBy t row u v l = IsTrue (slice_index_or row l false) × InferredBy t LoadPast l u v u l
 
 -- What gives an edge by an inferred rule: the load, and the ends of the path that the rule asks for.
 pub record GivesBy (t : TraceValue) (Edge : ℕ → ℕ → Type 0) (u v : ℕ) (rule : InferredRule) (load from to : ℕ) : Type 0 where

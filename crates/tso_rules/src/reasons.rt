@@ -1,21 +1,20 @@
 //! Why an edge holds.
-ghost use Rattle.std.specs.Prelude.{◌≡◌, ◌<◌, ◌≤◌, ℕ, Some, None, IfOk, IfSome, MatchOption};
+ghost use Rattle.std.specs.Prelude.{◌≡◌, ◌↔◌, ◌<◌, ℕ, None, false, IsTrue, IfOk, IfSome, MatchOption, slice_index_or};
 ghost use Rattle.order_graph.specs.Digraphs.{IsEdge};
 ghost use Rattle.order_paths.specs.Paths.{Reaches};
 ghost use Rattle.tso_model.specs.Rules.{BasePair, InferredBy};
 ghost use Rattle.tso_cert.specs.declared.rules.BaseRule.{BaseRule};
 ghost use Rattle.tso_model.specs.EdgeLists.{IsGivenBy};
 ghost use Rattle.tso_cert.specs.declared.rules.InferredRule.{InferredRule};
-ghost use Rattle.tso_rules.specs.Rows.{IsJustifiedOver, IsUngiven, IsFirstGiven, GivesBy};
+ghost use Rattle.tso_rules.specs.Rows.{IsJustifiedOver, IsUngiven, IsFirstGiven, IsPastBy, GivesBy};
 ghost use Rattle.tso_rules.specs.declared.reasons.Given.{Given};
 
 use crate::base::base_edge;
-use crate::paths::has_path;
 use crate::sources::source_of;
-use order_graph::Graph;
+use order_graph::PathSearch;
 use std::alloc::Global;
 use tso_cert::{InferredRule, NumList, Reason};
-use tso_model::plain::events::{is_store, node_count, same_address, swap_store};
+use tso_model::plain::events::{is_store, same_address, swap_store};
 use tso_ops::{OutOfMemory, Trace};
 
 /// How an inferred rule gives an edge.
@@ -76,66 +75,137 @@ fn ends_of(trace: &Trace, rule: InferredRule, l: usize, u: usize, v: usize) -> O
     }
 }
 
-/// How the rule gives the edge from `u` to `v` for load `l` by a path in the graph; None where it doesn't.
-fn given_for(
+/// Whether the test of the number answered true.
+#[inline]
+fn is_marked(row: &[bool], n: usize) -> bool
+    ensures { IsTrue result ↔ IsTrue (slice_index_or row.now n false) }
+{
+    n < row.len() && row[n]
+}
+
+/// Whether a path leads from one number to the other: none begins or ends past the numbers of the edges.
+fn leads<G: PathSearch>(graph: &G, from: usize, to: usize) -> Result<bool, OutOfMemory>
+    ensures { IfOk result (λ leads. IsTrue leads ↔ Reaches (IsEdge (G.digraph graph.now)) from to) }
+{
+    if from >= graph.nodes() {
+        return Ok(false);
+    }
+    let reached = graph.reached(from)?;
+    Ok(is_marked(&reached, to))
+}
+
+/// How the rule gives the edge from `u` to `v` for load `l` by a path; None where it doesn't.
+fn given_for<G: PathSearch>(
     trace: &Trace,
-    graph: &Graph,
+    graph: &G,
     rule: InferredRule,
     l: usize,
     u: usize,
     v: usize,
-) -> Option<Ends>
-    ensures is { IfSome result (λ e. InferredBy trace.now rule l u v e.from e.to × Reaches (IsEdge graph.now) e.from e.to) }
-    ensures none { result ≡ None → IsGivenBy trace.now rule l (Reaches (IsEdge graph.now)) u v → ⊥ }
+) -> Result<Option<Given>, OutOfMemory>
+    ensures { IfOk result (λ found. MatchOption found (IsGivenBy trace.now rule l (Reaches (IsEdge (G.digraph graph.now))) u v → ⊥)
+        (λ g. (g.rule ≡ rule) × (g.load ≡ l) × InferredBy trace.now rule l u v g.from g.to × Reaches (IsEdge (G.digraph graph.now)) g.from g.to)) }
 {
-    let ends = ends_of(trace, rule, l, u, v)?;
-    if has_path(graph, ends.from, ends.to) {
-        Some(ends)
-    } else {
-        None
+    let Some(Ends { from, to }) = ends_of(trace, rule, l, u, v) else {
+        return Ok(None);
+    };
+    if !leads(graph, from, to)? {
+        return Ok(None);
     }
+    Ok(Some(Given {
+        rule,
+        load: l,
+        from,
+        to,
+    }))
 }
 
-/// How the rule gives the edge from `u` to `v` for the least load by a path in the graph; None where it gives none.
-fn least_given(
-    trace: &Trace,
-    graph: &Graph,
-    rule: InferredRule,
-    u: usize,
-    v: usize,
-) -> Option<Given>
-    ensures is { IfSome result (λ g. (g.rule ≡ rule) × GivesBy trace.now (IsEdge graph.now) u v rule g.load g.from g.to) }
-    ensures none { result ≡ None → (l : ℕ) → IsGivenBy trace.now rule l (Reaches (IsEdge graph.now)) u v → ⊥ }
+/// The least load for which the rule LoadPast gives the edge from `u` to `v`, of the loads in the row, to which paths
+/// lead from `u`.
+fn least_load_past(trace: &Trace, reached: &[bool], u: usize, v: usize) -> Option<usize>
+    ensures { MatchOption result ((l : ℕ) → IsPastBy trace.now reached.now u v l → ⊥)
+        (λ load. IsPastBy trace.now reached.now u v load × ((l : ℕ) → l < load → IsPastBy trace.now reached.now u v l → ⊥)) }
 {
-    for load in 0..node_count(trace) {
-        if let Some(ends) = given_for(trace, graph, rule, load, u, v) {
-            return Some(Given {
-                rule,
-                load,
-                from: ends.from,
-                to: ends.to,
-            });
+    for load in 0..reached.len() {
+        if reached[load] && ends_of(trace, InferredRule::LoadPast, load, u, v).is_some() {
+            return Some(load);
         }
     }
     None
 }
 
-/// How an inferred rule gives the edge from `u` to `v` by a path in the graph: the first rule that does, for the least
-/// load; None where none gives it.
-fn first_given(trace: &Trace, graph: &Graph, u: usize, v: usize) -> Option<Given>
-    ensures is { IfSome result (λ g. GivesBy trace.now (IsEdge graph.now) u v g.rule g.load g.from g.to × IsFirstGiven trace.now (IsEdge graph.now) u v g.rule g.load) }
-    ensures none { result ≡ None → (rule : InferredRule) (l : ℕ) → IsGivenBy trace.now rule l (Reaches (IsEdge graph.now)) u v → ⊥ }
+/// How the rule LoadPast gives the edge from `u` to `v` for the least load by a path; None where it gives none.
+fn load_past_given<G: PathSearch>(
+    trace: &Trace,
+    graph: &G,
+    u: usize,
+    v: usize,
+) -> Result<Option<Given>, OutOfMemory>
+    ensures { IfOk result (λ found. MatchOption found ((l : ℕ) → IsGivenBy trace.now InferredRule.LoadPast l (Reaches (IsEdge (G.digraph graph.now))) u v → ⊥)
+        (λ g. (g.rule ≡ InferredRule.LoadPast) × GivesBy trace.now (IsEdge (G.digraph graph.now)) u v InferredRule.LoadPast g.load g.from g.to)) }
 {
-    if let Some(given) = least_given(trace, graph, InferredRule::LoadPast, u, v) {
-        return Some(given);
+    if u >= graph.nodes() || !is_store(trace, u) {
+        return Ok(None);
     }
-    if let Some(given) = least_given(trace, graph, InferredRule::StorePast, u, v) {
-        return Some(given);
+    let reached = graph.reached(u)?;
+    let Some(load) = least_load_past(trace, &reached, u, v) else {
+        return Ok(None);
+    };
+    Ok(Some(Given {
+        rule: InferredRule::LoadPast,
+        load,
+        from: u,
+        to: load,
+    }))
+}
+
+/// How the rule gives the edge from `u` to `v` for the least load by a path; None where it gives none. Each rule but
+/// LoadPast can give it for one load alone.
+fn least_given<G: PathSearch>(
+    trace: &Trace,
+    graph: &G,
+    rule: InferredRule,
+    u: usize,
+    v: usize,
+) -> Result<Option<Given>, OutOfMemory>
+    ensures { IfOk result (λ found. MatchOption found ((l : ℕ) → IsGivenBy trace.now rule l (Reaches (IsEdge (G.digraph graph.now))) u v → ⊥)
+        (λ g. (g.rule ≡ rule) × GivesBy trace.now (IsEdge (G.digraph graph.now)) u v rule g.load g.from g.to)) }
+{
+    match rule {
+        InferredRule::LoadPast => load_past_given(trace, graph, u, v),
+        InferredRule::StorePast => given_for(trace, graph, rule, u, u, v),
+        InferredRule::SwapBefore => given_for(trace, graph, rule, v, u, v),
+        InferredRule::SwapAfter => match u.checked_sub(1) {
+            Some(l) => given_for(trace, graph, rule, l, u, v),
+            None => Ok(None),
+        },
     }
-    if let Some(given) = least_given(trace, graph, InferredRule::SwapBefore, u, v) {
-        return Some(given);
+}
+
+/// How an inferred rule gives the edge from `u` to `v` by a path: the first rule that does, for the least load; None
+/// where none gives it.
+fn first_given<G: PathSearch>(
+    trace: &Trace,
+    graph: &G,
+    u: usize,
+    v: usize,
+) -> Result<Option<Given>, OutOfMemory>
+    ensures { IfOk result (λ found. MatchOption found ((rule : InferredRule) (l : ℕ) → IsGivenBy trace.now rule l (Reaches (IsEdge (G.digraph graph.now))) u v → ⊥)
+        (λ g. GivesBy trace.now (IsEdge (G.digraph graph.now)) u v g.rule g.load g.from g.to × IsFirstGiven trace.now (IsEdge (G.digraph graph.now)) u v g.rule g.load)) }
+{
+    if let Some(given) = least_given(trace, graph, InferredRule::LoadPast, u, v)? {
+        return Ok(Some(given));
     }
-    least_given(trace, graph, InferredRule::SwapAfter, u, v)
+    if let Some(given) = least_given(trace, graph, InferredRule::StorePast, u, v)? {
+        return Ok(Some(given));
+    }
+    if let Some(given) = least_given(trace, graph, InferredRule::SwapBefore, u, v)? {
+        return Ok(Some(given));
+    }
+    if let Some(given) = least_given(trace, graph, InferredRule::SwapAfter, u, v)? {
+        return Ok(Some(given));
+    }
+    Ok(None)
 }
 
 /// The list of these numbers.
@@ -149,19 +219,19 @@ fn num_list(alloc: Global, numbers: &[usize]) -> Result<NumList, OutOfMemory>
     Ok(NumList::new(list))
 }
 
-/// Why an inferred rule gives the edge from `u` to `v`; None where none gives it by a path in the graph.
-fn inferred_reason(
+/// Why an inferred rule gives the edge from `u` to `v`; None where none gives it by a path.
+fn inferred_reason<G: PathSearch>(
     alloc: Global,
     trace: &Trace,
-    graph: &Graph,
+    graph: &G,
     u: usize,
     v: usize,
 ) -> Result<Option<Reason>, OutOfMemory>
     requires { (base : BaseRule) → BasePair trace.now base u v → ⊥ }
-    ensures { IfOk result (λ found. MatchOption found (IsUngiven trace.now (IsEdge graph.now) u v) (IsJustifiedOver trace.now (IsEdge graph.now) u v)) }
+    ensures { IfOk result (λ found. MatchOption found (IsUngiven trace.now (IsEdge (G.digraph graph.now)) u v) (IsJustifiedOver trace.now (IsEdge (G.digraph graph.now)) u v)) }
 {
     let _nodes = graph.nodes();
-    let Some(given) = first_given(trace, graph, u, v) else {
+    let Some(given) = first_given(trace, graph, u, v)? else {
         return Ok(None);
     };
     let Some(path) = graph.least_path(given.from, given.to)? else {
@@ -174,17 +244,19 @@ fn inferred_reason(
     }))
 }
 
-/// The justification of an edge from `u` to `v` that is new over the graph's: the first base rule that gives it; else the
-/// first inferred rule that does by a path in the graph, then the least load, then the least path. None where no rule gives
-/// it. OutOfMemory where a growth was refused.
-pub fn justify(
+/// The justification of an edge from `u` to `v` that is new over the edges of `graph`, a `Graph` or an `EdgeSet`: the
+/// first base rule that gives it; else the first inferred rule that does by a path over these edges, then the least load,
+/// then the least path. None where no rule gives it. OutOfMemory where a growth was refused.
+///
+/// It takes a search for each inferred rule at most, one walk over the loads, and the least path.
+pub fn justify<G: PathSearch>(
     alloc: Global,
     trace: &Trace,
-    graph: &Graph,
+    graph: &G,
     u: usize,
     v: usize,
 ) -> Result<Option<Reason>, OutOfMemory>
-    ensures { IfOk result (λ found. MatchOption found (IsUngiven trace.now (IsEdge graph.now) u v) (IsJustifiedOver trace.now (IsEdge graph.now) u v)) }
+    ensures { IfOk result (λ found. MatchOption found (IsUngiven trace.now (IsEdge (G.digraph graph.now)) u v) (IsJustifiedOver trace.now (IsEdge (G.digraph graph.now)) u v)) }
 {
     match base_edge(trace, u, v) {
         Some(rule) => Ok(Some(Reason::Base(rule))),

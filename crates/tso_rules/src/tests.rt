@@ -157,3 +157,30 @@ fn reasons_by_hand(rt: HostRuntime) -> Result<(), Fail> {
     assert!(rt; justify(alloc, &trace, &graph, 4, 1)?.is_none());
     Ok(())
 }
+
+#[test]
+fn reasons_over_edges_taken_away(rt: HostRuntime) -> Result<(), Fail> {
+    let alloc = rt.alloc();
+    let trace = two_swaps_both_first(alloc)?;
+    let mut graph = Graph::new(alloc, 5)?;
+    add_base_edges(alloc, &trace, &mut graph)?;
+    join(&mut graph, 1, 4);
+    join(&mut graph, 3, 2);
+    let mut set = graph.edge_set()?;
+    let found = justify(alloc, &trace, &set, 2, 4)?;
+    assert!(rt;
+        is_inferred(&found, InferredRule::SwapAfter, 1, &[1, 4]),
+        "{found:?}"
+    );
+    if set.nodes() > 4 {
+        set.remove(1, 4);
+    }
+    assert!(rt; justify(alloc, &trace, &set, 2, 4)?.is_none());
+    let found = justify(alloc, &trace, &set, 1, 4)?;
+    assert!(rt;
+        is_inferred(&found, InferredRule::StorePast, 1, &[0, 4]),
+        "{found:?}"
+    );
+    assert!(rt; is_base(&justify(alloc, &trace, &set, 0, 4)?, BaseRule::Init));
+    Ok(())
+}

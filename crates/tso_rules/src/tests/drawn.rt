@@ -1,11 +1,14 @@
 //! Drawn traces: every row is what the model's plain program finds.
 
 use super::graph_of;
-use crate::{base_edge, base_row, row_edges};
+use crate::{base_edge, base_row, justify, row_edges};
 use std::alloc::{AllocError, Global};
 use std::process::Abort;
 use std::test::Fail;
-use tso_model::plain::{base_edges, first_base_rule, has_edge, new_edges, node_count, rank_set};
+use tso_cert::Reason;
+use tso_model::plain::{
+    base_edges, first_base_rule, has_edge, is_inferred_pair, new_edges, node_count, rank_set,
+};
 use tso_ops::{Outcome, Trace};
 
 /// The next of a row of numbers that looks like chance.
@@ -116,6 +119,45 @@ fn compare_round(
     Ok(!new.is_empty())
 }
 
+/// Whether each two numbers of the path that follow one another have an edge.
+fn goes_along(edges: &[(usize, usize)], path: &[u64]) -> bool {
+    for (x, y) in path.iter().zip(path.iter().skip(1)) {
+        if !has_edge(edges, *x as usize, *y as usize) {
+            return false;
+        }
+    }
+    path.len() > 1
+}
+
+/// Compares the justification of each pair over a graph of the rank set with the plain program: whether it is a base
+/// rule, and which, or an inferred rule, or none.
+fn compare_reasons(
+    rt: &impl Abort,
+    alloc: Global,
+    trace: &Trace,
+    rank: usize,
+) -> Result<(), AllocError> {
+    let nodes = node_count(trace);
+    let edges = rank_set(alloc, trace, rank)?;
+    let graph = graph_of(alloc, nodes, &edges)?;
+    for u in 0..nodes {
+        for v in 0..nodes {
+            let base = first_base_rule(trace, u, v);
+            let is_inferred = is_inferred_pair(alloc, trace, &edges, u, v)?;
+            let found = justify(alloc, trace, &graph, u, v)?;
+            let agrees = match &found {
+                Some(Reason::Base(rule)) => base == Some(*rule),
+                Some(Reason::Inferred { path, .. }) => {
+                    base.is_none() && is_inferred && goes_along(&edges, path.items())
+                }
+                None => base.is_none() && !is_inferred,
+            };
+            assert!(rt; agrees, "{u} {v} of {trace:?}, rank {rank}: {found:?}");
+        }
+    }
+    Ok(())
+}
+
 /// Compares every row of every rank set up to the first to which nothing is added, and returns its rank.
 fn compare(rt: &impl Abort, alloc: Global, trace: &Trace) -> Result<usize, AllocError> {
     compare_base(rt, alloc, trace)?;
@@ -137,5 +179,16 @@ fn rows_as_by_the_plain_program(rt: HostRuntime) -> Result<(), Fail> {
         most = most.max(compare(&rt, rt.alloc(), &trace)?);
     }
     assert!(rt; (2..99).contains(&most), "{most} rounds at most");
+    Ok(())
+}
+
+#[test]
+fn reasons_as_by_the_plain_program(rt: HostRuntime) -> Result<(), Fail> {
+    for seed in 0..30 {
+        let trace = drawn_trace(rt.alloc(), seed)?;
+        for rank in 0..3 {
+            compare_reasons(&rt, rt.alloc(), &trace, rank)?;
+        }
+    }
     Ok(())
 }

@@ -76,3 +76,23 @@ fn growths_of_a_reason(rt: HostRuntime) -> Result<(), Fail> {
     );
     Ok(())
 }
+
+#[test]
+fn growths_of_a_reason_over_a_set(rt: HostRuntime) -> Result<(), Fail> {
+    let alloc = rt.alloc();
+    let trace = trace(alloc)?;
+    let graph = graph(alloc)?;
+    let set = match graph.edge_set() {
+        Err(AllocError) => graph.edge_set()?,
+        Ok(set) => set,
+    };
+    let found = match justify(alloc, &trace, &set, 2, 4) {
+        Err(AllocError) => justify(alloc, &trace, &set, 2, 4)?,
+        Ok(found) => found,
+    };
+    assert!(rt;
+        is_inferred(&found, InferredRule::SwapAfter, 1, &[1, 4]),
+        "{found:?}"
+    );
+    Ok(())
+}

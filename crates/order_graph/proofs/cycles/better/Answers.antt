@@ -2,6 +2,7 @@ use Rattle.std.proofs.Common.{inl, inr, arith}
 use Rattle.std.proofs.lemmas.Bool.{both_ways}
 use Rattle.order_graph.specs.Tables.{Joined}
 use Rattle.order_graph.proofs.Cycling.{next_longer, next_found}
+use Rattle.order_graph.proofs.Searching.{Keeps-covers}
 use Rattle.order_graph.proofs.ShortCycles.{IsClosed-reach, next_closed, next_unclosed}
 use Rattle.order_graph.proofs.cycles.better.Goals as goal
 
@@ -10,6 +11,11 @@ returns-then-not-bit c =
     let a = c.args in
     next_unclosed (λ v. v.items) a.nodes a.width a.edges.now a.paths.now a.turned.now a.start a.best c.requires.keeps c.requires.within
     (λ p. both_ways c.bit.result c.if-not-bit.true (c.bit.ensures.1 ((c.requires.closed a.start (omega arith)).1 p))) c.requires.best
+
+pub shortest-requires-clause-covers : goal.shortest-requires-clause-covers
+shortest-requires-clause-covers c =
+    let a = c.args in
+    Keeps-covers a.nodes a.width a.edges.now a.paths.now a.turned.now c.requires.keeps
 
 pub shortest-requires-clause-path : goal.shortest-requires-clause-path
 shortest-requires-clause-path c =

@@ -9,5 +9,6 @@ returns c trace =
     record {
       trace = trace;
       events_are = c.in_ok-events.ensures;
+      loads_are = c.in_ok-loads.ensures (trace_of_lists (rows c.args.lists.now)) trace (sym (c.deref-2.ensures.value ∙ c.in_ok-events.ensures));
       sources_are = c.in_ok-sources.ensures (trace_of_lists (rows c.args.lists.now)) trace (sym (c.deref.ensures.value ∙ c.in_ok-events.ensures));
     }

@@ -1,8 +1,11 @@
 use Rattle.order_graph.specs.Digraphs.{IsEdge}
 use Rattle.tso_rules.proofs.InferredFacts.{marks_rules}
+use Rattle.tso_rules.proofs.RowFacts.{on_ok}
 use Rattle.tso_rules.proofs.inferred.mark_new.Goals as goal
 
 pub returns : goal.returns
 returns c =
-    marks_rules c.args.trace.now (IsEdge c.args.graph.now) c.args.u c.args.marks.now c.mark_rule.new.marks c.mark_rule-2.new.marks c.mark_rule-3.new.marks c.mark_rule-4.new.marks
-    c.mark_rule.ensures c.mark_rule-2.ensures c.mark_rule-3.ensures c.mark_rule-4.ensures
+    on_ok c.mark_swap_after.result _ _
+    (marks_rules c.args.trace.now (IsEdge c.args.graph.now) c.args.u c.args.marks.now.items c.mark_load_past.new.marks.items c.mark_store_past.new.marks.items
+    c.mark_swap_before.new.marks.items c.mark_swap_after.new.marks.items c.in_ok-mark_load_past.ensures c.in_ok-mark_store_past.ensures c.in_ok-mark_swap_before.ensures)
+    c.mark_swap_after.ensures

@@ -1,17 +1,25 @@
-use Rattle.std.proofs.Common.{◌≡◌, ◌++◌, ◌∙◌, take, drop, length, subst}
+use Rattle.std.proofs.Common.{◌<◌, suc, subst, arith}
 use Rattle.std.specs.Result.{IfOk}
-use Rattle.std.proofs.lemmas.List.{take_at}
+use Rattle.order_graph.specs.Tables.{HasNumber}
+use Rattle.tso_ops.specs.Events.{event_total}
+use Rattle.tso_ops.proofs.EventFacts.{event_total-bound}
 use Rattle.order_graph.specs.Digraphs.{IsEdge}
 use Rattle.tso_model.specs.EdgeLists.{IsNew}
-use Rattle.tso_rules.specs.Rows.{IsMarked, IsRow, Marks}
-use Rattle.tso_rules.proofs.RowFacts.{row_of_marks}
+use Rattle.tso_model.proofs.RankFacts.{new_within}
+use Rattle.tso_rules.specs.Rows.{IsRow}
+use Rattle.tso_rules.proofs.RowFacts.{marked_is, row_marked}
 use Rattle.tso_rules.proofs.inferred.row_edges.Goals as goal
+
+pub marked-requires-clause-small : goal.marked-requires-clause-small
+marked-requires-clause-small c = omega (arith, c.node_count.ensures, event_total-bound c.args.trace.now c.events-events.ensures.kept)
+
+pub marked-requires-clause-within : goal.marked-requires-clause-within
+marked-requires-clause-within c = λ v has.
+    let to = marked_is c.new-marks.result.items c.mark_new.new.marks.items (IsNew c.args.trace.now (IsEdge c.args.graph.now) c.args.u) c.new-marks.ensures.items c.in_ok-mark_new.ensures v (subst (λ m. HasNumber m v) c.deref.ensures.value has) in
+    let low : v < suc (event_total c.args.trace.now) = (new_within c.args.trace.now (IsEdge c.args.graph.now) c.args.u v to).1 in
+    omega (arith, low, c.node_count.ensures)
 
 pub returns : goal.returns
 returns c =
-    let To = IsNew c.args.trace.now (IsEdge c.args.graph.now) c.args.u in
-    let same : take c.in_ok-marks.marks.len (c.mark_new.new.marks ++ drop (length c.mark_new.new.marks) c.in_ok-marks.marks.items) ≡ c.mark_new.new.marks =
-    take_at c.mark_new.new.marks _ c.in_ok-marks.marks.len (c.mark_new.ensures.size ∙ c.deref_mut.ensures.len) in
-    row_of_marks c.marked.result c.in_ok-marks.marks.items c.mark_new.new.marks c.node_count.result To (c.in_ok-marks.ensures.items_if_clones_equal (λ y e. e))
-    (subst (λ m. Marks m c.mark_new.new.marks To) c.deref_mut.ensures.value c.mark_new.ensures)
-    (subst (λ m. IfOk c.marked.result (λ row. IsRow row.items (IsMarked m))) (c.deref.ensures.value ∙ same) c.marked.ensures)
+    row_marked c.marked.result c.new-marks.result.items c.mark_new.new.marks.items (IsNew c.args.trace.now (IsEdge c.args.graph.now) c.args.u) c.new-marks.ensures.items c.in_ok-mark_new.ensures
+    (subst (λ m. IfOk c.marked.result (λ row. IsRow row.items (HasNumber m))) c.deref.ensures.value c.marked.ensures)

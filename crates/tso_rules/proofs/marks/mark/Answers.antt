@@ -1,9 +1,18 @@
-use Rattle.std.proofs.Common.{◌<◌, length}
-use Rattle.tso_rules.proofs.RowFacts.{marks_number, marks_nothing, some_is}
+use Rattle.std.proofs.Common.{ℕ, ◌/◌, ◌<◌, ◌↔◌, length, sym, subst, arith}
+use Rattle.std.specs.Global.{Vec}
+use Rattle.order_graph.specs.Tables.{HasNumber}
+use Rattle.tso_rules.proofs.RowFacts.{marks_set_in}
 use Rattle.tso_rules.proofs.marks.mark.Goals as goal
+use Rattle.tso_rules.proofs.marks.mark.Goals.{then-len-j+in_ok-extend, else-len-j}
 
-pub returns-in-Some : goal.returns-in-Some
-returns-in-Some c = marks_number c.args.marks.now c.args.number c.in-Some.n c.in-Some.is (some_is (λ n. n < length c.args.marks.now) c.args.number c.in-Some.n c.requires c.in-Some.is)
-
-pub returns-in_default : goal.returns-in_default
-returns-in_default c = marks_nothing c.args.marks.now c.args.number c.in_default.is
+pub returns : goal.returns
+returns c =
+    let same : (v : ℕ) → HasNumber c.if-len-j.marks.items v ↔ HasNumber c.args.marks.now.items v = elim c.if-len-j.branch [
+      | then-len-j+in_ok-extend w ↦ subst (λ (m : Vec ℕ). (v : ℕ) → HasNumber m.items v ↔ HasNumber c.args.marks.now.items v) (sym w.marks-is) w.in_ok-extend.ensures.same
+      | else-len-j w ↦ subst (λ (m : Vec ℕ). (v : ℕ) → HasNumber m.items v ↔ HasNumber c.args.marks.now.items v) (sym w.marks-is) (λ v. (λ has. has, λ has. has))
+    ] in
+    let long : c.args.number / 64 < length c.if-len-j.marks.items = elim c.if-len-j.branch [
+      | then-len-j+in_ok-extend w ↦ subst (λ (m : Vec ℕ). c.args.number / 64 < length m.items) (sym w.marks-is) (let l = w.in_ok-extend.ensures.long in omega arith)
+      | else-len-j w ↦ subst (λ (m : Vec ℕ). c.args.number / 64 < length m.items) (sym w.marks-is) (omega (arith, w.if-len-j.false, c.len.ensures))
+    ] in
+    marks_set_in c.args.marks.now.items c.if-len-j.marks.items c.args.number c.index_mut.result.now same long c.index_mut.ensures.value

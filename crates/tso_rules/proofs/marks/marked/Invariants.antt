@@ -1,6 +1,8 @@
-use Rattle.tso_rules.proofs.RowFacts.{IsRowTo}
+use Rattle.std.proofs.Common.{◌*◌}
+use Rattle.order_graph.specs.Tables.{HasNumber}
+use Rattle.tso_rules.specs.Rows.{IsRowBelow}
 use Rattle.tso_rules.proofs.marks.marked.Given as goal
 
--- the marked numbers that were passed are listed
-abbrev pub invariant-loop-n : goal.invariant-loop-n
-invariant-loop-n l = IsRowTo l.marks l.row.items l.n
+-- the marked numbers of the words passed are listed
+abbrev pub invariant-loop-j : goal.invariant-loop-j
+invariant-loop-j l = IsRowBelow l.row.items (HasNumber l.marks) (64 * l.j)

@@ -1,0 +1,77 @@
+-- Tables that lose a bit.
+use Rattle.std.proofs.Common.{◌≡◌, ◌↔◌, inl, inr, ℕ, ◌+◌, ◌*◌, ◌/◌, ◌%◌, ◌^◌, ◌<◌, List, length, get_or, set, sym, subst, ◌∙◌, arith}
+use Rattle.std.specs.Int.{bit_not, w64}
+use Rattle.std.specs.Prelude.{bit_and}
+use Rattle.std.proofs.lemmas.Bool.{cases_eq}
+use Rattle.order_paths.proofs.Reach.{Reaches-mono}
+use Rattle.order_graph.specs.Tables.{HasBit, IsSet, Loses, Joined}
+use Rattle.order_graph.specs.Digraphs.{Digraph, IsEdge, Covers}
+use Rattle.order_graph.proofs.Words.{HasBit-clear, IsSet-written, IsSet-elsewhere, IsSet-word}
+use Rattle.order_graph.proofs.Growth.{column_within}
+use Rattle.order_graph.proofs.Keeping.{Sees, sees_edge}
+
+-- To write a word of row u without the bit of column v takes that bit away.
+pub Loses-written : (table : List ℕ) (width u v : ℕ) → v / 64 < width → u * width + v / 64 < length table →
+    Loses table (set table (u * width + v / 64) (bit_and (get_or table (u * width + v / 64) 0) (bit_not w64 (1 * 2 ^ (v % 64) % 2 ^ 64)))) width u v
+Loses-written table width u v hv h = record { bits = at }
+  where
+    word : ℕ
+    word = get_or table (u * width + v / 64) 0
+
+    new : List ℕ
+    new = set table (u * width + v / 64) (bit_and word (bit_not w64 (1 * 2 ^ (v % 64) % 2 ^ 64)))
+
+    here : (x y : ℕ) → x ≡ u → y / 64 ≡ v / 64 → IsSet new width x y ↔ (IsSet table width x y × ((x ≡ u) × (y ≡ v) → ⊥))
+    here x y ex ey =
+        let w = IsSet-written table width u (v / 64) (bit_and word (bit_not w64 (1 * 2 ^ (v % 64) % 2 ^ 64))) x y h ex ey in
+        let c = HasBit-clear word (v % 64) (y % 64) (omega arith) (omega arith) in
+        let o = subst (λ n. IsSet table width n y ↔ HasBit word (y % 64)) (sym ex) (IsSet-word table width u (v / 64) y ey) in (
+          λ s. let b = c.0 (w.0 s) in (o.1 b.1, λ p. b.0 (omega (arith, p.1))),
+          λ p. w.1 (c.1 (λ e. p.1 (ex, omega (arith, e, ey)), o.0 p.0)),
+        )
+
+    away : (x y : ℕ) → y / 64 < width → ((x ≡ u) × (y / 64 ≡ v / 64) → ⊥) → IsSet new width x y ↔ (IsSet table width x y × ((x ≡ u) × (y ≡ v) → ⊥))
+    away x y hy apart =
+        let e = IsSet-elsewhere table width u (v / 64) (bit_and word (bit_not w64 (1 * 2 ^ (v % 64) % 2 ^ 64))) x y hv hy apart in
+        (λ s. (e.0 s, λ p. apart (p.0, omega (arith, p.1))), λ p. e.1 p.0)
+
+    at : (x y : ℕ) → y / 64 < width → IsSet new width x y ↔ (IsSet table width x y × ((x ≡ u) × (y ≡ v) → ⊥))
+    at x y hy = elim (cases_eq x u) [
+      | inl ex ↦ elim (cases_eq (y / 64) (v / 64)) [ inl ey ↦ here x y ex ey | inr ne ↦ away x y hy (λ p. ne p.1) ]
+      | inr ne ↦ away x y hy (λ p. ne p.0)
+    ]
+
+-- The edges of a table that lost a bit.
+Joined-less : (table less : List ℕ) (nodes width u v : ℕ) → width ≡ (nodes + 63) / 64 → Loses table less width u v →
+    (x y : ℕ) → Joined less width nodes x y ↔ (Joined table width nodes x y × ((x ≡ u) × (y ≡ v) → ⊥))
+Joined-less table less nodes width u v fits loses x y = (
+  λ e. let p = (loses.bits x y (column_within y nodes width fits e.1)).0 e.2 in ((e.0, e.1, p.0), p.1),
+  λ p. (p.0.0, p.0.1, (loses.bits x y (column_within y nodes width fits p.0.1)).1 (p.0.2, p.1)),
+)
+
+-- Tables that have at least the paths of some edges have those of fewer.
+pub Covers-less : (nodes width : ℕ) (edges less new paths turned : List ℕ) (u v : ℕ) → Covers nodes width edges paths turned → new ≡ less → length less ≡ length edges →
+    Loses edges less width u v → Covers nodes width new paths turned
+Covers-less nodes width edges less new paths turned u v covers same sized loses =
+    subst (λ t. Covers nodes width t paths turned) (sym same) record {
+      small = covers.small;
+      fits = covers.fits;
+      edges_sized = sized ∙ covers.edges_sized;
+      edges_within = λ x y hx hy s. covers.edges_within x y hx hy ((loses.bits x y hy).0 s).0;
+      paths_sized = covers.paths_sized;
+      turned_sized = covers.turned_sized;
+      onward = λ x y z hx from e. covers.onward x y z hx from (fewer y z e);
+      back = λ x y hx hy p. covers.back x y hx hy (Reaches-mono (Joined less width nodes) (Joined edges width nodes) fewer x y p);
+    }
+  where
+    fewer : (x y : ℕ) → Joined less width nodes x y → Joined edges width nodes x y
+    fewer x y e = ((Joined-less edges less nodes width u v covers.fits loses x y).0 e).0
+
+-- The edges of the table without one are those of the graph without one.
+pub sees_less : (old new : Digraph) (nodes width : ℕ) (table less : List ℕ) (u v : ℕ) → Sees old nodes width table → Sees new nodes width less → width ≡ (nodes + 63) / 64 →
+    Loses table less width u v → (x y : ℕ) → IsEdge new x y ↔ (IsEdge old x y × ((x ≡ u) × (y ≡ v) → ⊥))
+sees_less old new nodes width table less u v sees_old sees_new fits loses x y =
+    let o = sees_edge old nodes width table sees_old x y in
+    let n = sees_edge new nodes width less sees_new x y in
+    let j = Joined-less table less nodes width u v fits loses x y in
+    (λ e. let p = j.0 (n.0 e) in (o.1 p.0, p.1), λ p. n.1 (j.1 (o.0 p.0, p.1)))
