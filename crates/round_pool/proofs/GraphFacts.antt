@@ -2,7 +2,7 @@
 use Rattle.std.proofs.Common.{◌≡◌, zero, ◌⊎◌, ◌↔◌, inl, inr, ⊎_elim, ℕ, suc, ◌+◌, ◌-◌, ◌<◌, ◌≤◌, List, [], ◌∷◌, ◌++◌, length, get_or, take, length-append, refl, sym, ap, ◌∙◌, subst, arith}
 use Rattle.std.specs.Prelude.{Contains}
 use Rattle.std.proofs.lemmas.Bool.{cases_lt}
-use Rattle.std.proofs.lemmas.List.{length-take, take_more, get_or-take, get_or_past, get_or_at, get_or_append_left}
+use Rattle.std.proofs.lemmas.List.{take_more, get_or_past, get_or_at, get_or_append_left, get_or-append_right}
 use Rattle.std.proofs.lemmas.List.Elements.{Contains-append_left, Contains-push, Contains-push_cases}
 use Rattle.order_graph.specs.Digraphs.{Digraph, IsEdge}
 use Rattle.std.specs.Global.{Vec}
@@ -15,9 +15,11 @@ use Rattle.tso_model.specs.Rules.{InferredBy}
 use Rattle.tso_model.specs.EdgeLists.{IsNew}
 use Rattle.tso_model.proofs.Bounds.{F-within}
 use Rattle.tso_model.proofs.Events.{event_above_zero, store_event, load_event, source_load}
-use Rattle.tso_model.proofs.RankFacts.{new_within, new_same}
+use Rattle.tso_model.proofs.RankFacts.{new_within}
 use Rattle.tso_rules.specs.Rows.{IsRow}
-use Rattle.round_pool.specs.RankGraphs.{IsRankGraph, AddsEdges, RowsEdges, AreRows, AreBelow}
+use Rattle.round_pool.specs.declared.ranked.Edge.{Edge}
+use Rattle.round_pool.specs.RankGraphs.{IsRankGraph, AddsEdges, AreRows, AreBelow}
+use Rattle.round_pool.specs.Rankings.{HasEdge, edge_from}
 
 -- ---- one row
 
@@ -93,63 +95,8 @@ row_below t u row is v has = (F-within t 0 u v (is.only v has)).1
 
 -- ---- rows of a round
 
-empty_list : {X : Type 0} (y : X) → Contains [] y → ⊥
+pub empty_list : {X : Type 0} (y : X) → Contains [] y → ⊥
 empty_list y has = let low : has.0 < 0 = has.1 in omega arith
-
-taken_same : (rows : List (List ℕ)) (n i : ℕ) → i < n → get_or (take n rows) i [] ≡ get_or rows i []
-taken_same rows n i low = get_or-take n rows i [] low
-
-taken_past : (rows : List (List ℕ)) (n i : ℕ) → n ≤ i → get_or (take n rows) i [] ≡ []
-taken_past rows n i past = get_or_past (take n rows) i [] (omega (arith, past, length-take n rows))
-
-pub rows_begin : (g : Digraph) (first : ℕ) (rows : List (List ℕ)) → AddsEdges g g (RowsEdges first (take 0 rows))
-rows_begin g first rows = record {
-  nodes = refl;
-  edges = λ x y. (λ e. inl e, λ either. ⊎_elim (λ (e : IsEdge g x y). e) (λ (r : RowsEdges first [] x y). absurd (empty_list y r.1)) either);
-}
-
-pub rows_added : (old g new : Digraph) (first i : ℕ) (rows : List (List ℕ)) (row : List ℕ) → AddsEdges old g (RowsEdges first (take i rows)) → row ≡ get_or rows i [] →
-    AddsEdges g new (RowEdges (first + i) row) → AddsEdges old new (RowsEdges first (take (i + 1) rows))
-rows_added old g new first i rows row adds is more = record {
-  nodes = more.nodes ∙ adds.nodes;
-  edges = λ x y. (
-    λ e. ⊎_elim
-        (λ (before : IsEdge g x y). ⊎_elim
-        (λ (start : IsEdge old x y). inl start)
-        (λ (r : RowsEdges first (take i rows) x y). inr (r.0, kept x y r.1))
-        ((adds.edges x y).0 before))
-        (λ (now : RowEdges (first + i) row x y). let at = now.0 in inr (omega (arith, at), added x y at now.1))
-        ((more.edges x y).0 e),
-    λ either. (more.edges x y).1 (⊎_elim
-        (λ (start : IsEdge old x y). inl ((adds.edges x y).1 (inl start)))
-        (λ (r : RowsEdges first (take (i + 1) rows) x y). place x y r)
-        either),
-  );
-}
-  where
-    kept : (x y : ℕ) → Contains (get_or (take i rows) (x - first) []) y → Contains (get_or (take (i + 1) rows) (x - first) []) y
-    kept x y has = ⊎_elim
-        (λ (low : x - first < i). subst (λ r. Contains r y) (taken_same rows i (x - first) low ∙ sym (taken_same rows (i + 1) (x - first) (omega (arith, low)))) has)
-        (λ (past : i ≤ x - first). absurd (empty_list y (subst (λ r. Contains r y) (taken_past rows i (x - first) past) has)))
-        (cases_lt (x - first) i)
-
-    added : (x y : ℕ) → x ≡ first + i → Contains row y → Contains (get_or (take (i + 1) rows) (x - first) []) y
-    added x y at has =
-        let same : x - first ≡ i = omega (arith, at) in
-        subst (λ k. Contains (get_or (take (i + 1) rows) k []) y) (sym same) (subst (λ r. Contains r y) (is ∙ sym (taken_same rows (i + 1) i (omega arith))) has)
-
-    place : (x y : ℕ) → RowsEdges first (take (i + 1) rows) x y → IsEdge g x y ⊎ RowEdges (first + i) row x y
-    place x y r = ⊎_elim
-        (λ (low : x - first < i). inl ((adds.edges x y).1 (inr (r.0, subst (λ l. Contains l y) (taken_same rows (i + 1) (x - first) (omega (arith, low)) ∙ sym (taken_same rows i (x - first) low)) r.1))))
-        (λ (past : i ≤ x - first). ⊎_elim
-        (λ (at_most : x - first < i + 1).
-        let from = r.0 in
-        let at : x ≡ first + i = omega (arith, from, past, at_most) in
-        let same : x - first ≡ i = omega (arith, past, at_most) in
-        inr (at, subst (λ l. Contains l y) (taken_same rows (i + 1) i (omega arith) ∙ sym is) (subst (λ k. Contains (get_or (take (i + 1) rows) k []) y) same r.1)))
-        (λ (behind : i + 1 ≤ x - first). absurd (empty_list y (subst (λ l. Contains l y) (taken_past rows (i + 1) (x - first) behind) r.1)))
-        (cases_lt (x - first) (i + 1)))
-        (cases_lt (x - first) i)
 
 -- the rows computed so far, and one more
 pub rows_none : (t : TraceValue) (g : Digraph) (first : ℕ) → AreRows t g first 0 []
@@ -176,7 +123,7 @@ rows_below t g first n rows are = record {
 }
 
 -- no rule gives an edge from `init`
-no_new_from_init : (t : TraceValue) (Edge : ℕ → ℕ → Type 0) (v : ℕ) → IsNew t Edge 0 v → ⊥
+pub no_new_from_init : (t : TraceValue) (Edge : ℕ → ℕ → Type 0) (v : ℕ) → IsNew t Edge 0 v → ⊥
 no_new_from_init t Edge v new = from_init t new.0.0 new.0.1 v new.0.2 new.0.3 new.0.4
   where
     from_init : (t : TraceValue) (rule : InferredRule) (l v x y : ℕ) → InferredBy t rule l 0 v x y → ⊥
@@ -185,42 +132,59 @@ no_new_from_init t Edge v new = from_init t new.0.0 new.0.1 v new.0.2 new.0.3 ne
     from_init t SwapBefore l v x y by = let low = event_above_zero t 0 (store_event t 0 by.2) in omega (arith, low)
     from_init t SwapAfter l v x y by = let at = by.1 in omega (arith, at)
 
--- with the rows of a round the graph of a rank set is that of the next
-pub round_made : (t : TraceValue) (k : ℕ) (g new : Digraph) (rows : List (List ℕ)) → IsRankGraph t k g → AreRows t g 1 (event_total t) rows → AddsEdges g new (RowsEdges 1 rows) → IsRankGraph t (suc k) new
-round_made t k g new rows rank are adds = record {
-  nodes = adds.nodes ∙ rank.nodes;
-  edges = λ x y. (
-    λ e. ⊎_elim
-        (λ (before : IsEdge g x y). inl ((rank.edges x y).0 before))
-        (λ (r : RowsEdges 1 rows x y). inr (to_rank x y (row_edge x y r)))
-        ((adds.edges x y).0 e),
-    λ f. (adds.edges x y).1 (⊎_elim (λ old. inl ((rank.edges x y).1 old)) (λ more. inr (edge_row x y (of_rank x y more))) f),
-  );
-}
-  where
-    to_rank : (x y : ℕ) → IsNew t (IsEdge g) x y → IsNew t (λ a b. F t k a b) x y
-    to_rank x y new = new_same t (IsEdge g) (λ a b. F t k a b) (λ a b. (rank.edges a b).0) (λ a b. (rank.edges a b).1) x y new
-
-    of_rank : (x y : ℕ) → IsNew t (λ a b. F t k a b) x y → IsNew t (IsEdge g) x y
-    of_rank x y new = new_same t (λ a b. F t k a b) (IsEdge g) (λ a b. (rank.edges a b).1) (λ a b. (rank.edges a b).0) x y new
-
-    row_edge : (x y : ℕ) → RowsEdges 1 rows x y → IsNew t (IsEdge g) x y
-    row_edge x y r = ⊎_elim
-        (λ (low : x - 1 < event_total t). let from = r.0 in let at : 1 + (x - 1) ≡ x = omega (arith, from) in subst (λ n. IsNew t (IsEdge g) n y) at ((are.row (x - 1) low).only y r.1))
-        (λ (past : event_total t ≤ x - 1). absurd (empty_list y (subst (λ l. Contains l y) (get_or_past rows (x - 1) [] (omega (arith, are.count_is, past))) r.1)))
-        (cases_lt (x - 1) (event_total t))
-
-    edge_row : (x y : ℕ) → IsNew t (IsEdge g) x y → RowsEdges 1 rows x y
-    edge_row x y new = ⊎_elim
-        (λ (none : x < 1). let at : x ≡ 0 = omega (arith, none) in absurd (no_new_from_init t (IsEdge g) y (subst (λ n. IsNew t (IsEdge g) n y) at new)))
-        (λ (some : 1 ≤ x).
-        let within = (new_within t (IsEdge g) x y new).0 in
-        let at : x ≡ 1 + (x - 1) = omega (arith, some) in
-        (some, (are.row (x - 1) (omega (arith, within, some))).all y (subst (λ n. IsNew t (IsEdge g) n y) at new)))
-        (cases_lt x 1)
+-- numbers below one number are below a greater
+pub rows_narrow : (m n : ℕ) (rows : List (List ℕ)) → m ≤ n → AreBelow m rows → AreBelow n rows
+rows_narrow m n rows most below = record { below = λ i v has. (let low = below.below i v has in omega (arith, low, most)) }
 
 -- the list that a vector of a list holds
 pub row_at : {X : Type 0} (vectors : List (Vec X)) (i : ℕ) (v : Vec X) → i < length vectors → v ≡ get_or vectors i v → v.items ≡ get_or (rows vectors) i []
 row_at [] i v low is = absurd (omega arith)
 row_at {X} (w ∷ vectors) zero v low is = ap (λ (u : Vec X). u.items) is
 row_at (w ∷ vectors) (suc i) v low is = row_at vectors i v (omega arith) is
+
+-- the rows of two runs, of which the second begins where the first ends
+pub rows_joined : (t : TraceValue) (g : Digraph) (first m n : ℕ) (rows more : List (List ℕ)) → AreRows t g first m rows → AreRows t g (first + m) n more → AreRows t g first (m + n) (rows ++ more)
+rows_joined t g first m n rows more are next = record {
+  count_is = omega (arith, are.count_is, next.count_is, length-append rows more);
+  row = λ i low. ⊎_elim
+      (λ (before : i < m). let size = are.count_is in subst (λ r. IsRow r (IsNew t (IsEdge g) (first + i))) (sym (get_or_append_left rows more [] i (omega (arith, before, size)))) (are.row i before))
+      (λ (past : m ≤ i).
+      let place : first + m + (i - m) ≡ first + i = omega (arith, past) in
+      let here : get_or (rows ++ more) i [] ≡ get_or more (i - m) [] = get_or-append_right rows more m i [] are.count_is past in
+      subst (λ r. IsRow r (IsNew t (IsEdge g) (first + i))) (sym here) (subst (λ n. IsRow (get_or more (i - m) []) (IsNew t (IsEdge g) n)) place (next.row (i - m) (omega (arith, past, low)))))
+      (cases_lt i m);
+}
+
+-- ---- edges that are added
+
+pub edges_start : (g : Digraph) (edges : List Edge) → AddsEdges g g (HasEdge (take 0 edges))
+edges_start g edges = record {
+  nodes = refl;
+  edges = λ x y. (λ e. inl e, λ either. ⊎_elim (λ (e : IsEdge g x y). e) (λ (has : HasEdge [] x y). absurd (let low : has.0 < 0 = has.1 in omega arith)) either);
+}
+
+pub edges_more : (old g new : Digraph) (i : ℕ) (edges : List Edge) (e d : Edge) → AddsEdges old g (HasEdge (take i edges)) → i < length edges → e ≡ get_or edges i d → new.nodes ≡ g.nodes →
+    ((x y : ℕ) → IsEdge new x y ↔ (IsEdge g x y ⊎ ((x ≡ e.from) × (y ≡ e.to)))) → AddsEdges old new (HasEdge (take (i + 1) edges))
+edges_more old g new i edges e d adds inside is same more = record {
+  nodes = same ∙ adds.nodes;
+  edges = λ x y. (
+    λ n. ⊎_elim
+        (λ (before : IsEdge g x y). ⊎_elim
+        (λ (first : IsEdge old x y). inl first)
+        (λ (has : HasEdge (take i edges) x y). inr (subst (λ l. HasEdge l x y) (sym next) (Contains-append_left (take i edges) (e ∷ []) (edge_from x y) has)))
+        ((adds.edges x y).0 before))
+        (λ (now : (x ≡ e.from) × (y ≡ e.to)). inr (subst (λ l. HasEdge l x y) (sym next)
+        (subst (λ k. HasEdge (take i edges ++ e ∷ []) k y) (sym now.0) (subst (λ k. HasEdge (take i edges ++ e ∷ []) e.from k) (sym now.1) (Contains-push (take i edges) e)))))
+        ((more x y).0 n),
+    λ either. (more x y).1 (⊎_elim
+        (λ (first : IsEdge old x y). inl ((adds.edges x y).1 (inl first)))
+        (λ (has : HasEdge (take (i + 1) edges) x y). elim (Contains-push_cases (take i edges) e (edge_from x y) (subst (λ l. HasEdge l x y) next has)) [
+          | inl before ↦ inl ((adds.edges x y).1 (inr before))
+          | inr now ↦ inr (sym (ap (λ (d : Edge). d.from) now), sym (ap (λ (d : Edge). d.to) now))
+        ])
+        either),
+  );
+}
+  where
+    next : take (i + 1) edges ≡ take i edges ++ e ∷ []
+    next = take_more edges i d inside ∙ ap (λ w. take i edges ++ w ∷ []) (sym is)

@@ -1,1 +1,5 @@
+pub mod EdgeFacts
 pub mod GraphFacts
+pub mod RankedFacts
+pub mod RoundFacts
+pub mod Shares

@@ -1,1 +1,2 @@
 pub mod RankGraphs
+pub mod Rankings

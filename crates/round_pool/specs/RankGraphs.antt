@@ -1,5 +1,5 @@
 -- Graphs of rank sets.
-use Rattle.std.specs.Prelude.{◌≡◌, ◌⊎◌, ◌↔◌, ℕ, suc, ◌+◌, ◌-◌, ◌<◌, ◌≤◌, List, [], length, get_or, Contains}
+use Rattle.std.specs.Prelude.{◌≡◌, ◌⊎◌, ◌↔◌, ℕ, suc, ◌+◌, ◌-◌, ◌*◌, ◌/◌, ◌<◌, ◌≤◌, List, [], length, get_or, Contains}
 use Rattle.order_graph.specs.Digraphs.{Digraph, IsEdge}
 use Rattle.tso_ops.specs.Values.{TraceValue}
 use Rattle.tso_ops.specs.Events.{event_total}
@@ -29,3 +29,11 @@ pub record AreRows (t : TraceValue) (g : Digraph) (first count : ℕ) (rows : Li
 -- the numbers of the rows lie below this one
 pub record AreBelow (bound : ℕ) (rows : List (List ℕ)) : Type 0 where
   pub below : (i v : ℕ) → Contains (get_or rows i []) v → v < bound
+
+-- Before worker w of W this many of the rows are shared out.
+abbrev pub bound_of : ℕ → ℕ → ℕ → ℕ
+bound_of count w workers = count * w / workers
+
+-- The rows of the workers from w on: those above its bound.
+abbrev pub AreRowsFrom : TraceValue → Digraph → ℕ → ℕ → List (List ℕ) → Type 0
+AreRowsFrom t g w workers rows = AreRows t g (1 + bound_of (event_total t) w workers) (event_total t - bound_of (event_total t) w workers) rows

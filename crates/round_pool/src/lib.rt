@@ -1,8 +1,17 @@
 //! The rank sets of a trace, round by round.
 #![tactic(auto)]
 
-pub use graphs::{base_graph, next_round};
+pub use faults::PoolFault;
+pub use gates::{OpenPoolGate, PoolGate};
+pub use ranked::{Edge, Ranked};
+pub use round_loop::rounds;
 
+mod edges;
+mod faults;
+mod gates;
 mod graphs;
+mod ranked;
+mod round_loop;
 #[cfg(test)]
 mod tests;
+mod workers;

@@ -1,12 +1,19 @@
-use crate::{base_graph, next_round};
-use order_graph::Graph;
-use std::alloc::Global;
-use std::process::Abort;
-use std::test::Fail;
-use tso_model::plain::{has_edge, node_count, rank_set};
-use tso_ops::{Outcome, Trace};
+//! Traces made by hand, and what the tests share.
 
-const BARRIER: Outcome = Outcome::Mb;
+mod by_hand;
+mod drawn;
+mod gates;
+mod growths;
+
+use crate::{PoolFault, PoolGate, Ranked, rounds};
+use order_graph::Graph;
+use std::alloc::{AllocError, Global};
+use std::process::Abort;
+use std::sync::Wait;
+use std::thread::Threads;
+use tso_model::plain::events::has_unwritten_load;
+use tso_model::plain::{has_edge, node_count, rank_set, rounds_number};
+use tso_ops::{Outcome, Trace, ValueFault};
 
 fn ld(a: u16, r: u64) -> Outcome {
     Outcome::Ld { a, r }
@@ -21,86 +28,24 @@ fn sw(a: u16, r: u64, v: u64) -> Outcome {
 }
 
 /// The trace of processors that did this.
-fn trace_of(alloc: Global, rows: &[&[Outcome]]) -> Result<Trace, Fail> {
+fn trace_of(alloc: Global, rows: &[&[Outcome]]) -> Result<Trace, ValueFault> {
     let mut lists = Vec::new(alloc);
     for row in rows {
         lists.push(row.to_vec(alloc)?)?;
     }
-    Ok(Trace::new(alloc, lists)?)
+    Trace::new(alloc, lists).map_err(|refused| refused.why)
 }
 
-/// Whether the graph has the edge; none has an end past its numbers.
-fn has(graph: &Graph, u: usize, v: usize) -> bool {
-    if u < graph.nodes() && v < graph.nodes() {
-        graph.has(u, v)
-    } else {
-        false
-    }
+fn two_swaps_both_first(alloc: Global) -> Result<Trace, ValueFault> {
+    trace_of(alloc, &[&[sw(1, 0, 1)], &[sw(1, 0, 2)]])
 }
 
-/// Fails unless the graph has just these edges.
-fn assert_edges(rt: &impl Abort, graph: &Graph, edges: &[(usize, usize)]) {
-    for u in 0..graph.nodes() {
-        for v in 0..graph.nodes() {
-            assert_eq!(rt; has(graph, u, v), has_edge(edges, u, v), "{u} to {v}");
-        }
-    }
+fn store_buffering(alloc: Global) -> Result<Trace, ValueFault> {
+    trace_of(alloc, &[&[st(1, 1), ld(2, 0)], &[st(2, 2), ld(1, 0)]])
 }
 
-/// Fails unless the graphs of the rank sets up to `rounds` are those of the plain program.
-fn assert_rank_sets(
-    rt: &impl Abort,
-    alloc: Global,
-    trace: &Trace,
-    rounds: usize,
-) -> Result<(), Fail> {
-    let mut graph = base_graph(alloc, trace)?;
-    assert_eq!(rt; graph.nodes(), node_count(trace));
-    for k in 0..rounds {
-        assert_edges(rt, &graph, &rank_set(alloc, trace, k)?);
-        if graph.nodes() == node_count(trace) {
-            next_round(alloc, trace, &mut graph)?;
-        }
-    }
-    assert_edges(rt, &graph, &rank_set(alloc, trace, rounds)?);
-    Ok(())
-}
-
-#[test]
-fn two_swaps_both_first(rt: HostRuntime) -> Result<(), Fail> {
-    let alloc = rt.alloc();
-    let trace = trace_of(alloc, &[&[sw(1, 0, 1)], &[sw(1, 0, 2)]])?;
-    let mut graph = base_graph(alloc, &trace)?;
-    assert!(rt; has(&graph, 1, 2) && has(&graph, 3, 4));
-    assert!(rt; !has(&graph, 1, 4) && !has(&graph, 3, 2));
-    if graph.nodes() == node_count(&trace) {
-        next_round(alloc, &trace, &mut graph)?;
-    }
-    assert!(rt; has(&graph, 1, 4) && has(&graph, 3, 2));
-    assert!(rt; !has(&graph, 2, 4) && !has(&graph, 4, 2));
-    if graph.nodes() == node_count(&trace) {
-        next_round(alloc, &trace, &mut graph)?;
-    }
-    assert!(rt; has(&graph, 2, 4) && has(&graph, 4, 2));
-    Ok(())
-}
-
-#[test]
-fn beside_the_plain_program(rt: HostRuntime) -> Result<(), Fail> {
-    let alloc = rt.alloc();
-    let empty = trace_of(alloc, &[])?;
-    assert_rank_sets(&rt, alloc, &empty, 1)?;
-    let swaps = trace_of(alloc, &[&[sw(1, 0, 1)], &[sw(1, 0, 2)]])?;
-    assert_rank_sets(&rt, alloc, &swaps, 3)?;
-    let with_barriers = trace_of(
-        alloc,
-        &[
-            &[st(1, 1), BARRIER, ld(2, 0)],
-            &[st(2, 2), BARRIER, ld(1, 0)],
-        ],
-    )?;
-    assert_rank_sets(&rt, alloc, &with_barriers, 2)?;
-    let independent_reads = trace_of(
+fn independent_reads(alloc: Global) -> Result<Trace, ValueFault> {
+    trace_of(
         alloc,
         &[
             &[st(1, 1)],
@@ -108,9 +53,68 @@ fn beside_the_plain_program(rt: HostRuntime) -> Result<(), Fail> {
             &[ld(1, 1), ld(2, 0)],
             &[ld(2, 2), ld(1, 0)],
         ],
-    )?;
-    assert_rank_sets(&rt, alloc, &independent_reads, 2)?;
-    let chain = trace_of(alloc, &[&[st(0, 1)], &[sw(0, 0, 2), sw(0, 2, 3)]])?;
-    assert_rank_sets(&rt, alloc, &chain, 4)?;
+    )
+}
+
+/// The rounds, where no load of the trace is unwritten and there are 1 to 64 workers.
+fn made<H: Threads + Wait, G: PoolGate + Sync>(
+    rt: &H,
+    alloc: Global,
+    trace: &Trace,
+    workers: usize,
+    gate: &G,
+) -> Result<Ranked, PoolFault> {
+    if has_unwritten_load(trace) || workers < 1 || workers > 64 {
+        return Err(PoolFault::NoThread);
+    }
+    rounds(rt, alloc, trace, workers, gate)
+}
+
+/// Whether the graph has the edge; none has an end past its numbers.
+fn has(graph: &Graph, u: usize, v: usize) -> bool {
+    u < graph.nodes() && v < graph.nodes() && graph.has(u, v)
+}
+
+/// Fails unless rounds number, ranks and graphs are those of the plain program.
+fn compare(
+    rt: &impl Abort,
+    alloc: Global,
+    trace: &Trace,
+    ranked: &Ranked,
+) -> Result<(), AllocError> {
+    let count = rounds_number(alloc, trace)?;
+    assert_eq!(rt; ranked.rounds(), count as u64, "{trace:?}");
+    let mut ranks = Vec::new(alloc);
+    for k in 0..count.saturating_add(1) {
+        let edges = rank_set(alloc, trace, k)?;
+        if k as u64 <= ranked.rounds() {
+            compare_graph(rt, trace, &ranked.up_to(k as u64)?, &edges);
+        }
+        ranks.push(edges)?;
+    }
+    for u in 0..node_count(trace).saturating_add(1) {
+        for v in 0..node_count(trace).saturating_add(1) {
+            let first = ranks.iter().position(|edges| has_edge(edges, u, v));
+            assert_eq!(rt;
+                ranked.rank(u, v),
+                first.map(|k| k as u64),
+                "{u} to {v} of {trace:?}"
+            );
+        }
+    }
     Ok(())
+}
+
+/// Fails unless the graph has just these edges.
+fn compare_graph(rt: &impl Abort, trace: &Trace, graph: &Graph, edges: &[(usize, usize)]) {
+    assert_eq!(rt; graph.nodes(), node_count(trace));
+    for u in 0..graph.nodes() {
+        for v in 0..graph.nodes() {
+            assert_eq!(rt;
+                has(graph, u, v),
+                has_edge(edges, u, v),
+                "{u} to {v} of {trace:?}"
+            );
+        }
+    }
 }

@@ -1,0 +1,105 @@
+//! What a gate sees of the workers.
+
+use super::{independent_reads, made, store_buffering};
+use crate::PoolGate;
+use std::sync::atomic::{AtomicU64, Ordering};
+use std::test::Fail;
+use std::thread::yield_now;
+
+/// How often the first call looks for a second.
+const TURNS: u64 = 100_000;
+
+/// A gate whose first call waits for a second.
+#[derive(Drop)]
+struct Meeting {
+    calls: AtomicU64,
+    met: AtomicU64,
+}
+
+impl PoolGate for Meeting {
+    fn row(&self, _worker: usize, _row: usize) {
+        if self.calls.fetch_add(1, Ordering::SeqCst) > 0 {
+            return;
+        }
+        for _ in 0..TURNS {
+            if self.calls.load(Ordering::SeqCst) > 1 {
+                self.met.store(1, Ordering::SeqCst);
+                return;
+            }
+            yield_now();
+        }
+    }
+}
+
+/// A gate that writes down the rows, each below 16, as the digits of a number.
+#[derive(Drop)]
+struct Rows {
+    seen: AtomicU64,
+}
+
+impl PoolGate for Rows {
+    fn row(&self, _worker: usize, row: usize) {
+        let seen = self.seen.load(Ordering::SeqCst);
+        self.seen.store(
+            seen.wrapping_mul(16).wrapping_add(row as u64),
+            Ordering::SeqCst,
+        );
+    }
+}
+
+#[test]
+fn two_workers_compute_at_once(rt: HostRuntime) -> Result<(), Fail> {
+    let alloc = rt.alloc();
+    let gate = Meeting {
+        calls: AtomicU64::new(0),
+        met: AtomicU64::new(0),
+    };
+    let ranked = made(&rt, alloc, &independent_reads(alloc)?, 2, &gate)?;
+    assert_eq!(rt; ranked.rounds(), 1);
+    assert_eq!(rt; gate.met.load(Ordering::SeqCst), 1, "no second call came");
+    Ok(())
+}
+
+#[test]
+fn one_worker_has_all_rows(rt: HostRuntime) -> Result<(), Fail> {
+    let alloc = rt.alloc();
+    let gate = Rows {
+        seen: AtomicU64::new(0),
+    };
+    made(&rt, alloc, &store_buffering(alloc)?, 1, &gate)?;
+    assert_eq!(rt; gate.seen.load(Ordering::SeqCst), 0x1234_1234);
+    Ok(())
+}
+
+/// Two bits for each row that was computed, of the worker that did it: worker 1 is written as 1, worker 2 as 2.
+#[derive(Drop)]
+struct Workers {
+    of_rows: AtomicU64,
+}
+
+impl PoolGate for Workers {
+    fn row(&self, worker: usize, row: usize) {
+        let mark = (worker as u64).wrapping_add(1) << (2 * (row % 32));
+        self.of_rows.fetch_add(mark, Ordering::SeqCst);
+    }
+}
+
+/// Three workers share six rows, two each.
+#[test]
+fn rows_are_shared_out(rt: HostRuntime) -> Result<(), Fail> {
+    let alloc = rt.alloc();
+    let trace = super::trace_of(
+        alloc,
+        &[
+            &[super::st(1, 1), super::st(1, 2), super::st(1, 3)],
+            &[super::ld(2, 0), super::ld(2, 0), super::ld(2, 0)],
+        ],
+    )?;
+    let gate = Workers {
+        of_rows: AtomicU64::new(0),
+    };
+    let ranked = made(&rt, alloc, &trace, 3, &gate)?;
+    assert_eq!(rt; ranked.rounds(), 0);
+    assert_eq!(rt; gate.of_rows.load(Ordering::SeqCst), 0b11_11_10_10_01_01_00);
+    Ok(())
+}
