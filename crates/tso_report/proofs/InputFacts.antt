@@ -1,105 +1,131 @@
 -- Laws on the report of an input.
 use Rattle.std.proofs.Common.{◌≡◌, ◌↔◌, ℕ, ◌<◌, ◌≤◌, List, ◌++◌, length, take, Bool, true, false, Some, None, IfSome, refl, ap, sym, subst, ◌∙◌, arith, inl, inr, ⊎_elim}
 use Rattle.std.proofs.lemmas.Bool.{false≢true, cases_lt}
-use Rattle.std.proofs.lemmas.List.{take_all, length-take-le}
-use Rattle.std.specs.Prelude.{Option}
+use Rattle.std.proofs.lemmas.List.{append_assoc, take_all, length-take-le}
+use Rattle.std.specs.Prelude.{Option, codes, [], ◌∷◌}
+use Rattle.std.specs.Io.KnownBytes.{Appends}
 use Rattle.tso_ops.specs.Values.{TraceValue, trace_of_lists}
-use Rattle.tso_ops.specs.Events.{processor_count, event_total}
+use Rattle.tso_ops.specs.Events.{processor_count, event_total, IsUnwritten}
+use Rattle.tso_text.specs.declared.faults.Why.{Why}
 use Rattle.tso_text.specs.declared.faults.Why.TheVariants.{TooLong}
-use Rattle.tso_text.specs.Grammars.{trace_grammar, SpellsTrace, IsRefusedTrace}
+use Rattle.tso_text.specs.Grammars.{trace_grammar, SpellsTrace, IsRefusedTrace, IsTraceRefusal}
 use Rattle.tso_text.proofs.Reaching.{too_long}
+use Rattle.tso_text.proofs.SpelledLimits.{spelled_trace}
 use Rattle.tso_text.proofs.SpellingFacts.{spelled_or_refused, not_both, one_value, one_refusal}
-use Rattle.tso_cert.specs.declared.steps.Certificate.{Certificate}
-use Rattle.tso_cert.specs.declared.steps.Certificate.TheVariants.{Unwritten, Cycle}
-use Rattle.tso_model.specs.Certs.{IsCertificateOf}
+use Rattle.tso_cert.specs.Printed.{cert_text}
 use Rattle.tso_model.specs.Order.{IsConsistent}
+use Rattle.tso_model.specs.Rules.{HasDerivedCycle}
 use Rattle.tso_model.proofs.CertificateExists.{certificate_exists}
+use Rattle.tso_model.proofs.CertificateHolds.{certificate_holds}
+use Rattle.tso_model.proofs.CertificateUnique.{certificate_unique}
+use Rattle.tso_model.proofs.DerivedPaths.{derived_cycle_decided}
+use Rattle.tso_model.proofs.Events.{HasOwnValues, own_values}
+use Rattle.tso_model.proofs.RoundsNumber.{rounds_exist, rounds_unique}
+use Rattle.order_paths.proofs.Decisions.{Decision-either}
 use Rattle.tso_model.proofs.Decided.{unwritten_decided}
-use Rattle.tso_model.proofs.EdgesForward.{all_written}
+use Rattle.tso_model.proofs.EdgesForward.{all_written, no_derived_cycle}
 use Rattle.tso_report.specs.declared.verdicts.Verdict.{Verdict}
 use Rattle.tso_report.specs.declared.verdicts.Verdict.TheVariants.{NoViolation, Violation, Refused}
 use Rattle.tso_report.specs.declared.faults.Fault.{Fault}
 use Rattle.tso_report.specs.declared.faults.Fault.TheVariants.{Write}
-use Rattle.tso_report.specs.Judged.{IsViolation, IsCertificateText, unwritten_text}
-use Rattle.tso_report.specs.Reports.{head_text, no_violation_text, refusal_text, violation_text, SaysVerdict, IsReport, IsReportOfReader, IsTraceReport, LeavesFault, SpellsViolation}
+use Rattle.tso_report.specs.Judged.{IsViolation, IsCertificateText}
+use Rattle.tso_report.specs.Reports.{head_text, no_violation_text, refusal_text, violation_text, SaysVerdict, IsRefusalReport, IsReport, IsReportOfReader, IsTraceReport, LeavesFault, ShowsViolation, SpellsViolation}
 use Rattle.tso_report.specs.Streams.{AppendsFront}
 
 -- ---- what is read of a long input
 
--- a refusal of a text that is too long
-too_long_report : (input text : List ℕ) (v : Verdict) → 1048576 < length input → text ≡ refusal_text 0 TooLong → v ≡ Refused → IsReport input text v
-too_long_report input text v long is refused = inr (0, TooLong, too_long trace_grammar input long, is, refused)
+-- A front that reaches past the limit is refused for its length alone, as all is.
+spells_past : (input : List ℕ) (t : TraceValue) → 1048576 < length input → SpellsTrace input t → ⊥
+spells_past input t long spells = not_both trace_grammar input t.lists 0 TooLong spells (too_long trace_grammar input long)
 
--- a text that is too long has no other report
-only_too_long : (input text : List ℕ) (v : Verdict) → 1048576 < length input → IsReport input text v → (text ≡ refusal_text 0 TooLong) × (v ≡ Refused)
-only_too_long input text v long (inl spelled) = absurd (not_both trace_grammar input spelled.0.lists 0 TooLong spelled.1 (too_long trace_grammar input long))
-only_too_long input text v long (inr refused) =
-    let same = one_refusal trace_grammar input refused.0 0 refused.1 TooLong refused.2 (too_long trace_grammar input long) in
-    (refused.3 ∙ ap (λ line. refusal_text line refused.1) same.0 ∙ ap (refusal_text 0) same.1, refused.4)
+length_past : (input : List ℕ) → 1048576 < length input → 1048576 < length (take 1048577 input)
+length_past input long = let count = length-take-le 1048577 input (omega arith) in omega (arith, count)
+
+-- The front up to one past the limit spells what all spells.
+pub spells_of_front : (input : List ℕ) (t : TraceValue) → SpellsTrace (take 1048577 input) t → SpellsTrace input t
+spells_of_front input t spells = ⊎_elim long short (cases_lt 1048576 (length input))
+  where
+    short : length input ≤ 1048576 → SpellsTrace input t
+    short fits = subst (λ front. SpellsTrace front t) (take_all 1048577 input (omega arith)) spells
+
+    long : 1048576 < length input → SpellsTrace input t
+    long past = absurd (spells_past (take 1048577 input) t (length_past input past) spells)
+
+-- And it is refused as all is.
+pub refusal_of_front : (input : List ℕ) (line : ℕ) (why : Why) → IsTraceRefusal (take 1048577 input) line why → IsTraceRefusal input line why
+refusal_of_front input line why refusal = ⊎_elim long short (cases_lt 1048576 (length input))
+  where
+    short : length input ≤ 1048576 → IsTraceRefusal input line why
+    short fits = subst (λ front. IsTraceRefusal front line why) (take_all 1048577 input (omega arith)) refusal
+
+    long : 1048576 < length input → IsTraceRefusal input line why
+    long past =
+        let front = take 1048577 input in
+        let same = one_refusal trace_grammar front line 0 why TooLong refusal (too_long trace_grammar front (length_past input past)) in
+        subst (λ l. IsTraceRefusal input l why) (sym same.0) (subst (IsTraceRefusal input 0) (sym same.1) (too_long trace_grammar input past))
 
 -- The report of the bytes up to one past the limit is that of all.
 pub report_of_front : (input text : List ℕ) (v : Verdict) → IsReport (take 1048577 input) text v → IsReport input text v
-report_of_front input text v report = ⊎_elim long short (cases_lt 1048576 (length input))
-  where
-    short : length input ≤ 1048576 → IsReport input text v
-    short fits = subst (λ front. IsReport front text v) (take_all 1048577 input (omega arith)) report
-
-    long : 1048576 < length input → IsReport input text v
-    long past =
-        let count = length-take-le 1048577 input (omega arith) in
-        let only = only_too_long (take 1048577 input) text v (omega (arith, count)) report in
-        too_long_report input text v past only.0 only.1
+report_of_front input text v (inl p) = inl (p.0, spells_of_front input p.0 p.1, p.2)
+report_of_front input text v (inr p) = inr (p.0, p.1, refusal_of_front input p.0 p.1 p.2, p.3, p.4)
 
 -- ---- one report
 
-one_certificate_text : (t : TraceValue) (a b : List ℕ) → IsCertificateText t a → IsCertificateText t b → a ≡ b
-one_certificate_text t a b p q =
-    let same : p.0 ≡ q.0 = omega (arith, p.1.1 q.0 q.1.0, q.1.1 p.0 p.1.0) in
-    p.2 ∙ ap unwritten_text same ∙ sym q.2
+one_certificate_text : (t : TraceValue) → HasOwnValues t → (a b : List ℕ) → IsCertificateText t a → IsCertificateText t b → a ≡ b
+one_certificate_text t own a b p q = p.2 ∙ ap cert_text (certificate_unique t own p.0 q.0 p.1 q.1) ∙ sym q.2
 
-one_verdict : (t : TraceValue) (a b : List ℕ) (v w : Verdict) → SaysVerdict t a v → SaysVerdict t b w → (a ≡ b) × (v ≡ w)
-one_verdict t a b NoViolation NoViolation p q = (p.1 ∙ sym q.1, refl)
-one_verdict t a b NoViolation Violation p q = absurd (p.0 q.0)
-one_verdict t a b NoViolation Refused p q = absurd q
-one_verdict t a b Violation NoViolation p q = absurd (q.0 p.0)
-one_verdict t a b Violation Violation p q = (p.1.2 ∙ ap violation_text (one_certificate_text t p.1.0 q.1.0 p.1.1 q.1.1) ∙ sym q.1.2, refl)
-one_verdict t a b Violation Refused p q = absurd q
-one_verdict t a b Refused w p q = absurd p
+one_verdict : (t : TraceValue) → HasOwnValues t → (a b : List ℕ) (v w : Verdict) → SaysVerdict t a v → SaysVerdict t b w → (a ≡ b) × (v ≡ w)
+one_verdict t own a b NoViolation NoViolation p q = (p.1 ∙ sym q.1, refl)
+one_verdict t own a b NoViolation Violation p q = absurd (p.0 q.0)
+one_verdict t own a b NoViolation Refused p q = absurd q
+one_verdict t own a b Violation NoViolation p q = absurd (q.0 p.0)
+one_verdict t own a b Violation Violation p q = (p.1.2 ∙ ap violation_text (one_certificate_text t own p.1.0 q.1.0 p.1.1 q.1.1) ∙ sym q.1.2, refl)
+one_verdict t own a b Violation Refused p q = absurd q
+one_verdict t own a b Refused w p q = absurd p
 
-one_trace_report : (t : TraceValue) (a b : List ℕ) (v w : Verdict) → IsTraceReport t a v → IsTraceReport t b w → (a ≡ b) × (v ≡ w)
-one_trace_report t a b v w p q =
-    let same = one_verdict t p.lines q.lines v w p.says q.says in
+one_trace_report : (t : TraceValue) → HasOwnValues t → (a b : List ℕ) (v w : Verdict) → IsTraceReport t a v → IsTraceReport t b w → (a ≡ b) × (v ≡ w)
+one_trace_report t own a b v w p q =
+    let same = one_verdict t own p.lines q.lines v w p.says q.says in
     let head : ℕ → List ℕ = head_text (processor_count t) (event_total t) in
-    (p.whole ∙ ap (λ rounds. head rounds ++ p.lines) (p.rounds_number ∙ sym q.rounds_number) ∙ ap (λ lines. head q.rounds ++ lines) same.0 ∙ sym q.whole, same.1)
+    (p.whole ∙ ap (λ rounds. head rounds ++ p.lines) (rounds_unique t p.rounds q.rounds p.rounds_number q.rounds_number) ∙ ap (λ lines. head q.rounds ++ lines) same.0 ∙ sym q.whole, same.1)
 
-one_trace : (input : List ℕ) (t u : TraceValue) → SpellsTrace input t → SpellsTrace input u → t ≡ u
+-- each store of a trace that a text spells has a value of its own
+spelled_own : (input : List ℕ) (t : TraceValue) → SpellsTrace input t → HasOwnValues t
+spelled_own input t spells = own_values t (spelled_trace input t spells)
+
+pub one_trace : (input : List ℕ) (t u : TraceValue) → SpellsTrace input t → SpellsTrace input u → t ≡ u
 one_trace input t u s r = ap trace_of_lists (one_value trace_grammar input t.lists u.lists s r)
 
-pub one_report : (input a b : List ℕ) (v w : Verdict) → IsReport input a v → IsReport input b w → (a ≡ b) × (v ≡ w)
-one_report input a b v w (inl p) (inl q) = one_trace_report q.0 a b v w (subst (λ t. IsTraceReport t a v) (one_trace input p.0 q.0 p.1 q.1) p.2) q.2
-one_report input a b v w (inl p) (inr q) = absurd (not_both trace_grammar input p.0.lists q.0 q.1 p.1 q.2)
-one_report input a b v w (inr p) (inl q) = absurd (not_both trace_grammar input q.0.lists p.0 p.1 q.1 p.2)
-one_report input a b v w (inr p) (inr q) =
+pub one_refused_input : (input a b : List ℕ) (v w : Verdict) → IsRefusalReport input a v → IsRefusalReport input b w → (a ≡ b) × (v ≡ w)
+one_refused_input input a b v w p q =
     let same = one_refusal trace_grammar input p.0 q.0 p.1 q.1 p.2 q.2 in
     (p.3 ∙ ap (λ line. refusal_text line p.1) same.0 ∙ ap (refusal_text q.0) same.1 ∙ sym q.3, p.4 ∙ sym q.4)
 
+pub one_report : (input a b : List ℕ) (v w : Verdict) → IsReport input a v → IsReport input b w → (a ≡ b) × (v ≡ w)
+one_report input a b v w (inl p) (inl q) = one_trace_report q.0 (spelled_own input q.0 q.1) a b v w (subst (λ t. IsTraceReport t a v) (one_trace input p.0 q.0 p.1 q.1) p.2) q.2
+one_report input a b v w (inl p) (inr q) = absurd (not_both trace_grammar input p.0.lists q.0 q.1 p.1 q.2)
+one_report input a b v w (inr p) (inl q) = absurd (not_both trace_grammar input q.0.lists p.0 p.1 q.1 p.2)
+one_report input a b v w (inr p) (inr q) = one_refused_input input a b v w p q
+
 -- ---- some report
 
-violation_says : (t : TraceValue) (c : Certificate) → IsCertificateOf t c → IsViolation t → (lines : List ℕ) × SaysVerdict t lines Violation
-violation_says t (Unwritten n) of_trace violation = (violation_text (unwritten_text n), (violation, (unwritten_text n, (n, of_trace, refl), refl)))
-violation_says t (Cycle steps cycle) of_trace violation = absurd (of_trace.0 violation.0 violation.1)
+violation_says : (t : TraceValue) → IsViolation t → (lines : List ℕ) × SaysVerdict t lines Violation
+violation_says t violation =
+    let found = certificate_exists t violation in
+    (violation_text (cert_text found.0), (violation, (cert_text found.0, (found.0, found.1, refl), refl)))
 
 some_verdict : (t : TraceValue) → (lines : List ℕ) × (v : Verdict) × SaysVerdict t lines v
-some_verdict t = elim (unwritten_decided t) [
-  | inl violation ↦ let found = certificate_exists t (inl violation) in let says = violation_says t found.0 found.1 violation in (says.0, Violation, says.1)
+some_verdict t = elim (Decision-either (unwritten_decided t) (derived_cycle_decided t)) [
+  | inl violation ↦ let says = violation_says t violation in (says.0, Violation, says.1)
   | inr none ↦ (no_violation_text, NoViolation, (none, refl))
 ]
 
 some_trace_report : (input : List ℕ) (t : TraceValue) → SpellsTrace input t → (text : List ℕ) × (v : Verdict) × IsReport input text v
 some_trace_report input t spells =
     let says = some_verdict t in
-    let text = head_text (processor_count t) (event_total t) 0 ++ says.0 in
-    (text, says.1, inl (t, spells, record { rounds = 0; rounds_number = refl; lines = says.0; says = says.2; whole = refl }))
+    let rounds = rounds_exist t in
+    let text = head_text (processor_count t) (event_total t) rounds.0 ++ says.0 in
+    (text, says.1, inl (t, spells, record { rounds = rounds.0; rounds_number = rounds.1; lines = says.0; says = says.2; whole = refl }))
 
 pub some_report : (input : List ℕ) → (text : List ℕ) × (v : Verdict) × IsReport input text v
 some_report input =
@@ -117,6 +143,10 @@ unfolding is_violation
 said_violation t lines NoViolation says = (λ e. absurd (false≢true (ap is_violation e)), λ violation. absurd (says.0 violation))
 said_violation t lines Violation says = (λ _. says.0, λ _. refl)
 said_violation t lines Refused says = absurd says
+
+refused_no_violation : Refused ≡ Violation → ⊥
+unfolding is_violation
+refused_no_violation e = false≢true (ap is_violation e)
 
 -- VIOLATION stands there exactly where the input spells a violation
 pub violation_exactly : (input text : List ℕ) (v : Verdict) → IsReport input text v → (v ≡ Violation) ↔ SpellsViolation input
@@ -137,8 +167,21 @@ refused_exactly input text v (inr p) = (λ _. (p.0, p.1, p.2), λ _. p.4)
 pub no_order : (input text : List ℕ) → IsReport input text Violation → (t : TraceValue) → SpellsTrace input t → IsConsistent t → ⊥
 no_order input text report t spells consistent =
     let spelled = (violation_exactly input text Violation report).0 refl in
-    let unwritten = subst IsViolation (one_trace input spelled.0 t spelled.1 spells) spelled.2 in
-    all_written t consistent.0 consistent.1 unwritten.0 unwritten.1
+    let violation = subst IsViolation (one_trace input spelled.0 t spelled.1 spells) spelled.2 in
+    ⊎_elim
+    (λ (unwritten : (l : ℕ) × IsUnwritten t l). all_written t consistent.0 consistent.1 unwritten.0 unwritten.1)
+    (λ (cycle : HasDerivedCycle t). no_derived_cycle t (spelled_own input t spells) consistent.0 consistent.1 cycle)
+    violation
+
+-- a violation's report ends with the text of a certificate that holds
+pub shows_violation : (input text : List ℕ) (v : Verdict) → IsReport input text v → v ≡ Violation → ShowsViolation input text
+shows_violation input text v (inl p) e =
+    let says = subst (SaysVerdict p.0 p.2.lines) e p.2.says in
+    let found = says.1.1 in
+    let head = head_text (processor_count p.0) (event_total p.0) p.2.rounds in
+    let mark = codes "VIOLATION" ++ 10 ∷ [] in
+    (p.0, p.1, (found.0, certificate_holds p.0 found.0 found.1, (head ++ mark, p.2.whole ∙ ap (λ lines. head ++ lines) (says.1.2 ∙ ap violation_text found.2) ∙ sym (append_assoc head mark (cert_text found.0)))))
+shows_violation input text v (inr p) e = absurd (refused_no_violation (sym p.4 ∙ e))
 
 -- ---- what is judged of a reader
 
@@ -163,3 +206,8 @@ pub leaves_front : (remaining old new : Option (List ℕ)) (text written : List 
     AppendsFront old new written → fault ≡ Write → LeavesFault remaining old new fault
 leaves_front remaining old new text written v fault report same front e =
     subst (LeavesFault remaining old new) (sym e) (v, text, report, subst (AppendsFront old new) same front)
+
+pub shows_violation_of_reader : (remaining old new : Option (List ℕ)) (text : List ℕ) (v : Verdict) → IsReportOfReader remaining text v → Appends old new text → v ≡ Violation →
+    IfSome remaining (λ all. (text : List ℕ) × ShowsViolation all text × Appends old new text)
+shows_violation_of_reader None old new text v report appends e = tt
+shows_violation_of_reader (Some all) old new text v report appends e = (text, shows_violation all text v report.of_all e, appends)

@@ -1,15 +1,21 @@
 -- Lemmas on the report of a trace.
-use Rattle.std.proofs.Common.{◌≡◌, ℕ, ◌<◌, ◌≤◌, List, ◌++◌, refl, ap, subst, ◌∙◌, arith, ⊎_elim}
+use Rattle.std.proofs.Common.{◌≡◌, ℕ, ◌<◌, ◌≤◌, List, [], ◌∷◌, ◌++◌, refl, ap, subst, ◌∙◌, arith, ⊎_elim}
+use Rattle.std.specs.Prelude.{codes, Option, None, Some, MatchOption}
+use Rattle.std.proofs.lemmas.List.{append_assoc}
 use Rattle.std.proofs.lemmas.Bool.{cases_lt}
 use Rattle.tso_ops.specs.Values.{TraceValue}
 use Rattle.tso_ops.specs.Events.{processor_count, event_total, IsUnwritten, SourceIs}
 use Rattle.tso_ops.specs.declared.events.Source.{Source}
 use Rattle.tso_ops.specs.declared.events.Source.TheVariants.{Init}
-use Rattle.tso_cert.specs.declared.steps.Certificate.TheVariants.{Unwritten}
+use Rattle.tso_cert.specs.declared.steps.Certificate.{Certificate}
+use Rattle.tso_cert.specs.Printed.{cert_text}
 use Rattle.tso_model.specs.Certs.{IsCertificateOf}
+use Rattle.tso_model.specs.Rules.{HasDerivedCycle}
+use Rattle.tso_model.specs.Ranks.{IsRounds}
+use Rattle.tso_model.proofs.CertificateCause.{certificate_cause}
 use Rattle.tso_model.proofs.Events.{event_at-within}
 use Rattle.tso_report.specs.declared.verdicts.Verdict.TheVariants.{NoViolation, Violation}
-use Rattle.tso_report.specs.Judged.{unwritten_text}
+use Rattle.tso_report.specs.Judged.{IsViolation}
 use Rattle.tso_report.specs.Reports.{head_text, no_violation_text, violation_text, IsTraceReport}
 
 -- ---- unwritten loads
@@ -32,26 +38,33 @@ least_of P n none k p = ⊎_elim (λ less. absurd (none k less p)) (λ most. mos
 
 -- ---- the report of a trace
 
-head_of : (t : TraceValue) (head : List ℕ) (processors events : ℕ) → processors ≡ processor_count t → events ≡ event_total t → head ≡ head_text processors events 0 →
-    head ≡ head_text (processor_count t) (event_total t) 0
-head_of t head processors events p e is = is ∙ ap (λ m. head_text m events 0) p ∙ ap (λ n. head_text (processor_count t) n 0) e
+head_of : (t : TraceValue) (head : List ℕ) (processors events rounds : ℕ) → processors ≡ processor_count t → events ≡ event_total t → head ≡ head_text processors events rounds →
+    head ≡ head_text (processor_count t) (event_total t) rounds
+head_of t head processors events rounds p e is = is ∙ ap (λ m. head_text m events rounds) p ∙ ap (λ n. head_text (processor_count t) n rounds) e
 
-pub found_violation : (t : TraceValue) (text head : List ℕ) (processors events load : ℕ) → processors ≡ processor_count t → events ≡ event_total t →
-    head ≡ head_text processors events 0 → text ≡ head ++ violation_text (unwritten_text load) → IsCertificateOf t (Unwritten load) → IsTraceReport t text Violation
-found_violation t text head processors events load p e is grown found = record {
-  rounds = 0;
-  rounds_number = refl;
-  lines = violation_text (unwritten_text load);
-  says = ((load, found.0), (unwritten_text load, (load, found, refl), refl));
-  whole = grown ∙ ap (λ h. h ++ violation_text (unwritten_text load)) (head_of t head processors events p e is);
+pub found_violation : (t : TraceValue) (text head lines : List ℕ) (processors events rounds : ℕ) (c : Certificate) → processors ≡ processor_count t → events ≡ event_total t → IsRounds t rounds →
+    head ≡ head_text processors events rounds → text ≡ (head ++ (codes "VIOLATION" ++ 10 ∷ [])) ++ lines → lines ≡ cert_text c → IsCertificateOf t c → IsTraceReport t text Violation
+found_violation t text head lines processors events rounds c p e number is grown printed found = record {
+  rounds = rounds;
+  rounds_number = number;
+  lines = violation_text (cert_text c);
+  says = (certificate_cause t c found, (cert_text c, (c, found, refl), refl));
+  whole = grown ∙ append_assoc head (codes "VIOLATION" ++ 10 ∷ []) lines ∙ ap (λ l. head ++ violation_text l) printed
+      ∙ ap (λ h. h ++ violation_text (cert_text c)) (head_of t head processors events rounds p e is);
 }
 
-pub found_no_violation : (t : TraceValue) (text head : List ℕ) (processors events : ℕ) → processors ≡ processor_count t → events ≡ event_total t →
-    head ≡ head_text processors events 0 → text ≡ head ++ no_violation_text → ((l : ℕ) → IsUnwritten t l → ⊥) → IsTraceReport t text NoViolation
-found_no_violation t text head processors events p e is grown none = record {
-  rounds = 0;
-  rounds_number = refl;
+pub found_no_violation : (t : TraceValue) (text head : List ℕ) (processors events rounds : ℕ) → processors ≡ processor_count t → events ≡ event_total t → IsRounds t rounds →
+    head ≡ head_text processors events rounds → text ≡ head ++ no_violation_text → (IsViolation t → ⊥) → IsTraceReport t text NoViolation
+found_no_violation t text head processors events rounds p e number is grown none = record {
+  rounds = rounds;
+  rounds_number = number;
   lines = no_violation_text;
-  says = (λ violation. none violation.0 violation.1, refl);
-  whole = grown ∙ ap (λ h. h ++ no_violation_text) (head_of t head processors events p e is);
+  says = (none, refl);
+  whole = grown ∙ ap (λ h. h ++ no_violation_text) (head_of t head processors events rounds p e is);
 }
+
+-- what was found, where no load is unwritten
+pub finding_written : (t : TraceValue) (found : Option Certificate) → ((l : ℕ) → IsUnwritten t l → ⊥) → MatchOption found (HasDerivedCycle t → ⊥) (IsCertificateOf t) →
+    MatchOption found (IsViolation t → ⊥) (IsCertificateOf t)
+finding_written t None written none = λ violation. ⊎_elim (λ (unwritten : (l : ℕ) × IsUnwritten t l). written unwritten.0 unwritten.1) (λ (cycle : HasDerivedCycle t). none cycle) violation
+finding_written t (Some c) written is = is

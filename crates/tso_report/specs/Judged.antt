@@ -1,23 +1,16 @@
--- What a report says of a trace. The rank sets are read as empty: a violation is an unwritten load, and no round is made.
-use Rattle.std.specs.Prelude.{◌≡◌, ℕ, List, [], ◌∷◌, ◌++◌, codes}
-use Rattle.std.specs.Fmt.{decimal}
+-- What a report says of a trace.
+use Rattle.std.specs.Prelude.{◌≡◌, ◌⊎◌, ℕ, List}
 use Rattle.tso_ops.specs.Values.{TraceValue}
 use Rattle.tso_ops.specs.Events.{IsUnwritten}
-use Rattle.tso_cert.specs.declared.steps.Certificate.TheVariants.{Unwritten}
+use Rattle.tso_cert.specs.declared.steps.Certificate.{Certificate}
+use Rattle.tso_cert.specs.Printed.{cert_text}
+use Rattle.tso_model.specs.Rules.{HasDerivedCycle}
 use Rattle.tso_model.specs.Certs.{IsCertificateOf}
 
--- the trace is a violation
+-- The trace is a violation: a load reads a value that nothing wrote, or the derived order has a cycle.
 abbrev pub IsViolation : TraceValue → Type 0
-IsViolation t = (l : ℕ) × IsUnwritten t l
-
--- the rounds number
-abbrev pub IsRoundsNumber : TraceValue → ℕ → Type 0
-IsRoundsNumber t rounds = rounds ≡ 0
-
--- the text of a certificate that names an unwritten load
-abbrev pub unwritten_text : ℕ → List ℕ
-unwritten_text n = codes "unwritten " ++ decimal n ++ 10 ∷ []
+IsViolation t = ((l : ℕ) × IsUnwritten t l) ⊎ HasDerivedCycle t
 
 -- the text of the trace's certificate
 abbrev pub IsCertificateText : TraceValue → List ℕ → Type 0
-IsCertificateText t text = (n : ℕ) × IsCertificateOf t (Unwritten n) × (text ≡ unwritten_text n)
+IsCertificateText t text = (c : Certificate) × IsCertificateOf t c × (text ≡ cert_text c)

@@ -11,7 +11,11 @@ use Rattle.tso_report.specs.declared.verdicts.Verdict.{Verdict}
 use Rattle.tso_report.specs.declared.verdicts.Verdict.TheVariants.{NoViolation, Violation, Refused}
 use Rattle.tso_report.specs.declared.faults.Fault.{Fault}
 use Rattle.tso_report.specs.declared.faults.Fault.TheVariants.{OutOfMemory, Read, Write, NoThread, Missing}
-use Rattle.tso_report.specs.Judged.{IsViolation, IsRoundsNumber, IsCertificateText}
+use Rattle.tso_cert.specs.declared.steps.Certificate.{Certificate}
+use Rattle.tso_cert.specs.Printed.{cert_text}
+use Rattle.tso_model.specs.Ranks.{IsRounds}
+use Rattle.tso_model.specs.Certs.{Holds}
+use Rattle.tso_report.specs.Judged.{IsViolation, IsCertificateText}
 use Rattle.tso_report.specs.Streams.{AppendsFront}
 
 -- ---- texts
@@ -59,7 +63,7 @@ SaysVerdict t lines Refused = ⊥
 
 pub record IsTraceReport (t : TraceValue) (text : List ℕ) (verdict : Verdict) : Type 0 where
   pub rounds : ℕ
-  pub rounds_number : IsRoundsNumber t rounds
+  pub rounds_number : IsRounds t rounds
   pub lines : List ℕ
   pub says : SaysVerdict t lines verdict
   pub whole : text ≡ head_text (processor_count t) (event_total t) rounds ++ lines
@@ -78,6 +82,10 @@ IsReport input text verdict = ((t : TraceValue) × SpellsTrace input t × IsTrac
 abbrev pub SpellsViolation : List ℕ → Type 0
 SpellsViolation input = (t : TraceValue) × SpellsTrace input t × IsViolation t
 
+-- the text ends with that of a certificate which holds for the trace that the input spells
+abbrev pub ShowsViolation : List ℕ → List ℕ → Type 0
+ShowsViolation input text = (t : TraceValue) × SpellsTrace input t × ((c : Certificate) × Holds t c × ((front : List ℕ) × (text ≡ front ++ cert_text c)))
+
 -- ---- what a call writes
 
 -- The text is the report of the bytes that were read, and of all bytes of the reader where these are known.
@@ -86,18 +94,26 @@ pub record IsReportOfReader (remaining : Option (List ℕ)) (text : List ℕ) (v
   pub of_read : IsReport bytes text verdict
   pub of_all : IfSome remaining (λ all. IsReport all text verdict)
 
--- known bytes of the writer grow by the report of the reader's bytes, with this verdict
-abbrev pub WritesReport : Option (List ℕ) → Option (List ℕ) → Option (List ℕ) → Verdict → Type 0
-WritesReport remaining old new verdict = (text : List ℕ) × IsReportOfReader remaining text verdict × Appends old new text
+-- known bytes of the writer grow by a text that is the report, with this verdict
+abbrev pub WritesWhole : (List ℕ → Verdict → Type 0) → Option (List ℕ) → Option (List ℕ) → Verdict → Type 0
+WritesWhole is_report old new verdict = (text : List ℕ) × is_report text verdict × Appends old new text
 
--- known bytes of the writer grow by a front of the report of the reader's bytes
-abbrev pub WritesFront : Option (List ℕ) → Option (List ℕ) → Option (List ℕ) → Type 0
-WritesFront remaining old new = (verdict : Verdict) × (text : List ℕ) × IsReportOfReader remaining text verdict × AppendsFront old new text
+-- known bytes of the writer grow by a front of a text that is the report
+abbrev pub WritesFront : (List ℕ → Verdict → Type 0) → Option (List ℕ) → Option (List ℕ) → Type 0
+WritesFront is_report old new = (verdict : Verdict) × (text : List ℕ) × is_report text verdict × AppendsFront old new text
 
 -- What a fault leaves: on Write a front of the report, else nothing was written. A judged text has no seed to miss.
+abbrev pub LeavesAtFault : (List ℕ → Verdict → Type 0) → Option (List ℕ) → Option (List ℕ) → Fault → Type 0
+LeavesAtFault is_report old new OutOfMemory = Keeps old new
+LeavesAtFault is_report old new Read = Keeps old new
+LeavesAtFault is_report old new Write = WritesFront is_report old new
+LeavesAtFault is_report old new NoThread = Keeps old new
+LeavesAtFault is_report old new (Missing seed) = ⊥
+
+-- known bytes of the writer grow by the report of the reader's bytes, with this verdict
+abbrev pub WritesReport : Option (List ℕ) → Option (List ℕ) → Option (List ℕ) → Verdict → Type 0
+WritesReport remaining old new verdict = WritesWhole (IsReportOfReader remaining) old new verdict
+
+-- what a fault leaves of the report of the reader's bytes
 abbrev pub LeavesFault : Option (List ℕ) → Option (List ℕ) → Option (List ℕ) → Fault → Type 0
-LeavesFault remaining old new OutOfMemory = Keeps old new
-LeavesFault remaining old new Read = Keeps old new
-LeavesFault remaining old new Write = WritesFront remaining old new
-LeavesFault remaining old new NoThread = Keeps old new
-LeavesFault remaining old new (Missing seed) = ⊥
+LeavesFault remaining old new fault = LeavesAtFault (IsReportOfReader remaining) old new fault

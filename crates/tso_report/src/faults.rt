@@ -1,6 +1,7 @@
-ghost use Rattle.std.specs.Prelude.{◌≡◌};
-ghost use Rattle.tso_report.specs.declared.faults.Fault.TheVariants.{OutOfMemory};
+ghost use Rattle.std.specs.Prelude.{◌≡◌, ◌⊎◌};
+ghost use Rattle.tso_report.specs.declared.faults.Fault.TheVariants.{OutOfMemory, NoThread};
 
+use round_pool::PoolFault;
 use std::alloc::{AllocError, AllocFailed};
 use thiserror::Error;
 
@@ -37,5 +38,16 @@ impl<T: Drop> From<AllocFailed<T>> for Fault {
 
     fn from(_error: AllocFailed<T>) -> Fault {
         Fault::OutOfMemory
+    }
+}
+
+impl From<PoolFault> for Fault {
+    ghost from_gives = { λ _ fault. (fault ≡ OutOfMemory) ⊎ (fault ≡ NoThread) };
+
+    fn from(fault: PoolFault) -> Fault {
+        match fault {
+            PoolFault::OutOfMemory => Fault::OutOfMemory,
+            PoolFault::NoThread => Fault::NoThread,
+        }
     }
 }

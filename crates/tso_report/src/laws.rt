@@ -1,18 +1,28 @@
 //! What the definition of a report says, proved of all inputs.
 
-ghost use Rattle.std.specs.Prelude.{◌≡◌, ◌↔◌, ℕ, List};
+ghost use Rattle.std.specs.Prelude.{◌≡◌, ◌⊎◌, ◌↔◌, ℕ, List};
 ghost use Rattle.tso_ops.specs.Values.{TraceValue};
 ghost use Rattle.tso_text.specs.Grammars.{IsRefusedTrace, SpellsTrace};
 ghost use Rattle.tso_model.specs.Order.{IsConsistent};
 ghost use Rattle.tso_report.specs.declared.verdicts.Verdict.{Verdict};
-ghost use Rattle.tso_report.specs.Reports.{IsReport, SpellsViolation};
+ghost use Rattle.tso_report.specs.Checks.{IsCheckReport, SpellHolding};
+ghost use Rattle.tso_report.specs.Reports.{IsReport, ShowsViolation, SpellsViolation};
 
 /// Each input has one report. It says VIOLATION exactly where the input spells a trace that is a violation, which then
-/// has no TSO order, and it is Refused exactly where the input spells no trace.
+/// has no TSO order, as the certificate at its end shows, and it is Refused exactly where the input spells no trace.
 pub fn reports()
     ensures exists { (input : List ℕ) → (text : List ℕ) × (verdict : Verdict) × IsReport input text verdict }
     ensures one { (input text other : List ℕ) (v w : Verdict) → IsReport input text v → IsReport input other w → (text ≡ other) × (v ≡ w) }
     ensures violation { (input text : List ℕ) (v : Verdict) → IsReport input text v → (v ≡ Verdict.Violation) ↔ SpellsViolation input }
     ensures no_order { (input text : List ℕ) → IsReport input text Verdict.Violation → (t : TraceValue) → SpellsTrace input t → IsConsistent t → ⊥ }
+    ensures holds { (input text : List ℕ) → IsReport input text Verdict.Violation → ShowsViolation input text }
     ensures refused { (input text : List ℕ) (v : Verdict) → IsReport input text v → (v ≡ Verdict.Refused) ↔ IsRefusedTrace input }
+{}
+
+/// Two texts have one report at most. It says that the certificate holds exactly where the first spells a trace and the
+/// second a certificate that holds for it, and it is Refused otherwise.
+pub fn checks()
+    ensures one { (trace cert text other : List ℕ) (v w : Verdict) → IsCheckReport trace cert text v → IsCheckReport trace cert other w → (text ≡ other) × (v ≡ w) }
+    ensures violation { (trace cert text : List ℕ) (v : Verdict) → IsCheckReport trace cert text v → (v ≡ Verdict.Violation) ↔ SpellHolding trace cert }
+    ensures otherwise { (trace cert text : List ℕ) (v : Verdict) → IsCheckReport trace cert text v → (v ≡ Verdict.Violation) ⊎ (v ≡ Verdict.Refused) }
 {}

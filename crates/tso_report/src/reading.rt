@@ -6,6 +6,9 @@ use crate::faults::Fault;
 use std::alloc::Global;
 use std::io::{ErrorKind, Read};
 
+/// The greatest number of bytes of a trace's text.
+pub(crate) const MAX_TRACE_BYTES: usize = 1_048_576;
+
 /// How often `read` is called on one reader at most.
 const MAX_READS: usize = 2_097_152;
 

@@ -1,19 +1,24 @@
-ghost use Rattle.std.specs.Prelude.{◌≡◌, ◌↔◌, ◌++◌, ℕ, IsTrue, string_bytes, MatchOption, IfOk, OnOk};
-ghost use Rattle.tso_ops.specs.Events.{IsUnwritten};
-ghost use Rattle.tso_cert.specs.declared.steps.Certificate.TheVariants.{Unwritten};
-ghost use Rattle.tso_model.specs.Certs.{IsCertificateOf};
+ghost use Rattle.std.specs.Prelude.{◌≡◌, ◌≢◌, ◌⊎◌, ◌≤◌, string_bytes, MatchOption, IfOk, IfErr};
+ghost use Rattle.tso_cert.specs.Printed.{cert_text};
+ghost use Rattle.tso_model.specs.Certs.{Holds};
 ghost use Rattle.tso_text.specs.Grammars.{IsTraceRefusal};
-ghost use Rattle.tso_report.specs.Judged.{unwritten_text};
-ghost use Rattle.tso_report.specs.Reports.{head_text, name_of, no_violation_text, refusal_text, violation_text, IsReport, IsTraceReport};
+ghost use Rattle.tso_text.specs.declared.faults.Why.{Why};
+ghost use Rattle.tso_report.specs.declared.faults.Fault.{Fault};
+ghost use Rattle.tso_report.specs.declared.verdicts.Verdict.{Verdict};
+ghost use Rattle.tso_report.specs.Findings.{IsFinding};
+ghost use Rattle.tso_report.specs.Reports.{head_text, name_of, refusal_text, IsReport, IsTraceReport};
 
+use crate::faults::Fault;
+use crate::findings::{Finding, judge_trace};
 use crate::verdicts::Verdict;
+use cert_check::check;
 use std::alloc::Global;
 use std::fmt::Write;
-use tso_ops::{OutOfMemory, Source, Trace};
+use std::sync::Wait;
+use std::thread::Threads;
+use tso_cert::{Certificate, print_cert};
+use tso_ops::{OutOfMemory, Trace};
 use tso_text::{TextFault, Why, read_trace};
-
-/// The number of rounds that are made.
-const ROUNDS: u64 = 0;
 
 /// A whole report, and the verdict that it says.
 #[derive(Drop)]
@@ -22,28 +27,54 @@ pub(crate) struct Report {
     pub(crate) text: String,
 }
 
-/// The report of an input, or OutOfMemory where a growth was refused.
-pub(crate) fn report_of(alloc: Global, input: &[u8]) -> Result<Report, OutOfMemory>
-    ensures { IfOk result (λ report. IsReport input.now (string_bytes report.text) report.verdict) }
+/// The report of an input, judged on `workers` threads, 1 to 64. OutOfMemory where a growth was refused, NoThread where the
+/// system refused a thread.
+pub(crate) fn report_of<H: Threads + Wait>(
+    rt: &H,
+    alloc: Global,
+    input: &[u8],
+    workers: usize,
+) -> Result<Report, Fault>
+    requires some { 1 ≤ workers }
+    requires most { workers ≤ 64 }
+    ensures report { IfOk result (λ report. IsReport input.now (string_bytes report.text) report.verdict) }
+    ensures fault { IfErr result (λ fault. (fault ≡ Fault.OutOfMemory) ⊎ (fault ≡ Fault.NoThread)) }
 {
     match read_trace(alloc, input) {
-        Ok(trace) => trace_report(alloc, &trace),
-        Err(fault) if fault.why == Why::OutOfMemory => Err(OutOfMemory),
-        Err(fault) => Ok(Report {
-            verdict: Verdict::Refused,
-            text: refusal_text(alloc, fault)?,
-        }),
+        Ok(trace) => {
+            let finding = judge_trace(rt, alloc, &trace, workers)?;
+            Ok(trace_report(alloc, &trace, &finding)?)
+        }
+        Err(fault) => Ok(refusal_report(alloc, fault)?),
     }
 }
 
-/// The report of a trace.
-fn trace_report(alloc: Global, trace: &Trace) -> Result<Report, OutOfMemory>
+/// The report of an input that is no trace, or OutOfMemory where a growth was refused, also to its reader.
+pub(crate) fn refusal_report(alloc: Global, fault: TextFault) -> Result<Report, OutOfMemory>
+    ensures refused { IfOk result (λ report. fault.why ≢ Why.OutOfMemory × (string_bytes report.text ≡ refusal_text fault.line fault.why) × (report.verdict ≡ Verdict.Refused)) }
+{
+    if fault.why == Why::OutOfMemory {
+        return Err(OutOfMemory);
+    }
+    Ok(Report {
+        verdict: Verdict::Refused,
+        text: refusal_text(alloc, fault)?,
+    })
+}
+
+/// The report of a trace, of which this was found.
+fn trace_report(alloc: Global, trace: &Trace, finding: &Finding) -> Result<Report, OutOfMemory>
+    requires { IsFinding trace.now finding.now }
     ensures { IfOk result (λ report. IsTraceReport trace.now (string_bytes report.text) report.verdict) }
 {
-    let mut text = head_text(alloc, trace.processors(), trace.events(), ROUNDS)?;
-    match least_unwritten(trace) {
-        Some(load) => {
-            push_violation(&mut text, load)?;
+    let mut text = head_text(alloc, trace.processors(), trace.events(), finding.rounds)?;
+    match &finding.certificate {
+        Some(certificate) => {
+            let Some(lines) = checked_text(alloc, trace, certificate)? else {
+                unreachable!()
+            };
+            text.push_str("VIOLATION\n")?;
+            text.push_str(&lines)?;
             Ok(Report {
                 verdict: Verdict::Violation,
                 text,
@@ -59,27 +90,17 @@ fn trace_report(alloc: Global, trace: &Trace) -> Result<Report, OutOfMemory>
     }
 }
 
-/// The least load whose value nothing wrote.
-fn least_unwritten(trace: &Trace) -> Option<usize>
-    ensures { MatchOption result ((l : ℕ) → IsUnwritten trace.now l → ⊥) (λ n. IsCertificateOf trace.now (Unwritten n)) }
+/// The text of a certificate that the checker accepts; None where it refuses the certificate.
+fn checked_text(
+    alloc: Global,
+    trace: &Trace,
+    certificate: &Certificate,
+) -> Result<Option<String>, OutOfMemory>
+    ensures { IfOk result (λ found. MatchOption found (Holds trace.now certificate.now → ⊥) (λ text. Holds trace.now certificate.now × (string_bytes text ≡ cert_text certificate.now))) }
 {
-    for n in 0..trace.events() {
-        if is_unwritten(trace, n + 1) {
-            return Some(n + 1);
-        }
-    }
-    None
-}
-
-/// Whether event `n` is a load whose value nothing wrote.
-fn is_unwritten(trace: &Trace, n: usize) -> bool
-    ensures { IsTrue result ↔ IsUnwritten trace.now n }
-{
-    match trace.source(n) {
-        Some(Source::Unwritten) => true,
-        Some(Source::Init) => false,
-        Some(Source::Store(_)) => false,
-        None => false,
+    match check(trace, certificate) {
+        Ok(()) => Ok(Some(print_cert(alloc, certificate)?)),
+        Err(_) => Ok(None),
     }
 }
 
@@ -98,13 +119,6 @@ fn head_text(
         "processors {processors} events {events} rounds {rounds}"
     )?;
     Ok(text)
-}
-
-/// Appends the lines of a violation, of which an unwritten load is the certificate.
-fn push_violation(text: &mut String, load: usize) -> Result<(), OutOfMemory>
-    ensures { OnOk result (string_bytes text.new ≡ string_bytes text.old ++ violation_text (unwritten_text load)) }
-{
-    writeln!(text, "VIOLATION\nunwritten {load}")
 }
 
 /// The line of a refusal.

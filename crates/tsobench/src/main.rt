@@ -1,4 +1,4 @@
-//! The program: judges a trace on standard input and prints its report.
+//! The program: judges a trace and prints its report, or checks a certificate against one.
 //!
 //! `README.md` says how it is run and what is proved of it.
 #![tactic(auto)]
@@ -9,6 +9,8 @@ use std::rt::Env;
 use std::{env, io};
 
 mod driving;
+mod help;
+mod requests;
 #[cfg(test)]
 mod tests;
 

@@ -1,7 +1,12 @@
+mod certificates;
+mod commands;
+mod examples;
+
 use crate::driving::{drive, end_without_words};
 use std::alloc::{AllocError, Global};
 use std::io;
 use std::io::{Error, ErrorKind, Read, Write};
+use std::rt::Files;
 use std::sync::Wait;
 use std::test::Fail;
 use std::thread::Threads;
@@ -38,7 +43,7 @@ struct Ended {
     errors: Vec<u8>,
 }
 
-fn driven<H: Threads + Wait + Sync, R: Read>(
+fn driven<H: Threads + Wait + Sync + Files, R: Read>(
     rt: &H,
     alloc: Global,
     words: &[&str],
@@ -81,17 +86,6 @@ fn statuses_of_verdicts(rt: HostRuntime) -> Result<(), Fail> {
         assert_eq!(rt; ended.written.as_slice(), report.as_bytes(), "{input:?}");
         assert_eq!(rt; ended.errors.len(), 0, "{input:?}");
     }
-    Ok(())
-}
-
-#[test]
-fn words_are_refused(rt: HostRuntime) -> Result<(), Fail> {
-    let alloc = rt.alloc();
-    let mut reader = b"tso trace 1\nend\n".as_slice();
-    let ended = driven(&rt, alloc, &["judge"], &mut reader)?;
-    assert_eq!(rt; ended.status, 2);
-    assert_eq!(rt; ended.written.len(), 0);
-    assert_eq!(rt; ended.errors.len(), 0);
     Ok(())
 }
 

@@ -102,13 +102,16 @@ const REFUSALS: [(&str, &str); 16] = [
     ),
 ];
 
-/// Judges an input: the verdict and what was written.
-fn judged<H: Threads + Wait + Sync>(
+/// Judges an input on 1 to 64 workers: the verdict and what was written.
+pub(super) fn judged<H: Threads + Wait + Sync>(
     rt: &H,
     alloc: Global,
     input: &[u8],
     workers: usize,
 ) -> Result<(Verdict, Vec<u8>), Fail> {
+    if workers < 1 || workers > 64 {
+        return Err(Fail::new("not 1 to 64 workers"));
+    }
     let mut reader = input;
     let mut written = Vec::new(alloc);
     let verdict = judge(rt, alloc, &mut reader, &mut written, workers)?;

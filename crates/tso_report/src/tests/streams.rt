@@ -1,11 +1,21 @@
 //! Faults of readers and of writers.
 
 use super::ends::{FailingReader, Full, ShortWriter, SlowReader, TornReader};
+use super::violations::{
+    Case, STORE_BUFFERING_WITH_BARRIERS, TWO_SWAPS_BOTH_FIRST, UNWRITTEN_LOAD,
+};
 use crate::{Fault, Verdict, judge, read_all, write_text};
 use std::alloc::Global;
 use std::io;
 use std::io::{ErrorKind, Read};
 use std::test::Fail;
+
+/// The traces whose readers and writers fail at each place.
+const CASES: [Case; 3] = [
+    UNWRITTEN_LOAD,
+    STORE_BUFFERING_WITH_BARRIERS,
+    TWO_SWAPS_BOTH_FIRST,
+];
 
 const TRACE: &[u8] = b"tso trace 1\nproc\nld 1 9\nend\n";
 
@@ -38,11 +48,22 @@ fn reader_fails(rt: HostRuntime) -> Result<(), Fail> {
         assert_eq!(rt; reader.calls, 1);
         assert_eq!(rt; written.len(), 0);
     }
-    let mut torn = TornReader { rest: TRACE };
-    let mut written = Vec::new(alloc);
-    let fault = judge(&rt, alloc, &mut torn, &mut written, 1).err();
-    assert_eq!(rt; fault, Some(Fault::Read));
-    assert_eq!(rt; written.len(), 0);
+    Ok(())
+}
+
+#[test]
+fn reader_fails_at_each_byte(rt: HostRuntime) -> Result<(), Fail> {
+    let alloc = rt.alloc();
+    for (trace, _) in CASES {
+        for count in 0..trace.len().saturating_add(1) {
+            let rest = trace.as_bytes().get(..count).unwrap_or(TRACE);
+            let mut torn = TornReader { rest };
+            let mut written = Vec::new(alloc);
+            let fault = judge(&rt, alloc, &mut torn, &mut written, 1).err();
+            assert_eq!(rt; fault, Some(Fault::Read), "{count}");
+            assert_eq!(rt; written.len(), 0, "{count}");
+        }
+    }
     Ok(())
 }
 
@@ -101,29 +122,39 @@ fn bytes_up_to_the_limit(rt: HostRuntime) -> Result<(), Fail> {
     Ok(())
 }
 
-/// writer_fails behind the first line, and writer_stops_after_n for each n
+/// writer_stops_after_n for each n
 #[test]
 fn writer_stops_short(rt: HostRuntime) -> Result<(), Fail> {
     let alloc = rt.alloc();
-    for room in 0..REPORT.len() {
-        for full in [Full::Fails(ErrorKind::Other), Full::TakesNothing] {
-            let mut reader = TRACE;
-            let mut writer = short_writer(alloc, room, full);
-            let fault = judge(&rt, alloc, &mut reader, &mut writer, 1).err();
-            assert_eq!(rt; fault, Some(Fault::Write), "{room}");
-            assert_eq!(rt; writer.taken.as_slice(), &REPORT[..room], "{room}");
+    for (trace, report) in CASES {
+        for room in 0..report.len() {
+            for full in [Full::Fails(ErrorKind::Other), Full::TakesNothing] {
+                let mut reader = trace.as_bytes();
+                let mut writer = short_writer(alloc, room, full);
+                let fault = judge(&rt, alloc, &mut reader, &mut writer, 1).err();
+                assert_eq!(rt; fault, Some(Fault::Write), "{room}");
+                let front = report.as_bytes().get(..room).unwrap_or(TRACE);
+                assert_eq!(rt; writer.taken.as_slice(), front, "{room}");
+            }
         }
+        let mut reader = trace.as_bytes();
+        let mut writer = short_writer(alloc, report.len(), Full::TakesNothing);
+        let verdict = judge(&rt, alloc, &mut reader, &mut writer, 1)?;
+        assert_eq!(rt; verdict, Verdict::Violation);
+        assert_eq!(rt; writer.taken.as_slice(), report.as_bytes());
     }
+    Ok(())
+}
+
+/// writer_fails behind the first line
+#[test]
+fn writer_fails_behind_the_first_line(rt: HostRuntime) -> Result<(), Fail> {
+    let alloc = rt.alloc();
     let mut reader = TRACE;
     let mut writer = short_writer(alloc, 13, Full::Fails(ErrorKind::Other));
     let fault = judge(&rt, alloc, &mut reader, &mut writer, 1).err();
     assert_eq!(rt; fault, Some(Fault::Write));
     assert_eq!(rt; writer.taken.as_slice(), b"TSO REPORT 1\n".as_slice());
-    let mut reader = TRACE;
-    let mut writer = short_writer(alloc, REPORT.len(), Full::TakesNothing);
-    let verdict = judge(&rt, alloc, &mut reader, &mut writer, 1)?;
-    assert_eq!(rt; verdict, Verdict::Violation);
-    assert_eq!(rt; writer.taken.as_slice(), REPORT);
     Ok(())
 }
 

@@ -1,5 +1,5 @@
 use Rattle.std.proofs.Common.{rules, string_bytes}
-use Rattle.tso_report.proofs.InputFacts.{leaves_front, no_order_of_reader, violation_of_reader}
+use Rattle.tso_report.proofs.InputFacts.{leaves_front, no_order_of_reader, shows_violation_of_reader, violation_of_reader}
 use Rattle.tso_report.proofs.judging.judge.Goals as goal
 
 pub returns-in_err-write_text-clause-fault : goal.returns-in_err-write_text-clause-fault
@@ -16,3 +16,7 @@ returns-clause-violation g c = violation_of_reader (g.R.Read.remaining c.args.re
 
 pub returns-clause-no_order : goal.returns-clause-no_order
 returns-clause-no_order g c = no_order_of_reader (g.R.Read.remaining c.args.reader.now) _ _ c.in_ok-report.ensures.report
+
+pub returns-clause-holds : goal.returns-clause-holds
+returns-clause-holds g c = λ violation.
+    shows_violation_of_reader (g.R.Read.remaining c.args.reader.now) _ _ _ _ c.in_ok-report.ensures.report (rw (← c.as_bytes.ensures.value) c.in_ok-write_text.ensures.whole) violation

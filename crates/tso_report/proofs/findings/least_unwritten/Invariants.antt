@@ -1,6 +1,6 @@
 use Rattle.std.proofs.Common.{ℕ, ◌+◌, ◌<◌}
 use Rattle.tso_ops.specs.Events.{IsUnwritten}
-use Rattle.tso_report.proofs.reports.least_unwritten.Given as goal
+use Rattle.tso_report.proofs.findings.least_unwritten.Given as goal
 
 -- no number tried so far is an unwritten load's
 abbrev pub invariant-loop-n : goal.invariant-loop-n

@@ -2,7 +2,7 @@ use Rattle.std.proofs.Common.{◌+◌, arith, refl}
 use Rattle.tso_ops.specs.Events.{IsUnwritten}
 use Rattle.tso_model.proofs.Searches.{none_more}
 use Rattle.tso_report.proofs.ReportFacts.{least_of, none_below_first, unwritten-within}
-use Rattle.tso_report.proofs.reports.least_unwritten.Goals as goal
+use Rattle.tso_report.proofs.findings.least_unwritten.Goals as goal
 
 pub loop-n-init : goal.loop-n-init
 loop-n-init c = none_below_first c.args.trace.now

@@ -1,6 +1,6 @@
 use Rattle.std.proofs.lemmas.Bool.{false≢true}
 use Rattle.tso_report.proofs.ReportFacts.{not_from_init}
-use Rattle.tso_report.proofs.reports.is_unwritten.Goals as goal
+use Rattle.tso_report.proofs.findings.is_unwritten.Goals as goal
 
 pub returns-in-Some-Init : goal.returns-in-Some-Init
 returns-in-Some-Init c =

@@ -1,0 +1,148 @@
+-- Laws on the report of two texts, that of a trace and that of a certificate.
+use Rattle.std.proofs.Common.{◌≡◌, ◌⊎◌, ◌↔◌, ℕ, ◌<◌, ◌≤◌, List, [], length, take, Bool, true, false, Some, None, IfSome, refl, ap, sym, subst, ◌∙◌, arith, inl, inr, ⊎_elim}
+use Rattle.std.proofs.lemmas.Bool.{false≢true, cases_lt}
+use Rattle.std.proofs.lemmas.List.{take_all, length-take-le}
+use Rattle.std.specs.Prelude.{Option}
+use Rattle.tso_ops.specs.Values.{TraceValue}
+use Rattle.tso_ops.specs.Limits.{IsTrace}
+use Rattle.tso_text.specs.declared.faults.Why.{Why}
+use Rattle.tso_text.specs.Grammars.{trace_grammar, SpellsTrace, IsRefusedTrace, IsTraceRefusal}
+use Rattle.tso_text.proofs.SpellingFacts.{not_both}
+use Rattle.tso_cert.proofs.SpellingFacts.{not_both as cert_not_both, one_refusal as one_unread}
+use Rattle.tso_cert.proofs.PrintedFacts.{one_value}
+use Rattle.tso_model.specs.Certs.{Holds}
+use Rattle.tso_model.specs.Order.{IsConsistent}
+use Rattle.tso_model.proofs.CertificateHolds.{not_consistent}
+use Rattle.tso_model.proofs.Events.{own_values}
+use Rattle.cert_check.specs.Refusals.{IsRefusal as IsCertRefusal}
+use Rattle.cert_check.proofs.RefusalFacts.{not_refused, one_refusal}
+use Rattle.tso_report.specs.declared.verdicts.Verdict.{Verdict}
+use Rattle.tso_report.specs.declared.verdicts.Verdict.TheVariants.{NoViolation, Violation, Refused}
+use Rattle.tso_report.specs.Reports.{refusal_text}
+use Rattle.tso_report.specs.Checks.{fails_text, unread_text, SpellsHolding, SpellHolding, IsFailureReport, IsUnreadReport, IsCertReport, IsCertReportOfReader, IsCheckReport, IsCheckReportOfReaders}
+use Rattle.tso_report.proofs.InputFacts.{one_refused_input, one_trace, refusal_of_front, spells_of_front}
+
+-- ---- what is read
+
+-- a front that ends before the limit is all
+take_short : (all : List ℕ) → length (take 67108865 all) ≤ 67108864 → take 67108865 all ≡ all
+take_short all few = ⊎_elim long short (cases_lt 67108864 (length all))
+  where
+    short : length all ≤ 67108864 → take 67108865 all ≡ all
+    short fits = take_all 67108865 all (omega arith)
+
+    long : 67108864 < length all → take 67108865 all ≡ all
+    long past = let count = length-take-le 67108865 all (omega arith) in absurd (omega (arith, few, count))
+
+pub cert_report_of_reader : (t : TraceValue) (remaining : Option (List ℕ)) (bytes seen text : List ℕ) (v : Verdict) → IfSome remaining (λ all. bytes ≡ take 67108865 all) → seen ≡ bytes →
+    length bytes ≤ 67108864 → IsCertReport t seen text v → IsCertReportOfReader t remaining text v
+cert_report_of_reader t None bytes seen text v front same few report =
+    record { cert = seen; whole = tt; within = subst (λ b. length b ≤ 67108864) (sym same) few; is_report = report }
+cert_report_of_reader t (Some all) bytes seen text v front same few report = record {
+  cert = seen;
+  whole = same ∙ front ∙ take_short all (subst (λ b. length b ≤ 67108864) front few);
+  within = subst (λ b. length b ≤ 67108864) (sym same) few;
+  is_report = report;
+}
+
+pub spelled_report : (traces certs : Option (List ℕ)) (bytes seen text : List ℕ) (v : Verdict) (t : TraceValue) → IfSome traces (λ all. bytes ≡ take 1048577 all) → seen ≡ bytes →
+    SpellsTrace seen t → IsCertReportOfReader t certs text v → IsCheckReportOfReaders traces certs text v
+spelled_report None certs bytes seen text v t front same spells report =
+    record { trace = seen; cert = report.cert; whole_trace = tt; whole_cert = report.whole; is_report = inl (t, spells, report.within, report.is_report) }
+spelled_report (Some all) certs bytes seen text v t front same spells report =
+    record { trace = all; cert = report.cert; whole_trace = refl; whole_cert = report.whole; is_report = inl (t, spells_of_front all t (subst (λ b. SpellsTrace b t) (same ∙ front) spells), report.within, report.is_report) }
+
+some_cert : (certs : Option (List ℕ)) → (cert : List ℕ) × IfSome certs (λ all. cert ≡ all)
+some_cert None = ([], tt)
+some_cert (Some all) = (all, refl)
+
+pub refused_report : (traces certs : Option (List ℕ)) (bytes seen text : List ℕ) (v : Verdict) (line : ℕ) (why : Why) → IfSome traces (λ all. bytes ≡ take 1048577 all) → seen ≡ bytes →
+    IsTraceRefusal seen line why → text ≡ refusal_text line why → v ≡ Refused → IsCheckReportOfReaders traces certs text v
+refused_report None certs bytes seen text v line why front same refusal is refused =
+    let some = some_cert certs in record { trace = seen; cert = some.0; whole_trace = tt; whole_cert = some.1; is_report = inr (line, why, refusal, is, refused) }
+refused_report (Some all) certs bytes seen text v line why front same refusal is refused =
+    let some = some_cert certs in
+    let whole = refusal_of_front all line why (subst (λ b. IsTraceRefusal b line why) (same ∙ front) refusal) in
+    record { trace = all; cert = some.0; whole_trace = refl; whole_cert = some.1; is_report = inr (line, why, whole, is, refused) }
+
+-- what spells a trace isn't refused
+pub not_refused_trace : (X : Type 0) (traces : Option (List ℕ)) (bytes seen : List ℕ) (t : TraceValue) → IfSome traces (λ all. bytes ≡ take 1048577 all) → seen ≡ bytes →
+    SpellsTrace seen t → IfSome traces (λ all. IsRefusedTrace all → X)
+not_refused_trace X None bytes seen t front same spells = tt
+not_refused_trace X (Some all) bytes seen t front same spells =
+    λ refused. absurd (not_both trace_grammar all t.lists refused.0 refused.1 (spells_of_front all t (subst (λ b. SpellsTrace b t) (same ∙ front) spells)) refused.2)
+
+-- ---- what the verdict says
+
+is_violation : Verdict → Bool
+is_violation NoViolation = false
+is_violation Violation = true
+is_violation Refused = false
+
+-- a verdict that is Refused isn't Violation
+violation_not_refused : (v : Verdict) → v ≡ Refused → v ≡ Violation → ⊥
+unfolding is_violation
+violation_not_refused v refused violation = false≢true (ap is_violation (sym refused ∙ violation))
+
+holding_not_refused : (t : TraceValue) (cert text : List ℕ) → SpellsHolding t cert → IsFailureReport t cert text ⊎ IsUnreadReport cert text → ⊥
+holding_not_refused t cert text holds (inl p) = not_refused t p.0 p.1 (subst (Holds t) (one_value cert holds.0 p.0 holds.1 p.2) holds.2) p.3
+holding_not_refused t cert text holds (inr p) = cert_not_both cert holds.0 p.0 p.1 holds.1 p.2
+
+pub cert_violation : (t : TraceValue) (cert text : List ℕ) (v : Verdict) → IsCertReport t cert text v → (v ≡ Violation) ↔ SpellsHolding t cert
+cert_violation t cert text v (inl p) = (λ _. p.0, λ _. p.2)
+cert_violation t cert text v (inr p) = (λ e. absurd (violation_not_refused v p.1 e), λ holds. absurd (holding_not_refused t cert text holds p.0))
+
+-- VIOLATION exactly where the texts spell a trace and a certificate that holds for it
+pub check_violation : (trace cert text : List ℕ) (v : Verdict) → IsCheckReport trace cert text v → (v ≡ Violation) ↔ SpellHolding trace cert
+check_violation trace cert text v (inl p) =
+    let said = cert_violation p.0 cert text v p.3 in
+    (λ e. (p.0, p.1, said.0 e), λ s. said.1 (subst (λ t. SpellsHolding t cert) (one_trace trace s.0 p.0 s.1 p.1) s.2))
+check_violation trace cert text v (inr p) =
+    (λ e. absurd (violation_not_refused v p.4 e), λ s. absurd (not_both trace_grammar trace s.0.lists p.0 p.1 s.1 p.2))
+
+pub violation_of_readers : (traces certs : Option (List ℕ)) (text : List ℕ) (v : Verdict) → IsCheckReportOfReaders traces certs text v →
+    IfSome traces (λ trace. IfSome certs (λ cert. (v ≡ Violation) ↔ SpellHolding trace cert))
+violation_of_readers None certs text v report = tt
+violation_of_readers (Some trace) None text v report = tt
+violation_of_readers (Some trace) (Some cert) text v report =
+    check_violation trace cert text v (subst (λ b. IsCheckReport trace b text v) report.whole_cert (subst (λ b. IsCheckReport b report.cert text v) report.whole_trace report.is_report))
+
+-- the verdict is Violation or Refused
+pub check_verdict : (trace cert text : List ℕ) (v : Verdict) → IsCheckReport trace cert text v → (v ≡ Violation) ⊎ (v ≡ Refused)
+check_verdict trace cert text v (inl p) = elim p.3 [ inl holds ↦ inl holds.2 | inr fails ↦ inr fails.1 ]
+check_verdict trace cert text v (inr p) = inr p.4
+
+-- a certificate that holds leaves no order
+no_order_of_holding : (t : TraceValue) (cert : List ℕ) → IsTrace t → SpellsHolding t cert → IsConsistent t → ⊥
+no_order_of_holding t cert trace holds = not_consistent t (own_values t trace) holds.0 holds.2
+
+pub no_order_of_readers : (traces certs : Option (List ℕ)) (bytes seen text : List ℕ) (v : Verdict) (t : TraceValue) → IfSome traces (λ all. bytes ≡ take 1048577 all) → seen ≡ bytes →
+    SpellsTrace seen t → IsTrace t → IsCertReportOfReader t certs text v → v ≡ Violation → IfSome traces (λ trace. (u : TraceValue) → SpellsTrace trace u → IsConsistent u → ⊥)
+no_order_of_readers None certs bytes seen text v t front same spells trace report e = tt
+no_order_of_readers (Some all) certs bytes seen text v t front same spells trace report e =
+    let whole = spells_of_front all t (subst (λ b. SpellsTrace b t) (same ∙ front) spells) in
+    let none = no_order_of_holding t report.cert trace ((cert_violation t report.cert text v report.is_report).0 e) in
+    λ u s consistent. none (subst IsConsistent (one_trace all u t s whole) consistent)
+
+-- ---- one report
+
+one_refused_report : (t : TraceValue) (cert a b : List ℕ) → IsFailureReport t cert a ⊎ IsUnreadReport cert a → IsFailureReport t cert b ⊎ IsUnreadReport cert b → a ≡ b
+one_refused_report t cert a b (inl p) (inl q) =
+    let same = one_value cert p.0 q.0 p.2 q.2 in
+    p.4 ∙ ap fails_text (one_refusal t q.0 p.1 q.1 (subst (λ c. IsCertRefusal t c p.1) same p.3) q.3) ∙ sym q.4
+one_refused_report t cert a b (inl p) (inr q) = absurd (cert_not_both cert p.0 q.0 q.1 p.2 q.2)
+one_refused_report t cert a b (inr p) (inl q) = absurd (cert_not_both cert q.0 p.0 p.1 q.2 p.2)
+one_refused_report t cert a b (inr p) (inr q) =
+    let same = one_unread cert p.0 q.0 p.1 q.1 p.2 q.2 in p.3 ∙ ap (λ line. unread_text line p.1) same.0 ∙ ap (unread_text q.0) same.1 ∙ sym q.3
+
+one_cert_report : (t : TraceValue) (cert a b : List ℕ) (v w : Verdict) → IsCertReport t cert a v → IsCertReport t cert b w → (a ≡ b) × (v ≡ w)
+one_cert_report t cert a b v w (inl p) (inl q) = (p.1 ∙ sym q.1, p.2 ∙ sym q.2)
+one_cert_report t cert a b v w (inl p) (inr q) = absurd (holding_not_refused t cert b p.0 q.0)
+one_cert_report t cert a b v w (inr p) (inl q) = absurd (holding_not_refused t cert a q.0 p.0)
+one_cert_report t cert a b v w (inr p) (inr q) = (one_refused_report t cert a b p.0 q.0, p.1 ∙ sym q.1)
+
+pub one_check_report : (trace cert a b : List ℕ) (v w : Verdict) → IsCheckReport trace cert a v → IsCheckReport trace cert b w → (a ≡ b) × (v ≡ w)
+one_check_report trace cert a b v w (inl p) (inl q) = one_cert_report q.0 cert a b v w (subst (λ t. IsCertReport t cert a v) (one_trace trace p.0 q.0 p.1 q.1) p.3) q.3
+one_check_report trace cert a b v w (inl p) (inr q) = absurd (not_both trace_grammar trace p.0.lists q.0 q.1 p.1 q.2)
+one_check_report trace cert a b v w (inr p) (inl q) = absurd (not_both trace_grammar trace q.0.lists p.0 p.1 q.1 p.2)
+one_check_report trace cert a b v w (inr p) (inr q) = one_refused_input trace a b v w p q

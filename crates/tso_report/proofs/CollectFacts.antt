@@ -1,0 +1,160 @@
+-- The steps of a certificate, collected from the last to the first.
+use Rattle.std.proofs.Common.{◌≡◌, ◌⊎◌, ◌↔◌, inl, inr, ℕ, zero, suc, ◌<◌, ◌≤◌, Bool, IsTrue, List, [], ◌∷◌, ◌++◌, Some, slice_get, reverse, refl, sym, ap, subst, ◌∙◌, arith}
+use Rattle.std.proofs.lemmas.List.{reverse-append}
+use Rattle.std.proofs.lemmas.Option.{none-some, same_Some}
+use Rattle.order_paths.specs.Paths.{IsCycle}
+use Rattle.order_paths.proofs.Reach.{IsCycle-mono}
+use Rattle.tso_ops.specs.Values.{TraceValue}
+use Rattle.tso_cert.specs.declared.steps.Reason.{Reason}
+use Rattle.tso_cert.specs.declared.steps.Reason.TheVariants.{Base, Inferred}
+use Rattle.tso_cert.specs.declared.steps.CertStep.{CertStep}
+use Rattle.tso_model.specs.Ranks.{F, HasRank}
+use Rattle.tso_model.specs.Certs.{IsStep, IsJustified, IsListedBefore, AreUsed, AreStepsOf}
+use Rattle.tso_model.proofs.CertificateUnique.{IsPathIn-mono}
+use Rattle.tso_model.proofs.Justifications.{rank_exists, rank_unique}
+use Rattle.tso_model.proofs.LastRankSet.{F-mono}
+use Rattle.tso_report.specs.Collecting.{Uses, IsOnCycle, IsListed, Collects}
+use Rattle.tso_report.proofs.Neighbours.{uses_edge, uses_path, on_cycle_edge, on_cycle_closes}
+
+-- At first the cycle's edges are marked, and nothing is done.
+pub Collects-start : (t : TraceValue) (k : ℕ) (cycle : List ℕ) (Marked Done : ℕ → ℕ → Type 0) → IsCycle (F t k) cycle →
+    ((u v : ℕ) → Marked u v ↔ IsOnCycle cycle u v) → ((u v : ℕ) → F t k u v → Done u v → ⊥) → Collects t k cycle Marked Done []
+Collects-start t k cycle Marked Done closed marks none = record {
+  cycle_marked = IsCycle-mono (IsOnCycle cycle) Marked (λ u v. (marks u v).1) cycle (on_cycle_closes (F t k) cycle closed);
+  edges = edge;
+  all = λ u v m d. absurd (none u v (edge u v m) d);
+  each = λ i s at. absurd (none-some s at);
+  order = λ i j s d r q less at_s at_d rank_s rank_d. absurd (none-some s at_s);
+  needed = λ u v m pairs used. on_cycle_edge (λ x y. IsTrue (pairs x y)) cycle used.cycle_edges u v ((marks u v).0 m);
+}
+  where
+    edge : (u v : ℕ) → Marked u v → F t k u v
+    edge u v m = on_cycle_edge (F t k) cycle closed u v ((marks u v).0 m)
+
+-- What is done may be said in another way, as far as edges are marked.
+pub Collects-as : (t : TraceValue) (k : ℕ) (cycle : List ℕ) (Marked Done Other : ℕ → ℕ → Type 0) (steps : List CertStep) → Collects t k cycle Marked Done steps →
+    ((u v : ℕ) → F t k u v → Marked u v → Done u v → Other u v) → ((u v : ℕ) → F t k u v → Marked u v → Other u v → Done u v) → Collects t k cycle Marked Other steps
+Collects-as t k cycle Marked Done Other steps collects to back = record {
+  cycle_marked = collects.cycle_marked;
+  edges = collects.edges;
+  all = λ u v m o. collects.all u v m (back u v (collects.edges u v m) m o);
+  each = λ i s at. let listed = collects.each i s at in record {
+    marked = listed.marked;
+    done = to s.from s.to (collects.edges s.from s.to listed.marked) listed.marked listed.done;
+    justified = listed.justified;
+    path = listed.path;
+  };
+  order = collects.order;
+  needed = collects.needed;
+}
+
+-- a justification uses edges of lesser ranks
+used_lesser : (t : TraceValue) (r x y : ℕ) (reason : Reason) → IsJustified t r x y reason → (u v : ℕ) → Uses reason u v → (s : ℕ) × (s < r) × HasRank t u v s
+used_lesser t zero x y (Base rule) just u v used = absurd used
+used_lesser t zero x y (Inferred rule load path) just u v used = absurd just
+used_lesser t (suc r) x y (Base rule) just u v used = absurd just
+used_lesser t (suc r) x y (Inferred rule load path) just u v used =
+    let rank = rank_exists t r u v (uses_edge (F t r) (Inferred rule load path) just.0.3.0.1 u v used) in
+    (rank.0, omega (arith, rank.1), rank.2)
+
+-- one step more in front
+IsStep-more : (s : CertStep) (steps : List CertStep) (u v : ℕ) → IsStep steps u v → IsStep (s ∷ steps) u v
+IsStep-more s steps u v step = (suc step.0, step.1, step.2, step.3, step.4)
+
+AreUsed-less : (s : CertStep) (steps : List CertStep) (cycle : List ℕ) (pairs : ℕ → ℕ → Bool) → AreUsed (s ∷ steps) cycle pairs → AreUsed steps cycle pairs
+AreUsed-less s steps cycle pairs used = record { cycle_edges = used.cycle_edges; path_edges = λ i d at. used.path_edges (suc i) d at }
+
+-- The step of a marked edge that comes before all that are done is put in front, and what its justification uses is marked.
+pub Collects-step : (t : TraceValue) (k : ℕ) (cycle : List ℕ) (Marked More Done Other : ℕ → ℕ → Type 0) (steps : List CertStep) (r : ℕ) (s : CertStep) →
+    Collects t k cycle Marked Done steps → Marked s.from s.to → HasRank t s.from s.to r → IsJustified t r s.from s.to s.reason →
+    ((u v : ℕ) → More u v ↔ (Marked u v ⊎ Uses s.reason u v)) →
+    ((u v : ℕ) → Other u v ↔ (Done u v ⊎ ((u ≡ s.from) × (v ≡ s.to)))) →
+    ((d : CertStep) (q : ℕ) → Done d.from d.to → HasRank t d.from d.to q → IsListedBefore r s q d) →
+    Collects t k cycle More Other (s ∷ steps)
+Collects-step t k cycle Marked More Done Other steps r s collects marked rank just more other before = record {
+  cycle_marked = IsCycle-mono Marked More kept cycle collects.cycle_marked;
+  edges = λ u v m. elim ((more u v).0 m) [
+    | inl old ↦ collects.edges u v old
+    | inr used ↦ (let lesser = used_lesser t r s.from s.to s.reason just u v used in F-mono t lesser.0 k (omega (arith, lesser.1, most)) u v lesser.2.0)
+  ];
+  all = all;
+  each = each;
+  order = order;
+  needed = needed;
+}
+  where
+    kept : (u v : ℕ) → Marked u v → More u v
+    kept u v m = (more u v).1 (inl m)
+
+    most : r ≤ k
+    most =
+        let some = rank_exists t k s.from s.to (collects.edges s.from s.to marked) in
+        let same = rank_unique t s.from s.to r some.0 rank some.2 in
+        omega (arith, some.1)
+
+    -- what is done has no lesser rank than the step
+    late : (u v q : ℕ) → Other u v → HasRank t u v q → r ≤ q
+    late u v q o rank_q = elim ((other u v).0 o) [
+      | inl done ↦ elim (before (record { from = u; to = v; reason = s.reason }) q done rank_q) [ inl less ↦ omega arith | inr same ↦ omega (arith, same.0) ]
+      | inr here ↦ (let same = rank_unique t s.from s.to r q rank (subst (λ n. HasRank t s.from n q) here.1 (subst (λ n. HasRank t n v q) here.0 rank_q)) in omega arith)
+    ]
+
+    all : (u v : ℕ) → More u v → Other u v → IsStep (s ∷ steps) u v
+    all u v m o = elim ((more u v).0 m) [
+      | inl old ↦ elim ((other u v).0 o) [
+        | inl done ↦ IsStep-more s steps u v (collects.all u v old done)
+        | inr here ↦ (0, s, refl, sym here.0, sym here.1)
+      ]
+      | inr used ↦ (let lesser = used_lesser t r s.from s.to s.reason just u v used in absurd (omega (arith, lesser.1, late u v lesser.0 o lesser.2)))
+    ]
+
+    new_step : IsListed t More Other s
+    new_step = record {
+      marked = kept s.from s.to marked;
+      done = (other s.from s.to).1 (inr (refl, refl));
+      justified = (r, rank, just);
+      path = IsPathIn-mono (Uses s.reason) More (λ u v used. (more u v).1 (inr used)) s.reason (uses_path s.reason);
+    }
+
+    each : (i : ℕ) (d : CertStep) → slice_get (s ∷ steps) i ≡ Some d → IsListed t More Other d
+    each zero d at = subst (λ c. IsListed t More Other c) (same_Some s d at) new_step
+    each (suc i) d at = let listed = collects.each i d at in record {
+      marked = kept d.from d.to listed.marked;
+      done = (other d.from d.to).1 (inl listed.done);
+      justified = listed.justified;
+      path = IsPathIn-mono Marked More kept d.reason listed.path;
+    }
+
+    order : (i j : ℕ) (c d : CertStep) (p q : ℕ) → i < j → slice_get (s ∷ steps) i ≡ Some c → slice_get (s ∷ steps) j ≡ Some d →
+        HasRank t c.from c.to p → HasRank t d.from d.to q → IsListedBefore p c q d
+    order i zero c d p q less at_c at_d rank_c rank_d = absurd (omega arith)
+    order zero (suc j) c d p q less at_c at_d rank_c rank_d =
+        subst (λ n. IsListedBefore n c q d) (rank_unique t c.from c.to r p (subst (λ e. HasRank t e.from e.to r) (same_Some s c at_c) rank) rank_c)
+        (subst (λ e. IsListedBefore r e q d) (same_Some s c at_c) (before d q (collects.each j d at_d).done rank_d))
+    order (suc i) (suc j) c d p q less at_c at_d rank_c rank_d = collects.order i j c d p q (omega arith) at_c at_d rank_c rank_d
+
+    needed : (u v : ℕ) → More u v → (pairs : ℕ → ℕ → Bool) → AreUsed (s ∷ steps) cycle pairs → IsTrue (pairs u v)
+    needed u v m pairs used =
+        let behind = AreUsed-less s steps cycle pairs used in
+        elim ((more u v).0 m) [
+          | inl old ↦ collects.needed u v old pairs behind
+          | inr by ↦ uses_edge (λ x y. IsTrue (pairs x y)) s.reason (used.path_edges 0 s refl (collects.needed s.from s.to marked pairs behind)) u v by
+        ]
+
+-- Where all edges are done, the steps are those of the cycle.
+pub Collects-end : (t : TraceValue) (k : ℕ) (cycle : List ℕ) (Marked Done : ℕ → ℕ → Type 0) (steps : List CertStep) → Collects t k cycle Marked Done steps →
+    ((u v : ℕ) → F t k u v → Done u v) → AreStepsOf t steps cycle
+Collects-end t k cycle Marked Done steps collects done = record {
+  justified = λ i s at. (collects.each i s at).justified;
+  in_order = collects.order;
+  cycle_listed = IsCycle-mono Marked (λ x y. IsStep steps x y) listed cycle collects.cycle_marked;
+  paths_listed = λ i s at. IsPathIn-mono Marked (λ x y. IsStep steps x y) listed s.reason (collects.each i s at).path;
+  needed = λ i s at pairs used. collects.needed s.from s.to (collects.each i s at).marked pairs used;
+}
+  where
+    listed : (u v : ℕ) → Marked u v → IsStep steps u v
+    listed u v m = collects.all u v m (done u v (collects.edges u v m))
+
+-- a step put behind the list stands in front of the list turned round
+pub turned_push : (steps new : List CertStep) (s : CertStep) → new ≡ steps ++ s ∷ [] → reverse new ≡ s ∷ reverse steps
+turned_push steps new s same = ap reverse same ∙ reverse-append steps (s ∷ [])

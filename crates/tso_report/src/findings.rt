@@ -1,0 +1,72 @@
+//! What is found of a trace.
+ghost use Rattle.std.specs.Prelude.{◌≡◌, ◌⊎◌, ◌↔◌, ◌≤◌, ℕ, IsTrue, MatchOption, IfOk, IfErr};
+ghost use Rattle.tso_ops.specs.Events.{IsUnwritten};
+ghost use Rattle.tso_cert.specs.declared.steps.Certificate.TheVariants.{Unwritten};
+ghost use Rattle.tso_model.specs.Certs.{IsCertificateOf};
+ghost use Rattle.tso_report.specs.declared.faults.Fault.{Fault};
+ghost use Rattle.tso_report.specs.Findings.{IsFinding};
+
+use crate::certificates::build_cert;
+use crate::faults::Fault;
+use round_pool::{OpenPoolGate, rounds};
+use std::alloc::Global;
+use std::sync::Wait;
+use std::thread::Threads;
+use tso_cert::Certificate;
+use tso_ops::{Source, Trace};
+
+/// What is found of a trace: its rounds number, and its certificate where it is a violation.
+#[derive(Drop)]
+pub(crate) struct Finding {
+    pub(crate) rounds: u64,
+    pub(crate) certificate: Option<Certificate>,
+}
+
+/// Judges a trace on `workers` threads, 1 to 64: its least unwritten load, or else the rounds and what they come to.
+pub(crate) fn judge_trace<H: Threads + Wait>(
+    rt: &H,
+    alloc: Global,
+    trace: &Trace,
+    workers: usize,
+) -> Result<Finding, Fault>
+    requires some { 1 ≤ workers }
+    requires most { workers ≤ 64 }
+    ensures found { IfOk result (IsFinding trace.now) }
+    ensures fault { IfErr result (λ fault. (fault ≡ Fault.OutOfMemory) ⊎ (fault ≡ Fault.NoThread)) }
+{
+    if let Some(load) = least_unwritten(trace) {
+        return Ok(Finding {
+            rounds: 0,
+            certificate: Some(Certificate::Unwritten(load as u64)),
+        });
+    }
+    let ranked = rounds(rt, alloc, trace, workers, &OpenPoolGate)?;
+    Ok(Finding {
+        rounds: ranked.rounds(),
+        certificate: build_cert(alloc, trace, &ranked)?,
+    })
+}
+
+/// The least load whose value nothing wrote.
+pub(crate) fn least_unwritten(trace: &Trace) -> Option<usize>
+    ensures { MatchOption result ((l : ℕ) → IsUnwritten trace.now l → ⊥) (λ n. IsCertificateOf trace.now (Unwritten n)) }
+{
+    for n in 0..trace.events() {
+        if is_unwritten(trace, n + 1) {
+            return Some(n + 1);
+        }
+    }
+    None
+}
+
+/// Whether event `n` is a load whose value nothing wrote.
+fn is_unwritten(trace: &Trace, n: usize) -> bool
+    ensures { IsTrue result ↔ IsUnwritten trace.now n }
+{
+    match trace.source(n) {
+        Some(Source::Unwritten) => true,
+        Some(Source::Init) => false,
+        Some(Source::Store(_)) => false,
+        None => false,
+    }
+}
