@@ -1,11 +1,11 @@
 -- Tables to which bits are added one after another: which of the bits given are left, and how two turned tables keep step.
 use Rattle.std.proofs.Common.{◌≡◌, ◌⊎◌, ◌↔◌, inl, inr, ℕ, ◌+◌, ◌*◌, ◌/◌, ◌%◌, ◌^◌, ◌<◌, ◌≤◌, List, length, get_or, sym, subst, ◌∙◌, arith}
 use Rattle.std.specs.Int.{bit_not, trailing_zeros, w64}
-use Rattle.std.specs.Prelude.{bit_and}
+use Rattle.std.specs.Prelude.{bit_and, bit_or}
 use Rattle.std.proofs.lemmas.Bool.{cases_eq}
 use Rattle.std.proofs.lemmas.Nat.{row_fits}
 use Rattle.order_graph.specs.Tables.{HasBit, IsSet, Adds, IsSelfOrSet, AreTurned, IsTransitive}
-use Rattle.order_graph.proofs.Words.{HasBit-zero, HasBit-clear, HasBit-lowest, HasBit-and, HasBit-not, IsSet-decided, IsSet-word}
+use Rattle.order_graph.proofs.Words.{HasBit-zero, HasBit-or, HasBit-clear, HasBit-lowest, HasBit-and, HasBit-not, IsSet-decided, IsSet-word}
 
 -- Of the bits given to the old table, the table now has all but some of those left.
 pub record Leaves (old now : List ℕ) (width : ℕ) (Given Left : ℕ → ℕ → Type 0) : Type 0 where
@@ -96,6 +96,53 @@ Marks-step old now new width j rows i given left marks some fits adds =
 pub Marks-end : (old now : List ℕ) (width j rows i given : ℕ) → Marks old now width j rows i given 0 → Adds old now width (λ y x. (y / 64 ≡ j) × HasBit rows (y % 64) × (x / 64 ≡ i) × HasBit given (x % 64))
 Marks-end old now width j rows i given marks = Leaves-end old now width _ _ marks.leaves (λ y x h p. HasBit-zero (y % 64) p.1)
 
+-- The bits told are given ones, and of the rows that are not left each had the others; the rows left are as they were.
+pub record Tells (old now : List ℕ) (width j rows i given left told : ℕ) : Type 0 where
+  pub only : (k : ℕ) → k < 64 → HasBit told k → HasBit given k
+  pub had : (y x : ℕ) → y / 64 ≡ j → HasBit rows (y % 64) → (HasBit left (y % 64) → ⊥) → x / 64 ≡ i → HasBit given (x % 64) → IsSet old width y x ⊎ HasBit told (x % 64)
+  pub untouched : (y x : ℕ) → y / 64 ≡ j → HasBit left (y % 64) → x / 64 < width → IsSet now width y x → IsSet old width y x
+
+pub Tells-start : (old : List ℕ) (width j rows i given : ℕ) → Tells old old width j rows i given rows 0
+Tells-start old width j rows i given = record {
+  only = λ k h b. absurd (HasBit-zero k b);
+  had = λ y x hj b none hi g. absurd (none b);
+  untouched = λ y x hj b h s. s;
+}
+
+-- what the lowest of them lacked is told too
+pub Tells-step : (old now new : List ℕ) (width j rows i given left told fresh : ℕ) → Tells old now width j rows i given left told → i < width → 0 < left → left < 2 ^ 64 →
+    Adds now new width (λ y x. (y ≡ 64 * j + trailing_zeros w64 left) × (x / 64 ≡ i) × HasBit given (x % 64)) →
+    ((x : ℕ) → x / 64 ≡ i → HasBit fresh (x % 64) ↔ (HasBit given (x % 64) × (IsSet now width (64 * j + trailing_zeros w64 left) x → ⊥))) →
+    Tells old new width j rows i given (bit_and left (bit_not w64 (1 * 2 ^ trailing_zeros w64 left % 2 ^ 64))) (bit_or told fresh)
+Tells-step old now new width j rows i given left told fresh tells hi some fits adds lacked =
+    let low = HasBit-lowest left some fits in
+    let bound : trailing_zeros w64 left < 64 = low.0 in
+    let clear = λ (k : ℕ) (h : k < 64). HasBit-clear left (trailing_zeros w64 left) k bound h in
+    record {
+      only = λ k h b. elim ((HasBit-or told fresh k).0 b) [
+        | inl t ↦ tells.only k h t
+        | inr f ↦ (let m : (64 * i + k) % 64 ≡ k = omega arith in
+            subst (λ n. HasBit given n) m ((lacked (64 * i + k) (omega arith)).0 (subst (λ n. HasBit fresh n) (sym m) f)).0)
+      ];
+      had = λ y x hj b none at g. elim (cases_eq (y % 64) (trailing_zeros w64 left)) [
+        | inl e ↦ (let place : y ≡ 64 * j + trailing_zeros w64 left = omega arith in
+            elim (IsSet-decided now width y x) [
+              | inl set ↦ inl (tells.untouched y x hj (subst (λ n. HasBit left n) (sym e) low.1) (omega arith) set)
+              | inr lacks ↦ inr ((HasBit-or told fresh (x % 64)).1 (inr ((lacked x at).1 (g, λ s. lacks (subst (λ n. IsSet now width n x) (sym place) s)))))
+            ])
+        | inr ne ↦ elim (tells.had y x hj b (λ l. none ((clear (y % 64) (omega arith)).1 (ne, l))) at g) [
+          | inl set ↦ inl set
+          | inr t ↦ inr ((HasBit-or told fresh (x % 64)).1 (inl t))
+        ]
+      ];
+      untouched = λ y x hj l h s.
+          let still = (clear (y % 64) (omega arith)).0 l in
+          elim ((adds.bits y x h).0 s) [
+            | inl set ↦ tells.untouched y x hj still.1 h set
+            | inr g ↦ (let at : y ≡ 64 * j + trailing_zeros w64 left = g.0 in absurd (still.0 (omega arith)))
+          ];
+    }
+
 -- a row below `nodes` lies in a table of `nodes` rows
 pub row_within : (x nodes width : ℕ) → x < nodes → x * width + width ≤ nodes * width
 row_within x nodes width h = row_fits x width nodes width h (omega arith)
@@ -104,32 +151,36 @@ row_within x nodes width h = row_fits x width nodes width h (omega arith)
 pub column_within : (y nodes width : ℕ) → width ≡ (nodes + 63) / 64 → y < nodes → y / 64 < width
 column_within y nodes width fits h = omega arith
 
--- Two tables that are turned stay so, where the rows of word i gain v and the numbers of row v in the one, and v and the numbers of row v gain the rows in the other.
-pub AreTurned-both : (table turned new new_turned : List ℕ) (width nodes i rows v : ℕ) → AreTurned table turned width nodes → width ≡ (nodes + 63) / 64 → v < nodes →
-    ((x : ℕ) → x / 64 ≡ i → HasBit rows (x % 64) → x < nodes) → length new ≡ length table → length new_turned ≡ length turned →
-    Adds table new width (λ x y. (x / 64 ≡ i) × HasBit rows (x % 64) × IsSelfOrSet table width v y) →
-    Adds turned new_turned width (λ y x. (y / 64 < width) × IsSelfOrSet table width v y × (x / 64 ≡ i) × HasBit rows (x % 64)) → AreTurned new new_turned width nodes
-AreTurned-both table turned new new_turned width nodes i rows v old fits hv below sized turned_sized adds turns = record {
+-- Two tables that are turned stay so, where rows of word i gain bits of word j in the one, and in the other those bits gain these rows that some
+-- of the rows lacked.
+pub AreTurned-words : (table turned new new_turned : List ℕ) (width nodes i rows j given fresh : ℕ) → AreTurned table turned width nodes → width ≡ (nodes + 63) / 64 →
+    ((x : ℕ) → x / 64 ≡ i → HasBit rows (x % 64) → x < nodes) → ((y : ℕ) → y / 64 ≡ j → HasBit given (y % 64) → y < nodes) →
+    length new ≡ length table → length new_turned ≡ length turned →
+    Adds table new width (λ x y. (x / 64 ≡ i) × HasBit rows (x % 64) × (y / 64 ≡ j) × HasBit given (y % 64)) →
+    ((k : ℕ) → k < 64 → HasBit fresh k → HasBit given k) →
+    ((x y : ℕ) → x / 64 ≡ i → HasBit rows (x % 64) → y / 64 ≡ j → HasBit given (y % 64) → IsSet table width x y ⊎ HasBit fresh (y % 64)) →
+    Adds turned new_turned width (λ y x. (y / 64 ≡ j) × HasBit fresh (y % 64) × (x / 64 ≡ i) × HasBit rows (x % 64)) → AreTurned new new_turned width nodes
+AreTurned-words table turned new new_turned width nodes i rows j given fresh old fits low given_low sized turned_sized adds some lacked turns = record {
   table_sized = sized ∙ old.table_sized;
   turned_sized = turned_sized ∙ old.turned_sized;
-  within = λ a b ha hb s. elim ((adds.bits a b hb).0 s) [
-    | inl o ↦ old.within a b ha hb o
-    | inr g ↦ elim g.2 [ inl same ↦ subst (λ n. n < nodes) (sym same) hv | inr set ↦ old.within v b hv hb set ]
-  ];
-  turned_within = λ a b ha hb s. elim ((turns.bits a b hb).0 s) [ inl o ↦ old.turned_within a b ha hb o | inr g ↦ below b g.2 g.3 ];
+  within = λ a b ha hb s. elim ((adds.bits a b hb).0 s) [ inl o ↦ old.within a b ha hb o | inr g ↦ given_low b g.2 g.3 ];
+  turned_within = λ a b ha hb s. elim ((turns.bits a b hb).0 s) [ inl o ↦ old.turned_within a b ha hb o | inr g ↦ low b g.2 g.3 ];
   same = λ a b ha hb. (to a b ha hb, back a b ha hb);
 }
   where
     to : (a b : ℕ) → a < nodes → b < nodes → IsSet new_turned width b a → IsSet new width a b
     to a b ha hb s = elim ((turns.bits b a (column_within a nodes width fits ha)).0 s) [
       | inl o ↦ (adds.bits a b (column_within b nodes width fits hb)).1 (inl ((old.same a b ha hb).0 o))
-      | inr g ↦ (adds.bits a b (column_within b nodes width fits hb)).1 (inr (g.2, g.3, g.1))
+      | inr g ↦ (adds.bits a b (column_within b nodes width fits hb)).1 (inr (g.2, g.3, g.0, some (b % 64) (omega arith) g.1))
     ]
 
     back : (a b : ℕ) → a < nodes → b < nodes → IsSet new width a b → IsSet new_turned width b a
     back a b ha hb s = elim ((adds.bits a b (column_within b nodes width fits hb)).0 s) [
       | inl o ↦ (turns.bits b a (column_within a nodes width fits ha)).1 (inl ((old.same a b ha hb).1 o))
-      | inr g ↦ (turns.bits b a (column_within a nodes width fits ha)).1 (inr (column_within b nodes width fits hb, g.2, g.0, g.1))
+      | inr g ↦ elim (lacked a b g.0 g.1 g.2 g.3) [
+        | inl set ↦ (turns.bits b a (column_within a nodes width fits ha)).1 (inl ((old.same a b ha hb).1 set))
+        | inr f ↦ (turns.bits b a (column_within a nodes width fits ha)).1 (inr (g.2, f, g.0, g.1))
+      ]
     ]
 
 -- no row gains anything by a word without bits
@@ -187,67 +238,44 @@ SpreadFrom-step old now new width x v j given leaves hj bits adds =
 pub SpreadFrom-end : (old now : List ℕ) (width x v : ℕ) → Leaves old now width (λ i y. (i ≡ x) × IsSelfOrSet old width v y) (SpreadFrom old width x v width) → Adds old now width (λ i y. (i ≡ x) × IsSelfOrSet old width v y)
 SpreadFrom-end old now width x v leaves = Leaves-end old now width _ _ leaves (λ i y h p. omega (arith, p.1, h))
 
--- v and the numbers of row v, from word j on, gain the rows of word i in the turned table.
-abbrev pub ColumnFrom : List ℕ → ℕ → ℕ → ℕ → ℕ → ℕ → ℕ → ℕ → Type 0
-ColumnFrom table width v i rows j y x = (j ≤ y / 64) × (y / 64 < width) × IsSelfOrSet table width v y × (x / 64 ≡ i) × HasBit rows (x % 64)
+-- Of the rows whose numbers are bits of word i each has v and the numbers of row v before word j, and the other table is turned.
+pub record Widens (old now other : List ℕ) (width nodes i rows v j : ℕ) : Type 0 where
+  pub leaves : Leaves old now width (λ x y. (x / 64 ≡ i) × HasBit rows (x % 64) × IsSelfOrSet old width v y) (λ x y. (x / 64 ≡ i) × HasBit rows (x % 64) × (j ≤ y / 64) × IsSelfOrSet old width v y)
+  pub turned : AreTurned now other width nodes
 
--- the same of all words
-abbrev pub Column : List ℕ → ℕ → ℕ → ℕ → ℕ → ℕ → ℕ → Type 0
-Column table width v i rows y x = (y / 64 < width) × IsSelfOrSet table width v y × (x / 64 ≡ i) × HasBit rows (x % 64)
-
-pub ColumnFrom-start : (old table : List ℕ) (width v i rows : ℕ) → Leaves old old width (Column table width v i rows) (ColumnFrom table width v i rows 0)
-ColumnFrom-start old table width v i rows = Leaves-start old width _ _ (λ y x h. (λ p. (omega arith, p.0, p.1, p.2, p.3), λ p. (p.1, p.2, p.3, p.4)))
-
-pub ColumnFrom-step : (old now new table : List ℕ) (width v i rows j given : ℕ) → Leaves old now width (Column table width v i rows) (ColumnFrom table width v i rows j) → j < width →
-    ((k : ℕ) → k < 64 → HasBit given k ↔ ((64 * j + k ≡ v) ⊎ HasBit (get_or table (v * width + j) 0) k)) →
-    Adds now new width (λ y x. (y / 64 ≡ j) × HasBit given (y % 64) × (x / 64 ≡ i) × HasBit rows (x % 64)) →
-    Leaves old new width (Column table width v i rows) (ColumnFrom table width v i rows (j + 1))
-ColumnFrom-step old now new table width v i rows j given leaves hj bits adds = Leaves-step old now new width _ _ _ _ leaves adds
-    (λ y x h p. elim (cases_eq (y / 64) j) [
-      | inl e ↦ inr (inl (e, (given_is table width v j given bits y e).1 p.2, p.3, p.4))
-      | inr ne ↦ inr (inr (omega (arith, p.0, ne), p.1, p.2, p.3, p.4))
-    ])
-    (λ y x h p. (omega (arith, p.0), omega (arith, p.0, hj), (given_is table width v j given bits y p.0).0 p.1, p.2, p.3))
-    (λ y x h p. (omega (arith, p.0), p.1, p.2, p.3, p.4))
-
-pub ColumnFrom-end : (old now table : List ℕ) (width v i rows : ℕ) → Leaves old now width (Column table width v i rows) (ColumnFrom table width v i rows width) → Adds old now width (Column table width v i rows)
-ColumnFrom-end old now table width v i rows leaves = Leaves-end old now width _ _ leaves (λ y x h p. omega (arith, p.0, p.1))
-
--- Each row whose number is a bit of word i, but for those of the bits left, has v and the numbers of row v.
-pub record Widens (old now : List ℕ) (width i rows v left : ℕ) : Type 0 where
-  pub some : (k : ℕ) → k < 64 → HasBit left k → HasBit rows k
-  pub leaves : Leaves old now width (λ x y. (x / 64 ≡ i) × HasBit rows (x % 64) × IsSelfOrSet old width v y) (λ x y. (x / 64 ≡ i) × HasBit left (x % 64) × IsSelfOrSet old width v y)
-
-pub Widens-start : (old : List ℕ) (width i rows v : ℕ) → Widens old old width i rows v rows
-Widens-start old width i rows v = record {
-  some = λ k h b. b;
-  leaves = Leaves-start old width _ _ (λ x y h. (λ p. p, λ p. p));
+pub Widens-start : (old other : List ℕ) (width nodes i rows v : ℕ) → AreTurned old other width nodes → Widens old old other width nodes i rows v 0
+Widens-start old other width nodes i rows v are = record {
+  leaves = Leaves-start old width _ _ (λ x y h. (λ p. (p.0, p.1, omega arith, p.2), λ p. (p.0, p.1, p.3)));
+  turned = are;
 }
 
-pub Widens-step : (old now new : List ℕ) (width i rows v left : ℕ) → Widens old now width i rows v left → 0 < left → left < 2 ^ 64 →
-    Adds now new width (λ x y. (x ≡ 64 * i + trailing_zeros w64 left) × IsSelfOrSet now width v y) →
-    Widens old new width i rows v (bit_and left (bit_not w64 (1 * 2 ^ trailing_zeros w64 left % 2 ^ 64)))
-Widens-step old now new width i rows v left widens some fits adds =
-    let low = HasBit-lowest left some fits in
-    let bound : trailing_zeros w64 left < 64 = low.0 in
-    let clear = λ (k : ℕ) (h : k < 64). HasBit-clear left (trailing_zeros w64 left) k bound h in
+-- they gain those of word j
+pub Widens-step : (old now other new new_other : List ℕ) (width nodes i rows v j given fresh : ℕ) → Widens old now other width nodes i rows v j → j < width → width ≡ (nodes + 63) / 64 →
+    v < nodes → ((x : ℕ) → x / 64 ≡ i → HasBit rows (x % 64) → x < nodes) →
+    ((k : ℕ) → k < 64 → HasBit given k ↔ ((64 * j + k ≡ v) ⊎ HasBit (get_or now (v * width + j) 0) k)) →
+    length new ≡ length now → length new_other ≡ length other →
+    Adds now new width (λ x y. (x / 64 ≡ i) × HasBit rows (x % 64) × (y / 64 ≡ j) × HasBit given (y % 64)) →
+    ((k : ℕ) → k < 64 → HasBit fresh k → HasBit given k) →
+    ((x y : ℕ) → x / 64 ≡ i → HasBit rows (x % 64) → y / 64 ≡ j → HasBit given (y % 64) → IsSet now width x y ⊎ HasBit fresh (y % 64)) →
+    Adds other new_other width (λ y x. (y / 64 ≡ j) × HasBit fresh (y % 64) × (x / 64 ≡ i) × HasBit rows (x % 64)) →
+    Widens old new new_other width nodes i rows v (j + 1)
+Widens-step old now other new new_other width nodes i rows v j given fresh widens hj fits hv low bits sized other_sized adds some lacked turns =
     let stays = self_or_set_same old now width v _ _ widens.leaves (λ a b h g. g.2) in
     record {
-      some = λ k h b. widens.some k h ((clear k h).0 b).1;
       leaves = Leaves-step old now new width _ _ _ _ widens.leaves adds
-          (λ x y h p. elim (cases_eq (x % 64) (trailing_zeros w64 left)) [
-            | inl e ↦ inr (inl (omega (arith, e, p.0), (stays y h).1 p.2))
-            | inr ne ↦ inr (inr (p.0, (clear (x % 64) (omega arith)).1 (ne, p.1), p.2))
+          (λ x y h p. elim (cases_eq (y / 64) j) [
+            | inl e ↦ inr (inl (p.0, p.1, e, (given_is now width v j given bits y e).1 ((stays y h).1 p.3)))
+            | inr ne ↦ inr (inr (p.0, p.1, omega (arith, p.2, ne), p.3))
           ])
-          (λ x y h p. let at : x ≡ 64 * i + trailing_zeros w64 left = p.0 in
-          let m : x % 64 ≡ trailing_zeros w64 left = omega arith in
-          (omega arith, subst (λ n. HasBit left n) (sym m) low.1, (stays y h).0 p.1))
-          (λ x y h p. (p.0, ((clear (x % 64) (omega arith)).0 p.1).1, p.2));
+          (λ x y h p. (p.0, p.1, omega (arith, p.2), (stays y h).0 ((given_is now width v j given bits y p.2).0 p.3)))
+          (λ x y h p. (p.0, p.1, omega (arith, p.2), p.3));
+      turned = AreTurned-words now other new new_other width nodes i rows j given fresh widens.turned fits low
+          (given_below now other width nodes v j given widens.turned hv hj bits) sized other_sized adds some lacked turns;
     }
 
-pub Widens-end : (old now : List ℕ) (width i rows v : ℕ) → Widens old now width i rows v 0 →
+pub Widens-end : (old now other : List ℕ) (width nodes i rows v : ℕ) → Widens old now other width nodes i rows v width →
     Adds old now width (λ x y. (x / 64 ≡ i) × HasBit rows (x % 64) × IsSelfOrSet old width v y)
-Widens-end old now width i rows v widens = Leaves-end old now width _ _ widens.leaves (λ x y h p. HasBit-zero (x % 64) p.1)
+Widens-end old now other width nodes i rows v widens = Leaves-end old now width _ _ widens.leaves (λ x y h p. omega (arith, p.2, h))
 
 -- x is a number of the graph that is u or leads to it
 abbrev pub IsSource : List ℕ → ℕ → ℕ → ℕ → ℕ → Type 0

@@ -1,3 +1,4 @@
+pub mod AllPaths
 pub mod ClosedNumbers
 pub mod Cycling
 pub mod Growth
@@ -5,7 +6,9 @@ pub mod Keeping
 pub mod Losing
 pub mod Reached
 pub mod Reaching
+pub mod Rows
 pub mod Searching
 pub mod ShortCycles
 pub mod Spreading
+pub mod TurnedBlocks
 pub mod Words

@@ -102,6 +102,15 @@ clear_less a i hi h =
       | inr ne ↦ omega arith
     ]
 
+-- to take out of a word the bits of another that has one of its bits makes it less
+pub without_less : (a word i : ℕ) → word < 2 ^ 64 → i < 64 → HasBit a i → HasBit word i → bit_and a (bit_not w64 word) < a
+without_less a word i small hi h w =
+    let le : bit_and a (bit_not w64 word) ≤ a = and_le_l a (bit_not w64 word) in
+    elim (cases_eq (bit_and a (bit_not w64 word)) a) [
+      | inl e ↦ absurd ((HasBit-not word i small hi).0 ((HasBit-and a (bit_not w64 word) i).0 (subst (λ n. HasBit n i) (sym e) h)).1 w)
+      | inr ne ↦ omega arith
+    ]
+
 -- a bit of a table in which a word of row x was written: in that word, and elsewhere
 pub IsSet-written : (table : List ℕ) (width x j word i y : ℕ) → x * width + j < length table → i ≡ x → y / 64 ≡ j →
     IsSet (set table (x * width + j) word) width i y ↔ HasBit word (y % 64)
@@ -126,6 +135,13 @@ pub IsSet-word : (table : List ℕ) (width x j y : ℕ) → y / 64 ≡ j → IsS
 unfolding IsSet
 IsSet-word table width x j y e =
     (λ s. subst (λ n. HasBit (get_or table (x * width + n) 0) (y % 64)) e s, λ s. subst (λ n. HasBit (get_or table (x * width + n) 0) (y % 64)) (sym e) s)
+
+-- bit k of word j of row x
+pub IsSet-at : (table : List ℕ) (width x j k : ℕ) → k < 64 → IsSet table width x (64 * j + k) ↔ HasBit (get_or table (x * width + j) 0) k
+IsSet-at table width x j k h =
+    let m : (64 * j + k) % 64 ≡ k = omega arith in
+    let at : (64 * j + k) / 64 ≡ j = omega arith in
+    subst (λ n. IsSet table width x (64 * j + k) ↔ HasBit (get_or table (x * width + j) 0) n) m (IsSet-word table width x j (64 * j + k) at)
 
 -- To write a word of row x that has its bits and those given adds the bits given.
 pub Adds-written : (table : List ℕ) (width x j word : ℕ) (Given : ℕ → Type 0) → j < width → x * width + j < length table →

@@ -1,5 +1,5 @@
 -- Flat tables of bits: rows of 64-bit words, one behind another.
-use Rattle.std.specs.Prelude.{◌≡◌, ◌⊎◌, ◌↔◌, ℕ, ◌+◌, ◌*◌, ◌/◌, ◌%◌, ◌<◌, List, length, slice_index}
+use Rattle.std.specs.Prelude.{◌≡◌, ◌⊎◌, ◌↔◌, ℕ, ◌+◌, ◌*◌, ◌/◌, ◌%◌, ◌^◌, ◌<◌, List, length, slice_index}
 use Rattle.std.specs.Int.{bit_at}
 
 -- bit k of the word is set
@@ -25,6 +25,13 @@ pub record Loses (old new : List ℕ) (width u v : ℕ) : Type 0 where
 -- y is the number itself, or its bit is set in the number's row
 abbrev pub IsSelfOrSet : List ℕ → ℕ → ℕ → ℕ → Type 0
 IsSelfOrSet table width v y = (y ≡ v) ⊎ IsSet table width v y
+
+-- A table with a row for each number below `nodes`, whose columns are these numbers too.
+pub record IsTable (nodes width : ℕ) (table : List ℕ) : Type 0 where
+  pub small : nodes < 2 ^ 32
+  pub fits : width ≡ (nodes + 63) / 64
+  pub sized : length table ≡ nodes * width
+  pub within : (x y : ℕ) → x < nodes → y / 64 < width → IsSet table width x y → y < nodes
 
 -- two tables over the numbers below `nodes`, of which each is the other with rows for columns
 pub record AreTurned (table turned : List ℕ) (width nodes : ℕ) : Type 0 where

@@ -5,12 +5,15 @@ ghost use Rattle.order_paths.specs.Paths.{Reaches, HasCycle, IsLeastPath, IsLeas
 ghost use Rattle.order_graph.specs.Digraphs.{IsEdge, EdgesWithin};
 ghost use Rattle.order_graph.specs.Tables.{HasNumber};
 
+use crate::all_paths::{join_rest, paths_in_order};
 use crate::closing::closed_numbers;
 use crate::cycles::better;
+use crate::edge_rows::EdgeRows;
 use crate::edge_sets::EdgeSet;
 use crate::forward::tests_of_row;
 use crate::searches::{first_shared, least_path_of};
 use crate::tables::{bit, join, set_bit};
+use crate::turning::turned_table;
 use std::alloc::{AllocError, Global};
 use std::marker::Model;
 
@@ -53,6 +56,25 @@ impl Graph {
             edges: vec![in alloc; 0; size]?,
             paths: vec![in alloc; 0; size]?,
             turned: vec![in alloc; 0; size]?,
+        })
+    }
+
+    /// The graph of the edges of these rows, as `new` and `add` make it, but faster where there are many edges.
+    /// OutOfMemory where a growth was refused.
+    pub fn of_rows(rows: EdgeRows) -> Result<Graph, AllocError>
+        ensures { IfOk result (λ g. g ≡ rows) }
+    {
+        let (nodes, width, edges) = rows.into_table();
+        let alloc = *edges.allocator();
+        let mut paths = paths_in_order(alloc, &edges, width, nodes)?;
+        let mut turned = turned_table(alloc, &paths, width, nodes)?;
+        join_rest(&edges, &mut paths, &mut turned, width, nodes);
+        Ok(Graph {
+            nodes,
+            width,
+            edges,
+            paths,
+            turned,
         })
     }
 

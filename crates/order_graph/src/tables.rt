@@ -1,7 +1,7 @@
 //! Flat tables of bits: rows of words, one behind another.
 
 ghost use Rattle.std.specs.Prelude.{◌≡◌, ◌⊎◌, ◌↔◌, ◌<◌, ◌≤◌, ◌+◌, ◌*◌, ◌/◌, ◌%◌, ◌^◌, ℕ, IsTrue, length};
-ghost use Rattle.order_graph.specs.Tables.{HasBit, IsSet, Adds, Loses, IsSelfOrSet, AreTurned, IsTransitive};
+ghost use Rattle.order_graph.specs.Tables.{HasBit, HasNumber, IsSet, Adds, Loses, IsSelfOrSet, AreTurned, IsTransitive};
 
 /// Whether the bit of row x and column y is set.
 #[inline]
@@ -61,20 +61,29 @@ pub fn set_word(table: &mut [u64], width: usize, x: usize, j: usize, given: u64)
     given & !word
 }
 
-/// Sets the given bits in word i of the rows whose numbers are the bits of word j.
+/// Sets the given bits in word i of the rows whose numbers are the bits of word j, and returns those that some of these
+/// rows lacked.
 #[inline]
-pub fn set_words(table: &mut [u64], width: usize, j: usize, rows: u64, i: usize, given: u64)
+pub fn set_words(table: &mut [u64], width: usize, j: usize, rows: u64, i: usize, given: u64) -> u64
     requires column { i < width }
     requires fits { 64 * j + 64 < 2 ^ 64 }
     requires within { (k : ℕ) → k < 64 → HasBit rows k → (64 * j + k) * width + width ≤ length table.old }
-    ensures { Adds table.old table.new width (λ y x. (y / 64 ≡ j) × HasBit rows (y % 64) × (x / 64 ≡ i) × HasBit given (x % 64)) }
+    ensures added { Adds table.old table.new width (λ y x. (y / 64 ≡ j) × HasBit rows (y % 64) × (x / 64 ≡ i) × HasBit given (x % 64)) }
+    ensures some { (k : ℕ) → k < 64 → HasBit result k → HasBit given k }
+    ensures fresh { (y x : ℕ) → y / 64 ≡ j → HasBit rows (y % 64) → x / 64 ≡ i → HasBit given (x % 64) →
+        IsSet table.old width y x ⊎ HasBit result (x % 64) }
 {
+    if given == 0 {
+        return 0;
+    }
+    let mut fresh = 0;
     let mut left = rows;
     while left != 0 {
         let k = left.trailing_zeros() as usize;
-        set_word(table, width, 64 * j + k, i, given);
+        fresh |= set_word(table, width, 64 * j + k, i, given);
         left &= !(1 << k);
     }
+    fresh
 }
 
 /// Gives row x the number v and the numbers of row v.
@@ -89,45 +98,9 @@ pub fn add_row(table: &mut [u64], width: usize, x: usize, v: usize)
     }
 }
 
-/// Gives each row whose number is a bit of word i the number v and the numbers of row v.
-pub fn add_rows(table: &mut [u64], width: usize, i: usize, rows: u64, v: usize)
-    requires fits { 64 * i + 64 < 2 ^ 64 }
-    requires within { (k : ℕ) → k < 64 → HasBit rows k → (64 * i + k) * width + width ≤ length table.old }
-    requires given { v * width + width ≤ length table.old }
-    ensures { Adds table.old table.new width (λ x y. (x / 64 ≡ i) × HasBit rows (x % 64) × IsSelfOrSet table.old width v y) }
-{
-    let mut left = rows;
-    while left != 0 {
-        let k = left.trailing_zeros() as usize;
-        add_row(table, width, 64 * i + k, v);
-        left &= !(1 << k);
-    }
-}
-
-/// Gives v, and each number of row v of the table, the numbers that are the bits of word i, in the turned table.
-pub fn add_columns(
-    turned: &mut [u64],
-    table: &[u64],
-    width: usize,
-    nodes: usize,
-    i: usize,
-    rows: u64,
-    v: usize,
-)
-    requires turned { AreTurned table.now turned.old width nodes }
-    requires small { nodes < 2 ^ 32 }
-    requires fits { width ≡ (nodes + 63) / 64 }
-    requires given { v < nodes }
-    requires word { i < width }
-    ensures { Adds turned.old turned.new width (λ y x. (y / 64 < width) × IsSelfOrSet table.now width v y × (x / 64 ≡ i) × HasBit rows (x % 64)) }
-{
-    for j in 0..width {
-        let given = with_bit(table[v * width + j], j, v);
-        set_words(turned, width, j, given, i, rows);
-    }
-}
-
 /// Gives each row whose number is a bit of word i the number v and the numbers of row v, in both tables.
+///
+/// Only a bit that some of these rows lacked is looked at in the turned table, whose rows lie scattered.
 pub fn join_rows(
     table: &mut [u64],
     turned: &mut [u64],
@@ -149,8 +122,11 @@ pub fn join_rows(
     if rows == 0 {
         return;
     }
-    add_columns(turned, table, width, nodes, i, rows, v);
-    add_rows(table, width, i, rows, v);
+    for j in 0..width {
+        let given = with_bit(table[v * width + j], j, v);
+        let fresh = set_words(table, width, i, rows, j, given);
+        set_words(turned, width, j, fresh, i, rows);
+    }
 }
 
 /// Gives u, and each number that leads to u, the number v and those that v leads to, in both tables.
@@ -170,6 +146,16 @@ pub fn join(table: &mut [u64], turned: &mut [u64], width: usize, nodes: usize, u
         let sources = with_bit(turned[u * width + i], i, u);
         let rows = sources & !turned[v * width + i];
         join_rows(table, turned, width, nodes, i, rows, v);
+    }
+}
+
+/// Gives row x of a table the numbers of a row of words, those that lie within the table's width.
+pub fn add_words(table: &mut [u64], width: usize, x: usize, words: &[u64])
+    requires row { x * width + width ≤ length table.old }
+    ensures { Adds table.old table.new width (λ i y. (i ≡ x) × HasNumber words.now y) }
+{
+    for j in 0..width.min(words.len()) {
+        set_word(table, width, x, j, words[j]);
     }
 }
 

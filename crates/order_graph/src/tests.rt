@@ -1,6 +1,10 @@
 //! Graphs by hand, and small graphs beside a plain program over lists of edges.
 
-use crate::{EdgeSet, Graph};
+ghost use Rattle.std.specs.Prelude.{◌≡◌, ◌<◌, ◌/◌, ℕ, IfOk};
+ghost use Rattle.order_graph.specs.Tables.{HasNumber};
+
+use crate::tables::set_bit;
+use crate::{EdgeRows, EdgeSet, Graph};
 use std::alloc::{AllocError, Global};
 use std::process::Abort;
 use std::test::Fail;
@@ -19,6 +23,32 @@ fn graph_of(alloc: Global, nodes: usize, edges: &[(usize, usize)]) -> Result<Gra
         join(&mut graph, u, v);
     }
     Ok(graph)
+}
+
+/// A row of so many words with the bit of v.
+fn row_of(alloc: Global, v: usize, width: usize) -> Result<Vec<u64>, AllocError>
+    requires { v / 64 < width }
+    ensures { IfOk result (λ row. (w : ℕ) → HasNumber row.items w → w ≡ v) }
+{
+    let mut row = vec![in alloc; 0; width]?;
+    set_bit(&mut row, width, 0, v);
+    Ok(row)
+}
+
+/// A graph of these edges, made from rows of one edge each.
+fn graph_of_rows(
+    alloc: Global,
+    nodes: usize,
+    edges: &[(usize, usize)],
+) -> Result<Graph, AllocError> {
+    let mut rows = EdgeRows::new(alloc, nodes)?;
+    for (u, v) in edges.iter().copied() {
+        let row = row_of(alloc, v, v / 64 + 1)?;
+        if u < rows.nodes() && v < rows.nodes() {
+            rows.add_row(u, &row);
+        }
+    }
+    Graph::of_rows(rows)
 }
 
 fn has(graph: &Graph, u: usize, v: usize) -> bool {
@@ -134,13 +164,12 @@ fn plain_cycle(
 fn compare(
     rt: &impl Abort,
     alloc: Global,
+    graph: &Graph,
     edges: &[(usize, usize)],
-    nodes: usize,
 ) -> Result<(), AllocError> {
-    let graph = graph_of(alloc, nodes, edges)?;
-    assert_eq!(rt; graph.nodes(), nodes);
+    let nodes = graph.nodes();
     for u in 0..nodes {
-        let reached = reached(alloc, &graph, u)?;
+        let reached = reached(alloc, graph, u)?;
         let mut some = false;
         for v in 0..nodes {
             let path = plain_path(alloc, edges, nodes, u, v)?;
@@ -151,22 +180,22 @@ fn compare(
                 "{u} {v} in {edges:?}"
             );
             assert_eq!(rt;
-                has(&graph, u, v),
+                has(graph, u, v),
                 edges.contains(&(u, v)),
                 "{u} {v} in {edges:?}"
             );
             assert_eq!(rt;
-                reaches(&graph, u, v),
+                reaches(graph, u, v),
                 !path.is_empty(),
                 "{u} {v} in {edges:?}"
             );
-            let found = least_path(&graph, u, v)?;
+            let found = least_path(graph, u, v)?;
             assert!(rt;
                 is_list(&found, &path),
                 "{u} {v} in {edges:?}: {found:?}, not {path:?}"
             );
         }
-        assert_eq!(rt; has_from(&graph, u), some, "{u} in {edges:?}");
+        assert_eq!(rt; has_from(graph, u), some, "{u} in {edges:?}");
     }
     let cycle = plain_cycle(alloc, edges, nodes)?;
     let found = graph.least_cycle()?;
@@ -252,8 +281,67 @@ fn small_graphs_as_by_lists(rt: HostRuntime) -> Result<(), Fail> {
             let v = (word >> 33) as usize % nodes;
             edges.push((u, v))?;
         }
-        compare(&rt, rt.alloc(), &edges, nodes)?;
+        let added = graph_of(rt.alloc(), nodes, &edges)?;
+        assert_eq!(rt; added.nodes(), nodes);
+        compare(&rt, rt.alloc(), &added, &edges)?;
+        let made = graph_of_rows(rt.alloc(), nodes, &edges)?;
+        assert_eq!(rt; made.nodes(), nodes);
+        compare(&rt, rt.alloc(), &made, &edges)?;
     }
+    Ok(())
+}
+
+/// Graphs of some hundred numbers, with few cycles and with many, are the same whether they are made from rows or by
+/// `add`.
+#[test]
+fn rows_as_by_add(rt: HostRuntime) -> Result<(), Fail> {
+    let mut word = 3u64;
+    for (nodes, count) in [(65usize, 40), (130, 100), (130, 300), (200, 210)] {
+        let mut edges = Vec::new(rt.alloc());
+        for _ in 0..count {
+            word = next_word(word);
+            let u = (word >> 33) as usize % nodes;
+            word = next_word(word);
+            let v = (word >> 33) as usize % nodes;
+            edges.push((u, v))?;
+        }
+        let added = graph_of(rt.alloc(), nodes, &edges)?;
+        let made = graph_of_rows(rt.alloc(), nodes, &edges)?;
+        for u in 0..nodes {
+            for v in 0..nodes {
+                assert_eq!(rt; has(&made, u, v), has(&added, u, v), "{u} {v}");
+                assert_eq!(rt;
+                    reaches(&made, u, v),
+                    reaches(&added, u, v),
+                    "{u} {v} of {nodes}"
+                );
+            }
+        }
+        assert_eq!(rt;
+            made.least_cycle()?,
+            added.least_cycle()?,
+            "{count} of {nodes}"
+        );
+    }
+    Ok(())
+}
+
+/// A row may have fewer words than a row of the graph, or more.
+#[test]
+fn rows_of_any_width(rt: HostRuntime) -> Result<(), Fail> {
+    let edges = [(0, 70), (70, 1), (1, 130)];
+    let graph = graph_of_rows(rt.alloc(), 131, &edges)?;
+    assert!(rt; is_list(&least_path(&graph, 0, 130)?, &[0, 70, 1, 130]));
+    assert_eq!(rt; path_words(&graph, 0), [2, 64, 4].as_slice());
+    let mut rows = EdgeRows::new(rt.alloc(), 2)?;
+    assert_eq!(rt; rows.nodes(), 2);
+    let row = row_of(rt.alloc(), 1, 5)?;
+    if rows.nodes() == 2 {
+        rows.add_row(0, &row);
+    }
+    let graph = Graph::of_rows(rows)?;
+    assert!(rt; has(&graph, 0, 1) && !has(&graph, 1, 0) && !has(&graph, 0, 0));
+    assert!(rt; EdgeRows::new(rt.alloc(), usize::MAX).is_err());
     Ok(())
 }
 

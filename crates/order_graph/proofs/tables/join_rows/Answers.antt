@@ -1,18 +1,43 @@
-use Rattle.std.proofs.Common.{◌≡◌, ◌<◌, ◌+◌, ◌*◌, ◌%◌, subst, arith}
-use Rattle.order_graph.proofs.Growth.{Adds-none, AreTurned-both, row_within}
+use Rattle.std.proofs.Common.{◌≡◌, ◌<◌, ◌+◌, ◌*◌, ◌%◌, subst, sym, arith}
+use Rattle.order_graph.specs.Tables.{HasBit}
+use Rattle.order_graph.proofs.Growth.{Widens, Adds-none, Widens-start, Widens-step, Widens-end, given_below, row_within}
 use Rattle.order_graph.proofs.tables.join_rows.Goals as goal
 
-pub add_rows-requires-clause-within : goal.add_rows-requires-clause-within
-add_rows-requires-clause-within c = λ k h b.
+pub set_words-fresh-requires-clause-within : goal.set_words-fresh-requires-clause-within
+set_words-fresh-requires-clause-within c = λ k h b.
     let a = c.args in
-    omega (arith, row_within (64 * a.i + k) a.nodes a.width (c.requires.rows k h b), c.requires.turned.table_sized)
+    omega (arith, row_within (64 * a.i + k) a.nodes a.width (c.requires.rows k h b), c.loop-j.invariant.turned.table_sized)
+
+pub set_words-requires-clause-within : goal.set_words-requires-clause-within
+set_words-requires-clause-within c = λ k h b.
+    let a = c.args in
+    let m : (64 * c.loop-j.j + k) % 64 ≡ k = omega arith in
+    let given = c.set_words-fresh.ensures.some k h b in
+    let below : 64 * c.loop-j.j + k < a.nodes =
+    given_below c.loop-j.table c.loop-j.turned a.width a.nodes a.v c.loop-j.j c.with_bit-given.result c.loop-j.invariant.turned c.requires.given (omega arith) c.with_bit-given.ensures
+    (64 * c.loop-j.j + k) (omega arith) (subst (λ n. HasBit c.with_bit-given.result n) (sym m) given) in
+    omega (arith, row_within (64 * c.loop-j.j + k) a.nodes a.width below, c.loop-j.invariant.turned.turned_sized)
 
 pub returns-then-rows-eq0-clause-added : goal.returns-then-rows-eq0-clause-added
 returns-then-rows-eq0-clause-added c = Adds-none c.args.table.now c.args.width c.args.i c.args.rows c.args.v (omega arith)
 
-pub returns-clause-turned : goal.returns-clause-turned
-returns-clause-turned c =
+pub loop-j-init : goal.loop-j-init
+loop-j-init c =
     let a = c.args in
-    AreTurned-both a.table.now a.turned.now c.add_rows.new.table c.add_columns.new.turned a.width a.nodes a.i a.rows a.v c.requires.turned c.requires.fits c.requires.given
+    Widens-start a.table.now a.turned.now a.width a.nodes a.i a.rows a.v c.requires.turned
+
+pub loop-j-preserved : goal.loop-j-preserved
+loop-j-preserved c =
+    let a = c.args in
+    Widens-step a.table.now c.loop-j.table c.loop-j.turned c.set_words-fresh.new.table c.set_words.new.table a.width a.nodes a.i a.rows a.v c.loop-j.j
+    c.with_bit-given.result c.set_words-fresh.result c.loop-j.invariant (omega arith) c.requires.fits c.requires.given
     (λ x at b. let e : 64 * a.i + x % 64 ≡ x = omega (arith, at) in subst (λ n. n < a.nodes) e (c.requires.rows (x % 64) (omega arith) b))
-    (omega arith) (omega arith) c.add_rows.ensures c.add_columns.ensures
+    c.with_bit-given.ensures (omega arith) (omega arith) c.set_words-fresh.ensures.added c.set_words-fresh.ensures.some
+    (λ x y at b ej g. c.set_words-fresh.ensures.fresh x y at b ej g) c.set_words.ensures.added
+
+pub returns-clause-added : goal.returns-clause-added
+returns-clause-added c =
+    let a = c.args in
+    let done : c.loop-j.j ≡ a.width = omega arith in
+    Widens-end a.table.now c.loop-j.table c.loop-j.turned a.width a.nodes a.i a.rows a.v
+    (subst (λ n. Widens a.table.now c.loop-j.table c.loop-j.turned a.width a.nodes a.i a.rows a.v n) done c.loop-j.invariant)

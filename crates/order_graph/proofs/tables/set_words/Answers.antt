@@ -1,13 +1,30 @@
-use Rattle.std.proofs.Common.{◌≡◌, subst, arith}
+use Rattle.std.proofs.Common.{◌≡◌, inl, inr, ◌%◌, subst, arith}
 use Rattle.std.specs.Int.{trailing_zeros, w64}
-use Rattle.order_graph.proofs.Words.{HasBit-lowest, clear_less}
-use Rattle.order_graph.proofs.Growth.{Marks, Marks-step, Marks-end}
+use Rattle.order_graph.specs.Tables.{HasBit}
+use Rattle.order_graph.proofs.Words.{HasBit-lowest, HasBit-zero, clear_less}
+use Rattle.order_graph.proofs.Growth.{Marks, Marks-start, Marks-step, Marks-end, Tells-start, Tells-step}
 use Rattle.order_graph.proofs.tables.set_words.Goals as goal
 
-pub set_word-requires-clause-row : goal.set_word-requires-clause-row
-set_word-requires-clause-row c =
+pub set_word-fresh-requires-clause-row : goal.set_word-fresh-requires-clause-row
+set_word-fresh-requires-clause-row c =
     let low = HasBit-lowest c.loop-left.left (omega arith) (omega arith) in
-    omega (arith, c.requires.within (trailing_zeros w64 c.loop-left.left) low.0 (c.loop-left.invariant.some _ low.0 low.1))
+    omega (arith, c.requires.within (trailing_zeros w64 c.loop-left.left) low.0 (c.loop-left.invariant.0.some _ low.0 low.1))
+
+pub returns-then-given-eq0-clause-added : goal.returns-then-given-eq0-clause-added
+returns-then-given-eq0-clause-added c = record {
+  bits = λ y x h. (λ s. inl s, λ s. elim s [ inl o ↦ o | inr g ↦ absurd (HasBit-zero (x % 64) (subst (λ n. HasBit n (x % 64)) (omega arith) g.3)) ]);
+}
+
+pub returns-then-given-eq0-clause-some : goal.returns-then-given-eq0-clause-some
+returns-then-given-eq0-clause-some c = λ k h b. absurd (HasBit-zero k b)
+
+pub returns-then-given-eq0-clause-fresh : goal.returns-then-given-eq0-clause-fresh
+returns-then-given-eq0-clause-fresh c = λ y x hj b hi g. absurd (HasBit-zero (x % 64) (subst (λ n. HasBit n (x % 64)) (omega arith) g))
+
+pub loop-left-init : goal.loop-left-init
+loop-left-init c =
+    let a = c.args in
+    (Marks-start a.table.now a.width a.j a.rows a.i a.given, Tells-start a.table.now a.width a.j a.rows a.i a.given)
 
 pub loop-left-smaller : goal.loop-left-smaller
 loop-left-smaller c =
@@ -16,13 +33,24 @@ loop-left-smaller c =
 
 pub loop-left-preserved : goal.loop-left-preserved
 loop-left-preserved c =
-    let a = c.args in
-    Marks-step a.table.now c.loop-left.table c.set_word.new.table a.width a.j a.rows a.i a.given c.loop-left.left
-    c.loop-left.invariant (omega arith) (omega arith) c.set_word.ensures.added
+    let a = c.args in (
+      Marks-step a.table.now c.loop-left.table c.set_word-fresh.new.table a.width a.j a.rows a.i a.given c.loop-left.left
+          c.loop-left.invariant.0 (omega arith) (omega arith) c.set_word-fresh.ensures.added,
+      Tells-step a.table.now c.loop-left.table c.set_word-fresh.new.table a.width a.j a.rows a.i a.given c.loop-left.left c.loop-left.fresh c.set_word-fresh.result
+          c.loop-left.invariant.1 c.requires.column (omega arith) (omega arith) c.set_word-fresh.ensures.added c.set_word-fresh.ensures.fresh,
+    )
 
-pub returns : goal.returns
-returns c =
+pub returns-clause-added : goal.returns-clause-added
+returns-clause-added c =
     let a = c.args in
     let done : c.loop-left.left ≡ 0 = omega arith in
     Marks-end a.table.now c.loop-left.table a.width a.j a.rows a.i a.given
-    (subst (λ n. Marks a.table.now c.loop-left.table a.width a.j a.rows a.i a.given n) done c.loop-left.invariant)
+    (subst (λ n. Marks a.table.now c.loop-left.table a.width a.j a.rows a.i a.given n) done c.loop-left.invariant.0)
+
+pub returns-clause-some : goal.returns-clause-some
+returns-clause-some c = c.loop-left.invariant.1.only
+
+pub returns-clause-fresh : goal.returns-clause-fresh
+returns-clause-fresh c = λ y x hj b hi g.
+    let done : c.loop-left.left ≡ 0 = omega arith in
+    c.loop-left.invariant.1.had y x hj b (λ l. HasBit-zero (y % 64) (subst (λ n. HasBit n (y % 64)) done l)) hi g

@@ -1,0 +1,5 @@
+use Rattle.order_graph.specs.Digraphs.{KeepsPathsToDone}
+use Rattle.order_graph.proofs.all_paths.finish.Given as goal
+
+abbrev pub invariant-loop-j : goal.invariant-loop-j
+invariant-loop-j l = KeepsPathsToDone l.nodes l.width l.edges l.paths l.done

@@ -1,0 +1,6 @@
+use Rattle.std.proofs.Common.{◌≡◌, length}
+use Rattle.order_graph.specs.Digraphs.{KeepsPathsToDone}
+use Rattle.order_graph.proofs.all_paths.paths_in_order.Given as goal
+
+abbrev pub invariant-loop-x : goal.invariant-loop-x
+invariant-loop-x l = (length l.done.items ≡ l.width) × KeepsPathsToDone l.nodes l.width l.edges l.paths.items l.done.items

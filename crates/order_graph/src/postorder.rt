@@ -1,0 +1,73 @@
+//! The order in which a depth-first search leaves the numbers.
+
+ghost use Rattle.std.specs.Prelude.{◌≡◌, ◌↔◌, ◌<◌, ◌+◌, ◌/◌, ◌^◌, ℕ, All, IfOk, IfSome, length};
+ghost use Rattle.order_graph.specs.Tables.{IsSet, IsTable};
+
+use crate::searches::first_shared;
+use crate::tables::{clear_bit, set_bit};
+use std::alloc::{AllocError, Global};
+
+/// A row of all numbers below `nodes`.
+pub fn row_of_all(alloc: Global, width: usize, nodes: usize) -> Result<Vec<u64>, AllocError>
+    requires small { nodes < 2 ^ 32 }
+    requires fits { width ≡ (nodes + 63) / 64 }
+    ensures { IfOk result (λ row. (length row.items ≡ width) × ((y : ℕ) → y / 64 < width → IsSet row.items width 0 y ↔ (y < nodes))) }
+{
+    let mut row = vec![in alloc; 0; width]?;
+    for y in 0..nodes {
+        set_bit(&mut row, width, 0, y);
+    }
+    Ok(row)
+}
+
+/// Where a search goes on: the first number left that an edge leads to from the top of the stack, or, if nothing is on
+/// it, the first number left.
+#[inline]
+pub fn next_left(
+    edges: &[u64],
+    stack: &[usize],
+    left: &[u64],
+    width: usize,
+    nodes: usize,
+) -> Option<usize>
+    requires edges { IsTable nodes width edges.now }
+    requires stack { All (λ x. x < nodes) stack.now }
+    requires left { length left.now ≡ width }
+    ensures { IfSome result (λ y. (y / 64 < width) × IsSet left.now width 0 y) }
+{
+    match stack.last() {
+        Some(x) => first_shared(edges, *x, left, 0, width, 0, width),
+        None => first_shared(left, 0, left, 0, width, 0, width),
+    }
+}
+
+/// The numbers in the order in which a depth-first search leaves them: where no cycle is, each behind those that it has
+/// an edge to. The contract leaves the order open, since it only saves time.
+pub fn postorder(
+    alloc: Global,
+    edges: &[u64],
+    width: usize,
+    nodes: usize,
+) -> Result<Vec<usize>, AllocError>
+    requires { IsTable nodes width edges.now }
+    ensures { IfOk result (λ order. All (λ x. x < nodes) order.items) }
+{
+    let mut left = row_of_all(alloc, width, nodes)?;
+    let mut stack = Vec::new(alloc);
+    let mut order = Vec::new(alloc);
+    // Each number is pushed once and popped once.
+    for _ in 0..2 * nodes {
+        match next_left(edges, &stack, &left, width, nodes) {
+            Some(y) => {
+                clear_bit(&mut left, width, 0, y);
+                stack.push(y)?;
+            }
+            None => {
+                if let Some(x) = stack.pop() {
+                    order.push(x)?;
+                }
+            }
+        }
+    }
+    Ok(order)
+}
