@@ -3,6 +3,7 @@ use Rattle.std.proofs.Common.{◌≡◌, ℕ, ◌<◌, ◌^◌, Bool, true, fals
 use Rattle.std.specs.Char.{is_ascii_digit}
 use Rattle.std.specs.Fmt.{decimal}
 use Rattle.std.specs.List.{list_any, list_all, slice_split, onto_first, join_with_byte}
+use Rattle.std.proofs.lemmas.Bool.{or_parts}
 use Rattle.std.proofs.lemmas.Bool.Decides.{nat_tests}
 use Rattle.std.proofs.lemmas.Fmt.{digits_decimal}
 use Rattle.std.proofs.lemmas.List.Splits.{slice_split-cons_yes, slice_split-cons_no}
@@ -16,24 +17,20 @@ has_byte c bytes = list_any (λ b. eqb b c) bytes
 abbrev pub has_byte_in : ℕ → List (List ℕ) → Bool
 has_byte_in c parts = list_any (has_byte c) parts
 
-pub or_false : (a b : Bool) → (a || b) ≡ false → (a ≡ false) × (b ≡ false)
-or_false true b e = absurd cc
-or_false false b e = (refl, e)
-
 -- ---- cutting
 
 -- the first part ends at the first element that passes
 split_front : {X : Type 0} (p : X → Bool) (xs : List X) (y : X) (ys : List X) → list_any p xs ≡ false → p y ≡ true → slice_split p (xs ++ y ∷ ys) ≡ xs ∷ slice_split p ys
 split_front p [] y ys none at = slice_split-cons_yes p y ys at
 split_front p (x ∷ xs) y ys none at =
-    let parts = or_false (p x) (list_any p xs) none in
+    let parts = or_parts (p x) (list_any p xs) none in
     slice_split-cons_no p x (xs ++ y ∷ ys) parts.0 ∙ ap (onto_first x) (split_front p xs y ys parts.1 at)
 
 -- where none passes there is one part
 split_whole : {X : Type 0} (p : X → Bool) (xs : List X) → list_any p xs ≡ false → slice_split p xs ≡ xs ∷ []
 split_whole p [] none = refl
 split_whole p (x ∷ xs) none =
-    let parts = or_false (p x) (list_any p xs) none in
+    let parts = or_parts (p x) (list_any p xs) none in
     slice_split-cons_no p x xs parts.0 ∙ ap (onto_first x) (split_whole p xs parts.1)
 
 same_byte : (c : ℕ) → eqb c c ≡ true
@@ -45,9 +42,9 @@ split_part c part rest none = split_front (λ b. eqb b c) part c rest none (same
 
 -- parts without the byte, joined by it, are cut into these parts
 pub split_joined : (c : ℕ) (part : List ℕ) (parts : List (List ℕ)) → has_byte_in c (part ∷ parts) ≡ false → slice_split (λ b. eqb b c) (join_with_byte c (part ∷ parts)) ≡ part ∷ parts
-split_joined c part [] none = split_whole (λ b. eqb b c) part (or_false (has_byte c part) false none).0
+split_joined c part [] none = split_whole (λ b. eqb b c) part (or_parts (has_byte c part) false none).0
 split_joined c part (next ∷ parts) none =
-    let both = or_false (has_byte c part) (has_byte_in c (next ∷ parts)) none in
+    let both = or_parts (has_byte c part) (has_byte_in c (next ∷ parts)) none in
     split_part c part (join_with_byte c (next ∷ parts)) both.0 ∙ ap (λ ps. part ∷ ps) (split_joined c next parts both.1)
 
 -- ---- bytes
@@ -55,15 +52,15 @@ split_joined c part (next ∷ parts) none =
 has_byte-append : (c : ℕ) (xs ys : List ℕ) → has_byte c xs ≡ false → has_byte c ys ≡ false → has_byte c (xs ++ ys) ≡ false
 has_byte-append c [] ys none also = also
 has_byte-append c (x ∷ xs) ys none also =
-    let parts = or_false (eqb x c) (has_byte c xs) none in
+    let parts = or_parts (eqb x c) (has_byte c xs) none in
     rw parts.0 (has_byte-append c xs ys parts.1 also)
 
 -- what is joined of parts without the byte has none, where another byte joins them
 pub joined_without : (c d : ℕ) (parts : List (List ℕ)) → eqb d c ≡ false → has_byte_in c parts ≡ false → has_byte c (join_with_byte d parts) ≡ false
 joined_without c d [] other none = refl
-joined_without c d (part ∷ []) other none = (or_false (has_byte c part) false none).0
+joined_without c d (part ∷ []) other none = (or_parts (has_byte c part) false none).0
 joined_without c d (part ∷ next ∷ parts) other none =
-    let both = or_false (has_byte c part) (has_byte_in c (next ∷ parts)) none in
+    let both = or_parts (has_byte c part) (has_byte_in c (next ∷ parts)) none in
     has_byte-append c part (d ∷ join_with_byte d (next ∷ parts)) both.0 (rw other (joined_without c d (next ∷ parts) other both.1))
 
 digit_other : (d c : ℕ) → is_ascii_digit d ≡ true → c < 48 → eqb d c ≡ false

@@ -5,6 +5,7 @@ use Rattle.std.specs.Fmt.{decimal}
 use Rattle.std.specs.Str.{bytes_eq}
 use Rattle.std.proofs.lemmas.Bool.Decides.{nat_tests}
 use Rattle.std.proofs.lemmas.Slice.Eq.{bytes_eq-Decides}
+use Rattle.std.proofs.Math.Bool.{and-false}
 use Rattle.tso_cert.specs.declared.steps.CertStep.{CertStep}
 use Rattle.tso_cert.specs.declared.steps.Reason.{Reason}
 use Rattle.tso_cert.specs.declared.steps.Reason.TheVariants.{Base, Inferred}
@@ -15,7 +16,7 @@ use Rattle.tso_cert.specs.declared.faults.Why.TheVariants.{BadLine, BadNumber, B
 use Rattle.tso_cert.specs.Printed.{event_text, reason_pieces, ReasonFits, step_pieces, cycle_pieces, unwritten_pieces, Fits, StepFits}
 use Rattle.tso_cert.specs.Spelling.{are_events, is_rule, is_last_line, is_bad_line, has_bad_number, has_bad_rule, line_fault, number_of}
 use Rattle.tso_cert.specs.Taken.{◌>>=◌, event, events, reason_said, step_said, unwritten_said, said, IsFirst}
-use Rattle.tso_cert.proofs.SayingFacts.{bind_ok, bind_err, cond_true, cond_false, cases, and_false, event_is, event_some, event_none, events_are, events_some, events_none, event-text, events-text, decimal_differs, reason_told, reason_refused, base_said, inferred_said}
+use Rattle.tso_cert.proofs.SayingFacts.{bind_ok, bind_err, cond_true, cond_false, cases, event_is, event_some, event_none, events_are, events_some, events_none, event-text, events-text, decimal_differs, reason_told, reason_refused, base_said, inferred_said}
 
 -- ---- the faults of a line
 
@@ -162,7 +163,7 @@ unwritten_refused : (k : ℕ) (word : List ℕ) (ps : List (List ℕ)) (why : Wh
 unfolding unwritten_said
 unwritten_refused k word [] why other is e =
     let s : BadLine ≡ why = cc in
-    rw (← s) (first_line k (word ∷ []) ((unwritten_line k word [] other is).1 ∙ ap not (and_false (eqb k 1))))
+    rw (← s) (first_line k (word ∷ []) ((unwritten_line k word [] other is).1 ∙ ap not (and-false (eqb k 1))))
 unwritten_refused k word (p ∷ []) why other is e =
     let facts = unwritten_line k word (p ∷ []) other is in
     ⊎_elim
@@ -176,7 +177,7 @@ unwritten_refused k word (p ∷ []) why other is e =
 unwritten_refused k word (p ∷ q ∷ ps) why other is e =
     let s : BadLine ≡ why = cc in
     let many : eqb (suc (suc (suc (length ps)))) 2 ≡ false = grind (arith, nat_tests) in
-    rw (← s) (first_line k (word ∷ p ∷ q ∷ ps) ((unwritten_line k word (p ∷ q ∷ ps) other is).1 ∙ ap (λ b. not (eqb k 1 && b)) many ∙ ap not (and_false (eqb k 1))))
+    rw (← s) (first_line k (word ∷ p ∷ q ∷ ps) ((unwritten_line k word (p ∷ q ∷ ps) other is).1 ∙ ap (λ b. not (eqb k 1 && b)) many ∙ ap not (and-false (eqb k 1))))
 
 -- ---- the line of a step
 

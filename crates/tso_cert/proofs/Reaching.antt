@@ -1,30 +1,25 @@
 -- How far a reader has come in a text: the lines so far have no fault, and they are those of steps.
 use Rattle.std.proofs.Common.{◌≡◌, ℕ, zero, suc, ◌<◌, ◌≤◌, Bool, true, false, not, ◌&&◌, ◌||◌, ◌-◌, eqb, ltb, List, [], ◌∷◌, ◌++◌, length, get_or, take, map, refl, ap, sym, ◌∙◌, subst, arith, ⊎_elim, length-append}
 use Rattle.std.specs.List.{list_any}
-use Rattle.std.proofs.lemmas.Bool.{cases_lt}
+use Rattle.std.proofs.lemmas.Bool.{cases_lt, or_parts}
+use Rattle.std.proofs.Math.Bool.{and-false, and-true}
 use Rattle.std.proofs.lemmas.Bool.Decides.{nat_tests}
 use Rattle.std.proofs.lemmas.List.{take_at, take-append-le, get_or_at, get_or_append_left, append_assoc, map-append}
 use Rattle.line_text.specs.Lines.{parts_of, pieces_of, is_empty}
 use Rattle.line_text.proofs.CutFacts.{split_parts, some_part}
-use Rattle.line_text.proofs.SplitFacts.{or_false}
 use Rattle.tso_cert.specs.declared.steps.Certificate.{Certificate}
 use Rattle.tso_cert.specs.declared.faults.Why.{Why}
 use Rattle.tso_cert.specs.declared.faults.Why.TheVariants.{AfterCycle}
 use Rattle.tso_cert.specs.Printed.{CertFits, cert_pieces}
 use Rattle.tso_cert.specs.Spelling.{Spells, IsRefusal, fault_at, part_fault, line_fault, has_ended, is_last_line, unended, same_why}
 use Rattle.tso_cert.specs.Taken.{IsFirst}
-use Rattle.tso_cert.proofs.SayingFacts.{and_false}
 
 -- ---- parts in front
-
-and_true : (a : Bool) → (a && true) ≡ a
-and_true true = refl
-and_true false = refl
 
 list_any-push : {X : Type 0} (p : X → Bool) (xs : List X) (x : X) → list_any p xs ≡ false → list_any p (xs ++ x ∷ []) ≡ p x
 list_any-push p [] x none = elim (p x) as (λ b. (b || false) ≡ b) [ true ↦ refl | false ↦ refl ]
 list_any-push p (y ∷ xs) x none =
-    let parts = or_false (p y) (list_any p xs) none in
+    let parts = or_parts (p y) (list_any p xs) none in
     ap (λ b. b || list_any p (xs ++ x ∷ [])) parts.0 ∙ list_any-push p xs x parts.1
 
 has_ended-push : (front : List (List ℕ)) (line : List ℕ) → has_ended front ≡ false → has_ended (front ++ line ∷ []) ≡ is_last_line (pieces_of line)
@@ -208,7 +203,7 @@ ended_refused text i rest pieces line behind said r parts takes some =
     let stands : not (is_empty p.1 && is_empty p.0) ≡ true = some_part behind p.0 p.1 p.2 some in
     let at : IsFirst (part_fault (r.front ++ line ∷ []) p.0 (is_empty p.1)) AfterCycle =
     IsFirst-same AfterCycle
-    (λ w. part_fault-ended (r.front ++ line ∷ []) p.0 (is_empty p.1) w (line_ends text i rest pieces line true said r takes) ∙ ap (λ b. same_why AfterCycle w && b) stands ∙ and_true (same_why AfterCycle w))
+    (λ w. part_fault-ended (r.front ++ line ∷ []) p.0 (is_empty p.1) w (line_ends text i rest pieces line true said r takes) ∙ ap (λ b. same_why AfterCycle w && b) stands ∙ and-true (same_why AfterCycle w))
     (same_why-first AfterCycle) in
     let n : length (r.front ++ line ∷ []) ≡ suc i = omega (arith, length-append r.front (line ∷ []), r.count) in
     subst (λ n. IsRefusal text (suc n) AfterCycle) n
@@ -221,7 +216,7 @@ spelled_behind text lines (suc k) w ended body high =
     ⊎_elim
     (λ (at : k < suc (length lines)).
     let same : length lines ≡ k = omega arith in
-    fault_at-place text lines [] [] k w body same ∙ part_fault-ended lines [] true w ended ∙ and_false (same_why AfterCycle w))
+    fault_at-place text lines [] [] k w body same ∙ part_fault-ended lines [] true w ended ∙ and-false (same_why AfterCycle w))
     (λ (past : suc (length lines) ≤ k). fault_at-past text (suc k) w (omega (arith, ap length body, length-append lines ([] ∷ []))))
     (cases_lt k (suc (length lines)))
 

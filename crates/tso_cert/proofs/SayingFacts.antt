@@ -7,6 +7,7 @@ use Rattle.std.specs.List.{list_all}
 use Rattle.std.specs.Str.{bytes_eq}
 use Rattle.std.specs.Char.{is_ascii_digit}
 use Rattle.std.proofs.lemmas.Bool.{false≢true}
+use Rattle.std.proofs.Math.Bool.{and-false}
 use Rattle.std.proofs.lemmas.Fmt.{digits_decimal}
 use Rattle.std.proofs.lemmas.List.Elements.{All-nil, All-cons}
 use Rattle.std.proofs.lemmas.Slice.Eq.{bytes_eq-Decides}
@@ -124,10 +125,6 @@ events_some (p ∷ ps) ns e =
     let others = bind_ok (events ps) _ ns first.2 in
     rw (event_some p first.0 first.1) (events_some ps others.0 others.1)
 
-pub and_false : (a : Bool) → (a && false) ≡ false
-and_false true = refl
-and_false false = refl
-
 pub events_none : (ps : List (List ℕ)) (why : Why) → events ps ≡ Err why → (are_events ps ≡ false) × (why ≡ BadNumber)
 events_none [] why e = absurd cc
 events_none (p ∷ ps) why e =
@@ -135,7 +132,7 @@ events_none (p ∷ ps) why e =
     (λ (first : event p ≡ Err why). let s = event_none p why first in (ap (λ b. b && are_events ps) s.0, s.1))
     (λ (n : (a : ℕ) × (event p ≡ Ok a) × ((events ps >>= λ ns. Ok (a ∷ ns)) ≡ Err why)).
     ⊎_elim
-    (λ (more : events ps ≡ Err why). let s = events_none ps why more in (ap (λ b. is_some (event_number p) && b) s.0 ∙ and_false _, s.1))
+    (λ (more : events ps ≡ Err why). let s = events_none ps why more in (ap (λ b. is_some (event_number p) && b) s.0 ∙ and-false _, s.1))
     (λ (ns : (b : List ℕ) × (events ps ≡ Ok b) × (Ok (n.0 ∷ b) ≡ Err why)). absurd (let s = ns.2 in cc))
     (bind_err (events ps) _ why n.2))
     (bind_err (event p) _ why e)
@@ -231,7 +228,7 @@ reason_refused name (load ∷ path) why e =
     (λ (no_load : event load ≡ Err why). let s = event_none load why no_load in inl (s.1, ap (λ b. b && are_events path) s.0))
     (λ (l : (n : ℕ) × (event load ≡ Ok n) × ((events path >>= λ p. named inferred_name inferred_rules name >>= λ rule. Ok (Inferred rule n p)) ≡ Err why)).
     ⊎_elim
-    (λ (no_path : events path ≡ Err why). let s = events_none path why no_path in inl (s.1, ap (λ b. is_some (event_number load) && b) s.0 ∙ and_false _))
+    (λ (no_path : events path ≡ Err why). let s = events_none path why no_path in inl (s.1, ap (λ b. is_some (event_number load) && b) s.0 ∙ and-false _))
     (λ (p : (ns : List ℕ) × (events path ≡ Ok ns) × ((named inferred_name inferred_rules name >>= λ rule. Ok (Inferred rule l.0 ns)) ≡ Err why)).
     ⊎_elim
     (λ (none : named inferred_name inferred_rules name ≡ Err why).

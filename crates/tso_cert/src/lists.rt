@@ -1,5 +1,7 @@
-ghost use Rattle.std.specs.Prelude.{◌≡◌};
+ghost use Rattle.std.specs.Prelude.{◌≡◌, IfOk};
 
+use crate::faults::OutOfMemory;
+use std::alloc::Global;
 use std::marker::Model;
 
 /// A list of event numbers, with 0 for `init`: a path or a cycle.
@@ -22,6 +24,17 @@ impl NumList {
         ensures { result ≡ numbers.items }
     {
         NumList { numbers }
+    }
+
+    /// The list of these numbers. OutOfMemory where a growth was refused.
+    pub fn from_numbers(alloc: Global, numbers: &[usize]) -> Result<NumList, OutOfMemory>
+        ensures { IfOk result (λ list. list ≡ numbers.now) }
+    {
+        let mut list = Vec::new(alloc);
+        for number in numbers {
+            list.push(*number as u64)?;
+        }
+        Ok(NumList::new(list))
     }
 
     /// The numbers, in their order.

@@ -10,6 +10,8 @@ fn lists_hold_what_they_are_made_of(rt: HostRuntime) -> Result<(), Fail> {
     let numbers = NumList::new(vec![in alloc; 4, 0, u64::MAX]?);
     assert_eq!(rt; numbers.items(), [4, 0, u64::MAX].as_slice());
     assert_eq!(rt; NumList::new(Vec::new(alloc)).items().len(), 0);
+    let numbers = NumList::from_numbers(alloc, &[4, 0, 2_000])?;
+    assert_eq!(rt; numbers.items(), [4, 0, 2_000].as_slice());
     Ok(())
 }
 

@@ -1,7 +1,7 @@
 pub mod CheckFacts
 pub mod EventFacts
 pub mod LimitFacts
-pub mod LoadFacts
+pub mod MaskFacts
 pub mod ProcessorFacts
 pub mod ReadFacts
 pub mod RefusalFacts

@@ -1,5 +1,5 @@
--- Events in file order stand processor by processor.
-use Rattle.std.proofs.Common.{◌≡◌, ℕ, zero, suc, ◌≤◌, List, [], ◌∷◌, ◌++◌, Some, slice_get, subst, arith}
+-- Events in file order stand processor by processor, and on each its barriers only add up.
+use Rattle.std.proofs.Common.{◌≡◌, ℕ, zero, suc, ◌<◌, ◌≤◌, List, [], ◌∷◌, ◌++◌, Some, slice_get, subst, ap, true, false, arith}
 use Rattle.std.specs.List.{AllByRecursion}
 use Rattle.tso_ops.specs.declared.ops.Outcome.{Outcome}
 use Rattle.tso_ops.specs.declared.ops.Outcome.TheVariants.{Ld, St, Sw, Mb}
@@ -11,11 +11,6 @@ use Rattle.tso_ops.proofs.EventFacts.{each-at}
 -- the processors of these events are p or above
 AreFrom : ℕ → List Event → Type 0
 AreFrom p events = AllByRecursion (λ (e : Event). p ≤ e.proc) events
-
--- no event has a lesser processor than one before it
-AreSorted : List Event → Type 0
-AreSorted [] = Unit {0}
-AreSorted (e ∷ events) = AreFrom e.proc events × AreSorted events
 
 from-events : (p bars : ℕ) (ops : List Outcome) (rest : List Event) → AreFrom p rest → AreFrom p (events_from p bars ops ++ rest)
 unfolding AreFrom
@@ -35,33 +30,63 @@ unfolding AreFrom
 from-lists p [] = tt
 from-lists p (ops ∷ lists) = from-events p 0 ops (events_of_lists (suc p) lists) (from-less p (suc p) (events_of_lists (suc p) lists) (omega arith) (from-lists (suc p) lists))
 
-sorted-events : (p bars : ℕ) (ops : List Outcome) (rest : List Event) → AreFrom p rest → AreSorted rest → AreSorted (events_from p bars ops ++ rest)
-unfolding AreFrom AreSorted
-sorted-events p bars [] rest above sorted = sorted
-sorted-events p bars (Ld a r ∷ ops) rest above sorted = (from-events p bars ops rest above, sorted-events p bars ops rest above sorted)
-sorted-events p bars (St a v ∷ ops) rest above sorted = (from-events p bars ops rest above, sorted-events p bars ops rest above sorted)
-sorted-events p bars (Sw a r v ∷ ops) rest above sorted = ((omega arith, from-events p bars ops rest above), (from-events p bars ops rest above, sorted-events p bars ops rest above sorted))
-sorted-events p bars (Mb ∷ ops) rest above sorted = sorted-events p (suc bars) ops rest above sorted
+-- ---- barriers
 
-sorted-lists : (p : ℕ) (lists : List (List Outcome)) → AreSorted (events_of_lists p lists)
-unfolding AreSorted AreFrom
-sorted-lists p [] = tt
-sorted-lists p (ops ∷ lists) =
-    sorted-events p 0 ops (events_of_lists (suc p) lists) (from-less p (suc p) (events_of_lists (suc p) lists) (omega arith) (from-lists (suc p) lists)) (sorted-lists (suc p) lists)
+-- no fewer barriers stand before these events than these, where they are of processor p
+AreBehind : ℕ → ℕ → List Event → Type 0
+AreBehind p bars events = AllByRecursion (λ (e : Event). e.proc ≡ p → bars ≤ e.bars) events
 
-sorted-at : (events : List Event) (j k : ℕ) (d e : Event) → AreSorted events → j ≤ k → slice_get events j ≡ Some d → slice_get events k ≡ Some e → d.proc ≤ e.proc
-unfolding AreSorted AreFrom
-sorted-at [] j k d e sorted order at_j at_k = absurd cc
-sorted-at (x ∷ events) zero zero d e sorted order at_j at_k = let one : d ≡ e = cc in subst (λ (y : Event). d.proc ≤ y.proc) one (omega arith)
-sorted-at (x ∷ events) zero (suc k) d e sorted order at_j at_k =
+-- no fewer barriers stand before an event than before one of its processor that stands before it
+AreBarred : List Event → Type 0
+AreBarred [] = Unit {0}
+AreBarred (e ∷ events) = AreBehind e.proc e.bars events × AreBarred events
+
+behind-events : (p bars more : ℕ) (ops : List Outcome) (rest : List Event) → bars ≤ more → AreBehind p bars rest → AreBehind p bars (events_from p more ops ++ rest)
+unfolding AreBehind
+behind-events p bars more [] rest low behind = behind
+behind-events p bars more (Ld a r ∷ ops) rest low behind = (λ same. low, behind-events p bars more ops rest low behind)
+behind-events p bars more (St a v ∷ ops) rest low behind = (λ same. low, behind-events p bars more ops rest low behind)
+behind-events p bars more (Sw a r v ∷ ops) rest low behind = (λ same. low, (λ same. low, behind-events p bars more ops rest low behind))
+behind-events p bars more (Mb ∷ ops) rest low behind = behind-events p bars (suc more) ops rest (omega arith) behind
+
+behind-others : (p bars : ℕ) (events : List Event) → AreFrom (suc p) events → AreBehind p bars events
+unfolding AreFrom AreBehind
+behind-others p bars [] above = tt
+behind-others p bars (e ∷ events) above = (λ same. absurd (let first : suc p ≤ e.proc = above.0 in omega arith), behind-others p bars events above.1)
+
+-- with the store of a swap in front
+behind-one : (p bars a v : ℕ) (rest : List Event) → AreBehind p bars rest → AreBehind p bars (record { proc = p; load = false; swap = true; a = a; value = v; bars = bars } ∷ rest)
+unfolding AreBehind
+behind-one p bars a v rest behind = (λ same. omega arith, behind)
+
+barred-events : (p bars : ℕ) (ops : List Outcome) (rest : List Event) → AreFrom (suc p) rest → AreBarred rest → AreBarred (events_from p bars ops ++ rest)
+unfolding AreBarred
+barred-events p bars [] rest above barred = barred
+barred-events p bars (Ld a r ∷ ops) rest above barred = (behind-events p bars bars ops rest (omega arith) (behind-others p bars rest above), barred-events p bars ops rest above barred)
+barred-events p bars (St a v ∷ ops) rest above barred = (behind-events p bars bars ops rest (omega arith) (behind-others p bars rest above), barred-events p bars ops rest above barred)
+barred-events p bars (Sw a r v ∷ ops) rest above barred =
+    let behind = behind-events p bars bars ops rest (omega arith) (behind-others p bars rest above) in
+    (behind-one p bars a v (events_from p bars ops ++ rest) behind, (behind, barred-events p bars ops rest above barred))
+barred-events p bars (Mb ∷ ops) rest above barred = barred-events p (suc bars) ops rest above barred
+
+barred-lists : (p : ℕ) (lists : List (List Outcome)) → AreBarred (events_of_lists p lists)
+unfolding AreBarred
+barred-lists p [] = tt
+barred-lists p (ops ∷ lists) = barred-events p 0 ops (events_of_lists (suc p) lists) (from-lists (suc p) lists) (barred-lists (suc p) lists)
+
+barred-at : (events : List Event) (j k : ℕ) (d e : Event) → AreBarred events → j < k → slice_get events j ≡ Some d → slice_get events k ≡ Some e → d.proc ≡ e.proc → d.bars ≤ e.bars
+unfolding AreBarred AreBehind
+barred-at [] j k d e barred order at_j at_k same = absurd cc
+barred-at (x ∷ events) j zero d e barred order at_j at_k same = absurd (omega arith)
+barred-at (x ∷ events) zero (suc k) d e barred order at_j at_k same =
     let first : x ≡ d = cc in
-    subst (λ (y : Event). y.proc ≤ e.proc) first (each-at (λ (y : Event). x.proc ≤ y.proc) events k e at_k sorted.0)
-sorted-at (x ∷ events) (suc j) zero d e sorted order at_j at_k = absurd (omega arith)
-sorted-at (x ∷ events) (suc j) (suc k) d e sorted order at_j at_k = sorted-at events j k d e sorted.1 (omega arith) at_j at_k
+    let behind : e.proc ≡ x.proc → x.bars ≤ e.bars = each-at (λ (y : Event). y.proc ≡ x.proc → x.bars ≤ y.bars) events k e at_k barred.0 in
+    subst (λ (y : Event). y.bars ≤ e.bars) first (behind (let one : x.proc ≡ d.proc = ap (λ (y : Event). y.proc) first in omega arith))
+barred-at (x ∷ events) (suc j) (suc k) d e barred order at_j at_k same = barred-at events j k d e barred.1 (omega arith) at_j at_k same
 
--- an event's processor is no lesser than that of an event before it
-pub processors_ascend : (t : TraceValue) (m n : ℕ) (d e : Event) → event_at t m ≡ Some d → event_at t n ≡ Some e → m ≤ n → d.proc ≤ e.proc
+-- no fewer barriers stand before an event than before a program-earlier one
+pub bars_ascend : (t : TraceValue) (m n : ℕ) (d e : Event) → event_at t m ≡ Some d → event_at t n ≡ Some e → d.proc ≡ e.proc → m < n → d.bars ≤ e.bars
 unfolding events_of event_at
-processors_ascend t zero n d e at_m at_n order = absurd cc
-processors_ascend t (suc j) zero d e at_m at_n order = absurd cc
-processors_ascend t (suc j) (suc k) d e at_m at_n order = sorted-at (events_of_lists 0 t.lists) j k d e (sorted-lists 0 t.lists) (omega arith) at_m at_n
+bars_ascend t zero n d e at_m at_n same order = absurd cc
+bars_ascend t (suc j) zero d e at_m at_n same order = absurd cc
+bars_ascend t (suc j) (suc k) d e at_m at_n same order = barred-at (events_of_lists 0 t.lists) j k d e (barred-lists 0 t.lists) (omega arith) at_m at_n same

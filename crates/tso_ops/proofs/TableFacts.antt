@@ -13,9 +13,9 @@ use Rattle.tso_ops.specs.declared.events.Source.{Source}
 use Rattle.tso_ops.specs.declared.events.Source.TheVariants.{Init, Store, Unwritten}
 use Rattle.tso_ops.specs.Values.{TraceValue, rows}
 use Rattle.tso_ops.specs.Limits.{IsTrace}
-use Rattle.tso_ops.specs.Events.{events_from, events_of_lists, events_of, event_at, HasSource}
+use Rattle.tso_ops.specs.Events.{events_from, events_of_lists, events_of, event_at, IsLoad, HasSource}
 use Rattle.tso_ops.specs.Tables.{IsStoreAt, FindsStore, FindsStores, IsSourceRow, AreSources}
-use Rattle.tso_ops.proofs.EventFacts.{stores_distinct}
+use Rattle.tso_ops.proofs.EventFacts.{stores_distinct, store_value_not_zero}
 use Rattle.tso_ops.proofs.TallyFacts.{is_at-nat_eq}
 
 -- the events of the lists that are left, list by list
@@ -150,6 +150,26 @@ row_missing t l events e is at load non_zero none =
     (λ k d at_k is_store address value.
     let here : slice_get events k ≡ Some d = sym (event_at-suc t events is k) ∙ at_k in
     none k (slice_get_within events k d here) (d, here, is_store, value))
+
+-- what has a source is a load
+pub has_source_load : (t : TraceValue) (l s : ℕ) → HasSource t l s → IsLoad t l
+has_source_load t l zero has = has.0
+has_source_load t l (suc k) has = has.0
+
+-- a load of 0 has no store for its source
+zero_from_init : (t : TraceValue) → IsTrace t → (l k : ℕ) → HasSource t l 0 → HasSource t l (suc k) → ⊥
+zero_from_init t trace l k (load, (d, at_d, zero_value)) (other, store, address, (x, y, at_x, at_y, value)) =
+    let same : y.value ≡ 0 = ap (λ (e : Event). e.value) (same_at t l y d at_y at_d) ∙ zero_value in
+    let above = store_value_not_zero t trace (suc k) x.value store (x, at_x, refl) in
+    omega (arith, above, value, same)
+
+-- a load has one source
+pub one_source : (t : TraceValue) → IsTrace t → (l r s : ℕ) → HasSource t l r → HasSource t l s → r ≡ s
+one_source t trace l zero zero left right = refl
+one_source t trace l zero (suc k) left right = absurd (zero_from_init t trace l k left right)
+one_source t trace l (suc j) zero left right = absurd (zero_from_init t trace l j right left)
+one_source t trace l (suc j) (suc k) (load, store, address, (d, e, at_d, at_e, value)) (load', store', address', (d', e', at_d', at_e', value')) =
+    stores_distinct t trace (suc j) (suc k) store store' (d, d', at_d, at_d', value ∙ ap (λ (x : Event). x.value) (same_at t l e e' at_e at_e') ∙ sym value')
 
 -- ---- the table of sources, row by row
 

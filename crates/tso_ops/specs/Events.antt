@@ -58,6 +58,18 @@ IsSwapLoad t n = (e : Event) × (event_at t n ≡ Some e) × IsTrue e.load × Is
 abbrev pub IsLoadAt : TraceValue → ℕ → ℕ → Type 0
 IsLoadAt t a n = (e : Event) × (event_at t n ≡ Some e) × IsTrue e.load × (e.a ≡ a)
 
+-- event n is a store to the address
+abbrev pub IsStoreTo : TraceValue → ℕ → ℕ → Type 0
+IsStoreTo t a n = (e : Event) × (event_at t n ≡ Some e) × IsFalse e.load × (e.a ≡ a)
+
+-- event n is one of processor p
+abbrev pub IsEventOf : TraceValue → ℕ → ℕ → Type 0
+IsEventOf t p n = (e : Event) × (event_at t n ≡ Some e) × (e.proc ≡ p)
+
+-- so many barriers stand before event n on its processor
+abbrev pub IsBehind : TraceValue → ℕ → ℕ → Type 0
+IsBehind t bars n = (e : Event) × (event_at t n ≡ Some e) × (e.bars ≡ bars)
+
 abbrev pub HasValue : TraceValue → ℕ → ℕ → Type 0
 HasValue t n value = (e : Event) × (event_at t n ≡ Some e) × (e.value ≡ value)
 

@@ -15,6 +15,7 @@ mod events;
 mod faults;
 pub mod laws;
 mod limits;
+mod masks;
 mod ops;
 mod programs;
 mod tables;

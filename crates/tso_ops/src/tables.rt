@@ -1,17 +1,14 @@
-ghost use Rattle.std.specs.Prelude.{◌≡◌, ℕ, ◌++◌, ◌<◌, Some, [], length, replicate, IfOk, OnOk};
+ghost use Rattle.std.specs.Prelude.{◌≡◌, ℕ, ◌++◌, ◌<◌, Some, length, IfOk, OnOk};
 ghost use Rattle.tso_ops.specs.Values.{TraceValue, rows};
 ghost use Rattle.tso_ops.specs.Limits.{IsTrace};
 ghost use Rattle.tso_ops.specs.Events.{event_at, events_from, events_of, events_of_lists};
-ghost use Rattle.tso_ops.specs.Tables.{AddsLoad, AreLoads, AreSources, FindsStores, IsSourceRow};
+ghost use Rattle.tso_ops.specs.Tables.{AreSources, FindsStores, IsSourceRow};
 
 use crate::events::{Event, Source};
 use crate::faults::OutOfMemory;
 use crate::ops::Outcome;
 use std::alloc::Global;
 use std::collections::BTreeMap;
-
-/// The number of addresses.
-const ADDRESSES: usize = 256;
 
 /// The events of a trace with these lists, in file order.
 pub(crate) fn list_events(alloc: Global, lists: &[Vec<Outcome>]) -> Result<Vec<Event>, OutOfMemory>
@@ -114,37 +111,4 @@ fn source_of(stores: &BTreeMap<u64, usize>, events: &[Event], event: Event) -> O
         Some(n) if events[*n - 1].a == event.a => Some(Source::Store(*n)),
         _ => Some(Source::Unwritten),
     }
-}
-
-/// The numbers of the loads among the events of a trace, in a list for each address.
-pub(crate) fn list_loads(alloc: Global, events: &[Event]) -> Result<Vec<Vec<usize>>, OutOfMemory>
-    ensures { (t : TraceValue) → IsTrace t → events_of t ≡ events.now → IfOk result (λ lists. AreLoads t (rows lists.items)) }
-{
-    let mut lists = empty_lists(alloc)?;
-    for (k, event) in events.iter().enumerate() {
-        add_load(&mut lists, *event, k + 1)?;
-    }
-    Ok(lists)
-}
-
-/// An empty list for each address.
-fn empty_lists(alloc: Global) -> Result<Vec<Vec<usize>>, OutOfMemory>
-    ensures { IfOk result (λ lists. rows lists.items ≡ replicate 256 []) }
-{
-    let mut lists = Vec::new(alloc);
-    for _ in 0..ADDRESSES {
-        lists.push(Vec::new(alloc))?;
-    }
-    Ok(lists)
-}
-
-/// Pushes the event's number on the list of its address, if it is a load.
-fn add_load(lists: &mut [Vec<usize>], event: Event, n: usize) -> Result<(), OutOfMemory>
-    ensures { OnOk result (AddsLoad (rows lists.old) (rows lists.new) event n) }
-{
-    let a = event.a as usize;
-    if event.load && a < lists.len() {
-        lists[a].push(n)?;
-    }
-    Ok(())
 }

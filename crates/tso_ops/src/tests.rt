@@ -111,11 +111,39 @@ fn sources_of_loads(rt: HostRuntime) -> Result<(), Fail> {
     for (n, source) in wanted {
         assert_eq!(rt; trace.source(n), source, "source of {n}");
     }
-    assert_eq!(rt; trace.loads_at(0), [].as_slice());
-    assert_eq!(rt; trace.loads_at(1), [4, 5, 7].as_slice());
-    assert_eq!(rt; trace.loads_at(2), [2, 6].as_slice());
-    assert_eq!(rt; trace.loads_at(3), [8].as_slice());
-    assert_eq!(rt; trace.loads_at(256), [].as_slice());
+    assert_eq!(rt; trace.reader_words(0), [1 << 4].as_slice());
+    assert_eq!(rt; trace.reader_words(1), [1 << 5].as_slice());
+    assert_eq!(rt; trace.reader_words(3), [1 << 2].as_slice());
+    assert_eq!(rt; trace.reader_words(9), [1 << 8].as_slice());
+    assert_eq!(rt; trace.reader_words(10), [].as_slice());
+    Ok(())
+}
+
+#[test]
+fn rows_of_bits(rt: HostRuntime) -> Result<(), Fail> {
+    let alloc = rt.alloc();
+    let loads = vec![in alloc; Outcome::Ld { a: 0, r: 0 }; 66]?;
+    let others = vec![in alloc;
+        Outcome::Sw { a: 1, r: 0, v: 7 },
+        Outcome::Mb,
+        Outcome::St { a: 1, v: 8 },
+    ]?;
+    let trace = Trace::new(alloc, vec![in alloc; loads, others]?).map_err(|refused| refused.why)?;
+    assert_eq!(rt; trace.load_words(0), [!1, 0b111].as_slice());
+    assert_eq!(rt; trace.load_words(1), [0, 0b1000].as_slice());
+    assert_eq!(rt; trace.load_words(256), [].as_slice());
+    assert_eq!(rt; trace.store_words(0), [].as_slice());
+    assert_eq!(rt; trace.store_words(1), [0, 0b110000].as_slice());
+    assert_eq!(rt; trace.all_store_words(), [0, 0b110000].as_slice());
+    assert_eq!(rt; trace.swap_load_words(), [0, 0b1000].as_slice());
+    assert_eq!(rt; trace.processor_words(0), [!1, 0b111].as_slice());
+    assert_eq!(rt; trace.processor_words(1), [0, 0b111000].as_slice());
+    assert_eq!(rt; trace.processor_words(2), [].as_slice());
+    assert_eq!(rt; trace.barrier_words(0), [!1, 0b11111].as_slice());
+    assert_eq!(rt; trace.barrier_words(1), [0, 0b100000].as_slice());
+    assert_eq!(rt; trace.barrier_words(2), [].as_slice());
+    assert_eq!(rt; trace.reader_words(0), [!1, 0b1111].as_slice());
+    assert_eq!(rt; trace.reader_words(68), [].as_slice());
     Ok(())
 }
 

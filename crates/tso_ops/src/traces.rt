@@ -1,15 +1,17 @@
-ghost use Rattle.std.specs.Prelude.{◌≡◌, ◌≢◌, ◌<◌, ◌↔◌, ℕ, Contains, IsSome, IfSome, IfOk, IfErr, OnOk};
+ghost use Rattle.std.specs.Prelude.{◌≡◌, ◌≢◌, ◌<◌, ◌↔◌, ℕ, IsSome, IfSome, IfOk, IfErr, OnOk};
 ghost use Rattle.tso_ops.specs.declared.faults.ValueFault.{ValueFault};
 ghost use Rattle.tso_ops.specs.Values.{rows, trace_of_lists, program_of};
 ghost use Rattle.tso_ops.specs.Limits.{IsTrace, IsRefusal};
-ghost use Rattle.tso_ops.specs.Events.{processor_count, outcomes_at, event_total, event_at, IsLoad, IsLoadAt, SourceIs};
+ghost use Rattle.tso_ops.specs.Events.{processor_count, outcomes_at, event_total, event_at, IsLoad, IsLoadAt, IsStore, IsStoreTo, IsSwapLoad, IsEventOf, IsBehind, HasSource, SourceIs};
 ghost use Rattle.tso_ops.specs.Tables.{IsTabled};
+ghost use Rattle.tso_ops.specs.Masks.{IsMask};
 
 use crate::checks::check_lists;
 use crate::events::{Event, Source};
 use crate::faults::{OutOfMemory, Refused, ValueFault};
+use crate::masks::{Masks, list_masks, row_at};
 use crate::ops::Outcome;
-use crate::tables::{list_events, list_loads, list_sources};
+use crate::tables::{list_events, list_sources};
 use std::alloc::Global;
 use std::marker::Model;
 
@@ -22,7 +24,7 @@ pub struct Trace {
     lists: Vec<Vec<Outcome>>,
     events: Vec<Event>,
     sources: Vec<Option<Source>>,
-    loads: Vec<Vec<usize>>,
+    masks: Masks,
 }
 
 impl Model for Trace {
@@ -33,7 +35,7 @@ impl Model for Trace {
 
     ghost view = { λ t. trace_of_lists (rows t.lists.items) };
 
-    ghost invariant = { λ t. IsTabled t.lists.items t.events.items t.sources.items t.loads.items };
+    ghost invariant = { λ t. IsTabled t.lists.items t.events.items t.sources.items t.masks };
 }
 
 impl Trace {
@@ -52,11 +54,11 @@ impl Trace {
             return Err(Refused { why, lists });
         }
         match tables(alloc, &lists) {
-            Ok((events, sources, loads)) => Ok(Trace {
+            Ok((events, sources, masks)) => Ok(Trace {
                 lists,
                 events,
                 sources,
-                loads,
+                masks,
             }),
             Err(_) => Err(Refused {
                 why: ValueFault::OutOfMemory,
@@ -70,12 +72,12 @@ impl Trace {
         requires { IsTrace (trace_of_lists (rows lists.items)) }
         ensures { IfOk result (λ t. t ≡ trace_of_lists (rows lists.items)) }
     {
-        let (events, sources, loads) = tables(alloc, &lists)?;
+        let (events, sources, masks) = tables(alloc, &lists)?;
         Ok(Trace {
             lists,
             events,
             sources,
-            loads,
+            masks,
         })
     }
 
@@ -96,6 +98,7 @@ impl Trace {
     }
 
     /// The number of events, from 0 to 2,000.
+    #[inline]
     pub fn events(&self) -> usize
         ensures count { result ≡ event_total self.now }
         ensures kept { IsTrace self.now }
@@ -104,6 +107,7 @@ impl Trace {
     }
 
     /// Event number `n`, or None outside 1 to `events()`.
+    #[inline]
     pub fn event(&self, n: usize) -> Option<Event>
         ensures { result ≡ event_at self.now n }
     {
@@ -111,6 +115,7 @@ impl Trace {
     }
 
     /// Where the value of load `n` comes from, or None where `n` is no load.
+    #[inline]
     pub fn source(&self, n: usize) -> Option<Source>
         ensures load { IsSome result ↔ IsLoad self.now n }
         ensures read { IfSome result (SourceIs self.now n) }
@@ -118,27 +123,75 @@ impl Trace {
         *self.sources.get(n.checked_sub(1)?)?
     }
 
-    /// The numbers of the loads of address `a`: none where it is above 255.
-    pub fn loads_at(&self, a: u16) -> &[usize]
-        ensures { (n : ℕ) → Contains result.now n ↔ IsLoadAt self.now a n }
+    /// The loads of address `a`, as a row of bits: that of the number n is bit `n % 64` of word `n / 64`.
+    ///
+    /// A row ends with the word of its last bit: it is empty where `a` is above 255.
+    #[inline]
+    pub fn load_words(&self, a: u16) -> &[u64]
+        ensures { IsMask result.now (IsLoadAt self.now a) }
     {
-        match self.loads.get(a as usize) {
-            Some(list) => list,
-            None => &[],
-        }
+        row_at(&self.masks.loads, a as usize)
+    }
+
+    /// The stores to address `a`, as such a row.
+    #[inline]
+    pub fn store_words(&self, a: u16) -> &[u64]
+        ensures { IsMask result.now (IsStoreTo self.now a) }
+    {
+        row_at(&self.masks.stores, a as usize)
+    }
+
+    /// The stores of all addresses, as such a row.
+    #[inline]
+    pub fn all_store_words(&self) -> &[u64]
+        ensures { IsMask result.now (IsStore self.now) }
+    {
+        row_at(&self.masks.all_stores, 0)
+    }
+
+    /// The loads of swaps, as such a row.
+    #[inline]
+    pub fn swap_load_words(&self) -> &[u64]
+        ensures { IsMask result.now (IsSwapLoad self.now) }
+    {
+        row_at(&self.masks.swap_loads, 0)
+    }
+
+    /// The events of processor `p`, as such a row: empty where there is no such processor.
+    #[inline]
+    pub fn processor_words(&self, p: usize) -> &[u64]
+        ensures { IsMask result.now (IsEventOf self.now p) }
+    {
+        row_at(&self.masks.processors, p)
+    }
+
+    /// The events that so many barriers stand before on their processors, as such a row.
+    #[inline]
+    pub fn barrier_words(&self, bars: usize) -> &[u64]
+        ensures { IsMask result.now (IsBehind self.now bars) }
+    {
+        row_at(&self.masks.barriers, bars)
+    }
+
+    /// The loads whose source is number `s`, 0 for `Init`, as such a row.
+    #[inline]
+    pub fn reader_words(&self, s: usize) -> &[u64]
+        ensures { IsMask result.now (λ l. HasSource self.now l s) }
+    {
+        row_at(&self.masks.readers, s)
     }
 }
 
-/// The tables that a trace of these lists answers from: its events, their sources, and the loads of each address.
+/// The tables that a trace of these lists answers from: its events, their sources, and rows of bits.
 fn tables(
     alloc: Global,
     lists: &[Vec<Outcome>],
-) -> Result<(Vec<Event>, Vec<Option<Source>>, Vec<Vec<usize>>), OutOfMemory>
+) -> Result<(Vec<Event>, Vec<Option<Source>>, Masks), OutOfMemory>
     ensures { IsTrace (trace_of_lists (rows lists.now)) →
-        IfOk result (λ tables. IsTabled lists.now tables.0.items tables.1.items tables.2.items) }
+        IfOk result (λ tables. IsTabled lists.now tables.0.items tables.1.items tables.2) }
 {
     let events = list_events(alloc, lists)?;
     let sources = list_sources(alloc, &events)?;
-    let loads = list_loads(alloc, &events)?;
-    Ok((events, sources, loads))
+    let masks = list_masks(alloc, &events, &sources)?;
+    Ok((events, sources, masks))
 }

@@ -1,25 +1,25 @@
 -- Lemmas on the edges that the inferred rules give over a graph.
-use Rattle.std.proofs.Common.{◌≡◌, ◌∙◌, ◌⊎◌, ◌↔◌, inl, inr, ℕ, zero, suc, ◌+◌, ◌-◌, ◌*◌, ◌/◌, ◌%◌, ◌^◌, ◌<◌, ◌≤◌, Option, Some, List, [], get_or, false, IsTrue, refl, sym, ap, subst, arith, ⊎_elim}
+use Rattle.std.proofs.Common.{◌≡◌, ◌≢◌, ◌∙◌, ◌⊎◌, ◌↔◌, inl, inr, ℕ, suc, ◌+◌, ◌-◌, ◌<◌, ◌≤◌, Some, List, [], get_or, false, IsTrue, refl, sym, subst, arith, ⊎_elim, length}
 use Rattle.std.specs.Prelude.{bit_and}
-use Rattle.std.specs.Int.{bit_at, bit_not, w64}
-use Rattle.std.proofs.lemmas.Nat.Bits.{bit_at_lowest, bit_at_cat_low, bit_at_cat_high}
 use Rattle.std.proofs.lemmas.Option.{same_Some}
-use Rattle.std.specs.Option.{IfSome}
 use Rattle.std.proofs.lemmas.Bool.{false≢true, cases_lt}
 use Rattle.order_graph.specs.Digraphs.{Digraph, IsEdge, EdgesWithin}
-use Rattle.order_graph.specs.Tables.{HasBit, HasNumber}
-use Rattle.order_graph.proofs.Words.{HasBit-and, HasBit-not}
+use Rattle.order_graph.specs.Tables.{HasNumber}
 use Rattle.order_paths.specs.Paths.{Reaches}
 use Rattle.order_paths.proofs.Reach.{Reaches-below}
 use Rattle.tso_ops.specs.Values.{TraceValue}
-use Rattle.tso_ops.specs.Events.{event_total, HasSource}
+use Rattle.tso_ops.specs.declared.events.Event.{Event}
+use Rattle.tso_ops.specs.Events.{event_total, event_at, HasSource, IsStore, IsLoadAt, IsStoreTo, IsSwapLoad, SameAddress}
+use Rattle.tso_ops.specs.Masks.{IsMask}
 use Rattle.tso_cert.specs.declared.rules.InferredRule.{InferredRule}
 use Rattle.tso_cert.specs.declared.rules.InferredRule.TheVariants.{LoadPast, StorePast, SwapBefore, SwapAfter}
 use Rattle.tso_model.specs.Certs.{inferred_index}
 use Rattle.tso_model.specs.EdgeLists.{IsNew, IsGivenBy}
+use Rattle.tso_model.proofs.Events.{event_above_zero, store_event}
 use Rattle.tso_model.proofs.RankFacts.{new_within}
-use Rattle.tso_rules.specs.Rows.{Marks, IsNewRow, IsCounted, counted_by, GivesBy, IsFirstGiven}
-use Rattle.tso_rules.proofs.RowFacts.{if_some, marks_both, marks_as, HasNumber-word, HasNumber-none}
+use Rattle.tso_rules.specs.Rows.{Marks, IsNewRow, IsOtherSource, IsSourceIn, IsSourceOf, GivesBy, IsFirstGiven}
+use Rattle.tso_rules.proofs.BaseFacts.{load_at, at_load, store_to, source_load}
+use Rattle.tso_rules.proofs.RowFacts.{marks_both, marks_as, mask_number, both_number, words_more, ByWords, HasNumber-none, words_by, HasNumber-within, marked_is}
 
 -- past the numbers of a graph there is no path
 pub no_path_past : (g : Digraph) (u v : ℕ) → EdgesWithin g → ((u < g.nodes) × (v < g.nodes) → ⊥) → IsTrue false ↔ Reaches (IsEdge g) u v
@@ -32,90 +32,115 @@ row_new t rule Edge u v new = let given = new.1.0 in ((rule, new.0, given.0, giv
 pub row_within : (t : TraceValue) (rule : InferredRule) (Edge : ℕ → ℕ → Type 0) (u v : ℕ) → IsNewRow t rule Edge u v → v < suc (event_total t)
 row_within t rule Edge u v new = (new_within t Edge u v (row_new t rule Edge u v new)).1
 
--- the new edges of a rule are those that its numbers count
-pub counted_row : (t : TraceValue) (rule : InferredRule) (Edge : ℕ → ℕ → Type 0) (u v : ℕ) → ((n : ℕ) × IsCounted t rule Edge u n v) ↔ IsNewRow t rule Edge u v
-counted_row t rule Edge u v = (λ by. (by.1.0, by.1.1), λ new. (counted_by rule new.0 v, (new.0, new.1, refl)))
+-- a store's new edges by LoadPast lead to the other sources, which it doesn't reach, of the loads of its address that it reaches
+pub load_past_is : (t : TraceValue) (Edge : ℕ → ℕ → Type 0) (u v : ℕ) (event : Event) (loads reached : List ℕ) → event_at t u ≡ Some event → event.load ≡ false →
+    IsMask loads (IsLoadAt t event.a) → ((n : ℕ) → HasNumber reached n ↔ Reaches Edge u n) →
+    (IsSourceOf t reached loads u v × (HasNumber reached v → ⊥)) ↔ IsNewRow t LoadPast Edge u v
+load_past_is t Edge u v event loads reached at store loads_are paths = (
+  λ is. let source = is.0 in
+      let l = source.0 in
+      let of = (mask_number loads (IsLoadAt t event.a) loads_are l).0 source.2 in
+      (l, ((u, l, ((event, at, store), at_load t u l event at of, source.3.0, source.3.1, refl, refl), (paths l).0 source.1), λ path. is.1 ((paths v).1 path))),
+  λ new. let l = new.0 in
+      let given = new.1.0 in
+      let by = given.2 in (
+        (
+          l,
+          (paths l).1 (subst (λ x. Reaches Edge x l) by.4 (subst (λ y. Reaches Edge given.0 y) by.5 given.3)),
+          (mask_number loads (IsLoadAt t event.a) loads_are l).1 (load_at t u l event at (source_load t l v by.2) by.1),
+          (by.2, by.3),
+        ),
+        λ has. new.1.1 ((paths v).0 has),
+      ),
+)
 
--- the numbers that count new edges of StorePast come after the source, and not after the load
-pub store_past_counted : (t : TraceValue) (Edge : ℕ → ℕ → Type 0) (u s n v : ℕ) → ((x : ℕ) → HasSource t u x → Some s ≡ Some x) → IsCounted t StorePast Edge u n v →
-    Reaches Edge s n × (Reaches Edge u n → ⊥)
-store_past_counted t Edge u s n v all counted =
-    let given = counted.1.0 in
-    let by = given.2 in
-    let one : s ≡ given.0 = same_Some s given.0 (all given.0 (subst (λ l. HasSource t l given.0) (sym by.0) by.3)) in
-    let end : given.1 ≡ n = by.5 ∙ sym counted.2 in
-    (subst (λ x. Reaches Edge x n) (sym one) (subst (λ y. Reaches Edge given.0 y) end given.3), λ path. counted.1.1 (subst (λ y. Reaches Edge u y) counted.2 path))
+-- the sources of the loads in both rows, before word j
+abbrev pub SourcesBefore : TraceValue → List ℕ → List ℕ → ℕ → ℕ → ℕ → Type 0
+SourcesBefore t one two u j v = ByWords (λ l x. HasNumber one l × HasNumber two l × IsOtherSource t u l x) j v
 
--- the numbers that count new edges of SwapBefore are reached, and not the numbers below them
-pub swap_before_counted : (t : TraceValue) (Edge : ℕ → ℕ → Type 0) (u n v : ℕ) → IsCounted t SwapBefore Edge u n v → (n ≡ suc v) × Reaches Edge u n × (Reaches Edge u v → ⊥)
-swap_before_counted t Edge u n v counted =
-    let given = counted.1.0 in
-    let by = given.2 in (
-      counted.2 ∙ ap suc (sym by.1),
-      subst (λ y. Reaches Edge u y) (by.5 ∙ sym counted.2) (subst (λ x. Reaches Edge x given.1) by.4 given.3),
-      counted.1.1,
-    )
+-- one word more
+pub sources_more : (t : TraceValue) (u : ℕ) (first old new one two : List ℕ) (j a b : ℕ) → Marks first old (SourcesBefore t one two u j) → Marks old new (IsSourceIn t u j (bit_and a b)) →
+    a ≡ get_or one j 0 → b ≡ get_or two j 0 → Marks first new (SourcesBefore t one two u (j + 1))
+sources_more t u first old new one two j a b before step a_is b_is =
+    words_more first old new j (λ l v. HasNumber one l × HasNumber two l × IsOtherSource t u l v) before
+    (marks_as old new _ _ step (λ v. (
+      λ by. (let both = (both_number one two j a b by.0 by.1 a_is b_is).0 by.2 in (by.0, by.1, (both.0, both.1, by.3))),
+      λ by. (by.0, by.1, (both_number one two j a b by.0 by.1 a_is b_is).1 (by.2.0, by.2.1), by.2.2),
+    )))
 
--- the numbers that count new edges of SwapAfter come after the load of the swap, and not after its store
-pub swap_after_counted : (t : TraceValue) (Edge : ℕ → ℕ → Type 0) (u l n v : ℕ) → u ≡ suc l → IsCounted t SwapAfter Edge u n v → Reaches Edge l n × (Reaches Edge u n → ⊥)
-swap_after_counted t Edge u l n v is counted =
-    let given = counted.1.0 in
-    let by = given.2 in
-    let one : given.0 ≡ l = let store = by.1 in let from = by.4 in omega arith in (
-      subst (λ x. Reaches Edge x n) one (subst (λ y. Reaches Edge given.0 y) (by.5 ∙ sym counted.2) given.3),
-      λ path. counted.1.1 (subst (λ y. Reaches Edge u y) counted.2 path),
-    )
+-- all words
+pub sources_all : (t : TraceValue) (u : ℕ) (last one two : List ℕ) (j : ℕ) → Marks [] last (SourcesBefore t one two u j) → length one ≤ j →
+    (v : ℕ) → HasNumber last v ↔ IsSourceOf t one two u v
+sources_all t u last one two j marks whole v =
+    let By = λ (l x : ℕ). HasNumber one l × HasNumber two l × IsOtherSource t u l x in
+    let all = words_by [] last j By marks (λ n x by. let low = HasNumber-within one n by.0 in omega (arith, low, whole)) in
+    (λ has. let is = marked_is [] last _ refl all v has in (is.0, is.1.0, is.1.1, is.1.2), λ is. (all.marked v).1 (inr (is.0, (is.1, is.2, is.3))))
 
--- ---- words
+-- a load's new edges by StorePast lead to the other stores to its address that come after its source, and not after it
+pub store_past_is : (t : TraceValue) (Edge : ℕ → ℕ → Type 0) (u s v : ℕ) (event : Event) (from stores reached : List ℕ) → event_at t u ≡ Some event → HasSource t u s →
+    ((x : ℕ) → HasSource t u x → Some s ≡ Some x) → ((n : ℕ) → HasNumber from n ↔ Reaches Edge s n) → IsMask stores (IsStoreTo t event.a) →
+    ((n : ℕ) → HasNumber reached n ↔ Reaches Edge u n) → ((HasNumber from v × HasNumber stores v × (HasNumber reached v → ⊥)) × (v ≢ s)) ↔ IsNewRow t StorePast Edge u v
+store_past_is t Edge u s v event from stores reached at source all from_paths stores_are paths = (
+  λ is. let to = (mask_number stores (IsStoreTo t event.a) stores_are v).0 is.0.1 in
+      (u, ((s, v, (refl, (to.0, to.1, to.2), (to.0, event, to.1, at, to.3), source, is.1, refl), (from_paths v).0 is.0.0), λ path. is.0.2 ((paths v).1 path))),
+  λ new. let given = new.1.0 in
+      let by = given.2 in
+      let one : given.0 ≡ s = sym (same_Some s given.0 (all given.0 (subst (λ l. HasSource t l given.0) (sym by.0) by.3))) in
+      let path = subst (λ x. Reaches Edge x v) one (subst (λ y. Reaches Edge given.0 y) by.5 given.3) in
+      let same = subst (λ l. SameAddress t v l) (sym by.0) by.2 in (
+        ((from_paths v).1 path, (mask_number stores (IsStoreTo t event.a) stores_are v).1 (store_to t u v event at by.1 same), λ has. new.1.1 ((paths v).0 has)),
+        λ e. by.4 (e ∙ sym one),
+      ),
+)
 
--- a number of the one row that isn't in the other has its bit in the word of the one without the other
-pub kept_number : (row other : List ℕ) (j word without n : ℕ) → n / 64 ≡ j → word ≡ get_or row j 0 → without ≡ get_or other j 0 → without < 2 ^ 64 → HasNumber row n →
-    (HasNumber other n → ⊥) → HasBit (bit_and word (bit_not w64 without)) (n % 64)
-kept_number row other j word without n at is also fits has not =
-    (HasBit-and word (bit_not w64 without) (n % 64)).1 (
-      subst (λ w. HasBit w (n % 64)) (sym is) ((HasNumber-word row n j at).0 has),
-      (HasBit-not without (n % 64) fits (omega arith)).1 (λ bit. not ((HasNumber-word other n j at).1 (subst (λ w. HasBit w (n % 64)) also bit))),
-    )
+-- a store's new edges by SwapBefore lead to the loads of other swaps whose stores it reaches, where it doesn't reach them
+pub swap_before_is : (t : TraceValue) (Edge : ℕ → ℕ → Type 0) (u v : ℕ) (loads reached : List ℕ) → IsStore t u → IsMask loads (IsSwapLoad t) →
+    ((n : ℕ) → HasNumber reached n ↔ Reaches Edge u n) → ((HasNumber reached (suc v) × HasNumber loads v × (HasNumber reached v → ⊥)) × (v ≢ (u - 1))) ↔ IsNewRow t SwapBefore Edge u v
+swap_before_is t Edge u v loads reached store loads_are paths = (
+  λ is. (
+    v,
+    (
+      (u, suc v, ((mask_number loads (IsSwapLoad t) loads_are v).0 is.0.1, refl, store, λ e. is.1 (omega (arith, e)), refl, refl), (paths (suc v)).0 is.0.0),
+      λ path. is.0.2 ((paths v).1 path),
+    ),
+  ),
+  λ new. let given = new.1.0 in
+      let by = given.2 in
+      let one : new.0 ≡ v = sym by.1 in
+      let path = subst (λ k. Reaches Edge u (suc k)) one (subst (λ y. Reaches Edge u y) by.5 (subst (λ x. Reaches Edge x given.1) by.4 given.3)) in (
+        (
+          (paths (suc v)).1 path,
+          (mask_number loads (IsSwapLoad t) loads_are v).1 (subst (λ k. IsSwapLoad t k) one by.0),
+          λ has. new.1.1 ((paths v).0 has),
+        ),
+        λ e. by.3 (let above = event_above_zero t u (store_event t u store) in omega (arith, e, one)),
+      ),
+)
 
--- the bits of `word << 1` are those of the word, one place up
-shifted_bit : (word k : ℕ) → k < 64 → HasBit (word * 2 ^ 1 % 2 ^ 64) k → (m : ℕ) × (k ≡ suc m) × HasBit word m
-unfolding HasBit
-shifted_bit word zero low bit = absurd (let lowest = bit_at_lowest (word * 2 ^ 1 % 2 ^ 64) in omega arith)
-shifted_bit word (suc m) low bit =
-    let n : ℕ = word * 2 ^ 1 in
-    let parts : n ≡ n / 2 ^ 64 * 2 ^ 64 + n % 2 ^ 64 = omega arith in
-    let down : suc m - 1 ≡ m = omega arith in (
-      m,
-      refl,
-      sym (ap (bit_at word) down) ∙ sym (bit_at_cat_high word 1 0 (suc m) (omega arith) (omega arith)) ∙ ap (λ i. bit_at i (suc m)) (omega arith)
-          ∙ ap (λ i. bit_at i (suc m)) parts ∙ bit_at_cat_low (n / 2 ^ 64) 64 (n % 2 ^ 64) (suc m) low ∙ bit,
-    )
-
--- a number whose number below isn't in the row has its bit in the word without the word that is shifted up by one
-pub first_number : (row : List ℕ) (j word m n : ℕ) → n / 64 ≡ j → word ≡ get_or row j 0 → n ≡ suc m → HasNumber row n → (HasNumber row m → ⊥) →
-    HasBit (bit_and word (bit_not w64 (word * 2 ^ 1 % 2 ^ 64))) (n % 64)
-first_number row j word m n at is next has not =
-    (HasBit-and word (bit_not w64 (word * 2 ^ 1 % 2 ^ 64)) (n % 64)).1 (
-      subst (λ w. HasBit w (n % 64)) (sym is) ((HasNumber-word row n j at).0 has),
-      (HasBit-not (word * 2 ^ 1 % 2 ^ 64) (n % 64) (omega arith) (omega arith)).1 (λ bit.
-          let below = shifted_bit word (n % 64) (omega arith) bit in
-          let place : m / 64 ≡ j = omega (arith, below.1) in
-          let same : m % 64 ≡ below.0 = omega (arith, below.1) in
-          not ((HasNumber-word row m j place).1 (subst (λ w. HasBit w (m % 64)) is (subst (λ k. HasBit word k) (sym same) below.2)))),
-    )
+-- a swap's new edges by SwapAfter lead from its store to the other stores that come after its load, and not after its store
+pub swap_after_is : (t : TraceValue) (Edge : ℕ → ℕ → Type 0) (u l v : ℕ) (from stores reached : List ℕ) → IsSwapLoad t l → u ≡ suc l → ((n : ℕ) → HasNumber from n ↔ Reaches Edge l n) →
+    IsMask stores (IsStore t) → ((n : ℕ) → HasNumber reached n ↔ Reaches Edge u n) →
+    ((HasNumber from v × HasNumber stores v × (HasNumber reached v → ⊥)) × (v ≢ u)) ↔ IsNewRow t SwapAfter Edge u v
+swap_after_is t Edge u l v from stores reached swap next from_paths stores_are paths = (
+  λ is. (
+    l,
+    (
+      (l, v, (swap, next, (mask_number stores (IsStore t) stores_are v).0 is.0.1, λ e. is.1 (e ∙ sym next), refl, refl), (from_paths v).0 is.0.0),
+      λ path. is.0.2 ((paths v).1 path),
+    ),
+  ),
+  λ new. let given = new.1.0 in
+      let by = given.2 in
+      let one : given.0 ≡ l = (let store = by.1 in let from_load = by.4 in omega arith) in
+      let path = subst (λ x. Reaches Edge x v) one (subst (λ y. Reaches Edge given.0 y) by.5 given.3) in (
+        ((from_paths v).1 path, (mask_number stores (IsStore t) stores_are v).1 by.2, λ has. new.1.1 ((paths v).0 has)),
+        λ e. by.3 (e ∙ by.1),
+      ),
+)
 
 -- a row without words has the numbers that are reached from past the graph's numbers: none
 pub no_row_past : (g : Digraph) (u v : ℕ) → EdgesWithin g → (u < g.nodes → ⊥) → HasNumber [] v ↔ Reaches (IsEdge g) u v
 no_row_past g u v within past = (λ has. absurd (HasNumber-none v has), λ path. absurd (past (Reaches-below (IsEdge g) g.nodes within u v path).0))
-
--- the same for a rule under another name
-pub rule_is : (t : TraceValue) (Edge : ℕ → ℕ → Type 0) (u n : ℕ) (rule r : InferredRule) (o : Option ℕ) (P : ℕ → Type 0) → rule ≡ r → IfSome o P → ((v : ℕ) → P v → IsCounted t r Edge u n v) →
-    IfSome o (IsCounted t rule Edge u n)
-rule_is t Edge u n rule r o P same found new = if_some P (IsCounted t rule Edge u n) o (λ v p. subst (λ k. IsCounted t k Edge u n v) (sym same) (new v p)) found
-
-pub rule_all : (t : TraceValue) (Edge : ℕ → ℕ → Type 0) (u n : ℕ) (rule r : InferredRule) (o : Option ℕ) → rule ≡ r →
-    ((v : ℕ) → IsCounted t r Edge u n v → o ≡ Some v) → (v : ℕ) → IsCounted t rule Edge u n v → o ≡ Some v
-rule_all t Edge u n rule r o same all v counted = all v (subst (λ k. IsCounted t k Edge u n v) same counted)
 
 row_of : (t : TraceValue) (Edge : ℕ → ℕ → Type 0) (u v : ℕ) (rule : InferredRule) → IsNewRow t rule Edge u v →
     ((IsNewRow t LoadPast Edge u v ⊎ IsNewRow t StorePast Edge u v) ⊎ IsNewRow t SwapBefore Edge u v) ⊎ IsNewRow t SwapAfter Edge u v

@@ -1,10 +1,12 @@
 -- Rows of edges: to which numbers edges lead from one number.
-use Rattle.std.specs.Prelude.{Bool, ◌≡◌, ◌⊎◌, ◌↔◌, ℕ, suc, ◌/◌, ◌%◌, ◌<◌, ◌≤◌, List, [], ◌∷◌, Contains, false, IsTrue, length, slice_index_or}
+use Rattle.std.specs.Prelude.{Bool, ◌≡◌, ◌≢◌, ◌⊎◌, ◌↔◌, ℕ, ◌/◌, ◌%◌, ◌<◌, ◌≤◌, List, [], ◌∷◌, Contains, false, IsTrue, slice_index_or}
 use Rattle.tso_ops.specs.Values.{TraceValue}
+use Rattle.tso_ops.specs.declared.events.Event.{Event}
+use Rattle.tso_ops.specs.Events.{HasSource, IsStore, IsBehind}
 use Rattle.tso_cert.specs.declared.rules.BaseRule.{BaseRule}
 use Rattle.tso_cert.specs.declared.rules.BaseRule.TheVariants.{LoadOp, StoreStore, Membar, Read}
 use Rattle.tso_cert.specs.declared.rules.InferredRule.{InferredRule}
-use Rattle.tso_cert.specs.declared.rules.InferredRule.TheVariants.{LoadPast, StorePast, SwapBefore, SwapAfter}
+use Rattle.tso_cert.specs.declared.rules.InferredRule.TheVariants.{LoadPast}
 use Rattle.tso_cert.specs.declared.steps.Reason.{Reason}
 use Rattle.tso_cert.specs.declared.steps.Reason.TheVariants.{Base, Inferred}
 use Rattle.order_graph.specs.Tables.{HasBit, HasNumber}
@@ -36,6 +38,10 @@ pub record Marks (old new : List ℕ) (To : ℕ → Type 0) : Type 0 where
 abbrev pub IsLater : TraceValue → ℕ → ℕ → Type 0
 IsLater t u v = BasePair t LoadOp u v ⊎ BasePair t StoreStore u v ⊎ BasePair t Membar u v
 
+-- program order puts number n behind the event, if it is program-later
+abbrev pub IsOrdered : TraceValue → Event → ℕ → Type 0
+IsOrdered t event n = IsTrue event.load ⊎ IsStore t n ⊎ (IsBehind t event.bars n → ⊥)
+
 -- load l gives the edge from store u: the load reads it, or reads past it what v wrote
 abbrev pub IsReadBy : TraceValue → ℕ → ℕ → ℕ → Type 0
 IsReadBy t u l v = ((v ≡ l) × BasePair t Read u l) ⊎ IsOwnBy t l u v
@@ -48,21 +54,17 @@ IsNewBy t rule l Edge u v = IsGivenBy t rule l (Reaches Edge) u v × (Reaches Ed
 abbrev pub IsNewRow : TraceValue → InferredRule → (ℕ → ℕ → Type 0) → ℕ → ℕ → Type 0
 IsNewRow t rule Edge u v = (l : ℕ) × IsNewBy t rule l Edge u v
 
--- the number by which the rule's edges from one number are counted, and which gives one at most: for LoadPast the load, for SwapBefore the
--- swap's store, and else the end
-abbrev pub counted_by : InferredRule → ℕ → ℕ → ℕ
-counted_by LoadPast l v = l
-counted_by StorePast l v = v
-counted_by SwapBefore l v = suc l
-counted_by SwapAfter l v = v
+-- load l has the source v, which isn't u
+abbrev pub IsOtherSource : TraceValue → ℕ → ℕ → ℕ → Type 0
+IsOtherSource t u l v = HasSource t l v × (u ≢ v)
 
--- the rule gives the new edge, which is counted by this number
-abbrev pub IsCounted : TraceValue → InferredRule → (ℕ → ℕ → Type 0) → ℕ → ℕ → ℕ → Type 0
-IsCounted t rule Edge u n v = (l : ℕ) × IsNewBy t rule l Edge u v × (n ≡ counted_by rule l v)
+-- a load of word j, whose bit is set in this word, has such a source
+abbrev pub IsSourceIn : TraceValue → ℕ → ℕ → ℕ → ℕ → Type 0
+IsSourceIn t u j word v = (l : ℕ) × (l / 64 ≡ j) × HasBit word (l % 64) × IsOtherSource t u l v
 
--- a number of word j, whose bit is set in this word, counts the rule's new edge
-abbrev pub IsCountedIn : TraceValue → InferredRule → (ℕ → ℕ → Type 0) → ℕ → ℕ → ℕ → ℕ → Type 0
-IsCountedIn t rule Edge u j word v = (n : ℕ) × (n / 64 ≡ j) × HasBit word (n % 64) × IsCounted t rule Edge u n v
+-- a load in both rows has such a source
+abbrev pub IsSourceOf : TraceValue → List ℕ → List ℕ → ℕ → ℕ → Type 0
+IsSourceOf t one two u v = (l : ℕ) × HasNumber one l × HasNumber two l × IsOtherSource t u l v
 
 -- Rule and load come first among those that give the edge by a path over these edges: the first rule, then the least load.
 abbrev pub IsFirstGiven : TraceValue → (ℕ → ℕ → Type 0) → ℕ → ℕ → InferredRule → ℕ → Type 0

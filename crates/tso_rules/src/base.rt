@@ -1,14 +1,14 @@
 //! The base rules.
-ghost use Rattle.std.specs.Prelude.{◌≡◌, ◌≢◌, ◌↔◌, ℕ, Some, IsTrue, IfOk, OnOk, IfSome, MatchOption};
-ghost use Rattle.tso_ops.specs.Events.{event_at, IsEvent, IsStore, SameAddress};
-ghost use Rattle.tso_ops.specs.declared.events.Event.{Event};
+ghost use Rattle.std.specs.Prelude.{◌≡◌, ◌↔◌, ◌<◌, ◌+◌, ◌*◌, ◌/◌, ◌^◌, ℕ, suc, Some, IsTrue, IfOk, OnOk, IfSome, MatchOption};
+ghost use Rattle.order_graph.specs.Tables.{HasBit, HasNumber};
+ghost use Rattle.tso_ops.specs.Events.{event_total, IsEvent};
 ghost use Rattle.tso_model.specs.Rules.{IsOwnBy, BasePair};
 ghost use Rattle.tso_model.specs.Ranks.{F};
 ghost use Rattle.tso_model.specs.Certs.{IsFirstBase};
-ghost use Rattle.tso_rules.specs.Rows.{IsRow, Marks, IsLater, IsReadBy};
+ghost use Rattle.tso_rules.specs.Rows.{IsRow, Marks, IsLater, IsOrdered, IsReadBy};
 
-use crate::marks::{mark_end, marked};
-use crate::sources::source_of;
+use crate::marks::{mark_end, mark_word, marked, word_above, word_at};
+use crate::sources::{mark_sources, source_of};
 use std::alloc::Global;
 use tso_cert::BaseRule;
 use tso_model::plain::events::{is_earlier, is_event, is_store, node_count, same_address};
@@ -17,7 +17,7 @@ use tso_ops::{Event, OutOfMemory, Trace};
 
 /// The first base rule that gives the edge from `u` to `v`, or None where no rule does.
 ///
-/// It takes one walk over the events from `u` on at most: `base_row` gives all base edges of a row for one walk.
+/// It takes one walk over the events from `u` on at most: `base_row` gives all base edges of a row for less.
 pub fn base_edge(trace: &Trace, u: usize, v: usize) -> Option<BaseRule>
     ensures { MatchOption result ((rule : BaseRule) → BasePair trace.now rule u v → ⊥) (IsFirstBase trace.now u v) }
 {
@@ -65,15 +65,33 @@ fn own_target(trace: &Trace, u: usize, l: usize) -> Option<usize>
 
 /// The numbers to which the base rules give an edge from `u`, ascending; OutOfMemory where a growth was refused.
 ///
-/// It takes one walk over the later events of the processor of `u`, and, for a store, one over the loads of its address.
+/// It lists the numbers of `base_words`.
 pub fn base_row(alloc: Global, trace: &Trace, u: usize) -> Result<Vec<usize>, OutOfMemory>
     ensures { IfOk result (λ row. IsRow row.items (F trace.now 0 u)) }
 {
     let _events = trace.events();
-    let nodes = node_count(trace);
-    let mut marks = Vec::with_capacity(alloc, nodes.div_ceil(64))?;
+    marked(alloc, &base_words(alloc, trace, u)?, node_count(trace))
+}
+
+/// The numbers to which the base rules give an edge from `u`, as a row of bits: that of the number v is bit `v % 64` of
+/// word `v / 64`. OutOfMemory where a growth was refused.
+///
+/// It takes a few looks at each word of the trace's rows, and, for a store, one at each program-later load of its address.
+pub fn base_words(alloc: Global, trace: &Trace, u: usize) -> Result<Vec<u64>, OutOfMemory>
+    ensures { IfOk result (λ row. (v : ℕ) → HasNumber row.items v ↔ F trace.now 0 u v) }
+{
+    let mut marks = Vec::with_capacity(alloc, word_count(trace))?;
     mark_base(trace, &mut marks, u)?;
-    marked(alloc, &marks, nodes)
+    Ok(marks)
+}
+
+/// The number of words that a row of bits has at most, for the numbers of a trace.
+fn word_count(trace: &Trace) -> usize
+    ensures count { (v : ℕ) → v < suc (event_total trace.now) → v / 64 < result }
+    ensures small { result < 2 ^ 32 }
+{
+    let _events = trace.events();
+    node_count(trace).div_ceil(64)
 }
 
 /// Marks the numbers to which the base rules give an edge from `u`.
@@ -108,44 +126,35 @@ fn event_end(trace: &Trace, n: usize) -> Option<usize>
 }
 
 /// Marks the numbers to which program order gives an edge from `u`.
-///
-/// The events of a processor stand together, so the walk ends with them.
 fn mark_later(trace: &Trace, marks: &mut Vec<u64>, u: usize) -> Result<(), OutOfMemory>
     ensures { OnOk result (Marks marks.old.items marks.new.items (IsLater trace.now u)) }
 {
     let Some(event) = trace.event(u) else {
         return Ok(());
     };
-    for n in u..node_count(trace) {
-        if is_elsewhere(trace, event.proc, n) {
-            return Ok(());
-        }
-        mark_end(marks, later_end(trace, u, event, n))?;
+    let processor = trace.processor_words(event.proc);
+    for j in u / 64..processor.len() {
+        let later = word_at(processor, j) & word_above(u, j);
+        mark_word(marks, j, later & ordered_word(trace, event, j))?;
     }
     Ok(())
 }
 
-/// Whether event `n` is another processor's.
+/// Word `j` of the row of the numbers that program order puts behind the event, if they are program-later: all for a load,
+/// and for a store the stores and what stands behind more barriers.
 #[inline]
-fn is_elsewhere(trace: &Trace, proc: usize, n: usize) -> bool
-    ensures { IsTrue result ↔ ((e : Event) × (event_at trace.now n ≡ Some e) × (e.proc ≢ proc)) }
+fn ordered_word(trace: &Trace, event: Event, j: usize) -> u64
+    ensures { (k : ℕ) → k < 64 → HasBit result k ↔ IsOrdered trace.now event (64 * j + k) }
 {
-    trace.event(n).is_some_and(|e| e.proc != proc)
+    if event.load {
+        u64::MAX
+    } else {
+        word_at(trace.all_store_words(), j) | !word_at(trace.barrier_words(event.bars), j)
+    }
 }
 
-/// Number `n`, where program order gives the edge from event `u` to it.
-#[inline]
-fn later_end(trace: &Trace, u: usize, event: Event, n: usize) -> Option<usize>
-    requires { event_at trace.now u ≡ Some event }
-    ensures is { IfSome result (λ v. (v ≡ n) × IsLater trace.now u n) }
-    ensures all { IsLater trace.now u n → result ≡ Some n }
-{
-    let later = trace.event(n)?;
-    let is_later = event.proc == later.proc && u < n;
-    (is_later && (event.load || !later.load || event.bars < later.bars)).then_some(n)
-}
-
-/// Marks the numbers to which the rules Read and Own give an edge from `u`.
+/// Marks the numbers to which the rules Read and Own give an edge from `u`, if it is a store: the loads that read it but
+/// aren't program-later, and the other sources of the program-later loads of its address.
 fn mark_reads(trace: &Trace, marks: &mut Vec<u64>, u: usize) -> Result<(), OutOfMemory>
     ensures { OnOk result (Marks marks.old.items marks.new.items (λ v. (l : ℕ) × IsReadBy trace.now u l v)) }
 {
@@ -155,25 +164,13 @@ fn mark_reads(trace: &Trace, marks: &mut Vec<u64>, u: usize) -> Result<(), OutOf
     if event.load {
         return Ok(());
     }
-    for l in trace.loads_at(event.a) {
-        mark_end(marks, read_end(trace, u, *l))?;
+    let loads = trace.load_words(event.a);
+    let readers = trace.reader_words(u);
+    let processor = trace.processor_words(event.proc);
+    for j in 0..word_count(trace) {
+        let later = word_at(processor, j) & word_above(u, j);
+        mark_word(marks, j, word_at(readers, j) & !later)?;
+        mark_sources(trace, marks, u, j, word_at(loads, j) & later)?;
     }
     Ok(())
-}
-
-/// The end of the edge from store `u` that load `l` of its address gives: the load, where it reads the store and isn't
-/// program-later; its source, where it is program-later and doesn't read the store.
-#[inline]
-fn read_end(trace: &Trace, u: usize, l: usize) -> Option<usize>
-    requires store { IsStore trace.now u }
-    requires address { SameAddress trace.now u l }
-    ensures is { IfSome result (λ v. IsReadBy trace.now u l v) }
-    ensures all { (v : ℕ) → IsReadBy trace.now u l v → result ≡ Some v }
-{
-    let s = source_of(trace, l)?;
-    match (u == s, u < l && is_earlier(trace, u, l)) {
-        (true, false) => Some(l),
-        (false, true) => Some(s),
-        _ => None,
-    }
 }

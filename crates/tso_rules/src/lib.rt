@@ -1,7 +1,7 @@
 //! The edges that the axioms force on a trace, row by row, and why each holds.
 #![tactic(auto)]
 
-pub use base::{base_edge, base_row};
+pub use base::{base_edge, base_row, base_words};
 pub use inferred::row_edges;
 pub use reasons::justify;
 

@@ -208,17 +208,6 @@ fn first_given<G: PathSearch>(
     Ok(None)
 }
 
-/// The list of these numbers.
-fn num_list(alloc: Global, numbers: &[usize]) -> Result<NumList, OutOfMemory>
-    ensures { IfOk result (λ list. list ≡ numbers.now) }
-{
-    let mut list = Vec::new(alloc);
-    for number in numbers {
-        list.push(*number as u64)?;
-    }
-    Ok(NumList::new(list))
-}
-
 /// Why an inferred rule gives the edge from `u` to `v`; None where none gives it by a path.
 fn inferred_reason<G: PathSearch>(
     alloc: Global,
@@ -240,7 +229,7 @@ fn inferred_reason<G: PathSearch>(
     Ok(Some(Reason::Inferred {
         rule: given.rule,
         load: given.load as u64,
-        path: num_list(alloc, &path)?,
+        path: NumList::from_numbers(alloc, &path)?,
     }))
 }
 

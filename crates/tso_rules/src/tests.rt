@@ -1,6 +1,6 @@
 //! Edges and reasons of small traces, by hand, and drawn traces beside the plain program of the model.
 
-use crate::{base_edge, base_row, justify, row_edges};
+use crate::{base_edge, base_row, base_words, justify, row_edges};
 use order_graph::Graph;
 use std::alloc::{AllocError, Global};
 use std::test::Fail;
@@ -118,6 +118,15 @@ fn rows_of_two_swaps(rt: HostRuntime) -> Result<(), Fail> {
     for (u, row) in base {
         assert_eq!(rt; base_row(alloc, &trace, u)?.as_slice(), row, "row {u}");
     }
+    assert_eq!(rt;
+        base_words(alloc, &trace, 0)?.as_slice(),
+        [0b11110].as_slice()
+    );
+    assert_eq!(rt;
+        base_words(alloc, &trace, 3)?.as_slice(),
+        [0b10000].as_slice()
+    );
+    assert_eq!(rt; base_words(alloc, &trace, 4)?.as_slice(), [].as_slice());
     assert_eq!(rt;
         row_edges(alloc, &trace, &graph, 1)?.as_slice(),
         [4].as_slice()

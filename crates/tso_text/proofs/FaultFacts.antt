@@ -1,6 +1,7 @@
 -- The faults of items in texts, from those of operations in values.
-use Rattle.std.proofs.Common.{◌≡◌, ℕ, ◌+◌, ◌<◌, ◌≤◌, Bool, true, false, ◌&&◌, ltb, List, [], ◌∷◌, ◌++◌, map, refl, ap, arith, inl, inr, ⊎_elim}
+use Rattle.std.proofs.Common.{◌≡◌, ℕ, ◌+◌, ◌<◌, ◌≤◌, true, false, ltb, List, [], ◌∷◌, ◌++◌, map, refl, ap, arith, inl, inr, ⊎_elim}
 use Rattle.std.proofs.lemmas.Bool.{false≢true}
+use Rattle.std.proofs.Math.Bool.{and-false}
 use Rattle.std.proofs.lemmas.Bool.Decides.{nat_tests}
 use Rattle.tso_ops.specs.declared.ops.Op.{Op}
 use Rattle.tso_ops.specs.declared.ops.Outcome.{Outcome}
@@ -86,11 +87,7 @@ outcome_turned_away items x op why is away = op_turned_away (map op_of items) (o
 -- acts of schedules
 pub act_clean : (items : List Act) (act : Act) → processor_of act ≤ 15 → (w : Why) → act_fault items act w ≡ false
 unfolding act_fault
-act_clean items act low w = let off : ltb 15 (processor_of act) ≡ false = grind (arith, nat_tests) in rw off (none (same_why ProcessorRange w))
-  where
-    none : (b : Bool) → (b && false) ≡ false
-    none true = refl
-    none false = refl
+act_clean items act low w = let off : ltb 15 (processor_of act) ≡ false = grind (arith, nat_tests) in rw off (and-false (same_why ProcessorRange w))
 
 pub act_turned_away : (items : List Act) (act : Act) → 15 < processor_of act → IsTurnedAway (act_fault items act) ProcessorRange
 unfolding act_fault

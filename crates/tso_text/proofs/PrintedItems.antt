@@ -11,7 +11,7 @@ use Rattle.line_text.specs.Lines.{is_empty}
 use Rattle.tso_text.specs.Spelling.{Grammar, push_last, items_of, same_why}
 use Rattle.tso_text.proofs.LineFacts.{items_of-push_last}
 use Rattle.tso_text.proofs.OneTextFacts.{made_by}
-use Rattle.tso_text.proofs.Reaching.{and_false}
+use Rattle.std.proofs.Math.Bool.{and-false}
 use Rattle.tso_text.proofs.PrintedLines.{IsReadBack, IsTaken, AreTaken}
 
 -- Each of the items is read back, and has no fault behind those before it.
@@ -55,7 +55,7 @@ row_taken g p items fit done seen (x ∷ row) more behind last at rest =
 proc_taken : {X : Type 0} (g : Grammar X) (p : X → List (List ℕ)) (lists : List (List X)) → IsReadBack g p Proc → length lists < 16 → IsTaken g p lists Proc
 proc_taken g p lists back few = record {
   back = back;
-  clean = λ w. let off : ltb 15 (length lists) ≡ false = grind (arith, nat_tests) in rw off (and_false (same_why TooManyProcessors w));
+  clean = λ w. let off : ltb 15 (length lists) ≡ false = grind (arith, nat_tests) in rw off (and-false (same_why TooManyProcessors w));
   goes_on = refl;
 }
 

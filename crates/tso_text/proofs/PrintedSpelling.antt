@@ -1,9 +1,8 @@
 -- The printed text of a value within the limits spells it.
-use Rattle.std.proofs.Common.{◌≡◌, ℕ, ◌+◌, ◌*◌, ◌<◌, ◌≤◌, ◌^◌, false, ltb, List, [], ◌∷◌, ◌++◌, length, map, Some, Ok, refl, ap, sym, ◌∙◌, subst, arith, length-append, All}
+use Rattle.std.proofs.Common.{◌≡◌, ℕ, ◌+◌, ◌*◌, ◌<◌, ◌≤◌, ◌^◌, false, List, [], ◌∷◌, ◌++◌, length, map, Some, Ok, refl, ap, sym, ◌∙◌, subst, arith, length-append, All}
 use Rattle.std.specs.Prelude.{codes}
 use Rattle.std.specs.Fmt.{decimal}
 use Rattle.std.specs.List.{flat_map, join_with_byte, AllByRecursion}
-use Rattle.std.proofs.lemmas.Bool.Decides.{nat_tests}
 use Rattle.std.proofs.lemmas.Fmt.{length-decimal-le}
 use Rattle.std.proofs.lemmas.List.{map-append, length-map}
 use Rattle.std.proofs.lemmas.List.Elements.{recursion_from_All}
@@ -16,23 +15,20 @@ use Rattle.tso_ops.specs.Values.{TraceValue, ProgramValue, ReadFits, op_of}
 use Rattle.tso_ops.proofs.RefusalFacts.{each-middle, kept_faultless, kept_address, kept_value, kept_few}
 use Rattle.tso_text.specs.declared.acts.Act.{Act}
 use Rattle.tso_text.specs.declared.acts.Act.TheVariants.{Issue, Drain}
-use Rattle.tso_text.specs.declared.faults.Why.{Why}
-use Rattle.tso_text.specs.declared.faults.Why.TheVariants.{ProcessorRange}
 use Rattle.tso_text.specs.declared.lines.Line.{Line}
 use Rattle.tso_text.specs.declared.lines.Line.TheVariants.{Proc, Item, End}
-use Rattle.tso_text.specs.Grammars.{trace_grammar, program_grammar, schedule_grammar, trace_line, program_line, schedule_line, trace_header, program_header, outcome_fault, plain_fault, act_fault, processor_of, address, SpellsTrace, SpellsProgram, SpellsSchedule}
+use Rattle.tso_text.specs.Grammars.{trace_grammar, program_grammar, schedule_grammar, trace_line, program_line, schedule_line, trace_header, program_header, outcome_fault, plain_fault, processor_of, address, SpellsTrace, SpellsProgram, SpellsSchedule}
 use Rattle.tso_text.specs.Numbers.{numeral, or_bad, no_number, one_number, two_numbers, three_numbers}
 use Rattle.tso_text.specs.Printed.{items_text, processor_text, whole_text, outcome_pieces, op_pieces, act_pieces, trace_text, program_text, schedule_text}
 use Rattle.line_text.specs.Lines.{line_text}
-use Rattle.tso_text.specs.Spelling.{Grammar, items_of, same_why}
+use Rattle.tso_text.specs.Spelling.{Grammar, items_of}
 use Rattle.tso_text.proofs.CanonicalFacts.{pieces_by}
-use Rattle.tso_text.proofs.FaultFacts.{op_clean}
+use Rattle.tso_text.proofs.FaultFacts.{op_clean, act_clean}
 use Rattle.tso_text.proofs.LineFacts.{items_of-map}
 use Rattle.line_text.proofs.NumberFacts.{number-decimal}
 use Rattle.tso_text.proofs.OneTextFacts.{made_by, made_by-text, flat_map-Item}
 use Rattle.tso_text.proofs.PrintedItems.{AreFit, lists_taken, items_taken, length-made_by}
 use Rattle.tso_text.proofs.PrintedLines.{IsReadBack, AreTaken, length-lines, printed_spells}
-use Rattle.tso_text.proofs.Reaching.{and_false}
 use Rattle.line_text.proofs.SplitFacts.{has_byte, has_byte_in, decimal_without}
 
 -- ---- a word and numbers
@@ -216,14 +212,10 @@ act_back (Drain p) low =
     let fits : p < 2 ^ 64 = omega (arith, low) in
     read_back schedule_grammar act_pieces (Item (Drain p)) (codes "d") (p ∷ []) refl refl refl (omega arith) (omega arith) (fits, tt) (rw (one-decimal p fits) refl)
 
-act_clean : (x : Act) (before : List Act) (w : Why) → processor_of x ≤ 15 → act_fault before x w ≡ false
-unfolding act_fault
-act_clean x before w low = let off : ltb 15 (processor_of x) ≡ false = grind (arith, nat_tests) in rw off (and_false (same_why ProcessorRange w))
-
 acts_fit : (acts : List Act) → All (λ x. processor_of x ≤ 15) acts → AreFit schedule_grammar act_pieces acts
 acts_fit acts within = record {
   back = λ before x after at. act_back x (each-middle (λ x. processor_of x ≤ 15) before x after (subst (AllByRecursion (λ x. processor_of x ≤ 15)) at (recursion_from_All _ _ within)));
-  clean = λ before x after at w. act_clean x before w (each-middle (λ x. processor_of x ≤ 15) before x after (subst (AllByRecursion (λ x. processor_of x ≤ 15)) at (recursion_from_All _ _ within)));
+  clean = λ before x after at w. act_clean before x (each-middle (λ x. processor_of x ≤ 15) before x after (subst (AllByRecursion (λ x. processor_of x ≤ 15)) at (recursion_from_All _ _ within))) w;
 }
 
 pub printed_schedule_spells : (acts : List Act) → All (λ x. processor_of x ≤ 15) acts → length (schedule_text acts) ≤ 1048576 → SpellsSchedule (schedule_text acts) acts

@@ -2,7 +2,8 @@
 use Rattle.std.proofs.Common.{◌≡◌, ℕ, zero, suc, ◌<◌, ◌≤◌, Bool, true, false, not, ◌&&◌, ◌||◌, ◌-◌, eqb, ltb, List, [], ◌∷◌, ◌++◌, length, get_or, take, drop, refl, ap, sym, ◌∙◌, subst, arith, ⊎_elim, length-append}
 use Rattle.std.specs.List.{list_any}
 use Rattle.std.specs.Str.{bytes_eq}
-use Rattle.std.proofs.lemmas.Bool.{cases_lt}
+use Rattle.std.proofs.lemmas.Bool.{cases_lt, or_parts}
+use Rattle.std.proofs.Math.Bool.{and-false}
 use Rattle.std.proofs.lemmas.Bool.Decides.{nat_tests}
 use Rattle.std.proofs.lemmas.List.{take_at, take-append-le, get_or_at, get_or_append_left, append_assoc}
 use Rattle.std.proofs.lemmas.Slice.Eq.{bytes_eq-Decides}
@@ -24,14 +25,6 @@ pub lists_of-push : {X : Type 0} (g : Grammar X) (front : List (List ℕ)) (line
 unfolding lists_of
 lists_of-push g front line = lists_after-append g (g.start) front (line ∷ [])
 
-pub or_false : (a b : Bool) → (a || b) ≡ false → (a ≡ false) × (b ≡ false)
-or_false true b e = absurd cc
-or_false false b e = (refl, e)
-
-pub and_false : (a : Bool) → (a && false) ≡ false
-and_false true = refl
-and_false false = refl
-
 and_true : (a : Bool) → (a && true) ≡ a
 and_true true = refl
 and_true false = refl
@@ -39,7 +32,7 @@ and_true false = refl
 list_any-push : {X : Type 0} (p : X → Bool) (xs : List X) (x : X) → list_any p xs ≡ false → list_any p (xs ++ x ∷ []) ≡ p x
 list_any-push p [] x none = elim (p x) as (λ b. (b || false) ≡ b) [ true ↦ refl | false ↦ refl ]
 list_any-push p (y ∷ xs) x none =
-    let parts = or_false (p y) (list_any p xs) none in
+    let parts = or_parts (p y) (list_any p xs) none in
     ap (λ b. b || list_any p (xs ++ x ∷ [])) parts.0 ∙ list_any-push p xs x parts.1
 
 pub has_ended-push : {X : Type 0} (g : Grammar X) (front : List (List ℕ)) (line : List ℕ) → has_ended g front ≡ false → has_ended g (front ++ line ∷ []) ≡ is_end (said g line)
@@ -140,7 +133,7 @@ unfolding fault_at
 fault_at-begins g text w begins =
     let fits = begins.short in
     let off : ltb 1048576 (length text) ≡ false = grind (arith, nat_tests) in
-    (rw off (and_false (same_why TooLong w)), rw begins.header (and_false (same_why BadHeader w)))
+    (rw off (and-false (same_why TooLong w)), rw begins.header (and-false (same_why BadHeader w)))
 
 -- no line before a place behind clean lines has a fault
 fault_at-before : {X : Type 0} (g : Grammar X) (text : List ℕ) (front : List (List ℕ)) (part : List ℕ) (behind : List (List ℕ)) → Begins g text → IsClean g front →
@@ -237,7 +230,7 @@ spelled_behind g text lines (suc (suc k)) w ended body high =
     ⊎_elim
     (λ (at : k < suc (length lines)).
     let same : length lines ≡ k = omega arith in
-    fault_at-place g text lines [] [] k w body same ∙ part_fault-ended g lines [] true w ended ∙ and_false (same_why AfterEnd w))
+    fault_at-place g text lines [] [] k w body same ∙ part_fault-ended g lines [] true w ended ∙ and-false (same_why AfterEnd w))
     (λ (past : suc (length lines) ≤ k). fault_at-past g text k w (omega (arith, ap length body, length-append lines ([] ∷ []))))
     (cases_lt k (suc (length lines)))
 
@@ -293,7 +286,7 @@ too_long g text long =
 
 only_whole : {X : Type 0} (g : Grammar X) (text : List ℕ) → length text ≤ 1048576 → (j : ℕ) (w : Why) → j < 1 → fault_at g text j w ≡ false
 unfolding fault_at
-only_whole g text short zero w low = let off : ltb 1048576 (length text) ≡ false = grind (arith, nat_tests) in rw off (and_false (same_why TooLong w))
+only_whole g text short zero w low = let off : ltb 1048576 (length text) ≡ false = grind (arith, nat_tests) in rw off (and-false (same_why TooLong w))
 only_whole g text short (suc j) w low = absurd (omega arith)
 
 -- no header line

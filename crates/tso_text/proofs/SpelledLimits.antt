@@ -1,7 +1,7 @@
 -- What a text spells keeps the limits of its value.
 use Rattle.std.proofs.Common.{◌≡◌, ℕ, suc, ◌+◌, ◌<◌, ◌≤◌, ◌^◌, Bool, true, false, ltb, List, [], ◌∷◌, ◌++◌, length, map, All, Some, Result, Ok, Err, refl, sym, ◌∙◌, subst, arith, append_assoc, length-append}
 use Rattle.std.specs.Prelude.{codes, IfOk}
-use Rattle.std.proofs.lemmas.Bool.{false≢true}
+use Rattle.std.proofs.lemmas.Bool.{false≢true, or_parts}
 use Rattle.std.proofs.lemmas.Bool.Decides.{nat_tests}
 use Rattle.std.proofs.lemmas.List.{append-nil, map-append}
 use Rattle.std.proofs.lemmas.List.Concat.{flat_map-append}
@@ -27,7 +27,7 @@ use Rattle.tso_text.proofs.CanonicalFacts.{or_bad_ok, if_bind, if_cond, sound}
 use Rattle.tso_text.proofs.KeptFacts.{trace_within}
 use Rattle.tso_text.proofs.LineFacts.{items_of-push_last, length-push_last}
 use Rattle.tso_text.proofs.PrintedFacts.{lines_of-place}
-use Rattle.tso_text.proofs.Reaching.{or_false, part_fault-open, part_fault-ended, fault_at-place, lists_of-push}
+use Rattle.tso_text.proofs.Reaching.{part_fault-open, part_fault-ended, fault_at-place, lists_of-push}
 
 -- ---- from line to line
 
@@ -147,7 +147,7 @@ WriteFits op = (v : ℕ) → stored_by op ≡ Some v → Fits v
 -- one more operation without a fault keeps the limits
 limits_kept : (ops : List Op) (op : Op) → ((w : Why) → op_fault ops op w ≡ false) → WriteFits op → KeepsLimits ops → KeepsLimits (ops ++ op ∷ [])
 limits_kept ops op clean fits limits =
-    let many = or_false (ltb 2000 (total_events ops + event_count op)) (ltb 2000 (total_barriers ops + barrier_count op)) (clean TooManyEvents) in
+    let many = or_parts (ltb 2000 (total_events ops + event_count op)) (ltb 2000 (total_barriers ops + barrier_count op)) (clean TooManyEvents) in
     let events : total_events ops + event_count op ≤ 2000 = let off = many.0 in grind (arith, nat_tests) in
     let barriers : total_barriers ops + barrier_count op ≤ 2000 = let off = many.1 in grind (arith, nat_tests) in
     KeepsLimits-push ops op limits events barriers (clean AddressRange) (record { non_zero = clean ZeroValue; new = clean RepeatedValue; fits = fits })

@@ -6,19 +6,19 @@ use Rattle.tso_ops.proofs.EventFacts.{event_total-bound}
 use Rattle.tso_model.specs.Ranks.{F}
 use Rattle.tso_model.proofs.Bounds.{F-within}
 use Rattle.tso_rules.specs.Rows.{IsRow}
-use Rattle.tso_rules.proofs.RowFacts.{marked_is, row_marked}
+use Rattle.tso_rules.proofs.RowFacts.{row_listed}
 use Rattle.tso_rules.proofs.base.base_row.Goals as goal
 
 pub marked-requires-clause-small : goal.marked-requires-clause-small
-marked-requires-clause-small c = omega (arith, c.node_count-nodes.ensures, event_total-bound c.args.trace.now c.events-events.ensures.kept)
+marked-requires-clause-small c = omega (arith, c.node_count.ensures, event_total-bound c.args.trace.now c.events-events.ensures.kept)
 
 pub marked-requires-clause-within : goal.marked-requires-clause-within
 marked-requires-clause-within c = λ v has.
-    let to = marked_is c.in_ok-marks.marks.items c.mark_base.new.marks.items (F c.args.trace.now 0 c.args.u) c.in_ok-marks.ensures.items c.in_ok-mark_base.ensures v (subst (λ m. HasNumber m v) c.deref.ensures.value has) in
+    let to = (c.in_ok-base_words.ensures v).0 (subst (λ m. HasNumber m v) c.deref.ensures.value has) in
     let low : v < suc (event_total c.args.trace.now) = (F-within c.args.trace.now 0 c.args.u v to).1 in
-    omega (arith, low, c.node_count-nodes.ensures)
+    omega (arith, low, c.node_count.ensures)
 
 pub returns : goal.returns
 returns c =
-    row_marked c.marked.result c.in_ok-marks.marks.items c.mark_base.new.marks.items (F c.args.trace.now 0 c.args.u) c.in_ok-marks.ensures.items c.in_ok-mark_base.ensures
+    row_listed c.marked.result c.in_ok-base_words.field-0.items (F c.args.trace.now 0 c.args.u) c.in_ok-base_words.ensures
     (subst (λ m. IfOk c.marked.result (λ row. IsRow row.items (HasNumber m))) c.deref.ensures.value c.marked.ensures)

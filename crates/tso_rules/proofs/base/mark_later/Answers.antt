@@ -1,28 +1,20 @@
-use Rattle.std.proofs.Common.{◌≡◌, ◌<◌, ◌∙◌, inl, inr, suc, refl, sym, arith}
-use Rattle.std.proofs.lemmas.Bool.{cases_lt}
-use Rattle.tso_ops.specs.Events.{event_total}
+use Rattle.std.proofs.Common.{◌∙◌, sym, arith}
+use Rattle.tso_ops.specs.Events.{IsEventOf}
 use Rattle.tso_rules.specs.Rows.{IsLater}
-use Rattle.tso_rules.proofs.BaseFacts.{none_later, later_within}
-use Rattle.tso_rules.proofs.RowFacts.{steps_more, steps_all, marks_as, some_as_one}
+use Rattle.tso_rules.proofs.BaseFacts.{later_is, later_more}
+use Rattle.tso_rules.proofs.RowFacts.{front_all, mask_number, HasNumber-within}
 use Rattle.tso_rules.proofs.base.mark_later.Goals as goal
 
-pub returns-then-is_elsewhere : goal.returns-then-is_elsewhere
-returns-then-is_elsewhere c =
-    let t = c.args.trace.now in
-    let here = c.if-is_elsewhere.ensures.0 refl in
-    steps_all c.args.marks.now.items c.loop-n.marks.items c.loop-n.n (IsLater t c.args.u) c.loop-n.invariant
-    (λ v later. elim (cases_lt v c.loop-n.n) [
-      | inl low ↦ low
-      | inr past ↦ absurd (none_later t c.args.u c.loop-n.n v c.in-Some.event here.0 (sym c.event.ensures ∙ c.in-Some.is) here.1 here.2 (omega arith) past later)
-    ])
-
-pub loop-n-preserved : goal.loop-n-preserved
-loop-n-preserved c =
-    steps_more c.args.marks.now.items c.loop-n.marks.items c.mark_end.new.marks.items c.loop-n.n (λ n v. (v ≡ n) × IsLater c.args.trace.now c.args.u n) c.loop-n.invariant
-    (marks_as c.loop-n.marks.items c.mark_end.new.marks.items _ _ c.in_ok-mark_end.ensures
-    (some_as_one c.later_end.result c.loop-n.n (IsLater c.args.trace.now c.args.u) c.later_end.ensures.is c.later_end.ensures.all))
+pub loop-j-preserved : goal.loop-j-preserved
+loop-j-preserved c =
+    later_more c.args.trace.now c.args.u c.in-Some.event c.args.marks.now.items c.loop-j.marks.items c.mark_word.new.marks.items c.processor_words-processor.result.now c.loop-j.j
+    c.word_at.result c.word_above.result c.ordered_word.result (sym c.event.ensures ∙ c.in-Some.is) c.processor_words-processor.ensures c.loop-j.invariant c.in_ok-mark_word.ensures
+    c.word_at.ensures c.word_above.ensures c.ordered_word.ensures
 
 pub returns : goal.returns
 returns c =
-    steps_all c.args.marks.now.items c.loop-n.marks.items c.loop-n.n (IsLater c.args.trace.now c.args.u) c.loop-n.invariant
-    (λ v later. let low : v < suc (event_total c.args.trace.now) = later_within c.args.trace.now c.args.u v later in omega (arith, low, c.loop-n-test.false, c.node_count-n-end.ensures))
+    let t = c.args.trace.now in
+    let processor = c.processor_words-processor.result.now in
+    front_all c.args.marks.now.items c.loop-j.marks.items c.loop-j.j (IsLater t c.args.u) c.loop-j.invariant
+    (λ v later. let of = ((later_is t c.args.u v c.in-Some.event (sym c.event.ensures ∙ c.in-Some.is)).1 later).0.0 in
+    let low = HasNumber-within processor v ((mask_number processor (IsEventOf t c.in-Some.event.proc) c.processor_words-processor.ensures v).1 of) in omega (arith, low, c.loop-j-test.false))

@@ -1,8 +1,7 @@
-use Rattle.std.proofs.Common.{◌≡◌}
 use Rattle.tso_rules.specs.Rows.{Marks, IsLater}
-use Rattle.tso_rules.proofs.RowFacts.{BySteps}
+use Rattle.tso_rules.proofs.RowFacts.{IsInFront}
 use Rattle.tso_rules.proofs.base.mark_later.Given as goal
 
--- the numbers passed to which program order gives an edge are marked
-abbrev pub invariant-loop-n : goal.invariant-loop-n
-invariant-loop-n l = Marks l.fn.marks.items l.marks.items (BySteps (λ n v. (v ≡ n) × IsLater l.trace l.u n) l.n)
+-- the ends in the passed words are marked
+abbrev pub invariant-loop-j : goal.invariant-loop-j
+invariant-loop-j l = Marks l.fn.marks.items l.marks.items (IsInFront (IsLater l.trace l.u) l.j)

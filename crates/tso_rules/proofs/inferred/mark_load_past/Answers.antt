@@ -1,29 +1,33 @@
-use Rattle.std.proofs.Common.{◌∙◌, get_or, sym, arith}
+use Rattle.std.proofs.Common.{◌↔◌, ◌∙◌, get_or, subst, sym, refl, arith}
 use Rattle.order_graph.specs.Digraphs.{IsEdge}
+use Rattle.order_graph.specs.Tables.{HasNumber}
 use Rattle.tso_cert.specs.declared.rules.InferredRule.TheVariants.{LoadPast}
-use Rattle.tso_rules.specs.Rows.{IsNewBy}
-use Rattle.tso_rules.proofs.BaseFacts.{load_at, source_load}
-use Rattle.tso_rules.proofs.RowFacts.{steps_none, steps_more, numbers_all, marks_as, some_as}
+use Rattle.tso_rules.specs.Rows.{IsNewRow, IsSourceOf}
+use Rattle.tso_rules.proofs.InferredFacts.{load_past_is}
+use Rattle.tso_rules.proofs.RowFacts.{front_all, front_more, left_number, HasNumber-within}
 use Rattle.tso_rules.proofs.inferred.mark_load_past.Goals as goal
 
-pub loop-l-init : goal.loop-l-init
-loop-l-init c = steps_none c.args.marks.now.items (λ i. IsNewBy c.args.trace.now LoadPast (get_or c.loads_at-l-items.result.now i 0) (IsEdge c.args.graph.now) c.args.u)
-
-pub loop-l-preserved : goal.loop-l-preserved
-loop-l-preserved c =
-    let l = get_or c.loads_at-l-items.result.now c.loop-l.l-index 0 in
-    steps_more c.args.marks.now.items c.loop-l.marks.items c.mark_end.new.marks.items c.loop-l.l-index
-    (λ i. IsNewBy c.args.trace.now LoadPast (get_or c.loads_at-l-items.result.now i 0) (IsEdge c.args.graph.now) c.args.u) c.loop-l.invariant
-    (marks_as c.loop-l.marks.items c.mark_end.new.marks.items _ _ c.in_ok-mark_end.ensures
-    (some_as c.load_past_end.result (IsNewBy c.args.trace.now LoadPast l (IsEdge c.args.graph.now) c.args.u) c.load_past_end.ensures.is c.load_past_end.ensures.all))
+pub loop-j-preserved : goal.loop-j-preserved
+loop-j-preserved c =
+    let t = c.args.trace.now in
+    let Edge = IsEdge c.args.graph.now in
+    let sources = c.deref-word-items.result.now in
+    let reached = c.path_row-reached.result.now in
+    let loads = c.load_words.result.now in
+    front_more c.args.marks.now.items c.loop-j.marks.items c.mark_word.new.marks.items c.loop-j.j _ (IsNewRow t LoadPast Edge c.args.u) c.loop-j.invariant c.in_ok-mark_word.ensures
+    (λ v at. let left = left_number sources reached c.loop-j.j (get_or sources c.loop-j.j 0) c.word_at.result v at refl c.word_at.ensures (omega arith) in
+    let of = subst (λ row. HasNumber row v ↔ IsSourceOf t reached loads c.args.u v) (sym c.deref-word-items.ensures.value) (c.in_ok-sources.ensures v) in
+    let is = load_past_is t Edge c.args.u v c.in-Some.event loads reached (sym c.event.ensures ∙ c.in-Some.is) c.if-event.false c.load_words.ensures c.path_row-reached.ensures.paths in
+    (λ bit. let has = left.0 bit in is.0 (of.0 has.0, has.1), λ new. let has = is.1 new in left.1 (of.1 has.0, has.1)))
 
 pub returns : goal.returns
 returns c =
     let t = c.args.trace.now in
-    numbers_all c.args.marks.now.items c.loop-l.marks.items c.loads_at-l-items.result.now c.loop-l.l-index (λ l. IsNewBy t LoadPast l (IsEdge c.args.graph.now) c.args.u) _
-    c.loop-l.invariant (omega arith) (omega arith)
-    (λ v. (
-      λ by. (by.0, by.2),
-      λ is. (let by = is.1.0.2 in
-          (is.0, (c.loads_at-l-items.ensures is.0).1 (load_at t c.args.u is.0 c.in-Some.event (sym c.event.ensures ∙ c.in-Some.is) (source_load t is.0 v by.2) by.1), is.1)),
-    ))
+    let Edge = IsEdge c.args.graph.now in
+    let sources = c.deref-word-items.result.now in
+    let reached = c.path_row-reached.result.now in
+    let loads = c.load_words.result.now in
+    front_all c.args.marks.now.items c.loop-j.marks.items c.loop-j.j (IsNewRow t LoadPast Edge c.args.u) c.loop-j.invariant
+    (λ v new. let of = subst (λ row. HasNumber row v ↔ IsSourceOf t reached loads c.args.u v) (sym c.deref-word-items.ensures.value) (c.in_ok-sources.ensures v) in
+    let is = (load_past_is t Edge c.args.u v c.in-Some.event loads reached (sym c.event.ensures ∙ c.in-Some.is) c.if-event.false c.load_words.ensures c.path_row-reached.ensures.paths).1 new in
+    let low = HasNumber-within sources v (of.1 is.0) in omega (arith, low, c.loop-j-test.false))

@@ -1,9 +1,10 @@
-use Rattle.std.proofs.Common.{get_or, refl, arith}
+use Rattle.std.proofs.Common.{◌∙◌, get_or, sym, refl, arith}
 use Rattle.order_graph.specs.Digraphs.{IsEdge}
+use Rattle.order_graph.specs.Tables.{HasNumber}
 use Rattle.tso_cert.specs.declared.rules.InferredRule.TheVariants.{StorePast}
-use Rattle.tso_rules.specs.Rows.{IsCounted}
-use Rattle.tso_rules.proofs.InferredFacts.{store_past_counted, counted_row, kept_number}
-use Rattle.tso_rules.proofs.RowFacts.{words_more, words_all}
+use Rattle.tso_rules.specs.Rows.{IsNewRow}
+use Rattle.tso_rules.proofs.InferredFacts.{store_past_is}
+use Rattle.tso_rules.proofs.RowFacts.{front_all, front_more_kept, word_number, HasNumber-within}
 use Rattle.tso_rules.proofs.inferred.mark_store_past.Goals as goal
 
 pub loop-j-preserved : goal.loop-j-preserved
@@ -11,16 +12,23 @@ loop-j-preserved c =
     let t = c.args.trace.now in
     let Edge = IsEdge c.args.graph.now in
     let from = c.path_row-word-items.result.now in
+    let stores = c.store_words-stores.result.now in
     let reached = c.path_row-reached.result.now in
-    words_more c.args.marks.now.items c.loop-j.marks.items c.mark_ends.new.marks.items c.loop-j.j _ (IsCounted t StorePast Edge c.args.u) c.loop-j.invariant c.in_ok-mark_ends.ensures
-    (λ n v at counted. let told = store_past_counted t Edge c.args.u c.in-Some.s n v c.in-Some.ensures.all counted in
-    kept_number from reached c.loop-j.j (get_or from c.loop-j.j 0) c.word_at.result n at refl c.word_at.ensures (omega arith)
-    ((c.path_row-word-items.ensures.paths n).1 told.0) (λ has. told.1 ((c.path_row-reached.ensures.paths n).0 has)))
+    front_more_kept c.args.marks.now.items c.loop-j.marks.items c.mark_word.new.marks.items stores reached c.loop-j.j (get_or from c.loop-j.j 0) c.word_at.result c.word_at-in-loop-j.result
+    c.word_without.result c.in-Some-source_of.s (HasNumber from) (IsNewRow t StorePast Edge c.args.u) c.loop-j.invariant c.in_ok-mark_word.ensures
+    (λ v at. word_number from c.loop-j.j (get_or from c.loop-j.j 0) v at refl) c.word_at.ensures c.word_at-in-loop-j.ensures (omega arith)
+    c.word_without.ensures
+    (λ v. store_past_is t Edge c.args.u c.in-Some-source_of.s v c.in-Some.event from stores reached (sym c.event.ensures ∙ c.in-Some.is) c.in-Some-source_of.ensures.is c.in-Some-source_of.ensures.all
+    c.path_row-word-items.ensures.paths c.store_words-stores.ensures c.path_row-reached.ensures.paths)
 
 pub returns : goal.returns
 returns c =
     let t = c.args.trace.now in
     let Edge = IsEdge c.args.graph.now in
-    words_all c.args.marks.now.items c.loop-j.marks.items c.loop-j.j c.path_row-word-items.result.now (IsCounted t StorePast Edge c.args.u) _ c.loop-j.invariant (omega arith)
-    (λ n v counted. let told = store_past_counted t Edge c.args.u c.in-Some.s n v c.in-Some.ensures.all counted in (c.path_row-word-items.ensures.paths n).1 told.0)
-    (counted_row t StorePast Edge c.args.u)
+    let from = c.path_row-word-items.result.now in
+    let stores = c.store_words-stores.result.now in
+    let reached = c.path_row-reached.result.now in
+    front_all c.args.marks.now.items c.loop-j.marks.items c.loop-j.j (IsNewRow t StorePast Edge c.args.u) c.loop-j.invariant
+    (λ v new. let is = (store_past_is t Edge c.args.u c.in-Some-source_of.s v c.in-Some.event from stores reached (sym c.event.ensures ∙ c.in-Some.is) c.in-Some-source_of.ensures.is c.in-Some-source_of.ensures.all
+    c.path_row-word-items.ensures.paths c.store_words-stores.ensures c.path_row-reached.ensures.paths).1 new in
+    let low = HasNumber-within from v is.0.0 in omega (arith, low, c.loop-j-test.false))

@@ -1,25 +1,36 @@
-use Rattle.std.proofs.Common.{get_or, refl, arith}
+use Rattle.std.proofs.Common.{◌-◌, suc, get_or, refl, arith}
 use Rattle.order_graph.specs.Digraphs.{IsEdge}
+use Rattle.order_graph.specs.Tables.{HasNumber}
 use Rattle.tso_cert.specs.declared.rules.InferredRule.TheVariants.{SwapBefore}
-use Rattle.tso_rules.specs.Rows.{IsCounted}
-use Rattle.tso_rules.proofs.InferredFacts.{swap_before_counted, counted_row, first_number}
-use Rattle.tso_rules.proofs.RowFacts.{words_more, words_all}
+use Rattle.tso_model.proofs.Events.{event_above_zero, store_event}
+use Rattle.tso_rules.specs.Rows.{IsNewRow}
+use Rattle.tso_rules.proofs.InferredFacts.{swap_before_is}
+use Rattle.tso_rules.proofs.RowFacts.{front_all, front_more_kept, below_number, HasNumber-within}
 use Rattle.tso_rules.proofs.inferred.mark_swap_before.Goals as goal
+
+pub overflow_sub-u : goal.overflow_sub-u
+overflow_sub-u c =
+    let above = event_above_zero c.args.trace.now c.args.u (store_event c.args.trace.now c.args.u (c.is_store.ensures.0 c.if-not-is_store.false)) in
+    omega arith
 
 pub loop-j-preserved : goal.loop-j-preserved
 loop-j-preserved c =
     let t = c.args.trace.now in
     let Edge = IsEdge c.args.graph.now in
-    let reached = c.path_row-word-items.result.now in
-    words_more c.args.marks.now.items c.loop-j.marks.items c.mark_ends.new.marks.items c.loop-j.j _ (IsCounted t SwapBefore Edge c.args.u) c.loop-j.invariant c.in_ok-mark_ends.ensures
-    (λ n v at counted. let told = swap_before_counted t Edge c.args.u n v counted in
-    first_number reached c.loop-j.j (get_or reached c.loop-j.j 0) v n at refl told.0
-    ((c.path_row-word-items.ensures.paths n).1 told.1) (λ has. told.2 ((c.path_row-word-items.ensures.paths v).0 has)))
+    let loads = c.swap_load_words-loads.result.now in
+    let reached = c.path_row-reached.result.now in
+    front_more_kept c.args.marks.now.items c.loop-j.marks.items c.mark_word.new.marks.items loads reached c.loop-j.j c.word_below.result c.word_at.result (get_or reached c.loop-j.j 0)
+    c.word_without.result (c.args.u - 1) (λ v. HasNumber reached (suc v)) (IsNewRow t SwapBefore Edge c.args.u) c.loop-j.invariant c.in_ok-mark_word.ensures
+    (λ v at. below_number reached c.loop-j.j c.word_below.result v at c.word_below.ensures) c.word_at.ensures refl (omega arith)
+    c.word_without.ensures
+    (λ v. swap_before_is t Edge c.args.u v loads reached (c.is_store.ensures.0 c.if-not-is_store.false) c.swap_load_words-loads.ensures c.path_row-reached.ensures.paths)
 
 pub returns : goal.returns
 returns c =
     let t = c.args.trace.now in
     let Edge = IsEdge c.args.graph.now in
-    words_all c.args.marks.now.items c.loop-j.marks.items c.loop-j.j c.path_row-word-items.result.now (IsCounted t SwapBefore Edge c.args.u) _ c.loop-j.invariant (omega arith)
-    (λ n v counted. let told = swap_before_counted t Edge c.args.u n v counted in (c.path_row-word-items.ensures.paths n).1 told.1)
-    (counted_row t SwapBefore Edge c.args.u)
+    let loads = c.swap_load_words-loads.result.now in
+    let reached = c.path_row-reached.result.now in
+    front_all c.args.marks.now.items c.loop-j.marks.items c.loop-j.j (IsNewRow t SwapBefore Edge c.args.u) c.loop-j.invariant
+    (λ v new. let is = (swap_before_is t Edge c.args.u v loads reached (c.is_store.ensures.0 c.if-not-is_store.false) c.swap_load_words-loads.ensures c.path_row-reached.ensures.paths).1 new in
+    let low = HasNumber-within reached (suc v) is.0.0 in omega (arith, low, c.loop-j-test.false))

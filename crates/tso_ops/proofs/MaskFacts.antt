@@ -1,0 +1,260 @@
+-- Lemmas on rows of bits and on tables of them.
+use Rattle.std.proofs.Common.{◌≡◌, ◌≢◌, ◌⊎◌, ◌∙◌, ◌↔◌, ⊎_elim, inl, inr, sym, ap, subst, refl, ℕ, zero, suc, ◌+◌, ◌*◌, ◌/◌, ◌%◌, ◌^◌, ◌<◌, ◌≤◌, List, [], ◌∷◌, ◌++◌, length, get_or, set, Option, None, Some, slice_get, Result, Ok, Err, arith}
+use Rattle.std.specs.Prelude.{bit_or}
+use Rattle.std.specs.Int.{bit_at, w64}
+use Rattle.std.specs.Global.{Vec}
+use Rattle.std.specs.Option.{IfSome}
+use Rattle.std.specs.Result.{OnOk}
+use Rattle.std.proofs.lemmas.Bool.{cases_eq, cases_lt}
+use Rattle.std.proofs.lemmas.Nat.Bits.{bit_at-zero, bit_at_set_same, bit_at_set_other}
+use Rattle.std.proofs.lemmas.List.{map-set, length-map, get_or-set_same, get_or-set_other, get_or-map}
+use Rattle.std.proofs.lemmas.Grind.{get_or_default_zero}
+use Rattle.std.proofs.lemmas.Option.{same_Some, slice_get_within, slice_get-get_or}
+use Rattle.tso_ops.specs.declared.events.Event.{Event}
+use Rattle.tso_ops.specs.declared.masks.Kind.{Kind}
+use Rattle.tso_ops.specs.Values.{TraceValue, rows}
+use Rattle.tso_ops.specs.declared.events.Source.{Source}
+use Rattle.tso_ops.specs.declared.events.Source.TheVariants.{Init, Store, Unwritten}
+use Rattle.tso_ops.specs.Limits.{IsTrace}
+use Rattle.tso_ops.specs.Events.{events_of, event_at, HasSource, SourceIs}
+use Rattle.tso_ops.specs.Tables.{IsSourceRow, AreSources}
+use Rattle.tso_ops.specs.Masks.{IsMarked, IsInRow, IsOfRow, IsReadFrom, HasEventRow, HasSourceRow, source_number, AreRowsAmong, AreRows, MarksNumber, MarksInRow}
+use Rattle.tso_ops.proofs.TableFacts.{event_at-suc, same_event, has_source_load, one_source}
+
+-- ---- one row
+
+-- an empty row has no bit
+pub none_marked : (n : ℕ) → IsMarked [] n → ⊥
+unfolding IsMarked
+none_marked n is = let none : bit_at 0 (n % 64) ≡ 0 = bit_at-zero (n % 64) in omega arith
+
+same_word : (words : List ℕ) (j : ℕ) → get_or (words ++ 0 ∷ []) j 0 ≡ get_or words j 0
+same_word [] zero = refl
+same_word [] (suc j) = refl
+same_word (w ∷ words) zero = refl
+same_word (w ∷ words) (suc j) = same_word words j
+
+-- a word without bits adds none
+pub marked_extended : (words : List ℕ) (n : ℕ) → IsMarked (words ++ 0 ∷ []) n ↔ IsMarked words n
+unfolding IsMarked
+marked_extended words n =
+    (λ is. subst (λ w. bit_at w (n % 64) ≡ 1) (same_word words (n / 64)) is, λ is. subst (λ w. bit_at w (n % 64) ≡ 1) (sym (same_word words (n / 64))) is)
+
+pub marked_pushed : (first old new : List ℕ) → new ≡ old ++ 0 ∷ [] → ((n : ℕ) → IsMarked old n ↔ IsMarked first n) → (n : ℕ) → IsMarked new n ↔ IsMarked first n
+marked_pushed first old new pushed same n = (
+  λ is. (same n).0 ((marked_extended old n).0 (subst (λ xs. IsMarked xs n) pushed is)),
+  λ is. subst (λ xs. IsMarked xs n) (sym pushed) ((marked_extended old n).1 ((same n).1 is)),
+)
+
+-- a bit that is set in its word
+pub marks_set : (words : List ℕ) (number word : ℕ) → number / 64 < length words → word ≡ get_or words (number / 64) word →
+    MarksNumber words (set words (number / 64) (bit_or word (1 * 2 ^ (number % 64) % 2 ^ 64))) number
+unfolding IsMarked
+marks_set words number word within is = record { bits = at }
+  where
+    j : ℕ
+    j = number / 64
+
+    new : ℕ
+    new = bit_or word (1 * 2 ^ (number % 64) % 2 ^ 64)
+
+    place : number % 64 < 64
+    place = omega arith
+
+    old_word : word ≡ get_or words j 0
+    old_word = is ∙ get_or_default_zero words j word within
+
+    here : (n : ℕ) → n / 64 ≡ j → (bit_at (get_or (set words j new) (n / 64) 0) (n % 64) ≡ 1) ↔ ((bit_at (get_or words (n / 64) 0) (n % 64) ≡ 1) ⊎ (n ≡ number))
+    here n same =
+        let read : get_or (set words j new) (n / 64) 0 ≡ new = ap (λ i. get_or (set words j new) i 0) same ∙ get_or-set_same words j new 0 within in
+        let before : get_or words (n / 64) 0 ≡ word = ap (λ i. get_or words i 0) same ∙ sym old_word in
+        elim (cases_eq (n % 64) (number % 64)) [
+          | inl e ↦ (
+            λ bit. inr (omega (arith, e, same)),
+            λ either. ap (λ w. bit_at w (n % 64)) read ∙ ap (bit_at new) e ∙ bit_at_set_same w64 word (number % 64) place,
+          )
+          | inr other ↦ (
+            λ bit. inl (ap (λ w. bit_at w (n % 64)) before ∙ sym (bit_at_set_other w64 word (number % 64) place (n % 64) other) ∙ sym (ap (λ w. bit_at w (n % 64)) read) ∙ bit),
+            λ either. elim either [
+              | inl bit ↦ ap (λ w. bit_at w (n % 64)) read ∙ bit_at_set_other w64 word (number % 64) place (n % 64) other ∙ sym (ap (λ w. bit_at w (n % 64)) before) ∙ bit
+              | inr e ↦ absurd (other (ap (λ m. m % 64) e))
+            ],
+          )
+        ]
+
+    away : (n : ℕ) → (n / 64) ≢ j → (bit_at (get_or (set words j new) (n / 64) 0) (n % 64) ≡ 1) ↔ ((bit_at (get_or words (n / 64) 0) (n % 64) ≡ 1) ⊎ (n ≡ number))
+    away n other =
+        let kept : get_or (set words j new) (n / 64) 0 ≡ get_or words (n / 64) 0 = get_or-set_other words j (n / 64) new 0 other in (
+          λ bit. inl (ap (λ w. bit_at w (n % 64)) (sym kept) ∙ bit),
+          λ either. elim either [ inl bit ↦ ap (λ w. bit_at w (n % 64)) kept ∙ bit | inr e ↦ absurd (other (ap (λ m. m / 64) e)) ],
+        )
+
+    at : (n : ℕ) → (bit_at (get_or (set words j new) (n / 64) 0) (n % 64) ≡ 1) ↔ ((bit_at (get_or words (n / 64) 0) (n % 64) ≡ 1) ⊎ (n ≡ number))
+    at n = elim (cases_eq (n / 64) j) [ inl same ↦ here n same | inr other ↦ away n other ]
+
+-- the same in a row that has the bits of another
+pub marks_as : (first old new : List ℕ) (number : ℕ) → ((n : ℕ) → IsMarked old n ↔ IsMarked first n) → MarksNumber old new number → MarksNumber first new number
+marks_as first old new number same marks = record {
+  bits = λ n. (
+    λ is. elim ((marks.bits n).0 is) [ inl was ↦ inl ((same n).0 was) | inr e ↦ inr e ],
+    λ either. (marks.bits n).1 (elim either [ inl was ↦ inl ((same n).1 was) | inr e ↦ inr e ]),
+  );
+}
+
+-- ---- tables
+
+-- a number is marked in a row of a table that has the rows of another
+pub marks_row : (first table : List (Vec ℕ)) (row number : ℕ) (new d : Vec ℕ) → ((r : ℕ) → get_or (rows table) r [] ≡ get_or (rows first) r []) → row < length table →
+    MarksNumber (get_or table row d).items new.items number → MarksInRow (rows first) (rows (set table row new)) (Some row) number
+marks_row first table row number new d same within marks = record { bits = at }
+  where
+    turned : rows (set table row new) ≡ set (rows table) row new.items
+    turned = map-set (λ (v : Vec ℕ). v.items) table row new
+
+    before : get_or (rows table) row [] ≡ (get_or table row d).items
+    before = get_or-map (λ (v : Vec ℕ). v.items) table row d [] within
+
+    here : get_or (rows (set table row new)) row [] ≡ new.items
+    here = ap (λ rs. get_or rs row []) turned
+        ∙ get_or-set_same (rows table) row new.items [] (subst (λ m. row < m) (sym (length-map table (λ (v : Vec ℕ). v.items))) within)
+
+    first_row : get_or (rows first) row [] ≡ (get_or table row d).items
+    first_row = sym (same row) ∙ before
+
+    at_row : (n : ℕ) → IsMarked (get_or (rows (set table row new)) row []) n ↔ (IsMarked (get_or (rows first) row []) n ⊎ ((Some row ≡ Some row) × (n ≡ number)))
+    at_row n = (
+      λ is. elim ((marks.bits n).0 (subst (λ xs. IsMarked xs n) here is)) [
+        | inl was ↦ inl (subst (λ xs. IsMarked xs n) (sym first_row) was)
+        | inr e ↦ inr (refl, e)
+      ],
+      λ either. subst (λ xs. IsMarked xs n) (sym here) ((marks.bits n).1 (elim either [
+        | inl was ↦ inl (subst (λ xs. IsMarked xs n) first_row was)
+        | inr e ↦ inr e.1
+      ])),
+    )
+
+    at : (r n : ℕ) → IsMarked (get_or (rows (set table row new)) r []) n ↔ (IsMarked (get_or (rows first) r []) n ⊎ ((Some row ≡ Some r) × (n ≡ number)))
+    at r n = elim (cases_eq r row) [
+      | inl e ↦ subst (λ i. IsMarked (get_or (rows (set table row new)) i []) n ↔ (IsMarked (get_or (rows first) i []) n ⊎ ((Some row ≡ Some i) × (n ≡ number)))) (sym e) (at_row n)
+      | inr other ↦ (let kept : get_or (rows (set table row new)) r [] ≡ get_or (rows first) r [] =
+          ap (λ rs. get_or rs r []) turned ∙ get_or-set_other (rows table) row r new.items [] other ∙ same r in (
+            λ is. inl (subst (λ xs. IsMarked xs n) kept is),
+            λ either. elim either [
+              | inl was ↦ subst (λ xs. IsMarked xs n) (sym kept) was
+              | inr e ↦ absurd (let one : row ≡ r = (let some = e.0 in cc) in other (sym one))
+            ],
+          ))
+    ]
+
+-- the same of a row that is lent out, where memory wasn't refused
+pub marks_row_if : {E : Type 0} (result : Result Unit E) (first table : List (Vec ℕ)) (option : Option ℕ) (row number : ℕ) (new now : Vec ℕ) → option ≡ Some row →
+    ((r : ℕ) → get_or (rows table) r [] ≡ get_or (rows first) r []) → row < length table → now ≡ get_or table row now → OnOk result (MarksNumber now.items new.items number) →
+    OnOk result (MarksInRow (rows first) (rows (set table row new)) option number)
+marks_row_if (Ok x) first table option row number new now is same within read marks =
+    subst (λ o. MarksInRow (rows first) (rows (set table row new)) o number) (sym is)
+    (marks_row first table row number new now same within (subst (λ (v : Vec ℕ). MarksNumber v.items new.items number) read marks))
+marks_row_if (Err e) first table option row number new now is same within read marks = tt
+
+-- ---- the rows of a trace
+
+pub AreRowsAmong-none : (HasRow : ℕ → ℕ → Type 0) (table : List (List ℕ)) → table ≡ [] → AreRowsAmong HasRow 0 table
+AreRowsAmong-none HasRow table empty = rw empty record {
+  each = λ r. record { bits = λ n. (λ is. absurd (none_marked n is), λ among. absurd (let none : among.0 < 0 = among.1 in omega arith)) };
+}
+
+-- with one number more
+pub AreRowsAmong-more : (HasRow : ℕ → ℕ → Type 0) (count : ℕ) (row : Option ℕ) (old new : List (List ℕ)) → AreRowsAmong HasRow count old → ((r : ℕ) → row ≡ Some r → HasRow count r) →
+    ((r : ℕ) → HasRow count r → row ≡ Some r) → MarksInRow old new row (count + 1) → AreRowsAmong HasRow (count + 1) new
+AreRowsAmong-more HasRow count row old new are is all marks = record {
+  each = λ r. record {
+    bits = λ n. (
+      λ marked. elim ((marks.bits r n).0 marked) [
+        | inl was ↦ (let among = ((are.each r).bits n).0 was in let less = among.1 in (among.0, omega arith, among.2, among.3))
+        | inr now ↦ (count, omega arith, omega (arith, now.1), is r now.0)
+      ],
+      λ among. (marks.bits r n).1 (⊎_elim
+          (λ (less : among.0 < count). inl (((are.each r).bits n).1 (among.0, less, among.2, among.3)))
+          (λ (last : count ≤ among.0).
+          let below = among.1 in
+          let same : among.0 ≡ count = omega arith in
+          inr (all r (subst (λ k. HasRow k r) same among.3), omega (arith, among.2)))
+          (cases_lt among.0 count)),
+    );
+  };
+}
+
+some_is : {X : Type 0} (P : X → Type 0) (o : Option X) (x : X) → IfSome o P → o ≡ Some x → P x
+some_is P None x if_some is = absurd cc
+some_is P (Some y) x if_some is = let same : y ≡ x = cc in subst P same if_some
+
+-- the row of an event
+pub event_row : (events : List Event) (kind : Kind) (k : ℕ) (e : Event) (row : Option ℕ) → slice_get events k ≡ Some e → IfSome row (λ r. IsInRow kind r e) →
+    ((r : ℕ) → IsInRow kind r e → row ≡ Some r) → ((r : ℕ) → row ≡ Some r → HasEventRow events kind k r) × ((r : ℕ) → HasEventRow events kind k r → row ≡ Some r)
+event_row events kind k e row at is all = (
+  λ r found. (e, at, some_is (λ i. IsInRow kind i e) row r is found),
+  λ r has. all r (subst (λ (x : Event). IsInRow kind r x) (same_event events k has.0 e has.1 at) has.2),
+)
+
+-- the row of a load, that of its source
+pub source_row : (sources : List (Option Source)) (k : ℕ) (source : Option Source) (row : Option ℕ) → slice_get sources k ≡ Some source →
+    IfSome row (λ s. (x : Source) × (source ≡ Some x) × (source_number x ≡ Some s)) → ((x : Source) (s : ℕ) → source ≡ Some x → source_number x ≡ Some s → row ≡ Some s) →
+    ((s : ℕ) → row ≡ Some s → HasSourceRow sources k s) × ((s : ℕ) → HasSourceRow sources k s → row ≡ Some s)
+source_row sources k source row at is all = (
+  λ s found. (let of = some_is (λ s. (x : Source) × (source ≡ Some x) × (source_number x ≡ Some s)) row s is found in (of.0, at ∙ ap Some of.1, of.2)),
+  λ s has. all has.0 s (same_Some source (Some has.0) (sym at ∙ has.1)) has.2,
+)
+
+no_event_zero : (t : TraceValue) (e : Event) → event_at t zero ≡ Some e → ⊥
+unfolding event_at
+no_event_zero t e at = cc
+
+-- the rows of all events are those of the trace
+pub AreRows-all : (t : TraceValue) (events : List Event) (kind : Kind) (table : List (List ℕ)) → events_of t ≡ events → AreRowsAmong (HasEventRow events kind) (length events) table →
+    AreRows (IsOfRow t kind) table
+AreRows-all t events kind table is are = record { each = λ r. record { bits = λ n. (to r n, from r n) } }
+  where
+    to : (r n : ℕ) → IsMarked (get_or table r []) n → IsOfRow t kind r n
+    to r n marked =
+        let among = ((are.each r).bits n).0 marked in
+        let has = among.3 in
+        (has.0, subst (λ m. event_at t m ≡ Some has.0) (sym among.2) (event_at-suc t events is among.0 ∙ has.1), has.2)
+
+    from : (r n : ℕ) → IsOfRow t kind r n → IsMarked (get_or table r []) n
+    from r zero of = absurd (no_event_zero t of.0 of.1)
+    from r (suc k) of =
+        let at : slice_get events k ≡ Some of.0 = sym (event_at-suc t events is k) ∙ of.1 in
+        ((are.each r).bits (suc k)).1 (k, slice_get_within events k of.0 at, refl, (of.0, at, of.2))
+
+-- the rows of all loads are those of their sources
+pub AreRows-readers : (t : TraceValue) (sources : List (Option Source)) (table : List (List ℕ)) → IsTrace t → AreSources t sources →
+    AreRowsAmong (HasSourceRow sources) (length sources) table → AreRows (IsReadFrom t) table
+AreRows-readers t sources table trace are among_are = record { each = λ r. record { bits = λ n. (to r n, from r n) } }
+  where
+    -- what a source says of its number
+    numbered : (l s : ℕ) (source : Source) → SourceIs t l source → source_number source ≡ Some s → HasSource t l s
+    numbered l s Init is number = let same : 0 ≡ s = cc in subst (λ m. HasSource t l m) same is
+    numbered l s (Store m) is number = let same : m ≡ s = cc in subst (λ k. HasSource t l k) same is.0
+    numbered l s Unwritten is number = absurd cc
+
+    to : (r n : ℕ) → IsMarked (get_or table r []) n → HasSource t n r
+    to r n marked =
+        let among = ((among_are.each r).bits n).0 marked in
+        let has = among.3 in
+        subst (λ m. HasSource t m r) (sym among.2) (numbered (suc among.0) r has.0 (are.each among.0 (Some has.0) has.1).1 has.2)
+
+    number_is : (l s : ℕ) (source : Source) → HasSource t l s → SourceIs t l source → source_number source ≡ Some s
+    number_is l s Init has is = ap Some (one_source t trace l 0 s is has)
+    number_is l s (Store m) has is = ap Some (one_source t trace l m s is.0 has)
+    number_is l s Unwritten has is = absurd (is.1 s has)
+
+    row_is : (k s : ℕ) (row : Option Source) → slice_get sources k ≡ Some row → IsSourceRow t (suc k) row → HasSource t (suc k) s → HasSourceRow sources k s
+    row_is k s None at none has = absurd (none (has_source_load t (suc k) s has))
+    row_is k s (Some source) at is has = (source, at, number_is (suc k) s source has is.1)
+
+    from : (r n : ℕ) → HasSource t n r → IsMarked (get_or table r []) n
+    from r zero has = absurd (let load = has_source_load t zero r has in no_event_zero t load.0 load.1)
+    from r (suc k) has =
+        let load = has_source_load t (suc k) r has in
+        let low : k < length sources = (let within = slice_get_within (events_of t) k load.0 (sym (event_at-suc t (events_of t) refl k) ∙ load.1) in omega (arith, within, are.rows_in)) in
+        let at = slice_get-get_or sources k None low in
+        ((among_are.each r).bits (suc k)).1 (k, low, refl, row_is k r (get_or sources k None) at (are.each k (get_or sources k None) at) has)
