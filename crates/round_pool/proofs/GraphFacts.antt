@@ -4,6 +4,7 @@ use Rattle.std.specs.Prelude.{Contains}
 use Rattle.std.proofs.lemmas.Bool.{cases_lt}
 use Rattle.std.proofs.lemmas.List.{take_more, get_or_past, get_or_at, get_or_append_left, get_or-append_right}
 use Rattle.std.proofs.lemmas.List.Elements.{Contains-append_left, Contains-push, Contains-push_cases}
+use Rattle.order_graph.specs.Tables.{HasNumber}
 use Rattle.order_graph.specs.Digraphs.{Digraph, IsEdge}
 use Rattle.std.specs.Global.{Vec}
 use Rattle.tso_ops.specs.Values.{TraceValue, rows}
@@ -21,77 +22,34 @@ use Rattle.round_pool.specs.declared.ranked.Edge.{Edge}
 use Rattle.round_pool.specs.RankGraphs.{IsRankGraph, AddsEdges, AreRows, AreBelow}
 use Rattle.round_pool.specs.Rankings.{HasEdge, edge_from}
 
--- ---- one row
-
--- the edges from u to these numbers
-abbrev pub RowEdges : ℕ → List ℕ → ℕ → ℕ → Type 0
-RowEdges u row x y = (x ≡ u) × Contains row y
-
-pub row_start : (g : Digraph) (u : ℕ) (row : List ℕ) → AddsEdges g g (RowEdges u (take 0 row))
-row_start g u row = record {
-  nodes = refl;
-  edges = λ x y. (λ e. inl e, λ either. ⊎_elim (λ (e : IsEdge g x y). e) (λ (r : RowEdges u [] x y). absurd (let low : r.1.0 < 0 = r.1.1 in omega arith)) either);
-}
-
-pub row_more : (old g new : Digraph) (u v i d : ℕ) (row : List ℕ) → AddsEdges old g (RowEdges u (take i row)) → i < length row → v ≡ get_or row i d → new.nodes ≡ g.nodes →
-    ((x y : ℕ) → IsEdge new x y ↔ (IsEdge g x y ⊎ ((x ≡ u) × (y ≡ v)))) → AddsEdges old new (RowEdges u (take (i + 1) row))
-row_more old g new u v i d row adds inside is same edges = record {
-  nodes = same ∙ adds.nodes;
-  edges = λ x y. (
-    λ e. ⊎_elim
-        (λ (before : IsEdge g x y). ⊎_elim
-        (λ (first : IsEdge old x y). inl first)
-        (λ (r : RowEdges u (take i row) x y). inr (r.0, subst (λ l. Contains l y) (sym next) (Contains-append_left (take i row) (v ∷ []) y r.1)))
-        ((adds.edges x y).0 before))
-        (λ (now : (x ≡ u) × (y ≡ v)). inr (now.0, subst (λ l. Contains l y) (sym next) (subst (λ k. Contains (take i row ++ v ∷ []) k) (sym now.1) (Contains-push (take i row) v))))
-        ((edges x y).0 e),
-    λ either. (edges x y).1 (⊎_elim
-        (λ (first : IsEdge old x y). inl ((adds.edges x y).1 (inl first)))
-        (λ (r : RowEdges u (take (i + 1) row) x y). elim (Contains-push_cases (take i row) v y (subst (λ l. Contains l y) next r.1)) [
-          | inl before ↦ inl ((adds.edges x y).1 (inr (r.0, before)))
-          | inr now ↦ inr (r.0, sym now)
-        ])
-        either),
-  );
-}
-  where
-    next : take (i + 1) row ≡ take i row ++ v ∷ []
-    next = take_more row i d inside ∙ ap (λ w. take i row ++ w ∷ []) (sym is)
-
 -- ---- the rows of base edges
 
--- The graph has the base edges from the numbers from n on.
-pub record HasRowsFrom (t : TraceValue) (g : Digraph) (n : ℕ) : Type 0 where
+-- Rows of edges have the base edges from the numbers before n.
+pub record HasRowsBefore (t : TraceValue) (g : Digraph) (n : ℕ) : Type 0 where
   pub nodes : g.nodes ≡ suc (event_total t)
-  pub edges : (x y : ℕ) → IsEdge g x y ↔ ((n ≤ x) × F t 0 x y)
+  pub edges : (x y : ℕ) → IsEdge g x y ↔ ((x < n) × F t 0 x y)
 
-pub rows_start : (t : TraceValue) (g : Digraph) (n : ℕ) → g.nodes ≡ n → n ≡ suc (event_total t) → ((x y : ℕ) → IsEdge g x y → ⊥) → HasRowsFrom t g n
-rows_start t g n size all none = record {
-  nodes = size ∙ all;
-  edges = λ x y. (λ e. absurd (none x y e), λ past. (let within = (F-within t 0 x y past.1).0 in let from = past.0 in absurd (omega (arith, within, from, all))));
-}
-
-pub rows_more : (t : TraceValue) (old new : Digraph) (u n : ℕ) (row : List ℕ) → HasRowsFrom t old n → n ≡ u + 1 → IsRow row (F t 0 u) → AddsEdges old new (RowEdges u row) → HasRowsFrom t new u
-rows_more t old new u n row rows next is adds = record {
-  nodes = adds.nodes ∙ rows.nodes;
+pub rows_more : (t : TraceValue) (old new : Digraph) (u : ℕ) (row : List ℕ) → HasRowsBefore t old u → ((v : ℕ) → HasNumber row v ↔ F t 0 u v) → new.nodes ≡ old.nodes →
+    ((x y : ℕ) → IsEdge new x y ↔ (IsEdge old x y ⊎ ((x ≡ u) × HasNumber row y))) → HasRowsBefore t new (u + 1)
+rows_more t old new u row rows is same adds = record {
+  nodes = same ∙ rows.nodes;
   edges = λ x y. (
     λ e. ⊎_elim
-        (λ (before : IsEdge old x y). let has = (rows.edges x y).0 before in let from = has.0 in (omega (arith, from, next), has.1))
-        (λ (r : RowEdges u row x y). let at = r.0 in (omega (arith, at), subst (λ k. F t 0 k y) (sym at) (is.only y r.1)))
-        ((adds.edges x y).0 e),
-    λ has. (adds.edges x y).1 (⊎_elim
-        (λ (above : u < x). inl ((rows.edges x y).1 (omega (arith, above, next), has.1)))
-        (λ (low : x ≤ u). let from = has.0 in let at : x ≡ u = omega (arith, low, from) in inr (at, is.all y (subst (λ k. F t 0 k y) at has.1)))
-        (cases_lt u x)),
+        (λ (before : IsEdge old x y). let has = (rows.edges x y).0 before in (omega (arith, has.0), has.1))
+        (λ (r : (x ≡ u) × HasNumber row y). (omega (arith, r.0), subst (λ k. F t 0 k y) (sym r.0) ((is y).0 r.1)))
+        ((adds x y).0 e),
+    λ has. (adds x y).1 (⊎_elim
+        (λ (low : x < u). inl ((rows.edges x y).1 (low, has.1)))
+        (λ (above : u ≤ x). let at : x ≡ u = omega (arith, above, has.0) in inr (at, (is y).1 (subst (λ k. F t 0 k y) at has.1)))
+        (cases_lt x u)),
   );
 }
 
-pub rows_whole : (t : TraceValue) (g : Digraph) (n : ℕ) → HasRowsFrom t g n → n ≡ 0 → IsRankGraph t 0 g
-rows_whole t g n rows none = record { nodes = rows.nodes; edges = λ x y. (λ e. ((rows.edges x y).0 e).1, λ f. (rows.edges x y).1 (omega (arith, none), f)) }
-
--- a base row lies within the numbers of events
-pub row_below : (t : TraceValue) (u : ℕ) (row : List ℕ) → IsRow row (F t 0 u) → (v : ℕ) → Contains row v → v < suc (event_total t)
-row_below t u row is v has = (F-within t 0 u v (is.only v has)).1
+pub rows_whole : (t : TraceValue) (g : Digraph) (n : ℕ) → HasRowsBefore t g n → n ≡ suc (event_total t) → IsRankGraph t 0 g
+rows_whole t g n rows all = record {
+  nodes = rows.nodes;
+  edges = λ x y. (λ e. ((rows.edges x y).0 e).1, λ f. let low = (F-within t 0 x y f).0 in (rows.edges x y).1 (omega (arith, low, all), f));
+}
 
 -- ---- rows of a round
 

@@ -1,5 +1,5 @@
 -- Graphs of rank sets.
-use Rattle.std.specs.Prelude.{◌≡◌, ◌⊎◌, ◌↔◌, ℕ, suc, ◌+◌, ◌-◌, ◌*◌, ◌/◌, ◌<◌, ◌≤◌, List, [], length, get_or, Contains}
+use Rattle.std.specs.Prelude.{◌≡◌, ◌⊎◌, ◌↔◌, ℕ, suc, ◌+◌, ◌-◌, ◌*◌, ◌/◌, ◌<◌, List, [], length, get_or, Contains}
 use Rattle.order_graph.specs.Digraphs.{Digraph, IsEdge}
 use Rattle.tso_ops.specs.Values.{TraceValue}
 use Rattle.tso_ops.specs.Events.{event_total}
@@ -16,10 +16,6 @@ pub record IsRankGraph (t : TraceValue) (k : ℕ) (g : Digraph) : Type 0 where
 pub record AddsEdges (old new : Digraph) (Added : ℕ → ℕ → Type 0) : Type 0 where
   pub nodes : new.nodes ≡ old.nodes
   pub edges : (x y : ℕ) → IsEdge new x y ↔ (IsEdge old x y ⊎ Added x y)
-
--- the edges of these rows, of which the first is that of this number
-abbrev pub RowsEdges : ℕ → List (List ℕ) → ℕ → ℕ → Type 0
-RowsEdges first rows x y = (first ≤ x) × Contains (get_or rows (x - first) []) y
 
 -- There are so many rows, and each has the edges that a round adds to the graph's from its number.
 pub record AreRows (t : TraceValue) (g : Digraph) (first count : ℕ) (rows : List (List ℕ)) : Type 0 where

@@ -1,5 +1,5 @@
 //! The rows of one round, shared among threads.
-ghost use Rattle.std.specs.Prelude.{◌≡◌, ◌+◌, ◌*◌, ◌/◌, ◌-◌, ◌<◌, ◌≤◌, ℕ, IfOk};
+ghost use Rattle.std.specs.Prelude.{◌≡◌, ◌+◌, ◌*◌, ◌/◌, ◌-◌, ◌<◌, ◌≤◌, ℕ, Err, IfOk, IfErr};
 ghost use Rattle.std.specs.Thread.{IsSync};
 ghost use Rattle.order_graph.specs.Digraphs.{Digraph};
 ghost use Rattle.tso_ops.specs.Values.{TraceValue, rows};
@@ -72,7 +72,8 @@ fn joined_rows(
     own: Result<Vec<Vec<usize>>, OutOfMemory>,
     rest: Result<Vec<Vec<usize>>, PoolFault>,
 ) -> Result<Vec<Vec<usize>>, PoolFault>
-    ensures { (t : TraceValue) (g : Digraph) (first own_count rest_count : ℕ) → IfOk own (λ made. AreRows t g first own_count (rows made.items)) →
+    ensures memory { IfErr own (λ _. result ≡ Err PoolFault.OutOfMemory) }
+    ensures rows { (t : TraceValue) (g : Digraph) (first own_count rest_count : ℕ) → IfOk own (λ made. AreRows t g first own_count (rows made.items)) →
         IfOk rest (λ made. AreRows t g (first + own_count) rest_count (rows made.items)) →
         IfOk result (λ made. AreRows t g first (own_count + rest_count) (rows made.items)) }
 {

@@ -71,8 +71,8 @@ fn one_round(rt: HostRuntime) -> Result<(), Fail> {
     Ok(())
 }
 
-/// Each swap of one processor reads what the one before wrote, and the first what nobody wrote, although another
-/// processor stores first: each round adds the edges of one event more.
+/// Each swap of one processor reads what the one before wrote, and the first the address's first value; a store of another
+/// processor is nowhere read. Each round adds the edges of one event more.
 #[test]
 fn a_chain_of_swaps(rt: HostRuntime) -> Result<(), Fail> {
     let alloc = rt.alloc();

@@ -71,7 +71,7 @@ fn one_worker_has_all_rows(rt: HostRuntime) -> Result<(), Fail> {
     Ok(())
 }
 
-/// Two bits for each row that was computed, of the worker that did it: worker 1 is written as 1, worker 2 as 2.
+/// Two bits for each row that was computed, of the worker that did it: worker 0 is written as 1, worker 1 as 2.
 #[derive(Drop)]
 struct Workers {
     of_rows: AtomicU64,

@@ -1,18 +1,21 @@
-use Rattle.std.proofs.Common.{◌<◌, ◌-◌, ℕ, List, sym, subst, arith}
-use Rattle.std.specs.Prelude.{Contains}
-use Rattle.round_pool.specs.RankGraphs.{AddsEdges}
-use Rattle.round_pool.proofs.GraphFacts.{RowEdges, rows_start, rows_more, row_below}
+use Rattle.std.proofs.Common.{◌<◌, sym, subst, arith}
+use Rattle.order_graph.specs.Tables.{HasNumber}
+use Rattle.tso_model.proofs.Bounds.{F-within}
+use Rattle.round_pool.specs.RankGraphs.{IsRankGraph}
+use Rattle.round_pool.proofs.GraphFacts.{rows_more, rows_whole}
 use Rattle.round_pool.proofs.graphs.base_graph.Goals as goal
-
-pub loop-u-init : goal.loop-u-init
-loop-u-init c = rows_start c.args.trace.now c.in_ok-graph.graph c.node_count-nodes.result c.in_ok-graph.ensures.0 c.node_count-nodes.ensures c.in_ok-graph.ensures.1
 
 pub add_row-requires-clause-to : goal.add_row-requires-clause-to
 add_row-requires-clause-to c = λ v has.
-    subst (λ n. v < n) (sym c.loop-u.invariant.nodes)
-    (row_below c.args.trace.now (c.loop-u.u - 1) c.in_ok-row.row.items c.in_ok-row.ensures v (subst (λ (r : List ℕ). Contains r v) c.deref.ensures.value has))
+    let edge = (c.in_ok-row.ensures v).0 (subst (λ row. HasNumber row v) c.deref.ensures.value has) in
+    subst (λ n. v < n) (sym c.loop-u.invariant.nodes) (F-within c.args.trace.now 0 c.loop-u.u v edge).1
 
 pub loop-u-preserved : goal.loop-u-preserved
 loop-u-preserved c =
-    rows_more c.args.trace.now c.loop-u.graph c.add_row.new.graph (c.loop-u.u - 1) c.loop-u.u c.in_ok-row.row.items c.loop-u.invariant (omega (arith, c.loop-u-test.true)) c.in_ok-row.ensures
-    (subst (λ (r : List ℕ). AddsEdges c.loop-u.graph c.add_row.new.graph (RowEdges (c.loop-u.u - 1) r)) c.deref.ensures.value c.add_row.ensures)
+    rows_more c.args.trace.now c.loop-u.rows c.add_row.new.self c.loop-u.u c.in_ok-row.row.items c.loop-u.invariant c.in_ok-row.ensures c.add_row.ensures.nodes
+    (rw c.deref.ensures.value at c.add_row.ensures.edges)
+
+pub returns : goal.returns
+returns c =
+    subst (IsRankGraph c.args.trace.now 0) (sym c.in_ok-of_rows.ensures)
+    (rows_whole c.args.trace.now c.loop-u.rows c.loop-u.u c.loop-u.invariant (omega (arith, c.loop-u-test.false, c.node_count-nodes.ensures)))

@@ -25,4 +25,4 @@ returns-in-Ok g t c =
     let own = subst (λ k. IfOk c.join.result (λ made. AreRows t h (1 + m) k (rows made.items))) size own in
     let rest = subst (λ k. IfOk c.rows_from-rest.result (λ made. AreRows t h k (event_total t - n) (rows made.items))) seam c.rows_from-rest.ensures in
     subst (λ k. IfOk c.joined_rows.result (λ made. AreRows t h (1 + m) k (rows made.items))) all
-    (c.joined_rows.ensures t h (1 + m) (n - m) (event_total t - n) own rest)
+    (c.joined_rows.ensures.rows t h (1 + m) (n - m) (event_total t - n) own rest)
