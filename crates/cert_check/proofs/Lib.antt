@@ -1,2 +1,3 @@
 pub mod Facts
+pub mod RefusalExists
 pub mod RefusalFacts

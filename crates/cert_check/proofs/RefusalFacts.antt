@@ -1,11 +1,11 @@
 -- Which refusal a certificate gets: one at most, and none where it holds.
-use Rattle.std.proofs.Common.{◌≡◌, ◌≢◌, ◌⊎◌, ◌∙◌, ⊎_elim, inl, inr, sym, ap, subst, refl, ℕ, zero, suc, ◌+◌, ◌<◌, ◌≤◌, List, [], ◌∷◌, length, get_or, take, Some, slice_get, All, Result, Ok, Err, IsOk, OnOk, IfErr, MatchResult, arith}
-use Rattle.std.proofs.lemmas.Bool.{cases_lt, cases_eq}
+use Rattle.std.proofs.Common.{◌≡◌, ◌∙◌, ⊎_elim, inr, sym, ap, subst, refl, ℕ, suc, ◌+◌, ◌<◌, ◌≤◌, List, [], ◌∷◌, length, get_or, take, Some, slice_get, Result, Ok, Err, IsOk, OnOk, IfErr, MatchResult, arith}
+use Rattle.std.proofs.lemmas.Bool.{cases_lt}
 use Rattle.std.specs.List.{AllByRecursion}
 use Rattle.std.proofs.lemmas.Option.{slice_get_read, slice_get_within, slice_get-get_or}
 use Rattle.std.proofs.lemmas.List.Elements.{All-from_recursion}
 use Rattle.tso_ops.specs.Values.{TraceValue}
-use Rattle.tso_ops.specs.Events.{event_total, IsUnwritten}
+use Rattle.tso_ops.specs.Events.{event_total}
 use Rattle.tso_cert.specs.declared.steps.Reason.{Reason}
 use Rattle.tso_cert.specs.declared.steps.Reason.TheVariants.{Base, Inferred}
 use Rattle.tso_cert.specs.declared.steps.CertStep.{CertStep}
@@ -21,7 +21,7 @@ use Rattle.tso_model.proofs.OrderedLists.{slice_get-take}
 use Rattle.tso_model.specs.Certs.{IsStep, MeetsRule, IsPathIn, StepHolds, StepsHold, Holds}
 use Rattle.cert_check.specs.declared.faults.CertFault.{CertFault}
 use Rattle.cert_check.specs.declared.faults.CertFault.TheVariants.{EventRange, NotUnwritten, BaseRefused, SideRefused, PathUnlisted, CycleUnlisted, EmptyCycle}
-use Rattle.cert_check.specs.Refusals.{AreUpTo, IsReasonUpTo, IsStepUpTo, IsInRange, IsBase, Follows, HasFault, IsStepFault, IsCycleFault, IsCycleRefusal, IsRefusalInRange, IsRefusal}
+use Rattle.cert_check.specs.Refusals.{IsReasonUpTo, IsStepUpTo, IsInRange, Follows, HasFault, IsStepFault, IsCycleFault, IsCycleRefusal, IsRefusalInRange, IsRefusal}
 
 -- ---- the steps so far
 

@@ -1,5 +1,5 @@
 -- Which refusal a certificate gets where it doesn't hold.
-use Rattle.std.specs.Prelude.{◌≡◌, ◌≢◌, ◌⊎◌, ℕ, suc, ◌<◌, ◌≤◌, List, [], ◌∷◌, Some, slice_get, take, All}
+use Rattle.std.specs.Prelude.{◌≡◌, ◌≢◌, ◌⊎◌, ℕ, suc, ◌<◌, ◌≤◌, List, [], Some, slice_get, take, All}
 use Rattle.tso_ops.specs.Values.{TraceValue}
 use Rattle.tso_ops.specs.Events.{event_total, IsUnwritten}
 use Rattle.tso_cert.specs.declared.rules.InferredRule.{InferredRule}

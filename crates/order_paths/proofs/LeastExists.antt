@@ -110,7 +110,7 @@ least_list Has n searchable xs has = at_length (least_of_length Has n searchable
     )
 
 -- whether numbers are linked is decided, where the edges are
-Linked-decided : (Edge : ℕ → ℕ → Type 0) → ((x y : ℕ) → Decision (Edge x y)) → (numbers : List ℕ) → Decision (Linked Edge numbers)
+pub Linked-decided : (Edge : ℕ → ℕ → Type 0) → ((x y : ℕ) → Decision (Edge x y)) → (numbers : List ℕ) → Decision (Linked Edge numbers)
 Linked-decided Edge decide [] = inl tt
 Linked-decided Edge decide (x ∷ []) = inl tt
 Linked-decided Edge decide (x ∷ y ∷ rest) = Decision-both (decide x y) (Linked-decided Edge decide (y ∷ rest))
@@ -122,7 +122,7 @@ HasEnds-decided (x ∷ []) u v = inr (λ h. h)
 HasEnds-decided (x ∷ y ∷ rest) u v = Decision-both (cases_eq x u) (cases_eq (last_of y rest) v)
 
 -- whether a list is a cycle is decided, where the edges are
-IsCycle-decided : (Edge : ℕ → ℕ → Type 0) → ((x y : ℕ) → Decision (Edge x y)) → (cycle : List ℕ) → Decision (IsCycle Edge cycle)
+pub IsCycle-decided : (Edge : ℕ → ℕ → Type 0) → ((x y : ℕ) → Decision (Edge x y)) → (cycle : List ℕ) → Decision (IsCycle Edge cycle)
 IsCycle-decided Edge decide [] = inr (λ h. h)
 IsCycle-decided Edge decide (x ∷ rest) = Decision-both (Linked-decided Edge decide (x ∷ rest)) (decide (last_of x rest) x)
 

@@ -1,17 +1,12 @@
--- Which numbers are neighbours in a path or on a cycle: they are its edges, and it is a path or a cycle of them.
-use Rattle.std.proofs.Common.{◌≡◌, ◌⊎◌, inl, inr, ℕ, List, [], ◌∷◌, refl, subst}
+-- Neighbours in a path or on a cycle are its edges, and it is a path or a cycle of them.
+use Rattle.std.proofs.Common.{inl, inr, ℕ, List, [], ◌∷◌, refl, subst}
 use Rattle.std.proofs.lemmas.Bool.{cases_eq}
+use Rattle.order_paths.specs.Neighbours.{AreNeighbours, AreOnCycle}
 use Rattle.order_paths.specs.Paths.{Linked, last_of, IsCycle}
 use Rattle.order_paths.proofs.Decisions.{Decision, Decision-both, Decision-either}
 use Rattle.order_paths.proofs.Reach.{Linked-mono}
 
--- u and v are neighbours in the list
-abbrev pub AreNeighbours : List ℕ → ℕ → ℕ → Type 0
-AreNeighbours [] u v = ⊥
-AreNeighbours (x ∷ []) u v = ⊥
-AreNeighbours (x ∷ (y ∷ rest)) u v = ((x ≡ u) × (y ≡ v)) ⊎ AreNeighbours (y ∷ rest) u v
-
--- whether they are is decided
+-- whether numbers are neighbours is decided
 pub AreNeighbours-decided : (numbers : List ℕ) (u v : ℕ) → Decision (AreNeighbours numbers u v)
 AreNeighbours-decided [] u v = inr (λ h. h)
 AreNeighbours-decided (x ∷ []) u v = inr (λ h. h)
@@ -31,12 +26,7 @@ neighbours_link (x ∷ []) = tt
 neighbours_link (x ∷ y ∷ rest) =
     (inl (refl, refl), Linked-mono (AreNeighbours (y ∷ rest)) (AreNeighbours (x ∷ y ∷ rest)) (λ u v next. inr next) (y ∷ rest) (neighbours_link (y ∷ rest)))
 
--- u and v are neighbours in the cycle, or its last number and its first
-abbrev pub AreOnCycle : List ℕ → ℕ → ℕ → Type 0
-AreOnCycle [] u v = ⊥
-AreOnCycle (x ∷ rest) u v = AreNeighbours (x ∷ rest) u v ⊎ ((last_of x rest ≡ u) × (x ≡ v))
-
--- whether they are is decided
+-- whether they are on a cycle is decided
 pub AreOnCycle-decided : (cycle : List ℕ) (u v : ℕ) → Decision (AreOnCycle cycle u v)
 AreOnCycle-decided [] u v = inr (λ h. h)
 AreOnCycle-decided (x ∷ rest) u v = Decision-either (AreNeighbours-decided (x ∷ rest) u v) (Decision-both (cases_eq (last_of x rest) u) (cases_eq x v))

@@ -1,10 +1,11 @@
 -- A trace with an unwritten load or a derived cycle has a certificate.
 use Rattle.std.proofs.Common.{◌≡◌, ◌⊎◌, inl, inr, ℕ, zero, suc, ◌<◌, ◌≤◌, Bool, IsTrue, List, [], ◌∷◌, Some, slice_get, refl, sym, subst, arith}
 use Rattle.std.proofs.lemmas.Bool.{cases_lt}
+use Rattle.order_paths.specs.Neighbours.{AreOnCycle}
 use Rattle.order_paths.specs.Paths.{IsCycle}
 use Rattle.order_paths.proofs.Decisions.{Decision, Decision-both, first_of_some}
 use Rattle.order_paths.proofs.LeastExists.{least_cycle_exists}
-use Rattle.order_paths.proofs.Neighbours.{AreOnCycle, IsCycle-on_cycle, on_cycle_closes}
+use Rattle.order_paths.proofs.Neighbours.{IsCycle-on_cycle, on_cycle_closes}
 use Rattle.order_paths.proofs.Reach.{IsCycle-mono}
 use Rattle.tso_ops.specs.Values.{TraceValue}
 use Rattle.tso_ops.specs.Events.{event_total, IsUnwritten}
@@ -14,10 +15,11 @@ use Rattle.tso_cert.specs.declared.steps.Certificate.TheVariants.{Unwritten, Cyc
 use Rattle.tso_model.specs.Rules.{HasDerivedCycle}
 use Rattle.tso_model.specs.Ranks.{F, HasRank}
 use Rattle.tso_model.specs.Certs.{IsStep, IsPathIn, IsJustified, IsListedBefore, AreUsed, AreStepsOf, IsCertificateOf}
+use Rattle.tso_model.specs.Used.{AreUsedBy}
 use Rattle.tso_model.proofs.Bounds.{F-within}
 use Rattle.tso_model.proofs.Decided.{F-decided, IsUnwritten-decided, unwritten_decided}
 use Rattle.tso_model.proofs.Justifications.{rank_exists, rank_unique, HasRank-decided}
-use Rattle.tso_model.proofs.UsedEdges.{AreUsedBy, IsPathIn-used, used_path, reason_of, reason_of-edge, IsUsed, IsUsed-mono, IsUsed-edge, IsUsed-decided, used_closed}
+use Rattle.tso_model.proofs.UsedEdges.{IsPathIn-used, used_path, reason_of, reason_of-edge, IsUsed, IsUsed-mono, IsUsed-edge, IsUsed-decided, used_closed}
 use Rattle.tso_model.proofs.OrderedLists.{AreInOrder}
 use Rattle.tso_model.proofs.Collected.{IsIn, IsIn-at, IsIn-place, EachPrecedes, EachPrecedes-in_order, collected, IsIn-collected, collected-IsIn, EachPrecedes-collected}
 use Rattle.tso_model.proofs.CertificateUnique.{Precedes, IsPathIn-mono}

@@ -1,9 +1,10 @@
 -- The edges that a cycle of a rank set and the justifications of its edges use, in turn.
 use Rattle.std.proofs.Common.{◌≡◌, ◌⊎◌, inl, inr, ℕ, zero, suc, ◌+◌, ◌<◌, ◌≤◌, List, subst, arith}
 use Rattle.std.proofs.lemmas.Bool.{cases_order}
+use Rattle.order_paths.specs.Neighbours.{AreOnCycle}
 use Rattle.order_paths.specs.Paths.{IsCycle}
 use Rattle.order_paths.proofs.Decisions.{Decision, Decision-both, Decision-either, Decision-iff, Decision-some}
-use Rattle.order_paths.proofs.Neighbours.{AreNeighbours, AreNeighbours-decided, Linked-neighbours, neighbours_link, AreOnCycle, AreOnCycle-decided, IsCycle-on_cycle}
+use Rattle.order_paths.proofs.Neighbours.{AreNeighbours-decided, Linked-neighbours, neighbours_link, AreOnCycle-decided, IsCycle-on_cycle}
 use Rattle.tso_ops.specs.Values.{TraceValue}
 use Rattle.tso_ops.specs.Events.{event_total}
 use Rattle.tso_cert.specs.declared.rules.BaseRule.TheVariants.{Init}
@@ -11,22 +12,18 @@ use Rattle.tso_cert.specs.declared.steps.Reason.{Reason}
 use Rattle.tso_cert.specs.declared.steps.Reason.TheVariants.{Base, Inferred}
 use Rattle.tso_model.specs.Ranks.{F, HasRank}
 use Rattle.tso_model.specs.Certs.{IsPathIn, IsJustified}
+use Rattle.tso_model.specs.Used.{AreUsedBy}
 use Rattle.tso_model.proofs.Bounds.{F-within}
 use Rattle.tso_model.proofs.Decided.{F-decided}
 use Rattle.tso_model.proofs.LastRankSet.{F-mono}
 use Rattle.tso_model.proofs.Justifications.{rank_exists, rank_unique, justification_exists}
 
--- u and v are neighbours in the reason's path
-abbrev pub AreUsedBy : Reason → ℕ → ℕ → Type 0
-AreUsedBy (Base rule) u v = ⊥
-AreUsedBy (Inferred rule load path) u v = AreNeighbours path u v
-
--- whether they are is decided
+-- whether a reason uses an edge is decided
 AreUsedBy-decided : (reason : Reason) (u v : ℕ) → Decision (AreUsedBy reason u v)
 AreUsedBy-decided (Base rule) u v = inr (λ h. h)
 AreUsedBy-decided (Inferred rule load path) u v = AreNeighbours-decided path u v
 
--- they are an edge of each relation in which the reason has its path
+-- what it uses is an edge of each relation in which it has its path
 pub IsPathIn-used : (Edge : ℕ → ℕ → Type 0) (reason : Reason) → IsPathIn Edge reason → (u v : ℕ) → AreUsedBy reason u v → Edge u v
 IsPathIn-used Edge (Base rule) path u v used = absurd used
 IsPathIn-used Edge (Inferred rule load path) linked u v used = Linked-neighbours Edge path linked u v used
@@ -37,7 +34,7 @@ used_path (Base rule) = tt
 used_path (Inferred rule load path) = neighbours_link path
 
 -- a justification uses edges of lesser ranks
-used_lesser : (t : TraceValue) (r x y : ℕ) (reason : Reason) → IsJustified t r x y reason → (u v : ℕ) → AreUsedBy reason u v → (s : ℕ) × (s < r) × HasRank t u v s
+pub used_lesser : (t : TraceValue) (r x y : ℕ) (reason : Reason) → IsJustified t r x y reason → (u v : ℕ) → AreUsedBy reason u v → (s : ℕ) × (s < r) × HasRank t u v s
 used_lesser t zero x y (Base rule) just u v used = absurd used
 used_lesser t zero x y (Inferred rule load path) just u v used = absurd just
 used_lesser t (suc r) x y (Base rule) just u v used = absurd just

@@ -3,3 +3,4 @@ pub mod EdgeLists
 pub mod Order
 pub mod Ranks
 pub mod Rules
+pub mod Used

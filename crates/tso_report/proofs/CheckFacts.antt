@@ -3,23 +3,24 @@ use Rattle.std.proofs.Common.{◌≡◌, ◌⊎◌, ◌↔◌, ℕ, ◌<◌, ◌
 use Rattle.std.proofs.lemmas.Bool.{false≢true, cases_lt}
 use Rattle.std.proofs.lemmas.List.{take_all, length-take-le}
 use Rattle.std.specs.Prelude.{Option}
-use Rattle.tso_ops.specs.Values.{TraceValue}
+use Rattle.tso_ops.specs.Values.{TraceValue, trace_of_lists}
 use Rattle.tso_ops.specs.Limits.{IsTrace}
 use Rattle.tso_text.specs.declared.faults.Why.{Why}
 use Rattle.tso_text.specs.Grammars.{trace_grammar, SpellsTrace, IsRefusedTrace, IsTraceRefusal}
-use Rattle.tso_text.proofs.SpellingFacts.{not_both}
-use Rattle.tso_cert.proofs.SpellingFacts.{not_both as cert_not_both, one_refusal as one_unread}
+use Rattle.tso_text.proofs.SpellingFacts.{not_both, spelled_or_refused}
+use Rattle.tso_cert.proofs.SpellingFacts.{not_both as cert_not_both, one_refusal as one_unread, spelled_or_refused as spelled_or_unread}
 use Rattle.tso_cert.proofs.PrintedFacts.{one_value}
 use Rattle.tso_model.specs.Certs.{Holds}
 use Rattle.tso_model.specs.Order.{IsConsistent}
 use Rattle.tso_model.proofs.CertificateHolds.{not_consistent}
 use Rattle.tso_model.proofs.Events.{own_values}
 use Rattle.cert_check.specs.Refusals.{IsRefusal as IsCertRefusal}
+use Rattle.cert_check.proofs.RefusalExists.{holds_or_refused}
 use Rattle.cert_check.proofs.RefusalFacts.{not_refused, one_refusal}
 use Rattle.tso_report.specs.declared.verdicts.Verdict.{Verdict}
 use Rattle.tso_report.specs.declared.verdicts.Verdict.TheVariants.{NoViolation, Violation, Refused}
 use Rattle.tso_report.specs.Reports.{refusal_text}
-use Rattle.tso_report.specs.Checks.{fails_text, unread_text, SpellsHolding, SpellHolding, IsFailureReport, IsUnreadReport, IsCertReport, IsCertReportOfReader, IsCheckReport, IsCheckReportOfReaders}
+use Rattle.tso_report.specs.Checks.{holds_text, fails_text, unread_text, SpellsHolding, SpellHolding, IsFailureReport, IsUnreadReport, IsCertReport, IsCertReportOfReader, IsCheckReport, IsCheckReportOfReaders}
 use Rattle.tso_report.proofs.InputFacts.{one_refused_input, one_trace, refusal_of_front, spells_of_front}
 
 -- ---- what is read
@@ -146,3 +147,20 @@ one_check_report trace cert a b v w (inl p) (inl q) = one_cert_report q.0 cert a
 one_check_report trace cert a b v w (inl p) (inr q) = absurd (not_both trace_grammar trace p.0.lists q.0 q.1 p.1 q.2)
 one_check_report trace cert a b v w (inr p) (inl q) = absurd (not_both trace_grammar trace q.0.lists p.0 p.1 q.1 p.2)
 one_check_report trace cert a b v w (inr p) (inr q) = one_refused_input trace a b v w p q
+
+-- ---- some report
+
+some_cert_report : (t : TraceValue) (cert : List ℕ) → (text : List ℕ) × (v : Verdict) × IsCertReport t cert text v
+some_cert_report t cert = elim (spelled_or_unread cert) [
+  | inl spelled ↦ elim (holds_or_refused t spelled.0) [
+    | inl holds ↦ (holds_text, Violation, inl ((spelled.0, spelled.1, holds), refl, refl))
+    | inr refused ↦ (fails_text refused.0, Refused, inr (inl (spelled.0, refused.0, spelled.1, refused.1, refl), refl))
+  ]
+  | inr unread ↦ (unread_text unread.0 unread.1, Refused, inr (inr (unread.0, unread.1, unread.2, refl), refl))
+]
+
+pub some_check_report : (trace cert : List ℕ) → length cert ≤ 67108864 → (text : List ℕ) × (v : Verdict) × IsCheckReport trace cert text v
+some_check_report trace cert within = elim (spelled_or_refused trace_grammar trace) [
+  | inl spelled ↦ (let t = trace_of_lists spelled.0 in let report = some_cert_report t cert in (report.0, report.1, inl (t, spelled.1, within, report.2)))
+  | inr refused ↦ (refusal_text refused.0 refused.1, Refused, inr (refused.0, refused.1, refused.2, refl, refl))
+]

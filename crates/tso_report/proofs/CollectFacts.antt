@@ -2,34 +2,35 @@
 use Rattle.std.proofs.Common.{◌≡◌, ◌⊎◌, ◌↔◌, inl, inr, ℕ, zero, suc, ◌<◌, ◌≤◌, Bool, IsTrue, List, [], ◌∷◌, ◌++◌, Some, slice_get, reverse, refl, sym, ap, subst, ◌∙◌, arith}
 use Rattle.std.proofs.lemmas.List.{reverse-append}
 use Rattle.std.proofs.lemmas.Option.{none-some, same_Some}
+use Rattle.order_paths.specs.Neighbours.{AreOnCycle}
 use Rattle.order_paths.specs.Paths.{IsCycle}
+use Rattle.order_paths.proofs.Neighbours.{IsCycle-on_cycle, on_cycle_closes}
 use Rattle.order_paths.proofs.Reach.{IsCycle-mono}
 use Rattle.tso_ops.specs.Values.{TraceValue}
-use Rattle.tso_cert.specs.declared.steps.Reason.{Reason}
-use Rattle.tso_cert.specs.declared.steps.Reason.TheVariants.{Base, Inferred}
 use Rattle.tso_cert.specs.declared.steps.CertStep.{CertStep}
 use Rattle.tso_model.specs.Ranks.{F, HasRank}
 use Rattle.tso_model.specs.Certs.{IsStep, IsJustified, IsListedBefore, AreUsed, AreStepsOf}
+use Rattle.tso_model.specs.Used.{AreUsedBy}
 use Rattle.tso_model.proofs.CertificateUnique.{IsPathIn-mono}
 use Rattle.tso_model.proofs.Justifications.{rank_exists, rank_unique}
 use Rattle.tso_model.proofs.LastRankSet.{F-mono}
-use Rattle.tso_report.specs.Collecting.{Uses, IsOnCycle, IsListed, Collects}
-use Rattle.tso_report.proofs.Neighbours.{uses_edge, uses_path, on_cycle_edge, on_cycle_closes}
+use Rattle.tso_model.proofs.UsedEdges.{IsPathIn-used, used_lesser, used_path}
+use Rattle.tso_report.specs.Collecting.{IsListed, Collects}
 
 -- At first the cycle's edges are marked, and nothing is done.
 pub Collects-start : (t : TraceValue) (k : ℕ) (cycle : List ℕ) (Marked Done : ℕ → ℕ → Type 0) → IsCycle (F t k) cycle →
-    ((u v : ℕ) → Marked u v ↔ IsOnCycle cycle u v) → ((u v : ℕ) → F t k u v → Done u v → ⊥) → Collects t k cycle Marked Done []
+    ((u v : ℕ) → Marked u v ↔ AreOnCycle cycle u v) → ((u v : ℕ) → F t k u v → Done u v → ⊥) → Collects t k cycle Marked Done []
 Collects-start t k cycle Marked Done closed marks none = record {
-  cycle_marked = IsCycle-mono (IsOnCycle cycle) Marked (λ u v. (marks u v).1) cycle (on_cycle_closes (F t k) cycle closed);
+  cycle_marked = IsCycle-mono (AreOnCycle cycle) Marked (λ u v. (marks u v).1) cycle (on_cycle_closes (F t k) cycle closed);
   edges = edge;
   all = λ u v m d. absurd (none u v (edge u v m) d);
   each = λ i s at. absurd (none-some s at);
   order = λ i j s d r q less at_s at_d rank_s rank_d. absurd (none-some s at_s);
-  needed = λ u v m pairs used. on_cycle_edge (λ x y. IsTrue (pairs x y)) cycle used.cycle_edges u v ((marks u v).0 m);
+  needed = λ u v m pairs used. IsCycle-on_cycle (λ x y. IsTrue (pairs x y)) cycle used.cycle_edges u v ((marks u v).0 m);
 }
   where
     edge : (u v : ℕ) → Marked u v → F t k u v
-    edge u v m = on_cycle_edge (F t k) cycle closed u v ((marks u v).0 m)
+    edge u v m = IsCycle-on_cycle (F t k) cycle closed u v ((marks u v).0 m)
 
 -- What is done may be said in another way, as far as edges are marked.
 pub Collects-as : (t : TraceValue) (k : ℕ) (cycle : List ℕ) (Marked Done Other : ℕ → ℕ → Type 0) (steps : List CertStep) → Collects t k cycle Marked Done steps →
@@ -48,15 +49,6 @@ Collects-as t k cycle Marked Done Other steps collects to back = record {
   needed = collects.needed;
 }
 
--- a justification uses edges of lesser ranks
-used_lesser : (t : TraceValue) (r x y : ℕ) (reason : Reason) → IsJustified t r x y reason → (u v : ℕ) → Uses reason u v → (s : ℕ) × (s < r) × HasRank t u v s
-used_lesser t zero x y (Base rule) just u v used = absurd used
-used_lesser t zero x y (Inferred rule load path) just u v used = absurd just
-used_lesser t (suc r) x y (Base rule) just u v used = absurd just
-used_lesser t (suc r) x y (Inferred rule load path) just u v used =
-    let rank = rank_exists t r u v (uses_edge (F t r) (Inferred rule load path) just.0.3.0.1 u v used) in
-    (rank.0, omega (arith, rank.1), rank.2)
-
 -- one step more in front
 IsStep-more : (s : CertStep) (steps : List CertStep) (u v : ℕ) → IsStep steps u v → IsStep (s ∷ steps) u v
 IsStep-more s steps u v step = (suc step.0, step.1, step.2, step.3, step.4)
@@ -67,7 +59,7 @@ AreUsed-less s steps cycle pairs used = record { cycle_edges = used.cycle_edges;
 -- The step of a marked edge that comes before all that are done is put in front, and what its justification uses is marked.
 pub Collects-step : (t : TraceValue) (k : ℕ) (cycle : List ℕ) (Marked More Done Other : ℕ → ℕ → Type 0) (steps : List CertStep) (r : ℕ) (s : CertStep) →
     Collects t k cycle Marked Done steps → Marked s.from s.to → HasRank t s.from s.to r → IsJustified t r s.from s.to s.reason →
-    ((u v : ℕ) → More u v ↔ (Marked u v ⊎ Uses s.reason u v)) →
+    ((u v : ℕ) → More u v ↔ (Marked u v ⊎ AreUsedBy s.reason u v)) →
     ((u v : ℕ) → Other u v ↔ (Done u v ⊎ ((u ≡ s.from) × (v ≡ s.to)))) →
     ((d : CertStep) (q : ℕ) → Done d.from d.to → HasRank t d.from d.to q → IsListedBefore r s q d) →
     Collects t k cycle More Other (s ∷ steps)
@@ -113,7 +105,7 @@ Collects-step t k cycle Marked More Done Other steps r s collects marked rank ju
       marked = kept s.from s.to marked;
       done = (other s.from s.to).1 (inr (refl, refl));
       justified = (r, rank, just);
-      path = IsPathIn-mono (Uses s.reason) More (λ u v used. (more u v).1 (inr used)) s.reason (uses_path s.reason);
+      path = IsPathIn-mono (AreUsedBy s.reason) More (λ u v used. (more u v).1 (inr used)) s.reason (used_path s.reason);
     }
 
     each : (i : ℕ) (d : CertStep) → slice_get (s ∷ steps) i ≡ Some d → IsListed t More Other d
@@ -138,7 +130,7 @@ Collects-step t k cycle Marked More Done Other steps r s collects marked rank ju
         let behind = AreUsed-less s steps cycle pairs used in
         elim ((more u v).0 m) [
           | inl old ↦ collects.needed u v old pairs behind
-          | inr by ↦ uses_edge (λ x y. IsTrue (pairs x y)) s.reason (used.path_edges 0 s refl (collects.needed s.from s.to marked pairs behind)) u v by
+          | inr by ↦ IsPathIn-used (λ x y. IsTrue (pairs x y)) s.reason (used.path_edges 0 s refl (collects.needed s.from s.to marked pairs behind)) u v by
         ]
 
 -- Where all edges are done, the steps are those of the cycle.

@@ -1,147 +1,98 @@
--- Neighbours in paths and cycles by their places.
-use Rattle.std.proofs.Common.{◌≡◌, ◌⊎◌, ◌↔◌, inl, inr, ℕ, zero, suc, ◌+◌, ◌-◌, ◌<◌, ◌≤◌, List, [], ◌∷◌, length, get_or, ◌==◌, false, refl, sym, subst, ◌∙◌, arith}
-use Rattle.std.proofs.lemmas.Bool.{cases_order, true≢false}
+-- The edges of paths and cycles, as they are added to a graph, and that their numbers lie below its nodes.
+use Rattle.std.proofs.Common.{◌≡◌, ◌⊎◌, ◌↔◌, inl, inr, ℕ, zero, suc, ◌+◌, ◌-◌, ◌<◌, ◌≤◌, List, [], ◌∷◌, length, get_or, take, ◌==◌, false, refl, sym, subst, ◌∙◌, arith}
+use Rattle.std.proofs.lemmas.Bool.{true≢false}
+use Rattle.std.proofs.lemmas.List.{take_all}
+use Rattle.order_paths.specs.Neighbours.{AreNeighbours, AreOnCycle}
 use Rattle.order_paths.specs.Paths.{Linked, last_of, IsPath, IsCycle}
-use Rattle.order_paths.proofs.Reach.{Linked-mono}
 use Rattle.order_graph.specs.Digraphs.{Digraph, IsEdge}
 use Rattle.tso_cert.specs.declared.steps.Reason.{Reason}
 use Rattle.tso_cert.specs.declared.steps.Reason.TheVariants.{Base, Inferred}
-use Rattle.tso_model.specs.Certs.{IsPathIn}
 use Rattle.tso_rules.specs.Rows.{IsJustifiedOver}
 use Rattle.tso_ops.specs.Values.{TraceValue}
-use Rattle.tso_report.specs.Collecting.{AreNeighboursBefore, Uses, IsOnCycle, AreNumbersBelow, IsReasonBelow, Marks}
+use Rattle.cert_check.proofs.Facts.{last_of-place}
+use Rattle.round_pool.specs.RankGraphs.{AddsEdges}
+use Rattle.tso_report.specs.Collecting.{AreNumbersBelow, IsReasonBelow}
 
--- neighbours in a list that edges link are an edge
-neighbours_edge : (Edge : ℕ → ℕ → Type 0) (path : List ℕ) → Linked Edge path → (u v : ℕ) → AreNeighboursBefore path (length path) u v → Edge u v
-neighbours_edge Edge [] linked u v next = absurd (omega (arith, next.1))
-neighbours_edge Edge (x ∷ []) linked u v next = absurd (omega (arith, next.1))
-neighbours_edge Edge (x ∷ y ∷ rest) linked u v (zero, less, first, second) = subst (λ n. Edge u n) second (subst (λ n. Edge n y) first linked.0)
-neighbours_edge Edge (x ∷ y ∷ rest) linked u v (suc j, less, first, second) = neighbours_edge Edge (y ∷ rest) linked.1 u v (j, omega (arith, less), first, second)
-
--- neighbours further on are neighbours
-neighbours_more : (x : ℕ) (path : List ℕ) (u v : ℕ) → AreNeighboursBefore path (length path) u v → AreNeighboursBefore (x ∷ path) (length (x ∷ path)) u v
-neighbours_more x path u v next = (suc next.0, omega (arith, next.1), next.2, next.3)
-
--- a list is linked by its neighbours
-neighbours_link : (path : List ℕ) → Linked (AreNeighboursBefore path (length path)) path
-neighbours_link [] = tt
-neighbours_link (x ∷ []) = tt
-neighbours_link (x ∷ y ∷ rest) = (
-  (0, omega arith, refl, refl),
-  Linked-mono (AreNeighboursBefore (y ∷ rest) (length (y ∷ rest))) (AreNeighboursBefore (x ∷ y ∷ rest) (length (x ∷ y ∷ rest)))
-      (neighbours_more x (y ∷ rest)) (y ∷ rest) (neighbours_link (y ∷ rest)),
+-- one number more makes one pair of neighbours more
+neighbours_at : (path : List ℕ) (i u v : ℕ) → suc i < length path →
+    AreNeighbours (take (suc (suc i)) path) u v ↔ (AreNeighbours (take (suc i) path) u v ⊎ ((u ≡ get_or path i 0) × (v ≡ get_or path (suc i) 0)))
+neighbours_at [] i u v within = absurd (omega (arith, within))
+neighbours_at (x ∷ []) i u v within = absurd (omega (arith, within))
+neighbours_at (x ∷ y ∷ rest) zero u v within = (
+  λ e. elim e [ inl here ↦ inr (sym here.0, sym here.1) | inr none ↦ absurd none ],
+  λ e. elim e [ inl none ↦ absurd none | inr here ↦ inl (sym here.0, sym here.1) ],
 )
+neighbours_at (x ∷ y ∷ rest) (suc i) u v within =
+    let behind = neighbours_at (y ∷ rest) i u v (omega (arith, within)) in (
+      λ e. elim e [ inl here ↦ inl (inl here) | inr later ↦ elim (behind.0 later) [ inl old ↦ inl (inr old) | inr last ↦ inr last ] ],
+      λ e. elim e [
+        | inl old ↦ elim old [ inl here ↦ inl here | inr later ↦ inr (behind.1 (inl later)) ]
+        | inr last ↦ inr (behind.1 (inr last))
+      ],
+    )
 
--- what a reason uses is an edge of each relation in which it has its path
-pub uses_edge : (Edge : ℕ → ℕ → Type 0) (reason : Reason) → IsPathIn Edge reason → (u v : ℕ) → Uses reason u v → Edge u v
-uses_edge Edge (Base rule) path u v used = absurd used
-uses_edge Edge (Inferred rule load path) linked u v used = neighbours_edge Edge path linked u v used
+neighbours_more : (path : List ℕ) (i u v : ℕ) → 1 ≤ i → i < length path →
+    AreNeighbours (take (i + 1) path) u v ↔ (AreNeighbours (take i path) u v ⊎ ((u ≡ get_or path (i - 1) 0) × (v ≡ get_or path i 0)))
+neighbours_more path zero u v one within = absurd (omega (arith, one))
+neighbours_more path (suc i) u v one within =
+    let after : suc (suc i) ≡ suc i + 1 = omega arith in
+    let before : i ≡ suc i - 1 = omega arith in
+    subst (λ n. AreNeighbours (take n path) u v ↔ (AreNeighbours (take (suc i) path) u v ⊎ ((u ≡ get_or path (suc i - 1) 0) × (v ≡ get_or path (suc i) 0)))) after
+    (subst (λ n. AreNeighbours (take (suc (suc i)) path) u v ↔ (AreNeighbours (take (suc i) path) u v ⊎ ((u ≡ get_or path n 0) × (v ≡ get_or path (suc i) 0)))) before
+    (neighbours_at path i u v within))
 
--- and it has its path in it
-pub uses_path : (reason : Reason) → IsPathIn (Uses reason) reason
-uses_path (Base rule) = tt
-uses_path (Inferred rule load path) = neighbours_link path
+neighbours_none : (path : List ℕ) (u v : ℕ) → AreNeighbours (take 1 path) u v → ⊥
+neighbours_none [] u v next = next
+neighbours_none (x ∷ rest) u v next = next
 
--- what is on a cycle is an edge of each relation of which the list is a cycle
-pub on_cycle_edge : (Edge : ℕ → ℕ → Type 0) (cycle : List ℕ) → IsCycle Edge cycle → (u v : ℕ) → IsOnCycle cycle u v → Edge u v
-on_cycle_edge Edge [] closed u v on = absurd on
-on_cycle_edge Edge (x ∷ rest) closed u v (inl next) = neighbours_edge Edge (x ∷ rest) closed.0 u v next
-on_cycle_edge Edge (x ∷ rest) closed u v (inr ends) = subst (λ n. Edge u n) ends.1 (subst (λ n. Edge n x) ends.0 closed.1)
+-- Adding one pair of neighbours more.
+pub path_start : (g : Digraph) (path : List ℕ) → AddsEdges g g (AreNeighbours (take 1 path))
+path_start g path = record { nodes = refl; edges = λ x y. (λ e. inl e, λ e. elim e [ inl old ↦ old | inr next ↦ absurd (neighbours_none path x y next) ]) }
 
--- and a cycle is one of it
-pub on_cycle_closes : (Edge : ℕ → ℕ → Type 0) (cycle : List ℕ) → IsCycle Edge cycle → IsCycle (IsOnCycle cycle) cycle
-on_cycle_closes Edge [] closed = closed
-on_cycle_closes Edge (x ∷ rest) closed =
-    (Linked-mono (AreNeighboursBefore (x ∷ rest) (length (x ∷ rest))) (IsOnCycle (x ∷ rest)) (λ u v next. inl next) (x ∷ rest) (neighbours_link (x ∷ rest)), inr (refl, refl))
-
--- the neighbours in one number more
-pub neighbours_step : (path : List ℕ) (i u v : ℕ) → 1 ≤ i → AreNeighboursBefore path (i + 1) u v ↔ (AreNeighboursBefore path i u v ⊎ ((u ≡ get_or path (i - 1) 0) × (v ≡ get_or path i 0)))
-neighbours_step path i u v one = (to, back)
-  where
-    to : AreNeighboursBefore path (i + 1) u v → AreNeighboursBefore path i u v ⊎ ((u ≡ get_or path (i - 1) 0) × (v ≡ get_or path i 0))
-    to (j, less, first, second) = elim (cases_order (suc j) i) [
-      | inl same ↦ (let before : j ≡ i - 1 = omega arith in inr (subst (λ n. u ≡ get_or path n 0) before (sym first), subst (λ n. v ≡ get_or path n 0) same (sym second)))
-      | inr (inl earlier) ↦ inl (j, earlier, first, second)
-      | inr (inr later) ↦ absurd (omega (arith, less, later))
-    ]
-
-    back : AreNeighboursBefore path i u v ⊎ ((u ≡ get_or path (i - 1) 0) × (v ≡ get_or path i 0)) → AreNeighboursBefore path (i + 1) u v
-    back (inl (j, less, first, second)) = (j, omega (arith, less), first, second)
-    back (inr here) =
-        let after : i ≡ suc (i - 1) = omega arith in
-        (i - 1, omega arith, sym here.0, subst (λ n. get_or path n 0 ≡ v) after (sym here.1))
-
-pub neighbours_none : (path : List ℕ) (u v : ℕ) → AreNeighboursBefore path 1 u v → ⊥
-neighbours_none path u v next = omega (arith, next.1)
-
--- the last number of a cycle
-pub last_at : (x : ℕ) (rest : List ℕ) → last_of x rest ≡ get_or (x ∷ rest) (length rest) 0
-last_at x [] = refl
-last_at x (y ∷ rest) = last_at y rest
-
--- Marking one pair of neighbours more.
-pub Marks-start : (g : Digraph) (path : List ℕ) → Marks g g (AreNeighboursBefore path 1)
-Marks-start g path = record { nodes = refl; edges = λ x y. (λ e. inl e, λ e. elim e [ inl old ↦ old | inr next ↦ absurd (neighbours_none path x y next) ]) }
-
-pub Marks-step : (old now new : Digraph) (path : List ℕ) (i : ℕ) → 1 ≤ i → Marks old now (AreNeighboursBefore path i) → new.nodes ≡ now.nodes →
-    ((x y : ℕ) → IsEdge new x y ↔ (IsEdge now x y ⊎ ((x ≡ get_or path (i - 1) 0) × (y ≡ get_or path i 0)))) → Marks old new (AreNeighboursBefore path (i + 1))
-Marks-step old now new path i one marks nodes edges = record {
-  nodes = nodes ∙ marks.nodes;
+pub path_step : (old now new : Digraph) (path : List ℕ) (i : ℕ) → 1 ≤ i → i < length path → AddsEdges old now (AreNeighbours (take i path)) → new.nodes ≡ now.nodes →
+    ((x y : ℕ) → IsEdge new x y ↔ (IsEdge now x y ⊎ ((x ≡ get_or path (i - 1) 0) × (y ≡ get_or path i 0)))) → AddsEdges old new (AreNeighbours (take (i + 1) path))
+path_step old now new path i one within adds nodes edges = record {
+  nodes = nodes ∙ adds.nodes;
   edges = λ x y.
-      let step = neighbours_step path i x y one in (
+      let step = neighbours_more path i x y one within in (
         λ e. elim ((edges x y).0 e) [
-          | inl now_edge ↦ elim ((marks.edges x y).0 now_edge) [ inl o ↦ inl o | inr next ↦ inr (step.1 (inl next)) ]
+          | inl now_edge ↦ elim ((adds.edges x y).0 now_edge) [ inl o ↦ inl o | inr next ↦ inr (step.1 (inl next)) ]
           | inr here ↦ inr (step.1 (inr here))
         ],
         λ e. (edges x y).1 (elim e [
-          | inl o ↦ inl ((marks.edges x y).1 (inl o))
-          | inr next ↦ elim (step.0 next) [ inl before ↦ inl ((marks.edges x y).1 (inr before)) | inr here ↦ inr here ]
+          | inl o ↦ inl ((adds.edges x y).1 (inl o))
+          | inr next ↦ elim (step.0 next) [ inl before ↦ inl ((adds.edges x y).1 (inr before)) | inr here ↦ inr here ]
         ]),
       );
 }
 
-pub Marks-end : (old now : Digraph) (path : List ℕ) (i : ℕ) → length path ≤ i → (i ≤ 1) ⊎ (i ≤ length path) → Marks old now (AreNeighboursBefore path i) → Marks old now (AreNeighboursBefore path (length path))
-Marks-end old now path i past most marks = elim (cases_order i (length path)) [
-  | inl same ↦ subst (λ n. Marks old now (AreNeighboursBefore path n)) same marks
-  | inr (inl less) ↦ absurd (omega (arith, past, less))
-  | inr (inr more) ↦ record {
-    nodes = marks.nodes;
-    edges = λ x y. (
-      λ e. elim ((marks.edges x y).0 e) [ inl o ↦ inl o | inr next ↦ absurd (elim most [ inl one ↦ omega (arith, one, next.1) | inr within ↦ omega (arith, within, more) ]) ],
-      λ e. (marks.edges x y).1 (elim e [ inl o ↦ inl o | inr next ↦ inr (next.0, omega (arith, next.1, more), next.2, next.3) ]),
-    );
-  }
-]
+pub path_end : (old now : Digraph) (path : List ℕ) (i : ℕ) → length path ≤ i → AddsEdges old now (AreNeighbours (take i path)) → AddsEdges old now (AreNeighbours path)
+path_end old now path i past adds = subst (λ p. AddsEdges old now (AreNeighbours p)) (take_all i path past) adds
 
--- Marking a cycle's edges: its path's, and the edge from the last number to the first.
-pub Marks-cycle : (old now new : Digraph) (cycle : List ℕ) (last first : ℕ) → Marks old now (AreNeighboursBefore cycle (length cycle)) → 0 < length cycle →
+-- Adding a cycle's edges: its path's, and the edge from the last number to the first.
+pub cycle_added : (old now new : Digraph) (cycle : List ℕ) (last first : ℕ) → AddsEdges old now (AreNeighbours cycle) → 0 < length cycle →
     last ≡ get_or cycle (length cycle - 1) 0 → first ≡ get_or cycle 0 0 → new.nodes ≡ now.nodes →
-    ((x y : ℕ) → IsEdge new x y ↔ (IsEdge now x y ⊎ ((x ≡ last) × (y ≡ first)))) → Marks old new (IsOnCycle cycle)
-Marks-cycle old now new [] last first marks some last_is first_is nodes edges = absurd (omega (arith, some))
-Marks-cycle old now new (z ∷ rest) last first marks some last_is first_is nodes edges = record {
-  nodes = nodes ∙ marks.nodes;
+    ((x y : ℕ) → IsEdge new x y ↔ (IsEdge now x y ⊎ ((x ≡ last) × (y ≡ first)))) → AddsEdges old new (AreOnCycle cycle)
+cycle_added old now new [] last first adds some last_is first_is nodes edges = absurd (omega (arith, some))
+cycle_added old now new (z ∷ rest) last first adds some last_is first_is nodes edges = record {
+  nodes = nodes ∙ adds.nodes;
   edges = λ x y. (
     λ e. elim ((edges x y).0 e) [
-      | inl now_edge ↦ elim ((marks.edges x y).0 now_edge) [ inl o ↦ inl o | inr next ↦ inr (inl next) ]
+      | inl now_edge ↦ elim ((adds.edges x y).0 now_edge) [ inl o ↦ inl o | inr next ↦ inr (inl next) ]
       | inr here ↦ inr (inr (last_same ∙ sym here.0, sym first_is ∙ sym here.1))
     ],
     λ e. (edges x y).1 (elim e [
-      | inl o ↦ inl ((marks.edges x y).1 (inl o))
-      | inr (inl next) ↦ inl ((marks.edges x y).1 (inr next))
+      | inl o ↦ inl ((adds.edges x y).1 (inl o))
+      | inr (inl next) ↦ inl ((adds.edges x y).1 (inr next))
       | inr (inr ends) ↦ inr (sym ends.0 ∙ last_same, sym ends.1 ∙ sym first_is)
     ]),
   );
 }
   where
     last_same : last_of z rest ≡ last
-    last_same = let before : length rest ≡ length (z ∷ rest) - 1 = omega arith in last_at z rest ∙ (subst (λ n. get_or (z ∷ rest) n 0 ≡ last) (sym before) (sym last_is))
-
-pub Marks-none : (old now : Digraph) (cycle : List ℕ) → Marks old now (AreNeighboursBefore cycle (length cycle)) → length cycle ≡ 0 → Marks old now (IsOnCycle cycle)
-Marks-none old now [] marks none = record {
-  nodes = marks.nodes;
-  edges = λ x y. (λ e. elim ((marks.edges x y).0 e) [ inl o ↦ inl o | inr next ↦ absurd (omega (arith, next.1)) ], λ e. (marks.edges x y).1 (elim e [ inl o ↦ inl o | inr on ↦ absurd on ]));
-}
-Marks-none old now (z ∷ rest) marks none = absurd (omega (arith, none))
+    last_same =
+        let before : length rest ≡ length (z ∷ rest) - 1 = omega arith in
+        last_of-place z rest 0 ∙ (subst (λ n. get_or (z ∷ rest) n 0 ≡ last) (sym before) (sym last_is))
 
 -- the numbers of linked edges below a number lie below it
 linked_below : (Edge : ℕ → ℕ → Type 0) (nodes x : ℕ) (rest : List ℕ) → ((a b : ℕ) → Edge a b → (a < nodes) × (b < nodes)) → x < nodes → Linked Edge (x ∷ rest) → AreNumbersBelow nodes (x ∷ rest)

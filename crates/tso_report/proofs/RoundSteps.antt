@@ -2,6 +2,7 @@
 use Rattle.std.proofs.Common.{◌≡◌, ◌⊎◌, ◌↔◌, inl, inr, ℕ, zero, suc, ◌+◌, ◌<◌, ◌≤◌, List, [], ◌∷◌, ◌++◌, length, get_or, reverse, refl, sym, ap, subst, ◌∙◌, arith}
 use Rattle.std.proofs.lemmas.Bool.{cases_eq}
 use Rattle.std.proofs.lemmas.List.Elements.{Contains-get_or}
+use Rattle.order_paths.specs.Neighbours.{AreOnCycle}
 use Rattle.order_paths.specs.Paths.{IsCycle, IsLeastCycle}
 use Rattle.order_graph.specs.Digraphs.{Digraph, IsEdge}
 use Rattle.tso_ops.specs.Values.{TraceValue}
@@ -19,9 +20,9 @@ use Rattle.order_paths.proofs.Reach.{Reaches-mono, IsCycle-mono}
 use Rattle.tso_rules.specs.Rows.{IsUngiven}
 use Rattle.tso_rules.proofs.LawFacts.{next_justified}
 use Rattle.round_pool.specs.declared.ranked.Edge.{Edge}
-use Rattle.round_pool.specs.RankGraphs.{IsRankGraph}
+use Rattle.round_pool.specs.RankGraphs.{IsRankGraph, AddsEdges}
 use Rattle.round_pool.specs.Rankings.{HasEdge, IsBefore, IsAscending, IsRound, edge_from}
-use Rattle.tso_report.specs.Collecting.{IsOnCycle, Marks, CollectsEdge, Collects, IsAbove, IsListedFrom, IsAboveOrListed, IsAboveOrBase}
+use Rattle.tso_report.specs.Collecting.{CollectsEdge, Collects, IsAbove, IsListedFrom, IsAboveOrListed, IsAboveOrBase}
 use Rattle.tso_report.proofs.CollectFacts.{Collects-start, Collects-as, Collects-step, turned_push}
 
 -- an edge is that of its two numbers
@@ -325,7 +326,7 @@ all_done t k u v edge =
 -- ---- the first step
 
 -- The cycle's edges marked in a graph without edges, and no steps.
-pub first_steps : (t : TraceValue) (k : ℕ) (cycle : List ℕ) (empty marks : Digraph) → IsCycle (F t k) cycle → ((x y : ℕ) → IsEdge empty x y → ⊥) → Marks empty marks (IsOnCycle cycle) →
+pub first_steps : (t : TraceValue) (k : ℕ) (cycle : List ℕ) (empty marks : Digraph) → IsCycle (F t k) cycle → ((x y : ℕ) → IsEdge empty x y → ⊥) → AddsEdges empty marks (AreOnCycle cycle) →
     Collects t k cycle (IsEdge marks) (IsAbove t k) []
 first_steps t k cycle empty marks closed none marked =
     Collects-start t k cycle (IsEdge marks) (IsAbove t k) closed

@@ -1,6 +1,6 @@
 -- How the steps of a certificate are collected: from the edges of the last rank down, in each rank from the last edge to the first.
-use Rattle.std.specs.Prelude.{◌≡◌, ◌⊎◌, ◌↔◌, ℕ, suc, ◌<◌, ◌≤◌, Bool, IsTrue, List, [], ◌∷◌, ◌++◌, Some, length, get_or, slice_get}
-use Rattle.order_paths.specs.Paths.{last_of, IsCycle}
+use Rattle.std.specs.Prelude.{◌≡◌, ◌⊎◌, ℕ, ◌<◌, ◌≤◌, Bool, IsTrue, List, [], ◌∷◌, ◌++◌, Some, length, get_or, slice_get}
+use Rattle.order_paths.specs.Paths.{IsCycle}
 use Rattle.order_graph.specs.Digraphs.{Digraph, IsEdge}
 use Rattle.tso_ops.specs.Values.{TraceValue}
 use Rattle.tso_cert.specs.declared.steps.Reason.{Reason}
@@ -8,23 +8,11 @@ use Rattle.tso_cert.specs.declared.steps.Reason.TheVariants.{Base, Inferred}
 use Rattle.tso_cert.specs.declared.steps.CertStep.{CertStep}
 use Rattle.tso_model.specs.Ranks.{F, HasRank}
 use Rattle.tso_model.specs.Certs.{IsStep, IsPathIn, IsJustified, IsListedBefore, AreUsed}
+use Rattle.tso_model.specs.Used.{AreUsedBy}
 use Rattle.tso_rules.specs.Rows.{IsJustifiedOver}
 use Rattle.round_pool.specs.declared.ranked.Edge.{Edge}
+use Rattle.round_pool.specs.RankGraphs.{AddsEdges}
 use Rattle.round_pool.specs.Rankings.{edge_from}
-
--- u and v are neighbours in the first numbers of the list, so many of them
-abbrev pub AreNeighboursBefore : List ℕ → ℕ → ℕ → ℕ → Type 0
-AreNeighboursBefore path count u v = (j : ℕ) × (suc j < count) × (get_or path j 0 ≡ u) × (get_or path (suc j) 0 ≡ v)
-
--- u and v are neighbours in the reason's path
-abbrev pub Uses : Reason → ℕ → ℕ → Type 0
-Uses (Base rule) u v = ⊥
-Uses (Inferred rule load path) u v = AreNeighboursBefore path (length path) u v
-
--- u and v are neighbours in the cycle, or its last number and its first
-abbrev pub IsOnCycle : List ℕ → ℕ → ℕ → Type 0
-IsOnCycle [] u v = ⊥
-IsOnCycle (x ∷ rest) u v = AreNeighboursBefore (x ∷ rest) (length (x ∷ rest)) u v ⊎ ((last_of x rest ≡ u) × (x ≡ v))
 
 -- the numbers of the list lie below this one
 abbrev pub AreNumbersBelow : ℕ → List ℕ → Type 0
@@ -35,17 +23,12 @@ abbrev pub IsReasonBelow : ℕ → Reason → Type 0
 IsReasonBelow nodes (Base rule) = Unit {0}
 IsReasonBelow nodes (Inferred rule load path) = AreNumbersBelow nodes path
 
--- The new graph has the old one's nodes, and besides its edges just these.
-pub record Marks (old new : Digraph) (Given : ℕ → ℕ → Type 0) : Type 0 where
-  pub nodes : new.nodes ≡ old.nodes
-  pub edges : (x y : ℕ) → IsEdge new x y ↔ (IsEdge old x y ⊎ Given x y)
-
 -- The step of the edge from u to v was added: its reason is the justification over these edges, and what it uses was marked.
 pub record AddsStep (t : TraceValue) (Edge : ℕ → ℕ → Type 0) (u v : ℕ) (marks more : Digraph) (old new : List CertStep) : Type 0 where
   pub reason : Reason
   pub justified : IsJustifiedOver t Edge u v reason
   pub appended : new ≡ old ++ record { from = u; to = v; reason = reason } ∷ []
-  pub marked : Marks marks more (Uses reason)
+  pub marked : AddsEdges marks more (AreUsedBy reason)
 
 -- Nothing was changed where the edge isn't marked; else its step was added.
 abbrev pub CollectsEdge : TraceValue → (ℕ → ℕ → Type 0) → ℕ → ℕ → Digraph → Digraph → List CertStep → List CertStep → Type 0

@@ -1,15 +1,17 @@
 //! The certificate of a trace, from the ranks of its edges.
-ghost use Rattle.std.specs.Prelude.{◌≡◌, ◌↔◌, ℕ, suc, ◌<◌, ◌≤◌, length, get_or, [], IfOk, OnOk, MatchOption, List, reverse};
+ghost use Rattle.std.specs.Prelude.{◌≡◌, ◌↔◌, ℕ, suc, ◌<◌, IfOk, OnOk, MatchOption, List, reverse};
+ghost use Rattle.order_paths.specs.Neighbours.{AreNeighbours, AreOnCycle};
 ghost use Rattle.order_paths.specs.Paths.{IsCycle};
 ghost use Rattle.order_graph.specs.Digraphs.{IsEdge};
 ghost use Rattle.tso_ops.specs.Events.{event_total, IsUnwritten};
 ghost use Rattle.tso_model.specs.Rules.{HasDerivedCycle};
 ghost use Rattle.tso_model.specs.Ranks.{F};
 ghost use Rattle.tso_model.specs.Certs.{AreStepsOf, IsCertificateOf};
+ghost use Rattle.tso_model.specs.Used.{AreUsedBy};
 ghost use Rattle.tso_rules.specs.Rows.{IsUngiven};
-ghost use Rattle.round_pool.specs.RankGraphs.{IsRankGraph};
+ghost use Rattle.round_pool.specs.RankGraphs.{IsRankGraph, AddsEdges};
 ghost use Rattle.round_pool.specs.Rankings.{IsRankingOf, rounds_of, HasEdge, AreWithin};
-ghost use Rattle.tso_report.specs.Collecting.{AreNeighboursBefore, Uses, IsOnCycle, AreNumbersBelow, IsReasonBelow, Marks, CollectsEdge, Collects, IsAbove, IsAboveOrBase};
+ghost use Rattle.tso_report.specs.Collecting.{AreNumbersBelow, IsReasonBelow, CollectsEdge, Collects, IsAbove, IsAboveOrBase};
 
 use order_graph::{EdgeSet, Graph};
 use round_pool::{Edge, Ranked};
@@ -35,24 +37,13 @@ pub fn build_cert(
     let Some(least) = ranked.last().least_cycle()? else {
         return Ok(None);
     };
-    let cycle = num_list(alloc, &least)?;
+    let cycle = NumList::from_numbers(alloc, &least)?;
     let mut steps = steps_of(alloc, trace, ranked, &cycle)?;
     steps.reverse();
     Ok(Some(Certificate::Cycle {
         steps: StepList::new(steps),
         cycle,
     }))
-}
-
-/// The list of these numbers.
-fn num_list(alloc: Global, numbers: &[usize]) -> Result<NumList, OutOfMemory>
-    ensures { IfOk result (λ list. list ≡ numbers.now) }
-{
-    let mut list = Vec::new(alloc);
-    for number in numbers {
-        list.push(*number as u64)?;
-    }
-    Ok(NumList::new(list))
 }
 
 /// The steps that a cycle of the last rank set rests on, from the last to the first.
@@ -81,7 +72,7 @@ fn steps_of(
 /// Marks the neighbours in the path.
 fn mark_path(marks: &mut Graph, path: &[u64])
     requires { AreNumbersBelow marks.old.nodes path.now }
-    ensures { Marks marks.old marks.new (AreNeighboursBefore path.now (length path.now)) }
+    ensures { AddsEdges marks.old marks.new (AreNeighbours path.now) }
 {
     for i in 1..path.len() {
         marks.add(path[i - 1] as usize, path[i] as usize);
@@ -91,7 +82,7 @@ fn mark_path(marks: &mut Graph, path: &[u64])
 /// Marks the edges of the cycle.
 fn mark_cycle(marks: &mut Graph, cycle: &[u64])
     requires { AreNumbersBelow marks.old.nodes cycle.now }
-    ensures { Marks marks.old marks.new (IsOnCycle cycle.now) }
+    ensures { AddsEdges marks.old marks.new (AreOnCycle cycle.now) }
 {
     mark_path(marks, cycle);
     if cycle.is_empty() {
@@ -103,7 +94,7 @@ fn mark_cycle(marks: &mut Graph, cycle: &[u64])
 /// Marks the edges that the justification uses.
 fn mark_used(marks: &mut Graph, reason: &Reason)
     requires { IsReasonBelow marks.old.nodes reason.now }
-    ensures { Marks marks.old marks.new (Uses reason.now) }
+    ensures { AddsEdges marks.old marks.new (AreUsedBy reason.now) }
 {
     match reason {
         Reason::Base(_) => {}
@@ -199,9 +190,10 @@ fn collect_base(trace: &Trace, marks: &Graph, steps: &mut Vec<CertStep>) -> Resu
         Collects trace.now k cycle (IsEdge marks.now) (IsAboveOrBase trace.now 0 0) (reverse steps.new.items)) }
 {
     for u in (0..marks.nodes()).rev() {
-        if marks.has_from(u) {
-            collect_base_row(trace, marks, steps, u)?;
+        if !marks.has_from(u) {
+            continue;
         }
+        collect_base_row(trace, marks, steps, u)?;
     }
     Ok(())
 }
@@ -223,13 +215,14 @@ fn collect_base_row(
         if !marks.has(u, v) {
             continue;
         }
-        if let Some(rule) = base_edge(trace, u, v) {
-            steps.push(CertStep {
-                from: u as u64,
-                to: v as u64,
-                reason: Reason::Base(rule),
-            })?;
-        }
+        let Some(rule) = base_edge(trace, u, v) else {
+            continue;
+        };
+        steps.push(CertStep {
+            from: u as u64,
+            to: v as u64,
+            reason: Reason::Base(rule),
+        })?;
     }
     Ok(())
 }

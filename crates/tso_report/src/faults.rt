@@ -1,4 +1,5 @@
 ghost use Rattle.std.specs.Prelude.{◌≡◌, ◌⊎◌};
+ghost use Rattle.round_pool.specs.declared.faults.PoolFault.TheVariants.{OutOfMemory as PoolOutOfMemory, NoThread as PoolNoThread};
 ghost use Rattle.tso_report.specs.declared.faults.Fault.TheVariants.{OutOfMemory, NoThread};
 
 use round_pool::PoolFault;
@@ -42,7 +43,7 @@ impl<T: Drop> From<AllocFailed<T>> for Fault {
 }
 
 impl From<PoolFault> for Fault {
-    ghost from_gives = { λ _ fault. (fault ≡ OutOfMemory) ⊎ (fault ≡ NoThread) };
+    ghost from_gives = { λ pool fault. ((pool ≡ PoolOutOfMemory) × (fault ≡ OutOfMemory)) ⊎ ((pool ≡ PoolNoThread) × (fault ≡ NoThread)) };
 
     fn from(fault: PoolFault) -> Fault {
         match fault {

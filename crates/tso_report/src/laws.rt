@@ -1,6 +1,6 @@
-//! What the definition of a report says, proved of all inputs.
+//! What the definitions of reports say, proved of all inputs.
 
-ghost use Rattle.std.specs.Prelude.{◌≡◌, ◌⊎◌, ◌↔◌, ℕ, List};
+ghost use Rattle.std.specs.Prelude.{◌≡◌, ◌⊎◌, ◌↔◌, ◌≤◌, ℕ, List, length};
 ghost use Rattle.tso_ops.specs.Values.{TraceValue};
 ghost use Rattle.tso_text.specs.Grammars.{IsRefusedTrace, SpellsTrace};
 ghost use Rattle.tso_model.specs.Order.{IsConsistent};
@@ -19,9 +19,11 @@ pub fn reports()
     ensures refused { (input text : List ℕ) (v : Verdict) → IsReport input text v → (v ≡ Verdict.Refused) ↔ IsRefusedTrace input }
 {}
 
-/// Two texts have one report at most. It says that the certificate holds exactly where the first spells a trace and the
-/// second a certificate that holds for it, and it is Refused otherwise.
+/// Two texts have one report at most, and one where the second has 67,108,864 bytes at most. It says that the
+/// certificate holds exactly where the first spells a trace and the second a certificate that holds for it, and it is
+/// Refused otherwise.
 pub fn checks()
+    ensures exists { (trace cert : List ℕ) → length cert ≤ 67108864 → (text : List ℕ) × (verdict : Verdict) × IsCheckReport trace cert text verdict }
     ensures one { (trace cert text other : List ℕ) (v w : Verdict) → IsCheckReport trace cert text v → IsCheckReport trace cert other w → (text ≡ other) × (v ≡ w) }
     ensures violation { (trace cert text : List ℕ) (v : Verdict) → IsCheckReport trace cert text v → (v ≡ Verdict.Violation) ↔ SpellHolding trace cert }
     ensures otherwise { (trace cert text : List ℕ) (v : Verdict) → IsCheckReport trace cert text v → (v ≡ Verdict.Violation) ⊎ (v ≡ Verdict.Refused) }

@@ -1,6 +1,7 @@
 //! Examples, each with its status and its bytes.
 
 use super::driven;
+use std::alloc::{AllocError, Global};
 use std::test::Fail;
 
 /// A trace's text, the status, and what is written.
@@ -170,6 +171,50 @@ const JUDGED: [Judged; 31] = [
         "REFUSED ZeroValue line 3\n",
     ),
 ];
+
+/// The examples whose texts are long: so many loads, the lines behind them, the status, and what is written.
+const LONG: [(usize, &str, u8, &str); 3] = [
+    // full_trace
+    (
+        2_000,
+        "end\n",
+        0,
+        "TSO REPORT 1\nprocessors 1 events 2000 rounds 0\nNO VIOLATION FOUND\n",
+    ),
+    // one_event_too_many
+    (2_001, "end\n", 2, "REFUSED TooManyEvents line 2003\n"),
+    // swap_past_the_limit
+    (
+        1_999,
+        "sw 0 0 1\nend\n",
+        2,
+        "REFUSED TooManyEvents line 2002\n",
+    ),
+];
+
+/// The text of a trace of one processor: so many loads, and these lines behind them.
+fn trace_of_loads(alloc: Global, count: usize, back: &str) -> Result<String, AllocError> {
+    let mut text = String::from_str(alloc, "tso trace 1\nproc\n")?;
+    for _ in 0..count {
+        text.push_str("ld 0 0\n")?;
+    }
+    text.push_str(back)?;
+    Ok(text)
+}
+
+#[test]
+fn traces_at_the_limit_of_events(rt: HostRuntime) -> Result<(), Fail> {
+    let alloc = rt.alloc();
+    for (count, back, status, report) in LONG {
+        let trace = trace_of_loads(alloc, count, back)?;
+        let mut reader = trace.as_bytes();
+        let ended = driven(&rt, alloc, &[], &mut reader)?;
+        assert_eq!(rt; ended.status, status, "{count}");
+        assert_eq!(rt; ended.written.as_slice(), report.as_bytes(), "{count}");
+        assert_eq!(rt; ended.errors.len(), 0, "{count}");
+    }
+    Ok(())
+}
 
 #[test]
 fn traces_on_standard_input(rt: HostRuntime) -> Result<(), Fail> {

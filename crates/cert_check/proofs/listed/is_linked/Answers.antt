@@ -1,5 +1,3 @@
-use Rattle.std.proofs.Common.{IsTrue, true, ◌↔◌}
-use Rattle.order_paths.specs.Paths.{Linked}
 use Rattle.tso_model.specs.Certs.{IsStep}
 use Rattle.cert_check.proofs.Facts.{linked_short}
 use Rattle.cert_check.proofs.listed.is_linked.Goals as goal

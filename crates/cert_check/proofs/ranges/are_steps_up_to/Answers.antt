@@ -1,6 +1,6 @@
 use Rattle.cert_check.specs.Refusals.{IsStepUpTo}
 use Rattle.std.proofs.Common.{refl}
-use Rattle.cert_check.proofs.Facts.{all_more, all_of, not_all}
+use Rattle.cert_check.proofs.Facts.{all_more, all_of}
 use Rattle.cert_check.proofs.ranges.are_steps_up_to.Goals as goal
 
 pub loop-step-preserved : goal.loop-step-preserved

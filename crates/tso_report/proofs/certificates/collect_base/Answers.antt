@@ -9,16 +9,16 @@ pub loop-u-init : goal.loop-u-init
 loop-u-init c = λ k cycle start.
     base_start c.args.trace.now k c.nodes-u.result cycle c.args.marks.now (reverse c.args.steps.now.items) (c.nodes-u.ensures.size ∙ c.requires.nodes) start
 
-pub loop-u-preserved-in-Continue-1 : goal.loop-u-preserved-in-Continue-1
-loop-u-preserved-in-Continue-1 c = λ k cycle start.
+pub loop-u-preserved-then-not-has_from : goal.loop-u-preserved-then-not-has_from
+loop-u-preserved-then-not-has_from c = λ k cycle start.
     let more : c.loop-u.u ≡ suc (c.loop-u.u - 1) = omega (arith, c.loop-u-test.true) in
-    c.in_ok-collect_base_row.ensures.steps k cycle
+    row_pass c.args.trace.now k (c.loop-u.u - 1) cycle c.args.marks.now (reverse c.loop-u.steps.items) (λ e. both_ways c.has_from.result c.if-not-has_from.true (c.has_from.ensures.1 e))
     (subst (λ n. Collects c.args.trace.now k cycle (IsEdge c.args.marks.now) (IsAboveOrBase c.args.trace.now n 0) (reverse c.loop-u.steps.items)) more (c.loop-u.invariant k cycle start))
 
 pub loop-u-preserved : goal.loop-u-preserved
 loop-u-preserved c = λ k cycle start.
     let more : c.loop-u.u ≡ suc (c.loop-u.u - 1) = omega (arith, c.loop-u-test.true) in
-    row_pass c.args.trace.now k (c.loop-u.u - 1) cycle c.args.marks.now (reverse c.loop-u.steps.items) (λ e. both_ways c.has_from.result c.if-has_from.false (c.has_from.ensures.1 e))
+    c.in_ok-collect_base_row.ensures.steps k cycle
     (subst (λ n. Collects c.args.trace.now k cycle (IsEdge c.args.marks.now) (IsAboveOrBase c.args.trace.now n 0) (reverse c.loop-u.steps.items)) more (c.loop-u.invariant k cycle start))
 
 pub returns : goal.returns

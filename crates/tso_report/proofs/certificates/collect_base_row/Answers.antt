@@ -15,18 +15,18 @@ loop-v-preserved-then-not-has c = λ k cycle start.
     let before = subst (λ n. Collects c.args.trace.now k cycle (IsEdge c.args.marks.now) (IsAboveOrBase c.args.trace.now c.args.u n) (reverse c.loop-v.steps.items)) more (c.loop-v.invariant k cycle start) in
     base_pass c.args.trace.now k c.args.u (c.loop-v.v - 1) cycle c.args.marks.now (reverse c.loop-v.steps.items) (λ m f. both_ways c.has.result c.if-not-has.true (c.has.ensures.1 m)) before
 
-pub loop-v-preserved-in-Continue-1 : goal.loop-v-preserved-in-Continue-1
-loop-v-preserved-in-Continue-1 c = λ k cycle start.
+pub loop-v-preserved-in_default : goal.loop-v-preserved-in_default
+loop-v-preserved-in_default c = λ k cycle start.
     let more : c.loop-v.v ≡ (c.loop-v.v - 1) + 1 = omega (arith, c.loop-v-test.true) in
     let before = subst (λ n. Collects c.args.trace.now k cycle (IsEdge c.args.marks.now) (IsAboveOrBase c.args.trace.now c.args.u n) (reverse c.loop-v.steps.items)) more (c.loop-v.invariant k cycle start) in
-    base_step c.args.trace.now k c.args.u (c.loop-v.v - 1) cycle c.in-Some.rule c.args.marks.now c.loop-v.steps.items c.push.new.self.items c.in-Some.ensures (c.has.ensures.0 c.if-not-has.false)
-    c.in_ok-push.ensures.items before
+    base_pass c.args.trace.now k c.args.u (c.loop-v.v - 1) cycle c.args.marks.now (reverse c.loop-v.steps.items) (λ m f. c.in_default.ensures f.0 f.1) before
 
 pub loop-v-preserved : goal.loop-v-preserved
 loop-v-preserved c = λ k cycle start.
     let more : c.loop-v.v ≡ (c.loop-v.v - 1) + 1 = omega (arith, c.loop-v-test.true) in
     let before = subst (λ n. Collects c.args.trace.now k cycle (IsEdge c.args.marks.now) (IsAboveOrBase c.args.trace.now c.args.u n) (reverse c.loop-v.steps.items)) more (c.loop-v.invariant k cycle start) in
-    base_pass c.args.trace.now k c.args.u (c.loop-v.v - 1) cycle c.args.marks.now (reverse c.loop-v.steps.items) (λ m f. c.in_default.ensures f.0 f.1) before
+    base_step c.args.trace.now k c.args.u (c.loop-v.v - 1) cycle c.in-Some.rule c.args.marks.now c.loop-v.steps.items c.push.new.self.items c.in-Some.ensures (c.has.ensures.0 c.if-not-has.false)
+    c.in_ok-push.ensures.items before
 
 pub returns : goal.returns
 returns c = record {

@@ -1,6 +1,7 @@
-use Rattle.tso_report.specs.Collecting.{AreNeighboursBefore, Marks}
-use Rattle.std.proofs.Common.{◌≤◌, ◌⊎◌, length}
+use Rattle.order_paths.specs.Neighbours.{AreNeighbours}
+use Rattle.round_pool.specs.RankGraphs.{AddsEdges}
+use Rattle.std.proofs.Common.{◌≤◌, take}
 use Rattle.tso_report.proofs.certificates.mark_path.Given as goal
 
 abbrev pub invariant-loop-i : goal.invariant-loop-i
-invariant-loop-i l = (1 ≤ l.i) × ((l.i ≤ 1) ⊎ (l.i ≤ length l.path)) × Marks l.initial.marks l.marks (AreNeighboursBefore l.path l.i)
+invariant-loop-i l = (1 ≤ l.i) × AddsEdges l.initial.marks l.marks (AreNeighbours (take l.i l.path))
