@@ -30,7 +30,7 @@ TurnsBlock-start old table width nodes i j = record {
   within = λ k h b. absurd (HasBit-zero k b);
 }
 
--- the rows that have the word are turned, and the next word waits for its rows
+-- the rows that have the word are turned, and the next word has no rows yet
 pub TurnsBlock-set : (old now new table : List ℕ) (width nodes i j upto word rows next : ℕ) → TurnsBlock old now table width nodes i j upto word rows →
     Adds now new width (λ y x. (y / 64 ≡ j) × HasBit word (y % 64) × (x / 64 ≡ i) × HasBit rows (x % 64)) → ((k : ℕ) → k < 64 → HasBit next k → 64 * j + k < nodes) →
     TurnsBlock old new table width nodes i j upto next 0

@@ -55,7 +55,7 @@ impl EdgeRows {
     }
 
     /// Adds an edge from u to each number of a row of bits: that of the number v is bit `v % 64` of word `v / 64`. The
-    /// row may have any number of words.
+    /// row may have any number of words; `u` and each number of the row lie below `nodes()`.
     #[inline]
     pub fn add_row(&mut self, u: usize, row: &[u64])
         requires from { u < self.old.nodes }

@@ -100,7 +100,7 @@ pub fn add_row(table: &mut [u64], width: usize, x: usize, v: usize)
 
 /// Gives each row whose number is a bit of word i the number v and the numbers of row v, in both tables.
 ///
-/// Only a bit that some of these rows lacked is looked at in the turned table, whose rows lie scattered.
+/// Only bits that some of these rows lacked are set in the turned table, where each lies in a row of its own.
 pub fn join_rows(
     table: &mut [u64],
     turned: &mut [u64],

@@ -30,7 +30,7 @@ pub fn turn_block(turned: &mut [u64], table: &[u64], width: usize, nodes: usize,
     set_words(turned, width, j, word, i, rows);
 }
 
-/// Turns the columns of word j, which the first cache holds meanwhile.
+/// Turns the columns of word j: 64 rows of the turned table.
 pub fn turn_columns(turned: &mut [u64], table: &[u64], width: usize, nodes: usize, j: usize)
     requires table { IsTable nodes width table.now }
     requires turned_sized { length turned.old ≡ nodes * width }

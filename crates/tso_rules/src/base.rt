@@ -17,7 +17,7 @@ use tso_ops::{Event, OutOfMemory, Trace};
 
 /// The first base rule that gives the edge from `u` to `v`, or None where no rule does.
 ///
-/// It takes one walk over the events from `u` on at most: `base_row` gives all base edges of a row for less.
+/// It takes one walk over the events from `u` on at most: `base_row` gives all base edges of a row at once.
 pub fn base_edge(trace: &Trace, u: usize, v: usize) -> Option<BaseRule>
     ensures { MatchOption result ((rule : BaseRule) → BasePair trace.now rule u v → ⊥) (IsFirstBase trace.now u v) }
 {
@@ -76,7 +76,8 @@ pub fn base_row(alloc: Global, trace: &Trace, u: usize) -> Result<Vec<usize>, Ou
 /// The numbers to which the base rules give an edge from `u`, as a row of bits: that of the number v is bit `v % 64` of
 /// word `v / 64`. OutOfMemory where a growth was refused.
 ///
-/// It takes a few looks at each word of the trace's rows, and, for a store, one at each program-later load of its address.
+/// For 0 it takes one look at each event; else a few looks at each word of the trace's rows, and, for a store, one at each
+/// program-later load of its address.
 pub fn base_words(alloc: Global, trace: &Trace, u: usize) -> Result<Vec<u64>, OutOfMemory>
     ensures { IfOk result (λ row. (v : ℕ) → HasNumber row.items v ↔ F trace.now 0 u v) }
 {
