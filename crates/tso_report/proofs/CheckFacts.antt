@@ -20,58 +20,60 @@ use Rattle.cert_check.proofs.RefusalFacts.{not_refused, one_refusal}
 use Rattle.tso_report.specs.declared.verdicts.Verdict.{Verdict}
 use Rattle.tso_report.specs.declared.verdicts.Verdict.TheVariants.{NoViolation, Violation, Refused}
 use Rattle.tso_report.specs.Reports.{refusal_text}
-use Rattle.tso_report.specs.Checks.{holds_text, fails_text, unread_text, SpellsHolding, SpellHolding, IsFailureReport, IsUnreadReport, IsCertReport, IsCertReportOfReader, IsCheckReport, IsCheckReportOfReaders}
-use Rattle.tso_report.proofs.InputFacts.{one_refused_input, one_trace, refusal_of_front, spells_of_front}
+use Rattle.tso_report.specs.Checks.{holds_text, fails_text, unread_text, SpellsHolding, SpellHolding, IsFailureReport, IsUnreadReport, IsCertReport, IsCertReportOfReader, IsCheckReport}
+use Rattle.tso_report.specs.Limits.{certificate_byte_limit, certificate_read_limit, trace_read_limit}
+use Rattle.tso_report.specs.Written.{IsCheckReportOfReaders}
+use Rattle.tso_report.proofs.InputFacts.{one_refused_input, one_trace, refusal_of_prefix, spells_of_prefix}
 
 -- ---- what is read
 
--- a front that ends before the limit is all
-take_short : (all : List ℕ) → length (take 67108865 all) ≤ 67108864 → take 67108865 all ≡ all
-take_short all few = ⊎_elim long short (cases_lt 67108864 (length all))
+-- a prefix that ends before the limit is all
+take_short : (all : List ℕ) → length (take certificate_read_limit all) ≤ certificate_byte_limit → take certificate_read_limit all ≡ all
+take_short all few = ⊎_elim long short (cases_lt certificate_byte_limit (length all))
   where
-    short : length all ≤ 67108864 → take 67108865 all ≡ all
-    short fits = take_all 67108865 all (omega arith)
+    short : length all ≤ certificate_byte_limit → take certificate_read_limit all ≡ all
+    short fits = take_all certificate_read_limit all (omega arith)
 
-    long : 67108864 < length all → take 67108865 all ≡ all
-    long past = let count = length-take-le 67108865 all (omega arith) in absurd (omega (arith, few, count))
+    long : certificate_byte_limit < length all → take certificate_read_limit all ≡ all
+    long past = let count = length-take-le certificate_read_limit all (omega arith) in absurd (omega (arith, few, count))
 
-pub cert_report_of_reader : (t : TraceValue) (remaining : Option (List ℕ)) (bytes seen text : List ℕ) (v : Verdict) → IfSome remaining (λ all. bytes ≡ take 67108865 all) → seen ≡ bytes →
-    length bytes ≤ 67108864 → IsCertReport t seen text v → IsCertReportOfReader t remaining text v
-cert_report_of_reader t None bytes seen text v front same few report =
-    record { cert = seen; whole = tt; within = subst (λ b. length b ≤ 67108864) (sym same) few; is_report = report }
-cert_report_of_reader t (Some all) bytes seen text v front same few report = record {
+pub cert_report_of_reader : (t : TraceValue) (remaining : Option (List ℕ)) (bytes seen text : List ℕ) (v : Verdict) → IfSome remaining (λ all. bytes ≡ take certificate_read_limit all) → seen ≡ bytes →
+    length bytes ≤ certificate_byte_limit → IsCertReport t seen text v → IsCertReportOfReader t remaining text v
+cert_report_of_reader t None bytes seen text v prefix same few report =
+    record { cert = seen; whole = tt; within = subst (λ b. length b ≤ certificate_byte_limit) (sym same) few; is_report = report }
+cert_report_of_reader t (Some all) bytes seen text v prefix same few report = record {
   cert = seen;
-  whole = same ∙ front ∙ take_short all (subst (λ b. length b ≤ 67108864) front few);
-  within = subst (λ b. length b ≤ 67108864) (sym same) few;
+  whole = same ∙ prefix ∙ take_short all (subst (λ b. length b ≤ certificate_byte_limit) prefix few);
+  within = subst (λ b. length b ≤ certificate_byte_limit) (sym same) few;
   is_report = report;
 }
 
-pub spelled_report : (traces certs : Option (List ℕ)) (bytes seen text : List ℕ) (v : Verdict) (t : TraceValue) → IfSome traces (λ all. bytes ≡ take 1048577 all) → seen ≡ bytes →
+pub spelled_report : (traces certs : Option (List ℕ)) (bytes seen text : List ℕ) (v : Verdict) (t : TraceValue) → IfSome traces (λ all. bytes ≡ take trace_read_limit all) → seen ≡ bytes →
     SpellsTrace seen t → IsCertReportOfReader t certs text v → IsCheckReportOfReaders traces certs text v
-spelled_report None certs bytes seen text v t front same spells report =
+spelled_report None certs bytes seen text v t prefix same spells report =
     record { trace = seen; cert = report.cert; whole_trace = tt; whole_cert = report.whole; is_report = inl (t, spells, report.within, report.is_report) }
-spelled_report (Some all) certs bytes seen text v t front same spells report =
-    record { trace = all; cert = report.cert; whole_trace = refl; whole_cert = report.whole; is_report = inl (t, spells_of_front all t (subst (λ b. SpellsTrace b t) (same ∙ front) spells), report.within, report.is_report) }
+spelled_report (Some all) certs bytes seen text v t prefix same spells report =
+    record { trace = all; cert = report.cert; whole_trace = refl; whole_cert = report.whole; is_report = inl (t, spells_of_prefix all t (subst (λ b. SpellsTrace b t) (same ∙ prefix) spells), report.within, report.is_report) }
 
 some_cert : (certs : Option (List ℕ)) → (cert : List ℕ) × IfSome certs (λ all. cert ≡ all)
 some_cert None = ([], tt)
 some_cert (Some all) = (all, refl)
 
-pub refused_report : (traces certs : Option (List ℕ)) (bytes seen text : List ℕ) (v : Verdict) (line : ℕ) (why : Why) → IfSome traces (λ all. bytes ≡ take 1048577 all) → seen ≡ bytes →
+pub refused_report : (traces certs : Option (List ℕ)) (bytes seen text : List ℕ) (v : Verdict) (line : ℕ) (why : Why) → IfSome traces (λ all. bytes ≡ take trace_read_limit all) → seen ≡ bytes →
     IsTraceRefusal seen line why → text ≡ refusal_text line why → v ≡ Refused → IsCheckReportOfReaders traces certs text v
-refused_report None certs bytes seen text v line why front same refusal is refused =
+refused_report None certs bytes seen text v line why prefix same refusal is refused =
     let some = some_cert certs in record { trace = seen; cert = some.0; whole_trace = tt; whole_cert = some.1; is_report = inr (line, why, refusal, is, refused) }
-refused_report (Some all) certs bytes seen text v line why front same refusal is refused =
+refused_report (Some all) certs bytes seen text v line why prefix same refusal is refused =
     let some = some_cert certs in
-    let whole = refusal_of_front all line why (subst (λ b. IsTraceRefusal b line why) (same ∙ front) refusal) in
+    let whole = refusal_of_prefix all line why (subst (λ b. IsTraceRefusal b line why) (same ∙ prefix) refusal) in
     record { trace = all; cert = some.0; whole_trace = refl; whole_cert = some.1; is_report = inr (line, why, whole, is, refused) }
 
 -- what spells a trace isn't refused
-pub not_refused_trace : (X : Type 0) (traces : Option (List ℕ)) (bytes seen : List ℕ) (t : TraceValue) → IfSome traces (λ all. bytes ≡ take 1048577 all) → seen ≡ bytes →
+pub not_refused_trace : (X : Type 0) (traces : Option (List ℕ)) (bytes seen : List ℕ) (t : TraceValue) → IfSome traces (λ all. bytes ≡ take trace_read_limit all) → seen ≡ bytes →
     SpellsTrace seen t → IfSome traces (λ all. IsRefusedTrace all → X)
-not_refused_trace X None bytes seen t front same spells = tt
-not_refused_trace X (Some all) bytes seen t front same spells =
-    λ refused. absurd (not_both trace_grammar all t.lists refused.0 refused.1 (spells_of_front all t (subst (λ b. SpellsTrace b t) (same ∙ front) spells)) refused.2)
+not_refused_trace X None bytes seen t prefix same spells = tt
+not_refused_trace X (Some all) bytes seen t prefix same spells =
+    λ refused. absurd (not_both trace_grammar all t.lists refused.0 refused.1 (spells_of_prefix all t (subst (λ b. SpellsTrace b t) (same ∙ prefix) spells)) refused.2)
 
 -- ---- what the verdict says
 
@@ -117,11 +119,11 @@ check_verdict trace cert text v (inr p) = inr p.4
 no_order_of_holding : (t : TraceValue) (cert : List ℕ) → IsTrace t → SpellsHolding t cert → IsConsistent t → ⊥
 no_order_of_holding t cert trace holds = not_consistent t (own_values t trace) holds.0 holds.2
 
-pub no_order_of_readers : (traces certs : Option (List ℕ)) (bytes seen text : List ℕ) (v : Verdict) (t : TraceValue) → IfSome traces (λ all. bytes ≡ take 1048577 all) → seen ≡ bytes →
+pub no_order_of_readers : (traces certs : Option (List ℕ)) (bytes seen text : List ℕ) (v : Verdict) (t : TraceValue) → IfSome traces (λ all. bytes ≡ take trace_read_limit all) → seen ≡ bytes →
     SpellsTrace seen t → IsTrace t → IsCertReportOfReader t certs text v → v ≡ Violation → IfSome traces (λ trace. (u : TraceValue) → SpellsTrace trace u → IsConsistent u → ⊥)
-no_order_of_readers None certs bytes seen text v t front same spells trace report e = tt
-no_order_of_readers (Some all) certs bytes seen text v t front same spells trace report e =
-    let whole = spells_of_front all t (subst (λ b. SpellsTrace b t) (same ∙ front) spells) in
+no_order_of_readers None certs bytes seen text v t prefix same spells trace report e = tt
+no_order_of_readers (Some all) certs bytes seen text v t prefix same spells trace report e =
+    let whole = spells_of_prefix all t (subst (λ b. SpellsTrace b t) (same ∙ prefix) spells) in
     let none = no_order_of_holding t report.cert trace ((cert_violation t report.cert text v report.is_report).0 e) in
     λ u s consistent. none (subst IsConsistent (one_trace all u t s whole) consistent)
 
@@ -159,7 +161,7 @@ some_cert_report t cert = elim (spelled_or_unread cert) [
   | inr unread ↦ (unread_text unread.0 unread.1, Refused, inr (inr (unread.0, unread.1, unread.2, refl), refl))
 ]
 
-pub some_check_report : (trace cert : List ℕ) → length cert ≤ 67108864 → (text : List ℕ) × (v : Verdict) × IsCheckReport trace cert text v
+pub some_check_report : (trace cert : List ℕ) → length cert ≤ certificate_byte_limit → (text : List ℕ) × (v : Verdict) × IsCheckReport trace cert text v
 some_check_report trace cert within = elim (spelled_or_refused trace_grammar trace) [
   | inl spelled ↦ (let t = trace_of_lists spelled.0 in let report = some_cert_report t cert in (report.0, report.1, inl (t, spelled.1, within, report.2)))
   | inr refused ↦ (refusal_text refused.0 refused.1, Refused, inr (refused.0, refused.1, refused.2, refl, refl))

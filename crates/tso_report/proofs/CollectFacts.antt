@@ -15,7 +15,7 @@ use Rattle.tso_model.proofs.CertificateUnique.{IsPathIn-mono}
 use Rattle.tso_model.proofs.Justifications.{rank_exists, rank_unique}
 use Rattle.tso_model.proofs.LastRankSet.{F-mono}
 use Rattle.tso_model.proofs.UsedEdges.{IsPathIn-used, used_lesser, used_path}
-use Rattle.tso_report.specs.Collecting.{IsListed, Collects}
+use Rattle.tso_report.specs.Internal.Collecting.{IsListed, Collects}
 
 -- At first the cycle's edges are marked, and nothing is done.
 pub Collects-start : (t : TraceValue) (k : ℕ) (cycle : List ℕ) (Marked Done : ℕ → ℕ → Type 0) → IsCycle (F t k) cycle →

@@ -1,13 +1,14 @@
 -- Laws on the report of an input.
 use Rattle.std.proofs.Common.{◌≡◌, ◌↔◌, ℕ, ◌<◌, ◌≤◌, List, ◌++◌, length, take, Bool, true, false, Some, None, IfSome, refl, ap, sym, subst, ◌∙◌, arith, inl, inr, ⊎_elim}
 use Rattle.std.proofs.lemmas.Bool.{false≢true, cases_lt}
-use Rattle.std.proofs.lemmas.List.{append_assoc, take_all, length-take-le}
-use Rattle.std.specs.Prelude.{Option, codes, [], ◌∷◌}
+use Rattle.std.proofs.lemmas.List.{take_all, length-take-le}
+use Rattle.std.specs.Prelude.{Option}
 use Rattle.std.specs.Io.KnownBytes.{Appends}
 use Rattle.tso_ops.specs.Values.{TraceValue, trace_of_lists}
 use Rattle.tso_ops.specs.Events.{processor_count, event_total, IsUnwritten}
 use Rattle.tso_text.specs.declared.faults.Why.{Why}
 use Rattle.tso_text.specs.declared.faults.Why.TheVariants.{TooLong}
+use Rattle.tso_text.specs.Spelling.{text_byte_limit}
 use Rattle.tso_text.specs.Grammars.{trace_grammar, SpellsTrace, IsRefusedTrace, IsTraceRefusal}
 use Rattle.tso_text.proofs.Reaching.{too_long}
 use Rattle.tso_text.proofs.SpelledLimits.{spelled_trace}
@@ -29,45 +30,47 @@ use Rattle.tso_report.specs.declared.verdicts.Verdict.TheVariants.{NoViolation, 
 use Rattle.tso_report.specs.declared.faults.Fault.{Fault}
 use Rattle.tso_report.specs.declared.faults.Fault.TheVariants.{Write}
 use Rattle.tso_report.specs.Judged.{IsViolation, IsCertificateText}
-use Rattle.tso_report.specs.Reports.{head_text, no_violation_text, refusal_text, violation_text, SaysVerdict, IsRefusalReport, IsReport, IsReportOfReader, IsTraceReport, LeavesFault, ShowsViolation, SpellsViolation}
-use Rattle.tso_report.specs.Streams.{AppendsFront}
+use Rattle.tso_report.specs.Limits.{trace_read_limit}
+use Rattle.tso_report.specs.Reports.{head_text, no_violation_text, refusal_text, violation_text, SaysVerdict, IsRefusalReport, IsReport, IsTraceReport, ShowsViolation, SpellsViolation}
+use Rattle.tso_report.specs.Written.{IsReportOfReader, LeavesFault}
+use Rattle.tso_report.specs.Streams.{AppendsPrefix}
 
 -- ---- what is read of a long input
 
--- A front that reaches past the limit is refused for its length alone, as all is.
-spells_past : (input : List ℕ) (t : TraceValue) → 1048576 < length input → SpellsTrace input t → ⊥
+-- A prefix that reaches past the limit is refused for its length alone, as all is.
+spells_past : (input : List ℕ) (t : TraceValue) → text_byte_limit < length input → SpellsTrace input t → ⊥
 spells_past input t long spells = not_both trace_grammar input t.lists 0 TooLong spells (too_long trace_grammar input long)
 
-length_past : (input : List ℕ) → 1048576 < length input → 1048576 < length (take 1048577 input)
-length_past input long = let count = length-take-le 1048577 input (omega arith) in omega (arith, count)
+length_past : (input : List ℕ) → text_byte_limit < length input → text_byte_limit < length (take trace_read_limit input)
+length_past input long = let count = length-take-le trace_read_limit input (omega arith) in omega (arith, count)
 
--- The front up to one past the limit spells what all spells.
-pub spells_of_front : (input : List ℕ) (t : TraceValue) → SpellsTrace (take 1048577 input) t → SpellsTrace input t
-spells_of_front input t spells = ⊎_elim long short (cases_lt 1048576 (length input))
+-- The prefix up to one past the limit spells what all spells.
+pub spells_of_prefix : (input : List ℕ) (t : TraceValue) → SpellsTrace (take trace_read_limit input) t → SpellsTrace input t
+spells_of_prefix input t spells = ⊎_elim long short (cases_lt text_byte_limit (length input))
   where
-    short : length input ≤ 1048576 → SpellsTrace input t
-    short fits = subst (λ front. SpellsTrace front t) (take_all 1048577 input (omega arith)) spells
+    short : length input ≤ text_byte_limit → SpellsTrace input t
+    short fits = subst (λ prefix. SpellsTrace prefix t) (take_all trace_read_limit input (omega arith)) spells
 
-    long : 1048576 < length input → SpellsTrace input t
-    long past = absurd (spells_past (take 1048577 input) t (length_past input past) spells)
+    long : text_byte_limit < length input → SpellsTrace input t
+    long past = absurd (spells_past (take trace_read_limit input) t (length_past input past) spells)
 
 -- And it is refused as all is.
-pub refusal_of_front : (input : List ℕ) (line : ℕ) (why : Why) → IsTraceRefusal (take 1048577 input) line why → IsTraceRefusal input line why
-refusal_of_front input line why refusal = ⊎_elim long short (cases_lt 1048576 (length input))
+pub refusal_of_prefix : (input : List ℕ) (line : ℕ) (why : Why) → IsTraceRefusal (take trace_read_limit input) line why → IsTraceRefusal input line why
+refusal_of_prefix input line why refusal = ⊎_elim long short (cases_lt text_byte_limit (length input))
   where
-    short : length input ≤ 1048576 → IsTraceRefusal input line why
-    short fits = subst (λ front. IsTraceRefusal front line why) (take_all 1048577 input (omega arith)) refusal
+    short : length input ≤ text_byte_limit → IsTraceRefusal input line why
+    short fits = subst (λ prefix. IsTraceRefusal prefix line why) (take_all trace_read_limit input (omega arith)) refusal
 
-    long : 1048576 < length input → IsTraceRefusal input line why
+    long : text_byte_limit < length input → IsTraceRefusal input line why
     long past =
-        let front = take 1048577 input in
-        let same = one_refusal trace_grammar front line 0 why TooLong refusal (too_long trace_grammar front (length_past input past)) in
+        let prefix = take trace_read_limit input in
+        let same = one_refusal trace_grammar prefix line 0 why TooLong refusal (too_long trace_grammar prefix (length_past input past)) in
         subst (λ l. IsTraceRefusal input l why) (sym same.0) (subst (IsTraceRefusal input 0) (sym same.1) (too_long trace_grammar input past))
 
 -- The report of the bytes up to one past the limit is that of all.
-pub report_of_front : (input text : List ℕ) (v : Verdict) → IsReport (take 1048577 input) text v → IsReport input text v
-report_of_front input text v (inl p) = inl (p.0, spells_of_front input p.0 p.1, p.2)
-report_of_front input text v (inr p) = inr (p.0, p.1, refusal_of_front input p.0 p.1 p.2, p.3, p.4)
+pub report_of_prefix : (input text : List ℕ) (v : Verdict) → IsReport (take trace_read_limit input) text v → IsReport input text v
+report_of_prefix input text v (inl p) = inl (p.0, spells_of_prefix input p.0 p.1, p.2)
+report_of_prefix input text v (inr p) = inr (p.0, p.1, refusal_of_prefix input p.0 p.1 p.2, p.3, p.4)
 
 -- ---- one report
 
@@ -173,23 +176,29 @@ no_order input text report t spells consistent =
     (λ (cycle : HasDerivedCycle t). no_derived_cycle t (spelled_own input t spells) consistent.0 consistent.1 cycle)
     violation
 
--- a violation's report ends with the text of a certificate that holds
+-- after the line VIOLATION of a report stands the text of a certificate that holds, and nothing else
 pub shows_violation : (input text : List ℕ) (v : Verdict) → IsReport input text v → v ≡ Violation → ShowsViolation input text
 shows_violation input text v (inl p) e =
     let says = subst (SaysVerdict p.0 p.2.lines) e p.2.says in
     let found = says.1.1 in
     let head = head_text (processor_count p.0) (event_total p.0) p.2.rounds in
-    let mark = codes "VIOLATION" ++ 10 ∷ [] in
-    (p.0, p.1, (found.0, certificate_holds p.0 found.0 found.1, (head ++ mark, p.2.whole ∙ ap (λ lines. head ++ lines) (says.1.2 ∙ ap violation_text found.2) ∙ sym (append_assoc head mark (cert_text found.0)))))
+    record {
+      trace = p.0;
+      spelled = p.1;
+      rounds = p.2.rounds;
+      certificate = found.0;
+      holds = certificate_holds p.0 found.0 found.1;
+      whole = p.2.whole ∙ ap (λ lines. head ++ lines) (says.1.2 ∙ ap violation_text found.2);
+    }
 shows_violation input text v (inr p) e = absurd (refused_no_violation (sym p.4 ∙ e))
 
 -- ---- what is judged of a reader
 
-pub report_of_reader : (remaining : Option (List ℕ)) (bytes seen text : List ℕ) (v : Verdict) → IfSome remaining (λ all. bytes ≡ take 1048577 all) → seen ≡ bytes →
+pub report_of_reader : (remaining : Option (List ℕ)) (bytes seen text : List ℕ) (v : Verdict) → IfSome remaining (λ all. bytes ≡ take trace_read_limit all) → seen ≡ bytes →
     IsReport seen text v → IsReportOfReader remaining text v
-report_of_reader None bytes seen text v front same report = record { bytes = seen; of_read = report; of_all = tt }
-report_of_reader (Some all) bytes seen text v front same report =
-    record { bytes = seen; of_read = report; of_all = report_of_front all text v (subst (λ b. IsReport b text v) (same ∙ front) report) }
+report_of_reader None bytes seen text v prefix same report = record { bytes = seen; of_read = report; of_all = tt }
+report_of_reader (Some all) bytes seen text v prefix same report =
+    record { bytes = seen; of_read = report; of_all = report_of_prefix all text v (subst (λ b. IsReport b text v) (same ∙ prefix) report) }
 
 pub violation_of_reader : (remaining : Option (List ℕ)) (text : List ℕ) (v : Verdict) → IsReportOfReader remaining text v →
     IfSome remaining (λ all. (v ≡ Violation) ↔ SpellsViolation all)
@@ -201,11 +210,11 @@ pub no_order_of_reader : (remaining : Option (List ℕ)) (text : List ℕ) (v : 
 no_order_of_reader None text v report e = tt
 no_order_of_reader (Some all) text v report e = no_order all text (subst (IsReport all text) e report.of_all)
 
--- the fault of a writer leaves a front of the report
-pub leaves_front : (remaining old new : Option (List ℕ)) (text written : List ℕ) (v : Verdict) (fault : Fault) → IsReportOfReader remaining text v → written ≡ text →
-    AppendsFront old new written → fault ≡ Write → LeavesFault remaining old new fault
-leaves_front remaining old new text written v fault report same front e =
-    subst (LeavesFault remaining old new) (sym e) (v, text, report, subst (AppendsFront old new) same front)
+-- the fault of a writer leaves a prefix of the report
+pub leaves_prefix : (remaining old new : Option (List ℕ)) (text written : List ℕ) (v : Verdict) (fault : Fault) → IsReportOfReader remaining text v → written ≡ text →
+    AppendsPrefix old new written → fault ≡ Write → LeavesFault remaining old new fault
+leaves_prefix remaining old new text written v fault report same prefix e =
+    subst (LeavesFault remaining old new) (sym e) (v, text, report, subst (AppendsPrefix old new) same prefix)
 
 pub shows_violation_of_reader : (remaining old new : Option (List ℕ)) (text : List ℕ) (v : Verdict) → IsReportOfReader remaining text v → Appends old new text → v ≡ Violation →
     IfSome remaining (λ all. (text : List ℕ) × ShowsViolation all text × Appends old new text)

@@ -11,7 +11,7 @@ use Rattle.tso_rules.specs.Rows.{IsJustifiedOver}
 use Rattle.tso_ops.specs.Values.{TraceValue}
 use Rattle.cert_check.proofs.Facts.{last_of-place}
 use Rattle.round_pool.specs.RankGraphs.{AddsEdges}
-use Rattle.tso_report.specs.Collecting.{AreNumbersBelow, IsReasonBelow}
+use Rattle.tso_report.specs.Internal.Collecting.{AreNumbersBelow, IsReasonBelow}
 
 -- one number more makes one pair of neighbours more
 neighbours_at : (path : List ℕ) (i u v : ℕ) → suc i < length path →

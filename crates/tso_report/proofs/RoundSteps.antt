@@ -22,7 +22,7 @@ use Rattle.tso_rules.proofs.LawFacts.{next_justified}
 use Rattle.round_pool.specs.declared.ranked.Edge.{Edge}
 use Rattle.round_pool.specs.RankGraphs.{IsRankGraph, AddsEdges}
 use Rattle.round_pool.specs.Rankings.{HasEdge, IsBefore, IsAscending, IsRound, edge_from}
-use Rattle.tso_report.specs.Collecting.{CollectsEdge, Collects, IsAbove, IsListedFrom, IsAboveOrListed, IsAboveOrBase}
+use Rattle.tso_report.specs.Internal.Collecting.{CollectsEdge, Collects, IsAbove, IsListedFrom, IsAboveOrListed, IsAboveOrBase}
 use Rattle.tso_report.proofs.CollectFacts.{Collects-start, Collects-as, Collects-step, turned_push}
 
 -- an edge is that of its two numbers

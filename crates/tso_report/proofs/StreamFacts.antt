@@ -1,21 +1,34 @@
 -- Lemmas on what reading and writing do to known bytes.
-use Rattle.std.proofs.Common.{◌≡◌, ℕ, ◌+◌, ◌-◌, ◌<◌, ◌≤◌, List, length, take, drop, None, Some, IfSome, sym, ap, ◌∙◌, subst, arith, length-drop}
+use Rattle.std.proofs.Common.{◌++◌, ◌≡◌, ℕ, ◌+◌, ◌-◌, ◌≤◌, List, length, take, drop, None, Some, IfSome, sym, ap, ◌∙◌, subst, arith, length-drop}
 use Rattle.std.specs.Prelude.{Option}
-use Rattle.std.specs.Io.KnownBytes.{Appends, Consumes}
-use Rattle.std.proofs.KnownBytes.{Appends-trans}
-use Rattle.std.proofs.lemmas.List.{take_all}
-use Rattle.std.proofs.Math.Seq.{take-add, take-append_seam}
+use Rattle.std.specs.Io.KnownBytes.{Appends, Consumes, IsAtEnd}
+use Rattle.std.proofs.KnownBytes.{Appends-trans, Consumes-trans}
+use Rattle.std.proofs.lemmas.List.{take_all, take-append-le, append-nil}
+use Rattle.std.proofs.Math.Seq.{take-add}
+use Rattle.tso_report.specs.Streams.{LosesPrefix}
 
--- what was read is the front of what there was, where it passes the limit
-pub read_front : (old new : Option (List ℕ)) (bytes : List ℕ) (limit : ℕ) → Consumes old new bytes → limit < length bytes → length bytes ≤ limit + 1 →
+-- what was read up to the end is all there was, where it keeps the limit
+pub read_whole : (old mid new : Option (List ℕ)) (bytes chunk : List ℕ) (limit : ℕ) → Consumes old mid bytes → Consumes mid new (take 0 chunk) → IsAtEnd new → length bytes ≤ limit →
     IfSome old (λ all. bytes ≡ take (limit + 1) all)
-read_front None new bytes limit taken past within = tt
-read_front (Some all) None bytes limit taken past within = absurd taken
-read_front (Some all) (Some rest) bytes limit taken past within =
-    let count : length bytes ≡ limit + 1 = omega (arith, past, within) in
-    sym (ap (λ n. take n all) (sym count) ∙ ap (take (length bytes)) taken ∙ take-append_seam bytes rest)
+read_whole None mid new bytes chunk limit before now end within = tt
+read_whole (Some all) None new bytes chunk limit before now end within = absurd before
+read_whole (Some all) (Some rest) None bytes chunk limit before now end within = absurd now
+read_whole (Some all) (Some rest) (Some left) bytes chunk limit before now end within =
+    let same : all ≡ bytes = before ∙ ap (λ l. bytes ++ l) (now ∙ end) ∙ append-nil bytes in
+    sym (ap (take (limit + 1)) same ∙ take_all (limit + 1) bytes (omega (arith, within)))
 
--- a front of the text grows by what the writer took of the rest
+-- what was read without passing the limit, up to the end, and what was read past it, are the first bytes of what there was
+pub loses_prefix : (old new : Option (List ℕ)) (bytes : List ℕ) (limit : ℕ) → IfSome old (λ all. bytes ≡ take limit all) → Consumes old new bytes → LosesPrefix limit old new
+loses_prefix None new bytes limit is taken = tt
+loses_prefix (Some all) new bytes limit is taken = subst (Consumes (Some all) new) is taken
+
+-- what one more call of read gave, put after what was read
+pub read_more : (old mid new : Option (List ℕ)) (bytes more chunk rest : List ℕ) (count : ℕ) → Consumes old mid bytes → Consumes mid new (take count chunk) → count ≤ length chunk →
+    more ≡ bytes ++ take count (chunk ++ rest) → Consumes old new more
+read_more old mid new bytes more chunk rest count before now within grown =
+    subst (Consumes old new) (sym (grown ∙ ap (λ l. bytes ++ l) (take-append-le count chunk rest within))) (Consumes-trans old mid new bytes (take count chunk) before now)
+
+-- a prefix of the text grows by what the writer took of the rest
 pub written_more : (first old new : Option (List ℕ)) (text : List ℕ) (m n : ℕ) → Appends first old (take m text) →
     Appends old new (take n (take (length text - m) (drop m text))) → Appends first new (take (m + n) text)
 written_more first old new text m n before added =

@@ -13,8 +13,8 @@ use Rattle.cert_check.specs.declared.faults.CertFault.TheVariants.{EventRange, N
 use Rattle.cert_check.specs.Refusals.{IsRefusal as IsCertRefusal}
 use Rattle.tso_report.specs.declared.verdicts.Verdict.{Verdict}
 use Rattle.tso_report.specs.declared.verdicts.Verdict.TheVariants.{Violation, Refused}
-use Rattle.tso_report.specs.declared.faults.Fault.{Fault}
-use Rattle.tso_report.specs.Reports.{IsRefusalReport, LeavesAtFault, WritesWhole}
+use Rattle.tso_report.specs.Limits.{certificate_byte_limit}
+use Rattle.tso_report.specs.Reports.{IsRefusalReport}
 
 -- ---- texts
 
@@ -23,17 +23,17 @@ abbrev pub holds_text : List ℕ
 holds_text = codes "CERTIFICATE HOLDS" ++ 10 ∷ []
 
 -- the name of a refusal of a certificate's text
-abbrev pub name_of : Why → List ℕ
-name_of BadLine = codes "BadLine"
-name_of BadNumber = codes "BadNumber"
-name_of BadRule = codes "BadRule"
-name_of NoCycle = codes "NoCycle"
-name_of AfterCycle = codes "AfterCycle"
-name_of OutOfMemory = codes "OutOfMemory"
+abbrev pub certificate_refusal_name : Why → List ℕ
+certificate_refusal_name BadLine = codes "BadLine"
+certificate_refusal_name BadNumber = codes "BadNumber"
+certificate_refusal_name BadRule = codes "BadRule"
+certificate_refusal_name NoCycle = codes "NoCycle"
+certificate_refusal_name AfterCycle = codes "AfterCycle"
+certificate_refusal_name OutOfMemory = codes "OutOfMemory"
 
 -- the line of a refused text of a certificate
 abbrev pub unread_text : ℕ → Why → List ℕ
-unread_text line why = codes "CERTIFICATE REFUSED " ++ name_of why ++ codes " line " ++ decimal line ++ 10 ∷ []
+unread_text line why = codes "CERTIFICATE REFUSED " ++ certificate_refusal_name why ++ codes " line " ++ decimal line ++ 10 ∷ []
 
 -- the refusal of a certificate, with its step where it has one
 abbrev pub fault_text : CertFault → List ℕ
@@ -71,36 +71,18 @@ IsCertReport t input text verdict =
 
 -- ---- the report of two texts
 
--- The text is the report of both: that of the certificate's text, which has 67,108,864 bytes at most, on the trace that the first spells; or
+-- The text is the report of both: that of the certificate's text, which keeps its limit, on the trace that the first spells; or
 -- that of the first one's refusal.
 abbrev pub IsCheckReport : List ℕ → List ℕ → List ℕ → Verdict → Type 0
-IsCheckReport trace cert text verdict = ((t : TraceValue) × SpellsTrace trace t × (length cert ≤ 67108864) × IsCertReport t cert text verdict) ⊎ IsRefusalReport trace text verdict
+IsCheckReport trace cert text verdict = ((t : TraceValue) × SpellsTrace trace t × (length cert ≤ certificate_byte_limit) × IsCertReport t cert text verdict) ⊎ IsRefusalReport trace text verdict
 
 -- the texts are those of a trace and of a certificate that holds for it
 abbrev pub SpellHolding : List ℕ → List ℕ → Type 0
 SpellHolding trace cert = (t : TraceValue) × SpellsTrace trace t × SpellsHolding t cert
 
--- ---- what a call writes
-
 -- The text is the report on the trace of what a reader had: of all its bytes where these are known.
 pub record IsCertReportOfReader (t : TraceValue) (remaining : Option (List ℕ)) (text : List ℕ) (verdict : Verdict) : Type 0 where
   pub cert : List ℕ
   pub whole : IfSome remaining (λ all. cert ≡ all)
-  pub within : length cert ≤ 67108864
+  pub within : length cert ≤ certificate_byte_limit
   pub is_report : IsCertReport t cert text verdict
-
--- The text is the report of what two readers had: of all their bytes where these are known.
-pub record IsCheckReportOfReaders (traces certs : Option (List ℕ)) (text : List ℕ) (verdict : Verdict) : Type 0 where
-  pub trace : List ℕ
-  pub cert : List ℕ
-  pub whole_trace : IfSome traces (λ all. trace ≡ all)
-  pub whole_cert : IfSome certs (λ all. cert ≡ all)
-  pub is_report : IsCheckReport trace cert text verdict
-
--- known bytes of the writer grow by the report of the readers' bytes, with this verdict
-abbrev pub WritesCheckReport : Option (List ℕ) → Option (List ℕ) → Option (List ℕ) → Option (List ℕ) → Verdict → Type 0
-WritesCheckReport traces certs old new verdict = WritesWhole (IsCheckReportOfReaders traces certs) old new verdict
-
--- what a fault leaves of that report
-abbrev pub LeavesCheckFault : Option (List ℕ) → Option (List ℕ) → Option (List ℕ) → Option (List ℕ) → Fault → Type 0
-LeavesCheckFault traces certs old new fault = LeavesAtFault (IsCheckReportOfReaders traces certs) old new fault

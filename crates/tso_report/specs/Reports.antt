@@ -1,7 +1,6 @@
 -- The report of an input: the text that is written for it, and the verdict that it gives.
-use Rattle.std.specs.Prelude.{◌≡◌, ◌⊎◌, ℕ, List, [], ◌∷◌, ◌++◌, codes, Option, IfSome}
+use Rattle.std.specs.Prelude.{◌≡◌, ◌⊎◌, ℕ, List, [], ◌∷◌, ◌++◌, codes}
 use Rattle.std.specs.Fmt.{decimal}
-use Rattle.std.specs.Io.KnownBytes.{Appends, Keeps}
 use Rattle.tso_ops.specs.Values.{TraceValue}
 use Rattle.tso_ops.specs.Events.{processor_count, event_total}
 use Rattle.tso_text.specs.declared.faults.Why.{Why}
@@ -9,14 +8,11 @@ use Rattle.tso_text.specs.declared.faults.Why.TheVariants.{BadHeader, BadLine, B
 use Rattle.tso_text.specs.Grammars.{SpellsTrace, IsTraceRefusal}
 use Rattle.tso_report.specs.declared.verdicts.Verdict.{Verdict}
 use Rattle.tso_report.specs.declared.verdicts.Verdict.TheVariants.{NoViolation, Violation, Refused}
-use Rattle.tso_report.specs.declared.faults.Fault.{Fault}
-use Rattle.tso_report.specs.declared.faults.Fault.TheVariants.{OutOfMemory, Read, Write, NoThread, Missing}
 use Rattle.tso_cert.specs.declared.steps.Certificate.{Certificate}
 use Rattle.tso_cert.specs.Printed.{cert_text}
 use Rattle.tso_model.specs.Ranks.{IsRounds}
 use Rattle.tso_model.specs.Certs.{Holds}
 use Rattle.tso_report.specs.Judged.{IsViolation, IsCertificateText}
-use Rattle.tso_report.specs.Streams.{AppendsFront}
 
 -- ---- texts
 
@@ -33,25 +29,25 @@ abbrev pub violation_text : List ℕ → List ℕ
 violation_text certificate = codes "VIOLATION" ++ 10 ∷ certificate
 
 -- the name of a refusal
-abbrev pub name_of : Why → List ℕ
-name_of BadHeader = codes "BadHeader"
-name_of BadLine = codes "BadLine"
-name_of BadNumber = codes "BadNumber"
-name_of BeforeProc = codes "BeforeProc"
-name_of TooManyProcessors = codes "TooManyProcessors"
-name_of TooManyEvents = codes "TooManyEvents"
-name_of AddressRange = codes "AddressRange"
-name_of ZeroValue = codes "ZeroValue"
-name_of RepeatedValue = codes "RepeatedValue"
-name_of MissingEnd = codes "MissingEnd"
-name_of AfterEnd = codes "AfterEnd"
-name_of TooLong = codes "TooLong"
-name_of ProcessorRange = codes "ProcessorRange"
-name_of NoMemory = codes "OutOfMemory"
+abbrev pub refusal_name : Why → List ℕ
+refusal_name BadHeader = codes "BadHeader"
+refusal_name BadLine = codes "BadLine"
+refusal_name BadNumber = codes "BadNumber"
+refusal_name BeforeProc = codes "BeforeProc"
+refusal_name TooManyProcessors = codes "TooManyProcessors"
+refusal_name TooManyEvents = codes "TooManyEvents"
+refusal_name AddressRange = codes "AddressRange"
+refusal_name ZeroValue = codes "ZeroValue"
+refusal_name RepeatedValue = codes "RepeatedValue"
+refusal_name MissingEnd = codes "MissingEnd"
+refusal_name AfterEnd = codes "AfterEnd"
+refusal_name TooLong = codes "TooLong"
+refusal_name ProcessorRange = codes "ProcessorRange"
+refusal_name NoMemory = codes "OutOfMemory"
 
 -- the line of a refusal
 abbrev pub refusal_text : ℕ → Why → List ℕ
-refusal_text line why = codes "REFUSED " ++ name_of why ++ codes " line " ++ decimal line ++ 10 ∷ []
+refusal_text line why = codes "REFUSED " ++ refusal_name why ++ codes " line " ++ decimal line ++ 10 ∷ []
 
 -- ---- the report of a trace
 
@@ -82,38 +78,12 @@ IsReport input text verdict = ((t : TraceValue) × SpellsTrace input t × IsTrac
 abbrev pub SpellsViolation : List ℕ → Type 0
 SpellsViolation input = (t : TraceValue) × SpellsTrace input t × IsViolation t
 
--- the text ends with that of a certificate which holds for the trace that the input spells
-abbrev pub ShowsViolation : List ℕ → List ℕ → Type 0
-ShowsViolation input text = (t : TraceValue) × SpellsTrace input t × ((c : Certificate) × Holds t c × ((front : List ℕ) × (text ≡ front ++ cert_text c)))
-
--- ---- what a call writes
-
--- The text is the report of the bytes that were read, and of all bytes of the reader where these are known.
-pub record IsReportOfReader (remaining : Option (List ℕ)) (text : List ℕ) (verdict : Verdict) : Type 0 where
-  pub bytes : List ℕ
-  pub of_read : IsReport bytes text verdict
-  pub of_all : IfSome remaining (λ all. IsReport all text verdict)
-
--- known bytes of the writer grow by a text that is the report, with this verdict
-abbrev pub WritesWhole : (List ℕ → Verdict → Type 0) → Option (List ℕ) → Option (List ℕ) → Verdict → Type 0
-WritesWhole is_report old new verdict = (text : List ℕ) × is_report text verdict × Appends old new text
-
--- known bytes of the writer grow by a front of a text that is the report
-abbrev pub WritesFront : (List ℕ → Verdict → Type 0) → Option (List ℕ) → Option (List ℕ) → Type 0
-WritesFront is_report old new = (verdict : Verdict) × (text : List ℕ) × is_report text verdict × AppendsFront old new text
-
--- What a fault leaves: on Write a front of the report, else nothing was written. A judged text has no seed to miss.
-abbrev pub LeavesAtFault : (List ℕ → Verdict → Type 0) → Option (List ℕ) → Option (List ℕ) → Fault → Type 0
-LeavesAtFault is_report old new OutOfMemory = Keeps old new
-LeavesAtFault is_report old new Read = Keeps old new
-LeavesAtFault is_report old new Write = WritesFront is_report old new
-LeavesAtFault is_report old new NoThread = Keeps old new
-LeavesAtFault is_report old new (Missing seed) = ⊥
-
--- known bytes of the writer grow by the report of the reader's bytes, with this verdict
-abbrev pub WritesReport : Option (List ℕ) → Option (List ℕ) → Option (List ℕ) → Verdict → Type 0
-WritesReport remaining old new verdict = WritesWhole (IsReportOfReader remaining) old new verdict
-
--- what a fault leaves of the report of the reader's bytes
-abbrev pub LeavesFault : Option (List ℕ) → Option (List ℕ) → Option (List ℕ) → Fault → Type 0
-LeavesFault remaining old new fault = LeavesAtFault (IsReportOfReader remaining) old new fault
+-- The text is the two first lines of a report on the trace that the input spells, then the line VIOLATION, and then, to its end, the text of a
+-- certificate that holds for the trace.
+pub record ShowsViolation (input text : List ℕ) : Type 0 where
+  pub trace : TraceValue
+  pub spelled : SpellsTrace input trace
+  pub rounds : ℕ
+  pub certificate : Certificate
+  pub holds : Holds trace certificate
+  pub whole : text ≡ head_text (processor_count trace) (event_total trace) rounds ++ violation_text (cert_text certificate)

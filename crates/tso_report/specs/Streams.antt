@@ -1,7 +1,11 @@
 -- What reading and writing do to the bytes of a reader and of a writer, where these are known.
-use Rattle.std.specs.Prelude.{ℕ, ◌≤◌, List, length, take, Option}
-use Rattle.std.specs.Io.KnownBytes.{Appends}
+use Rattle.std.specs.Prelude.{ℕ, ◌≤◌, List, length, take, Option, IfSome}
+use Rattle.std.specs.Io.KnownBytes.{Appends, Consumes}
 
--- known bytes grow by a front of the text
-abbrev pub AppendsFront : Option (List ℕ) → Option (List ℕ) → List ℕ → Type 0
-AppendsFront old new text = (n : ℕ) × (n ≤ length text) × Appends old new (take n text)
+-- known bytes grow by a prefix of the text
+abbrev pub AppendsPrefix : Option (List ℕ) → Option (List ℕ) → List ℕ → Type 0
+AppendsPrefix old new text = (n : ℕ) × (n ≤ length text) × Appends old new (take n text)
+
+-- known bytes lose their first ones, up to this number, and no others
+abbrev pub LosesPrefix : ℕ → Option (List ℕ) → Option (List ℕ) → Type 0
+LosesPrefix limit old new = IfSome old (λ all. Consumes old new (take limit all))

@@ -11,7 +11,7 @@ ghost use Rattle.tso_model.specs.Used.{AreUsedBy};
 ghost use Rattle.tso_rules.specs.Rows.{IsUngiven};
 ghost use Rattle.round_pool.specs.RankGraphs.{IsRankGraph, AddsEdges};
 ghost use Rattle.round_pool.specs.Rankings.{IsRankingOf, rounds_of, HasEdge, AreWithin};
-ghost use Rattle.tso_report.specs.Collecting.{AreNumbersBelow, IsReasonBelow, CollectsEdge, Collects, IsAbove, IsAboveOrBase};
+ghost use Rattle.tso_report.specs.Internal.Collecting.{AreNumbersBelow, IsReasonBelow, CollectsEdge, Collects, IsAbove, IsAboveOrBase};
 
 use order_graph::{EdgeSet, Graph};
 use round_pool::{Edge, Ranked};

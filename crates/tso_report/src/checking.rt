@@ -1,33 +1,38 @@
+//! The way of a trace and a certificate: read and parse the one, then the other, check, render, write.
 ghost use Rattle.std.specs.Prelude.{◌≡◌, ◌≢◌, ◌⊎◌, ◌↔◌, ◌≤◌, length, take, string_bytes, IfSome, IfOk, IfErr};
 ghost use Rattle.tso_ops.specs.Values.{TraceValue};
 ghost use Rattle.tso_text.specs.Grammars.{IsRefusedTrace, SpellsTrace};
 ghost use Rattle.tso_model.specs.Order.{IsConsistent};
 ghost use Rattle.tso_report.specs.declared.faults.Fault.{Fault};
 ghost use Rattle.tso_report.specs.declared.verdicts.Verdict.{Verdict};
-ghost use Rattle.tso_report.specs.Checks.{IsCertReportOfReader, IsCheckReportOfReaders, LeavesCheckFault, SpellHolding, WritesCheckReport};
+ghost use Rattle.tso_report.specs.Checks.{IsCertReportOfReader, SpellHolding};
+ghost use Rattle.tso_report.specs.Limits.{certificate_byte_limit, certificate_read_limit, trace_read_limit};
+ghost use Rattle.tso_report.specs.Streams.{LosesPrefix};
+ghost use Rattle.tso_report.specs.Written.{IsCheckReportOfReaders, LeavesCheckFault, WritesCheckReport};
 
-use crate::cert_reports::cert_report;
+use crate::cert_rendering::render_check;
 use crate::faults::Fault;
-use crate::reading::{MAX_TRACE_BYTES, read_all};
-use crate::reports::{Report, refusal_report};
+use crate::rendering::{Report, render_refusal};
+use crate::streams::reading::read_all;
+use crate::streams::writing::write_text;
 use crate::verdicts::Verdict;
-use crate::writing::write_text;
 use std::alloc::Global;
 use std::io::{Read, Write};
 use tso_ops::Trace;
-use tso_text::read_trace;
+use tso_text::{MAX_TEXT_BYTES, read_trace};
 
 /// The greatest number of bytes of a certificate's text.
-const MAX_CERT_BYTES: usize = 67_108_864;
+pub const MAX_CERTIFICATE_BYTES: usize = 67_108_864;
 
 /// Checks a certificate against a trace: reads the text of the trace, then that of the certificate, builds the whole
 /// report of both, and then writes it.
 ///
 /// The verdict is Violation where the certificate holds, which leaves the trace no TSO order, else Refused. A first
-/// text that is no trace is reported by its refusal, and the certificate isn't read then. Faults: OutOfMemory where a
-/// growth was refused; Read where a reader failed or passed 2,097,152 calls, or the text of the certificate has more
-/// than 67,108,864 bytes; with each nothing was written. Write where the writer failed, took no byte or was interrupted
-/// more than 1,048,576 times: then what was written is a front of the report.
+/// text that is no trace is reported by its refusal, and the certificate isn't read then. At most 1,048,577 bytes of
+/// the trace are read and 67,108,865 of the certificate. Faults: OutOfMemory where an allocation was refused; Read
+/// where a reader failed or passed 2,097,152 calls, or the text of the certificate has more than 67,108,864 bytes; with
+/// each nothing was written. Write where the writer failed, took no byte or was interrupted more than 1,048,576 times:
+/// then what was written is a prefix of the report.
 pub fn check_texts<T: Read, C: Read, W: Write>(
     alloc: Global,
     trace_reader: &mut T,
@@ -38,6 +43,8 @@ pub fn check_texts<T: Read, C: Read, W: Write>(
     ensures violation { IfOk result (λ verdict. IfSome (T.remaining trace_reader.old) (λ trace. IfSome (C.remaining cert_reader.old) (λ cert. (verdict ≡ Verdict.Violation) ↔ SpellHolding trace cert))) }
     ensures otherwise { IfOk result (λ verdict. (verdict ≡ Verdict.Violation) ⊎ (verdict ≡ Verdict.Refused)) }
     ensures no_order { IfOk result (λ verdict. verdict ≡ Verdict.Violation → IfSome (T.remaining trace_reader.old) (λ trace. (t : TraceValue) → SpellsTrace trace t → IsConsistent t → ⊥)) }
+    ensures taken { IfOk result (λ _. LosesPrefix trace_read_limit (T.remaining trace_reader.old) (T.remaining trace_reader.new)) }
+    ensures taken_after { IfOk result (λ _. cert_reader.new ≡ cert_reader.old ⊎ LosesPrefix certificate_read_limit (C.remaining cert_reader.old) (C.remaining cert_reader.new)) }
     ensures unread { IfSome (T.remaining trace_reader.old) (λ trace. IsRefusedTrace trace → cert_reader.new ≡ cert_reader.old) }
     ensures fault { IfErr result (LeavesCheckFault (T.remaining trace_reader.old) (C.remaining cert_reader.old) (W.contents writer.old) (W.contents writer.new)) }
     ensures no_thread { IfErr result (λ fault. fault ≢ Fault.NoThread) }
@@ -55,33 +62,37 @@ fn read_texts<T: Read, C: Read>(
 ) -> Result<Report, Fault>
     ensures report { IfOk result (λ report. IsCheckReportOfReaders (T.remaining trace_reader.old) (C.remaining cert_reader.old) (string_bytes report.text) report.verdict) }
     ensures no_order { IfOk result (λ report. report.verdict ≡ Verdict.Violation → IfSome (T.remaining trace_reader.old) (λ trace. (t : TraceValue) → SpellsTrace trace t → IsConsistent t → ⊥)) }
+    ensures taken { IfOk result (λ _. LosesPrefix trace_read_limit (T.remaining trace_reader.old) (T.remaining trace_reader.new)) }
+    ensures taken_after { IfOk result (λ _. cert_reader.new ≡ cert_reader.old ⊎ LosesPrefix certificate_read_limit (C.remaining cert_reader.old) (C.remaining cert_reader.new)) }
     ensures unread { IfSome (T.remaining trace_reader.old) (λ trace. IsRefusedTrace trace → cert_reader.new ≡ cert_reader.old) }
     ensures fault { IfErr result (λ fault. (fault ≡ Fault.OutOfMemory) ⊎ (fault ≡ Fault.Read)) }
 {
-    let input = read_all(alloc, trace_reader, MAX_TRACE_BYTES)?;
+    let input = read_all(alloc, trace_reader, MAX_TEXT_BYTES)?;
     match read_trace(alloc, &input) {
         Ok(trace) => read_certificate(alloc, &trace, cert_reader),
-        Err(fault) => Ok(refusal_report(alloc, fault)?),
+        Err(fault) => Ok(render_refusal(alloc, fault)?),
     }
 }
 
 /// The report of what a reader has of a certificate, on a trace.
 fn read_certificate<C: Read>(alloc: Global, trace: &Trace, reader: &mut C) -> Result<Report, Fault>
     ensures report { IfOk result (λ report. IsCertReportOfReader trace.now (C.remaining reader.old) (string_bytes report.text) report.verdict) }
+    ensures taken { IfOk result (λ _. LosesPrefix certificate_read_limit (C.remaining reader.old) (C.remaining reader.new)) }
     ensures fault { IfErr result (λ fault. (fault ≡ Fault.OutOfMemory) ⊎ (fault ≡ Fault.Read)) }
 {
     let input = read_cert_text(alloc, reader)?;
-    Ok(cert_report(alloc, trace, &input)?)
+    Ok(render_check(alloc, trace, &input)?)
 }
 
 /// All bytes of a reader, which are no more than the text of a certificate may have.
 fn read_cert_text<C: Read>(alloc: Global, reader: &mut C) -> Result<Vec<u8>, Fault>
-    ensures front { IfOk result (λ bytes. IfSome (C.remaining reader.old) (λ all. bytes.items ≡ take 67108865 all)) }
-    ensures within { IfOk result (λ bytes. length bytes.items ≤ 67108864) }
+    ensures prefix { IfOk result (λ bytes. IfSome (C.remaining reader.old) (λ all. bytes.items ≡ take certificate_read_limit all)) }
+    ensures taken { IfOk result (λ _. LosesPrefix certificate_read_limit (C.remaining reader.old) (C.remaining reader.new)) }
+    ensures within { IfOk result (λ bytes. length bytes.items ≤ certificate_byte_limit) }
     ensures fault { IfErr result (λ fault. (fault ≡ Fault.OutOfMemory) ⊎ (fault ≡ Fault.Read)) }
 {
-    let input = read_all(alloc, reader, MAX_CERT_BYTES)?;
-    if input.len() > MAX_CERT_BYTES {
+    let input = read_all(alloc, reader, MAX_CERTIFICATE_BYTES)?;
+    if input.len() > MAX_CERTIFICATE_BYTES {
         return Err(Fault::Read);
     }
     Ok(input)

@@ -15,15 +15,21 @@ use std::thread::Threads;
 use tso_cert::Certificate;
 use tso_ops::{Source, Trace};
 
-/// What is found of a trace: its rounds number, and its certificate where it is a violation.
+/// What is found of a trace.
 #[derive(Drop)]
-pub(crate) struct Finding {
-    pub(crate) rounds: u64,
-    pub(crate) certificate: Option<Certificate>,
+pub struct Finding {
+    /// The trace's rounds number; 0 where a load is unwritten.
+    pub rounds: u64,
+    /// The trace's certificate where it is a violation, else None.
+    pub certificate: Option<Certificate>,
 }
 
-/// Judges a trace on `workers` threads, 1 to 64: its least unwritten load, or else the rounds and what they come to.
-pub(crate) fn judge_trace<H: Threads + Wait>(
+/// Finds out whether a trace is a violation, on `workers` workers (1 to 64): its least load whose value nothing wrote,
+/// or else its rounds, and the certificate where the last rank set has a cycle.
+///
+/// The finding is the same for each number of workers. Faults: OutOfMemory where an allocation was refused, NoThread
+/// where the system refused a thread.
+pub fn find_violation<H: Threads + Wait>(
     rt: &H,
     alloc: Global,
     trace: &Trace,

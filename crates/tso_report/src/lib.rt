@@ -1,26 +1,29 @@
 //! Reports on traces: from the bytes of a trace's text to the bytes of its report.
 //!
-//! Each input has one report, and `judge` writes it; `check_texts` writes that of a trace and a certificate. `README.md` says what is proved.
+//! Each input has one report, and `judge` writes it; `check_texts` writes that of a trace and a certificate.
+//! `find_violation` and `render_trace` are the two steps between a trace and its report, for traces that no text tells.
+//! `README.md` says what is proved.
 #![tactic(auto)]
 
 pub use certificates::build_cert;
-pub use checking::check_texts;
+pub use checking::{MAX_CERTIFICATE_BYTES, check_texts};
 pub use faults::Fault;
+pub use findings::{Finding, find_violation};
 pub use judging::judge;
-pub use reading::read_all;
+pub use rendering::{Report, render_trace};
+pub use streams::reading::read_all;
+pub use streams::writing::write_text;
 pub use verdicts::Verdict;
-pub use writing::write_text;
 
-mod cert_reports;
+mod cert_rendering;
 mod certificates;
 mod checking;
 mod faults;
 mod findings;
 mod judging;
 pub mod laws;
-mod reading;
-mod reports;
+mod rendering;
+mod streams;
 #[cfg(test)]
 mod tests;
 mod verdicts;
-mod writing;

@@ -121,9 +121,13 @@ part_fault g before part last w =
     else if last then same_why (unended part) w
     else said_fault g (lists_of g before) (said g part) w
 
+-- the greatest number of bytes of a text
+abbrev pub text_byte_limit : ℕ
+text_byte_limit = 1048576
+
 -- The text has the fault at this line. Line 0 is the text as a whole.
 unfoldable pub fault_at : {X : Type 0} → Grammar X → List ℕ → ℕ → Why → Bool
-fault_at g text zero w = same_why TooLong w && nat_lt 1048576 (length text)
+fault_at g text zero w = same_why TooLong w && nat_lt text_byte_limit (length text)
 fault_at g text (suc zero) w = same_why BadHeader w && not (has_header g.header (parts_of text))
 fault_at g text (suc (suc i)) w =
     nat_lt i (length (body_of text))

@@ -6,7 +6,7 @@
 pub use acts::Act;
 pub use faults::{TextFault, Why};
 pub use printers::{print_program, print_schedule, print_trace};
-pub use readers::{read_program, read_schedule, read_trace};
+pub use readers::{MAX_TEXT_BYTES, read_program, read_schedule, read_trace};
 
 mod acts;
 mod faults;

@@ -15,8 +15,8 @@ use crate::readings::Reading;
 use std::alloc::Global;
 use tso_ops::{Program, Trace};
 
-/// The greatest number of bytes of a text.
-const MAX_BYTES: usize = 1_048_576;
+/// The greatest number of bytes of the text of a trace, a program or a schedule.
+pub const MAX_TEXT_BYTES: usize = 1_048_576;
 
 /// Want of memory is of the whole text.
 const NO_MEMORY: TextFault = TextFault {
@@ -114,7 +114,7 @@ fn body_of<T: Form>(text: &[u8]) -> Result<&[u8], TextFault>
     ensures refused { IfErr result (λ fault. IsRefusal T.grammar text.now fault.line fault.why) }
     ensures why { IfErr result (λ fault. fault.why ≢ Why.OutOfMemory) }
 {
-    if text.len() > MAX_BYTES {
+    if text.len() > MAX_TEXT_BYTES {
         return Err(TextFault {
             line: 0,
             why: Why::TooLong,

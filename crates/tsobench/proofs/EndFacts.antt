@@ -1,25 +1,97 @@
 -- Lemmas on how the program ends.
-use Rattle.std.proofs.Common.{◌≡◌, ℕ, List, Ok, Err, Result, IfOk, IfErr, OnErr, inl, inr}
-use Rattle.std.specs.Prelude.{Option}
+use Rattle.std.proofs.Common.{◌≡◌, ◌⊎◌, ℕ, List, Ok, Err, Result, IfOk, IfErr, Some, None, arith, length, refl, subst, sym, inl, inr}
+use Rattle.std.specs.Prelude.{Option, string_bytes}
+use Rattle.std.specs.Io.KnownBytes.{Keeps}
+use Rattle.command_line.specs.declared.requests.Request.{Request}
+use Rattle.command_line.specs.declared.requests.Request.TheVariants.{Judge, Check, Show, Refuse}
+use Rattle.command_line.specs.Requests.{Asked, asked_of}
 use Rattle.tso_report.specs.declared.verdicts.Verdict.{Verdict}
 use Rattle.tso_report.specs.declared.faults.Fault.{Fault}
-use Rattle.tso_report.specs.Reports.{LeavesFault, WritesReport}
-use Rattle.tsobench.specs.Statuses.{ChecksSome, EndsByWords, JudgesSome, LeavesChecking, LeavesJudging, status_of}
+use Rattle.tso_report.specs.declared.faults.Fault.TheVariants.{OutOfMemory, Read, Write, NoThread, Missing}
+use Rattle.tso_report.specs.Written.{IsCheckReportOfReaders, IsReportOfReader, LeavesAtFault, LeavesCheckFault, LeavesFault, WritesCheckReport, WritesReport, WritesWhole}
+use Rattle.tsobench.specs.Endings.{Does, EndsAs, EndsAsAsked, EndsByFault, EndsByReport, Outputs, TellsFault, status_of}
+use Rattle.std.proofs.Math.Seq.{take-length}
+use Rattle.tsobench.specs.Named.{HasKnown, OpensFirst, OpensNext}
 
--- a file was judged
-pub ends_by_file : (old new : Option (List ℕ)) (outcome : Result Verdict Fault) (status : ℕ) (K : Type 0) → IfOk outcome (JudgesSome old new) →
-    IfErr outcome (LeavesJudging old new) → IfOk outcome (λ verdict. (status ≡ status_of verdict) × K) → OnErr outcome (status ≡ 4) → EndsByWords old new status
-ends_by_file old new (Ok verdict) status K writes leaves told faulty = inl (verdict, inl writes, told.0)
-ends_by_file old new (Err fault) status K writes leaves told faulty = inr (inl (fault, inl leaves, faulty))
+-- ---- reports of files of which less may be known
 
--- a reader was judged
-pub ends_by_reader : (remaining old new : Option (List ℕ)) (outcome : Result Verdict Fault) (status : ℕ) (K : Type 0) → IfOk outcome (WritesReport remaining old new) →
-    IfErr outcome (LeavesFault remaining old new) → IfOk outcome (λ verdict. (status ≡ status_of verdict) × K) → OnErr outcome (status ≡ 4) → EndsByWords old new status
-ends_by_reader remaining old new (Ok verdict) status K writes leaves told faulty = inl (verdict, inl (remaining, writes), told.0)
-ends_by_reader remaining old new (Err fault) status K writes leaves told faulty = inr (inl (fault, inl (remaining, leaves), faulty))
+known_bytes : (known remaining : Option (List ℕ)) → HasKnown known remaining → (known ≡ None) ⊎ (known ≡ remaining)
+known_bytes None remaining has = inl refl
+known_bytes (Some all) remaining has = inr (sym has)
 
--- a certificate was checked
-pub ends_by_check : (old new : Option (List ℕ)) (outcome : Result Verdict Fault) (status : ℕ) (K : Type 0) → IfOk outcome (ChecksSome old new) →
-    IfErr outcome (LeavesChecking old new) → IfOk outcome (λ verdict. (status ≡ status_of verdict) × K) → OnErr outcome (status ≡ 4) → EndsByWords old new status
-ends_by_check old new (Ok verdict) status K writes leaves told faulty = inl (verdict, inr writes, told.0)
-ends_by_check old new (Err fault) status K writes leaves told faulty = inr (inl (fault, inr leaves, faulty))
+pub report_of_known : (known remaining : Option (List ℕ)) → HasKnown known remaining → (text : List ℕ) (verdict : Verdict) → IsReportOfReader remaining text verdict → IsReportOfReader known text verdict
+report_of_known None remaining has text verdict report = record { bytes = report.bytes; of_read = report.of_read; of_all = tt }
+report_of_known (Some all) remaining has text verdict report = subst (λ r. IsReportOfReader r text verdict) has report
+
+first_known : (known remaining certs : Option (List ℕ)) → HasKnown known remaining → (text : List ℕ) (verdict : Verdict) → IsCheckReportOfReaders remaining certs text verdict →
+    IsCheckReportOfReaders known certs text verdict
+first_known None remaining certs has text verdict report =
+    record { trace = report.trace; cert = report.cert; whole_trace = tt; whole_cert = report.whole_cert; is_report = report.is_report }
+first_known (Some all) remaining certs has text verdict report = subst (λ r. IsCheckReportOfReaders r certs text verdict) has report
+
+second_known : (traces known remaining : Option (List ℕ)) → HasKnown known remaining → (text : List ℕ) (verdict : Verdict) → IsCheckReportOfReaders traces remaining text verdict →
+    IsCheckReportOfReaders traces known text verdict
+second_known traces None remaining has text verdict report =
+    record { trace = report.trace; cert = report.cert; whole_trace = report.whole_trace; whole_cert = tt; is_report = report.is_report }
+second_known traces (Some all) remaining has text verdict report = subst (λ r. IsCheckReportOfReaders traces r text verdict) has report
+
+check_of_known : (trace traces cert certs : Option (List ℕ)) → HasKnown trace traces → HasKnown cert certs → (text : List ℕ) (verdict : Verdict) → IsCheckReportOfReaders traces certs text verdict →
+    IsCheckReportOfReaders trace cert text verdict
+check_of_known trace traces cert certs has has_cert text verdict report = second_known trace cert certs has_cert text verdict (first_known trace traces certs has text verdict report)
+
+-- what is written of one kind of report is written of any kind that it is
+pub writes_as : (A B : List ℕ → Verdict → Type 0) → ((text : List ℕ) (verdict : Verdict) → A text verdict → B text verdict) → (old new : Option (List ℕ)) (outcome : Result Verdict Fault) →
+    IfOk outcome (WritesWhole A old new) → IfOk outcome (WritesWhole B old new)
+writes_as A B implied old new (Ok verdict) writes = (writes.0, implied writes.0 verdict writes.1, writes.2)
+writes_as A B implied old new (Err fault) writes = tt
+
+leaves_as : (A B : List ℕ → Verdict → Type 0) → ((text : List ℕ) (verdict : Verdict) → A text verdict → B text verdict) → (old new : Option (List ℕ)) (fault : Fault) →
+    LeavesAtFault A old new fault → LeavesAtFault B old new fault
+leaves_as A B implied old new OutOfMemory leaves = leaves
+leaves_as A B implied old new Read leaves = leaves
+leaves_as A B implied old new Write leaves = (leaves.0, leaves.1, implied leaves.1 leaves.0 leaves.2, leaves.3)
+leaves_as A B implied old new NoThread leaves = leaves
+leaves_as A B implied old new (Missing seed) leaves = leaves
+
+pub faults_as : (A B : List ℕ → Verdict → Type 0) → ((text : List ℕ) (verdict : Verdict) → A text verdict → B text verdict) → (old new : Option (List ℕ)) (outcome : Result Verdict Fault) →
+    IfErr outcome (LeavesAtFault A old new) → IfErr outcome (LeavesAtFault B old new)
+faults_as A B implied old new (Ok verdict) leaves = tt
+faults_as A B implied old new (Err fault) leaves = leaves_as A B implied old new fault leaves
+
+pub file_writes : (known remaining : Option (List ℕ)) → HasKnown known remaining → (old new : Option (List ℕ)) (outcome : Result Verdict Fault) → IfOk outcome (WritesReport remaining old new) →
+    IfOk outcome (WritesReport known old new)
+file_writes known remaining has = writes_as (IsReportOfReader remaining) (IsReportOfReader known) (report_of_known known remaining has)
+
+pub file_leaves : (known remaining : Option (List ℕ)) → HasKnown known remaining → (old new : Option (List ℕ)) (outcome : Result Verdict Fault) → IfErr outcome (LeavesFault remaining old new) →
+    IfErr outcome (LeavesFault known old new)
+file_leaves known remaining has = faults_as (IsReportOfReader remaining) (IsReportOfReader known) (report_of_known known remaining has)
+
+pub files_write : (trace traces cert certs : Option (List ℕ)) → HasKnown trace traces → HasKnown cert certs → (old new : Option (List ℕ)) (outcome : Result Verdict Fault) →
+    IfOk outcome (WritesCheckReport traces certs old new) → IfOk outcome (WritesCheckReport trace cert old new)
+files_write trace traces cert certs has has_cert = writes_as (IsCheckReportOfReaders traces certs) (IsCheckReportOfReaders trace cert) (check_of_known trace traces cert certs has has_cert)
+
+pub files_leave : (trace traces cert certs : Option (List ℕ)) → HasKnown trace traces → HasKnown cert certs → (old new : Option (List ℕ)) (outcome : Result Verdict Fault) →
+    IfErr outcome (LeavesCheckFault traces certs old new) → IfErr outcome (LeavesCheckFault trace cert old new)
+files_leave trace traces cert certs has has_cert = faults_as (IsCheckReportOfReaders traces certs) (IsCheckReportOfReaders trace cert) (check_of_known trace traces cert certs has has_cert)
+
+-- ---- files opened
+
+-- all of them are some of the first
+pub opens_all : (old new : Option (List (List ℕ))) (names : List (List ℕ)) → OpensNext old new names → OpensFirst old new names
+opens_all old new names opens = (length names, omega arith, subst (OpensNext old new) (sym (take-length names)) opens)
+
+-- ---- how a request ends
+
+pub ends_by_report : (is_report : List ℕ → Verdict → Type 0) (o : Outputs) (outcome : Result Verdict Fault) (status : ℕ) → IfOk outcome (WritesWhole is_report o.written_before o.written) →
+    IfErr outcome (LeavesAtFault is_report o.written_before o.written) → IfOk outcome (λ verdict. (status ≡ status_of verdict) × Keeps o.errors_before o.errors) →
+    IfErr outcome (λ fault. TellsFault o.errors_before o.errors fault × (status ≡ 4)) → EndsByReport is_report o status
+ends_by_report is_report o (Ok verdict) status writes leaves told faulty = inl (verdict, writes, told.1, told.0)
+ends_by_report is_report o (Err fault) status writes leaves told faulty = inr (fault, leaves, faulty)
+
+-- what was done for a request was asked for, where nothing is known of files
+pub does_asked : (request : Request) (input : Option (List ℕ)) (o : Outputs) (status : ℕ) → EndsAs request input (λ _. None) o status → EndsAsAsked (asked_of request) input o status
+does_asked (Judge None workers) input o status ends = ends
+does_asked (Judge (Some name) workers) input o status ends = ends
+does_asked (Check trace certificate) input o status ends = ends
+does_asked (Show text) input o status ends = (string_bytes text, ends)
+does_asked (Refuse text) input o status ends = (string_bytes text, ends)

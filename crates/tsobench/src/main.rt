@@ -3,34 +3,34 @@
 //! `README.md` says how it is run and what is proved of it.
 #![tactic(auto)]
 
-use driving::{drive, end_without_words};
+use driving::{drive, end_without_arguments};
 use std::process::ExitCode;
 use std::rt::Env;
 use std::{env, io};
 
 mod driving;
-mod help;
-mod requests;
+mod endings;
+mod files;
+mod serving;
 #[cfg(test)]
 mod tests;
 
 fn main(rt: HostRuntime) -> ExitCode {
     let mut errors = rt.stderr();
-    let status = match words(&rt) {
-        Ok(words) => drive(
+    let status = match arguments(&rt) {
+        Ok(arguments) => drive(
             &rt,
-            rt.alloc(),
-            &words,
+            &arguments,
             &mut rt.stdin(),
             &mut rt.stdout(),
             &mut errors,
         ),
-        Err(error) => end_without_words(error.kind(), &mut errors),
+        Err(error) => end_without_arguments(error.kind(), &mut errors),
     };
     ExitCode::from(status)
 }
 
-/// The words of the command line, behind the program's name.
-fn words(rt: &(impl Env + AllocGlobal)) -> io::Result<Vec<String>> {
+/// The arguments of the command line, after the program's name.
+fn arguments(rt: &(impl Env + AllocGlobal)) -> io::Result<Vec<String>> {
     Ok(env::args(rt)?.skip(1).collect(rt.alloc())?)
 }

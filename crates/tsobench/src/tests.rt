@@ -1,8 +1,9 @@
 mod certificates;
 mod commands;
 mod examples;
+mod requests;
 
-use crate::driving::{drive, end_without_words};
+use crate::driving::{drive, end_without_arguments};
 use std::alloc::{AllocError, Global};
 use std::io;
 use std::io::{Error, ErrorKind, Read, Write};
@@ -43,19 +44,19 @@ struct Ended {
     errors: Vec<u8>,
 }
 
-fn driven<H: Threads + Wait + Sync + Files, R: Read>(
+fn driven<H: Threads + Wait + Sync + Files + AllocGlobal, R: Read>(
     rt: &H,
     alloc: Global,
-    words: &[&str],
+    arguments: &[&str],
     reader: &mut R,
 ) -> Result<Ended, AllocError> {
     let mut owned = Vec::new(alloc);
-    for word in words {
-        owned.push(String::from_str(alloc, word)?)?;
+    for argument in arguments {
+        owned.push(String::from_str(alloc, argument)?)?;
     }
     let mut written = Vec::new(alloc);
     let mut errors = Vec::new(alloc);
-    let status = drive(rt, alloc, &owned, reader, &mut written, &mut errors);
+    let status = drive(rt, &owned, reader, &mut written, &mut errors);
     Ok(Ended {
         status,
         written,
@@ -98,19 +99,11 @@ fn faults_have_a_line(rt: HostRuntime) -> Result<(), Fail> {
     assert_eq!(rt; ended.errors.as_slice(), b"FAULT Read\n".as_slice());
     let mut reader = b"tso trace 1\nend\n".as_slice();
     let mut errors = Vec::new(alloc);
-    let status = drive(
-        &rt,
-        alloc,
-        &[],
-        &mut reader,
-        &mut FailingWriter,
-        &mut errors,
-    );
+    let status = drive(&rt, &[], &mut reader, &mut FailingWriter, &mut errors);
     assert_eq!(rt; status, 4);
     assert_eq!(rt; errors.as_slice(), b"FAULT Write\n".as_slice());
     let status = drive(
         &rt,
-        alloc,
         &[],
         &mut FailingReader,
         &mut FailingWriter,
@@ -121,12 +114,12 @@ fn faults_have_a_line(rt: HostRuntime) -> Result<(), Fail> {
 }
 
 #[test]
-fn words_that_cannot_be_had(rt: HostRuntime) -> Result<(), Fail> {
+fn arguments_that_cannot_be_had(rt: HostRuntime) -> Result<(), Fail> {
     let mut errors = Vec::new(rt.alloc());
-    let status = end_without_words(ErrorKind::InvalidData, &mut errors);
+    let status = end_without_arguments(ErrorKind::InvalidData, &mut errors);
     assert_eq!(rt; status, 2);
     assert_eq!(rt; errors.len(), 0);
-    let status = end_without_words(ErrorKind::OutOfMemory, &mut errors);
+    let status = end_without_arguments(ErrorKind::OutOfMemory, &mut errors);
     assert_eq!(rt; status, 4);
     assert_eq!(rt; errors.as_slice(), b"FAULT OutOfMemory\n".as_slice());
     Ok(())

@@ -4,7 +4,7 @@ use super::ends::{FailingReader, Full, ShortWriter, SlowReader, TornReader};
 use super::violations::{
     Case, STORE_BUFFERING_WITH_BARRIERS, TWO_SWAPS_BOTH_FIRST, UNWRITTEN_LOAD,
 };
-use crate::{Fault, Verdict, judge, read_all, write_text};
+use crate::{Fault, Verdict, check_texts, judge, read_all, write_text};
 use std::alloc::Global;
 use std::io;
 use std::io::{ErrorKind, Read};
@@ -15,6 +15,16 @@ const CASES: [Case; 3] = [
     UNWRITTEN_LOAD,
     STORE_BUFFERING_WITH_BARRIERS,
     TWO_SWAPS_BOTH_FIRST,
+];
+
+/// Kinds of errors that no call tries again.
+const FAILURES: [ErrorKind; 6] = [
+    ErrorKind::Other,
+    ErrorKind::OutOfMemory,
+    ErrorKind::WouldBlock,
+    ErrorKind::TimedOut,
+    ErrorKind::UnexpectedEof,
+    ErrorKind::BrokenPipe,
 ];
 
 const TRACE: &[u8] = b"tso trace 1\nproc\nld 1 9\nend\n";
@@ -40,7 +50,7 @@ fn slow<R: Read>(inner: R) -> SlowReader<R> {
 #[test]
 fn reader_fails(rt: HostRuntime) -> Result<(), Fail> {
     let alloc = rt.alloc();
-    for kind in [ErrorKind::Other, ErrorKind::OutOfMemory] {
+    for kind in FAILURES {
         let mut reader = FailingReader { kind, calls: 0 };
         let mut written = Vec::new(alloc);
         let fault = judge(&rt, alloc, &mut reader, &mut written, 1).err();
@@ -102,7 +112,7 @@ fn calls_of_read_at_their_limit(rt: HostRuntime) -> Result<(), Fail> {
     let mut reader = slow(io::repeat(b'x').take(1_048_576));
     let read = read_all(alloc, &mut reader, usize::MAX);
     assert_eq!(rt; read.err(), Some(Fault::Read));
-    // the byte behind the limit, at the last call that is allowed
+    // the byte after the limit, at the last call that is allowed
     let mut reader = slow(io::repeat(b'x').take(1_048_577));
     assert_eq!(rt; read_all(alloc, &mut reader, 1_048_575)?.len(), 1_048_576);
     Ok(())
@@ -133,8 +143,10 @@ fn writer_stops_short(rt: HostRuntime) -> Result<(), Fail> {
                 let mut writer = short_writer(alloc, room, full);
                 let fault = judge(&rt, alloc, &mut reader, &mut writer, 1).err();
                 assert_eq!(rt; fault, Some(Fault::Write), "{room}");
-                let front = report.as_bytes().get(..room).unwrap_or(TRACE);
-                assert_eq!(rt; writer.taken.as_slice(), front, "{room}");
+                let prefix = report.as_bytes().get(..room).unwrap_or(TRACE);
+                assert_eq!(rt; writer.taken.as_slice(), prefix, "{room}");
+                // one call fills the room, and the next one is the last
+                assert_eq!(rt; writer.calls, 1 + room.min(1), "{room}");
             }
         }
         let mut reader = trace.as_bytes();
@@ -146,15 +158,50 @@ fn writer_stops_short(rt: HostRuntime) -> Result<(), Fail> {
     Ok(())
 }
 
-/// writer_fails behind the first line
+/// writer_fails after the first line
 #[test]
-fn writer_fails_behind_the_first_line(rt: HostRuntime) -> Result<(), Fail> {
+fn writer_fails_after_the_first_line(rt: HostRuntime) -> Result<(), Fail> {
     let alloc = rt.alloc();
     let mut reader = TRACE;
     let mut writer = short_writer(alloc, 13, Full::Fails(ErrorKind::Other));
     let fault = judge(&rt, alloc, &mut reader, &mut writer, 1).err();
     assert_eq!(rt; fault, Some(Fault::Write));
     assert_eq!(rt; writer.taken.as_slice(), b"TSO REPORT 1\n".as_slice());
+    Ok(())
+}
+
+/// A failure of any other kind is a fault at once.
+#[test]
+fn writer_fails(rt: HostRuntime) -> Result<(), Fail> {
+    let alloc = rt.alloc();
+    for kind in FAILURES {
+        let mut writer = short_writer(alloc, 0, Full::Fails(kind));
+        assert_eq!(rt; write_text(&mut writer, REPORT).err(), Some(Fault::Write));
+        assert_eq!(rt; writer.calls, 1);
+    }
+    Ok(())
+}
+
+/// A reader that fails after the byte that shows a text to be too long is read that far and no further.
+#[test]
+fn reader_fails_after_the_limit(rt: HostRuntime) -> Result<(), Fail> {
+    let alloc = rt.alloc();
+    let long = vec![in alloc; b'x'; 1_048_577]?;
+    let mut torn = TornReader { rest: &long };
+    let mut written = Vec::new(alloc);
+    let verdict = judge(&rt, alloc, &mut torn, &mut written, 1)?;
+    assert_eq!(rt; verdict, Verdict::Refused);
+    assert_eq!(rt; written.as_slice(), b"REFUSED TooLong line 0\n".as_slice());
+    let mut torn = TornReader { rest: &long };
+    let mut unread = FailingReader {
+        kind: ErrorKind::Other,
+        calls: 0,
+    };
+    let mut written = Vec::new(alloc);
+    let verdict = check_texts(alloc, &mut torn, &mut unread, &mut written)?;
+    assert_eq!(rt; verdict, Verdict::Refused);
+    assert_eq!(rt; written.as_slice(), b"REFUSED TooLong line 0\n".as_slice());
+    assert_eq!(rt; unread.calls, 0);
     Ok(())
 }
 

@@ -1,7 +1,6 @@
-//! What the words of the command line lead to, with files in a folder of the test's own.
+//! What the arguments of the command line lead to, with files in a folder of the test's own.
 
 use super::{Ended, FailingReader, driven};
-use crate::help;
 use std::alloc::Global;
 use std::rt::Files;
 use std::sync::Wait;
@@ -40,22 +39,25 @@ fn folder(rt: &HostRuntime, test: &str) -> Result<String, Fail> {
     Ok(path)
 }
 
-/// What these words lead to. A word that begins with `@` names a file of the folder. Standard input fails.
-pub(super) fn ended<H: Threads + Wait + Sync + Files>(
+/// What these arguments lead to. A argument that begins with `@` names a file of the folder. Standard input fails.
+pub(super) fn ended<H: Threads + Wait + Sync + Files + AllocGlobal>(
     rt: &H,
     alloc: Global,
     folder: &str,
-    words: &[&str],
+    arguments: &[&str],
 ) -> Result<Ended, Fail> {
     let mut named = Vec::new(alloc);
-    for word in words {
-        named.push(match word.strip_prefix('@') {
+    for argument in arguments {
+        named.push(match argument.strip_prefix('@') {
             Some(file) => format!(in alloc; "{folder}/{file}")?,
-            None => String::from_str(alloc, word)?,
+            None => String::from_str(alloc, argument)?,
         })?;
     }
-    let words: Vec<&str> = named.iter().map(|word| word.as_str()).collect(alloc)?;
-    Ok(driven(rt, alloc, &words, &mut FailingReader)?)
+    let arguments: Vec<&str> = named
+        .iter()
+        .map(|argument| argument.as_str())
+        .collect(alloc)?;
+    Ok(driven(rt, alloc, &arguments, &mut FailingReader)?)
 }
 
 #[test]
@@ -90,11 +92,15 @@ fn files(rt: HostRuntime) -> Result<(), Fail> {
             "REFUSED MissingEnd line 3\n",
         ),
     ];
-    for (words, status, report) in cases {
-        let ended = ended(&rt, rt.alloc(), folder.as_str(), &words)?;
-        assert_eq!(rt; ended.status, status, "{words:?}");
-        assert_eq!(rt; ended.written.as_slice(), report.as_bytes(), "{words:?}");
-        assert_eq!(rt; ended.errors.len(), 0, "{words:?}");
+    for (arguments, status, report) in cases {
+        let ended = ended(&rt, rt.alloc(), folder.as_str(), &arguments)?;
+        assert_eq!(rt; ended.status, status, "{arguments:?}");
+        assert_eq!(rt;
+            ended.written.as_slice(),
+            report.as_bytes(),
+            "{arguments:?}"
+        );
+        assert_eq!(rt; ended.errors.len(), 0, "{arguments:?}");
     }
     fs::remove_dir_all(&rt, folder.as_str())?;
     Ok(())
@@ -113,14 +119,14 @@ fn files_that_cannot_be_read(rt: HostRuntime) -> Result<(), Fail> {
         &["check", "@torn", "@none"],
         &["check", "@trace", "@"],
     ];
-    for words in cases {
-        let ended = ended(&rt, rt.alloc(), folder.as_str(), words)?;
-        assert_eq!(rt; ended.status, 4, "{words:?}");
-        assert_eq!(rt; ended.written.len(), 0, "{words:?}");
+    for arguments in cases {
+        let ended = ended(&rt, rt.alloc(), folder.as_str(), arguments)?;
+        assert_eq!(rt; ended.status, 4, "{arguments:?}");
+        assert_eq!(rt; ended.written.len(), 0, "{arguments:?}");
         assert_eq!(rt;
             ended.errors.as_slice(),
             b"FAULT Read\n".as_slice(),
-            "{words:?}"
+            "{arguments:?}"
         );
     }
     fs::remove_dir_all(&rt, folder.as_str())?;
@@ -128,7 +134,7 @@ fn files_that_cannot_be_read(rt: HostRuntime) -> Result<(), Fail> {
 }
 
 #[test]
-fn words_that_are_refused(rt: HostRuntime) -> Result<(), Fail> {
+fn arguments_that_are_refused(rt: HostRuntime) -> Result<(), Fail> {
     let cases: [(&[&str], &str); 5] = [
         (
             &["seek"],
@@ -151,42 +157,28 @@ fn words_that_are_refused(rt: HostRuntime) -> Result<(), Fail> {
             "error: the following required arguments were not provided:\n  <CERT>\n\nUsage: tsobench check <TRACE> <CERT>\n\nFor more information, try '--help'.\n",
         ),
     ];
-    for (words, text) in cases {
-        let ended = ended(&rt, rt.alloc(), "", words)?;
-        assert_eq!(rt; ended.status, 2, "{words:?}");
-        assert_eq!(rt; ended.written.len(), 0, "{words:?}");
-        assert_eq!(rt; ended.errors.as_slice(), text.as_bytes(), "{words:?}");
+    for (arguments, text) in cases {
+        let ended = ended(&rt, rt.alloc(), "", arguments)?;
+        assert_eq!(rt; ended.status, 2, "{arguments:?}");
+        assert_eq!(rt; ended.written.len(), 0, "{arguments:?}");
+        assert_eq!(rt; ended.errors.as_slice(), text.as_bytes(), "{arguments:?}");
     }
     Ok(())
 }
 
 #[test]
-fn help_is_printed(rt: HostRuntime) -> Result<(), Fail> {
+fn help_and_version_are_printed(rt: HostRuntime) -> Result<(), Fail> {
     let alloc = rt.alloc();
-    let cases: [(&[&str], &str, &str); 4] = [
-        (
-            &["--help"],
-            "Judges traces of multiprocessor memory operations against Total Store Order (TSO)\n\nUsage: tsobench [COMMAND]\n\nCommands:\n  judge  Judges a trace and prints its report\n  check  Checks a certificate of a violation against its trace\n  help   Print this message or the help of the given subcommand(s)\n\nOptions:\n  -h, --help  Print help\n\n",
-            help::PROGRAM,
-        ),
-        (&["judge", "--help"], JUDGE, help::JUDGE),
-        (&["help", "judge"], JUDGE, help::JUDGE),
-        (
-            &["check", "-h"],
-            "Checks a certificate of a violation against its trace\n\nUsage: tsobench check <TRACE> <CERT>\n\nArguments:\n  <TRACE>  The text of a trace\n  <CERT>   The text of a certificate\n\nOptions:\n  -h, --help  Print help\n\n",
-            help::CHECK,
-        ),
-    ];
-    for (words, front, behind) in cases {
-        let ended = ended(&rt, rt.alloc(), "", words)?;
-        let text = format!(in alloc; "{front}{behind}\n")?;
-        assert_eq!(rt; ended.status, 0, "{words:?}");
-        assert_eq!(rt; ended.written.as_slice(), text.as_bytes(), "{words:?}");
-        assert_eq!(rt; ended.errors.len(), 0, "{words:?}");
-    }
+    let version = ended(&rt, alloc, "", &["--version"])?;
+    assert_eq!(rt; version.status, 0);
+    assert_eq!(rt; version.written.as_slice(), b"tsobench 0.1.0\n".as_slice());
+    assert_eq!(rt; version.errors.len(), 0);
+    let help = ended(&rt, alloc, "", &["judge", "--help"])?;
+    assert_eq!(rt; help.status, 0);
+    assert!(rt;
+        help.written
+            .starts_with(b"Judges a trace and prints its report\n\nUsage: ")
+    );
+    assert_eq!(rt; help.errors.len(), 0);
     Ok(())
 }
-
-/// The front of the help of `judge`.
-const JUDGE: &str =
-    "Judges a trace and prints its report\n\nUsage: tsobench judge [OPTIONS] [FILE]\n\nArguments:\n  [FILE]  The text of a trace; standard input where none is named\n\nOptions:\n      --workers <N>  How many workers judge, 1 to 64 [default: 1]\n  -h, --help         Print help\n\n";

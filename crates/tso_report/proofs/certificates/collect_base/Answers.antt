@@ -1,7 +1,7 @@
 use Rattle.std.proofs.Common.{◌≡◌, ◌-◌, suc, reverse, subst, ◌∙◌, arith}
 use Rattle.std.proofs.lemmas.Bool.{both_ways}
 use Rattle.order_graph.specs.Digraphs.{IsEdge}
-use Rattle.tso_report.specs.Collecting.{Collects, IsAboveOrBase}
+use Rattle.tso_report.specs.Internal.Collecting.{Collects, IsAboveOrBase}
 use Rattle.tso_report.proofs.RoundSteps.{base_start, row_pass}
 use Rattle.tso_report.proofs.certificates.collect_base.Goals as goal
 

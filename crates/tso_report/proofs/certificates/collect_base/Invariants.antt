@@ -1,6 +1,6 @@
 use Rattle.std.proofs.Common.{List, ℕ, reverse}
 use Rattle.order_graph.specs.Digraphs.{IsEdge}
-use Rattle.tso_report.specs.Collecting.{Collects, IsAbove, IsAboveOrBase}
+use Rattle.tso_report.specs.Internal.Collecting.{Collects, IsAbove, IsAboveOrBase}
 use Rattle.tso_report.proofs.certificates.collect_base.Given as goal
 
 abbrev pub invariant-loop-u : goal.invariant-loop-u

@@ -1,7 +1,7 @@
 use Rattle.std.proofs.Common.{◌≡◌, ◌+◌, ◌-◌, reverse, subst, ◌∙◌, arith}
 use Rattle.std.proofs.lemmas.Bool.{both_ways}
 use Rattle.order_graph.specs.Digraphs.{IsEdge}
-use Rattle.tso_report.specs.Collecting.{Collects, IsAboveOrBase}
+use Rattle.tso_report.specs.Internal.Collecting.{Collects, IsAboveOrBase}
 use Rattle.tso_report.proofs.RoundSteps.{row_start, base_step, base_pass}
 use Rattle.tso_report.proofs.certificates.collect_base_row.Goals as goal
 

@@ -1,6 +1,6 @@
 use Rattle.std.proofs.Common.{List, ℕ, suc, reverse}
 use Rattle.order_graph.specs.Digraphs.{IsEdge}
-use Rattle.tso_report.specs.Collecting.{Collects, IsAboveOrBase}
+use Rattle.tso_report.specs.Internal.Collecting.{Collects, IsAboveOrBase}
 use Rattle.tso_report.proofs.certificates.collect_base_row.Given as goal
 
 abbrev pub invariant-loop-v : goal.invariant-loop-v

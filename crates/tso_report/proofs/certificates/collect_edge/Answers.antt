@@ -1,6 +1,6 @@
 use Rattle.std.proofs.Common.{sym, subst}
 use Rattle.order_graph.specs.Digraphs.{IsEdge}
-use Rattle.tso_report.specs.Collecting.{IsReasonBelow}
+use Rattle.tso_report.specs.Internal.Collecting.{IsReasonBelow}
 use Rattle.tso_report.proofs.Neighbours.{reason_below}
 use Rattle.tso_report.proofs.certificates.collect_edge.Goals as goal
 

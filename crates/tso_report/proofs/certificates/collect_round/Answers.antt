@@ -2,7 +2,7 @@ use Rattle.std.proofs.Common.{◌≡◌, ◌+◌, ◌-◌, ◌<◌, suc, [], len
 use Rattle.std.proofs.lemmas.List.{get_or_default}
 use Rattle.order_graph.specs.Digraphs.{IsEdge}
 use Rattle.round_pool.specs.Rankings.{edge_from, IsRound, rounds_of}
-use Rattle.tso_report.specs.Collecting.{Collects, IsAboveOrListed}
+use Rattle.tso_report.specs.Internal.Collecting.{Collects, IsAboveOrListed}
 use Rattle.tso_report.proofs.RoundSteps.{edge_at, round_given, round_within, round_start, round_step, round_done, collects_nodes}
 use Rattle.tso_report.proofs.certificates.collect_round.Goals as goal
 

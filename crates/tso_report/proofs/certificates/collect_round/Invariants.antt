@@ -1,7 +1,7 @@
 use Rattle.std.proofs.Common.{◌≡◌, List, ℕ, suc, reverse}
 use Rattle.order_graph.specs.Digraphs.{IsEdge}
 use Rattle.round_pool.specs.Rankings.{rounds_of}
-use Rattle.tso_report.specs.Collecting.{Collects, IsAbove, IsAboveOrListed}
+use Rattle.tso_report.specs.Internal.Collecting.{Collects, IsAbove, IsAboveOrListed}
 use Rattle.tso_report.proofs.certificates.collect_round.Given as goal
 
 abbrev pub invariant-loop-i : goal.invariant-loop-i

@@ -5,7 +5,7 @@ use Rattle.tso_model.specs.Ranks.{F}
 use Rattle.tso_model.proofs.Bounds.{F-within}
 use Rattle.round_pool.specs.RankGraphs.{IsRankGraph}
 use Rattle.round_pool.specs.Rankings.{IsRound, rounds_of}
-use Rattle.tso_report.specs.Collecting.{Collects, IsAbove}
+use Rattle.tso_report.specs.Internal.Collecting.{Collects, IsAbove}
 use Rattle.tso_report.proofs.CollectFacts.{Collects-end}
 use Rattle.tso_report.proofs.Neighbours.{cycle_below}
 use Rattle.tso_report.proofs.RoundSteps.{rank_graph_as, rank_graph_less, round_within, first_steps, all_done}

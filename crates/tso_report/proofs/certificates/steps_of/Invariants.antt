@@ -3,7 +3,7 @@ use Rattle.order_graph.specs.Digraphs.{IsEdge}
 use Rattle.tso_ops.specs.Events.{event_total}
 use Rattle.round_pool.specs.RankGraphs.{IsRankGraph}
 use Rattle.round_pool.specs.Rankings.{rounds_of}
-use Rattle.tso_report.specs.Collecting.{Collects, IsAbove}
+use Rattle.tso_report.specs.Internal.Collecting.{Collects, IsAbove}
 use Rattle.tso_report.proofs.certificates.steps_of.Given as goal
 
 abbrev pub invariant-loop-r : goal.invariant-loop-r

@@ -1,22 +1,24 @@
-use Rattle.tsobench.proofs.EndFacts.{ends_by_check, ends_by_file, ends_by_reader}
+use Rattle.std.proofs.Common.{inl, subst}
+use Rattle.command_line.specs.Requests.{Asked, asked_of, refusing, showing}
+use Rattle.tsobench.specs.Endings.{Does, Outputs, outputs}
+use Rattle.tsobench.proofs.EndFacts.{does_asked}
+use Rattle.tsobench.proofs.driving.drive.Given as given
 use Rattle.tsobench.proofs.driving.drive.Goals as goal
 
-pub returns-then-is_empty-clause-ends : goal.returns-then-is_empty-clause-ends
-returns-then-is_empty-clause-ends g c =
-    ends_by_reader (g.R.Read.remaining c.args.reader.now) _ _ c.judge.result _ _ c.judge.ensures.report c.judge.ensures.fault c.end.ensures.verdict c.end.ensures.fault
+pub returns-in-Ok-clause-asked : goal.returns-in-Ok-clause-asked
+returns-in-Ok-clause-asked g c = λ asked asks.
+    let o : Outputs = outputs (g.W.Write.contents c.args.writer.now) (g.W.Write.contents c.serve.new.writer) (g.E.Write.contents c.args.errors.now) (g.E.Write.contents c.serve.new.errors) in
+    subst (λ a. Does a (g.R.Read.remaining c.args.reader.now) o c.serve.result) (c.in-Ok.ensures.plain asked asks) (inl (does_asked c.in-Ok.request _ o _ c.serve.ensures.ends))
 
-pub returns-in-Ok-Judge-None-default-clause-ends : goal.returns-in-Ok-Judge-None-default-clause-ends
-returns-in-Ok-Judge-None-default-clause-ends g c =
-    let judged = c.judge-in-Ok-Judge-None-default in
-    let ended = c.end-in-Ok-Judge-None-default in
-    ends_by_reader (g.R.Read.remaining c.args.reader.now) _ _ judged.result _ _ judged.ensures.report judged.ensures.fault ended.ensures.verdict ended.ensures.fault
+pub returns-in-Ok-clause-helped : goal.returns-in-Ok-clause-helped
+returns-in-Ok-clause-helped g c = λ asks.
+    let o : Outputs = outputs (g.W.Write.contents c.args.writer.now) (g.W.Write.contents c.serve.new.writer) (g.E.Write.contents c.args.errors.now) (g.E.Write.contents c.serve.new.errors) in
+    subst (λ a. Does a (g.R.Read.remaining c.args.reader.now) o c.serve.result) (c.in-Ok.ensures.helped asks) (inl (does_asked c.in-Ok.request _ o _ c.serve.ensures.ends))
 
-pub returns-in-Ok-Judge-Some-default-clause-ends : goal.returns-in-Ok-Judge-Some-default-clause-ends
-returns-in-Ok-Judge-Some-default-clause-ends g c =
-    let ended = c.end-in-Ok-Judge-Some-default in
-    ends_by_file _ _ c.judge_file.result _ _ c.judge_file.ensures.report c.judge_file.ensures.fault ended.ensures.verdict ended.ensures.fault
+pub returns-in-Ok-clause-refused : goal.returns-in-Ok-clause-refused
+returns-in-Ok-clause-refused g c = λ asks.
+    let o : Outputs = outputs (g.W.Write.contents c.args.writer.now) (g.W.Write.contents c.serve.new.writer) (g.E.Write.contents c.args.errors.now) (g.E.Write.contents c.serve.new.errors) in
+    subst (λ a. Does a (g.R.Read.remaining c.args.reader.now) o c.serve.result) (c.in-Ok.ensures.refused asks) (inl (does_asked c.in-Ok.request _ o _ c.serve.ensures.ends))
 
-pub returns-in-Ok-Check-clause-ends : goal.returns-in-Ok-Check-clause-ends
-returns-in-Ok-Check-clause-ends g c =
-    let ended = c.end-in-Ok-Check in
-    ends_by_check _ _ c.check_files.result _ _ c.check_files.ensures.report c.check_files.ensures.fault ended.ensures.verdict ended.ensures.fault
+pub returns-in-Ok-clause-ends : goal.returns-in-Ok-clause-ends
+returns-in-Ok-clause-ends g c = (asked_of c.in-Ok.request, inl (does_asked c.in-Ok.request _ _ _ c.serve.ensures.ends))

@@ -1,0 +1,15 @@
+-- The limits on what is read.
+use Rattle.std.specs.Prelude.{ℕ, suc}
+use Rattle.tso_text.specs.Spelling.{text_byte_limit}
+
+-- how many bytes of a trace's text are read at most: one past the limit shows that it is too long
+abbrev pub trace_read_limit : ℕ
+trace_read_limit = suc text_byte_limit
+
+-- the greatest number of bytes of a certificate's text
+abbrev pub certificate_byte_limit : ℕ
+certificate_byte_limit = 67108864
+
+-- how many bytes of it are read at most
+abbrev pub certificate_read_limit : ℕ
+certificate_read_limit = suc certificate_byte_limit

@@ -1,0 +1,82 @@
+//! The texts of reports on certificates.
+ghost use Rattle.std.specs.Prelude.{◌≡◌, ◌≢◌, IfOk, string_bytes};
+ghost use Rattle.tso_cert.specs.declared.faults.Why.{Why};
+ghost use Rattle.tso_report.specs.Checks.{IsCertReport, fails_text, certificate_refusal_name, unread_text};
+
+use crate::rendering::Report;
+use crate::verdicts::Verdict;
+use cert_check::{CertFault, check};
+use std::alloc::Global;
+use tso_cert::{TextFault, Why, read_cert};
+use tso_ops::{OutOfMemory, Trace};
+
+/// The report of a certificate's text on a trace, or OutOfMemory where an allocation was refused.
+pub(crate) fn render_check(
+    alloc: Global,
+    trace: &Trace,
+    input: &[u8],
+) -> Result<Report, OutOfMemory>
+    ensures { IfOk result (λ report. IsCertReport trace.now input.now (string_bytes report.text) report.verdict) }
+{
+    match read_cert(alloc, input) {
+        Ok(certificate) => match check(trace, &certificate) {
+            Ok(()) => Ok(Report {
+                verdict: Verdict::Violation,
+                text: String::from_str(alloc, "CERTIFICATE HOLDS\n")?,
+            }),
+            Err(fault) => Ok(Report {
+                verdict: Verdict::Refused,
+                text: fails_text(alloc, fault)?,
+            }),
+        },
+        Err(fault) if fault.why == Why::OutOfMemory => Err(OutOfMemory),
+        Err(fault) => Ok(Report {
+            verdict: Verdict::Refused,
+            text: unread_text(alloc, fault)?,
+        }),
+    }
+}
+
+/// The line of a refused text of a certificate.
+fn unread_text(alloc: Global, fault: TextFault) -> Result<String, OutOfMemory>
+    ensures { IfOk result (λ text. string_bytes text ≡ unread_text fault.line fault.why) }
+{
+    let name = certificate_refusal_name(fault.why);
+    let line = fault.line;
+    format!(in alloc; "CERTIFICATE REFUSED {name} line {line}\n")
+}
+
+/// The name of a refusal of a certificate's text.
+fn certificate_refusal_name(why: Why) -> &'static str
+    ensures { result.now ≡ certificate_refusal_name why }
+{
+    match why {
+        Why::BadLine => "BadLine",
+        Why::BadNumber => "BadNumber",
+        Why::BadRule => "BadRule",
+        Why::NoCycle => "NoCycle",
+        Why::AfterCycle => "AfterCycle",
+        Why::OutOfMemory => "OutOfMemory",
+    }
+}
+
+/// The line of a certificate that doesn't hold.
+fn fails_text(alloc: Global, fault: CertFault) -> Result<String, OutOfMemory>
+    ensures { IfOk result (λ text. string_bytes text ≡ fails_text fault) }
+{
+    match fault {
+        CertFault::EventRange => String::from_str(alloc, "CERTIFICATE REFUSED EventRange\n"),
+        CertFault::NotUnwritten => String::from_str(alloc, "CERTIFICATE REFUSED NotUnwritten\n"),
+        CertFault::BaseRefused(step) => {
+            format!(in alloc; "CERTIFICATE REFUSED BaseRefused step {step}\n")
+        },
+        CertFault::SideRefused(step) => {
+            format!(in alloc; "CERTIFICATE REFUSED SideRefused step {step}\n")
+        },
+        CertFault::PathUnlisted(step) => {
+            format!(in alloc; "CERTIFICATE REFUSED PathUnlisted step {step}\n")
+        },
+        CertFault::CycleUnlisted => String::from_str(alloc, "CERTIFICATE REFUSED CycleUnlisted\n"),
+        CertFault::EmptyCycle => String::from_str(alloc, "CERTIFICATE REFUSED EmptyCycle\n"),
+    }
+}

@@ -1,0 +1,111 @@
+//! The texts of reports on traces.
+ghost use Rattle.std.specs.Prelude.{◌≡◌, ◌≢◌, string_bytes, IfOk};
+ghost use Rattle.tso_text.specs.declared.faults.Why.{Why};
+ghost use Rattle.tso_report.specs.declared.verdicts.Verdict.{Verdict};
+ghost use Rattle.tso_report.specs.Findings.{IsFinding};
+ghost use Rattle.tso_report.specs.Reports.{IsTraceReport, head_text, refusal_name, refusal_text};
+
+use crate::findings::Finding;
+use crate::verdicts::Verdict;
+use std::alloc::Global;
+use std::fmt::Write;
+use tso_cert::print_cert;
+use tso_ops::{OutOfMemory, Trace};
+use tso_text::{TextFault, Why};
+
+/// A whole report, and the verdict that it says.
+#[derive(Drop)]
+pub struct Report {
+    /// What the text says.
+    pub verdict: Verdict,
+    /// The lines, each of which ends with a line feed.
+    pub text: String,
+}
+
+/// The report of a trace, of which this was found. OutOfMemory where an allocation was refused.
+pub fn render_trace(alloc: Global, trace: &Trace, finding: &Finding) -> Result<Report, OutOfMemory>
+    requires { IsFinding trace.now finding.now }
+    ensures { IfOk result (λ report. IsTraceReport trace.now (string_bytes report.text) report.verdict) }
+{
+    let mut text = head_text(alloc, trace.processors(), trace.events(), finding.rounds)?;
+    match &finding.certificate {
+        Some(certificate) => {
+            let lines = print_cert(alloc, certificate)?;
+            text.push_str("VIOLATION\n")?;
+            text.push_str(&lines)?;
+            Ok(Report {
+                verdict: Verdict::Violation,
+                text,
+            })
+        }
+        None => {
+            text.push_str("NO VIOLATION FOUND\n")?;
+            Ok(Report {
+                verdict: Verdict::NoViolation,
+                text,
+            })
+        }
+    }
+}
+
+/// The report of an input that is no trace. OutOfMemory where an allocation was refused, also where the fault says
+/// that one of its reader was.
+pub(crate) fn render_refusal(alloc: Global, fault: TextFault) -> Result<Report, OutOfMemory>
+    ensures refused { IfOk result (λ report. fault.why ≢ Why.OutOfMemory × (string_bytes report.text ≡ refusal_text fault.line fault.why) × (report.verdict ≡ Verdict.Refused)) }
+{
+    if fault.why == Why::OutOfMemory {
+        return Err(OutOfMemory);
+    }
+    Ok(Report {
+        verdict: Verdict::Refused,
+        text: refusal_text(alloc, fault)?,
+    })
+}
+
+/// The first two lines of a report on a trace.
+fn head_text(
+    alloc: Global,
+    processors: usize,
+    events: usize,
+    rounds: u64,
+) -> Result<String, OutOfMemory>
+    ensures { IfOk result (λ text. string_bytes text ≡ head_text processors events rounds) }
+{
+    let mut text = String::from_str(alloc, "TSO REPORT 1\n")?;
+    writeln!(
+        text,
+        "processors {processors} events {events} rounds {rounds}"
+    )?;
+    Ok(text)
+}
+
+/// The line of a refusal.
+fn refusal_text(alloc: Global, fault: TextFault) -> Result<String, OutOfMemory>
+    ensures { IfOk result (λ text. string_bytes text ≡ refusal_text fault.line fault.why) }
+{
+    let name = refusal_name(fault.why);
+    let line = fault.line;
+    format!(in alloc; "REFUSED {name} line {line}\n")
+}
+
+/// The name of a refusal.
+fn refusal_name(why: Why) -> &'static str
+    ensures { result.now ≡ refusal_name why }
+{
+    match why {
+        Why::BadHeader => "BadHeader",
+        Why::BadLine => "BadLine",
+        Why::BadNumber => "BadNumber",
+        Why::BeforeProc => "BeforeProc",
+        Why::TooManyProcessors => "TooManyProcessors",
+        Why::TooManyEvents => "TooManyEvents",
+        Why::AddressRange => "AddressRange",
+        Why::ZeroValue => "ZeroValue",
+        Why::RepeatedValue => "RepeatedValue",
+        Why::MissingEnd => "MissingEnd",
+        Why::AfterEnd => "AfterEnd",
+        Why::TooLong => "TooLong",
+        Why::ProcessorRange => "ProcessorRange",
+        Why::OutOfMemory => "OutOfMemory",
+    }
+}

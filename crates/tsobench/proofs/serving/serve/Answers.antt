@@ -1,0 +1,14 @@
+use Rattle.tso_report.specs.Written.{IsCheckReportOfReaders, IsReportOfReader}
+use Rattle.tsobench.specs.Endings.{Outputs, judged_bytes, outputs}
+use Rattle.tsobench.specs.Named.{list_of, name_in}
+use Rattle.tsobench.proofs.EndFacts.{ends_by_report, opens_all}
+use Rattle.tsobench.proofs.serving.serve.Goals as goal
+
+pub returns-in-Judge-clause-ends : goal.returns-in-Judge-clause-ends
+returns-in-Judge-clause-ends g c =
+    let o : Outputs = outputs (g.W.Write.contents c.args.writer.now) (g.W.Write.contents c.judge_named.new.writer) (g.E.Write.contents c.args.errors.now) (g.E.Write.contents c.end.new.errors) in
+    let remaining = judged_bytes (name_in c.in-Judge.file) (g.R.Read.remaining c.args.reader.now) (g.O.NamedFiles.bytes c.args.files.now) in
+    rw c.in-Judge.is (ends_by_report (IsReportOfReader remaining) o c.judge_named.result c.end.result c.judge_named.ensures.report c.judge_named.ensures.fault c.end.ensures.verdict c.end.ensures.fault)
+
+pub returns-in-Judge-clause-first : goal.returns-in-Judge-clause-first
+returns-in-Judge-clause-first g c = rw c.in-Judge.is (opens_all _ _ (list_of (name_in c.in-Judge.file)) c.judge_named.ensures.opened)

@@ -1,0 +1,103 @@
+-- How the program ends: what it has written to its output and to its errors, and its status.
+use Rattle.std.specs.Prelude.{◌≡◌, ◌⊎◌, ℕ, List, [], ◌∷◌, ◌++◌, codes, string_bytes, Option, Some, None}
+use Rattle.std.specs.Io.KnownBytes.{Appends, Keeps}
+use Rattle.tso_report.specs.declared.verdicts.Verdict.{Verdict}
+use Rattle.tso_report.specs.declared.verdicts.Verdict.TheVariants.{NoViolation, Violation, Refused}
+use Rattle.tso_report.specs.declared.faults.Fault.{Fault}
+use Rattle.tso_report.specs.declared.faults.Fault.TheVariants.{OutOfMemory, Read, Write, NoThread, Missing}
+use Rattle.tso_report.specs.Streams.{AppendsPrefix}
+use Rattle.tso_report.specs.Written.{IsCheckReportOfReaders, IsReportOfReader, LeavesAtFault, WritesWhole}
+use Rattle.tsobench.specs.Named.{name_in}
+use Rattle.command_line.specs.declared.requests.Request.{Request}
+use Rattle.command_line.specs.declared.requests.Request.TheVariants.{Judge, Check, Show, Refuse}
+use Rattle.command_line.specs.Requests.{Asked, judging, checking, showing, refusing}
+
+-- ---- statuses and the lines of faults
+
+abbrev pub status_of : Verdict → ℕ
+status_of NoViolation = 0
+status_of Refused = 2
+status_of Violation = 3
+
+-- the line that names a fault
+abbrev pub fault_line : List ℕ → List ℕ
+fault_line name = codes "FAULT " ++ name ++ 10 ∷ []
+
+-- Known errors grow by the fault's line, or by a prefix of it where their writer failed. No request ends by a missing seed.
+abbrev pub TellsFault : Option (List ℕ) → Option (List ℕ) → Fault → Type 0
+TellsFault before errors OutOfMemory = AppendsPrefix before errors (fault_line (codes "OutOfMemory"))
+TellsFault before errors Read = AppendsPrefix before errors (fault_line (codes "Read"))
+TellsFault before errors Write = AppendsPrefix before errors (fault_line (codes "Write"))
+TellsFault before errors NoThread = AppendsPrefix before errors (fault_line (codes "NoThread"))
+TellsFault before errors (Missing seed) = Unit {0}
+
+-- ---- what was written, and the status
+
+-- what the output and the errors held before, and what they hold at the end, where this is known
+pub record Outputs : Type 0 where
+  pub written_before : Option (List ℕ)
+  pub written : Option (List ℕ)
+  pub errors_before : Option (List ℕ)
+  pub errors : Option (List ℕ)
+
+abbrev pub outputs : Option (List ℕ) → Option (List ℕ) → Option (List ℕ) → Option (List ℕ) → Outputs
+outputs written_before written errors_before errors = record { written_before = written_before; written = written; errors_before = errors_before; errors = errors }
+
+-- The fault's line was written to the errors, and the status is 4.
+abbrev pub EndsByFault : Fault → Outputs → ℕ → Type 0
+EndsByFault fault o status = TellsFault o.errors_before o.errors fault × (status ≡ 4)
+
+-- The output grows by the report and the errors by nothing, and the status is that of the report's verdict; or a fault left nothing or, on
+-- Write, a prefix of the report.
+abbrev pub EndsByReport : (List ℕ → Verdict → Type 0) → Outputs → ℕ → Type 0
+EndsByReport is_report o status =
+    ((verdict : Verdict) × WritesWhole is_report o.written_before o.written verdict × Keeps o.errors_before o.errors × (status ≡ status_of verdict))
+    ⊎ ((fault : Fault) × LeavesAtFault is_report o.written_before o.written fault × EndsByFault fault o status)
+
+-- the report of a trace, of which a reader has these bytes
+abbrev pub EndsJudged : Option (List ℕ) → Outputs → ℕ → Type 0
+EndsJudged remaining o status = EndsByReport (IsReportOfReader remaining) o status
+
+-- the report of a certificate, of which and of whose trace readers have these bytes
+abbrev pub EndsChecked : Option (List ℕ) → Option (List ℕ) → Outputs → ℕ → Type 0
+EndsChecked traces certs o status = EndsByReport (IsCheckReportOfReaders traces certs) o status
+
+-- The output grows by the text and the errors by nothing, and the status is 0; or the fault Write left a prefix of the text.
+abbrev pub EndsShowing : List ℕ → Outputs → ℕ → Type 0
+EndsShowing text o status =
+    (Appends o.written_before o.written text × Keeps o.errors_before o.errors × (status ≡ 0))
+    ⊎ (AppendsPrefix o.written_before o.written text × EndsByFault Write o status)
+
+-- The errors grow by the text, or by a prefix of it where their writer failed, and the output by nothing; and the status is 2.
+abbrev pub EndsRefusing : List ℕ → Outputs → ℕ → Type 0
+EndsRefusing text o status = Keeps o.written_before o.written × AppendsPrefix o.errors_before o.errors text × (status ≡ 2)
+
+-- memory ran out before anything was written to the output
+abbrev pub EndsOutOfMemory : Outputs → ℕ → Type 0
+EndsOutOfMemory o status = Keeps o.written_before o.written × EndsByFault OutOfMemory o status
+
+-- ---- what requests and arguments lead to
+
+-- the bytes that are judged: those of the file that is named, else those of standard input
+abbrev pub judged_bytes : Option (List ℕ) → Option (List ℕ) → (List ℕ → Option (List ℕ)) → Option (List ℕ)
+judged_bytes None input files = input
+judged_bytes (Some name) input files = files name
+
+-- Each request ends in its own way, where standard input has these bytes, and the file of each name those.
+abbrev pub EndsAs : Request → Option (List ℕ) → (List ℕ → Option (List ℕ)) → Outputs → ℕ → Type 0
+EndsAs (Judge file workers) input files o status = EndsJudged (judged_bytes (name_in file) input files) o status
+EndsAs (Check trace certificate) input files o status = EndsChecked (files trace.now) (files certificate.now) o status
+EndsAs (Show text) input files o status = EndsShowing (string_bytes text) o status
+EndsAs (Refuse text) input files o status = EndsRefusing (string_bytes text) o status
+
+-- What was asked for was done, where standard input has these bytes. What files have isn't known, nor which text is shown or refuses.
+abbrev pub EndsAsAsked : Asked → Option (List ℕ) → Outputs → ℕ → Type 0
+EndsAsAsked (judging None workers) input o status = EndsJudged input o status
+EndsAsAsked (judging (Some name) workers) input o status = EndsJudged None o status
+EndsAsAsked (checking trace certificate) input o status = EndsChecked None None o status
+EndsAsAsked showing input o status = (text : List ℕ) × EndsShowing text o status
+EndsAsAsked refusing input o status = (text : List ℕ) × EndsRefusing text o status
+
+-- so it was, or memory ran out while the arguments were read
+abbrev pub Does : Asked → Option (List ℕ) → Outputs → ℕ → Type 0
+Does asked input o status = EndsAsAsked asked input o status ⊎ EndsOutOfMemory o status

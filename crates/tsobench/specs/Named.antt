@@ -1,0 +1,40 @@
+-- Files that are opened by their names, as far as they are known.
+use Rattle.std.specs.Prelude.{◌≡◌, ℕ, Bool, true, false, ◌≤◌, List, [], ◌∷◌, ◌++◌, length, take, option_map, Option, Some, None, IfSome}
+use Rattle.std.specs.Borrow.{Bor}
+use Rattle.command_line.specs.Requests.{Asked, judging, checking, showing, refusing}
+
+-- an opened file has the bytes that are known of its name
+abbrev pub HasKnown : Option (List ℕ) → Option (List ℕ) → Type 0
+HasKnown known remaining = IfSome known (λ all. remaining ≡ Some all)
+
+-- standard input is read
+abbrev pub reads_input : Asked → Bool
+reads_input (judging None workers) = true
+reads_input (judging (Some name) workers) = false
+reads_input (checking trace certificate) = false
+reads_input showing = false
+reads_input refusing = false
+
+-- the known names of the files opened so far grow by these
+abbrev pub OpensNext : Option (List (List ℕ)) → Option (List (List ℕ)) → List (List ℕ) → Type 0
+OpensNext old new names = IfSome old (λ before. new ≡ Some (before ++ names))
+
+-- the text of the name, where there is one
+abbrev pub name_in : Option (Bor (List ℕ)) → Option (List ℕ)
+name_in file = option_map (λ f. f.now) file
+
+-- the one name, or none
+abbrev pub list_of : Option (List ℕ) → List (List ℕ)
+list_of None = []
+list_of (Some name) = name ∷ []
+
+-- the files that are named, in their order
+abbrev pub files_named : Asked → List (List ℕ)
+files_named (judging file workers) = list_of file
+files_named (checking trace certificate) = trace ∷ certificate ∷ []
+files_named showing = []
+files_named refusing = []
+
+-- the known names of the files opened so far grow by some of the first of these
+abbrev pub OpensFirst : Option (List (List ℕ)) → Option (List (List ℕ)) → List (List ℕ) → Type 0
+OpensFirst old new names = (n : ℕ) × (n ≤ length names) × OpensNext old new (take n names)

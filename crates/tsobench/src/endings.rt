@@ -1,0 +1,56 @@
+//! Statuses, and the lines of faults.
+ghost use Rattle.std.specs.Prelude.{◌≡◌, IfOk, IfErr};
+ghost use Rattle.std.specs.Io.KnownBytes.{Keeps};
+ghost use Rattle.tsobench.specs.Endings.{TellsFault, status_of};
+
+use std::io::Write;
+use tso_report::{Fault, Verdict, write_text};
+
+/// The status of a trace in which no violation was found, and of a text that was asked for.
+pub(crate) const DONE: u8 = 0;
+
+/// The status of what was refused: a text, a certificate, or the arguments.
+pub(crate) const REFUSED: u8 = 2;
+
+/// The status of a violation, and of a certificate that holds.
+const VIOLATION: u8 = 3;
+
+/// The status of a fault.
+const FAULT: u8 = 4;
+
+/// The status of a verdict; or that of a fault, whose line it writes.
+pub(crate) fn end<E: Write>(outcome: Result<Verdict, Fault>, errors: &mut E) -> u8
+    ensures verdict { IfOk outcome (λ verdict. (result ≡ status_of verdict) × Keeps (E.contents errors.old) (E.contents errors.new)) }
+    ensures fault { IfErr outcome (λ fault. TellsFault (E.contents errors.old) (E.contents errors.new) fault × (result ≡ 4)) }
+{
+    match outcome {
+        Ok(verdict) => status_of(verdict),
+        Err(fault) => end_by(fault, errors),
+    }
+}
+
+/// The status of a fault, whose line it writes. Nothing can be done where that line can't be written.
+pub(crate) fn end_by<E: Write>(fault: Fault, errors: &mut E) -> u8
+    ensures told { TellsFault (E.contents errors.old) (E.contents errors.new) fault }
+    ensures status { result ≡ 4 }
+{
+    let _ = match fault {
+        Fault::OutOfMemory => write_text(errors, b"FAULT OutOfMemory\n"),
+        Fault::Read => write_text(errors, b"FAULT Read\n"),
+        Fault::Write => write_text(errors, b"FAULT Write\n"),
+        Fault::NoThread => write_text(errors, b"FAULT NoThread\n"),
+        Fault::Missing(seed) => writeln!(errors, "FAULT Missing {seed}").map_err(|_| Fault::Write),
+    };
+    FAULT
+}
+
+/// The status of a verdict.
+fn status_of(verdict: Verdict) -> u8
+    ensures { result ≡ status_of verdict }
+{
+    match verdict {
+        Verdict::NoViolation => DONE,
+        Verdict::Refused => REFUSED,
+        Verdict::Violation => VIOLATION,
+    }
+}

@@ -1,0 +1,140 @@
+//! What the program does for each request.
+ghost use Rattle.std.specs.Prelude.{◌≡◌, ◌≢◌, ◌≤◌, [], ◌∷◌, IfOk, IfErr, OnOk, OnSome, false, string_bytes};
+ghost use Rattle.command_line.specs.Requests.{HasWorkers, asked_of};
+ghost use Rattle.tso_report.specs.Streams.{AppendsPrefix};
+ghost use Rattle.tso_report.specs.Written.{LeavesCheckFault, LeavesFault, WritesCheckReport, WritesReport};
+ghost use Rattle.tso_report.specs.declared.faults.Fault.{Fault};
+ghost use Rattle.tsobench.specs.Endings.{EndsAs, EndsShowing, judged_bytes, outputs};
+ghost use Rattle.tsobench.specs.Named.{HasKnown, OpensFirst, OpensNext, files_named, list_of, name_in, reads_input};
+
+use crate::endings::{DONE, REFUSED, end, end_by};
+use crate::files::NamedFiles;
+use command_line::Request;
+use std::alloc::Global;
+use std::io::{Read, Write};
+use std::sync::Wait;
+use std::thread::Threads;
+use tso_report::{Fault, Verdict, check_texts, judge, write_text};
+
+/// Does what a request asks for, and answers the status that the program ends with.
+///
+/// `Judge` judges the trace in a file, or else what `reader` has, and writes its report to `writer`; `Check` checks a
+/// certificate against a trace and writes the report of both. Their status is that of the verdict: 0 where no violation
+/// was found, 2 where a text or the certificate was refused, 3 at a violation or a certificate that holds. `Show` writes
+/// its text to `writer`, with status 0, and `Refuse` to `errors`, with status 2. At a fault the status is 4 and one
+/// line, as `FAULT Read`, is written to `errors`; a file that can't be opened is the fault Read. All files that the
+/// request names are opened, in their order, before one is read.
+pub fn serve<H: Threads + Wait + Sync + AllocGlobal, O: NamedFiles, R: Read, W: Write, E: Write>(
+    rt: &H,
+    request: &Request<'_>,
+    files: &mut O,
+    reader: &mut R,
+    writer: &mut W,
+    errors: &mut E,
+) -> u8
+    requires workers { HasWorkers (asked_of request.now) }
+    ensures ends { EndsAs request.now (R.remaining reader.old) (O.bytes files.old) (outputs (W.contents writer.old) (W.contents writer.new) (E.contents errors.old) (E.contents errors.new)) result }
+    ensures first { OpensFirst (O.opened files.old) (O.opened files.new) (files_named (asked_of request.now)) }
+    ensures opened { result ≢ 4 → OpensNext (O.opened files.old) (O.opened files.new) (files_named (asked_of request.now)) }
+    ensures unread { reads_input (asked_of request.now) ≡ false → reader.new ≡ reader.old }
+{
+    match request {
+        Request::Judge { file, workers } => end(
+            judge_named(rt, *file, *workers, files, reader, writer),
+            errors,
+        ),
+        Request::Check { trace, certificate } => {
+            let checked = check_files(rt.alloc(), trace, certificate, files, writer);
+            end(checked, errors)
+        }
+        Request::Show(text) => show(text, writer, errors),
+        Request::Refuse(text) => refuse(text, errors),
+    }
+}
+
+/// Judges the trace in a file, or else what the reader has.
+fn judge_named<H: Threads + Wait + Sync + AllocGlobal, O: NamedFiles, R: Read, W: Write>(
+    rt: &H,
+    file: Option<&str>,
+    workers: usize,
+    files: &mut O,
+    reader: &mut R,
+    writer: &mut W,
+) -> Result<Verdict, Fault>
+    requires some { 1 ≤ workers }
+    requires most { workers ≤ 64 }
+    ensures report { let remaining = judged_bytes (name_in file.entry) (R.remaining reader.old) (O.bytes files.old) in IfOk result (WritesReport remaining (W.contents writer.old) (W.contents writer.new)) }
+    ensures fault { let remaining = judged_bytes (name_in file.entry) (R.remaining reader.old) (O.bytes files.old) in IfErr result (LeavesFault remaining (W.contents writer.old) (W.contents writer.new)) }
+    ensures opened { OpensNext (O.opened files.old) (O.opened files.new) (list_of (name_in file.entry)) }
+    ensures unread { OnSome file.entry (reader.new ≡ reader.old) }
+{
+    match file {
+        None => judge(rt, rt.alloc(), reader, writer, workers),
+        Some(name) => judge_file(rt, name, files, writer, workers),
+    }
+}
+
+/// Judges the trace in a file.
+fn judge_file<H: Threads + Wait + Sync + AllocGlobal, O: NamedFiles, W: Write>(
+    rt: &H,
+    name: &str,
+    files: &mut O,
+    writer: &mut W,
+    workers: usize,
+) -> Result<Verdict, Fault>
+    requires some { 1 ≤ workers }
+    requires most { workers ≤ 64 }
+    ensures report { IfOk result (WritesReport (O.bytes files.old name.now) (W.contents writer.old) (W.contents writer.new)) }
+    ensures fault { IfErr result (LeavesFault (O.bytes files.old name.now) (W.contents writer.old) (W.contents writer.new)) }
+    ensures opened { OpensNext (O.opened files.old) (O.opened files.new) (name.now ∷ []) }
+{
+    let mut file = open(files, name)?;
+    judge(rt, rt.alloc(), &mut file, writer, workers)
+}
+
+/// Checks the certificate in one file against the trace in another. Both are opened before one is read.
+fn check_files<O: NamedFiles, W: Write>(
+    alloc: Global,
+    trace: &str,
+    certificate: &str,
+    files: &mut O,
+    writer: &mut W,
+) -> Result<Verdict, Fault>
+    ensures report { IfOk result (WritesCheckReport (O.bytes files.old trace.now) (O.bytes files.old certificate.now) (W.contents writer.old) (W.contents writer.new)) }
+    ensures fault { IfErr result (LeavesCheckFault (O.bytes files.old trace.now) (O.bytes files.old certificate.now) (W.contents writer.old) (W.contents writer.new)) }
+    ensures first { OpensFirst (O.opened files.old) (O.opened files.new) (trace.now ∷ certificate.now ∷ []) }
+    ensures opened { OnOk result (OpensNext (O.opened files.old) (O.opened files.new) (trace.now ∷ certificate.now ∷ [])) }
+{
+    let mut trace = open(files, trace)?;
+    let mut certificate = open(files, certificate)?;
+    check_texts(alloc, &mut trace, &mut certificate, writer)
+}
+
+/// A file, to be read. One that can't be opened is the fault Read.
+fn open<O: NamedFiles>(files: &mut O, name: &str) -> Result<O::File, Fault>
+    ensures known { IfOk result (λ file. HasKnown (O.bytes files.old name.now) (O.File.remaining file)) }
+    ensures fault { IfErr result (λ fault. fault ≡ Fault.Read) }
+    ensures opened { OpensNext (O.opened files.old) (O.opened files.new) (name.now ∷ []) }
+    ensures same { O.bytes files.new ≡ O.bytes files.old }
+{
+    files.open(name).map_err(|_| Fault::Read)
+}
+
+/// Writes a text that was asked for.
+fn show<W: Write, E: Write>(text: &str, writer: &mut W, errors: &mut E) -> u8
+    ensures { EndsShowing text.now (outputs (W.contents writer.old) (W.contents writer.new) (E.contents errors.old) (E.contents errors.new)) result }
+{
+    if write_text(writer, text.as_bytes()).is_err() {
+        return end_by(Fault::Write, errors);
+    }
+    DONE
+}
+
+/// Writes why the arguments were refused. Nothing can be done where that can't be written.
+fn refuse<E: Write>(text: &str, errors: &mut E) -> u8
+    ensures told { AppendsPrefix (E.contents errors.old) (E.contents errors.new) text.now }
+    ensures status { result ≡ 2 }
+{
+    let _ = write_text(errors, text.as_bytes());
+    REFUSED
+}

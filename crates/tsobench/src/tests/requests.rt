@@ -1,0 +1,231 @@
+//! Requests over files in memory, which note the names that they are asked to open.
+
+ghost use Rattle.command_line.specs.Requests.{HasWorkers, asked_of};
+
+use super::{FailingReader, FailingWriter};
+use crate::endings::end_by;
+use crate::files::NamedFiles;
+use crate::serving::serve;
+use command_line::Request;
+use std::alloc::{AllocError, Global};
+use std::io;
+use std::io::{Error, ErrorKind, Read};
+use std::process::Abort;
+use std::sync::Wait;
+use std::test::Fail;
+use std::thread::Threads;
+use tso_report::Fault;
+
+/// Files by their names, and the names that were to be opened.
+#[derive(Drop)]
+struct MemoryFiles {
+    alloc: Global,
+    texts: Vec<(&'static str, &'static str)>,
+    opened: Vec<String>,
+}
+
+/// An opened file of these.
+#[derive(Drop)]
+struct Opened {
+    rest: &'static [u8],
+}
+
+impl Read for Opened {
+    fn read(&mut self, buf: &mut [u8]) -> io::Result<usize> {
+        self.rest.read(buf)
+    }
+}
+
+impl NamedFiles for MemoryFiles {
+    type File = Opened;
+
+    fn open(&mut self, name: &str) -> io::Result<Opened> {
+        self.opened.push(String::from_str(self.alloc, name)?)?;
+        for (known, text) in self.texts.iter() {
+            if *known == name {
+                return Ok(Opened {
+                    rest: text.as_bytes(),
+                });
+            }
+        }
+        Err(Error::from(ErrorKind::NotFound))
+    }
+}
+
+fn files(alloc: Global) -> Result<MemoryFiles, AllocError> {
+    Ok(MemoryFiles {
+        alloc,
+        texts: Vec::from_array(
+            alloc,
+            [
+                ("trace", "tso trace 1\nproc\nld 1 9\nend\n"),
+                ("certificate", "unwritten 1\n"),
+            ],
+        )?,
+        opened: Vec::new(alloc),
+    })
+}
+
+/// What a request comes to: the names that are to be opened, the status, and what is written to the output and to the
+/// errors.
+#[derive(Clone, Copy)]
+struct Expected {
+    names: &'static [&'static str],
+    status: u8,
+    output: &'static str,
+    errors: &'static str,
+}
+
+const READ: &str = "FAULT Read\n";
+
+const JUDGED: &str = "TSO REPORT 1\nprocessors 1 events 1 rounds 0\nVIOLATION\nunwritten 1\n";
+
+/// Compares what a request comes to, where standard input fails.
+fn compare<H: Threads + Wait + Sync + AllocGlobal + Abort>(
+    rt: &H,
+    request: &Request<'_>,
+    expected: Expected,
+) -> Result<(), Fail>
+    requires { HasWorkers (asked_of request.now) }
+{
+    let alloc = rt.alloc();
+    let mut files = files(alloc)?;
+    let mut written = Vec::new(alloc);
+    let mut errors = Vec::new(alloc);
+    let status = serve(
+        rt,
+        request,
+        &mut files,
+        &mut FailingReader,
+        &mut written,
+        &mut errors,
+    );
+    assert_eq!(rt; status, expected.status, "{request:?}");
+    assert_eq!(rt;
+        written.as_slice(),
+        expected.output.as_bytes(),
+        "{request:?}"
+    );
+    assert_eq!(rt;
+        errors.as_slice(),
+        expected.errors.as_bytes(),
+        "{request:?}"
+    );
+    assert_eq!(rt; files.opened.len(), expected.names.len(), "{request:?}");
+    for (opened, name) in files.opened.iter().zip(expected.names) {
+        assert_eq!(rt; opened.as_str(), *name, "{request:?}");
+    }
+    Ok(())
+}
+
+fn outcome(
+    names: &'static [&'static str],
+    status: u8,
+    output: &'static str,
+    errors: &'static str,
+) -> Expected {
+    Expected {
+        names,
+        status,
+        output,
+        errors,
+    }
+}
+
+#[test]
+fn judging(rt: HostRuntime) -> Result<(), Fail> {
+    let named = Request::Judge {
+        file: Some("trace"),
+        workers: 2,
+    };
+    compare(&rt, &named, outcome(&["trace"], 3, JUDGED, ""))?;
+    let missing = Request::Judge {
+        file: Some("other"),
+        workers: 1,
+    };
+    compare(&rt, &missing, outcome(&["other"], 4, "", READ))?;
+    let input = Request::Judge {
+        file: None,
+        workers: 64,
+    };
+    compare(&rt, &input, outcome(&[], 4, "", READ))
+}
+
+#[test]
+fn checking(rt: HostRuntime) -> Result<(), Fail> {
+    let both = Request::Check {
+        trace: "trace",
+        certificate: "certificate",
+    };
+    let holds = outcome(&["trace", "certificate"], 3, "CERTIFICATE HOLDS\n", "");
+    compare(&rt, &both, holds)?;
+    let no_trace = Request::Check {
+        trace: "other",
+        certificate: "certificate",
+    };
+    compare(&rt, &no_trace, outcome(&["other"], 4, "", READ))?;
+    let no_certificate = Request::Check {
+        trace: "certificate",
+        certificate: "other",
+    };
+    compare(
+        &rt,
+        &no_certificate,
+        outcome(&["certificate", "other"], 4, "", READ),
+    )
+}
+
+#[test]
+fn texts(rt: HostRuntime) -> Result<(), Fail> {
+    let shown = Request::Show(String::from_str(rt.alloc(), "shown\n")?);
+    compare(&rt, &shown, outcome(&[], 0, "shown\n", ""))?;
+    let refused = Request::Refuse(String::from_str(rt.alloc(), "refused\n")?);
+    compare(&rt, &refused, outcome(&[], 2, "", "refused\n"))
+}
+
+/// A text that can't be written is the fault Write; a refusal that can't be written ends with its status.
+#[test]
+fn texts_that_cannot_be_written(rt: HostRuntime) -> Result<(), Fail> {
+    let alloc = rt.alloc();
+    let shown = Request::Show(String::from_str(alloc, "shown\n")?);
+    let refused = Request::Refuse(String::from_str(alloc, "refused\n")?);
+    let mut files = files(alloc)?;
+    let mut errors = Vec::new(alloc);
+    let status = serve(
+        &rt,
+        &shown,
+        &mut files,
+        &mut FailingReader,
+        &mut FailingWriter,
+        &mut errors,
+    );
+    assert_eq!(rt; status, 4);
+    assert_eq!(rt; errors.as_slice(), b"FAULT Write\n".as_slice());
+    let status = serve(
+        &rt,
+        &refused,
+        &mut files,
+        &mut FailingReader,
+        &mut FailingWriter,
+        &mut FailingWriter,
+    );
+    assert_eq!(rt; status, 2);
+    Ok(())
+}
+
+#[test]
+fn faults_are_named(rt: HostRuntime) -> Result<(), Fail> {
+    let cases = [
+        (Fault::OutOfMemory, "FAULT OutOfMemory\n"),
+        (Fault::Read, "FAULT Read\n"),
+        (Fault::Write, "FAULT Write\n"),
+        (Fault::NoThread, "FAULT NoThread\n"),
+        (Fault::Missing(18), "FAULT Missing 18\n"),
+    ];
+    for (fault, line) in cases {
+        let mut errors = Vec::new(rt.alloc());
+        assert_eq!(rt; end_by(fault, &mut errors), 4);
+        assert_eq!(rt; errors.as_slice(), line.as_bytes());
+    }
+    Ok(())
+}
