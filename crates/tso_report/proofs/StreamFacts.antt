@@ -19,8 +19,8 @@ read_whole (Some all) (Some rest) (Some left) bytes chunk limit before now end w
 
 -- what was read without passing the limit, up to the end, and what was read past it, are the first bytes of what there was
 pub loses_prefix : (old new : Option (List ℕ)) (bytes : List ℕ) (limit : ℕ) → IfSome old (λ all. bytes ≡ take limit all) → Consumes old new bytes → LosesPrefix limit old new
-loses_prefix None new bytes limit is taken = tt
-loses_prefix (Some all) new bytes limit is taken = subst (Consumes (Some all) new) is taken
+loses_prefix None new bytes limit is consumed = tt
+loses_prefix (Some all) new bytes limit is consumed = subst (Consumes (Some all) new) is consumed
 
 -- what one more call of read gave, put after what was read
 pub read_more : (old mid new : Option (List ℕ)) (bytes more chunk rest : List ℕ) (count : ℕ) → Consumes old mid bytes → Consumes mid new (take count chunk) → count ≤ length chunk →

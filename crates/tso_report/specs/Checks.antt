@@ -6,11 +6,11 @@ use Rattle.tso_text.specs.Grammars.{SpellsTrace}
 use Rattle.tso_cert.specs.declared.faults.Why.{Why}
 use Rattle.tso_cert.specs.declared.faults.Why.TheVariants.{BadLine, BadNumber, BadRule, NoCycle, AfterCycle, OutOfMemory}
 use Rattle.tso_cert.specs.declared.steps.Certificate.{Certificate}
-use Rattle.tso_cert.specs.Spelling.{Spells, IsRefusal}
+use Rattle.tso_cert.specs.Spelling.{SpellsCertificate, IsCertTextRefusal}
 use Rattle.tso_model.specs.Certs.{Holds}
 use Rattle.cert_check.specs.declared.faults.CertFault.{CertFault}
 use Rattle.cert_check.specs.declared.faults.CertFault.TheVariants.{EventRange, NotUnwritten, BaseRefused, SideRefused, PathUnlisted, CycleUnlisted, EmptyCycle}
-use Rattle.cert_check.specs.Refusals.{IsRefusal as IsCertRefusal}
+use Rattle.cert_check.specs.Refusals.{IsCertRefusal}
 use Rattle.tso_report.specs.declared.verdicts.Verdict.{Verdict}
 use Rattle.tso_report.specs.declared.verdicts.Verdict.TheVariants.{Violation, Refused}
 use Rattle.tso_report.specs.Limits.{certificate_byte_limit}
@@ -53,15 +53,15 @@ fails_text fault = codes "CERTIFICATE REFUSED " ++ fault_text fault ++ 10 ∷ []
 
 -- the input is the text of a certificate that holds for the trace
 abbrev pub SpellsHolding : TraceValue → List ℕ → Type 0
-SpellsHolding t input = (c : Certificate) × Spells input c × Holds t c
+SpellsHolding t input = (c : Certificate) × SpellsCertificate input c × Holds t c
 
 -- it is refused as a text
 abbrev pub IsUnreadReport : List ℕ → List ℕ → Type 0
-IsUnreadReport input text = (line : ℕ) × (why : Why) × IsRefusal input line why × (text ≡ unread_text line why)
+IsUnreadReport input text = (line : ℕ) × (why : Why) × IsCertTextRefusal input line why × (text ≡ unread_text line why)
 
 -- it is the text of a certificate that doesn't hold for the trace
 abbrev pub IsFailureReport : TraceValue → List ℕ → List ℕ → Type 0
-IsFailureReport t input text = (c : Certificate) × (fault : CertFault) × Spells input c × IsCertRefusal t c fault × (text ≡ fails_text fault)
+IsFailureReport t input text = (c : Certificate) × (fault : CertFault) × SpellsCertificate input c × IsCertRefusal t c fault × (text ≡ fails_text fault)
 
 -- The text is the report of a certificate's text on the trace.
 abbrev pub IsCertReport : TraceValue → List ℕ → List ℕ → Verdict → Type 0

@@ -1,7 +1,7 @@
 mod certificates;
 mod checked;
 mod ends;
-mod growths;
+mod refused_allocations;
 mod judged;
 mod streams;
 mod violations;
