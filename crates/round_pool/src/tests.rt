@@ -3,7 +3,7 @@
 mod by_hand;
 mod drawn;
 mod gates;
-mod growths;
+mod refused_allocations;
 
 use crate::{PoolFault, PoolGate, Ranked, rounds};
 use order_graph::Graph;

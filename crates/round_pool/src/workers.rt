@@ -4,7 +4,7 @@ ghost use Rattle.std.specs.Thread.{IsSync};
 ghost use Rattle.order_graph.specs.Digraphs.{Digraph};
 ghost use Rattle.tso_ops.specs.Values.{TraceValue, rows};
 ghost use Rattle.tso_ops.specs.Events.{event_total};
-ghost use Rattle.round_pool.specs.RankGraphs.{AreRows, AreRowsFrom, bound_of};
+ghost use Rattle.round_pool.specs.RankGraphs.{AreRoundRows, AreRoundRowsFrom, bound_of};
 
 use crate::faults::PoolFault;
 use crate::gates::PoolGate;
@@ -29,9 +29,9 @@ impl<'a> Promise<Result<Vec<Vec<usize>>, OutOfMemory>> for Piece<'a> {
     ghost use Rattle.std.specs.Prelude.{IfOk};
     ghost use Rattle.order_graph.specs.Digraphs.{Digraph};
     ghost use Rattle.tso_ops.specs.Values.{TraceValue, rows};
-    ghost use Rattle.round_pool.specs.RankGraphs.{AreRows};
+    ghost use Rattle.round_pool.specs.RankGraphs.{AreRoundRows};
 
-    ghost kept_by = { λ p r. IfOk r (λ made. AreRows p.trace.now p.graph.now p.first p.count (rows made.items)) };
+    ghost kept_by = { λ p r. IfOk r (λ made. AreRoundRows p.trace.now p.graph.now p.first p.count (rows made.items)) };
 }
 
 /// Computes the rows of one piece; the gate is called before each. OutOfMemory where a growth was refused.
@@ -45,7 +45,7 @@ fn piece_rows<G: PoolGate>(
     count: usize,
 ) -> Result<Vec<Vec<usize>>, OutOfMemory>
     requires { first + count ≤ 1 + event_total trace.now }
-    ensures { IfOk result (λ made. AreRows trace.now graph.now first count (rows made.items)) }
+    ensures { IfOk result (λ made. AreRoundRows trace.now graph.now first count (rows made.items)) }
 {
     let _events = trace.events();
     let mut rows = Vec::new(alloc);
@@ -73,9 +73,9 @@ fn joined_rows(
     rest: Result<Vec<Vec<usize>>, PoolFault>,
 ) -> Result<Vec<Vec<usize>>, PoolFault>
     ensures memory { IfErr own (λ _. result ≡ Err PoolFault.OutOfMemory) }
-    ensures rows { (t : TraceValue) (g : Digraph) (first own_count rest_count : ℕ) → IfOk own (λ made. AreRows t g first own_count (rows made.items)) →
-        IfOk rest (λ made. AreRows t g (first + own_count) rest_count (rows made.items)) →
-        IfOk result (λ made. AreRows t g first (own_count + rest_count) (rows made.items)) }
+    ensures rows { (t : TraceValue) (g : Digraph) (first own_count rest_count : ℕ) → IfOk own (λ made. AreRoundRows t g first own_count (rows made.items)) →
+        IfOk rest (λ made. AreRoundRows t g (first + own_count) rest_count (rows made.items)) →
+        IfOk result (λ made. AreRoundRows t g first (own_count + rest_count) (rows made.items)) }
 {
     let mut rows = own?;
     let mut more = rest?;
@@ -98,7 +98,7 @@ fn rows_from<'s, E, H: Threads, G: PoolGate + Sync>(
     requires some { 1 ≤ workers }
     requires most { workers ≤ 64 }
     requires worker { worker ≤ workers }
-    ensures { IfOk result (λ made. AreRowsFrom trace.now graph.now worker workers (rows made.items)) }
+    ensures { IfOk result (λ made. AreRoundRowsFrom trace.now graph.now worker workers (rows made.items)) }
 {
     if worker == workers {
         return Ok(Vec::new(alloc));
@@ -137,7 +137,7 @@ pub fn shared_rows<H: Threads + Wait, G: PoolGate + Sync>(
 ) -> Result<Vec<Vec<usize>>, PoolFault>
     requires some { 1 ≤ workers }
     requires most { workers ≤ 64 }
-    ensures { IfOk result (λ made. AreRows trace.now graph.now 1 (event_total trace.now) (rows made.items)) }
+    ensures { IfOk result (λ made. AreRoundRows trace.now graph.now 1 (event_total trace.now) (rows made.items)) }
 {
     thread::scope(
         thread::scope_env(),
@@ -145,7 +145,7 @@ pub fn shared_rows<H: Threads + Wait, G: PoolGate + Sync>(
         |scope| -> Result<Vec<Vec<usize>>, PoolFault>
             requires some { 1 ≤ workers }
             requires most { workers ≤ 64 }
-            ensures { IfOk result (λ made. AreRows trace.entry.now graph.entry.now 1 (event_total trace.entry.now) (rows made.items)) }
+            ensures { IfOk result (λ made. AreRoundRows trace.entry.now graph.entry.now 1 (event_total trace.entry.now) (rows made.items)) }
         { rows_from(scope, rt, alloc, trace, graph, gate, workers, 0) },
     )
 }

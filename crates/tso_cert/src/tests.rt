@@ -1,7 +1,7 @@
 use crate::{BaseRule, CertStep, Certificate, InferredRule, NumList, Reason, StepList};
 use std::test::Fail;
 
-mod growths;
+mod refused_allocations;
 mod texts;
 
 #[test]
