@@ -89,7 +89,7 @@ fn check_steps(trace: &Trace, steps: &[CertStep]) -> Result<(), CertFault>
     Ok(())
 }
 
-/// The fault of the step with this number, behind the earlier steps, if it has one.
+/// The fault of the step with this number, after the earlier steps, if it has one.
 fn step_fault(
     trace: &Trace,
     earlier: &[CertStep],

@@ -206,7 +206,7 @@ without a word k small h =
     let not = HasBit-not word k small h in
     (λ b. ((both.0 b).0, not.0 (both.0 b).1), λ p. both.1 (p.0, not.1 p.1))
 
--- the edges left, where paths are taken out that word j of row x of a table has
+-- the edges left, without the paths that word j of row x of a table has
 rest_without : (width : ℕ) (edges now : List ℕ) (x j left : ℕ) → get_or now (x * width + j) 0 < 2 ^ 64 →
     ((k : ℕ) → k < 64 → IsSet edges width x (64 * j + k) → IsSet now width x (64 * j + k) ⊎ HasBit left k) →
     (k : ℕ) → k < 64 → IsSet edges width x (64 * j + k) → IsSet now width x (64 * j + k) ⊎ HasBit (bit_and left (bit_not w64 (get_or now (x * width + j) 0))) k

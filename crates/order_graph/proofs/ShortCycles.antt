@@ -1,4 +1,4 @@
--- How a search by words tells that no short cycle over open numbers begins with the start.
+-- How a search by words shows that no short cycle over open numbers begins with the start.
 use Rattle.std.proofs.Common.{◌≡◌, ◌⊎◌, ◌↔◌, inl, inr, ℕ, zero, suc, ◌+◌, ◌-◌, ◌*◌, ◌/◌, ◌<◌, ◌≤◌, List, [], ◌∷◌, ◌++◌, length, replicate, Option, Some, None, MatchOption, IsSomeAnd, refl, sym, ap, subst, ◌∙◌, arith}
 use Rattle.std.proofs.lemmas.Bool.{cases_eq, cases_lt}
 use Rattle.std.proofs.lemmas.List.{length-append, length-replicate}
@@ -18,7 +18,7 @@ abbrev pub Ends : (ℕ → ℕ → Type 0) → ℕ → ℕ → ℕ → Type 0
 Ends Edge start zero y = y ≡ start
 Ends Edge start (suc count) y = (x : ℕ) × Ends Edge start count x × Edge x y
 
--- a track goes on from where a walk ends
+-- a track continues from where a walk ends
 Ends-track : (Edge : ℕ → ℕ → Type 0) (start count x v : ℕ) (rest : List ℕ) → Ends Edge start count x → Track Edge x rest v → Ends Edge start (suc (count + length rest)) v
 Ends-track Edge start count x v [] ends t = subst (λ n. Ends Edge start (suc n) v) (let e : count ≡ count + 0 = omega arith in e) (x, ends, t.0)
 Ends-track Edge start count x v (y ∷ rest) ends t =

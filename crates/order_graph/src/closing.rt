@@ -1,4 +1,4 @@
-//! Which numbers can begin a short cycle: looks by words, which find no cycle but tell where there is none.
+//! Which numbers can begin a short cycle: searches by words, which find no cycle but show where there is none.
 
 ghost use Rattle.std.specs.Prelude.{◌≡◌, ◌⊎◌, ◌↔◌, ◌<◌, ◌≤◌, ◌+◌, ◌*◌, ◌/◌, ◌^◌, ℕ, IsTrue, IfOk, length};
 ghost use Rattle.order_graph.specs.Internal.Tables.{IsSet, Adds};
@@ -84,7 +84,7 @@ pub fn spread(
     }
 }
 
-/// Fills a level with the numbers reached that lead to the start and weren't seen, sees them, and tells whether there
+/// Fills a level with the numbers reached that lead to the start and weren't seen, marks them as seen, and returns whether there
 /// are any. It goes over the words from `first` on.
 pub fn advance(
     levels: &mut [u64],

@@ -1,4 +1,4 @@
-//! Flat tables of bits: rows of words, one behind another.
+//! Flat tables of bits: rows of words, one after another.
 
 ghost use Rattle.std.specs.Prelude.{◌≡◌, ◌⊎◌, ◌↔◌, ◌<◌, ◌≤◌, ◌+◌, ◌*◌, ◌/◌, ◌%◌, ◌^◌, ℕ, IsTrue, length};
 ghost use Rattle.order_graph.specs.BitRows.{HasBit, HasNumber};
@@ -25,7 +25,7 @@ pub fn set_bit(table: &mut [u64], width: usize, x: usize, y: usize)
     table[place] |= 1 << (y % 64);
 }
 
-/// Takes away the bit of row x and column y.
+/// Clears the bit of row x and column y.
 #[inline]
 pub fn clear_bit(table: &mut [u64], width: usize, x: usize, y: usize)
     requires column { y / 64 < width }
@@ -101,7 +101,7 @@ pub fn add_row(table: &mut [u64], width: usize, x: usize, v: usize)
 
 /// Gives each row whose number is a bit of word i the number v and the numbers of row v, in both tables.
 ///
-/// Only bits that some of these rows lacked are set in the turned table, where each lies in a row of its own.
+/// Only bits that some of these rows lacked are set in the transposed table, where each lies in a row of its own.
 pub fn join_rows(
     table: &mut [u64],
     transposed: &mut [u64],

@@ -1,4 +1,4 @@
-//! A table of paths turned: rows for columns.
+//! The transposed table of a table of paths: rows for columns.
 
 ghost use Rattle.std.specs.Prelude.{◌≡◌, ◌<◌, ◌*◌, ◌/◌, IfOk, length};
 ghost use Rattle.order_graph.specs.Internal.Tables.{IsSet, IsTable, Adds, AreTransposed};
@@ -6,9 +6,9 @@ ghost use Rattle.order_graph.specs.Internal.Tables.{IsSet, IsTable, Adds, AreTra
 use crate::tables::set_words;
 use std::alloc::{AllocError, Global};
 
-/// Turns the block of the rows of word i and the columns of word j.
+/// Transposes the block of the rows of word i and the columns of word j.
 ///
-/// Rows one behind another with the same word are set at once.
+/// Rows one after another with the same word are set at once.
 pub fn transpose_block(
     transposed: &mut [u64],
     table: &[u64],
@@ -37,7 +37,7 @@ pub fn transpose_block(
     set_words(transposed, width, j, word, i, rows);
 }
 
-/// Turns the columns of word j: 64 rows of the turned table.
+/// Transposes the columns of word j: 64 rows of the transposed table.
 pub fn transpose_columns(
     transposed: &mut [u64],
     table: &[u64],
@@ -55,7 +55,7 @@ pub fn transpose_columns(
     }
 }
 
-/// The table turned.
+/// The transposed table.
 pub fn transposed_table(
     alloc: Global,
     table: &[u64],

@@ -14,6 +14,7 @@ use Rattle.std.proofs.lemmas.List.Elements.{Contains-append_left, Contains-push,
 use Rattle.order_graph.specs.BitRows.{HasBit, HasNumber}
 use Rattle.order_graph.proofs.Words.{HasBit-zero, HasBit-or, HasBit-and, HasBit-not, HasBit-clear, HasBit-lowest, HasBit-decided}
 use Rattle.tso_ops.specs.Masks.{IsMask, IsMarked}
+use Rattle.tso_ops.proofs.MaskFacts.{same_word, some_is}
 use Rattle.tso_rules.specs.Rows.{IsAscending, IsRow}
 use Rattle.tso_rules.specs.Internal.MarkedRows.{IsRowBelow, Marks}
 
@@ -34,16 +35,10 @@ HasNumber-word row v j at = (λ has. subst (λ i. HasBit (get_or row i 0) (v % 6
 pub HasNumber-none : (v : ℕ) → HasNumber [] v → ⊥
 HasNumber-none v has = HasBit-zero (v % 64) has
 
-same_words : (row : List ℕ) (j : ℕ) → get_or (row ++ 0 ∷ []) j 0 ≡ get_or row j 0
-same_words [] zero = refl
-same_words [] (suc j) = refl
-same_words (w ∷ row) zero = refl
-same_words (w ∷ row) (suc j) = same_words row j
-
 -- a word without bits adds no number
 pub HasNumber-extend : (row : List ℕ) (v : ℕ) → HasNumber (row ++ 0 ∷ []) v ↔ HasNumber row v
 HasNumber-extend row v =
-    (λ has. subst (λ w. HasBit w (v % 64)) (same_words row (v / 64)) has, λ has. subst (λ w. HasBit w (v % 64)) (sym (same_words row (v / 64))) has)
+    (λ has. subst (λ w. HasBit w (v % 64)) (same_word row (v / 64)) has, λ has. subst (λ w. HasBit w (v % 64)) (sym (same_word row (v / 64))) has)
 
 -- the bits of a word are set in word j
 pub marks_word : (row : List ℕ) (j word : ℕ) → j < length row → Marks row (set row j (bit_or (get_or row j 0) word)) (λ v. (v / 64 ≡ j) × HasBit word (v % 64))
@@ -160,11 +155,6 @@ not_equal o v b is off same =
     false≢true (sym off ∙ is ∙ on)
 
 -- ---- options
-
--- what is there is as the words say
-pub some_is : {X : Type 0} (P : X → Type 0) (o : Option X) (x : X) → IfSome o P → o ≡ Some x → P x
-some_is P None x if_some is = absurd cc
-some_is P (Some y) x if_some is = let same : y ≡ x = cc in subst P same if_some
 
 pub if_some : {X : Type 0} (P Q : X → Type 0) (o : Option X) → ((x : X) → P x → Q x) → IfSome o P → IfSome o Q
 if_some P Q None f h = tt
@@ -520,7 +510,7 @@ mask_number words Of mask v = mask.bits v
 
 -- ---- the list of a row's numbers
 
--- Behind the numbers before word j, those of word j are listed that are no longer in `left`.
+-- After the numbers before word j, those of word j are listed that are no longer in `left`.
 pub record Listed (marks list : List ℕ) (j left : ℕ) : Type 0 where
   pub some : (k : ℕ) → k < 64 → HasBit left k → HasBit (get_or marks j 0) k
   pub below : (k m : ℕ) → k < 64 → m < 64 → HasBit (get_or marks j 0) k → (HasBit left k → ⊥) → HasBit left m → k < m
