@@ -7,15 +7,15 @@ use Rattle.order_paths.specs.Paths.{Reaches}
 use Rattle.order_paths.proofs.Reach.{Reaches-edge, Reaches-join, Reaches-into, Reaches-below}
 use Rattle.order_graph.specs.BitRows.{HasBit}
 use Rattle.order_graph.specs.Internal.Tables.{IsSet, Adds, IsSelfOrSet, AreTransposed, Joined, IsTable}
-use Rattle.order_graph.specs.Internal.KeptPaths.{Keeps, KeepsSomePaths, KeepsPathsToDone}
+use Rattle.order_graph.specs.Internal.KeptPaths.{KeepsAllPaths, KeepsSomePaths, KeepsPathsToDone}
 use Rattle.order_graph.proofs.Words.{HasBit-zero, HasBit-and, HasBit-not, HasBit-lowest, IsSet-decided, IsSet-at, without_less}
 use Rattle.order_graph.proofs.AddedBits.{Adds-kept, column_within}
 use Rattle.order_graph.proofs.Keeping.{no_bit}
 
 -- some paths of which each edge is one: all paths
-pub Keeps-all : (nodes width : ℕ) (edges paths transposed : List ℕ) → IsTable nodes width edges → KeepsSomePaths nodes width edges paths → AreTransposed paths transposed width nodes →
-    ((x y : ℕ) → x < nodes → y / 64 < width → IsSet edges width x y → IsSet paths width x y) → Keeps nodes width edges paths transposed
-Keeps-all nodes width edges paths transposed keeps some are all = record {
+pub KeepsAllPaths-all : (nodes width : ℕ) (edges paths transposed : List ℕ) → IsTable nodes width edges → KeepsSomePaths nodes width edges paths → AreTransposed paths transposed width nodes →
+    ((x y : ℕ) → x < nodes → y / 64 < width → IsSet edges width x y → IsSet paths width x y) → KeepsAllPaths nodes width edges paths transposed
+KeepsAllPaths-all nodes width edges paths transposed keeps some are all = record {
   small = keeps.small;
   fits = keeps.fits;
   edges_sized = keeps.sized;

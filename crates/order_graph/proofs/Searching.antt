@@ -9,7 +9,7 @@ use Rattle.order_paths.proofs.Decisions.{Decision, Decision-lt, Decision-three}
 use Rattle.order_paths.proofs.Reach.{Reaches-edge, Reaches-prefix, Reaches-join, Reaches-decided}
 use Rattle.order_graph.specs.BitRows.{HasBit}
 use Rattle.order_graph.specs.Internal.Tables.{IsSet, Adds, Joined}
-use Rattle.order_graph.specs.Internal.KeptPaths.{Keeps, Covers}
+use Rattle.order_graph.specs.Internal.KeptPaths.{KeepsAllPaths, Covers}
 use Rattle.order_graph.specs.Internal.Tracks.{Track, Walks, IsLeastTrack, IsFirstShared, IsLevel, IsAboveLevel, NoneShared, NoShorter}
 use Rattle.order_graph.proofs.Words.{HasBit-zero, HasBit-and, HasBit-lowest, IsSet-decided, IsSet-word}
 use Rattle.order_graph.proofs.AddedBits.{column_within, row_within}
@@ -65,8 +65,8 @@ pub record Descends (edges paths : List ℕ) (width nodes u v count left at : �
   pub continues : (rest : List ℕ) → IsLeastRest (Joined edges width nodes) at v left rest → IsLeastList (Joined edges width nodes) u v count (list ++ rest)
 
 -- the tables of paths have just the paths, so they cover them
-pub Keeps-covers : (nodes width : ℕ) (edges paths transposed : List ℕ) → Keeps nodes width edges paths transposed → Covers nodes width edges paths transposed
-Keeps-covers nodes width edges paths transposed keeps = record {
+pub KeepsAllPaths-covers : (nodes width : ℕ) (edges paths transposed : List ℕ) → KeepsAllPaths nodes width edges paths transposed → Covers nodes width edges paths transposed
+KeepsAllPaths-covers nodes width edges paths transposed keeps = record {
   small = keeps.small;
   fits = keeps.fits;
   edges_sized = keeps.edges_sized;

@@ -2,7 +2,7 @@
 
 ghost use Rattle.std.specs.Prelude.{◌≡◌, ◌<◌, ◌/◌, ℕ, IfOk, length};
 ghost use Rattle.order_graph.specs.Internal.Tables.{IsSet, IsTable, AreTransposed};
-ghost use Rattle.order_graph.specs.Internal.KeptPaths.{Keeps, KeepsSomePaths, KeepsPathsToDone};
+ghost use Rattle.order_graph.specs.Internal.KeptPaths.{KeepsAllPaths, KeepsSomePaths, KeepsPathsToDone};
 
 use crate::postorder::postorder;
 use crate::tables::{add_row, bit, join, set_bit};
@@ -143,7 +143,7 @@ pub fn join_rest(
     requires edges { IsTable nodes width edges.now }
     requires paths { KeepsSomePaths nodes width edges.now paths.old }
     requires transposed { AreTransposed paths.old transposed.old width nodes }
-    ensures { Keeps nodes width edges.now paths.new transposed.new }
+    ensures { KeepsAllPaths nodes width edges.now paths.new transposed.new }
 {
     for x in 0..nodes {
         join_row(edges, paths, transposed, width, nodes, x);

@@ -2,7 +2,7 @@
 
 ghost use Rattle.std.specs.Prelude.{◌≡◌, ◌⊎◌, ◌↔◌, ◌<◌, ◌≤◌, ◌+◌, ◌*◌, ◌/◌, ◌^◌, ℕ, IsTrue, IfOk, length};
 ghost use Rattle.order_graph.specs.Internal.Tables.{IsSet, Adds};
-ghost use Rattle.order_graph.specs.Internal.KeptPaths.{Keeps};
+ghost use Rattle.order_graph.specs.Internal.KeptPaths.{KeepsAllPaths};
 ghost use Rattle.order_graph.specs.Internal.Tracks.{IsClosedNumber, IsNext, IsFresh, NoShorterOpen};
 
 use crate::tables::{bit, or_rows, set_bit, set_word};
@@ -39,7 +39,7 @@ pub fn closed_numbers(
     width: usize,
     nodes: usize,
 ) -> Result<Vec<u64>, AllocError>
-    requires keeps { Keeps nodes width edges.now paths.now transposed.now }
+    requires keeps { KeepsAllPaths nodes width edges.now paths.now transposed.now }
     ensures { IfOk result (λ row. (length row.items ≡ width) × ((y : ℕ) → y / 64 < width → IsSet row.items width 0 y ↔ IsClosedNumber edges.now transposed.now width nodes y)) }
 {
     let mut row = vec![in alloc; 0; width]?;
@@ -127,7 +127,7 @@ pub fn closes_within(
     start: usize,
     limit: usize,
 ) -> Result<bool, AllocError>
-    requires keeps { Keeps nodes width edges.now paths.now transposed.now }
+    requires keeps { KeepsAllPaths nodes width edges.now paths.now transposed.now }
     requires within { start < nodes }
     requires sized { length passed.now ≡ width }
     requires passed { (y : ℕ) → y / 64 < width → IsSet passed.now width 0 y ↔ (y < start) }

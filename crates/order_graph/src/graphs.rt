@@ -32,13 +32,13 @@ pub struct Graph {
 
 impl Model for Graph {
     ghost use Rattle.order_graph.specs.Digraphs.{Digraph, graph_of};
-    ghost use Rattle.order_graph.specs.Internal.KeptPaths.{Keeps};
+    ghost use Rattle.order_graph.specs.Internal.KeptPaths.{KeepsAllPaths};
 
     ghost Value = { Digraph };
 
     ghost view = { λ g. graph_of g.nodes g.width g.edges.items };
 
-    ghost invariant = { λ g. Keeps g.nodes g.width g.edges.items g.paths.items g.transposed.items };
+    ghost invariant = { λ g. KeepsAllPaths g.nodes g.width g.edges.items g.paths.items g.transposed.items };
 }
 
 impl Graph {
