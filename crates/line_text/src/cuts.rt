@@ -43,7 +43,7 @@ fn cut(text: &[u8], at: u8) -> (&[u8], Option<&[u8]>)
     }
 }
 
-/// The place of the first of these bytes.
+/// The index of the first of these bytes.
 fn first_place(text: &[u8], at: u8) -> Option<usize>
     ensures { result ≡ position (λ b. b == at) text.now }
 {

@@ -84,8 +84,8 @@ pub fn spread(
     }
 }
 
-/// Fills a level with the numbers reached that lead to the start and weren't seen, marks them as seen, and returns whether there
-/// are any. It goes over the words from `first` on.
+/// Fills a level with the numbers reached that lead to the start and weren't seen, marks them as seen, and returns
+/// whether there are any. It goes over the words from `first` on.
 pub fn advance(
     levels: &mut [u64],
     row: usize,

@@ -9,7 +9,7 @@ ghost use Rattle.order_graph.specs.Internal.Tracks.{NoneShared, IsFirstShared, I
 use crate::tables::{bit, set_bit};
 use std::alloc::{AllocError, Global};
 
-/// The words of a row from its first word that isn't 0 to after its last: the first of them, and the one after them.
+/// The words of a row from its first word that isn't 0 to its last: the index of the first, and that after the last.
 pub fn used_words(table: &[u64], row: usize, width: usize) -> (usize, usize)
     requires row { row * width + width ≤ length table.now }
     ensures end { result.1 ≤ width }

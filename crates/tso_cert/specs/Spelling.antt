@@ -73,7 +73,7 @@ is_bad_line number pieces =
     else if begins_with (codes "unwritten") pieces then not (number == 1 && length pieces == 2)
     else nat_lt (length pieces) 4
 
--- A last line with a piece after its word that is no event number. A step line whose first piece isn't the line's number, or whose second or
+-- A last line with a piece after its keyword that is no event number. A step line whose first piece isn't the line's number, or whose second or
 -- third piece, or a piece after the fourth, is no event number.
 abbrev pub has_bad_number : ℕ → List (List ℕ) → Bool
 has_bad_number number pieces =

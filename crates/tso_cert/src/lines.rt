@@ -37,7 +37,7 @@ pub(crate) fn read_line(alloc: Global, number: usize, line: &[u8]) -> Result<Lin
     }
 }
 
-/// The load of a line `unwritten`, of the pieces after the word.
+/// The load of a line `unwritten`, of the pieces after the keyword.
 #[tactic(auto, unfolding(crate::specs::Internal::LineValues::unwritten_said))]
 fn read_unwritten(number: usize, pieces: Option<&[u8]>) -> Result<u64, Why>
     ensures { result ≡ unwritten_said number (pieces_after pieces.entry) }

@@ -185,7 +185,7 @@ AreMaskRowsAmong-more HasRow count row old new are is all marks = record {
   };
 }
 
--- what is there is as the words say
+-- a value that is there has the property
 pub some_is : {X : Type 0} (P : X → Type 0) (o : Option X) (x : X) → IfSome o P → o ≡ Some x → P x
 some_is P None x if_some is = absurd cc
 some_is P (Some y) x if_some is = let same : y ≡ x = cc in subst P same if_some

@@ -17,8 +17,8 @@ pub const MAX_BARRIERS: usize = 2_000;
 /// The greatest address.
 pub const MAX_ADDRESS: u16 = 255;
 
-/// The totals and stored values of the operations so far, against the limits of a program: the one check of an operation against
-/// those before it.
+/// The totals and stored values of the operations so far, against the limits of a program: the one check of an
+/// operation against those before it.
 #[derive(Debug, Drop)]
 pub struct Tally {
     events: usize,

@@ -89,7 +89,7 @@ marks_word_in first row j was word same within is =
     subst (λ w. Marks first (set row j (bit_or w word)) (λ v. (v / 64 ≡ j) × HasBit word (v % 64))) (sym (is ∙ get_or_default_zero row j was within))
     (marks_same first row (set row j (bit_or (get_or row j 0) word)) _ same (marks_word row j word within))
 
--- other words for what is marked
+-- what is marked, by an equivalent condition
 pub marks_as : (old new : List ℕ) (P Q : ℕ → Type 0) → Marks old new P → ((v : ℕ) → P v ↔ Q v) → Marks old new Q
 marks_as old new P Q marks same = record {
   marked = λ v. (
@@ -181,7 +181,7 @@ steps_more first old new n By before step =
           (cases_lt by.0 n),
     ))
 
--- the same row, in other words
+-- the same row, by an equivalent condition
 pub row_as : (row : List ℕ) (P Q : ℕ → Type 0) → IsRow row P → ((v : ℕ) → P v → Q v) → ((v : ℕ) → Q v → P v) → IsRow row Q
 row_as row P Q is to from = record { all = λ v q. is.all v (from v q); only = λ v has. to v (is.only v has); ascending = is.ascending }
 
@@ -190,7 +190,7 @@ pub steps_all : (first last : List ℕ) (n : ℕ) (P : ℕ → Type 0) → Marks
 steps_all first last n P marks low =
     marks_as first last _ _ marks (λ v. (λ by. subst P (sym by.2.0) by.2.1, λ is. (v, low v is, (refl, is))))
 
--- what an option says of a number, in other words
+-- what an option says of a number, by an equivalent condition
 pub some_as : (o : Option ℕ) (P : ℕ → Type 0) → IfSome o P → ((v : ℕ) → P v → o ≡ Some v) → (v : ℕ) → (o ≡ Some v) ↔ P v
 some_as o P is all v = (λ e. some_is P o v is e, λ p. all v p)
 

@@ -145,7 +145,7 @@ fn mark_later(trace: &Trace, marks: &mut Vec<u64>, u: usize) -> Result<(), OutOf
 }
 
 /// Word `j` of the row of the numbers that program order puts after the event, if they are program-later: all for a load,
-/// and for a store the stores and what stands after more barriers.
+/// and for a store the stores and what has more barriers before it.
 #[inline]
 fn ordered_word(trace: &Trace, event: Event, j: usize) -> u64
     ensures { (k : ℕ) → k < 64 → HasBit result k ↔ IsOrdered trace.now event (64 * j + k) }

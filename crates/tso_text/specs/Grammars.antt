@@ -18,7 +18,7 @@ use Rattle.tso_text.specs.declared.lines.Line.TheVariants.{Proc, Item, End}
 use Rattle.tso_text.specs.Numbers.{no_number, one_number, two_numbers, three_numbers}
 use Rattle.tso_text.specs.Spelling.{Grammar, SpellsLists, IsTextRefusal, same_text_fault}
 
--- the piece is this word
+-- the piece is this keyword
 abbrev pub is_word : List ℕ → List ℕ → Bool
 is_word piece word = bytes_eq piece word
 

@@ -1,4 +1,4 @@
--- The numbers after the word of a line, or their fault.
+-- The numbers after the keyword of a line, or their fault.
 use Rattle.std.specs.Prelude.{ℕ, List, [], ◌∷◌, Option, Some, None, Result, Ok, Err}
 use Rattle.line_text.specs.Numbers.{number}
 use Rattle.line_text.specs.Results.{◌>>=◌}
@@ -14,25 +14,25 @@ or_bad_number (Some n) = Ok n
 abbrev pub numeral : List ℕ → Result ℕ Why
 numeral piece = or_bad_number (number piece)
 
--- no piece after the word
+-- no piece after the keyword
 unfoldable pub no_number : List (List ℕ) → Result (Unit {0}) Why
 no_number [] = Ok tt
 no_number (piece ∷ pieces) = Err BadLine
 
--- one number after the word
+-- one number after the keyword
 unfoldable pub one_number : List (List ℕ) → Result ℕ Why
 one_number [] = Err BadLine
 one_number (m ∷ []) = numeral m
 one_number (m ∷ n ∷ pieces) = Err BadLine
 
--- two numbers after the word
+-- two numbers after the keyword
 unfoldable pub two_numbers : List (List ℕ) → Result (ℕ × ℕ) Why
 two_numbers [] = Err BadLine
 two_numbers (m ∷ []) = Err BadLine
 two_numbers (m ∷ n ∷ []) = numeral m >>= λ a. numeral n >>= λ b. Ok (a, b)
 two_numbers (m ∷ n ∷ o ∷ pieces) = Err BadLine
 
--- three numbers after the word
+-- three numbers after the keyword
 unfoldable pub three_numbers : List (List ℕ) → Result (ℕ × ℕ × ℕ) Why
 three_numbers [] = Err BadLine
 three_numbers (m ∷ []) = Err BadLine

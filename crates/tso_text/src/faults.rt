@@ -12,10 +12,10 @@ pub enum Why {
     /// The text doesn't begin with the header line and its line end.
     #[error("BadHeader")]
     BadHeader,
-    /// A line with no line end, with none of the words first, or with another number of pieces than its word has.
+    /// A line with no line end, whose first piece is no keyword, or with another number of pieces than its keyword has.
     #[error("BadLine")]
     BadLine,
-    /// A piece after the word is no number.
+    /// A piece after the first is no number.
     #[error("BadNumber")]
     BadNumber,
     /// An operation before the first `proc`.

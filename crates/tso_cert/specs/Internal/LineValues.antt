@@ -57,7 +57,7 @@ step_said number (k ∷ from ∷ to ∷ name ∷ pieces) =
     then (event from >>= λ u. event to >>= λ v. reason_said name pieces >>= λ r. Ok (record { from = u; to = v; reason = r }))
     else Err BadNumber
 
--- the load of a line `unwritten` with this number, and these pieces after the word
+-- the load of a line `unwritten` with this number, and these pieces after the keyword
 unfoldable pub unwritten_said : ℕ → List (List ℕ) → Result ℕ Why
 unwritten_said number [] = Err BadLine
 unwritten_said number (n ∷ []) = if number == 1 then event n else Err BadLine
