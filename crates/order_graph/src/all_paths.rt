@@ -11,7 +11,7 @@ use std::alloc::{AllocError, Global};
 /// Gives row x the numbers of word j that are done and that it has an edge to, and what they lead to.
 ///
 /// A number that the row has by then is left out, as the row has all that it leads to.
-pub fn take_over(
+pub fn join_done(
     edges: &[u64],
     paths: &mut [u64],
     done: &[u64],
@@ -55,7 +55,7 @@ pub fn finish(
         return;
     }
     for j in 0..width {
-        take_over(edges, paths, done, width, nodes, x, j);
+        join_done(edges, paths, done, width, nodes, x, j);
     }
     set_bit(done, width, 0, x);
 }
