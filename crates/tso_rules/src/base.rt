@@ -70,8 +70,8 @@ fn own_target(trace: &Trace, u: usize, l: usize) -> Option<usize>
 pub fn base_row(alloc: Global, trace: &Trace, u: usize) -> Result<Vec<usize>, OutOfMemory>
     ensures { IfOk result (λ row. IsRow row.items (RankSet trace.now 0 u)) }
 {
-    // The contract of `events` says that the trace keeps its limits, which the proof needs: no number is above 2,000.
-    // So wherever the answer of such a call isn't used.
+    // The call is for the proof: the contract of `events` says that the trace keeps its limits, so no number is above
+    // 2,000. Elsewhere too, a call whose answer isn't used brings what its contract says into the proof.
     let _events = trace.events();
     marked(alloc, &base_words(alloc, trace, u)?, node_count(trace))
 }

@@ -80,7 +80,7 @@ pub record Begins {X : Type 0} (g : Grammar X) (text : List ℕ) : Type 0 where
   pub short : length text ≤ 1048576
   pub header : has_header g.header (parts_of text) ≡ true
 
--- A reader has come after i lines after the header: they have no fault and none of them is an `end`; `rest` is what
+-- The reader is i lines after the header: these lines have no fault and none of them is an `end`; `rest` is what
 -- stands after them, and `lists` what they say.
 pub record Reached {X : Type 0} (g : Grammar X) (text : List ℕ) (i : ℕ) (rest : List ℕ) (lists : List (List X)) : Type 0 where
   pub begins : Begins g text
