@@ -83,7 +83,7 @@ is_base_decided : (reason : Reason) → Decision (IsBase reason)
 is_base_decided (Base rule) = inl tt
 is_base_decided (Inferred rule load path) = inr (λ base. base)
 
--- a step follows from the earlier ones, or has a fault behind them
+-- a step follows from the earlier ones, or has a fault after them
 follows_or_faulty : (t : TraceValue) (earlier : List CertStep) (number : ℕ) (s : CertStep) → Follows t earlier s ⊎ ((fault : CertFault) × HasFault t earlier number s fault)
 follows_or_faulty t earlier number s = elim (meets_decided t s.from s.to s.reason) [
   | inl meets ↦ elim (path_decided earlier s.reason) [

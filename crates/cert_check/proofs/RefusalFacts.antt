@@ -146,7 +146,7 @@ not_refused t (Unwritten n) fault holds refusal =
 not_refused t (Cycle steps cycle) fault holds refusal =
     ⊎_elim (λ range. range.1 (in_range t (Cycle steps cycle) holds)) (λ other. no_cycle_refusal t steps cycle fault holds.0 holds.1 other.1) refusal
 
--- ---- what the check tells
+-- ---- what the check answers
 
 pub told_holds : (t : TraceValue) (certificate : Certificate) (r : Result (Unit {0}) CertFault) → MatchResult r (λ _. Holds t certificate) (IsCertRefusal t certificate) → OnOk r (Holds t certificate)
 told_holds t certificate (Ok x) told = told
@@ -167,7 +167,7 @@ pub told_refused : (t : TraceValue) (certificate : Certificate) (r : Result (Uni
 told_refused t certificate (Ok x) told = tt
 told_refused t certificate (Err fault) told = told
 
--- what the check tells of a certificate with a cycle, whose numbers are in range
+-- what the check answers of a certificate with a cycle, whose numbers are in range
 pub told_of_cycle : (t : TraceValue) (certificate : Certificate) (steps : List CertStep) (cycle : List ℕ) (r : Result (Unit {0}) CertFault) → certificate ≡ Cycle steps cycle →
     IsInRange t certificate → MatchResult r (λ _. StepsHold t steps × IsCycle (λ x y. IsStep steps x y) cycle) (IsCycleRefusal t steps cycle) →
     MatchResult r (λ _. Holds t certificate) (IsCertRefusal t certificate)
@@ -176,7 +176,7 @@ told_of_cycle t certificate steps cycle (Err fault) is range told = inr (range, 
 
 -- ---- one refusal at most
 
--- one step behind the same steps has one fault at most
+-- one step after the same steps has one fault at most
 one_fault : (t : TraceValue) (earlier : List CertStep) (number : ℕ) (s : CertStep) (f g : CertFault) → HasFault t earlier number s f → HasFault t earlier number s g → f ≡ g
 one_fault t earlier number s EventRange g has other = absurd has
 one_fault t earlier number s NotUnwritten g has other = absurd has

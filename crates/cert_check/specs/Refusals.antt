@@ -34,7 +34,7 @@ abbrev pub IsBase : Reason → Type 0
 IsBase (Base rule) = Unit {0}
 IsBase (Inferred rule load path) = ⊥
 
--- The step with this number has the fault, behind these earlier steps.
+-- The step with this number has the fault, after these earlier steps.
 abbrev pub HasFault : TraceValue → List CertStep → ℕ → CertStep → CertFault → Type 0
 HasFault t earlier number s (BaseRefused k) = (k ≡ number) × IsBase s.reason × (MeetsRule t s.from s.to s.reason → ⊥)
 HasFault t earlier number s (SideRefused k) = (k ≡ number) × (IsBase s.reason → ⊥) × (MeetsRule t s.from s.to s.reason → ⊥)

@@ -20,7 +20,7 @@ use tso_ops::Trace;
 /// Checks a certificate: Ok exactly where it holds for the trace, which then has no TSO order.
 ///
 /// Where it doesn't hold, EventRange is looked for over the whole certificate first; then the first step with a
-/// fault decides; then the cycle. It takes no memory.
+/// fault decides; then the cycle. It allocates nothing.
 pub fn check(trace: &Trace, certificate: &Certificate) -> Result<(), CertFault>
     ensures holds { OnOk result (Holds trace.now certificate.now) }
     ensures no_order { OnOk result (IsConsistent trace.now → ⊥) }
@@ -89,7 +89,7 @@ fn check_steps(trace: &Trace, steps: &[CertStep]) -> Result<(), CertFault>
     Ok(())
 }
 
-/// The fault of the step with this number, behind the earlier steps, if it has one.
+/// The fault of the step with this number, after the earlier steps, if it has one.
 fn step_fault(
     trace: &Trace,
     earlier: &[CertStep],

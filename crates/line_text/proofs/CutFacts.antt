@@ -39,7 +39,7 @@ split_parts p [] = ([], [], refl)
 split_parts p (x ∷ xs) = elim (p x) as (λ b. (first : List _) × (others : List (List _)) × (cond b ([] ∷ slice_split p xs) (onto_first x (slice_split p xs)) ≡ first ∷ others))
     [ true ↦ ([], slice_split p xs, refl) | false ↦ onto_first_parts x (slice_split p xs) ]
 
--- there is a piece behind a space
+-- there is a piece after a space
 pub pieces_after_some : (pieces : Option (Bor (List ℕ))) (rest : Bor (List ℕ)) → pieces ≡ Some rest → SomePiece (pieces_after pieces)
 unfolding pieces_of
 pieces_after_some pieces rest is =

@@ -10,7 +10,7 @@ use Rattle.std.proofs.lemmas.Str.Parse.{IsNumeralModel, numerals_by_value}
 use Rattle.std.proofs.lemmas.Fmt.{decimal-digits_value, digits_decimal, digits_value-decimal, decimal_nonempty, first_decimal}
 use Rattle.line_text.specs.Numbers.{is_plain, is_numeral, number}
 
--- the digits of a number, in std's words
+-- the digits of a number, by std's definition
 pub digits_model : IsNumeralModel (λ ds. list_all is_ascii_digit ds ≡ true) (digits_value 10)
 digits_model = numerals_by_value _ (search rules)
 
@@ -33,11 +33,11 @@ some_parts false m n e = absurd cc
 
 -- ---- a number read digit by digit
 
--- the number that a digit makes behind the number n
+-- the number that a digit makes after the number n
 abbrev pub number_with : ℕ → ℕ → Option ℕ
 number_with n d = cond (is_ascii_digit d && ltb (n * 10 + digit_value d) (2 ^ 64)) (Some (n * 10 + digit_value d)) None
 
--- the number that digits make behind the number n
+-- the number that digits make after the number n
 unfoldable pub number_after : ℕ → List ℕ → Option ℕ
 number_after n ds = cond (list_all is_ascii_digit ds && ltb (digits_value_after 10 n ds) (2 ^ 64)) (Some (digits_value_after 10 n ds)) None
 
@@ -67,11 +67,11 @@ unfolding number_after
 digit_by_test n m d ds true is e = let parts = some_parts (ltb (n * 10 + digit_value d) (2 ^ 64)) (n * 10 + digit_value d) m e in rw (sym is, sym parts.1) refl
 digit_by_test n m d ds false is e = absurd cc
 
--- a digit that is taken leads on to the digits behind it
+-- a digit that is read leads to the digits after it
 pub number_after-digit : (n m d : ℕ) (ds : List ℕ) → number_with n d ≡ Some m → number_after n (d ∷ ds) ≡ number_after m ds
 number_after-digit n m d ds e = digit_by_test n m d ds (is_ascii_digit d) refl e
 
--- what is taken has 64 bits
+-- a digit is read only where the number has 64 bits
 pub number_with-fits : (n d m : ℕ) → number_with n d ≡ Some m → m < 2 ^ 64
 number_with-fits n d m e =
     let parts = some_parts (is_ascii_digit d && ltb (n * 10 + digit_value d) (2 ^ 64)) (n * 10 + digit_value d) m e in

@@ -1,5 +1,5 @@
 -- Lemmas on joined parts: a text that is joined of parts without the byte between them is cut into these parts.
-use Rattle.std.proofs.Common.{◌≡◌, ℕ, ◌<◌, ◌^◌, Bool, true, false, ◌||◌, eqb, List, [], ◌∷◌, ◌++◌, refl, ap, ◌∙◌, arith}
+use Rattle.std.proofs.Common.{◌≡◌, ℕ, ◌<◌, ◌^◌, Bool, true, false, eqb, List, [], ◌∷◌, ◌++◌, refl, ap, ◌∙◌, arith}
 use Rattle.std.specs.Char.{is_ascii_digit}
 use Rattle.std.specs.Fmt.{decimal}
 use Rattle.std.specs.List.{list_any, list_all, slice_split, onto_first, join_with_byte}
@@ -36,7 +36,7 @@ split_whole p (x ∷ xs) none =
 same_byte : (c : ℕ) → eqb c c ≡ true
 same_byte c = grind (arith, nat_tests)
 
--- a part, the byte, and what stands behind it
+-- a part, the byte, and what follows it
 pub split_part : (c : ℕ) (part rest : List ℕ) → has_byte c part ≡ false → slice_split (λ b. eqb b c) (part ++ c ∷ rest) ≡ part ∷ slice_split (λ b. eqb b c) rest
 split_part c part rest none = split_prefix (λ b. eqb b c) part c rest none (same_byte c)
 

@@ -1,3 +1,4 @@
 pub mod Internal
 pub mod Lines
 pub mod Numbers
+pub mod Results

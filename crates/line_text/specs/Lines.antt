@@ -3,7 +3,7 @@ use Rattle.std.specs.Prelude.{◌≡◌, ℕ, ◌==◌, Bool, true, false, List,
 use Rattle.std.specs.List.{slice_split, join_with_byte}
 use Rattle.std.specs.Borrow.{Bor}
 
--- The parts of a text between its line ends. The last part is what stands behind the last line end: it is no line.
+-- The parts of a text between its line ends. The last part is what stands after the last line end: it is no line.
 unfoldable pub parts_of : List ℕ → List (List ℕ)
 parts_of text = slice_split (λ b. b == 10) text
 
@@ -19,7 +19,7 @@ abbrev pub is_empty : {X : Type 0} → List X → Bool
 is_empty [] = true
 is_empty (x ∷ xs) = false
 
--- the pieces behind a space
+-- the pieces after a space
 abbrev pub pieces_after : Option (Bor (List ℕ)) → List (List ℕ)
 pieces_after None = []
 pieces_after (Some rest) = pieces_of rest.now

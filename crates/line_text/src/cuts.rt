@@ -9,7 +9,7 @@ const LINE_END: u8 = 10;
 /// The byte between the pieces of a line.
 const SPACE: u8 = 32;
 
-/// The first line, without its line end, and what stands behind it; nothing where no byte ends a line.
+/// The first line, without its line end, and what follows it; nothing where no byte ends a line.
 #[tactic(auto, unfolding(crate::specs::Lines::parts_of))]
 pub fn next_line(text: &[u8]) -> Option<(&[u8], &[u8])>
     ensures line { IfSome result (λ found. parts_of text.now ≡ found.0.now ∷ parts_of found.1.now) }
@@ -22,7 +22,7 @@ pub fn next_line(text: &[u8]) -> Option<(&[u8], &[u8])>
     }
 }
 
-/// The first piece of a line, and what stands behind its space, if a space ends it.
+/// The first piece of a line, and what stands after its space, if a space ends it.
 #[tactic(auto, unfolding(crate::specs::Lines::pieces_of))]
 pub fn next_piece(line: &[u8]) -> (&[u8], Option<&[u8]>)
     ensures pieces { pieces_of line.now ≡ result.0.now ∷ pieces_after result.1 }
@@ -31,7 +31,7 @@ pub fn next_piece(line: &[u8]) -> (&[u8], Option<&[u8]>)
     cut(line, SPACE)
 }
 
-/// Cuts at the first of these bytes: what stands before it, and what stands behind it, if there is one.
+/// Cuts at the first of these bytes: what stands before it, and what follows it, if there is one.
 fn cut(text: &[u8], at: u8) -> (&[u8], Option<&[u8]>)
     ensures parts { slice_split (λ b. b == at) text.now ≡ result.0.now ∷ parts_after (λ b. b == at) result.1 }
     ensures whole { IfNone result.1 (result.0.now ≡ text.now) }
@@ -43,7 +43,7 @@ fn cut(text: &[u8], at: u8) -> (&[u8], Option<&[u8]>)
     }
 }
 
-/// The place of the first of these bytes.
+/// The index of the first of these bytes.
 fn first_place(text: &[u8], at: u8) -> Option<usize>
     ensures { result ≡ position (λ b. b == at) text.now }
 {

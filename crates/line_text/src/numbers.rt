@@ -16,7 +16,7 @@ pub fn number_of(piece: &[u8]) -> Option<u64>
     Some(value)
 }
 
-/// The number that has this digit behind the digits of `front`; nothing where the byte is no digit or 64 bits don't
+/// The number that has this digit after the digits of `prefix`; nothing where the byte is no digit or 64 bits don't
 /// hold the number.
 #[inline]
 fn with_digit(prefix: u64, byte: u8) -> Option<u64>

@@ -1,4 +1,4 @@
--- Tables to which bits are added one after another: which of the bits given are left, and how two turned tables keep step.
+-- Tables to which bits are added one after another: which of the bits given are left, and how a table and its transposed table stay in agreement.
 use Rattle.std.proofs.Common.{◌≡◌, ◌⊎◌, ◌↔◌, inl, inr, ℕ, ◌+◌, ◌*◌, ◌/◌, ◌%◌, ◌^◌, ◌<◌, ◌≤◌, List, length, get_or, sym, subst, ◌∙◌, arith}
 use Rattle.std.specs.Int.{bit_not, trailing_zeros, w64}
 use Rattle.std.specs.Prelude.{bit_and, bit_or}
@@ -97,7 +97,7 @@ Marks-step old now new width j rows i given left marks some fits adds =
 pub Marks-end : (old now : List ℕ) (width j rows i given : ℕ) → Marks old now width j rows i given 0 → Adds old now width (λ y x. (y / 64 ≡ j) × HasBit rows (y % 64) × (x / 64 ≡ i) × HasBit given (x % 64))
 Marks-end old now width j rows i given marks = Leaves-end old now width _ _ marks.leaves (λ y x h p. HasBit-zero (y % 64) p.1)
 
--- The bits told are given ones, and of the rows that are not left each had the others; the rows left are as they were.
+-- The bits returned are given ones, and of the rows that are not left each had the others; the rows left are as they were.
 pub record Tells (old now : List ℕ) (width j rows i given left told : ℕ) : Type 0 where
   pub only : (k : ℕ) → k < 64 → HasBit told k → HasBit given k
   pub had : (y x : ℕ) → y / 64 ≡ j → HasBit rows (y % 64) → (HasBit left (y % 64) → ⊥) → x / 64 ≡ i → HasBit given (x % 64) → IsSet old width y x ⊎ HasBit told (x % 64)
@@ -110,7 +110,7 @@ Tells-start old width j rows i given = record {
   untouched = λ y x hj b h s. s;
 }
 
--- what the lowest of them lacked is told too
+-- what the lowest of them lacked is returned too
 pub Tells-step : (old now new : List ℕ) (width j rows i given left told fresh : ℕ) → Tells old now width j rows i given left told → i < width → 0 < left → left < 2 ^ 64 →
     Adds now new width (λ y x. (y ≡ 64 * j + trailing_zeros w64 left) × (x / 64 ≡ i) × HasBit given (x % 64)) →
     ((x : ℕ) → x / 64 ≡ i → HasBit fresh (x % 64) ↔ (HasBit given (x % 64) × (IsSet now width (64 * j + trailing_zeros w64 left) x → ⊥))) →
@@ -152,7 +152,7 @@ row_within x nodes width h = row_fits x width nodes width h (omega arith)
 pub column_within : (y nodes width : ℕ) → width ≡ (nodes + 63) / 64 → y < nodes → y / 64 < width
 column_within y nodes width fits h = omega arith
 
--- Two tables that are turned stay so, where rows of word i gain bits of word j in the one, and in the other those bits gain these rows that some
+-- Two transposed tables stay so, where rows of word i gain bits of word j in the one, and in the other those bits gain these rows that some
 -- of the rows lacked.
 pub AreTransposed-words : (table transposed new new_transposed : List ℕ) (width nodes i rows j given fresh : ℕ) → AreTransposed table transposed width nodes → width ≡ (nodes + 63) / 64 →
     ((x : ℕ) → x / 64 ≡ i → HasBit rows (x % 64) → x < nodes) → ((y : ℕ) → y / 64 ≡ j → HasBit given (y % 64) → y < nodes) →
@@ -239,7 +239,7 @@ SpreadFrom-step old now new width x v j given leaves hj bits adds =
 pub SpreadFrom-end : (old now : List ℕ) (width x v : ℕ) → Leaves old now width (λ i y. (i ≡ x) × IsSelfOrSet old width v y) (SpreadFrom old width x v width) → Adds old now width (λ i y. (i ≡ x) × IsSelfOrSet old width v y)
 SpreadFrom-end old now width x v leaves = Leaves-end old now width _ _ leaves (λ i y h p. omega (arith, p.1, h))
 
--- Of the rows whose numbers are bits of word i each has v and the numbers of row v before word j, and the other table is turned.
+-- Of the rows whose numbers are bits of word i each has v and the numbers of row v before word j, and the other table is transposed.
 pub record Widens (old now other : List ℕ) (width nodes i rows v j : ℕ) : Type 0 where
   pub leaves : Leaves old now width (λ x y. (x / 64 ≡ i) × HasBit rows (x % 64) × IsSelfOrSet old width v y) (λ x y. (x / 64 ≡ i) × HasBit rows (x % 64) × (j ≤ y / 64) × IsSelfOrSet old width v y)
   pub transposed : AreTransposed now other width nodes
@@ -295,7 +295,7 @@ Joins-start old transposed width nodes u v are = record {
   transposed = are;
 }
 
--- what word i of row u of the turned table has with u, less row v: the sources of u there that don't have v
+-- what word i of row u of the transposed table has with u, less row v: the sources of u there that don't have v
 pub rows_are : (transposed : List ℕ) (width u v i sources rows : ℕ) → get_or transposed (v * width + i) 0 < 2 ^ 64 →
     ((k : ℕ) → k < 64 → HasBit sources k ↔ ((64 * i + k ≡ u) ⊎ HasBit (get_or transposed (u * width + i) 0) k)) →
     rows ≡ bit_and sources (bit_not w64 (get_or transposed (v * width + i) 0)) →
@@ -370,7 +370,7 @@ pub Joins-end : (old now transposed : List ℕ) (width nodes u v : ℕ) → widt
     Adds old now width (λ x y. (x < nodes) × ((x ≡ u) ⊎ IsSet old width x u) × IsSelfOrSet old width v y)
 Joins-end old now transposed width nodes u v fits joins = Leaves-end old now width _ _ joins.leaves (λ x y h p. let hx : x < nodes = p.1.0 in omega (arith, p.0))
 
--- which of two turned tables is the first doesn't matter
+-- which of two transposed tables is the first doesn't matter
 pub AreTransposed-swap : (table transposed : List ℕ) (width nodes : ℕ) → AreTransposed table transposed width nodes → AreTransposed transposed table width nodes
 AreTransposed-swap table transposed width nodes are = record {
   table_sized = are.transposed_sized;

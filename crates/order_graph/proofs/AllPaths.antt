@@ -7,15 +7,15 @@ use Rattle.order_paths.specs.Paths.{Reaches}
 use Rattle.order_paths.proofs.Reach.{Reaches-edge, Reaches-join, Reaches-into, Reaches-below}
 use Rattle.order_graph.specs.BitRows.{HasBit}
 use Rattle.order_graph.specs.Internal.Tables.{IsSet, Adds, IsSelfOrSet, AreTransposed, Joined, IsTable}
-use Rattle.order_graph.specs.Internal.KeptPaths.{Keeps, KeepsSomePaths, KeepsPathsToDone}
+use Rattle.order_graph.specs.Internal.KeptPaths.{KeepsAllPaths, KeepsSomePaths, KeepsPathsToDone}
 use Rattle.order_graph.proofs.Words.{HasBit-zero, HasBit-and, HasBit-not, HasBit-lowest, IsSet-decided, IsSet-at, without_less}
 use Rattle.order_graph.proofs.AddedBits.{Adds-kept, column_within}
 use Rattle.order_graph.proofs.Keeping.{no_bit}
 
 -- some paths of which each edge is one: all paths
-pub Keeps-all : (nodes width : ℕ) (edges paths transposed : List ℕ) → IsTable nodes width edges → KeepsSomePaths nodes width edges paths → AreTransposed paths transposed width nodes →
-    ((x y : ℕ) → x < nodes → y / 64 < width → IsSet edges width x y → IsSet paths width x y) → Keeps nodes width edges paths transposed
-Keeps-all nodes width edges paths transposed keeps some are all = record {
+pub KeepsAllPaths-all : (nodes width : ℕ) (edges paths transposed : List ℕ) → IsTable nodes width edges → KeepsSomePaths nodes width edges paths → AreTransposed paths transposed width nodes →
+    ((x y : ℕ) → x < nodes → y / 64 < width → IsSet edges width x y → IsSet paths width x y) → KeepsAllPaths nodes width edges paths transposed
+KeepsAllPaths-all nodes width edges paths transposed keeps some are all = record {
   small = keeps.small;
   fits = keeps.fits;
   edges_sized = keeps.sized;
@@ -163,13 +163,13 @@ KeepsSomePaths-join nodes width edges paths wider u v fits keeps hu hv e sized a
         ]
 
 -- The numbers left of word j are done, and edges lead to them from x.
-pub record Taking (nodes width : ℕ) (edges paths done : List ℕ) (x j left : ℕ) : Type 0 where
+pub record JoinsDone (nodes width : ℕ) (edges paths done : List ℕ) (x j left : ℕ) : Type 0 where
   pub done_paths : KeepsPathsToDone nodes width edges paths done
   pub given : (k : ℕ) → k < 64 → HasBit left k → IsSet edges width x (64 * j + k) × IsSet done width 0 (64 * j + k)
 
-pub Taking-start : (nodes width : ℕ) (edges paths done : List ℕ) (x j word : ℕ) → KeepsPathsToDone nodes width edges paths done →
-    Taking nodes width edges paths done x j (bit_and (bit_and (get_or edges (x * width + j) 0) (get_or done j 0)) word)
-Taking-start nodes width edges paths done x j word keeps = record {
+pub JoinsDone-start : (nodes width : ℕ) (edges paths done : List ℕ) (x j word : ℕ) → KeepsPathsToDone nodes width edges paths done →
+    JoinsDone nodes width edges paths done x j (bit_and (bit_and (get_or edges (x * width + j) 0) (get_or done j 0)) word)
+JoinsDone-start nodes width edges paths done x j word keeps = record {
   done_paths = keeps;
   given = λ k h b.
       let both = (HasBit-and (get_or edges (x * width + j) 0) (get_or done j 0) k).0 ((HasBit-and (bit_and (get_or edges (x * width + j) 0) (get_or done j 0)) word k).0 b).0 in
@@ -177,18 +177,18 @@ Taking-start nodes width edges paths done x j word keeps = record {
       ((IsSet-at edges width x j k h).1 both.0, (IsSet-at done width 0 j k h).1 (subst (λ n. HasBit (get_or done n 0) k) (sym first) both.1));
 }
 
-pub Taking-step : (nodes width : ℕ) (edges paths wider done : List ℕ) (x j left : ℕ) → IsTable nodes width edges → Taking nodes width edges paths done x j left →
+pub JoinsDone-step : (nodes width : ℕ) (edges paths wider done : List ℕ) (x j left : ℕ) → IsTable nodes width edges → JoinsDone nodes width edges paths done x j left →
     (IsSet done width 0 x → ⊥) → x < nodes → j < width → 0 < left → left < 2 ^ 64 → length wider ≡ length paths →
     Adds paths wider width (λ i y. (i ≡ x) × IsSelfOrSet paths width (64 * j + trailing_zeros w64 left) y) →
-    Taking nodes width edges wider done x j (bit_and left (bit_not w64 (get_or wider (x * width + j) 0)))
-Taking-step nodes width edges paths wider done x j left keeps taking not_done hx hj some fits sized adds =
+    JoinsDone nodes width edges wider done x j (bit_and left (bit_not w64 (get_or wider (x * width + j) 0)))
+JoinsDone-step nodes width edges paths wider done x j left keeps joins not_done hx hj some fits sized adds =
     let low = HasBit-lowest left some fits in
     let bound : trailing_zeros w64 left < 64 = low.0 in
-    let given = taking.given (trailing_zeros w64 left) low.0 low.1 in
+    let given = joins.given (trailing_zeros w64 left) low.0 low.1 in
     record {
-      done_paths = KeepsPathsToDone-take nodes width edges paths wider done x (64 * j + trailing_zeros w64 left) keeps.fits taking.done_paths not_done hx
+      done_paths = KeepsPathsToDone-take nodes width edges paths wider done x (64 * j + trailing_zeros w64 left) keeps.fits joins.done_paths not_done hx
           (keeps.within x (64 * j + trailing_zeros w64 left) hx (omega arith) given.0) given.0 given.1 sized adds;
-      given = λ k h b. taking.given k h ((HasBit-and left (bit_not w64 (get_or wider (x * width + j) 0)) k).0 b).0;
+      given = λ k h b. joins.given k h ((HasBit-and left (bit_not w64 (get_or wider (x * width + j) 0)) k).0 b).0;
     }
 
 -- Of the edges from x to numbers of word j those left may be no paths yet.
@@ -206,7 +206,7 @@ without a word k small h =
     let not = HasBit-not word k small h in
     (λ b. ((both.0 b).0, not.0 (both.0 b).1), λ p. both.1 (p.0, not.1 p.1))
 
--- the edges left, where paths are taken out that word j of row x of a table has
+-- the edges left, without the paths that word j of row x of a table has
 rest_without : (width : ℕ) (edges now : List ℕ) (x j left : ℕ) → get_or now (x * width + j) 0 < 2 ^ 64 →
     ((k : ℕ) → k < 64 → IsSet edges width x (64 * j + k) → IsSet now width x (64 * j + k) ⊎ HasBit left k) →
     (k : ℕ) → k < 64 → IsSet edges width x (64 * j + k) → IsSet now width x (64 * j + k) ⊎ HasBit (bit_and left (bit_not w64 (get_or now (x * width + j) 0))) k

@@ -3,7 +3,7 @@ use Rattle.std.proofs.Common.{◌≡◌, ◌↔◌, inl, inr, ℕ, ◌+◌, ◌/
 use Rattle.std.proofs.lemmas.Bool.{cases_eq}
 use Rattle.std.proofs.lemmas.List.{length-replicate}
 use Rattle.order_graph.specs.Internal.Tables.{IsSet, Adds}
-use Rattle.order_graph.specs.Internal.KeptPaths.{Keeps}
+use Rattle.order_graph.specs.Internal.KeptPaths.{KeepsAllPaths}
 use Rattle.order_graph.specs.Internal.Tracks.{IsClosedNumber}
 use Rattle.order_graph.proofs.Keeping.{no_bit}
 use Rattle.order_graph.proofs.ShortCycles.{IsClosedNumber-from}
@@ -57,7 +57,7 @@ Notes-add edges transposed row upto more next width x notes more_sized next_size
     }
 
 -- a number that is on no cycle closes none
-pub Notes-skip : (nodes width : ℕ) (edges paths transposed row upto next : List ℕ) (x : ℕ) → Keeps nodes width edges paths transposed → x < nodes → (IsSet paths width x x → ⊥) →
+pub Notes-skip : (nodes width : ℕ) (edges paths transposed row upto next : List ℕ) (x : ℕ) → KeepsAllPaths nodes width edges paths transposed → x < nodes → (IsSet paths width x x → ⊥) →
     Notes edges transposed row upto width x → length next ≡ length upto → Adds upto next width (λ i j. (i ≡ 0) × (j ≡ x)) → Notes edges transposed row next width (x + 1)
 Notes-skip nodes width edges paths transposed row upto next x keeps hx none notes next_sized steps =
     let fresh = with_next upto next width x notes.below steps in

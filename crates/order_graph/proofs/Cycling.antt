@@ -35,7 +35,7 @@ Track-path Edge x v rest t = (ends rest, t)
     ends [] = (refl, refl)
     ends (y ∷ r) = (refl, last_is y r)
 
--- lists stay in their order with one number behind both
+-- lists stay in their order with one number after both
 IsNoGreater-push : (xs ys : List ℕ) (u v : ℕ) → IsNoGreater xs ys → IsNoGreater (u ∷ (xs ++ v ∷ [])) (u ∷ (ys ++ v ∷ []))
 IsNoGreater-push xs ys u v (inl fewer) = inl (omega (arith, length-append xs (v ∷ []), length-append ys (v ∷ [])))
 IsNoGreater-push xs ys u v (inr same) =
@@ -48,7 +48,7 @@ IsNoGreater-push xs ys u v (inr same) =
     at_most (a ∷ az) (b ∷ bz) e (inl less) = inl less
     at_most (a ∷ az) (b ∷ bz) e (inr h) = inr (h.0, at_most az bz (omega arith) h.1)
 
--- The least track with its end behind it is the least path.
+-- The least track with its end after it is the least path.
 pub IsLeastPath-track : (Edge Other : ℕ → ℕ → Type 0) (u v : ℕ) (list path : List ℕ) → ((x y : ℕ) → Other x y ↔ Edge x y) → IsLeastTrack Edge u v list → path ≡ list ++ v ∷ [] → IsLeastPath Other u v path
 IsLeastPath-track Edge Other u v [] path same least e = absurd least
 IsLeastPath-track Edge Other u v (x ∷ rest) path same least e =
@@ -77,7 +77,7 @@ pub IsLeastPath-same : (Edge Other : ℕ → ℕ → Type 0) (u v : ℕ) (path :
 IsLeastPath-same Edge Other u v path same least =
     (IsPath-mono Edge Other (λ a b. (same a b).1) u v path least.0, λ other p. least.1 other (IsPath-mono Other Edge (λ a b. (same a b).0) u v other p))
 
--- with a number in front, lists stay in their order
+-- with a number prepended, lists stay in their order
 IsNoGreater-prefix : (x : ℕ) (xs ys : List ℕ) → IsNoGreater xs ys → IsNoGreater (x ∷ xs) (x ∷ ys)
 IsNoGreater-prefix x xs ys (inl fewer) = inl (omega arith)
 IsNoGreater-prefix x xs ys (inr same) = inr (let e : length (x ∷ xs) ≡ length (x ∷ ys) = omega (arith, same.0) in e, inr (refl, same.1))

@@ -11,7 +11,7 @@ use Rattle.order_paths.proofs.Reach.{Reaches-join, Reaches-mono, Reaches-decided
 use Rattle.order_graph.specs.BitRows.{HasBit, HasNumber}
 use Rattle.order_graph.specs.Internal.Tables.{IsSet, Adds, IsSelfOrSet, AreTransposed, IsTransitive, Joined}
 use Rattle.order_graph.specs.Digraphs.{Digraph, IsEdge, EdgesWithin, tests_of, graph_of}
-use Rattle.order_graph.specs.Internal.KeptPaths.{Keeps}
+use Rattle.order_graph.specs.Internal.KeptPaths.{KeepsAllPaths}
 use Rattle.order_graph.proofs.Words.{HasBit-zero}
 use Rattle.order_graph.proofs.AddedBits.{column_within}
 use Rattle.order_graph.proofs.Reaching.{WithEdge, ReachesThrough, reach_split, reach_through, reach_same}
@@ -111,21 +111,21 @@ Reaches-more table more nodes width u v fits hu hv adds x y = (
 )
 
 -- the table of paths is transitive
-pub Keeps-transitive : (nodes width : ℕ) (edges paths transposed : List ℕ) → Keeps nodes width edges paths transposed → IsTransitive paths width nodes
-Keeps-transitive nodes width edges paths transposed keeps = record {
+pub KeepsAllPaths-transitive : (nodes width : ℕ) (edges paths transposed : List ℕ) → KeepsAllPaths nodes width edges paths transposed → IsTransitive paths width nodes
+KeepsAllPaths-transitive nodes width edges paths transposed keeps = record {
   joins = λ x y z hx hy hz p q. (keeps.tells x z hx hz).1 (Reaches-join (Joined edges width nodes) x y z ((keeps.tells x y hx hy).0 p) ((keeps.tells y z hy hz).0 q));
 }
 
 -- with an edge more, bits of rows stay within
-edges_within_more : (nodes width : ℕ) (edges more paths transposed : List ℕ) (u v : ℕ) → Keeps nodes width edges paths transposed → v < nodes → Adds edges more width (λ x y. (x ≡ u) × (y ≡ v)) →
+edges_within_more : (nodes width : ℕ) (edges more paths transposed : List ℕ) (u v : ℕ) → KeepsAllPaths nodes width edges paths transposed → v < nodes → Adds edges more width (λ x y. (x ≡ u) × (y ≡ v)) →
     (x y : ℕ) → x < nodes → y / 64 < width → IsSet more width x y → y < nodes
 edges_within_more nodes width edges more paths transposed u v keeps hv adds x y hx hy s = elim ((adds.bits x y hy).0 s) [ inl o ↦ keeps.edges_within x y hx hy o | inr g ↦ omega (arith, g.1) ]
 
 -- An edge where there is a path already changes no path.
-pub Keeps-edge : (nodes width : ℕ) (edges more new paths transposed : List ℕ) (u v : ℕ) → Keeps nodes width edges paths transposed → new ≡ more → length more ≡ length edges → u < nodes → v < nodes →
-    Adds edges more width (λ x y. (x ≡ u) × (y ≡ v)) → IsSet paths width u v → Keeps nodes width new paths transposed
-Keeps-edge nodes width edges more new paths transposed u v keeps same sized hu hv adds set =
-    subst (λ t. Keeps nodes width t paths transposed) (sym same) record {
+pub KeepsAllPaths-edge : (nodes width : ℕ) (edges more new paths transposed : List ℕ) (u v : ℕ) → KeepsAllPaths nodes width edges paths transposed → new ≡ more → length more ≡ length edges → u < nodes → v < nodes →
+    Adds edges more width (λ x y. (x ≡ u) × (y ≡ v)) → IsSet paths width u v → KeepsAllPaths nodes width new paths transposed
+KeepsAllPaths-edge nodes width edges more new paths transposed u v keeps same sized hu hv adds set =
+    subst (λ t. KeepsAllPaths nodes width t paths transposed) (sym same) record {
       small = keeps.small;
       fits = keeps.fits;
       edges_sized = sized ∙ keeps.edges_sized;
@@ -138,13 +138,13 @@ Keeps-edge nodes width edges more new paths transposed u v keeps same sized hu h
     }
 
 -- An edge where there is none: what is or reaches u gains v and what v reaches.
-pub Keeps-join : (nodes width : ℕ) (edges more new paths wider new_paths transposed other new_transposed : List ℕ) (u v : ℕ) → Keeps nodes width edges paths transposed →
+pub KeepsAllPaths-join : (nodes width : ℕ) (edges more new paths wider new_paths transposed other new_transposed : List ℕ) (u v : ℕ) → KeepsAllPaths nodes width edges paths transposed →
     new ≡ more → new_paths ≡ wider → new_transposed ≡ other → length more ≡ length edges → u < nodes → v < nodes →
     Adds edges more width (λ x y. (x ≡ u) × (y ≡ v)) →
     Adds paths wider width (λ x y. (x < nodes) × ((x ≡ u) ⊎ IsSet paths width x u) × IsSelfOrSet paths width v y) →
-    AreTransposed wider other width nodes → Keeps nodes width new new_paths new_transposed
-Keeps-join nodes width edges more new paths wider new_paths transposed other new_transposed u v keeps same same_paths same_transposed sized hu hv adds joins are =
-    subst (λ t. Keeps nodes width t new_paths new_transposed) (sym same) (subst (λ t. Keeps nodes width more t new_transposed) (sym same_paths) (subst (λ t. Keeps nodes width more wider t) (sym same_transposed) kept))
+    AreTransposed wider other width nodes → KeepsAllPaths nodes width new new_paths new_transposed
+KeepsAllPaths-join nodes width edges more new paths wider new_paths transposed other new_transposed u v keeps same same_paths same_transposed sized hu hv adds joins are =
+    subst (λ t. KeepsAllPaths nodes width t new_paths new_transposed) (sym same) (subst (λ t. KeepsAllPaths nodes width more t new_transposed) (sym same_paths) (subst (λ t. KeepsAllPaths nodes width more wider t) (sym same_transposed) kept))
   where
     tells : (x y : ℕ) → x < nodes → y < nodes → IsSet wider width x y ↔ ReachesThrough (Joined edges width nodes) u v x y
     tells x y hx hy =
@@ -159,7 +159,7 @@ Keeps-join nodes width edges more new paths wider new_paths transposed other new
           ]),
         )
 
-    kept : Keeps nodes width more wider other
+    kept : KeepsAllPaths nodes width more wider other
     kept = record {
       small = keeps.small;
       fits = keeps.fits;
@@ -180,9 +180,9 @@ no_bit count width x y s = elim (cases_lt (x * width + y / 64) count) [
 ]
 
 -- Tables of zeros keep the graph without edges.
-pub Keeps-empty : (nodes width : ℕ) (edges paths transposed : List ℕ) → nodes < 2 ^ 32 → width ≡ (nodes + 63) / 64 →
-    edges ≡ replicate (nodes * width) 0 → paths ≡ replicate (nodes * width) 0 → transposed ≡ replicate (nodes * width) 0 → Keeps nodes width edges paths transposed
-Keeps-empty nodes width edges paths transposed small fits e p t = record {
+pub KeepsAllPaths-empty : (nodes width : ℕ) (edges paths transposed : List ℕ) → nodes < 2 ^ 32 → width ≡ (nodes + 63) / 64 →
+    edges ≡ replicate (nodes * width) 0 → paths ≡ replicate (nodes * width) 0 → transposed ≡ replicate (nodes * width) 0 → KeepsAllPaths nodes width edges paths transposed
+KeepsAllPaths-empty nodes width edges paths transposed small fits e p t = record {
   small = small;
   fits = fits;
   edges_sized = ap length e ∙ length-replicate {A = ℕ} (nodes * width) 0;
@@ -226,7 +226,7 @@ HasNumber-row table width count x v e = (to, back)
     back p = subst (λ n. HasBit n (v % 64)) (sym (word (subst (λ n. v / 64 < n) (sym e) p.0))) p.1
 
 -- the numbers of a row of the table of paths are those that the row's number has a path to
-pub row_paths : (nodes width : ℕ) (edges paths transposed : List ℕ) → Keeps nodes width edges paths transposed → (count x v : ℕ) → count ≡ width → x < nodes →
+pub row_paths : (nodes width : ℕ) (edges paths transposed : List ℕ) → KeepsAllPaths nodes width edges paths transposed → (count x v : ℕ) → count ≡ width → x < nodes →
     HasNumber (take count (drop (x * width) paths)) v ↔ Reaches (Joined edges width nodes) x v
 row_paths nodes width edges paths transposed keeps count x v e h = (
   λ b. let p = (HasNumber-row paths width count x v e).0 b in

@@ -12,7 +12,7 @@ use Rattle.order_graph.proofs.Words.{HasBit-clear, IsSet-written, IsSet-elsewher
 use Rattle.order_graph.proofs.AddedBits.{column_within}
 use Rattle.order_graph.proofs.Keeping.{Sees, sees_edge}
 
--- To write a word of row u without the bit of column v takes that bit away.
+-- To write a word of row u without the bit of column v clears that bit.
 pub Loses-written : (table : List ℕ) (width u v : ℕ) → v / 64 < width → u * width + v / 64 < length table →
     Loses table (set table (u * width + v / 64) (bit_and (get_or table (u * width + v / 64) 0) (bit_not w64 (1 * 2 ^ (v % 64) % 2 ^ 64)))) width u v
 Loses-written table width u v hv h = record { bits = at }

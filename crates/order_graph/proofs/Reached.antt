@@ -233,11 +233,11 @@ failing-less test other (suc n) x h less none some = elim (cases_eq x n) [
       (failing-less test other n x (λ y before. h y (omega (arith, before))) (omega (arith, less, ne)) none some)
 ]
 
--- how many numbers aren't gone on from
+-- how many numbers aren't expanded
 pub not_done : List ℕ → List ℕ → ℕ → ℕ → ℕ
 not_done reached left width nodes = failing (λ y. test_of (done-decided reached left width y)) nodes
 
--- each step goes on from one number more
+-- each step expands one number more
 pub not_done-less : (edges reached wider left less new_left : List ℕ) (width nodes u x : ℕ) → width ≡ (nodes + 63) / 64 →
     Reaching edges reached left width nodes u → x / 64 < width → IsSet left width 0 x → Loses left less width 0 x →
     Adds reached wider width (λ i y. (i ≡ 0) × IsSet edges width x y) →

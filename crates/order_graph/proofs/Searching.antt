@@ -9,7 +9,7 @@ use Rattle.order_paths.proofs.Decisions.{Decision, Decision-lt, Decision-three}
 use Rattle.order_paths.proofs.Reach.{Reaches-edge, Reaches-prefix, Reaches-join, Reaches-decided}
 use Rattle.order_graph.specs.BitRows.{HasBit}
 use Rattle.order_graph.specs.Internal.Tables.{IsSet, Adds, Joined}
-use Rattle.order_graph.specs.Internal.KeptPaths.{Keeps, Covers}
+use Rattle.order_graph.specs.Internal.KeptPaths.{KeepsAllPaths, Covers}
 use Rattle.order_graph.specs.Internal.Tracks.{Track, Walks, IsLeastTrack, IsFirstShared, IsLevel, IsAboveLevel, NoneShared, NoShorter}
 use Rattle.order_graph.proofs.Words.{HasBit-zero, HasBit-and, HasBit-lowest, IsSet-decided, IsSet-word}
 use Rattle.order_graph.proofs.AddedBits.{column_within, row_within}
@@ -35,7 +35,7 @@ pub record IsLeastRest (Edge : ℕ → ℕ → Type 0) (x v count : ℕ) (rest :
 pub IsLeastRest-end : (Edge : ℕ → ℕ → Type 0) (x v : ℕ) → Edge x v → IsLeastRest Edge x v 0 []
 IsLeastRest-end Edge x v e = record { sized = refl; track = (e, tt); least = λ other sized t. tt }
 
--- The least number from which a walk of as many edges leads on, and the least list behind it, are the least list.
+-- The least number from which a walk of as many edges leads on, and the least list after it, are the least list.
 pub IsLeastRest-step : (Edge : ℕ → ℕ → Type 0) (x v count next : ℕ) (rest : List ℕ) → Edge x next →
     ((z : ℕ) → z < next → Edge x z → Walks Edge (suc count) z v → ⊥) → IsLeastRest Edge next v count rest → IsLeastRest Edge x v (suc count) (next ∷ rest)
 IsLeastRest-step Edge x v count next rest e first after = record {
@@ -65,8 +65,8 @@ pub record Descends (edges paths : List ℕ) (width nodes u v count left at : �
   pub continues : (rest : List ℕ) → IsLeastRest (Joined edges width nodes) at v left rest → IsLeastList (Joined edges width nodes) u v count (list ++ rest)
 
 -- the tables of paths have just the paths, so they cover them
-pub Keeps-covers : (nodes width : ℕ) (edges paths transposed : List ℕ) → Keeps nodes width edges paths transposed → Covers nodes width edges paths transposed
-Keeps-covers nodes width edges paths transposed keeps = record {
+pub KeepsAllPaths-covers : (nodes width : ℕ) (edges paths transposed : List ℕ) → KeepsAllPaths nodes width edges paths transposed → Covers nodes width edges paths transposed
+KeepsAllPaths-covers nodes width edges paths transposed keeps = record {
   small = keeps.small;
   fits = keeps.fits;
   edges_sized = keeps.edges_sized;
@@ -181,7 +181,7 @@ IsAboveLevel-parts edges paths transposed levels width u v count x y reached rea
   edge = (y, first.column, first.first, first.second);
 }
 
--- Of the numbers before x, those above the level have their bits in the row behind it.
+-- Of the numbers before x, those above the level have their bits in the row after it.
 abbrev pub Raised : List ℕ → List ℕ → List ℕ → List ℕ → ℕ → ℕ → ℕ → ℕ → ℕ → ℕ → ℕ → Type 0
 Raised edges paths transposed levels width u v count x i y = (i ≡ count + 1) × (y < x) × IsAboveLevel edges paths transposed levels width u v count y
 
@@ -258,7 +258,7 @@ Levels-start edges paths zeros levels width nodes u v fits hv same sized adds = 
       complete = λ y h s w. (adds.bits 0 y (column_within y nodes width fits h)).1 (inr (refl, w));
     }
 
--- a row of a table that is cut out or has words behind it
+-- a row of a table that is cut out or has words after it
 pub row_of_longer : (table rest : List ℕ) (width d y : ℕ) → d * width + width ≤ length table → y / 64 < width → IsSet (table ++ rest) width d y ↔ IsSet table width d y
 unfolding IsSet
 row_of_longer table rest width d y h hy =
@@ -362,7 +362,7 @@ size_of (inr none) = 0
 pub path_size : List ℕ → ℕ → ℕ → ℕ → ℕ → ℕ
 path_size edges width nodes u v = size_of (Joined-decided edges width nodes u v)
 
--- a path written out is its first number and a track, with its last number behind
+-- a path written out is its first number and a track, with its last number after
 pub IsPath-track : (Edge : ℕ → ℕ → Type 0) (u v : ℕ) (path : List ℕ) → IsPath Edge u v path → (rest : List ℕ) × (path ≡ u ∷ (rest ++ v ∷ [])) × Track Edge u rest v
 IsPath-track Edge u v [] p = absurd p.0
 IsPath-track Edge u v (x ∷ []) p = absurd p.0

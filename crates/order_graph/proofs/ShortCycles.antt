@@ -1,11 +1,11 @@
--- How a search by words tells that no short cycle over open numbers begins with the start.
+-- How a search by words shows that no short cycle over open numbers begins with the start.
 use Rattle.std.proofs.Common.{◌≡◌, ◌⊎◌, ◌↔◌, inl, inr, ℕ, zero, suc, ◌+◌, ◌-◌, ◌*◌, ◌/◌, ◌<◌, ◌≤◌, List, [], ◌∷◌, ◌++◌, length, replicate, Option, Some, None, MatchOption, IsSomeAnd, refl, sym, ap, subst, ◌∙◌, arith}
 use Rattle.std.proofs.lemmas.Bool.{cases_eq, cases_lt}
 use Rattle.std.proofs.lemmas.List.{length-append, length-replicate}
 use Rattle.order_paths.specs.Paths.{Reaches, IsCycle}
 use Rattle.order_paths.proofs.Reach.{Reaches-edge, Reaches-prefix, Reaches-join}
 use Rattle.order_graph.specs.Internal.Tables.{IsSet, Adds, Joined}
-use Rattle.order_graph.specs.Internal.KeptPaths.{Keeps}
+use Rattle.order_graph.specs.Internal.KeptPaths.{KeepsAllPaths}
 use Rattle.order_graph.specs.Internal.Tracks.{Track, NoCycleBefore, IsLeastCycleBefore, IsOpen, OpenEdge, NoShorterOpen, IsClosedNumber, IsNext, IsFresh}
 use Rattle.order_graph.proofs.Words.{IsSet-decided}
 use Rattle.order_graph.proofs.AddedBits.{column_within, Adds-kept}
@@ -18,7 +18,7 @@ abbrev pub Ends : (ℕ → ℕ → Type 0) → ℕ → ℕ → ℕ → Type 0
 Ends Edge start zero y = y ≡ start
 Ends Edge start (suc count) y = (x : ℕ) × Ends Edge start count x × Edge x y
 
--- a track goes on from where a walk ends
+-- a track continues from where a walk ends
 Ends-track : (Edge : ℕ → ℕ → Type 0) (start count x v : ℕ) (rest : List ℕ) → Ends Edge start count x → Track Edge x rest v → Ends Edge start (suc (count + length rest)) v
 Ends-track Edge start count x v [] ends t = subst (λ n. Ends Edge start (suc n) v) (let e : count ≡ count + 0 = omega arith in e) (x, ends, t.0)
 Ends-track Edge start count x v (y ∷ rest) ends t =
@@ -62,7 +62,7 @@ Closing-start edges transposed zeros levels reached seen width nodes start fits 
     none x s = no_bit width width 0 x (subst (λ l. IsSet l width 0 x) reached_are s)
 
 -- The next level: what edges lead to from the last one, of the numbers that lead to the start, and weren't seen.
-pub Closing-step : (edges paths transposed levels more new reached wider seen new_seen : List ℕ) (width nodes start count first : ℕ) → Keeps nodes width edges paths transposed → start < nodes → first ≡ start / 64 →
+pub Closing-step : (edges paths transposed levels more new reached wider seen new_seen : List ℕ) (width nodes start count first : ℕ) → KeepsAllPaths nodes width edges paths transposed → start < nodes → first ≡ start / 64 →
     Closing edges transposed levels reached seen width nodes start count →
     Adds reached wider width (λ r y. (r ≡ 0) × (first ≤ y / 64) × IsNext edges levels width count first y) → (IsSet wider width 0 start → ⊥) →
     more ≡ levels ++ replicate width 0 → length new ≡ length more → length wider ≡ length reached → length new_seen ≡ length seen →
@@ -142,7 +142,7 @@ Closing-empty edges transposed levels reached seen width nodes start count limit
     all (suc k) y ends = closing.closed ends.0 y (inr (all k ends.0 ends.1)) (empty ends.0 ends.2.0.0 ends.2.1) ends.2
 
 -- So where the next level has no number.
-pub Closing-last : (edges paths transposed levels more new reached wider seen new_seen : List ℕ) (width nodes start count first limit : ℕ) → Keeps nodes width edges paths transposed → start < nodes → first ≡ start / 64 →
+pub Closing-last : (edges paths transposed levels more new reached wider seen new_seen : List ℕ) (width nodes start count first limit : ℕ) → KeepsAllPaths nodes width edges paths transposed → start < nodes → first ≡ start / 64 →
     Closing edges transposed levels reached seen width nodes start count →
     Adds reached wider width (λ r y. (r ≡ 0) × (first ≤ y / 64) × IsNext edges levels width count first y) → (IsSet wider width 0 start → ⊥) →
     more ≡ levels ++ replicate width 0 → length new ≡ length more → length wider ≡ length reached → length new_seen ≡ length seen →
@@ -168,7 +168,7 @@ Track-reach Edge x v [] t = Reaches-edge Edge x v t.0
 Track-reach Edge x v (y ∷ rest) t = Reaches-prefix Edge x y v t.0 (Track-reach Edge y v rest t.1)
 
 -- Where no cycle of as many numbers begins below the start, a cycle that begins with the start goes over open numbers: it could begin with each of them.
-Track-open : (nodes width : ℕ) (edges paths transposed : List ℕ) (start : ℕ) (rest : List ℕ) → Keeps nodes width edges paths transposed → start < nodes →
+Track-open : (nodes width : ℕ) (edges paths transposed : List ℕ) (start : ℕ) (rest : List ℕ) → KeepsAllPaths nodes width edges paths transposed → start < nodes →
     ((y : ℕ) (other : List ℕ) → y < start → IsCycle (Joined edges width nodes) (y ∷ other) → length other ≡ length rest → ⊥) →
     Track (Joined edges width nodes) start rest start → Track (OpenEdge edges transposed width nodes start) start rest start
 Track-open nodes width edges paths transposed start rest keeps hs none track = opens rest track refl
@@ -209,7 +209,7 @@ Track-open nodes width edges paths transposed start rest keeps hs none track = o
         here = is_open y [] r t.0.1 (t.0, tt) t.1 (omega (arith, sized))
 
 -- Where there is a best cycle before the start, a shorter one that begins with the start goes over open numbers.
-shorter_open : (nodes width : ℕ) (edges paths transposed : List ℕ) (start : ℕ) (best : List ℕ) → Keeps nodes width edges paths transposed → start < nodes →
+shorter_open : (nodes width : ℕ) (edges paths transposed : List ℕ) (start : ℕ) (best : List ℕ) → KeepsAllPaths nodes width edges paths transposed → start < nodes →
     IsLeastCycleBefore (Joined edges width nodes) start best → (rest : List ℕ) → length rest < length best - 1 →
     Track (Joined edges width nodes) start rest start → Track (OpenEdge edges transposed width nodes start) start rest start
 shorter_open nodes width edges paths transposed start [] keeps hs least rest less t = absurd least
@@ -217,7 +217,7 @@ shorter_open nodes width edges paths transposed start (b ∷ bs) keeps hs least 
     Track-open nodes width edges paths transposed start rest keeps hs
     (λ y other lt c same. elim (least.2 y other lt c) [ inl fewer ↦ absurd (omega (arith, fewer, less, same)) | inr equal ↦ absurd (omega (arith, equal.0, less, same)) ]) t
 
-pub NoShorter-open : (nodes width : ℕ) (edges paths transposed : List ℕ) (start : ℕ) (best : List ℕ) → Keeps nodes width edges paths transposed → start < nodes →
+pub NoShorter-open : (nodes width : ℕ) (edges paths transposed : List ℕ) (start : ℕ) (best : List ℕ) → KeepsAllPaths nodes width edges paths transposed → start < nodes →
     IsLeastCycleBefore (Joined edges width nodes) start best → NoShorterOpen edges transposed width nodes start (length best - 1) →
     (rest : List ℕ) → Track (Joined edges width nodes) start rest start → length best - 1 ≤ length rest
 NoShorter-open nodes width edges paths transposed start best keeps hs least none rest t = elim (cases_lt (length rest) (length best - 1)) [
@@ -226,7 +226,7 @@ NoShorter-open nodes width edges paths transposed start best keeps hs least none
 ]
 
 -- a cycle over open numbers ends with an edge to the start from a number that isn't below it
-open_closes : (nodes width : ℕ) (edges paths transposed : List ℕ) (start : ℕ) (rest : List ℕ) → Keeps nodes width edges paths transposed → start < nodes →
+open_closes : (nodes width : ℕ) (edges paths transposed : List ℕ) (start : ℕ) (rest : List ℕ) → KeepsAllPaths nodes width edges paths transposed → start < nodes →
     Track (OpenEdge edges transposed width nodes start) start rest start → IsClosedNumber edges transposed width nodes start
 open_closes nodes width edges paths transposed start rest keeps hs t = at (length rest) (Ends-cycle Open start rest t)
   where
@@ -251,19 +251,19 @@ open_closes nodes width edges paths transposed start rest keeps hs t = at (lengt
         (x, e.0.0, e.0.2, (keeps.paths_transposed.same start x hs e.0.0).1 ((keeps.tells start x hs e.0.0).1 (from k x ends.1 e.0)), e.1.1)
 
 -- A number that is closed is on a cycle.
-pub IsClosedNumber-reach : (nodes width : ℕ) (edges paths transposed : List ℕ) (y : ℕ) → Keeps nodes width edges paths transposed → y < nodes → IsClosedNumber edges transposed width nodes y → Reaches (Joined edges width nodes) y y
+pub IsClosedNumber-reach : (nodes width : ℕ) (edges paths transposed : List ℕ) (y : ℕ) → KeepsAllPaths nodes width edges paths transposed → y < nodes → IsClosedNumber edges transposed width nodes y → Reaches (Joined edges width nodes) y y
 IsClosedNumber-reach nodes width edges paths transposed y keeps hy closed =
     let x : ℕ = closed.0 in
     Reaches-join (Joined edges width nodes) y x y ((keeps.tells y x hy closed.1).0 ((keeps.paths_transposed.same y x hy closed.1).0 closed.3))
     (Reaches-edge (Joined edges width nodes) x y (closed.1, hy, closed.2))
 
 -- and so is the number from which the edge leads to it
-pub IsClosedNumber-from : (nodes width : ℕ) (edges paths transposed : List ℕ) (x y : ℕ) → Keeps nodes width edges paths transposed → x < nodes → y < nodes → IsSet edges width x y → IsSet transposed width x y → IsSet paths width x x
+pub IsClosedNumber-from : (nodes width : ℕ) (edges paths transposed : List ℕ) (x y : ℕ) → KeepsAllPaths nodes width edges paths transposed → x < nodes → y < nodes → IsSet edges width x y → IsSet transposed width x y → IsSet paths width x x
 IsClosedNumber-from nodes width edges paths transposed x y keeps hx hy e t =
     (keeps.tells x x hx hx).1 (Reaches-prefix (Joined edges width nodes) x y x (hx, hy, e) ((keeps.tells y x hy hx).0 ((keeps.paths_transposed.same y x hy hx).0 t)))
 
 -- Some best cycle or none, at the next start: the start isn't closed.
-pub next_unclosed : {V : Type 0} (items : V → List ℕ) (nodes width : ℕ) (edges paths transposed : List ℕ) (start : ℕ) (best : Option V) → Keeps nodes width edges paths transposed → start < nodes →
+pub next_unclosed : {V : Type 0} (items : V → List ℕ) (nodes width : ℕ) (edges paths transposed : List ℕ) (start : ℕ) (best : Option V) → KeepsAllPaths nodes width edges paths transposed → start < nodes →
     (IsClosedNumber edges transposed width nodes start → ⊥) →
     MatchOption best (NoCycleBefore (Joined edges width nodes) start) (λ cycle. IsLeastCycleBefore (Joined edges width nodes) start (items cycle)) →
     MatchOption best (NoCycleBefore (Joined edges width nodes) (start + 1)) (λ cycle. IsLeastCycleBefore (Joined edges width nodes) (start + 1) (items cycle))
@@ -281,7 +281,7 @@ next_unclosed items nodes width edges paths transposed start (Some cycle) keeps 
     ])
 
 -- Some best cycle or none, at the next start: a search over open numbers found no cycle within the limit.
-pub next_closed : {V : Type 0} (items : V → List ℕ) (nodes width : ℕ) (edges paths transposed : List ℕ) (start : ℕ) (best : Option V) (limit : Option ℕ) → Keeps nodes width edges paths transposed → start < nodes →
+pub next_closed : {V : Type 0} (items : V → List ℕ) (nodes width : ℕ) (edges paths transposed : List ℕ) (start : ℕ) (best : Option V) (limit : Option ℕ) → KeepsAllPaths nodes width edges paths transposed → start < nodes →
     MatchOption best (limit ≡ None) (λ cycle. limit ≡ Some (length (items cycle) - 1)) → IsSomeAnd limit (NoShorterOpen edges transposed width nodes start) →
     MatchOption best (NoCycleBefore (Joined edges width nodes) start) (λ cycle. IsLeastCycleBefore (Joined edges width nodes) start (items cycle)) →
     MatchOption best (NoCycleBefore (Joined edges width nodes) (start + 1)) (λ cycle. IsLeastCycleBefore (Joined edges width nodes) (start + 1) (items cycle))

@@ -1,4 +1,4 @@
--- A table that is turned, block by block.
+-- A table that is transposed, block by block.
 use Rattle.std.proofs.Common.{◌≡◌, ◌⊎◌, ◌↔◌, inl, inr, ℕ, ◌+◌, ◌*◌, ◌/◌, ◌%◌, ◌^◌, ◌<◌, ◌≤◌, List, length, get_or, replicate, sym, ap, subst, ◌∙◌, arith}
 use Rattle.std.specs.Prelude.{bit_or}
 use Rattle.std.proofs.lemmas.Bool.{cases_eq}
@@ -9,15 +9,15 @@ use Rattle.std.proofs.lemmas.List.{length-replicate}
 use Rattle.order_graph.proofs.AddedBits.{column_within}
 use Rattle.order_graph.proofs.Keeping.{no_bit}
 
--- the block's bits of the rows before `upto`, turned
+-- the block's bits of the rows before `upto`, transposed
 abbrev pub BlockBefore : List ℕ → ℕ → ℕ → ℕ → ℕ → ℕ → ℕ → Type 0
 BlockBefore table width i j upto y x = (y / 64 ≡ j) × (x / 64 ≡ i) × (x < upto) × IsSet table width x y
 
--- the bits of a word in each of these rows, turned
+-- the bits of a word in each of these rows, transposed
 abbrev pub Pending : ℕ → ℕ → ℕ → ℕ → ℕ → ℕ → Type 0
 Pending j word i rows y x = (y / 64 ≡ j) × HasBit word (y % 64) × (x / 64 ≡ i) × HasBit rows (x % 64)
 
--- The rows before `upto` are turned but for those of which each has this word.
+-- The rows before `upto` are transposed but for those of which each has this word.
 pub record TransposesBlock (old now table : List ℕ) (width nodes i j upto word rows : ℕ) : Type 0 where
   pub bits : (y x : ℕ) → x / 64 < width → (IsSet now width y x ⊎ Pending j word i rows y x) ↔ (IsSet old width y x ⊎ BlockBefore table width i j upto y x)
   pub within : (k : ℕ) → k < 64 → HasBit word k → 64 * j + k < nodes
@@ -31,7 +31,7 @@ TransposesBlock-start old table width nodes i j = record {
   within = λ k h b. absurd (HasBit-zero k b);
 }
 
--- the rows that have the word are turned, and the next word has no rows yet
+-- the rows that have the word are transposed, and the next word has no rows yet
 pub TransposesBlock-set : (old now new table : List ℕ) (width nodes i j upto word rows next : ℕ) → TransposesBlock old now table width nodes i j upto word rows →
     Adds now new width (λ y x. (y / 64 ≡ j) × HasBit word (y % 64) × (x / 64 ≡ i) × HasBit rows (x % 64)) → ((k : ℕ) → k < 64 → HasBit next k → 64 * j + k < nodes) →
     TransposesBlock old new table width nodes i j upto next 0
@@ -79,7 +79,7 @@ TransposesBlock-row old now table width nodes i j upto word rows transposes same
       ]
     ]
 
--- at last all rows of the block are turned
+-- at last all rows of the block are transposed
 pub TransposesBlock-end : (old now new table : List ℕ) (width nodes i j upto word rows : ℕ) → TransposesBlock old now table width nodes i j upto word rows →
     upto ≤ nodes → (nodes ≤ upto) ⊎ (64 * i + 64 ≤ upto) →
     Adds now new width (λ y x. (y / 64 ≡ j) × HasBit word (y % 64) × (x / 64 ≡ i) × HasBit rows (x % 64)) →
@@ -94,7 +94,7 @@ TransposesBlock-end old now new table width nodes i j upto word rows transposes 
     before : (x : ℕ) → x / 64 ≡ i → x < nodes → x < upto
     before x at h = elim past [ inl all ↦ omega (arith, all, h) | inr block ↦ omega (arith, block, at) ]
 
--- the bits of word j of the rows before word i, turned
+-- the bits of word j of the rows before word i, transposed
 abbrev pub ColumnsBefore : List ℕ → ℕ → ℕ → ℕ → ℕ → ℕ → ℕ → Type 0
 ColumnsBefore table width nodes j i y x = (y / 64 ≡ j) × (x / 64 < i) × (x < nodes) × IsSet table width x y
 
@@ -128,7 +128,7 @@ ColumnsBefore-end old now table width nodes j i past before = record {
   );
 }
 
--- The columns before word j are turned.
+-- The columns before word j are transposed.
 pub record TransposesBefore (table transposed : List ℕ) (width nodes j : ℕ) : Type 0 where
   pub sized : length transposed ≡ nodes * width
   pub bits : (y x : ℕ) → x / 64 < width → IsSet transposed width y x ↔ ((y / 64 < j) × (x < nodes) × IsSet table width x y)
@@ -155,7 +155,7 @@ TransposesBefore-step table transposed new width nodes j before sized adds = rec
   );
 }
 
--- where all columns are turned, the table is
+-- where all columns are transposed, the table is
 pub TransposesBefore-end : (table transposed : List ℕ) (width nodes j : ℕ) → IsTable nodes width table → width ≤ j → TransposesBefore table transposed width nodes j → AreTransposed table transposed width nodes
 TransposesBefore-end table transposed width nodes j is past before = record {
   table_sized = is.sized;

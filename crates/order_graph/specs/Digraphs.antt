@@ -1,4 +1,4 @@
--- Graphs of the numbers below a bound, and the tables that keep one.
+-- Graphs of the numbers below a bound, and the graph of a table of bits.
 use Rattle.std.specs.Prelude.{◌==◌, ℕ, ◌+◌, ◌*◌, ◌/◌, ◌%◌, ◌<◌, Bool, false, IsTrue, List, [], map, slice_index, slice_index_or}
 use Rattle.std.specs.Int.{bit_at}
 use Rattle.std.specs.List.{range_with_len}

@@ -1,4 +1,4 @@
--- What private tables keep and how far loops have come. No public contract uses these words.
+-- What private tables keep and how far loops have come. No public contract uses these definitions.
 pub mod KeptPaths
 pub mod Tables
 pub mod Tracks

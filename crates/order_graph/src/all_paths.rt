@@ -2,7 +2,7 @@
 
 ghost use Rattle.std.specs.Prelude.{◌≡◌, ◌<◌, ◌/◌, ℕ, IfOk, length};
 ghost use Rattle.order_graph.specs.Internal.Tables.{IsSet, IsTable, AreTransposed};
-ghost use Rattle.order_graph.specs.Internal.KeptPaths.{Keeps, KeepsSomePaths, KeepsPathsToDone};
+ghost use Rattle.order_graph.specs.Internal.KeptPaths.{KeepsAllPaths, KeepsSomePaths, KeepsPathsToDone};
 
 use crate::postorder::postorder;
 use crate::tables::{add_row, bit, join, set_bit};
@@ -11,7 +11,7 @@ use std::alloc::{AllocError, Global};
 /// Gives row x the numbers of word j that are done and that it has an edge to, and what they lead to.
 ///
 /// A number that the row has by then is left out, as the row has all that it leads to.
-pub fn take_over(
+pub fn join_done(
     edges: &[u64],
     paths: &mut [u64],
     done: &[u64],
@@ -55,7 +55,7 @@ pub fn finish(
         return;
     }
     for j in 0..width {
-        take_over(edges, paths, done, width, nodes, x, j);
+        join_done(edges, paths, done, width, nodes, x, j);
     }
     set_bit(done, width, 0, x);
 }
@@ -133,11 +133,17 @@ pub fn join_row(
 }
 
 /// Joins all edges that are no paths yet.
-pub fn join_rest(edges: &[u64], paths: &mut [u64], transposed: &mut [u64], width: usize, nodes: usize)
+pub fn join_rest(
+    edges: &[u64],
+    paths: &mut [u64],
+    transposed: &mut [u64],
+    width: usize,
+    nodes: usize,
+)
     requires edges { IsTable nodes width edges.now }
     requires paths { KeepsSomePaths nodes width edges.now paths.old }
     requires transposed { AreTransposed paths.old transposed.old width nodes }
-    ensures { Keeps nodes width edges.now paths.new transposed.new }
+    ensures { KeepsAllPaths nodes width edges.now paths.new transposed.new }
 {
     for x in 0..nodes {
         join_row(edges, paths, transposed, width, nodes, x);

@@ -1,8 +1,8 @@
-//! Which numbers can begin a short cycle: looks by words, which find no cycle but tell where there is none.
+//! Which numbers can begin a short cycle: searches by words, which find no cycle but show where there is none.
 
 ghost use Rattle.std.specs.Prelude.{◌≡◌, ◌⊎◌, ◌↔◌, ◌<◌, ◌≤◌, ◌+◌, ◌*◌, ◌/◌, ◌^◌, ℕ, IsTrue, IfOk, length};
 ghost use Rattle.order_graph.specs.Internal.Tables.{IsSet, Adds};
-ghost use Rattle.order_graph.specs.Internal.KeptPaths.{Keeps};
+ghost use Rattle.order_graph.specs.Internal.KeptPaths.{KeepsAllPaths};
 ghost use Rattle.order_graph.specs.Internal.Tracks.{IsClosedNumber, IsNext, IsFresh, NoShorterOpen};
 
 use crate::tables::{bit, or_rows, set_bit, set_word};
@@ -39,7 +39,7 @@ pub fn closed_numbers(
     width: usize,
     nodes: usize,
 ) -> Result<Vec<u64>, AllocError>
-    requires keeps { Keeps nodes width edges.now paths.now transposed.now }
+    requires keeps { KeepsAllPaths nodes width edges.now paths.now transposed.now }
     ensures { IfOk result (λ row. (length row.items ≡ width) × ((y : ℕ) → y / 64 < width → IsSet row.items width 0 y ↔ IsClosedNumber edges.now transposed.now width nodes y)) }
 {
     let mut row = vec![in alloc; 0; width]?;
@@ -84,8 +84,8 @@ pub fn spread(
     }
 }
 
-/// Fills a level with the numbers reached that lead to the start and weren't seen, sees them, and tells whether there
-/// are any. It goes over the words from `first` on.
+/// Fills a level with the numbers reached that lead to the start and weren't seen, marks them as seen, and returns
+/// whether there are any. It goes over the words from `first` on.
 pub fn advance(
     levels: &mut [u64],
     row: usize,
@@ -127,7 +127,7 @@ pub fn closes_within(
     start: usize,
     limit: usize,
 ) -> Result<bool, AllocError>
-    requires keeps { Keeps nodes width edges.now paths.now transposed.now }
+    requires keeps { KeepsAllPaths nodes width edges.now paths.now transposed.now }
     requires within { start < nodes }
     requires sized { length passed.now ≡ width }
     requires passed { (y : ℕ) → y / 64 < width → IsSet passed.now width 0 y ↔ (y < start) }

@@ -1,7 +1,7 @@
 //! The least cycle, start by start.
 
 ghost use Rattle.std.specs.Prelude.{◌≡◌, ◌⊎◌, ◌↔◌, ◌<◌, ◌+◌, ◌-◌, ◌/◌, ℕ, IsTrue, IfOk, MatchOption, IsSomeAnd, length};
-ghost use Rattle.order_graph.specs.Internal.KeptPaths.{Keeps};
+ghost use Rattle.order_graph.specs.Internal.KeptPaths.{KeepsAllPaths};
 ghost use Rattle.order_graph.specs.Internal.Tables.{IsSet, Joined};
 ghost use Rattle.order_graph.specs.Internal.Tracks.{IsClosedNumber, NoShorterOpen, NoCycleBefore, IsLeastCycleBefore};
 
@@ -33,7 +33,7 @@ pub fn may_be_shorter(
     start: usize,
     limit: Option<usize>,
 ) -> Result<bool, AllocError>
-    requires keeps { Keeps nodes width edges.now paths.now transposed.now }
+    requires keeps { KeepsAllPaths nodes width edges.now paths.now transposed.now }
     requires within { start < nodes }
     requires sized { length passed.now ≡ width }
     requires passed { (y : ℕ) → y / 64 < width → IsSet passed.now width 0 y ↔ (y < start) }
@@ -61,7 +61,7 @@ pub fn better(
     start: usize,
     best: Option<Vec<usize>>,
 ) -> Result<Option<Vec<usize>>, AllocError>
-    requires keeps { Keeps nodes width edges.now paths.now transposed.now }
+    requires keeps { KeepsAllPaths nodes width edges.now paths.now transposed.now }
     requires within { start < nodes }
     requires sized { length passed.now ≡ width }
     requires passed { (y : ℕ) → y / 64 < width → IsSet passed.now width 0 y ↔ (y < start) }

@@ -1,4 +1,4 @@
-//! Sets of edges from which edges can be taken away.
+//! Sets of edges from which edges can be removed.
 
 ghost use Rattle.std.specs.Prelude.{◌≡◌, ◌↔◌, ◌<◌, ◌^◌, ℕ, false, IsTrue, IfOk, MatchOption, length, slice_index_or};
 ghost use Rattle.order_paths.specs.Paths.{Reaches, IsLeastPath};
@@ -11,7 +11,7 @@ use crate::tables::{bit, clear_bit};
 use std::alloc::{AllocError, Global};
 use std::marker::Model;
 
-/// Edges between the numbers below `nodes()`, made from those of a graph, of which each can be taken away.
+/// Edges between the numbers below `nodes()`, made from those of a graph, of which each can be removed.
 ///
 /// Unlike a graph it keeps no paths: each question about paths is a search. Its tables of paths are those of the graph
 /// that it was made from. They have the paths of all edges that are left and maybe more, so a search keeps to them.
@@ -68,7 +68,7 @@ impl EdgeSet {
         *nodes
     }
 
-    /// Takes away the edge from u to v, if it is there.
+    /// Removes the edge from u to v, if it is there.
     #[inline]
     pub fn remove(&mut self, u: usize, v: usize)
         requires from { u < self.old.nodes }
@@ -89,7 +89,7 @@ impl EdgeSet {
         bit(&self.edges, self.width, u, v)
     }
 
-    /// For each number whether a path of one or more edges leads from u to it. OutOfMemory where a growth was refused.
+    /// For each number whether a path of one or more edges leads from u to it. OutOfMemory where an allocation was refused.
     pub fn reached(&self, u: usize) -> Result<Vec<bool>, AllocError>
         requires { u < self.now.nodes }
         ensures sized { IfOk result (λ row. length row.items ≡ self.now.nodes) }
@@ -102,7 +102,7 @@ impl EdgeSet {
     }
 
     /// The path from u to v with the fewest edges, and of these the least list of numbers; None where there is none.
-    /// OutOfMemory where a growth was refused.
+    /// OutOfMemory where an allocation was refused.
     pub fn least_path(&self, u: usize, v: usize) -> Result<Option<Vec<usize>>, AllocError>
         requires from { u < self.now.nodes }
         requires to { v < self.now.nodes }

@@ -26,7 +26,7 @@ pub fn expand(reached: &mut [u64], left: &mut [u64], edges: &[u64], x: usize, wi
 
 /// A row of the numbers that a path of one or more edges leads to from u.
 ///
-/// Each number reached is gone on from once.
+/// Each number reached is expanded once.
 pub fn reached_row(
     alloc: Global,
     edges: &[u64],

@@ -32,13 +32,13 @@ pub struct Graph {
 
 impl Model for Graph {
     ghost use Rattle.order_graph.specs.Digraphs.{Digraph, graph_of};
-    ghost use Rattle.order_graph.specs.Internal.KeptPaths.{Keeps};
+    ghost use Rattle.order_graph.specs.Internal.KeptPaths.{KeepsAllPaths};
 
     ghost Value = { Digraph };
 
     ghost view = { λ g. graph_of g.nodes g.width g.edges.items };
 
-    ghost invariant = { λ g. Keeps g.nodes g.width g.edges.items g.paths.items g.transposed.items };
+    ghost invariant = { λ g. KeepsAllPaths g.nodes g.width g.edges.items g.paths.items g.transposed.items };
 }
 
 impl Graph {
@@ -61,7 +61,7 @@ impl Graph {
     }
 
     /// The graph of the edges of these rows, as `new` and `add` make it, but faster where there are many edges.
-    /// OutOfMemory where a growth was refused.
+    /// OutOfMemory where an allocation was refused.
     pub fn of_rows(rows: EdgeRows) -> Result<Graph, AllocError>
         ensures { IfOk result (λ g. g ≡ rows) }
     {
@@ -145,7 +145,7 @@ impl Graph {
         bit(&self.paths, self.width, u, v)
     }
 
-    /// For each number whether a path of one or more edges leads from u to it. OutOfMemory where a growth was refused.
+    /// For each number whether a path of one or more edges leads from u to it. OutOfMemory where an allocation was refused.
     pub fn reached(&self, u: usize) -> Result<Vec<bool>, AllocError>
         requires { u < self.now.nodes }
         ensures sized { IfOk result (λ row. length row.items ≡ self.now.nodes) }
@@ -192,7 +192,7 @@ impl Graph {
         Ok(Some(path))
     }
 
-    /// The graph's edges as a set from which edges can be taken away. OutOfMemory where a growth was refused.
+    /// The graph's edges as a set from which edges can be removed. OutOfMemory where an allocation was refused.
     pub fn edge_set(&self) -> Result<EdgeSet, AllocError>
         ensures { IfOk result (λ set. (set.nodes ≡ self.now.nodes) × ((x y : ℕ) → IsEdge set x y ↔ IsEdge self.now x y)) }
     {

@@ -17,14 +17,14 @@ pub trait PathSearch {
         ensures size { result ≡ (digraph self.now).nodes }
         ensures within { EdgesWithin (digraph self.now) };
 
-    /// For each number whether a path of one or more edges leads from u to it. OutOfMemory where a growth was refused.
+    /// For each number whether a path of one or more edges leads from u to it. OutOfMemory where an allocation was refused.
     fn reached(&self, u: usize) -> Result<Vec<bool>, AllocError>
         requires { u < (digraph self.now).nodes }
         ensures sized { IfOk result (λ row. length row.items ≡ (digraph self.now).nodes) }
         ensures path { IfOk result (λ row. (y : ℕ) → IsTrue (slice_index_or row.items y false) ↔ Reaches (IsEdge (digraph self.now)) u y) };
 
     /// The path from u to v with the fewest edges, and of these the least list of numbers; None where there is none.
-    /// OutOfMemory where a growth was refused.
+    /// OutOfMemory where an allocation was refused.
     fn least_path(&self, u: usize, v: usize) -> Result<Option<Vec<usize>>, AllocError>
         requires from { u < (digraph self.now).nodes }
         requires to { v < (digraph self.now).nodes }

@@ -20,7 +20,7 @@ pub fn row_of_all(alloc: Global, width: usize, nodes: usize) -> Result<Vec<u64>,
     Ok(row)
 }
 
-/// Where a search goes on: the first number left that an edge leads to from the top of the stack, or, if nothing is on
+/// Where a search continues: the first number left that an edge leads to from the top of the stack, or, if nothing is on
 /// it, the first number left.
 #[inline]
 pub fn next_left(
@@ -41,7 +41,7 @@ pub fn next_left(
     }
 }
 
-/// The numbers in the order in which a depth-first search leaves them: where no cycle is, each behind those that it has
+/// The numbers in the order in which a depth-first search leaves them: where no cycle is, each after those that it has
 /// an edge to. The contract leaves the order open, since it only saves time.
 pub fn postorder(
     alloc: Global,

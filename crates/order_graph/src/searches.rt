@@ -9,7 +9,7 @@ ghost use Rattle.order_graph.specs.Internal.Tracks.{NoneShared, IsFirstShared, I
 use crate::tables::{bit, set_bit};
 use std::alloc::{AllocError, Global};
 
-/// The words of a row from its first word that isn't 0 to behind its last: the first of them, and the one behind them.
+/// The words of a row from its first word that isn't 0 to its last: the index of the first, and that after the last.
 pub fn used_words(table: &[u64], row: usize, width: usize) -> (usize, usize)
     requires row { row * width + width ≤ length table.now }
     ensures end { result.1 ≤ width }
@@ -84,7 +84,7 @@ pub fn is_above(
         && first_shared(edges, x, levels, count, width, low, high).is_some()
 }
 
-/// Fills the row behind level `count` with the numbers above it.
+/// Fills the row after level `count` with the numbers above it.
 pub fn raise(
     edges: &[u64],
     paths: &[u64],
@@ -187,7 +187,17 @@ pub fn shortest(
         }
         let size = levels.len() + width;
         levels.resize(size, 0)?;
-        raise(edges, paths, transposed, &mut levels, width, nodes, u, v, count);
+        raise(
+            edges,
+            paths,
+            transposed,
+            &mut levels,
+            width,
+            nodes,
+            u,
+            v,
+            count,
+        );
         count += 1;
     }
     let list = descend(

@@ -1,4 +1,4 @@
-//! Flat tables of bits: rows of words, one behind another.
+//! Flat tables of bits: rows of words, one after another.
 
 ghost use Rattle.std.specs.Prelude.{◌≡◌, ◌⊎◌, ◌↔◌, ◌<◌, ◌≤◌, ◌+◌, ◌*◌, ◌/◌, ◌%◌, ◌^◌, ℕ, IsTrue, length};
 ghost use Rattle.order_graph.specs.BitRows.{HasBit, HasNumber};
@@ -25,7 +25,7 @@ pub fn set_bit(table: &mut [u64], width: usize, x: usize, y: usize)
     table[place] |= 1 << (y % 64);
 }
 
-/// Takes away the bit of row x and column y.
+/// Clears the bit of row x and column y.
 #[inline]
 pub fn clear_bit(table: &mut [u64], width: usize, x: usize, y: usize)
     requires column { y / 64 < width }
@@ -101,7 +101,7 @@ pub fn add_row(table: &mut [u64], width: usize, x: usize, v: usize)
 
 /// Gives each row whose number is a bit of word i the number v and the numbers of row v, in both tables.
 ///
-/// Only bits that some of these rows lacked are set in the turned table, where each lies in a row of its own.
+/// Only bits that some of these rows lacked are set in the transposed table, where each lies in a row of its own.
 pub fn join_rows(
     table: &mut [u64],
     transposed: &mut [u64],
@@ -133,7 +133,14 @@ pub fn join_rows(
 /// Gives u, and each number that leads to u, the number v and those that v leads to, in both tables.
 ///
 /// A row that has v already has all of them, so it is left out.
-pub fn join(table: &mut [u64], transposed: &mut [u64], width: usize, nodes: usize, u: usize, v: usize)
+pub fn join(
+    table: &mut [u64],
+    transposed: &mut [u64],
+    width: usize,
+    nodes: usize,
+    u: usize,
+    v: usize,
+)
     requires transposed { AreTransposed table.old transposed.old width nodes }
     requires transitive { IsTransitive table.old width nodes }
     requires small { nodes < 2 ^ 32 }

@@ -237,7 +237,7 @@ fn compare_set(
     Ok(())
 }
 
-/// Takes the edges away from the last to the first, and compares what is left with the plain program.
+/// Removes the edges from the last to the first, and compares what is left with the plain program.
 fn compare_removing(
     rt: &impl Abort,
     alloc: Global,
@@ -461,7 +461,7 @@ fn many_numbers(rt: HostRuntime) -> Result<(), Fail> {
     Ok(())
 }
 
-/// A long cycle of low numbers, a short one that begins behind it, and another as short.
+/// A long cycle of low numbers, a short one that begins after it, and another as short.
 #[test]
 fn short_cycle_after_a_long_one(rt: HostRuntime) -> Result<(), Fail> {
     let mut graph = Graph::new(rt.alloc(), 200)?;
@@ -482,7 +482,7 @@ fn short_cycle_after_a_long_one(rt: HostRuntime) -> Result<(), Fail> {
     Ok(())
 }
 
-/// A ring with edges to the next three places: a cycle goes round it, so it has a third of the numbers at least, and
+/// A ring with edges to the next three numbers: a cycle goes round it, so it has a third of the numbers at least, and
 /// one with so few begins at each number.
 #[test]
 fn ring_with_edges_to_three_places(rt: HostRuntime) -> Result<(), Fail> {

@@ -1,4 +1,4 @@
-//! A table of paths turned: rows for columns.
+//! The transposed table of a table of paths: rows for columns.
 
 ghost use Rattle.std.specs.Prelude.{◌≡◌, ◌<◌, ◌*◌, ◌/◌, IfOk, length};
 ghost use Rattle.order_graph.specs.Internal.Tables.{IsSet, IsTable, Adds, AreTransposed};
@@ -6,10 +6,17 @@ ghost use Rattle.order_graph.specs.Internal.Tables.{IsSet, IsTable, Adds, AreTra
 use crate::tables::set_words;
 use std::alloc::{AllocError, Global};
 
-/// Turns the block of the rows of word i and the columns of word j.
+/// Transposes the block of the rows of word i and the columns of word j.
 ///
-/// Rows one behind another with the same word are set at once.
-pub fn transpose_block(transposed: &mut [u64], table: &[u64], width: usize, nodes: usize, i: usize, j: usize)
+/// Rows one after another with the same word are set at once.
+pub fn transpose_block(
+    transposed: &mut [u64],
+    table: &[u64],
+    width: usize,
+    nodes: usize,
+    i: usize,
+    j: usize,
+)
     requires table { IsTable nodes width table.now }
     requires transposed_sized { length transposed.old ≡ nodes * width }
     requires rows { i < width }
@@ -30,8 +37,14 @@ pub fn transpose_block(transposed: &mut [u64], table: &[u64], width: usize, node
     set_words(transposed, width, j, word, i, rows);
 }
 
-/// Turns the columns of word j: 64 rows of the turned table.
-pub fn transpose_columns(transposed: &mut [u64], table: &[u64], width: usize, nodes: usize, j: usize)
+/// Transposes the columns of word j: 64 rows of the transposed table.
+pub fn transpose_columns(
+    transposed: &mut [u64],
+    table: &[u64],
+    width: usize,
+    nodes: usize,
+    j: usize,
+)
     requires table { IsTable nodes width table.now }
     requires transposed_sized { length transposed.old ≡ nodes * width }
     requires columns { j < width }
@@ -42,7 +55,7 @@ pub fn transpose_columns(transposed: &mut [u64], table: &[u64], width: usize, no
     }
 }
 
-/// The table turned.
+/// The transposed table.
 pub fn transposed_table(
     alloc: Global,
     table: &[u64],

@@ -20,7 +20,7 @@ pub record IsLeastOfLength (Has : List ℕ → Type 0) (size : ℕ) (xs : List �
   pub has : Has xs
   pub least : (other : List ℕ) → length other ≡ size → Has other → IsAtMost xs other
 
--- the lists that have the property behind the number
+-- the lists that have the property after the number
 abbrev HasAfter : (List ℕ → Type 0) → ℕ → List ℕ → Type 0
 HasAfter Has x rest = Has (x ∷ rest)
 
@@ -44,7 +44,7 @@ Begins-decided : (Has : List ℕ → Type 0) (size x : ℕ) → LeastOrNone (Has
 Begins-decided Has size x (inl found) = inl (found.0, found.1.sized, found.1.has)
 Begins-decided Has size x (inr none) = inr (λ p. none p.0 p.1 p.2)
 
--- the least first number and the least list behind it make the least list
+-- the least first number and the least list after it make the least list
 least_from_first : (Has : List ℕ → Type 0) (size x : ℕ) → IsFirst (Begins Has size) x → LeastOrNone (HasAfter Has x) size → LeastOrNone Has (suc size)
 least_from_first Has size x first (inr none) = absurd (none first.0.0 first.0.1 first.0.2)
 least_from_first Has size x first (inl found) = inl (x ∷ found.0, record { sized = omega (arith, found.1.sized); has = found.1.has; least = least })

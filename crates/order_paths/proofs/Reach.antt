@@ -8,7 +8,7 @@ use Rattle.order_paths.proofs.Decisions.{Decision, Decision-both, Decision-eithe
 pub Reaches-edge : (Edge : ℕ → ℕ → Type 0) (u v : ℕ) → Edge u v → Reaches Edge u v
 Reaches-edge Edge u v e = (u ∷ v ∷ [], ((refl, refl), (e, tt)))
 
--- the list with a number in front whose edge leads to its first
+-- the list with a number prepended whose edge leads to its first
 IsPath-prefix : (Edge : ℕ → ℕ → Type 0) (u w v : ℕ) (path : List ℕ) → Edge u w → IsPath Edge w v path → IsPath Edge u v (u ∷ path)
 IsPath-prefix Edge u w v [] e p = absurd p.0
 IsPath-prefix Edge u w v (x ∷ []) e p = absurd p.0
@@ -111,7 +111,7 @@ Linked-Reaches Edge x (y ∷ rest) v l e = Reaches-prefix Edge x y v l.0 (Linked
 pub IsCycle-Reaches : (Edge : ℕ → ℕ → Type 0) (x : ℕ) (rest : List ℕ) → IsCycle Edge (x ∷ rest) → Reaches Edge x x
 IsCycle-Reaches Edge x rest c = Linked-Reaches Edge x rest x c.0 c.1
 
--- the numbers of a path from a number to itself, behind the first, are a cycle
+-- the numbers of a path from a number to itself, after the first, are a cycle
 HasCycle-from_path : (Edge : ℕ → ℕ → Type 0) (u : ℕ) (path : List ℕ) → IsPath Edge u u path → HasCycle Edge
 HasCycle-from_path Edge u [] p = absurd p.0
 HasCycle-from_path Edge u (x ∷ []) p = absurd p.0

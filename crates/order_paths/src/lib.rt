@@ -1,4 +1,4 @@
-//! Words and laws on paths and cycles over any relation of numbers.
+//! Definitions and laws of paths and cycles over any relation of numbers.
 #![tactic(auto)]
 
 pub mod laws;

@@ -15,7 +15,8 @@ use Rattle.tso_cert.specs.declared.faults.Why.{Why}
 use Rattle.tso_cert.specs.declared.faults.Why.TheVariants.{BadLine, BadNumber, BadRule, NoCycle, AfterCycle, OutOfMemory}
 use Rattle.tso_cert.specs.Printed.{event_text, reason_pieces, ReasonFits, step_pieces, cycle_pieces, unwritten_pieces, Fits, StepFits}
 use Rattle.tso_cert.specs.Spelling.{are_events, is_rule, is_last_line, is_bad_line, has_bad_number, has_bad_rule, cert_line_fault, cert_fault_number}
-use Rattle.tso_cert.specs.Internal.LineValues.{◌>>=◌, event, events, reason_said, step_said, unwritten_said, cert_line_said, IsFirstCertFault}
+use Rattle.line_text.specs.Results.{◌>>=◌}
+use Rattle.tso_cert.specs.Internal.LineValues.{event, events, reason_said, step_said, unwritten_said, cert_line_said, IsFirstCertFault}
 use Rattle.tso_cert.proofs.SayingFacts.{bind_ok, bind_err, cond_true, cond_false, cases, event_is, event_some, event_none, events_are, events_some, events_none, event-text, events-text, decimal_differs, reason_told, reason_refused, base_said, inferred_said}
 
 -- ---- the faults of a line

@@ -1,4 +1,4 @@
--- Lemmas on pieces as the reader takes them.
+-- Lemmas on pieces as the reader reads them.
 use Rattle.std.proofs.Common.{◌≡◌, ℕ, suc, ◌<◌, ◌^◌, Bool, true, false, List, ◌∷◌, ◌++◌, length, Option, Some, None, Result, Ok, Err, refl, ap, sym, ◌∙◌, arith, Bor, eqb, ⊎_elim}
 use Rattle.std.specs.Prelude.{nat_eq}
 use Rattle.std.specs.Option.{option_eq}
@@ -11,7 +11,8 @@ use Rattle.line_text.specs.Numbers.{number}
 use Rattle.line_text.proofs.NumberFacts.{number_is, number-decimal}
 use Rattle.tso_cert.specs.declared.faults.Why.{Why}
 use Rattle.tso_cert.specs.declared.faults.Why.TheVariants.{BadLine}
-use Rattle.tso_cert.specs.Internal.LineValues.{◌>>=◌, unwritten_said}
+use Rattle.line_text.specs.Results.{◌>>=◌}
+use Rattle.tso_cert.specs.Internal.LineValues.{unwritten_said}
 use Rattle.tso_cert.proofs.SayingFacts.{cases}
 
 -- where more pieces stand, the line of an unwritten load is bad
@@ -21,7 +22,7 @@ unwritten-more k p ps some = rw some.parts refl
 
 -- ---- the numbers of pieces, read one after another
 
--- what the events of pieces are, behind those that were read
+-- what the events of pieces are, after those that were read
 abbrev pub pieces_after_read : List ℕ → Result (List ℕ) Why → Result (List ℕ) Why
 pieces_after_read numbers rest = rest >>= λ more. Ok (numbers ++ more)
 

@@ -17,7 +17,7 @@ use Rattle.tso_cert.specs.declared.steps.Certificate.{Certificate}
 use Rattle.tso_cert.specs.declared.steps.Certificate.TheVariants.{Unwritten, Cycle}
 use Rattle.tso_cert.specs.Printed.{cert_pieces, inferred_name, event_text, reason_pieces, step_pieces, steps_pieces, cycle_pieces, unwritten_pieces, cert_text, StepFits}
 
--- pieces behind spaces
+-- pieces after spaces
 abbrev pub spaced : List (List ℕ) → List ℕ
 spaced pieces = flat_map (λ piece. 32 ∷ piece) pieces
 
@@ -58,7 +58,7 @@ steps_pieces-push number (r ∷ steps) s =
     let at : suc number + length steps ≡ number + suc (length steps) = omega arith in
     ap (λ rest. step_pieces number r ∷ rest) (steps_pieces-push (suc number) steps s ∙ ap (λ n. steps_pieces (suc number) steps ++ step_pieces n s ∷ []) at)
 
--- the text behind one more step
+-- the text after one more step
 pub steps-more : (start : List ℕ) (steps : List CertStep) (s : CertStep) →
     (start ++ flat_map line_text (steps_pieces 1 steps)) ++ line_text (step_pieces (1 + length steps) s) ≡ start ++ flat_map line_text (steps_pieces 1 (steps ++ s ∷ []))
 steps-more start steps s =

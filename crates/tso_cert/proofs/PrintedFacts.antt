@@ -98,13 +98,13 @@ line_parts k l rest low fits =
     let none : has_byte 10 (join_with_byte 32 (line_pieces k l)) ≡ false = joined_without 10 32 (line_pieces k l) refl (line_without 10 k l (inl refl) low fits) in
     ap (slice_split (λ b. eqb b 10)) (append_assoc (join_with_byte 32 (line_pieces k l)) (10 ∷ []) rest) ∙ split_part 10 (join_with_byte 32 (line_pieces k l)) rest none
 
--- a printed line is taken
+-- a printed line is accepted
 line_accepted : (k : ℕ) (l : Line) → Fits k → LineFits k l → AcceptsLine k (join_with_byte 32 (line_pieces k l)) (ends l) (line_pieces k l)
 line_accepted k l low fits = accepts k (join_with_byte 32 (line_pieces k l)) l (told k _ l (ap (cert_line_said k) (line_cut k l low fits) ∙ cert_line_said-pieces k l low fits))
 
 -- ---- the printed text
 
--- the lines that are left, behind i lines of these pieces, make the certificate
+-- the lines that are left, after i lines of these pieces, make the certificate
 printed_from : (text : List ℕ) (i : ℕ) (prefix : List (List (List ℕ))) (steps : List CertStep) (cycle : List ℕ) (c : Certificate) →
     Reached text i (flat_map line_text (steps_pieces (suc i) steps ++ cycle_pieces cycle ∷ [])) prefix → All StepFits steps → All Fits cycle → suc (i + length steps) < 2 ^ 64 →
     prefix ++ (steps_pieces (suc i) steps ++ cycle_pieces cycle ∷ []) ≡ cert_pieces c → CertFits c → SpellsCertificate text c
@@ -181,7 +181,7 @@ or_memory NoCycle = inr (λ e. absurd cc)
 or_memory AfterCycle = inr (λ e. absurd cc)
 or_memory OutOfMemory = inl refl
 
--- what a text spells is read, but for want of memory
+-- what a text spells is read, unless memory ran out
 pub only_spelled : (text : List ℕ) (r : Result Certificate TextFault) → IfOk r (SpellsCertificate text) → IfErr r (λ fault. fault.why ≢ OutOfMemory → IsCertTextRefusal text fault.line fault.why) →
     (c : Certificate) → SpellsCertificate text c → MatchResult r (λ d. d ≡ c) (λ fault. fault.why ≡ OutOfMemory)
 only_spelled text (Ok d) found refusal c spells = one_value text d c found spells

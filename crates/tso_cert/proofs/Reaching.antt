@@ -14,7 +14,7 @@ use Rattle.tso_cert.specs.Printed.{CertFits, cert_pieces}
 use Rattle.tso_cert.specs.Spelling.{SpellsCertificate, IsCertTextRefusal, cert_fault_at, cert_part_fault, cert_line_fault, has_last_line, is_last_line, unended_cert_fault, same_cert_fault}
 use Rattle.tso_cert.specs.Internal.LineValues.{IsFirstCertFault}
 
--- ---- parts in front
+-- ---- parts before
 
 list_any-push : {X : Type 0} (p : X → Bool) (xs : List X) (x : X) → list_any p xs ≡ false → list_any p (xs ++ x ∷ []) ≡ p x
 list_any-push p [] x none = elim (p x) as (λ b. (b || false) ≡ b) [ true ↦ refl | false ↦ refl ]
@@ -26,7 +26,7 @@ has_last_line-push : (prefix : List (List ℕ)) (line : List ℕ) → has_last_l
 unfolding has_last_line
 has_last_line-push prefix line none = list_any-push (λ line. is_last_line (pieces_of line)) prefix line none
 
--- the lines in front have no fault
+-- the lines before have no fault
 abbrev pub IsClean : List (List ℕ) → Type 0
 IsClean prefix = (i : ℕ) (w : Why) → i < length prefix → cert_part_fault (take i prefix) (get_or prefix i []) false w ≡ false
 
@@ -35,12 +35,12 @@ pub cert_part_fault-open : (prefix : List (List ℕ)) (part : List ℕ) (w : Why
 unfolding cert_part_fault
 cert_part_fault-open prefix part w running = rw running refl
 
--- what stands behind the last line end, before a last line
+-- what stands after the last line end, before a last line
 pub cert_part_fault-last : (prefix : List (List ℕ)) (part : List ℕ) (w : Why) → has_last_line prefix ≡ false → cert_part_fault prefix part true w ≡ same_cert_fault (unended_cert_fault part) w
 unfolding cert_part_fault
 cert_part_fault-last prefix part w running = rw running refl
 
--- what stands behind a last line
+-- what stands after a last line
 pub cert_part_fault-ended : (prefix : List (List ℕ)) (part : List ℕ) (last : Bool) (w : Why) → has_last_line prefix ≡ true → cert_part_fault prefix part last w ≡ (same_cert_fault AfterCycle w && not (last && is_empty part))
 unfolding cert_part_fault
 cert_part_fault-ended prefix part last w ended = rw ended refl
@@ -62,7 +62,7 @@ IsClean-push prefix line clean at_line i w low =
 
 -- ---- the place in the text
 
--- A reader has come behind i lines: they have no fault and none of them is a last line; `rest` is what stands behind them, and `pieces` are
+-- A reader has come after i lines: they have no fault and none of them is a last line; `rest` is what follows them, and `pieces` are
 -- their pieces.
 pub record Reached (text : List ℕ) (i : ℕ) (rest : List ℕ) (pieces : List (List (List ℕ))) : Type 0 where
   pub prefix : List (List ℕ)
@@ -72,7 +72,7 @@ pub record Reached (text : List ℕ) (i : ℕ) (rest : List ℕ) (pieces : List 
   pub running : has_last_line prefix ≡ false
   pub says : map pieces_of prefix ≡ pieces
 
--- the line of this number is taken: it has no fault, and tells by its first piece whether it is the last
+-- the line of this number is accepted: it has no fault, and its first piece says whether it is the last
 pub record AcceptsLine (number : ℕ) (line : List ℕ) (ended : Bool) (pieces : List (List ℕ)) : Type 0 where
   pub faultless : (w : Why) → cert_line_fault number (pieces_of line) w ≡ false
   pub ends : is_last_line (pieces_of line) ≡ ended
@@ -99,7 +99,7 @@ cert_fault_at-place text prefix part after i w body count =
 not_last_place : (prefix : List (List ℕ)) (part : List ℕ) (after : List (List ℕ)) (k : ℕ) → k < length prefix → eqb (suc k) (length (prefix ++ part ∷ after)) ≡ false
 not_last_place prefix part after k low = let whole = length-append prefix (part ∷ after) in grind (arith, nat_tests)
 
--- the lines in front have no fault, whatever stands behind them
+-- the lines before have no fault, whatever follows them
 cert_fault_at-prefix : (text : List ℕ) (prefix : List (List ℕ)) (part : List ℕ) (after : List (List ℕ)) (k : ℕ) (w : Why) → IsClean prefix →
     parts_of text ≡ prefix ++ part ∷ after → k < length prefix → cert_fault_at text (suc k) w ≡ false
 unfolding cert_fault_at
@@ -114,13 +114,13 @@ cert_fault_at-none : (text : List ℕ) (w : Why) → cert_fault_at text 0 w ≡ 
 unfolding cert_fault_at
 cert_fault_at-none text w = refl
 
--- behind the last part there is no fault
+-- after the last part there is no fault
 pub cert_fault_at-past : (text : List ℕ) (k : ℕ) (w : Why) → length (parts_of text) < k → cert_fault_at text k w ≡ false
 unfolding cert_fault_at
 cert_fault_at-past text zero w past = refl
 cert_fault_at-past text (suc k) w past = let off : ltb k (length (parts_of text)) ≡ false = grind (arith, nat_tests) in rw off refl
 
--- no line before a place behind clean lines has a fault
+-- no line before a place after clean lines has a fault
 cert_fault_at-before : (text : List ℕ) (prefix : List (List ℕ)) (part : List ℕ) (after : List (List ℕ)) → IsClean prefix →
     parts_of text ≡ prefix ++ part ∷ after → (j : ℕ) (w : Why) → j < suc (length prefix) → cert_fault_at text j w ≡ false
 cert_fault_at-before text prefix part after clean body zero w low = cert_fault_at-none text w
@@ -166,7 +166,7 @@ unended_refused text i rest pieces why r parts is =
     IsFirstCertFault-same (unended_cert_fault rest) (λ w. cert_part_fault-last r.prefix rest w r.running) (same_cert_fault-first (unended_cert_fault rest)) in
     rw is (subst (λ n. IsCertTextRefusal text (suc n) (unended_cert_fault rest)) r.count (refused_at text r.prefix rest [] (unended_cert_fault rest) r.clean body at))
 
--- a line that is taken has no fault
+-- a line that is accepted has no fault
 line_clean : (text : List ℕ) (i : ℕ) (rest : List ℕ) (pieces : List (List (List ℕ))) (line : List ℕ) (ended : Bool) (said : List (List ℕ)) →
     (r : Reached text i rest pieces) → AcceptsLine (suc i) line ended said → (w : Why) → cert_part_fault r.prefix line false w ≡ false
 line_clean text i rest pieces line ended said r accepts w =
@@ -181,7 +181,7 @@ line_ends : (text : List ℕ) (i : ℕ) (rest : List ℕ) (pieces : List (List (
     (r : Reached text i rest pieces) → AcceptsLine (suc i) line ended said → has_last_line (r.prefix ++ line ∷ []) ≡ ended
 line_ends text i rest pieces line ended said r accepts = has_last_line-push r.prefix line r.running ∙ accepts.ends
 
--- the reader goes on behind a line
+-- the reader continues after a line
 pub Reached-next : (text : List ℕ) (i : ℕ) (rest : List ℕ) (pieces : List (List (List ℕ))) (line after : List ℕ) (said : List (List ℕ)) →
     Reached text i rest pieces → parts_of rest ≡ line ∷ parts_of after → AcceptsLine (suc i) line false said → Reached text (suc i) after (pieces ++ said ∷ [])
 Reached-next text i rest pieces line after said r parts accepts = record {
@@ -193,7 +193,7 @@ Reached-next text i rest pieces line after said r parts accepts = record {
   says = line_says text i rest pieces line false said r accepts;
 }
 
--- a byte behind the last line
+-- a byte after the last line
 pub ended_refused : (text : List ℕ) (i : ℕ) (rest : List ℕ) (pieces : List (List (List ℕ))) (line after : List ℕ) (said : List (List ℕ)) →
     Reached text i rest pieces → parts_of rest ≡ line ∷ parts_of after → AcceptsLine (suc i) line true said → (length after ≡ 0 → ⊥) → IsCertTextRefusal text (suc (suc i)) AfterCycle
 unfolding parts_of
@@ -220,7 +220,7 @@ spelled_after text lines (suc k) w ended body high =
     (λ (past : suc (length lines) ≤ k). cert_fault_at-past text (suc k) w (omega (arith, ap length body, length-append lines ([] ∷ []))))
     (cases_lt k (suc (length lines)))
 
--- clean lines with a last line, and nothing behind them, spell the certificate that has their pieces
+-- clean lines with a last line, and nothing after them, spell the certificate that has their pieces
 pub spelled : (text : List ℕ) (lines : List (List ℕ)) (c : Certificate) → IsClean lines → has_last_line lines ≡ true → map pieces_of lines ≡ cert_pieces c → CertFits c →
     parts_of text ≡ lines ++ [] ∷ [] → SpellsCertificate text c
 spelled text lines c clean ended says fits body = record {
@@ -235,7 +235,7 @@ spelled text lines c clean ended says fits body = record {
   fits = fits;
 }
 
--- nothing behind the last line: the text spells the certificate of the lines
+-- nothing after the last line: the text spells the certificate of the lines
 pub Reached-end : (text : List ℕ) (i : ℕ) (rest : List ℕ) (pieces : List (List (List ℕ))) (line after : List ℕ) (said : List (List ℕ)) (c : Certificate) →
     Reached text i rest pieces → parts_of rest ≡ line ∷ parts_of after → AcceptsLine (suc i) line true said → pieces ++ said ∷ [] ≡ cert_pieces c → CertFits c →
     length after ≡ 0 → SpellsCertificate text c

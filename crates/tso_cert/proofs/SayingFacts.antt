@@ -23,7 +23,8 @@ use Rattle.tso_cert.specs.declared.faults.Why.{Why}
 use Rattle.tso_cert.specs.declared.faults.Why.TheVariants.{BadNumber, BadRule}
 use Rattle.tso_cert.specs.Printed.{base_name, inferred_name, event_text, reason_pieces, Fits, ReasonFits}
 use Rattle.tso_cert.specs.Spelling.{above_zero, event_number, are_events, base_rules, inferred_rules, is_name, is_rule}
-use Rattle.tso_cert.specs.Internal.LineValues.{◌>>=◌, or_bad_event, event, events, named, base_rule, inferred_rule, reason_said}
+use Rattle.line_text.specs.Results.{◌>>=◌}
+use Rattle.tso_cert.specs.Internal.LineValues.{or_bad_event, event, events, named, base_rule, inferred_rule, reason_said}
 
 -- ---- steps of a reading
 
@@ -47,7 +48,7 @@ pub cases : (b : Bool) → (b ≡ true) ⊎ (b ≡ false)
 cases true = inl refl
 cases false = inr refl
 
--- the first of elements, and those behind it
+-- the first of elements, and those after it
 pub all_first : {X : Type 0} (P : X → Type 0) (x : X) (xs : List X) → All P (x ∷ xs) → P x
 all_first P x xs all = all 0 x (omega arith)
 
@@ -183,7 +184,7 @@ inferred_rule-name SwapAfter = refl
 
 -- ---- reasons
 
--- the name of a rule and the pieces behind it are those of the reason
+-- the name of a rule and the pieces after it are those of the reason
 pub record ReasonTold (name : List ℕ) (ps : List (List ℕ)) (r : Reason) : Type 0 where
   pub says : name ∷ ps ≡ reason_pieces r
   pub fits : ReasonFits r
@@ -212,7 +213,7 @@ reason_told name (load ∷ path) r e =
       rule = n.1;
     }
 
--- a piece behind the name is no event number; or the name is that of no rule with these pieces
+-- a piece after the name is no event number; or the name is that of no rule with these pieces
 abbrev pub reason_faults : List ℕ → List (List ℕ) → Why → Type 0
 reason_faults name ps why = ((why ≡ BadNumber) × (are_events ps ≡ false)) ⊎ ((why ≡ BadRule) × (are_events ps ≡ true) × (is_rule name ps ≡ false))
 

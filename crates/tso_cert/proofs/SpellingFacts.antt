@@ -39,7 +39,7 @@ why_at-number_of NoCycle = refl
 why_at-number_of AfterCycle = refl
 why_at-number_of OutOfMemory = refl
 
--- the number tells the refusal
+-- the number determines the refusal
 same_number : (v w : Why) → cert_fault_number v ≡ cert_fault_number w → v ≡ w
 same_number v w e = sym (why_at-number_of v) ∙ ap (λ n. why_at (n - 1)) e ∙ why_at-number_of w
 
@@ -49,7 +49,7 @@ same_number v w e = sym (why_at-number_of v) ∙ ap (λ n. why_at (n - 1)) e ∙
 abbrev pub IsJudged : List ℕ → Type 0
 IsJudged text = ((c : Certificate) × SpellsCertificate text c × (text ≡ cert_text c)) ⊎ ((line : ℕ) × (why : Why) × IsCertTextRefusal text line why)
 
--- How far a text was walked through: behind its steps so far, with their bytes.
+-- How far a text was walked through: after its steps so far, with their bytes.
 record Walked (text rest : List ℕ) (steps : List CertStep) : Type 0 where
   read : IsRead text rest steps
   bytes : text ≡ flat_map line_text (steps_pieces 1 steps) ++ rest
@@ -73,7 +73,7 @@ no_bytes : (bytes : List ℕ) → length bytes ≡ 0 → bytes ≡ []
 no_bytes [] none = refl
 no_bytes (b ∷ bytes) none = absurd (omega arith)
 
--- behind one more step
+-- after one more step
 walked_step : (text rest : List ℕ) (steps : List CertStep) (s : CertStep) → Walked text rest steps → (cut : HasLine rest) → cert_line_said (suc (length steps)) (pieces_of cut.line) ≡ Ok (Step s) → Walked text cut.rest (steps ++ s ∷ [])
 walked_step text rest steps s w cut is = record {
   read = IsRead-next text rest steps s cut.line cut.rest w.read cut.parts is;
@@ -81,7 +81,7 @@ walked_step text rest steps s w cut is = record {
       ∙ ap (λ p. flat_map line_text p ++ cut.rest) (sym (steps_pieces-next steps s));
 }
 
--- behind a last line, which makes this certificate where nothing stands behind it
+-- after a last line, which makes this certificate where nothing stands after it
 judged_last : (text rest : List ℕ) (steps : List CertStep) (l : Line) (c : Certificate) → Walked text rest steps → (cut : HasLine rest) → cert_line_said (suc (length steps)) (pieces_of cut.line) ≡ Ok l → ends l ≡ true →
     steps_pieces 1 steps ++ line_pieces (suc (length steps)) l ∷ [] ≡ cert_pieces c → (length cut.rest ≡ 0 → SpellsCertificate text c) → IsJudged text
 unfolding cert_text

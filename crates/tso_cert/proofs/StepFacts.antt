@@ -1,4 +1,4 @@
--- A reader behind the steps of a text: what its next line makes of them.
+-- A reader after the steps of a text: what its next line makes of them.
 use Rattle.std.proofs.Common.{◌≡◌, ℕ, suc, ◌+◌, true, List, [], ◌∷◌, ◌++◌, length, Result, Ok, Err, refl, ap, ◌∙◌, arith, length-append}
 use Rattle.std.specs.Prelude.{All, IfOk, IfErr, ◌≢◌}
 use Rattle.std.proofs.lemmas.List.Elements.{All-nil, All-push}
@@ -18,14 +18,14 @@ use Rattle.tso_cert.proofs.LineFacts.{Told, told, refused, line_pieces, ends}
 use Rattle.tso_cert.proofs.PrintFacts.{steps_pieces-push}
 use Rattle.tso_cert.proofs.Reaching.{Reached, AcceptsLine, Reached-start, Reached-next, Reached-end, line_refused, ended_refused}
 
--- a line that says something is taken
+-- a line that says something is accepted
 pub accepts : (number : ℕ) (line : List ℕ) (l : Line) → Told number (pieces_of line) l → AcceptsLine number line (ends l) (line_pieces number l)
 accepts number line l t = record { faultless = t.faultless; ends = t.last; says = t.says }
 
 pub steps_pieces-next : (steps : List CertStep) (s : CertStep) → steps_pieces 1 (steps ++ s ∷ []) ≡ steps_pieces 1 steps ++ step_pieces (suc (length steps)) s ∷ []
 steps_pieces-next steps s = let at : 1 + length steps ≡ suc (length steps) = omega arith in steps_pieces-push 1 steps s ∙ ap (λ n. steps_pieces 1 steps ++ step_pieces n s ∷ []) at
 
--- The lines so far are those of these steps, and `rest` stands behind them.
+-- The lines so far are those of these steps, and `rest` stands after them.
 pub record IsRead (text rest : List ℕ) (steps : List CertStep) : Type 0 where
   pub reached : Reached text (length steps) rest (steps_pieces 1 steps)
   pub fits : All StepFits steps
@@ -33,7 +33,7 @@ pub record IsRead (text rest : List ℕ) (steps : List CertStep) : Type 0 where
 pub IsRead-start : (text : List ℕ) → IsRead text text []
 IsRead-start text = record { reached = Reached-start text; fits = All-nil StepFits }
 
--- behind one more step
+-- after one more step
 pub IsRead-next : (text rest : List ℕ) (steps : List CertStep) (s : CertStep) (line remaining : List ℕ) → IsRead text rest steps → parts_of rest ≡ line ∷ parts_of remaining →
     cert_line_said (suc (length steps)) (pieces_of line) ≡ Ok (Step s) → IsRead text remaining (steps ++ s ∷ [])
 IsRead-next text rest steps s line remaining r parts is =
@@ -51,7 +51,7 @@ read_refused text rest steps line remaining why r parts is =
 last_accepted : (number : ℕ) (line : List ℕ) (l : Line) → cert_line_said number (pieces_of line) ≡ Ok l → ends l ≡ true → AcceptsLine number line true (line_pieces number l)
 last_accepted number line l is last = rw (← last) (accepts number line l (told number (pieces_of line) l is))
 
--- bytes stand behind the last line
+-- bytes stand after the last line
 pub read_after : (text rest : List ℕ) (steps : List CertStep) (l : Line) (line remaining : List ℕ) → IsRead text rest steps → parts_of rest ≡ line ∷ parts_of remaining →
     cert_line_said (suc (length steps)) (pieces_of line) ≡ Ok l → ends l ≡ true → (length remaining ≡ 0 → ⊥) → IsCertTextRefusal text (suc (suc (length steps))) AfterCycle
 read_after text rest steps l line remaining r parts is last some =
@@ -81,7 +81,7 @@ read_unwritten text rest steps n line remaining r parts is none =
 
 -- ---- as the reader has it
 
--- the fault that a reader answers is the refusal at its line, but for want of memory
+-- the fault that a reader answers is the refusal at its line, unless memory ran out
 pub answered : (text : List ℕ) (line : ℕ) (why : Why) (fault_line : ℕ) (fault_why : Why) → fault_why ≡ why → ((why ≡ OutOfMemory → ⊥) → fault_line ≡ line) →
     ((why ≡ OutOfMemory → ⊥) → IsCertTextRefusal text line why) → (fault_why ≡ OutOfMemory → ⊥) → IsCertTextRefusal text fault_line fault_why
 answered text line why fault_line fault_why is stands refusal other =
@@ -89,7 +89,7 @@ answered text line why fault_line fault_why is stands refusal other =
     let place : fault_line ≡ line = stands not_memory in
     rw (is, place) (refusal not_memory)
 
--- what is answered behind a last line: the certificate, where nothing stands behind it
+-- what is answered after a last line: the certificate, where nothing stands after it
 pub ended_found : (text : List ℕ) (r : Result Certificate TextFault) (c : Certificate) (left : ℕ) → IfOk r (λ d. (d ≡ c) × (left ≡ 0)) → (left ≡ 0 → SpellsCertificate text c) → IfOk r (SpellsCertificate text)
 ended_found text (Ok d) c left found spells = rw found.0 (spells found.1)
 ended_found text (Err fault) c left found spells = tt

@@ -52,7 +52,7 @@ inferred_rules = LoadPast ∷ StorePast ∷ SwapBefore ∷ SwapAfter ∷ []
 abbrev pub is_name : {R : Type 0} → (R → List ℕ) → List R → List ℕ → Bool
 is_name name_of rules piece = list_any (λ rule. bytes_eq piece (name_of rule)) rules
 
--- a base rule with no piece behind its name, or an inferred rule with some
+-- a base rule with no piece after its name, or an inferred rule with some
 abbrev pub is_rule : List ℕ → List (List ℕ) → Bool
 is_rule name [] = is_name base_name base_rules name
 is_rule name (load ∷ path) = is_name inferred_name inferred_rules name
@@ -73,14 +73,14 @@ is_bad_line number pieces =
     else if begins_with (codes "unwritten") pieces then not (number == 1 && length pieces == 2)
     else nat_lt (length pieces) 4
 
--- A last line with a piece behind its word that is no event number. A step line whose first piece isn't the line's number, or whose second or
--- third piece, or a piece behind the fourth, is no event number.
+-- A last line with a piece after its keyword that is no event number. A step line whose first piece isn't the line's number, or whose second or
+-- third piece, or a piece after the fourth, is no event number.
 abbrev pub has_bad_number : ℕ → List (List ℕ) → Bool
 has_bad_number number pieces =
     if is_last_line pieces then not (are_events (drop 1 pieces))
     else not (bytes_eq (get_or pieces 0 []) (decimal number) && are_events (take 2 (drop 1 pieces)) && are_events (drop 4 pieces))
 
--- a step line whose fourth piece is no rule's name, or has pieces behind it that its rule doesn't have
+-- a step line whose fourth piece is no rule's name, or has pieces after it that its rule doesn't have
 abbrev pub has_bad_rule : List (List ℕ) → Bool
 has_bad_rule pieces = if is_last_line pieces then false else not (is_rule (get_or pieces 3 []) (drop 4 pieces))
 
@@ -103,11 +103,11 @@ cert_lines text = take (length (parts_of text) - 1) (parts_of text)
 unfoldable pub has_last_line : List (List ℕ) → Bool
 has_last_line lines = list_any (λ line. is_last_line (pieces_of line)) lines
 
--- what stands behind the last line end, where no last line came
+-- what stands after the last line end, where no last line came
 abbrev pub unended_cert_fault : List ℕ → Why
 unended_cert_fault part = if is_empty part then NoCycle else BadLine
 
--- The part has the fault, behind these lines; `last` where no line end follows it.
+-- The part has the fault, after these lines; `last` where no line end follows it.
 unfoldable pub cert_part_fault : List (List ℕ) → List ℕ → Bool → Why → Bool
 cert_part_fault before part last w =
     if has_last_line before then same_cert_fault AfterCycle w && not (last && is_empty part)

@@ -4,29 +4,29 @@ ghost use Rattle.tso_cert.specs.declared.faults.Why.{Why};
 use std::alloc::{AllocError, AllocFailed};
 use thiserror::Error;
 
-/// A growth was refused: std's error of the allocator.
+/// An allocation was refused: std's error of the allocator.
 pub use std::alloc::AllocError as OutOfMemory;
 
 /// Why the text of a certificate is refused, in the order of their numbers: of two on one line the first counts.
 #[derive(Clone, Copy, Debug, PartialEq, Eq, Error)]
 pub enum Why {
-    /// A line with no line end; `unwritten` on another line than the first, or not with just one piece behind it; or a
+    /// A line with no line end; `unwritten` on another line than the first, or not with just one piece after it; or a
     /// step line of fewer than four pieces.
     #[error("BadLine")]
     BadLine,
     /// A step that isn't numbered as its line is, or a piece that should be an event number and is none.
     #[error("BadNumber")]
     BadNumber,
-    /// The name of no rule, a base rule with pieces behind it, or an inferred rule with none.
+    /// The name of no rule, a base rule with pieces after it, or an inferred rule with none.
     #[error("BadRule")]
     BadRule,
-    /// The text ends behind a whole line, or is empty, and no line `cycle` or `unwritten` came.
+    /// The text ends after a whole line, or is empty, and no line `cycle` or `unwritten` came.
     #[error("NoCycle")]
     NoCycle,
-    /// A byte behind the line `cycle` or `unwritten`.
+    /// A byte after the line `cycle` or `unwritten`.
     #[error("AfterCycle")]
     AfterCycle,
-    /// A growth was refused.
+    /// An allocation was refused.
     #[error("OutOfMemory")]
     OutOfMemory,
 }

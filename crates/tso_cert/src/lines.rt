@@ -37,7 +37,7 @@ pub(crate) fn read_line(alloc: Global, number: usize, line: &[u8]) -> Result<Lin
     }
 }
 
-/// The load of a line `unwritten`, of the pieces behind the word.
+/// The load of a line `unwritten`, of the pieces after the keyword.
 #[tactic(auto, unfolding(crate::specs::Internal::LineValues::unwritten_said))]
 fn read_unwritten(number: usize, pieces: Option<&[u8]>) -> Result<u64, Why>
     ensures { result ≡ unwritten_said number (pieces_after pieces.entry) }
@@ -50,7 +50,7 @@ fn read_unwritten(number: usize, pieces: Option<&[u8]>) -> Result<u64, Why>
     }
 }
 
-/// The step of a line, of its first piece and the pieces behind it.
+/// The step of a line, of its first piece and the pieces after it.
 #[tactic(auto, unfolding(crate::specs::Internal::LineValues::step_said))]
 fn read_step(
     alloc: Global,
@@ -73,7 +73,7 @@ fn read_step(
     Ok(CertStep { from, to, reason })
 }
 
-/// The reason of the name of a rule and the pieces behind it.
+/// The reason of the name of a rule and the pieces after it.
 #[tactic(auto, unfolding(crate::specs::Internal::LineValues::reason_said))]
 fn read_reason(alloc: Global, name: &[u8], pieces: Option<&[u8]>) -> Result<Reason, Why>
     ensures found { IfOk result (λ reason. reason_said name.now (pieces_after pieces.entry) ≡ Result.Ok reason) }

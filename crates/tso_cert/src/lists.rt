@@ -26,7 +26,7 @@ impl NumList {
         NumList { numbers }
     }
 
-    /// The list of these numbers. OutOfMemory where a growth was refused.
+    /// The list of these numbers. OutOfMemory where an allocation was refused.
     pub fn from_numbers(alloc: Global, numbers: &[usize]) -> Result<NumList, OutOfMemory>
         ensures { IfOk result (λ list. list ≡ numbers.now) }
     {

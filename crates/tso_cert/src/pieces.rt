@@ -11,7 +11,7 @@ use crate::rules::{BaseRule, InferredRule};
 use line_text::{next_piece, number_of};
 use std::alloc::Global;
 
-/// The next piece, and what stands behind its space; BadLine where there is none.
+/// The next piece, and what stands after its space; BadLine where there is none.
 pub(crate) fn piece_of(pieces: Option<&[u8]>) -> Result<(&[u8], Option<&[u8]>), Why>
     ensures found { IfOk result (λ found. pieces_after pieces.entry ≡ found.0.now ∷ pieces_after found.1) }
     ensures none { IfErr result (λ why. (pieces_after pieces.entry ≡ []) × (why ≡ Why.BadLine)) }

@@ -10,7 +10,7 @@ use crate::steps::{CertStep, Certificate, Reason};
 use std::alloc::Global;
 use std::fmt::Write;
 
-/// The text of a certificate. It spells the certificate, so `read_cert` reads it back. OutOfMemory where a growth was
+/// The text of a certificate. It spells the certificate, so `read_cert` reads it back. OutOfMemory where an allocation was
 /// refused.
 pub fn print_cert(alloc: Global, certificate: &Certificate) -> Result<String, OutOfMemory>
     ensures lines { IfOk result (λ text. string_bytes text ≡ cert_text certificate.now) }
@@ -66,7 +66,7 @@ fn print_step(text: &mut String, number: usize, step: &CertStep) -> Result<(), O
     text.push_str("\n")
 }
 
-/// Appends the pieces of a reason, each behind a space.
+/// Appends the pieces of a reason, each after a space.
 fn print_reason(text: &mut String, reason: &Reason) -> Result<(), OutOfMemory>
     ensures pieces { OnOk result (string_bytes text.new ≡ string_bytes text.old ++ flat_map (λ piece. 32 ∷ piece) (reason_pieces reason.now)) }
     ensures fits { OnOk result (ReasonFits reason.now) }

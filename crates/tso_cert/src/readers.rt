@@ -11,7 +11,7 @@ use std::alloc::Global;
 
 /// Reads the text of a certificate.
 ///
-/// Refused: the least line that has a fault, and there the fault of the least number; or OutOfMemory where a growth
+/// Refused: the least line that has a fault, and there the fault of the least number; or OutOfMemory where an allocation
 /// was refused.
 pub fn read_cert(alloc: Global, text: &[u8]) -> Result<Certificate, TextFault>
     ensures found { IfOk result (SpellsCertificate text.now) }
@@ -64,7 +64,7 @@ fn add(steps: &mut Vec<CertStep>, step: CertStep) -> Result<(), Why>
     Ok(())
 }
 
-/// The certificate, where nothing stands behind its last line, at the line of this number.
+/// The certificate, where nothing stands after its last line, at the line of this number.
 fn ended(certificate: Certificate, number: usize, rest: &[u8]) -> Result<Certificate, TextFault>
     ensures found { IfOk result (λ c. (c ≡ certificate) × (length rest.now ≡ 0)) }
     ensures refused { IfErr result (λ fault. (fault.line ≡ number) × (fault.why ≡ Why.AfterCycle) × (length rest.now ≡ 0 → ⊥)) }
@@ -79,7 +79,7 @@ fn ended(certificate: Certificate, number: usize, rest: &[u8]) -> Result<Certifi
     }
 }
 
-/// What stands behind the last line end, where no last line came.
+/// What stands after the last line end, where no last line came.
 fn unended(part: &[u8]) -> Why
     ensures { result ≡ unended_cert_fault part.now }
 {

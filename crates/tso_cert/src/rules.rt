@@ -7,7 +7,7 @@ pub enum BaseRule {
     LoadOp,
     /// From a store to a program-later store (the axiom StoreStore: SPARC Architecture Manual Version 8, K.2).
     StoreStore,
-    /// From a store to a program-later load behind a barrier (MEMBAR #StoreLoad: SPARC Architecture Manual Version 9, 8.4.3 and appendix D).
+    /// From a store to a program-later load after a barrier (MEMBAR #StoreLoad: SPARC Architecture Manual Version 9, 8.4.3 and appendix D).
     Membar,
     /// From the store that is the source of a load, and isn't program-earlier, to the load.
     Read,

@@ -21,7 +21,7 @@ use Rattle.tso_model.proofs.Justifications.{rank_unique, base_index_injective, i
 use Rattle.tso_model.proofs.RoundsNumber.{rounds_unique}
 use Rattle.tso_model.proofs.OrderedLists.{AreAmong, AreInOrder, in_order_unique}
 
--- the rule, the load and the edge tell the ends of the path
+-- the rule, the load and the edge determine the ends of the path
 ends_unique : (t : TraceValue) → HasOwnValues t → (rule : InferredRule) (l u v x y x' y' : ℕ) →
     InferredBy t rule l u v x y → InferredBy t rule l u v x' y' → (x ≡ x') × (y ≡ y')
 ends_unique t own LoadPast l u v x y x' y' left right = (left.4 ∙ sym right.4, left.5 ∙ sym right.5)

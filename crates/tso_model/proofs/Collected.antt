@@ -62,7 +62,7 @@ EachPrecedes-append {A} Precedes (x ∷ xs) ys first second across = (ahead, Eac
     ahead : (y : A) → IsIn y (xs ++ ys) → Precedes x y
     ahead y here = elim (IsIn-append_cases xs ys y here) [ inl in_xs ↦ first.0 y in_xs | inr in_ys ↦ across x y (inl refl) in_ys ]
 
--- the lists of the numbers below n, one behind the other
+-- the lists of the numbers below n, one after the other
 pub collected : {A : Type 0} → (ℕ → List A) → ℕ → List A
 collected f zero = []
 collected f (suc n) = collected f n ++ f n

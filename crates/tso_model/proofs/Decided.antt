@@ -1,4 +1,4 @@
--- The words on events, the rules and the rank sets are decided.
+-- What is defined of events, the rules and the rank sets is decided.
 use Rattle.std.proofs.Common.{◌≡◌, ℕ, zero, suc, ◌<◌, ◌⊎◌, inl, inr, IsTrue, IsFalse, Option, None, Some, refl, sym, subst}
 use Rattle.std.proofs.lemmas.Bool.{cases_eq}
 use Rattle.std.proofs.lemmas.Option.{none-some, same_Some}
@@ -29,7 +29,7 @@ AreSome-decided : (P : Event → Event → Type 0) → ((d e : Event) → Decisi
 AreSome-decided P decide o q = Decision-iff (λ p. (p.0, p.2.0, p.1, p.2.1, p.2.2)) (λ p. (p.0, p.2, (p.1, p.3, p.4)))
     (IsSome-decided (λ d. (e : Event) × (q ≡ Some e) × P d e) (λ d. IsSome-decided (λ e. P d e) (λ e. decide d e) q) o)
 
--- the words on events
+-- what is defined of events
 pub IsEvent-decided : (t : TraceValue) (n : ℕ) → Decision (IsEvent t n)
 IsEvent-decided t n = Decision-iff (λ p. (p.0, p.1)) (λ p. (p.0, p.1, tt)) (IsSome-decided (λ e. Unit {0}) (λ e. inl tt) (event_at t n))
 

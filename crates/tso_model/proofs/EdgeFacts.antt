@@ -105,7 +105,7 @@ passing_more Answers old new u n found row = record {
       | inr (inr above) ↦ absurd (omega arith)
     ]
 
--- The pairs whose test answers true are the edges, where the test tells which pairs are edges, and those lie in the grid.
+-- The pairs whose test answers true are the edges, where the test answers which pairs are edges, and those lie in the grid.
 pub passing_edges : (Answers : ℕ → ℕ → Bool → Type 0) (Edge : ℕ → ℕ → Type 0) (pairs : List (ℕ × ℕ)) (n : ℕ) → ArePassing Answers pairs n n →
     ((u v : ℕ) (answer : Bool) → u < n → v < n → Answers u v answer → IsTrue answer ↔ Edge u v) →
     ((u v : ℕ) → Edge u v → (u < n) × (v < n)) → AreEdges pairs Edge

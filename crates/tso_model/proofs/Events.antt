@@ -6,6 +6,7 @@ use Rattle.tso_ops.specs.Limits.{IsTrace}
 use Rattle.tso_ops.specs.declared.events.Event.{Event}
 use Rattle.tso_ops.specs.Events.{events_of, event_total, event_at, IsEvent, IsLoad, IsStore, HasValue, SameAddress, SameValue, HasSource}
 use Rattle.tso_ops.proofs.EventFacts.{store_value_not_zero, stores_distinct}
+pub use Rattle.tso_ops.proofs.TableFacts.{source_load}
 
 -- What the laws need of a trace: each store has a value of its own, which isn't 0.
 pub record HasOwnValues (t : TraceValue) : Type 0 where
@@ -60,11 +61,6 @@ IsStore-within t n store = IsEvent-within t n (store_event t n store)
 pub HasSource-within : (t : TraceValue) (l s : ℕ) → HasSource t l s → (l < suc (event_total t)) × (s < suc (event_total t))
 HasSource-within t l zero source = (IsLoad-within t l source.0, omega arith)
 HasSource-within t l (suc k) source = (IsLoad-within t l source.0, IsStore-within t (suc k) source.1)
-
--- what has a source is a load
-pub source_load : (t : TraceValue) (l s : ℕ) → HasSource t l s → IsLoad t l
-source_load t l zero source = source.0
-source_load t l (suc k) source = source.0
 
 -- a store to the load's address of the load's value is its source
 pub store_source : (t : TraceValue) (l s : ℕ) → IsLoad t l → IsStore t s → SameAddress t s l → SameValue t s l → HasSource t l s

@@ -101,7 +101,7 @@ lacking-lt t k u v e none = sum_below-lt (lacking_from t (suc k)) (lacking_from 
     row = sum_below-lt (λ b. lacks (RankSet-decided t (suc k) u b)) (λ b. lacks (RankSet-decided t k u b)) (each u) (suc (event_total t)) v within.1
         (lacks-lt none e (RankSet-decided t k u v) (RankSet-decided t (suc k) u v))
 
--- the round behind rank k adds a pair, or none
+-- the round after rank k adds a pair, or none
 round_cases : (t : TraceValue) (k : ℕ) → ((u : ℕ) × ((v : ℕ) × (RankSet t (suc k) u v × (RankSet t k u v → ⊥)))) ⊎ IsLast t k
 round_cases t k = elim added [ inl p ↦ inl p | inr none ↦ inr (λ u v e. kept u v e none (RankSet-decided t k u v)) ]
   where
@@ -119,7 +119,7 @@ round_cases t k = elim added [ inl p ↦ inl p | inr none ↦ inr (λ u v e. kep
     kept u v e none (inl here) = here
     kept u v e none (inr not_here) = absurd (none (u, (v, (e, not_here))))
 
--- Whether the round behind a rank adds nothing is decided.
+-- Whether the round after a rank adds nothing is decided.
 pub IsLast-decided : (t : TraceValue) (k : ℕ) → Decision (IsLast t k)
 IsLast-decided t k = elim (round_cases t k) [
   | inl p ↦ inr (λ last. p.1.1.1 (last p.0 p.1.0 p.1.1.0))

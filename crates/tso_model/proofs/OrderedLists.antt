@@ -1,4 +1,4 @@
--- Lists by their places: what stands in a first part, and lists in order with the same members.
+-- Lists by their indices: what is in a prefix, and lists in order with the same members.
 use Rattle.std.proofs.Common.{◌≡◌, ℕ, zero, suc, ◌<◌, List, [], ◌∷◌, Some, take, slice_get, refl, sym, ◌∙◌, arith}
 use Rattle.std.proofs.lemmas.Option.{none-some, same_Some}
 

@@ -27,7 +27,7 @@ place_same (x ∷ rest) u v listed same = by_cases (cases_eq x u) (cases_eq x v)
     by_cases (inr later) (inr other) in_rest =
         in_rest (omega (arith, listed, occurrences-later v x rest other)) (omega (arith, same, place-later x rest u later, place-later x rest v other))
 
--- with number 0 in front each other place is one more
+-- with number 0 prepended each other place is one more
 pub place-with_init : (order : List ℕ) (n : ℕ) → 0 < n → place (0 ∷ order) n ≡ suc (place order n)
 place-with_init order n above = place-later 0 order n (λ same. omega arith)
 
@@ -38,11 +38,11 @@ before_from_up_to order (suc k) v listed above other up_to =
     let apart : place order (suc k) ≢ place order v = λ same. other (place_same order (suc k) v listed same) in
     omega (arith, up_to, place-with_init order v above, place-with_init order (suc k) (omega arith))
 
--- number 0 stands in front of all other numbers
+-- number 0 stands before all other numbers
 pub zero_before : (order : List ℕ) (n : ℕ) → 0 < n → IsBefore order 0 n
 zero_before order n above = omega (arith, place-with_init order n above)
 
--- nothing stands in front of number 0
+-- nothing stands before number 0
 pub nothing_before_zero : (order : List ℕ) (u : ℕ) → IsBefore order u 0 → ⊥
 nothing_before_zero order u before = omega arith
 

@@ -9,7 +9,8 @@ use Rattle.tso_ops.specs.Events.{event_total}
 use Rattle.tso_cert.specs.declared.rules.InferredRule.{InferredRule}
 use Rattle.tso_cert.specs.declared.rules.InferredRule.TheVariants.{LoadPast, StorePast, SwapBefore, SwapAfter}
 use Rattle.tso_model.specs.Ranks.{RankSet, IsInferred}
-use Rattle.tso_model.specs.EdgeLists.{HasPair, AreEdges, AreEdgesBelow, IsGivenBy, IsGiven, IsNew}
+use Rattle.tso_model.specs.EdgeLists.{HasPair, AreEdges, AreEdgesBelow, IsGivenBy, IsNew}
+use Rattle.tso_model.specs.Internal.PlainLists.{IsGiven}
 use Rattle.tso_model.proofs.Bounds.{InferredBy-within, RankSet-within}
 use Rattle.tso_model.proofs.LastRankSet.{IsInferred-mono}
 

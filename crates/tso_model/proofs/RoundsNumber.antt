@@ -1,4 +1,4 @@
--- The rounds number exists, is unique, and tells whether the derived order has a cycle.
+-- The rounds number exists, is unique, and says whether the derived order has a cycle.
 use Rattle.std.proofs.Common.{◌≡◌, ◌⊎◌, ◌↔◌, ℕ, inl, inr, refl, sym, ◌∙◌}
 use Rattle.order_paths.specs.Paths.{HasCycle}
 use Rattle.order_paths.proofs.Decisions.{IsFirst-unique, first_of_some}

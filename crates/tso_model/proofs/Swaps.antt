@@ -1,4 +1,4 @@
--- Behind each swap's load stands a store: the number after a swap's load is that of the swap's store.
+-- After each swap's load stands a store: the number after a swap's load is that of the swap's store.
 use Rattle.std.proofs.Common.{◌≡◌, ℕ, zero, suc, IsTrue, IsFalse, List, [], ◌∷◌, ◌++◌, Some, refl, sym, ◌∙◌, subst}
 use Rattle.std.specs.List.{slice_get}
 use Rattle.std.proofs.lemmas.Bool.{false≢true}
@@ -9,12 +9,12 @@ use Rattle.tso_ops.specs.declared.events.Event.{Event}
 use Rattle.tso_ops.specs.Values.{TraceValue}
 use Rattle.tso_ops.specs.Events.{events_from, events_of_lists, events_of, event_at, IsStore, IsSwapLoad}
 
--- behind each event of the list that is a swap's load stands a store
+-- after each event of the list that is a swap's load stands a store
 SwapsHaveStores : List Event → Type 0
 SwapsHaveStores events = (k : ℕ) (e : Event) → slice_get events k ≡ Some e → IsTrue e.load → IsTrue e.swap →
     (d : Event) × (slice_get events (suc k) ≡ Some d) × IsFalse d.load
 
--- that stays so with an event in front that is no swap's load
+-- that stays so with an event prepended that is no swap's load
 SwapsHaveStores-one : (first : Event) (events : List Event) → (IsTrue first.load → IsTrue first.swap → ⊥) → SwapsHaveStores events → SwapsHaveStores (first ∷ events)
 unfolding SwapsHaveStores
 SwapsHaveStores-one first events other paired zero e at load swap =
@@ -22,14 +22,14 @@ SwapsHaveStores-one first events other paired zero e at load swap =
     absurd (other (subst (λ x. IsTrue x.load) (sym same) load) (subst (λ x. IsTrue x.swap) (sym same) swap))
 SwapsHaveStores-one first events other paired (suc k) e at load swap = paired k e at load swap
 
--- and with a swap's load and its store in front
+-- and with a swap's load and its store prepended
 SwapsHaveStores-swap : (first second : Event) (events : List Event) → IsFalse second.load → SwapsHaveStores events → SwapsHaveStores (first ∷ second ∷ events)
 unfolding SwapsHaveStores
 SwapsHaveStores-swap first second events store paired zero e at load swap = (second, refl, store)
 SwapsHaveStores-swap first second events store paired (suc k) e at load swap =
     SwapsHaveStores-one second events (λ l s. false≢true (sym store ∙ l)) paired k e at load swap
 
--- and with the events of these operations in front
+-- and with the events of these operations prepended
 SwapsHaveStores-from : (p bars : ℕ) (ops : List Outcome) (rest : List Event) → SwapsHaveStores rest → SwapsHaveStores (events_from p bars ops ++ rest)
 SwapsHaveStores-from p bars [] rest paired = paired
 SwapsHaveStores-from p bars (Ld a r ∷ ops) rest paired = SwapsHaveStores-one _ (events_from p bars ops ++ rest) (λ l s. false≢true s) (SwapsHaveStores-from p bars ops rest paired)
@@ -37,7 +37,7 @@ SwapsHaveStores-from p bars (St a v ∷ ops) rest paired = SwapsHaveStores-one _
 SwapsHaveStores-from p bars (Sw a r v ∷ ops) rest paired = SwapsHaveStores-swap _ _ (events_from p bars ops ++ rest) refl (SwapsHaveStores-from p bars ops rest paired)
 SwapsHaveStores-from p bars (Mb ∷ ops) rest paired = SwapsHaveStores-from p (suc bars) ops rest paired
 
--- the events of all processors have a store behind each swap's load
+-- the events of all processors have a store after each swap's load
 SwapsHaveStores-lists : (p : ℕ) (lists : List (List Outcome)) → SwapsHaveStores (events_of_lists p lists)
 unfolding SwapsHaveStores
 SwapsHaveStores-lists p [] = λ k e at load swap. absurd (none-some e at)

@@ -44,7 +44,7 @@ abbrev pub Holds : TraceValue → Certificate → Type 0
 Holds t (Unwritten n) = IsUnwritten t n
 Holds t (Cycle steps cycle) = StepsHold t steps × IsCycle (λ x y. IsStep steps x y) cycle
 
--- the places of the rules in the order in which a justification tries them
+-- the positions of the rules in the order in which a justification tries them
 abbrev pub base_index : BaseRule → ℕ
 base_index Init = 0
 base_index LoadOp = 1

@@ -23,10 +23,6 @@ pub record AreEdgesBelow (n : ℕ) (edges : List (ℕ × ℕ)) : Type 0 where
 abbrev pub IsGivenBy : TraceValue → InferredRule → ℕ → (ℕ → ℕ → Type 0) → ℕ → ℕ → Type 0
 IsGivenBy t rule l Path u v = (x : ℕ) × (y : ℕ) × InferredBy t rule l u v x y × Path x y
 
--- an inferred rule gives the edge for some load, where the path that it needs is one of these
-abbrev pub IsGiven : TraceValue → (ℕ → ℕ → Type 0) → ℕ → ℕ → Type 0
-IsGiven t Path u v = (rule : InferredRule) × (l : ℕ) × IsGivenBy t rule l Path u v
-
 -- what a round adds to these edges: what an inferred rule gives by a path over them, and they have no path for
 abbrev pub IsNew : TraceValue → (ℕ → ℕ → Type 0) → ℕ → ℕ → Type 0
 IsNew t Edge u v = IsInferred t Edge u v × (Reaches Edge u v → ⊥)

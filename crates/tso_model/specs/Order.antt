@@ -26,7 +26,7 @@ pub record IsMemoryOrder (t : TraceValue) (order : List ℕ) : Type 0 where
 abbrev pub IsUpTo : List ℕ → ℕ → ℕ → Type 0
 IsUpTo order u v = place order u ≤ place order v
 
--- u stands strictly before v in the order with `init`, number 0, in front
+-- u stands strictly before v in the order with `init`, number 0, prepended
 abbrev pub IsBefore : List ℕ → ℕ → ℕ → Type 0
 IsBefore order u v = place (0 ∷ order) u < place (0 ∷ order) v
 
@@ -45,11 +45,11 @@ ReadsGreatest t order l =
 pub record IsTsoOrder (t : TraceValue) (order : List ℕ) : Type 0 where
   -- Order and Termination
   pub memory_order : IsMemoryOrder t order
-  -- LoadOp (V8, K.2): what a processor does behind a load, memory orders behind that load.
+  -- LoadOp (V8, K.2): what a processor does after a load, memory orders after that load.
   pub load_op : (u v : ℕ) → IsLoad t u → Earlier t u v → IsUpTo order u v
   -- StoreStore (V8, K.2): memory keeps the order of a processor's stores. Under TSO this holds of any two of them, with no barrier.
   pub store_store : (u v : ℕ) → IsStore t u → IsStore t v → Earlier t u v → IsUpTo order u v
-  -- MEMBAR #StoreLoad (V9, 8.4.3 'The MEMBAR Instruction' and appendix D): memory orders a store before each load behind the barrier.
+  -- MEMBAR #StoreLoad (V9, 8.4.3 'The MEMBAR Instruction' and appendix D): memory orders a store before each load after the barrier.
   pub membar : (u v : ℕ) → IsStore t u → IsLoad t v → Earlier t u v → HasFewerBarriersBefore t u v → IsUpTo order u v
   -- Atomicity (V8, K.2): a swap's load comes before its store, and no other store, to any address, comes between the two.
   pub swap : (l : ℕ) → IsSwapLoad t l → IsUpTo order l (suc l)

@@ -1,4 +1,4 @@
-//! The laws of the rank sets and the rounds number: the sets grow to a last one, the number exists, is unique, and tells whether the derived order has a cycle, which is decided.
+//! The laws of the rank sets and the rounds number: the sets grow to a last one, the number exists, is unique, and says whether the derived order has a cycle, which is decided.
 
 ghost use Rattle.std.specs.Prelude.{◌≡◌, ◌⊎◌, ◌↔◌, ℕ, ◌≤◌};
 ghost use Rattle.order_paths.specs.Paths.{HasCycle};

@@ -8,7 +8,7 @@ ghost use Rattle.tso_model.specs.Order.{IsBefore, IsTsoOrder, IsConsistent};
 ghost use Rattle.tso_model.specs.Rules.{IsDerived, HasDerivedCycle};
 ghost use Rattle.tso_model.specs.Ranks.{RankSet};
 
-/// In every TSO order of a trace, with `init` put in front, the first number of each edge of a rank set stands strictly before the second.
+/// In every TSO order of a trace, with `init` prepended, the first number of each edge of a rank set stands strictly before the second.
 pub fn edges_lead_forwards()
     ensures { (t : TraceValue) (order : List ℕ) → IsTrace t → IsTsoOrder t order → (k u v : ℕ) → RankSet t k u v → IsBefore order u v }
 {}
@@ -28,7 +28,7 @@ pub fn unwritten_load_leaves_no_order()
     ensures { (t : TraceValue) (l : ℕ) → IsUnwritten t l → IsConsistent t → ⊥ }
 {}
 
-/// In every TSO order of a trace, with `init` put in front, the first number of each derived pair stands strictly before the second.
+/// In every TSO order of a trace, with `init` prepended, the first number of each derived pair stands strictly before the second.
 pub fn derived_pairs_lead_forwards()
     ensures { (t : TraceValue) (order : List ℕ) → IsTrace t → IsTsoOrder t order → (u v : ℕ) → IsDerived t u v → IsBefore order u v }
 {}

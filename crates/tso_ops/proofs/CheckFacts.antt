@@ -13,14 +13,14 @@ use Rattle.tso_ops.specs.Limits.{IsFaultOf, IsProgram, IsValueRefusal}
 use Rattle.tso_ops.specs.Tally.{Admitted, IsAdmitRefusal}
 use Rattle.tso_ops.proofs.LimitFacts.{IsFaultOf-next, IsFaultOf-append, not_refused}
 
--- the new tally has admitted these operations behind those that the old one had
+-- the new tally has admitted these operations after those that the old one had
 abbrev pub AdmitsMore : Tally → Tally → List Op → Type 0
 AdmitsMore old new more = (ops : List Op) → Admitted old ops → Admitted new (ops ++ more)
 
 pub AdmitsMore-none : (tally : Tally) → AdmitsMore tally tally []
 AdmitsMore-none tally ops was = rw append-nil was
 
--- a list is its front, the element behind it, and the rest
+-- a list is a prefix, the element after it, and the rest
 split_at : {X : Type 0} → (xs : List X) (i : ℕ) (x : X) → i < length xs → x ≡ get_or xs i x → xs ≡ take i xs ++ x ∷ drop (i + 1) xs
 split_at xs i x within at = sym (take-append-drop i xs) ∙ ap (λ rest. take i xs ++ rest) (drop_more xs i x within ∙ ap (λ y. y ∷ drop (i + 1) xs) (sym at))
 

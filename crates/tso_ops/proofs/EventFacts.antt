@@ -44,7 +44,7 @@ store_values-lists p (ops ∷ lists) =
     ∙ ap (λ rest. stored_values (map op_of ops) ++ rest) (store_values-lists (suc p) lists)
     ∙ sym (stored_values-append (map op_of ops) (joined lists))
 
--- the front of the stored values: that of one event
+-- the first of the stored values: that of one event
 value_then : (P : ℕ → Type 0) (load : Bool) (v : ℕ) (rest : List ℕ) → AllByRecursion P (cond load [] (v ∷ []) ++ rest) → (load ≡ false → P v) × AllByRecursion P rest
 value_then P true v rest all = (λ e. absurd (false≢true (sym e)), all)
 value_then P false v rest all = (λ e. all.0, all.1)

@@ -15,7 +15,7 @@ use Rattle.tso_ops.specs.declared.faults.ValueFault.{ValueFault}
 use Rattle.tso_ops.specs.declared.faults.ValueFault.TheVariants.{TooManyProcessors, TooManyEvents, AddressRange, ZeroValue, RepeatedValue, OutOfMemory}
 use Rattle.tso_ops.specs.Limits.{event_count, barrier_count, address_of, stored_by, total_events, total_barriers, addresses_of, stored_values, KeepsLimits, is_past_addresses, is_zero, is_repeated, has_fault, IsFirstFault, IsFaultless, IsFaultOf}
 
--- the front of a list with one more element ends before that element or is the whole list
+-- a prefix of a list with one more element ends before that element or is the whole list
 pub split_push : {X : Type 0} → (xs : List X) (x : X) (before : List X) (o : X) (after : List X) → xs ++ x ∷ [] ≡ before ++ o ∷ after →
     ((before ≡ xs) × (o ≡ x)) ⊎ ((rest : List X) × (xs ≡ before ++ o ∷ rest))
 split_push [] x [] o after e = inl (refl, cc)
@@ -63,7 +63,7 @@ KeepsLimits-nil = record {
   fits = All-nil _;
 }
 
--- what the operation writes may be written behind these values
+-- what the operation writes may be written after these values
 pub record IsStorable (values : List ℕ) (stored : Option ℕ) : Type 0 where
   pub non_zero : is_zero stored ≡ false
   pub new : is_repeated values stored ≡ false

@@ -20,7 +20,7 @@ use Rattle.tso_ops.specs.Events.{events_of, event_at, HasSource, SourceIs}
 use Rattle.tso_ops.specs.Internal.Tables.{IsSourceRow, AreSources}
 use Rattle.tso_ops.specs.Masks.{IsMarked}
 use Rattle.tso_ops.specs.Internal.MaskTables.{IsInRow, IsOfRow, IsReadFrom, HasEventRow, HasSourceRow, source_number, AreMaskRowsAmong, AreMaskRows, MarksNumber, MarksInRow}
-use Rattle.tso_ops.proofs.TableFacts.{event_at-suc, same_event, has_source_load, one_source}
+use Rattle.tso_ops.proofs.TableFacts.{event_at-suc, same_event, source_load, one_source}
 
 -- ---- one row
 
@@ -29,7 +29,8 @@ pub none_marked : (n : ℕ) → IsMarked [] n → ⊥
 unfolding IsMarked
 none_marked n is = let none : bit_at 0 (n % 64) ≡ 0 = bit_at-zero (n % 64) in omega arith
 
-same_word : (words : List ℕ) (j : ℕ) → get_or (words ++ 0 ∷ []) j 0 ≡ get_or words j 0
+-- a word of zeros after a row changes no word of it
+pub same_word : (words : List ℕ) (j : ℕ) → get_or (words ++ 0 ∷ []) j 0 ≡ get_or words j 0
 same_word [] zero = refl
 same_word [] (suc j) = refl
 same_word (w ∷ words) zero = refl
@@ -184,7 +185,8 @@ AreMaskRowsAmong-more HasRow count row old new are is all marks = record {
   };
 }
 
-some_is : {X : Type 0} (P : X → Type 0) (o : Option X) (x : X) → IfSome o P → o ≡ Some x → P x
+-- a value that is there has the property
+pub some_is : {X : Type 0} (P : X → Type 0) (o : Option X) (x : X) → IfSome o P → o ≡ Some x → P x
 some_is P None x if_some is = absurd cc
 some_is P (Some y) x if_some is = let same : y ≡ x = cc in subst P same if_some
 
@@ -249,13 +251,13 @@ AreMaskRows-readers t sources table trace are among_are = record { each = λ r. 
     number_is l s Unwritten has is = absurd (is.1 s has)
 
     row_is : (k s : ℕ) (row : Option Source) → slice_get sources k ≡ Some row → IsSourceRow t (suc k) row → HasSource t (suc k) s → HasSourceRow sources k s
-    row_is k s None at none has = absurd (none (has_source_load t (suc k) s has))
+    row_is k s None at none has = absurd (none (source_load t (suc k) s has))
     row_is k s (Some source) at is has = (source, at, number_is (suc k) s source has is.1)
 
     from : (r n : ℕ) → HasSource t n r → IsMarked (get_or table r []) n
-    from r zero has = absurd (let load = has_source_load t zero r has in no_event_zero t load.0 load.1)
+    from r zero has = absurd (let load = source_load t zero r has in no_event_zero t load.0 load.1)
     from r (suc k) has =
-        let load = has_source_load t (suc k) r has in
+        let load = source_load t (suc k) r has in
         let low : k < length sources = (let within = slice_get_within (events_of t) k load.0 (sym (event_at-suc t (events_of t) refl k) ∙ load.1) in omega (arith, within, are.rows_in)) in
         let at = slice_get-get_or sources k None low in
         ((among_are.each r).bits (suc k)).1 (k, low, refl, row_is k r (get_or sources k None) at (are.each k (get_or sources k None) at) has)

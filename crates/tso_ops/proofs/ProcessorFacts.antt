@@ -54,7 +54,7 @@ unfolding AreFrom HaveBarriersBefore
 after-others p bars [] above = tt
 after-others p bars (e ∷ events) above = (λ same. absurd (let first : suc p ≤ e.proc = above.0 in omega arith), after-others p bars events above.1)
 
--- with the store of a swap in front
+-- with the store of a swap prepended
 after-one : (p bars a v : ℕ) (rest : List Event) → HaveBarriersBefore p bars rest → HaveBarriersBefore p bars (record { proc = p; load = false; swap = true; a = a; value = v; bars = bars } ∷ rest)
 unfolding HaveBarriersBefore
 after-one p bars a v rest after = (λ same. omega arith, after)

@@ -17,7 +17,7 @@ use Rattle.tso_ops.specs.Limits.{event_count, barrier_count, address_of, stored_
 
 -- ---- one refusal at most
 
--- the number tells the refusal
+-- the number determines the refusal
 same_fault : (v w : ValueFault) → fault_number v ≡ fault_number w → v ≡ w
 same_fault TooManyProcessors TooManyProcessors e = refl
 same_fault TooManyEvents TooManyEvents e = refl

@@ -53,7 +53,7 @@ FindsStores-load events i e stores at load finds value =
     FindsStore-kept events i value (get nat_cmp stores value)
     (λ (d, at_d, store, same). let one = same_event events i d e at_d at in false≢true (sym store ∙ ap (λ (x : Event). x.load) one ∙ load)) (finds value)
 
--- one more store, which the map takes in
+-- one more store, which is put into the map
 pub FindsStores-store : (events : List Event) (i : ℕ) (e : Event) (old new : BTreeMap ℕ ℕ) → slice_get events i ≡ Some e → e.load ≡ false →
     Updates nat_cmp old new e.value (Some (i + 1)) → FindsStores events i old → FindsStores events (i + 1) new
 FindsStores-store events i e old new at store updates finds value =
@@ -152,9 +152,9 @@ row_missing t l events e is at load non_zero none =
     none k (slice_get_within events k d here) (d, here, is_store, value))
 
 -- what has a source is a load
-pub has_source_load : (t : TraceValue) (l s : ℕ) → HasSource t l s → IsLoad t l
-has_source_load t l zero has = has.0
-has_source_load t l (suc k) has = has.0
+pub source_load : (t : TraceValue) (l s : ℕ) → HasSource t l s → IsLoad t l
+source_load t l zero has = has.0
+source_load t l (suc k) has = has.0
 
 -- a load of 0 has no store for its source
 zero_from_init : (t : TraceValue) → IsTrace t → (l k : ℕ) → HasSource t l 0 → HasSource t l (suc k) → ⊥

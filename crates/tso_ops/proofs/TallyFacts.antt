@@ -1,4 +1,4 @@
--- Lemmas on a tally: what it has admitted at first, and behind one more operation.
+-- Lemmas on a tally: what it has admitted at first, and after one more operation.
 use Rattle.std.proofs.Common.{◌≡◌, ◌∙◌, sym, ap, refl, ℕ, ◌+◌, ◌<◌, ◌≤◌, ◌^◌, ◌||◌, Bool, true, false, not, cond, subst, nat_eq, List, [], ◌∷◌, ◌++◌, Option, Some, None, arith}
 use Rattle.std.specs.List.{list_any}
 use Rattle.std.specs.Option.{option_to_list}
@@ -78,7 +78,7 @@ storable : (old new : BTreeSet ℕ) (values : List ℕ) (stored : Option ℕ) �
 storable old new values None had stores = record { non_zero = refl; new = refl; fits = stores.fits }
 storable old new values (Some s) had stores = record { non_zero = stores.non_zero; new = sym (had s) ∙ stores.absent s refl; fits = stores.fits }
 
--- a tally behind one more operation
+-- a tally after one more operation
 pub Admitted-push : (old new : Tally) (ops : List Op) (op : Op) → Admitted old ops →
     new.events ≡ old.events + event_count op → new.barriers ≡ old.barriers + barrier_count op →
     is_past_addresses (address_of op) ≡ false → StoresNew old.stored new.stored (stored_by op) → Admitted new (ops ++ op ∷ [])

@@ -15,7 +15,7 @@ processor_count t = length t.lists
 abbrev pub outcomes_at : TraceValue → ℕ → List Outcome
 outcomes_at t p = get_or t.lists p []
 
--- The events of processor p's operations, behind this many barriers. A swap gives its load and then its store, a barrier none.
+-- The events of processor p's operations, after this many barriers. A swap gives its load and then its store, a barrier none.
 abbrev pub events_from : ℕ → ℕ → List Outcome → List Event
 events_from p bars [] = []
 events_from p bars (Ld a r ∷ ops) = record { proc = p; load = true; swap = false; a = a; value = r; bars = bars } ∷ events_from p bars ops

@@ -1,3 +1,3 @@
--- What private tables keep and how far loops have come. No public contract uses these words.
+-- What private tables keep and how far loops have come. No public contract uses these definitions.
 pub mod MaskTables
 pub mod Tables

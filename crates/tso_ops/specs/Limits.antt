@@ -99,12 +99,12 @@ fault_number ZeroValue = 4
 fault_number RepeatedValue = 5
 fault_number OutOfMemory = 6
 
--- The fault is the first, by its number, that the operation has behind these.
+-- The fault is the first, by its number, that the operation has after these.
 pub record IsFirstFault (before : List Op) (op : Op) (why : ValueFault) : Type 0 where
   pub fault : has_fault before op why ≡ true
   pub least : (other : ValueFault) → fault_number other < fault_number why → has_fault before op other ≡ false
 
--- No operation has a fault behind those before it.
+-- No operation has a fault after those before it.
 abbrev pub IsFaultless : List Op → Type 0
 IsFaultless ops = (before : List Op) (op : Op) (after : List Op) (why : ValueFault) → ops ≡ before ++ op ∷ after → has_fault before op why ≡ false
 

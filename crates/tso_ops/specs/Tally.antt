@@ -17,6 +17,6 @@ pub record Admitted (tally : Tally) (ops : List Op) : Type 0 where
   pub limits : KeepsLimits ops
   pub faultless : IsFaultless ops
 
--- The refusal is the first fault of the operation behind these, or memory was refused.
+-- The refusal is the first fault of the operation after these, or memory was refused.
 abbrev pub IsAdmitRefusal : List Op → Op → ValueFault → Type 0
 IsAdmitRefusal ops op why = (why ≡ OutOfMemory) ⊎ IsFirstFault ops op why

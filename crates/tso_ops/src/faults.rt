@@ -4,7 +4,7 @@ ghost use Rattle.tso_ops.specs.declared.faults.ValueFault.TheVariants.{OutOfMemo
 use std::alloc::AllocFailed;
 use thiserror::Error;
 
-/// A growth was refused: std's error of the allocator.
+/// An allocation was refused: std's error of the allocator.
 pub use std::alloc::AllocError as OutOfMemory;
 
 /// Why lists of operations are no program or no trace, in the order in which the refusals are tried.
@@ -25,7 +25,7 @@ pub enum ValueFault {
     /// A store or a swap of a value that an earlier one stored, at any address.
     #[error("RepeatedValue")]
     RepeatedValue,
-    /// A growth was refused.
+    /// An allocation was refused.
     #[error("OutOfMemory")]
     OutOfMemory,
 }

@@ -17,8 +17,8 @@ pub const MAX_BARRIERS: usize = 2_000;
 /// The greatest address.
 pub const MAX_ADDRESS: u16 = 255;
 
-/// What the operations so far come to, against the limits of a program: the one check of an operation against
-/// those before it.
+/// The totals and stored values of the operations so far, against the limits of a program: the one check of an
+/// operation against those before it.
 #[derive(Debug, Drop)]
 pub struct Tally {
     events: usize,
@@ -44,10 +44,10 @@ impl Tally {
         }
     }
 
-    /// Admits the operation behind those admitted before.
+    /// Admits the operation after those admitted before.
     ///
     /// It is refused for the first of TooManyEvents, AddressRange, ZeroValue and RepeatedValue that it has, or as
-    /// OutOfMemory where a growth was refused; a refusal leaves the tally as it was.
+    /// OutOfMemory where an allocation was refused; a refusal leaves the tally as it was.
     pub fn admit(&mut self, op: Op) -> Result<(), ValueFault>
         ensures admitted { (ops : List Op) → Admitted self.old ops → OnOk result (Admitted self.new (ops ++ op ∷ [])) }
         ensures refused { (ops : List Op) → Admitted self.old ops → IfErr result (IsAdmitRefusal ops op) }

@@ -31,7 +31,7 @@ impl Program {
     ///
     /// Refused, with the lists handed back: TooManyProcessors above 16 lists; else the first operation in file
     /// order that has a fault decides, by the order TooManyEvents, AddressRange, ZeroValue, RepeatedValue; or
-    /// OutOfMemory where a growth was refused.
+    /// OutOfMemory where an allocation was refused.
     pub fn new(alloc: Global, lists: Vec<Vec<Op>>) -> Result<Program, Refused<Op>>
         ensures made { IfOk result (λ p. p ≡ program_of_lists (rows lists.items)) }
         ensures accepted { OnOk result ((why : ValueFault) → IsValueRefusal (program_of_lists (rows lists.items)) why → ⊥) }
@@ -68,7 +68,7 @@ impl Program {
         &self.lists[p]
     }
 
-    /// An equal program, or OutOfMemory where a growth was refused.
+    /// An equal program, or OutOfMemory where an allocation was refused.
     pub fn copy(&self) -> Result<Program, OutOfMemory>
         ensures { IfOk result (λ p. p ≡ self.now) }
     {

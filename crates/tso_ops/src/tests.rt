@@ -235,7 +235,7 @@ fn counts_at_their_limits(rt: HostRuntime) -> Result<(), Fail> {
     Ok(())
 }
 
-/// What is wrong with one operation, or with a second one behind it.
+/// What is wrong with one operation, or with a second one after it.
 #[test]
 fn faults_of_operations(rt: HostRuntime) -> Result<(), Fail> {
     let alloc = rt.alloc();

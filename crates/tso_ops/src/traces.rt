@@ -43,7 +43,7 @@ impl Trace {
     ///
     /// Refused, with the lists handed back: TooManyProcessors above 16 lists; else the first operation in file
     /// order that has a fault decides, by the order TooManyEvents, AddressRange, ZeroValue, RepeatedValue; or
-    /// OutOfMemory where a growth was refused.
+    /// OutOfMemory where an allocation was refused.
     pub fn new(alloc: Global, lists: Vec<Vec<Outcome>>) -> Result<Trace, Refused<Outcome>>
         ensures made { IfOk result (λ t. t ≡ trace_of_lists (rows lists.items)) }
         ensures accepted { OnOk result ((why : ValueFault) → IsValueRefusal (program_of (trace_of_lists (rows lists.items))) why → ⊥) }
@@ -67,7 +67,7 @@ impl Trace {
         }
     }
 
-    /// The trace of lists that are known to keep the limits, or OutOfMemory where a growth was refused.
+    /// The trace of lists that are known to keep the limits, or OutOfMemory where an allocation was refused.
     pub fn of_lists(alloc: Global, lists: Vec<Vec<Outcome>>) -> Result<Trace, OutOfMemory>
         requires { IsTrace (trace_of_lists (rows lists.items)) }
         ensures { IfOk result (λ t. t ≡ trace_of_lists (rows lists.items)) }

@@ -1,9 +1,10 @@
 -- Lemmas on rows of base pairs.
-use Rattle.std.proofs.Common.{◌≡◌, ◌⊎◌, ◌↔◌, inl, inr, ℕ, zero, suc, ◌+◌, ◌*◌, ◌/◌, ◌%◌, ◌^◌, ◌<◌, ◌≤◌, Bool, true, false, List, get_or, Some, refl, sym, ap, ◌∙◌, subst, arith}
+use Rattle.std.proofs.Common.{◌≡◌, ◌⊎◌, ◌↔◌, inl, inr, ℕ, ◌+◌, ◌*◌, ◌/◌, ◌%◌, ◌^◌, ◌<◌, ◌≤◌, Bool, true, false, List, get_or, Some, refl, sym, ap, ◌∙◌, subst, arith}
 use Rattle.tso_ops.specs.declared.events.Event.{Event}
 use Rattle.tso_ops.specs.Values.{TraceValue}
 use Rattle.tso_ops.specs.Events.{event_at, IsLoad, IsStore, IsLoadAt, IsStoreTo, IsEventOf, HasBarriersBefore, HasSource, SameAddress, Earlier}
 use Rattle.tso_ops.proofs.ProcessorFacts.{bars_ascend}
+use Rattle.tso_ops.proofs.TableFacts.{source_load}
 use Rattle.tso_ops.specs.Masks.{IsMask}
 use Rattle.order_graph.specs.BitRows.{HasBit, HasNumber}
 use Rattle.order_graph.proofs.Words.{HasBit-or, HasBit-and, HasBit-not}
@@ -43,35 +44,37 @@ event_kind : (t : TraceValue) (n : ℕ) (e : Event) (load : Bool) → event_at t
 event_kind t n e true at is = inl (e, at, is)
 event_kind t n e false at is = inr (e, at, is)
 
--- Program order leads from an event to the program-later ones that it puts behind it.
+-- an event of the processor with a greater number is program-later
+earlier_of : (t : TraceValue) (u v : ℕ) (event : Event) → event_at t u ≡ Some event → IsEventOf t event.proc v → u < v → Earlier t u v
+earlier_of t u v event at of order = (event, of.0, at, of.1, sym of.2, order)
+
+-- and a program-later one is an event of the processor with a greater number
+of_earlier : (t : TraceValue) (u v : ℕ) (event : Event) → event_at t u ≡ Some event → Earlier t u v → IsEventOf t event.proc v × (u < v)
+of_earlier t u v event at e = let first = event_unique t u e.0 event e.2 at in ((e.1, e.3, sym e.4 ∙ ap (λ (x : Event). x.proc) first), e.5)
+
+-- Program order leads from an event to the program-later ones that it puts after it.
 pub later_is : (t : TraceValue) (u v : ℕ) (event : Event) → event_at t u ≡ Some event → ((IsEventOf t event.proc v × (u < v)) × IsOrdered t event v) ↔ IsLater t u v
 later_is t u v event at = (λ is. to event.load refl is.0.0 is.0.1 is.1, from)
   where
-    earlier : (of : IsEventOf t event.proc v) → u < v → Earlier t u v
-    earlier of order = (event, of.0, at, of.1, sym of.2, order)
-
     to : (load : Bool) → event.load ≡ load → (of : IsEventOf t event.proc v) → u < v → IsOrdered t event v → IsLater t u v
-    to true is of order ordered = inl ((event, at, is), earlier of order)
+    to true is of order ordered = inl ((event, at, is), earlier_of t u v event at of order)
     to false is of order (inl load) = absurd (false≢true (sym is ∙ load))
-    to false is of order (inr (inl store)) = inr (inl ((event, at, is), store, earlier of order))
+    to false is of order (inr (inl store)) = inr (inl ((event, at, is), store, earlier_of t u v event at of order))
     to false is of order (inr (inr other)) = elim (event_kind t v of.0 of.0.load of.1 refl) [
       | inl load ↦ (let low : event.bars ≤ of.0.bars = bars_ascend t u v event of.0 at of.1 (sym of.2) order in
           let more : event.bars < of.0.bars = elim (cases_lt event.bars of.0.bars) [
             | inl less ↦ less
             | inr not_less ↦ absurd (other (of.0, of.1, omega arith))
           ] in
-          inr (inr ((event, at, is), load, earlier of order, (event, of.0, at, of.1, more))))
-      | inr store ↦ inr (inl ((event, at, is), store, earlier of order))
+          inr (inr ((event, at, is), load, earlier_of t u v event at of order, (event, of.0, at, of.1, more))))
+      | inr store ↦ inr (inl ((event, at, is), store, earlier_of t u v event at of order))
     ]
 
-    is_of : (e : Earlier t u v) → IsEventOf t event.proc v × (u < v)
-    is_of e = let first = event_unique t u e.0 event e.2 at in ((e.1, e.3, sym e.4 ∙ ap (λ (x : Event). x.proc) first), e.5)
-
     from : IsLater t u v → (IsEventOf t event.proc v × (u < v)) × IsOrdered t event v
-    from (inl pair) = (is_of pair.1, inl (ap (λ (x : Event). x.load) (event_unique t u event pair.0.0 at pair.0.1) ∙ pair.0.2))
-    from (inr (inl pair)) = (is_of pair.2, inr (inl pair.1))
+    from (inl pair) = (of_earlier t u v event at pair.1, inl (ap (λ (x : Event). x.load) (event_unique t u event pair.0.0 at pair.0.1) ∙ pair.0.2))
+    from (inr (inl pair)) = (of_earlier t u v event at pair.2, inr (inl pair.1))
     from (inr (inr pair)) = (
-      is_of pair.2,
+      of_earlier t u v event at pair.2,
       inr (inr (λ after.
           let between = pair.3 in
           let first : between.0.bars ≡ event.bars = ap (λ (x : Event). x.bars) (event_unique t u between.0 event between.2 at) in
@@ -81,7 +84,7 @@ later_is t u v event at = (λ is. to event.load refl is.0.0 is.0.1 is.1, from)
           omega arith)),
     )
 
--- the bits of what program order puts behind a store
+-- the bits of what program order puts after a store
 pub ordered_bit : (t : TraceValue) (event : Event) (stores after : List ℕ) (j a b k : ℕ) → k < 64 → event.load ≡ false → IsMask stores (IsStore t) → IsMask after (HasBarriersBefore t event.bars) →
     a ≡ get_or stores j 0 → b ≡ get_or after j 0 → b < 2 ^ 64 → HasBit (bit_or a (bit_not w64 b)) k ↔ IsOrdered t event (64 * j + k)
 ordered_bit t event stores after j a b k low store stores_are barriers_before_is a_is b_is fits =
@@ -152,10 +155,6 @@ store_to t u v event at store same =
     let second = event_unique t u event same.1 at same.3 in
     (store.0, store.1, store.2, ap (λ (x : Event). x.a) first ∙ same.4 ∙ ap (λ (x : Event). x.a) (sym second))
 
-pub source_load : (t : TraceValue) (l s : ℕ) → HasSource t l s → IsLoad t l
-source_load t l zero source = source.0
-source_load t l (suc k) source = source.0
-
 -- what gives an edge from a store is a load
 pub read_load : (t : TraceValue) (u l v : ℕ) → IsReadBy t u l v → IsLoad t l
 read_load t u l v (inl read) = source_load t l u read.1.1
@@ -178,10 +177,7 @@ reads_more t u event first old middle new loads readers processor j w r a above 
     later l in_word = later_word processor (IsEventOf t event.proc) u j a above l in_word processor_is a_is above_is
 
     earlier : (l : ℕ) → IsEventOf t event.proc l × (u < l) → Earlier t u l
-    earlier l is = (event, is.0.0, at, is.0.1, sym is.0.2, is.1)
-
-    of_earlier : (l : ℕ) → Earlier t u l → IsEventOf t event.proc l × (u < l)
-    of_earlier l e = let one = event_unique t u e.0 event e.2 at in ((e.1, e.3, sym e.4 ∙ ap (λ (x : Event). x.proc) one), e.5)
+    earlier l is = earlier_of t u l event at is.0 is.1
 
     of_load : (l : ℕ) → l / 64 ≡ j → HasBit w (l % 64) ↔ IsLoadAt t event.a l
     of_load l in_word =
@@ -200,7 +196,7 @@ reads_more t u event first old middle new loads readers processor j w r a above 
     to v (inl by) =
         let both = (HasBit-and r (bit_not w64 (bit_and a above)) (v % 64)).0 by.1 in
         let not = (HasBit-not (bit_and a above) (v % 64) fits (omega arith)).0 both.1 in
-        (v, by.0, inl (refl, ((event, at, store), (of_reader v by.0).0 both.0, λ e. not ((later v by.0).1 (of_earlier v e)))))
+        (v, by.0, inl (refl, ((event, at, store), (of_reader v by.0).0 both.0, λ e. not ((later v by.0).1 (of_earlier t u v event at e)))))
     to v (inr by) =
         let both = (HasBit-and w (bit_and a above) (by.0 % 64)).0 by.2 in
         let own = by.3 in
@@ -214,4 +210,4 @@ reads_more t u event first old middle new loads readers processor j w r a above 
         inl (subst (λ m. (m / 64 ≡ j) × HasBit (bit_and r (bit_not w64 (bit_and a above))) (m % 64)) (sym read.0) (in_word, bit))
     from v (n, in_word, inr own) =
         let bit = (of_load n in_word).1 (load_at t u n event at (source_load t n v own.3) own.1) in
-        inr (n, in_word, (HasBit-and w (bit_and a above) (n % 64)).1 (bit, (later n in_word).1 (of_earlier n own.2)), (own.3, own.4))
+        inr (n, in_word, (HasBit-and w (bit_and a above) (n % 64)).1 (bit, (later n in_word).1 (of_earlier t u n event at own.2)), (own.3, own.4))

@@ -1,8 +1,8 @@
 -- Lemmas on the edges that the inferred rules give over a graph.
-use Rattle.std.proofs.Common.{◌≡◌, ◌≢◌, ◌∙◌, ◌⊎◌, ◌↔◌, inl, inr, ℕ, suc, ◌+◌, ◌-◌, ◌<◌, ◌≤◌, Some, List, [], get_or, false, IsTrue, refl, sym, subst, arith, ⊎_elim, length}
+use Rattle.std.proofs.Common.{◌≡◌, ◌≢◌, ◌∙◌, ◌⊎◌, ◌↔◌, inl, inr, ℕ, suc, ◌+◌, ◌-◌, ◌<◌, ◌≤◌, Some, List, [], get_or, false, refl, sym, subst, arith, ⊎_elim, length}
 use Rattle.std.specs.Prelude.{bit_and}
 use Rattle.std.proofs.lemmas.Option.{same_Some}
-use Rattle.std.proofs.lemmas.Bool.{false≢true, cases_lt}
+use Rattle.std.proofs.lemmas.Bool.{cases_lt}
 use Rattle.order_graph.specs.Digraphs.{Digraph, IsEdge, EdgesWithin}
 use Rattle.order_graph.specs.BitRows.{HasNumber}
 use Rattle.order_paths.specs.Paths.{Reaches}
@@ -19,12 +19,9 @@ use Rattle.tso_model.proofs.Events.{event_above_zero, store_event}
 use Rattle.tso_model.proofs.RankFacts.{new_within}
 use Rattle.tso_rules.specs.Internal.MarkedRows.{Marks, IsNewRow, IsOtherSource, IsSourceIn, IsSourceOf, GivesBy}
 use Rattle.tso_rules.specs.Rows.{IsFirstGiven}
-use Rattle.tso_rules.proofs.BaseFacts.{load_at, at_load, store_to, source_load}
+use Rattle.tso_rules.proofs.BaseFacts.{load_at, at_load, store_to}
+use Rattle.tso_ops.proofs.TableFacts.{source_load}
 use Rattle.tso_rules.proofs.RowFacts.{marks_both, marks_as, mask_number, both_number, words_more, ByWords, HasNumber-none, words_by, HasNumber-within, marked_is}
-
--- past the numbers of a graph there is no path
-pub no_path_past : (g : Digraph) (u v : ℕ) → EdgesWithin g → ((u < g.nodes) × (v < g.nodes) → ⊥) → IsTrue false ↔ Reaches (IsEdge g) u v
-no_path_past g u v within past = (λ e. absurd (false≢true e), λ path. absurd (past (Reaches-below (IsEdge g) g.nodes within u v path)))
 
 -- a new edge of a rule is a new edge
 pub row_new : (t : TraceValue) (rule : InferredRule) (Edge : ℕ → ℕ → Type 0) (u v : ℕ) → IsNewRow t rule Edge u v → IsNew t Edge u v

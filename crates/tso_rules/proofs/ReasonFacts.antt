@@ -48,7 +48,7 @@ past_none t row load u v past before l by = elim (cases_lt l load) [
   | inr more ↦ past_unmarked t row l u v (get_or_past row l false (omega (arith, past, more))) by
 ]
 
--- where the row tells to which numbers paths lead from u, the marked loads are those for which LoadPast gives the edge
+-- where the row says to which numbers paths lead from u, the marked loads are those for which LoadPast gives the edge
 pub past_given : (t : TraceValue) (Edge : ℕ → ℕ → Type 0) (row : List Bool) (u v : ℕ) → ((y : ℕ) → Reaches Edge u y → IsTrue (get_or row y false)) →
     (l : ℕ) → IsGivenBy t LoadPast l (Reaches Edge) u v → IsPastBy t row u v l
 past_given t Edge row u v tells l given =

@@ -14,6 +14,7 @@ use Rattle.std.proofs.lemmas.List.Elements.{Contains-append_left, Contains-push,
 use Rattle.order_graph.specs.BitRows.{HasBit, HasNumber}
 use Rattle.order_graph.proofs.Words.{HasBit-zero, HasBit-or, HasBit-and, HasBit-not, HasBit-clear, HasBit-lowest, HasBit-decided}
 use Rattle.tso_ops.specs.Masks.{IsMask, IsMarked}
+use Rattle.tso_ops.proofs.MaskFacts.{same_word, some_is}
 use Rattle.tso_rules.specs.Rows.{IsAscending, IsRow}
 use Rattle.tso_rules.specs.Internal.MarkedRows.{IsRowBelow, Marks}
 
@@ -34,16 +35,10 @@ HasNumber-word row v j at = (λ has. subst (λ i. HasBit (get_or row i 0) (v % 6
 pub HasNumber-none : (v : ℕ) → HasNumber [] v → ⊥
 HasNumber-none v has = HasBit-zero (v % 64) has
 
-same_words : (row : List ℕ) (j : ℕ) → get_or (row ++ 0 ∷ []) j 0 ≡ get_or row j 0
-same_words [] zero = refl
-same_words [] (suc j) = refl
-same_words (w ∷ row) zero = refl
-same_words (w ∷ row) (suc j) = same_words row j
-
 -- a word without bits adds no number
 pub HasNumber-extend : (row : List ℕ) (v : ℕ) → HasNumber (row ++ 0 ∷ []) v ↔ HasNumber row v
 HasNumber-extend row v =
-    (λ has. subst (λ w. HasBit w (v % 64)) (same_words row (v / 64)) has, λ has. subst (λ w. HasBit w (v % 64)) (sym (same_words row (v / 64))) has)
+    (λ has. subst (λ w. HasBit w (v % 64)) (same_word row (v / 64)) has, λ has. subst (λ w. HasBit w (v % 64)) (sym (same_word row (v / 64))) has)
 
 -- the bits of a word are set in word j
 pub marks_word : (row : List ℕ) (j word : ℕ) → j < length row → Marks row (set row j (bit_or (get_or row j 0) word)) (λ v. (v / 64 ≡ j) × HasBit word (v % 64))
@@ -94,7 +89,7 @@ marks_word_in first row j was word same within is =
     subst (λ w. Marks first (set row j (bit_or w word)) (λ v. (v / 64 ≡ j) × HasBit word (v % 64))) (sym (is ∙ get_or_default_zero row j was within))
     (marks_same first row (set row j (bit_or (get_or row j 0) word)) _ same (marks_word row j word within))
 
--- other words for what is marked
+-- what is marked, by an equivalent condition
 pub marks_as : (old new : List ℕ) (P Q : ℕ → Type 0) → Marks old new P → ((v : ℕ) → P v ↔ Q v) → Marks old new Q
 marks_as old new P Q marks same = record {
   marked = λ v. (
@@ -161,11 +156,6 @@ not_equal o v b is off same =
 
 -- ---- options
 
--- what is there is as the words say
-pub some_is : {X : Type 0} (P : X → Type 0) (o : Option X) (x : X) → IfSome o P → o ≡ Some x → P x
-some_is P None x if_some is = absurd cc
-some_is P (Some y) x if_some is = let same : y ≡ x = cc in subst P same if_some
-
 pub if_some : {X : Type 0} (P Q : X → Type 0) (o : Option X) → ((x : X) → P x → Q x) → IfSome o P → IfSome o Q
 if_some P Q None f h = tt
 if_some P Q (Some x) f h = f x h
@@ -191,7 +181,7 @@ steps_more first old new n By before step =
           (cases_lt by.0 n),
     ))
 
--- the same row, in other words
+-- the same row, by an equivalent condition
 pub row_as : (row : List ℕ) (P Q : ℕ → Type 0) → IsRow row P → ((v : ℕ) → P v → Q v) → ((v : ℕ) → Q v → P v) → IsRow row Q
 row_as row P Q is to from = record { all = λ v q. is.all v (from v q); only = λ v has. to v (is.only v has); ascending = is.ascending }
 
@@ -200,7 +190,7 @@ pub steps_all : (first last : List ℕ) (n : ℕ) (P : ℕ → Type 0) → Marks
 steps_all first last n P marks low =
     marks_as first last _ _ marks (λ v. (λ by. subst P (sym by.2.0) by.2.1, λ is. (v, low v is, (refl, is))))
 
--- what an option says of a number, in other words
+-- what an option says of a number, by an equivalent condition
 pub some_as : (o : Option ℕ) (P : ℕ → Type 0) → IfSome o P → ((v : ℕ) → P v → o ≡ Some v) → (v : ℕ) → (o ≡ Some v) ↔ P v
 some_as o P is all v = (λ e. some_is P o v is e, λ p. all v p)
 
@@ -520,7 +510,7 @@ mask_number words Of mask v = mask.bits v
 
 -- ---- the list of a row's numbers
 
--- Behind the numbers before word j, those of word j are listed that are no longer in `left`.
+-- After the numbers before word j, those of word j are listed that are no longer in `left`.
 pub record Listed (marks list : List ℕ) (j left : ℕ) : Type 0 where
   pub some : (k : ℕ) → k < 64 → HasBit left k → HasBit (get_or marks j 0) k
   pub below : (k m : ℕ) → k < 64 → m < 64 → HasBit (get_or marks j 0) k → (HasBit left k → ⊥) → HasBit left m → k < m

@@ -1,2 +1,2 @@
--- What private tables keep and how far loops have come. No public contract uses these words.
+-- What private tables keep and how far loops have come. No public contract uses these definitions.
 pub mod MarkedRows

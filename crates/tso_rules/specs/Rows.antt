@@ -10,7 +10,7 @@ use Rattle.tso_model.specs.Rules.{BasePair, InferredBy}
 use Rattle.tso_model.specs.EdgeLists.{IsGivenBy}
 use Rattle.tso_model.specs.Certs.{IsFirstBase, inferred_index}
 
--- each number is less than all that stand behind it
+-- each number is less than all that stand after it
 abbrev pub IsAscending : List ℕ → Type 0
 IsAscending [] = Unit {0}
 IsAscending (x ∷ xs) = ((y : ℕ) → Contains xs y → x < y) × IsAscending xs

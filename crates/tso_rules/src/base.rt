@@ -18,7 +18,7 @@ use tso_ops::{Event, OutOfMemory, Trace};
 
 /// The first base rule that gives the edge from `u` to `v`, or None where no rule does.
 ///
-/// It takes one walk over the events from `u` on at most: `base_row` gives all base edges of a row at once.
+/// It walks once over the events from `u` on at most: `base_row` gives all base edges of a row at once.
 pub fn base_edge(trace: &Trace, u: usize, v: usize) -> Option<BaseRule>
     ensures { MatchOption result ((rule : BaseRule) → BasePair trace.now rule u v → ⊥) (IsFirstBase trace.now u v) }
 {
@@ -64,18 +64,20 @@ fn own_target(trace: &Trace, u: usize, l: usize) -> Option<usize>
     }
 }
 
-/// The numbers to which the base rules give an edge from `u`, ascending; OutOfMemory where a growth was refused.
+/// The numbers to which the base rules give an edge from `u`, ascending; OutOfMemory where an allocation was refused.
 ///
 /// It lists the numbers of `base_words`.
 pub fn base_row(alloc: Global, trace: &Trace, u: usize) -> Result<Vec<usize>, OutOfMemory>
     ensures { IfOk result (λ row. IsRow row.items (RankSet trace.now 0 u)) }
 {
+    // The call is for the proof: the contract of `events` says that the trace keeps its limits, so no number is above
+    // 2,000. Elsewhere too, a call whose answer isn't used brings what its contract says into the proof.
     let _events = trace.events();
     marked(alloc, &base_words(alloc, trace, u)?, node_count(trace))
 }
 
 /// The numbers to which the base rules give an edge from `u`, as a row of bits: that of the number v is bit `v % 64` of
-/// word `v / 64`. OutOfMemory where a growth was refused.
+/// word `v / 64`. OutOfMemory where an allocation was refused.
 ///
 /// For 0 it takes one look at each event; else a few looks at each word of the trace's rows, and, for a store, one at each
 /// program-later load of its address.
@@ -142,8 +144,8 @@ fn mark_later(trace: &Trace, marks: &mut Vec<u64>, u: usize) -> Result<(), OutOf
     Ok(())
 }
 
-/// Word `j` of the row of the numbers that program order puts behind the event, if they are program-later: all for a load,
-/// and for a store the stores and what stands behind more barriers.
+/// Word `j` of the row of the numbers that program order puts after the event, if they are program-later: all for a load,
+/// and for a store the stores and what has more barriers before it.
 #[inline]
 fn ordered_word(trace: &Trace, event: Event, j: usize) -> u64
     ensures { (k : ℕ) → k < 64 → HasBit result k ↔ IsOrdered trace.now event (64 * j + k) }

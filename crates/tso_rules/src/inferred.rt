@@ -16,7 +16,7 @@ use tso_model::plain::events::{is_store, node_count, swap_store};
 use tso_ops::{OutOfMemory, Trace};
 
 /// The numbers to which an inferred rule gives an edge from `u` by a path in the graph, and to which the graph has no
-/// path from `u`: ascending. OutOfMemory where a growth was refused.
+/// path from `u`: ascending. OutOfMemory where an allocation was refused.
 ///
 /// It takes a few looks at each word of the graph's path rows, and for a store one at each load of its address that it
 /// reaches.

@@ -77,7 +77,7 @@ fn extend(row: &mut Vec<u64>, j: usize) -> Result<(), OutOfMemory>
     Ok(())
 }
 
-/// Marks the numbers of word `j` whose bits are set: no memory is taken where there are none.
+/// Marks the numbers of word `j` whose bits are set: it allocates nothing where there are none.
 #[inline]
 pub(crate) fn mark_word(marks: &mut Vec<u64>, j: usize, word: u64) -> Result<(), OutOfMemory>
     ensures { OnOk result (Marks marks.old.items marks.new.items (λ v. (v / 64 ≡ j) × HasBit word (v % 64))) }

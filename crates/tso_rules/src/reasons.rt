@@ -236,7 +236,7 @@ fn inferred_reason<G: PathSearch>(
 
 /// The justification of an edge from `u` to `v` that is new over the edges of `graph`, a `Graph` or an `EdgeSet`: the
 /// first base rule that gives it; else the first inferred rule that does by a path over these edges, then the least load,
-/// then the least path. None where no rule gives it. OutOfMemory where a growth was refused.
+/// then the least path. None where no rule gives it. OutOfMemory where an allocation was refused.
 ///
 /// It takes a search for each inferred rule at most, one walk over the loads, and the least path.
 pub fn justify<G: PathSearch>(

@@ -12,7 +12,8 @@ use Rattle.tso_text.specs.declared.faults.Why.TheVariants.{BeforeProc}
 use Rattle.tso_text.specs.declared.lines.Line.{Line}
 use Rattle.tso_text.specs.declared.lines.Line.TheVariants.{Proc, Item, End}
 use Rattle.tso_text.specs.Grammars.{is_word, address}
-use Rattle.tso_text.specs.Numbers.{◌>>=◌, numeral, or_bad_number, no_number, one_number, two_numbers, three_numbers}
+use Rattle.line_text.specs.Results.{◌>>=◌}
+use Rattle.tso_text.specs.Numbers.{numeral, or_bad_number, no_number, one_number, two_numbers, three_numbers}
 use Rattle.tso_text.specs.Spelling.{Grammar, line_fault, items_of}
 
 -- ---- numbers
@@ -92,7 +93,7 @@ word_is word text same = (bytes_eq-Decides word text).0 same
 pub in_range : (n : ℕ) → ltb 255 (address n) ≡ false → n ≡ address n
 in_range n low = let t : address n ≤ 255 = grind (arith, nat_tests) in omega arith
 
--- an item without a fault stands in a list, and has none behind the items before it
+-- an item without a fault stands in a list, and has none after the items before it
 pub record IsSound {X : Type 0} (g : Grammar X) (lists : List (List X)) (x : X) : Type 0 where
   pub some : is_empty lists ≡ false
   pub clean : (w : Why) → g.item_fault (items_of lists) x w ≡ false

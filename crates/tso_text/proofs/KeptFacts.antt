@@ -77,7 +77,7 @@ only_vector (v ∷ []) row n o d r one count pops is =
     ap (λ (w : Vec Act). w.items ∷ []) (sym same)
 only_vector (v ∷ w ∷ lists) row n o d r one count pops is = absurd cc
 
--- the list that is taken out is the one that the text spells
+-- the list that is popped is the one that the text spells
 pub schedule_popped : (text : List ℕ) (lists : List (Vec Act)) (n : ℕ) (o : Option (Vec Act)) (d r : Vec Act) → SpellsLists schedule_grammar text (rows lists) → n ≡ length lists →
     ((d : Vec Act) → 0 < n → o ≡ Some (get_or lists (n - 1) d)) → r ≡ unwrap_or o d → SpellsLists schedule_grammar text (r.items ∷ [])
 schedule_popped text lists n o d r spells count pops is =

@@ -19,7 +19,8 @@ use Rattle.tso_text.specs.declared.faults.Why.TheVariants.{AddressRange}
 use Rattle.tso_text.specs.declared.lines.Line.{Line}
 use Rattle.tso_text.specs.declared.lines.Line.TheVariants.{Proc, Item, End}
 use Rattle.tso_text.specs.Grammars.{trace_grammar, program_grammar, schedule_grammar, trace_line, program_line, schedule_line, is_word, address, outcome_fault, plain_fault, SpellsTrace, SpellsProgram, SpellsSchedule, trace_header, program_header, schedule_header}
-use Rattle.tso_text.specs.Numbers.{◌>>=◌, no_number, one_number, two_numbers, three_numbers}
+use Rattle.line_text.specs.Results.{◌>>=◌}
+use Rattle.tso_text.specs.Numbers.{no_number, one_number, two_numbers, three_numbers}
 use Rattle.tso_text.specs.Printed.{items_text, processor_text, whole_text, outcome_pieces, op_pieces, act_pieces, trace_text, program_text, schedule_text}
 use Rattle.tso_text.specs.Spelling.{Grammar, line_fault, items_of, with_line, push_last, is_end}
 use Rattle.tso_text.proofs.CanonicalFacts.{bind_ok, none_is, one_is, two_is, three_is, pieces_by, cond_parts, word_is, in_range, IsSound, sound}

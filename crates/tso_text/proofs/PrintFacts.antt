@@ -10,7 +10,7 @@ use Rattle.line_text.proofs.PrintFacts.{flat_map-take_more}
 use Rattle.tso_text.specs.Grammars.{trace_header, program_header, schedule_header}
 use Rattle.tso_text.specs.Printed.{items_text, processor_text, whole_text, outcome_pieces, op_pieces, act_pieces, trace_text, program_text, schedule_text}
 
--- the text behind one more item
+-- the text after one more item
 pub items_text-more : {X : Type 0} (pieces : X → List (List ℕ)) (start old new : List ℕ) (items : List X) (i : ℕ) (x : X) → i < length items → x ≡ get_or items i x →
     old ≡ start ++ items_text pieces (take i items) → new ≡ old ++ line_text (pieces x) → new ≡ start ++ items_text pieces (take (i + 1) items)
 unfolding items_text
@@ -22,7 +22,7 @@ pub items_text-none : {X : Type 0} (pieces : X → List (List ℕ)) (start : Lis
 unfolding items_text
 items_text-none pieces start items = sym (append-nil start)
 
--- the text behind one more processor
+-- the text after one more processor
 pub processors-more : {X : Type 0} (pieces : X → List (List ℕ)) (start old new : List ℕ) (lists : List (List X)) (i : ℕ) (row : List X) → i < length lists → row ≡ get_or lists i [] →
     old ≡ start ++ flat_map (processor_text pieces) (take i lists) → new ≡ old ++ processor_text pieces row → new ≡ start ++ flat_map (processor_text pieces) (take (i + 1) lists)
 processors-more pieces start old new lists i row inside is before added =
@@ -41,7 +41,7 @@ unfolding processor_text
 processor_text-parts pieces (Ok u) old mid new items is parts = parts ∙ ap (λ t. t ++ items_text pieces items) is ∙ append_assoc old _ (items_text pieces items)
 processor_text-parts pieces (Err e) old mid new items is parts = tt
 
--- the text of a trace, behind all its processors
+-- the text of a trace, after all its processors
 pub trace_text-parts : (v : TraceValue) (p end : ℕ) (mid text : List ℕ) → end ≡ length v.lists → end ≤ p →
     mid ≡ (trace_header ++ 10 ∷ []) ++ flat_map (processor_text outcome_pieces) (take p v.lists) → text ≡ mid ++ 101 ∷ 110 ∷ 100 ∷ 10 ∷ [] → text ≡ trace_text v
 unfolding trace_text
@@ -49,7 +49,7 @@ trace_text-parts v p end mid text count past is added =
     whole_text-parts trace_header (flat_map (processor_text outcome_pieces) v.lists) text (trace_header ++ 10 ∷ []) refl
     (added ∙ ap (λ m. m ++ 101 ∷ 110 ∷ 100 ∷ 10 ∷ []) (is ∙ ap (λ l. (trace_header ++ 10 ∷ []) ++ flat_map (processor_text outcome_pieces) l) (take_all p v.lists (omega arith))))
 
--- the text of a program, behind all its processors
+-- the text of a program, after all its processors
 pub program_text-parts : (v : ProgramValue) (p end : ℕ) (mid text : List ℕ) → end ≡ length v.lists → end ≤ p →
     mid ≡ (program_header ++ 10 ∷ []) ++ flat_map (processor_text op_pieces) (take p v.lists) → text ≡ mid ++ 101 ∷ 110 ∷ 100 ∷ 10 ∷ [] → text ≡ program_text v
 unfolding program_text
@@ -57,7 +57,7 @@ program_text-parts v p end mid text count past is added =
     whole_text-parts program_header (flat_map (processor_text op_pieces) v.lists) text (program_header ++ 10 ∷ []) refl
     (added ∙ ap (λ m. m ++ 101 ∷ 110 ∷ 100 ∷ 10 ∷ []) (is ∙ ap (λ l. (program_header ++ 10 ∷ []) ++ flat_map (processor_text op_pieces) l) (take_all p v.lists (omega arith))))
 
--- the text of a schedule, behind all its acts
+-- the text of a schedule, after all its acts
 pub schedule_text-parts : (acts : List Act) (mid text : List ℕ) → mid ≡ (schedule_header ++ 10 ∷ []) ++ items_text act_pieces acts → text ≡ mid ++ 101 ∷ 110 ∷ 100 ∷ 10 ∷ [] → text ≡ schedule_text acts
 unfolding schedule_text
 schedule_text-parts acts mid text is added =

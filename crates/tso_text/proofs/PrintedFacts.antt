@@ -23,7 +23,7 @@ pub record Prints {X : Type 0} (g : Grammar X) (made : List (List X) → List (L
   pub more : (lists : List (List X)) (ps : List (List ℕ)) (l : Line X) → g.said_by ps ≡ Ok l → ((w : Why) → line_fault g lists l w ≡ false) → is_end (Ok l) ≡ false →
       made (with_line lists l) ≡ made lists ++ l ∷ []
 
--- The parts are the lines that make the last lists of these, and the line `end` with nothing behind it.
+-- The parts are the lines that make the last lists of these, and the line `end` with nothing after it.
 record Rendered {X : Type 0} (made : List (List X) → List (Line X)) (pieces : Line X → List (List ℕ)) (lists : List (List X)) (parts : List (List ℕ)) (last : List (List X)) : Type 0 where
   lines : List (Line X)
   makes : made last ≡ made lists ++ lines
@@ -37,14 +37,14 @@ part_text : {X : Type 0} (pieces : Line X → List (List ℕ)) (part : List ℕ)
 unfolding pieces_of
 part_text pieces part l same = sym (join_with_byte-slice_split 32 part) ∙ ap (join_with_byte 32) same
 
--- the lines of a text are the parts in front of its last
+-- the lines of a text are the parts before its last
 pub body_lines-place : (text : List ℕ) (prefix : List (List ℕ)) (last : List ℕ) → body_of text ≡ prefix ++ last ∷ [] → body_lines text ≡ prefix
 body_lines-place text prefix last body =
     let n : length (prefix ++ last ∷ []) - 1 ≡ length prefix = omega (arith, length-append prefix (last ∷ [])) in
     let t : take (length (prefix ++ last ∷ []) - 1) (prefix ++ last ∷ []) ≡ prefix = take_at prefix (last ∷ []) (length (prefix ++ last ∷ []) - 1) (sym n) in
     rw (body, t) refl
 
--- behind an `end` there is nothing
+-- after an `end` there is nothing
 nothing_left : (next : List ℕ) (parts : List (List ℕ)) → (true && not (is_empty parts && is_empty next)) ≡ false → (next ≡ []) × (parts ≡ [])
 nothing_left [] [] e = (refl, refl)
 nothing_left (b ∷ next) [] e = absurd cc
@@ -72,7 +72,7 @@ rendered_end g made pieces prints lists part last says same = record {
   text = ap (λ b. b ++ 10 ∷ []) (part_text pieces part End (prints.canonical lists (pieces_of part) End says (λ w. refl)));
 }
 
--- what the parts behind a line are, where the lines go on
+-- what the parts after a line are, where more lines follow
 abbrev GoesOn : {X : Type 0} → Grammar X → (List (List X) → List (Line X)) → (Line X → List (List ℕ)) → List (List ℕ) → List (List ℕ) → List (List X) → Type 0
 GoesOn {X} g made pieces prefix parts last = (lists : List (List X)) → has_end_line g prefix ≡ false → lists_of g prefix ≡ lists → Rendered made pieces lists parts last
 

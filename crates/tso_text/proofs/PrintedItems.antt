@@ -1,4 +1,4 @@
--- The lines of lists are taken one after another, where no item has a fault behind those before it.
+-- The lines of lists are accepted one after another, where no item has a fault after those before it.
 use Rattle.std.proofs.Common.{◌≡◌, ℕ, ◌+◌, ◌<◌, ◌≤◌, false, ltb, List, [], ◌∷◌, ◌++◌, length, map, refl, ap, sym, ◌∙◌, subst, arith, append_assoc, length-append}
 use Rattle.std.proofs.lemmas.Bool.Decides.{nat_tests}
 use Rattle.std.proofs.lemmas.List.{append-nil, length-map}
@@ -14,7 +14,7 @@ use Rattle.tso_text.proofs.OneTextFacts.{made_by}
 use Rattle.std.proofs.Math.Bool.{and-false}
 use Rattle.tso_text.proofs.PrintedLines.{IsReadBack, IsAccepted, AreAccepted}
 
--- Each of the items is read back, and has no fault behind those before it.
+-- Each of the items is read back, and has no fault after those before it.
 pub record AreFit {X : Type 0} (g : Grammar X) (p : X → List (List ℕ)) (items : List X) : Type 0 where
   pub back : (before : List X) (x : X) (after : List X) → items ≡ before ++ x ∷ after → IsReadBack g p (Item x)
   pub clean : (before : List X) (x : X) (after : List X) → items ≡ before ++ x ∷ after → (w : Why) → g.item_fault before x w ≡ false
@@ -28,7 +28,7 @@ push_last-at [] row x = refl
 push_last-at (list ∷ []) row x = refl
 push_last-at (list ∷ next ∷ done) row x = ap (λ lists. list ∷ lists) (push_last-at (next ∷ done) row x)
 
--- one more item is taken
+-- one more item is accepted
 item_accepted : {X : Type 0} (g : Grammar X) (p : X → List (List ℕ)) (items : List X) → AreFit g p items → (done : List (List X)) (row : List X) (x : X) (after : List X) →
     items ≡ items_of (done ++ row ∷ []) ++ x ∷ after → IsAccepted g p (done ++ row ∷ []) (Item x)
 item_accepted g p items fit done row x after at = record {
@@ -37,7 +37,7 @@ item_accepted g p items fit done row x after at = record {
   continues = refl;
 }
 
--- the rest of a row is taken
+-- the rest of a row is accepted
 row_accepted : {X : Type 0} (g : Grammar X) (p : X → List (List ℕ)) (items : List X) → AreFit g p items → (done : List (List X)) (seen row : List X) (more : List (Line X)) (remaining : List X) (last : List (List X)) →
     items ≡ items_of (done ++ seen ∷ []) ++ (row ++ remaining) → AreAccepted g p (done ++ (seen ++ row) ∷ []) more last → AreAccepted g p (done ++ seen ∷ []) (map Item row ++ more) last
 row_accepted g p items fit done seen [] more remaining last at rest = subst (λ r. AreAccepted g p (done ++ r ∷ []) more last) (append-nil seen) rest
@@ -59,7 +59,7 @@ proc_accepted g p lists back few = record {
   continues = refl;
 }
 
--- the lines of processors are taken, and make their lists
+-- the lines of processors are accepted, and make their lists
 pub lists_accepted : {X : Type 0} (g : Grammar X) (p : X → List (List ℕ)) (items : List X) → AreFit g p items → IsReadBack g p Proc → (done lists : List (List X)) →
     length done + length lists ≤ 16 → items ≡ items_of done ++ items_of lists → AreAccepted g p done (made_by lists) (done ++ lists)
 lists_accepted g p items fit proc done [] few at = sym (append-nil done)

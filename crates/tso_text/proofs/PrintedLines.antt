@@ -43,20 +43,20 @@ said-line_of g p l back =
 line_of-whole : {X : Type 0} (g : Grammar X) (p : X → List (List ℕ)) (l : Line X) → IsReadBack g p l → has_byte 10 (line_of p l) ≡ false
 line_of-whole g p l back = joined_without 10 32 (pieces_by p l) refl back.no_end
 
--- ---- lines that are taken one after another
+-- ---- lines that are accepted one after another
 
--- the line is read back, has no fault behind these lists, and doesn't end the text
+-- the line is read back, has no fault after these lists, and doesn't end the text
 pub record IsAccepted {X : Type 0} (g : Grammar X) (p : X → List (List ℕ)) (lists : List (List X)) (l : Line X) : Type 0 where
   pub back : IsReadBack g p l
   pub clean : (w : Why) → line_fault g lists l w ≡ false
   pub continues : is_end (Ok l) ≡ false
 
--- behind the first lists these lines are taken, and make the last
+-- after the first lists these lines are accepted, and make the last
 abbrev pub AreAccepted : {X : Type 0} → Grammar X → (X → List (List ℕ)) → List (List X) → List (Line X) → List (List X) → Type 0
 AreAccepted g p first [] last = first ≡ last
 AreAccepted g p first (l ∷ ls) last = (accepted : IsAccepted g p first l) × AreAccepted g p (with_line first l) ls last
 
--- the bytes of these lines in front of a rest are cut into the lines and the parts of the rest
+-- the bytes of these lines before a rest are cut into the lines and the parts of the rest
 parts-lines : {X : Type 0} (g : Grammar X) (p : X → List (List ℕ)) (first : List (List X)) (ls : List (Line X)) (last : List (List X)) (rest : List ℕ) → AreAccepted g p first ls last →
     slice_split (λ b. eqb b 10) (flat_map (λ l. line_text (pieces_by p l)) ls ++ rest) ≡ map (line_of p) ls ++ slice_split (λ b. eqb b 10) rest
 parts-lines g p first [] last rest accepted = refl
@@ -77,7 +77,7 @@ length-lines g p first (l ∷ ls) last accepted =
     let rest = length-lines g p (with_line first l) ls last accepted.1 in
     omega (arith, short, rest, length-append (line_text (pieces_by p l)) (flat_map (λ l. line_text (pieces_by p l)) ls), length-append (line_of p l) (10 ∷ []))
 
--- the front is without a fault, no line of it ends the text, and it says these lists
+-- the prefix is without a fault, no line of it ends the text, and it says these lists
 record Stands {X : Type 0} (g : Grammar X) (prefix : List (List ℕ)) (lists : List (List X)) : Type 0 where
   clean : IsClean g prefix
   running : has_end_line g prefix ≡ false
@@ -104,7 +104,7 @@ nothing_before : {X : Type 0} (g : Grammar X) → Stands g [] g.start
 unfolding has_end_line lists_of
 nothing_before g = record { clean = λ i w low. absurd (omega arith); running = refl; says = refl }
 
--- a text of the header, lines that are taken, and `end` spells what the lines make
+-- a text of the header, lines that are accepted, and `end` spells what the lines make
 pub printed_spells : {X : Type 0} (g : Grammar X) (p : X → List (List ℕ)) (ls : List (Line X)) (last : List (List X)) (lines : List ℕ) →
     has_byte 10 g.header ≡ false → IsReadBack g p End → AreAccepted g p g.start ls last → flat_map (λ l. line_text (pieces_by p l)) ls ≡ lines →
     length (whole_text g.header lines) ≤ 1048576 → SpellsLists g (whole_text g.header lines) last

@@ -14,9 +14,9 @@ use Rattle.tso_text.specs.declared.faults.Why.TheVariants.{BadHeader, AfterEnd, 
 use Rattle.tso_text.specs.Spelling.{Grammar, SpellsLists, IsTextRefusal, fault_at, part_fault, said_fault, said, lists_of, lists_after, with_said, has_end_line, has_header, is_end, unended_text_fault, body_of, same_text_fault}
 use Rattle.tso_text.specs.Internal.Accepted.{IsFirstTextFault, IsRefusedFor, AcceptsLine}
 
--- ---- parts in front
+-- ---- parts before
 
--- the lines in front say the lists that the lines behind go on from
+-- the lines before say the lists that the later lines extend
 lists_after-append : {X : Type 0} (g : Grammar X) (lists : List (List X)) (prefix after : List (List ℕ)) → lists_after g lists (prefix ++ after) ≡ lists_after g (lists_after g lists prefix) after
 lists_after-append g lists [] after = refl
 lists_after-append g lists (line ∷ prefix) after = lists_after-append g (with_said lists (said g line)) prefix after
@@ -39,7 +39,7 @@ pub has_end_line-push : {X : Type 0} (g : Grammar X) (prefix : List (List ℕ)) 
 unfolding has_end_line
 has_end_line-push g prefix line none = list_any-push (λ line. is_end (said g line)) prefix line none
 
--- the lines in front have no fault
+-- the lines before have no fault
 abbrev pub IsClean : {X : Type 0} → Grammar X → List (List ℕ) → Type 0
 IsClean g prefix = (i : ℕ) (w : Why) → i < length prefix → part_fault g (take i prefix) (get_or prefix i []) false w ≡ false
 
@@ -48,12 +48,12 @@ pub part_fault-open : {X : Type 0} (g : Grammar X) (prefix : List (List ℕ)) (p
 unfolding part_fault
 part_fault-open g prefix part w running = rw running refl
 
--- what stands behind the last line end, before an `end`
+-- what stands after the last line end, before an `end`
 pub part_fault-last : {X : Type 0} (g : Grammar X) (prefix : List (List ℕ)) (part : List ℕ) (w : Why) → has_end_line g prefix ≡ false → part_fault g prefix part true w ≡ same_text_fault (unended_text_fault part) w
 unfolding part_fault
 part_fault-last g prefix part w running = rw running refl
 
--- what stands behind an `end`
+-- what stands after an `end`
 pub part_fault-ended : {X : Type 0} (g : Grammar X) (prefix : List (List ℕ)) (part : List ℕ) (last : Bool) (w : Why) → has_end_line g prefix ≡ true → part_fault g prefix part last w ≡ (same_text_fault AfterEnd w && not (last && is_empty part))
 unfolding part_fault
 part_fault-ended g prefix part last w ended = rw ended refl
@@ -80,8 +80,8 @@ pub record Begins {X : Type 0} (g : Grammar X) (text : List ℕ) : Type 0 where
   pub short : length text ≤ 1048576
   pub header : has_header g.header (parts_of text) ≡ true
 
--- A reader has come behind i lines after the header: they have no fault and none of them is an `end`; `rest` is what
--- stands behind them, and `lists` what they say.
+-- The reader is i lines after the header: these lines have no fault and none of them is an `end`; `rest` is what
+-- stands after them, and `lists` what they say.
 pub record Reached {X : Type 0} (g : Grammar X) (text : List ℕ) (i : ℕ) (rest : List ℕ) (lists : List (List X)) : Type 0 where
   pub begins : Begins g text
   pub prefix : List (List ℕ)
@@ -112,7 +112,7 @@ fault_at-place g text prefix part after i w body count =
 not_last_place : (prefix : List (List ℕ)) (part : List ℕ) (after : List (List ℕ)) (k : ℕ) → k < length prefix → eqb (suc k) (length (prefix ++ part ∷ after)) ≡ false
 not_last_place prefix part after k low = let whole = length-append prefix (part ∷ after) in grind (arith, nat_tests)
 
--- the lines in front have no fault, whatever stands behind them
+-- the lines before have no fault, whatever follows them
 fault_at-prefix : {X : Type 0} (g : Grammar X) (text : List ℕ) (prefix : List (List ℕ)) (part : List ℕ) (after : List (List ℕ)) (k : ℕ) (w : Why) → IsClean g prefix →
     body_of text ≡ prefix ++ part ∷ after → k < length prefix → fault_at g text (suc (suc k)) w ≡ false
 unfolding fault_at
@@ -123,7 +123,7 @@ fault_at-prefix g text prefix part after k w clean body low =
     let last : eqb (suc k) (length (prefix ++ part ∷ after)) ≡ false = not_last_place prefix part after k low in
     rw (body, inside, t, n, last) (clean k w low)
 
--- behind the last part there is no fault
+-- after the last part there is no fault
 pub fault_at-past : {X : Type 0} (g : Grammar X) (text : List ℕ) (k : ℕ) (w : Why) → length (body_of text) ≤ k → fault_at g text (suc (suc k)) w ≡ false
 unfolding fault_at
 fault_at-past g text k w past = let off : ltb k (length (body_of text)) ≡ false = grind (arith, nat_tests) in rw off refl
@@ -135,7 +135,7 @@ fault_at-begins g text w begins =
     let off : ltb 1048576 (length text) ≡ false = grind (arith, nat_tests) in
     (rw off (and-false (same_text_fault TooLong w)), rw begins.header (and-false (same_text_fault BadHeader w)))
 
--- no line before a place behind clean lines has a fault
+-- no line before a place after clean lines has a fault
 fault_at-before : {X : Type 0} (g : Grammar X) (text : List ℕ) (prefix : List (List ℕ)) (part : List ℕ) (after : List (List ℕ)) → Begins g text → IsClean g prefix →
     body_of text ≡ prefix ++ part ∷ after → (j : ℕ) (w : Why) → j < suc (suc (length prefix)) → fault_at g text j w ≡ false
 fault_at-before g text prefix part after begins clean body zero w low = (fault_at-begins g text w begins).0
@@ -179,7 +179,7 @@ unended_refused g text i rest lists why r parts is =
     IsFirstTextFault-same (unended_text_fault rest) (λ w. part_fault-last g r.prefix rest w r.running) (same_text_fault-first (unended_text_fault rest)) in
     rw is (subst (λ n. IsTextRefusal g text (suc (suc n)) (unended_text_fault rest)) r.count (refused_at g text r.prefix rest [] (unended_text_fault rest) r.begins r.clean body at))
 
--- a line that is taken has no fault
+-- a line that is accepted has no fault
 line_clean : {X : Type 0} (g : Grammar X) (text : List ℕ) (i : ℕ) (rest : List ℕ) (lists : List (List X)) (line : List ℕ) (ended : Bool) (new : List (List X)) →
     (r : Reached g text i rest lists) → AcceptsLine g lists line ended new → (w : Why) → part_fault g r.prefix line false w ≡ false
 line_clean g text i rest lists line ended new r accepts w =
@@ -194,7 +194,7 @@ line_ends : {X : Type 0} (g : Grammar X) (text : List ℕ) (i : ℕ) (rest : Lis
     (r : Reached g text i rest lists) → AcceptsLine g lists line ended new → has_end_line g (r.prefix ++ line ∷ []) ≡ ended
 line_ends g text i rest lists line ended new r accepts = has_end_line-push g r.prefix line r.running ∙ ap is_end accepts.says ∙ accepts.accepts.ends
 
--- the reader goes on behind a line
+-- the reader continues after a line
 pub Reached-next : {X : Type 0} (g : Grammar X) (text : List ℕ) (i : ℕ) (rest : List ℕ) (lists : List (List X)) (line after : List ℕ) (new : List (List X)) →
     Reached g text i rest lists → parts_of rest ≡ line ∷ parts_of after → AcceptsLine g lists line false new → Reached g text (suc i) after new
 Reached-next g text i rest lists line after new r parts accepts = record {
@@ -207,7 +207,7 @@ Reached-next g text i rest lists line after new r parts accepts = record {
   says = line_says g text i rest lists line false new r accepts;
 }
 
--- a byte behind the `end` line
+-- a byte after the `end` line
 pub ended_refused : {X : Type 0} (g : Grammar X) (text : List ℕ) (i : ℕ) (rest : List ℕ) (lists : List (List X)) (line after : List ℕ) (new : List (List X)) →
     Reached g text i rest lists → parts_of rest ≡ line ∷ parts_of after → AcceptsLine g lists line true new → (length after ≡ 0 → ⊥) → IsTextRefusal g text (suc (suc (suc i))) AfterEnd
 unfolding parts_of
@@ -234,7 +234,7 @@ spelled_after g text lines (suc (suc k)) w ended body high =
     (λ (past : suc (length lines) ≤ k). fault_at-past g text k w (omega (arith, ap length body, length-append lines ([] ∷ []))))
     (cases_lt k (suc (length lines)))
 
--- clean lines of which one is the `end`, and nothing behind them, spell what they say
+-- clean lines of which one is the `end`, and nothing after them, spell what they say
 pub spelled : {X : Type 0} (g : Grammar X) (text : List ℕ) (lines : List (List ℕ)) (lists : List (List X)) → Begins g text → IsClean g lines → has_end_line g lines ≡ true →
     lists_of g lines ≡ lists → body_of text ≡ lines ++ [] ∷ [] → SpellsLists g text lists
 spelled g text lines lists begins clean ended says body = record {
@@ -248,7 +248,7 @@ spelled g text lines lists begins clean ended says body = record {
       rw (body, t) says;
 }
 
--- nothing behind the `end` line: the text spells what its lines say
+-- nothing after the `end` line: the text spells what its lines say
 pub Reached-end : {X : Type 0} (g : Grammar X) (text : List ℕ) (i : ℕ) (rest : List ℕ) (lists : List (List X)) (line after : List ℕ) (new : List (List X)) →
     Reached g text i rest lists → parts_of rest ≡ line ∷ parts_of after → AcceptsLine g lists line true new → length after ≡ 0 → SpellsLists g text new
 unfolding parts_of
@@ -261,7 +261,7 @@ Reached-end g text i rest lists line (b ∷ after) new r parts accepts none = ab
 
 -- ---- the beginning
 
--- behind the header
+-- after the header
 pub Reached-start : {X : Type 0} (g : Grammar X) (text rest : List ℕ) → length text ≤ 1048576 → parts_of text ≡ g.header ∷ parts_of rest → Reached g text 0 rest g.start
 unfolding parts_of has_end_line lists_of
 Reached-start g text rest short parts =
@@ -307,7 +307,7 @@ other_header g text part rest short parts differs =
 pub no_header : {X : Type 0} (g : Grammar X) (text : List ℕ) → length text ≤ 1048576 → parts_of text ≡ text ∷ [] → IsTextRefusal g text 1 BadHeader
 no_header g text short parts = bad_header g text short (rw parts refl)
 
--- the fault that a reader answers is the refusal at its line, but for want of memory
+-- the fault that a reader answers is the refusal at its line, unless memory ran out
 pub answered : {X : Type 0} (g : Grammar X) (text : List ℕ) (line i : ℕ) (why : Why) (fault_line : ℕ) (fault_why : Why) → line ≡ suc (suc i) → fault_why ≡ why →
     ((why ≡ OutOfMemory → ⊥) → fault_line ≡ line) → ((why ≡ OutOfMemory → ⊥) → IsTextRefusal g text (suc (suc i)) why) → (fault_why ≡ OutOfMemory → ⊥) → IsTextRefusal g text fault_line fault_why
 answered g text line i why fault_line fault_why at is stands refusal other =
@@ -315,6 +315,6 @@ answered g text line i why fault_line fault_why at is stands refusal other =
     let place : fault_line ≡ suc (suc i) = stands not_memory ∙ at in
     rw (is, place) (refusal not_memory)
 
--- what is turned away for another reason than memory has a fault
+-- what is refused for another reason than memory has a fault
 pub first_fault : (has : Why → Bool) (why : Why) → IsRefusedFor has why → (why ≡ OutOfMemory → ⊥) → IsFirstTextFault has why
 first_fault has why away other = ⊎_elim (λ memory. absurd (other memory)) (λ first. first) away

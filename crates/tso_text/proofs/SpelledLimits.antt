@@ -31,7 +31,7 @@ use Rattle.tso_text.proofs.Reaching.{part_fault-open, part_fault-ended, fault_at
 
 -- ---- from line to line
 
--- What is said of items is said as well with one more, where a line says it and it has no fault behind them.
+-- What is said of items is said as well with one more, where a line says it and it has no fault after them.
 abbrev IsKeptByItems : {X : Type 0} → Grammar X → (List X → Type 0) → Type 0
 IsKeptByItems {X} g keeps =
     (items : List X) (x : X) (ps : List (List ℕ)) → g.said_by ps ≡ Ok (Item x) → ((w : Why) → g.item_fault items x w ≡ false) → keeps items → keeps (items ++ x ∷ [])
@@ -79,7 +79,7 @@ not_ended g text last prefix part next parts spells body = decided (has_end_line
         absurd (false≢true (sym (spells.clean (suc (suc (length prefix))) AfterEnd)
         ∙ fault_at-place g text prefix part (next ∷ parts) (length prefix) AfterEnd body refl ∙ part_fault-ended g prefix part false AfterEnd ended))
 
--- a line of a spelled text has no fault behind those in front of it
+-- a line of a spelled text has no fault after those before it
 line_clean : {X : Type 0} (g : Grammar X) (text : List ℕ) (last : List (List X)) (prefix : List (List ℕ)) (part next : List ℕ) (parts : List (List ℕ)) → SpellsLists g text last →
     body_of text ≡ prefix ++ part ∷ next ∷ parts → (w : Why) → said_fault g (lists_of g prefix) (said g part) w ≡ false
 line_clean g text last prefix part next parts spells body w =

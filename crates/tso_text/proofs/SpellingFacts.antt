@@ -49,7 +49,7 @@ text_fault_number-within TooLong = (omega arith, omega arith)
 text_fault_number-within ProcessorRange = (omega arith, omega arith)
 text_fault_number-within OutOfMemory = (omega arith, omega arith)
 
--- the number tells the refusal
+-- the number determines the refusal
 pub same_number : (v w : Why) → text_fault_number v ≡ text_fault_number w → v ≡ w
 same_number v w e = sym (why_at-number_of v) ∙ ap (λ n. why_at (n - 1)) e ∙ why_at-number_of w
 
@@ -93,7 +93,7 @@ first_why has =
 
 -- ---- spelled or refused
 
--- no line in front of the n-th has a fault, or the least of those that have one
+-- no line before the n-th has a fault, or the least of those that have one
 lines_searched : {X : Type 0} (g : Grammar X) (text : List ℕ) (n : ℕ) → ((line : ℕ) × (why : Why) × IsTextRefusal g text line why) ⊎ ((j : ℕ) (w : Why) → j < n → fault_at g text j w ≡ false)
 lines_searched g text zero = inr (λ j w low. absurd (omega arith))
 lines_searched {X} g text (suc n) =

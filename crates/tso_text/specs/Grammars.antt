@@ -1,6 +1,7 @@
 -- The grammars of traces, programs and schedules.
 use Rattle.std.specs.Prelude.{ℕ, ◌&&◌, Bool, false, nat_lt, min, List, [], ◌∷◌, map, Result, Ok, Err, codes, if◌then◌else◌}
 use Rattle.std.specs.Str.{bytes_eq}
+use Rattle.line_text.specs.Results.{◌>>=◌}
 use Rattle.tso_ops.specs.declared.ops.Op.{Op}
 use Rattle.tso_ops.specs.declared.ops.Op.TheVariants.{Ld as OpLd, St as OpSt, Sw as OpSw, Mb as OpMb}
 use Rattle.tso_ops.specs.declared.ops.Outcome.{Outcome}
@@ -14,10 +15,10 @@ use Rattle.tso_text.specs.declared.faults.Why.{Why}
 use Rattle.tso_text.specs.declared.faults.Why.TheVariants.{BadLine, TooManyEvents, AddressRange, ZeroValue, RepeatedValue, ProcessorRange}
 use Rattle.tso_text.specs.declared.lines.Line.{Line}
 use Rattle.tso_text.specs.declared.lines.Line.TheVariants.{Proc, Item, End}
-use Rattle.tso_text.specs.Numbers.{◌>>=◌, no_number, one_number, two_numbers, three_numbers}
+use Rattle.tso_text.specs.Numbers.{no_number, one_number, two_numbers, three_numbers}
 use Rattle.tso_text.specs.Spelling.{Grammar, SpellsLists, IsTextRefusal, same_text_fault}
 
--- the piece is this word
+-- the piece is this keyword
 abbrev pub is_word : List ℕ → List ℕ → Bool
 is_word piece word = bytes_eq piece word
 

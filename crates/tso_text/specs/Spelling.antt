@@ -30,11 +30,11 @@ same_text_fault v w = text_fault_number v == text_fault_number w
 
 -- ---- a text in parts
 
--- the parts behind the first
+-- the parts after the first
 abbrev pub body_of : List ℕ → List (List ℕ)
 body_of text = drop 1 (parts_of text)
 
--- the lines behind the header: the parts that a line end follows
+-- the lines after the header: the parts that a line end follows
 abbrev pub body_lines : List ℕ → List (List ℕ)
 body_lines text = take (length (body_of text) - 1) (body_of text)
 
@@ -52,7 +52,7 @@ pub record Grammar (X : Type 0) : Type 0 where
   pub start : List (List X)
   -- what the pieces of a line say, or their fault: BadLine or BadNumber
   pub said_by : List (List ℕ) → Result (Line X) Why
-  -- the item has the fault, behind these items in file order
+  -- the item has the fault, after these items in file order
   pub item_fault : List X → X → Why → Bool
 
 abbrev pub said : {X : Type 0} → Grammar X → List ℕ → Result (Line X) Why
@@ -64,7 +64,7 @@ push_last [] x = []
 push_last (row ∷ []) x = (row ++ x ∷ []) ∷ []
 push_last (row ∷ next ∷ lists) x = row ∷ push_last (next ∷ lists) x
 
--- the lists behind one more line
+-- the lists after one more line
 abbrev pub with_line : {X : Type 0} → List (List X) → Line X → List (List X)
 with_line lists Proc = lists ++ [] ∷ []
 with_line lists (Item x) = push_last lists x
@@ -75,7 +75,7 @@ abbrev pub with_said : {X : Type 0} → List (List X) → Result (Line X) Why �
 with_said lists (Err why) = lists
 with_said lists (Ok line) = with_line lists line
 
--- the lists behind these lines, from these lists on
+-- the lists after these lines, from these lists on
 abbrev pub lists_after : {X : Type 0} → Grammar X → List (List X) → List (List ℕ) → List (List X)
 lists_after g lists [] = lists
 lists_after g lists (line ∷ lines) = lists_after g (with_said lists (said g line)) lines
@@ -100,7 +100,7 @@ items_of lists = flat_map (λ row. row) lists
 
 -- ---- faults
 
--- The line has the fault, behind what the lines before it say.
+-- The line has the fault, after what the lines before it say.
 abbrev pub line_fault : {X : Type 0} → Grammar X → List (List X) → Line X → Why → Bool
 line_fault g lists Proc w = same_text_fault TooManyProcessors w && nat_lt 15 (length lists)
 line_fault g lists (Item x) w = if is_empty lists then same_text_fault BeforeProc w else g.item_fault (items_of lists) x w
@@ -110,11 +110,11 @@ abbrev pub said_fault : {X : Type 0} → Grammar X → List (List X) → Result 
 said_fault g lists (Err why) w = same_text_fault why w
 said_fault g lists (Ok line) w = line_fault g lists line w
 
--- what stands behind the last line end, where no `end` line came
+-- what stands after the last line end, where no `end` line came
 abbrev pub unended_text_fault : List ℕ → Why
 unended_text_fault part = if is_empty part then MissingEnd else BadLine
 
--- The part has the fault, behind these lines; `last` where no line end follows it.
+-- The part has the fault, after these lines; `last` where no line end follows it.
 unfoldable pub part_fault : {X : Type 0} → Grammar X → List (List ℕ) → List ℕ → Bool → Why → Bool
 part_fault g before part last w =
     if has_end_line g before then same_text_fault AfterEnd w && not (last && is_empty part)

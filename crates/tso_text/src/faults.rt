@@ -12,10 +12,10 @@ pub enum Why {
     /// The text doesn't begin with the header line and its line end.
     #[error("BadHeader")]
     BadHeader,
-    /// A line with no line end, with none of the words first, or with another number of pieces than its word has.
+    /// A line with no line end, whose first piece is no keyword, or with another number of pieces than its keyword has.
     #[error("BadLine")]
     BadLine,
-    /// A piece behind the word is no number.
+    /// A piece after the first is no number.
     #[error("BadNumber")]
     BadNumber,
     /// An operation before the first `proc`.
@@ -36,10 +36,10 @@ pub enum Why {
     /// A store or a swap of a value that an earlier line stored.
     #[error("RepeatedValue")]
     RepeatedValue,
-    /// The text ends behind a whole line, and no `end` came.
+    /// The text ends after a whole line, and no `end` came.
     #[error("MissingEnd")]
     MissingEnd,
-    /// A byte behind the line `end`.
+    /// A byte after the line `end`.
     #[error("AfterEnd")]
     AfterEnd,
     /// More than 1,048,576 bytes.
@@ -48,7 +48,7 @@ pub enum Why {
     /// A processor above 15 in a schedule.
     #[error("ProcessorRange")]
     ProcessorRange,
-    /// A growth was refused.
+    /// An allocation was refused.
     #[error("OutOfMemory")]
     OutOfMemory,
 }

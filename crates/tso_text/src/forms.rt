@@ -48,7 +48,7 @@ pub(crate) trait Form: Copy {
     fn print(self, text: &mut String) -> Result<(), AllocError>
         ensures { OnOk result (string_bytes text.new ≡ string_bytes text.old ++ line_text (pieces self)) };
 
-    /// Admits the item behind those admitted before, or refuses it for its first fault.
+    /// Admits the item after those admitted before, or refuses it for its first fault.
     fn admit(self, tally: &mut Tally) -> Result<(), Why>
         ensures admitted { (items : List Self) → keeps tally.old items → OnOk result (keeps tally.new (items ++ self ∷ [])) }
         ensures clean { (items : List Self) → keeps tally.old items → OnOk result ((w : Why) → grammar.item_fault items self w ≡ false) }

@@ -12,7 +12,7 @@ pub(crate) enum Line<T> {
     End,
 }
 
-/// The first line, and what stands behind its line end.
+/// The first line, and what stands after its line end.
 pub(crate) fn next_line(text: &[u8]) -> Result<(&[u8], &[u8]), Why>
     ensures line { IfOk result (λ found. parts_of text.now ≡ found.0.now ∷ parts_of found.1.now) }
     ensures shorter { IfOk result (λ found. length found.1.now < length text.now) }

@@ -8,7 +8,7 @@ use std::alloc::Global;
 use std::fmt::Write;
 use tso_ops::{OutOfMemory, Program, Trace};
 
-/// The text of a trace. It spells the trace. OutOfMemory where a growth was refused.
+/// The text of a trace. It spells the trace. OutOfMemory where an allocation was refused.
 pub fn print_trace(alloc: Global, trace: &Trace) -> Result<String, OutOfMemory>
     ensures lines { IfOk result (λ text. string_bytes text ≡ trace_text trace.now) }
     ensures spelled { IfOk result (λ text. SpellsTrace (string_bytes text) trace.now) }
@@ -21,7 +21,7 @@ pub fn print_trace(alloc: Global, trace: &Trace) -> Result<String, OutOfMemory>
     Ok(text)
 }
 
-/// The text of a program. It spells the program. OutOfMemory where a growth was refused.
+/// The text of a program. It spells the program. OutOfMemory where an allocation was refused.
 pub fn print_program(alloc: Global, program: &Program) -> Result<String, OutOfMemory>
     ensures lines { IfOk result (λ text. string_bytes text ≡ program_text program.now) }
     ensures spelled { IfOk result (λ text. SpellsProgram (string_bytes text) program.now) }
@@ -35,7 +35,7 @@ pub fn print_program(alloc: Global, program: &Program) -> Result<String, OutOfMe
 }
 
 /// The text of a schedule. It spells the schedule where there is a spelling: where no act names a processor above 15,
-/// and the text is within the limit. OutOfMemory where a growth was refused.
+/// and the text is within the limit. OutOfMemory where an allocation was refused.
 pub fn print_schedule(alloc: Global, acts: &[Act]) -> Result<String, OutOfMemory>
     ensures lines { IfOk result (λ text. string_bytes text ≡ schedule_text acts.now) }
     ensures spelled { IfOk result (λ text. All (λ act. processor_of act ≤ 15) acts.now → length (string_bytes text) ≤ 1048576 → SpellsSchedule (string_bytes text) acts.now) }

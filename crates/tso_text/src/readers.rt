@@ -18,7 +18,7 @@ use tso_ops::{Program, Trace};
 /// The greatest number of bytes of the text of a trace, a program or a schedule.
 pub const MAX_TEXT_BYTES: usize = 1_048_576;
 
-/// Want of memory is of the whole text.
+/// OutOfMemory is a refusal of the whole text.
 const NO_MEMORY: TextFault = TextFault {
     line: 0,
     why: Why::OutOfMemory,
@@ -26,7 +26,7 @@ const NO_MEMORY: TextFault = TextFault {
 
 /// Reads the text of a trace.
 ///
-/// Refused: the least line that has a fault, and there the fault of the least number; or OutOfMemory where a growth
+/// Refused: the least line that has a fault, and there the fault of the least number; or OutOfMemory where an allocation
 /// was refused.
 pub fn read_trace(alloc: Global, text: &[u8]) -> Result<Trace, TextFault>
     ensures found { IfOk result (SpellsTrace text.now) }
@@ -106,7 +106,7 @@ pub(crate) fn read_lists<T: Form>(alloc: Global, text: &[u8]) -> Result<Vec<Vec<
     }
 }
 
-/// What stands behind the header line.
+/// What stands after the header line.
 fn body_of<T: Form>(text: &[u8]) -> Result<&[u8], TextFault>
     ensures body { IfOk result (λ rest. parts_of text.now ≡ T.grammar.header ∷ parts_of rest.now) }
     ensures short { OnOk result (length text.now ≤ 1048576) }

@@ -32,7 +32,7 @@ impl<T: Form> Reading<T> {
         Ok(Reading { lists, tally })
     }
 
-    /// Takes the next line, and tells whether it ends the text; or refuses it for its first fault.
+    /// Accepts the next line, and says whether it ends the text; or refuses it for its first fault.
     pub(crate) fn accept_line(&mut self, line: &[u8]) -> Result<bool, Why>
         requires keeps { T.keeps self.old.tally (items_of (rows self.old.lists.items)) }
         requires few { length (rows self.old.lists.items) ≤ 16 }
@@ -45,7 +45,7 @@ impl<T: Form> Reading<T> {
         self.accept(said)
     }
 
-    /// Takes what the next line says, and tells whether it ends the text; or refuses it for its first fault.
+    /// Accepts what the next line says, and says whether it ends the text; or refuses it for its first fault.
     fn accept(&mut self, said: Line<T>) -> Result<bool, Why>
         requires keeps { T.keeps self.old.tally (items_of (rows self.old.lists.items)) }
         requires few { length (rows self.old.lists.items) ≤ 16 }

@@ -21,7 +21,7 @@ fn at(line: usize, why: Why) -> Option<TextFault> {
     Some(TextFault { line, why })
 }
 
-/// A front, many times the same line, and a back.
+/// A prefix, many times the same line, and a suffix.
 fn repeated(
     alloc: Global,
     prefix: &str,

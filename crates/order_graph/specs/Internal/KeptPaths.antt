@@ -14,8 +14,8 @@ pub record KeepsPathsToDone (nodes width : ℕ) (edges paths done : List ℕ) : 
   pub some : KeepsSomePaths nodes width edges paths
   pub ends : (x y : ℕ) → x < nodes → y / 64 < width → IsSet paths width x y → IsSet done width 0 y
 
--- A table of edges, that of their paths, and the table of paths turned.
-pub record Keeps (nodes width : ℕ) (edges paths transposed : List ℕ) : Type 0 where
+-- A table of edges, that of their paths, and the table of paths transposed.
+pub record KeepsAllPaths (nodes width : ℕ) (edges paths transposed : List ℕ) : Type 0 where
   pub small : nodes < 2 ^ 32
   pub fits : width ≡ (nodes + 63) / 64
   pub edges_sized : length edges ≡ nodes * width

@@ -1,4 +1,4 @@
--- Flat tables of bits: rows of 64-bit words, one behind another.
+-- Flat tables of bits: rows of 64-bit words, one after another.
 use Rattle.std.specs.Prelude.{◌≡◌, ◌⊎◌, ◌↔◌, ℕ, ◌+◌, ◌*◌, ◌/◌, ◌%◌, ◌^◌, ◌<◌, List, length, slice_index}
 use Rattle.order_graph.specs.BitRows.{HasBit}
 

@@ -2,6 +2,7 @@
 use Rattle.std.specs.Prelude.{◌≡◌, ℕ, ◌<◌, ◌==◌, Bool, true, false, List, [], ◌∷◌, Option, Some, None, Result, Ok, Err, codes, if◌then◌else◌}
 use Rattle.std.specs.Str.{bytes_eq}
 use Rattle.std.specs.Fmt.{decimal}
+use Rattle.line_text.specs.Results.{◌>>=◌}
 use Rattle.tso_cert.specs.declared.rules.BaseRule.{BaseRule}
 use Rattle.tso_cert.specs.declared.rules.InferredRule.{InferredRule}
 use Rattle.tso_cert.specs.declared.steps.Reason.{Reason}
@@ -13,12 +14,6 @@ use Rattle.tso_cert.specs.declared.faults.Why.{Why}
 use Rattle.tso_cert.specs.declared.faults.Why.TheVariants.{BadLine, BadNumber, BadRule}
 use Rattle.tso_cert.specs.Printed.{base_name, inferred_name}
 use Rattle.tso_cert.specs.Spelling.{event_number, base_rules, inferred_rules, cert_fault_number}
-
-infixl 10 ◌>>=◌
--- the next step, where there was no fault
-abbrev pub ◌>>=◌ : {A B : Type 0} → Result A Why → (A → Result B Why) → Result B Why
-Ok x >>= f = f x
-Err why >>= f = Err why
 
 abbrev pub or_bad_event : Option ℕ → Result ℕ Why
 or_bad_event None = Err BadNumber
@@ -46,7 +41,7 @@ base_rule name = named base_name base_rules name
 unfoldable pub inferred_rule : List ℕ → Result InferredRule Why
 inferred_rule name = named inferred_name inferred_rules name
 
--- the reason of the fourth piece and the pieces behind it
+-- the reason of the fourth piece and the pieces after it
 unfoldable pub reason_said : List ℕ → List (List ℕ) → Result Reason Why
 reason_said name [] = base_rule name >>= λ rule. Ok (Base rule)
 reason_said name (load ∷ path) = event load >>= λ l. events path >>= λ p. inferred_rule name >>= λ rule. Ok (Inferred rule l p)
@@ -62,7 +57,7 @@ step_said number (k ∷ from ∷ to ∷ name ∷ pieces) =
     then (event from >>= λ u. event to >>= λ v. reason_said name pieces >>= λ r. Ok (record { from = u; to = v; reason = r }))
     else Err BadNumber
 
--- the load of a line `unwritten` with this number, and these pieces behind the word
+-- the load of a line `unwritten` with this number, and these pieces after the keyword
 unfoldable pub unwritten_said : ℕ → List (List ℕ) → Result ℕ Why
 unwritten_said number [] = Err BadLine
 unwritten_said number (n ∷ []) = if number == 1 then event n else Err BadLine

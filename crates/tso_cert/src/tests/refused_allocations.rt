@@ -1,11 +1,11 @@
-//! Growths refused in turn: `rt try --test --fail-alloc N` refuses the Nth of each test.
+//! Allocations refused in turn: `rt try --test --fail-alloc N` refuses the Nth of each test.
 //!
 //! The call that meets it answers OutOfMemory, at line 0 where it is the reader, and the next call the ordinary answer.
 use crate::{Certificate, TextFault, Why, print_cert, read_cert};
 use std::alloc::{AllocError, Global};
 use std::test::Fail;
 
-/// The refusal of a growth.
+/// The refusal of an allocation.
 const REFUSED: TextFault = TextFault {
     line: 0,
     why: Why::OutOfMemory,
@@ -21,7 +21,7 @@ fn certificate_of(alloc: Global, text: &str) -> Result<Certificate, TextFault> {
     }
 }
 
-/// Reads a text and prints it back, each once more where a growth was refused.
+/// Reads a text and prints it back, each once more where an allocation was refused.
 fn text_back(alloc: Global, text: &str) -> Result<String, Fail> {
     let certificate = certificate_of(alloc, text)?;
     Ok(match print_cert(alloc, &certificate) {

@@ -1,6 +1,12 @@
 -- What the loops of the plain program make of their lists.
 use Rattle.std.specs.Prelude.{◌≡◌, ◌⊎◌, ℕ, ◌<◌, Bool, true, false, List}
-use Rattle.tso_model.specs.EdgeLists.{HasPair}
+use Rattle.tso_ops.specs.Values.{TraceValue}
+use Rattle.tso_cert.specs.declared.rules.InferredRule.{InferredRule}
+use Rattle.tso_model.specs.EdgeLists.{HasPair, IsGivenBy}
+
+-- an inferred rule gives the edge for some load, where the path that it needs is one of these
+abbrev pub IsGiven : TraceValue → (ℕ → ℕ → Type 0) → ℕ → ℕ → Type 0
+IsGiven t Path u v = (rule : InferredRule) × (l : ℕ) × IsGivenBy t rule l Path u v
 
 -- the pair is one of the list, or two of them that meet at the number make it
 abbrev pub IsJoinedAt : List (ℕ × ℕ) → ℕ → ℕ → ℕ → Type 0

@@ -66,7 +66,7 @@ fn is_store_store_pair(trace: &Trace, u: usize, v: usize) -> bool
     is_store(trace, u) && is_store(trace, v) && is_earlier(trace, u, v)
 }
 
-/// Whether `u` is a store and `v` a program-later load behind a barrier.
+/// Whether `u` is a store and `v` a program-later load after a barrier.
 fn is_membar_pair(trace: &Trace, u: usize, v: usize) -> bool
     ensures { IsTrue result ↔ BasePair trace.now BaseRule.Membar u v }
 {

@@ -1,4 +1,4 @@
-//! Tests of the words on events.
+//! Tests of what the specs define of events.
 ghost use Rattle.std.specs.Prelude.{◌≡◌, ◌↔◌, ℕ, suc, IsTrue, MatchOption};
 ghost use Rattle.tso_ops.specs.Events.{event_total, IsEvent, IsLoad, IsStore, IsSwapLoad, HasValue, SameAddress, SameValue, Earlier, HasFewerBarriersBefore, HasSource, IsUnwritten};
 

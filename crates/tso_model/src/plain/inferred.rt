@@ -2,7 +2,8 @@
 ghost use Rattle.std.specs.Prelude.{◌↔◌, ℕ, suc, IsTrue, IfOk};
 ghost use Rattle.tso_ops.specs.Events.{event_total};
 ghost use Rattle.tso_model.specs.Ranks.{IsInferred};
-ghost use Rattle.tso_model.specs.EdgeLists.{HasPair, AreEdgesBelow, IsGivenBy, IsGiven};
+ghost use Rattle.tso_model.specs.EdgeLists.{HasPair, AreEdgesBelow, IsGivenBy};
+ghost use Rattle.tso_model.specs.Internal.PlainLists.{IsGiven};
 
 use crate::plain::edges::has_edge;
 use crate::plain::events::{has_source, is_store, node_count, same_address, swap_store};

@@ -2,7 +2,8 @@
 ghost use Rattle.std.specs.Prelude.{◌↔◌, ℕ, suc, IsTrue, IfOk};
 ghost use Rattle.tso_ops.specs.Events.{event_total};
 ghost use Rattle.tso_model.specs.Ranks.{RankSet};
-ghost use Rattle.tso_model.specs.EdgeLists.{HasPair, AreEdges, AreEdgesBelow, IsGiven, IsNew};
+ghost use Rattle.tso_model.specs.EdgeLists.{HasPair, AreEdges, AreEdgesBelow, IsNew};
+ghost use Rattle.tso_model.specs.Internal.PlainLists.{IsGiven};
 
 use crate::plain::base::first_base_rule;
 use crate::plain::edges::{has_edge, pairs_where};

@@ -16,7 +16,7 @@ use Rattle.tso_ops.specs.Events.{events_of, event_total, IsLoad, SourceIs}
 abbrev pub IsStoreAt : List Event → ℕ → ℕ → Type 0
 IsStoreAt events k value = (e : Event) × (slice_get events k ≡ Some e) × IsFalse e.load × (e.value ≡ value)
 
--- What a look-up of a value gives, behind the first `count` events: the number of a store of it, or else there is none.
+-- What a look-up of a value gives, after the first `count` events: the number of a store of it, or else there is none.
 abbrev pub FindsStore : List Event → ℕ → ℕ → Option ℕ → Type 0
 FindsStore events count value found =
     MatchOption found ((k : ℕ) → k < count → IsStoreAt events k value → ⊥)

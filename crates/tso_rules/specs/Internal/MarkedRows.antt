@@ -24,7 +24,7 @@ pub record Marks (old new : List ℕ) (To : ℕ → Type 0) : Type 0 where
 abbrev pub IsLater : TraceValue → ℕ → ℕ → Type 0
 IsLater t u v = BasePair t LoadOp u v ⊎ BasePair t StoreStore u v ⊎ BasePair t Membar u v
 
--- program order puts number n behind the event, if it is program-later
+-- program order puts number n after the event, if it is program-later
 abbrev pub IsOrdered : TraceValue → Event → ℕ → Type 0
 IsOrdered t event n = IsTrue event.load ⊎ IsStore t n ⊎ (HasBarriersBefore t event.bars n → ⊥)
 

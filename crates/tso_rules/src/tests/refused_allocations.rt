@@ -1,4 +1,4 @@
-//! Growths refused in turn: `rt try --test --fail-alloc N` refuses the Nth of each test.
+//! Allocations refused in turn: `rt try --test --fail-alloc N` refuses the Nth of each test.
 //!
 //! The call that meets it answers OutOfMemory, and the next call the ordinary answer.
 

@@ -1,4 +1,4 @@
--- What a reader says of one line or one item: it is taken behind what came before, or it is refused.
+-- What a reader says of one line or one item: it is accepted after what came before, or it is refused.
 use Rattle.std.specs.Prelude.{◌≡◌, ◌⊎◌, ℕ, ◌<◌, ◌≤◌, Bool, true, false, List, length, Ok}
 use Rattle.tso_ops.specs.declared.limits.Tally.{Tally}
 use Rattle.tso_ops.specs.declared.faults.ValueFault.{ValueFault}
@@ -35,13 +35,13 @@ IsSaidRefusedFor g lists line why = IsRefusedFor (line_fault g lists line) why
 abbrev pub IsLineRefusedFor : {X : Type 0} → Grammar X → List (List X) → List ℕ → Why → Type 0
 IsLineRefusedFor g lists line why = IsRefusedFor (said_fault g lists (said g line)) why
 
--- what a line says is taken: it has no fault behind the old lists, and makes the new ones of them
+-- what a line says is accepted: it has no fault after the old lists, and makes the new ones of them
 pub record AcceptsSaid {X : Type 0} (g : Grammar X) (old : List (List X)) (line : Line X) (ended : Bool) (new : List (List X)) : Type 0 where
   pub clean : (w : Why) → line_fault g old line w ≡ false
   pub ends : is_end (Ok line) ≡ ended
   pub after : with_line old line ≡ new
 
--- the line is taken
+-- the line is accepted
 pub record AcceptsLine {X : Type 0} (g : Grammar X) (old : List (List X)) (line : List ℕ) (ended : Bool) (new : List (List X)) : Type 0 where
   pub line_said : Line X
   pub says : said g line ≡ Ok line_said

@@ -299,7 +299,7 @@ fn schedules_printed_back(rt: HostRuntime) -> Result<(), Fail> {
     Ok(())
 }
 
-/// full_trace, one_event_too_many and swap_past_the_limit: 2,000 loads, one more, and a swap behind 1,999.
+/// full_trace, one_event_too_many and swap_past_the_limit: 2,000 loads, one more, and a swap after 1,999.
 #[test]
 fn events_at_their_limit(rt: HostRuntime) -> Result<(), Fail> {
     let alloc = rt.alloc();

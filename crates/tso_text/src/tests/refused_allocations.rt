@@ -1,4 +1,4 @@
-//! Growths refused in turn: `rt try --test --fail-alloc N` refuses the Nth of each test.
+//! Allocations refused in turn: `rt try --test --fail-alloc N` refuses the Nth of each test.
 //!
 //! The call that meets it answers OutOfMemory, at line 0 where it is a reader, and the next call the ordinary answer.
 use crate::{
@@ -9,7 +9,7 @@ use std::alloc::{AllocError, Global};
 use std::test::Fail;
 use tso_ops::{Program, Trace};
 
-/// The refusal of a growth.
+/// The refusal of an allocation.
 const REFUSED: TextFault = TextFault {
     line: 0,
     why: Why::OutOfMemory,

@@ -2,7 +2,7 @@ use Rattle.std.proofs.Common.{inl, inr, arith}
 use Rattle.std.proofs.lemmas.Bool.{both_ways}
 use Rattle.order_graph.specs.Internal.Tables.{Joined}
 use Rattle.order_graph.proofs.Cycling.{next_longer, next_found}
-use Rattle.order_graph.proofs.Searching.{Keeps-covers}
+use Rattle.order_graph.proofs.Searching.{KeepsAllPaths-covers}
 use Rattle.order_graph.proofs.ShortCycles.{IsClosedNumber-reach, next_closed, next_unclosed}
 use Rattle.order_graph.proofs.cycles.better.Goals as goal
 
@@ -15,7 +15,7 @@ returns-then-not-bit c =
 pub shortest-requires-clause-covers : goal.shortest-requires-clause-covers
 shortest-requires-clause-covers c =
     let a = c.args in
-    Keeps-covers a.nodes a.width a.edges.now a.paths.now a.transposed.now c.requires.keeps
+    KeepsAllPaths-covers a.nodes a.width a.edges.now a.paths.now a.transposed.now c.requires.keeps
 
 pub shortest-requires-clause-path : goal.shortest-requires-clause-path
 shortest-requires-clause-path c =

@@ -4,7 +4,7 @@ use Rattle.order_graph.specs.Internal.Tables.{Joined}
 use Rattle.order_graph.specs.Digraphs.{IsEdge}
 use Rattle.order_graph.proofs.Keeping.{sees_nodes, sees_edge, sees_path}
 use Rattle.order_graph.proofs.Cycling.{IsLeastPath-same}
-use Rattle.order_graph.proofs.Searching.{Keeps-covers}
+use Rattle.order_graph.proofs.Searching.{KeepsAllPaths-covers}
 use Rattle.order_graph.proofs.graphs.Graph.least_path.Goals as goal
 
 pub returns-then-not-bit : goal.returns-then-not-bit
@@ -18,7 +18,7 @@ returns-then-not-bit c =
 pub least_path_of-requires-clause-covers : goal.least_path_of-requires-clause-covers
 least_path_of-requires-clause-covers c =
     let g = c.self.inside in
-    rw (c.deref-2.ensures.value, c.deref-3.ensures.value, c.deref-4.ensures.value) (Keeps-covers g.nodes g.width g.edges.items g.paths.items g.transposed.items c.self.invariant)
+    rw (c.deref-2.ensures.value, c.deref-3.ensures.value, c.deref-4.ensures.value) (KeepsAllPaths-covers g.nodes g.width g.edges.items g.paths.items g.transposed.items c.self.invariant)
 
 pub returns : goal.returns
 returns c =

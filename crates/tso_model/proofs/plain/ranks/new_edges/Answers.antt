@@ -1,6 +1,7 @@
 use Rattle.std.proofs.Common.{◌↔◌, IsTrue, rules}
 use Rattle.std.proofs.lemmas.Result.{IfOk-weaker}
-use Rattle.tso_model.specs.EdgeLists.{HasPair, IsGiven, IsNew}
+use Rattle.tso_model.specs.EdgeLists.{HasPair, IsNew}
+use Rattle.tso_model.specs.Internal.PlainLists.{IsGiven}
 use Rattle.tso_model.proofs.EdgeFacts.{passing_edges, passing_below}
 use Rattle.tso_model.proofs.RankFacts.{given_new, new_within}
 use Rattle.tso_model.proofs.plain.ranks.new_edges.Goals as goal

@@ -2,13 +2,13 @@ use Rattle.std.proofs.Common.{◌<◌, ◌+◌, ◌*◌, inl, inr, refl, arith, 
 use Rattle.std.specs.Int.{trailing_zeros, w64}
 use Rattle.order_graph.proofs.Words.{HasBit-lowest}
 use Rattle.order_graph.proofs.AddedBits.{row_within}
-use Rattle.order_graph.proofs.AllPaths.{Taking-start, Taking-step, left_less}
-use Rattle.order_graph.proofs.all_paths.take_over.Goals as goal
+use Rattle.order_graph.proofs.AllPaths.{JoinsDone-start, JoinsDone-step, left_less}
+use Rattle.order_graph.proofs.all_paths.join_done.Goals as goal
 
 pub loop-left-init : goal.loop-left-init
 loop-left-init c =
     let a = c.args in
-    Taking-start a.nodes a.width a.edges.now a.paths.now a.done.now a.x a.j _ c.requires.paths
+    JoinsDone-start a.nodes a.width a.edges.now a.paths.now a.done.now a.x a.j _ c.requires.paths
 
 pub add_row-requires-clause-given : goal.add_row-requires-clause-given
 add_row-requires-clause-given c =
@@ -31,5 +31,5 @@ loop-left-smaller c =
 pub loop-left-preserved : goal.loop-left-preserved
 loop-left-preserved c =
     let a = c.args in
-    Taking-step a.nodes a.width a.edges.now c.loop-left.paths c.add_row.new.table a.done.now a.x a.j c.loop-left.left c.requires.edges c.loop-left.invariant c.requires.not_done c.requires.row c.requires.word
+    JoinsDone-step a.nodes a.width a.edges.now c.loop-left.paths c.add_row.new.table a.done.now a.x a.j c.loop-left.left c.requires.edges c.loop-left.invariant c.requires.not_done c.requires.row c.requires.word
     (omega arith) (omega arith) (omega arith) c.add_row.ensures
