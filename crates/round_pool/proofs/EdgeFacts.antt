@@ -11,8 +11,9 @@ use Rattle.tso_model.specs.EdgeLists.{IsNew}
 use Rattle.tso_model.proofs.RankFacts.{new_within}
 use Rattle.tso_rules.specs.Rows.{IsAscending as IsAscendingRow}
 use Rattle.round_pool.specs.declared.ranked.Edge.{Edge}
-use Rattle.round_pool.specs.RankGraphs.{AreRows}
-use Rattle.round_pool.specs.Rankings.{HasEdge, IsBefore, IsAscending, edge_from, edges_of_rows, AreNewEdges}
+use Rattle.round_pool.specs.Internal.SharedRows.{AreRoundRows}
+use Rattle.round_pool.specs.Internal.EdgeLists.{edges_of_rows, AreNewEdges}
+use Rattle.round_pool.specs.Rankings.{HasEdge, IsBefore, IsAscending, edge_from}
 use Rattle.round_pool.proofs.GraphFacts.{no_new_from_init, empty_list}
 
 -- ---- the edges of one row
@@ -105,7 +106,7 @@ edges_ascend first (row ∷ rows) each =
 -- ---- the edges of a round
 
 -- the edges of the rows that a round adds are those that it adds
-pub round_rows : (t : TraceValue) (g : Digraph) (rows : List (List ℕ)) → AreRows t g 1 (event_total t) rows → AreNewEdges t g (edges_of_rows 1 rows)
+pub round_rows : (t : TraceValue) (g : Digraph) (rows : List (List ℕ)) → AreRoundRows t g 1 (event_total t) rows → AreNewEdges t g (edges_of_rows 1 rows)
 round_rows t g rows are = record {
   all = λ u v new. (let some = above u v new in let within = (new_within t (IsEdge g) u v new).0 in let at : u ≡ 1 + (u - 1) = omega (arith, some) in
       row_in_edges 1 rows u v some ((are.row (u - 1) (omega (arith, some, within))).all v (subst (λ n. IsNew t (IsEdge g) n v) at new)));

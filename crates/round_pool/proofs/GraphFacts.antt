@@ -19,7 +19,8 @@ use Rattle.tso_model.proofs.Events.{event_above_zero, store_event, load_event, s
 use Rattle.tso_model.proofs.RankFacts.{new_within}
 use Rattle.tso_rules.specs.Rows.{IsRow}
 use Rattle.round_pool.specs.declared.ranked.Edge.{Edge}
-use Rattle.round_pool.specs.RankGraphs.{IsRankGraph, AddsEdges, AreRows, AreBelow}
+use Rattle.round_pool.specs.Internal.SharedRows.{AreRoundRows, AreRowsBelow}
+use Rattle.round_pool.specs.RankGraphs.{IsRankGraph, AddsEdges}
 use Rattle.round_pool.specs.Rankings.{HasEdge, edge_from}
 
 -- ---- the rows of base edges
@@ -57,11 +58,11 @@ pub empty_list : {X : Type 0} (y : X) → Contains [] y → ⊥
 empty_list y has = let low : has.0 < 0 = has.1 in omega arith
 
 -- the rows computed so far, and one more
-pub rows_none : (t : TraceValue) (g : Digraph) (first : ℕ) → AreRows t g first 0 []
+pub rows_none : (t : TraceValue) (g : Digraph) (first : ℕ) → AreRoundRows t g first 0 []
 rows_none t g first = record { count_is = refl; row = λ i low. absurd (omega arith) }
 
-pub rows_pushed : (t : TraceValue) (g : Digraph) (first n : ℕ) (rows : List (List ℕ)) (row : List ℕ) → AreRows t g first n rows → IsRow row (IsNew t (IsEdge g) (first + n)) →
-    AreRows t g first (n + 1) (rows ++ row ∷ [])
+pub rows_pushed : (t : TraceValue) (g : Digraph) (first n : ℕ) (rows : List (List ℕ)) (row : List ℕ) → AreRoundRows t g first n rows → IsRow row (IsNew t (IsEdge g) (first + n)) →
+    AreRoundRows t g first (n + 1) (rows ++ row ∷ [])
 rows_pushed t g first n rows row are is = record {
   count_is = omega (arith, are.count_is, length-append rows (row ∷ []));
   row = λ i low. ⊎_elim
@@ -72,7 +73,7 @@ rows_pushed t g first n rows row are is = record {
 }
 
 -- the numbers of the rows lie within the graph
-pub rows_below : (t : TraceValue) (g : Digraph) (first n : ℕ) (rows : List (List ℕ)) → AreRows t g first n rows → AreBelow (suc (event_total t)) rows
+pub rows_below : (t : TraceValue) (g : Digraph) (first n : ℕ) (rows : List (List ℕ)) → AreRoundRows t g first n rows → AreRowsBelow (suc (event_total t)) rows
 rows_below t g first n rows are = record {
   below = λ i v has. ⊎_elim
       (λ (low : i < n). (new_within t (IsEdge g) (first + i) v ((are.row i low).only v has)).1)
@@ -91,7 +92,7 @@ no_new_from_init t Edge v new = from_init t new.0.0 new.0.1 v new.0.2 new.0.3 ne
     from_init t SwapAfter l v x y by = let at = by.1 in omega (arith, at)
 
 -- numbers below one number are below a greater
-pub rows_narrow : (m n : ℕ) (rows : List (List ℕ)) → m ≤ n → AreBelow m rows → AreBelow n rows
+pub rows_narrow : (m n : ℕ) (rows : List (List ℕ)) → m ≤ n → AreRowsBelow m rows → AreRowsBelow n rows
 rows_narrow m n rows most below = record { below = λ i v has. (let low = below.below i v has in omega (arith, low, most)) }
 
 -- the list that a vector of a list holds
@@ -101,7 +102,7 @@ row_at {X} (w ∷ vectors) zero v low is = ap (λ (u : Vec X). u.items) is
 row_at (w ∷ vectors) (suc i) v low is = row_at vectors i v (omega arith) is
 
 -- the rows of two runs, of which the second begins where the first ends
-pub rows_joined : (t : TraceValue) (g : Digraph) (first m n : ℕ) (rows more : List (List ℕ)) → AreRows t g first m rows → AreRows t g (first + m) n more → AreRows t g first (m + n) (rows ++ more)
+pub rows_joined : (t : TraceValue) (g : Digraph) (first m n : ℕ) (rows more : List (List ℕ)) → AreRoundRows t g first m rows → AreRoundRows t g (first + m) n more → AreRoundRows t g first (m + n) (rows ++ more)
 rows_joined t g first m n rows more are next = record {
   count_is = omega (arith, are.count_is, next.count_is, length-append rows more);
   row = λ i low. ⊎_elim

@@ -1,8 +1,9 @@
 //! The edges that a round adds.
 ghost use Rattle.std.specs.Prelude.{◌≡◌, ◌+◌, ◌<◌, ◌≤◌, ◌++◌, ℕ, length, map, All, IfOk, OnOk};
 ghost use Rattle.tso_ops.specs.Values.{rows};
-ghost use Rattle.round_pool.specs.RankGraphs.{AreBelow};
-ghost use Rattle.round_pool.specs.Rankings.{AreNewEdges, edge_from, edges_of_rows};
+ghost use Rattle.round_pool.specs.Internal.SharedRows.{AreRowsBelow};
+ghost use Rattle.round_pool.specs.Internal.EdgeLists.{AreNewEdges, edges_of_rows};
+ghost use Rattle.round_pool.specs.Rankings.{edge_from};
 
 use crate::faults::PoolFault;
 use crate::gates::PoolGate;
@@ -41,7 +42,7 @@ fn push_row(edges: &mut Vec<Edge>, u: usize, row: &[usize]) -> Result<(), OutOfM
 /// The edges of rows, of which row `i` is that of number `i + 1`.
 fn edges_of(alloc: Global, made: &[Vec<usize>]) -> Result<Vec<Edge>, OutOfMemory>
     requires few { length made.now < 65535 }
-    requires below { AreBelow 65536 (rows made.now) }
+    requires below { AreRowsBelow 65536 (rows made.now) }
     ensures { IfOk result (λ edges. edges.items ≡ edges_of_rows 1 (rows made.now)) }
 {
     let mut edges = Vec::new(alloc);

@@ -4,8 +4,8 @@ use Rattle.std.proofs.lemmas.List.{length-map}
 use Rattle.tso_ops.specs.Values.{rows}
 use Rattle.tso_ops.specs.Events.{event_total}
 use Rattle.tso_ops.proofs.EventFacts.{event_total-bound}
-use Rattle.round_pool.specs.RankGraphs.{AreBelow}
-use Rattle.round_pool.specs.Rankings.{AreNewEdges, edges_of_rows}
+use Rattle.round_pool.specs.Internal.SharedRows.{AreRowsBelow}
+use Rattle.round_pool.specs.Internal.EdgeLists.{AreNewEdges, edges_of_rows}
 use Rattle.round_pool.proofs.EdgeFacts.{round_rows}
 use Rattle.round_pool.proofs.GraphFacts.{rows_below, rows_narrow}
 use Rattle.round_pool.proofs.edges.round_edges.Goals as goal
@@ -22,7 +22,7 @@ edges_of-requires-clause-few g c =
 pub edges_of-requires-clause-below : goal.edges_of-requires-clause-below
 edges_of-requires-clause-below g c =
     let bound = event_total-bound c.args.trace.now c.events-events.ensures.kept in
-    subst (λ (l : List (Vec ℕ)). AreBelow 65536 (rows l)) (sym c.deref.ensures.value)
+    subst (λ (l : List (Vec ℕ)). AreRowsBelow 65536 (rows l)) (sym c.deref.ensures.value)
     (rows_narrow (suc (event_total c.args.trace.now)) 65536 (rows c.in_ok-made.made.items) (omega (arith, bound))
     (rows_below c.args.trace.now c.args.graph.now 1 (event_total c.args.trace.now) (rows c.in_ok-made.made.items) c.in_ok-made.ensures))
 
