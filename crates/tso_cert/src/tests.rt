@@ -1,6 +1,7 @@
 use crate::{BaseRule, CertStep, Certificate, InferredRule, NumList, Reason, StepList};
 use std::test::Fail;
 
+mod faults;
 mod growths;
 mod texts;
 

@@ -7,6 +7,7 @@ use std::test::Fail;
 use tso_ops::Outcome;
 
 mod examples;
+mod faults;
 mod growths;
 
 fn trace_fault(alloc: Global, text: &[u8]) -> Option<TextFault> {
