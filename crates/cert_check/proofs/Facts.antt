@@ -22,7 +22,7 @@ listed steps u v k s above within read from to = (k - 1, s, slice_get_read steps
 
 pub not_listed_more : (steps : List CertStep) (u v k : ℕ) (s : CertStep) → 0 < k → k ≤ length steps → s ≡ get_or steps (k - 1) s → (s.from ≡ u → s.to ≡ v → ⊥) →
     NotListedFrom steps u v k → NotListedFrom steps u v (k - 1)
-not_listed_more steps u v k s above within read other behind j d before at from to =
+not_listed_more steps u v k s above within read other after j d before at from to =
     let here : slice_get steps (k - 1) ≡ Some s = slice_get_read steps (length steps) (k - 1) s refl (omega arith) read in
     ⊎_elim
     (λ earlier.
@@ -30,11 +30,11 @@ not_listed_more steps u v k s above within read other behind j d before at from 
     let same : Some s ≡ Some d = sym here ∙ ap (slice_get steps) (sym place) ∙ at in
     let one : s ≡ d = cc in
     other (ap (λ (x : CertStep). x.from) one ∙ from) (ap (λ (x : CertStep). x.to) one ∙ to))
-    (λ later. behind j d later at from to)
+    (λ later. after j d later at from to)
     (cases_lt j k)
 
 pub not_listed : (steps : List CertStep) (u v k : ℕ) → k ≤ 0 → NotListedFrom steps u v k → IsStep steps u v → ⊥
-not_listed steps u v k none behind (j, s, at, from, to) = behind j s (omega arith) at from to
+not_listed steps u v k none after (j, s, at, from, to) = after j s (omega arith) at from to
 
 -- ---- a test of each element, in a loop
 

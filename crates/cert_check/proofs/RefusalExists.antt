@@ -21,7 +21,8 @@ use Rattle.tso_model.specs.Certs.{Holds, IsPathIn, IsStep, MeetsRule, StepHolds,
 use Rattle.tso_model.proofs.Decided.{BasePair-decided, InferredBy-decided, IsUnwritten-decided}
 use Rattle.cert_check.specs.declared.faults.CertFault.{CertFault}
 use Rattle.cert_check.specs.declared.faults.CertFault.TheVariants.{EventRange, NotUnwritten, BaseRefused, SideRefused, PathUnlisted, CycleUnlisted, EmptyCycle}
-use Rattle.cert_check.specs.Refusals.{AreUpTo, IsReasonUpTo, IsStepUpTo, IsInRange, IsBase, Follows, HasFault, IsStepFault, IsCycleFault, IsCycleRefusal, IsRefusal}
+use Rattle.cert_check.specs.Refusals.{AreUpTo, IsReasonUpTo, IsStepUpTo, IsInRange, IsBase, HasFault, IsStepFault, IsCycleFault, IsCycleRefusal, IsCertRefusal}
+use Rattle.cert_check.specs.Internal.Sides.{Follows}
 use Rattle.cert_check.proofs.RefusalFacts.{holds_all, holds_more, holds_none, step_faulty}
 
 -- ---- numbers in range
@@ -141,7 +142,7 @@ cycle_holds_or_refused t steps cycle = elim (steps_hold_or_faulty t steps) [
   ]
 ]
 
-holds_or_refused_in_range : (t : TraceValue) (certificate : Certificate) → IsInRange t certificate → Holds t certificate ⊎ ((fault : CertFault) × IsRefusal t certificate fault)
+holds_or_refused_in_range : (t : TraceValue) (certificate : Certificate) → IsInRange t certificate → Holds t certificate ⊎ ((fault : CertFault) × IsCertRefusal t certificate fault)
 holds_or_refused_in_range t (Unwritten n) range = elim (IsUnwritten-decided t n) [
   | inl unwritten ↦ inl unwritten
   | inr none ↦ inr (NotUnwritten, inr (range, (refl, none)))
@@ -152,7 +153,7 @@ holds_or_refused_in_range t (Cycle steps cycle) range = elim (cycle_holds_or_ref
 ]
 
 -- Each certificate holds for a trace, or gets a refusal.
-pub holds_or_refused : (t : TraceValue) (certificate : Certificate) → Holds t certificate ⊎ ((fault : CertFault) × IsRefusal t certificate fault)
+pub holds_or_refused : (t : TraceValue) (certificate : Certificate) → Holds t certificate ⊎ ((fault : CertFault) × IsCertRefusal t certificate fault)
 holds_or_refused t certificate = elim (in_range_decided t certificate) [
   | inl range ↦ holds_or_refused_in_range t certificate range
   | inr out ↦ inr (EventRange, inl (refl, out))

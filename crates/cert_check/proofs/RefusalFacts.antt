@@ -21,7 +21,8 @@ use Rattle.tso_model.proofs.OrderedLists.{slice_get-take}
 use Rattle.tso_model.specs.Certs.{IsStep, MeetsRule, IsPathIn, StepHolds, StepsHold, Holds}
 use Rattle.cert_check.specs.declared.faults.CertFault.{CertFault}
 use Rattle.cert_check.specs.declared.faults.CertFault.TheVariants.{EventRange, NotUnwritten, BaseRefused, SideRefused, PathUnlisted, CycleUnlisted, EmptyCycle}
-use Rattle.cert_check.specs.Refusals.{IsReasonUpTo, IsStepUpTo, IsInRange, Follows, HasFault, IsStepFault, IsCycleFault, IsCycleRefusal, IsRefusalInRange, IsRefusal}
+use Rattle.cert_check.specs.Refusals.{IsReasonUpTo, IsStepUpTo, IsInRange, HasFault, IsStepFault, IsCycleFault, IsCycleRefusal, IsRefusalInRange, IsCertRefusal}
+use Rattle.cert_check.specs.Internal.Sides.{Follows}
 
 -- ---- the steps so far
 
@@ -139,7 +140,7 @@ in_range t (Cycle steps cycle) holds = (
   All-from_recursion (λ n. n ≤ event_total t) cycle (cycle_range (λ x y. IsStep steps x y) (event_total t) (edge_range t steps holds.0) cycle holds.1),
 )
 
-pub not_refused : (t : TraceValue) (certificate : Certificate) (fault : CertFault) → Holds t certificate → IsRefusal t certificate fault → ⊥
+pub not_refused : (t : TraceValue) (certificate : Certificate) (fault : CertFault) → Holds t certificate → IsCertRefusal t certificate fault → ⊥
 not_refused t (Unwritten n) fault holds refusal =
     ⊎_elim (λ range. range.1 (in_range t (Unwritten n) holds)) (λ other. other.1.1 holds) refusal
 not_refused t (Cycle steps cycle) fault holds refusal =
@@ -147,29 +148,29 @@ not_refused t (Cycle steps cycle) fault holds refusal =
 
 -- ---- what the check tells
 
-pub told_holds : (t : TraceValue) (certificate : Certificate) (r : Result (Unit {0}) CertFault) → MatchResult r (λ _. Holds t certificate) (IsRefusal t certificate) → OnOk r (Holds t certificate)
+pub told_holds : (t : TraceValue) (certificate : Certificate) (r : Result (Unit {0}) CertFault) → MatchResult r (λ _. Holds t certificate) (IsCertRefusal t certificate) → OnOk r (Holds t certificate)
 told_holds t certificate (Ok x) told = told
 told_holds t certificate (Err fault) told = tt
 
-pub told_no_order : (t : TraceValue) (certificate : Certificate) (r : Result (Unit {0}) CertFault) → IsTrace t → MatchResult r (λ _. Holds t certificate) (IsRefusal t certificate) →
+pub told_no_order : (t : TraceValue) (certificate : Certificate) (r : Result (Unit {0}) CertFault) → IsTrace t → MatchResult r (λ _. Holds t certificate) (IsCertRefusal t certificate) →
     OnOk r (IsConsistent t → ⊥)
 told_no_order t certificate (Ok x) trace told = not_consistent t (own_values t trace) certificate told
 told_no_order t certificate (Err fault) trace told = tt
 
-pub told_accepted : (t : TraceValue) (certificate : Certificate) (r : Result (Unit {0}) CertFault) → MatchResult r (λ _. Holds t certificate) (IsRefusal t certificate) →
+pub told_accepted : (t : TraceValue) (certificate : Certificate) (r : Result (Unit {0}) CertFault) → MatchResult r (λ _. Holds t certificate) (IsCertRefusal t certificate) →
     Holds t certificate → IsOk r
 told_accepted t certificate (Ok x) told holds = refl
 told_accepted t certificate (Err fault) told holds = absurd (not_refused t certificate fault holds told)
 
-pub told_refused : (t : TraceValue) (certificate : Certificate) (r : Result (Unit {0}) CertFault) → MatchResult r (λ _. Holds t certificate) (IsRefusal t certificate) →
-    IfErr r (IsRefusal t certificate)
+pub told_refused : (t : TraceValue) (certificate : Certificate) (r : Result (Unit {0}) CertFault) → MatchResult r (λ _. Holds t certificate) (IsCertRefusal t certificate) →
+    IfErr r (IsCertRefusal t certificate)
 told_refused t certificate (Ok x) told = tt
 told_refused t certificate (Err fault) told = told
 
 -- what the check tells of a certificate with a cycle, whose numbers are in range
 pub told_of_cycle : (t : TraceValue) (certificate : Certificate) (steps : List CertStep) (cycle : List ℕ) (r : Result (Unit {0}) CertFault) → certificate ≡ Cycle steps cycle →
     IsInRange t certificate → MatchResult r (λ _. StepsHold t steps × IsCycle (λ x y. IsStep steps x y) cycle) (IsCycleRefusal t steps cycle) →
-    MatchResult r (λ _. Holds t certificate) (IsRefusal t certificate)
+    MatchResult r (λ _. Holds t certificate) (IsCertRefusal t certificate)
 told_of_cycle t certificate steps cycle (Ok x) is range told = rw is told
 told_of_cycle t certificate steps cycle (Err fault) is range told = inr (range, rw is told)
 
@@ -256,7 +257,7 @@ one_in_range : (t : TraceValue) (certificate : Certificate) (f g : CertFault) �
 one_in_range t (Unwritten n) f g first other = first.0 ∙ sym other.0
 one_in_range t (Cycle steps cycle) f g first other = one_cycle_refusal t steps cycle f g first other
 
-pub one_refusal : (t : TraceValue) (certificate : Certificate) (f g : CertFault) → IsRefusal t certificate f → IsRefusal t certificate g → f ≡ g
+pub one_refusal : (t : TraceValue) (certificate : Certificate) (f g : CertFault) → IsCertRefusal t certificate f → IsCertRefusal t certificate g → f ≡ g
 one_refusal t certificate f g first other =
     ⊎_elim
     (λ range. ⊎_elim (λ also. range.0 ∙ sym also.0) (λ within. absurd (range.1 within.0)) other)

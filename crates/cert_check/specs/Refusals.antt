@@ -2,14 +2,12 @@
 use Rattle.std.specs.Prelude.{◌≡◌, ◌≢◌, ◌⊎◌, ℕ, suc, ◌<◌, ◌≤◌, List, [], Some, slice_get, take, All}
 use Rattle.tso_ops.specs.Values.{TraceValue}
 use Rattle.tso_ops.specs.Events.{event_total, IsUnwritten}
-use Rattle.tso_cert.specs.declared.rules.InferredRule.{InferredRule}
 use Rattle.tso_cert.specs.declared.steps.Reason.{Reason}
 use Rattle.tso_cert.specs.declared.steps.Reason.TheVariants.{Base, Inferred}
 use Rattle.tso_cert.specs.declared.steps.CertStep.{CertStep}
 use Rattle.tso_cert.specs.declared.steps.Certificate.{Certificate}
 use Rattle.tso_cert.specs.declared.steps.Certificate.TheVariants.{Unwritten, Cycle}
-use Rattle.order_paths.specs.Paths.{HasEnds, IsCycle}
-use Rattle.tso_model.specs.Rules.{InferredBy}
+use Rattle.order_paths.specs.Paths.{IsCycle}
 use Rattle.tso_model.specs.Certs.{IsStep, MeetsRule, IsPathIn, StepHolds, StepsHold}
 use Rattle.cert_check.specs.declared.faults.CertFault.{CertFault}
 use Rattle.cert_check.specs.declared.faults.CertFault.TheVariants.{EventRange, NotUnwritten, BaseRefused, SideRefused, PathUnlisted, CycleUnlisted, EmptyCycle}
@@ -32,17 +30,9 @@ abbrev pub IsInRange : TraceValue → Certificate → Type 0
 IsInRange t (Unwritten n) = (0 < n) × (n ≤ event_total t)
 IsInRange t (Cycle steps cycle) = All (IsStepUpTo (event_total t)) steps × AreUpTo (event_total t) cycle
 
--- the rule's condition for load l, and the ends of its path
-abbrev pub HasSides : TraceValue → InferredRule → ℕ → ℕ → ℕ → List ℕ → Type 0
-HasSides t rule l u v path = (x : ℕ) × (y : ℕ) × InferredBy t rule l u v x y × HasEnds path x y
-
 abbrev pub IsBase : Reason → Type 0
 IsBase (Base rule) = Unit {0}
 IsBase (Inferred rule load path) = ⊥
-
--- the step follows from its rule and the earlier steps
-abbrev pub Follows : TraceValue → List CertStep → CertStep → Type 0
-Follows t earlier s = MeetsRule t s.from s.to s.reason × IsPathIn (λ x y. IsStep earlier x y) s.reason
 
 -- The step with this number has the fault, behind these earlier steps.
 abbrev pub HasFault : TraceValue → List CertStep → ℕ → CertStep → CertFault → Type 0
@@ -82,7 +72,7 @@ IsRefusalInRange t (Unwritten n) fault = (fault ≡ NotUnwritten) × (IsUnwritte
 IsRefusalInRange t (Cycle steps cycle) fault = IsCycleRefusal t steps cycle fault
 
 -- The refusal of a certificate: its numbers before all else.
-abbrev pub IsRefusal : TraceValue → Certificate → CertFault → Type 0
-IsRefusal t certificate fault =
+abbrev pub IsCertRefusal : TraceValue → Certificate → CertFault → Type 0
+IsCertRefusal t certificate fault =
     ((fault ≡ EventRange) × (IsInRange t certificate → ⊥))
     ⊎ (IsInRange t certificate × IsRefusalInRange t certificate fault)

@@ -5,7 +5,8 @@ ghost use Rattle.tso_ops.specs.Events.{IsUnwritten};
 ghost use Rattle.order_paths.specs.Paths.{IsCycle};
 ghost use Rattle.tso_model.specs.Order.{IsConsistent};
 ghost use Rattle.tso_model.specs.Certs.{Holds, IsStep, StepsHold};
-ghost use Rattle.cert_check.specs.Refusals.{Follows, HasFault, IsCycleFault, IsCycleRefusal, IsRefusal, IsStepFault};
+ghost use Rattle.cert_check.specs.Internal.Sides.{Follows};
+ghost use Rattle.cert_check.specs.Refusals.{HasFault, IsCycleFault, IsCycleRefusal, IsCertRefusal, IsStepFault};
 
 use crate::faults::CertFault;
 use crate::listed::{is_cycle, is_linked};
@@ -24,14 +25,14 @@ pub fn check(trace: &Trace, certificate: &Certificate) -> Result<(), CertFault>
     ensures holds { OnOk result (Holds trace.now certificate.now) }
     ensures no_order { OnOk result (IsConsistent trace.now → ⊥) }
     ensures accepted { Holds trace.now certificate.now → IsOk result }
-    ensures refused { IfErr result (IsRefusal trace.now certificate.now) }
+    ensures refused { IfErr result (IsCertRefusal trace.now certificate.now) }
 {
     judge(trace, certificate)
 }
 
 /// Ok where the certificate holds, else its refusal.
 fn judge(trace: &Trace, certificate: &Certificate) -> Result<(), CertFault>
-    ensures told { MatchResult result (λ _. Holds trace.now certificate.now) (IsRefusal trace.now certificate.now) }
+    ensures told { MatchResult result (λ _. Holds trace.now certificate.now) (IsCertRefusal trace.now certificate.now) }
     ensures kept { IsTrace trace.now }
 {
     if !is_in_range(trace, certificate) {

@@ -4,11 +4,11 @@ ghost use Rattle.tso_ops.specs.Values.{TraceValue};
 ghost use Rattle.tso_cert.specs.declared.steps.Certificate.{Certificate};
 ghost use Rattle.tso_model.specs.Certs.{Holds};
 ghost use Rattle.cert_check.specs.declared.faults.CertFault.{CertFault};
-ghost use Rattle.cert_check.specs.Refusals.{IsRefusal};
+ghost use Rattle.cert_check.specs.Refusals.{IsCertRefusal};
 
 /// A certificate holds or gets a refusal, never both, and it gets one refusal at most.
 pub fn refusals()
-    ensures some { (t : TraceValue) (c : Certificate) → Holds t c ⊎ ((fault : CertFault) × IsRefusal t c fault) }
-    ensures one { (t : TraceValue) (c : Certificate) (fault other : CertFault) → IsRefusal t c fault → IsRefusal t c other → fault ≡ other }
-    ensures none { (t : TraceValue) (c : Certificate) (fault : CertFault) → Holds t c → IsRefusal t c fault → ⊥ }
+    ensures some { (t : TraceValue) (c : Certificate) → Holds t c ⊎ ((fault : CertFault) × IsCertRefusal t c fault) }
+    ensures one { (t : TraceValue) (c : Certificate) (fault other : CertFault) → IsCertRefusal t c fault → IsCertRefusal t c other → fault ≡ other }
+    ensures none { (t : TraceValue) (c : Certificate) (fault : CertFault) → Holds t c → IsCertRefusal t c fault → ⊥ }
 {}

@@ -2,7 +2,7 @@
 ghost use Rattle.std.specs.Prelude.{◌↔◌, ℕ, IsTrue, MatchOption};
 ghost use Rattle.order_paths.specs.Paths.{HasEnds};
 ghost use Rattle.tso_model.specs.Rules.{InferredBy};
-ghost use Rattle.cert_check.specs.Refusals.{HasSides};
+ghost use Rattle.cert_check.specs.Internal.Sides.{HasSides};
 
 use tso_cert::InferredRule;
 use tso_model::plain::events::{has_source, is_store, same_address, swap_store};

@@ -38,8 +38,8 @@ abbrev pub number_with : ℕ → ℕ → Option ℕ
 number_with n d = cond (is_ascii_digit d && ltb (n * 10 + digit_value d) (2 ^ 64)) (Some (n * 10 + digit_value d)) None
 
 -- the number that digits make behind the number n
-unfoldable pub number_behind : ℕ → List ℕ → Option ℕ
-number_behind n ds = cond (list_all is_ascii_digit ds && ltb (digits_value_after 10 n ds) (2 ^ 64)) (Some (digits_value_after 10 n ds)) None
+unfoldable pub number_after : ℕ → List ℕ → Option ℕ
+number_after n ds = cond (list_all is_ascii_digit ds && ltb (digits_value_after 10 n ds) (2 ^ 64)) (Some (digits_value_after 10 n ds)) None
 
 and_false : (b : Bool) (n : ℕ) → cond (b && false) (Some n) None ≡ None
 and_false true n = refl
@@ -49,27 +49,27 @@ number-by_parts : (a b : Bool) (n : ℕ) → cond ((a && true) && b) (Some n) No
 number-by_parts true b n = refl
 number-by_parts false b n = refl
 
-pub number-plain : (piece : List ℕ) → is_plain piece ≡ true → number piece ≡ number_behind 0 piece
-unfolding number number_behind
+pub number-plain : (piece : List ℕ) → is_plain piece ≡ true → number piece ≡ number_after 0 piece
+unfolding number number_after
 number-plain piece plain = rw plain (number-by_parts (list_all is_ascii_digit piece) (ltb (digits_value 10 piece) (2 ^ 64)) (digits_value 10 piece))
 
-pub number_behind-nil : (n : ℕ) → n < 2 ^ 64 → number_behind n [] ≡ Some n
-unfolding number_behind
-number_behind-nil n fits = rw (lt-ltb n (2 ^ 64) fits) refl
+pub number_after-nil : (n : ℕ) → n < 2 ^ 64 → number_after n [] ≡ Some n
+unfolding number_after
+number_after-nil n fits = rw (lt-ltb n (2 ^ 64) fits) refl
 
 -- more digits make no lesser number
 digits_value_after-least : (n : ℕ) (ds : List ℕ) → n ≤ digits_value_after 10 n ds
 digits_value_after-least n [] = omega arith
 digits_value_after-least n (d ∷ ds) = let rest = digits_value_after-least (n * 10 + digit_value d) ds in omega (arith, rest)
 
-taken_by_test : (n m d : ℕ) (ds : List ℕ) (digit : Bool) → digit ≡ is_ascii_digit d → cond (digit && ltb (n * 10 + digit_value d) (2 ^ 64)) (Some (n * 10 + digit_value d)) None ≡ Some m → number_behind n (d ∷ ds) ≡ number_behind m ds
-unfolding number_behind
-taken_by_test n m d ds true is e = let parts = some_parts (ltb (n * 10 + digit_value d) (2 ^ 64)) (n * 10 + digit_value d) m e in rw (sym is, sym parts.1) refl
-taken_by_test n m d ds false is e = absurd cc
+digit_by_test : (n m d : ℕ) (ds : List ℕ) (digit : Bool) → digit ≡ is_ascii_digit d → cond (digit && ltb (n * 10 + digit_value d) (2 ^ 64)) (Some (n * 10 + digit_value d)) None ≡ Some m → number_after n (d ∷ ds) ≡ number_after m ds
+unfolding number_after
+digit_by_test n m d ds true is e = let parts = some_parts (ltb (n * 10 + digit_value d) (2 ^ 64)) (n * 10 + digit_value d) m e in rw (sym is, sym parts.1) refl
+digit_by_test n m d ds false is e = absurd cc
 
 -- a digit that is taken leads on to the digits behind it
-pub number_behind-taken : (n m d : ℕ) (ds : List ℕ) → number_with n d ≡ Some m → number_behind n (d ∷ ds) ≡ number_behind m ds
-number_behind-taken n m d ds e = taken_by_test n m d ds (is_ascii_digit d) refl e
+pub number_after-digit : (n m d : ℕ) (ds : List ℕ) → number_with n d ≡ Some m → number_after n (d ∷ ds) ≡ number_after m ds
+number_after-digit n m d ds e = digit_by_test n m d ds (is_ascii_digit d) refl e
 
 -- what is taken has 64 bits
 pub number_with-fits : (n d m : ℕ) → number_with n d ≡ Some m → m < 2 ^ 64
@@ -78,8 +78,8 @@ number_with-fits n d m e =
     let tests = and_parts (is_ascii_digit d) (ltb (n * 10 + digit_value d) (2 ^ 64)) parts.0 in
     subst (λ x. x < 2 ^ 64) parts.1 (ltb-true _ _ tests.1)
 
-refused_by_tests : (n d : ℕ) (ds : List ℕ) (digit low : Bool) → digit ≡ is_ascii_digit d → low ≡ ltb (n * 10 + digit_value d) (2 ^ 64) → cond (digit && low) (Some (n * 10 + digit_value d)) None ≡ None → number_behind n (d ∷ ds) ≡ None
-unfolding number_behind
+refused_by_tests : (n d : ℕ) (ds : List ℕ) (digit low : Bool) → digit ≡ is_ascii_digit d → low ≡ ltb (n * 10 + digit_value d) (2 ^ 64) → cond (digit && low) (Some (n * 10 + digit_value d)) None ≡ None → number_after n (d ∷ ds) ≡ None
+unfolding number_after
 refused_by_tests n d ds true true is at e = absurd cc
 refused_by_tests n d ds true false is at e =
     let least = digits_value_after-least (n * 10 + digit_value d) ds in
@@ -88,8 +88,8 @@ refused_by_tests n d ds true false is at e =
 refused_by_tests n d ds false low is at e = rw (sym is) refl
 
 -- where no number has the digit there is none
-pub number_behind-refused : (n d : ℕ) (ds : List ℕ) → number_with n d ≡ None → number_behind n (d ∷ ds) ≡ None
-number_behind-refused n d ds e = refused_by_tests n d ds (is_ascii_digit d) (ltb (n * 10 + digit_value d) (2 ^ 64)) refl refl e
+pub number_after-refused : (n d : ℕ) (ds : List ℕ) → number_with n d ≡ None → number_after n (d ∷ ds) ≡ None
+number_after-refused n d ds e = refused_by_tests n d ds (is_ascii_digit d) (ltb (n * 10 + digit_value d) (2 ^ 64)) refl refl e
 
 -- ---- one way to write a number
 

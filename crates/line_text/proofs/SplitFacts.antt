@@ -20,11 +20,11 @@ has_byte_in c parts = list_any (has_byte c) parts
 -- ---- cutting
 
 -- the first part ends at the first element that passes
-split_front : {X : Type 0} (p : X → Bool) (xs : List X) (y : X) (ys : List X) → list_any p xs ≡ false → p y ≡ true → slice_split p (xs ++ y ∷ ys) ≡ xs ∷ slice_split p ys
-split_front p [] y ys none at = slice_split-cons_yes p y ys at
-split_front p (x ∷ xs) y ys none at =
+split_prefix : {X : Type 0} (p : X → Bool) (xs : List X) (y : X) (ys : List X) → list_any p xs ≡ false → p y ≡ true → slice_split p (xs ++ y ∷ ys) ≡ xs ∷ slice_split p ys
+split_prefix p [] y ys none at = slice_split-cons_yes p y ys at
+split_prefix p (x ∷ xs) y ys none at =
     let parts = or_parts (p x) (list_any p xs) none in
-    slice_split-cons_no p x (xs ++ y ∷ ys) parts.0 ∙ ap (onto_first x) (split_front p xs y ys parts.1 at)
+    slice_split-cons_no p x (xs ++ y ∷ ys) parts.0 ∙ ap (onto_first x) (split_prefix p xs y ys parts.1 at)
 
 -- where none passes there is one part
 split_whole : {X : Type 0} (p : X → Bool) (xs : List X) → list_any p xs ≡ false → slice_split p xs ≡ xs ∷ []
@@ -38,7 +38,7 @@ same_byte c = grind (arith, nat_tests)
 
 -- a part, the byte, and what stands behind it
 pub split_part : (c : ℕ) (part rest : List ℕ) → has_byte c part ≡ false → slice_split (λ b. eqb b c) (part ++ c ∷ rest) ≡ part ∷ slice_split (λ b. eqb b c) rest
-split_part c part rest none = split_front (λ b. eqb b c) part c rest none (same_byte c)
+split_part c part rest none = split_prefix (λ b. eqb b c) part c rest none (same_byte c)
 
 -- parts without the byte, joined by it, are cut into these parts
 pub split_joined : (c : ℕ) (part : List ℕ) (parts : List (List ℕ)) → has_byte_in c (part ∷ parts) ≡ false → slice_split (λ b. eqb b c) (join_with_byte c (part ∷ parts)) ≡ part ∷ parts

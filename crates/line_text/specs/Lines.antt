@@ -19,17 +19,10 @@ abbrev pub is_empty : {X : Type 0} → List X → Bool
 is_empty [] = true
 is_empty (x ∷ xs) = false
 
--- ---- what a cut leaves of a slice
-
--- the parts of what stands behind the cut; none where there was no cut
-abbrev pub parts_behind : (ℕ → Bool) → Option (Bor (List ℕ)) → List (List ℕ)
-parts_behind test None = []
-parts_behind test (Some rest) = slice_split test rest.now
-
 -- the pieces behind a space
-abbrev pub behind : Option (Bor (List ℕ)) → List (List ℕ)
-behind None = []
-behind (Some rest) = pieces_of rest.now
+abbrev pub pieces_after : Option (Bor (List ℕ)) → List (List ℕ)
+pieces_after None = []
+pieces_after (Some rest) = pieces_of rest.now
 
 -- there is a piece
 pub record SomePiece (pieces : List (List ℕ)) : Type 0 where

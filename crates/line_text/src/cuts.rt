@@ -1,6 +1,7 @@
 ghost use Rattle.std.specs.Prelude.{◌≡◌, [], ◌∷◌, ◌==◌, ◌<◌, length, IfSome, IfNone, position};
 ghost use Rattle.std.specs.List.{slice_split};
-ghost use Rattle.line_text.specs.Lines.{parts_of, pieces_of, parts_behind, behind};
+ghost use Rattle.line_text.specs.Lines.{parts_of, pieces_of, pieces_after};
+ghost use Rattle.line_text.specs.Internal.Cuts.{parts_after};
 
 /// The byte that ends a line.
 const LINE_END: u8 = 10;
@@ -24,7 +25,7 @@ pub fn next_line(text: &[u8]) -> Option<(&[u8], &[u8])>
 /// The first piece of a line, and what stands behind its space, if a space ends it.
 #[tactic(auto, unfolding(crate::specs::Lines::pieces_of))]
 pub fn next_piece(line: &[u8]) -> (&[u8], Option<&[u8]>)
-    ensures pieces { pieces_of line.now ≡ result.0.now ∷ behind result.1 }
+    ensures pieces { pieces_of line.now ≡ result.0.now ∷ pieces_after result.1 }
     ensures shorter { IfSome result.1 (λ rest. length rest.now < length line.now) }
 {
     cut(line, SPACE)
@@ -32,7 +33,7 @@ pub fn next_piece(line: &[u8]) -> (&[u8], Option<&[u8]>)
 
 /// Cuts at the first of these bytes: what stands before it, and what stands behind it, if there is one.
 fn cut(text: &[u8], at: u8) -> (&[u8], Option<&[u8]>)
-    ensures parts { slice_split (λ b. b == at) text.now ≡ result.0.now ∷ parts_behind (λ b. b == at) result.1 }
+    ensures parts { slice_split (λ b. b == at) text.now ≡ result.0.now ∷ parts_after (λ b. b == at) result.1 }
     ensures whole { IfNone result.1 (result.0.now ≡ text.now) }
     ensures shorter { IfSome result.1 (λ rest. length rest.now < length text.now) }
 {

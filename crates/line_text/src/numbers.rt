@@ -19,13 +19,13 @@ pub fn number_of(piece: &[u8]) -> Option<u64>
 /// The number that has this digit behind the digits of `front`; nothing where the byte is no digit or 64 bits don't
 /// hold the number.
 #[inline]
-fn with_digit(front: u64, byte: u8) -> Option<u64>
-    ensures { result ≡ if is_ascii_digit byte && nat_lt (front * 10 + digit_value byte) (2 ^ 64) then Some (front * 10 + digit_value byte) else None }
+fn with_digit(prefix: u64, byte: u8) -> Option<u64>
+    ensures { result ≡ if is_ascii_digit byte && nat_lt (prefix * 10 + digit_value byte) (2 ^ 64) then Some (prefix * 10 + digit_value byte) else None }
 {
     if !byte.is_ascii_digit() {
         return None;
     }
-    front.checked_mul(10)?.checked_add(u64::from(byte - 48))
+    prefix.checked_mul(10)?.checked_add(u64::from(byte - 48))
 }
 
 /// Whether a piece isn't empty and has no 0 before another byte.

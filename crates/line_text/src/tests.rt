@@ -2,7 +2,7 @@ use crate::{next_line, next_piece, number_of};
 use std::test::Fail;
 
 #[test]
-fn lines_and_what_stands_behind_them(rt: HostRuntime) -> Result<(), Fail> {
+fn lines_and_what_follows_them(rt: HostRuntime) -> Result<(), Fail> {
     let cases: [(&[u8], Option<(&[u8], &[u8])>); 5] = [
         (
             b"ld 1 0\nend\n".as_slice(),
@@ -23,7 +23,7 @@ fn lines_and_what_stands_behind_them(rt: HostRuntime) -> Result<(), Fail> {
 }
 
 #[test]
-fn pieces_and_what_stands_behind_them(rt: HostRuntime) -> Result<(), Fail> {
+fn pieces_and_what_follows_them(rt: HostRuntime) -> Result<(), Fail> {
     let cases: [(&[u8], &[u8], Option<&[u8]>); 5] = [
         (
             b"ld 1 0".as_slice(),

@@ -5,21 +5,22 @@ use Rattle.std.specs.Prelude.{bit_and}
 use Rattle.std.proofs.lemmas.List.{length-replicate}
 use Rattle.order_paths.specs.Paths.{Reaches}
 use Rattle.order_paths.proofs.Reach.{Reaches-edge, Reaches-join, Reaches-into, Reaches-below}
-use Rattle.order_graph.specs.Tables.{HasBit, IsSet, Adds, IsSelfOrSet, AreTurned, Joined, IsTable}
-use Rattle.order_graph.specs.Digraphs.{Keeps, KeepsSomePaths, KeepsPathsToDone}
+use Rattle.order_graph.specs.BitRows.{HasBit}
+use Rattle.order_graph.specs.Internal.Tables.{IsSet, Adds, IsSelfOrSet, AreTransposed, Joined, IsTable}
+use Rattle.order_graph.specs.Internal.KeptPaths.{Keeps, KeepsSomePaths, KeepsPathsToDone}
 use Rattle.order_graph.proofs.Words.{HasBit-zero, HasBit-and, HasBit-not, HasBit-lowest, IsSet-decided, IsSet-at, without_less}
-use Rattle.order_graph.proofs.Growth.{Adds-kept, column_within}
+use Rattle.order_graph.proofs.AddedBits.{Adds-kept, column_within}
 use Rattle.order_graph.proofs.Keeping.{no_bit}
 
 -- some paths of which each edge is one: all paths
-pub Keeps-all : (nodes width : ℕ) (edges paths turned : List ℕ) → IsTable nodes width edges → KeepsSomePaths nodes width edges paths → AreTurned paths turned width nodes →
-    ((x y : ℕ) → x < nodes → y / 64 < width → IsSet edges width x y → IsSet paths width x y) → Keeps nodes width edges paths turned
-Keeps-all nodes width edges paths turned keeps some are all = record {
+pub Keeps-all : (nodes width : ℕ) (edges paths transposed : List ℕ) → IsTable nodes width edges → KeepsSomePaths nodes width edges paths → AreTransposed paths transposed width nodes →
+    ((x y : ℕ) → x < nodes → y / 64 < width → IsSet edges width x y → IsSet paths width x y) → Keeps nodes width edges paths transposed
+Keeps-all nodes width edges paths transposed keeps some are all = record {
   small = keeps.small;
   fits = keeps.fits;
   edges_sized = keeps.sized;
   edges_within = keeps.within;
-  paths_turned = are;
+  paths_transposed = are;
   tells = λ x y hx hy. (
     some.sound x y hx (column_within y nodes width keeps.fits hy),
     λ r. (Reaches-into (Joined edges width nodes) (Joined paths width nodes) join each x y r).2,
@@ -191,9 +192,9 @@ Taking-step nodes width edges paths wider done x j left keeps taking not_done hx
     }
 
 -- Of the edges from x to numbers of word j those left may be no paths yet.
-pub record Joining (nodes width : ℕ) (edges old now turned : List ℕ) (x j left : ℕ) : Type 0 where
+pub record Joining (nodes width : ℕ) (edges old now transposed : List ℕ) (x j left : ℕ) : Type 0 where
   pub some : KeepsSomePaths nodes width edges now
-  pub are : AreTurned now turned width nodes
+  pub are : AreTransposed now transposed width nodes
   pub kept : (a b : ℕ) → b / 64 < width → IsSet old width a b → IsSet now width a b
   pub given : (k : ℕ) → k < 64 → HasBit left k → IsSet edges width x (64 * j + k)
   pub rest : (k : ℕ) → k < 64 → IsSet edges width x (64 * j + k) → IsSet now width x (64 * j + k) ⊎ HasBit left k
@@ -217,9 +218,9 @@ rest_without width edges now x j left small rest k h e = elim (IsSet-decided now
   ]
 ]
 
-pub Joining-start : (nodes width : ℕ) (edges paths turned : List ℕ) (x j : ℕ) → KeepsSomePaths nodes width edges paths → AreTurned paths turned width nodes → get_or paths (x * width + j) 0 < 2 ^ 64 →
-    Joining nodes width edges paths paths turned x j (bit_and (get_or edges (x * width + j) 0) (bit_not w64 (get_or paths (x * width + j) 0)))
-Joining-start nodes width edges paths turned x j keeps are small = record {
+pub Joining-start : (nodes width : ℕ) (edges paths transposed : List ℕ) (x j : ℕ) → KeepsSomePaths nodes width edges paths → AreTransposed paths transposed width nodes → get_or paths (x * width + j) 0 < 2 ^ 64 →
+    Joining nodes width edges paths paths transposed x j (bit_and (get_or edges (x * width + j) 0) (bit_not w64 (get_or paths (x * width + j) 0)))
+Joining-start nodes width edges paths transposed x j keeps are small = record {
   some = keeps;
   are = are;
   kept = λ a b h s. s;
@@ -227,11 +228,11 @@ Joining-start nodes width edges paths turned x j keeps are small = record {
   rest = rest_without width edges paths x j (get_or edges (x * width + j) 0) small (λ k h e. inr ((IsSet-at edges width x j k h).0 e));
 }
 
-pub Joining-step : (nodes width : ℕ) (edges old now wider turned new_turned : List ℕ) (x j left : ℕ) → IsTable nodes width edges → Joining nodes width edges old now turned x j left →
+pub Joining-step : (nodes width : ℕ) (edges old now wider transposed new_transposed : List ℕ) (x j left : ℕ) → IsTable nodes width edges → Joining nodes width edges old now transposed x j left →
     x < nodes → j < width → 0 < left → left < 2 ^ 64 → get_or wider (x * width + j) 0 < 2 ^ 64 →
-    Adds now wider width (λ a b. (a < nodes) × ((a ≡ x) ⊎ IsSet now width a x) × IsSelfOrSet now width (64 * j + trailing_zeros w64 left) b) → AreTurned wider new_turned width nodes →
-    Joining nodes width edges old wider new_turned x j (bit_and left (bit_not w64 (get_or wider (x * width + j) 0)))
-Joining-step nodes width edges old now wider turned new_turned x j left keeps joining hx hj some fits small adds are =
+    Adds now wider width (λ a b. (a < nodes) × ((a ≡ x) ⊎ IsSet now width a x) × IsSelfOrSet now width (64 * j + trailing_zeros w64 left) b) → AreTransposed wider new_transposed width nodes →
+    Joining nodes width edges old wider new_transposed x j (bit_and left (bit_not w64 (get_or wider (x * width + j) 0)))
+Joining-step nodes width edges old now wider transposed new_transposed x j left keeps joining hx hj some fits small adds are =
     let low = HasBit-lowest left some fits in
     let bound : trailing_zeros w64 left < 64 = low.0 in
     let given = joining.given (trailing_zeros w64 left) low.0 low.1 in
@@ -252,9 +253,9 @@ left_less width wider x j left some fits small set =
     let low = HasBit-lowest left some fits in
     without_less left (get_or wider (x * width + j) 0) (trailing_zeros w64 left) small low.0 low.1 ((IsSet-at wider width x j (trailing_zeros w64 left) low.0).0 set)
 
-pub Joining-end : (nodes width : ℕ) (edges old now turned : List ℕ) (x j : ℕ) → Joining nodes width edges old now turned x j 0 →
+pub Joining-end : (nodes width : ℕ) (edges old now transposed : List ℕ) (x j : ℕ) → Joining nodes width edges old now transposed x j 0 →
     (y : ℕ) → y / 64 ≡ j → IsSet edges width x y → IsSet now width x y
-Joining-end nodes width edges old now turned x j joining y at s =
+Joining-end nodes width edges old now transposed x j joining y at s =
     let e : 64 * j + y % 64 ≡ y = omega (arith, at) in
     elim (joining.rest (y % 64) (omega arith) (subst (λ n. IsSet edges width x n) (sym e) s)) [
       | inl set ↦ subst (λ n. IsSet now width x n) e set

@@ -5,9 +5,9 @@ use Rattle.std.proofs.lemmas.List.{length-append}
 use Rattle.order_paths.specs.Paths.{Linked, last_of, HasEnds, IsPath, Reaches, IsCycle, HasCycle, IsAtMost, IsNoGreater, IsLeastPath, IsLeastCycle}
 use Rattle.order_paths.proofs.Reach.{IsPath-mono, IsCycle-mono, IsCycle-Reaches}
 use Rattle.order_graph.specs.Digraphs.{Digraph, IsEdge}
-use Rattle.order_graph.specs.Tables.{IsSet}
-use Rattle.order_graph.specs.Tracks.{NoneShared, IsFirstShared, Track, IsLeastTrack, NoCycleBefore, IsLeastCycleBefore}
-use Rattle.order_graph.proofs.Growth.{column_within}
+use Rattle.order_graph.specs.Internal.Tables.{IsSet}
+use Rattle.order_graph.specs.Internal.Tracks.{NoneShared, IsFirstShared, Track, IsLeastTrack, NoCycleBefore, IsLeastCycleBefore}
+use Rattle.order_graph.proofs.AddedBits.{column_within}
 use Rattle.order_graph.proofs.Keeping.{Sees, sees_edge}
 use Rattle.order_graph.proofs.Searching.{IsPath-track}
 
@@ -78,9 +78,9 @@ IsLeastPath-same Edge Other u v path same least =
     (IsPath-mono Edge Other (λ a b. (same a b).1) u v path least.0, λ other p. least.1 other (IsPath-mono Other Edge (λ a b. (same a b).0) u v other p))
 
 -- with a number in front, lists stay in their order
-IsNoGreater-front : (x : ℕ) (xs ys : List ℕ) → IsNoGreater xs ys → IsNoGreater (x ∷ xs) (x ∷ ys)
-IsNoGreater-front x xs ys (inl fewer) = inl (omega arith)
-IsNoGreater-front x xs ys (inr same) = inr (let e : length (x ∷ xs) ≡ length (x ∷ ys) = omega (arith, same.0) in e, inr (refl, same.1))
+IsNoGreater-prefix : (x : ℕ) (xs ys : List ℕ) → IsNoGreater xs ys → IsNoGreater (x ∷ xs) (x ∷ ys)
+IsNoGreater-prefix x xs ys (inl fewer) = inl (omega arith)
+IsNoGreater-prefix x xs ys (inr same) = inr (let e : length (x ∷ xs) ≡ length (x ∷ ys) = omega (arith, same.0) in e, inr (refl, same.1))
 
 -- Where no cycle begins with the start, the cycles up to it are those before it.
 pub before_more_none : (Edge : ℕ → ℕ → Type 0) (start : ℕ) → (Reaches Edge start start → ⊥) → NoCycleBefore Edge start → NoCycleBefore Edge (start + 1)
@@ -138,7 +138,7 @@ before_more_found Edge start (x ∷ rest) least longer = (
     at_start : (y : ℕ) (other : List ℕ) → y ≡ start → IsCycle Edge (y ∷ other) → IsNoGreater (x ∷ rest) (y ∷ other)
     at_start y other e c =
         subst (λ n. IsNoGreater (x ∷ rest) (n ∷ other)) (sym e) (subst (λ n. IsNoGreater (n ∷ rest) (start ∷ other)) (sym least.0)
-        (IsNoGreater-front start rest other (least.2 other ((IsCycle-track Edge start other).0 (subst (λ n. IsCycle Edge (n ∷ other)) e c)))))
+        (IsNoGreater-prefix start rest other (least.2 other ((IsCycle-track Edge start other).0 (subst (λ n. IsCycle Edge (n ∷ other)) e c)))))
 
 -- the least cycle before a start is shorter than no other, so a list within its limit is shorter than all
 pub longer_than_limit : (Edge : ℕ → ℕ → Type 0) (start size : ℕ) (best : List ℕ) → IsLeastCycleBefore Edge start best → size ≤ length best - 1 →

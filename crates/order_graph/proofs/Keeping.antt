@@ -8,10 +8,12 @@ use Rattle.std.proofs.lemmas.List.FromFn.{get_or-map-range_with_len, length-map-
 use Rattle.order_paths.specs.Paths.{Reaches}
 use Rattle.order_paths.proofs.Decisions.{Decision, Decision-IsTrue}
 use Rattle.order_paths.proofs.Reach.{Reaches-join, Reaches-mono, Reaches-decided, Reaches-below}
-use Rattle.order_graph.specs.Tables.{HasBit, HasNumber, IsSet, Adds, IsSelfOrSet, AreTurned, IsTransitive, Joined}
-use Rattle.order_graph.specs.Digraphs.{Digraph, IsEdge, EdgesWithin, tests_of, graph_of, Keeps}
+use Rattle.order_graph.specs.BitRows.{HasBit, HasNumber}
+use Rattle.order_graph.specs.Internal.Tables.{IsSet, Adds, IsSelfOrSet, AreTransposed, IsTransitive, Joined}
+use Rattle.order_graph.specs.Digraphs.{Digraph, IsEdge, EdgesWithin, tests_of, graph_of}
+use Rattle.order_graph.specs.Internal.KeptPaths.{Keeps}
 use Rattle.order_graph.proofs.Words.{HasBit-zero}
-use Rattle.order_graph.proofs.Growth.{column_within}
+use Rattle.order_graph.proofs.AddedBits.{column_within}
 use Rattle.order_graph.proofs.Reaching.{WithEdge, ReachesThrough, reach_split, reach_through, reach_same}
 
 -- a test of a row that a table keeps
@@ -109,26 +111,26 @@ Reaches-more table more nodes width u v fits hu hv adds x y = (
 )
 
 -- the table of paths is transitive
-pub Keeps-transitive : (nodes width : ℕ) (edges paths turned : List ℕ) → Keeps nodes width edges paths turned → IsTransitive paths width nodes
-Keeps-transitive nodes width edges paths turned keeps = record {
+pub Keeps-transitive : (nodes width : ℕ) (edges paths transposed : List ℕ) → Keeps nodes width edges paths transposed → IsTransitive paths width nodes
+Keeps-transitive nodes width edges paths transposed keeps = record {
   joins = λ x y z hx hy hz p q. (keeps.tells x z hx hz).1 (Reaches-join (Joined edges width nodes) x y z ((keeps.tells x y hx hy).0 p) ((keeps.tells y z hy hz).0 q));
 }
 
 -- with an edge more, bits of rows stay within
-edges_within_more : (nodes width : ℕ) (edges more paths turned : List ℕ) (u v : ℕ) → Keeps nodes width edges paths turned → v < nodes → Adds edges more width (λ x y. (x ≡ u) × (y ≡ v)) →
+edges_within_more : (nodes width : ℕ) (edges more paths transposed : List ℕ) (u v : ℕ) → Keeps nodes width edges paths transposed → v < nodes → Adds edges more width (λ x y. (x ≡ u) × (y ≡ v)) →
     (x y : ℕ) → x < nodes → y / 64 < width → IsSet more width x y → y < nodes
-edges_within_more nodes width edges more paths turned u v keeps hv adds x y hx hy s = elim ((adds.bits x y hy).0 s) [ inl o ↦ keeps.edges_within x y hx hy o | inr g ↦ omega (arith, g.1) ]
+edges_within_more nodes width edges more paths transposed u v keeps hv adds x y hx hy s = elim ((adds.bits x y hy).0 s) [ inl o ↦ keeps.edges_within x y hx hy o | inr g ↦ omega (arith, g.1) ]
 
 -- An edge where there is a path already changes no path.
-pub Keeps-edge : (nodes width : ℕ) (edges more new paths turned : List ℕ) (u v : ℕ) → Keeps nodes width edges paths turned → new ≡ more → length more ≡ length edges → u < nodes → v < nodes →
-    Adds edges more width (λ x y. (x ≡ u) × (y ≡ v)) → IsSet paths width u v → Keeps nodes width new paths turned
-Keeps-edge nodes width edges more new paths turned u v keeps same sized hu hv adds set =
-    subst (λ t. Keeps nodes width t paths turned) (sym same) record {
+pub Keeps-edge : (nodes width : ℕ) (edges more new paths transposed : List ℕ) (u v : ℕ) → Keeps nodes width edges paths transposed → new ≡ more → length more ≡ length edges → u < nodes → v < nodes →
+    Adds edges more width (λ x y. (x ≡ u) × (y ≡ v)) → IsSet paths width u v → Keeps nodes width new paths transposed
+Keeps-edge nodes width edges more new paths transposed u v keeps same sized hu hv adds set =
+    subst (λ t. Keeps nodes width t paths transposed) (sym same) record {
       small = keeps.small;
       fits = keeps.fits;
       edges_sized = sized ∙ keeps.edges_sized;
-      edges_within = edges_within_more nodes width edges more paths turned u v keeps hv adds;
-      paths_turned = keeps.paths_turned;
+      edges_within = edges_within_more nodes width edges more paths transposed u v keeps hv adds;
+      paths_transposed = keeps.paths_transposed;
       tells = λ x y hx hy. (
         λ s. (Reaches-more edges more nodes width u v keeps.fits hu hv adds x y).1 (reach_through (Joined edges width nodes) u v x y (inl ((keeps.tells x y hx hy).0 s))),
         λ p. (keeps.tells x y hx hy).1 (reach_same (Joined edges width nodes) u v x y ((keeps.tells u v hu hv).0 set) ((Reaches-more edges more nodes width u v keeps.fits hu hv adds x y).0 p)),
@@ -136,13 +138,13 @@ Keeps-edge nodes width edges more new paths turned u v keeps same sized hu hv ad
     }
 
 -- An edge where there is none: what is or reaches u gains v and what v reaches.
-pub Keeps-join : (nodes width : ℕ) (edges more new paths wider new_paths turned other new_turned : List ℕ) (u v : ℕ) → Keeps nodes width edges paths turned →
-    new ≡ more → new_paths ≡ wider → new_turned ≡ other → length more ≡ length edges → u < nodes → v < nodes →
+pub Keeps-join : (nodes width : ℕ) (edges more new paths wider new_paths transposed other new_transposed : List ℕ) (u v : ℕ) → Keeps nodes width edges paths transposed →
+    new ≡ more → new_paths ≡ wider → new_transposed ≡ other → length more ≡ length edges → u < nodes → v < nodes →
     Adds edges more width (λ x y. (x ≡ u) × (y ≡ v)) →
     Adds paths wider width (λ x y. (x < nodes) × ((x ≡ u) ⊎ IsSet paths width x u) × IsSelfOrSet paths width v y) →
-    AreTurned wider other width nodes → Keeps nodes width new new_paths new_turned
-Keeps-join nodes width edges more new paths wider new_paths turned other new_turned u v keeps same same_paths same_turned sized hu hv adds joins are =
-    subst (λ t. Keeps nodes width t new_paths new_turned) (sym same) (subst (λ t. Keeps nodes width more t new_turned) (sym same_paths) (subst (λ t. Keeps nodes width more wider t) (sym same_turned) kept))
+    AreTransposed wider other width nodes → Keeps nodes width new new_paths new_transposed
+Keeps-join nodes width edges more new paths wider new_paths transposed other new_transposed u v keeps same same_paths same_transposed sized hu hv adds joins are =
+    subst (λ t. Keeps nodes width t new_paths new_transposed) (sym same) (subst (λ t. Keeps nodes width more t new_transposed) (sym same_paths) (subst (λ t. Keeps nodes width more wider t) (sym same_transposed) kept))
   where
     tells : (x y : ℕ) → x < nodes → y < nodes → IsSet wider width x y ↔ ReachesThrough (Joined edges width nodes) u v x y
     tells x y hx hy =
@@ -162,8 +164,8 @@ Keeps-join nodes width edges more new paths wider new_paths turned other new_tur
       small = keeps.small;
       fits = keeps.fits;
       edges_sized = sized ∙ keeps.edges_sized;
-      edges_within = edges_within_more nodes width edges more paths turned u v keeps hv adds;
-      paths_turned = are;
+      edges_within = edges_within_more nodes width edges more paths transposed u v keeps hv adds;
+      paths_transposed = are;
       tells = λ x y hx hy.
           let r = Reaches-more edges more nodes width u v keeps.fits hu hv adds x y in
           (λ s. r.1 (reach_through (Joined edges width nodes) u v x y ((tells x y hx hy).0 s)), λ p. (tells x y hx hy).1 (reach_split (Joined edges width nodes) u v x y (r.0 p)));
@@ -178,19 +180,19 @@ no_bit count width x y s = elim (cases_lt (x * width + y / 64) count) [
 ]
 
 -- Tables of zeros keep the graph without edges.
-pub Keeps-empty : (nodes width : ℕ) (edges paths turned : List ℕ) → nodes < 2 ^ 32 → width ≡ (nodes + 63) / 64 →
-    edges ≡ replicate (nodes * width) 0 → paths ≡ replicate (nodes * width) 0 → turned ≡ replicate (nodes * width) 0 → Keeps nodes width edges paths turned
-Keeps-empty nodes width edges paths turned small fits e p t = record {
+pub Keeps-empty : (nodes width : ℕ) (edges paths transposed : List ℕ) → nodes < 2 ^ 32 → width ≡ (nodes + 63) / 64 →
+    edges ≡ replicate (nodes * width) 0 → paths ≡ replicate (nodes * width) 0 → transposed ≡ replicate (nodes * width) 0 → Keeps nodes width edges paths transposed
+Keeps-empty nodes width edges paths transposed small fits e p t = record {
   small = small;
   fits = fits;
   edges_sized = ap length e ∙ length-replicate {A = ℕ} (nodes * width) 0;
   edges_within = λ x y hx hy s. absurd (none edges e x y s);
-  paths_turned = record {
+  paths_transposed = record {
     table_sized = ap length p ∙ length-replicate {A = ℕ} (nodes * width) 0;
-    turned_sized = ap length t ∙ length-replicate {A = ℕ} (nodes * width) 0;
+    transposed_sized = ap length t ∙ length-replicate {A = ℕ} (nodes * width) 0;
     within = λ x y hx hy s. absurd (none paths p x y s);
-    turned_within = λ x y hx hy s. absurd (none turned t x y s);
-    same = λ x y hx hy. (λ s. absurd (none turned t y x s), λ s. absurd (none paths p x y s));
+    transposed_within = λ x y hx hy s. absurd (none transposed t x y s);
+    same = λ x y hx hy. (λ s. absurd (none transposed t y x s), λ s. absurd (none paths p x y s));
   };
   tells = λ x y hx hy. (λ s. absurd (none paths p x y s), λ r. absurd (no_path x y r));
 }
@@ -224,11 +226,11 @@ HasNumber-row table width count x v e = (to, back)
     back p = subst (λ n. HasBit n (v % 64)) (sym (word (subst (λ n. v / 64 < n) (sym e) p.0))) p.1
 
 -- the numbers of a row of the table of paths are those that the row's number has a path to
-pub row_paths : (nodes width : ℕ) (edges paths turned : List ℕ) → Keeps nodes width edges paths turned → (count x v : ℕ) → count ≡ width → x < nodes →
+pub row_paths : (nodes width : ℕ) (edges paths transposed : List ℕ) → Keeps nodes width edges paths transposed → (count x v : ℕ) → count ≡ width → x < nodes →
     HasNumber (take count (drop (x * width) paths)) v ↔ Reaches (Joined edges width nodes) x v
-row_paths nodes width edges paths turned keeps count x v e h = (
+row_paths nodes width edges paths transposed keeps count x v e h = (
   λ b. let p = (HasNumber-row paths width count x v e).0 b in
-      (keeps.tells x v h (keeps.paths_turned.within x v h p.0 p.1)).0 p.1,
+      (keeps.tells x v h (keeps.paths_transposed.within x v h p.0 p.1)).0 p.1,
   λ path. let low = (Reaches-below (Joined edges width nodes) nodes (λ a b j. (j.0, j.1)) x v path).1 in
       (HasNumber-row paths width count x v e).1 (column_within v nodes width keeps.fits low, (keeps.tells x v h low).1 path),
 )

@@ -1,7 +1,7 @@
 pub mod AllPaths
 pub mod ClosedNumbers
 pub mod Cycling
-pub mod Growth
+pub mod AddedBits
 pub mod Keeping
 pub mod Losing
 pub mod Reached
@@ -10,5 +10,5 @@ pub mod Rows
 pub mod Searching
 pub mod ShortCycles
 pub mod Spreading
-pub mod TurnedBlocks
+pub mod TransposedBlocks
 pub mod Words

@@ -4,10 +4,12 @@ use Rattle.std.specs.Int.{bit_not, w64}
 use Rattle.std.specs.Prelude.{bit_and}
 use Rattle.std.proofs.lemmas.Bool.{cases_eq}
 use Rattle.order_paths.proofs.Reach.{Reaches-mono}
-use Rattle.order_graph.specs.Tables.{HasBit, IsSet, Loses, Joined}
-use Rattle.order_graph.specs.Digraphs.{Digraph, IsEdge, Covers}
+use Rattle.order_graph.specs.BitRows.{HasBit}
+use Rattle.order_graph.specs.Internal.Tables.{IsSet, Loses, Joined}
+use Rattle.order_graph.specs.Digraphs.{Digraph, IsEdge}
+use Rattle.order_graph.specs.Internal.KeptPaths.{Covers}
 use Rattle.order_graph.proofs.Words.{HasBit-clear, IsSet-written, IsSet-elsewhere, IsSet-word}
-use Rattle.order_graph.proofs.Growth.{column_within}
+use Rattle.order_graph.proofs.AddedBits.{column_within}
 use Rattle.order_graph.proofs.Keeping.{Sees, sees_edge}
 
 -- To write a word of row u without the bit of column v takes that bit away.
@@ -50,16 +52,16 @@ Joined-less table less nodes width u v fits loses x y = (
 )
 
 -- Tables that have at least the paths of some edges have those of fewer.
-pub Covers-less : (nodes width : ℕ) (edges less new paths turned : List ℕ) (u v : ℕ) → Covers nodes width edges paths turned → new ≡ less → length less ≡ length edges →
-    Loses edges less width u v → Covers nodes width new paths turned
-Covers-less nodes width edges less new paths turned u v covers same sized loses =
-    subst (λ t. Covers nodes width t paths turned) (sym same) record {
+pub Covers-less : (nodes width : ℕ) (edges less new paths transposed : List ℕ) (u v : ℕ) → Covers nodes width edges paths transposed → new ≡ less → length less ≡ length edges →
+    Loses edges less width u v → Covers nodes width new paths transposed
+Covers-less nodes width edges less new paths transposed u v covers same sized loses =
+    subst (λ t. Covers nodes width t paths transposed) (sym same) record {
       small = covers.small;
       fits = covers.fits;
       edges_sized = sized ∙ covers.edges_sized;
       edges_within = λ x y hx hy s. covers.edges_within x y hx hy ((loses.bits x y hy).0 s).0;
       paths_sized = covers.paths_sized;
-      turned_sized = covers.turned_sized;
+      transposed_sized = covers.transposed_sized;
       onward = λ x y z hx from e. covers.onward x y z hx from (fewer y z e);
       back = λ x y hx hy p. covers.back x y hx hy (Reaches-mono (Joined less width nodes) (Joined edges width nodes) fewer x y p);
     }

@@ -6,9 +6,10 @@ use Rattle.std.proofs.lemmas.List.{length-replicate, length-append, get_or_appen
 use Rattle.order_paths.specs.Paths.{Reaches}
 use Rattle.order_paths.proofs.Decisions.{Decision, Decision-both, Decision-not, test_of, test_of-holds, test_of-true}
 use Rattle.order_paths.proofs.Reach.{Reaches-edge, Reaches-into, Reaches-join, Reaches-below}
-use Rattle.order_graph.specs.Tables.{HasBit, IsSet, Adds, Loses, Joined}
+use Rattle.order_graph.specs.BitRows.{HasBit}
+use Rattle.order_graph.specs.Internal.Tables.{IsSet, Adds, Loses, Joined}
 use Rattle.order_graph.proofs.Words.{IsSet-decided, IsSet-word}
-use Rattle.order_graph.proofs.Growth.{Leaves, Leaves-start, Leaves-step, Leaves-end, Adds-kept, column_within}
+use Rattle.order_graph.proofs.AddedBits.{Leaves, Leaves-start, Leaves-step, Leaves-end, Adds-kept, column_within}
 use Rattle.order_graph.specs.Digraphs.{Digraph, IsEdge}
 use Rattle.order_graph.proofs.Keeping.{Sees, no_bit, sees_path}
 

@@ -2,10 +2,11 @@
 use Rattle.std.proofs.Common.{◌≡◌, ◌⊎◌, ◌↔◌, inl, inr, ℕ, ◌+◌, ◌*◌, ◌/◌, ◌%◌, ◌^◌, ◌<◌, ◌≤◌, List, length, get_or, replicate, sym, ap, subst, ◌∙◌, arith}
 use Rattle.std.proofs.lemmas.Bool.{cases_eq}
 use Rattle.std.proofs.lemmas.List.{get_or_past, length-replicate}
-use Rattle.order_graph.specs.Tables.{HasBit, HasNumber, IsSet, Adds, IsTable}
+use Rattle.order_graph.specs.BitRows.{HasBit, HasNumber}
+use Rattle.order_graph.specs.Internal.Tables.{IsSet, Adds, IsTable}
 use Rattle.order_graph.specs.Digraphs.{Digraph, IsEdge}
 use Rattle.order_graph.proofs.Words.{HasBit-zero}
-use Rattle.order_graph.proofs.Growth.{Leaves, Leaves-start, Leaves-step, Leaves-end, column_within}
+use Rattle.order_graph.proofs.AddedBits.{Leaves, Leaves-start, Leaves-step, Leaves-end, column_within}
 use Rattle.order_graph.proofs.Keeping.{Sees, sees_edge, no_bit}
 
 -- Row x gains the numbers of a row of words, from word j on.

@@ -6,12 +6,13 @@ use Rattle.std.proofs.lemmas.Bool.{cases_order, cases_lt, true≢false, false≢
 use Rattle.std.proofs.lemmas.List.{append_assoc, append-nil, length-append, length-replicate, get_or_append_left, get_or-append_right, get_or-replicate, get_or_past}
 use Rattle.order_paths.specs.Paths.{IsPath, Reaches, IsAtMost, IsNoGreater}
 use Rattle.order_paths.proofs.Decisions.{Decision, Decision-lt, Decision-three}
-use Rattle.order_paths.proofs.Reach.{Reaches-edge, Reaches-front, Reaches-join, Reaches-decided}
-use Rattle.order_graph.specs.Tables.{HasBit, IsSet, Adds, Joined}
-use Rattle.order_graph.specs.Digraphs.{Keeps, Covers}
-use Rattle.order_graph.specs.Tracks.{Track, Walks, IsLeastTrack, IsFirstShared, IsLevel, IsAbove, NoneShared, NoShorter}
+use Rattle.order_paths.proofs.Reach.{Reaches-edge, Reaches-prefix, Reaches-join, Reaches-decided}
+use Rattle.order_graph.specs.BitRows.{HasBit}
+use Rattle.order_graph.specs.Internal.Tables.{IsSet, Adds, Joined}
+use Rattle.order_graph.specs.Internal.KeptPaths.{Keeps, Covers}
+use Rattle.order_graph.specs.Internal.Tracks.{Track, Walks, IsLeastTrack, IsFirstShared, IsLevel, IsAboveLevel, NoneShared, NoShorter}
 use Rattle.order_graph.proofs.Words.{HasBit-zero, HasBit-and, HasBit-lowest, IsSet-decided, IsSet-word}
-use Rattle.order_graph.proofs.Growth.{column_within, row_within}
+use Rattle.order_graph.proofs.AddedBits.{column_within, row_within}
 use Rattle.order_graph.proofs.Keeping.{no_bit}
 
 -- a track has an edge to where a walk of as many edges as it has numbers begins
@@ -22,7 +23,7 @@ Track-walks Edge x v (y ∷ rest) t = (y, t.0, Track-walks Edge y v rest t.1)
 -- a walk of edges is a path
 pub Walks-reach : (Edge : ℕ → ℕ → Type 0) (count x v : ℕ) → Walks Edge (suc count) x v → Reaches Edge x v
 Walks-reach Edge zero x v w = Reaches-edge Edge x v (subst (λ n. Edge x n) w.2 w.1)
-Walks-reach Edge (suc count) x v w = Reaches-front Edge x w.0 v w.1 (Walks-reach Edge count w.0 v w.2)
+Walks-reach Edge (suc count) x v w = Reaches-prefix Edge x w.0 v w.1 (Walks-reach Edge count w.0 v w.2)
 
 -- Of the tracks from x to v over this many numbers, the list is the least.
 pub record IsLeastRest (Edge : ℕ → ℕ → Type 0) (x v count : ℕ) (rest : List ℕ) : Type 0 where
@@ -37,16 +38,16 @@ IsLeastRest-end Edge x v e = record { sized = refl; track = (e, tt); least = λ 
 -- The least number from which a walk of as many edges leads on, and the least list behind it, are the least list.
 pub IsLeastRest-step : (Edge : ℕ → ℕ → Type 0) (x v count next : ℕ) (rest : List ℕ) → Edge x next →
     ((z : ℕ) → z < next → Edge x z → Walks Edge (suc count) z v → ⊥) → IsLeastRest Edge next v count rest → IsLeastRest Edge x v (suc count) (next ∷ rest)
-IsLeastRest-step Edge x v count next rest e first behind = record {
-  sized = omega (arith, behind.sized);
-  track = (e, behind.track);
+IsLeastRest-step Edge x v count next rest e first after = record {
+  sized = omega (arith, after.sized);
+  track = (e, after.track);
   least = least;
 }
   where
     least : (other : List ℕ) → length other ≡ suc count → Track Edge x other v → IsAtMost (next ∷ rest) other
     least [] sized t = absurd (omega arith)
     least (z ∷ zs) sized t = elim (cases_order next z) [
-      | inl same ↦ inr (same, behind.least zs (omega arith) (subst (λ n. Track Edge n zs v) (sym same) t.1))
+      | inl same ↦ inr (same, after.least zs (omega arith) (subst (λ n. Track Edge n zs v) (sym same) t.1))
       | inr (inl less) ↦ inl less
       | inr (inr more) ↦ absurd (first z more t.0 (subst (λ n. Walks Edge (suc n) z v) (let s : length zs ≡ count = omega arith in s) (Track-walks Edge z v zs t.1)))
     ]
@@ -64,25 +65,25 @@ pub record Descends (edges paths : List ℕ) (width nodes u v count left at : �
   pub continues : (rest : List ℕ) → IsLeastRest (Joined edges width nodes) at v left rest → IsLeastList (Joined edges width nodes) u v count (list ++ rest)
 
 -- the tables of paths have just the paths, so they cover them
-pub Keeps-covers : (nodes width : ℕ) (edges paths turned : List ℕ) → Keeps nodes width edges paths turned → Covers nodes width edges paths turned
-Keeps-covers nodes width edges paths turned keeps = record {
+pub Keeps-covers : (nodes width : ℕ) (edges paths transposed : List ℕ) → Keeps nodes width edges paths transposed → Covers nodes width edges paths transposed
+Keeps-covers nodes width edges paths transposed keeps = record {
   small = keeps.small;
   fits = keeps.fits;
   edges_sized = keeps.edges_sized;
   edges_within = keeps.edges_within;
-  paths_sized = keeps.paths_turned.table_sized;
-  turned_sized = keeps.paths_turned.turned_sized;
+  paths_sized = keeps.paths_transposed.table_sized;
+  transposed_sized = keeps.paths_transposed.transposed_sized;
   onward = λ x y z hx from e. elim from [
     | inl same ↦ (keeps.tells x z hx e.1).1 (Reaches-edge (Joined edges width nodes) x z (subst (λ n. Joined edges width nodes n z) same e))
     | inr set ↦ (keeps.tells x z hx e.1).1 (Reaches-join (Joined edges width nodes) x y z ((keeps.tells x y hx e.0).0 set) (Reaches-edge (Joined edges width nodes) y z e))
   ];
-  back = λ x y hx hy p. (keeps.paths_turned.same x y hx hy).1 ((keeps.tells x y hx hy).1 p);
+  back = λ x y hx hy p. (keeps.paths_transposed.same x y hx hy).1 ((keeps.tells x y hx hy).1 p);
 }
 
-pub Descends-start : (nodes width : ℕ) (edges paths turned levels : List ℕ) (u v count : ℕ) → Covers nodes width edges paths turned → u < nodes →
+pub Descends-start : (nodes width : ℕ) (edges paths transposed levels : List ℕ) (u v count : ℕ) → Covers nodes width edges paths transposed → u < nodes →
     IsLevel edges paths levels width nodes u v count → (y : ℕ) × (y / 64 < width) × IsSet edges width u y × IsSet levels width count y →
     Descends edges paths width nodes u v count count u (u ∷ [])
-Descends-start nodes width edges paths turned levels u v count covers hu level meets =
+Descends-start nodes width edges paths transposed levels u v count covers hu level meets =
     let on = level.sound meets.0 meets.1 meets.3 in
     record {
       below = hu;
@@ -92,17 +93,17 @@ Descends-start nodes width edges paths turned levels u v count covers hu level m
     }
 
 -- some number is shared with the next level, so the search for the first finds one
-pub Descends-meets : (nodes width : ℕ) (edges paths turned levels : List ℕ) (u v count left at : ℕ) (list : List ℕ) → Covers nodes width edges paths turned →
+pub Descends-meets : (nodes width : ℕ) (edges paths transposed levels : List ℕ) (u v count left at : ℕ) (list : List ℕ) → Covers nodes width edges paths transposed →
     IsLevel edges paths levels width nodes u v left → Descends edges paths width nodes u v count left at list → NoneShared edges at levels left width → ⊥
-Descends-meets nodes width edges paths turned levels u v count left at list covers level descends none =
+Descends-meets nodes width edges paths transposed levels u v count left at list covers level descends none =
     let y = descends.onward.0 in
     let e = descends.onward.1 in
     none y (column_within y nodes width covers.fits e.1) e.2 (level.complete y e.1 (descends.reached y e) descends.onward.2)
 
-pub Descends-step : (nodes width : ℕ) (edges paths turned levels : List ℕ) (u v count left at next : ℕ) (list : List ℕ) → Covers nodes width edges paths turned → u < nodes →
+pub Descends-step : (nodes width : ℕ) (edges paths transposed levels : List ℕ) (u v count left at next : ℕ) (list : List ℕ) → Covers nodes width edges paths transposed → u < nodes →
     IsLevel edges paths levels width nodes u v (suc left) → Descends edges paths width nodes u v count (suc left) at list → IsFirstShared edges at levels (suc left) width next →
     Descends edges paths width nodes u v count left next (list ++ next ∷ [])
-Descends-step nodes width edges paths turned levels u v count left at next list covers hu level descends first =
+Descends-step nodes width edges paths transposed levels u v count left at next list covers hu level descends first =
     let on = level.sound next first.column first.second in
     let edge : Joined edges width nodes at next = (descends.below, on.0, first.first) in
     let set = descends.reached next edge in
@@ -172,9 +173,9 @@ none_shared_more table x other row width j before none y h s t = elim (cases_lt 
 ]
 
 -- the test of a number above a level, in three parts
-pub IsAbove-parts : (edges paths turned levels : List ℕ) (width u v count x y : ℕ) → IsSet paths width u x → IsSet turned width v x → IsFirstShared edges x levels count width y →
-    IsAbove edges paths turned levels width u v count x
-IsAbove-parts edges paths turned levels width u v count x y reached reaching first = record {
+pub IsAboveLevel-parts : (edges paths transposed levels : List ℕ) (width u v count x y : ℕ) → IsSet paths width u x → IsSet transposed width v x → IsFirstShared edges x levels count width y →
+    IsAboveLevel edges paths transposed levels width u v count x
+IsAboveLevel-parts edges paths transposed levels width u v count x y reached reaching first = record {
   reached = reached;
   reaching = reaching;
   edge = (y, first.column, first.first, first.second);
@@ -182,12 +183,12 @@ IsAbove-parts edges paths turned levels width u v count x y reached reaching fir
 
 -- Of the numbers before x, those above the level have their bits in the row behind it.
 abbrev pub Raised : List ℕ → List ℕ → List ℕ → List ℕ → ℕ → ℕ → ℕ → ℕ → ℕ → ℕ → ℕ → Type 0
-Raised edges paths turned levels width u v count x i y = (i ≡ count + 1) × (y < x) × IsAbove edges paths turned levels width u v count y
+Raised edges paths transposed levels width u v count x i y = (i ≡ count + 1) × (y < x) × IsAboveLevel edges paths transposed levels width u v count y
 
 -- a row before the one that is filled stays, so what is above it does
-pub IsAbove-same : (edges paths turned old now : List ℕ) (width u v count x y : ℕ) → Adds old now width (Raised edges paths turned old width u v count x) →
-    IsAbove edges paths turned now width u v count y ↔ IsAbove edges paths turned old width u v count y
-IsAbove-same edges paths turned old now width u v count x y adds = (
+pub IsAboveLevel-same : (edges paths transposed old now : List ℕ) (width u v count x y : ℕ) → Adds old now width (Raised edges paths transposed old width u v count x) →
+    IsAboveLevel edges paths transposed now width u v count y ↔ IsAboveLevel edges paths transposed old width u v count y
+IsAboveLevel-same edges paths transposed old now width u v count x y adds = (
   λ above. record {
     reached = above.reached;
     reaching = above.reaching;
@@ -200,16 +201,16 @@ IsAbove-same edges paths turned old now width u v count x y adds = (
   },
 )
 
-pub Raised-start : (edges paths turned old : List ℕ) (width u v count : ℕ) → Adds old old width (Raised edges paths turned old width u v count 0)
-Raised-start edges paths turned old width u v count = record { bits = λ i y h. (λ s. inl s, λ s. elim s [ inl o ↦ o | inr g ↦ absurd (omega (arith, g.1)) ]) }
+pub Raised-start : (edges paths transposed old : List ℕ) (width u v count : ℕ) → Adds old old width (Raised edges paths transposed old width u v count 0)
+Raised-start edges paths transposed old width u v count = record { bits = λ i y h. (λ s. inl s, λ s. elim s [ inl o ↦ o | inr g ↦ absurd (omega (arith, g.1)) ]) }
 
-pub Raised-set : (edges paths turned old now new : List ℕ) (width u v count x : ℕ) → Adds old now width (Raised edges paths turned old width u v count x) →
-    IsAbove edges paths turned now width u v count x → Adds now new width (λ i j. (i ≡ count + 1) × (j ≡ x)) → Adds old new width (Raised edges paths turned old width u v count (x + 1))
-Raised-set edges paths turned old now new width u v count x adds above sets = record {
+pub Raised-set : (edges paths transposed old now new : List ℕ) (width u v count x : ℕ) → Adds old now width (Raised edges paths transposed old width u v count x) →
+    IsAboveLevel edges paths transposed now width u v count x → Adds now new width (λ i j. (i ≡ count + 1) × (j ≡ x)) → Adds old new width (Raised edges paths transposed old width u v count (x + 1))
+Raised-set edges paths transposed old now new width u v count x adds above sets = record {
   bits = λ i y h. (
     λ s. elim ((sets.bits i y h).0 s) [
       | inl n ↦ elim ((adds.bits i y h).0 n) [ inl o ↦ inl o | inr g ↦ inr (g.0, omega (arith, g.1), g.2) ]
-      | inr here ↦ inr (here.0, omega (arith, here.1), subst (λ n. IsAbove edges paths turned old width u v count n) (sym here.1) ((IsAbove-same edges paths turned old now width u v count x x adds).0 above))
+      | inr here ↦ inr (here.0, omega (arith, here.1), subst (λ n. IsAboveLevel edges paths transposed old width u v count n) (sym here.1) ((IsAboveLevel-same edges paths transposed old now width u v count x x adds).0 above))
     ],
     λ s. (sets.bits i y h).1 (elim s [
       | inl o ↦ inl ((adds.bits i y h).1 (inl o))
@@ -218,15 +219,15 @@ Raised-set edges paths turned old now new width u v count x adds above sets = re
   );
 }
 
-pub Raised-skip : (edges paths turned old now : List ℕ) (width u v count x : ℕ) → Adds old now width (Raised edges paths turned old width u v count x) →
-    (IsAbove edges paths turned now width u v count x → ⊥) → Adds old now width (Raised edges paths turned old width u v count (x + 1))
-Raised-skip edges paths turned old now width u v count x adds none = record {
+pub Raised-skip : (edges paths transposed old now : List ℕ) (width u v count x : ℕ) → Adds old now width (Raised edges paths transposed old width u v count x) →
+    (IsAboveLevel edges paths transposed now width u v count x → ⊥) → Adds old now width (Raised edges paths transposed old width u v count (x + 1))
+Raised-skip edges paths transposed old now width u v count x adds none = record {
   bits = λ i y h. (
     λ s. elim ((adds.bits i y h).0 s) [ inl o ↦ inl o | inr g ↦ inr (g.0, omega (arith, g.1), g.2) ],
     λ s. (adds.bits i y h).1 (elim s [
       | inl o ↦ inl o
       | inr g ↦ elim (cases_order y x) [
-        | inl same ↦ absurd (none ((IsAbove-same edges paths turned old now width u v count x x adds).1 (subst (λ n. IsAbove edges paths turned old width u v count n) same g.2)))
+        | inl same ↦ absurd (none ((IsAboveLevel-same edges paths transposed old now width u v count x x adds).1 (subst (λ n. IsAboveLevel edges paths transposed old width u v count n) same g.2)))
         | inr (inl less) ↦ inr (g.0, less, g.2)
         | inr (inr more) ↦ absurd (omega (arith, g.1))
       ]
@@ -281,9 +282,9 @@ not_met edges paths levels width nodes u v count reached fits level none rest si
     let w = Track-walks (Joined edges width nodes) u v rest t in
     none w.0 (column_within w.0 nodes width fits w.1.1) w.1.2 (level.complete w.0 w.1.1 (reached w.0 w.1) (subst (λ n. Walks (Joined edges width nodes) n w.0 v) sized w.2))
 
-pub Levels-none : (nodes width : ℕ) (edges paths turned levels : List ℕ) (u v count : ℕ) → Covers nodes width edges paths turned → u < nodes → Levels edges paths levels width nodes u v count →
+pub Levels-none : (nodes width : ℕ) (edges paths transposed levels : List ℕ) (u v count : ℕ) → Covers nodes width edges paths transposed → u < nodes → Levels edges paths levels width nodes u v count →
     NoneShared edges u levels count width → NoShorter edges width nodes u v (count + 1)
-Levels-none nodes width edges paths turned levels u v count covers hu all none rest t =
+Levels-none nodes width edges paths transposed levels u v count covers hu all none rest t =
     elim (cases_order count (length rest)) [
       | inl same ↦ absurd (not_met edges paths levels width nodes u v count (λ y e. covers.onward u u y hu (inl refl) e) covers.fits
           (all.each count (omega arith)) none rest (sym same) t)
@@ -291,17 +292,17 @@ Levels-none nodes width edges paths turned levels u v count covers hu all none r
       | inr (inr more) ↦ absurd (omega (arith, all.none rest t))
     ]
 
-pub Levels-step : (nodes width : ℕ) (edges paths turned levels more new : List ℕ) (u v count : ℕ) → Covers nodes width edges paths turned → u < nodes → v < nodes → Levels edges paths levels width nodes u v count →
+pub Levels-step : (nodes width : ℕ) (edges paths transposed levels more new : List ℕ) (u v count : ℕ) → Covers nodes width edges paths transposed → u < nodes → v < nodes → Levels edges paths levels width nodes u v count →
     NoneShared edges u levels count width → more ≡ levels ++ replicate width 0 → length new ≡ length more →
-    Adds more new width (λ i y. (i ≡ count + 1) × (y < nodes) × IsAbove edges paths turned more width u v count y) → Levels edges paths new width nodes u v (count + 1)
-Levels-step nodes width edges paths turned levels more new u v count covers hu hv all none same sized adds = record {
+    Adds more new width (λ i y. (i ≡ count + 1) × (y < nodes) × IsAboveLevel edges paths transposed more width u v count y) → Levels edges paths new width nodes u v (count + 1)
+Levels-step nodes width edges paths transposed levels more new u v count covers hu hv all none same sized adds = record {
   sized = omega (arith, sized, ap length same, length-append levels (replicate width 0), length-replicate {A = ℕ} width 0, all.sized);
   each = λ d h. elim (cases_order d (count + 1)) [
     | inl last ↦ subst (λ n. IsLevel edges paths new width nodes u v n) (sym last) next
     | inr (inl less) ↦ old d (omega arith)
     | inr (inr past) ↦ absurd (omega arith)
   ];
-  none = Levels-none nodes width edges paths turned levels u v count covers hu all none;
+  none = Levels-none nodes width edges paths transposed levels u v count covers hu all none;
 }
   where
     within : (d : ℕ) → d ≤ count → d * width + width ≤ length levels
@@ -319,13 +320,13 @@ Levels-step nodes width edges paths turned levels more new u v count covers hu h
     fresh : (y : ℕ) → IsSet more width (count + 1) y → ⊥
     fresh y s = row_of_zeros levels width width (count + 1) y all.sized (subst (λ l. IsSet l width (count + 1) y) same s)
 
-    walks : (y : ℕ) → y < nodes → IsAbove edges paths turned more width u v count y → Walks (Joined edges width nodes) (suc count) y v
+    walks : (y : ℕ) → y < nodes → IsAboveLevel edges paths transposed more width u v count y → Walks (Joined edges width nodes) (suc count) y v
     walks y hy above =
         let z = above.edge.0 in
         let on = (all.each count (omega arith)).sound z above.edge.1 ((longer count z (omega arith) above.edge.1).0 above.edge.3) in
         (z, (hy, on.0, above.edge.2), on.1)
 
-    is_above : (y : ℕ) → y < nodes → IsSet paths width u y → Walks (Joined edges width nodes) (suc count) y v → IsAbove edges paths turned more width u v count y
+    is_above : (y : ℕ) → y < nodes → IsSet paths width u y → Walks (Joined edges width nodes) (suc count) y v → IsAboveLevel edges paths transposed more width u v count y
     is_above y hy r w =
         let z = w.0 in
         let e = w.1 in
@@ -368,8 +369,8 @@ IsPath-track Edge u v (x ∷ []) p = absurd p.0
 IsPath-track Edge u v (x ∷ y ∷ []) p =
     ([], let ex : x ≡ u = p.0.0 in let ey : y ≡ v = p.0.1 in cc, (subst (λ n. Edge n v) p.0.0 (subst (λ n. Edge x n) p.0.1 p.1.0), tt))
 IsPath-track Edge u v (x ∷ y ∷ z ∷ more) p =
-    let behind = IsPath-track Edge y v (y ∷ z ∷ more) ((refl, p.0.1), p.1.1) in
-    (y ∷ behind.0, let ex : x ≡ u = p.0.0 in let eb : (y ∷ z ∷ more) ≡ y ∷ (behind.0 ++ v ∷ []) = behind.1 in cc, (subst (λ n. Edge n y) p.0.0 p.1.0, behind.2))
+    let after = IsPath-track Edge y v (y ∷ z ∷ more) ((refl, p.0.1), p.1.1) in
+    (y ∷ after.0, let ex : x ≡ u = p.0.0 in let eb : (y ∷ z ∷ more) ≡ y ∷ (after.0 ++ v ∷ []) = after.1 in cc, (subst (λ n. Edge n y) p.0.0 p.1.0, after.2))
 
 -- a path has more numbers than there are on the way
 size_above : (Edge : ℕ → ℕ → Type 0) (u v count : ℕ) (d : Decision (Reaches Edge u v)) → Reaches Edge u v → ((rest : List ℕ) → Track Edge u rest v → count ≤ length rest) → count < size_of d

@@ -3,10 +3,11 @@ use Rattle.std.proofs.Common.{◌≡◌, ◌↔◌, inl, inr, ℕ, ◌+◌, ◌*
 use Rattle.std.specs.Int.{bit_not, trailing_zeros, w64}
 use Rattle.std.specs.Prelude.{bit_and, bit_or}
 use Rattle.std.proofs.lemmas.Bool.{cases_eq}
-use Rattle.order_graph.specs.Tables.{HasBit, IsSet, Adds}
-use Rattle.order_graph.specs.Tracks.{IsNext, IsFresh}
+use Rattle.order_graph.specs.BitRows.{HasBit}
+use Rattle.order_graph.specs.Internal.Tables.{IsSet, Adds}
+use Rattle.order_graph.specs.Internal.Tracks.{IsNext, IsFresh}
 use Rattle.order_graph.proofs.Words.{HasBit-zero, HasBit-or, HasBit-and, HasBit-clear, HasBit-lowest, IsSet-word}
-use Rattle.order_graph.proofs.Growth.{Leaves, Leaves-start, Leaves-step, Leaves-end}
+use Rattle.order_graph.proofs.AddedBits.{Leaves, Leaves-start, Leaves-step, Leaves-end}
 
 -- a row's columns from word j on, given to a row
 abbrev pub RowFrom : List ℕ → ℕ → ℕ → ℕ → ℕ → ℕ → ℕ → Type 0
@@ -95,21 +96,21 @@ NextFrom-end old now edges levels width count first i past leaves = Leaves-end o
 
 -- the numbers reached that lead to the start, and of them those that weren't seen, from word j on
 abbrev pub SeenFrom : List ℕ → List ℕ → ℕ → ℕ → ℕ → ℕ → ℕ → Type 0
-SeenFrom reached turned width start j i y = (i ≡ 0) × (j ≤ y / 64) × IsSet reached width 0 y × IsSet turned width start y
+SeenFrom reached transposed width start j i y = (i ≡ 0) × (j ≤ y / 64) × IsSet reached width 0 y × IsSet transposed width start y
 
 abbrev pub FreshFrom : List ℕ → List ℕ → List ℕ → ℕ → ℕ → ℕ → ℕ → ℕ → ℕ → Type 0
-FreshFrom reached turned seen width start row j i y = (i ≡ row) × (j ≤ y / 64) × IsFresh reached turned seen width start y
+FreshFrom reached transposed seen width start row j i y = (i ≡ row) × (j ≤ y / 64) × IsFresh reached transposed seen width start y
 
 -- The words before word j are filled; `all` has the bits of the fresh numbers in them.
-pub record Advances (reached turned old_seen seen old_levels levels : List ℕ) (width start row first j all : ℕ) : Type 0 where
+pub record Advances (reached transposed old_seen seen old_levels levels : List ℕ) (width start row first j all : ℕ) : Type 0 where
   pub from : first ≤ j
-  pub seen_leaves : Leaves old_seen seen width (SeenFrom reached turned width start first) (SeenFrom reached turned width start j)
-  pub level_leaves : Leaves old_levels levels width (FreshFrom reached turned old_seen width start row first) (FreshFrom reached turned old_seen width start row j)
+  pub seen_leaves : Leaves old_seen seen width (SeenFrom reached transposed width start first) (SeenFrom reached transposed width start j)
+  pub level_leaves : Leaves old_levels levels width (FreshFrom reached transposed old_seen width start row first) (FreshFrom reached transposed old_seen width start row j)
   pub later : (y : ℕ) → y / 64 < width → j ≤ y / 64 → IsSet seen width 0 y → IsSet old_seen width 0 y
-  pub some : (y : ℕ) → y / 64 < j → first ≤ y / 64 → IsFresh reached turned old_seen width start y → HasBit all (y % 64)
+  pub some : (y : ℕ) → y / 64 < j → first ≤ y / 64 → IsFresh reached transposed old_seen width start y → HasBit all (y % 64)
 
-pub Advances-start : (reached turned seen levels : List ℕ) (width start row first : ℕ) → Advances reached turned seen seen levels levels width start row first first 0
-Advances-start reached turned seen levels width start row first = record {
+pub Advances-start : (reached transposed seen levels : List ℕ) (width start row first : ℕ) → Advances reached transposed seen seen levels levels width start row first first 0
+Advances-start reached transposed seen levels width start row first = record {
   from = omega arith;
   seen_leaves = Leaves-start seen width _ _ (λ i y h. (λ p. p, λ p. p));
   level_leaves = Leaves-start levels width _ _ (λ i y h. (λ p. p, λ p. p));
@@ -117,14 +118,14 @@ Advances-start reached turned seen levels width start row first = record {
   some = λ y h l p. absurd (omega (arith, h, l));
 }
 
-pub Advances-step : (reached turned old_seen seen new_seen old_levels levels new_levels : List ℕ) (width start row first j all given fresh : ℕ) →
-    Advances reached turned old_seen seen old_levels levels width start row first j all → j < width →
-    given ≡ bit_and (get_or reached j 0) (get_or turned (start * width + j) 0) →
+pub Advances-step : (reached transposed old_seen seen new_seen old_levels levels new_levels : List ℕ) (width start row first j all given fresh : ℕ) →
+    Advances reached transposed old_seen seen old_levels levels width start row first j all → j < width →
+    given ≡ bit_and (get_or reached j 0) (get_or transposed (start * width + j) 0) →
     Adds seen new_seen width (λ i y. (i ≡ 0) × (y / 64 ≡ j) × HasBit given (y % 64)) →
     ((y : ℕ) → y / 64 ≡ j → HasBit fresh (y % 64) ↔ (HasBit given (y % 64) × (IsSet seen width 0 y → ⊥))) →
     Adds levels new_levels width (λ i y. (i ≡ row) × (y / 64 ≡ j) × HasBit fresh (y % 64)) →
-    Advances reached turned old_seen new_seen old_levels new_levels width start row first (j + 1) (bit_or all fresh)
-Advances-step reached turned old_seen seen new_seen old_levels levels new_levels width start row first j all given fresh advances within same sees news fills = record {
+    Advances reached transposed old_seen new_seen old_levels new_levels width start row first (j + 1) (bit_or all fresh)
+Advances-step reached transposed old_seen seen new_seen old_levels levels new_levels width start row first j all given fresh advances within same sees news fills = record {
   from = omega (arith, advances.from);
   seen_leaves = Leaves-step old_seen seen new_seen width _ _ _ _ advances.seen_leaves sees
       (λ i y h p. elim (cases_eq (y / 64) j) [
@@ -150,50 +151,50 @@ Advances-step reached turned old_seen seen new_seen old_levels levels new_levels
   ];
 }
   where
-    given_is : (y : ℕ) → y / 64 ≡ j → HasBit given (y % 64) ↔ (IsSet reached width 0 y × IsSet turned width start y)
+    given_is : (y : ℕ) → y / 64 ≡ j → HasBit given (y % 64) ↔ (IsSet reached width 0 y × IsSet transposed width start y)
     given_is y e =
-        let both = HasBit-and (get_or reached j 0) (get_or turned (start * width + j) 0) (y % 64) in
+        let both = HasBit-and (get_or reached j 0) (get_or transposed (start * width + j) 0) (y % 64) in
         let zero : 0 * width + j ≡ j = omega arith in
         let r = subst (λ n. IsSet reached width 0 y ↔ HasBit (get_or reached n 0) (y % 64)) zero (IsSet-word reached width 0 j y e) in
-        let t = IsSet-word turned width start j y e in (
+        let t = IsSet-word transposed width start j y e in (
           λ b. let p = both.0 (subst (λ n. HasBit n (y % 64)) same b) in (r.1 p.0, t.1 p.1),
           λ p. subst (λ n. HasBit n (y % 64)) (sym same) (both.1 (r.0 p.0, t.0 p.1)),
         )
 
-    fresh_is : (y : ℕ) → y / 64 < width → y / 64 ≡ j → HasBit fresh (y % 64) ↔ IsFresh reached turned old_seen width start y
+    fresh_is : (y : ℕ) → y / 64 < width → y / 64 ≡ j → HasBit fresh (y % 64) ↔ IsFresh reached transposed old_seen width start y
     fresh_is y h e = (
       λ b. let p = (news y e).0 b in let g = (given_is y e).0 p.0 in (g.0, g.1, λ s. p.1 (advances.seen_leaves.kept 0 y h s)),
       λ p. (news y e).1 ((given_is y e).1 (p.0, p.1), λ s. p.2 (advances.later y h (omega (arith, e)) s)),
     )
 
-pub Advances-level : (reached turned old_seen seen old_levels levels : List ℕ) (width start row first j all : ℕ) → width ≤ j → Advances reached turned old_seen seen old_levels levels width start row first j all →
-    Adds old_levels levels width (FreshFrom reached turned old_seen width start row first)
-Advances-level reached turned old_seen seen old_levels levels width start row first j all past advances =
+pub Advances-level : (reached transposed old_seen seen old_levels levels : List ℕ) (width start row first j all : ℕ) → width ≤ j → Advances reached transposed old_seen seen old_levels levels width start row first j all →
+    Adds old_levels levels width (FreshFrom reached transposed old_seen width start row first)
+Advances-level reached transposed old_seen seen old_levels levels width start row first j all past advances =
     Leaves-end old_levels levels width _ _ advances.level_leaves (λ i y h p. omega (arith, p.1, h))
 
-pub Advances-seen : (reached turned old_seen seen old_levels levels : List ℕ) (width start row first j all : ℕ) → width ≤ j → Advances reached turned old_seen seen old_levels levels width start row first j all →
-    Adds old_seen seen width (SeenFrom reached turned width start first)
-Advances-seen reached turned old_seen seen old_levels levels width start row first j all past advances =
+pub Advances-seen : (reached transposed old_seen seen old_levels levels : List ℕ) (width start row first j all : ℕ) → width ≤ j → Advances reached transposed old_seen seen old_levels levels width start row first j all →
+    Adds old_seen seen width (SeenFrom reached transposed width start first)
+Advances-seen reached transposed old_seen seen old_levels levels width start row first j all past advances =
     Leaves-end old_seen seen width _ _ advances.seen_leaves (λ i y h p. omega (arith, p.1, h))
 
 -- where no bit of a fresh number was met, no number is fresh
-pub Advances-some : (reached turned old_seen seen old_levels levels : List ℕ) (width start row first j : ℕ) → width ≤ j → Advances reached turned old_seen seen old_levels levels width start row first j 0 →
-    (y : ℕ) → y / 64 < width → first ≤ y / 64 → IsFresh reached turned old_seen width start y → ⊥
-Advances-some reached turned old_seen seen old_levels levels width start row first j past advances y h l p = HasBit-zero (y % 64) (advances.some y (omega (arith, h, past)) l p)
+pub Advances-some : (reached transposed old_seen seen old_levels levels : List ℕ) (width start row first j : ℕ) → width ≤ j → Advances reached transposed old_seen seen old_levels levels width start row first j 0 →
+    (y : ℕ) → y / 64 < width → first ≤ y / 64 → IsFresh reached transposed old_seen width start y → ⊥
+Advances-some reached transposed old_seen seen old_levels levels width start row first j past advances y h l p = HasBit-zero (y % 64) (advances.some y (omega (arith, h, past)) l p)
 
 -- the numbers from word j on that x has an edge to, that reach x, and that a row has
 abbrev pub ClosedFrom : List ℕ → List ℕ → List ℕ → ℕ → ℕ → ℕ → ℕ → ℕ → Type 0
-ClosedFrom edges turned upto width x j i y = (i ≡ 0) × (j ≤ y / 64) × IsSet edges width x y × IsSet turned width x y × IsSet upto width 0 y
+ClosedFrom edges transposed upto width x j i y = (i ≡ 0) × (j ≤ y / 64) × IsSet edges width x y × IsSet transposed width x y × IsSet upto width 0 y
 
-pub ClosedFrom-start : (old edges turned upto : List ℕ) (width x : ℕ) → Leaves old old width (λ i y. (i ≡ 0) × IsSet edges width x y × IsSet turned width x y × IsSet upto width 0 y) (ClosedFrom edges turned upto width x 0)
-ClosedFrom-start old edges turned upto width x = Leaves-start old width _ _ (λ i y h. (λ p. (p.0, omega arith, p.1, p.2, p.3), λ p. (p.0, p.2, p.3, p.4)))
+pub ClosedFrom-start : (old edges transposed upto : List ℕ) (width x : ℕ) → Leaves old old width (λ i y. (i ≡ 0) × IsSet edges width x y × IsSet transposed width x y × IsSet upto width 0 y) (ClosedFrom edges transposed upto width x 0)
+ClosedFrom-start old edges transposed upto width x = Leaves-start old width _ _ (λ i y h. (λ p. (p.0, omega arith, p.1, p.2, p.3), λ p. (p.0, p.2, p.3, p.4)))
 
-pub ClosedFrom-step : (old now new edges turned upto : List ℕ) (width x j given : ℕ) →
-    Leaves old now width (λ i y. (i ≡ 0) × IsSet edges width x y × IsSet turned width x y × IsSet upto width 0 y) (ClosedFrom edges turned upto width x j) →
-    given ≡ bit_and (bit_and (get_or edges (x * width + j) 0) (get_or turned (x * width + j) 0)) (get_or upto j 0) →
+pub ClosedFrom-step : (old now new edges transposed upto : List ℕ) (width x j given : ℕ) →
+    Leaves old now width (λ i y. (i ≡ 0) × IsSet edges width x y × IsSet transposed width x y × IsSet upto width 0 y) (ClosedFrom edges transposed upto width x j) →
+    given ≡ bit_and (bit_and (get_or edges (x * width + j) 0) (get_or transposed (x * width + j) 0)) (get_or upto j 0) →
     Adds now new width (λ i y. (i ≡ 0) × (y / 64 ≡ j) × HasBit given (y % 64)) →
-    Leaves old new width (λ i y. (i ≡ 0) × IsSet edges width x y × IsSet turned width x y × IsSet upto width 0 y) (ClosedFrom edges turned upto width x (j + 1))
-ClosedFrom-step old now new edges turned upto width x j given leaves same adds = Leaves-step old now new width _ _ _ _ leaves adds
+    Leaves old new width (λ i y. (i ≡ 0) × IsSet edges width x y × IsSet transposed width x y × IsSet upto width 0 y) (ClosedFrom edges transposed upto width x (j + 1))
+ClosedFrom-step old now new edges transposed upto width x j given leaves same adds = Leaves-step old now new width _ _ _ _ leaves adds
     (λ i y h p. elim (cases_eq (y / 64) j) [
       | inl e ↦ inr (inl (p.0, e, (given_is y e).1 (p.2, p.3, p.4)))
       | inr ne ↦ inr (inr (p.0, omega (arith, p.1, ne), p.2, p.3, p.4))
@@ -201,19 +202,19 @@ ClosedFrom-step old now new edges turned upto width x j given leaves same adds =
     (λ i y h p. let g = (given_is y p.1).0 p.2 in (p.0, omega (arith, p.1), g.0, g.1, g.2))
     (λ i y h p. (p.0, omega (arith, p.1), p.2, p.3, p.4))
   where
-    given_is : (y : ℕ) → y / 64 ≡ j → HasBit given (y % 64) ↔ (IsSet edges width x y × IsSet turned width x y × IsSet upto width 0 y)
+    given_is : (y : ℕ) → y / 64 ≡ j → HasBit given (y % 64) ↔ (IsSet edges width x y × IsSet transposed width x y × IsSet upto width 0 y)
     given_is y e =
-        let all = HasBit-and (bit_and (get_or edges (x * width + j) 0) (get_or turned (x * width + j) 0)) (get_or upto j 0) (y % 64) in
-        let both = HasBit-and (get_or edges (x * width + j) 0) (get_or turned (x * width + j) 0) (y % 64) in
+        let all = HasBit-and (bit_and (get_or edges (x * width + j) 0) (get_or transposed (x * width + j) 0)) (get_or upto j 0) (y % 64) in
+        let both = HasBit-and (get_or edges (x * width + j) 0) (get_or transposed (x * width + j) 0) (y % 64) in
         let zero : 0 * width + j ≡ j = omega arith in
         let u = subst (λ n. IsSet upto width 0 y ↔ HasBit (get_or upto n 0) (y % 64)) zero (IsSet-word upto width 0 j y e) in
         let s = IsSet-word edges width x j y e in
-        let t = IsSet-word turned width x j y e in (
+        let t = IsSet-word transposed width x j y e in (
           λ b. let p = all.0 (subst (λ n. HasBit n (y % 64)) same b) in let q = both.0 p.0 in (s.1 q.0, t.1 q.1, u.1 p.1),
           λ p. subst (λ n. HasBit n (y % 64)) (sym same) (all.1 (both.1 (s.0 p.0, t.0 p.1), u.0 p.2)),
         )
 
-pub ClosedFrom-end : (old now edges turned upto : List ℕ) (width x : ℕ) →
-    Leaves old now width (λ i y. (i ≡ 0) × IsSet edges width x y × IsSet turned width x y × IsSet upto width 0 y) (ClosedFrom edges turned upto width x width) →
-    Adds old now width (λ i y. (i ≡ 0) × IsSet edges width x y × IsSet turned width x y × IsSet upto width 0 y)
-ClosedFrom-end old now edges turned upto width x leaves = Leaves-end old now width _ _ leaves (λ i y h p. omega (arith, p.1, h))
+pub ClosedFrom-end : (old now edges transposed upto : List ℕ) (width x : ℕ) →
+    Leaves old now width (λ i y. (i ≡ 0) × IsSet edges width x y × IsSet transposed width x y × IsSet upto width 0 y) (ClosedFrom edges transposed upto width x width) →
+    Adds old now width (λ i y. (i ≡ 0) × IsSet edges width x y × IsSet transposed width x y × IsSet upto width 0 y)
+ClosedFrom-end old now edges transposed upto width x leaves = Leaves-end old now width _ _ leaves (λ i y h p. omega (arith, p.1, h))

@@ -7,7 +7,8 @@ use Rattle.std.proofs.lemmas.Nat.{and_le_l, same_from_place}
 use Rattle.std.proofs.lemmas.Nat.Bits.{bit_at-lt, bit_at_or, bit_at_and, bit_at_not, bit_at-zero, bit_at_set_same, bit_at_set_other, bit_at_clear_same, bit_at_clear_other, bit_at-trailing_zeros}
 use Rattle.std.proofs.lemmas.List.{get_or-set_same, get_or-set_other}
 use Rattle.order_paths.proofs.Decisions.{Decision}
-use Rattle.order_graph.specs.Tables.{HasBit, IsSet, Adds}
+use Rattle.order_graph.specs.BitRows.{HasBit}
+use Rattle.order_graph.specs.Internal.Tables.{IsSet, Adds}
 
 -- whether a bit is set is decided
 pub HasBit-decided : (word k : ℕ) → Decision (HasBit word k)

@@ -1,3 +1,3 @@
+pub mod BitRows
 pub mod Digraphs
-pub mod Tables
-pub mod Tracks
+pub mod Internal

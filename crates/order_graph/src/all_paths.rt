@@ -1,8 +1,8 @@
 //! The paths of all edges of a table at once.
 
 ghost use Rattle.std.specs.Prelude.{◌≡◌, ◌<◌, ◌/◌, ℕ, IfOk, length};
-ghost use Rattle.order_graph.specs.Tables.{IsSet, IsTable, AreTurned};
-ghost use Rattle.order_graph.specs.Digraphs.{Keeps, KeepsSomePaths, KeepsPathsToDone};
+ghost use Rattle.order_graph.specs.Internal.Tables.{IsSet, IsTable, AreTransposed};
+ghost use Rattle.order_graph.specs.Internal.KeptPaths.{Keeps, KeepsSomePaths, KeepsPathsToDone};
 
 use crate::postorder::postorder;
 use crate::tables::{add_row, bit, join, set_bit};
@@ -84,7 +84,7 @@ pub fn paths_in_order(
 pub fn join_word(
     edges: &[u64],
     paths: &mut [u64],
-    turned: &mut [u64],
+    transposed: &mut [u64],
     width: usize,
     nodes: usize,
     x: usize,
@@ -92,11 +92,11 @@ pub fn join_word(
 )
     requires edges { IsTable nodes width edges.now }
     requires paths { KeepsSomePaths nodes width edges.now paths.old }
-    requires turned { AreTurned paths.old turned.old width nodes }
+    requires transposed { AreTransposed paths.old transposed.old width nodes }
     requires row { x < nodes }
     requires word { j < width }
     ensures paths { KeepsSomePaths nodes width edges.now paths.new }
-    ensures turned { AreTurned paths.new turned.new width nodes }
+    ensures transposed { AreTransposed paths.new transposed.new width nodes }
     ensures kept { (a b : ℕ) → b / 64 < width → IsSet paths.old width a b → IsSet paths.new width a b }
     ensures joined { (y : ℕ) → y / 64 ≡ j → IsSet edges.now width x y → IsSet paths.new width x y }
 {
@@ -104,7 +104,7 @@ pub fn join_word(
     let mut left = edges[place] & !paths[place];
     while left != 0 {
         let y = 64 * j + left.trailing_zeros() as usize;
-        join(paths, turned, width, nodes, x, y);
+        join(paths, transposed, width, nodes, x, y);
         left &= !paths[place];
     }
 }
@@ -113,33 +113,39 @@ pub fn join_word(
 pub fn join_row(
     edges: &[u64],
     paths: &mut [u64],
-    turned: &mut [u64],
+    transposed: &mut [u64],
     width: usize,
     nodes: usize,
     x: usize,
 )
     requires edges { IsTable nodes width edges.now }
     requires paths { KeepsSomePaths nodes width edges.now paths.old }
-    requires turned { AreTurned paths.old turned.old width nodes }
+    requires transposed { AreTransposed paths.old transposed.old width nodes }
     requires row { x < nodes }
     ensures paths { KeepsSomePaths nodes width edges.now paths.new }
-    ensures turned { AreTurned paths.new turned.new width nodes }
+    ensures transposed { AreTransposed paths.new transposed.new width nodes }
     ensures kept { (a b : ℕ) → b / 64 < width → IsSet paths.old width a b → IsSet paths.new width a b }
     ensures joined { (y : ℕ) → y / 64 < width → IsSet edges.now width x y → IsSet paths.new width x y }
 {
     for j in 0..width {
-        join_word(edges, paths, turned, width, nodes, x, j);
+        join_word(edges, paths, transposed, width, nodes, x, j);
     }
 }
 
 /// Joins all edges that are no paths yet.
-pub fn join_rest(edges: &[u64], paths: &mut [u64], turned: &mut [u64], width: usize, nodes: usize)
+pub fn join_rest(
+    edges: &[u64],
+    paths: &mut [u64],
+    transposed: &mut [u64],
+    width: usize,
+    nodes: usize,
+)
     requires edges { IsTable nodes width edges.now }
     requires paths { KeepsSomePaths nodes width edges.now paths.old }
-    requires turned { AreTurned paths.old turned.old width nodes }
-    ensures { Keeps nodes width edges.now paths.new turned.new }
+    requires transposed { AreTransposed paths.old transposed.old width nodes }
+    ensures { Keeps nodes width edges.now paths.new transposed.new }
 {
     for x in 0..nodes {
-        join_row(edges, paths, turned, width, nodes, x);
+        join_row(edges, paths, transposed, width, nodes, x);
     }
 }

@@ -1,9 +1,9 @@
 //! Which numbers can begin a short cycle: looks by words, which find no cycle but tell where there is none.
 
 ghost use Rattle.std.specs.Prelude.{◌≡◌, ◌⊎◌, ◌↔◌, ◌<◌, ◌≤◌, ◌+◌, ◌*◌, ◌/◌, ◌^◌, ℕ, IsTrue, IfOk, length};
-ghost use Rattle.order_graph.specs.Tables.{IsSet, Adds};
-ghost use Rattle.order_graph.specs.Digraphs.{Keeps};
-ghost use Rattle.order_graph.specs.Tracks.{IsClosed, IsNext, IsFresh, NoShorterOpen};
+ghost use Rattle.order_graph.specs.Internal.Tables.{IsSet, Adds};
+ghost use Rattle.order_graph.specs.Internal.KeptPaths.{Keeps};
+ghost use Rattle.order_graph.specs.Internal.Tracks.{IsClosedNumber, IsNext, IsFresh, NoShorterOpen};
 
 use crate::tables::{bit, or_rows, set_bit, set_word};
 use std::alloc::{AllocError, Global};
@@ -13,18 +13,18 @@ pub fn note_closed(
     row: &mut [u64],
     upto: &[u64],
     edges: &[u64],
-    turned: &[u64],
+    transposed: &[u64],
     x: usize,
     width: usize,
 )
     requires row { width ≤ length row.old }
     requires upto_row { width ≤ length upto.now }
     requires edges_row { x * width + width ≤ length edges.now }
-    requires turned_row { x * width + width ≤ length turned.now }
-    ensures { Adds row.old row.new width (λ i y. (i ≡ 0) × IsSet edges.now width x y × IsSet turned.now width x y × IsSet upto.now width 0 y) }
+    requires transposed_row { x * width + width ≤ length transposed.now }
+    ensures { Adds row.old row.new width (λ i y. (i ≡ 0) × IsSet edges.now width x y × IsSet transposed.now width x y × IsSet upto.now width 0 y) }
 {
     for j in 0..width {
-        let given = edges[x * width + j] & turned[x * width + j] & upto[j];
+        let given = edges[x * width + j] & transposed[x * width + j] & upto[j];
         set_word(row, width, 0, j, given);
     }
 }
@@ -35,19 +35,19 @@ pub fn closed_numbers(
     alloc: Global,
     edges: &[u64],
     paths: &[u64],
-    turned: &[u64],
+    transposed: &[u64],
     width: usize,
     nodes: usize,
 ) -> Result<Vec<u64>, AllocError>
-    requires keeps { Keeps nodes width edges.now paths.now turned.now }
-    ensures { IfOk result (λ row. (length row.items ≡ width) × ((y : ℕ) → y / 64 < width → IsSet row.items width 0 y ↔ IsClosed edges.now turned.now width nodes y)) }
+    requires keeps { Keeps nodes width edges.now paths.now transposed.now }
+    ensures { IfOk result (λ row. (length row.items ≡ width) × ((y : ℕ) → y / 64 < width → IsSet row.items width 0 y ↔ IsClosedNumber edges.now transposed.now width nodes y)) }
 {
     let mut row = vec![in alloc; 0; width]?;
     let mut upto = vec![in alloc; 0; width]?;
     for x in 0..nodes {
         set_bit(&mut upto, width, 0, x);
         if bit(paths, width, x, x) {
-            note_closed(&mut row, &upto, edges, turned, x, width);
+            note_closed(&mut row, &upto, edges, transposed, x, width);
         }
     }
     Ok(row)
@@ -91,7 +91,7 @@ pub fn advance(
     row: usize,
     seen: &mut [u64],
     reached: &[u64],
-    turned: &[u64],
+    transposed: &[u64],
     start: usize,
     width: usize,
     first: usize,
@@ -99,14 +99,14 @@ pub fn advance(
     requires level { row * width + width ≤ length levels.old }
     requires seen_row { width ≤ length seen.old }
     requires reached_row { width ≤ length reached.now }
-    requires start_row { start * width + width ≤ length turned.now }
-    ensures level { Adds levels.old levels.new width (λ i y. (i ≡ row) × (first ≤ y / 64) × IsFresh reached.now turned.now seen.old width start y) }
-    ensures seen { Adds seen.old seen.new width (λ i y. (i ≡ 0) × (first ≤ y / 64) × IsSet reached.now width 0 y × IsSet turned.now width start y) }
-    ensures some { (y : ℕ) → y / 64 < width → first ≤ y / 64 → IsFresh reached.now turned.now seen.old width start y → IsTrue result }
+    requires start_row { start * width + width ≤ length transposed.now }
+    ensures level { Adds levels.old levels.new width (λ i y. (i ≡ row) × (first ≤ y / 64) × IsFresh reached.now transposed.now seen.old width start y) }
+    ensures seen { Adds seen.old seen.new width (λ i y. (i ≡ 0) × (first ≤ y / 64) × IsSet reached.now width 0 y × IsSet transposed.now width start y) }
+    ensures some { (y : ℕ) → y / 64 < width → first ≤ y / 64 → IsFresh reached.now transposed.now seen.old width start y → IsTrue result }
 {
     let mut all = 0;
     for j in first..width {
-        let given = reached[j] & turned[start * width + j];
+        let given = reached[j] & transposed[start * width + j];
         let fresh = set_word(seen, width, 0, j, given);
         set_word(levels, width, row, j, fresh);
         all |= fresh;
@@ -120,18 +120,18 @@ pub fn closes_within(
     alloc: Global,
     edges: &[u64],
     paths: &[u64],
-    turned: &[u64],
+    transposed: &[u64],
     passed: &[u64],
     width: usize,
     nodes: usize,
     start: usize,
     limit: usize,
 ) -> Result<bool, AllocError>
-    requires keeps { Keeps nodes width edges.now paths.now turned.now }
+    requires keeps { Keeps nodes width edges.now paths.now transposed.now }
     requires within { start < nodes }
     requires sized { length passed.now ≡ width }
     requires passed { (y : ℕ) → y / 64 < width → IsSet passed.now width 0 y ↔ (y < start) }
-    ensures { IfOk result (λ closes. IsTrue closes ⊎ NoShorterOpen edges.now turned.now width nodes start limit) }
+    ensures { IfOk result (λ closes. IsTrue closes ⊎ NoShorterOpen edges.now transposed.now width nodes start limit) }
 {
     let first = start / 64;
     let mut seen = passed.to_vec(alloc)?;
@@ -150,7 +150,7 @@ pub fn closes_within(
             count + 1,
             &mut seen,
             &reached,
-            turned,
+            transposed,
             start,
             width,
             first,

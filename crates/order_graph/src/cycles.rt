@@ -1,9 +1,9 @@
 //! The least cycle, start by start.
 
 ghost use Rattle.std.specs.Prelude.{◌≡◌, ◌⊎◌, ◌↔◌, ◌<◌, ◌+◌, ◌-◌, ◌/◌, ℕ, IsTrue, IfOk, MatchOption, IsSomeAnd, length};
-ghost use Rattle.order_graph.specs.Digraphs.{Keeps};
-ghost use Rattle.order_graph.specs.Tables.{IsSet, Joined};
-ghost use Rattle.order_graph.specs.Tracks.{IsClosed, NoShorterOpen, NoCycleBefore, IsLeastCycleBefore};
+ghost use Rattle.order_graph.specs.Internal.KeptPaths.{Keeps};
+ghost use Rattle.order_graph.specs.Internal.Tables.{IsSet, Joined};
+ghost use Rattle.order_graph.specs.Internal.Tracks.{IsClosedNumber, NoShorterOpen, NoCycleBefore, IsLeastCycleBefore};
 
 use crate::closing::closes_within;
 use crate::searches::shortest;
@@ -26,22 +26,22 @@ pub fn may_be_shorter(
     alloc: Global,
     edges: &[u64],
     paths: &[u64],
-    turned: &[u64],
+    transposed: &[u64],
     passed: &[u64],
     width: usize,
     nodes: usize,
     start: usize,
     limit: Option<usize>,
 ) -> Result<bool, AllocError>
-    requires keeps { Keeps nodes width edges.now paths.now turned.now }
+    requires keeps { Keeps nodes width edges.now paths.now transposed.now }
     requires within { start < nodes }
     requires sized { length passed.now ≡ width }
     requires passed { (y : ℕ) → y / 64 < width → IsSet passed.now width 0 y ↔ (y < start) }
-    ensures { IfOk result (λ may. IsTrue may ⊎ IsSomeAnd limit (NoShorterOpen edges.now turned.now width nodes start)) }
+    ensures { IfOk result (λ may. IsTrue may ⊎ IsSomeAnd limit (NoShorterOpen edges.now transposed.now width nodes start)) }
 {
     match limit {
         Some(most) => closes_within(
-            alloc, edges, paths, turned, passed, width, nodes, start, most,
+            alloc, edges, paths, transposed, passed, width, nodes, start, most,
         ),
         None => Ok(true),
     }
@@ -53,7 +53,7 @@ pub fn better(
     alloc: Global,
     edges: &[u64],
     paths: &[u64],
-    turned: &[u64],
+    transposed: &[u64],
     closed: &[u64],
     passed: &[u64],
     width: usize,
@@ -61,12 +61,12 @@ pub fn better(
     start: usize,
     best: Option<Vec<usize>>,
 ) -> Result<Option<Vec<usize>>, AllocError>
-    requires keeps { Keeps nodes width edges.now paths.now turned.now }
+    requires keeps { Keeps nodes width edges.now paths.now transposed.now }
     requires within { start < nodes }
     requires sized { length passed.now ≡ width }
     requires passed { (y : ℕ) → y / 64 < width → IsSet passed.now width 0 y ↔ (y < start) }
     requires closed_row { length closed.now ≡ width }
-    requires closed { (y : ℕ) → y / 64 < width → IsSet closed.now width 0 y ↔ IsClosed edges.now turned.now width nodes y }
+    requires closed { (y : ℕ) → y / 64 < width → IsSet closed.now width 0 y ↔ IsClosedNumber edges.now transposed.now width nodes y }
     requires best { MatchOption best (NoCycleBefore (Joined edges.now width nodes) start) (λ cycle. IsLeastCycleBefore (Joined edges.now width nodes) start cycle.items) }
     ensures { IfOk result (λ found. MatchOption found (NoCycleBefore (Joined edges.now width nodes) (start + 1)) (λ cycle. IsLeastCycleBefore (Joined edges.now width nodes) (start + 1) cycle.items)) }
 {
@@ -75,13 +75,13 @@ pub fn better(
     }
     let limit = limit_below(&best);
     let may = may_be_shorter(
-        alloc, edges, paths, turned, passed, width, nodes, start, limit,
+        alloc, edges, paths, transposed, passed, width, nodes, start, limit,
     )?;
     if !may {
         return Ok(best);
     }
     match shortest(
-        alloc, edges, paths, turned, width, nodes, start, start, limit,
+        alloc, edges, paths, transposed, width, nodes, start, start, limit,
     )? {
         Some(cycle) => Ok(Some(cycle)),
         None => Ok(best),

@@ -1,7 +1,8 @@
 //! Rows of edges, from which a graph is made at once.
 
 ghost use Rattle.std.specs.Prelude.{◌≡◌, ◌⊎◌, ◌↔◌, ◌<◌, ◌^◌, ℕ, IfOk};
-ghost use Rattle.order_graph.specs.Tables.{HasNumber, IsTable};
+ghost use Rattle.order_graph.specs.BitRows.{HasNumber};
+ghost use Rattle.order_graph.specs.Internal.Tables.{IsTable};
 ghost use Rattle.order_graph.specs.Digraphs.{IsEdge, EdgesWithin, graph_of};
 
 use crate::tables::add_words;
@@ -17,7 +18,7 @@ pub struct EdgeRows {
 }
 
 impl Model for EdgeRows {
-    ghost use Rattle.order_graph.specs.Tables.{IsTable};
+    ghost use Rattle.order_graph.specs.Internal.Tables.{IsTable};
     ghost use Rattle.order_graph.specs.Digraphs.{Digraph, graph_of};
 
     ghost Value = { Digraph };

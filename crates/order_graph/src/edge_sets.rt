@@ -2,7 +2,8 @@
 
 ghost use Rattle.std.specs.Prelude.{◌≡◌, ◌↔◌, ◌<◌, ◌^◌, ℕ, false, IsTrue, IfOk, MatchOption, length, slice_index_or};
 ghost use Rattle.order_paths.specs.Paths.{Reaches, IsLeastPath};
-ghost use Rattle.order_graph.specs.Digraphs.{IsEdge, EdgesWithin, Covers, graph_of};
+ghost use Rattle.order_graph.specs.Digraphs.{IsEdge, EdgesWithin, graph_of};
+ghost use Rattle.order_graph.specs.Internal.KeptPaths.{Covers};
 
 use crate::forward::{reached_row, tests_of_row};
 use crate::searches::least_path_of;
@@ -20,17 +21,18 @@ pub struct EdgeSet {
     width: usize,
     edges: Vec<u64>,
     paths: Vec<u64>,
-    turned: Vec<u64>,
+    transposed: Vec<u64>,
 }
 
 impl Model for EdgeSet {
-    ghost use Rattle.order_graph.specs.Digraphs.{Digraph, graph_of, Covers};
+    ghost use Rattle.order_graph.specs.Digraphs.{Digraph, graph_of};
+    ghost use Rattle.order_graph.specs.Internal.KeptPaths.{Covers};
 
     ghost Value = { Digraph };
 
     ghost view = { λ g. graph_of g.nodes g.width g.edges.items };
 
-    ghost invariant = { λ g. Covers g.nodes g.width g.edges.items g.paths.items g.turned.items };
+    ghost invariant = { λ g. Covers g.nodes g.width g.edges.items g.paths.items g.transposed.items };
 }
 
 impl EdgeSet {
@@ -39,11 +41,11 @@ impl EdgeSet {
         alloc: Global,
         edges: &[u64],
         paths: &[u64],
-        turned: &[u64],
+        transposed: &[u64],
         width: usize,
         nodes: usize,
     ) -> Result<EdgeSet, AllocError>
-        requires { Covers nodes width edges.now paths.now turned.now }
+        requires { Covers nodes width edges.now paths.now transposed.now }
         ensures { IfOk result (λ set. graph_of nodes width edges.now ≡ set) }
     {
         Ok(EdgeSet {
@@ -51,7 +53,7 @@ impl EdgeSet {
             width,
             edges: edges.to_vec(alloc)?,
             paths: paths.to_vec(alloc)?,
-            turned: turned.to_vec(alloc)?,
+            transposed: transposed.to_vec(alloc)?,
         })
     }
 
@@ -116,7 +118,7 @@ impl EdgeSet {
             alloc,
             &self.edges,
             &self.paths,
-            &self.turned,
+            &self.transposed,
             self.width,
             self.nodes,
             u,

@@ -2,7 +2,7 @@
 
 ghost use Rattle.std.specs.Prelude.{◌≡◌, ◌↔◌, ◌<◌, ◌≤◌, ◌+◌, ◌*◌, ◌/◌, ◌^◌, ℕ, false, IsTrue, IfOk, length, slice_index_or};
 ghost use Rattle.order_paths.specs.Paths.{Reaches};
-ghost use Rattle.order_graph.specs.Tables.{IsSet, Adds, Joined};
+ghost use Rattle.order_graph.specs.Internal.Tables.{IsSet, Adds, Joined};
 
 use crate::searches::first_shared;
 use crate::tables::{bit, clear_bit, set_word};
@@ -11,7 +11,7 @@ use std::alloc::{AllocError, Global};
 /// Adds the numbers that number x has an edge to to the row of numbers reached, and those that were not in it to the row
 /// of numbers left.
 #[inline]
-pub fn go_on(reached: &mut [u64], left: &mut [u64], edges: &[u64], x: usize, width: usize)
+pub fn expand(reached: &mut [u64], left: &mut [u64], edges: &[u64], x: usize, width: usize)
     requires reached_row { width ≤ length reached.old }
     requires left_row { width ≤ length left.old }
     requires edges_row { x * width + width ≤ length edges.now }
@@ -43,10 +43,10 @@ pub fn reached_row(
 {
     let mut reached = vec![in alloc; 0; width]?;
     let mut left = vec![in alloc; 0; width]?;
-    go_on(&mut reached, &mut left, edges, u, width);
+    expand(&mut reached, &mut left, edges, u, width);
     'numbers: while let Some(x) = first_shared(&left, 0, &left, 0, width, 0, width) {
         clear_bit(&mut left, width, 0, x);
-        go_on(&mut reached, &mut left, edges, x, width);
+        expand(&mut reached, &mut left, edges, x, width);
     }
     Ok(reached)
 }

@@ -3,7 +3,7 @@
 ghost use Rattle.std.specs.Prelude.{◌≡◌, ◌⊎◌, ◌↔◌, ◌<◌, ◌+◌, ◌/◌, ◌^◌, ℕ, false, IsTrue, IfOk, MatchOption, length, slice_index_or};
 ghost use Rattle.order_paths.specs.Paths.{Reaches, HasCycle, IsLeastPath, IsLeastCycle};
 ghost use Rattle.order_graph.specs.Digraphs.{IsEdge, EdgesWithin};
-ghost use Rattle.order_graph.specs.Tables.{HasNumber};
+ghost use Rattle.order_graph.specs.BitRows.{HasNumber};
 
 use crate::all_paths::{join_rest, paths_in_order};
 use crate::closing::closed_numbers;
@@ -13,7 +13,7 @@ use crate::edge_sets::EdgeSet;
 use crate::forward::tests_of_row;
 use crate::searches::{first_shared, least_path_of};
 use crate::tables::{bit, join, set_bit};
-use crate::turning::turned_table;
+use crate::transposing::transposed_table;
 use std::alloc::{AllocError, Global};
 use std::marker::Model;
 
@@ -27,17 +27,18 @@ pub struct Graph {
     width: usize,
     edges: Vec<u64>,
     paths: Vec<u64>,
-    turned: Vec<u64>,
+    transposed: Vec<u64>,
 }
 
 impl Model for Graph {
-    ghost use Rattle.order_graph.specs.Digraphs.{Digraph, graph_of, Keeps};
+    ghost use Rattle.order_graph.specs.Digraphs.{Digraph, graph_of};
+    ghost use Rattle.order_graph.specs.Internal.KeptPaths.{Keeps};
 
     ghost Value = { Digraph };
 
     ghost view = { λ g. graph_of g.nodes g.width g.edges.items };
 
-    ghost invariant = { λ g. Keeps g.nodes g.width g.edges.items g.paths.items g.turned.items };
+    ghost invariant = { λ g. Keeps g.nodes g.width g.edges.items g.paths.items g.transposed.items };
 }
 
 impl Graph {
@@ -55,7 +56,7 @@ impl Graph {
             width,
             edges: vec![in alloc; 0; size]?,
             paths: vec![in alloc; 0; size]?,
-            turned: vec![in alloc; 0; size]?,
+            transposed: vec![in alloc; 0; size]?,
         })
     }
 
@@ -67,14 +68,14 @@ impl Graph {
         let (nodes, width, edges) = rows.into_table();
         let alloc = *edges.allocator();
         let mut paths = paths_in_order(alloc, &edges, width, nodes)?;
-        let mut turned = turned_table(alloc, &paths, width, nodes)?;
-        join_rest(&edges, &mut paths, &mut turned, width, nodes);
+        let mut transposed = transposed_table(alloc, &paths, width, nodes)?;
+        join_rest(&edges, &mut paths, &mut transposed, width, nodes);
         Ok(Graph {
             nodes,
             width,
             edges,
             paths,
-            turned,
+            transposed,
         })
     }
 
@@ -105,7 +106,7 @@ impl Graph {
         }
         join(
             &mut self.paths,
-            &mut self.turned,
+            &mut self.transposed,
             self.width,
             self.nodes,
             u,
@@ -182,7 +183,7 @@ impl Graph {
             *self.edges.allocator(),
             &self.edges,
             &self.paths,
-            &self.turned,
+            &self.transposed,
             self.width,
             self.nodes,
             u,
@@ -199,7 +200,7 @@ impl Graph {
             *self.edges.allocator(),
             &self.edges,
             &self.paths,
-            &self.turned,
+            &self.transposed,
             self.width,
             self.nodes,
         )
@@ -216,7 +217,7 @@ impl Graph {
             alloc,
             &self.edges,
             &self.paths,
-            &self.turned,
+            &self.transposed,
             self.width,
             self.nodes,
         )?;
@@ -227,7 +228,7 @@ impl Graph {
                 alloc,
                 &self.edges,
                 &self.paths,
-                &self.turned,
+                &self.transposed,
                 &closed,
                 &passed,
                 self.width,

@@ -19,4 +19,4 @@ mod searches;
 mod tables;
 #[cfg(test)]
 mod tests;
-mod turning;
+mod transposing;

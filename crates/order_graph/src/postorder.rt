@@ -1,7 +1,7 @@
 //! The order in which a depth-first search leaves the numbers.
 
 ghost use Rattle.std.specs.Prelude.{◌≡◌, ◌↔◌, ◌<◌, ◌+◌, ◌/◌, ◌^◌, ℕ, All, IfOk, IfSome, length};
-ghost use Rattle.order_graph.specs.Tables.{IsSet, IsTable};
+ghost use Rattle.order_graph.specs.Internal.Tables.{IsSet, IsTable};
 
 use crate::searches::first_shared;
 use crate::tables::{clear_bit, set_bit};

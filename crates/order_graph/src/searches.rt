@@ -2,9 +2,9 @@
 
 ghost use Rattle.std.specs.Prelude.{◌≡◌, ◌↔◌, ◌<◌, ◌≤◌, ◌+◌, ◌*◌, ◌/◌, ◌^◌, ℕ, IsTrue, IfOk, MatchOption, IsSomeAnd, IfSome, length};
 ghost use Rattle.order_paths.specs.Paths.{Reaches, IsLeastPath};
-ghost use Rattle.order_graph.specs.Tables.{IsSet, Adds, Joined};
-ghost use Rattle.order_graph.specs.Digraphs.{Covers};
-ghost use Rattle.order_graph.specs.Tracks.{NoneShared, IsFirstShared, IsLevel, IsAbove, IsLeastTrack, NoShorter};
+ghost use Rattle.order_graph.specs.Internal.Tables.{IsSet, Adds, Joined};
+ghost use Rattle.order_graph.specs.Internal.KeptPaths.{Covers};
+ghost use Rattle.order_graph.specs.Internal.Tracks.{NoneShared, IsFirstShared, IsLevel, IsAboveLevel, IsLeastTrack, NoShorter};
 
 use crate::tables::{bit, set_bit};
 use std::alloc::{AllocError, Global};
@@ -59,7 +59,7 @@ pub fn first_shared(
 pub fn is_above(
     edges: &[u64],
     paths: &[u64],
-    turned: &[u64],
+    transposed: &[u64],
     levels: &[u64],
     width: usize,
     nodes: usize,
@@ -70,16 +70,16 @@ pub fn is_above(
     low: usize,
     high: usize,
 ) -> bool
-    requires covers { Covers nodes width edges.now paths.now turned.now }
+    requires covers { Covers nodes width edges.now paths.now transposed.now }
     requires row { x < nodes }
     requires from { u < nodes }
     requires to { v < nodes }
     requires level { count * width + width ≤ length levels.now }
     requires end { high ≤ width }
     requires used { (y : ℕ) → y / 64 < width → IsSet levels.now width count y → (low ≤ y / 64) × (y / 64 < high) }
-    ensures { IsTrue result ↔ IsAbove edges.now paths.now turned.now levels.now width u v count x }
+    ensures { IsTrue result ↔ IsAboveLevel edges.now paths.now transposed.now levels.now width u v count x }
 {
-    bit(turned, width, v, x)
+    bit(transposed, width, v, x)
         && bit(paths, width, u, x)
         && first_shared(edges, x, levels, count, width, low, high).is_some()
 }
@@ -88,7 +88,7 @@ pub fn is_above(
 pub fn raise(
     edges: &[u64],
     paths: &[u64],
-    turned: &[u64],
+    transposed: &[u64],
     levels: &mut [u64],
     width: usize,
     nodes: usize,
@@ -96,16 +96,16 @@ pub fn raise(
     v: usize,
     count: usize,
 )
-    requires covers { Covers nodes width edges.now paths.now turned.now }
+    requires covers { Covers nodes width edges.now paths.now transposed.now }
     requires from { u < nodes }
     requires to { v < nodes }
     requires level { (count + 1) * width + width ≤ length levels.old }
-    ensures { Adds levels.old levels.new width (λ i y. (i ≡ count + 1) × (y < nodes) × IsAbove edges.now paths.now turned.now levels.old width u v count y) }
+    ensures { Adds levels.old levels.new width (λ i y. (i ≡ count + 1) × (y < nodes) × IsAboveLevel edges.now paths.now transposed.now levels.old width u v count y) }
 {
     let (low, high) = used_words(levels, count, width);
     for x in 0..nodes {
         if is_above(
-            edges, paths, turned, levels, width, nodes, u, v, count, x, low, high,
+            edges, paths, transposed, levels, width, nodes, u, v, count, x, low, high,
         ) {
             set_bit(levels, width, count + 1, x);
         }
@@ -117,7 +117,7 @@ pub fn descend(
     alloc: Global,
     edges: &[u64],
     paths: &[u64],
-    turned: &[u64],
+    transposed: &[u64],
     levels: &[u64],
     width: usize,
     nodes: usize,
@@ -125,7 +125,7 @@ pub fn descend(
     v: usize,
     count: usize,
 ) -> Result<Vec<usize>, AllocError>
-    requires covers { Covers nodes width edges.now paths.now turned.now }
+    requires covers { Covers nodes width edges.now paths.now transposed.now }
     requires from { u < nodes }
     requires to { v < nodes }
     requires sized { length levels.now ≡ (count + 1) * width }
@@ -162,14 +162,14 @@ pub fn shortest(
     alloc: Global,
     edges: &[u64],
     paths: &[u64],
-    turned: &[u64],
+    transposed: &[u64],
     width: usize,
     nodes: usize,
     u: usize,
     v: usize,
     limit: Option<usize>,
 ) -> Result<Option<Vec<usize>>, AllocError>
-    requires covers { Covers nodes width edges.now paths.now turned.now }
+    requires covers { Covers nodes width edges.now paths.now transposed.now }
     requires from { u < nodes }
     requires to { v < nodes }
     requires path { Reaches (Joined edges.now width nodes) u v }
@@ -187,11 +187,21 @@ pub fn shortest(
         }
         let size = levels.len() + width;
         levels.resize(size, 0)?;
-        raise(edges, paths, turned, &mut levels, width, nodes, u, v, count);
+        raise(
+            edges,
+            paths,
+            transposed,
+            &mut levels,
+            width,
+            nodes,
+            u,
+            v,
+            count,
+        );
         count += 1;
     }
     let list = descend(
-        alloc, edges, paths, turned, &levels, width, nodes, u, v, count,
+        alloc, edges, paths, transposed, &levels, width, nodes, u, v, count,
     )?;
     Ok(Some(list))
 }
@@ -201,19 +211,19 @@ pub fn least_path_of(
     alloc: Global,
     edges: &[u64],
     paths: &[u64],
-    turned: &[u64],
+    transposed: &[u64],
     width: usize,
     nodes: usize,
     u: usize,
     v: usize,
 ) -> Result<Vec<usize>, AllocError>
-    requires covers { Covers nodes width edges.now paths.now turned.now }
+    requires covers { Covers nodes width edges.now paths.now transposed.now }
     requires from { u < nodes }
     requires to { v < nodes }
     requires path { Reaches (Joined edges.now width nodes) u v }
     ensures { IfOk result (λ path. IsLeastPath (Joined edges.now width nodes) u v path.items) }
 {
-    match shortest(alloc, edges, paths, turned, width, nodes, u, v, None)? {
+    match shortest(alloc, edges, paths, transposed, width, nodes, u, v, None)? {
         Some(mut list) => {
             list.push(v)?;
             Ok(list)

@@ -1,7 +1,8 @@
 //! Flat tables of bits: rows of words, one behind another.
 
 ghost use Rattle.std.specs.Prelude.{◌≡◌, ◌⊎◌, ◌↔◌, ◌<◌, ◌≤◌, ◌+◌, ◌*◌, ◌/◌, ◌%◌, ◌^◌, ℕ, IsTrue, length};
-ghost use Rattle.order_graph.specs.Tables.{HasBit, HasNumber, IsSet, Adds, Loses, IsSelfOrSet, AreTurned, IsTransitive};
+ghost use Rattle.order_graph.specs.BitRows.{HasBit, HasNumber};
+ghost use Rattle.order_graph.specs.Internal.Tables.{IsSet, Adds, Loses, IsSelfOrSet, AreTransposed, IsTransitive};
 
 /// Whether the bit of row x and column y is set.
 #[inline]
@@ -103,21 +104,21 @@ pub fn add_row(table: &mut [u64], width: usize, x: usize, v: usize)
 /// Only bits that some of these rows lacked are set in the turned table, where each lies in a row of its own.
 pub fn join_rows(
     table: &mut [u64],
-    turned: &mut [u64],
+    transposed: &mut [u64],
     width: usize,
     nodes: usize,
     i: usize,
     rows: u64,
     v: usize,
 )
-    requires turned { AreTurned table.old turned.old width nodes }
+    requires transposed { AreTransposed table.old transposed.old width nodes }
     requires small { nodes < 2 ^ 32 }
     requires fits { width ≡ (nodes + 63) / 64 }
     requires rows { (k : ℕ) → k < 64 → HasBit rows k → 64 * i + k < nodes }
     requires given { v < nodes }
     requires word { i < width }
     ensures added { Adds table.old table.new width (λ x y. (x / 64 ≡ i) × HasBit rows (x % 64) × IsSelfOrSet table.old width v y) }
-    ensures turned { AreTurned table.new turned.new width nodes }
+    ensures transposed { AreTransposed table.new transposed.new width nodes }
 {
     if rows == 0 {
         return;
@@ -125,27 +126,34 @@ pub fn join_rows(
     for j in 0..width {
         let given = with_bit(table[v * width + j], j, v);
         let fresh = set_words(table, width, i, rows, j, given);
-        set_words(turned, width, j, fresh, i, rows);
+        set_words(transposed, width, j, fresh, i, rows);
     }
 }
 
 /// Gives u, and each number that leads to u, the number v and those that v leads to, in both tables.
 ///
 /// A row that has v already has all of them, so it is left out.
-pub fn join(table: &mut [u64], turned: &mut [u64], width: usize, nodes: usize, u: usize, v: usize)
-    requires turned { AreTurned table.old turned.old width nodes }
+pub fn join(
+    table: &mut [u64],
+    transposed: &mut [u64],
+    width: usize,
+    nodes: usize,
+    u: usize,
+    v: usize,
+)
+    requires transposed { AreTransposed table.old transposed.old width nodes }
     requires transitive { IsTransitive table.old width nodes }
     requires small { nodes < 2 ^ 32 }
     requires fits { width ≡ (nodes + 63) / 64 }
     requires from { u < nodes }
     requires to { v < nodes }
     ensures added { Adds table.old table.new width (λ x y. (x < nodes) × ((x ≡ u) ⊎ IsSet table.old width x u) × IsSelfOrSet table.old width v y) }
-    ensures turned { AreTurned table.new turned.new width nodes }
+    ensures transposed { AreTransposed table.new transposed.new width nodes }
 {
     for i in 0..width {
-        let sources = with_bit(turned[u * width + i], i, u);
-        let rows = sources & !turned[v * width + i];
-        join_rows(table, turned, width, nodes, i, rows, v);
+        let sources = with_bit(transposed[u * width + i], i, u);
+        let rows = sources & !transposed[v * width + i];
+        join_rows(table, transposed, width, nodes, i, rows, v);
     }
 }
 

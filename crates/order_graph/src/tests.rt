@@ -1,7 +1,7 @@
 //! Graphs by hand, and small graphs beside a plain program over lists of edges.
 
 ghost use Rattle.std.specs.Prelude.{◌≡◌, ◌<◌, ◌/◌, ℕ, IfOk};
-ghost use Rattle.order_graph.specs.Tables.{HasNumber};
+ghost use Rattle.order_graph.specs.BitRows.{HasNumber};
 
 use crate::tables::set_bit;
 use crate::{EdgeRows, EdgeSet, Graph};
@@ -238,7 +238,7 @@ fn compare_set(
 }
 
 /// Takes the edges away from the last to the first, and compares what is left with the plain program.
-fn compare_taking_away(
+fn compare_removing(
     rt: &impl Abort,
     alloc: Global,
     edges: &[(usize, usize)],
@@ -346,7 +346,7 @@ fn rows_of_any_width(rt: HostRuntime) -> Result<(), Fail> {
 }
 
 #[test]
-fn edges_taken_away_as_by_lists(rt: HostRuntime) -> Result<(), Fail> {
+fn edges_removed_as_by_lists(rt: HostRuntime) -> Result<(), Fail> {
     let mut word = 5u64;
     for number in 0usize..60 {
         let nodes = number % 5 + 1;
@@ -358,7 +358,7 @@ fn edges_taken_away_as_by_lists(rt: HostRuntime) -> Result<(), Fail> {
             let v = (word >> 33) as usize % nodes;
             edges.push((u, v))?;
         }
-        compare_taking_away(&rt, rt.alloc(), &edges, nodes)?;
+        compare_removing(&rt, rt.alloc(), &edges, nodes)?;
     }
     Ok(())
 }
@@ -463,7 +463,7 @@ fn many_numbers(rt: HostRuntime) -> Result<(), Fail> {
 
 /// A long cycle of low numbers, a short one that begins behind it, and another as short.
 #[test]
-fn short_cycle_behind_a_long_one(rt: HostRuntime) -> Result<(), Fail> {
+fn short_cycle_after_a_long_one(rt: HostRuntime) -> Result<(), Fail> {
     let mut graph = Graph::new(rt.alloc(), 200)?;
     for u in 0..99 {
         join(&mut graph, u, u + 1);

@@ -21,12 +21,12 @@ pub record IsLeastOfLength (Has : List ℕ → Type 0) (size : ℕ) (xs : List �
   pub least : (other : List ℕ) → length other ≡ size → Has other → IsAtMost xs other
 
 -- the lists that have the property behind the number
-abbrev Behind : (List ℕ → Type 0) → ℕ → List ℕ → Type 0
-Behind Has x rest = Has (x ∷ rest)
+abbrev HasAfter : (List ℕ → Type 0) → ℕ → List ℕ → Type 0
+HasAfter Has x rest = Has (x ∷ rest)
 
 -- what follows the number is searched likewise
-IsSearchable-behind : (Has : List ℕ → Type 0) (n x : ℕ) → IsSearchable Has n → IsSearchable (Behind Has x) n
-IsSearchable-behind Has n x searchable = record {
+IsSearchable-after : (Has : List ℕ → Type 0) (n x : ℕ) → IsSearchable Has n → IsSearchable (HasAfter Has x) n
+IsSearchable-after Has n x searchable = record {
   decide = λ rest. searchable.decide (x ∷ rest);
   below = λ rest has. (searchable.below (x ∷ rest) has).1;
 }
@@ -40,12 +40,12 @@ abbrev Begins : (List ℕ → Type 0) → ℕ → ℕ → Type 0
 Begins Has size x = (rest : List ℕ) × (length rest ≡ size) × Has (x ∷ rest)
 
 -- whether one does is decided
-Begins-decided : (Has : List ℕ → Type 0) (size x : ℕ) → LeastOrNone (Behind Has x) size → Decision (Begins Has size x)
+Begins-decided : (Has : List ℕ → Type 0) (size x : ℕ) → LeastOrNone (HasAfter Has x) size → Decision (Begins Has size x)
 Begins-decided Has size x (inl found) = inl (found.0, found.1.sized, found.1.has)
 Begins-decided Has size x (inr none) = inr (λ p. none p.0 p.1 p.2)
 
 -- the least first number and the least list behind it make the least list
-least_from_first : (Has : List ℕ → Type 0) (size x : ℕ) → IsFirst (Begins Has size) x → LeastOrNone (Behind Has x) size → LeastOrNone Has (suc size)
+least_from_first : (Has : List ℕ → Type 0) (size x : ℕ) → IsFirst (Begins Has size) x → LeastOrNone (HasAfter Has x) size → LeastOrNone Has (suc size)
 least_from_first Has size x first (inr none) = absurd (none first.0.0 first.0.1 first.0.2)
 least_from_first Has size x first (inl found) = inl (x ∷ found.0, record { sized = omega (arith, found.1.sized); has = found.1.has; least = least })
   where
@@ -68,13 +68,13 @@ least_of_length Has n searchable zero = elim (searchable.decide []) [
     empty none [] sized has = none has
     empty none (x ∷ xs) sized has = omega arith
 least_of_length Has n searchable (suc size) =
-    by_first (λ x. least_of_length (Behind Has x) n (IsSearchable-behind Has n x searchable) size)
+    by_first (λ x. least_of_length (HasAfter Has x) n (IsSearchable-after Has n x searchable) size)
   where
     no_list : ((k : ℕ) → k < n → Begins Has size k → ⊥) → (xs : List ℕ) → length xs ≡ suc size → Has xs → ⊥
     no_list none [] sized has = omega arith
     no_list none (x ∷ xs) sized has = none x (searchable.below (x ∷ xs) has).0 (xs, omega arith, has)
 
-    by_first : ((x : ℕ) → LeastOrNone (Behind Has x) size) → LeastOrNone Has (suc size)
+    by_first : ((x : ℕ) → LeastOrNone (HasAfter Has x) size) → LeastOrNone Has (suc size)
     by_first rest = elim (first_below (Begins Has size) (λ x. Begins-decided Has size x (rest x)) n) [
       | inl found ↦ least_from_first Has size found.0 found.2 (rest found.0)
       | inr none ↦ inr (no_list none)

@@ -9,14 +9,14 @@ pub Reaches-edge : (Edge : ℕ → ℕ → Type 0) (u v : ℕ) → Edge u v → 
 Reaches-edge Edge u v e = (u ∷ v ∷ [], ((refl, refl), (e, tt)))
 
 -- the list with a number in front whose edge leads to its first
-IsPath-front : (Edge : ℕ → ℕ → Type 0) (u w v : ℕ) (path : List ℕ) → Edge u w → IsPath Edge w v path → IsPath Edge u v (u ∷ path)
-IsPath-front Edge u w v [] e p = absurd p.0
-IsPath-front Edge u w v (x ∷ []) e p = absurd p.0
-IsPath-front Edge u w v (x ∷ y ∷ rest) e p = ((refl, p.0.1), (subst (λ n. Edge u n) (sym p.0.0) e, p.1))
+IsPath-prefix : (Edge : ℕ → ℕ → Type 0) (u w v : ℕ) (path : List ℕ) → Edge u w → IsPath Edge w v path → IsPath Edge u v (u ∷ path)
+IsPath-prefix Edge u w v [] e p = absurd p.0
+IsPath-prefix Edge u w v (x ∷ []) e p = absurd p.0
+IsPath-prefix Edge u w v (x ∷ y ∷ rest) e p = ((refl, p.0.1), (subst (λ n. Edge u n) (sym p.0.0) e, p.1))
 
 -- An edge and a path from its end are a path.
-pub Reaches-front : (Edge : ℕ → ℕ → Type 0) (u w v : ℕ) → Edge u w → Reaches Edge w v → Reaches Edge u v
-Reaches-front Edge u w v e p = (u ∷ p.0, IsPath-front Edge u w v p.0 e p.1)
+pub Reaches-prefix : (Edge : ℕ → ℕ → Type 0) (u w v : ℕ) → Edge u w → Reaches Edge w v → Reaches Edge u v
+Reaches-prefix Edge u w v e p = (u ∷ p.0, IsPath-prefix Edge u w v p.0 e p.1)
 
 -- What joins, and holds along each edge, holds of the first and last of linked numbers.
 Linked-into : (Edge Fact : ℕ → ℕ → Type 0) → ((x y z : ℕ) → Fact x y → Fact y z → Fact x z) → ((x y : ℕ) → Edge x y → Fact x y) →
@@ -41,7 +41,7 @@ Reaches-into Edge Fact join each u v p = IsPath-into Edge Fact join each u v p.0
 pub Reaches-join : (Edge : ℕ → ℕ → Type 0) (u w v : ℕ) → Reaches Edge u w → Reaches Edge w v → Reaches Edge u v
 Reaches-join Edge u w v p =
     Reaches-into Edge (λ x y. (z : ℕ) → Reaches Edge y z → Reaches Edge x z)
-    (λ x y z first second end q. first end (second end q)) (λ x y e z q. Reaches-front Edge x y z e q) u w p v
+    (λ x y z first second end q. first end (second end q)) (λ x y e z q. Reaches-prefix Edge x y z e q) u w p v
 
 -- Where each edge of one relation is a path of another, so is each path.
 pub Reaches-flat : (Edge Other : ℕ → ℕ → Type 0) → ((x y : ℕ) → Edge x y → Reaches Other x y) → (u v : ℕ) → Reaches Edge u v → Reaches Other u v
@@ -105,7 +105,7 @@ Reaches-split_last Edge u v p = Reaches-into Edge (λ x y. Edge x y ⊎ ((w : �
 -- Linked numbers and an edge from their last are a path.
 Linked-Reaches : (Edge : ℕ → ℕ → Type 0) (x : ℕ) (rest : List ℕ) (v : ℕ) → Linked Edge (x ∷ rest) → Edge (last_of x rest) v → Reaches Edge x v
 Linked-Reaches Edge x [] v l e = Reaches-edge Edge x v e
-Linked-Reaches Edge x (y ∷ rest) v l e = Reaches-front Edge x y v l.0 (Linked-Reaches Edge y rest v l.1 e)
+Linked-Reaches Edge x (y ∷ rest) v l e = Reaches-prefix Edge x y v l.0 (Linked-Reaches Edge y rest v l.1 e)
 
 -- A cycle is a path from its first number to itself.
 pub IsCycle-Reaches : (Edge : ℕ → ℕ → Type 0) (x : ℕ) (rest : List ℕ) → IsCycle Edge (x ∷ rest) → Reaches Edge x x

@@ -13,7 +13,7 @@ use Rattle.tso_rules.specs.Rows.{IsAscending as IsAscendingRow}
 use Rattle.round_pool.specs.declared.ranked.Edge.{Edge}
 use Rattle.round_pool.specs.Internal.SharedRows.{AreRoundRows}
 use Rattle.round_pool.specs.Internal.EdgeLists.{edges_of_rows, AreNewEdges}
-use Rattle.round_pool.specs.Rankings.{HasEdge, IsBefore, IsAscending, edge_from}
+use Rattle.round_pool.specs.Rankings.{ListsEdge, IsEdgeBefore, AreEdgesAscending, edge_from}
 use Rattle.round_pool.proofs.GraphFacts.{no_new_from_init, empty_list}
 
 -- ---- the edges of one row
@@ -25,12 +25,12 @@ row_edge u row e has =
     let same : edge_from u (get_or row has.0 e.to) ≡ e = sym (get_or-map (edge_from u) row has.0 e.to e low) ∙ has.2 in
     (sym (ap (λ (d : Edge). d.from) same), (has.0, low, ap (λ (d : Edge). d.to) same))
 
-edge_row : (u v : ℕ) (row : List ℕ) → Contains row v → HasEdge (map (edge_from u) row) u v
+edge_row : (u v : ℕ) (row : List ℕ) → Contains row v → ListsEdge (map (edge_from u) row) u v
 edge_row u v row has =
     let low : has.0 < length (map (edge_from u) row) = let size = length-map row (edge_from u) in let here = has.1 in omega (arith, size, here) in
     (has.0, low, get_or-map (edge_from u) row has.0 v (edge_from u v) has.1 ∙ ap (edge_from u) has.2)
 
-row_ascends : (u : ℕ) (row : List ℕ) → IsAscendingRow row → IsAscending (map (edge_from u) row)
+row_ascends : (u : ℕ) (row : List ℕ) → IsAscendingRow row → AreEdgesAscending (map (edge_from u) row)
 row_ascends u [] ascends = tt
 row_ascends u (v ∷ row) ascends = (λ other has. inr (sym (row_edge u row other has).0, ascends.0 other.to (row_edge u row other has).1), row_ascends u row ascends.1)
 
@@ -71,7 +71,7 @@ edge_in_rows first (row ∷ rows) e has = ⊎_elim
     (omega (arith, from), subst (λ n. Contains (get_or (row ∷ rows) n []) e.to) place found.1))
     (Contains-append_cases (map (edge_from first) row) (edges_of_rows (suc first) rows) e has)
 
-pub row_in_edges : (first : ℕ) (rows : List (List ℕ)) (u v : ℕ) → first ≤ u → Contains (get_or rows (u - first) []) v → HasEdge (edges_of_rows first rows) u v
+pub row_in_edges : (first : ℕ) (rows : List (List ℕ)) (u v : ℕ) → first ≤ u → Contains (get_or rows (u - first) []) v → ListsEdge (edges_of_rows first rows) u v
 row_in_edges first [] u v from has = absurd (empty_list v has)
 row_in_edges first (row ∷ rows) u v from has = ⊎_elim
     (λ (past : first < u).
@@ -82,11 +82,11 @@ row_in_edges first (row ∷ rows) u v from has = ⊎_elim
     let none : u - first ≡ 0 = omega (arith, low) in
     let at : first ≡ u = omega (arith, low, from) in
     Contains-append_left (map (edge_from first) row) (edges_of_rows (suc first) rows) (edge_from u v)
-    (subst (λ n. HasEdge (map (edge_from n) row) u v) (sym at) (edge_row u v row (subst (λ n. Contains (get_or (row ∷ rows) n []) v) none has))))
+    (subst (λ n. ListsEdge (map (edge_from n) row) u v) (sym at) (edge_row u v row (subst (λ n. Contains (get_or (row ∷ rows) n []) v) none has))))
     (cases_lt first u)
 
 -- two ascending lists, of which each edge of the first stands before those of the second
-ascending_join : (edges more : List Edge) → IsAscending edges → IsAscending more → ((d e : Edge) → Contains edges d → Contains more e → IsBefore d e) → IsAscending (edges ++ more)
+ascending_join : (edges more : List Edge) → AreEdgesAscending edges → AreEdgesAscending more → ((d e : Edge) → Contains edges d → Contains more e → IsEdgeBefore d e) → AreEdgesAscending (edges ++ more)
 ascending_join [] more first second before = second
 ascending_join (d ∷ edges) more first second before = (
   λ other has. ⊎_elim
@@ -97,7 +97,7 @@ ascending_join (d ∷ edges) more first second before = (
 )
 
 -- the edges of rows that ascend are ascending
-pub edges_ascend : (first : ℕ) (rows : List (List ℕ)) → ((i : ℕ) → i < length rows → IsAscendingRow (get_or rows i [])) → IsAscending (edges_of_rows first rows)
+pub edges_ascend : (first : ℕ) (rows : List (List ℕ)) → ((i : ℕ) → i < length rows → IsAscendingRow (get_or rows i [])) → AreEdgesAscending (edges_of_rows first rows)
 edges_ascend first [] each = tt
 edges_ascend first (row ∷ rows) each =
     ascending_join (map (edge_from first) row) (edges_of_rows (suc first) rows) (row_ascends first row (each 0 (omega arith))) (edges_ascend (suc first) rows (λ i low. each (suc i) (omega (arith, low))))

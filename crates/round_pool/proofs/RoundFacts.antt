@@ -7,21 +7,21 @@ use Rattle.order_paths.proofs.Reach.{Reaches-edge, HasCycle-mono, HasCycle-iff, 
 use Rattle.order_graph.specs.Digraphs.{Digraph, IsEdge}
 use Rattle.tso_ops.specs.Values.{TraceValue}
 use Rattle.tso_ops.specs.Events.{IsUnwritten}
-use Rattle.tso_model.specs.Ranks.{F, IsLast}
+use Rattle.tso_model.specs.Ranks.{RankSet, IsLast}
 use Rattle.tso_model.proofs.LastRankSet.{IsLast-all, last_exists}
 use Rattle.tso_model.proofs.RankFacts.{new_same}
 use Rattle.tso_model.proofs.RoundFacts.{before_last}
 use Rattle.round_pool.specs.declared.ranked.Edge.{Edge}
 use Rattle.round_pool.specs.RankGraphs.{IsRankGraph, AddsEdges}
 use Rattle.round_pool.specs.Internal.EdgeLists.{AreNewEdges}
-use Rattle.round_pool.specs.Rankings.{HasEdge, IsRound, IsRankingOf}
+use Rattle.round_pool.specs.Rankings.{ListsEdge, IsRound, IsRankingOf}
 
 -- What is known before each round: the graph is that of a rank set, each round before added what the next rank set has more, and no rank set
 -- before it has a cycle or is last.
 pub record AreRoundsMade (t : TraceValue) (g : Digraph) (added : List (List Edge)) : Type 0 where
   pub graph : IsRankGraph t (length added) g
   pub each : (k : ℕ) → k < length added → IsRound t k (get_or added k [])
-  pub acyclic : (j : ℕ) → j < length added → HasCycle (F t j) → ⊥
+  pub acyclic : (j : ℕ) → j < length added → HasCycle (RankSet t j) → ⊥
   pub unfinished : (j : ℕ) → j < length added → IsLast t j → ⊥
 
 -- before the first round
@@ -34,21 +34,21 @@ made_none t g graph = record {
 }
 
 -- the graph of a rank set has a cycle where the set has one
-graph_cycle : (t : TraceValue) (k : ℕ) (g : Digraph) → IsRankGraph t k g → HasCycle (F t k) → HasCycle (IsEdge g)
-graph_cycle t k g graph = HasCycle-mono (F t k) (IsEdge g) (λ x y. (graph.edges x y).1)
+graph_cycle : (t : TraceValue) (k : ℕ) (g : Digraph) → IsRankGraph t k g → HasCycle (RankSet t k) → HasCycle (IsEdge g)
+graph_cycle t k g graph = HasCycle-mono (RankSet t k) (IsEdge g) (λ x y. (graph.edges x y).1)
 
-set_cycle : (t : TraceValue) (k : ℕ) (g : Digraph) → IsRankGraph t k g → HasCycle (IsEdge g) → HasCycle (F t k)
-set_cycle t k g graph = HasCycle-mono (IsEdge g) (F t k) (λ x y. (graph.edges x y).0)
+set_cycle : (t : TraceValue) (k : ℕ) (g : Digraph) → IsRankGraph t k g → HasCycle (IsEdge g) → HasCycle (RankSet t k)
+set_cycle t k g graph = HasCycle-mono (IsEdge g) (RankSet t k) (λ x y. (graph.edges x y).0)
 
 -- new edges over the graph of a rank set are those of the round after it
 pub new_round : (t : TraceValue) (k : ℕ) (g : Digraph) (edges : List Edge) → IsRankGraph t k g → AreNewEdges t g edges → IsRound t k edges
 new_round t k g edges graph new = record {
   all = λ u v next not_yet. new.all u v (⊎_elim
-      (λ (before : F t k u v). absurd (not_yet before))
-      (λ more. new_same t (λ x y. F t k x y) (IsEdge g) (λ x y. (graph.edges x y).1) (λ x y. (graph.edges x y).0) u v more)
+      (λ (before : RankSet t k u v). absurd (not_yet before))
+      (λ more. new_same t (λ x y. RankSet t k x y) (IsEdge g) (λ x y. (graph.edges x y).1) (λ x y. (graph.edges x y).0) u v more)
       next);
   only = λ u v has. (let fresh = new.only u v has in (
-    inr (new_same t (IsEdge g) (λ x y. F t k x y) (λ x y. (graph.edges x y).0) (λ x y. (graph.edges x y).1) u v fresh),
+    inr (new_same t (IsEdge g) (λ x y. RankSet t k x y) (λ x y. (graph.edges x y).0) (λ x y. (graph.edges x y).1) u v fresh),
     λ e. fresh.1 (Reaches-edge (IsEdge g) u v ((graph.edges u v).1 e)),
   ));
   ascending = new.ascending;
@@ -62,28 +62,28 @@ round_not_last t k (e ∷ edges) round some last =
     next.1 (last e.from e.to next.0)
 
 -- with the edges of a round the graph of a rank set is that of the next
-pub next_graph : (t : TraceValue) (k : ℕ) (g new : Digraph) (edges : List Edge) → IsRankGraph t k g → IsRound t k edges → ((u v : ℕ) → F t k u v ⊎ (F t k u v → ⊥)) →
-    AddsEdges g new (HasEdge edges) → IsRankGraph t (k + 1) new
+pub next_graph : (t : TraceValue) (k : ℕ) (g new : Digraph) (edges : List Edge) → IsRankGraph t k g → IsRound t k edges → ((u v : ℕ) → RankSet t k u v ⊎ (RankSet t k u v → ⊥)) →
+    AddsEdges g new (ListsEdge edges) → IsRankGraph t (k + 1) new
 next_graph t k g new edges graph round decided adds = subst (λ n. IsRankGraph t n new) (let next : suc k ≡ k + 1 = omega arith in next) (record {
   nodes = adds.nodes ∙ graph.nodes;
   edges = λ x y. (
-    λ e. ⊎_elim (λ (before : IsEdge g x y). inl ((graph.edges x y).0 before)) (λ (has : HasEdge edges x y). (round.only x y has).0) ((adds.edges x y).0 e),
+    λ e. ⊎_elim (λ (before : IsEdge g x y). inl ((graph.edges x y).0 before)) (λ (has : ListsEdge edges x y). (round.only x y has).0) ((adds.edges x y).0 e),
     λ f. (adds.edges x y).1 (⊎_elim
-        (λ (before : F t k x y). inl ((graph.edges x y).1 before))
-        (λ (none : F t k x y → ⊥). inr (round.all x y f none))
+        (λ (before : RankSet t k x y). inl ((graph.edges x y).1 before))
+        (λ (none : RankSet t k x y → ⊥). inr (round.all x y f none))
         (decided x y)),
   );
 })
 
 -- a round more, which adds an edge
 pub made_more : (t : TraceValue) (g new : Digraph) (added : List (List Edge)) (edges : List Edge) → AreRoundsMade t g added → (HasCycle (IsEdge g) → ⊥) →
-    AreNewEdges t g edges → 0 < length edges → ((u v : ℕ) → F t (length added) u v ⊎ (F t (length added) u v → ⊥)) → AddsEdges g new (HasEdge edges) → AreRoundsMade t new (added ++ edges ∷ [])
+    AreNewEdges t g edges → 0 < length edges → ((u v : ℕ) → RankSet t (length added) u v ⊎ (RankSet t (length added) u v → ⊥)) → AddsEdges g new (ListsEdge edges) → AreRoundsMade t new (added ++ edges ∷ [])
 made_more t g new added edges made no_cycle fresh some decided adds = record {
   graph = subst (λ n. IsRankGraph t n new) (sym size) (next_graph t (length added) g new edges made.graph round decided adds);
   each = λ k low. below_more (λ j. IsRound t j (get_or (added ++ edges ∷ []) j [])) (length added)
       (λ j before. subst (λ l. IsRound t j l) (sym (get_or_append_left added (edges ∷ []) [] j before)) (made.each j before))
       (subst (λ l. IsRound t (length added) l) (sym (get_or_at added edges [] [] (length added) refl)) round) k (subst (λ n. k < n) size low);
-  acyclic = λ k low. below_more (λ j. HasCycle (F t j) → ⊥) (length added) made.acyclic (λ cycle. no_cycle (graph_cycle t (length added) g made.graph cycle)) k (subst (λ n. k < n) size low);
+  acyclic = λ k low. below_more (λ j. HasCycle (RankSet t j) → ⊥) (length added) made.acyclic (λ cycle. no_cycle (graph_cycle t (length added) g made.graph cycle)) k (subst (λ n. k < n) size low);
   unfinished = λ k low. below_more (λ j. IsLast t j → ⊥) (length added) made.unfinished (round_not_last t (length added) edges round some) k (subst (λ n. k < n) size low);
 }
   where
@@ -114,12 +114,12 @@ made_without_cycle t g added edges made written no_cycle fresh empty = record {
     last : IsLast t (length added)
     last u v (inl e) = e
     last u v (inr more) =
-        let here = fresh.all u v (new_same t (λ x y. F t (length added) x y) (IsEdge g) (λ x y. (made.graph.edges x y).1) (λ x y. (made.graph.edges x y).0) u v more) in
+        let here = fresh.all u v (new_same t (λ x y. RankSet t (length added) x y) (IsEdge g) (λ x y. (made.graph.edges x y).1) (λ x y. (made.graph.edges x y).0) u v more) in
         let place : here.0 < length edges = here.1 in
         absurd (omega arith)
 
-    acyclic : (j : ℕ) → HasCycle (F t j) → ⊥
-    acyclic j cycle = no_cycle (graph_cycle t (length added) g made.graph (HasCycle-mono (F t j) (F t (length added)) (IsLast-all t (length added) last j) cycle))
+    acyclic : (j : ℕ) → HasCycle (RankSet t j) → ⊥
+    acyclic j cycle = no_cycle (graph_cycle t (length added) g made.graph (HasCycle-mono (RankSet t j) (RankSet t (length added)) (IsLast-all t (length added) last j) cycle))
 
 -- a rank set that a round adds an edge to stands before the last one that is known to exist
 pub made_before_last : (t : TraceValue) (g : Digraph) (added : List (List Edge)) (edges : List Edge) → AreRoundsMade t g added → AreNewEdges t g edges → 0 < length edges →

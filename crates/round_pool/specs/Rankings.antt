@@ -2,7 +2,7 @@
 use Rattle.std.specs.Prelude.{◌≡◌, ◌⊎◌, ℕ, suc, ◌<◌, List, [], ◌∷◌, length, get_or, Contains}
 use Rattle.order_graph.specs.Digraphs.{Digraph}
 use Rattle.tso_ops.specs.Values.{TraceValue}
-use Rattle.tso_model.specs.Ranks.{F, IsRounds}
+use Rattle.tso_model.specs.Ranks.{RankSet, IsRounds}
 use Rattle.round_pool.specs.declared.ranked.Edge.{Edge}
 use Rattle.round_pool.specs.RankGraphs.{IsRankGraph}
 
@@ -20,27 +20,27 @@ abbrev pub edge_from : ℕ → ℕ → Edge
 edge_from u v = record { from = u; to = v }
 
 -- the list has the edge from u to v
-abbrev pub HasEdge : List Edge → ℕ → ℕ → Type 0
-HasEdge edges u v = Contains edges (edge_from u v)
+abbrev pub ListsEdge : List Edge → ℕ → ℕ → Type 0
+ListsEdge edges u v = Contains edges (edge_from u v)
 
 -- the edges lie between numbers below this one
 abbrev pub AreWithin : ℕ → List Edge → Type 0
-AreWithin nodes edges = (u v : ℕ) → HasEdge edges u v → (u < nodes) × (v < nodes)
+AreWithin nodes edges = (u v : ℕ) → ListsEdge edges u v → (u < nodes) × (v < nodes)
 
 -- the first edge stands before the second: by its first number, then by its second
-abbrev pub IsBefore : Edge → Edge → Type 0
-IsBefore d e = (d.from < e.from) ⊎ ((d.from ≡ e.from) × (d.to < e.to))
+abbrev pub IsEdgeBefore : Edge → Edge → Type 0
+IsEdgeBefore d e = (d.from < e.from) ⊎ ((d.from ≡ e.from) × (d.to < e.to))
 
 -- each edge stands before all that are listed after it
-abbrev pub IsAscending : List Edge → Type 0
-IsAscending [] = Unit {0}
-IsAscending (e ∷ edges) = ((other : Edge) → Contains edges other → IsBefore e other) × IsAscending edges
+abbrev pub AreEdgesAscending : List Edge → Type 0
+AreEdgesAscending [] = Unit {0}
+AreEdgesAscending (e ∷ edges) = ((other : Edge) → Contains edges other → IsEdgeBefore e other) × AreEdgesAscending edges
 
 -- The edges are those that the round after rank set k adds to it, in ascending order.
 pub record IsRound (t : TraceValue) (k : ℕ) (edges : List Edge) : Type 0 where
-  pub all : (u v : ℕ) → F t (suc k) u v → (F t k u v → ⊥) → HasEdge edges u v
-  pub only : (u v : ℕ) → HasEdge edges u v → F t (suc k) u v × (F t k u v → ⊥)
-  pub ascending : IsAscending edges
+  pub all : (u v : ℕ) → RankSet t (suc k) u v → (RankSet t k u v → ⊥) → ListsEdge edges u v
+  pub only : (u v : ℕ) → ListsEdge edges u v → RankSet t (suc k) u v × (RankSet t k u v → ⊥)
+  pub ascending : AreEdgesAscending edges
 
 -- The rounds and the ranks are the trace's: so many rounds were made as its rounds number says, the last graph is that of its rank set, and each
 -- round added the edges of its rank.

@@ -1,7 +1,7 @@
 //! Graphs of rank sets.
 ghost use Rattle.std.specs.Prelude.{◌≡◌, ◌<◌, ℕ, Contains, IfOk};
 ghost use Rattle.round_pool.specs.RankGraphs.{IsRankGraph, AddsEdges};
-ghost use Rattle.round_pool.specs.Rankings.{HasEdge, AreWithin};
+ghost use Rattle.round_pool.specs.Rankings.{ListsEdge, AreWithin};
 
 use crate::ranked::Edge;
 use order_graph::{EdgeRows, Graph};
@@ -26,7 +26,7 @@ pub fn base_graph(alloc: Global, trace: &Trace) -> Result<Graph, OutOfMemory>
 /// Adds these edges.
 pub fn add_edges(graph: &mut Graph, edges: &[Edge])
     requires { AreWithin graph.old.nodes edges.now }
-    ensures { AddsEdges graph.old graph.new (HasEdge edges.now) }
+    ensures { AddsEdges graph.old graph.new (ListsEdge edges.now) }
 {
     for edge in edges {
         graph.add(edge.from as usize, edge.to as usize);

@@ -2,10 +2,10 @@
 ghost use Rattle.std.specs.Prelude.{◌≡◌, ◌↔◌, ℕ, ◌<◌, ◌≤◌, ◌-◌, length, map, get_or, [], IsTrue, IfOk, MatchOption};
 ghost use Rattle.order_graph.specs.Digraphs.{IsEdge};
 ghost use Rattle.tso_ops.specs.Values.{TraceValue};
-ghost use Rattle.tso_model.specs.Ranks.{F, HasRank};
+ghost use Rattle.tso_model.specs.Ranks.{RankSet, HasRank};
 ghost use Rattle.round_pool.specs.RankGraphs.{IsRankGraph, AddsEdges};
 ghost use Rattle.round_pool.specs.Internal.EdgeLists.{AreAllWithin, IsGraphOf, IsDifferenceFrom};
-ghost use Rattle.round_pool.specs.Rankings.{IsRankingOf, rounds_of, HasEdge};
+ghost use Rattle.round_pool.specs.Rankings.{IsRankingOf, rounds_of, ListsEdge};
 
 use crate::graphs::add_edges;
 use order_graph::Graph;
@@ -68,7 +68,7 @@ impl Ranked {
     /// The rank of the edge from `u` to `v`, from 0: the first rank set that has it. None where the last rank set has no
     /// such edge.
     pub fn rank(&self, u: usize, v: usize) -> Option<u64>
-        ensures { (t : TraceValue) → IsRankingOf t self.now → MatchOption result (F t (rounds_of self.now) u v → ⊥) (HasRank t u v) }
+        ensures { (t : TraceValue) → IsRankingOf t self.now → MatchOption result (RankSet t (rounds_of self.now) u v → ⊥) (HasRank t u v) }
     {
         if !has_edge(&self.last, u, v) {
             return None;
@@ -132,7 +132,7 @@ fn has_edge(graph: &Graph, u: usize, v: usize) -> bool
 
 /// Whether the edge from `u` to `v` is one of these.
 fn lists_edge(edges: &[Edge], u: usize, v: usize) -> bool
-    ensures { IsTrue result ↔ HasEdge edges.now u v }
+    ensures { IsTrue result ↔ ListsEdge edges.now u v }
 {
     for edge in edges {
         if edge.from as usize == u && edge.to as usize == v {

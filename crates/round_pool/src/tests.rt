@@ -4,7 +4,7 @@ mod by_hand;
 mod drawn;
 mod faults;
 mod gates;
-mod growths;
+mod refused_allocations;
 
 use crate::{PoolFault, PoolGate, Ranked, rounds};
 use order_graph::Graph;

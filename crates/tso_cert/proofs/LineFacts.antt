@@ -14,15 +14,15 @@ use Rattle.tso_cert.specs.declared.lines.Line.TheVariants.{Step, Cycle, Unwritte
 use Rattle.tso_cert.specs.declared.faults.Why.{Why}
 use Rattle.tso_cert.specs.declared.faults.Why.TheVariants.{BadLine, BadNumber, BadRule, NoCycle, AfterCycle, OutOfMemory}
 use Rattle.tso_cert.specs.Printed.{event_text, reason_pieces, ReasonFits, step_pieces, cycle_pieces, unwritten_pieces, Fits, StepFits}
-use Rattle.tso_cert.specs.Spelling.{are_events, is_rule, is_last_line, is_bad_line, has_bad_number, has_bad_rule, line_fault, number_of}
-use Rattle.tso_cert.specs.Taken.{◌>>=◌, event, events, reason_said, step_said, unwritten_said, said, IsFirst}
+use Rattle.tso_cert.specs.Spelling.{are_events, is_rule, is_last_line, is_bad_line, has_bad_number, has_bad_rule, cert_line_fault, cert_fault_number}
+use Rattle.tso_cert.specs.Internal.LineValues.{◌>>=◌, event, events, reason_said, step_said, unwritten_said, cert_line_said, IsFirstCertFault}
 use Rattle.tso_cert.proofs.SayingFacts.{bind_ok, bind_err, cond_true, cond_false, cases, event_is, event_some, event_none, events_are, events_some, events_none, event-text, events-text, decimal_differs, reason_told, reason_refused, base_said, inferred_said}
 
 -- ---- the faults of a line
 
 -- a line has no fault but the first three
-no_fault : (k : ℕ) (ps : List (List ℕ)) → is_bad_line k ps ≡ false → has_bad_number k ps ≡ false → has_bad_rule ps ≡ false → (w : Why) → line_fault k ps w ≡ false
-unfolding line_fault
+no_fault : (k : ℕ) (ps : List (List ℕ)) → is_bad_line k ps ≡ false → has_bad_number k ps ≡ false → has_bad_rule ps ≡ false → (w : Why) → cert_line_fault k ps w ≡ false
+unfolding cert_line_fault
 no_fault k ps line number rule BadLine = line
 no_fault k ps line number rule BadNumber = number
 no_fault k ps line number rule BadRule = rule
@@ -30,11 +30,11 @@ no_fault k ps line number rule NoCycle = refl
 no_fault k ps line number rule AfterCycle = refl
 no_fault k ps line number rule OutOfMemory = refl
 
-first_line : (k : ℕ) (ps : List (List ℕ)) → is_bad_line k ps ≡ true → IsFirst (line_fault k ps) BadLine
-unfolding line_fault
+first_line : (k : ℕ) (ps : List (List ℕ)) → is_bad_line k ps ≡ true → IsFirstCertFault (cert_line_fault k ps) BadLine
+unfolding cert_line_fault
 first_line k ps line = record { fault = line; least = none }
   where
-    none : (w : Why) → number_of w < 1 → line_fault k ps w ≡ false
+    none : (w : Why) → cert_fault_number w < 1 → cert_line_fault k ps w ≡ false
     none BadLine less = absurd (omega arith)
     none BadNumber less = absurd (omega arith)
     none BadRule less = absurd (omega arith)
@@ -42,11 +42,11 @@ first_line k ps line = record { fault = line; least = none }
     none AfterCycle less = refl
     none OutOfMemory less = refl
 
-first_number : (k : ℕ) (ps : List (List ℕ)) → is_bad_line k ps ≡ false → has_bad_number k ps ≡ true → IsFirst (line_fault k ps) BadNumber
-unfolding line_fault
+first_number : (k : ℕ) (ps : List (List ℕ)) → is_bad_line k ps ≡ false → has_bad_number k ps ≡ true → IsFirstCertFault (cert_line_fault k ps) BadNumber
+unfolding cert_line_fault
 first_number k ps line number = record { fault = number; least = none }
   where
-    none : (w : Why) → number_of w < 2 → line_fault k ps w ≡ false
+    none : (w : Why) → cert_fault_number w < 2 → cert_line_fault k ps w ≡ false
     none BadLine less = line
     none BadNumber less = absurd (omega arith)
     none BadRule less = absurd (omega arith)
@@ -54,11 +54,11 @@ first_number k ps line number = record { fault = number; least = none }
     none AfterCycle less = refl
     none OutOfMemory less = refl
 
-first_rule : (k : ℕ) (ps : List (List ℕ)) → is_bad_line k ps ≡ false → has_bad_number k ps ≡ false → has_bad_rule ps ≡ true → IsFirst (line_fault k ps) BadRule
-unfolding line_fault
+first_rule : (k : ℕ) (ps : List (List ℕ)) → is_bad_line k ps ≡ false → has_bad_number k ps ≡ false → has_bad_rule ps ≡ true → IsFirstCertFault (cert_line_fault k ps) BadRule
+unfolding cert_line_fault
 first_rule k ps line number rule = record { fault = rule; least = none }
   where
-    none : (w : Why) → number_of w < 3 → line_fault k ps w ≡ false
+    none : (w : Why) → cert_fault_number w < 3 → cert_line_fault k ps w ≡ false
     none BadLine less = line
     none BadNumber less = number
     none BadRule less = absurd (omega arith)
@@ -91,7 +91,7 @@ pub record Told (k : ℕ) (ps : List (List ℕ)) (l : Line) : Type 0 where
   pub says : ps ≡ line_pieces k l
   pub fits : LineFits k l
   pub last : is_last_line ps ≡ ends l
-  pub faultless : (w : Why) → line_fault k ps w ≡ false
+  pub faultless : (w : Why) → cert_line_fault k ps w ≡ false
 
 -- ---- the line of a cycle
 
@@ -113,7 +113,7 @@ cycle_told k word ps l is e =
     }
 
 cycle_refused : (k : ℕ) (word : List ℕ) (ps : List (List ℕ)) (why : Why) → bytes_eq word (codes "cycle") ≡ true → (events ps >>= λ ns. Ok (Cycle ns)) ≡ Err why →
-    IsFirst (line_fault k (word ∷ ps)) why
+    IsFirstCertFault (cert_line_fault k (word ∷ ps)) why
 cycle_refused k word ps why is e =
     ⊎_elim
     (λ (none : events ps ≡ Err why).
@@ -159,7 +159,7 @@ unwritten_told k word ps l other is e =
     subst (λ qs. Told k (word ∷ qs) l) (sym u.1) (subst (λ m. Told k (word ∷ u.0 ∷ []) m) same t)
 
 unwritten_refused : (k : ℕ) (word : List ℕ) (ps : List (List ℕ)) (why : Why) → bytes_eq word (codes "cycle") ≡ false → bytes_eq word (codes "unwritten") ≡ true →
-    unwritten_said k ps ≡ Err why → IsFirst (line_fault k (word ∷ ps)) why
+    unwritten_said k ps ≡ Err why → IsFirstCertFault (cert_line_fault k (word ∷ ps)) why
 unfolding unwritten_said
 unwritten_refused k word [] why other is e =
     let s : BadLine ≡ why = cc in
@@ -185,7 +185,7 @@ unwritten_refused k word (p ∷ q ∷ ps) why other is e =
 abbrev NoWord : List ℕ → Type 0
 NoWord word = (bytes_eq word (codes "cycle") ≡ false) × (bytes_eq word (codes "unwritten") ≡ false)
 
-few_pieces : (k : ℕ) (word : List ℕ) (ps : List (List ℕ)) → NoWord word → length ps < 3 → IsFirst (line_fault k (word ∷ ps)) BadLine
+few_pieces : (k : ℕ) (word : List ℕ) (ps : List (List ℕ)) → NoWord word → length ps < 3 → IsFirstCertFault (cert_line_fault k (word ∷ ps)) BadLine
 few_pieces k word ps other few =
     let low : ltb (suc (length ps)) 4 ≡ true = grind (arith, nat_tests) in
     let is : is_bad_line k (word ∷ ps) ≡ true = rw (other.0, other.1) low in
@@ -228,14 +228,14 @@ step_told k word (from ∷ to ∷ name ∷ ps) s other e =
     absurd (let t = cond_false (bytes_eq word (decimal k)) (event from >>= λ u. event to >>= λ v. reason_said name ps >>= λ r. Ok (record { from = u; to = v; reason = r })) (Err BadNumber) (Ok s) differs e in cc))
     (cases (bytes_eq word (decimal k)))
 
-step_refused : (k : ℕ) (word : List ℕ) (ps : List (List ℕ)) (why : Why) → NoWord word → step_said k (word ∷ ps) ≡ Err why → IsFirst (line_fault k (word ∷ ps)) why
+step_refused : (k : ℕ) (word : List ℕ) (ps : List (List ℕ)) (why : Why) → NoWord word → step_said k (word ∷ ps) ≡ Err why → IsFirstCertFault (cert_line_fault k (word ∷ ps)) why
 unfolding step_said
 step_refused k word [] why other e = let s : BadLine ≡ why = cc in rw (← s) (few_pieces k word [] other (omega arith))
 step_refused k word (p ∷ []) why other e = let s : BadLine ≡ why = cc in rw (← s) (few_pieces k word (p ∷ []) other (omega arith))
 step_refused k word (p ∷ q ∷ []) why other e = let s : BadLine ≡ why = cc in rw (← s) (few_pieces k word (p ∷ q ∷ []) other (omega arith))
 step_refused k word (from ∷ to ∷ name ∷ ps) why other e =
     let facts = step_line k word from to name ps other in
-    let bad : (why ≡ BadNumber) → (bytes_eq word (decimal k) && are_events (from ∷ to ∷ []) && are_events ps) ≡ false → IsFirst (line_fault k (word ∷ from ∷ to ∷ name ∷ ps)) why =
+    let bad : (why ≡ BadNumber) → (bytes_eq word (decimal k) && are_events (from ∷ to ∷ []) && are_events ps) ≡ false → IsFirstCertFault (cert_line_fault k (word ∷ from ∷ to ∷ name ∷ ps)) why =
     λ is off. rw is (first_number k (word ∷ from ∷ to ∷ name ∷ ps) facts.1 (facts.2 ∙ ap not off)) in
     ⊎_elim
     (λ (same : bytes_eq word (decimal k) ≡ true).
@@ -265,8 +265,8 @@ step_refused k word (from ∷ to ∷ name ∷ ps) why other e =
 -- ---- any line
 
 -- a line that says something is written in one way, and has no fault
-pub told : (k : ℕ) (ps : List (List ℕ)) (l : Line) → said k ps ≡ Ok l → Told k ps l
-unfolding said
+pub told : (k : ℕ) (ps : List (List ℕ)) (l : Line) → cert_line_said k ps ≡ Ok l → Told k ps l
+unfolding cert_line_said
 told k [] l e = absurd cc
 told k (word ∷ ps) l e =
     ⊎_elim
@@ -283,8 +283,8 @@ told k (word ∷ ps) l e =
     (cases (bytes_eq word (codes "cycle")))
 
 -- the fault of a line that says nothing is its first
-pub refused : (k : ℕ) (ps : List (List ℕ)) (why : Why) → said k ps ≡ Err why → IsFirst (line_fault k ps) why
-unfolding said
+pub refused : (k : ℕ) (ps : List (List ℕ)) (why : Why) → cert_line_said k ps ≡ Err why → IsFirstCertFault (cert_line_fault k ps) why
+unfolding cert_line_said
 refused k [] why e = let s : BadLine ≡ why = cc in rw (← s) (first_line k [] refl)
 refused k (word ∷ ps) why e =
     ⊎_elim
@@ -313,9 +313,9 @@ step_said-pieces k u v (Inferred rule load path) from to fits =
     rw ((bytes_eq-Decides (decimal k) (decimal k)).1 refl, event-text u from, event-text v to, inferred_said rule load path fits.0 fits.1) refl
 
 -- a line of these pieces says this
-pub said-pieces : (k : ℕ) (l : Line) → Fits k → LineFits k l → said k (line_pieces k l) ≡ Ok l
-unfolding said unwritten_said
-said-pieces k (Step s) low fits =
+pub cert_line_said-pieces : (k : ℕ) (l : Line) → Fits k → LineFits k l → cert_line_said k (line_pieces k l) ≡ Ok l
+unfolding cert_line_said unwritten_said
+cert_line_said-pieces k (Step s) low fits =
     rw (decimal_differs k (codes "cycle") low refl, decimal_differs k (codes "unwritten") low refl, step_said-pieces k s.from s.to s.reason fits.0 fits.1 fits.2) refl
-said-pieces k (Cycle ns) low fits = rw (events-text ns fits) refl
-said-pieces k (Unwritten n) low fits = rw (fits.1, event-text n fits.0) refl
+cert_line_said-pieces k (Cycle ns) low fits = rw (events-text ns fits) refl
+cert_line_said-pieces k (Unwritten n) low fits = rw (fits.1, event-text n fits.0) refl

@@ -11,7 +11,7 @@ use Rattle.line_text.specs.Numbers.{number}
 use Rattle.line_text.proofs.NumberFacts.{number_is, number-decimal}
 use Rattle.tso_cert.specs.declared.faults.Why.{Why}
 use Rattle.tso_cert.specs.declared.faults.Why.TheVariants.{BadLine}
-use Rattle.tso_cert.specs.Taken.{◌>>=◌, unwritten_said}
+use Rattle.tso_cert.specs.Internal.LineValues.{◌>>=◌, unwritten_said}
 use Rattle.tso_cert.proofs.SayingFacts.{cases}
 
 -- where more pieces stand, the line of an unwritten load is bad
@@ -22,8 +22,8 @@ unwritten-more k p ps some = rw some.parts refl
 -- ---- the numbers of pieces, read one after another
 
 -- what the events of pieces are, behind those that were read
-abbrev pub behind_read : List ℕ → Result (List ℕ) Why → Result (List ℕ) Why
-behind_read numbers rest = rest >>= λ more. Ok (numbers ++ more)
+abbrev pub pieces_after_read : List ℕ → Result (List ℕ) Why → Result (List ℕ) Why
+pieces_after_read numbers rest = rest >>= λ more. Ok (numbers ++ more)
 
 -- the bytes that are left, and one more where there are any
 abbrev pub left_length : Option (Bor (List ℕ)) → ℕ

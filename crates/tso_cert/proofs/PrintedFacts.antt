@@ -20,13 +20,13 @@ use Rattle.tso_cert.specs.declared.faults.Why.{Why}
 use Rattle.tso_cert.specs.declared.faults.Why.TheVariants.{BadLine, BadNumber, BadRule, NoCycle, AfterCycle, OutOfMemory}
 use Rattle.tso_cert.specs.declared.faults.TextFault.{TextFault}
 use Rattle.tso_cert.specs.Printed.{base_name, inferred_name, event_text, reason_pieces, step_pieces, steps_pieces, cycle_pieces, unwritten_pieces, cert_pieces, cert_text, Fits, ReasonFits, StepFits, CertFits, step_count}
-use Rattle.tso_cert.specs.Spelling.{Spells, IsRefusal}
-use Rattle.tso_cert.specs.Taken.{said, step_said, events}
-use Rattle.tso_cert.proofs.LineFacts.{told, line_pieces, ends, LineFits, step_said-pieces, said-pieces}
-use Rattle.tso_cert.proofs.SayingFacts.{all_first, all_behind, events-text}
-use Rattle.tso_cert.proofs.Reaching.{Reached, TakesLine, Reached-start, Reached-next, Reached-end}
+use Rattle.tso_cert.specs.Spelling.{SpellsCertificate, IsCertTextRefusal}
+use Rattle.tso_cert.specs.Internal.LineValues.{cert_line_said, step_said, events}
+use Rattle.tso_cert.proofs.LineFacts.{told, line_pieces, ends, LineFits, step_said-pieces, cert_line_said-pieces}
+use Rattle.tso_cert.proofs.SayingFacts.{all_first, all_after, events-text}
+use Rattle.tso_cert.proofs.Reaching.{Reached, AcceptsLine, Reached-start, Reached-next, Reached-end}
 use Rattle.tso_cert.proofs.SpellingFacts.{not_both}
-use Rattle.tso_cert.proofs.StepFacts.{takes}
+use Rattle.tso_cert.proofs.StepFacts.{accepts}
 
 -- ---- the bytes of pieces
 
@@ -50,7 +50,7 @@ event_without c (suc n) is fits = decimal_without c (suc n) (low_break c is) fit
 
 events_without : (c : ℕ) (ns : List ℕ) → IsBreak c → All Fits ns → has_byte_in c (map event_text ns) ≡ false
 events_without c [] is fits = refl
-events_without c (n ∷ ns) is fits = rw (event_without c n is (all_first Fits n ns fits)) (events_without c ns is (all_behind Fits n ns fits))
+events_without c (n ∷ ns) is fits = rw (event_without c n is (all_first Fits n ns fits)) (events_without c ns is (all_after Fits n ns fits))
 
 base_without : (c : ℕ) (rule : BaseRule) → IsBreak c → has_byte c (base_name rule) ≡ false
 base_without c Init is = word_without c (codes "Init") is refl refl
@@ -99,39 +99,39 @@ line_parts k l rest low fits =
     ap (slice_split (λ b. eqb b 10)) (append_assoc (join_with_byte 32 (line_pieces k l)) (10 ∷ []) rest) ∙ split_part 10 (join_with_byte 32 (line_pieces k l)) rest none
 
 -- a printed line is taken
-line_taken : (k : ℕ) (l : Line) → Fits k → LineFits k l → TakesLine k (join_with_byte 32 (line_pieces k l)) (ends l) (line_pieces k l)
-line_taken k l low fits = takes k (join_with_byte 32 (line_pieces k l)) l (told k _ l (ap (said k) (line_cut k l low fits) ∙ said-pieces k l low fits))
+line_accepted : (k : ℕ) (l : Line) → Fits k → LineFits k l → AcceptsLine k (join_with_byte 32 (line_pieces k l)) (ends l) (line_pieces k l)
+line_accepted k l low fits = accepts k (join_with_byte 32 (line_pieces k l)) l (told k _ l (ap (cert_line_said k) (line_cut k l low fits) ∙ cert_line_said-pieces k l low fits))
 
 -- ---- the printed text
 
 -- the lines that are left, behind i lines of these pieces, make the certificate
-printed_from : (text : List ℕ) (i : ℕ) (front : List (List (List ℕ))) (steps : List CertStep) (cycle : List ℕ) (c : Certificate) →
-    Reached text i (flat_map line_text (steps_pieces (suc i) steps ++ cycle_pieces cycle ∷ [])) front → All StepFits steps → All Fits cycle → suc (i + length steps) < 2 ^ 64 →
-    front ++ (steps_pieces (suc i) steps ++ cycle_pieces cycle ∷ []) ≡ cert_pieces c → CertFits c → Spells text c
-printed_from text i front [] cycle c reached steps_fit cycle_fits few whole fits =
-    Reached-end text i _ front (join_with_byte 32 (cycle_pieces cycle)) [] (cycle_pieces cycle) c reached (line_parts (suc i) (Cycle cycle) [] (omega (arith, few)) cycle_fits)
-    (line_taken (suc i) (Cycle cycle) (omega (arith, few)) cycle_fits) whole fits refl
-printed_from text i front (s ∷ steps) cycle c reached steps_fit cycle_fits few whole fits =
+printed_from : (text : List ℕ) (i : ℕ) (prefix : List (List (List ℕ))) (steps : List CertStep) (cycle : List ℕ) (c : Certificate) →
+    Reached text i (flat_map line_text (steps_pieces (suc i) steps ++ cycle_pieces cycle ∷ [])) prefix → All StepFits steps → All Fits cycle → suc (i + length steps) < 2 ^ 64 →
+    prefix ++ (steps_pieces (suc i) steps ++ cycle_pieces cycle ∷ []) ≡ cert_pieces c → CertFits c → SpellsCertificate text c
+printed_from text i prefix [] cycle c reached steps_fit cycle_fits few whole fits =
+    Reached-end text i _ prefix (join_with_byte 32 (cycle_pieces cycle)) [] (cycle_pieces cycle) c reached (line_parts (suc i) (Cycle cycle) [] (omega (arith, few)) cycle_fits)
+    (line_accepted (suc i) (Cycle cycle) (omega (arith, few)) cycle_fits) whole fits refl
+printed_from text i prefix (s ∷ steps) cycle c reached steps_fit cycle_fits few whole fits =
     let low : Fits (suc i) = omega (arith, few) in
     let fits_first : StepFits s = all_first StepFits s steps steps_fit in
-    printed_from text (suc i) (front ++ step_pieces (suc i) s ∷ []) steps cycle c
-    (Reached-next text i _ front (join_with_byte 32 (step_pieces (suc i) s)) (flat_map line_text (steps_pieces (suc (suc i)) steps ++ cycle_pieces cycle ∷ [])) (step_pieces (suc i) s) reached
-    (line_parts (suc i) (Step s) _ low fits_first) (line_taken (suc i) (Step s) low fits_first))
-    (all_behind StepFits s steps steps_fit) cycle_fits (omega (arith, few)) (append_assoc front (step_pieces (suc i) s ∷ []) _ ∙ whole) fits
+    printed_from text (suc i) (prefix ++ step_pieces (suc i) s ∷ []) steps cycle c
+    (Reached-next text i _ prefix (join_with_byte 32 (step_pieces (suc i) s)) (flat_map line_text (steps_pieces (suc (suc i)) steps ++ cycle_pieces cycle ∷ [])) (step_pieces (suc i) s) reached
+    (line_parts (suc i) (Step s) _ low fits_first) (line_accepted (suc i) (Step s) low fits_first))
+    (all_after StepFits s steps steps_fit) cycle_fits (omega (arith, few)) (append_assoc prefix (step_pieces (suc i) s ∷ []) _ ∙ whole) fits
 
 -- the printed text of a certificate spells it
-pub printed : (c : Certificate) → CertFits c → suc (step_count c) < 2 ^ 64 → Spells (cert_text c) c
+pub printed : (c : Certificate) → CertFits c → suc (step_count c) < 2 ^ 64 → SpellsCertificate (cert_text c) c
 unfolding cert_text
 printed (UnwrittenLoad n) fits few =
     let low : Fits 1 = omega arith in
-    Reached-end _ 0 _ [] (join_with_byte 32 (unwritten_pieces n)) [] (unwritten_pieces n) (UnwrittenLoad n) (Reached-start _) (line_parts 1 (Unwritten n) [] low (fits, refl)) (line_taken 1 (Unwritten n) low (fits, refl)) refl fits refl
+    Reached-end _ 0 _ [] (join_with_byte 32 (unwritten_pieces n)) [] (unwritten_pieces n) (UnwrittenLoad n) (Reached-start _) (line_parts 1 (Unwritten n) [] low (fits, refl)) (line_accepted 1 (Unwritten n) low (fits, refl)) refl fits refl
 printed (CycleOf steps cycle) fits few = printed_from _ 0 [] steps cycle (CycleOf steps cycle) (Reached-start _) fits.0 fits.1 (omega (arith, few)) refl fits
 
 -- ---- one certificate
 
 -- lines of the same pieces say the same
 same_line : (k : ℕ) (l m : Line) → Fits k → LineFits k l → LineFits k m → line_pieces k l ≡ line_pieces k m → l ≡ m
-same_line k l m low one other same = let s : Ok l ≡ Ok m = sym (said-pieces k l low one) ∙ ap (said k) same ∙ said-pieces k m low other in cc
+same_line k l m low one other same = let s : Ok l ≡ Ok m = sym (cert_line_said-pieces k l low one) ∙ ap (cert_line_said k) same ∙ cert_line_said-pieces k m low other in cc
 
 uncons : {X : Type 0} (x y : X) (xs ys : List X) → x ∷ xs ≡ y ∷ ys → (x ≡ y) × (xs ≡ ys)
 uncons x y xs ys e = (cc, cc)
@@ -156,7 +156,7 @@ same_steps k (s ∷ steps) [] cycle other sf of cf tf same = absurd (more_lines 
 same_steps k (s ∷ steps) (r ∷ others) cycle other sf of cf tf same =
     let parts = uncons _ _ _ _ same in
     let first = same_step k s r (all_first StepFits s steps sf) (all_first StepFits r others of) parts.0 in
-    let rest = same_steps (suc k) steps others cycle other (all_behind StepFits s steps sf) (all_behind StepFits r others of) cf tf parts.1 in
+    let rest = same_steps (suc k) steps others cycle other (all_after StepFits s steps sf) (all_after StepFits r others of) cf tf parts.1 in
     (ap (λ t. t ∷ steps) first ∙ ap (λ ts. r ∷ ts) rest.0, rest.1)
 
 same_cert : (c d : Certificate) → CertFits c → CertFits d → cert_pieces c ≡ cert_pieces d → c ≡ d
@@ -170,7 +170,7 @@ same_cert (CycleOf steps cycle) (CycleOf others other) cf df same =
     ap (λ l. CycleOf l cycle) parts.0 ∙ ap (λ l. CycleOf others l) parts.1
 
 -- one certificate for a text
-pub one_value : (text : List ℕ) (c d : Certificate) → Spells text c → Spells text d → c ≡ d
+pub one_value : (text : List ℕ) (c d : Certificate) → SpellsCertificate text c → SpellsCertificate text d → c ≡ d
 one_value text c d spells also = same_cert c d spells.fits also.fits (sym spells.says ∙ also.says)
 
 or_memory : (why : Why) → (why ≡ OutOfMemory) ⊎ (why ≢ OutOfMemory)
@@ -182,8 +182,8 @@ or_memory AfterCycle = inr (λ e. absurd cc)
 or_memory OutOfMemory = inl refl
 
 -- what a text spells is read, but for want of memory
-pub only_spelled : (text : List ℕ) (r : Result Certificate TextFault) → IfOk r (Spells text) → IfErr r (λ fault. fault.why ≢ OutOfMemory → IsRefusal text fault.line fault.why) →
-    (c : Certificate) → Spells text c → MatchResult r (λ d. d ≡ c) (λ fault. fault.why ≡ OutOfMemory)
+pub only_spelled : (text : List ℕ) (r : Result Certificate TextFault) → IfOk r (SpellsCertificate text) → IfErr r (λ fault. fault.why ≢ OutOfMemory → IsCertTextRefusal text fault.line fault.why) →
+    (c : Certificate) → SpellsCertificate text c → MatchResult r (λ d. d ≡ c) (λ fault. fault.why ≡ OutOfMemory)
 only_spelled text (Ok d) found refusal c spells = one_value text d c found spells
 only_spelled text (Err fault) found refusal c spells =
     ⊎_elim (λ (memory : fault.why ≡ OutOfMemory). memory) (λ (other : fault.why ≢ OutOfMemory). absurd (not_both text c fault.line fault.why spells (refusal other))) (or_memory fault.why)

@@ -11,8 +11,8 @@ use Rattle.tso_cert.specs.declared.steps.Certificate.{Certificate}
 use Rattle.tso_cert.specs.declared.faults.Why.{Why}
 use Rattle.tso_cert.specs.declared.faults.Why.TheVariants.{AfterCycle}
 use Rattle.tso_cert.specs.Printed.{CertFits, cert_pieces}
-use Rattle.tso_cert.specs.Spelling.{Spells, IsRefusal, fault_at, part_fault, line_fault, has_ended, is_last_line, unended, same_why}
-use Rattle.tso_cert.specs.Taken.{IsFirst}
+use Rattle.tso_cert.specs.Spelling.{SpellsCertificate, IsCertTextRefusal, cert_fault_at, cert_part_fault, cert_line_fault, has_last_line, is_last_line, unended_cert_fault, same_cert_fault}
+use Rattle.tso_cert.specs.Internal.LineValues.{IsFirstCertFault}
 
 -- ---- parts in front
 
@@ -22,211 +22,211 @@ list_any-push p (y ∷ xs) x none =
     let parts = or_parts (p y) (list_any p xs) none in
     ap (λ b. b || list_any p (xs ++ x ∷ [])) parts.0 ∙ list_any-push p xs x parts.1
 
-has_ended-push : (front : List (List ℕ)) (line : List ℕ) → has_ended front ≡ false → has_ended (front ++ line ∷ []) ≡ is_last_line (pieces_of line)
-unfolding has_ended
-has_ended-push front line none = list_any-push (λ line. is_last_line (pieces_of line)) front line none
+has_last_line-push : (prefix : List (List ℕ)) (line : List ℕ) → has_last_line prefix ≡ false → has_last_line (prefix ++ line ∷ []) ≡ is_last_line (pieces_of line)
+unfolding has_last_line
+has_last_line-push prefix line none = list_any-push (λ line. is_last_line (pieces_of line)) prefix line none
 
 -- the lines in front have no fault
 abbrev pub IsClean : List (List ℕ) → Type 0
-IsClean front = (i : ℕ) (w : Why) → i < length front → part_fault (take i front) (get_or front i []) false w ≡ false
+IsClean prefix = (i : ℕ) (w : Why) → i < length prefix → cert_part_fault (take i prefix) (get_or prefix i []) false w ≡ false
 
 -- a line before the last
-pub part_fault-open : (front : List (List ℕ)) (part : List ℕ) (w : Why) → has_ended front ≡ false → part_fault front part false w ≡ line_fault (suc (length front)) (pieces_of part) w
-unfolding part_fault
-part_fault-open front part w running = rw running refl
+pub cert_part_fault-open : (prefix : List (List ℕ)) (part : List ℕ) (w : Why) → has_last_line prefix ≡ false → cert_part_fault prefix part false w ≡ cert_line_fault (suc (length prefix)) (pieces_of part) w
+unfolding cert_part_fault
+cert_part_fault-open prefix part w running = rw running refl
 
 -- what stands behind the last line end, before a last line
-pub part_fault-last : (front : List (List ℕ)) (part : List ℕ) (w : Why) → has_ended front ≡ false → part_fault front part true w ≡ same_why (unended part) w
-unfolding part_fault
-part_fault-last front part w running = rw running refl
+pub cert_part_fault-last : (prefix : List (List ℕ)) (part : List ℕ) (w : Why) → has_last_line prefix ≡ false → cert_part_fault prefix part true w ≡ same_cert_fault (unended_cert_fault part) w
+unfolding cert_part_fault
+cert_part_fault-last prefix part w running = rw running refl
 
 -- what stands behind a last line
-pub part_fault-ended : (front : List (List ℕ)) (part : List ℕ) (last : Bool) (w : Why) → has_ended front ≡ true → part_fault front part last w ≡ (same_why AfterCycle w && not (last && is_empty part))
-unfolding part_fault
-part_fault-ended front part last w ended = rw ended refl
+pub cert_part_fault-ended : (prefix : List (List ℕ)) (part : List ℕ) (last : Bool) (w : Why) → has_last_line prefix ≡ true → cert_part_fault prefix part last w ≡ (same_cert_fault AfterCycle w && not (last && is_empty part))
+unfolding cert_part_fault
+cert_part_fault-ended prefix part last w ended = rw ended refl
 
 -- one more line without a fault
-IsClean-push : (front : List (List ℕ)) (line : List ℕ) → IsClean front → ((w : Why) → part_fault front line false w ≡ false) → IsClean (front ++ line ∷ [])
-IsClean-push front line clean at_line i w low =
+IsClean-push : (prefix : List (List ℕ)) (line : List ℕ) → IsClean prefix → ((w : Why) → cert_part_fault prefix line false w ≡ false) → IsClean (prefix ++ line ∷ [])
+IsClean-push prefix line clean at_line i w low =
     ⊎_elim
-    (λ (inside : i < length front).
-    let t : take i (front ++ line ∷ []) ≡ take i front = take-append-le i front (line ∷ []) (omega arith) in
-    let n : get_or (front ++ line ∷ []) i [] ≡ get_or front i [] = get_or_append_left front (line ∷ []) [] i inside in
+    (λ (inside : i < length prefix).
+    let t : take i (prefix ++ line ∷ []) ≡ take i prefix = take-append-le i prefix (line ∷ []) (omega arith) in
+    let n : get_or (prefix ++ line ∷ []) i [] ≡ get_or prefix i [] = get_or_append_left prefix (line ∷ []) [] i inside in
     rw (t, n) (clean i w inside))
-    (λ (at : length front ≤ i).
-    let same : i ≡ length front = omega (arith, length-append front (line ∷ [])) in
-    let t : take i (front ++ line ∷ []) ≡ front = take_at front (line ∷ []) i (sym same) in
-    let n : get_or (front ++ line ∷ []) i [] ≡ line = get_or_at front line [] [] i (sym same) in
+    (λ (at : length prefix ≤ i).
+    let same : i ≡ length prefix = omega (arith, length-append prefix (line ∷ [])) in
+    let t : take i (prefix ++ line ∷ []) ≡ prefix = take_at prefix (line ∷ []) i (sym same) in
+    let n : get_or (prefix ++ line ∷ []) i [] ≡ line = get_or_at prefix line [] [] i (sym same) in
     rw (t, n) (at_line w))
-    (cases_lt i (length front))
+    (cases_lt i (length prefix))
 
 -- ---- the place in the text
 
 -- A reader has come behind i lines: they have no fault and none of them is a last line; `rest` is what stands behind them, and `pieces` are
 -- their pieces.
 pub record Reached (text : List ℕ) (i : ℕ) (rest : List ℕ) (pieces : List (List (List ℕ))) : Type 0 where
-  pub front : List (List ℕ)
-  pub body : parts_of text ≡ front ++ parts_of rest
-  pub count : length front ≡ i
-  pub clean : IsClean front
-  pub running : has_ended front ≡ false
-  pub says : map pieces_of front ≡ pieces
+  pub prefix : List (List ℕ)
+  pub body : parts_of text ≡ prefix ++ parts_of rest
+  pub count : length prefix ≡ i
+  pub clean : IsClean prefix
+  pub running : has_last_line prefix ≡ false
+  pub says : map pieces_of prefix ≡ pieces
 
 -- the line of this number is taken: it has no fault, and tells by its first piece whether it is the last
-pub record TakesLine (number : ℕ) (line : List ℕ) (ended : Bool) (pieces : List (List ℕ)) : Type 0 where
-  pub faultless : (w : Why) → line_fault number (pieces_of line) w ≡ false
+pub record AcceptsLine (number : ℕ) (line : List ℕ) (ended : Bool) (pieces : List (List ℕ)) : Type 0 where
+  pub faultless : (w : Why) → cert_line_fault number (pieces_of line) w ≡ false
   pub ends : is_last_line (pieces_of line) ≡ ended
   pub says : pieces_of line ≡ pieces
 
-last_place : (front : List (List ℕ)) (part : List ℕ) (behind : List (List ℕ)) (i : ℕ) → length front ≡ i → eqb (suc i) (length (front ++ part ∷ behind)) ≡ is_empty behind
-last_place front part [] i count = let whole = length-append front (part ∷ []) in grind (arith, nat_tests)
-last_place front part (next ∷ behind) i count = let whole = length-append front (part ∷ next ∷ behind) in grind (arith, nat_tests)
+last_place : (prefix : List (List ℕ)) (part : List ℕ) (after : List (List ℕ)) (i : ℕ) → length prefix ≡ i → eqb (suc i) (length (prefix ++ part ∷ after)) ≡ is_empty after
+last_place prefix part [] i count = let whole = length-append prefix (part ∷ []) in grind (arith, nat_tests)
+last_place prefix part (next ∷ after) i count = let whole = length-append prefix (part ∷ next ∷ after) in grind (arith, nat_tests)
 
-inside_place : (front : List (List ℕ)) (part : List ℕ) (behind : List (List ℕ)) (i : ℕ) → i ≤ length front → ltb i (length (front ++ part ∷ behind)) ≡ true
-inside_place front part behind i low = let whole = length-append front (part ∷ behind) in grind (arith, nat_tests)
+inside_place : (prefix : List (List ℕ)) (part : List ℕ) (after : List (List ℕ)) (i : ℕ) → i ≤ length prefix → ltb i (length (prefix ++ part ∷ after)) ≡ true
+inside_place prefix part after i low = let whole = length-append prefix (part ∷ after) in grind (arith, nat_tests)
 
 -- the fault of a part at its place
-pub fault_at-place : (text : List ℕ) (front : List (List ℕ)) (part : List ℕ) (behind : List (List ℕ)) (i : ℕ) (w : Why) →
-    parts_of text ≡ front ++ part ∷ behind → length front ≡ i → fault_at text (suc i) w ≡ part_fault front part (is_empty behind) w
-unfolding fault_at
-fault_at-place text front part behind i w body count =
-    let inside : ltb i (length (front ++ part ∷ behind)) ≡ true = inside_place front part behind i (omega arith) in
-    let t : take i (front ++ part ∷ behind) ≡ front = take_at front (part ∷ behind) i count in
-    let n : get_or (front ++ part ∷ behind) i [] ≡ part = get_or_at front part behind [] i count in
-    let last : eqb (suc i) (length (front ++ part ∷ behind)) ≡ is_empty behind = last_place front part behind i count in
+pub cert_fault_at-place : (text : List ℕ) (prefix : List (List ℕ)) (part : List ℕ) (after : List (List ℕ)) (i : ℕ) (w : Why) →
+    parts_of text ≡ prefix ++ part ∷ after → length prefix ≡ i → cert_fault_at text (suc i) w ≡ cert_part_fault prefix part (is_empty after) w
+unfolding cert_fault_at
+cert_fault_at-place text prefix part after i w body count =
+    let inside : ltb i (length (prefix ++ part ∷ after)) ≡ true = inside_place prefix part after i (omega arith) in
+    let t : take i (prefix ++ part ∷ after) ≡ prefix = take_at prefix (part ∷ after) i count in
+    let n : get_or (prefix ++ part ∷ after) i [] ≡ part = get_or_at prefix part after [] i count in
+    let last : eqb (suc i) (length (prefix ++ part ∷ after)) ≡ is_empty after = last_place prefix part after i count in
     rw (body, inside, t, n, last) refl
 
-not_last_place : (front : List (List ℕ)) (part : List ℕ) (behind : List (List ℕ)) (k : ℕ) → k < length front → eqb (suc k) (length (front ++ part ∷ behind)) ≡ false
-not_last_place front part behind k low = let whole = length-append front (part ∷ behind) in grind (arith, nat_tests)
+not_last_place : (prefix : List (List ℕ)) (part : List ℕ) (after : List (List ℕ)) (k : ℕ) → k < length prefix → eqb (suc k) (length (prefix ++ part ∷ after)) ≡ false
+not_last_place prefix part after k low = let whole = length-append prefix (part ∷ after) in grind (arith, nat_tests)
 
 -- the lines in front have no fault, whatever stands behind them
-fault_at-front : (text : List ℕ) (front : List (List ℕ)) (part : List ℕ) (behind : List (List ℕ)) (k : ℕ) (w : Why) → IsClean front →
-    parts_of text ≡ front ++ part ∷ behind → k < length front → fault_at text (suc k) w ≡ false
-unfolding fault_at
-fault_at-front text front part behind k w clean body low =
-    let inside : ltb k (length (front ++ part ∷ behind)) ≡ true = inside_place front part behind k (omega arith) in
-    let t : take k (front ++ part ∷ behind) ≡ take k front = take-append-le k front (part ∷ behind) (omega arith) in
-    let n : get_or (front ++ part ∷ behind) k [] ≡ get_or front k [] = get_or_append_left front (part ∷ behind) [] k low in
-    let last : eqb (suc k) (length (front ++ part ∷ behind)) ≡ false = not_last_place front part behind k low in
+cert_fault_at-prefix : (text : List ℕ) (prefix : List (List ℕ)) (part : List ℕ) (after : List (List ℕ)) (k : ℕ) (w : Why) → IsClean prefix →
+    parts_of text ≡ prefix ++ part ∷ after → k < length prefix → cert_fault_at text (suc k) w ≡ false
+unfolding cert_fault_at
+cert_fault_at-prefix text prefix part after k w clean body low =
+    let inside : ltb k (length (prefix ++ part ∷ after)) ≡ true = inside_place prefix part after k (omega arith) in
+    let t : take k (prefix ++ part ∷ after) ≡ take k prefix = take-append-le k prefix (part ∷ after) (omega arith) in
+    let n : get_or (prefix ++ part ∷ after) k [] ≡ get_or prefix k [] = get_or_append_left prefix (part ∷ after) [] k low in
+    let last : eqb (suc k) (length (prefix ++ part ∷ after)) ≡ false = not_last_place prefix part after k low in
     rw (body, inside, t, n, last) (clean k w low)
 
-fault_at-none : (text : List ℕ) (w : Why) → fault_at text 0 w ≡ false
-unfolding fault_at
-fault_at-none text w = refl
+cert_fault_at-none : (text : List ℕ) (w : Why) → cert_fault_at text 0 w ≡ false
+unfolding cert_fault_at
+cert_fault_at-none text w = refl
 
 -- behind the last part there is no fault
-pub fault_at-past : (text : List ℕ) (k : ℕ) (w : Why) → length (parts_of text) < k → fault_at text k w ≡ false
-unfolding fault_at
-fault_at-past text zero w past = refl
-fault_at-past text (suc k) w past = let off : ltb k (length (parts_of text)) ≡ false = grind (arith, nat_tests) in rw off refl
+pub cert_fault_at-past : (text : List ℕ) (k : ℕ) (w : Why) → length (parts_of text) < k → cert_fault_at text k w ≡ false
+unfolding cert_fault_at
+cert_fault_at-past text zero w past = refl
+cert_fault_at-past text (suc k) w past = let off : ltb k (length (parts_of text)) ≡ false = grind (arith, nat_tests) in rw off refl
 
 -- no line before a place behind clean lines has a fault
-fault_at-before : (text : List ℕ) (front : List (List ℕ)) (part : List ℕ) (behind : List (List ℕ)) → IsClean front →
-    parts_of text ≡ front ++ part ∷ behind → (j : ℕ) (w : Why) → j < suc (length front) → fault_at text j w ≡ false
-fault_at-before text front part behind clean body zero w low = fault_at-none text w
-fault_at-before text front part behind clean body (suc k) w low = fault_at-front text front part behind k w clean body (omega arith)
+cert_fault_at-before : (text : List ℕ) (prefix : List (List ℕ)) (part : List ℕ) (after : List (List ℕ)) → IsClean prefix →
+    parts_of text ≡ prefix ++ part ∷ after → (j : ℕ) (w : Why) → j < suc (length prefix) → cert_fault_at text j w ≡ false
+cert_fault_at-before text prefix part after clean body zero w low = cert_fault_at-none text w
+cert_fault_at-before text prefix part after clean body (suc k) w low = cert_fault_at-prefix text prefix part after k w clean body (omega arith)
 
 -- ---- refusals
 
 -- the first fault of a part is the refusal of the text
-refused_at : (text : List ℕ) (front : List (List ℕ)) (part : List ℕ) (behind : List (List ℕ)) (why : Why) → IsClean front →
-    parts_of text ≡ front ++ part ∷ behind → IsFirst (part_fault front part (is_empty behind)) why → IsRefusal text (suc (length front)) why
-refused_at text front part behind why clean body first = record {
-  fault = fault_at-place text front part behind (length front) why body refl ∙ first.fault;
-  first = fault_at-before text front part behind clean body;
-  least = λ w less. fault_at-place text front part behind (length front) w body refl ∙ first.least w less;
+refused_at : (text : List ℕ) (prefix : List (List ℕ)) (part : List ℕ) (after : List (List ℕ)) (why : Why) → IsClean prefix →
+    parts_of text ≡ prefix ++ part ∷ after → IsFirstCertFault (cert_part_fault prefix part (is_empty after)) why → IsCertTextRefusal text (suc (length prefix)) why
+refused_at text prefix part after why clean body first = record {
+  fault = cert_fault_at-place text prefix part after (length prefix) why body refl ∙ first.fault;
+  first = cert_fault_at-before text prefix part after clean body;
+  least = λ w less. cert_fault_at-place text prefix part after (length prefix) w body refl ∙ first.least w less;
 }
 
-pub same_why-self : (w : Why) → same_why w w ≡ true
-same_why-self w = grind (arith, nat_tests)
+pub same_cert_fault-self : (w : Why) → same_cert_fault w w ≡ true
+same_cert_fault-self w = grind (arith, nat_tests)
 
-same_why-first : (why : Why) → IsFirst (same_why why) why
-same_why-first why = record { fault = same_why-self why; least = λ w less. grind (arith, nat_tests) }
+same_cert_fault-first : (why : Why) → IsFirstCertFault (same_cert_fault why) why
+same_cert_fault-first why = record { fault = same_cert_fault-self why; least = λ w less. grind (arith, nat_tests) }
 
-IsFirst-same : {p q : Why → Bool} (why : Why) → ((w : Why) → p w ≡ q w) → IsFirst q why → IsFirst p why
-IsFirst-same why same first = record { fault = same why ∙ first.fault; least = λ w less. same w ∙ first.least w less }
+IsFirstCertFault-same : {p q : Why → Bool} (why : Why) → ((w : Why) → p w ≡ q w) → IsFirstCertFault q why → IsFirstCertFault p why
+IsFirstCertFault-same why same first = record { fault = same why ∙ first.fault; least = λ w less. same w ∙ first.least w less }
 
 -- a line with a fault
-pub line_refused : (text : List ℕ) (i : ℕ) (rest : List ℕ) (pieces : List (List (List ℕ))) (line behind : List ℕ) (why : Why) → Reached text i rest pieces →
-    parts_of rest ≡ line ∷ parts_of behind → IsFirst (line_fault (suc i) (pieces_of line)) why → IsRefusal text (suc i) why
+pub line_refused : (text : List ℕ) (i : ℕ) (rest : List ℕ) (pieces : List (List (List ℕ))) (line after : List ℕ) (why : Why) → Reached text i rest pieces →
+    parts_of rest ≡ line ∷ parts_of after → IsFirstCertFault (cert_line_fault (suc i) (pieces_of line)) why → IsCertTextRefusal text (suc i) why
 unfolding parts_of
-line_refused text i rest pieces line behind why r parts first =
-    let p = split_parts (λ b. eqb b 10) behind in
-    let body : parts_of text ≡ r.front ++ line ∷ (p.0 ∷ p.1) = r.body ∙ ap (λ x. r.front ++ x) (parts ∙ ap (λ x. line ∷ x) p.2) in
-    let at : IsFirst (part_fault r.front line false) why =
-    IsFirst-same why (λ w. part_fault-open r.front line w r.running ∙ ap (λ n. line_fault (suc n) (pieces_of line) w) r.count) first in
-    subst (λ n. IsRefusal text (suc n) why) r.count (refused_at text r.front line (p.0 ∷ p.1) why r.clean body at)
+line_refused text i rest pieces line after why r parts first =
+    let p = split_parts (λ b. eqb b 10) after in
+    let body : parts_of text ≡ r.prefix ++ line ∷ (p.0 ∷ p.1) = r.body ∙ ap (λ x. r.prefix ++ x) (parts ∙ ap (λ x. line ∷ x) p.2) in
+    let at : IsFirstCertFault (cert_part_fault r.prefix line false) why =
+    IsFirstCertFault-same why (λ w. cert_part_fault-open r.prefix line w r.running ∙ ap (λ n. cert_line_fault (suc n) (pieces_of line) w) r.count) first in
+    subst (λ n. IsCertTextRefusal text (suc n) why) r.count (refused_at text r.prefix line (p.0 ∷ p.1) why r.clean body at)
 
 -- no line end, and no last line before
 pub unended_refused : (text : List ℕ) (i : ℕ) (rest : List ℕ) (pieces : List (List (List ℕ))) (why : Why) → Reached text i rest pieces →
-    parts_of rest ≡ rest ∷ [] → why ≡ unended rest → IsRefusal text (suc i) why
+    parts_of rest ≡ rest ∷ [] → why ≡ unended_cert_fault rest → IsCertTextRefusal text (suc i) why
 unended_refused text i rest pieces why r parts is =
-    let body : parts_of text ≡ r.front ++ rest ∷ [] = r.body ∙ ap (λ x. r.front ++ x) parts in
-    let at : IsFirst (part_fault r.front rest true) (unended rest) =
-    IsFirst-same (unended rest) (λ w. part_fault-last r.front rest w r.running) (same_why-first (unended rest)) in
-    rw is (subst (λ n. IsRefusal text (suc n) (unended rest)) r.count (refused_at text r.front rest [] (unended rest) r.clean body at))
+    let body : parts_of text ≡ r.prefix ++ rest ∷ [] = r.body ∙ ap (λ x. r.prefix ++ x) parts in
+    let at : IsFirstCertFault (cert_part_fault r.prefix rest true) (unended_cert_fault rest) =
+    IsFirstCertFault-same (unended_cert_fault rest) (λ w. cert_part_fault-last r.prefix rest w r.running) (same_cert_fault-first (unended_cert_fault rest)) in
+    rw is (subst (λ n. IsCertTextRefusal text (suc n) (unended_cert_fault rest)) r.count (refused_at text r.prefix rest [] (unended_cert_fault rest) r.clean body at))
 
 -- a line that is taken has no fault
 line_clean : (text : List ℕ) (i : ℕ) (rest : List ℕ) (pieces : List (List (List ℕ))) (line : List ℕ) (ended : Bool) (said : List (List ℕ)) →
-    (r : Reached text i rest pieces) → TakesLine (suc i) line ended said → (w : Why) → part_fault r.front line false w ≡ false
-line_clean text i rest pieces line ended said r takes w =
-    part_fault-open r.front line w r.running ∙ ap (λ n. line_fault (suc n) (pieces_of line) w) r.count ∙ takes.faultless w
+    (r : Reached text i rest pieces) → AcceptsLine (suc i) line ended said → (w : Why) → cert_part_fault r.prefix line false w ≡ false
+line_clean text i rest pieces line ended said r accepts w =
+    cert_part_fault-open r.prefix line w r.running ∙ ap (λ n. cert_line_fault (suc n) (pieces_of line) w) r.count ∙ accepts.faultless w
 
 line_says : (text : List ℕ) (i : ℕ) (rest : List ℕ) (pieces : List (List (List ℕ))) (line : List ℕ) (ended : Bool) (said : List (List ℕ)) →
-    (r : Reached text i rest pieces) → TakesLine (suc i) line ended said → map pieces_of (r.front ++ line ∷ []) ≡ pieces ++ said ∷ []
-line_says text i rest pieces line ended said r takes =
-    map-append pieces_of r.front (line ∷ []) ∙ ap (λ p. p ++ pieces_of line ∷ []) r.says ∙ ap (λ l. pieces ++ l ∷ []) takes.says
+    (r : Reached text i rest pieces) → AcceptsLine (suc i) line ended said → map pieces_of (r.prefix ++ line ∷ []) ≡ pieces ++ said ∷ []
+line_says text i rest pieces line ended said r accepts =
+    map-append pieces_of r.prefix (line ∷ []) ∙ ap (λ p. p ++ pieces_of line ∷ []) r.says ∙ ap (λ l. pieces ++ l ∷ []) accepts.says
 
 line_ends : (text : List ℕ) (i : ℕ) (rest : List ℕ) (pieces : List (List (List ℕ))) (line : List ℕ) (ended : Bool) (said : List (List ℕ)) →
-    (r : Reached text i rest pieces) → TakesLine (suc i) line ended said → has_ended (r.front ++ line ∷ []) ≡ ended
-line_ends text i rest pieces line ended said r takes = has_ended-push r.front line r.running ∙ takes.ends
+    (r : Reached text i rest pieces) → AcceptsLine (suc i) line ended said → has_last_line (r.prefix ++ line ∷ []) ≡ ended
+line_ends text i rest pieces line ended said r accepts = has_last_line-push r.prefix line r.running ∙ accepts.ends
 
 -- the reader goes on behind a line
-pub Reached-next : (text : List ℕ) (i : ℕ) (rest : List ℕ) (pieces : List (List (List ℕ))) (line behind : List ℕ) (said : List (List ℕ)) →
-    Reached text i rest pieces → parts_of rest ≡ line ∷ parts_of behind → TakesLine (suc i) line false said → Reached text (suc i) behind (pieces ++ said ∷ [])
-Reached-next text i rest pieces line behind said r parts takes = record {
-  front = r.front ++ line ∷ [];
-  body = r.body ∙ ap (λ x. r.front ++ x) parts ∙ sym (append_assoc r.front (line ∷ []) (parts_of behind));
-  count = omega (arith, length-append r.front (line ∷ []), r.count);
-  clean = IsClean-push r.front line r.clean (line_clean text i rest pieces line false said r takes);
-  running = line_ends text i rest pieces line false said r takes;
-  says = line_says text i rest pieces line false said r takes;
+pub Reached-next : (text : List ℕ) (i : ℕ) (rest : List ℕ) (pieces : List (List (List ℕ))) (line after : List ℕ) (said : List (List ℕ)) →
+    Reached text i rest pieces → parts_of rest ≡ line ∷ parts_of after → AcceptsLine (suc i) line false said → Reached text (suc i) after (pieces ++ said ∷ [])
+Reached-next text i rest pieces line after said r parts accepts = record {
+  prefix = r.prefix ++ line ∷ [];
+  body = r.body ∙ ap (λ x. r.prefix ++ x) parts ∙ sym (append_assoc r.prefix (line ∷ []) (parts_of after));
+  count = omega (arith, length-append r.prefix (line ∷ []), r.count);
+  clean = IsClean-push r.prefix line r.clean (line_clean text i rest pieces line false said r accepts);
+  running = line_ends text i rest pieces line false said r accepts;
+  says = line_says text i rest pieces line false said r accepts;
 }
 
 -- a byte behind the last line
-pub ended_refused : (text : List ℕ) (i : ℕ) (rest : List ℕ) (pieces : List (List (List ℕ))) (line behind : List ℕ) (said : List (List ℕ)) →
-    Reached text i rest pieces → parts_of rest ≡ line ∷ parts_of behind → TakesLine (suc i) line true said → (length behind ≡ 0 → ⊥) → IsRefusal text (suc (suc i)) AfterCycle
+pub ended_refused : (text : List ℕ) (i : ℕ) (rest : List ℕ) (pieces : List (List (List ℕ))) (line after : List ℕ) (said : List (List ℕ)) →
+    Reached text i rest pieces → parts_of rest ≡ line ∷ parts_of after → AcceptsLine (suc i) line true said → (length after ≡ 0 → ⊥) → IsCertTextRefusal text (suc (suc i)) AfterCycle
 unfolding parts_of
-ended_refused text i rest pieces line behind said r parts takes some =
-    let p = split_parts (λ b. eqb b 10) behind in
-    let body : parts_of text ≡ (r.front ++ line ∷ []) ++ p.0 ∷ p.1 = r.body ∙ ap (λ x. r.front ++ x) (parts ∙ ap (λ x. line ∷ x) p.2) ∙ sym (append_assoc r.front (line ∷ []) (p.0 ∷ p.1)) in
-    let stands : not (is_empty p.1 && is_empty p.0) ≡ true = some_part behind p.0 p.1 p.2 some in
-    let at : IsFirst (part_fault (r.front ++ line ∷ []) p.0 (is_empty p.1)) AfterCycle =
-    IsFirst-same AfterCycle
-    (λ w. part_fault-ended (r.front ++ line ∷ []) p.0 (is_empty p.1) w (line_ends text i rest pieces line true said r takes) ∙ ap (λ b. same_why AfterCycle w && b) stands ∙ and-true (same_why AfterCycle w))
-    (same_why-first AfterCycle) in
-    let n : length (r.front ++ line ∷ []) ≡ suc i = omega (arith, length-append r.front (line ∷ []), r.count) in
-    subst (λ n. IsRefusal text (suc n) AfterCycle) n
-    (refused_at text (r.front ++ line ∷ []) p.0 p.1 AfterCycle (IsClean-push r.front line r.clean (line_clean text i rest pieces line true said r takes)) body at)
+ended_refused text i rest pieces line after said r parts accepts some =
+    let p = split_parts (λ b. eqb b 10) after in
+    let body : parts_of text ≡ (r.prefix ++ line ∷ []) ++ p.0 ∷ p.1 = r.body ∙ ap (λ x. r.prefix ++ x) (parts ∙ ap (λ x. line ∷ x) p.2) ∙ sym (append_assoc r.prefix (line ∷ []) (p.0 ∷ p.1)) in
+    let stands : not (is_empty p.1 && is_empty p.0) ≡ true = some_part after p.0 p.1 p.2 some in
+    let at : IsFirstCertFault (cert_part_fault (r.prefix ++ line ∷ []) p.0 (is_empty p.1)) AfterCycle =
+    IsFirstCertFault-same AfterCycle
+    (λ w. cert_part_fault-ended (r.prefix ++ line ∷ []) p.0 (is_empty p.1) w (line_ends text i rest pieces line true said r accepts) ∙ ap (λ b. same_cert_fault AfterCycle w && b) stands ∙ and-true (same_cert_fault AfterCycle w))
+    (same_cert_fault-first AfterCycle) in
+    let n : length (r.prefix ++ line ∷ []) ≡ suc i = omega (arith, length-append r.prefix (line ∷ []), r.count) in
+    subst (λ n. IsCertTextRefusal text (suc n) AfterCycle) n
+    (refused_at text (r.prefix ++ line ∷ []) p.0 p.1 AfterCycle (IsClean-push r.prefix line r.clean (line_clean text i rest pieces line true said r accepts)) body at)
 
-spelled_behind : (text : List ℕ) (lines : List (List ℕ)) (k : ℕ) (w : Why) → has_ended lines ≡ true → parts_of text ≡ lines ++ [] ∷ [] →
-    suc (length lines) ≤ k → fault_at text k w ≡ false
-spelled_behind text lines zero w ended body high = absurd (omega arith)
-spelled_behind text lines (suc k) w ended body high =
+spelled_after : (text : List ℕ) (lines : List (List ℕ)) (k : ℕ) (w : Why) → has_last_line lines ≡ true → parts_of text ≡ lines ++ [] ∷ [] →
+    suc (length lines) ≤ k → cert_fault_at text k w ≡ false
+spelled_after text lines zero w ended body high = absurd (omega arith)
+spelled_after text lines (suc k) w ended body high =
     ⊎_elim
     (λ (at : k < suc (length lines)).
     let same : length lines ≡ k = omega arith in
-    fault_at-place text lines [] [] k w body same ∙ part_fault-ended lines [] true w ended ∙ and-false (same_why AfterCycle w))
-    (λ (past : suc (length lines) ≤ k). fault_at-past text (suc k) w (omega (arith, ap length body, length-append lines ([] ∷ []))))
+    cert_fault_at-place text lines [] [] k w body same ∙ cert_part_fault-ended lines [] true w ended ∙ and-false (same_cert_fault AfterCycle w))
+    (λ (past : suc (length lines) ≤ k). cert_fault_at-past text (suc k) w (omega (arith, ap length body, length-append lines ([] ∷ []))))
     (cases_lt k (suc (length lines)))
 
 -- clean lines with a last line, and nothing behind them, spell the certificate that has their pieces
-pub spelled : (text : List ℕ) (lines : List (List ℕ)) (c : Certificate) → IsClean lines → has_ended lines ≡ true → map pieces_of lines ≡ cert_pieces c → CertFits c →
-    parts_of text ≡ lines ++ [] ∷ [] → Spells text c
+pub spelled : (text : List ℕ) (lines : List (List ℕ)) (c : Certificate) → IsClean lines → has_last_line lines ≡ true → map pieces_of lines ≡ cert_pieces c → CertFits c →
+    parts_of text ≡ lines ++ [] ∷ [] → SpellsCertificate text c
 spelled text lines c clean ended says fits body = record {
   clean = λ k w. ⊎_elim
-      (λ (low : k < suc (length lines)). fault_at-before text lines [] [] clean body k w low)
-      (λ (high : suc (length lines) ≤ k). spelled_behind text lines k w ended body high)
+      (λ (low : k < suc (length lines)). cert_fault_at-before text lines [] [] clean body k w low)
+      (λ (high : suc (length lines) ≤ k). spelled_after text lines k w ended body high)
       (cases_lt k (suc (length lines)));
   says =
       let n : length (lines ++ [] ∷ []) - 1 ≡ length lines = omega (arith, length-append lines ([] ∷ [])) in
@@ -236,22 +236,22 @@ spelled text lines c clean ended says fits body = record {
 }
 
 -- nothing behind the last line: the text spells the certificate of the lines
-pub Reached-end : (text : List ℕ) (i : ℕ) (rest : List ℕ) (pieces : List (List (List ℕ))) (line behind : List ℕ) (said : List (List ℕ)) (c : Certificate) →
-    Reached text i rest pieces → parts_of rest ≡ line ∷ parts_of behind → TakesLine (suc i) line true said → pieces ++ said ∷ [] ≡ cert_pieces c → CertFits c →
-    length behind ≡ 0 → Spells text c
+pub Reached-end : (text : List ℕ) (i : ℕ) (rest : List ℕ) (pieces : List (List (List ℕ))) (line after : List ℕ) (said : List (List ℕ)) (c : Certificate) →
+    Reached text i rest pieces → parts_of rest ≡ line ∷ parts_of after → AcceptsLine (suc i) line true said → pieces ++ said ∷ [] ≡ cert_pieces c → CertFits c →
+    length after ≡ 0 → SpellsCertificate text c
 unfolding parts_of
-Reached-end text i rest pieces line [] said c r parts takes whole fits none =
-    spelled text (r.front ++ line ∷ []) c
-    (IsClean-push r.front line r.clean (line_clean text i rest pieces line true said r takes))
-    (line_ends text i rest pieces line true said r takes) (line_says text i rest pieces line true said r takes ∙ whole) fits
-    (r.body ∙ ap (λ x. r.front ++ x) parts ∙ sym (append_assoc r.front (line ∷ []) ([] ∷ [])))
-Reached-end text i rest pieces line (b ∷ behind) said c r parts takes whole fits none = absurd (omega arith)
+Reached-end text i rest pieces line [] said c r parts accepts whole fits none =
+    spelled text (r.prefix ++ line ∷ []) c
+    (IsClean-push r.prefix line r.clean (line_clean text i rest pieces line true said r accepts))
+    (line_ends text i rest pieces line true said r accepts) (line_says text i rest pieces line true said r accepts ∙ whole) fits
+    (r.body ∙ ap (λ x. r.prefix ++ x) parts ∙ sym (append_assoc r.prefix (line ∷ []) ([] ∷ [])))
+Reached-end text i rest pieces line (b ∷ after) said c r parts accepts whole fits none = absurd (omega arith)
 
 -- before the first line
 pub Reached-start : (text : List ℕ) → Reached text 0 text []
-unfolding has_ended
+unfolding has_last_line
 Reached-start text = record {
-  front = [];
+  prefix = [];
   body = refl;
   count = refl;
   clean = λ i w low. absurd (omega arith);

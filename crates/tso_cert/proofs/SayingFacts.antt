@@ -23,7 +23,7 @@ use Rattle.tso_cert.specs.declared.faults.Why.{Why}
 use Rattle.tso_cert.specs.declared.faults.Why.TheVariants.{BadNumber, BadRule}
 use Rattle.tso_cert.specs.Printed.{base_name, inferred_name, event_text, reason_pieces, Fits, ReasonFits}
 use Rattle.tso_cert.specs.Spelling.{above_zero, event_number, are_events, base_rules, inferred_rules, is_name, is_rule}
-use Rattle.tso_cert.specs.Taken.{◌>>=◌, or_bad, event, events, named, base_rule, inferred_rule, reason_said}
+use Rattle.tso_cert.specs.Internal.LineValues.{◌>>=◌, or_bad_event, event, events, named, base_rule, inferred_rule, reason_said}
 
 -- ---- steps of a reading
 
@@ -51,8 +51,8 @@ cases false = inr refl
 pub all_first : {X : Type 0} (P : X → Type 0) (x : X) (xs : List X) → All P (x ∷ xs) → P x
 all_first P x xs all = all 0 x (omega arith)
 
-pub all_behind : {X : Type 0} (P : X → Type 0) (x : X) (xs : List X) → All P (x ∷ xs) → All P xs
-all_behind P x xs all k d low = all (suc k) d (omega arith)
+pub all_after : {X : Type 0} (P : X → Type 0) (x : X) (xs : List X) → All P (x ∷ xs) → All P xs
+all_after P x xs all k d low = all (suc k) d (omega arith)
 
 -- ---- event numbers
 
@@ -88,11 +88,11 @@ event_number-text : (n : ℕ) → Fits n → event_number (event_text n) ≡ Som
 event_number-text zero fits = refl
 event_number-text (suc n) fits = rw (decimal_differs (suc n) (codes "init") fits refl, number-decimal (suc n) fits) refl
 
-or_bad_ok : (o : Option ℕ) (n : ℕ) → or_bad o ≡ Ok n → o ≡ Some n
+or_bad_ok : (o : Option ℕ) (n : ℕ) → or_bad_event o ≡ Ok n → o ≡ Some n
 or_bad_ok None n e = absurd cc
 or_bad_ok (Some m) n e = cc
 
-or_bad_err : (o : Option ℕ) (why : Why) → or_bad o ≡ Err why → (o ≡ None) × (why ≡ BadNumber)
+or_bad_err : (o : Option ℕ) (why : Why) → or_bad_event o ≡ Err why → (o ≡ None) × (why ≡ BadNumber)
 or_bad_err None why e = (refl, cc)
 or_bad_err (Some m) why e = absurd cc
 
@@ -106,7 +106,7 @@ pub event_none : (p : List ℕ) (why : Why) → event p ≡ Err why → (is_some
 event_none p why e = let s = or_bad_err (event_number p) why e in (ap is_some s.0, s.1)
 
 pub event-text : (n : ℕ) → Fits n → event (event_text n) ≡ Ok n
-event-text n fits = ap or_bad (event_number-text n fits)
+event-text n fits = ap or_bad_event (event_number-text n fits)
 
 pub events_are : (ps : List (List ℕ)) (ns : List ℕ) → events ps ≡ Ok ns → (ps ≡ map event_text ns) × All Fits ns
 events_are [] ns e = let none : [] ≡ ns = cc in rw (← none) (refl, All-nil Fits)
@@ -139,7 +139,7 @@ events_none (p ∷ ps) why e =
 
 pub events-text : (ns : List ℕ) → All Fits ns → events (map event_text ns) ≡ Ok ns
 events-text [] fits = refl
-events-text (n ∷ ns) fits = rw (event-text n (all_first Fits n ns fits), events-text ns (all_behind Fits n ns fits)) refl
+events-text (n ∷ ns) fits = rw (event-text n (all_first Fits n ns fits), events-text ns (all_after Fits n ns fits)) refl
 
 -- ---- rules
 

@@ -15,8 +15,8 @@ use Rattle.tso_cert.specs.declared.lines.Line.TheVariants.{Step, Cycle, Unwritte
 use Rattle.tso_cert.specs.declared.faults.Why.{Why}
 use Rattle.tso_cert.specs.declared.faults.Why.TheVariants.{BadLine, BadNumber, BadRule, NoCycle, AfterCycle, OutOfMemory}
 use Rattle.tso_cert.specs.Printed.{step_pieces, steps_pieces, cert_pieces, cert_text}
-use Rattle.tso_cert.specs.Spelling.{Spells, IsRefusal, number_of, unended}
-use Rattle.tso_cert.specs.Taken.{said}
+use Rattle.tso_cert.specs.Spelling.{SpellsCertificate, IsCertTextRefusal, cert_fault_number, unended_cert_fault}
+use Rattle.tso_cert.specs.Internal.LineValues.{cert_line_said}
 use Rattle.tso_cert.proofs.LineFacts.{told, line_pieces, ends}
 use Rattle.tso_cert.proofs.Reaching.{unended_refused}
 use Rattle.tso_cert.proofs.StepFacts.{IsRead, IsRead-start, IsRead-next, read_refused, read_after, read_cycle, read_unwritten, unwritten_alone, steps_pieces-next}
@@ -30,7 +30,7 @@ whys = BadLine ∷ BadNumber ∷ BadRule ∷ NoCycle ∷ AfterCycle ∷ OutOfMem
 why_at : ℕ → Why
 why_at k = get_or whys k OutOfMemory
 
-why_at-number_of : (w : Why) → why_at (number_of w - 1) ≡ w
+why_at-number_of : (w : Why) → why_at (cert_fault_number w - 1) ≡ w
 unfolding whys why_at
 why_at-number_of BadLine = refl
 why_at-number_of BadNumber = refl
@@ -40,14 +40,14 @@ why_at-number_of AfterCycle = refl
 why_at-number_of OutOfMemory = refl
 
 -- the number tells the refusal
-same_number : (v w : Why) → number_of v ≡ number_of w → v ≡ w
+same_number : (v w : Why) → cert_fault_number v ≡ cert_fault_number w → v ≡ w
 same_number v w e = sym (why_at-number_of v) ∙ ap (λ n. why_at (n - 1)) e ∙ why_at-number_of w
 
 -- ---- spelled or refused
 
 -- the text spells a certificate, whose text it is; or it is refused
 abbrev pub IsJudged : List ℕ → Type 0
-IsJudged text = ((c : Certificate) × Spells text c × (text ≡ cert_text c)) ⊎ ((line : ℕ) × (why : Why) × IsRefusal text line why)
+IsJudged text = ((c : Certificate) × SpellsCertificate text c × (text ≡ cert_text c)) ⊎ ((line : ℕ) × (why : Why) × IsCertTextRefusal text line why)
 
 -- How far a text was walked through: behind its steps so far, with their bytes.
 record Walked (text rest : List ℕ) (steps : List CertStep) : Type 0 where
@@ -59,12 +59,12 @@ unfolding pieces_of
 line_bytes line pieces is = sym (join_with_byte-slice_split 32 line) ∙ ap (join_with_byte 32) is
 
 -- the bytes of one more line
-bytes-push : (text rest line behind : List ℕ) (front : List (List (List ℕ))) (pieces : List (List ℕ)) → text ≡ flat_map line_text front ++ rest → rest ≡ line ++ 10 ∷ behind → pieces_of line ≡ pieces →
-    text ≡ flat_map line_text (front ++ pieces ∷ []) ++ behind
-bytes-push text rest line behind front pieces whole cut is =
-    whole ∙ ap (λ r. flat_map line_text front ++ r) (cut ∙ ap (λ l. l ++ 10 ∷ behind) (line_bytes line pieces is) ∙ sym (append_assoc (join_with_byte 32 pieces) (10 ∷ []) behind))
-    ∙ sym (append_assoc (flat_map line_text front) (line_text pieces) behind) ∙ ap (λ t. (flat_map line_text front ++ t) ++ behind) (sym (append-nil (line_text pieces)))
-    ∙ ap (λ t. t ++ behind) (sym (flat_map-append line_text front (pieces ∷ [])))
+bytes-push : (text rest line after : List ℕ) (prefix : List (List (List ℕ))) (pieces : List (List ℕ)) → text ≡ flat_map line_text prefix ++ rest → rest ≡ line ++ 10 ∷ after → pieces_of line ≡ pieces →
+    text ≡ flat_map line_text (prefix ++ pieces ∷ []) ++ after
+bytes-push text rest line after prefix pieces whole cut is =
+    whole ∙ ap (λ r. flat_map line_text prefix ++ r) (cut ∙ ap (λ l. l ++ 10 ∷ after) (line_bytes line pieces is) ∙ sym (append_assoc (join_with_byte 32 pieces) (10 ∷ []) after))
+    ∙ sym (append_assoc (flat_map line_text prefix) (line_text pieces) after) ∙ ap (λ t. (flat_map line_text prefix ++ t) ++ after) (sym (append-nil (line_text pieces)))
+    ∙ ap (λ t. t ++ after) (sym (flat_map-append line_text prefix (pieces ∷ [])))
 
 shorter : (text line rest : List ℕ) → text ≡ line ++ 10 ∷ rest → suc (length rest) ≤ length text
 shorter text line rest is = omega (arith, ap length is, length-append line (10 ∷ rest))
@@ -74,7 +74,7 @@ no_bytes [] none = refl
 no_bytes (b ∷ bytes) none = absurd (omega arith)
 
 -- behind one more step
-walked_step : (text rest : List ℕ) (steps : List CertStep) (s : CertStep) → Walked text rest steps → (cut : HasLine rest) → said (suc (length steps)) (pieces_of cut.line) ≡ Ok (Step s) → Walked text cut.rest (steps ++ s ∷ [])
+walked_step : (text rest : List ℕ) (steps : List CertStep) (s : CertStep) → Walked text rest steps → (cut : HasLine rest) → cert_line_said (suc (length steps)) (pieces_of cut.line) ≡ Ok (Step s) → Walked text cut.rest (steps ++ s ∷ [])
 walked_step text rest steps s w cut is = record {
   read = IsRead-next text rest steps s cut.line cut.rest w.read cut.parts is;
   bytes = bytes-push text rest cut.line cut.rest (steps_pieces 1 steps) (step_pieces (suc (length steps)) s) w.bytes cut.bytes (told (suc (length steps)) (pieces_of cut.line) (Step s) is).says
@@ -82,8 +82,8 @@ walked_step text rest steps s w cut is = record {
 }
 
 -- behind a last line, which makes this certificate where nothing stands behind it
-judged_last : (text rest : List ℕ) (steps : List CertStep) (l : Line) (c : Certificate) → Walked text rest steps → (cut : HasLine rest) → said (suc (length steps)) (pieces_of cut.line) ≡ Ok l → ends l ≡ true →
-    steps_pieces 1 steps ++ line_pieces (suc (length steps)) l ∷ [] ≡ cert_pieces c → (length cut.rest ≡ 0 → Spells text c) → IsJudged text
+judged_last : (text rest : List ℕ) (steps : List CertStep) (l : Line) (c : Certificate) → Walked text rest steps → (cut : HasLine rest) → cert_line_said (suc (length steps)) (pieces_of cut.line) ≡ Ok l → ends l ≡ true →
+    steps_pieces 1 steps ++ line_pieces (suc (length steps)) l ∷ [] ≡ cert_pieces c → (length cut.rest ≡ 0 → SpellsCertificate text c) → IsJudged text
 unfolding cert_text
 judged_last text rest steps l c w cut is last whole spells =
     ⊎_elim
@@ -101,7 +101,7 @@ judged_last text rest steps l c w cut is last whole spells =
     (cases_lt (length cut.rest) 1)
 
 walked_line : (text rest : List ℕ) (steps : List CertStep) → Walked text rest steps → (cut : HasLine rest) → ((s : CertStep) → Walked text cut.rest (steps ++ s ∷ []) → IsJudged text) →
-    (r : Result Line Why) → said (suc (length steps)) (pieces_of cut.line) ≡ r → IsJudged text
+    (r : Result Line Why) → cert_line_said (suc (length steps)) (pieces_of cut.line) ≡ r → IsJudged text
 walked_line text rest steps w cut go (Err why) is = inr (suc (length steps), why, read_refused text rest steps cut.line cut.rest why w.read cut.parts is)
 walked_line text rest steps w cut go (Ok (Step s)) is = go s (walked_step text rest steps s w cut is)
 walked_line text rest steps w cut go (Ok (Cycle ns)) is =
@@ -110,7 +110,7 @@ walked_line text rest steps w cut go (Ok (Unwritten n)) is =
     judged_last text rest steps (Unwritten n) (UnwrittenLoad n) w cut is refl (unwritten_alone steps (pieces_of cut.line) n is) (λ none. read_unwritten text rest steps n cut.line cut.rest w.read cut.parts is none)
 
 judged_end : (text rest : List ℕ) (steps : List CertStep) → Walked text rest steps → parts_of rest ≡ rest ∷ [] → IsJudged text
-judged_end text rest steps w none = inr (suc (length steps), unended rest, unended_refused text (length steps) rest (steps_pieces 1 steps) (unended rest) w.read.reached none refl)
+judged_end text rest steps w none = inr (suc (length steps), unended_cert_fault rest, unended_refused text (length steps) rest (steps_pieces 1 steps) (unended_cert_fault rest) w.read.reached none refl)
 
 -- from a place on, with at most n bytes left
 walk : (n : ℕ) (text rest : List ℕ) (steps : List CertStep) → length rest ≤ n → Walked text rest steps → IsJudged text
@@ -121,45 +121,45 @@ walk (suc n) text rest steps few w =
     (λ (none : parts_of rest ≡ rest ∷ []). judged_end text rest steps w none)
     (λ (cut : HasLine rest).
     walked_line text rest steps w cut (λ s more. walk n text cut.rest (steps ++ s ∷ []) (omega (arith, few, shorter rest cut.line cut.rest cut.bytes)) more)
-    (said (suc (length steps)) (pieces_of cut.line)) refl)
+    (cert_line_said (suc (length steps)) (pieces_of cut.line)) refl)
     (first_line rest)
 
 pub judged : (text : List ℕ) → IsJudged text
 judged text = walk (length text) text text [] (omega arith) (record { read = IsRead-start text; bytes = refl })
 
-pub spelled_or_refused : (text : List ℕ) → ((c : Certificate) × Spells text c) ⊎ ((line : ℕ) × (why : Why) × IsRefusal text line why)
+pub spelled_or_refused : (text : List ℕ) → ((c : Certificate) × SpellsCertificate text c) ⊎ ((line : ℕ) × (why : Why) × IsCertTextRefusal text line why)
 spelled_or_refused text =
     ⊎_elim
-    (λ (s : (c : Certificate) × Spells text c × (text ≡ cert_text c)). inl (s.0, s.1))
-    (λ (r : (line : ℕ) × (why : Why) × IsRefusal text line why). inr r)
+    (λ (s : (c : Certificate) × SpellsCertificate text c × (text ≡ cert_text c)). inl (s.0, s.1))
+    (λ (r : (line : ℕ) × (why : Why) × IsCertTextRefusal text line why). inr r)
     (judged text)
 
 -- never both
-pub not_both : (text : List ℕ) (c : Certificate) (line : ℕ) (why : Why) → Spells text c → IsRefusal text line why → ⊥
+pub not_both : (text : List ℕ) (c : Certificate) (line : ℕ) (why : Why) → SpellsCertificate text c → IsCertTextRefusal text line why → ⊥
 not_both text c line why spells refusal = false≢true (sym (spells.clean line why) ∙ refusal.fault)
 
 -- what spells a certificate is its text
-pub one_text : (text : List ℕ) (c : Certificate) → Spells text c → text ≡ cert_text c
+pub one_text : (text : List ℕ) (c : Certificate) → SpellsCertificate text c → text ≡ cert_text c
 unfolding cert_text
 one_text text c spells =
     ⊎_elim
-    (λ (s : (d : Certificate) × Spells text d × (text ≡ cert_text d)). s.2 ∙ ap (flat_map line_text) (sym s.1.says ∙ spells.says))
-    (λ (r : (line : ℕ) × (why : Why) × IsRefusal text line why). absurd (not_both text c r.0 r.1 spells r.2))
+    (λ (s : (d : Certificate) × SpellsCertificate text d × (text ≡ cert_text d)). s.2 ∙ ap (flat_map line_text) (sym s.1.says ∙ spells.says))
+    (λ (r : (line : ℕ) × (why : Why) × IsCertTextRefusal text line why). absurd (not_both text c r.0 r.1 spells r.2))
     (judged text)
 
 -- one refusal for a text
-pub one_refusal : (text : List ℕ) (j k : ℕ) (v w : Why) → IsRefusal text j v → IsRefusal text k w → (j ≡ k) × (v ≡ w)
+pub one_refusal : (text : List ℕ) (j k : ℕ) (v w : Why) → IsCertTextRefusal text j v → IsCertTextRefusal text k w → (j ≡ k) × (v ≡ w)
 one_refusal text j k v w r s =
     let line : j ≡ k =
     ⊎_elim
     (λ (less : j < k). absurd (false≢true (sym (s.first j v less) ∙ r.fault)))
     (λ (not_less : k ≤ j). ⊎_elim (λ (more : k < j). absurd (false≢true (sym (r.first k w more) ∙ s.fault))) (λ (not_more : j ≤ k). omega arith) (cases_lt k j))
     (cases_lt j k) in
-    let t : IsRefusal text j w = subst (λ n. IsRefusal text n w) (sym line) s in (
+    let t : IsCertTextRefusal text j w = subst (λ n. IsCertTextRefusal text n w) (sym line) s in (
       line,
       same_number v w
           (⊎_elim
-          (λ (less : number_of v < number_of w). absurd (false≢true (sym (t.least v less) ∙ r.fault)))
-          (λ (not_less : number_of w ≤ number_of v). ⊎_elim (λ (more : number_of w < number_of v). absurd (false≢true (sym (r.least w more) ∙ t.fault))) (λ (not_more : number_of v ≤ number_of w). omega arith) (cases_lt (number_of w) (number_of v)))
-          (cases_lt (number_of v) (number_of w))),
+          (λ (less : cert_fault_number v < cert_fault_number w). absurd (false≢true (sym (t.least v less) ∙ r.fault)))
+          (λ (not_less : cert_fault_number w ≤ cert_fault_number v). ⊎_elim (λ (more : cert_fault_number w < cert_fault_number v). absurd (false≢true (sym (r.least w more) ∙ t.fault))) (λ (not_more : cert_fault_number v ≤ cert_fault_number w). omega arith) (cases_lt (cert_fault_number w) (cert_fault_number v)))
+          (cases_lt (cert_fault_number v) (cert_fault_number w))),
     )

@@ -12,15 +12,15 @@ use Rattle.tso_cert.specs.declared.faults.Why.{Why}
 use Rattle.tso_cert.specs.declared.faults.Why.TheVariants.{AfterCycle, OutOfMemory}
 use Rattle.tso_cert.specs.declared.faults.TextFault.{TextFault}
 use Rattle.tso_cert.specs.Printed.{step_pieces, steps_pieces, unwritten_pieces, cert_pieces, StepFits}
-use Rattle.tso_cert.specs.Spelling.{Spells, IsRefusal}
-use Rattle.tso_cert.specs.Taken.{said}
+use Rattle.tso_cert.specs.Spelling.{SpellsCertificate, IsCertTextRefusal}
+use Rattle.tso_cert.specs.Internal.LineValues.{cert_line_said}
 use Rattle.tso_cert.proofs.LineFacts.{Told, told, refused, line_pieces, ends}
 use Rattle.tso_cert.proofs.PrintFacts.{steps_pieces-push}
-use Rattle.tso_cert.proofs.Reaching.{Reached, TakesLine, Reached-start, Reached-next, Reached-end, line_refused, ended_refused}
+use Rattle.tso_cert.proofs.Reaching.{Reached, AcceptsLine, Reached-start, Reached-next, Reached-end, line_refused, ended_refused}
 
 -- a line that says something is taken
-pub takes : (number : ℕ) (line : List ℕ) (l : Line) → Told number (pieces_of line) l → TakesLine number line (ends l) (line_pieces number l)
-takes number line l t = record { faultless = t.faultless; ends = t.last; says = t.says }
+pub accepts : (number : ℕ) (line : List ℕ) (l : Line) → Told number (pieces_of line) l → AcceptsLine number line (ends l) (line_pieces number l)
+accepts number line l t = record { faultless = t.faultless; ends = t.last; says = t.says }
 
 pub steps_pieces-next : (steps : List CertStep) (s : CertStep) → steps_pieces 1 (steps ++ s ∷ []) ≡ steps_pieces 1 steps ++ step_pieces (suc (length steps)) s ∷ []
 steps_pieces-next steps s = let at : 1 + length steps ≡ suc (length steps) = omega arith in steps_pieces-push 1 steps s ∙ ap (λ n. steps_pieces 1 steps ++ step_pieces n s ∷ []) at
@@ -34,68 +34,68 @@ pub IsRead-start : (text : List ℕ) → IsRead text text []
 IsRead-start text = record { reached = Reached-start text; fits = All-nil StepFits }
 
 -- behind one more step
-pub IsRead-next : (text rest : List ℕ) (steps : List CertStep) (s : CertStep) (line behind : List ℕ) → IsRead text rest steps → parts_of rest ≡ line ∷ parts_of behind →
-    said (suc (length steps)) (pieces_of line) ≡ Ok (Step s) → IsRead text behind (steps ++ s ∷ [])
-IsRead-next text rest steps s line behind r parts is =
+pub IsRead-next : (text rest : List ℕ) (steps : List CertStep) (s : CertStep) (line remaining : List ℕ) → IsRead text rest steps → parts_of rest ≡ line ∷ parts_of remaining →
+    cert_line_said (suc (length steps)) (pieces_of line) ≡ Ok (Step s) → IsRead text remaining (steps ++ s ∷ [])
+IsRead-next text rest steps s line remaining r parts is =
     let t = told (suc (length steps)) (pieces_of line) (Step s) is in
-    let next = Reached-next text (length steps) rest (steps_pieces 1 steps) line behind (step_pieces (suc (length steps)) s) r.reached parts (takes (suc (length steps)) line (Step s) t) in
+    let next = Reached-next text (length steps) rest (steps_pieces 1 steps) line remaining (step_pieces (suc (length steps)) s) r.reached parts (accepts (suc (length steps)) line (Step s) t) in
     let count : length (steps ++ s ∷ []) ≡ suc (length steps) = omega (arith, length-append steps (s ∷ [])) in
     record { reached = rw (count, steps_pieces-next steps s) next; fits = All-push StepFits steps s r.fits t.fits }
 
 -- the line is refused
-pub read_refused : (text rest : List ℕ) (steps : List CertStep) (line behind : List ℕ) (why : Why) → IsRead text rest steps → parts_of rest ≡ line ∷ parts_of behind →
-    said (suc (length steps)) (pieces_of line) ≡ Err why → IsRefusal text (suc (length steps)) why
-read_refused text rest steps line behind why r parts is =
-    line_refused text (length steps) rest (steps_pieces 1 steps) line behind why r.reached parts (refused (suc (length steps)) (pieces_of line) why is)
+pub read_refused : (text rest : List ℕ) (steps : List CertStep) (line remaining : List ℕ) (why : Why) → IsRead text rest steps → parts_of rest ≡ line ∷ parts_of remaining →
+    cert_line_said (suc (length steps)) (pieces_of line) ≡ Err why → IsCertTextRefusal text (suc (length steps)) why
+read_refused text rest steps line remaining why r parts is =
+    line_refused text (length steps) rest (steps_pieces 1 steps) line remaining why r.reached parts (refused (suc (length steps)) (pieces_of line) why is)
 
-last_taken : (number : ℕ) (line : List ℕ) (l : Line) → said number (pieces_of line) ≡ Ok l → ends l ≡ true → TakesLine number line true (line_pieces number l)
-last_taken number line l is last = rw (← last) (takes number line l (told number (pieces_of line) l is))
+last_accepted : (number : ℕ) (line : List ℕ) (l : Line) → cert_line_said number (pieces_of line) ≡ Ok l → ends l ≡ true → AcceptsLine number line true (line_pieces number l)
+last_accepted number line l is last = rw (← last) (accepts number line l (told number (pieces_of line) l is))
 
 -- bytes stand behind the last line
-pub read_after : (text rest : List ℕ) (steps : List CertStep) (l : Line) (line behind : List ℕ) → IsRead text rest steps → parts_of rest ≡ line ∷ parts_of behind →
-    said (suc (length steps)) (pieces_of line) ≡ Ok l → ends l ≡ true → (length behind ≡ 0 → ⊥) → IsRefusal text (suc (suc (length steps))) AfterCycle
-read_after text rest steps l line behind r parts is last some =
-    ended_refused text (length steps) rest (steps_pieces 1 steps) line behind (line_pieces (suc (length steps)) l) r.reached parts (last_taken (suc (length steps)) line l is last) some
+pub read_after : (text rest : List ℕ) (steps : List CertStep) (l : Line) (line remaining : List ℕ) → IsRead text rest steps → parts_of rest ≡ line ∷ parts_of remaining →
+    cert_line_said (suc (length steps)) (pieces_of line) ≡ Ok l → ends l ≡ true → (length remaining ≡ 0 → ⊥) → IsCertTextRefusal text (suc (suc (length steps))) AfterCycle
+read_after text rest steps l line remaining r parts is last some =
+    ended_refused text (length steps) rest (steps_pieces 1 steps) line remaining (line_pieces (suc (length steps)) l) r.reached parts (last_accepted (suc (length steps)) line l is last) some
 
 -- the line of a cycle is the last
-pub read_cycle : (text rest : List ℕ) (steps : List CertStep) (cycle : List ℕ) (line behind : List ℕ) → IsRead text rest steps → parts_of rest ≡ line ∷ parts_of behind →
-    said (suc (length steps)) (pieces_of line) ≡ Ok (Cycle cycle) → length behind ≡ 0 → Spells text (CycleOf steps cycle)
-read_cycle text rest steps cycle line behind r parts is none =
-    Reached-end text (length steps) rest (steps_pieces 1 steps) line behind (line_pieces (suc (length steps)) (Cycle cycle)) (CycleOf steps cycle) r.reached parts
-    (last_taken (suc (length steps)) line (Cycle cycle) is refl) refl (r.fits, (told (suc (length steps)) (pieces_of line) (Cycle cycle) is).fits) none
+pub read_cycle : (text rest : List ℕ) (steps : List CertStep) (cycle : List ℕ) (line remaining : List ℕ) → IsRead text rest steps → parts_of rest ≡ line ∷ parts_of remaining →
+    cert_line_said (suc (length steps)) (pieces_of line) ≡ Ok (Cycle cycle) → length remaining ≡ 0 → SpellsCertificate text (CycleOf steps cycle)
+read_cycle text rest steps cycle line remaining r parts is none =
+    Reached-end text (length steps) rest (steps_pieces 1 steps) line remaining (line_pieces (suc (length steps)) (Cycle cycle)) (CycleOf steps cycle) r.reached parts
+    (last_accepted (suc (length steps)) line (Cycle cycle) is refl) refl (r.fits, (told (suc (length steps)) (pieces_of line) (Cycle cycle) is).fits) none
 
 no_steps : (steps : List CertStep) → suc (length steps) ≡ 1 → steps_pieces 1 steps ≡ []
 no_steps [] one = refl
 no_steps (s ∷ steps) one = absurd (omega arith)
 
 -- no step stands before the line of an unwritten load
-pub unwritten_alone : (steps : List CertStep) (pieces : List (List ℕ)) (n : ℕ) → said (suc (length steps)) pieces ≡ Ok (Unwritten n) → steps_pieces 1 steps ++ unwritten_pieces n ∷ [] ≡ cert_pieces (UnwrittenLoad n)
+pub unwritten_alone : (steps : List CertStep) (pieces : List (List ℕ)) (n : ℕ) → cert_line_said (suc (length steps)) pieces ≡ Ok (Unwritten n) → steps_pieces 1 steps ++ unwritten_pieces n ∷ [] ≡ cert_pieces (UnwrittenLoad n)
 unwritten_alone steps pieces n is = ap (λ p. p ++ unwritten_pieces n ∷ []) (no_steps steps (told (suc (length steps)) pieces (Unwritten n) is).fits.1)
 
 -- the line of an unwritten load is the last
-pub read_unwritten : (text rest : List ℕ) (steps : List CertStep) (n : ℕ) (line behind : List ℕ) → IsRead text rest steps → parts_of rest ≡ line ∷ parts_of behind →
-    said (suc (length steps)) (pieces_of line) ≡ Ok (Unwritten n) → length behind ≡ 0 → Spells text (UnwrittenLoad n)
-read_unwritten text rest steps n line behind r parts is none =
-    Reached-end text (length steps) rest (steps_pieces 1 steps) line behind (line_pieces (suc (length steps)) (Unwritten n)) (UnwrittenLoad n) r.reached parts
-    (last_taken (suc (length steps)) line (Unwritten n) is refl) (unwritten_alone steps (pieces_of line) n is) (told (suc (length steps)) (pieces_of line) (Unwritten n) is).fits.0 none
+pub read_unwritten : (text rest : List ℕ) (steps : List CertStep) (n : ℕ) (line remaining : List ℕ) → IsRead text rest steps → parts_of rest ≡ line ∷ parts_of remaining →
+    cert_line_said (suc (length steps)) (pieces_of line) ≡ Ok (Unwritten n) → length remaining ≡ 0 → SpellsCertificate text (UnwrittenLoad n)
+read_unwritten text rest steps n line remaining r parts is none =
+    Reached-end text (length steps) rest (steps_pieces 1 steps) line remaining (line_pieces (suc (length steps)) (Unwritten n)) (UnwrittenLoad n) r.reached parts
+    (last_accepted (suc (length steps)) line (Unwritten n) is refl) (unwritten_alone steps (pieces_of line) n is) (told (suc (length steps)) (pieces_of line) (Unwritten n) is).fits.0 none
 
 -- ---- as the reader has it
 
 -- the fault that a reader answers is the refusal at its line, but for want of memory
 pub answered : (text : List ℕ) (line : ℕ) (why : Why) (fault_line : ℕ) (fault_why : Why) → fault_why ≡ why → ((why ≡ OutOfMemory → ⊥) → fault_line ≡ line) →
-    ((why ≡ OutOfMemory → ⊥) → IsRefusal text line why) → (fault_why ≡ OutOfMemory → ⊥) → IsRefusal text fault_line fault_why
+    ((why ≡ OutOfMemory → ⊥) → IsCertTextRefusal text line why) → (fault_why ≡ OutOfMemory → ⊥) → IsCertTextRefusal text fault_line fault_why
 answered text line why fault_line fault_why is stands refusal other =
     let not_memory : why ≡ OutOfMemory → ⊥ = λ memory. other (is ∙ memory) in
     let place : fault_line ≡ line = stands not_memory in
     rw (is, place) (refusal not_memory)
 
 -- what is answered behind a last line: the certificate, where nothing stands behind it
-pub ended_found : (text : List ℕ) (r : Result Certificate TextFault) (c : Certificate) (left : ℕ) → IfOk r (λ d. (d ≡ c) × (left ≡ 0)) → (left ≡ 0 → Spells text c) → IfOk r (Spells text)
+pub ended_found : (text : List ℕ) (r : Result Certificate TextFault) (c : Certificate) (left : ℕ) → IfOk r (λ d. (d ≡ c) × (left ≡ 0)) → (left ≡ 0 → SpellsCertificate text c) → IfOk r (SpellsCertificate text)
 ended_found text (Ok d) c left found spells = rw found.0 (spells found.1)
 ended_found text (Err fault) c left found spells = tt
 
 -- or its refusal
 pub ended_not : (text : List ℕ) (r : Result Certificate TextFault) (number line left : ℕ) → IfErr r (λ fault. (fault.line ≡ number) × (fault.why ≡ AfterCycle) × (left ≡ 0 → ⊥)) → number ≡ line →
-    ((left ≡ 0 → ⊥) → IsRefusal text line AfterCycle) → IfErr r (λ fault. fault.why ≢ OutOfMemory → IsRefusal text fault.line fault.why)
+    ((left ≡ 0 → ⊥) → IsCertTextRefusal text line AfterCycle) → IfErr r (λ fault. fault.why ≢ OutOfMemory → IsCertTextRefusal text fault.line fault.why)
 ended_not text (Ok d) number line left after at refusal = tt
 ended_not text (Err fault) number line left after at refusal = λ _. rw (after.1, after.0, at) (refusal after.2)

@@ -1,3 +1,3 @@
+pub mod Internal
 pub mod Printed
 pub mod Spelling
-pub mod Taken

@@ -15,16 +15,16 @@ use Rattle.tso_cert.specs.declared.faults.Why.TheVariants.{BadLine, BadNumber, B
 use Rattle.tso_cert.specs.Printed.{base_name, inferred_name, cert_pieces, CertFits}
 
 -- the number of the refusal: of two on one line the lesser counts
-abbrev pub number_of : Why → ℕ
-number_of BadLine = 1
-number_of BadNumber = 2
-number_of BadRule = 3
-number_of NoCycle = 4
-number_of AfterCycle = 5
-number_of OutOfMemory = 6
+abbrev pub cert_fault_number : Why → ℕ
+cert_fault_number BadLine = 1
+cert_fault_number BadNumber = 2
+cert_fault_number BadRule = 3
+cert_fault_number NoCycle = 4
+cert_fault_number AfterCycle = 5
+cert_fault_number OutOfMemory = 6
 
-abbrev pub same_why : Why → Why → Bool
-same_why v w = number_of v == number_of w
+abbrev pub same_cert_fault : Why → Why → Bool
+same_cert_fault v w = cert_fault_number v == cert_fault_number w
 
 -- ---- pieces
 
@@ -85,57 +85,57 @@ abbrev pub has_bad_rule : List (List ℕ) → Bool
 has_bad_rule pieces = if is_last_line pieces then false else not (is_rule (get_or pieces 3 []) (drop 4 pieces))
 
 -- The line of this number and these pieces has the fault.
-unfoldable pub line_fault : ℕ → List (List ℕ) → Why → Bool
-line_fault number pieces BadLine = is_bad_line number pieces
-line_fault number pieces BadNumber = has_bad_number number pieces
-line_fault number pieces BadRule = has_bad_rule pieces
-line_fault number pieces NoCycle = false
-line_fault number pieces AfterCycle = false
-line_fault number pieces OutOfMemory = false
+unfoldable pub cert_line_fault : ℕ → List (List ℕ) → Why → Bool
+cert_line_fault number pieces BadLine = is_bad_line number pieces
+cert_line_fault number pieces BadNumber = has_bad_number number pieces
+cert_line_fault number pieces BadRule = has_bad_rule pieces
+cert_line_fault number pieces NoCycle = false
+cert_line_fault number pieces AfterCycle = false
+cert_line_fault number pieces OutOfMemory = false
 
 -- ---- the faults of a text
 
 -- the lines: the parts that a line end follows
-abbrev pub lines_of : List ℕ → List (List ℕ)
-lines_of text = take (length (parts_of text) - 1) (parts_of text)
+abbrev pub cert_lines : List ℕ → List (List ℕ)
+cert_lines text = take (length (parts_of text) - 1) (parts_of text)
 
 -- one of these lines is the last of a certificate
-unfoldable pub has_ended : List (List ℕ) → Bool
-has_ended lines = list_any (λ line. is_last_line (pieces_of line)) lines
+unfoldable pub has_last_line : List (List ℕ) → Bool
+has_last_line lines = list_any (λ line. is_last_line (pieces_of line)) lines
 
 -- what stands behind the last line end, where no last line came
-abbrev pub unended : List ℕ → Why
-unended part = if is_empty part then NoCycle else BadLine
+abbrev pub unended_cert_fault : List ℕ → Why
+unended_cert_fault part = if is_empty part then NoCycle else BadLine
 
 -- The part has the fault, behind these lines; `last` where no line end follows it.
-unfoldable pub part_fault : List (List ℕ) → List ℕ → Bool → Why → Bool
-part_fault before part last w =
-    if has_ended before then same_why AfterCycle w && not (last && is_empty part)
-    else if last then same_why (unended part) w
-    else line_fault (suc (length before)) (pieces_of part) w
+unfoldable pub cert_part_fault : List (List ℕ) → List ℕ → Bool → Why → Bool
+cert_part_fault before part last w =
+    if has_last_line before then same_cert_fault AfterCycle w && not (last && is_empty part)
+    else if last then same_cert_fault (unended_cert_fault part) w
+    else cert_line_fault (suc (length before)) (pieces_of part) w
 
 -- The text has the fault at this line. Lines count from 1.
-unfoldable pub fault_at : List ℕ → ℕ → Why → Bool
-fault_at text zero w = false
-fault_at text (suc i) w =
+unfoldable pub cert_fault_at : List ℕ → ℕ → Why → Bool
+cert_fault_at text zero w = false
+cert_fault_at text (suc i) w =
     nat_lt i (length (parts_of text))
-    && part_fault (take i (parts_of text)) (get_or (parts_of text) i []) (suc i == length (parts_of text)) w
+    && cert_part_fault (take i (parts_of text)) (get_or (parts_of text) i []) (suc i == length (parts_of text)) w
 
 -- The refusal of a text: the least line with a fault, and the fault of the least number there.
-pub record IsRefusal (text : List ℕ) (line : ℕ) (why : Why) : Type 0 where
-  pub fault : fault_at text line why ≡ true
-  pub first : (j : ℕ) (w : Why) → j < line → fault_at text j w ≡ false
-  pub least : (w : Why) → number_of w < number_of why → fault_at text line w ≡ false
+pub record IsCertTextRefusal (text : List ℕ) (line : ℕ) (why : Why) : Type 0 where
+  pub fault : cert_fault_at text line why ≡ true
+  pub first : (j : ℕ) (w : Why) → j < line → cert_fault_at text j w ≡ false
+  pub least : (w : Why) → cert_fault_number w < cert_fault_number why → cert_fault_at text line w ≡ false
 
 -- The text spells the certificate: it has no fault, its lines have the certificate's pieces, and 64 bits hold each number.
-pub record Spells (text : List ℕ) (c : Certificate) : Type 0 where
-  pub clean : (line : ℕ) (w : Why) → fault_at text line w ≡ false
-  pub says : map pieces_of (lines_of text) ≡ cert_pieces c
+pub record SpellsCertificate (text : List ℕ) (c : Certificate) : Type 0 where
+  pub clean : (line : ℕ) (w : Why) → cert_fault_at text line w ≡ false
+  pub says : map pieces_of (cert_lines text) ≡ cert_pieces c
   pub fits : CertFits c
 
 -- some certificate, some refusal
 abbrev pub IsSpelled : List ℕ → Type 0
-IsSpelled text = (c : Certificate) × Spells text c
+IsSpelled text = (c : Certificate) × SpellsCertificate text c
 
 abbrev pub IsRefused : List ℕ → Type 0
-IsRefused text = (line : ℕ) × (why : Why) × IsRefusal text line why
+IsRefused text = (line : ℕ) × (why : Why) × IsCertTextRefusal text line why

@@ -2,7 +2,7 @@
 
 ghost use Rattle.std.specs.Prelude.{◌≡◌, ◌⊎◌, ℕ, suc, List};
 ghost use Rattle.tso_cert.specs.Printed.{cert_text, CertFits, Fits, step_count};
-ghost use Rattle.tso_cert.specs.Spelling.{Spells, IsRefusal, IsSpelled, IsRefused};
+ghost use Rattle.tso_cert.specs.Spelling.{SpellsCertificate, IsCertTextRefusal, IsSpelled, IsRefused};
 ghost use Rattle.tso_cert.specs.declared.faults.Why.{Why};
 ghost use Rattle.tso_cert.specs.declared.steps.Certificate.{Certificate};
 
@@ -11,8 +11,8 @@ ghost use Rattle.tso_cert.specs.declared.steps.Certificate.{Certificate};
 pub fn certificates()
     ensures spelled_or_refused { (text : List ℕ) → IsSpelled text ⊎ IsRefused text }
     ensures never_both { (text : List ℕ) → IsSpelled text → IsRefused text → ⊥ }
-    ensures one_value { (text : List ℕ) (c d : Certificate) → Spells text c → Spells text d → c ≡ d }
-    ensures one_text { (text : List ℕ) (c : Certificate) → Spells text c → text ≡ cert_text c }
-    ensures one_refusal { (text : List ℕ) (j k : ℕ) (v w : Why) → IsRefusal text j v → IsRefusal text k w → (j ≡ k) × (v ≡ w) }
-    ensures printed { (c : Certificate) → CertFits c → Fits (suc (step_count c)) → Spells (cert_text c) c }
+    ensures one_value { (text : List ℕ) (c d : Certificate) → SpellsCertificate text c → SpellsCertificate text d → c ≡ d }
+    ensures one_text { (text : List ℕ) (c : Certificate) → SpellsCertificate text c → text ≡ cert_text c }
+    ensures one_refusal { (text : List ℕ) (j k : ℕ) (v w : Why) → IsCertTextRefusal text j v → IsCertTextRefusal text k w → (j ≡ k) × (v ≡ w) }
+    ensures printed { (c : Certificate) → CertFits c → Fits (suc (step_count c)) → SpellsCertificate (cert_text c) c }
 {}

@@ -1,6 +1,6 @@
 ghost use Rattle.std.specs.Prelude.{◌≡◌, ◌≢◌, [], ◌∷◌, Result, IfOk, IfErr};
-ghost use Rattle.line_text.specs.Lines.{pieces_of, behind};
-ghost use Rattle.tso_cert.specs.Taken.{said, step_said, unwritten_said, reason_said};
+ghost use Rattle.line_text.specs.Lines.{pieces_of, pieces_after};
+ghost use Rattle.tso_cert.specs.Internal.LineValues.{cert_line_said, step_said, unwritten_said, reason_said};
 ghost use Rattle.tso_cert.specs.declared.faults.Why.{Why};
 
 use crate::faults::Why;
@@ -19,10 +19,10 @@ pub(crate) enum Line {
 }
 
 /// What the line of this number says, or its fault.
-#[tactic(auto, unfolding(crate::specs::Taken::said))]
+#[tactic(auto, unfolding(crate::specs::Internal::LineValues::cert_line_said))]
 pub(crate) fn read_line(alloc: Global, number: usize, line: &[u8]) -> Result<Line, Why>
-    ensures found { IfOk result (λ l. said number (pieces_of line.now) ≡ Result.Ok l) }
-    ensures refused { IfErr result (λ why. why ≢ Why.OutOfMemory → said number (pieces_of line.now) ≡ Result.Err why) }
+    ensures found { IfOk result (λ l. cert_line_said number (pieces_of line.now) ≡ Result.Ok l) }
+    ensures refused { IfErr result (λ why. why ≢ Why.OutOfMemory → cert_line_said number (pieces_of line.now) ≡ Result.Err why) }
 {
     let (word, pieces) = next_piece(line);
     if word == b"cycle".as_slice() {
@@ -38,9 +38,9 @@ pub(crate) fn read_line(alloc: Global, number: usize, line: &[u8]) -> Result<Lin
 }
 
 /// The load of a line `unwritten`, of the pieces behind the word.
-#[tactic(auto, unfolding(crate::specs::Taken::unwritten_said))]
+#[tactic(auto, unfolding(crate::specs::Internal::LineValues::unwritten_said))]
 fn read_unwritten(number: usize, pieces: Option<&[u8]>) -> Result<u64, Why>
-    ensures { result ≡ unwritten_said number (behind pieces.entry) }
+    ensures { result ≡ unwritten_said number (pieces_after pieces.entry) }
 {
     let (piece, rest) = piece_of(pieces)?;
     match rest {
@@ -51,15 +51,15 @@ fn read_unwritten(number: usize, pieces: Option<&[u8]>) -> Result<u64, Why>
 }
 
 /// The step of a line, of its first piece and the pieces behind it.
-#[tactic(auto, unfolding(crate::specs::Taken::step_said))]
+#[tactic(auto, unfolding(crate::specs::Internal::LineValues::step_said))]
 fn read_step(
     alloc: Global,
     number: usize,
     first: &[u8],
     pieces: Option<&[u8]>,
 ) -> Result<CertStep, Why>
-    ensures found { IfOk result (λ step. step_said number (first.now ∷ behind pieces.entry) ≡ Result.Ok step) }
-    ensures refused { IfErr result (λ why. why ≢ Why.OutOfMemory → step_said number (first.now ∷ behind pieces.entry) ≡ Result.Err why) }
+    ensures found { IfOk result (λ step. step_said number (first.now ∷ pieces_after pieces.entry) ≡ Result.Ok step) }
+    ensures refused { IfErr result (λ why. why ≢ Why.OutOfMemory → step_said number (first.now ∷ pieces_after pieces.entry) ≡ Result.Err why) }
 {
     let (from, rest) = piece_of(pieces)?;
     let (to, rest) = piece_of(rest)?;
@@ -74,10 +74,10 @@ fn read_step(
 }
 
 /// The reason of the name of a rule and the pieces behind it.
-#[tactic(auto, unfolding(crate::specs::Taken::reason_said))]
+#[tactic(auto, unfolding(crate::specs::Internal::LineValues::reason_said))]
 fn read_reason(alloc: Global, name: &[u8], pieces: Option<&[u8]>) -> Result<Reason, Why>
-    ensures found { IfOk result (λ reason. reason_said name.now (behind pieces.entry) ≡ Result.Ok reason) }
-    ensures refused { IfErr result (λ why. why ≢ Why.OutOfMemory → reason_said name.now (behind pieces.entry) ≡ Result.Err why) }
+    ensures found { IfOk result (λ reason. reason_said name.now (pieces_after pieces.entry) ≡ Result.Ok reason) }
+    ensures refused { IfErr result (λ why. why ≢ Why.OutOfMemory → reason_said name.now (pieces_after pieces.entry) ≡ Result.Err why) }
 {
     let Some(line) = pieces else {
         let rule = base_rule(name)?;

@@ -1,9 +1,9 @@
 ghost use Rattle.std.specs.Prelude.{◌≡◌, ◌≢◌, [], ◌∷◌, Result, IfOk, IfErr};
 ghost use Rattle.std.specs.Str.{bytes_eq};
 ghost use Rattle.std.specs.Fmt.{decimal};
-ghost use Rattle.line_text.specs.Lines.{behind};
+ghost use Rattle.line_text.specs.Lines.{pieces_after};
 ghost use Rattle.tso_cert.specs.Spelling.{event_number};
-ghost use Rattle.tso_cert.specs.Taken.{event, events, base_rule, inferred_rule};
+ghost use Rattle.tso_cert.specs.Internal.LineValues.{event, events, base_rule, inferred_rule};
 ghost use Rattle.tso_cert.specs.declared.faults.Why.{Why};
 
 use crate::faults::Why;
@@ -13,8 +13,8 @@ use std::alloc::Global;
 
 /// The next piece, and what stands behind its space; BadLine where there is none.
 pub(crate) fn piece_of(pieces: Option<&[u8]>) -> Result<(&[u8], Option<&[u8]>), Why>
-    ensures found { IfOk result (λ found. behind pieces.entry ≡ found.0.now ∷ behind found.1) }
-    ensures none { IfErr result (λ why. (behind pieces.entry ≡ []) × (why ≡ Why.BadLine)) }
+    ensures found { IfOk result (λ found. pieces_after pieces.entry ≡ found.0.now ∷ pieces_after found.1) }
+    ensures none { IfErr result (λ why. (pieces_after pieces.entry ≡ []) × (why ≡ Why.BadLine)) }
 {
     match pieces {
         None => Err(Why::BadLine),
@@ -51,8 +51,8 @@ pub(crate) fn event(piece: &[u8]) -> Result<u64, Why>
 
 /// The event numbers of all these pieces, or BadNumber.
 pub(crate) fn events(alloc: Global, pieces: Option<&[u8]>) -> Result<Vec<u64>, Why>
-    ensures found { IfOk result (λ numbers. events (behind pieces.entry) ≡ Result.Ok numbers.items) }
-    ensures refused { IfErr result (λ why. why ≢ Why.OutOfMemory → events (behind pieces.entry) ≡ Result.Err why) }
+    ensures found { IfOk result (λ numbers. events (pieces_after pieces.entry) ≡ Result.Ok numbers.items) }
+    ensures refused { IfErr result (λ why. why ≢ Why.OutOfMemory → events (pieces_after pieces.entry) ≡ Result.Err why) }
 {
     let mut numbers = Vec::new(alloc);
     let mut left = pieces;
@@ -65,7 +65,7 @@ pub(crate) fn events(alloc: Global, pieces: Option<&[u8]>) -> Result<Vec<u64>, W
 }
 
 /// The base rule of this name, or BadRule.
-#[tactic(auto, unfolding(crate::specs::Taken::base_rule))]
+#[tactic(auto, unfolding(crate::specs::Internal::LineValues::base_rule))]
 pub(crate) fn base_rule(name: &[u8]) -> Result<BaseRule, Why>
     ensures { result ≡ base_rule name.now }
 {
@@ -87,7 +87,7 @@ pub(crate) fn base_rule(name: &[u8]) -> Result<BaseRule, Why>
 }
 
 /// The inferred rule of this name, or BadRule.
-#[tactic(auto, unfolding(crate::specs::Taken::inferred_rule))]
+#[tactic(auto, unfolding(crate::specs::Internal::LineValues::inferred_rule))]
 pub(crate) fn inferred_rule(name: &[u8]) -> Result<InferredRule, Why>
     ensures { result ≡ inferred_rule name.now }
 {

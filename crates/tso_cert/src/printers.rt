@@ -2,7 +2,7 @@ ghost use Rattle.std.specs.Prelude.{◌≡◌, ◌++◌, ◌∷◌, suc, All, le
 ghost use Rattle.std.specs.List.{flat_map};
 ghost use Rattle.line_text.specs.Lines.{line_text};
 ghost use Rattle.tso_cert.specs.Printed.{base_name, inferred_name, event_text, reason_pieces, step_pieces, steps_pieces, cert_text, Fits, ReasonFits, StepFits, CertFits, step_count};
-ghost use Rattle.tso_cert.specs.Spelling.{Spells};
+ghost use Rattle.tso_cert.specs.Spelling.{SpellsCertificate};
 
 use crate::faults::OutOfMemory;
 use crate::rules::{BaseRule, InferredRule};
@@ -14,7 +14,7 @@ use std::fmt::Write;
 /// refused.
 pub fn print_cert(alloc: Global, certificate: &Certificate) -> Result<String, OutOfMemory>
     ensures lines { IfOk result (λ text. string_bytes text ≡ cert_text certificate.now) }
-    ensures spells { IfOk result (λ text. Spells (string_bytes text) certificate.now) }
+    ensures spells { IfOk result (λ text. SpellsCertificate (string_bytes text) certificate.now) }
 {
     let mut text = String::new(alloc);
     print_lines(&mut text, certificate)?;

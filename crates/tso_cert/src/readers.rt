@@ -1,5 +1,5 @@
 ghost use Rattle.std.specs.Prelude.{◌≡◌, ◌≢◌, ◌++◌, ◌∷◌, [], length, MatchResult, OnOk, IfOk, IfErr};
-ghost use Rattle.tso_cert.specs.Spelling.{Spells, IsRefusal, unended};
+ghost use Rattle.tso_cert.specs.Spelling.{SpellsCertificate, IsCertTextRefusal, unended_cert_fault};
 ghost use Rattle.tso_cert.specs.declared.faults.Why.{Why};
 ghost use Rattle.tso_cert.specs.declared.steps.Certificate.{Certificate};
 
@@ -14,9 +14,9 @@ use std::alloc::Global;
 /// Refused: the least line that has a fault, and there the fault of the least number; or OutOfMemory where a growth
 /// was refused.
 pub fn read_cert(alloc: Global, text: &[u8]) -> Result<Certificate, TextFault>
-    ensures found { IfOk result (Spells text.now) }
-    ensures only { (c : Certificate) → Spells text.now c → MatchResult result (λ d. d ≡ c) (λ fault. fault.why ≡ Why.OutOfMemory) }
-    ensures refused { IfErr result (λ fault. fault.why ≢ Why.OutOfMemory → IsRefusal text.now fault.line fault.why) }
+    ensures found { IfOk result (SpellsCertificate text.now) }
+    ensures only { (c : Certificate) → SpellsCertificate text.now c → MatchResult result (λ d. d ≡ c) (λ fault. fault.why ≡ Why.OutOfMemory) }
+    ensures refused { IfErr result (λ fault. fault.why ≢ Why.OutOfMemory → IsCertTextRefusal text.now fault.line fault.why) }
     ensures memory { IfErr result (λ fault. fault.why ≡ Why.OutOfMemory → fault.line ≡ 0) }
 {
     read(alloc, text)
@@ -24,22 +24,22 @@ pub fn read_cert(alloc: Global, text: &[u8]) -> Result<Certificate, TextFault>
 
 /// The certificate that a text spells, or its refusal.
 fn read(alloc: Global, text: &[u8]) -> Result<Certificate, TextFault>
-    ensures found { IfOk result (Spells text.now) }
-    ensures refused { IfErr result (λ fault. fault.why ≢ Why.OutOfMemory → IsRefusal text.now fault.line fault.why) }
+    ensures found { IfOk result (SpellsCertificate text.now) }
+    ensures refused { IfErr result (λ fault. fault.why ≢ Why.OutOfMemory → IsCertTextRefusal text.now fault.line fault.why) }
     ensures memory { IfErr result (λ fault. fault.why ≡ Why.OutOfMemory → fault.line ≡ 0) }
 {
     let mut steps = Vec::new(alloc);
     let mut rest = text;
     let mut number: usize = 1;
     'lines: loop {
-        let Some((line, behind)) = next_line(rest) else {
+        let Some((line, after)) = next_line(rest) else {
             return Err(fault_of(number, unended(rest)));
         };
         let said = match read_line(alloc, number, line) {
             Ok(said) => said,
             Err(why) => return Err(fault_of(number, why)),
         };
-        rest = behind;
+        rest = after;
         number += 1;
         match said {
             Line::Step(step) => match add(&mut steps, step) {
@@ -81,7 +81,7 @@ fn ended(certificate: Certificate, number: usize, rest: &[u8]) -> Result<Certifi
 
 /// What stands behind the last line end, where no last line came.
 fn unended(part: &[u8]) -> Why
-    ensures { result ≡ unended part.now }
+    ensures { result ≡ unended_cert_fault part.now }
 {
     if part.is_empty() {
         Why::NoCycle

@@ -2,7 +2,7 @@ use crate::{BaseRule, CertStep, Certificate, InferredRule, NumList, Reason, Step
 use std::test::Fail;
 
 mod faults;
-mod growths;
+mod refused_allocations;
 mod texts;
 
 #[test]

@@ -7,7 +7,7 @@ use Rattle.tso_cert.specs.declared.rules.BaseRule.TheVariants.{Init, LoadOp, Sto
 use Rattle.tso_cert.specs.declared.rules.InferredRule.{InferredRule}
 use Rattle.tso_cert.specs.declared.rules.InferredRule.TheVariants.{LoadPast, StorePast, SwapBefore, SwapAfter}
 use Rattle.tso_model.specs.Rules.{BasePair, InferredBy}
-use Rattle.tso_model.specs.Ranks.{F}
+use Rattle.tso_model.specs.Ranks.{RankSet}
 use Rattle.tso_model.proofs.Events.{IsEvent-within, IsLoad-within, IsStore-within, HasSource-within}
 use Rattle.tso_model.proofs.Swaps.{IsSwapLoad-store}
 
@@ -62,9 +62,9 @@ InferredBy-within t SwapAfter l u v x y h =
     record { load = swap.0; from = omega arith; to = store; path_from = omega arith; path_to = omega arith }
 
 -- The edges of a rank set lie within the numbers of events.
-pub F-within : (t : TraceValue) (k u v : ℕ) → F t k u v → (u < suc (event_total t)) × (v < suc (event_total t))
-F-within t zero u v e = BasePair-within t e.0 u v e.1
-F-within t (suc k) u v (inl e) = F-within t k u v e
-F-within t (suc k) u v (inr e) =
+pub RankSet-within : (t : TraceValue) (k u v : ℕ) → RankSet t k u v → (u < suc (event_total t)) × (v < suc (event_total t))
+RankSet-within t zero u v e = BasePair-within t e.0 u v e.1
+RankSet-within t (suc k) u v (inl e) = RankSet-within t k u v e
+RankSet-within t (suc k) u v (inr e) =
     let w = InferredBy-within t e.0.0 e.0.1 u v e.0.2 e.0.3 e.0.4 in
     (w.from, w.to)

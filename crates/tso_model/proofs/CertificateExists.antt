@@ -13,11 +13,11 @@ use Rattle.tso_cert.specs.declared.steps.CertStep.{CertStep}
 use Rattle.tso_cert.specs.declared.steps.Certificate.{Certificate}
 use Rattle.tso_cert.specs.declared.steps.Certificate.TheVariants.{Unwritten, Cycle}
 use Rattle.tso_model.specs.Rules.{HasDerivedCycle}
-use Rattle.tso_model.specs.Ranks.{F, HasRank}
+use Rattle.tso_model.specs.Ranks.{RankSet, HasRank}
 use Rattle.tso_model.specs.Certs.{IsStep, IsPathIn, IsJustified, IsListedBefore, AreUsed, AreStepsOf, IsCertificateOf}
 use Rattle.tso_model.specs.Used.{AreUsedBy}
-use Rattle.tso_model.proofs.Bounds.{F-within}
-use Rattle.tso_model.proofs.Decided.{F-decided, IsUnwritten-decided, unwritten_decided}
+use Rattle.tso_model.proofs.Bounds.{RankSet-within}
+use Rattle.tso_model.proofs.Decided.{RankSet-decided, IsUnwritten-decided, unwritten_decided}
 use Rattle.tso_model.proofs.Justifications.{rank_exists, rank_unique, HasRank-decided}
 use Rattle.tso_model.proofs.UsedEdges.{IsPathIn-used, used_path, reason_of, reason_of-edge, IsUsed, IsUsed-mono, IsUsed-edge, IsUsed-decided, used_closed}
 use Rattle.tso_model.proofs.OrderedLists.{AreInOrder}
@@ -35,7 +35,7 @@ record IsListed (t : TraceValue) (k : ℕ) (cycle : List ℕ) (rank : ℕ) (s : 
   has_rank : HasRank t s.from s.to rank
   reason : s.reason ≡ reason_of t k s.from s.to
 
-module _ (t : TraceValue) (k : ℕ) (cycle : List ℕ) (closed : IsCycle (F t k) cycle) where
+module _ (t : TraceValue) (k : ℕ) (cycle : List ℕ) (closed : IsCycle (RankSet t k) cycle) where
   -- the edge is used and has this rank
   abbrev IsPlaced : ℕ → ℕ → ℕ → Type 0
   IsPlaced r u v = IsUsed t k cycle k u v × HasRank t u v r
@@ -101,7 +101,7 @@ module _ (t : TraceValue) (k : ℕ) (cycle : List ℕ) (closed : IsCycle (F t k)
   unfolding steps layer row cell
   used_step u v used =
       let edge = IsUsed-edge t k cycle closed k u v used in
-      let within = F-within t k u v edge in
+      let within = RankSet-within t k u v edge in
       let rank = rank_exists t k u v edge in
       let in_the_cell = cell_by-used rank.0 u v (Decision-both (IsUsed-decided t k cycle closed k u v) (HasRank-decided t u v rank.0)) (used, rank.2) in
       let in_the_row = collected-IsIn (cell rank.0 u) (suc (event_total t)) v (step_of t k u v) within.1 in_the_cell in
@@ -191,7 +191,7 @@ module _ (t : TraceValue) (k : ℕ) (cycle : List ℕ) (closed : IsCycle (F t k)
     justified = steps_justified;
     in_order = listed_in_order;
     cycle_listed = IsCycle-mono (AreOnCycle cycle) (λ x y. IsStep steps x y) (λ u v on. used_is_step u v (IsUsed-mono t k cycle 0 k (omega arith) u v on))
-        cycle (on_cycle_closes (F t k) cycle closed);
+        cycle (on_cycle_closes (RankSet t k) cycle closed);
     paths_listed = steps_paths;
     needed = λ i s at pairs have. used_needed pairs have k (omega arith) s.from s.to (in_steps i s at).1.used;
   }
@@ -211,7 +211,7 @@ cycle_certificate : (t : TraceValue) → ((l : ℕ) → IsUnwritten t l → ⊥)
 cycle_certificate t written derived =
     let rounds = rounds_exist t in
     let some = (rounds_tell_cycles t rounds.0 written rounds.1).0 derived in
-    let least = least_cycle_exists (F t rounds.0) (suc (event_total t)) (F-decided t rounds.0) (F-within t rounds.0) some in (
+    let least = least_cycle_exists (RankSet t rounds.0) (suc (event_total t)) (RankSet-decided t rounds.0) (RankSet-within t rounds.0) some in (
       Cycle (steps t rounds.0 least.0 least.1.0) least.0,
       (written, (rounds.0, rounds.1, least.1), cycle_steps t rounds.0 least.0 least.1.0),
     )

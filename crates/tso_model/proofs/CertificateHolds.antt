@@ -10,7 +10,7 @@ use Rattle.tso_cert.specs.declared.steps.Certificate.TheVariants.{Unwritten, Cyc
 use Rattle.order_paths.proofs.Reach.{Linked-both, Linked-mono}
 use Rattle.order_paths.proofs.Rising.{Rises, rises_on_path, rises_without_cycle}
 use Rattle.tso_model.specs.Order.{place, IsBefore, IsTsoOrder, IsConsistent}
-use Rattle.tso_model.specs.Ranks.{F, HasRank}
+use Rattle.tso_model.specs.Ranks.{RankSet, HasRank}
 use Rattle.tso_model.specs.Certs.{IsStep, MeetsRule, IsPathIn, StepsHold, Holds, IsJustified, IsListedBefore, AreStepsOf, IsCertificateOf}
 use Rattle.tso_model.proofs.Events.{HasOwnValues}
 use Rattle.tso_model.proofs.Places.{before_of_same}
@@ -66,13 +66,13 @@ justified_meets t (suc r) u v (Inferred rule load path) just =
 
 -- The path of a justified edge of rank r is made of edges of lesser ranks.
 path_of_lesser_ranks : (t : TraceValue) (r u v : ℕ) (reason : Reason) (Edge Other : ℕ → ℕ → Type 0) → IsJustified t r u v reason →
-    ((j x y : ℕ) → j < r → F t j x y → Edge x y → Other x y) → IsPathIn Edge reason → IsPathIn Other reason
+    ((j x y : ℕ) → j < r → RankSet t j x y → Edge x y → Other x y) → IsPathIn Edge reason → IsPathIn Other reason
 path_of_lesser_ranks t zero u v (Base rule) Edge Other just lesser path = tt
 path_of_lesser_ranks t zero u v (Inferred rule load path) Edge Other just lesser linked = absurd just
 path_of_lesser_ranks t (suc r) u v (Base rule) Edge Other just lesser path = absurd just
 path_of_lesser_ranks t (suc r) u v (Inferred rule load path) Edge Other just lesser linked =
-    Linked-mono (λ x y. F t r x y × Edge x y) Other (λ x y both. lesser r x y (omega arith) both.0 both.1) path
-    (Linked-both (F t r) Edge path just.0.3.0.1 linked)
+    Linked-mono (λ x y. RankSet t r x y × Edge x y) Other (λ x y both. lesser r x y (omega arith) both.0 both.1) path
+    (Linked-both (RankSet t r) Edge path just.0.3.0.1 linked)
 
 module _ (t : TraceValue) (steps : List CertStep) (cycle : List ℕ) (parts : AreStepsOf t steps cycle) where
   -- a step of lesser rank stands earlier
@@ -95,13 +95,13 @@ module _ (t : TraceValue) (steps : List CertStep) (cycle : List ℕ) (parts : Ar
 
   -- a step for an edge of lesser rank is an earlier step
   lesser_edge_earlier : (k : ℕ) (s : CertStep) (r : ℕ) → slice_get steps k ≡ Some s → HasRank t s.from s.to r →
-      (j x y : ℕ) → j < r → F t j x y → IsStep steps x y → IsStep (take k steps) x y
+      (j x y : ℕ) → j < r → RankSet t j x y → IsStep steps x y → IsStep (take k steps) x y
   lesser_edge_earlier k s r at rank j x y below edge step =
       let d = step.1 in
       let justified = parts.justified step.0 d step.2 in
       let q = justified.0 in
       let rank_d : HasRank t d.from d.to q = justified.1 in
-      let same_edge : F t j d.from d.to = rw (step.3, step.4) edge in
+      let same_edge : RankSet t j d.from d.to = rw (step.3, step.4) edge in
       let at_most : q ≤ j = ⊎_elim (λ above. absurd (rank_d.1 j above same_edge)) (λ most. most) (cases_lt j q) in
       let earlier = lesser_rank_earlier k step.0 s d r q at step.2 rank rank_d (omega arith) in
       (step.0, d, slice_get-take_below k steps step.0 d earlier step.2, step.3, step.4)

@@ -14,7 +14,7 @@ use Rattle.order_paths.specs.Paths.{IsLeastPath}
 use Rattle.order_paths.proofs.Least.{level_both_ways, least_path_unique, least_cycle_unique}
 use Rattle.order_paths.proofs.Reach.{Linked-mono, IsCycle-mono}
 use Rattle.tso_model.specs.Rules.{InferredBy}
-use Rattle.tso_model.specs.Ranks.{F, HasRank}
+use Rattle.tso_model.specs.Ranks.{RankSet, HasRank}
 use Rattle.tso_model.specs.Certs.{IsStep, IsPathIn, inferred_index, IsJustified, IsListedBefore, AreUsed, AreStepsOf, IsCertificateOf}
 use Rattle.tso_model.proofs.Events.{HasOwnValues, source_unique}
 use Rattle.tso_model.proofs.Justifications.{rank_unique, base_index_injective, inferred_index_injective}
@@ -31,15 +31,15 @@ ends_unique t own SwapAfter l u v x y x' y' left right = (left.4 ∙ sym right.4
 
 -- the least path that the rule asks for, for this load
 abbrev IsPathFor : TraceValue → ℕ → ℕ → ℕ → InferredRule → ℕ → List ℕ → Type 0
-IsPathFor t r u v rule l path = (x : ℕ) × (y : ℕ) × InferredBy t rule l u v x y × IsLeastPath (F t r) x y path
+IsPathFor t r u v rule l path = (x : ℕ) × (y : ℕ) × InferredBy t rule l u v x y × IsLeastPath (RankSet t r) x y path
 
 -- there is one such path
 path_unique : (t : TraceValue) → HasOwnValues t → (r u v : ℕ) (rule : InferredRule) (l : ℕ) (path other : List ℕ) →
     IsPathFor t r u v rule l path → IsPathFor t r u v rule l other → path ≡ other
 path_unique t own r u v rule l path other left right =
     let ends = ends_unique t own rule l u v left.0 left.1 right.0 right.1 left.2 right.2 in
-    let again : IsLeastPath (F t r) left.0 left.1 other = rw (ends.0, ends.1) right.3 in
-    least_path_unique (F t r) left.0 left.1 path other left.3 again
+    let again : IsLeastPath (RankSet t r) left.0 left.1 other = rw (ends.0, ends.1) right.3 in
+    least_path_unique (RankSet t r) left.0 left.1 path other left.3 again
 
 -- an edge has one justification of each rank
 pub justification_unique : (t : TraceValue) → HasOwnValues t → (r u v : ℕ) (reason other : Reason) →
@@ -193,6 +193,6 @@ certificate_unique t own (Unwritten n) (Cycle steps cycle) left right = absurd (
 certificate_unique t own (Cycle steps cycle) (Unwritten m) left right = absurd (left.0 m right.0)
 certificate_unique t own (Cycle steps cycle) (Cycle others other_cycle) left right =
     let same_rounds = rounds_unique t left.1.0 right.1.0 left.1.1 right.1.1 in
-    let same_cycle = least_cycle_unique (F t left.1.0) cycle other_cycle left.1.2 (rw same_rounds right.1.2) in
+    let same_cycle = least_cycle_unique (RankSet t left.1.0) cycle other_cycle left.1.2 (rw same_rounds right.1.2) in
     let same_steps = steps_unique t own cycle steps others left.2 (rw same_cycle right.2) in
     cc

@@ -7,15 +7,15 @@ use Rattle.order_paths.proofs.Decisions.{Decision, Decision-iff, Decision-both, 
 use Rattle.order_paths.proofs.Reach.{Reaches-decided, HasCycle-decided}
 use Rattle.tso_ops.specs.declared.events.Event.{Event}
 use Rattle.tso_ops.specs.Values.{TraceValue}
-use Rattle.tso_ops.specs.Events.{event_total, event_at, IsEvent, IsLoad, IsStore, IsSwapLoad, HasValue, SameAddress, SameValue, Earlier, BarrierBetween, HasSource, IsUnwritten}
+use Rattle.tso_ops.specs.Events.{event_total, event_at, IsEvent, IsLoad, IsStore, IsSwapLoad, HasValue, SameAddress, SameValue, Earlier, HasFewerBarriersBefore, HasSource, IsUnwritten}
 use Rattle.tso_cert.specs.declared.rules.BaseRule.{BaseRule}
 use Rattle.tso_cert.specs.declared.rules.BaseRule.TheVariants.{Init, LoadOp, StoreStore, Membar, Read, Own}
 use Rattle.tso_cert.specs.declared.rules.InferredRule.{InferredRule}
 use Rattle.tso_cert.specs.declared.rules.InferredRule.TheVariants.{LoadPast, StorePast, SwapBefore, SwapAfter}
 use Rattle.tso_model.specs.Rules.{IsOwnBy, BasePair, InferredBy}
-use Rattle.tso_model.specs.Ranks.{IsInferred, F}
+use Rattle.tso_model.specs.Ranks.{IsInferred, RankSet}
 use Rattle.tso_model.proofs.Events.{IsLoad-within, HasSource-within}
-use Rattle.tso_model.proofs.Bounds.{InferredBy-within, F-within}
+use Rattle.tso_model.proofs.Bounds.{InferredBy-within, RankSet-within}
 
 -- whether there is an event, and it has a decided property, is decided
 IsSome-decided : (P : Event → Type 0) → ((e : Event) → Decision (P e)) → (o : Option Event) → Decision ((e : Event) × (o ≡ Some e) × P e)
@@ -56,8 +56,8 @@ pub Earlier-decided : (t : TraceValue) (u v : ℕ) → Decision (Earlier t u v)
 Earlier-decided t u v = Decision-iff (λ p. (p.0, p.1, p.2, p.3, p.4.0, p.4.1)) (λ p. (p.0, p.1, p.2, p.3, (p.4, p.5)))
     (AreSome-decided (λ d e. (d.proc ≡ e.proc) × (u < v)) (λ d e. Decision-both (cases_eq d.proc e.proc) (Decision-lt u v)) (event_at t u) (event_at t v))
 
-pub BarrierBetween-decided : (t : TraceValue) (u v : ℕ) → Decision (BarrierBetween t u v)
-BarrierBetween-decided t u v = AreSome-decided (λ d e. d.bars < e.bars) (λ d e. Decision-lt d.bars e.bars) (event_at t u) (event_at t v)
+pub HasFewerBarriersBefore-decided : (t : TraceValue) (u v : ℕ) → Decision (HasFewerBarriersBefore t u v)
+HasFewerBarriersBefore-decided t u v = AreSome-decided (λ d e. d.bars < e.bars) (λ d e. Decision-lt d.bars e.bars) (event_at t u) (event_at t v)
 
 -- the sources of a load
 pub HasSource-decided : (t : TraceValue) (l s : ℕ) → Decision (HasSource t l s)
@@ -85,7 +85,7 @@ BasePair-decided t Init u v = Decision-both (cases_eq u 0) (IsEvent-decided t v)
 BasePair-decided t LoadOp u v = Decision-both (IsLoad-decided t u) (Earlier-decided t u v)
 BasePair-decided t StoreStore u v = Decision-three (IsStore-decided t u) (IsStore-decided t v) (Earlier-decided t u v)
 BasePair-decided t Membar u v =
-    Decision-four (IsStore-decided t u) (IsLoad-decided t v) (Earlier-decided t u v) (BarrierBetween-decided t u v)
+    Decision-four (IsStore-decided t u) (IsLoad-decided t v) (Earlier-decided t u v) (HasFewerBarriersBefore-decided t u v)
 BasePair-decided t Read u v = Decision-three (IsStore-decided t u) (HasSource-decided t v u) (Decision-not (Earlier-decided t u v))
 BasePair-decided t Own u v = Decision-some (λ l. IsOwnBy t l u v) (λ l. IsOwnBy-decided t l u v) (suc (event_total t))
     (λ l h. (HasSource-within t l v h.3).0)
@@ -181,18 +181,18 @@ IsInferred-decided t Edge decide u v =
     (InferredRule-some (λ rule. IsGivenBy t Edge u v rule) (IsGivenBy-decided t Edge decide u v))
 
 -- The edges of a rank set are decided.
-pub F-decided : (t : TraceValue) (k u v : ℕ) → Decision (F t k u v)
-F-decided t zero u v = BaseRule-some (λ rule. BasePair t rule u v) (λ rule. BasePair-decided t rule u v)
-F-decided t (suc k) u v =
-    let paths : (x y : ℕ) → Decision (Reaches (λ x y. F t k x y) x y) =
-    Reaches-decided (λ x y. F t k x y) (suc (event_total t)) (λ x y. F-decided t k x y) (F-within t k) in
-    Decision-either (F-decided t k u v)
-    (Decision-both (IsInferred-decided t (λ x y. F t k x y) paths u v) (Decision-not (paths u v)))
+pub RankSet-decided : (t : TraceValue) (k u v : ℕ) → Decision (RankSet t k u v)
+RankSet-decided t zero u v = BaseRule-some (λ rule. BasePair t rule u v) (λ rule. BasePair-decided t rule u v)
+RankSet-decided t (suc k) u v =
+    let paths : (x y : ℕ) → Decision (Reaches (λ x y. RankSet t k x y) x y) =
+    Reaches-decided (λ x y. RankSet t k x y) (suc (event_total t)) (λ x y. RankSet-decided t k x y) (RankSet-within t k) in
+    Decision-either (RankSet-decided t k u v)
+    (Decision-both (IsInferred-decided t (λ x y. RankSet t k x y) paths u v) (Decision-not (paths u v)))
 
 -- The paths over a rank set are decided.
-pub F-paths_decided : (t : TraceValue) (k u v : ℕ) → Decision (Reaches (F t k) u v)
-F-paths_decided t k = Reaches-decided (F t k) (suc (event_total t)) (F-decided t k) (F-within t k)
+pub RankSet-paths_decided : (t : TraceValue) (k u v : ℕ) → Decision (Reaches (RankSet t k) u v)
+RankSet-paths_decided t k = Reaches-decided (RankSet t k) (suc (event_total t)) (RankSet-decided t k) (RankSet-within t k)
 
 -- Whether a rank set has a cycle is decided.
-pub F-cycle_decided : (t : TraceValue) (k : ℕ) → Decision (HasCycle (F t k))
-F-cycle_decided t k = HasCycle-decided (F t k) (suc (event_total t)) (F-decided t k) (F-within t k)
+pub RankSet-cycle_decided : (t : TraceValue) (k : ℕ) → Decision (HasCycle (RankSet t k))
+RankSet-cycle_decided t k = HasCycle-decided (RankSet t k) (suc (event_total t)) (RankSet-decided t k) (RankSet-within t k)

@@ -2,21 +2,22 @@
 use Rattle.std.proofs.Common.{◌≡◌, ◌⊎◌, ◌↔◌, inl, inr, ℕ, ◌+◌, ◌<◌, Bool, true, false, IsTrue, List, [], ◌∷◌, ◌++◌, refl, sym, ap, subst, arith}
 use Rattle.std.proofs.lemmas.Bool.{cases_order, false≢true}
 use Rattle.std.proofs.lemmas.List.Elements.{Contains-append_left, Contains-push, Contains-push_cases}
-use Rattle.tso_model.specs.EdgeLists.{HasEdge, AreEdges, AreBelow, AddsRow, ArePassing}
+use Rattle.tso_model.specs.EdgeLists.{HasPair, AreEdges, AreEdgesBelow}
+use Rattle.tso_model.specs.Internal.PlainLists.{AddsRow, ArePassing}
 
 -- the empty list has no edge
-pub HasEdge-nil : (u v : ℕ) → HasEdge [] u v → ⊥
-HasEdge-nil u v h = let below : h.0 < 0 = h.1 in omega arith
+pub HasPair-nil : (u v : ℕ) → HasPair [] u v → ⊥
+HasPair-nil u v h = let below : h.0 < 0 = h.1 in omega arith
 
 -- a list with an edge pushed has it and the edges of before, and no other
-pub HasEdge-push : (edges : List (ℕ × ℕ)) (u v : ℕ) → HasEdge (edges ++ (u, v) ∷ []) u v
-HasEdge-push edges u v = Contains-push edges (u, v)
+pub HasPair-push : (edges : List (ℕ × ℕ)) (u v : ℕ) → HasPair (edges ++ (u, v) ∷ []) u v
+HasPair-push edges u v = Contains-push edges (u, v)
 
-pub HasEdge-push_kept : (edges : List (ℕ × ℕ)) (u v x y : ℕ) → HasEdge edges x y → HasEdge (edges ++ (u, v) ∷ []) x y
-HasEdge-push_kept edges u v x y h = Contains-append_left edges ((u, v) ∷ []) (x, y) h
+pub HasPair-push_kept : (edges : List (ℕ × ℕ)) (u v x y : ℕ) → HasPair edges x y → HasPair (edges ++ (u, v) ∷ []) x y
+HasPair-push_kept edges u v x y h = Contains-append_left edges ((u, v) ∷ []) (x, y) h
 
-pub HasEdge-push_cases : (edges : List (ℕ × ℕ)) (u v x y : ℕ) → HasEdge (edges ++ (u, v) ∷ []) x y → HasEdge edges x y ⊎ ((x ≡ u) × (y ≡ v))
-HasEdge-push_cases edges u v x y h = elim (Contains-push_cases edges (u, v) (x, y) h) [
+pub HasPair-push_cases : (edges : List (ℕ × ℕ)) (u v x y : ℕ) → HasPair (edges ++ (u, v) ∷ []) x y → HasPair edges x y ⊎ ((x ≡ u) × (y ≡ v))
+HasPair-push_cases edges u v x y h = elim (Contains-push_cases edges (u, v) (x, y) h) [
   | inl before ↦ inl before
   | inr same ↦ inr (sym (ap (λ (p : ℕ × ℕ). p.0) same), sym (ap (λ (p : ℕ × ℕ). p.1) same))
 ]
@@ -33,12 +34,12 @@ row_none Answers old u = record {
 pub row_pushed : (Answers : ℕ → Bool → Type 0) (old new later : List (ℕ × ℕ)) (u v : ℕ) → AddsRow Answers old new u v → Answers v true →
     later ≡ new ++ (u, v) ∷ [] → AddsRow Answers old later u (v + 1)
 row_pushed Answers old new later u v row answer pushed = subst (λ edges. AddsRow Answers old edges u (v + 1)) (sym pushed) (record {
-  kept = λ x y h. HasEdge-push_kept new u v x y (row.kept x y h);
-  passed = λ x y h. by_push x y (HasEdge-push_cases new u v x y h);
+  kept = λ x y h. HasPair-push_kept new u v x y (row.kept x y h);
+  passed = λ x y h. by_push x y (HasPair-push_cases new u v x y h);
   failed = by_place;
 })
   where
-    by_push : (x y : ℕ) → HasEdge new x y ⊎ ((x ≡ u) × (y ≡ v)) → HasEdge old x y ⊎ ((x ≡ u) × (y < v + 1) × Answers y true)
+    by_push : (x y : ℕ) → HasPair new x y ⊎ ((x ≡ u) × (y ≡ v)) → HasPair old x y ⊎ ((x ≡ u) × (y < v + 1) × Answers y true)
     by_push x y (inl before) = elim (row.passed x y before) [
       | inl h ↦ inl h
       | inr h ↦ (let below : y < v = h.1 in inr (h.0, omega arith, h.2))
@@ -47,10 +48,10 @@ row_pushed Answers old new later u v row answer pushed = subst (λ edges. AddsRo
         let place : y ≡ v = same.1 in
         inr (same.0, omega arith, subst (λ k. Answers k true) (sym place) answer)
 
-    by_place : (k : ℕ) → k < v + 1 → HasEdge (new ++ (u, v) ∷ []) u k ⊎ Answers k false
+    by_place : (k : ℕ) → k < v + 1 → HasPair (new ++ (u, v) ∷ []) u k ⊎ Answers k false
     by_place k h = elim (cases_order k v) [
-      | inl same ↦ inl (subst (λ y. HasEdge (new ++ (u, v) ∷ []) u y) (sym same) (HasEdge-push new u v))
-      | inr (inl below) ↦ elim (row.failed k below) [ inl has ↦ inl (HasEdge-push_kept new u v u k has) | inr fails ↦ inr fails ]
+      | inl same ↦ inl (subst (λ y. HasPair (new ++ (u, v) ∷ []) u y) (sym same) (HasPair-push new u v))
+      | inr (inl below) ↦ elim (row.failed k below) [ inl has ↦ inl (HasPair-push_kept new u v u k has) | inr fails ↦ inr fails ]
       | inr (inr above) ↦ absurd (omega arith)
     ]
 
@@ -66,7 +67,7 @@ row_left_out Answers old new later u v row answer unchanged = subst (λ edges. A
   failed = by_place;
 })
   where
-    by_place : (k : ℕ) → k < v + 1 → HasEdge new u k ⊎ Answers k false
+    by_place : (k : ℕ) → k < v + 1 → HasPair new u k ⊎ Answers k false
     by_place k h = elim (cases_order k v) [
       | inl same ↦ inr (subst (λ y. Answers y false) (sym same) answer)
       | inr (inl below) ↦ row.failed k below
@@ -76,7 +77,7 @@ row_left_out Answers old new later u v row answer unchanged = subst (λ edges. A
 -- before any row is added, nothing is found
 pub passing_none : (Answers : ℕ → ℕ → Bool → Type 0) (n : ℕ) → ArePassing Answers [] 0 n
 passing_none Answers n = record {
-  passed = λ u v h. absurd (HasEdge-nil u v h);
+  passed = λ u v h. absurd (HasPair-nil u v h);
   failed = λ u v below in_row. absurd (omega arith);
 }
 
@@ -88,7 +89,7 @@ passing_more Answers old new u n found row = record {
   failed = by_place;
 }
   where
-    by_row : (x y : ℕ) → HasEdge old x y ⊎ ((x ≡ u) × (y < n) × Answers u y true) → (x < u + 1) × (y < n) × Answers x y true
+    by_row : (x y : ℕ) → HasPair old x y ⊎ ((x ≡ u) × (y < n) × Answers u y true) → (x < u + 1) × (y < n) × Answers x y true
     by_row x y (inl before) =
         let parts = found.passed x y before in
         let below : x < u = parts.0 in
@@ -97,9 +98,9 @@ passing_more Answers old new u n found row = record {
         let same : x ≡ u = added.0 in
         (omega arith, added.1, subst (λ k. Answers k y true) (sym same) added.2)
 
-    by_place : (x y : ℕ) → x < u + 1 → y < n → HasEdge new x y ⊎ Answers x y false
+    by_place : (x y : ℕ) → x < u + 1 → y < n → HasPair new x y ⊎ Answers x y false
     by_place x y h in_row = elim (cases_order x u) [
-      | inl same ↦ subst (λ k. HasEdge new k y ⊎ Answers k y false) (sym same) (row.failed y in_row)
+      | inl same ↦ subst (λ k. HasPair new k y ⊎ Answers k y false) (sym same) (row.failed y in_row)
       | inr (inl below) ↦ elim (found.failed x y below in_row) [ inl has ↦ inl (row.kept x y has) | inr fails ↦ inr fails ]
       | inr (inr above) ↦ absurd (omega arith)
     ]
@@ -117,5 +118,5 @@ passing_edges Answers Edge pairs n found tells below = record {
 }
 
 -- the numbers of the pairs of a grid lie below its size
-pub passing_below : (Answers : ℕ → ℕ → Bool → Type 0) (pairs : List (ℕ × ℕ)) (n : ℕ) → ArePassing Answers pairs n n → AreBelow n pairs
+pub passing_below : (Answers : ℕ → ℕ → Bool → Type 0) (pairs : List (ℕ × ℕ)) (n : ℕ) → ArePassing Answers pairs n n → AreEdgesBelow n pairs
 passing_below Answers pairs n found = record { below = λ u v h. (let place = found.passed u v h in (place.0, place.1)) }

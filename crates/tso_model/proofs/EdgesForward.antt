@@ -10,7 +10,7 @@ use Rattle.order_paths.specs.Paths.{HasCycle}
 use Rattle.order_paths.proofs.Rising.{Rises, rises_on_path, rises_without_cycle}
 use Rattle.tso_model.specs.Order.{place, IsUpTo, IsBefore, IsVisible, ReadsGreatest, IsTsoOrder}
 use Rattle.tso_model.specs.Rules.{BasePair, InferredBy, IsDerived, HasDerivedCycle}
-use Rattle.tso_model.specs.Ranks.{F}
+use Rattle.tso_model.specs.Ranks.{RankSet}
 use Rattle.tso_model.proofs.Events.{HasOwnValues, event_above_zero, load_is_no_store, store_event, load_event, source_load, store_source, source_unique}
 use Rattle.tso_model.proofs.DerivedPaths.{derived_exactly}
 use Rattle.tso_model.proofs.Places.{zero_before, nothing_before_zero, before_from_up_to, before_or_up_to, up_to_from_before, before_not_up_to, before_of_same}
@@ -137,29 +137,29 @@ module _ (t : TraceValue) (own : HasOwnValues t) (order : List ℕ) (tso : IsTso
       rw by.1 (swap_after_before l v by.0 by.2 by.3 (before_of_same order x y l v by.4 by.5 before))
 
   -- each edge of a rank set leads forwards
-  pub rank_before : (k u v : ℕ) → F t k u v → IsBefore order u v
+  pub rank_before : (k u v : ℕ) → RankSet t k u v → IsBefore order u v
   rank_before zero u v edge = base_before edge.0 u v edge.1
   rank_before (suc k) u v (inl edge) = rank_before k u v edge
   rank_before (suc k) u v (inr edge) =
       let inferred = edge.0 in
-      let rises : Rises (F t k) (place (0 ∷ order)) = record { on_edge = rank_before k } in
+      let rises : Rises (RankSet t k) (place (0 ∷ order)) = record { on_edge = rank_before k } in
       inferred_before inferred.0 inferred.1 u v inferred.2 inferred.3 inferred.4
-      (rises_on_path (F t k) (place (0 ∷ order)) rises inferred.2 inferred.3 inferred.5)
+      (rises_on_path (RankSet t k) (place (0 ∷ order)) rises inferred.2 inferred.3 inferred.5)
 
   -- no rank set has a cycle
-  pub no_cycle : (k : ℕ) → HasCycle (F t k) → ⊥
+  pub no_cycle : (k : ℕ) → HasCycle (RankSet t k) → ⊥
   no_cycle k cycle =
-      rises_without_cycle (F t k) (place (0 ∷ order)) (record { on_edge = rank_before k }) cycle.0 cycle.1
+      rises_without_cycle (RankSet t k) (place (0 ∷ order)) (record { on_edge = rank_before k }) cycle.0 cycle.1
 
   -- no rank set has an edge to number 0
-  pub no_edge_to_zero : (k u : ℕ) → F t k u 0 → ⊥
+  pub no_edge_to_zero : (k u : ℕ) → RankSet t k u 0 → ⊥
   no_edge_to_zero k u edge = nothing_before_zero order u (rank_before k u 0 edge)
 
   -- each derived pair leads forwards
   pub derived_before : (u v : ℕ) → IsDerived t u v → IsBefore order u v
   derived_before u v derived =
       let p = (derived_exactly t u v).0 derived in
-      rises_on_path (F t p.0) (place (0 ∷ order)) (record { on_edge = rank_before p.0 }) u v p.1
+      rises_on_path (RankSet t p.0) (place (0 ∷ order)) (record { on_edge = rank_before p.0 }) u v p.1
 
   -- the derived order has no cycle
   pub no_derived_cycle : HasDerivedCycle t → ⊥

@@ -5,16 +5,16 @@ use Rattle.order_paths.proofs.Decisions.{Decision, Decision-both, Decision-not, 
 use Rattle.order_paths.proofs.Reach.{Reaches-mono}
 use Rattle.tso_ops.specs.Values.{TraceValue}
 use Rattle.tso_ops.specs.Events.{event_total}
-use Rattle.tso_model.specs.Ranks.{F, IsInferred, IsLast}
-use Rattle.tso_model.proofs.Bounds.{F-within}
-use Rattle.tso_model.proofs.Decided.{F-decided}
+use Rattle.tso_model.specs.Ranks.{RankSet, IsInferred, IsLast}
+use Rattle.tso_model.proofs.Bounds.{RankSet-within}
+use Rattle.tso_model.proofs.Decided.{RankSet-decided}
 
 -- An edge stays in all later rank sets.
-pub F-mono : (t : TraceValue) (j k : ℕ) → j ≤ k → (u v : ℕ) → F t j u v → F t k u v
-F-mono t j zero h u v e = let same : j ≡ 0 = omega arith in subst (λ n. F t n u v) same e
-F-mono t j (suc k) h u v e = elim (cases_order j (suc k)) [
-  | inl same ↦ subst (λ n. F t n u v) same e
-  | inr (inl below) ↦ inl (F-mono t j k (omega arith) u v e)
+pub RankSet-mono : (t : TraceValue) (j k : ℕ) → j ≤ k → (u v : ℕ) → RankSet t j u v → RankSet t k u v
+RankSet-mono t j zero h u v e = let same : j ≡ 0 = omega arith in subst (λ n. RankSet t n u v) same e
+RankSet-mono t j (suc k) h u v e = elim (cases_order j (suc k)) [
+  | inl same ↦ subst (λ n. RankSet t n u v) same e
+  | inr (inl below) ↦ inl (RankSet-mono t j k (omega arith) u v e)
   | inr (inr above) ↦ absurd (omega arith)
 ]
 
@@ -24,14 +24,14 @@ pub IsInferred-mono : (t : TraceValue) (Edge Other : ℕ → ℕ → Type 0) →
 IsInferred-mono t Edge Other more u v p = (p.0, p.1, p.2, p.3, p.4, Reaches-mono Edge Other more p.2 p.3 p.5)
 
 -- A last rank set has the edges of all rank sets.
-pub IsLast-all : (t : TraceValue) (k : ℕ) → IsLast t k → (j u v : ℕ) → F t j u v → F t k u v
-IsLast-all t k last zero u v e = F-mono t 0 k (omega arith) u v e
+pub IsLast-all : (t : TraceValue) (k : ℕ) → IsLast t k → (j u v : ℕ) → RankSet t j u v → RankSet t k u v
+IsLast-all t k last zero u v e = RankSet-mono t 0 k (omega arith) u v e
 IsLast-all t k last (suc j) u v (inl e) = IsLast-all t k last j u v e
 IsLast-all t k last (suc j) u v (inr e) = elim (cases_lt j k) [
-  | inl below ↦ F-mono t (suc j) k below u v (inr e)
+  | inl below ↦ RankSet-mono t (suc j) k below u v (inr e)
   | inr above ↦ last u v (inr (
-    IsInferred-mono t (λ x y. F t j x y) (λ x y. F t k x y) (IsLast-all t k last j) u v e.0,
-    λ p. e.1 (Reaches-mono (F t k) (λ x y. F t j x y) (F-mono t k j above) u v p),
+    IsInferred-mono t (λ x y. RankSet t j x y) (λ x y. RankSet t k x y) (IsLast-all t k last j) u v e.0,
+    λ p. e.1 (Reaches-mono (RankSet t k) (λ x y. RankSet t j x y) (RankSet-mono t k j above) u v p),
   ))
 ]
 
@@ -77,45 +77,45 @@ lacks-lt none h (inr no_a) (inr no_b) = absurd (no_b h)
 
 -- how many pairs from number u the rank set lacks
 lacking_from : TraceValue → ℕ → ℕ → ℕ
-lacking_from t k u = sum_below (λ v. lacks (F-decided t k u v)) (suc (event_total t))
+lacking_from t k u = sum_below (λ v. lacks (RankSet-decided t k u v)) (suc (event_total t))
 
 -- how many pairs the rank set lacks
 lacking : TraceValue → ℕ → ℕ
 lacking t k = sum_below (lacking_from t k) (suc (event_total t))
 
 -- a round that adds a pair lacks fewer
-lacking-lt : (t : TraceValue) (k u v : ℕ) → F t (suc k) u v → (F t k u v → ⊥) → lacking t (suc k) < lacking t k
+lacking-lt : (t : TraceValue) (k u v : ℕ) → RankSet t (suc k) u v → (RankSet t k u v → ⊥) → lacking t (suc k) < lacking t k
 unfolding lacking lacking_from
 lacking-lt t k u v e none = sum_below-lt (lacking_from t (suc k)) (lacking_from t k) each_row (suc (event_total t)) u within.0 row
   where
     within : (u < suc (event_total t)) × (v < suc (event_total t))
-    within = F-within t (suc k) u v e
+    within = RankSet-within t (suc k) u v e
 
-    each : (a b : ℕ) → lacks (F-decided t (suc k) a b) ≤ lacks (F-decided t k a b)
-    each a b = lacks-le (λ e. inl e) (F-decided t k a b) (F-decided t (suc k) a b)
+    each : (a b : ℕ) → lacks (RankSet-decided t (suc k) a b) ≤ lacks (RankSet-decided t k a b)
+    each a b = lacks-le (λ e. inl e) (RankSet-decided t k a b) (RankSet-decided t (suc k) a b)
 
     each_row : (a : ℕ) → lacking_from t (suc k) a ≤ lacking_from t k a
-    each_row a = sum_below-le (λ b. lacks (F-decided t (suc k) a b)) (λ b. lacks (F-decided t k a b)) (each a) (suc (event_total t))
+    each_row a = sum_below-le (λ b. lacks (RankSet-decided t (suc k) a b)) (λ b. lacks (RankSet-decided t k a b)) (each a) (suc (event_total t))
 
     row : lacking_from t (suc k) u < lacking_from t k u
-    row = sum_below-lt (λ b. lacks (F-decided t (suc k) u b)) (λ b. lacks (F-decided t k u b)) (each u) (suc (event_total t)) v within.1
-        (lacks-lt none e (F-decided t k u v) (F-decided t (suc k) u v))
+    row = sum_below-lt (λ b. lacks (RankSet-decided t (suc k) u b)) (λ b. lacks (RankSet-decided t k u b)) (each u) (suc (event_total t)) v within.1
+        (lacks-lt none e (RankSet-decided t k u v) (RankSet-decided t (suc k) u v))
 
 -- the round behind rank k adds a pair, or none
-round_cases : (t : TraceValue) (k : ℕ) → ((u : ℕ) × ((v : ℕ) × (F t (suc k) u v × (F t k u v → ⊥)))) ⊎ IsLast t k
-round_cases t k = elim added [ inl p ↦ inl p | inr none ↦ inr (λ u v e. kept u v e none (F-decided t k u v)) ]
+round_cases : (t : TraceValue) (k : ℕ) → ((u : ℕ) × ((v : ℕ) × (RankSet t (suc k) u v × (RankSet t k u v → ⊥)))) ⊎ IsLast t k
+round_cases t k = elim added [ inl p ↦ inl p | inr none ↦ inr (λ u v e. kept u v e none (RankSet-decided t k u v)) ]
   where
     Added : ℕ → ℕ → Type 0
-    Added u v = F t (suc k) u v × (F t k u v → ⊥)
+    Added u v = RankSet t (suc k) u v × (RankSet t k u v → ⊥)
 
     added_from : (u : ℕ) → Decision ((v : ℕ) × Added u v)
-    added_from u = Decision-some (λ v. Added u v) (λ v. Decision-both (F-decided t (suc k) u v) (Decision-not (F-decided t k u v)))
-        (suc (event_total t)) (λ v p. (F-within t (suc k) u v p.0).1)
+    added_from u = Decision-some (λ v. Added u v) (λ v. Decision-both (RankSet-decided t (suc k) u v) (Decision-not (RankSet-decided t k u v)))
+        (suc (event_total t)) (λ v p. (RankSet-within t (suc k) u v p.0).1)
 
     added : Decision ((u : ℕ) × ((v : ℕ) × Added u v))
-    added = Decision-some (λ u. (v : ℕ) × Added u v) added_from (suc (event_total t)) (λ u p. (F-within t (suc k) u p.0 p.1.0).0)
+    added = Decision-some (λ u. (v : ℕ) × Added u v) added_from (suc (event_total t)) (λ u p. (RankSet-within t (suc k) u p.0 p.1.0).0)
 
-    kept : (u v : ℕ) → F t (suc k) u v → (((u : ℕ) × ((v : ℕ) × Added u v)) → ⊥) → Decision (F t k u v) → F t k u v
+    kept : (u v : ℕ) → RankSet t (suc k) u v → (((u : ℕ) × ((v : ℕ) × Added u v)) → ⊥) → Decision (RankSet t k u v) → RankSet t k u v
     kept u v e none (inl here) = here
     kept u v e none (inr not_here) = absurd (none (u, (v, (e, not_here))))
 

@@ -3,25 +3,26 @@ use Rattle.std.proofs.Common.{◌≡◌, ◌⊎◌, inl, inr, ℕ, ◌+◌, ◌<
 use Rattle.std.proofs.lemmas.Bool.{cases_order}
 use Rattle.order_paths.specs.Paths.{Reaches, HasCycle}
 use Rattle.order_paths.proofs.Reach.{Reaches-edge, Reaches-join, Reaches-into, Reaches-below, HasCycle-Reaches, HasCycle-iff}
-use Rattle.tso_model.specs.EdgeLists.{HasEdge, AreEdges, AreBelow, IsJoinedAt}
+use Rattle.tso_model.specs.EdgeLists.{HasPair, AreEdges, AreEdgesBelow}
+use Rattle.tso_model.specs.Internal.PlainLists.{IsJoinedAt}
 
 -- The list has the edges and ends of paths over them, among these those of all two that meet below k.
 pub record IsJoinedBelow (edges paths : List (ℕ × ℕ)) (k : ℕ) : Type 0 where
-  pub edges_kept : (u v : ℕ) → HasEdge edges u v → HasEdge paths u v
-  pub are_paths : (u v : ℕ) → HasEdge paths u v → Reaches (HasEdge edges) u v
-  pub joined : (u w v : ℕ) → w < k → HasEdge paths u w → HasEdge paths w v → HasEdge paths u v
+  pub edges_kept : (u v : ℕ) → HasPair edges u v → HasPair paths u v
+  pub are_paths : (u v : ℕ) → HasPair paths u v → Reaches (HasPair edges) u v
+  pub joined : (u w v : ℕ) → w < k → HasPair paths u w → HasPair paths w v → HasPair paths u v
 
 -- the edges by themselves
 pub joined_none : (edges paths : List (ℕ × ℕ)) → paths ≡ edges → IsJoinedBelow edges paths 0
 joined_none edges paths same = subst (λ list. IsJoinedBelow edges list 0) (sym same) (record {
   edges_kept = λ u v h. h;
-  are_paths = λ u v h. Reaches-edge (HasEdge edges) u v h;
+  are_paths = λ u v h. Reaches-edge (HasPair edges) u v h;
   joined = λ u w v below first second. absurd (omega arith);
 })
 
 -- their ends lie where the edges' numbers do
-pub joined_below : (edges paths : List (ℕ × ℕ)) (n k : ℕ) → AreBelow n edges → IsJoinedBelow edges paths k → AreBelow n paths
-joined_below edges paths n k within so_far = record { below = λ u v h. Reaches-below (HasEdge edges) n within.below u v (so_far.are_paths u v h) }
+pub joined_below : (edges paths : List (ℕ × ℕ)) (n k : ℕ) → AreEdgesBelow n edges → IsJoinedBelow edges paths k → AreEdgesBelow n paths
+joined_below edges paths n k within so_far = record { below = λ u v h. Reaches-below (HasPair edges) n within.below u v (so_far.are_paths u v h) }
 
 -- pairs joined at one number more
 pub joined_more : (edges paths more : List (ℕ × ℕ)) (k : ℕ) → IsJoinedBelow edges paths k → AreEdges more (IsJoinedAt paths k) → IsJoinedBelow edges more (k + 1)
@@ -31,15 +32,15 @@ joined_more edges paths more k so_far here = record {
   joined = λ u w v below first second. here.all u v (by_place u w v (here.only u w first) (here.only w v second) (cases_order w k) below);
 }
   where
-    by_kind : (u v : ℕ) → IsJoinedAt paths k u v → Reaches (HasEdge edges) u v
+    by_kind : (u v : ℕ) → IsJoinedAt paths k u v → Reaches (HasPair edges) u v
     by_kind u v (inl h) = so_far.are_paths u v h
-    by_kind u v (inr h) = Reaches-join (HasEdge edges) u k v (so_far.are_paths u k h.0) (so_far.are_paths k v h.1)
+    by_kind u v (inr h) = Reaches-join (HasPair edges) u k v (so_far.are_paths u k h.0) (so_far.are_paths k v h.1)
 
-    to : (u : ℕ) → IsJoinedAt paths k u k → HasEdge paths u k
+    to : (u : ℕ) → IsJoinedAt paths k u k → HasPair paths u k
     to u (inl h) = h
     to u (inr h) = h.0
 
-    from : (v : ℕ) → IsJoinedAt paths k k v → HasEdge paths k v
+    from : (v : ℕ) → IsJoinedAt paths k k v → HasPair paths k v
     from v (inl h) = h
     from v (inr h) = h.1
 
@@ -56,25 +57,25 @@ joined_more edges paths more k so_far here = record {
     by_place u w v first second (inr (inr above)) h = absurd (omega arith)
 
 -- The pairs joined at all numbers of the edges are the ends of all paths.
-pub joined_all : (edges paths : List (ℕ × ℕ)) (n : ℕ) → AreBelow n edges → IsJoinedBelow edges paths n → AreEdges paths (Reaches (HasEdge edges))
+pub joined_all : (edges paths : List (ℕ × ℕ)) (n : ℕ) → AreEdgesBelow n edges → IsJoinedBelow edges paths n → AreEdges paths (Reaches (HasPair edges))
 joined_all edges paths n within so_far = record {
-  all = λ u v path. (Reaches-into (HasEdge edges) (λ x y. (x < n) × HasEdge paths x y)
+  all = λ u v path. (Reaches-into (HasPair edges) (λ x y. (x < n) × HasPair paths x y)
       (λ x y z first second. (first.0, so_far.joined x y z second.0 first.1 second.1))
       (λ x y h. ((within.below x y h).0, so_far.edges_kept x y h)) u v path).1;
   only = so_far.are_paths;
 }
 
 -- joined pairs lie where the paths do
-pub joined_at_below : (paths : List (ℕ × ℕ)) (n middle : ℕ) → AreBelow n paths → (u v : ℕ) → IsJoinedAt paths middle u v → (u < n) × (v < n)
+pub joined_at_below : (paths : List (ℕ × ℕ)) (n middle : ℕ) → AreEdgesBelow n paths → (u v : ℕ) → IsJoinedAt paths middle u v → (u < n) × (v < n)
 joined_at_below paths n middle within u v (inl h) = within.below u v h
 joined_at_below paths n middle within u v (inr h) = ((within.below u middle h.0).0, (within.below middle v h.1).1)
 
 -- The list has a cycle exactly if some number has a path to itself, which lies below n where the edges do.
-pub cycle_found : (edges paths : List (ℕ × ℕ)) (u : ℕ) → AreEdges paths (Reaches (HasEdge edges)) → HasEdge paths u u → HasCycle (HasEdge edges)
-cycle_found edges paths u ends h = HasCycle-Reaches (HasEdge edges) u (ends.only u u h)
+pub cycle_found : (edges paths : List (ℕ × ℕ)) (u : ℕ) → AreEdges paths (Reaches (HasPair edges)) → HasPair paths u u → HasCycle (HasPair edges)
+cycle_found edges paths u ends h = HasCycle-Reaches (HasPair edges) u (ends.only u u h)
 
-pub no_cycle_found : (edges paths : List (ℕ × ℕ)) (n : ℕ) → AreBelow n edges → AreEdges paths (Reaches (HasEdge edges)) →
-    ((u : ℕ) → u < n → HasEdge paths u u → ⊥) → HasCycle (HasEdge edges) → ⊥
+pub no_cycle_found : (edges paths : List (ℕ × ℕ)) (n : ℕ) → AreEdgesBelow n edges → AreEdges paths (Reaches (HasPair edges)) →
+    ((u : ℕ) → u < n → HasPair paths u u → ⊥) → HasCycle (HasPair edges) → ⊥
 no_cycle_found edges paths n within ends none cycle =
-    let there = (HasCycle-iff (HasEdge edges)).0 cycle in
-    none there.0 (Reaches-below (HasEdge edges) n within.below there.0 there.0 there.1).0 (ends.all there.0 there.0 there.1)
+    let there = (HasCycle-iff (HasPair edges)).0 cycle in
+    none there.0 (Reaches-below (HasPair edges) n within.below there.0 there.0 there.1).0 (ends.all there.0 there.0 there.1)

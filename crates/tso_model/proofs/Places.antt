@@ -28,19 +28,19 @@ place_same (x ∷ rest) u v listed same = by_cases (cases_eq x u) (cases_eq x v)
         in_rest (omega (arith, listed, occurrences-later v x rest other)) (omega (arith, same, place-later x rest u later, place-later x rest v other))
 
 -- with number 0 in front each other place is one more
-pub place-in_front : (order : List ℕ) (n : ℕ) → 0 < n → place (0 ∷ order) n ≡ suc (place order n)
-place-in_front order n above = place-later 0 order n (λ same. omega arith)
+pub place-with_init : (order : List ℕ) (n : ℕ) → 0 < n → place (0 ∷ order) n ≡ suc (place order n)
+place-with_init order n above = place-later 0 order n (λ same. omega arith)
 
 -- a number that stands no later than another, where that is listed and above 0, stands before it
 pub before_from_up_to : (order : List ℕ) (u v : ℕ) → 0 < occurrences v order → 0 < v → u ≢ v → IsUpTo order u v → IsBefore order u v
-before_from_up_to order zero v listed above other up_to = omega (arith, place-in_front order v above)
+before_from_up_to order zero v listed above other up_to = omega (arith, place-with_init order v above)
 before_from_up_to order (suc k) v listed above other up_to =
     let apart : place order (suc k) ≢ place order v = λ same. other (place_same order (suc k) v listed same) in
-    omega (arith, up_to, place-in_front order v above, place-in_front order (suc k) (omega arith))
+    omega (arith, up_to, place-with_init order v above, place-with_init order (suc k) (omega arith))
 
 -- number 0 stands in front of all other numbers
 pub zero_before : (order : List ℕ) (n : ℕ) → 0 < n → IsBefore order 0 n
-zero_before order n above = omega (arith, place-in_front order n above)
+zero_before order n above = omega (arith, place-with_init order n above)
 
 -- nothing stands in front of number 0
 pub nothing_before_zero : (order : List ℕ) (u : ℕ) → IsBefore order u 0 → ⊥
@@ -49,21 +49,21 @@ nothing_before_zero order u before = omega arith
 -- of two numbers above 0 the first stands before the second, or the second no later than the first
 pub before_or_up_to : (order : List ℕ) (u v : ℕ) → 0 < u → 0 < v → IsBefore order u v ⊎ IsUpTo order v u
 before_or_up_to order u v above_u above_v =
-    let front_u = place-in_front order u above_u in
-    let front_v = place-in_front order v above_v in
+    let prefix_u = place-with_init order u above_u in
+    let prefix_v = place-with_init order v above_v in
     ⊎_elim (λ less. inl (omega arith)) (λ more. inr more) (cases_lt (place order u) (place order v))
 
 -- a number above 0 that stands before another stands no later than it
 pub up_to_from_before : (order : List ℕ) (u v : ℕ) → 0 < u → IsBefore order u v → IsUpTo order u v
 up_to_from_before order u zero above before = absurd (nothing_before_zero order u before)
 up_to_from_before order u (suc k) above before =
-    omega (arith, before, place-in_front order u above, place-in_front order (suc k) (omega arith))
+    omega (arith, before, place-with_init order u above, place-with_init order (suc k) (omega arith))
 
 -- no number stands no later than one above 0 that stands before it
 pub before_not_up_to : (order : List ℕ) (u v : ℕ) → 0 < u → IsBefore order u v → IsUpTo order v u → ⊥
 before_not_up_to order u zero above before up_to = nothing_before_zero order u before
 before_not_up_to order u (suc k) above before up_to =
-    omega (arith, before, up_to, place-in_front order u above, place-in_front order (suc k) (omega arith))
+    omega (arith, before, up_to, place-with_init order u above, place-with_init order (suc k) (omega arith))
 
 -- of two numbers equal to these the first stands before the second too
 pub before_of_same : (order : List ℕ) (x y u v : ℕ) → x ≡ u → y ≡ v → IsBefore order x y → IsBefore order u v

@@ -8,9 +8,9 @@ use Rattle.tso_ops.specs.Values.{TraceValue}
 use Rattle.tso_ops.specs.Events.{event_total}
 use Rattle.tso_cert.specs.declared.rules.InferredRule.{InferredRule}
 use Rattle.tso_cert.specs.declared.rules.InferredRule.TheVariants.{LoadPast, StorePast, SwapBefore, SwapAfter}
-use Rattle.tso_model.specs.Ranks.{F, IsInferred}
-use Rattle.tso_model.specs.EdgeLists.{HasEdge, AreEdges, AreBelow, IsGivenBy, IsGiven, IsNew}
-use Rattle.tso_model.proofs.Bounds.{InferredBy-within, F-within}
+use Rattle.tso_model.specs.Ranks.{RankSet, IsInferred}
+use Rattle.tso_model.specs.EdgeLists.{HasPair, AreEdges, AreEdgesBelow, IsGivenBy, IsGiven, IsNew}
+use Rattle.tso_model.proofs.Bounds.{InferredBy-within, RankSet-within}
 use Rattle.tso_model.proofs.LastRankSet.{IsInferred-mono}
 
 -- where the three other rules don't give the edge, some rule does exactly if SwapAfter does
@@ -34,7 +34,7 @@ given_within t rule l Path u v given =
 
 -- Where the pairs are the ends of the paths over these edges, what the rules give by the pairs is what they give by the edges.
 pub given_inferred : (t : TraceValue) (paths : List (ℕ × ℕ)) (Edge : ℕ → ℕ → Type 0) → AreEdges paths (Reaches Edge) → (u v : ℕ) →
-    IsGiven t (HasEdge paths) u v ↔ IsInferred t Edge u v
+    IsGiven t (HasPair paths) u v ↔ IsInferred t Edge u v
 given_inferred t paths Edge ends u v = (
   λ g. (g.0, g.1, g.2.0, g.2.1, g.2.2, ends.only g.2.0 g.2.1 g.2.3),
   λ p. (p.0, p.1, (p.2, p.3, p.4, ends.all p.2 p.3 p.5)),
@@ -42,7 +42,7 @@ given_inferred t paths Edge ends u v = (
 
 -- likewise of what a round adds
 pub given_new : (t : TraceValue) (paths : List (ℕ × ℕ)) (Edge : ℕ → ℕ → Type 0) → AreEdges paths (Reaches Edge) → (u v : ℕ) →
-    (IsGiven t (HasEdge paths) u v × (HasEdge paths u v → ⊥)) ↔ IsNew t Edge u v
+    (IsGiven t (HasPair paths) u v × (HasPair paths u v → ⊥)) ↔ IsNew t Edge u v
 given_new t paths Edge ends u v =
     let given = given_inferred t paths Edge ends u v in
     (λ p. (given.0 p.0, λ path. p.1 (ends.all u v path)), λ p. (given.1 p.0, λ h. p.1 (ends.only u v h)))
@@ -55,8 +55,8 @@ new_within t Edge u v new =
     (within.from, within.to)
 
 -- the edges of a rank set lie within the numbers of events
-pub rank_below : (t : TraceValue) (k : ℕ) (edges : List (ℕ × ℕ)) → AreEdges edges (F t k) → AreBelow (suc (event_total t)) edges
-rank_below t k edges rank = record { below = λ u v h. F-within t k u v (rank.only u v h) }
+pub rank_below : (t : TraceValue) (k : ℕ) (edges : List (ℕ × ℕ)) → AreEdges edges (RankSet t k) → AreEdgesBelow (suc (event_total t)) edges
+rank_below t k edges rank = record { below = λ u v h. RankSet-within t k u v (rank.only u v h) }
 
 -- what a round adds to the edges of a rank set is what it adds to the listed ones
 pub new_same : (t : TraceValue) (Edge Other : ℕ → ℕ → Type 0) → ((x y : ℕ) → Edge x y → Other x y) → ((x y : ℕ) → Other x y → Edge x y) →
@@ -64,16 +64,16 @@ pub new_same : (t : TraceValue) (Edge Other : ℕ → ℕ → Type 0) → ((x y 
 new_same t Edge Other to back u v new = (IsInferred-mono t Edge Other to u v new.0, λ path. new.1 (Reaches-mono Other Edge back u v path))
 
 -- The edges of a rank set, with what a round adds to them, are those of the next.
-pub next_rank : (t : TraceValue) (k : ℕ) (edges new later : List (ℕ × ℕ)) → AreEdges edges (F t k) → AreEdges new (IsNew t (HasEdge edges)) →
-    later ≡ edges ++ new → AreEdges later (F t (k + 1))
+pub next_rank : (t : TraceValue) (k : ℕ) (edges new later : List (ℕ × ℕ)) → AreEdges edges (RankSet t k) → AreEdges new (IsNew t (HasPair edges)) →
+    later ≡ edges ++ new → AreEdges later (RankSet t (k + 1))
 next_rank t k edges new later rank added joined =
     rw (add-one, joined) (record { all = all; only = λ u v h. only u v (Contains-append_cases edges new (u, v) h) })
   where
-    all : (u v : ℕ) → F t (suc k) u v → HasEdge (edges ++ new) u v
+    all : (u v : ℕ) → RankSet t (suc k) u v → HasPair (edges ++ new) u v
     all u v (inl before) = Contains-append_left edges new (u, v) (rank.all u v before)
     all u v (inr more) =
-        Contains-append_right edges new (u, v) (added.all u v (new_same t (λ x y. F t k x y) (HasEdge edges) rank.all rank.only u v more))
+        Contains-append_right edges new (u, v) (added.all u v (new_same t (λ x y. RankSet t k x y) (HasPair edges) rank.all rank.only u v more))
 
-    only : (u v : ℕ) → HasEdge edges u v ⊎ HasEdge new u v → F t (suc k) u v
+    only : (u v : ℕ) → HasPair edges u v ⊎ HasPair new u v → RankSet t (suc k) u v
     only u v (inl before) = inl (rank.only u v before)
-    only u v (inr more) = inr (new_same t (HasEdge edges) (λ x y. F t k x y) rank.only rank.all u v (added.only u v more))
+    only u v (inr more) = inr (new_same t (HasPair edges) (λ x y. RankSet t k x y) rank.only rank.all u v (added.only u v more))

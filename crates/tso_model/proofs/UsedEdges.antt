@@ -10,12 +10,12 @@ use Rattle.tso_ops.specs.Events.{event_total}
 use Rattle.tso_cert.specs.declared.rules.BaseRule.TheVariants.{Init}
 use Rattle.tso_cert.specs.declared.steps.Reason.{Reason}
 use Rattle.tso_cert.specs.declared.steps.Reason.TheVariants.{Base, Inferred}
-use Rattle.tso_model.specs.Ranks.{F, HasRank}
+use Rattle.tso_model.specs.Ranks.{RankSet, HasRank}
 use Rattle.tso_model.specs.Certs.{IsPathIn, IsJustified}
 use Rattle.tso_model.specs.Used.{AreUsedBy}
-use Rattle.tso_model.proofs.Bounds.{F-within}
-use Rattle.tso_model.proofs.Decided.{F-decided}
-use Rattle.tso_model.proofs.LastRankSet.{F-mono}
+use Rattle.tso_model.proofs.Bounds.{RankSet-within}
+use Rattle.tso_model.proofs.Decided.{RankSet-decided}
+use Rattle.tso_model.proofs.LastRankSet.{RankSet-mono}
 use Rattle.tso_model.proofs.Justifications.{rank_exists, rank_unique, justification_exists}
 
 -- whether a reason uses an edge is decided
@@ -39,7 +39,7 @@ used_lesser t zero x y (Base rule) just u v used = absurd used
 used_lesser t zero x y (Inferred rule load path) just u v used = absurd just
 used_lesser t (suc r) x y (Base rule) just u v used = absurd just
 used_lesser t (suc r) x y (Inferred rule load path) just u v used =
-    let rank = rank_exists t r u v (Linked-neighbours (F t r) path just.0.3.0.1 u v used) in
+    let rank = rank_exists t r u v (Linked-neighbours (RankSet t r) path just.0.3.0.1 u v used) in
     (rank.0, omega (arith, rank.1), rank.2)
 
 -- The reason is the justification of an edge whose rank is k or less.
@@ -50,12 +50,12 @@ pub record HasReason (t : TraceValue) (k u v : ℕ) (reason : Reason) : Type 0 w
   pub justified : IsJustified t rank u v reason
 
 -- the justification of the edge; for a pair that isn't an edge any reason serves
-reason_by : (t : TraceValue) (k u v : ℕ) → Decision (F t k u v) → Reason
+reason_by : (t : TraceValue) (k u v : ℕ) → Decision (RankSet t k u v) → Reason
 reason_by t k u v (inl edge) = let rank = rank_exists t k u v edge in (justification_exists t rank.0 u v rank.2).0
 reason_by t k u v (inr none) = Base Init
 
 -- for an edge it is the justification
-reason_by-edge : (t : TraceValue) (k u v : ℕ) (decision : Decision (F t k u v)) → F t k u v → HasReason t k u v (reason_by t k u v decision)
+reason_by-edge : (t : TraceValue) (k u v : ℕ) (decision : Decision (RankSet t k u v)) → RankSet t k u v → HasReason t k u v (reason_by t k u v decision)
 unfolding reason_by
 reason_by-edge t k u v (inl edge) here =
     let rank = rank_exists t k u v edge in
@@ -64,12 +64,12 @@ reason_by-edge t k u v (inr none) here = absurd (none here)
 
 -- the justification of the pair, if it is an edge of the rank set
 pub reason_of : TraceValue → ℕ → ℕ → ℕ → Reason
-reason_of t k u v = reason_by t k u v (F-decided t k u v)
+reason_of t k u v = reason_by t k u v (RankSet-decided t k u v)
 
 -- for an edge it is one
-pub reason_of-edge : (t : TraceValue) (k u v : ℕ) → F t k u v → HasReason t k u v (reason_of t k u v)
+pub reason_of-edge : (t : TraceValue) (k u v : ℕ) → RankSet t k u v → HasReason t k u v (reason_of t k u v)
 unfolding reason_of
-reason_of-edge t k u v edge = reason_by-edge t k u v (F-decided t k u v) edge
+reason_of-edge t k u v edge = reason_by-edge t k u v (RankSet-decided t k u v) edge
 
 -- the pair is on the cycle, or is used by way of d or fewer justifications
 abbrev pub IsUsed : TraceValue → ℕ → List ℕ → ℕ → ℕ → ℕ → Type 0
@@ -86,15 +86,15 @@ IsUsed-mono t k cycle d (suc e) most u v used = elim (cases_order d (suc e)) [
   | inr (inr more) ↦ absurd (omega arith)
 ]
 
-module _ (t : TraceValue) (k : ℕ) (cycle : List ℕ) (closed : IsCycle (F t k) cycle) where
+module _ (t : TraceValue) (k : ℕ) (cycle : List ℕ) (closed : IsCycle (RankSet t k) cycle) where
   -- what is used is an edge of the rank set
-  pub IsUsed-edge : (d u v : ℕ) → IsUsed t k cycle d u v → F t k u v
-  IsUsed-edge zero u v on = IsCycle-on_cycle (F t k) cycle closed u v on
+  pub IsUsed-edge : (d u v : ℕ) → IsUsed t k cycle d u v → RankSet t k u v
+  IsUsed-edge zero u v on = IsCycle-on_cycle (RankSet t k) cycle closed u v on
   IsUsed-edge (suc d) u v (inl used) = IsUsed-edge d u v used
   IsUsed-edge (suc d) u v (inr by) =
       let reason = reason_of-edge t k by.0 by.1 (IsUsed-edge d by.0 by.1 by.2) in
       let lesser = used_lesser t reason.rank by.0 by.1 (reason_of t k by.0 by.1) reason.justified u v by.3 in
-      F-mono t lesser.0 k (omega (arith, lesser.1, reason.at_most)) u v lesser.2.0
+      RankSet-mono t lesser.0 k (omega (arith, lesser.1, reason.at_most)) u v lesser.2.0
 
   -- whether a pair is used is decided
   pub IsUsed-decided : (d u v : ℕ) → Decision (IsUsed t k cycle d u v)
@@ -106,12 +106,12 @@ module _ (t : TraceValue) (k : ℕ) (cycle : List ℕ) (closed : IsCycle (F t k)
       To x = (y : ℕ) × (IsUsed t k cycle d x y × AreUsedBy (reason_of t k x y) u v)
 
       by_some : ((x y : ℕ) → Decision (IsUsed t k cycle d x y)) → Decision ((x : ℕ) × To x)
-      by_some decide = Decision-some To to (suc (event_total t)) (λ x p. (F-within t k x p.0 (IsUsed-edge d x p.0 p.1.0)).0)
+      by_some decide = Decision-some To to (suc (event_total t)) (λ x p. (RankSet-within t k x p.0 (IsUsed-edge d x p.0 p.1.0)).0)
         where
           to : (x : ℕ) → Decision (To x)
           to x = Decision-some (λ y. IsUsed t k cycle d x y × AreUsedBy (reason_of t k x y) u v)
               (λ y. Decision-both (decide x y) (AreUsedBy-decided (reason_of t k x y) u v))
-              (suc (event_total t)) (λ y p. (F-within t k x y (IsUsed-edge d x y p.0)).1)
+              (suc (event_total t)) (λ y p. (RankSet-within t k x y (IsUsed-edge d x y p.0)).1)
 
   -- an edge of rank r is used by way of k - r or fewer justifications, if it is used at all
   used_early : (d u v r : ℕ) → IsUsed t k cycle d u v → HasRank t u v r → (e : ℕ) × (e + r ≤ k) × IsUsed t k cycle e u v

@@ -13,7 +13,7 @@ use Rattle.tso_cert.specs.declared.steps.Certificate.{Certificate}
 use Rattle.tso_cert.specs.declared.steps.Certificate.TheVariants.{Unwritten, Cycle}
 use Rattle.order_paths.specs.Paths.{HasEnds, Linked, IsCycle, IsLeastPath, IsLeastCycle, Reaches}
 use Rattle.tso_model.specs.Rules.{BasePair, InferredBy}
-use Rattle.tso_model.specs.Ranks.{F, HasRank, IsRounds}
+use Rattle.tso_model.specs.Ranks.{RankSet, HasRank, IsRounds}
 
 -- one of the steps is the edge from u to v
 abbrev pub IsStep : List CertStep → ℕ → ℕ → Type 0
@@ -71,8 +71,8 @@ IsJustified t zero u v (Inferred rule load path) = ⊥
 IsJustified t (suc r) u v (Base rule) = ⊥
 -- of a rank above: the first inferred rule that gives it by a path over the edges of lesser rank, then the least load, then the least path
 IsJustified t (suc r) u v (Inferred rule load path) =
-    ((x : ℕ) × (y : ℕ) × InferredBy t rule load u v x y × IsLeastPath (F t r) x y path)
-    × ((other : InferredRule) (l x y : ℕ) → InferredBy t other l u v x y → Reaches (F t r) x y →
+    ((x : ℕ) × (y : ℕ) × InferredBy t rule load u v x y × IsLeastPath (RankSet t r) x y path)
+    × ((other : InferredRule) (l x y : ℕ) → InferredBy t other l u v x y → Reaches (RankSet t r) x y →
     (inferred_index rule < inferred_index other) ⊎ ((inferred_index rule ≡ inferred_index other) × (load ≤ l)))
 
 -- step s, of rank r, is listed before step d, of rank q: by rank, then by first number, then by second
@@ -98,4 +98,4 @@ pub record AreStepsOf (t : TraceValue) (steps : List CertStep) (cycle : List ℕ
 -- its steps. The laws say that a trace has at most one, and has one exactly if a load is unwritten or the derived order has a cycle.
 abbrev pub IsCertificateOf : TraceValue → Certificate → Type 0
 IsCertificateOf t (Unwritten n) = IsUnwritten t n × ((other : ℕ) → IsUnwritten t other → n ≤ other)
-IsCertificateOf t (Cycle steps cycle) = ((l : ℕ) → IsUnwritten t l → ⊥) × ((k : ℕ) × IsRounds t k × IsLeastCycle (F t k) cycle) × AreStepsOf t steps cycle
+IsCertificateOf t (Cycle steps cycle) = ((l : ℕ) → IsUnwritten t l → ⊥) × ((k : ℕ) × IsRounds t k × IsLeastCycle (RankSet t k) cycle) × AreStepsOf t steps cycle

@@ -1,5 +1,6 @@
 pub mod Certs
 pub mod EdgeLists
+pub mod Internal
 pub mod Order
 pub mod Ranks
 pub mod Rules

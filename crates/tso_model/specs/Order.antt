@@ -3,7 +3,7 @@
 -- over the events of a trace, and one for the barrier MEMBAR #StoreLoad of the SPARC Architecture Manual Version 9.
 use Rattle.std.specs.Prelude.{◌≡◌, ◌≢◌, ◌⊎◌, ℕ, suc, ◌<◌, ◌≤◌, List, [], ◌∷◌, cond, ◌==◌}
 use Rattle.tso_ops.specs.Values.{TraceValue}
-use Rattle.tso_ops.specs.Events.{IsEvent, IsLoad, IsStore, IsSwapLoad, HasValue, SameAddress, SameValue, Earlier, BarrierBetween}
+use Rattle.tso_ops.specs.Events.{IsEvent, IsLoad, IsStore, IsSwapLoad, HasValue, SameAddress, SameValue, Earlier, HasFewerBarriersBefore}
 
 -- how often the number stands in the list
 abbrev pub occurrences : ℕ → List ℕ → ℕ
@@ -50,7 +50,7 @@ pub record IsTsoOrder (t : TraceValue) (order : List ℕ) : Type 0 where
   -- StoreStore (V8, K.2): memory keeps the order of a processor's stores. Under TSO this holds of any two of them, with no barrier.
   pub store_store : (u v : ℕ) → IsStore t u → IsStore t v → Earlier t u v → IsUpTo order u v
   -- MEMBAR #StoreLoad (V9, 8.4.3 'The MEMBAR Instruction' and appendix D): memory orders a store before each load behind the barrier.
-  pub membar : (u v : ℕ) → IsStore t u → IsLoad t v → Earlier t u v → BarrierBetween t u v → IsUpTo order u v
+  pub membar : (u v : ℕ) → IsStore t u → IsLoad t v → Earlier t u v → HasFewerBarriersBefore t u v → IsUpTo order u v
   -- Atomicity (V8, K.2): a swap's load comes before its store, and no other store, to any address, comes between the two.
   pub swap : (l : ℕ) → IsSwapLoad t l → IsUpTo order l (suc l)
   pub atomicity : (l s : ℕ) → IsSwapLoad t l → IsStore t s → s ≢ suc l → IsUpTo order s l ⊎ IsUpTo order (suc l) s

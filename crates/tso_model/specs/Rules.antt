@@ -3,7 +3,7 @@
 -- for `init`, the writer of the first values. A rule that names the source of a load doesn't apply to a load that is unwritten.
 use Rattle.std.specs.Prelude.{◌≡◌, ◌≢◌, ℕ, suc, Bool, IsTrue}
 use Rattle.tso_ops.specs.Values.{TraceValue}
-use Rattle.tso_ops.specs.Events.{IsEvent, IsLoad, IsStore, IsSwapLoad, HasSource, SameAddress, Earlier, BarrierBetween}
+use Rattle.tso_ops.specs.Events.{IsEvent, IsLoad, IsStore, IsSwapLoad, HasSource, SameAddress, Earlier, HasFewerBarriersBefore}
 use Rattle.tso_cert.specs.declared.rules.BaseRule.{BaseRule}
 use Rattle.tso_cert.specs.declared.rules.BaseRule.TheVariants.{Init, LoadOp, StoreStore, Membar, Read, Own}
 use Rattle.tso_cert.specs.declared.rules.InferredRule.{InferredRule}
@@ -20,7 +20,7 @@ BasePair t Init u v = (u ≡ 0) × IsEvent t v
 -- the axioms LoadOp, StoreStore and MEMBAR #StoreLoad
 BasePair t LoadOp u v = IsLoad t u × Earlier t u v
 BasePair t StoreStore u v = IsStore t u × IsStore t v × Earlier t u v
-BasePair t Membar u v = IsStore t u × IsLoad t v × Earlier t u v × BarrierBetween t u v
+BasePair t Membar u v = IsStore t u × IsLoad t v × Earlier t u v × HasFewerBarriersBefore t u v
 -- a load sees its source; a program-earlier one it may have seen by store forwarding, which orders nothing
 BasePair t Read u v = IsStore t u × HasSource t v u × (Earlier t u v → ⊥)
 -- the source of a load is the last store that it sees, so another store that it sees comes before the source

@@ -5,27 +5,27 @@ ghost use Rattle.order_paths.specs.Paths.{HasCycle};
 ghost use Rattle.tso_ops.specs.Values.{TraceValue};
 ghost use Rattle.tso_ops.specs.Events.{IsUnwritten, event_total};
 ghost use Rattle.tso_model.specs.Rules.{HasDerivedCycle};
-ghost use Rattle.tso_model.specs.Ranks.{F, IsLast, IsRounds};
+ghost use Rattle.tso_model.specs.Ranks.{RankSet, IsLast, IsRounds};
 
 /// The edges of a rank set lie between 0 and the number of events.
 pub fn edges_are_within()
-    ensures { (t : TraceValue) (k u v : ℕ) → F t k u v → (u ≤ event_total t) × (v ≤ event_total t) }
+    ensures { (t : TraceValue) (k u v : ℕ) → RankSet t k u v → (u ≤ event_total t) × (v ≤ event_total t) }
 {}
 
 /// An edge is in a rank set, or it isn't.
 pub fn edges_are_decided()
-    ensures { (t : TraceValue) (k u v : ℕ) → F t k u v ⊎ (F t k u v → ⊥) }
+    ensures { (t : TraceValue) (k u v : ℕ) → RankSet t k u v ⊎ (RankSet t k u v → ⊥) }
 {}
 
 /// The edges of a rank set are edges of each later one.
 pub fn rank_sets_grow()
-    ensures { (t : TraceValue) (j k : ℕ) → j ≤ k → (u v : ℕ) → F t j u v → F t k u v }
+    ensures { (t : TraceValue) (j k : ℕ) → j ≤ k → (u v : ℕ) → RankSet t j u v → RankSet t k u v }
 {}
 
 /// There is a rank set whose next round adds nothing, and such a set has the edges of all others.
 pub fn last_rank_set()
     ensures exists { (t : TraceValue) → (k : ℕ) × IsLast t k }
-    ensures greatest { (t : TraceValue) (k : ℕ) → IsLast t k → (j u v : ℕ) → F t j u v → F t k u v }
+    ensures greatest { (t : TraceValue) (k : ℕ) → IsLast t k → (j u v : ℕ) → RankSet t j u v → RankSet t k u v }
 {}
 
 /// There is a rounds number.
@@ -40,7 +40,7 @@ pub fn rounds_are_unique()
 
 /// Where no load is unwritten, the derived order has a cycle exactly if the rank set of the rounds number has one.
 pub fn rounds_tell_cycles()
-    ensures { (t : TraceValue) (k : ℕ) → ((l : ℕ) → IsUnwritten t l → ⊥) → IsRounds t k → HasDerivedCycle t ↔ HasCycle (F t k) }
+    ensures { (t : TraceValue) (k : ℕ) → ((l : ℕ) → IsUnwritten t l → ⊥) → IsRounds t k → HasDerivedCycle t ↔ HasCycle (RankSet t k) }
 {}
 
 /// The derived order has a cycle, or it has none.

@@ -9,8 +9,8 @@ use Rattle.tso_ops.specs.declared.faults.ValueFault.{ValueFault}
 use Rattle.tso_ops.specs.declared.faults.ValueFault.TheVariants.{OutOfMemory, TooManyProcessors}
 use Rattle.tso_ops.specs.declared.limits.Tally.{Tally}
 use Rattle.tso_ops.specs.Values.{program_by, program_of_lists, in_file_order, list_count, rows}
-use Rattle.tso_ops.specs.Limits.{IsFaultOf, IsProgram, IsRefusal}
-use Rattle.tso_ops.specs.Tally.{Admitted, IsTurnedAway}
+use Rattle.tso_ops.specs.Limits.{IsFaultOf, IsProgram, IsValueRefusal}
+use Rattle.tso_ops.specs.Tally.{Admitted, IsAdmitRefusal}
 use Rattle.tso_ops.proofs.LimitFacts.{IsFaultOf-next, IsFaultOf-append, not_refused}
 
 -- the new tally has admitted these operations behind those that the old one had
@@ -28,22 +28,22 @@ split_at xs i x within at = sym (take-append-drop i xs) ∙ ap (λ rest. take i 
 pub AdmitsMore-next : {X : Type 0} (op : X → Op) → (old between new : Tally) (xs : List X) (i : ℕ) (x : X) (o : Op) → i < length xs → x ≡ get_or xs i x → o ≡ op x →
     AdmitsMore old between (map op (take i xs)) → ((ops : List Op) → Admitted between ops → Admitted new (ops ++ o ∷ [])) → AdmitsMore old new (map op (take (i + 1) xs))
 AdmitsMore-next op old between new xs i x o within at is before step ops was =
-    let front = map op (take i xs) in
-    let more : map op (take (i + 1) xs) ≡ front ++ o ∷ [] = map_more op xs i x within ∙ ap (λ y. front ++ op y ∷ []) (sym at) ∙ ap (λ y. front ++ y ∷ []) (sym is) in
-    rw (more, ← append_assoc) (step (ops ++ front) (before ops was))
+    let prefix = map op (take i xs) in
+    let more : map op (take (i + 1) xs) ≡ prefix ++ o ∷ [] = map_more op xs i x within ∙ ap (λ y. prefix ++ op y ∷ []) (sym at) ∙ ap (λ y. prefix ++ y ∷ []) (sym is) in
+    rw (more, ← append_assoc) (step (ops ++ prefix) (before ops was))
 
 -- the refusal of an element is that of the whole list
 pub refused_at : {X : Type 0} (op : X → Op) → (old tally : Tally) (xs : List X) (i : ℕ) (x : X) (o : Op) (why : ValueFault) → i < length xs → x ≡ get_or xs i x → o ≡ op x →
-    AdmitsMore old tally (map op (take i xs)) → ((ops : List Op) → Admitted tally ops → IsTurnedAway ops o why) →
+    AdmitsMore old tally (map op (take i xs)) → ((ops : List Op) → Admitted tally ops → IsAdmitRefusal ops o why) →
     (ops : List Op) → Admitted old ops → why ≢ OutOfMemory → IsFaultOf (ops ++ map op xs) why
 refused_at op old tally xs i x o why within at is before turned ops was other =
-    let front = map op (take i xs) in
+    let prefix = map op (take i xs) in
     let rest = map op (drop (i + 1) xs) in
-    let parts : ops ++ map op xs ≡ (ops ++ front) ++ o ∷ rest =
+    let parts : ops ++ map op xs ≡ (ops ++ prefix) ++ o ∷ rest =
     ap (λ ys. ops ++ map op ys) (split_at xs i x within at) ∙ ap (λ ys. ops ++ ys) (map-append op (take i xs) (x ∷ drop (i + 1) xs))
-    ∙ ap (λ y. ops ++ (front ++ y ∷ rest)) (sym is) ∙ sym (append_assoc ops front (o ∷ rest)) in
+    ∙ ap (λ y. ops ++ (prefix ++ y ∷ rest)) (sym is) ∙ sym (append_assoc ops prefix (o ∷ rest)) in
     let admitted = before ops was in
-    ⊎_elim (λ memory. absurd (other memory)) (λ first. rw parts (IsFaultOf-next (ops ++ front) o rest why admitted.faultless first)) (turned (ops ++ front) admitted)
+    ⊎_elim (λ memory. absurd (other memory)) (λ first. rw parts (IsFaultOf-next (ops ++ prefix) o rest why admitted.faultless first)) (turned (ops ++ prefix) admitted)
 
 -- ---- lists of lists, joined in file order
 
@@ -93,18 +93,18 @@ program_admitted op lists tally few admitted = record {
 
 -- they are refused for nothing
 pub program_accepted : {X : Type 0} (op : X → Op) (lists : List (Vec X)) (tally : Tally) → length lists ≤ 16 →
-    Admitted tally (flat_map (λ (row : Vec X). map op row.items) lists) → (why : ValueFault) → IsRefusal (program_by op (rows lists)) why → ⊥
+    Admitted tally (flat_map (λ (row : Vec X). map op row.items) lists) → (why : ValueFault) → IsValueRefusal (program_by op (rows lists)) why → ⊥
 program_accepted op lists tally few admitted why refusal =
     ⊎_elim (λ many. absurd (omega (arith, many.0, list_count-program_by op lists)))
     (λ fault. not_refused _ why admitted.faultless (rw (in_file_order-program_by op lists) at fault.1)) refusal
 
 -- the refusal of an operation is that of the program
 pub program_refused : {X : Type 0} (op : X → Op) (lists : List (Vec X)) (why : ValueFault) → length lists ≤ 16 →
-    IsFaultOf (flat_map (λ (row : Vec X). map op row.items) lists) why → IsRefusal (program_by op (rows lists)) why
+    IsFaultOf (flat_map (λ (row : Vec X). map op row.items) lists) why → IsValueRefusal (program_by op (rows lists)) why
 program_refused op lists why few fault = inr (omega (arith, list_count-program_by op lists), rw in_file_order-program_by fault)
 
 -- more than 16 lists are refused before all else
-pub processors_refused : {X : Type 0} (op : X → Op) (lists : List (Vec X)) → 16 < length lists → IsRefusal (program_by op (rows lists)) TooManyProcessors
+pub processors_refused : {X : Type 0} (op : X → Op) (lists : List (Vec X)) → 16 < length lists → IsValueRefusal (program_by op (rows lists)) TooManyProcessors
 processors_refused op lists many = inl (omega (arith, list_count-program_by op lists), refl)
 
 map-same : {X : Type 0} (f : X → X) → ((x : X) → f x ≡ x) → (xs : List X) → map f xs ≡ xs
@@ -119,9 +119,9 @@ program_by-same f same lists = ap program_of_lists (map-same (map f) (map-same f
 pub rows-next : {X : Type 0} (old new : List (Vec X)) (copied : Vec X) (lists : List (Vec X)) (i : ℕ) (x : Vec X) → i < length lists → x ≡ get_or lists i x →
     rows old ≡ take i (rows lists) → copied.items ≡ x.items → new ≡ old ++ copied ∷ [] → rows new ≡ take (i + 1) (rows lists)
 rows-next {X} old new copied lists i x within at before same pushed =
-    ap rows pushed ∙ map-append (λ (row : Vec X). row.items) old (copied ∷ []) ∙ ap (λ front. front ++ copied.items ∷ []) before
+    ap rows pushed ∙ map-append (λ (row : Vec X). row.items) old (copied ∷ []) ∙ ap (λ prefix. prefix ++ copied.items ∷ []) before
     ∙ ap (λ row. take i (rows lists) ++ row ∷ []) (same ∙ ap (λ (row : Vec X). row.items) at)
-    ∙ ap (λ front. front ++ (get_or lists i x).items ∷ []) (take-map (λ (row : Vec X). row.items) i lists)
+    ∙ ap (λ prefix. prefix ++ (get_or lists i x).items ∷ []) (take-map (λ (row : Vec X). row.items) i lists)
     ∙ sym (take-map (λ (row : Vec X). row.items) (i + 1) lists ∙ map_more (λ (row : Vec X). row.items) lists i x within)
 
 -- all lists are copied

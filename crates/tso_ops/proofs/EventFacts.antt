@@ -40,7 +40,7 @@ store_values-lists : (p : ℕ) (lists : List (List Outcome)) → flat_map store_
 store_values-lists p [] = refl
 store_values-lists p (ops ∷ lists) =
     flat_map-append store_value (events_from p 0 ops) (events_of_lists (suc p) lists)
-    ∙ ap (λ front. front ++ flat_map store_value (events_of_lists (suc p) lists)) (store_values-from p 0 ops)
+    ∙ ap (λ prefix. prefix ++ flat_map store_value (events_of_lists (suc p) lists)) (store_values-from p 0 ops)
     ∙ ap (λ rest. stored_values (map op_of ops) ++ rest) (store_values-lists (suc p) lists)
     ∙ sym (stored_values-append (map op_of ops) (joined lists))
 
@@ -108,12 +108,12 @@ abbrev InRange : Event → Type 0
 InRange e = (e.a < 256) × (e.value < 2 ^ 64)
 
 each-append : {X : Type 0} (P : X → Type 0) → (xs ys : List X) → AllByRecursion P xs → AllByRecursion P ys → AllByRecursion P (xs ++ ys)
-each-append P [] ys front back = back
-each-append P (x ∷ xs) ys front back = (front.0, each-append P xs ys front.1 back)
+each-append P [] ys prefix back = back
+each-append P (x ∷ xs) ys prefix back = (prefix.0, each-append P xs ys prefix.1 back)
 
-each-front : {X : Type 0} (P : X → Type 0) → (xs ys : List X) → AllByRecursion P (xs ++ ys) → AllByRecursion P xs × AllByRecursion P ys
-each-front P [] ys all = (tt, all)
-each-front P (x ∷ xs) ys all = let rest = each-front P xs ys all.1 in ((all.0, rest.0), rest.1)
+each-prefix : {X : Type 0} (P : X → Type 0) → (xs ys : List X) → AllByRecursion P (xs ++ ys) → AllByRecursion P xs × AllByRecursion P ys
+each-prefix P [] ys all = (tt, all)
+each-prefix P (x ∷ xs) ys all = let rest = each-prefix P xs ys all.1 in ((all.0, rest.0), rest.1)
 
 in_range-from : (p bars : ℕ) (ops : List Outcome) → AllByRecursion (λ a. a < 256) (addresses_of (map op_of ops)) →
     AllByRecursion (λ v. v < 2 ^ 64) (stored_values (map op_of ops)) → AllByRecursion ReadFits ops → AllByRecursion InRange (events_from p bars ops)
@@ -131,9 +131,9 @@ in_range-lists : (p : ℕ) (lists : List (List Outcome)) → AllByRecursion (λ 
     AllByRecursion (λ v. v < 2 ^ 64) (stored_values (joined lists)) → AllByRecursion ReadFits (flat_map (λ ops. ops) lists) → AllByRecursion InRange (events_of_lists p lists)
 in_range-lists p [] addresses stored reads = tt
 in_range-lists p (ops ∷ lists) addresses stored reads =
-    let a = each-front (λ a. a < 256) (addresses_of (map op_of ops)) (addresses_of (joined lists)) (rw addresses_of-append at addresses) in
-    let v = each-front (λ v. v < 2 ^ 64) (stored_values (map op_of ops)) (stored_values (joined lists)) (rw stored_values-append at stored) in
-    let r = each-front ReadFits ops (flat_map (λ ops. ops) lists) reads in
+    let a = each-prefix (λ a. a < 256) (addresses_of (map op_of ops)) (addresses_of (joined lists)) (rw addresses_of-append at addresses) in
+    let v = each-prefix (λ v. v < 2 ^ 64) (stored_values (map op_of ops)) (stored_values (joined lists)) (rw stored_values-append at stored) in
+    let r = each-prefix ReadFits ops (flat_map (λ ops. ops) lists) reads in
     each-append InRange (events_from p 0 ops) (events_of_lists (suc p) lists)
     (in_range-from p 0 ops a.0 v.0 r.0) (in_range-lists (suc p) lists a.1 v.1 r.1)
 

@@ -17,8 +17,9 @@ use Rattle.tso_ops.specs.declared.events.Source.{Source}
 use Rattle.tso_ops.specs.declared.events.Source.TheVariants.{Init, Store, Unwritten}
 use Rattle.tso_ops.specs.Limits.{IsTrace}
 use Rattle.tso_ops.specs.Events.{events_of, event_at, HasSource, SourceIs}
-use Rattle.tso_ops.specs.Tables.{IsSourceRow, AreSources}
-use Rattle.tso_ops.specs.Masks.{IsMarked, IsInRow, IsOfRow, IsReadFrom, HasEventRow, HasSourceRow, source_number, AreRowsAmong, AreRows, MarksNumber, MarksInRow}
+use Rattle.tso_ops.specs.Internal.Tables.{IsSourceRow, AreSources}
+use Rattle.tso_ops.specs.Masks.{IsMarked}
+use Rattle.tso_ops.specs.Internal.MaskTables.{IsInRow, IsOfRow, IsReadFrom, HasEventRow, HasSourceRow, source_number, AreMaskRowsAmong, AreMaskRows, MarksNumber, MarksInRow}
 use Rattle.tso_ops.proofs.TableFacts.{event_at-suc, same_event, has_source_load, one_source}
 
 -- ---- one row
@@ -157,15 +158,15 @@ marks_row_if (Err e) first table option row number new now is same within read m
 
 -- ---- the rows of a trace
 
-pub AreRowsAmong-none : (HasRow : ℕ → ℕ → Type 0) (table : List (List ℕ)) → table ≡ [] → AreRowsAmong HasRow 0 table
-AreRowsAmong-none HasRow table empty = rw empty record {
+pub AreMaskRowsAmong-none : (HasRow : ℕ → ℕ → Type 0) (table : List (List ℕ)) → table ≡ [] → AreMaskRowsAmong HasRow 0 table
+AreMaskRowsAmong-none HasRow table empty = rw empty record {
   each = λ r. record { bits = λ n. (λ is. absurd (none_marked n is), λ among. absurd (let none : among.0 < 0 = among.1 in omega arith)) };
 }
 
 -- with one number more
-pub AreRowsAmong-more : (HasRow : ℕ → ℕ → Type 0) (count : ℕ) (row : Option ℕ) (old new : List (List ℕ)) → AreRowsAmong HasRow count old → ((r : ℕ) → row ≡ Some r → HasRow count r) →
-    ((r : ℕ) → HasRow count r → row ≡ Some r) → MarksInRow old new row (count + 1) → AreRowsAmong HasRow (count + 1) new
-AreRowsAmong-more HasRow count row old new are is all marks = record {
+pub AreMaskRowsAmong-more : (HasRow : ℕ → ℕ → Type 0) (count : ℕ) (row : Option ℕ) (old new : List (List ℕ)) → AreMaskRowsAmong HasRow count old → ((r : ℕ) → row ≡ Some r → HasRow count r) →
+    ((r : ℕ) → HasRow count r → row ≡ Some r) → MarksInRow old new row (count + 1) → AreMaskRowsAmong HasRow (count + 1) new
+AreMaskRowsAmong-more HasRow count row old new are is all marks = record {
   each = λ r. record {
     bits = λ n. (
       λ marked. elim ((marks.bits r n).0 marked) [
@@ -209,9 +210,9 @@ unfolding event_at
 no_event_zero t e at = cc
 
 -- the rows of all events are those of the trace
-pub AreRows-all : (t : TraceValue) (events : List Event) (kind : Kind) (table : List (List ℕ)) → events_of t ≡ events → AreRowsAmong (HasEventRow events kind) (length events) table →
-    AreRows (IsOfRow t kind) table
-AreRows-all t events kind table is are = record { each = λ r. record { bits = λ n. (to r n, from r n) } }
+pub AreMaskRows-all : (t : TraceValue) (events : List Event) (kind : Kind) (table : List (List ℕ)) → events_of t ≡ events → AreMaskRowsAmong (HasEventRow events kind) (length events) table →
+    AreMaskRows (IsOfRow t kind) table
+AreMaskRows-all t events kind table is are = record { each = λ r. record { bits = λ n. (to r n, from r n) } }
   where
     to : (r n : ℕ) → IsMarked (get_or table r []) n → IsOfRow t kind r n
     to r n marked =
@@ -226,9 +227,9 @@ AreRows-all t events kind table is are = record { each = λ r. record { bits = �
         ((are.each r).bits (suc k)).1 (k, slice_get_within events k of.0 at, refl, (of.0, at, of.2))
 
 -- the rows of all loads are those of their sources
-pub AreRows-readers : (t : TraceValue) (sources : List (Option Source)) (table : List (List ℕ)) → IsTrace t → AreSources t sources →
-    AreRowsAmong (HasSourceRow sources) (length sources) table → AreRows (IsReadFrom t) table
-AreRows-readers t sources table trace are among_are = record { each = λ r. record { bits = λ n. (to r n, from r n) } }
+pub AreMaskRows-readers : (t : TraceValue) (sources : List (Option Source)) (table : List (List ℕ)) → IsTrace t → AreSources t sources →
+    AreMaskRowsAmong (HasSourceRow sources) (length sources) table → AreMaskRows (IsReadFrom t) table
+AreMaskRows-readers t sources table trace are among_are = record { each = λ r. record { bits = λ n. (to r n, from r n) } }
   where
     -- what a source says of its number
     numbered : (l s : ℕ) (source : Source) → SourceIs t l source → source_number source ≡ Some s → HasSource t l s

@@ -33,40 +33,40 @@ from-lists p (ops ∷ lists) = from-events p 0 ops (events_of_lists (suc p) list
 -- ---- barriers
 
 -- no fewer barriers stand before these events than these, where they are of processor p
-AreBehind : ℕ → ℕ → List Event → Type 0
-AreBehind p bars events = AllByRecursion (λ (e : Event). e.proc ≡ p → bars ≤ e.bars) events
+HaveBarriersBefore : ℕ → ℕ → List Event → Type 0
+HaveBarriersBefore p bars events = AllByRecursion (λ (e : Event). e.proc ≡ p → bars ≤ e.bars) events
 
 -- no fewer barriers stand before an event than before one of its processor that stands before it
 AreBarred : List Event → Type 0
 AreBarred [] = Unit {0}
-AreBarred (e ∷ events) = AreBehind e.proc e.bars events × AreBarred events
+AreBarred (e ∷ events) = HaveBarriersBefore e.proc e.bars events × AreBarred events
 
-behind-events : (p bars more : ℕ) (ops : List Outcome) (rest : List Event) → bars ≤ more → AreBehind p bars rest → AreBehind p bars (events_from p more ops ++ rest)
-unfolding AreBehind
-behind-events p bars more [] rest low behind = behind
-behind-events p bars more (Ld a r ∷ ops) rest low behind = (λ same. low, behind-events p bars more ops rest low behind)
-behind-events p bars more (St a v ∷ ops) rest low behind = (λ same. low, behind-events p bars more ops rest low behind)
-behind-events p bars more (Sw a r v ∷ ops) rest low behind = (λ same. low, (λ same. low, behind-events p bars more ops rest low behind))
-behind-events p bars more (Mb ∷ ops) rest low behind = behind-events p bars (suc more) ops rest (omega arith) behind
+after-events : (p bars more : ℕ) (ops : List Outcome) (rest : List Event) → bars ≤ more → HaveBarriersBefore p bars rest → HaveBarriersBefore p bars (events_from p more ops ++ rest)
+unfolding HaveBarriersBefore
+after-events p bars more [] rest low after = after
+after-events p bars more (Ld a r ∷ ops) rest low after = (λ same. low, after-events p bars more ops rest low after)
+after-events p bars more (St a v ∷ ops) rest low after = (λ same. low, after-events p bars more ops rest low after)
+after-events p bars more (Sw a r v ∷ ops) rest low after = (λ same. low, (λ same. low, after-events p bars more ops rest low after))
+after-events p bars more (Mb ∷ ops) rest low after = after-events p bars (suc more) ops rest (omega arith) after
 
-behind-others : (p bars : ℕ) (events : List Event) → AreFrom (suc p) events → AreBehind p bars events
-unfolding AreFrom AreBehind
-behind-others p bars [] above = tt
-behind-others p bars (e ∷ events) above = (λ same. absurd (let first : suc p ≤ e.proc = above.0 in omega arith), behind-others p bars events above.1)
+after-others : (p bars : ℕ) (events : List Event) → AreFrom (suc p) events → HaveBarriersBefore p bars events
+unfolding AreFrom HaveBarriersBefore
+after-others p bars [] above = tt
+after-others p bars (e ∷ events) above = (λ same. absurd (let first : suc p ≤ e.proc = above.0 in omega arith), after-others p bars events above.1)
 
 -- with the store of a swap in front
-behind-one : (p bars a v : ℕ) (rest : List Event) → AreBehind p bars rest → AreBehind p bars (record { proc = p; load = false; swap = true; a = a; value = v; bars = bars } ∷ rest)
-unfolding AreBehind
-behind-one p bars a v rest behind = (λ same. omega arith, behind)
+after-one : (p bars a v : ℕ) (rest : List Event) → HaveBarriersBefore p bars rest → HaveBarriersBefore p bars (record { proc = p; load = false; swap = true; a = a; value = v; bars = bars } ∷ rest)
+unfolding HaveBarriersBefore
+after-one p bars a v rest after = (λ same. omega arith, after)
 
 barred-events : (p bars : ℕ) (ops : List Outcome) (rest : List Event) → AreFrom (suc p) rest → AreBarred rest → AreBarred (events_from p bars ops ++ rest)
 unfolding AreBarred
 barred-events p bars [] rest above barred = barred
-barred-events p bars (Ld a r ∷ ops) rest above barred = (behind-events p bars bars ops rest (omega arith) (behind-others p bars rest above), barred-events p bars ops rest above barred)
-barred-events p bars (St a v ∷ ops) rest above barred = (behind-events p bars bars ops rest (omega arith) (behind-others p bars rest above), barred-events p bars ops rest above barred)
+barred-events p bars (Ld a r ∷ ops) rest above barred = (after-events p bars bars ops rest (omega arith) (after-others p bars rest above), barred-events p bars ops rest above barred)
+barred-events p bars (St a v ∷ ops) rest above barred = (after-events p bars bars ops rest (omega arith) (after-others p bars rest above), barred-events p bars ops rest above barred)
 barred-events p bars (Sw a r v ∷ ops) rest above barred =
-    let behind = behind-events p bars bars ops rest (omega arith) (behind-others p bars rest above) in
-    (behind-one p bars a v (events_from p bars ops ++ rest) behind, (behind, barred-events p bars ops rest above barred))
+    let after = after-events p bars bars ops rest (omega arith) (after-others p bars rest above) in
+    (after-one p bars a v (events_from p bars ops ++ rest) after, (after, barred-events p bars ops rest above barred))
 barred-events p bars (Mb ∷ ops) rest above barred = barred-events p (suc bars) ops rest above barred
 
 barred-lists : (p : ℕ) (lists : List (List Outcome)) → AreBarred (events_of_lists p lists)
@@ -75,13 +75,13 @@ barred-lists p [] = tt
 barred-lists p (ops ∷ lists) = barred-events p 0 ops (events_of_lists (suc p) lists) (from-lists (suc p) lists) (barred-lists (suc p) lists)
 
 barred-at : (events : List Event) (j k : ℕ) (d e : Event) → AreBarred events → j < k → slice_get events j ≡ Some d → slice_get events k ≡ Some e → d.proc ≡ e.proc → d.bars ≤ e.bars
-unfolding AreBarred AreBehind
+unfolding AreBarred HaveBarriersBefore
 barred-at [] j k d e barred order at_j at_k same = absurd cc
 barred-at (x ∷ events) j zero d e barred order at_j at_k same = absurd (omega arith)
 barred-at (x ∷ events) zero (suc k) d e barred order at_j at_k same =
     let first : x ≡ d = cc in
-    let behind : e.proc ≡ x.proc → x.bars ≤ e.bars = each-at (λ (y : Event). y.proc ≡ x.proc → x.bars ≤ y.bars) events k e at_k barred.0 in
-    subst (λ (y : Event). y.bars ≤ e.bars) first (behind (let one : x.proc ≡ d.proc = ap (λ (y : Event). y.proc) first in omega arith))
+    let after : e.proc ≡ x.proc → x.bars ≤ e.bars = each-at (λ (y : Event). y.proc ≡ x.proc → x.bars ≤ y.bars) events k e at_k barred.0 in
+    subst (λ (y : Event). y.bars ≤ e.bars) first (after (let one : x.proc ≡ d.proc = ap (λ (y : Event). y.proc) first in omega arith))
 barred-at (x ∷ events) (suc j) (suc k) d e barred order at_j at_k same = barred-at events j k d e barred.1 (omega arith) at_j at_k same
 
 -- no fewer barriers stand before an event than before a program-earlier one

@@ -7,7 +7,7 @@ use Rattle.std.proofs.lemmas.Option.{slice_get_past, slice_get_read}
 use Rattle.tso_ops.specs.declared.events.Source.{Source}
 use Rattle.tso_ops.specs.Values.{TraceValue}
 use Rattle.tso_ops.specs.Events.{events_of, event_at, event_total, IsLoad, SourceIs}
-use Rattle.tso_ops.specs.Tables.{AreSources, IsSourceRow}
+use Rattle.tso_ops.specs.Internal.Tables.{AreSources, IsSourceRow}
 
 -- what `get` gives, copied
 pub option_copied-get : {X : Type 0} (xs : List X) (k : ℕ) (r : Option (Bor X)) → IsGetResult xs k k r → option_copied r ≡ slice_get xs k

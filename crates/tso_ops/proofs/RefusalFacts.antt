@@ -13,7 +13,7 @@ use Rattle.tso_ops.specs.declared.ops.Op.TheVariants.{Ld, St, Sw, Mb}
 use Rattle.tso_ops.specs.declared.faults.ValueFault.{ValueFault}
 use Rattle.tso_ops.specs.declared.faults.ValueFault.TheVariants.{TooManyProcessors, TooManyEvents, AddressRange, ZeroValue, RepeatedValue, OutOfMemory}
 use Rattle.tso_ops.specs.Values.{ProgramValue, in_file_order}
-use Rattle.tso_ops.specs.Limits.{event_count, barrier_count, address_of, stored_by, total_events, total_barriers, addresses_of, stored_values, KeepsLimits, IsProgram, is_past_addresses, is_zero, is_repeated, has_fault, fault_number, IsFirstFault, IsFaultless, IsFaultOf, IsRefusal}
+use Rattle.tso_ops.specs.Limits.{event_count, barrier_count, address_of, stored_by, total_events, total_barriers, addresses_of, stored_values, KeepsLimits, IsProgram, is_past_addresses, is_zero, is_repeated, has_fault, fault_number, IsFirstFault, IsFaultless, IsFaultOf, IsValueRefusal}
 
 -- ---- one refusal at most
 
@@ -36,7 +36,7 @@ two_places (y ∷ b) o a [] q d e = inr (inr (b, cc))
 two_places (y ∷ b) o a (x ∷ c) q d e =
     let rest : b ++ o ∷ a ≡ c ++ q ∷ d = cc in
     let head : y ≡ x = cc in
-    ⊎_elim (λ same. inl (cc, same.1)) (⊎_elim (λ before. inr (inl (before.0, cc))) (λ behind. inr (inr (behind.0, cc)))) (two_places b o a c q d rest)
+    ⊎_elim (λ same. inl (cc, same.1)) (⊎_elim (λ before. inr (inl (before.0, cc))) (λ later. inr (inr (later.0, cc)))) (two_places b o a c q d rest)
 
 -- no operation before the first one with a fault has one
 not_before : (before : List Op) (op : Op) (why : ValueFault) (rest : List Op) (ops : List Op) → IsFaultless ops → ops ≡ before ++ op ∷ rest → has_fault before op why ≡ true → ⊥
@@ -58,7 +58,7 @@ one_fault ops v w f h =
     (λ later. absurd (not_before h.before h.op w later.0 f.before f.faultless later.1 h.first.fault)))
     (two_places f.before f.op f.after h.before h.op h.after (sym f.parts ∙ h.parts))
 
-pub one_refusal : (p : ProgramValue) (v w : ValueFault) → IsRefusal p v → IsRefusal p w → v ≡ w
+pub one_refusal : (p : ProgramValue) (v w : ValueFault) → IsValueRefusal p v → IsValueRefusal p w → v ≡ w
 one_refusal p v w first other =
     ⊎_elim
     (λ many. ⊎_elim (λ also. many.1 ∙ sym also.1) (λ few. absurd (omega (arith, many.0, few.0))) other)
@@ -120,14 +120,14 @@ repeat_breaks (Some v) before op after is fault distinct =
     not_distinct (stored_values before) v (stored_values after) fault (subst (IsDistinct eqb) (middle stored_by before op after v is) distinct)
 
 -- the numbers of events or of barriers up to an operation are part of the whole
-front_total : (count : Op → ℕ) (before : List Op) (op : Op) (after : List Op) → sum_by count before + count op ≤ sum_by count (before ++ op ∷ after)
-front_total count before op after = omega (arith, sum_by-append count before (op ∷ after), sum_by-cons count op after)
+prefix_total : (count : Op → ℕ) (before : List Op) (op : Op) (after : List Op) → sum_by count before + count op ≤ sum_by count (before ++ op ∷ after)
+prefix_total count before op after = omega (arith, sum_by-append count before (op ∷ after), sum_by-cons count op after)
 
 many_breaks : (before : List Op) (op : Op) (after : List Op) → total_events (before ++ op ∷ after) ≤ 2000 → total_barriers (before ++ op ∷ after) ≤ 2000 →
     has_fault before op TooManyEvents ≡ true → ⊥
 many_breaks before op after events barriers fault =
-    let few : total_events before + event_count op ≤ 2000 = omega (arith, front_total event_count before op after) in
-    let few_barriers : total_barriers before + barrier_count op ≤ 2000 = omega (arith, front_total barrier_count before op after) in
+    let few : total_events before + event_count op ≤ 2000 = omega (arith, prefix_total event_count before op after) in
+    let few_barriers : total_barriers before + barrier_count op ≤ 2000 = omega (arith, prefix_total barrier_count before op after) in
     grind (arith, nat_tests)
 
 -- an operation that has a fault breaks a limit
@@ -172,7 +172,7 @@ counted (op ∷ ops) = omega (arith, counted ops, sum_by-cons event_count op ops
 pub kept_few : (ops : List Op) → KeepsLimits ops → length ops ≤ 4000
 kept_few ops limits = omega (arith, counted ops, limits.events, limits.barriers)
 
-pub program_not_refused : (p : ProgramValue) (why : ValueFault) → IsProgram p → IsRefusal p why → ⊥
+pub program_not_refused : (p : ProgramValue) (why : ValueFault) → IsProgram p → IsValueRefusal p why → ⊥
 program_not_refused p why program refusal =
     ⊎_elim (λ many. omega (arith, many.0, program.processors))
     (λ few. let f = few.1 in fault_breaks f.before f.op f.after why (subst KeepsLimits f.parts program.limits) f.first.fault) refusal

@@ -14,7 +14,7 @@ use Rattle.tso_ops.specs.declared.events.Source.TheVariants.{Init, Store, Unwrit
 use Rattle.tso_ops.specs.Values.{TraceValue, rows}
 use Rattle.tso_ops.specs.Limits.{IsTrace}
 use Rattle.tso_ops.specs.Events.{events_from, events_of_lists, events_of, event_at, IsLoad, HasSource}
-use Rattle.tso_ops.specs.Tables.{IsStoreAt, FindsStore, FindsStores, IsSourceRow, AreSources}
+use Rattle.tso_ops.specs.Internal.Tables.{IsStoreAt, FindsStore, FindsStores, IsSourceRow, AreSources}
 use Rattle.tso_ops.proofs.EventFacts.{stores_distinct, store_value_not_zero}
 use Rattle.tso_ops.proofs.TallyFacts.{is_at-nat_eq}
 

@@ -67,8 +67,8 @@ abbrev pub IsEventOf : TraceValue → ℕ → ℕ → Type 0
 IsEventOf t p n = (e : Event) × (event_at t n ≡ Some e) × (e.proc ≡ p)
 
 -- so many barriers stand before event n on its processor
-abbrev pub IsBehind : TraceValue → ℕ → ℕ → Type 0
-IsBehind t bars n = (e : Event) × (event_at t n ≡ Some e) × (e.bars ≡ bars)
+abbrev pub HasBarriersBefore : TraceValue → ℕ → ℕ → Type 0
+HasBarriersBefore t bars n = (e : Event) × (event_at t n ≡ Some e) × (e.bars ≡ bars)
 
 abbrev pub HasValue : TraceValue → ℕ → ℕ → Type 0
 HasValue t n value = (e : Event) × (event_at t n ≡ Some e) × (e.value ≡ value)
@@ -84,8 +84,8 @@ abbrev pub Earlier : TraceValue → ℕ → ℕ → Type 0
 Earlier t u v = (d : Event) × (e : Event) × (event_at t u ≡ Some d) × (event_at t v ≡ Some e) × (d.proc ≡ e.proc) × (u < v)
 
 -- more barriers stand before v than before u on their processors: of two events of one processor, a barrier stands between them
-abbrev pub BarrierBetween : TraceValue → ℕ → ℕ → Type 0
-BarrierBetween t u v = (d : Event) × (e : Event) × (event_at t u ≡ Some d) × (event_at t v ≡ Some e) × (d.bars < e.bars)
+abbrev pub HasFewerBarriersBefore : TraceValue → ℕ → ℕ → Type 0
+HasFewerBarriersBefore t u v = (d : Event) × (e : Event) × (event_at t u ≡ Some d) × (event_at t v ≡ Some e) × (d.bars < e.bars)
 
 -- Number s wrote the value that load l read: number 0 if it read 0; a store if it wrote that value to the load's address.
 -- In a trace that is one number at most, since no store writes 0 and no two stores write one value.

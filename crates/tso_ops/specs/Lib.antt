@@ -1,6 +1,6 @@
 pub mod Events
+pub mod Internal
 pub mod Limits
 pub mod Masks
-pub mod Tables
 pub mod Tally
 pub mod Values

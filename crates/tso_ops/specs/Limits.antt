@@ -118,7 +118,7 @@ pub record IsFaultOf (ops : List Op) (why : ValueFault) : Type 0 where
   pub first : IsFirstFault before op why
 
 -- The refusal that the lists of a program get: too many processors before all else, then the first operation with a fault.
-abbrev pub IsRefusal : ProgramValue → ValueFault → Type 0
-IsRefusal p why =
+abbrev pub IsValueRefusal : ProgramValue → ValueFault → Type 0
+IsValueRefusal p why =
     ((16 < length p.lists) × (why ≡ TooManyProcessors))
     ⊎ ((length p.lists ≤ 16) × IsFaultOf (in_file_order p) why)

@@ -18,5 +18,5 @@ pub record Admitted (tally : Tally) (ops : List Op) : Type 0 where
   pub faultless : IsFaultless ops
 
 -- The refusal is the first fault of the operation behind these, or memory was refused.
-abbrev pub IsTurnedAway : List Op → Op → ValueFault → Type 0
-IsTurnedAway ops op why = (why ≡ OutOfMemory) ⊎ IsFirstFault ops op why
+abbrev pub IsAdmitRefusal : List Op → Op → ValueFault → Type 0
+IsAdmitRefusal ops op why = (why ≡ OutOfMemory) ⊎ IsFirstFault ops op why

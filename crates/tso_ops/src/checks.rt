@@ -3,7 +3,7 @@ ghost use Rattle.std.specs.List.{flat_map};
 ghost use Rattle.tso_ops.specs.declared.ops.Op.{Op};
 ghost use Rattle.tso_ops.specs.declared.faults.ValueFault.{ValueFault};
 ghost use Rattle.tso_ops.specs.Values.{rows, program_by};
-ghost use Rattle.tso_ops.specs.Limits.{IsProgram, IsRefusal, IsFaultOf};
+ghost use Rattle.tso_ops.specs.Limits.{IsProgram, IsValueRefusal, IsFaultOf};
 ghost use Rattle.tso_ops.specs.Tally.{Admitted};
 
 use crate::faults::ValueFault;
@@ -15,8 +15,8 @@ use std::alloc::Global;
 pub(crate) fn check_lists<T: Operation>(alloc: Global, lists: &[Vec<T>]) -> Result<(), ValueFault>
     ensures limits { OnOk result (IsProgram (program_by T.op (rows lists.now))) }
     ensures fits { OnOk result (All T.fits (flat_map (λ ops. ops) (rows lists.now))) }
-    ensures accepted { OnOk result ((why : ValueFault) → IsRefusal (program_by T.op (rows lists.now)) why → ⊥) }
-    ensures refused { IfErr result (λ why. why ≢ ValueFault.OutOfMemory → IsRefusal (program_by T.op (rows lists.now)) why) }
+    ensures accepted { OnOk result ((why : ValueFault) → IsValueRefusal (program_by T.op (rows lists.now)) why → ⊥) }
+    ensures refused { IfErr result (λ why. why ≢ ValueFault.OutOfMemory → IsValueRefusal (program_by T.op (rows lists.now)) why) }
 {
     if lists.len() > MAX_PROCESSORS {
         return Err(ValueFault::TooManyProcessors);

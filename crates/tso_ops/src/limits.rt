@@ -31,7 +31,7 @@ pub struct Tally {
 impl Tally {
     ghost use Rattle.std.specs.Prelude.{◌≡◌, ℕ, List, [], ◌∷◌, ◌++◌, OnOk, OnErr, IfErr};
     ghost use Rattle.tso_ops.specs.declared.ops.Op.{Op};
-    ghost use Rattle.tso_ops.specs.Tally.{Admitted, IsTurnedAway};
+    ghost use Rattle.tso_ops.specs.Tally.{Admitted, IsAdmitRefusal};
 
     /// A tally of no operation.
     pub fn new(alloc: Global) -> Tally
@@ -50,7 +50,7 @@ impl Tally {
     /// OutOfMemory where a growth was refused; a refusal leaves the tally as it was.
     pub fn admit(&mut self, op: Op) -> Result<(), ValueFault>
         ensures admitted { (ops : List Op) → Admitted self.old ops → OnOk result (Admitted self.new (ops ++ op ∷ [])) }
-        ensures refused { (ops : List Op) → Admitted self.old ops → IfErr result (IsTurnedAway ops op) }
+        ensures refused { (ops : List Op) → Admitted self.old ops → IfErr result (IsAdmitRefusal ops op) }
         ensures unchanged { (ops : List Op) → Admitted self.old ops → OnErr result (Admitted self.new ops) }
     {
         let events = self.events + op.events();

@@ -3,9 +3,10 @@ ghost use Rattle.std.specs.Prelude.{◌≡◌, ◌↔◌, ◌≤◌, ◌<◌, �
 ghost use Rattle.tso_ops.specs.Values.{TraceValue, rows};
 ghost use Rattle.tso_ops.specs.Limits.{IsTrace};
 ghost use Rattle.tso_ops.specs.declared.events.Source.{Source};
-ghost use Rattle.tso_ops.specs.Tables.{AreSources};
+ghost use Rattle.tso_ops.specs.Internal.Tables.{AreSources};
 ghost use Rattle.tso_ops.specs.Events.{events_of};
-ghost use Rattle.tso_ops.specs.Masks.{AreMasks, AreRowsAmong, HasEventRow, HasSourceRow, source_number, IsInRow, IsMarked, MarksInRow, MarksNumber};
+ghost use Rattle.tso_ops.specs.Internal.MaskTables.{AreMasks, AreMaskRowsAmong, HasEventRow, HasSourceRow, source_number, IsInRow, MarksInRow, MarksNumber};
+ghost use Rattle.tso_ops.specs.Masks.{IsMarked};
 
 use crate::events::{Event, Source};
 use crate::faults::OutOfMemory;
@@ -61,7 +62,7 @@ pub(crate) fn list_masks(
 
 /// The table of this kind.
 fn list_rows(alloc: Global, events: &[Event], kind: Kind) -> Result<Vec<Vec<u64>>, OutOfMemory>
-    ensures { IfOk result (λ table. AreRowsAmong (HasEventRow events.now kind) (length events.now) (rows table.items)) }
+    ensures { IfOk result (λ table. AreMaskRowsAmong (HasEventRow events.now kind) (length events.now) (rows table.items)) }
 {
     let mut table = Vec::new(alloc);
     for (k, event) in events.iter().enumerate() {
@@ -72,7 +73,7 @@ fn list_rows(alloc: Global, events: &[Event], kind: Kind) -> Result<Vec<Vec<u64>
 
 /// The loads that each number is the source of, in the row of the number.
 fn list_readers(alloc: Global, sources: &[Option<Source>]) -> Result<Vec<Vec<u64>>, OutOfMemory>
-    ensures { IfOk result (λ table. AreRowsAmong (HasSourceRow sources.now) (length sources.now) (rows table.items)) }
+    ensures { IfOk result (λ table. AreMaskRowsAmong (HasSourceRow sources.now) (length sources.now) (rows table.items)) }
 {
     let mut table = Vec::new(alloc);
     for (k, source) in sources.iter().enumerate() {

@@ -1,7 +1,7 @@
 ghost use Rattle.std.specs.Prelude.{◌≡◌, ◌≢◌, ◌<◌, IfOk, IfErr, OnOk};
 ghost use Rattle.tso_ops.specs.declared.faults.ValueFault.{ValueFault};
 ghost use Rattle.tso_ops.specs.Values.{rows, program_of_lists, ops_at, list_count};
-ghost use Rattle.tso_ops.specs.Limits.{IsProgram, IsRefusal};
+ghost use Rattle.tso_ops.specs.Limits.{IsProgram, IsValueRefusal};
 
 use crate::checks::check_lists;
 use crate::faults::{OutOfMemory, Refused, ValueFault};
@@ -34,8 +34,8 @@ impl Program {
     /// OutOfMemory where a growth was refused.
     pub fn new(alloc: Global, lists: Vec<Vec<Op>>) -> Result<Program, Refused<Op>>
         ensures made { IfOk result (λ p. p ≡ program_of_lists (rows lists.items)) }
-        ensures accepted { OnOk result ((why : ValueFault) → IsRefusal (program_of_lists (rows lists.items)) why → ⊥) }
-        ensures refused { IfErr result (λ r. r.why ≢ ValueFault.OutOfMemory → IsRefusal (program_of_lists (rows lists.items)) r.why) }
+        ensures accepted { OnOk result ((why : ValueFault) → IsValueRefusal (program_of_lists (rows lists.items)) why → ⊥) }
+        ensures refused { IfErr result (λ r. r.why ≢ ValueFault.OutOfMemory → IsValueRefusal (program_of_lists (rows lists.items)) r.why) }
         ensures handed_back { IfErr result (λ r. r.lists ≡ lists) }
     {
         match check_lists(alloc, &lists) {

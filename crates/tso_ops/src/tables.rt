@@ -2,7 +2,7 @@ ghost use Rattle.std.specs.Prelude.{◌≡◌, ℕ, ◌++◌, ◌<◌, Some, len
 ghost use Rattle.tso_ops.specs.Values.{TraceValue, rows};
 ghost use Rattle.tso_ops.specs.Limits.{IsTrace};
 ghost use Rattle.tso_ops.specs.Events.{event_at, events_from, events_of, events_of_lists};
-ghost use Rattle.tso_ops.specs.Tables.{AreSources, FindsStores, IsSourceRow};
+ghost use Rattle.tso_ops.specs.Internal.Tables.{AreSources, FindsStores, IsSourceRow};
 
 use crate::events::{Event, Source};
 use crate::faults::OutOfMemory;

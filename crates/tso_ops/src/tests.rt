@@ -229,7 +229,7 @@ fn counts_at_their_limits(rt: HostRuntime) -> Result<(), Fail> {
         assert_eq!(rt;
             trace_fault(alloc, lists),
             fault,
-            "a swap behind {loads} loads"
+            "a swap after {loads} loads"
         );
     }
     Ok(())
@@ -323,7 +323,7 @@ fn refused_lists_come_back(rt: HostRuntime) -> Result<(), Fail> {
 }
 
 #[test]
-fn a_tally_goes_on_behind_a_refusal(rt: HostRuntime) -> Result<(), Fail> {
+fn a_tally_admits_after_a_refusal(rt: HostRuntime) -> Result<(), Fail> {
     let mut tally = Tally::new(rt.alloc());
     let store = Op::St { a: 1, v: 4 };
     assert_eq!(rt; tally.admit(store), Ok(()));

@@ -1,9 +1,9 @@
 ghost use Rattle.std.specs.Prelude.{◌≡◌, ◌≢◌, ◌<◌, ◌↔◌, ℕ, IsSome, IfSome, IfOk, IfErr, OnOk};
 ghost use Rattle.tso_ops.specs.declared.faults.ValueFault.{ValueFault};
 ghost use Rattle.tso_ops.specs.Values.{rows, trace_of_lists, program_of};
-ghost use Rattle.tso_ops.specs.Limits.{IsTrace, IsRefusal};
-ghost use Rattle.tso_ops.specs.Events.{processor_count, outcomes_at, event_total, event_at, IsLoad, IsLoadAt, IsStore, IsStoreTo, IsSwapLoad, IsEventOf, IsBehind, HasSource, SourceIs};
-ghost use Rattle.tso_ops.specs.Tables.{IsTabled};
+ghost use Rattle.tso_ops.specs.Limits.{IsTrace, IsValueRefusal};
+ghost use Rattle.tso_ops.specs.Events.{processor_count, outcomes_at, event_total, event_at, IsLoad, IsLoadAt, IsStore, IsStoreTo, IsSwapLoad, IsEventOf, HasBarriersBefore, HasSource, SourceIs};
+ghost use Rattle.tso_ops.specs.Internal.Tables.{IsTabled};
 ghost use Rattle.tso_ops.specs.Masks.{IsMask};
 
 use crate::checks::check_lists;
@@ -29,7 +29,7 @@ pub struct Trace {
 
 impl Model for Trace {
     ghost use Rattle.tso_ops.specs.Values.{TraceValue, rows, trace_of_lists};
-    ghost use Rattle.tso_ops.specs.Tables.{IsTabled};
+    ghost use Rattle.tso_ops.specs.Internal.Tables.{IsTabled};
 
     ghost Value = { TraceValue };
 
@@ -46,8 +46,8 @@ impl Trace {
     /// OutOfMemory where a growth was refused.
     pub fn new(alloc: Global, lists: Vec<Vec<Outcome>>) -> Result<Trace, Refused<Outcome>>
         ensures made { IfOk result (λ t. t ≡ trace_of_lists (rows lists.items)) }
-        ensures accepted { OnOk result ((why : ValueFault) → IsRefusal (program_of (trace_of_lists (rows lists.items))) why → ⊥) }
-        ensures refused { IfErr result (λ r. r.why ≢ ValueFault.OutOfMemory → IsRefusal (program_of (trace_of_lists (rows lists.items))) r.why) }
+        ensures accepted { OnOk result ((why : ValueFault) → IsValueRefusal (program_of (trace_of_lists (rows lists.items))) why → ⊥) }
+        ensures refused { IfErr result (λ r. r.why ≢ ValueFault.OutOfMemory → IsValueRefusal (program_of (trace_of_lists (rows lists.items))) r.why) }
         ensures handed_back { IfErr result (λ r. r.lists ≡ lists) }
     {
         if let Err(why) = check_lists(alloc, &lists) {
@@ -168,7 +168,7 @@ impl Trace {
     /// The events that so many barriers stand before on their processors, as such a row.
     #[inline]
     pub fn barrier_words(&self, bars: usize) -> &[u64]
-        ensures { IsMask result.now (IsBehind self.now bars) }
+        ensures { IsMask result.now (HasBarriersBefore self.now bars) }
     {
         row_at(&self.masks.barriers, bars)
     }

@@ -14,14 +14,14 @@ use Rattle.tso_model.specs.Certs.{Holds}
 use Rattle.tso_model.specs.Order.{IsConsistent}
 use Rattle.tso_model.proofs.CertificateHolds.{not_consistent}
 use Rattle.tso_model.proofs.Events.{own_values}
-use Rattle.cert_check.specs.Refusals.{IsRefusal as IsCertRefusal}
+use Rattle.cert_check.specs.Refusals.{IsCertRefusal}
 use Rattle.cert_check.proofs.RefusalExists.{holds_or_refused}
 use Rattle.cert_check.proofs.RefusalFacts.{not_refused, one_refusal}
 use Rattle.tso_report.specs.declared.verdicts.Verdict.{Verdict}
 use Rattle.tso_report.specs.declared.verdicts.Verdict.TheVariants.{NoViolation, Violation, Refused}
 use Rattle.tso_report.specs.Reports.{refusal_text}
 use Rattle.tso_report.specs.Checks.{holds_text, fails_text, unread_text, SpellsHolding, SpellHolding, IsFailureReport, IsUnreadReport, IsCertReport, IsCertReportOfReader, IsCheckReport, IsCheckReportOfReaders}
-use Rattle.tso_report.proofs.InputFacts.{one_refused_input, one_trace, refusal_of_front, spells_of_front}
+use Rattle.tso_report.proofs.InputFacts.{one_refused_input, one_trace, refusal_of_prefix, spells_of_prefix}
 
 -- ---- what is read
 
@@ -37,21 +37,21 @@ take_short all few = ⊎_elim long short (cases_lt 67108864 (length all))
 
 pub cert_report_of_reader : (t : TraceValue) (remaining : Option (List ℕ)) (bytes seen text : List ℕ) (v : Verdict) → IfSome remaining (λ all. bytes ≡ take 67108865 all) → seen ≡ bytes →
     length bytes ≤ 67108864 → IsCertReport t seen text v → IsCertReportOfReader t remaining text v
-cert_report_of_reader t None bytes seen text v front same few report =
+cert_report_of_reader t None bytes seen text v prefix same few report =
     record { cert = seen; whole = tt; within = subst (λ b. length b ≤ 67108864) (sym same) few; is_report = report }
-cert_report_of_reader t (Some all) bytes seen text v front same few report = record {
+cert_report_of_reader t (Some all) bytes seen text v prefix same few report = record {
   cert = seen;
-  whole = same ∙ front ∙ take_short all (subst (λ b. length b ≤ 67108864) front few);
+  whole = same ∙ prefix ∙ take_short all (subst (λ b. length b ≤ 67108864) prefix few);
   within = subst (λ b. length b ≤ 67108864) (sym same) few;
   is_report = report;
 }
 
 pub spelled_report : (traces certs : Option (List ℕ)) (bytes seen text : List ℕ) (v : Verdict) (t : TraceValue) → IfSome traces (λ all. bytes ≡ take 1048577 all) → seen ≡ bytes →
     SpellsTrace seen t → IsCertReportOfReader t certs text v → IsCheckReportOfReaders traces certs text v
-spelled_report None certs bytes seen text v t front same spells report =
+spelled_report None certs bytes seen text v t prefix same spells report =
     record { trace = seen; cert = report.cert; whole_trace = tt; whole_cert = report.whole; is_report = inl (t, spells, report.within, report.is_report) }
-spelled_report (Some all) certs bytes seen text v t front same spells report =
-    record { trace = all; cert = report.cert; whole_trace = refl; whole_cert = report.whole; is_report = inl (t, spells_of_front all t (subst (λ b. SpellsTrace b t) (same ∙ front) spells), report.within, report.is_report) }
+spelled_report (Some all) certs bytes seen text v t prefix same spells report =
+    record { trace = all; cert = report.cert; whole_trace = refl; whole_cert = report.whole; is_report = inl (t, spells_of_prefix all t (subst (λ b. SpellsTrace b t) (same ∙ prefix) spells), report.within, report.is_report) }
 
 some_cert : (certs : Option (List ℕ)) → (cert : List ℕ) × IfSome certs (λ all. cert ≡ all)
 some_cert None = ([], tt)
@@ -59,19 +59,19 @@ some_cert (Some all) = (all, refl)
 
 pub refused_report : (traces certs : Option (List ℕ)) (bytes seen text : List ℕ) (v : Verdict) (line : ℕ) (why : Why) → IfSome traces (λ all. bytes ≡ take 1048577 all) → seen ≡ bytes →
     IsTraceRefusal seen line why → text ≡ refusal_text line why → v ≡ Refused → IsCheckReportOfReaders traces certs text v
-refused_report None certs bytes seen text v line why front same refusal is refused =
+refused_report None certs bytes seen text v line why prefix same refusal is refused =
     let some = some_cert certs in record { trace = seen; cert = some.0; whole_trace = tt; whole_cert = some.1; is_report = inr (line, why, refusal, is, refused) }
-refused_report (Some all) certs bytes seen text v line why front same refusal is refused =
+refused_report (Some all) certs bytes seen text v line why prefix same refusal is refused =
     let some = some_cert certs in
-    let whole = refusal_of_front all line why (subst (λ b. IsTraceRefusal b line why) (same ∙ front) refusal) in
+    let whole = refusal_of_prefix all line why (subst (λ b. IsTraceRefusal b line why) (same ∙ prefix) refusal) in
     record { trace = all; cert = some.0; whole_trace = refl; whole_cert = some.1; is_report = inr (line, why, whole, is, refused) }
 
 -- what spells a trace isn't refused
 pub not_refused_trace : (X : Type 0) (traces : Option (List ℕ)) (bytes seen : List ℕ) (t : TraceValue) → IfSome traces (λ all. bytes ≡ take 1048577 all) → seen ≡ bytes →
     SpellsTrace seen t → IfSome traces (λ all. IsRefusedTrace all → X)
-not_refused_trace X None bytes seen t front same spells = tt
-not_refused_trace X (Some all) bytes seen t front same spells =
-    λ refused. absurd (not_both trace_grammar all t.lists refused.0 refused.1 (spells_of_front all t (subst (λ b. SpellsTrace b t) (same ∙ front) spells)) refused.2)
+not_refused_trace X None bytes seen t prefix same spells = tt
+not_refused_trace X (Some all) bytes seen t prefix same spells =
+    λ refused. absurd (not_both trace_grammar all t.lists refused.0 refused.1 (spells_of_prefix all t (subst (λ b. SpellsTrace b t) (same ∙ prefix) spells)) refused.2)
 
 -- ---- what the verdict says
 
@@ -119,9 +119,9 @@ no_order_of_holding t cert trace holds = not_consistent t (own_values t trace) h
 
 pub no_order_of_readers : (traces certs : Option (List ℕ)) (bytes seen text : List ℕ) (v : Verdict) (t : TraceValue) → IfSome traces (λ all. bytes ≡ take 1048577 all) → seen ≡ bytes →
     SpellsTrace seen t → IsTrace t → IsCertReportOfReader t certs text v → v ≡ Violation → IfSome traces (λ trace. (u : TraceValue) → SpellsTrace trace u → IsConsistent u → ⊥)
-no_order_of_readers None certs bytes seen text v t front same spells trace report e = tt
-no_order_of_readers (Some all) certs bytes seen text v t front same spells trace report e =
-    let whole = spells_of_front all t (subst (λ b. SpellsTrace b t) (same ∙ front) spells) in
+no_order_of_readers None certs bytes seen text v t prefix same spells trace report e = tt
+no_order_of_readers (Some all) certs bytes seen text v t prefix same spells trace report e =
+    let whole = spells_of_prefix all t (subst (λ b. SpellsTrace b t) (same ∙ prefix) spells) in
     let none = no_order_of_holding t report.cert trace ((cert_violation t report.cert text v report.is_report).0 e) in
     λ u s consistent. none (subst IsConsistent (one_trace all u t s whole) consistent)
 

@@ -8,20 +8,20 @@ use Rattle.order_paths.proofs.Neighbours.{IsCycle-on_cycle, on_cycle_closes}
 use Rattle.order_paths.proofs.Reach.{IsCycle-mono}
 use Rattle.tso_ops.specs.Values.{TraceValue}
 use Rattle.tso_cert.specs.declared.steps.CertStep.{CertStep}
-use Rattle.tso_model.specs.Ranks.{F, HasRank}
+use Rattle.tso_model.specs.Ranks.{RankSet, HasRank}
 use Rattle.tso_model.specs.Certs.{IsStep, IsJustified, IsListedBefore, AreUsed, AreStepsOf}
 use Rattle.tso_model.specs.Used.{AreUsedBy}
 use Rattle.tso_model.proofs.CertificateUnique.{IsPathIn-mono}
 use Rattle.tso_model.proofs.Justifications.{rank_exists, rank_unique}
-use Rattle.tso_model.proofs.LastRankSet.{F-mono}
+use Rattle.tso_model.proofs.LastRankSet.{RankSet-mono}
 use Rattle.tso_model.proofs.UsedEdges.{IsPathIn-used, used_lesser, used_path}
 use Rattle.tso_report.specs.Collecting.{IsListed, Collects}
 
 -- At first the cycle's edges are marked, and nothing is done.
-pub Collects-start : (t : TraceValue) (k : ℕ) (cycle : List ℕ) (Marked Done : ℕ → ℕ → Type 0) → IsCycle (F t k) cycle →
-    ((u v : ℕ) → Marked u v ↔ AreOnCycle cycle u v) → ((u v : ℕ) → F t k u v → Done u v → ⊥) → Collects t k cycle Marked Done []
+pub Collects-start : (t : TraceValue) (k : ℕ) (cycle : List ℕ) (Marked Done : ℕ → ℕ → Type 0) → IsCycle (RankSet t k) cycle →
+    ((u v : ℕ) → Marked u v ↔ AreOnCycle cycle u v) → ((u v : ℕ) → RankSet t k u v → Done u v → ⊥) → Collects t k cycle Marked Done []
 Collects-start t k cycle Marked Done closed marks none = record {
-  cycle_marked = IsCycle-mono (AreOnCycle cycle) Marked (λ u v. (marks u v).1) cycle (on_cycle_closes (F t k) cycle closed);
+  cycle_marked = IsCycle-mono (AreOnCycle cycle) Marked (λ u v. (marks u v).1) cycle (on_cycle_closes (RankSet t k) cycle closed);
   edges = edge;
   all = λ u v m d. absurd (none u v (edge u v m) d);
   each = λ i s at. absurd (none-some s at);
@@ -29,12 +29,12 @@ Collects-start t k cycle Marked Done closed marks none = record {
   needed = λ u v m pairs used. IsCycle-on_cycle (λ x y. IsTrue (pairs x y)) cycle used.cycle_edges u v ((marks u v).0 m);
 }
   where
-    edge : (u v : ℕ) → Marked u v → F t k u v
-    edge u v m = IsCycle-on_cycle (F t k) cycle closed u v ((marks u v).0 m)
+    edge : (u v : ℕ) → Marked u v → RankSet t k u v
+    edge u v m = IsCycle-on_cycle (RankSet t k) cycle closed u v ((marks u v).0 m)
 
 -- What is done may be said in another way, as far as edges are marked.
 pub Collects-as : (t : TraceValue) (k : ℕ) (cycle : List ℕ) (Marked Done Other : ℕ → ℕ → Type 0) (steps : List CertStep) → Collects t k cycle Marked Done steps →
-    ((u v : ℕ) → F t k u v → Marked u v → Done u v → Other u v) → ((u v : ℕ) → F t k u v → Marked u v → Other u v → Done u v) → Collects t k cycle Marked Other steps
+    ((u v : ℕ) → RankSet t k u v → Marked u v → Done u v → Other u v) → ((u v : ℕ) → RankSet t k u v → Marked u v → Other u v → Done u v) → Collects t k cycle Marked Other steps
 Collects-as t k cycle Marked Done Other steps collects to back = record {
   cycle_marked = collects.cycle_marked;
   edges = collects.edges;
@@ -67,7 +67,7 @@ Collects-step t k cycle Marked More Done Other steps r s collects marked rank ju
   cycle_marked = IsCycle-mono Marked More kept cycle collects.cycle_marked;
   edges = λ u v m. elim ((more u v).0 m) [
     | inl old ↦ collects.edges u v old
-    | inr used ↦ (let lesser = used_lesser t r s.from s.to s.reason just u v used in F-mono t lesser.0 k (omega (arith, lesser.1, most)) u v lesser.2.0)
+    | inr used ↦ (let lesser = used_lesser t r s.from s.to s.reason just u v used in RankSet-mono t lesser.0 k (omega (arith, lesser.1, most)) u v lesser.2.0)
   ];
   all = all;
   each = each;
@@ -127,15 +127,15 @@ Collects-step t k cycle Marked More Done Other steps r s collects marked rank ju
 
     needed : (u v : ℕ) → More u v → (pairs : ℕ → ℕ → Bool) → AreUsed (s ∷ steps) cycle pairs → IsTrue (pairs u v)
     needed u v m pairs used =
-        let behind = AreUsed-less s steps cycle pairs used in
+        let less = AreUsed-less s steps cycle pairs used in
         elim ((more u v).0 m) [
-          | inl old ↦ collects.needed u v old pairs behind
-          | inr by ↦ IsPathIn-used (λ x y. IsTrue (pairs x y)) s.reason (used.path_edges 0 s refl (collects.needed s.from s.to marked pairs behind)) u v by
+          | inl old ↦ collects.needed u v old pairs less
+          | inr by ↦ IsPathIn-used (λ x y. IsTrue (pairs x y)) s.reason (used.path_edges 0 s refl (collects.needed s.from s.to marked pairs less)) u v by
         ]
 
 -- Where all edges are done, the steps are those of the cycle.
 pub Collects-end : (t : TraceValue) (k : ℕ) (cycle : List ℕ) (Marked Done : ℕ → ℕ → Type 0) (steps : List CertStep) → Collects t k cycle Marked Done steps →
-    ((u v : ℕ) → F t k u v → Done u v) → AreStepsOf t steps cycle
+    ((u v : ℕ) → RankSet t k u v → Done u v) → AreStepsOf t steps cycle
 Collects-end t k cycle Marked Done steps collects done = record {
   justified = λ i s at. (collects.each i s at).justified;
   in_order = collects.order;
@@ -148,5 +148,5 @@ Collects-end t k cycle Marked Done steps collects done = record {
     listed u v m = collects.all u v m (done u v (collects.edges u v m))
 
 -- a step put behind the list stands in front of the list turned round
-pub turned_push : (steps new : List CertStep) (s : CertStep) → new ≡ steps ++ s ∷ [] → reverse new ≡ s ∷ reverse steps
-turned_push steps new s same = ap reverse same ∙ reverse-append steps (s ∷ [])
+pub reverse_push : (steps new : List CertStep) (s : CertStep) → new ≡ steps ++ s ∷ [] → reverse new ≡ s ∷ reverse steps
+reverse_push steps new s same = ap reverse same ∙ reverse-append steps (s ∷ [])

@@ -30,7 +30,7 @@ use Rattle.tso_report.specs.declared.faults.Fault.{Fault}
 use Rattle.tso_report.specs.declared.faults.Fault.TheVariants.{Write}
 use Rattle.tso_report.specs.Judged.{IsViolation, IsCertificateText}
 use Rattle.tso_report.specs.Reports.{head_text, no_violation_text, refusal_text, violation_text, SaysVerdict, IsRefusalReport, IsReport, IsReportOfReader, IsTraceReport, LeavesFault, ShowsViolation, SpellsViolation}
-use Rattle.tso_report.specs.Streams.{AppendsFront}
+use Rattle.tso_report.specs.Streams.{AppendsPrefix}
 
 -- ---- what is read of a long input
 
@@ -42,32 +42,32 @@ length_past : (input : List ℕ) → 1048576 < length input → 1048576 < length
 length_past input long = let count = length-take-le 1048577 input (omega arith) in omega (arith, count)
 
 -- The front up to one past the limit spells what all spells.
-pub spells_of_front : (input : List ℕ) (t : TraceValue) → SpellsTrace (take 1048577 input) t → SpellsTrace input t
-spells_of_front input t spells = ⊎_elim long short (cases_lt 1048576 (length input))
+pub spells_of_prefix : (input : List ℕ) (t : TraceValue) → SpellsTrace (take 1048577 input) t → SpellsTrace input t
+spells_of_prefix input t spells = ⊎_elim long short (cases_lt 1048576 (length input))
   where
     short : length input ≤ 1048576 → SpellsTrace input t
-    short fits = subst (λ front. SpellsTrace front t) (take_all 1048577 input (omega arith)) spells
+    short fits = subst (λ prefix. SpellsTrace prefix t) (take_all 1048577 input (omega arith)) spells
 
     long : 1048576 < length input → SpellsTrace input t
     long past = absurd (spells_past (take 1048577 input) t (length_past input past) spells)
 
 -- And it is refused as all is.
-pub refusal_of_front : (input : List ℕ) (line : ℕ) (why : Why) → IsTraceRefusal (take 1048577 input) line why → IsTraceRefusal input line why
-refusal_of_front input line why refusal = ⊎_elim long short (cases_lt 1048576 (length input))
+pub refusal_of_prefix : (input : List ℕ) (line : ℕ) (why : Why) → IsTraceRefusal (take 1048577 input) line why → IsTraceRefusal input line why
+refusal_of_prefix input line why refusal = ⊎_elim long short (cases_lt 1048576 (length input))
   where
     short : length input ≤ 1048576 → IsTraceRefusal input line why
-    short fits = subst (λ front. IsTraceRefusal front line why) (take_all 1048577 input (omega arith)) refusal
+    short fits = subst (λ prefix. IsTraceRefusal prefix line why) (take_all 1048577 input (omega arith)) refusal
 
     long : 1048576 < length input → IsTraceRefusal input line why
     long past =
-        let front = take 1048577 input in
-        let same = one_refusal trace_grammar front line 0 why TooLong refusal (too_long trace_grammar front (length_past input past)) in
+        let prefix = take 1048577 input in
+        let same = one_refusal trace_grammar prefix line 0 why TooLong refusal (too_long trace_grammar prefix (length_past input past)) in
         subst (λ l. IsTraceRefusal input l why) (sym same.0) (subst (IsTraceRefusal input 0) (sym same.1) (too_long trace_grammar input past))
 
 -- The report of the bytes up to one past the limit is that of all.
-pub report_of_front : (input text : List ℕ) (v : Verdict) → IsReport (take 1048577 input) text v → IsReport input text v
-report_of_front input text v (inl p) = inl (p.0, spells_of_front input p.0 p.1, p.2)
-report_of_front input text v (inr p) = inr (p.0, p.1, refusal_of_front input p.0 p.1 p.2, p.3, p.4)
+pub report_of_prefix : (input text : List ℕ) (v : Verdict) → IsReport (take 1048577 input) text v → IsReport input text v
+report_of_prefix input text v (inl p) = inl (p.0, spells_of_prefix input p.0 p.1, p.2)
+report_of_prefix input text v (inr p) = inr (p.0, p.1, refusal_of_prefix input p.0 p.1 p.2, p.3, p.4)
 
 -- ---- one report
 
@@ -187,9 +187,9 @@ shows_violation input text v (inr p) e = absurd (refused_no_violation (sym p.4 �
 
 pub report_of_reader : (remaining : Option (List ℕ)) (bytes seen text : List ℕ) (v : Verdict) → IfSome remaining (λ all. bytes ≡ take 1048577 all) → seen ≡ bytes →
     IsReport seen text v → IsReportOfReader remaining text v
-report_of_reader None bytes seen text v front same report = record { bytes = seen; of_read = report; of_all = tt }
-report_of_reader (Some all) bytes seen text v front same report =
-    record { bytes = seen; of_read = report; of_all = report_of_front all text v (subst (λ b. IsReport b text v) (same ∙ front) report) }
+report_of_reader None bytes seen text v prefix same report = record { bytes = seen; of_read = report; of_all = tt }
+report_of_reader (Some all) bytes seen text v prefix same report =
+    record { bytes = seen; of_read = report; of_all = report_of_prefix all text v (subst (λ b. IsReport b text v) (same ∙ prefix) report) }
 
 pub violation_of_reader : (remaining : Option (List ℕ)) (text : List ℕ) (v : Verdict) → IsReportOfReader remaining text v →
     IfSome remaining (λ all. (v ≡ Violation) ↔ SpellsViolation all)
@@ -202,10 +202,10 @@ no_order_of_reader None text v report e = tt
 no_order_of_reader (Some all) text v report e = no_order all text (subst (IsReport all text) e report.of_all)
 
 -- the fault of a writer leaves a front of the report
-pub leaves_front : (remaining old new : Option (List ℕ)) (text written : List ℕ) (v : Verdict) (fault : Fault) → IsReportOfReader remaining text v → written ≡ text →
-    AppendsFront old new written → fault ≡ Write → LeavesFault remaining old new fault
-leaves_front remaining old new text written v fault report same front e =
-    subst (LeavesFault remaining old new) (sym e) (v, text, report, subst (AppendsFront old new) same front)
+pub leaves_prefix : (remaining old new : Option (List ℕ)) (text written : List ℕ) (v : Verdict) (fault : Fault) → IsReportOfReader remaining text v → written ≡ text →
+    AppendsPrefix old new written → fault ≡ Write → LeavesFault remaining old new fault
+leaves_prefix remaining old new text written v fault report same prefix e =
+    subst (LeavesFault remaining old new) (sym e) (v, text, report, subst (AppendsPrefix old new) same prefix)
 
 pub shows_violation_of_reader : (remaining old new : Option (List ℕ)) (text : List ℕ) (v : Verdict) → IsReportOfReader remaining text v → Appends old new text → v ≡ Violation →
     IfSome remaining (λ all. (text : List ℕ) × ShowsViolation all text × Appends old new text)

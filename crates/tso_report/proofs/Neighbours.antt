@@ -23,11 +23,11 @@ neighbours_at (x ∷ y ∷ rest) zero u v within = (
   λ e. elim e [ inl none ↦ absurd none | inr here ↦ inl (sym here.0, sym here.1) ],
 )
 neighbours_at (x ∷ y ∷ rest) (suc i) u v within =
-    let behind = neighbours_at (y ∷ rest) i u v (omega (arith, within)) in (
-      λ e. elim e [ inl here ↦ inl (inl here) | inr later ↦ elim (behind.0 later) [ inl old ↦ inl (inr old) | inr last ↦ inr last ] ],
+    let later_ones = neighbours_at (y ∷ rest) i u v (omega (arith, within)) in (
+      λ e. elim e [ inl here ↦ inl (inl here) | inr later ↦ elim (later_ones.0 later) [ inl old ↦ inl (inr old) | inr last ↦ inr last ] ],
       λ e. elim e [
-        | inl old ↦ elim old [ inl here ↦ inl here | inr later ↦ inr (behind.1 (inl later)) ]
-        | inr last ↦ inr (behind.1 (inr last))
+        | inl old ↦ elim old [ inl here ↦ inl here | inr later ↦ inr (later_ones.1 (inl later)) ]
+        | inr last ↦ inr (later_ones.1 (inr last))
       ],
     )
 

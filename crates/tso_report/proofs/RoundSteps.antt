@@ -10,20 +10,20 @@ use Rattle.tso_ops.specs.Events.{event_total}
 use Rattle.tso_cert.specs.declared.rules.BaseRule.{BaseRule}
 use Rattle.tso_cert.specs.declared.steps.Reason.TheVariants.{Base}
 use Rattle.tso_cert.specs.declared.steps.CertStep.{CertStep}
-use Rattle.tso_model.specs.Ranks.{F, HasRank}
+use Rattle.tso_model.specs.Ranks.{RankSet, HasRank}
 use Rattle.tso_model.specs.Certs.{IsListedBefore, IsFirstBase}
-use Rattle.tso_model.proofs.Bounds.{F-within}
-use Rattle.tso_model.proofs.Decided.{F-decided}
+use Rattle.tso_model.proofs.Bounds.{RankSet-within}
+use Rattle.tso_model.proofs.Decided.{RankSet-decided}
 use Rattle.tso_model.proofs.Justifications.{rank_exists, rank_unique}
-use Rattle.tso_model.proofs.LastRankSet.{F-mono}
+use Rattle.tso_model.proofs.LastRankSet.{RankSet-mono}
 use Rattle.order_paths.proofs.Reach.{Reaches-mono, IsCycle-mono}
 use Rattle.tso_rules.specs.Rows.{IsUngiven}
 use Rattle.tso_rules.proofs.LawFacts.{next_justified}
 use Rattle.round_pool.specs.declared.ranked.Edge.{Edge}
 use Rattle.round_pool.specs.RankGraphs.{IsRankGraph, AddsEdges}
-use Rattle.round_pool.specs.Rankings.{HasEdge, IsBefore, IsAscending, IsRound, edge_from}
-use Rattle.tso_report.specs.Collecting.{CollectsEdge, Collects, IsAbove, IsListedFrom, IsAboveOrListed, IsAboveOrBase}
-use Rattle.tso_report.proofs.CollectFacts.{Collects-start, Collects-as, Collects-step, turned_push}
+use Rattle.round_pool.specs.Rankings.{ListsEdge, IsEdgeBefore, AreEdgesAscending, IsRound, edge_from}
+use Rattle.tso_report.specs.Collecting.{CollectsEdge, Collects, IsAboveRank, IsListedFrom, IsAboveOrListed, IsAboveOrBase}
+use Rattle.tso_report.proofs.CollectFacts.{Collects-start, Collects-as, Collects-step, reverse_push}
 
 -- an edge is that of its two numbers
 edge_is : (e : Edge) (u v : ℕ) → e ≡ edge_from u v ↔ ((u ≡ e.from) × (v ≡ e.to))
@@ -36,16 +36,16 @@ abbrev pub IsListedBefore_place : List Edge → ℕ → ℕ → ℕ → Type 0
 IsListedBefore_place edges count u v = (j : ℕ) × (j < count) × (get_or edges j (edge_from u v) ≡ edge_from u v)
 
 -- The set has lost the edges that stand before this place.
-pub record TakesAway (old now : Digraph) (edges : List Edge) (count : ℕ) : Type 0 where
+pub record RemovesEdges (old now : Digraph) (edges : List Edge) (count : ℕ) : Type 0 where
   pub nodes : now.nodes ≡ old.nodes
   pub less : (x y : ℕ) → IsEdge now x y ↔ (IsEdge old x y × (IsListedBefore_place edges count x y → ⊥))
 
-pub TakesAway-start : (g : Digraph) (edges : List Edge) → TakesAway g g edges 0
-TakesAway-start g edges = record { nodes = refl; less = λ x y. (λ e. (e, λ p. omega (arith, p.1)), λ p. p.0) }
+pub RemovesEdges-start : (g : Digraph) (edges : List Edge) → RemovesEdges g g edges 0
+RemovesEdges-start g edges = record { nodes = refl; less = λ x y. (λ e. (e, λ p. omega (arith, p.1)), λ p. p.0) }
 
-pub TakesAway-step : (old now new : Digraph) (edges : List Edge) (count : ℕ) (e : Edge) → TakesAway old now edges count → count < length edges → ((d : Edge) → get_or edges count d ≡ e) →
-    new.nodes ≡ now.nodes → ((x y : ℕ) → IsEdge new x y ↔ (IsEdge now x y × ((x ≡ e.from) × (y ≡ e.to) → ⊥))) → TakesAway old new edges (count + 1)
-TakesAway-step old now new edges count e takes within at nodes less = record {
+pub RemovesEdges-step : (old now new : Digraph) (edges : List Edge) (count : ℕ) (e : Edge) → RemovesEdges old now edges count → count < length edges → ((d : Edge) → get_or edges count d ≡ e) →
+    new.nodes ≡ now.nodes → ((x y : ℕ) → IsEdge new x y ↔ (IsEdge now x y × ((x ≡ e.from) × (y ≡ e.to) → ⊥))) → RemovesEdges old new edges (count + 1)
+RemovesEdges-step old now new edges count e takes within at nodes less = record {
   nodes = nodes ∙ takes.nodes;
   less = λ x y. (
     λ n. let p = (less x y).0 n in let q = (takes.less x y).0 p.0 in (
@@ -62,42 +62,42 @@ TakesAway-step old now new edges count e takes within at nodes less = record {
   );
 }
 
-pub TakesAway-end : (old now : Digraph) (edges : List Edge) (count : ℕ) → TakesAway old now edges count → count ≡ length edges → (x y : ℕ) → IsEdge now x y ↔ (IsEdge old x y × (HasEdge edges x y → ⊥))
-TakesAway-end old now edges count takes all x y = (
+pub RemovesEdges-end : (old now : Digraph) (edges : List Edge) (count : ℕ) → RemovesEdges old now edges count → count ≡ length edges → (x y : ℕ) → IsEdge now x y ↔ (IsEdge old x y × (ListsEdge edges x y → ⊥))
+RemovesEdges-end old now edges count takes all x y = (
   λ n. let p = (takes.less x y).0 n in (p.0, λ has. p.1 (has.0, omega (arith, has.1, all), has.2)),
   λ p. (takes.less x y).1 (p.0, λ listed. p.1 (listed.0, omega (arith, listed.1, all), listed.2)),
 )
 
 -- The edges of a rank set without those that its round added are those of the rank set before it.
 pub rank_graph_less : (t : TraceValue) (r : ℕ) (old now : Digraph) (edges : List Edge) → IsRankGraph t (suc r) old → IsRound t r edges → now.nodes ≡ old.nodes →
-    ((x y : ℕ) → IsEdge now x y ↔ (IsEdge old x y × (HasEdge edges x y → ⊥))) → IsRankGraph t r now
+    ((x y : ℕ) → IsEdge now x y ↔ (IsEdge old x y × (ListsEdge edges x y → ⊥))) → IsRankGraph t r now
 rank_graph_less t r old now edges graph round nodes less = record {
   nodes = nodes ∙ graph.nodes;
   edges = λ x y. (
-    λ n. let p = (less x y).0 n in elim (F-decided t r x y) [
+    λ n. let p = (less x y).0 n in elim (RankSet-decided t r x y) [
       | inl edge ↦ edge
       | inr none ↦ absurd (p.1 (round.all x y ((graph.edges x y).0 p.0) none))
     ],
-    λ edge. (less x y).1 ((graph.edges x y).1 (F-mono t r (suc r) (omega arith) x y edge), λ has. (round.only x y has).1 edge),
+    λ edge. (less x y).1 ((graph.edges x y).1 (RankSet-mono t r (suc r) (omega arith) x y edge), λ has. (round.only x y has).1 edge),
   );
 }
 
 -- ---- the steps of a rank above 0
 
 -- an edge that a round adds has the rank
-pub round_rank : (t : TraceValue) (r u v : ℕ) (edges : List Edge) → IsRound t r edges → HasEdge edges u v → HasRank t u v (suc r)
+pub round_rank : (t : TraceValue) (r u v : ℕ) (edges : List Edge) → IsRound t r edges → ListsEdge edges u v → HasRank t u v (suc r)
 round_rank t r u v edges round has =
     let added = round.only u v has in
-    (added.0, λ j less edge. added.1 (F-mono t j r (omega (arith, less)) u v edge))
+    (added.0, λ j less edge. added.1 (RankSet-mono t j r (omega (arith, less)) u v edge))
 
 -- an earlier edge of a list in ascending order stands before a later one
-ascending_at : (edges : List Edge) (i j : ℕ) (d : Edge) → IsAscending edges → i < j → j < length edges → IsBefore (get_or edges i d) (get_or edges j d)
+ascending_at : (edges : List Edge) (i j : ℕ) (d : Edge) → AreEdgesAscending edges → i < j → j < length edges → IsEdgeBefore (get_or edges i d) (get_or edges j d)
 ascending_at [] i j d ascending less within = absurd (omega (arith, within))
 ascending_at (e ∷ edges) i zero d ascending less within = absurd (omega (arith, less))
 ascending_at (e ∷ edges) zero (suc j) d ascending less within = ascending.0 (get_or edges j d) (Contains-get_or edges j d (omega (arith, within)))
 ascending_at (e ∷ edges) (suc i) (suc j) d ascending less within = ascending_at edges i j d ascending.1 (omega (arith, less)) (omega (arith, within))
 
-pub listed_start : (t : TraceValue) (r : ℕ) (edges : List Edge) (count u v : ℕ) → length edges ≤ count → IsAbove t r u v ↔ IsAboveOrListed t r edges count u v
+pub listed_start : (t : TraceValue) (r : ℕ) (edges : List Edge) (count u v : ℕ) → length edges ≤ count → IsAboveRank t r u v ↔ IsAboveOrListed t r edges count u v
 listed_start t r edges count u v past = (λ above. inl above, λ p. elim p [ inl above ↦ above | inr listed ↦ absurd (omega (arith, listed.1, listed.2, past)) ])
 
 -- what is listed from this place on stands there or from the next on
@@ -115,7 +115,7 @@ listed_step edges i u v e within at = (
 )
 
 -- the edge at a place is one of the list
-pub edge_at : (edges : List Edge) (i : ℕ) (e : Edge) → i < length edges → ((d : Edge) → get_or edges i d ≡ e) → HasEdge edges e.from e.to
+pub edge_at : (edges : List Edge) (i : ℕ) (e : Edge) → i < length edges → ((d : Edge) → get_or edges i d ≡ e) → ListsEdge edges e.from e.to
 edge_at edges i e within at = (i, within, at e)
 
 -- The edge at a place, with those behind it collected.
@@ -135,7 +135,7 @@ round_step t k r i cycle edges e set marks more old new round graph within at (i
       ]
     ])))
 round_step t k r i cycle edges e set marks more old new round graph within at (inr (marked, adds)) collects =
-    subst (λ l. Collects t k cycle (IsEdge more) (IsAboveOrListed t (suc r) edges i) l) (sym (turned_push old new step adds.appended))
+    subst (λ l. Collects t k cycle (IsEdge more) (IsAboveOrListed t (suc r) edges i) l) (sym (reverse_push old new step adds.appended))
     (Collects-step t k cycle (IsEdge marks) (IsEdge more) (IsAboveOrListed t (suc r) edges (i + 1)) (IsAboveOrListed t (suc r) edges i) (reverse old) (suc r) step
     collects marked rank (next_justified t r e.from e.to set adds.reason graph.edges rank adds.justified) adds.marked.edges done before)
   where
@@ -157,13 +157,13 @@ round_step t k r i cycle edges e set marks more old new round graph within at (i
     before d q (inr listed) rank_d =
         let same = rank_unique t d.from d.to (suc r) q (round_rank t r d.from d.to edges round (listed.0, listed.2, listed.3)) rank_d in
         let rising = ascending_at edges i listed.0 (edge_from d.from d.to) round.ascending (omega (arith, listed.1)) listed.2 in
-        inr (same, subst (λ c. IsBefore c (edge_from d.from d.to)) (at (edge_from d.from d.to)) (subst (λ c. IsBefore (get_or edges i (edge_from d.from d.to)) c) listed.3 rising))
+        inr (same, subst (λ c. IsEdgeBefore c (edge_from d.from d.to)) (at (edge_from d.from d.to)) (subst (λ c. IsEdgeBefore (get_or edges i (edge_from d.from d.to)) c) listed.3 rising))
 
 -- With all edges of the round collected, those of its rank are done.
 pub round_done : (t : TraceValue) (k r : ℕ) (cycle : List ℕ) (edges : List Edge) (marks : Digraph) (steps : List CertStep) → IsRound t r edges →
-    Collects t k cycle (IsEdge marks) (IsAboveOrListed t (suc r) edges 0) steps → Collects t k cycle (IsEdge marks) (IsAbove t r) steps
+    Collects t k cycle (IsEdge marks) (IsAboveOrListed t (suc r) edges 0) steps → Collects t k cycle (IsEdge marks) (IsAboveRank t r) steps
 round_done t k r cycle edges marks steps round collects =
-    Collects-as t k cycle (IsEdge marks) (IsAboveOrListed t (suc r) edges 0) (IsAbove t r) steps collects
+    Collects-as t k cycle (IsEdge marks) (IsAboveOrListed t (suc r) edges 0) (IsAboveRank t r) steps collects
     (λ u v f m done. elim done [
       | inl above ↦ (above.0, above.1, omega (arith, above.2))
       | inr listed ↦ (suc r, round_rank t r u v edges round (listed.0, listed.2, listed.3), omega arith)
@@ -174,30 +174,30 @@ round_done t k r cycle edges marks steps round collects =
     ])
 
 -- Before the first round nothing has a greater rank.
-pub none_above : (t : TraceValue) (k u v : ℕ) → F t k u v → IsAbove t k u v → ⊥
+pub none_above : (t : TraceValue) (k u v : ℕ) → RankSet t k u v → IsAboveRank t k u v → ⊥
 none_above t k u v edge above =
     let rank = rank_exists t k u v edge in
     let same = rank_unique t u v rank.0 above.0 rank.2 above.1 in
     omega (arith, rank.1, above.2)
 
 -- a rule gives each edge that a round adds, over the edges of lesser rank
-pub round_given : (t : TraceValue) (r u v : ℕ) (set : Digraph) (edges : List Edge) → IsRankGraph t r set → IsRound t r edges → HasEdge edges u v → IsUngiven t (IsEdge set) u v → ⊥
+pub round_given : (t : TraceValue) (r u v : ℕ) (set : Digraph) (edges : List Edge) → IsRankGraph t r set → IsRound t r edges → ListsEdge edges u v → IsUngiven t (IsEdge set) u v → ⊥
 round_given t r u v set edges graph round has none =
     let added = round.only u v has in
     elim added.0 [
       | inl edge ↦ added.1 edge
-      | inr new ↦ (let by = new.0 in none.1 by.0 by.1 (by.2, by.3, by.4, Reaches-mono (F t r) (IsEdge set) (λ x y. (graph.edges x y).1) by.2 by.3 by.5))
+      | inr new ↦ (let by = new.0 in none.1 by.0 by.1 (by.2, by.3, by.4, Reaches-mono (RankSet t r) (IsEdge set) (λ x y. (graph.edges x y).1) by.2 by.3 by.5))
     ]
 
 -- the numbers of the edges that a round adds are those of events and 0
-pub round_within : (t : TraceValue) (r u v : ℕ) (edges : List Edge) → IsRound t r edges → HasEdge edges u v → (u < suc (event_total t)) × (v < suc (event_total t))
-round_within t r u v edges round has = F-within t (suc r) u v (round.only u v has).0
+pub round_within : (t : TraceValue) (r u v : ℕ) (edges : List Edge) → IsRound t r edges → ListsEdge edges u v → (u < suc (event_total t)) × (v < suc (event_total t))
+round_within t r u v edges round has = RankSet-within t (suc r) u v (round.only u v has).0
 
 -- Where no edge of the round is collected, those of greater rank are done.
 pub round_start : (t : TraceValue) (k r : ℕ) (cycle : List ℕ) (edges : List Edge) (marks : Digraph) (steps : List CertStep) (count : ℕ) → length edges ≤ count →
-    Collects t k cycle (IsEdge marks) (IsAbove t (suc r)) steps → Collects t k cycle (IsEdge marks) (IsAboveOrListed t (suc r) edges count) steps
+    Collects t k cycle (IsEdge marks) (IsAboveRank t (suc r)) steps → Collects t k cycle (IsEdge marks) (IsAboveOrListed t (suc r) edges count) steps
 round_start t k r cycle edges marks steps count past collects =
-    Collects-as t k cycle (IsEdge marks) (IsAbove t (suc r)) (IsAboveOrListed t (suc r) edges count) steps collects
+    Collects-as t k cycle (IsEdge marks) (IsAboveRank t (suc r)) (IsAboveOrListed t (suc r) edges count) steps collects
     (λ u v f m. (listed_start t (suc r) edges count u v past).0) (λ u v f m. (listed_start t (suc r) edges count u v past).1)
 
 -- marking edges adds no numbers
@@ -207,17 +207,17 @@ collects_nodes t Edge u v marks more old new (inr (marked, adds)) = adds.marked.
 
 -- ---- the steps of base edges
 
-base_rank : (t : TraceValue) (u v : ℕ) → F t 0 u v → HasRank t u v 0
+base_rank : (t : TraceValue) (u v : ℕ) → RankSet t 0 u v → HasRank t u v 0
 base_rank t u v edge = (edge, λ j less f. omega (arith, less))
 
 -- Behind all numbers no base edge stands.
 pub base_start : (t : TraceValue) (k n : ℕ) (cycle : List ℕ) (marks : Digraph) (steps : List CertStep) → n ≡ suc (event_total t) →
-    Collects t k cycle (IsEdge marks) (IsAbove t 0) steps → Collects t k cycle (IsEdge marks) (IsAboveOrBase t n 0) steps
-base_start t k n cycle marks steps all collects = Collects-as t k cycle (IsEdge marks) (IsAbove t 0) (IsAboveOrBase t n 0) steps collects
+    Collects t k cycle (IsEdge marks) (IsAboveRank t 0) steps → Collects t k cycle (IsEdge marks) (IsAboveOrBase t n 0) steps
+base_start t k n cycle marks steps all collects = Collects-as t k cycle (IsEdge marks) (IsAboveRank t 0) (IsAboveOrBase t n 0) steps collects
     (λ u v f m above. inl above)
     (λ u v f m done. elim done [
       | inl above ↦ above
-      | inr base ↦ absurd (let within = F-within t k u v f in elim base.1 [ inl less ↦ omega (arith, less, within.0, all) | inr same ↦ omega (arith, same.0, within.0, all) ])
+      | inr base ↦ absurd (let within = RankSet-within t k u v f in elim base.1 [ inl less ↦ omega (arith, less, within.0, all) | inr same ↦ omega (arith, same.0, within.0, all) ])
     ])
 
 -- A row begins where the next one ended.
@@ -234,7 +234,7 @@ row_start t k x n cycle marks steps all collects = Collects-as t k cycle (IsEdge
         base.0,
         elim base.1 [
           | inl less ↦ elim (cases_eq (suc x) u) [ inl same ↦ inr (same, omega arith) | inr other ↦ inl (omega (arith, less, other)) ]
-          | inr same ↦ absurd (let within = F-within t k u v f in omega (arith, same.1, within.1, all))
+          | inr same ↦ absurd (let within = RankSet-within t k u v f in omega (arith, same.1, within.1, all))
         ],
       )
     ])
@@ -259,7 +259,7 @@ row_pass t k x cycle marks steps none collects = Collects-as t k cycle (IsEdge m
     ])
 
 -- what stands from this pair on is the pair, or stands from the next on
-base_split : (t : TraceValue) (x y u v : ℕ) → F t 0 x y → IsAboveOrBase t x y u v ↔ (IsAboveOrBase t x (y + 1) u v ⊎ ((u ≡ x) × (v ≡ y)))
+base_split : (t : TraceValue) (x y u v : ℕ) → RankSet t 0 x y → IsAboveOrBase t x y u v ↔ (IsAboveOrBase t x (y + 1) u v ⊎ ((u ≡ x) × (v ≡ y)))
 base_split t x y u v edge = (
   λ done. elim done [
     | inl above ↦ inl (inl above)
@@ -271,7 +271,7 @@ base_split t x y u v edge = (
   λ done. elim done [
     | inl (inl above) ↦ inl above
     | inl (inr base) ↦ inr (base.0, elim base.1 [ inl less ↦ inl less | inr same ↦ inr (same.0, omega (arith, same.1)) ])
-    | inr here ↦ inr (subst (λ n. F t 0 u n) (sym here.1) (subst (λ n. F t 0 n y) (sym here.0) edge), inr (sym here.0, omega (arith, here.1)))
+    | inr here ↦ inr (subst (λ n. RankSet t 0 u n) (sym here.1) (subst (λ n. RankSet t 0 n y) (sym here.0) edge), inr (sym here.0, omega (arith, here.1)))
   ],
 )
 
@@ -280,14 +280,14 @@ pub base_step : (t : TraceValue) (k x y : ℕ) (cycle : List ℕ) (rule : BaseRu
     new ≡ old ++ record { from = x; to = y; reason = Base rule } ∷ [] →
     Collects t k cycle (IsEdge marks) (IsAboveOrBase t x (y + 1)) (reverse old) → Collects t k cycle (IsEdge marks) (IsAboveOrBase t x y) (reverse new)
 base_step t k x y cycle rule marks old new first marked same collects =
-    subst (λ l. Collects t k cycle (IsEdge marks) (IsAboveOrBase t x y) l) (sym (turned_push old new step same))
+    subst (λ l. Collects t k cycle (IsEdge marks) (IsAboveOrBase t x y) l) (sym (reverse_push old new step same))
     (Collects-step t k cycle (IsEdge marks) (IsEdge marks) (IsAboveOrBase t x (y + 1)) (IsAboveOrBase t x y) (reverse old) 0 step
     collects marked (base_rank t x y edge) first (λ u v. (λ m. inl m, λ m. elim m [ inl old_mark ↦ old_mark | inr none ↦ absurd none ])) (λ u v. base_split t x y u v edge) before)
   where
     step : CertStep
     step = record { from = x; to = y; reason = Base rule }
 
-    edge : F t 0 x y
+    edge : RankSet t 0 x y
     edge = (rule, first.0)
 
     before : (d : CertStep) (q : ℕ) → IsAboveOrBase t x (y + 1) d.from d.to → HasRank t d.from d.to q → IsListedBefore 0 step q d
@@ -296,7 +296,7 @@ base_step t k x y cycle rule marks old new first marked same collects =
         inr (rank_unique t d.from d.to 0 q (base_rank t d.from d.to base.0) rank_d, elim base.1 [ inl less ↦ inl less | inr same_from ↦ inr (same_from.0, omega (arith, same_from.1)) ])
 
 -- A pair that isn't marked, or isn't a base edge, is passed.
-pub base_pass : (t : TraceValue) (k x y : ℕ) (cycle : List ℕ) (marks : Digraph) (steps : List CertStep) → (IsEdge marks x y → F t 0 x y → ⊥) →
+pub base_pass : (t : TraceValue) (k x y : ℕ) (cycle : List ℕ) (marks : Digraph) (steps : List CertStep) → (IsEdge marks x y → RankSet t 0 x y → ⊥) →
     Collects t k cycle (IsEdge marks) (IsAboveOrBase t x (y + 1)) steps → Collects t k cycle (IsEdge marks) (IsAboveOrBase t x y) steps
 base_pass t k x y cycle marks steps none collects = Collects-as t k cycle (IsEdge marks) (IsAboveOrBase t x (y + 1)) (IsAboveOrBase t x y) steps collects
     (λ u v f m done. elim done [
@@ -308,14 +308,14 @@ base_pass t k x y cycle marks steps none collects = Collects-as t k cycle (IsEdg
       | inr base ↦ elim base.1 [
         | inl less ↦ inr (base.0, inl less)
         | inr same ↦ elim (cases_eq y v) [
-          | inl here ↦ absurd (none (subst (λ n. IsEdge marks n y) (sym same.0) (subst (λ n. IsEdge marks u n) (sym here) m)) (subst (λ n. F t 0 n y) (sym same.0) (subst (λ n. F t 0 u n) (sym here) base.0)))
+          | inl here ↦ absurd (none (subst (λ n. IsEdge marks n y) (sym same.0) (subst (λ n. IsEdge marks u n) (sym here) m)) (subst (λ n. RankSet t 0 n y) (sym same.0) (subst (λ n. RankSet t 0 u n) (sym here) base.0)))
           | inr other ↦ inr (base.0, inr (same.0, omega (arith, same.1, other)))
         ]
       ]
     ])
 
 -- At last each edge is done.
-pub all_done : (t : TraceValue) (k u v : ℕ) → F t k u v → IsAboveOrBase t 0 0 u v
+pub all_done : (t : TraceValue) (k u v : ℕ) → RankSet t k u v → IsAboveOrBase t 0 0 u v
 all_done t k u v edge =
     let rank = rank_exists t k u v edge in
     elim (cases_eq rank.0 0) [
@@ -326,10 +326,10 @@ all_done t k u v edge =
 -- ---- the first step
 
 -- The cycle's edges marked in a graph without edges, and no steps.
-pub first_steps : (t : TraceValue) (k : ℕ) (cycle : List ℕ) (empty marks : Digraph) → IsCycle (F t k) cycle → ((x y : ℕ) → IsEdge empty x y → ⊥) → AddsEdges empty marks (AreOnCycle cycle) →
-    Collects t k cycle (IsEdge marks) (IsAbove t k) []
+pub first_steps : (t : TraceValue) (k : ℕ) (cycle : List ℕ) (empty marks : Digraph) → IsCycle (RankSet t k) cycle → ((x y : ℕ) → IsEdge empty x y → ⊥) → AddsEdges empty marks (AreOnCycle cycle) →
+    Collects t k cycle (IsEdge marks) (IsAboveRank t k) []
 first_steps t k cycle empty marks closed none marked =
-    Collects-start t k cycle (IsEdge marks) (IsAbove t k) closed
+    Collects-start t k cycle (IsEdge marks) (IsAboveRank t k) closed
     (λ u v. (λ m. elim ((marked.edges u v).0 m) [ inl old ↦ absurd (none u v old) | inr on ↦ on ], λ on. (marked.edges u v).1 (inr on)))
     (none_above t k)
 

@@ -7,13 +7,13 @@ use Rattle.std.proofs.lemmas.List.{take_all}
 use Rattle.std.proofs.Math.Seq.{take-add, take-append_seam}
 
 -- what was read is the front of what there was, where it passes the limit
-pub read_front : (old new : Option (List ℕ)) (bytes : List ℕ) (limit : ℕ) → Consumes old new bytes → limit < length bytes → length bytes ≤ limit + 1 →
+pub read_prefix : (old new : Option (List ℕ)) (bytes : List ℕ) (limit : ℕ) → Consumes old new bytes → limit < length bytes → length bytes ≤ limit + 1 →
     IfSome old (λ all. bytes ≡ take (limit + 1) all)
-read_front None new bytes limit taken past within = tt
-read_front (Some all) None bytes limit taken past within = absurd taken
-read_front (Some all) (Some rest) bytes limit taken past within =
+read_prefix None new bytes limit consumed past within = tt
+read_prefix (Some all) None bytes limit consumed past within = absurd consumed
+read_prefix (Some all) (Some rest) bytes limit consumed past within =
     let count : length bytes ≡ limit + 1 = omega (arith, past, within) in
-    sym (ap (λ n. take n all) (sym count) ∙ ap (take (length bytes)) taken ∙ take-append_seam bytes rest)
+    sym (ap (λ n. take n all) (sym count) ∙ ap (take (length bytes)) consumed ∙ take-append_seam bytes rest)
 
 -- a front of the text grows by what the writer took of the rest
 pub written_more : (first old new : Option (List ℕ)) (text : List ℕ) (m n : ℕ) → Appends first old (take m text) →

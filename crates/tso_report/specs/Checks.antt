@@ -6,11 +6,11 @@ use Rattle.tso_text.specs.Grammars.{SpellsTrace}
 use Rattle.tso_cert.specs.declared.faults.Why.{Why}
 use Rattle.tso_cert.specs.declared.faults.Why.TheVariants.{BadLine, BadNumber, BadRule, NoCycle, AfterCycle, OutOfMemory}
 use Rattle.tso_cert.specs.declared.steps.Certificate.{Certificate}
-use Rattle.tso_cert.specs.Spelling.{Spells, IsRefusal}
+use Rattle.tso_cert.specs.Spelling.{SpellsCertificate, IsCertTextRefusal}
 use Rattle.tso_model.specs.Certs.{Holds}
 use Rattle.cert_check.specs.declared.faults.CertFault.{CertFault}
 use Rattle.cert_check.specs.declared.faults.CertFault.TheVariants.{EventRange, NotUnwritten, BaseRefused, SideRefused, PathUnlisted, CycleUnlisted, EmptyCycle}
-use Rattle.cert_check.specs.Refusals.{IsRefusal as IsCertRefusal}
+use Rattle.cert_check.specs.Refusals.{IsCertRefusal}
 use Rattle.tso_report.specs.declared.verdicts.Verdict.{Verdict}
 use Rattle.tso_report.specs.declared.verdicts.Verdict.TheVariants.{Violation, Refused}
 use Rattle.tso_report.specs.declared.faults.Fault.{Fault}
@@ -23,17 +23,17 @@ abbrev pub holds_text : List ℕ
 holds_text = codes "CERTIFICATE HOLDS" ++ 10 ∷ []
 
 -- the name of a refusal of a certificate's text
-abbrev pub name_of : Why → List ℕ
-name_of BadLine = codes "BadLine"
-name_of BadNumber = codes "BadNumber"
-name_of BadRule = codes "BadRule"
-name_of NoCycle = codes "NoCycle"
-name_of AfterCycle = codes "AfterCycle"
-name_of OutOfMemory = codes "OutOfMemory"
+abbrev pub cert_text_fault_name : Why → List ℕ
+cert_text_fault_name BadLine = codes "BadLine"
+cert_text_fault_name BadNumber = codes "BadNumber"
+cert_text_fault_name BadRule = codes "BadRule"
+cert_text_fault_name NoCycle = codes "NoCycle"
+cert_text_fault_name AfterCycle = codes "AfterCycle"
+cert_text_fault_name OutOfMemory = codes "OutOfMemory"
 
 -- the line of a refused text of a certificate
 abbrev pub unread_text : ℕ → Why → List ℕ
-unread_text line why = codes "CERTIFICATE REFUSED " ++ name_of why ++ codes " line " ++ decimal line ++ 10 ∷ []
+unread_text line why = codes "CERTIFICATE REFUSED " ++ cert_text_fault_name why ++ codes " line " ++ decimal line ++ 10 ∷ []
 
 -- the refusal of a certificate, with its step where it has one
 abbrev pub fault_text : CertFault → List ℕ
@@ -53,15 +53,15 @@ fails_text fault = codes "CERTIFICATE REFUSED " ++ fault_text fault ++ 10 ∷ []
 
 -- the input is the text of a certificate that holds for the trace
 abbrev pub SpellsHolding : TraceValue → List ℕ → Type 0
-SpellsHolding t input = (c : Certificate) × Spells input c × Holds t c
+SpellsHolding t input = (c : Certificate) × SpellsCertificate input c × Holds t c
 
 -- it is refused as a text
 abbrev pub IsUnreadReport : List ℕ → List ℕ → Type 0
-IsUnreadReport input text = (line : ℕ) × (why : Why) × IsRefusal input line why × (text ≡ unread_text line why)
+IsUnreadReport input text = (line : ℕ) × (why : Why) × IsCertTextRefusal input line why × (text ≡ unread_text line why)
 
 -- it is the text of a certificate that doesn't hold for the trace
 abbrev pub IsFailureReport : TraceValue → List ℕ → List ℕ → Type 0
-IsFailureReport t input text = (c : Certificate) × (fault : CertFault) × Spells input c × IsCertRefusal t c fault × (text ≡ fails_text fault)
+IsFailureReport t input text = (c : Certificate) × (fault : CertFault) × SpellsCertificate input c × IsCertRefusal t c fault × (text ≡ fails_text fault)
 
 -- The text is the report of a certificate's text on the trace.
 abbrev pub IsCertReport : TraceValue → List ℕ → List ℕ → Verdict → Type 0

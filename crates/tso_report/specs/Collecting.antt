@@ -6,7 +6,7 @@ use Rattle.tso_ops.specs.Values.{TraceValue}
 use Rattle.tso_cert.specs.declared.steps.Reason.{Reason}
 use Rattle.tso_cert.specs.declared.steps.Reason.TheVariants.{Base, Inferred}
 use Rattle.tso_cert.specs.declared.steps.CertStep.{CertStep}
-use Rattle.tso_model.specs.Ranks.{F, HasRank}
+use Rattle.tso_model.specs.Ranks.{RankSet, HasRank}
 use Rattle.tso_model.specs.Certs.{IsStep, IsPathIn, IsJustified, IsListedBefore, AreUsed}
 use Rattle.tso_model.specs.Used.{AreUsedBy}
 use Rattle.tso_rules.specs.Rows.{IsJustifiedOver}
@@ -46,7 +46,7 @@ pub record IsListed (t : TraceValue) (Marked Done : ℕ → ℕ → Type 0) (s :
 -- use, and each marked edge is in each set of pairs that has all these.
 pub record Collects (t : TraceValue) (k : ℕ) (cycle : List ℕ) (Marked Done : ℕ → ℕ → Type 0) (steps : List CertStep) : Type 0 where
   pub cycle_marked : IsCycle Marked cycle
-  pub edges : (u v : ℕ) → Marked u v → F t k u v
+  pub edges : (u v : ℕ) → Marked u v → RankSet t k u v
   pub all : (u v : ℕ) → Marked u v → Done u v → IsStep steps u v
   pub each : (i : ℕ) (s : CertStep) → slice_get steps i ≡ Some s → IsListed t Marked Done s
   pub order : (i j : ℕ) (s d : CertStep) (r q : ℕ) → i < j → slice_get steps i ≡ Some s → slice_get steps j ≡ Some d →
@@ -54,8 +54,8 @@ pub record Collects (t : TraceValue) (k : ℕ) (cycle : List ℕ) (Marked Done :
   pub needed : (u v : ℕ) → Marked u v → (pairs : ℕ → ℕ → Bool) → AreUsed steps cycle pairs → IsTrue (pairs u v)
 
 -- the edge has a rank above this one
-abbrev pub IsAbove : TraceValue → ℕ → ℕ → ℕ → Type 0
-IsAbove t r u v = (q : ℕ) × HasRank t u v q × (r < q)
+abbrev pub IsAboveRank : TraceValue → ℕ → ℕ → ℕ → Type 0
+IsAboveRank t r u v = (q : ℕ) × HasRank t u v q × (r < q)
 
 -- the edge stands in the list, from this place on
 abbrev pub IsListedFrom : List Edge → ℕ → ℕ → ℕ → Type 0
@@ -63,8 +63,8 @@ IsListedFrom edges first u v = (j : ℕ) × (first ≤ j) × (j < length edges) 
 
 -- the edge has a rank above, or stands in the list of its rank from this place on
 abbrev pub IsAboveOrListed : TraceValue → ℕ → List Edge → ℕ → ℕ → ℕ → Type 0
-IsAboveOrListed t r edges first u v = IsAbove t r u v ⊎ IsListedFrom edges first u v
+IsAboveOrListed t r edges first u v = IsAboveRank t r u v ⊎ IsListedFrom edges first u v
 
 -- the edge has a rank above 0, or is a base edge that stands from this pair on
 abbrev pub IsAboveOrBase : TraceValue → ℕ → ℕ → ℕ → ℕ → Type 0
-IsAboveOrBase t x y u v = IsAbove t 0 u v ⊎ (F t 0 u v × ((x < u) ⊎ ((x ≡ u) × (y ≤ v))))
+IsAboveOrBase t x y u v = IsAboveRank t 0 u v ⊎ (RankSet t 0 u v × ((x < u) ⊎ ((x ≡ u) × (y ≤ v))))

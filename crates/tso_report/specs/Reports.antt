@@ -16,7 +16,7 @@ use Rattle.tso_cert.specs.Printed.{cert_text}
 use Rattle.tso_model.specs.Ranks.{IsRounds}
 use Rattle.tso_model.specs.Certs.{Holds}
 use Rattle.tso_report.specs.Judged.{IsViolation, IsCertificateText}
-use Rattle.tso_report.specs.Streams.{AppendsFront}
+use Rattle.tso_report.specs.Streams.{AppendsPrefix}
 
 -- ---- texts
 
@@ -33,25 +33,25 @@ abbrev pub violation_text : List ℕ → List ℕ
 violation_text certificate = codes "VIOLATION" ++ 10 ∷ certificate
 
 -- the name of a refusal
-abbrev pub name_of : Why → List ℕ
-name_of BadHeader = codes "BadHeader"
-name_of BadLine = codes "BadLine"
-name_of BadNumber = codes "BadNumber"
-name_of BeforeProc = codes "BeforeProc"
-name_of TooManyProcessors = codes "TooManyProcessors"
-name_of TooManyEvents = codes "TooManyEvents"
-name_of AddressRange = codes "AddressRange"
-name_of ZeroValue = codes "ZeroValue"
-name_of RepeatedValue = codes "RepeatedValue"
-name_of MissingEnd = codes "MissingEnd"
-name_of AfterEnd = codes "AfterEnd"
-name_of TooLong = codes "TooLong"
-name_of ProcessorRange = codes "ProcessorRange"
-name_of NoMemory = codes "OutOfMemory"
+abbrev pub text_fault_name : Why → List ℕ
+text_fault_name BadHeader = codes "BadHeader"
+text_fault_name BadLine = codes "BadLine"
+text_fault_name BadNumber = codes "BadNumber"
+text_fault_name BeforeProc = codes "BeforeProc"
+text_fault_name TooManyProcessors = codes "TooManyProcessors"
+text_fault_name TooManyEvents = codes "TooManyEvents"
+text_fault_name AddressRange = codes "AddressRange"
+text_fault_name ZeroValue = codes "ZeroValue"
+text_fault_name RepeatedValue = codes "RepeatedValue"
+text_fault_name MissingEnd = codes "MissingEnd"
+text_fault_name AfterEnd = codes "AfterEnd"
+text_fault_name TooLong = codes "TooLong"
+text_fault_name ProcessorRange = codes "ProcessorRange"
+text_fault_name NoMemory = codes "OutOfMemory"
 
 -- the line of a refusal
 abbrev pub refusal_text : ℕ → Why → List ℕ
-refusal_text line why = codes "REFUSED " ++ name_of why ++ codes " line " ++ decimal line ++ 10 ∷ []
+refusal_text line why = codes "REFUSED " ++ text_fault_name why ++ codes " line " ++ decimal line ++ 10 ∷ []
 
 -- ---- the report of a trace
 
@@ -84,7 +84,7 @@ SpellsViolation input = (t : TraceValue) × SpellsTrace input t × IsViolation t
 
 -- the text ends with that of a certificate which holds for the trace that the input spells
 abbrev pub ShowsViolation : List ℕ → List ℕ → Type 0
-ShowsViolation input text = (t : TraceValue) × SpellsTrace input t × ((c : Certificate) × Holds t c × ((front : List ℕ) × (text ≡ front ++ cert_text c)))
+ShowsViolation input text = (t : TraceValue) × SpellsTrace input t × ((c : Certificate) × Holds t c × ((prefix : List ℕ) × (text ≡ prefix ++ cert_text c)))
 
 -- ---- what a call writes
 
@@ -99,14 +99,14 @@ abbrev pub WritesWhole : (List ℕ → Verdict → Type 0) → Option (List ℕ)
 WritesWhole is_report old new verdict = (text : List ℕ) × is_report text verdict × Appends old new text
 
 -- known bytes of the writer grow by a front of a text that is the report
-abbrev pub WritesFront : (List ℕ → Verdict → Type 0) → Option (List ℕ) → Option (List ℕ) → Type 0
-WritesFront is_report old new = (verdict : Verdict) × (text : List ℕ) × is_report text verdict × AppendsFront old new text
+abbrev pub WritesPrefix : (List ℕ → Verdict → Type 0) → Option (List ℕ) → Option (List ℕ) → Type 0
+WritesPrefix is_report old new = (verdict : Verdict) × (text : List ℕ) × is_report text verdict × AppendsPrefix old new text
 
 -- What a fault leaves: on Write a front of the report, else nothing was written. A judged text has no seed to miss.
 abbrev pub LeavesAtFault : (List ℕ → Verdict → Type 0) → Option (List ℕ) → Option (List ℕ) → Fault → Type 0
 LeavesAtFault is_report old new OutOfMemory = Keeps old new
 LeavesAtFault is_report old new Read = Keeps old new
-LeavesAtFault is_report old new Write = WritesFront is_report old new
+LeavesAtFault is_report old new Write = WritesPrefix is_report old new
 LeavesAtFault is_report old new NoThread = Keeps old new
 LeavesAtFault is_report old new (Missing seed) = ⊥
 

@@ -1,6 +1,6 @@
 ghost use Rattle.std.specs.Prelude.{◌≡◌, ◌≢◌, IfOk, string_bytes};
 ghost use Rattle.tso_cert.specs.declared.faults.Why.{Why};
-ghost use Rattle.tso_report.specs.Checks.{IsCertReport, fails_text, name_of, unread_text};
+ghost use Rattle.tso_report.specs.Checks.{IsCertReport, fails_text, cert_text_fault_name, unread_text};
 
 use crate::reports::Report;
 use crate::verdicts::Verdict;
@@ -36,14 +36,14 @@ pub(crate) fn cert_report(alloc: Global, trace: &Trace, input: &[u8]) -> Result<
 fn unread_text(alloc: Global, fault: TextFault) -> Result<String, OutOfMemory>
     ensures { IfOk result (λ text. string_bytes text ≡ unread_text fault.line fault.why) }
 {
-    let name = name_of(fault.why);
+    let name = cert_text_fault_name(fault.why);
     let line = fault.line;
     format!(in alloc; "CERTIFICATE REFUSED {name} line {line}\n")
 }
 
 /// The name of a refusal of a certificate's text.
-fn name_of(why: Why) -> &'static str
-    ensures { result.now ≡ name_of why }
+fn cert_text_fault_name(why: Why) -> &'static str
+    ensures { result.now ≡ cert_text_fault_name why }
 {
     match why {
         Why::BadLine => "BadLine",

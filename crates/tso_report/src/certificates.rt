@@ -5,13 +5,13 @@ ghost use Rattle.order_paths.specs.Paths.{IsCycle};
 ghost use Rattle.order_graph.specs.Digraphs.{IsEdge};
 ghost use Rattle.tso_ops.specs.Events.{event_total, IsUnwritten};
 ghost use Rattle.tso_model.specs.Rules.{HasDerivedCycle};
-ghost use Rattle.tso_model.specs.Ranks.{F};
+ghost use Rattle.tso_model.specs.Ranks.{RankSet};
 ghost use Rattle.tso_model.specs.Certs.{AreStepsOf, IsCertificateOf};
 ghost use Rattle.tso_model.specs.Used.{AreUsedBy};
 ghost use Rattle.tso_rules.specs.Rows.{IsUngiven};
 ghost use Rattle.round_pool.specs.RankGraphs.{IsRankGraph, AddsEdges};
-ghost use Rattle.round_pool.specs.Rankings.{IsRankingOf, rounds_of, HasEdge, AreWithin};
-ghost use Rattle.tso_report.specs.Collecting.{AreNumbersBelow, IsReasonBelow, CollectsEdge, Collects, IsAbove, IsAboveOrBase};
+ghost use Rattle.round_pool.specs.Rankings.{IsRankingOf, rounds_of, ListsEdge, AreWithin};
+ghost use Rattle.tso_report.specs.Collecting.{AreNumbersBelow, IsReasonBelow, CollectsEdge, Collects, IsAboveRank, IsAboveOrBase};
 
 use order_graph::{EdgeSet, Graph};
 use round_pool::{Edge, Ranked};
@@ -54,7 +54,7 @@ fn steps_of(
     cycle: &NumList,
 ) -> Result<Vec<CertStep>, OutOfMemory>
     requires ranked { IsRankingOf trace.now ranked.now }
-    requires cycle { IsCycle (F trace.now (rounds_of ranked.now)) cycle.now }
+    requires cycle { IsCycle (RankSet trace.now (rounds_of ranked.now)) cycle.now }
     ensures { IfOk result (λ steps. AreStepsOf trace.now (reverse steps.items) cycle.now) }
 {
     let mut set = ranked.last().edge_set()?;
@@ -62,7 +62,7 @@ fn steps_of(
     mark_cycle(&mut marks, cycle.items());
     let mut steps = Vec::new(alloc);
     for r in (0..ranked.rounds() as usize).rev() {
-        take_away(&mut set, ranked.added(r + 1));
+        remove_edges(&mut set, ranked.added(r + 1));
         collect_round(alloc, trace, ranked, r, &set, &mut marks, &mut steps)?;
     }
     collect_base(trace, &marks, &mut steps)?;
@@ -103,10 +103,10 @@ fn mark_used(marks: &mut Graph, reason: &Reason)
 }
 
 /// Takes the edges away from the set.
-fn take_away(set: &mut EdgeSet, edges: &[Edge])
+fn remove_edges(set: &mut EdgeSet, edges: &[Edge])
     requires { AreWithin set.old.nodes edges.now }
     ensures nodes { set.new.nodes ≡ set.old.nodes }
-    ensures edges { (x y : ℕ) → IsEdge set.new x y ↔ (IsEdge set.old x y × (HasEdge edges.now x y → ⊥)) }
+    ensures edges { (x y : ℕ) → IsEdge set.new x y ↔ (IsEdge set.old x y × (ListsEdge edges.now x y → ⊥)) }
 {
     for edge in edges {
         set.remove(edge.from as usize, edge.to as usize);
@@ -162,8 +162,8 @@ fn collect_round(
     requires nodes { marks.old.nodes ≡ suc (event_total trace.now) }
     ensures nodes { OnOk result (marks.new.nodes ≡ marks.old.nodes) }
     ensures steps { OnOk result ((cycle : List ℕ) →
-        Collects trace.now (rounds_of ranked.now) cycle (IsEdge marks.old) (IsAbove trace.now (suc r)) (reverse steps.old.items) →
-        Collects trace.now (rounds_of ranked.now) cycle (IsEdge marks.new) (IsAbove trace.now r) (reverse steps.new.items)) }
+        Collects trace.now (rounds_of ranked.now) cycle (IsEdge marks.old) (IsAboveRank trace.now (suc r)) (reverse steps.old.items) →
+        Collects trace.now (rounds_of ranked.now) cycle (IsEdge marks.new) (IsAboveRank trace.now r) (reverse steps.new.items)) }
 {
     let _rounds = ranked.rounds();
     let edges = ranked.added(r + 1);
@@ -186,7 +186,7 @@ fn collect_round(
 fn collect_base(trace: &Trace, marks: &Graph, steps: &mut Vec<CertStep>) -> Result<(), OutOfMemory>
     requires nodes { marks.now.nodes ≡ suc (event_total trace.now) }
     ensures steps { OnOk result ((k : ℕ) (cycle : List ℕ) →
-        Collects trace.now k cycle (IsEdge marks.now) (IsAbove trace.now 0) (reverse steps.old.items) →
+        Collects trace.now k cycle (IsEdge marks.now) (IsAboveRank trace.now 0) (reverse steps.old.items) →
         Collects trace.now k cycle (IsEdge marks.now) (IsAboveOrBase trace.now 0 0) (reverse steps.new.items)) }
 {
     for u in (0..marks.nodes()).rev() {

@@ -76,7 +76,7 @@ fn read_certificate<C: Read>(alloc: Global, trace: &Trace, reader: &mut C) -> Re
 
 /// All bytes of a reader, which are no more than the text of a certificate may have.
 fn read_cert_text<C: Read>(alloc: Global, reader: &mut C) -> Result<Vec<u8>, Fault>
-    ensures front { IfOk result (λ bytes. IfSome (C.remaining reader.old) (λ all. bytes.items ≡ take 67108865 all)) }
+    ensures prefix { IfOk result (λ bytes. IfSome (C.remaining reader.old) (λ all. bytes.items ≡ take 67108865 all)) }
     ensures within { IfOk result (λ bytes. length bytes.items ≤ 67108864) }
     ensures fault { IfErr result (λ fault. (fault ≡ Fault.OutOfMemory) ⊎ (fault ≡ Fault.Read)) }
 {

@@ -21,8 +21,8 @@ const CHUNK: usize = 16_384;
 /// was refused; Read where the reader failed otherwise, or where 2,097,152 calls of `read` showed neither its end nor
 /// the byte behind the limit.
 pub fn read_all<R: Read>(alloc: Global, reader: &mut R, limit: usize) -> Result<Vec<u8>, Fault>
-    ensures front { IfOk result (λ bytes. IfSome (R.remaining reader.old) (λ all. bytes.items ≡ take (limit + 1) all)) }
-    ensures taken { IfOk result (λ bytes. Consumes (R.remaining reader.old) (R.remaining reader.new) bytes.items) }
+    ensures prefix { IfOk result (λ bytes. IfSome (R.remaining reader.old) (λ all. bytes.items ≡ take (limit + 1) all)) }
+    ensures consumed { IfOk result (λ bytes. Consumes (R.remaining reader.old) (R.remaining reader.new) bytes.items) }
     ensures within { IfOk result (λ bytes. length bytes.items ≤ limit + 1) }
     ensures fault { IfErr result (λ fault. (fault ≡ Fault.OutOfMemory) ⊎ (fault ≡ Fault.Read)) }
 {

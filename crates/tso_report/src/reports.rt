@@ -6,7 +6,7 @@ ghost use Rattle.tso_text.specs.declared.faults.Why.{Why};
 ghost use Rattle.tso_report.specs.declared.faults.Fault.{Fault};
 ghost use Rattle.tso_report.specs.declared.verdicts.Verdict.{Verdict};
 ghost use Rattle.tso_report.specs.Findings.{IsFinding};
-ghost use Rattle.tso_report.specs.Reports.{head_text, name_of, refusal_text, IsReport, IsTraceReport};
+ghost use Rattle.tso_report.specs.Reports.{head_text, text_fault_name, refusal_text, IsReport, IsTraceReport};
 
 use crate::faults::Fault;
 use crate::findings::{Finding, judge_trace};
@@ -125,14 +125,14 @@ fn head_text(
 fn refusal_text(alloc: Global, fault: TextFault) -> Result<String, OutOfMemory>
     ensures { IfOk result (λ text. string_bytes text ≡ refusal_text fault.line fault.why) }
 {
-    let name = name_of(fault.why);
+    let name = text_fault_name(fault.why);
     let line = fault.line;
     format!(in alloc; "REFUSED {name} line {line}\n")
 }
 
 /// The name of a refusal.
-fn name_of(why: Why) -> &'static str
-    ensures { result.now ≡ name_of why }
+fn text_fault_name(why: Why) -> &'static str
+    ensures { result.now ≡ text_fault_name why }
 {
     match why {
         Why::BadHeader => "BadHeader",

@@ -1,6 +1,6 @@
 ghost use Rattle.std.specs.Prelude.{◌≡◌, OnOk, OnErr, IfErr};
 ghost use Rattle.std.specs.Io.KnownBytes.{Appends};
-ghost use Rattle.tso_report.specs.Streams.{AppendsFront};
+ghost use Rattle.tso_report.specs.Streams.{AppendsPrefix};
 ghost use Rattle.tso_report.specs.declared.faults.Fault.{Fault};
 
 use crate::faults::Fault;
@@ -15,7 +15,7 @@ const MAX_INTERRUPTS: usize = 1_048_576;
 /// interrupted once more, or took no byte; what it took is a front of the text.
 pub fn write_text<W: Write>(writer: &mut W, text: &[u8]) -> Result<(), Fault>
     ensures whole { OnOk result (Appends (W.contents writer.old) (W.contents writer.new) text.now) }
-    ensures front { OnErr result (AppendsFront (W.contents writer.old) (W.contents writer.new) text.now) }
+    ensures prefix { OnErr result (AppendsPrefix (W.contents writer.old) (W.contents writer.new) text.now) }
     ensures fault { IfErr result (λ fault. fault ≡ Fault.Write) }
 {
     let mut written: usize = 0;

@@ -2,27 +2,27 @@
 use Rattle.std.proofs.Common.{◌≡◌, ◌⊎◌, ◌↔◌, inl, inr, ℕ, zero, suc, ◌+◌, ◌*◌, ◌/◌, ◌%◌, ◌^◌, ◌<◌, ◌≤◌, Bool, true, false, List, get_or, Some, refl, sym, ap, ◌∙◌, subst, arith}
 use Rattle.tso_ops.specs.declared.events.Event.{Event}
 use Rattle.tso_ops.specs.Values.{TraceValue}
-use Rattle.tso_ops.specs.Events.{event_at, IsLoad, IsStore, IsLoadAt, IsStoreTo, IsEventOf, IsBehind, HasSource, SameAddress, Earlier}
+use Rattle.tso_ops.specs.Events.{event_at, IsLoad, IsStore, IsLoadAt, IsStoreTo, IsEventOf, HasBarriersBefore, HasSource, SameAddress, Earlier}
 use Rattle.tso_ops.proofs.ProcessorFacts.{bars_ascend}
 use Rattle.tso_ops.specs.Masks.{IsMask}
-use Rattle.order_graph.specs.Tables.{HasBit, HasNumber}
+use Rattle.order_graph.specs.BitRows.{HasBit, HasNumber}
 use Rattle.order_graph.proofs.Words.{HasBit-or, HasBit-and, HasBit-not}
 use Rattle.std.specs.Prelude.{bit_and, bit_or}
 use Rattle.std.specs.Int.{bit_not, w64}
 use Rattle.std.proofs.lemmas.Bool.{false≢true, cases_lt}
-use Rattle.tso_rules.proofs.RowFacts.{marks_as, marks_both, front_more, IsInFront, OnWord, words_more, ByWords, word_number, mask_number}
+use Rattle.tso_rules.proofs.RowFacts.{marks_as, marks_both, earlier_words_more, IsInEarlierWord, OnWord, words_more, ByWords, word_number, mask_number}
 use Rattle.tso_cert.specs.declared.rules.BaseRule.{BaseRule}
 use Rattle.tso_cert.specs.declared.rules.BaseRule.TheVariants.{Init, LoadOp, StoreStore, Membar, Read, Own}
 use Rattle.tso_model.specs.Rules.{BasePair}
-use Rattle.tso_model.specs.Ranks.{F}
+use Rattle.tso_model.specs.Ranks.{RankSet}
 use Rattle.tso_model.proofs.Events.{event_unique}
-use Rattle.tso_rules.specs.Rows.{Marks, IsLater, IsOrdered, IsReadBy, IsSourceIn}
+use Rattle.tso_rules.specs.Internal.MarkedRows.{Marks, IsLater, IsOrdered, IsReadBy, IsSourceIn}
 
 -- a base pair is one of the rule Init, of program order, or by a load
-pub base_by : (t : TraceValue) (u v : ℕ) → ((BasePair t Init u v ⊎ IsLater t u v) ⊎ ((l : ℕ) × IsReadBy t u l v)) ↔ F t 0 u v
+pub base_by : (t : TraceValue) (u v : ℕ) → ((BasePair t Init u v ⊎ IsLater t u v) ⊎ ((l : ℕ) × IsReadBy t u l v)) ↔ RankSet t 0 u v
 base_by t u v = (to, λ edge. from edge.0 edge.1)
   where
-    to : (BasePair t Init u v ⊎ IsLater t u v) ⊎ ((l : ℕ) × IsReadBy t u l v) → F t 0 u v
+    to : (BasePair t Init u v ⊎ IsLater t u v) ⊎ ((l : ℕ) × IsReadBy t u l v) → RankSet t 0 u v
     to (inl (inl pair)) = (Init, pair)
     to (inl (inr (inl pair))) = (LoadOp, pair)
     to (inl (inr (inr (inl pair)))) = (StoreStore, pair)
@@ -72,37 +72,37 @@ later_is t u v event at = (λ is. to event.load refl is.0.0 is.0.1 is.1, from)
     from (inr (inl pair)) = (is_of pair.2, inr (inl pair.1))
     from (inr (inr pair)) = (
       is_of pair.2,
-      inr (inr (λ behind.
+      inr (inr (λ after.
           let between = pair.3 in
           let first : between.0.bars ≡ event.bars = ap (λ (x : Event). x.bars) (event_unique t u between.0 event between.2 at) in
-          let second : between.1.bars ≡ behind.0.bars = ap (λ (x : Event). x.bars) (event_unique t v between.1 behind.0 between.3 behind.1) in
+          let second : between.1.bars ≡ after.0.bars = ap (λ (x : Event). x.bars) (event_unique t v between.1 after.0 between.3 after.1) in
           let less : between.0.bars < between.1.bars = between.4 in
-          let same : behind.0.bars ≡ event.bars = behind.2 in
+          let same : after.0.bars ≡ event.bars = after.2 in
           omega arith)),
     )
 
 -- the bits of what program order puts behind a store
-pub ordered_bit : (t : TraceValue) (event : Event) (stores behind : List ℕ) (j a b k : ℕ) → k < 64 → event.load ≡ false → IsMask stores (IsStore t) → IsMask behind (IsBehind t event.bars) →
-    a ≡ get_or stores j 0 → b ≡ get_or behind j 0 → b < 2 ^ 64 → HasBit (bit_or a (bit_not w64 b)) k ↔ IsOrdered t event (64 * j + k)
-ordered_bit t event stores behind j a b k low store stores_are behind_is a_is b_is fits =
+pub ordered_bit : (t : TraceValue) (event : Event) (stores after : List ℕ) (j a b k : ℕ) → k < 64 → event.load ≡ false → IsMask stores (IsStore t) → IsMask after (HasBarriersBefore t event.bars) →
+    a ≡ get_or stores j 0 → b ≡ get_or after j 0 → b < 2 ^ 64 → HasBit (bit_or a (bit_not w64 b)) k ↔ IsOrdered t event (64 * j + k)
+ordered_bit t event stores after j a b k low store stores_are barriers_before_is a_is b_is fits =
     let n : ℕ = 64 * j + k in
     let at : n / 64 ≡ j = omega arith in
     let place : n % 64 ≡ k = omega arith in
     let either = HasBit-or a (bit_not w64 b) k in
     let not = HasBit-not b k fits low in
     let first = subst (λ i. HasBit a i ↔ HasNumber stores n) place (word_number stores j a n at a_is) in
-    let second = subst (λ i. HasBit b i ↔ HasNumber behind n) place (word_number behind j b n at b_is) in
+    let second = subst (λ i. HasBit b i ↔ HasNumber after n) place (word_number after j b n at b_is) in
     let is_store = mask_number stores (IsStore t) stores_are n in
-    let is_behind = mask_number behind (IsBehind t event.bars) behind_is n in (
+    let has_barriers_before = mask_number after (HasBarriersBefore t event.bars) barriers_before_is n in (
       λ bit. elim (either.0 bit) [
         | inl one ↦ inr (inl (is_store.0 (first.0 one)))
-        | inr one ↦ inr (inr (λ is. not.0 one (second.1 (is_behind.1 is))))
+        | inr one ↦ inr (inr (λ is. not.0 one (second.1 (has_barriers_before.1 is))))
       ],
       λ ordered. either.1 (elim ordered [
         | inl load ↦ absurd (false≢true (sym store ∙ load))
         | inr rest ↦ elim rest [
           | inl is ↦ inl (first.1 (is_store.1 is))
-          | inr other ↦ inr (not.1 (λ one. other (is_behind.0 (second.0 one))))
+          | inr other ↦ inr (not.1 (λ one. other (has_barriers_before.0 (second.0 one))))
         ]
       ]),
     )
@@ -122,10 +122,10 @@ later_word processor Of u j a above v at mask a_is above_is =
 
 -- one word more of the program-later numbers
 pub later_more : (t : TraceValue) (u : ℕ) (event : Event) (first old new processor : List ℕ) (j a above ordered : ℕ) → event_at t u ≡ Some event → IsMask processor (IsEventOf t event.proc) →
-    Marks first old (IsInFront (IsLater t u) j) → OnWord old new j (bit_and (bit_and a above) ordered) → a ≡ get_or processor j 0 → ((k : ℕ) → k < 64 → HasBit above k ↔ (u < 64 * j + k)) →
-    ((k : ℕ) → k < 64 → HasBit ordered k ↔ IsOrdered t event (64 * j + k)) → Marks first new (IsInFront (IsLater t u) (j + 1))
+    Marks first old (IsInEarlierWord (IsLater t u) j) → OnWord old new j (bit_and (bit_and a above) ordered) → a ≡ get_or processor j 0 → ((k : ℕ) → k < 64 → HasBit above k ↔ (u < 64 * j + k)) →
+    ((k : ℕ) → k < 64 → HasBit ordered k ↔ IsOrdered t event (64 * j + k)) → Marks first new (IsInEarlierWord (IsLater t u) (j + 1))
 later_more t u event first old new processor j a above ordered at mask before step a_is above_is ordered_is =
-    front_more first old new j (bit_and (bit_and a above) ordered) (IsLater t u) before step
+    earlier_words_more first old new j (bit_and (bit_and a above) ordered) (IsLater t u) before step
     (λ v in_word.
     let later = later_word processor (IsEventOf t event.proc) u j a above v in_word mask a_is above_is in
     let place : 64 * j + v % 64 ≡ v = omega arith in

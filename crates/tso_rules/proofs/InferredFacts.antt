@@ -4,7 +4,7 @@ use Rattle.std.specs.Prelude.{bit_and}
 use Rattle.std.proofs.lemmas.Option.{same_Some}
 use Rattle.std.proofs.lemmas.Bool.{false≢true, cases_lt}
 use Rattle.order_graph.specs.Digraphs.{Digraph, IsEdge, EdgesWithin}
-use Rattle.order_graph.specs.Tables.{HasNumber}
+use Rattle.order_graph.specs.BitRows.{HasNumber}
 use Rattle.order_paths.specs.Paths.{Reaches}
 use Rattle.order_paths.proofs.Reach.{Reaches-below}
 use Rattle.tso_ops.specs.Values.{TraceValue}
@@ -17,7 +17,8 @@ use Rattle.tso_model.specs.Certs.{inferred_index}
 use Rattle.tso_model.specs.EdgeLists.{IsNew, IsGivenBy}
 use Rattle.tso_model.proofs.Events.{event_above_zero, store_event}
 use Rattle.tso_model.proofs.RankFacts.{new_within}
-use Rattle.tso_rules.specs.Rows.{Marks, IsNewRow, IsOtherSource, IsSourceIn, IsSourceOf, GivesBy, IsFirstGiven}
+use Rattle.tso_rules.specs.Internal.MarkedRows.{Marks, IsNewRow, IsOtherSource, IsSourceIn, IsSourceOf, GivesBy}
+use Rattle.tso_rules.specs.Rows.{IsFirstGiven}
 use Rattle.tso_rules.proofs.BaseFacts.{load_at, at_load, store_to, source_load}
 use Rattle.tso_rules.proofs.RowFacts.{marks_both, marks_as, mask_number, both_number, words_more, ByWords, HasNumber-none, words_by, HasNumber-within, marked_is}
 

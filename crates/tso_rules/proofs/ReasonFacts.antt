@@ -8,7 +8,7 @@ use Rattle.tso_ops.specs.Values.{TraceValue}
 use Rattle.tso_cert.specs.declared.rules.InferredRule.TheVariants.{LoadPast}
 use Rattle.tso_model.specs.Rules.{InferredBy}
 use Rattle.tso_model.specs.EdgeLists.{IsGivenBy}
-use Rattle.tso_rules.specs.Rows.{IsPastBy, GivesBy}
+use Rattle.tso_rules.specs.Internal.MarkedRows.{IsPastBy, GivesBy}
 use Rattle.tso_rules.specs.declared.reasons.Ends.{Ends}
 
 -- the ends that LoadPast asks for are the store and the load

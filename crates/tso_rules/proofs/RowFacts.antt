@@ -11,10 +11,11 @@ use Rattle.std.proofs.lemmas.Nat.{and_le_r, one_shl}
 use Rattle.std.proofs.lemmas.List.{get_or-set_same, get_or-set_other, get_or_past}
 use Rattle.std.proofs.lemmas.Grind.{get_or_default_zero}
 use Rattle.std.proofs.lemmas.List.Elements.{Contains-append_left, Contains-push, Contains-push_cases}
-use Rattle.order_graph.specs.Tables.{HasBit, HasNumber}
+use Rattle.order_graph.specs.BitRows.{HasBit, HasNumber}
 use Rattle.order_graph.proofs.Words.{HasBit-zero, HasBit-or, HasBit-and, HasBit-not, HasBit-clear, HasBit-lowest, HasBit-decided}
 use Rattle.tso_ops.specs.Masks.{IsMask, IsMarked}
-use Rattle.tso_rules.specs.Rows.{IsAscending, IsRow, IsRowBelow, Marks}
+use Rattle.tso_rules.specs.Rows.{IsAscending, IsRow}
+use Rattle.tso_rules.specs.Internal.MarkedRows.{IsRowBelow, Marks}
 
 -- ---- rows of bits
 
@@ -329,20 +330,20 @@ pub words_by : (first last : List ℕ) (j : ℕ) (By : ℕ → ℕ → Type 0) �
 words_by first last j By marks whole = marks_as first last _ _ marks (λ v. (λ by. (by.0, by.2), λ is. (is.0, whole is.0 v is.1, is.1)))
 
 -- the numbers before word j that an edge leads to
-abbrev pub IsInFront : (ℕ → Type 0) → ℕ → ℕ → Type 0
-IsInFront To j v = (v / 64 < j) × To v
+abbrev pub IsInEarlierWord : (ℕ → Type 0) → ℕ → ℕ → Type 0
+IsInEarlierWord To j v = (v / 64 < j) × To v
 
-pub front_none : (marks : List ℕ) (j : ℕ) (To : ℕ → Type 0) → ((v : ℕ) → v / 64 < j → To v → ⊥) → Marks marks marks (IsInFront To j)
-front_none marks j To none = marks_none marks (IsInFront To j) (λ v is. none v is.0 is.1)
+pub earlier_words_none : (marks : List ℕ) (j : ℕ) (To : ℕ → Type 0) → ((v : ℕ) → v / 64 < j → To v → ⊥) → Marks marks marks (IsInEarlierWord To j)
+earlier_words_none marks j To none = marks_none marks (IsInEarlierWord To j) (λ v is. none v is.0 is.1)
 
 -- one word more, which has the bits of just the numbers that an edge leads to
-pub front_more : (first old new : List ℕ) (j word : ℕ) (To : ℕ → Type 0) → Marks first old (IsInFront To j) → Marks old new (λ v. (v / 64 ≡ j) × HasBit word (v % 64)) →
-    ((v : ℕ) → v / 64 ≡ j → HasBit word (v % 64) ↔ To v) → Marks first new (IsInFront To (j + 1))
-front_more first old new j word To before step bits =
+pub earlier_words_more : (first old new : List ℕ) (j word : ℕ) (To : ℕ → Type 0) → Marks first old (IsInEarlierWord To j) → Marks old new (λ v. (v / 64 ≡ j) × HasBit word (v % 64)) →
+    ((v : ℕ) → v / 64 ≡ j → HasBit word (v % 64) ↔ To v) → Marks first new (IsInEarlierWord To (j + 1))
+earlier_words_more first old new j word To before step bits =
     marks_as first new _ _ (marks_both first old new _ _ before step)
     (λ v. (
       λ either. elim either [
-        | inl front ↦ (let low = front.0 in (omega arith, front.1))
+        | inl prefix ↦ (let low = prefix.0 in (omega arith, prefix.1))
         | inr here ↦ (let at = here.0 in (omega arith, (bits v here.0).0 here.1))
       ],
       λ is. elim (cases_lt (v / 64) j) [
@@ -352,8 +353,8 @@ front_more first old new j word To before step bits =
     ))
 
 -- all words
-pub front_all : (first last : List ℕ) (j : ℕ) (To : ℕ → Type 0) → Marks first last (IsInFront To j) → ((v : ℕ) → To v → v / 64 < j) → Marks first last To
-front_all first last j To marks whole = marks_as first last _ _ marks (λ v. (λ is. is.1, λ to. (whole v to, to)))
+pub earlier_words_all : (first last : List ℕ) (j : ℕ) (To : ℕ → Type 0) → Marks first last (IsInEarlierWord To j) → ((v : ℕ) → To v → v / 64 < j) → Marks first last To
+earlier_words_all first last j To marks whole = marks_as first last _ _ marks (λ v. (λ is. is.1, λ to. (whole v to, to)))
 
 -- the bits of a word were marked in word j
 abbrev pub OnWord : List ℕ → List ℕ → ℕ → ℕ → Type 0
@@ -414,12 +415,12 @@ both_number one two j a b v at a_is b_is =
     (λ bit. (first.0 (both.0 bit).0, second.0 (both.0 bit).1), λ has. both.1 (first.1 has.0, second.1 has.1))
 
 -- one word more, of the numbers in two sets and not in a third, without one number
-pub front_more_kept : (first old new two other : List ℕ) (j a b c less number : ℕ) (One To : ℕ → Type 0) → Marks first old (IsInFront To j) → OnWord old new j less →
+pub earlier_words_kept : (first old new two other : List ℕ) (j a b c less number : ℕ) (One To : ℕ → Type 0) → Marks first old (IsInEarlierWord To j) → OnWord old new j less →
     ((v : ℕ) → v / 64 ≡ j → HasBit a (v % 64) ↔ One v) → b ≡ get_or two j 0 → c ≡ get_or other j 0 → c < 2 ^ 64 →
     ((k : ℕ) → k < 64 → HasBit less k ↔ (HasBit (bit_and (bit_and a b) (bit_not w64 c)) k × ((64 * j + k) ≢ number))) →
-    ((v : ℕ) → ((One v × HasNumber two v × (HasNumber other v → ⊥)) × (v ≢ number)) ↔ To v) → Marks first new (IsInFront To (j + 1))
-front_more_kept first old new two other j a b c less number One To before step a_is b_is c_is fits without to =
-    front_more first old new j less To before step
+    ((v : ℕ) → ((One v × HasNumber two v × (HasNumber other v → ⊥)) × (v ≢ number)) ↔ To v) → Marks first new (IsInEarlierWord To (j + 1))
+earlier_words_kept first old new two other j a b c less number One To before step a_is b_is c_is fits without to =
+    earlier_words_more first old new j less To before step
     (λ v at. let kept = kept_bit (One v) (HasNumber two v) (HasNumber other v) a b c (v % 64) fits (omega arith) (a_is v at) (word_number two j b v at b_is) (word_number other j c v at c_is) in
     let here = bit_without (bit_and (bit_and a b) (bit_not w64 c)) less j number v _ at without kept in
     (λ bit. (to v).0 (here.0 bit), λ is. here.1 ((to v).1 is)))

@@ -1,11 +1,12 @@
 //! The base rules.
 ghost use Rattle.std.specs.Prelude.{◌≡◌, ◌↔◌, ◌<◌, ◌+◌, ◌*◌, ◌/◌, ◌^◌, ℕ, suc, Some, IsTrue, IfOk, OnOk, IfSome, MatchOption};
-ghost use Rattle.order_graph.specs.Tables.{HasBit, HasNumber};
+ghost use Rattle.order_graph.specs.BitRows.{HasBit, HasNumber};
 ghost use Rattle.tso_ops.specs.Events.{event_total, IsEvent};
 ghost use Rattle.tso_model.specs.Rules.{IsOwnBy, BasePair};
-ghost use Rattle.tso_model.specs.Ranks.{F};
+ghost use Rattle.tso_model.specs.Ranks.{RankSet};
 ghost use Rattle.tso_model.specs.Certs.{IsFirstBase};
-ghost use Rattle.tso_rules.specs.Rows.{IsRow, Marks, IsLater, IsOrdered, IsReadBy};
+ghost use Rattle.tso_rules.specs.Rows.{IsRow};
+ghost use Rattle.tso_rules.specs.Internal.MarkedRows.{Marks, IsLater, IsOrdered, IsReadBy};
 
 use crate::marks::{mark_end, mark_word, marked, word_above, word_at};
 use crate::sources::{mark_sources, source_of};
@@ -67,7 +68,7 @@ fn own_target(trace: &Trace, u: usize, l: usize) -> Option<usize>
 ///
 /// It lists the numbers of `base_words`.
 pub fn base_row(alloc: Global, trace: &Trace, u: usize) -> Result<Vec<usize>, OutOfMemory>
-    ensures { IfOk result (λ row. IsRow row.items (F trace.now 0 u)) }
+    ensures { IfOk result (λ row. IsRow row.items (RankSet trace.now 0 u)) }
 {
     let _events = trace.events();
     marked(alloc, &base_words(alloc, trace, u)?, node_count(trace))
@@ -79,7 +80,7 @@ pub fn base_row(alloc: Global, trace: &Trace, u: usize) -> Result<Vec<usize>, Ou
 /// For 0 it takes one look at each event; else a few looks at each word of the trace's rows, and, for a store, one at each
 /// program-later load of its address.
 pub fn base_words(alloc: Global, trace: &Trace, u: usize) -> Result<Vec<u64>, OutOfMemory>
-    ensures { IfOk result (λ row. (v : ℕ) → HasNumber row.items v ↔ F trace.now 0 u v) }
+    ensures { IfOk result (λ row. (v : ℕ) → HasNumber row.items v ↔ RankSet trace.now 0 u v) }
 {
     let mut marks = Vec::with_capacity(alloc, word_count(trace))?;
     mark_base(trace, &mut marks, u)?;
@@ -97,7 +98,7 @@ fn word_count(trace: &Trace) -> usize
 
 /// Marks the numbers to which the base rules give an edge from `u`.
 fn mark_base(trace: &Trace, marks: &mut Vec<u64>, u: usize) -> Result<(), OutOfMemory>
-    ensures { OnOk result (Marks marks.old.items marks.new.items (F trace.now 0 u)) }
+    ensures { OnOk result (Marks marks.old.items marks.new.items (RankSet trace.now 0 u)) }
 {
     mark_events(trace, marks, u)?;
     mark_later(trace, marks, u)?;

@@ -3,7 +3,8 @@ ghost use Rattle.std.specs.Prelude.{◌≡◌, ℕ, suc, Some, IfOk, OnOk, IfSom
 ghost use Rattle.order_graph.specs.Digraphs.{IsEdge};
 ghost use Rattle.tso_ops.specs.Events.{IsSwapLoad};
 ghost use Rattle.tso_model.specs.EdgeLists.{IsNew};
-ghost use Rattle.tso_rules.specs.Rows.{IsRow, Marks, IsNewRow};
+ghost use Rattle.tso_rules.specs.Rows.{IsRow};
+ghost use Rattle.tso_rules.specs.Internal.MarkedRows.{Marks, IsNewRow};
 
 use crate::marks::{mark_word, marked, word_at, word_below, word_without};
 use crate::paths::path_row;

@@ -1,7 +1,8 @@
 //! Rows of bits, one for each number.
 ghost use Rattle.std.specs.Prelude.{◌≡◌, ◌≢◌, ◌↔◌, ◌<◌, ◌≤◌, ◌*◌, ◌+◌, ◌/◌, ◌%◌, ◌^◌, ℕ, Some, IsTrue, IfOk, OnOk, length, slice_index};
-ghost use Rattle.order_graph.specs.Tables.{HasBit, HasNumber};
-ghost use Rattle.tso_rules.specs.Rows.{IsRow, IsRowBelow, Marks};
+ghost use Rattle.order_graph.specs.BitRows.{HasBit, HasNumber};
+ghost use Rattle.tso_rules.specs.Rows.{IsRow};
+ghost use Rattle.tso_rules.specs.Internal.MarkedRows.{IsRowBelow, Marks};
 
 use std::alloc::Global;
 use tso_ops::OutOfMemory;

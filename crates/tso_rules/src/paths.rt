@@ -1,7 +1,7 @@
 //! Paths of a graph between any two numbers.
 ghost use Rattle.std.specs.Prelude.{◌↔◌, ◌≤◌, ◌^◌, ℕ, IsTrue, length};
 ghost use Rattle.order_graph.specs.Digraphs.{IsEdge};
-ghost use Rattle.order_graph.specs.Tables.{HasNumber};
+ghost use Rattle.order_graph.specs.BitRows.{HasNumber};
 ghost use Rattle.order_paths.specs.Paths.{Reaches};
 
 use order_graph::Graph;

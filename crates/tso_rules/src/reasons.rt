@@ -6,7 +6,8 @@ ghost use Rattle.tso_model.specs.Rules.{BasePair, InferredBy};
 ghost use Rattle.tso_cert.specs.declared.rules.BaseRule.{BaseRule};
 ghost use Rattle.tso_model.specs.EdgeLists.{IsGivenBy};
 ghost use Rattle.tso_cert.specs.declared.rules.InferredRule.{InferredRule};
-ghost use Rattle.tso_rules.specs.Rows.{IsJustifiedOver, IsUngiven, IsFirstGiven, IsPastBy, GivesBy};
+ghost use Rattle.tso_rules.specs.Rows.{IsJustifiedOver, IsUngiven, IsFirstGiven};
+ghost use Rattle.tso_rules.specs.Internal.MarkedRows.{IsPastBy, GivesBy};
 ghost use Rattle.tso_rules.specs.declared.reasons.Given.{Given};
 
 use crate::base::base_edge;

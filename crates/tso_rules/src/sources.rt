@@ -1,8 +1,8 @@
 //! The sources of loads as numbers.
 ghost use Rattle.std.specs.Prelude.{◌≡◌, ◌↔◌, ◌<◌, ◌^◌, ℕ, Some, length, IfSome, IfOk, OnOk};
 ghost use Rattle.tso_ops.specs.Events.{HasSource};
-ghost use Rattle.order_graph.specs.Tables.{HasNumber};
-ghost use Rattle.tso_rules.specs.Rows.{Marks, IsOtherSource, IsSourceIn, IsSourceOf};
+ghost use Rattle.order_graph.specs.BitRows.{HasNumber};
+ghost use Rattle.tso_rules.specs.Internal.MarkedRows.{Marks, IsOtherSource, IsSourceIn, IsSourceOf};
 
 use crate::marks::{mark_end, word_at};
 use std::alloc::Global;

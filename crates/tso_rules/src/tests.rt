@@ -8,7 +8,7 @@ use tso_cert::{BaseRule, InferredRule, Reason};
 use tso_ops::{Outcome, Trace, ValueFault};
 
 mod drawn;
-mod growths;
+mod refused_allocations;
 
 fn ld(a: u16, r: u64) -> Outcome {
     Outcome::Ld { a, r }
@@ -168,7 +168,7 @@ fn reasons_by_hand(rt: HostRuntime) -> Result<(), Fail> {
 }
 
 #[test]
-fn reasons_over_edges_taken_away(rt: HostRuntime) -> Result<(), Fail> {
+fn reasons_over_removed_edges(rt: HostRuntime) -> Result<(), Fail> {
     let alloc = rt.alloc();
     let trace = two_swaps_both_first(alloc)?;
     let mut graph = Graph::new(alloc, 5)?;

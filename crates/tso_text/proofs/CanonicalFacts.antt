@@ -12,12 +12,12 @@ use Rattle.tso_text.specs.declared.faults.Why.TheVariants.{BeforeProc}
 use Rattle.tso_text.specs.declared.lines.Line.{Line}
 use Rattle.tso_text.specs.declared.lines.Line.TheVariants.{Proc, Item, End}
 use Rattle.tso_text.specs.Grammars.{is_word, address}
-use Rattle.tso_text.specs.Numbers.{◌>>=◌, numeral, or_bad, no_number, one_number, two_numbers, three_numbers}
+use Rattle.tso_text.specs.Numbers.{◌>>=◌, numeral, or_bad_number, no_number, one_number, two_numbers, three_numbers}
 use Rattle.tso_text.specs.Spelling.{Grammar, line_fault, items_of}
 
 -- ---- numbers
 
-pub or_bad_ok : (o : Option ℕ) (n : ℕ) → or_bad o ≡ Ok n → o ≡ Some n
+pub or_bad_ok : (o : Option ℕ) (n : ℕ) → or_bad_number o ≡ Ok n → o ≡ Some n
 or_bad_ok None n e = absurd cc
 or_bad_ok (Some m) n e = cc
 

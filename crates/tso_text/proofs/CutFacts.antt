@@ -1,12 +1,12 @@
 -- Lemmas on parts and pieces that a line has no use for.
 use Rattle.std.proofs.Common.{◌≡◌, ℕ, List, [], ◌∷◌, length, Err, refl}
 use Rattle.line_text.specs.Lines.{SomePiece}
-use Rattle.tso_text.specs.Spelling.{unended}
+use Rattle.tso_text.specs.Spelling.{unended_text_fault}
 use Rattle.tso_text.specs.Numbers.{no_number}
 use Rattle.tso_text.specs.declared.faults.Why.TheVariants.{BadLine}
 
 -- bytes that no line end follows are no line
-pub unended_some : (part : List ℕ) → (length part ≡ 0 → ⊥) → unended part ≡ BadLine
+pub unended_some : (part : List ℕ) → (length part ≡ 0 → ⊥) → unended_text_fault part ≡ BadLine
 unended_some [] some = absurd (some refl)
 unended_some (b ∷ part) some = refl
 

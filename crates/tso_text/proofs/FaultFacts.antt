@@ -8,14 +8,14 @@ use Rattle.tso_ops.specs.declared.ops.Outcome.{Outcome}
 use Rattle.tso_ops.specs.declared.faults.ValueFault.{ValueFault}
 use Rattle.tso_ops.specs.declared.faults.ValueFault.TheVariants.{TooManyProcessors as ManyProcessors, TooManyEvents as ManyEvents, AddressRange as PastAddresses, ZeroValue as ZeroStored, RepeatedValue as Repeated, OutOfMemory as NoMemory}
 use Rattle.tso_ops.specs.Limits.{has_fault, fault_number, IsFaultless, IsFirstFault as IsFirstOfOp}
-use Rattle.tso_ops.specs.Tally.{IsTurnedAway as IsOpTurnedAway}
+use Rattle.tso_ops.specs.Tally.{IsAdmitRefusal as IsOpRefusedFor}
 use Rattle.tso_ops.specs.Values.{op_of}
 use Rattle.tso_text.specs.declared.acts.Act.{Act}
 use Rattle.tso_text.specs.declared.faults.Why.{Why}
 use Rattle.tso_text.specs.declared.faults.Why.TheVariants.{BadHeader, BadLine, BadNumber, BeforeProc, TooManyProcessors, TooManyEvents, AddressRange, ZeroValue, RepeatedValue, MissingEnd, AfterEnd, TooLong, ProcessorRange, OutOfMemory}
 use Rattle.tso_text.specs.Grammars.{op_fault, outcome_fault, plain_fault, act_fault, processor_of}
-use Rattle.tso_text.specs.Spelling.{number_of, same_why}
-use Rattle.tso_text.specs.Taken.{IsFirst, IsTurnedAway, why_of}
+use Rattle.tso_text.specs.Spelling.{text_fault_number, same_text_fault}
+use Rattle.tso_text.specs.Internal.Accepted.{IsFirstTextFault, IsRefusedFor, why_of}
 
 -- an operation without a fault has none in a text
 pub op_clean : (before : List Op) (op : Op) → ((why : ValueFault) → has_fault before op why ≡ false) → (w : Why) → op_fault before op w ≡ false
@@ -36,7 +36,7 @@ op_clean before op none OutOfMemory = refl
 
 -- below the fault of an operation there is none, in a text as in a value
 op_least : (before : List Op) (op : Op) (n : ℕ) → ((other : ValueFault) → fault_number other < n → has_fault before op other ≡ false) →
-    (w : Why) → number_of w < n + 4 → op_fault before op w ≡ false
+    (w : Why) → text_fault_number w < n + 4 → op_fault before op w ≡ false
 op_least before op n least BadHeader less = refl
 op_least before op n least BadLine less = refl
 op_least before op n least BadNumber less = refl
@@ -52,7 +52,7 @@ op_least before op n least TooLong less = refl
 op_least before op n least ProcessorRange less = refl
 op_least before op n least OutOfMemory less = refl
 
-op_first : (before : List Op) (op : Op) (why : ValueFault) → IsFirstOfOp before op why → IsFirst (op_fault before op) (why_of why)
+op_first : (before : List Op) (op : Op) (why : ValueFault) → IsFirstOfOp before op why → IsFirstTextFault (op_fault before op) (why_of why)
 op_first before op ManyProcessors first = absurd (false≢true first.fault)
 op_first before op ManyEvents first = record { fault = first.fault; least = λ w less. op_least before op 2 first.least w less }
 op_first before op PastAddresses first = record { fault = first.fault; least = λ w less. op_least before op 3 first.least w less }
@@ -60,8 +60,8 @@ op_first before op ZeroStored first = record { fault = first.fault; least = λ w
 op_first before op Repeated first = record { fault = first.fault; least = λ w less. op_least before op 5 first.least w less }
 op_first before op NoMemory first = absurd (false≢true first.fault)
 
-op_turned_away : (before : List Op) (op : Op) (why : ValueFault) → IsOpTurnedAway before op why → IsTurnedAway (op_fault before op) (why_of why)
-op_turned_away before op why away = ⊎_elim (λ memory. inl (ap why_of memory)) (λ first. inr (op_first before op why first)) away
+op_refused_for : (before : List Op) (op : Op) (why : ValueFault) → IsOpRefusedFor before op why → IsRefusedFor (op_fault before op) (why_of why)
+op_refused_for before op why away = ⊎_elim (λ memory. inl (ap why_of memory)) (λ first. inr (op_first before op why first)) away
 
 at_last : (before : List Op) (op : Op) → IsFaultless (before ++ op ∷ []) → (why : ValueFault) → has_fault before op why ≡ false
 at_last before op faultless why = faultless before op [] why refl
@@ -71,26 +71,26 @@ pub plain_clean : (items : List Op) (op : Op) → IsFaultless (items ++ op ∷ [
 unfolding plain_fault
 plain_clean items op faultless w = op_clean items op (at_last items op faultless) w
 
-pub plain_turned_away : (items : List Op) (op : Op) (why : ValueFault) → IsOpTurnedAway items op why → IsTurnedAway (plain_fault items op) (why_of why)
+pub plain_refused_for : (items : List Op) (op : Op) (why : ValueFault) → IsOpRefusedFor items op why → IsRefusedFor (plain_fault items op) (why_of why)
 unfolding plain_fault
-plain_turned_away items op why away = op_turned_away items op why away
+plain_refused_for items op why away = op_refused_for items op why away
 
 -- outcomes of traces
 pub outcome_clean : (items : List Outcome) (x : Outcome) (op : Op) → op ≡ op_of x → IsFaultless (map op_of items ++ op ∷ []) → (w : Why) → outcome_fault items x w ≡ false
 unfolding outcome_fault
 outcome_clean items x op is faultless w = op_clean (map op_of items) (op_of x) (at_last (map op_of items) (op_of x) (rw is at faultless)) w
 
-pub outcome_turned_away : (items : List Outcome) (x : Outcome) (op : Op) (why : ValueFault) → op ≡ op_of x → IsOpTurnedAway (map op_of items) op why → IsTurnedAway (outcome_fault items x) (why_of why)
+pub outcome_refused_for : (items : List Outcome) (x : Outcome) (op : Op) (why : ValueFault) → op ≡ op_of x → IsOpRefusedFor (map op_of items) op why → IsRefusedFor (outcome_fault items x) (why_of why)
 unfolding outcome_fault
-outcome_turned_away items x op why is away = op_turned_away (map op_of items) (op_of x) why (rw is at away)
+outcome_refused_for items x op why is away = op_refused_for (map op_of items) (op_of x) why (rw is at away)
 
 -- acts of schedules
 pub act_clean : (items : List Act) (act : Act) → processor_of act ≤ 15 → (w : Why) → act_fault items act w ≡ false
 unfolding act_fault
-act_clean items act low w = let off : ltb 15 (processor_of act) ≡ false = grind (arith, nat_tests) in rw off (and-false (same_why ProcessorRange w))
+act_clean items act low w = let off : ltb 15 (processor_of act) ≡ false = grind (arith, nat_tests) in rw off (and-false (same_text_fault ProcessorRange w))
 
-pub act_turned_away : (items : List Act) (act : Act) → 15 < processor_of act → IsTurnedAway (act_fault items act) ProcessorRange
+pub act_refused_for : (items : List Act) (act : Act) → 15 < processor_of act → IsRefusedFor (act_fault items act) ProcessorRange
 unfolding act_fault
-act_turned_away items act high =
+act_refused_for items act high =
     let on : ltb 15 (processor_of act) ≡ true = grind (arith, nat_tests) in
-    inr record { fault = rw on refl; least = λ w less. let other : same_why ProcessorRange w ≡ false = grind (arith, nat_tests) in rw other refl }
+    inr record { fault = rw on refl; least = λ w less. let other : same_text_fault ProcessorRange w ≡ false = grind (arith, nat_tests) in rw other refl }

@@ -15,8 +15,8 @@ use Rattle.tso_text.specs.Grammars.{schedule_grammar, schedule_line, is_word}
 use Rattle.tso_text.specs.Numbers.{no_number, one_number}
 use Rattle.tso_ops.specs.Limits.{IsTrace, KeepsLimits}
 use Rattle.tso_ops.specs.Tally.{Admitted}
-use Rattle.tso_text.specs.Spelling.{Spells, with_said, said, lists_of, lists_after, lines_of, items_of}
-use Rattle.tso_text.specs.Taken.{IsKept}
+use Rattle.tso_text.specs.Spelling.{SpellsLists, with_said, said, lists_of, lists_after, body_lines, items_of}
+use Rattle.tso_text.specs.Internal.Accepted.{IsKept}
 use Rattle.tso_text.proofs.CanonicalFacts.{if_bind, if_cond}
 use Rattle.tso_text.proofs.LineFacts.{items_of-map}
 
@@ -78,12 +78,12 @@ only_vector (v ∷ []) row n o d r one count pops is =
 only_vector (v ∷ w ∷ lists) row n o d r one count pops is = absurd cc
 
 -- the list that is taken out is the one that the text spells
-pub schedule_popped : (text : List ℕ) (lists : List (Vec Act)) (n : ℕ) (o : Option (Vec Act)) (d r : Vec Act) → Spells schedule_grammar text (rows lists) → n ≡ length lists →
-    ((d : Vec Act) → 0 < n → o ≡ Some (get_or lists (n - 1) d)) → r ≡ unwrap_or o d → Spells schedule_grammar text (r.items ∷ [])
+pub schedule_popped : (text : List ℕ) (lists : List (Vec Act)) (n : ℕ) (o : Option (Vec Act)) (d r : Vec Act) → SpellsLists schedule_grammar text (rows lists) → n ≡ length lists →
+    ((d : Vec Act) → 0 < n → o ≡ Some (get_or lists (n - 1) d)) → r ≡ unwrap_or o d → SpellsLists schedule_grammar text (r.items ∷ [])
 schedule_popped text lists n o d r spells count pops is =
-    let one = one_list (lines_of text) in
-    subst (Spells schedule_grammar text) (only_vector lists one.0 n o d r (sym spells.says ∙ one.1) count pops is) spells
+    let one = one_list (body_lines text) in
+    subst (SpellsLists schedule_grammar text) (only_vector lists one.0 n o d r (sym spells.says ∙ one.1) count pops is) spells
 
 -- what a text of a schedule spells is one list
-pub schedule_spelled : (text : List ℕ) (lists : List (List Act)) → Spells schedule_grammar text lists → (acts : List Act) × Spells schedule_grammar text (acts ∷ [])
-schedule_spelled text lists spells = let one = one_list (lines_of text) in (one.0, subst (Spells schedule_grammar text) (sym spells.says ∙ one.1) spells)
+pub schedule_spelled : (text : List ℕ) (lists : List (List Act)) → SpellsLists schedule_grammar text lists → (acts : List Act) × SpellsLists schedule_grammar text (acts ∷ [])
+schedule_spelled text lists spells = let one = one_list (body_lines text) in (one.0, subst (SpellsLists schedule_grammar text) (sym spells.says ∙ one.1) spells)

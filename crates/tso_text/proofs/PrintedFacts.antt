@@ -11,8 +11,8 @@ use Rattle.tso_text.specs.declared.faults.Why.{Why}
 use Rattle.tso_text.specs.declared.faults.Why.TheVariants.{BadHeader, AfterEnd}
 use Rattle.tso_text.specs.declared.lines.Line.{Line}
 use Rattle.tso_text.specs.declared.lines.Line.TheVariants.{Proc, Item, End}
-use Rattle.tso_text.specs.Spelling.{Grammar, Spells, fault_at, said_fault, line_fault, said, lists_of, with_line, with_said, has_ended, has_header, is_end, unended, body_of, lines_of, same_why}
-use Rattle.tso_text.proofs.Reaching.{part_fault-open, part_fault-last, part_fault-ended, fault_at-place, lists_of-push, has_ended-push}
+use Rattle.tso_text.specs.Spelling.{Grammar, SpellsLists, fault_at, said_fault, line_fault, said, lists_of, with_line, with_said, has_end_line, has_header, is_end, unended_text_fault, body_of, body_lines, same_text_fault}
+use Rattle.tso_text.proofs.Reaching.{part_fault-open, part_fault-last, part_fault-ended, fault_at-place, lists_of-push, has_end_line-push}
 
 -- ---- the lines of a spelled text
 
@@ -29,8 +29,8 @@ record Rendered {X : Type 0} (made : List (List X) → List (Line X)) (pieces : 
   makes : made last ≡ made lists ++ lines
   text : join_with_byte 10 parts ≡ flat_map (λ l. line_text (pieces l)) lines ++ line_text (pieces End)
 
-same_why-self : (w : Why) → same_why w w ≡ true
-same_why-self w = grind (arith, nat_tests)
+same_text_fault-self : (w : Why) → same_text_fault w w ≡ true
+same_text_fault-self w = grind (arith, nat_tests)
 
 -- a line is its pieces
 part_text : {X : Type 0} (pieces : Line X → List (List ℕ)) (part : List ℕ) (l : Line X) → pieces_of part ≡ pieces l → part ≡ join_with_byte 32 (pieces l)
@@ -38,10 +38,10 @@ unfolding pieces_of
 part_text pieces part l same = sym (join_with_byte-slice_split 32 part) ∙ ap (join_with_byte 32) same
 
 -- the lines of a text are the parts in front of its last
-pub lines_of-place : (text : List ℕ) (front : List (List ℕ)) (last : List ℕ) → body_of text ≡ front ++ last ∷ [] → lines_of text ≡ front
-lines_of-place text front last body =
-    let n : length (front ++ last ∷ []) - 1 ≡ length front = omega (arith, length-append front (last ∷ [])) in
-    let t : take (length (front ++ last ∷ []) - 1) (front ++ last ∷ []) ≡ front = take_at front (last ∷ []) (length (front ++ last ∷ []) - 1) (sym n) in
+pub body_lines-place : (text : List ℕ) (prefix : List (List ℕ)) (last : List ℕ) → body_of text ≡ prefix ++ last ∷ [] → body_lines text ≡ prefix
+body_lines-place text prefix last body =
+    let n : length (prefix ++ last ∷ []) - 1 ≡ length prefix = omega (arith, length-append prefix (last ∷ [])) in
+    let t : take (length (prefix ++ last ∷ []) - 1) (prefix ++ last ∷ []) ≡ prefix = take_at prefix (last ∷ []) (length (prefix ++ last ∷ []) - 1) (sym n) in
     rw (body, t) refl
 
 -- behind an `end` there is nothing
@@ -74,46 +74,46 @@ rendered_end g made pieces prints lists part last says same = record {
 
 -- what the parts behind a line are, where the lines go on
 abbrev GoesOn : {X : Type 0} → Grammar X → (List (List X) → List (Line X)) → (Line X → List (List ℕ)) → List (List ℕ) → List (List ℕ) → List (List X) → Type 0
-GoesOn {X} g made pieces front parts last = (lists : List (List X)) → has_ended g front ≡ false → lists_of g front ≡ lists → Rendered made pieces lists parts last
+GoesOn {X} g made pieces prefix parts last = (lists : List (List X)) → has_end_line g prefix ≡ false → lists_of g prefix ≡ lists → Rendered made pieces lists parts last
 
-rendered_line : {X : Type 0} (g : Grammar X) (made : List (List X) → List (Line X)) (pieces : Line X → List (List ℕ)) → Prints g made pieces → (text : List ℕ) (last : List (List X)) → Spells g text last →
-    (front : List (List ℕ)) (part next : List ℕ) (parts : List (List ℕ)) (lists : List (List X)) → body_of text ≡ (front ++ part ∷ []) ++ next ∷ parts → has_ended g front ≡ false → lists_of g front ≡ lists →
-    GoesOn g made pieces (front ++ part ∷ []) (next ∷ parts) last → (l : Line X) → said g part ≡ Ok l → ((w : Why) → line_fault g lists l w ≡ false) → Rendered made pieces lists (part ∷ next ∷ parts) last
-rendered_line g made pieces prints text last spells front part next parts lists behind running says go Proc is clean =
+rendered_line : {X : Type 0} (g : Grammar X) (made : List (List X) → List (Line X)) (pieces : Line X → List (List ℕ)) → Prints g made pieces → (text : List ℕ) (last : List (List X)) → SpellsLists g text last →
+    (prefix : List (List ℕ)) (part next : List ℕ) (parts : List (List ℕ)) (lists : List (List X)) → body_of text ≡ (prefix ++ part ∷ []) ++ next ∷ parts → has_end_line g prefix ≡ false → lists_of g prefix ≡ lists →
+    GoesOn g made pieces (prefix ++ part ∷ []) (next ∷ parts) last → (l : Line X) → said g part ≡ Ok l → ((w : Why) → line_fault g lists l w ≡ false) → Rendered made pieces lists (part ∷ next ∷ parts) last
+rendered_line g made pieces prints text last spells prefix part next parts lists after running says go Proc is clean =
     rendered_more g made pieces prints lists part next parts last Proc is clean refl
-    (go _ (has_ended-push g front part running ∙ ap is_end is) (lists_of-push g front part ∙ ap (λ l. with_said l (said g part)) says ∙ ap (with_said lists) is))
-rendered_line g made pieces prints text last spells front part next parts lists behind running says go (Item x) is clean =
+    (go _ (has_end_line-push g prefix part running ∙ ap is_end is) (lists_of-push g prefix part ∙ ap (λ l. with_said l (said g part)) says ∙ ap (with_said lists) is))
+rendered_line g made pieces prints text last spells prefix part next parts lists after running says go (Item x) is clean =
     rendered_more g made pieces prints lists part next parts last (Item x) is clean refl
-    (go _ (has_ended-push g front part running ∙ ap is_end is) (lists_of-push g front part ∙ ap (λ l. with_said l (said g part)) says ∙ ap (with_said lists) is))
-rendered_line g made pieces prints text last spells front part next parts lists behind running says go End is clean =
-    let ended : has_ended g (front ++ part ∷ []) ≡ true = has_ended-push g front part running ∙ ap is_end is in
+    (go _ (has_end_line-push g prefix part running ∙ ap is_end is) (lists_of-push g prefix part ∙ ap (λ l. with_said l (said g part)) says ∙ ap (with_said lists) is))
+rendered_line g made pieces prints text last spells prefix part next parts lists after running says go End is clean =
+    let ended : has_end_line g (prefix ++ part ∷ []) ≡ true = has_end_line-push g prefix part running ∙ ap is_end is in
     let none = nothing_left next parts
-    (sym (part_fault-ended g (front ++ part ∷ []) next (is_empty parts) AfterEnd ended) ∙ sym (fault_at-place g text (front ++ part ∷ []) next parts (length (front ++ part ∷ [])) AfterEnd behind refl)
-    ∙ spells.clean (suc (suc (length (front ++ part ∷ [])))) AfterEnd) in
-    let whole : body_of text ≡ (front ++ part ∷ []) ++ [] ∷ [] = behind ∙ ap (λ p. (front ++ part ∷ []) ++ p ∷ parts) none.0 ∙ ap (λ ps. (front ++ part ∷ []) ++ [] ∷ ps) none.1 in
-    let same : lists ≡ last = sym (lists_of-push g front part ∙ ap (λ l. with_said l (said g part)) says ∙ ap (with_said lists) is) ∙ ap (lists_of g) (sym (lines_of-place text (front ++ part ∷ []) [] whole)) ∙ spells.says in
+    (sym (part_fault-ended g (prefix ++ part ∷ []) next (is_empty parts) AfterEnd ended) ∙ sym (fault_at-place g text (prefix ++ part ∷ []) next parts (length (prefix ++ part ∷ [])) AfterEnd after refl)
+    ∙ spells.clean (suc (suc (length (prefix ++ part ∷ [])))) AfterEnd) in
+    let whole : body_of text ≡ (prefix ++ part ∷ []) ++ [] ∷ [] = after ∙ ap (λ p. (prefix ++ part ∷ []) ++ p ∷ parts) none.0 ∙ ap (λ ps. (prefix ++ part ∷ []) ++ [] ∷ ps) none.1 in
+    let same : lists ≡ last = sym (lists_of-push g prefix part ∙ ap (λ l. with_said l (said g part)) says ∙ ap (with_said lists) is) ∙ ap (lists_of g) (sym (body_lines-place text (prefix ++ part ∷ []) [] whole)) ∙ spells.says in
     rw (none.0, none.1) (rendered_end g made pieces prints lists part last is same)
 
-rendered_said : {X : Type 0} (g : Grammar X) (made : List (List X) → List (Line X)) (pieces : Line X → List (List ℕ)) → Prints g made pieces → (text : List ℕ) (last : List (List X)) → Spells g text last →
-    (front : List (List ℕ)) (part next : List ℕ) (parts : List (List ℕ)) (lists : List (List X)) → body_of text ≡ (front ++ part ∷ []) ++ next ∷ parts → has_ended g front ≡ false → lists_of g front ≡ lists →
-    GoesOn g made pieces (front ++ part ∷ []) (next ∷ parts) last → (r : Result (Line X) Why) → said g part ≡ r → ((w : Why) → said_fault g lists r w ≡ false) → Rendered made pieces lists (part ∷ next ∷ parts) last
-rendered_said g made pieces prints text last spells front part next parts lists behind running says go (Err why) is clean = absurd (false≢true (sym (clean why) ∙ same_why-self why))
-rendered_said g made pieces prints text last spells front part next parts lists behind running says go (Ok l) is clean =
-    rendered_line g made pieces prints text last spells front part next parts lists behind running says go l is clean
+rendered_said : {X : Type 0} (g : Grammar X) (made : List (List X) → List (Line X)) (pieces : Line X → List (List ℕ)) → Prints g made pieces → (text : List ℕ) (last : List (List X)) → SpellsLists g text last →
+    (prefix : List (List ℕ)) (part next : List ℕ) (parts : List (List ℕ)) (lists : List (List X)) → body_of text ≡ (prefix ++ part ∷ []) ++ next ∷ parts → has_end_line g prefix ≡ false → lists_of g prefix ≡ lists →
+    GoesOn g made pieces (prefix ++ part ∷ []) (next ∷ parts) last → (r : Result (Line X) Why) → said g part ≡ r → ((w : Why) → said_fault g lists r w ≡ false) → Rendered made pieces lists (part ∷ next ∷ parts) last
+rendered_said g made pieces prints text last spells prefix part next parts lists after running says go (Err why) is clean = absurd (false≢true (sym (clean why) ∙ same_text_fault-self why))
+rendered_said g made pieces prints text last spells prefix part next parts lists after running says go (Ok l) is clean =
+    rendered_line g made pieces prints text last spells prefix part next parts lists after running says go l is clean
 
 -- the parts of a spelled text, from a line on
-rendered : {X : Type 0} (g : Grammar X) (made : List (List X) → List (Line X)) (pieces : Line X → List (List ℕ)) → Prints g made pieces → (text : List ℕ) (last : List (List X)) → Spells g text last →
-    (front : List (List ℕ)) (part : List ℕ) (parts : List (List ℕ)) (lists : List (List X)) → body_of text ≡ front ++ part ∷ parts → has_ended g front ≡ false → lists_of g front ≡ lists →
+rendered : {X : Type 0} (g : Grammar X) (made : List (List X) → List (Line X)) (pieces : Line X → List (List ℕ)) → Prints g made pieces → (text : List ℕ) (last : List (List X)) → SpellsLists g text last →
+    (prefix : List (List ℕ)) (part : List ℕ) (parts : List (List ℕ)) (lists : List (List X)) → body_of text ≡ prefix ++ part ∷ parts → has_end_line g prefix ≡ false → lists_of g prefix ≡ lists →
     Rendered made pieces lists (part ∷ parts) last
-rendered g made pieces prints text last spells front part [] lists body running says =
-    absurd (false≢true (sym (spells.clean (suc (suc (length front))) (unended part)) ∙ fault_at-place g text front part [] (length front) (unended part) body refl
-    ∙ part_fault-last g front part (unended part) running ∙ same_why-self (unended part)))
-rendered g made pieces prints text last spells front part (next ∷ parts) lists body running says =
-    let behind : body_of text ≡ (front ++ part ∷ []) ++ next ∷ parts = body ∙ sym (append_assoc front (part ∷ []) (next ∷ parts)) in
-    rendered_said g made pieces prints text last spells front part next parts lists behind running says
-    (λ ls runs is. rendered g made pieces prints text last spells (front ++ part ∷ []) next parts ls behind runs is)
+rendered g made pieces prints text last spells prefix part [] lists body running says =
+    absurd (false≢true (sym (spells.clean (suc (suc (length prefix))) (unended_text_fault part)) ∙ fault_at-place g text prefix part [] (length prefix) (unended_text_fault part) body refl
+    ∙ part_fault-last g prefix part (unended_text_fault part) running ∙ same_text_fault-self (unended_text_fault part)))
+rendered g made pieces prints text last spells prefix part (next ∷ parts) lists body running says =
+    let after : body_of text ≡ (prefix ++ part ∷ []) ++ next ∷ parts = body ∙ sym (append_assoc prefix (part ∷ []) (next ∷ parts)) in
+    rendered_said g made pieces prints text last spells prefix part next parts lists after running says
+    (λ ls runs is. rendered g made pieces prints text last spells (prefix ++ part ∷ []) next parts ls after runs is)
     (said g part) refl
-    (λ w. ap (λ l. said_fault g l (said g part) w) (sym says) ∙ sym (part_fault-open g front part w running) ∙ sym (fault_at-place g text front part (next ∷ parts) (length front) w body refl) ∙ spells.clean (suc (suc (length front))) w)
+    (λ w. ap (λ l. said_fault g l (said g part) w) (sym says) ∙ sym (part_fault-open g prefix part w running) ∙ sym (fault_at-place g text prefix part (next ∷ parts) (length prefix) w body refl) ∙ spells.clean (suc (suc (length prefix))) w)
 
 header_place : (header : List ℕ) (parts : List (List ℕ)) → has_header header parts ≡ true → (first : List ℕ) × (others : List (List ℕ)) × (parts ≡ header ∷ first ∷ others)
 header_place header [] e = absurd cc
@@ -124,14 +124,14 @@ not_false : (b : Bool) → (true && not b) ≡ false → b ≡ true
 not_false true e = refl
 not_false false e = absurd cc
 
-begins_so : {X : Type 0} (g : Grammar X) (text : List ℕ) (lists : List (List X)) → Spells g text lists → has_header g.header (parts_of text) ≡ true
+begins_so : {X : Type 0} (g : Grammar X) (text : List ℕ) (lists : List (List X)) → SpellsLists g text lists → has_header g.header (parts_of text) ≡ true
 unfolding fault_at
 begins_so g text lists spells = not_false _ (spells.clean 1 BadHeader)
 
 -- a spelled text is the header, the lines of the value, and `end`
-pub spelled_text : {X : Type 0} (g : Grammar X) (made : List (List X) → List (Line X)) (pieces : Line X → List (List ℕ)) → Prints g made pieces → (text : List ℕ) (lists : List (List X)) → Spells g text lists →
+pub spelled_text : {X : Type 0} (g : Grammar X) (made : List (List X) → List (Line X)) (pieces : Line X → List (List ℕ)) → Prints g made pieces → (text : List ℕ) (lists : List (List X)) → SpellsLists g text lists →
     text ≡ g.header ++ 10 ∷ (flat_map (λ l. line_text (pieces l)) (made lists) ++ line_text (pieces End))
-unfolding parts_of has_ended lists_of
+unfolding parts_of has_end_line lists_of
 spelled_text g made pieces prints text lists spells =
     let p = header_place g.header (parts_of text) (begins_so g text lists spells) in
     let r = rendered g made pieces prints text lists spells [] p.0 p.1 g.start (ap (drop 1) p.2) refl refl in

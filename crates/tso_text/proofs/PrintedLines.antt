@@ -9,9 +9,9 @@ use Rattle.tso_text.specs.declared.lines.Line.{Line}
 use Rattle.tso_text.specs.declared.lines.Line.TheVariants.{End}
 use Rattle.tso_text.specs.Printed.{whole_text}
 use Rattle.line_text.specs.Lines.{line_text, parts_of, pieces_of}
-use Rattle.tso_text.specs.Spelling.{Grammar, Spells, said, said_fault, line_fault, lists_of, with_line, with_said, has_ended, is_end}
+use Rattle.tso_text.specs.Spelling.{Grammar, SpellsLists, said, said_fault, line_fault, lists_of, with_line, with_said, has_end_line, is_end}
 use Rattle.tso_text.proofs.CanonicalFacts.{pieces_by}
-use Rattle.tso_text.proofs.Reaching.{IsClean, IsClean-push, Begins, part_fault-open, lists_of-push, has_ended-push, spelled}
+use Rattle.tso_text.proofs.Reaching.{IsClean, IsClean-push, Begins, part_fault-open, lists_of-push, has_end_line-push, spelled}
 use Rattle.line_text.proofs.SplitFacts.{has_byte, has_byte_in, split_part, split_joined, joined_without}
 
 -- ---- lines that are read back
@@ -46,93 +46,93 @@ line_of-whole g p l back = joined_without 10 32 (pieces_by p l) refl back.no_end
 -- ---- lines that are taken one after another
 
 -- the line is read back, has no fault behind these lists, and doesn't end the text
-pub record IsTaken {X : Type 0} (g : Grammar X) (p : X → List (List ℕ)) (lists : List (List X)) (l : Line X) : Type 0 where
+pub record IsAccepted {X : Type 0} (g : Grammar X) (p : X → List (List ℕ)) (lists : List (List X)) (l : Line X) : Type 0 where
   pub back : IsReadBack g p l
   pub clean : (w : Why) → line_fault g lists l w ≡ false
-  pub goes_on : is_end (Ok l) ≡ false
+  pub continues : is_end (Ok l) ≡ false
 
 -- behind the first lists these lines are taken, and make the last
-abbrev pub AreTaken : {X : Type 0} → Grammar X → (X → List (List ℕ)) → List (List X) → List (Line X) → List (List X) → Type 0
-AreTaken g p first [] last = first ≡ last
-AreTaken g p first (l ∷ ls) last = (taken : IsTaken g p first l) × AreTaken g p (with_line first l) ls last
+abbrev pub AreAccepted : {X : Type 0} → Grammar X → (X → List (List ℕ)) → List (List X) → List (Line X) → List (List X) → Type 0
+AreAccepted g p first [] last = first ≡ last
+AreAccepted g p first (l ∷ ls) last = (accepted : IsAccepted g p first l) × AreAccepted g p (with_line first l) ls last
 
 -- the bytes of these lines in front of a rest are cut into the lines and the parts of the rest
-parts-lines : {X : Type 0} (g : Grammar X) (p : X → List (List ℕ)) (first : List (List X)) (ls : List (Line X)) (last : List (List X)) (rest : List ℕ) → AreTaken g p first ls last →
+parts-lines : {X : Type 0} (g : Grammar X) (p : X → List (List ℕ)) (first : List (List X)) (ls : List (Line X)) (last : List (List X)) (rest : List ℕ) → AreAccepted g p first ls last →
     slice_split (λ b. eqb b 10) (flat_map (λ l. line_text (pieces_by p l)) ls ++ rest) ≡ map (line_of p) ls ++ slice_split (λ b. eqb b 10) rest
-parts-lines g p first [] last rest taken = refl
-parts-lines g p first (l ∷ ls) last rest taken =
-    let behind = flat_map (λ l. line_text (pieces_by p l)) ls in
-    let bytes : ((line_of p l ++ 10 ∷ []) ++ behind) ++ rest ≡ line_of p l ++ 10 ∷ (behind ++ rest) =
-    append_assoc (line_of p l ++ 10 ∷ []) behind rest ∙ append_assoc (line_of p l) (10 ∷ []) (behind ++ rest) in
+parts-lines g p first [] last rest accepted = refl
+parts-lines g p first (l ∷ ls) last rest accepted =
+    let after = flat_map (λ l. line_text (pieces_by p l)) ls in
+    let bytes : ((line_of p l ++ 10 ∷ []) ++ after) ++ rest ≡ line_of p l ++ 10 ∷ (after ++ rest) =
+    append_assoc (line_of p l ++ 10 ∷ []) after rest ∙ append_assoc (line_of p l) (10 ∷ []) (after ++ rest) in
     ap (slice_split (λ b. eqb b 10)) bytes
-    ∙ split_part 10 (line_of p l) (behind ++ rest) (line_of-whole g p l taken.0.back)
-    ∙ ap (λ ps. line_of p l ∷ ps) (parts-lines g p (with_line first l) ls last rest taken.1)
+    ∙ split_part 10 (line_of p l) (after ++ rest) (line_of-whole g p l accepted.0.back)
+    ∙ ap (λ ps. line_of p l ∷ ps) (parts-lines g p (with_line first l) ls last rest accepted.1)
 
 -- the lines are as long as their number allows
-pub length-lines : {X : Type 0} (g : Grammar X) (p : X → List (List ℕ)) (first : List (List X)) (ls : List (Line X)) (last : List (List X)) → AreTaken g p first ls last →
+pub length-lines : {X : Type 0} (g : Grammar X) (p : X → List (List ℕ)) (first : List (List X)) (ls : List (Line X)) (last : List (List X)) → AreAccepted g p first ls last →
     length (flat_map (λ l. line_text (pieces_by p l)) ls) ≤ 70 * length ls
-length-lines g p first [] last taken = omega arith
-length-lines g p first (l ∷ ls) last taken =
-    let short = taken.0.back.short in
-    let rest = length-lines g p (with_line first l) ls last taken.1 in
+length-lines g p first [] last accepted = omega arith
+length-lines g p first (l ∷ ls) last accepted =
+    let short = accepted.0.back.short in
+    let rest = length-lines g p (with_line first l) ls last accepted.1 in
     omega (arith, short, rest, length-append (line_text (pieces_by p l)) (flat_map (λ l. line_text (pieces_by p l)) ls), length-append (line_of p l) (10 ∷ []))
 
 -- the front is without a fault, no line of it ends the text, and it says these lists
-record Stands {X : Type 0} (g : Grammar X) (front : List (List ℕ)) (lists : List (List X)) : Type 0 where
-  clean : IsClean g front
-  running : has_ended g front ≡ false
-  says : lists_of g front ≡ lists
+record Stands {X : Type 0} (g : Grammar X) (prefix : List (List ℕ)) (lists : List (List X)) : Type 0 where
+  clean : IsClean g prefix
+  running : has_end_line g prefix ≡ false
+  says : lists_of g prefix ≡ lists
 
-stands-push : {X : Type 0} (g : Grammar X) (p : X → List (List ℕ)) (front : List (List ℕ)) (lists : List (List X)) (l : Line X) → Stands g front lists → IsTaken g p lists l →
-    Stands g (front ++ line_of p l ∷ []) (with_line lists l)
-stands-push g p front lists l stands taken =
-    let is = said-line_of g p l taken.back in
+stands-push : {X : Type 0} (g : Grammar X) (p : X → List (List ℕ)) (prefix : List (List ℕ)) (lists : List (List X)) (l : Line X) → Stands g prefix lists → IsAccepted g p lists l →
+    Stands g (prefix ++ line_of p l ∷ []) (with_line lists l)
+stands-push g p prefix lists l stands accepted =
+    let is = said-line_of g p l accepted.back in
     record {
-      clean = IsClean-push g front (line_of p l) stands.clean (λ w. part_fault-open g front (line_of p l) w stands.running ∙ ap (λ ls. said_fault g ls (said g (line_of p l)) w) stands.says ∙ ap (λ r. said_fault g lists r w) is ∙ taken.clean w);
-      running = has_ended-push g front (line_of p l) stands.running ∙ ap is_end is ∙ taken.goes_on;
-      says = lists_of-push g front (line_of p l) ∙ ap (λ ls. with_said ls (said g (line_of p l))) stands.says ∙ ap (with_said lists) is;
+      clean = IsClean-push g prefix (line_of p l) stands.clean (λ w. part_fault-open g prefix (line_of p l) w stands.running ∙ ap (λ ls. said_fault g ls (said g (line_of p l)) w) stands.says ∙ ap (λ r. said_fault g lists r w) is ∙ accepted.clean w);
+      running = has_end_line-push g prefix (line_of p l) stands.running ∙ ap is_end is ∙ accepted.continues;
+      says = lists_of-push g prefix (line_of p l) ∙ ap (λ ls. with_said ls (said g (line_of p l))) stands.says ∙ ap (with_said lists) is;
     }
 
-stands-lines : {X : Type 0} (g : Grammar X) (p : X → List (List ℕ)) (front : List (List ℕ)) (first : List (List X)) (ls : List (Line X)) (last : List (List X)) → Stands g front first → AreTaken g p first ls last →
-    Stands g (front ++ map (line_of p) ls) last
-stands-lines {X} g p front first [] last stands taken = subst (λ (f : List (List ℕ)). Stands g f last) (sym (append-nil front)) (subst (Stands g front) taken stands)
-stands-lines g p front first (l ∷ ls) last stands taken =
-    subst (λ f. Stands g f last) (append_assoc front (line_of p l ∷ []) (map (line_of p) ls))
-    (stands-lines g p (front ++ line_of p l ∷ []) (with_line first l) ls last (stands-push g p front first l stands taken.0) taken.1)
+stands-lines : {X : Type 0} (g : Grammar X) (p : X → List (List ℕ)) (prefix : List (List ℕ)) (first : List (List X)) (ls : List (Line X)) (last : List (List X)) → Stands g prefix first → AreAccepted g p first ls last →
+    Stands g (prefix ++ map (line_of p) ls) last
+stands-lines {X} g p prefix first [] last stands accepted = subst (λ (f : List (List ℕ)). Stands g f last) (sym (append-nil prefix)) (subst (Stands g prefix) accepted stands)
+stands-lines g p prefix first (l ∷ ls) last stands accepted =
+    subst (λ f. Stands g f last) (append_assoc prefix (line_of p l ∷ []) (map (line_of p) ls))
+    (stands-lines g p (prefix ++ line_of p l ∷ []) (with_line first l) ls last (stands-push g p prefix first l stands accepted.0) accepted.1)
 
 nothing_before : {X : Type 0} (g : Grammar X) → Stands g [] g.start
-unfolding has_ended lists_of
+unfolding has_end_line lists_of
 nothing_before g = record { clean = λ i w low. absurd (omega arith); running = refl; says = refl }
 
 -- a text of the header, lines that are taken, and `end` spells what the lines make
 pub printed_spells : {X : Type 0} (g : Grammar X) (p : X → List (List ℕ)) (ls : List (Line X)) (last : List (List X)) (lines : List ℕ) →
-    has_byte 10 g.header ≡ false → IsReadBack g p End → AreTaken g p g.start ls last → flat_map (λ l. line_text (pieces_by p l)) ls ≡ lines →
-    length (whole_text g.header lines) ≤ 1048576 → Spells g (whole_text g.header lines) last
+    has_byte 10 g.header ≡ false → IsReadBack g p End → AreAccepted g p g.start ls last → flat_map (λ l. line_text (pieces_by p l)) ls ≡ lines →
+    length (whole_text g.header lines) ≤ 1048576 → SpellsLists g (whole_text g.header lines) last
 unfolding parts_of whole_text
-printed_spells {X} g p ls last lines header end taken bytes short =
+printed_spells {X} g p ls last lines header end accepted bytes short =
     let ending = line_of p End in
-    let front = map (line_of p) ls in
-    let stands = stands-lines g p [] g.start ls last (nothing_before g) taken in
+    let prefix = map (line_of p) ls in
+    let stands = stands-lines g p [] g.start ls last (nothing_before g) accepted in
     let is = said-line_of g p End end in
-    let behind : slice_split (λ b. eqb b 10) (lines ++ line_text (codes "end" ∷ [])) ≡ front ++ ending ∷ [] ∷ [] =
+    let after : slice_split (λ b. eqb b 10) (lines ++ line_text (codes "end" ∷ [])) ≡ prefix ++ ending ∷ [] ∷ [] =
     ap (λ b. slice_split (λ b. eqb b 10) (b ++ line_text (codes "end" ∷ []))) (sym bytes)
-    ∙ parts-lines g p g.start ls last (line_text (codes "end" ∷ [])) taken
-    ∙ ap (λ ps. front ++ ps) (split_part 10 ending [] (line_of-whole g p End end)) in
-    let parts : parts_of (whole_text g.header lines) ≡ g.header ∷ (front ++ ending ∷ [] ∷ []) =
+    ∙ parts-lines g p g.start ls last (line_text (codes "end" ∷ [])) accepted
+    ∙ ap (λ ps. prefix ++ ps) (split_part 10 ending [] (line_of-whole g p End end)) in
+    let parts : parts_of (whole_text g.header lines) ≡ g.header ∷ (prefix ++ ending ∷ [] ∷ []) =
     ap (slice_split (λ b. eqb b 10)) (append_assoc g.header (10 ∷ lines) (line_text (codes "end" ∷ [])))
-    ∙ split_part 10 g.header (lines ++ line_text (codes "end" ∷ [])) header ∙ ap (λ ps. g.header ∷ ps) behind in
-    spelled g (whole_text g.header lines) (front ++ ending ∷ []) last
-    (begins g (whole_text g.header lines) front ending short parts)
-    (IsClean-push g front ending stands.clean (λ w. part_fault-open g front ending w stands.running ∙ ap (λ ls. said_fault g ls (said g ending) w) stands.says ∙ ap (λ r. said_fault g last r w) is))
-    (has_ended-push g front ending stands.running ∙ ap is_end is)
-    (lists_of-push g front ending ∙ ap (λ ls. with_said ls (said g ending)) stands.says ∙ ap (with_said last) is)
-    (ap (drop 1) parts ∙ sym (append_assoc front (ending ∷ []) ([] ∷ [])))
+    ∙ split_part 10 g.header (lines ++ line_text (codes "end" ∷ [])) header ∙ ap (λ ps. g.header ∷ ps) after in
+    spelled g (whole_text g.header lines) (prefix ++ ending ∷ []) last
+    (begins g (whole_text g.header lines) prefix ending short parts)
+    (IsClean-push g prefix ending stands.clean (λ w. part_fault-open g prefix ending w stands.running ∙ ap (λ ls. said_fault g ls (said g ending) w) stands.says ∙ ap (λ r. said_fault g last r w) is))
+    (has_end_line-push g prefix ending stands.running ∙ ap is_end is)
+    (lists_of-push g prefix ending ∙ ap (λ ls. with_said ls (said g ending)) stands.says ∙ ap (with_said last) is)
+    (ap (drop 1) parts ∙ sym (append_assoc prefix (ending ∷ []) ([] ∷ [])))
   where
-    header_stands : (front : List (List ℕ)) (ending : List ℕ) (header : List ℕ) → (next : List ℕ) × (others : List (List ℕ)) × (front ++ ending ∷ [] ∷ [] ≡ next ∷ others)
+    header_stands : (prefix : List (List ℕ)) (ending : List ℕ) (header : List ℕ) → (next : List ℕ) × (others : List (List ℕ)) × (prefix ++ ending ∷ [] ∷ [] ≡ next ∷ others)
     header_stands [] ending header = (ending, [] ∷ [], refl)
-    header_stands (f ∷ front) ending header = (f, front ++ ending ∷ [] ∷ [], refl)
+    header_stands (f ∷ prefix) ending header = (f, prefix ++ ending ∷ [] ∷ [], refl)
 
-    begins : {X : Type 0} (g : Grammar X) (text : List ℕ) (front : List (List ℕ)) (ending : List ℕ) → length text ≤ 1048576 → parts_of text ≡ g.header ∷ (front ++ ending ∷ [] ∷ []) → Begins g text
-    begins g text front ending short parts =
-        let p = header_stands front ending g.header in
+    begins : {X : Type 0} (g : Grammar X) (text : List ℕ) (prefix : List (List ℕ)) (ending : List ℕ) → length text ≤ 1048576 → parts_of text ≡ g.header ∷ (prefix ++ ending ∷ [] ∷ []) → Begins g text
+    begins g text prefix ending short parts =
+        let p = header_stands prefix ending g.header in
         record { short = short; header = rw (parts, p.2) ((bytes_eq-Decides g.header g.header).1 refl) }

@@ -18,7 +18,7 @@ use Rattle.tso_text.specs.declared.acts.Act.TheVariants.{Issue, Drain}
 use Rattle.tso_text.specs.declared.lines.Line.{Line}
 use Rattle.tso_text.specs.declared.lines.Line.TheVariants.{Proc, Item, End}
 use Rattle.tso_text.specs.Grammars.{trace_grammar, program_grammar, schedule_grammar, trace_line, program_line, schedule_line, trace_header, program_header, outcome_fault, plain_fault, processor_of, address, SpellsTrace, SpellsProgram, SpellsSchedule}
-use Rattle.tso_text.specs.Numbers.{numeral, or_bad, no_number, one_number, two_numbers, three_numbers}
+use Rattle.tso_text.specs.Numbers.{numeral, or_bad_number, no_number, one_number, two_numbers, three_numbers}
 use Rattle.tso_text.specs.Printed.{items_text, processor_text, whole_text, outcome_pieces, op_pieces, act_pieces, trace_text, program_text, schedule_text}
 use Rattle.line_text.specs.Lines.{line_text}
 use Rattle.tso_text.specs.Spelling.{Grammar, items_of}
@@ -27,8 +27,8 @@ use Rattle.tso_text.proofs.FaultFacts.{op_clean, act_clean}
 use Rattle.tso_text.proofs.LineFacts.{items_of-map}
 use Rattle.line_text.proofs.NumberFacts.{number-decimal}
 use Rattle.tso_text.proofs.OneTextFacts.{made_by, made_by-text, flat_map-Item}
-use Rattle.tso_text.proofs.PrintedItems.{AreFit, lists_taken, items_taken, length-made_by}
-use Rattle.tso_text.proofs.PrintedLines.{IsReadBack, AreTaken, length-lines, printed_spells}
+use Rattle.tso_text.proofs.PrintedItems.{AreFit, lists_accepted, items_accepted, length-made_by}
+use Rattle.tso_text.proofs.PrintedLines.{IsReadBack, AreAccepted, length-lines, printed_spells}
 use Rattle.line_text.proofs.SplitFacts.{has_byte, has_byte_in, decimal_without}
 
 -- ---- a word and numbers
@@ -64,7 +64,7 @@ read_back g p l word ns shape space end short few fit says = record {
 }
 
 numeral-decimal : (n : ℕ) → n < 2 ^ 64 → numeral (decimal n) ≡ Ok n
-numeral-decimal n fits = ap or_bad (number-decimal n fits)
+numeral-decimal n fits = ap or_bad_number (number-decimal n fits)
 
 one-decimal : (n : ℕ) → n < 2 ^ 64 → one_number (decimal n ∷ []) ≡ Ok n
 unfolding one_number
@@ -126,10 +126,10 @@ outcomes_fit items limits reads = record {
 }
 
 -- lines of at most 16 processors and 4,000 items are a short text
-short_text : {X : Type 0} (g : Grammar X) (p : X → List (List ℕ)) (lists last : List (List X)) → AreTaken g p [] (made_by lists) last → length lists ≤ 16 → length (items_of lists) ≤ 4000 →
+short_text : {X : Type 0} (g : Grammar X) (p : X → List (List ℕ)) (lists last : List (List X)) → AreAccepted g p [] (made_by lists) last → length lists ≤ 16 → length (items_of lists) ≤ 4000 →
     length (flat_map (processor_text p) lists) ≤ 281120
-short_text g p lists last taken few some =
-    let lines = length-lines g p [] (made_by lists) last taken in
+short_text g p lists last accepted few some =
+    let lines = length-lines g p [] (made_by lists) last accepted in
     let count = length-made_by lists in
     let same = ap length (made_by-text p lists) in
     omega (arith, lines, count, same, few, some)
@@ -144,10 +144,10 @@ printed_trace_spells t trace =
     let limits : KeepsLimits (map op_of (items_of t.lists)) = subst KeepsLimits (items_of-map op_of t.lists) trace.program.limits in
     let few : length t.lists ≤ 16 = omega (arith, length-map t.lists (map op_of), trace.program.processors) in
     let fit = outcomes_fit (items_of t.lists) limits trace.reads in
-    let taken = lists_taken trace_grammar outcome_pieces (items_of t.lists) fit trace_proc [] t.lists (omega (arith, few)) refl in
+    let accepted = lists_accepted trace_grammar outcome_pieces (items_of t.lists) fit trace_proc [] t.lists (omega (arith, few)) refl in
     let some : length (items_of t.lists) ≤ 4000 = omega (arith, kept_few (map op_of (items_of t.lists)) limits, length-map (items_of t.lists) op_of) in
-    printed_spells trace_grammar outcome_pieces (made_by t.lists) t.lists (flat_map (processor_text outcome_pieces) t.lists) refl trace_end taken (made_by-text outcome_pieces t.lists)
-    (length-whole trace_header (flat_map (processor_text outcome_pieces) t.lists) (omega arith) (short_text trace_grammar outcome_pieces t.lists t.lists taken few some))
+    printed_spells trace_grammar outcome_pieces (made_by t.lists) t.lists (flat_map (processor_text outcome_pieces) t.lists) refl trace_end accepted (made_by-text outcome_pieces t.lists)
+    (length-whole trace_header (flat_map (processor_text outcome_pieces) t.lists) (omega arith) (short_text trace_grammar outcome_pieces t.lists t.lists accepted few some))
 
 -- ---- the lines of programs
 
@@ -193,9 +193,9 @@ pub printed_program_spells : (p : ProgramValue) → IsProgram p → SpellsProgra
 unfolding program_text
 printed_program_spells p program =
     let fit = ops_fit (items_of p.lists) program.limits in
-    let taken = lists_taken program_grammar op_pieces (items_of p.lists) fit program_proc [] p.lists (omega (arith, program.processors)) refl in
-    printed_spells program_grammar op_pieces (made_by p.lists) p.lists (flat_map (processor_text op_pieces) p.lists) refl program_end taken (made_by-text op_pieces p.lists)
-    (length-whole program_header (flat_map (processor_text op_pieces) p.lists) (omega arith) (short_text program_grammar op_pieces p.lists p.lists taken program.processors (kept_few (items_of p.lists) program.limits)))
+    let accepted = lists_accepted program_grammar op_pieces (items_of p.lists) fit program_proc [] p.lists (omega (arith, program.processors)) refl in
+    printed_spells program_grammar op_pieces (made_by p.lists) p.lists (flat_map (processor_text op_pieces) p.lists) refl program_end accepted (made_by-text op_pieces p.lists)
+    (length-whole program_header (flat_map (processor_text op_pieces) p.lists) (omega arith) (short_text program_grammar op_pieces p.lists p.lists accepted program.processors (kept_few (items_of p.lists) program.limits)))
 
 -- ---- the lines of schedules
 
@@ -221,7 +221,7 @@ acts_fit acts within = record {
 pub printed_schedule_spells : (acts : List Act) → All (λ x. processor_of x ≤ 15) acts → length (schedule_text acts) ≤ 1048576 → SpellsSchedule (schedule_text acts) acts
 unfolding schedule_text items_text
 printed_schedule_spells acts within short =
-    printed_spells schedule_grammar act_pieces (map Item acts) (acts ∷ []) (flat_map (λ x. line_text (act_pieces x)) acts) refl schedule_end (items_taken schedule_grammar act_pieces acts (acts_fit acts within))
+    printed_spells schedule_grammar act_pieces (map Item acts) (acts ∷ []) (flat_map (λ x. line_text (act_pieces x)) acts) refl schedule_end (items_accepted schedule_grammar act_pieces acts (acts_fit acts within))
     (flat_map-Item (λ l. line_text (pieces_by act_pieces l)) acts) short
 
 -- ---- what a printer answers

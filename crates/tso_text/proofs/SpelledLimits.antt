@@ -22,11 +22,11 @@ use Rattle.tso_text.specs.declared.lines.Line.{Line}
 use Rattle.tso_text.specs.declared.lines.Line.TheVariants.{Proc, Item, End}
 use Rattle.tso_text.specs.Grammars.{trace_grammar, program_grammar, trace_line, program_line, is_word, op_fault, outcome_fault, plain_fault, SpellsTrace, SpellsProgram}
 use Rattle.tso_text.specs.Numbers.{numeral, no_number, one_number, two_numbers, three_numbers}
-use Rattle.tso_text.specs.Spelling.{Grammar, Spells, said_fault, line_fault, said, lists_of, with_line, with_said, has_ended, body_of, lines_of, items_of}
+use Rattle.tso_text.specs.Spelling.{Grammar, SpellsLists, said_fault, line_fault, said, lists_of, with_line, with_said, has_end_line, body_of, body_lines, items_of}
 use Rattle.tso_text.proofs.CanonicalFacts.{or_bad_ok, if_bind, if_cond, sound}
 use Rattle.tso_text.proofs.KeptFacts.{trace_within}
 use Rattle.tso_text.proofs.LineFacts.{items_of-push_last, length-push_last}
-use Rattle.tso_text.proofs.PrintedFacts.{lines_of-place}
+use Rattle.tso_text.proofs.PrintedFacts.{body_lines-place}
 use Rattle.tso_text.proofs.Reaching.{part_fault-open, part_fault-ended, fault_at-place, lists_of-push}
 
 -- ---- from line to line
@@ -69,40 +69,40 @@ said_kept g keeps more lists ps (Err why) says clean kept = kept
 said_kept g keeps more lists ps (Ok l) says clean kept = line_kept g keeps more lists ps l says clean kept
 
 -- before a line of a spelled text there is no `end`
-not_ended : {X : Type 0} (g : Grammar X) (text : List ℕ) (last : List (List X)) (front : List (List ℕ)) (part next : List ℕ) (parts : List (List ℕ)) → Spells g text last →
-    body_of text ≡ front ++ part ∷ next ∷ parts → has_ended g front ≡ false
-not_ended g text last front part next parts spells body = decided (has_ended g front) refl
+not_ended : {X : Type 0} (g : Grammar X) (text : List ℕ) (last : List (List X)) (prefix : List (List ℕ)) (part next : List ℕ) (parts : List (List ℕ)) → SpellsLists g text last →
+    body_of text ≡ prefix ++ part ∷ next ∷ parts → has_end_line g prefix ≡ false
+not_ended g text last prefix part next parts spells body = decided (has_end_line g prefix) refl
   where
-    decided : (b : Bool) → has_ended g front ≡ b → b ≡ false
+    decided : (b : Bool) → has_end_line g prefix ≡ b → b ≡ false
     decided false running = refl
     decided true ended =
-        absurd (false≢true (sym (spells.clean (suc (suc (length front))) AfterEnd)
-        ∙ fault_at-place g text front part (next ∷ parts) (length front) AfterEnd body refl ∙ part_fault-ended g front part false AfterEnd ended))
+        absurd (false≢true (sym (spells.clean (suc (suc (length prefix))) AfterEnd)
+        ∙ fault_at-place g text prefix part (next ∷ parts) (length prefix) AfterEnd body refl ∙ part_fault-ended g prefix part false AfterEnd ended))
 
 -- a line of a spelled text has no fault behind those in front of it
-line_clean : {X : Type 0} (g : Grammar X) (text : List ℕ) (last : List (List X)) (front : List (List ℕ)) (part next : List ℕ) (parts : List (List ℕ)) → Spells g text last →
-    body_of text ≡ front ++ part ∷ next ∷ parts → (w : Why) → said_fault g (lists_of g front) (said g part) w ≡ false
-line_clean g text last front part next parts spells body w =
-    sym (part_fault-open g front part w (not_ended g text last front part next parts spells body))
-    ∙ sym (fault_at-place g text front part (next ∷ parts) (length front) w body refl) ∙ spells.clean (suc (suc (length front))) w
+line_clean : {X : Type 0} (g : Grammar X) (text : List ℕ) (last : List (List X)) (prefix : List (List ℕ)) (part next : List ℕ) (parts : List (List ℕ)) → SpellsLists g text last →
+    body_of text ≡ prefix ++ part ∷ next ∷ parts → (w : Why) → said_fault g (lists_of g prefix) (said g part) w ≡ false
+line_clean g text last prefix part next parts spells body w =
+    sym (part_fault-open g prefix part w (not_ended g text last prefix part next parts spells body))
+    ∙ sym (fault_at-place g text prefix part (next ∷ parts) (length prefix) w body refl) ∙ spells.clean (suc (suc (length prefix))) w
 
 -- from a line on, the lines of a spelled text keep what is said
-lines_kept : {X : Type 0} (g : Grammar X) (keeps : List X → Type 0) → IsKeptByItems g keeps → (text : List ℕ) (last : List (List X)) → Spells g text last →
-    (front : List (List ℕ)) (part : List ℕ) (parts : List (List ℕ)) → body_of text ≡ front ++ part ∷ parts → KeepsLists keeps (lists_of g front) → KeepsLists keeps (lists_of g (lines_of text))
-lines_kept g keeps more text last spells front part [] body kept = rw (lines_of-place text front part body) kept
-lines_kept g keeps more text last spells front part (next ∷ parts) body kept =
-    let behind : KeepsLists keeps (lists_of g (front ++ part ∷ [])) =
-    rw (lists_of-push g front part) (said_kept g keeps more (lists_of g front) _ (said g part) refl (line_clean g text last front part next parts spells body) kept) in
-    lines_kept g keeps more text last spells (front ++ part ∷ []) next parts (body ∙ sym (append_assoc front (part ∷ []) (next ∷ parts))) behind
+lines_kept : {X : Type 0} (g : Grammar X) (keeps : List X → Type 0) → IsKeptByItems g keeps → (text : List ℕ) (last : List (List X)) → SpellsLists g text last →
+    (prefix : List (List ℕ)) (part : List ℕ) (parts : List (List ℕ)) → body_of text ≡ prefix ++ part ∷ parts → KeepsLists keeps (lists_of g prefix) → KeepsLists keeps (lists_of g (body_lines text))
+lines_kept g keeps more text last spells prefix part [] body kept = rw (body_lines-place text prefix part body) kept
+lines_kept g keeps more text last spells prefix part (next ∷ parts) body kept =
+    let after : KeepsLists keeps (lists_of g (prefix ++ part ∷ [])) =
+    rw (lists_of-push g prefix part) (said_kept g keeps more (lists_of g prefix) _ (said g part) refl (line_clean g text last prefix part next parts spells body) kept) in
+    lines_kept g keeps more text last spells (prefix ++ part ∷ []) next parts (body ∙ sym (append_assoc prefix (part ∷ []) (next ∷ parts))) after
 
-body_kept : {X : Type 0} (g : Grammar X) (keeps : List X → Type 0) → IsKeptByItems g keeps → (text : List ℕ) (last : List (List X)) → Spells g text last →
-    (parts : List (List ℕ)) → body_of text ≡ parts → KeepsLists keeps g.start → KeepsLists keeps (lists_of g (lines_of text))
+body_kept : {X : Type 0} (g : Grammar X) (keeps : List X → Type 0) → IsKeptByItems g keeps → (text : List ℕ) (last : List (List X)) → SpellsLists g text last →
+    (parts : List (List ℕ)) → body_of text ≡ parts → KeepsLists keeps g.start → KeepsLists keeps (lists_of g (body_lines text))
 unfolding lists_of
 body_kept g keeps more text last spells [] body kept = rw body kept
 body_kept g keeps more text last spells (part ∷ parts) body kept = lines_kept g keeps more text last spells [] part parts body kept
 
 -- what is said of the items at the start, and kept by each line, is said of what a text spells
-spelled_kept : {X : Type 0} (g : Grammar X) (keeps : List X → Type 0) → IsKeptByItems g keeps → length g.start ≤ 16 → keeps (items_of g.start) → (text : List ℕ) (lists : List (List X)) → Spells g text lists →
+spelled_kept : {X : Type 0} (g : Grammar X) (keeps : List X → Type 0) → IsKeptByItems g keeps → length g.start ≤ 16 → keeps (items_of g.start) → (text : List ℕ) (lists : List (List X)) → SpellsLists g text lists →
     KeepsLists keeps lists
 spelled_kept g keeps more few start text lists spells =
     subst (KeepsLists keeps) spells.says (body_kept g keeps more text lists spells (body_of text) refl (record { few = few; items = start }))

@@ -4,7 +4,7 @@ use Rattle.std.proofs.lemmas.Bool.{false≢true, cases_lt}
 use Rattle.line_text.proofs.LeastFacts.{IsLeast, least}
 use Rattle.tso_text.specs.declared.faults.Why.{Why}
 use Rattle.tso_text.specs.declared.faults.Why.TheVariants.{BadHeader, BadLine, BadNumber, BeforeProc, TooManyProcessors, TooManyEvents, AddressRange, ZeroValue, RepeatedValue, MissingEnd, AfterEnd, TooLong, ProcessorRange, OutOfMemory}
-use Rattle.tso_text.specs.Spelling.{Grammar, Spells, IsRefusal, fault_at, number_of, lists_of, lines_of, body_of}
+use Rattle.tso_text.specs.Spelling.{Grammar, SpellsLists, IsTextRefusal, fault_at, text_fault_number, lists_of, body_lines, body_of}
 use Rattle.tso_text.proofs.Reaching.{fault_at-past}
 
 -- ---- the refusals by their numbers
@@ -16,7 +16,7 @@ whys = BadHeader ∷ BadLine ∷ BadNumber ∷ BeforeProc ∷ TooManyProcessors 
 why_at : ℕ → Why
 why_at k = get_or whys k OutOfMemory
 
-why_at-number_of : (w : Why) → why_at (number_of w - 1) ≡ w
+why_at-number_of : (w : Why) → why_at (text_fault_number w - 1) ≡ w
 unfolding whys why_at
 why_at-number_of BadHeader = refl
 why_at-number_of BadLine = refl
@@ -33,49 +33,49 @@ why_at-number_of TooLong = refl
 why_at-number_of ProcessorRange = refl
 why_at-number_of OutOfMemory = refl
 
-number_of-within : (w : Why) → (0 < number_of w) × (number_of w < 15)
-number_of-within BadHeader = (omega arith, omega arith)
-number_of-within BadLine = (omega arith, omega arith)
-number_of-within BadNumber = (omega arith, omega arith)
-number_of-within BeforeProc = (omega arith, omega arith)
-number_of-within TooManyProcessors = (omega arith, omega arith)
-number_of-within TooManyEvents = (omega arith, omega arith)
-number_of-within AddressRange = (omega arith, omega arith)
-number_of-within ZeroValue = (omega arith, omega arith)
-number_of-within RepeatedValue = (omega arith, omega arith)
-number_of-within MissingEnd = (omega arith, omega arith)
-number_of-within AfterEnd = (omega arith, omega arith)
-number_of-within TooLong = (omega arith, omega arith)
-number_of-within ProcessorRange = (omega arith, omega arith)
-number_of-within OutOfMemory = (omega arith, omega arith)
+text_fault_number-within : (w : Why) → (0 < text_fault_number w) × (text_fault_number w < 15)
+text_fault_number-within BadHeader = (omega arith, omega arith)
+text_fault_number-within BadLine = (omega arith, omega arith)
+text_fault_number-within BadNumber = (omega arith, omega arith)
+text_fault_number-within BeforeProc = (omega arith, omega arith)
+text_fault_number-within TooManyProcessors = (omega arith, omega arith)
+text_fault_number-within TooManyEvents = (omega arith, omega arith)
+text_fault_number-within AddressRange = (omega arith, omega arith)
+text_fault_number-within ZeroValue = (omega arith, omega arith)
+text_fault_number-within RepeatedValue = (omega arith, omega arith)
+text_fault_number-within MissingEnd = (omega arith, omega arith)
+text_fault_number-within AfterEnd = (omega arith, omega arith)
+text_fault_number-within TooLong = (omega arith, omega arith)
+text_fault_number-within ProcessorRange = (omega arith, omega arith)
+text_fault_number-within OutOfMemory = (omega arith, omega arith)
 
 -- the number tells the refusal
-pub same_number : (v w : Why) → number_of v ≡ number_of w → v ≡ w
+pub same_number : (v w : Why) → text_fault_number v ≡ text_fault_number w → v ≡ w
 same_number v w e = sym (why_at-number_of v) ∙ ap (λ n. why_at (n - 1)) e ∙ why_at-number_of w
 
-number_of-why_at : (k : ℕ) → k < 14 → number_of (why_at k) ≡ k + 1
+text_fault_number-why_at : (k : ℕ) → k < 14 → text_fault_number (why_at k) ≡ k + 1
 unfolding whys why_at
-number_of-why_at zero low = refl
-number_of-why_at (suc zero) low = refl
-number_of-why_at (suc (suc zero)) low = refl
-number_of-why_at (suc (suc (suc zero))) low = refl
-number_of-why_at (suc (suc (suc (suc zero)))) low = refl
-number_of-why_at (suc (suc (suc (suc (suc zero))))) low = refl
-number_of-why_at (suc (suc (suc (suc (suc (suc zero)))))) low = refl
-number_of-why_at (suc (suc (suc (suc (suc (suc (suc zero))))))) low = refl
-number_of-why_at (suc (suc (suc (suc (suc (suc (suc (suc zero)))))))) low = refl
-number_of-why_at (suc (suc (suc (suc (suc (suc (suc (suc (suc zero))))))))) low = refl
-number_of-why_at (suc (suc (suc (suc (suc (suc (suc (suc (suc (suc zero)))))))))) low = refl
-number_of-why_at (suc (suc (suc (suc (suc (suc (suc (suc (suc (suc (suc zero))))))))))) low = refl
-number_of-why_at (suc (suc (suc (suc (suc (suc (suc (suc (suc (suc (suc (suc zero)))))))))))) low = refl
-number_of-why_at (suc (suc (suc (suc (suc (suc (suc (suc (suc (suc (suc (suc (suc zero))))))))))))) low = refl
-number_of-why_at (suc (suc (suc (suc (suc (suc (suc (suc (suc (suc (suc (suc (suc (suc k)))))))))))))) low = absurd (omega arith)
+text_fault_number-why_at zero low = refl
+text_fault_number-why_at (suc zero) low = refl
+text_fault_number-why_at (suc (suc zero)) low = refl
+text_fault_number-why_at (suc (suc (suc zero))) low = refl
+text_fault_number-why_at (suc (suc (suc (suc zero)))) low = refl
+text_fault_number-why_at (suc (suc (suc (suc (suc zero))))) low = refl
+text_fault_number-why_at (suc (suc (suc (suc (suc (suc zero)))))) low = refl
+text_fault_number-why_at (suc (suc (suc (suc (suc (suc (suc zero))))))) low = refl
+text_fault_number-why_at (suc (suc (suc (suc (suc (suc (suc (suc zero)))))))) low = refl
+text_fault_number-why_at (suc (suc (suc (suc (suc (suc (suc (suc (suc zero))))))))) low = refl
+text_fault_number-why_at (suc (suc (suc (suc (suc (suc (suc (suc (suc (suc zero)))))))))) low = refl
+text_fault_number-why_at (suc (suc (suc (suc (suc (suc (suc (suc (suc (suc (suc zero))))))))))) low = refl
+text_fault_number-why_at (suc (suc (suc (suc (suc (suc (suc (suc (suc (suc (suc (suc zero)))))))))))) low = refl
+text_fault_number-why_at (suc (suc (suc (suc (suc (suc (suc (suc (suc (suc (suc (suc (suc zero))))))))))))) low = refl
+text_fault_number-why_at (suc (suc (suc (suc (suc (suc (suc (suc (suc (suc (suc (suc (suc (suc k)))))))))))))) low = absurd (omega arith)
 
 -- the fault of the least number, of those that a test finds
 pub record HasFirst (has : Why → Bool) : Type 0 where
   pub why : Why
   pub fault : has why ≡ true
-  pub least_one : (w : Why) → number_of w < number_of why → has w ≡ false
+  pub least_one : (w : Why) → text_fault_number w < text_fault_number why → has w ≡ false
 
 first_why : (has : Why → Bool) → HasFirst has ⊎ ((w : Why) → has w ≡ false)
 first_why has =
@@ -84,21 +84,21 @@ first_why has =
       why = why_at found.0;
       fault = found.1.passes;
       least_one = λ w less.
-          let within = number_of-within w in
-          let at = number_of-why_at found.0 found.1.low in
-          ap has (sym (why_at-number_of w)) ∙ found.1.before (number_of w - 1) (omega (arith, within.0, at));
+          let within = text_fault_number-within w in
+          let at = text_fault_number-why_at found.0 found.1.low in
+          ap has (sym (why_at-number_of w)) ∙ found.1.before (text_fault_number w - 1) (omega (arith, within.0, at));
     })
-    (λ (none : (k : ℕ) → k < 14 → has (why_at k) ≡ false). inr (λ w. let within = number_of-within w in ap has (sym (why_at-number_of w)) ∙ none (number_of w - 1) (omega (arith, within.0, within.1))))
+    (λ (none : (k : ℕ) → k < 14 → has (why_at k) ≡ false). inr (λ w. let within = text_fault_number-within w in ap has (sym (why_at-number_of w)) ∙ none (text_fault_number w - 1) (omega (arith, within.0, within.1))))
     (least (λ k. has (why_at k)) 14)
 
 -- ---- spelled or refused
 
 -- no line in front of the n-th has a fault, or the least of those that have one
-lines_searched : {X : Type 0} (g : Grammar X) (text : List ℕ) (n : ℕ) → ((line : ℕ) × (why : Why) × IsRefusal g text line why) ⊎ ((j : ℕ) (w : Why) → j < n → fault_at g text j w ≡ false)
+lines_searched : {X : Type 0} (g : Grammar X) (text : List ℕ) (n : ℕ) → ((line : ℕ) × (why : Why) × IsTextRefusal g text line why) ⊎ ((j : ℕ) (w : Why) → j < n → fault_at g text j w ≡ false)
 lines_searched g text zero = inr (λ j w low. absurd (omega arith))
 lines_searched {X} g text (suc n) =
     ⊎_elim
-    (λ (found : (line : ℕ) × (why : Why) × IsRefusal g text line why). inl found)
+    (λ (found : (line : ℕ) × (why : Why) × IsTextRefusal g text line why). inl found)
     (λ (none : (j : ℕ) (w : Why) → j < n → fault_at g text j w ≡ false).
     ⊎_elim
     (λ (f : HasFirst (fault_at g text n)). inl (n, f.why, record { fault = f.fault; first = none; least = f.least_one }))
@@ -106,45 +106,45 @@ lines_searched {X} g text (suc n) =
     (first_why (fault_at g text n)))
     (lines_searched g text n)
 
-fault_at-behind : {X : Type 0} (g : Grammar X) (text : List ℕ) (j : ℕ) (w : Why) → length (body_of text) + 2 ≤ j → fault_at g text j w ≡ false
-fault_at-behind g text zero w past = absurd (omega arith)
-fault_at-behind g text (suc zero) w past = absurd (omega arith)
-fault_at-behind g text (suc (suc k)) w past = fault_at-past g text k w (omega arith)
+fault_at-after : {X : Type 0} (g : Grammar X) (text : List ℕ) (j : ℕ) (w : Why) → length (body_of text) + 2 ≤ j → fault_at g text j w ≡ false
+fault_at-after g text zero w past = absurd (omega arith)
+fault_at-after g text (suc zero) w past = absurd (omega arith)
+fault_at-after g text (suc (suc k)) w past = fault_at-past g text k w (omega arith)
 
-pub spelled_or_refused : {X : Type 0} (g : Grammar X) (text : List ℕ) → ((lists : List (List X)) × Spells g text lists) ⊎ ((line : ℕ) × (why : Why) × IsRefusal g text line why)
+pub spelled_or_refused : {X : Type 0} (g : Grammar X) (text : List ℕ) → ((lists : List (List X)) × SpellsLists g text lists) ⊎ ((line : ℕ) × (why : Why) × IsTextRefusal g text line why)
 spelled_or_refused {X} g text =
     ⊎_elim
-    (λ (found : (line : ℕ) × (why : Why) × IsRefusal g text line why). inr found)
+    (λ (found : (line : ℕ) × (why : Why) × IsTextRefusal g text line why). inr found)
     (λ (none : (j : ℕ) (w : Why) → j < length (body_of text) + 2 → fault_at g text j w ≡ false). inl (
-      lists_of g (lines_of text),
+      lists_of g (body_lines text),
       record {
-        clean = λ j w. ⊎_elim (λ (low : j < length (body_of text) + 2). none j w low) (λ (past : length (body_of text) + 2 ≤ j). fault_at-behind g text j w past) (cases_lt j (length (body_of text) + 2));
+        clean = λ j w. ⊎_elim (λ (low : j < length (body_of text) + 2). none j w low) (λ (past : length (body_of text) + 2 ≤ j). fault_at-after g text j w past) (cases_lt j (length (body_of text) + 2));
         says = refl;
       },
     ))
     (lines_searched g text (length (body_of text) + 2))
 
 -- never both
-pub not_both : {X : Type 0} (g : Grammar X) (text : List ℕ) (lists : List (List X)) (line : ℕ) (why : Why) → Spells g text lists → IsRefusal g text line why → ⊥
+pub not_both : {X : Type 0} (g : Grammar X) (text : List ℕ) (lists : List (List X)) (line : ℕ) (why : Why) → SpellsLists g text lists → IsTextRefusal g text line why → ⊥
 not_both g text lists line why spells refusal = false≢true (sym (spells.clean line why) ∙ refusal.fault)
 
 -- one value for a text
-pub one_value : {X : Type 0} (g : Grammar X) (text : List ℕ) (lists others : List (List X)) → Spells g text lists → Spells g text others → lists ≡ others
+pub one_value : {X : Type 0} (g : Grammar X) (text : List ℕ) (lists others : List (List X)) → SpellsLists g text lists → SpellsLists g text others → lists ≡ others
 one_value g text lists others spells also = sym spells.says ∙ also.says
 
 -- one refusal for a text
-pub one_refusal : {X : Type 0} (g : Grammar X) (text : List ℕ) (j k : ℕ) (v w : Why) → IsRefusal g text j v → IsRefusal g text k w → (j ≡ k) × (v ≡ w)
+pub one_refusal : {X : Type 0} (g : Grammar X) (text : List ℕ) (j k : ℕ) (v w : Why) → IsTextRefusal g text j v → IsTextRefusal g text k w → (j ≡ k) × (v ≡ w)
 one_refusal g text j k v w r s =
     let line : j ≡ k =
     ⊎_elim
     (λ (less : j < k). absurd (false≢true (sym (s.first j v less) ∙ r.fault)))
     (λ (not_less : k ≤ j). ⊎_elim (λ (more : k < j). absurd (false≢true (sym (r.first k w more) ∙ s.fault))) (λ (not_more : j ≤ k). omega arith) (cases_lt k j))
     (cases_lt j k) in
-    let t : IsRefusal g text j w = subst (λ n. IsRefusal g text n w) (sym line) s in (
+    let t : IsTextRefusal g text j w = subst (λ n. IsTextRefusal g text n w) (sym line) s in (
       line,
       same_number v w
           (⊎_elim
-          (λ (less : number_of v < number_of w). absurd (false≢true (sym (t.least v less) ∙ r.fault)))
-          (λ (not_less : number_of w ≤ number_of v). ⊎_elim (λ (more : number_of w < number_of v). absurd (false≢true (sym (r.least w more) ∙ t.fault))) (λ (not_more : number_of v ≤ number_of w). omega arith) (cases_lt (number_of w) (number_of v)))
-          (cases_lt (number_of v) (number_of w))),
+          (λ (less : text_fault_number v < text_fault_number w). absurd (false≢true (sym (t.least v less) ∙ r.fault)))
+          (λ (not_less : text_fault_number w ≤ text_fault_number v). ⊎_elim (λ (more : text_fault_number w < text_fault_number v). absurd (false≢true (sym (r.least w more) ∙ t.fault))) (λ (not_more : text_fault_number v ≤ text_fault_number w). omega arith) (cases_lt (text_fault_number w) (text_fault_number v)))
+          (cases_lt (text_fault_number v) (text_fault_number w))),
     )

@@ -15,7 +15,7 @@ use Rattle.tso_text.specs.declared.faults.Why.TheVariants.{BadLine, TooManyEvent
 use Rattle.tso_text.specs.declared.lines.Line.{Line}
 use Rattle.tso_text.specs.declared.lines.Line.TheVariants.{Proc, Item, End}
 use Rattle.tso_text.specs.Numbers.{◌>>=◌, no_number, one_number, two_numbers, three_numbers}
-use Rattle.tso_text.specs.Spelling.{Grammar, Spells, IsRefusal, same_why}
+use Rattle.tso_text.specs.Spelling.{Grammar, SpellsLists, IsTextRefusal, same_text_fault}
 
 -- the piece is this word
 abbrev pub is_word : List ℕ → List ℕ → Bool
@@ -93,7 +93,7 @@ processor_of (Issue p) = p
 processor_of (Drain p) = p
 
 unfoldable pub act_fault : List Act → Act → Why → Bool
-act_fault before act w = same_why ProcessorRange w && nat_lt 15 (processor_of act)
+act_fault before act w = same_text_fault ProcessorRange w && nat_lt 15 (processor_of act)
 
 abbrev pub schedule_header : List ℕ
 schedule_header = codes "tso schedule 1"
@@ -105,22 +105,22 @@ schedule_grammar = record { header = schedule_header; start = [] ∷ []; said_by
 -- ---- what texts spell, and how they are refused
 
 abbrev pub SpellsTrace : List ℕ → TraceValue → Type 0
-SpellsTrace text t = Spells trace_grammar text t.lists
+SpellsTrace text t = SpellsLists trace_grammar text t.lists
 
 abbrev pub SpellsProgram : List ℕ → ProgramValue → Type 0
-SpellsProgram text p = Spells program_grammar text p.lists
+SpellsProgram text p = SpellsLists program_grammar text p.lists
 
 abbrev pub SpellsSchedule : List ℕ → List Act → Type 0
-SpellsSchedule text acts = Spells schedule_grammar text (acts ∷ [])
+SpellsSchedule text acts = SpellsLists schedule_grammar text (acts ∷ [])
 
 abbrev pub IsTraceRefusal : List ℕ → ℕ → Why → Type 0
-IsTraceRefusal text line why = IsRefusal trace_grammar text line why
+IsTraceRefusal text line why = IsTextRefusal trace_grammar text line why
 
 abbrev pub IsProgramRefusal : List ℕ → ℕ → Why → Type 0
-IsProgramRefusal text line why = IsRefusal program_grammar text line why
+IsProgramRefusal text line why = IsTextRefusal program_grammar text line why
 
 abbrev pub IsScheduleRefusal : List ℕ → ℕ → Why → Type 0
-IsScheduleRefusal text line why = IsRefusal schedule_grammar text line why
+IsScheduleRefusal text line why = IsTextRefusal schedule_grammar text line why
 
 -- ---- some value, some refusal
 

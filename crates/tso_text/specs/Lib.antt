@@ -1,5 +1,5 @@
 pub mod Grammars
+pub mod Internal
 pub mod Numbers
 pub mod Printed
 pub mod Spelling
-pub mod Taken

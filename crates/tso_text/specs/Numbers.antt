@@ -11,13 +11,13 @@ Ok x >>= f = f x
 Err why >>= f = Err why
 
 -- a number, or its fault
-abbrev pub or_bad : Option ℕ → Result ℕ Why
-or_bad None = Err BadNumber
-or_bad (Some n) = Ok n
+abbrev pub or_bad_number : Option ℕ → Result ℕ Why
+or_bad_number None = Err BadNumber
+or_bad_number (Some n) = Ok n
 
 -- the number of a piece, or its fault
 abbrev pub numeral : List ℕ → Result ℕ Why
-numeral piece = or_bad (number piece)
+numeral piece = or_bad_number (number piece)
 
 -- no piece behind the word
 unfoldable pub no_number : List (List ℕ) → Result (Unit {0}) Why

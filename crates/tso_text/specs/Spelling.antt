@@ -9,24 +9,24 @@ use Rattle.tso_text.specs.declared.lines.Line.{Line}
 use Rattle.tso_text.specs.declared.lines.Line.TheVariants.{Proc, Item, End}
 
 -- the number of the refusal: of two on one line the lesser counts
-abbrev pub number_of : Why → ℕ
-number_of BadHeader = 1
-number_of BadLine = 2
-number_of BadNumber = 3
-number_of BeforeProc = 4
-number_of TooManyProcessors = 5
-number_of TooManyEvents = 6
-number_of AddressRange = 7
-number_of ZeroValue = 8
-number_of RepeatedValue = 9
-number_of MissingEnd = 10
-number_of AfterEnd = 11
-number_of TooLong = 12
-number_of ProcessorRange = 13
-number_of OutOfMemory = 14
+abbrev pub text_fault_number : Why → ℕ
+text_fault_number BadHeader = 1
+text_fault_number BadLine = 2
+text_fault_number BadNumber = 3
+text_fault_number BeforeProc = 4
+text_fault_number TooManyProcessors = 5
+text_fault_number TooManyEvents = 6
+text_fault_number AddressRange = 7
+text_fault_number ZeroValue = 8
+text_fault_number RepeatedValue = 9
+text_fault_number MissingEnd = 10
+text_fault_number AfterEnd = 11
+text_fault_number TooLong = 12
+text_fault_number ProcessorRange = 13
+text_fault_number OutOfMemory = 14
 
-abbrev pub same_why : Why → Why → Bool
-same_why v w = number_of v == number_of w
+abbrev pub same_text_fault : Why → Why → Bool
+same_text_fault v w = text_fault_number v == text_fault_number w
 
 -- ---- a text in parts
 
@@ -35,8 +35,8 @@ abbrev pub body_of : List ℕ → List (List ℕ)
 body_of text = drop 1 (parts_of text)
 
 -- the lines behind the header: the parts that a line end follows
-abbrev pub lines_of : List ℕ → List (List ℕ)
-lines_of text = take (length (body_of text) - 1) (body_of text)
+abbrev pub body_lines : List ℕ → List (List ℕ)
+body_lines text = take (length (body_of text) - 1) (body_of text)
 
 -- the first part is the header, and a line end follows it
 abbrev pub has_header : List ℕ → List (List ℕ) → Bool
@@ -91,8 +91,8 @@ is_end (Ok End) = true
 is_end (Err why) = false
 
 -- one of these lines is the line `end`
-unfoldable pub has_ended : {X : Type 0} → Grammar X → List (List ℕ) → Bool
-has_ended g lines = list_any (λ line. is_end (said g line)) lines
+unfoldable pub has_end_line : {X : Type 0} → Grammar X → List (List ℕ) → Bool
+has_end_line g lines = list_any (λ line. is_end (said g line)) lines
 
 -- all items in file order
 abbrev pub items_of : {X : Type 0} → List (List X) → List X
@@ -102,40 +102,40 @@ items_of lists = flat_map (λ row. row) lists
 
 -- The line has the fault, behind what the lines before it say.
 abbrev pub line_fault : {X : Type 0} → Grammar X → List (List X) → Line X → Why → Bool
-line_fault g lists Proc w = same_why TooManyProcessors w && nat_lt 15 (length lists)
-line_fault g lists (Item x) w = if is_empty lists then same_why BeforeProc w else g.item_fault (items_of lists) x w
+line_fault g lists Proc w = same_text_fault TooManyProcessors w && nat_lt 15 (length lists)
+line_fault g lists (Item x) w = if is_empty lists then same_text_fault BeforeProc w else g.item_fault (items_of lists) x w
 line_fault g lists End w = false
 
 abbrev pub said_fault : {X : Type 0} → Grammar X → List (List X) → Result (Line X) Why → Why → Bool
-said_fault g lists (Err why) w = same_why why w
+said_fault g lists (Err why) w = same_text_fault why w
 said_fault g lists (Ok line) w = line_fault g lists line w
 
 -- what stands behind the last line end, where no `end` line came
-abbrev pub unended : List ℕ → Why
-unended part = if is_empty part then MissingEnd else BadLine
+abbrev pub unended_text_fault : List ℕ → Why
+unended_text_fault part = if is_empty part then MissingEnd else BadLine
 
 -- The part has the fault, behind these lines; `last` where no line end follows it.
 unfoldable pub part_fault : {X : Type 0} → Grammar X → List (List ℕ) → List ℕ → Bool → Why → Bool
 part_fault g before part last w =
-    if has_ended g before then same_why AfterEnd w && not (last && is_empty part)
-    else if last then same_why (unended part) w
+    if has_end_line g before then same_text_fault AfterEnd w && not (last && is_empty part)
+    else if last then same_text_fault (unended_text_fault part) w
     else said_fault g (lists_of g before) (said g part) w
 
 -- The text has the fault at this line. Line 0 is the text as a whole.
 unfoldable pub fault_at : {X : Type 0} → Grammar X → List ℕ → ℕ → Why → Bool
-fault_at g text zero w = same_why TooLong w && nat_lt 1048576 (length text)
-fault_at g text (suc zero) w = same_why BadHeader w && not (has_header g.header (parts_of text))
+fault_at g text zero w = same_text_fault TooLong w && nat_lt 1048576 (length text)
+fault_at g text (suc zero) w = same_text_fault BadHeader w && not (has_header g.header (parts_of text))
 fault_at g text (suc (suc i)) w =
     nat_lt i (length (body_of text))
     && part_fault g (take i (body_of text)) (get_or (body_of text) i []) (suc i == length (body_of text)) w
 
 -- The refusal of a text: the least line with a fault, and the fault of the least number there.
-pub record IsRefusal {X : Type 0} (g : Grammar X) (text : List ℕ) (line : ℕ) (why : Why) : Type 0 where
+pub record IsTextRefusal {X : Type 0} (g : Grammar X) (text : List ℕ) (line : ℕ) (why : Why) : Type 0 where
   pub fault : fault_at g text line why ≡ true
   pub first : (j : ℕ) (w : Why) → j < line → fault_at g text j w ≡ false
-  pub least : (w : Why) → number_of w < number_of why → fault_at g text line w ≡ false
+  pub least : (w : Why) → text_fault_number w < text_fault_number why → fault_at g text line w ≡ false
 
 -- The text spells these lists: it has no fault, and its lines say them.
-pub record Spells {X : Type 0} (g : Grammar X) (text : List ℕ) (lists : List (List X)) : Type 0 where
+pub record SpellsLists {X : Type 0} (g : Grammar X) (text : List ℕ) (lists : List (List X)) : Type 0 where
   pub clean : (line : ℕ) (w : Why) → fault_at g text line w ≡ false
-  pub says : lists_of g (lines_of text) ≡ lists
+  pub says : lists_of g (body_lines text) ≡ lists

@@ -1,5 +1,5 @@
 ghost use Rattle.std.specs.Prelude.{◌≡◌, if◌then◌else◌};
-ghost use Rattle.tso_text.specs.Spelling.{same_why};
+ghost use Rattle.tso_text.specs.Spelling.{same_text_fault};
 ghost use Rattle.tso_text.specs.declared.faults.Why.{Why};
 
 use std::alloc::{AllocError, AllocFailed};

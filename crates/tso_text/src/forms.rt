@@ -7,7 +7,7 @@ ghost use Rattle.tso_ops.specs.Values.{rows, op_of, ReadFits};
 ghost use Rattle.tso_text.specs.Grammars.{trace_grammar, program_grammar, schedule_grammar, processor_of};
 ghost use Rattle.tso_text.specs.Printed.{outcome_pieces, op_pieces, act_pieces};
 ghost use Rattle.tso_text.specs.Spelling.{Grammar, said, items_of};
-ghost use Rattle.tso_text.specs.Taken.{IsItemTurnedAway, why_of};
+ghost use Rattle.tso_text.specs.Internal.Accepted.{IsItemRefusedFor, why_of};
 ghost use Rattle.tso_text.specs.declared.faults.Why.{Why};
 
 use crate::acts::Act;
@@ -52,7 +52,7 @@ pub(crate) trait Form: Copy {
     fn admit(self, tally: &mut Tally) -> Result<(), Why>
         ensures admitted { (items : List Self) → keeps tally.old items → OnOk result (keeps tally.new (items ++ self ∷ [])) }
         ensures clean { (items : List Self) → keeps tally.old items → OnOk result ((w : Why) → grammar.item_fault items self w ≡ false) }
-        ensures refused { (items : List Self) → keeps tally.old items → IfErr result (IsItemTurnedAway grammar items self) };
+        ensures refused { (items : List Self) → keeps tally.old items → IfErr result (IsItemRefusedFor grammar items self) };
 }
 
 impl Form for Outcome {

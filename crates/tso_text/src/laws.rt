@@ -3,8 +3,7 @@
 ghost use Rattle.std.specs.Prelude.{◌≡◌, ◌⊎◌, ◌≤◌, ℕ, List, All, length};
 ghost use Rattle.tso_ops.specs.Limits.{IsTrace, IsProgram};
 ghost use Rattle.tso_ops.specs.Values.{TraceValue, ProgramValue};
-ghost use Rattle.tso_text.specs.Grammars.{processor_of, SpellsTrace, SpellsProgram, SpellsSchedule, IsTraceRefusal, IsProgramRefusal, IsScheduleRefusal};
-ghost use Rattle.tso_text.specs.Grammars.{IsSpelledTrace, IsRefusedTrace, IsSpelledProgram, IsRefusedProgram, IsSpelledSchedule, IsRefusedSchedule};
+ghost use Rattle.tso_text.specs.Grammars.{processor_of, SpellsTrace, SpellsProgram, SpellsSchedule, IsTraceRefusal, IsProgramRefusal, IsScheduleRefusal, IsSpelledTrace, IsRefusedTrace, IsSpelledProgram, IsRefusedProgram, IsSpelledSchedule, IsRefusedSchedule};
 ghost use Rattle.tso_text.specs.Printed.{trace_text, program_text, schedule_text};
 ghost use Rattle.tso_text.specs.declared.acts.Act.{Act};
 ghost use Rattle.tso_text.specs.declared.faults.Why.{Why};

@@ -1,5 +1,5 @@
 ghost use Rattle.std.specs.Prelude.{◌≡◌, [], ◌∷◌, IfOk, OnOk, IfErr};
-ghost use Rattle.line_text.specs.Lines.{behind, SomePiece};
+ghost use Rattle.line_text.specs.Lines.{pieces_after, SomePiece};
 ghost use Rattle.tso_text.specs.Grammars.{address};
 ghost use Rattle.tso_text.specs.declared.faults.Why.{Why};
 ghost use Rattle.tso_text.specs.Numbers.{numeral, no_number, one_number, two_numbers, three_numbers};
@@ -16,8 +16,8 @@ fn numeral(piece: &[u8]) -> Result<u64, Why>
 
 /// The next piece, and what stands behind its space; BadLine where there is none.
 fn piece_of(pieces: Option<&[u8]>) -> Result<(&[u8], Option<&[u8]>), Why>
-    ensures found { IfOk result (λ found. behind pieces.entry ≡ found.0.now ∷ behind found.1) }
-    ensures none { IfErr result (λ why. (behind pieces.entry ≡ []) × (why ≡ Why.BadLine)) }
+    ensures found { IfOk result (λ found. pieces_after pieces.entry ≡ found.0.now ∷ pieces_after found.1) }
+    ensures none { IfErr result (λ why. (pieces_after pieces.entry ≡ []) × (why ≡ Why.BadLine)) }
 {
     match pieces {
         None => Err(Why::BadLine),
@@ -26,11 +26,11 @@ fn piece_of(pieces: Option<&[u8]>) -> Result<(&[u8], Option<&[u8]>), Why>
 }
 
 /// No piece.
-#[tactic(auto, using(line_text::proofs::CutFacts::behind_some), unfolding(crate::specs::Numbers::no_number))]
+#[tactic(auto, using(line_text::proofs::CutFacts::pieces_after_some), unfolding(crate::specs::Numbers::no_number))]
 pub(crate) fn no_number(pieces: Option<&[u8]>) -> Result<(), Why>
-    ensures is { result ≡ no_number (behind pieces.entry) }
-    ensures none { OnOk result (behind pieces.entry ≡ []) }
-    ensures some { IfErr result (λ why. SomePiece (behind pieces.entry) × (why ≡ Why.BadLine)) }
+    ensures is { result ≡ no_number (pieces_after pieces.entry) }
+    ensures none { OnOk result (pieces_after pieces.entry ≡ []) }
+    ensures some { IfErr result (λ why. SomePiece (pieces_after pieces.entry) × (why ≡ Why.BadLine)) }
 {
     match pieces {
         None => Ok(()),
@@ -41,7 +41,7 @@ pub(crate) fn no_number(pieces: Option<&[u8]>) -> Result<(), Why>
 /// The number of the only piece.
 #[tactic(auto, unfolding(crate::specs::Numbers::one_number))]
 pub(crate) fn one_number(pieces: Option<&[u8]>) -> Result<u64, Why>
-    ensures { result ≡ one_number (behind pieces.entry) }
+    ensures { result ≡ one_number (pieces_after pieces.entry) }
 {
     let (piece, rest) = piece_of(pieces)?;
     no_number(rest)?;
@@ -51,7 +51,7 @@ pub(crate) fn one_number(pieces: Option<&[u8]>) -> Result<u64, Why>
 /// The numbers of just two pieces.
 #[tactic(auto, unfolding(crate::specs::Numbers::two_numbers))]
 pub(crate) fn two_numbers(pieces: Option<&[u8]>) -> Result<(u64, u64), Why>
-    ensures { result ≡ two_numbers (behind pieces.entry) }
+    ensures { result ≡ two_numbers (pieces_after pieces.entry) }
 {
     let (first, rest) = piece_of(pieces)?;
     let (second, rest) = piece_of(rest)?;
@@ -62,7 +62,7 @@ pub(crate) fn two_numbers(pieces: Option<&[u8]>) -> Result<(u64, u64), Why>
 /// The numbers of just three pieces.
 #[tactic(auto, unfolding(crate::specs::Numbers::three_numbers))]
 pub(crate) fn three_numbers(pieces: Option<&[u8]>) -> Result<(u64, u64, u64), Why>
-    ensures { result ≡ three_numbers (behind pieces.entry) }
+    ensures { result ≡ three_numbers (pieces_after pieces.entry) }
 {
     let (first, rest) = piece_of(pieces)?;
     let (second, rest) = piece_of(rest)?;

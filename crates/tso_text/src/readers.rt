@@ -2,8 +2,8 @@ ghost use Rattle.std.specs.Prelude.{◌≡◌, ◌≢◌, ◌∷◌, [], List, �
 ghost use Rattle.line_text.specs.Lines.{parts_of};
 ghost use Rattle.tso_ops.specs.Values.{TraceValue, ProgramValue, rows};
 ghost use Rattle.tso_text.specs.Grammars.{SpellsTrace, SpellsProgram, SpellsSchedule, IsTraceRefusal, IsProgramRefusal, IsScheduleRefusal};
-ghost use Rattle.tso_text.specs.Spelling.{Spells, IsRefusal};
-ghost use Rattle.tso_text.specs.Taken.{IsKept};
+ghost use Rattle.tso_text.specs.Spelling.{SpellsLists, IsTextRefusal};
+ghost use Rattle.tso_text.specs.Internal.Accepted.{IsKept};
 ghost use Rattle.tso_text.specs.declared.acts.Act.{Act};
 ghost use Rattle.tso_text.specs.declared.faults.Why.{Why};
 
@@ -71,9 +71,9 @@ pub fn read_schedule(alloc: Global, text: &[u8]) -> Result<Vec<Act>, TextFault>
 
 /// The lists that a text spells.
 pub(crate) fn read_lists<T: Form>(alloc: Global, text: &[u8]) -> Result<Vec<Vec<T>>, TextFault>
-    ensures found { IfOk result (λ lists. Spells T.grammar text.now (rows lists.items)) }
+    ensures found { IfOk result (λ lists. SpellsLists T.grammar text.now (rows lists.items)) }
     ensures kept { IfOk result (λ lists. IsKept T.keeps (rows lists.items)) }
-    ensures refused { IfErr result (λ fault. fault.why ≢ Why.OutOfMemory → IsRefusal T.grammar text.now fault.line fault.why) }
+    ensures refused { IfErr result (λ fault. fault.why ≢ Why.OutOfMemory → IsTextRefusal T.grammar text.now fault.line fault.why) }
     ensures memory { IfErr result (λ fault. fault.why ≡ Why.OutOfMemory → fault.line ≡ 0) }
 {
     let mut rest = match body_of::<T>(text) {
@@ -86,15 +86,15 @@ pub(crate) fn read_lists<T: Form>(alloc: Global, text: &[u8]) -> Result<Vec<Vec<
     };
     let mut line: usize = 2;
     'lines: loop {
-        let (front, behind) = match next_line(rest) {
+        let (prefix, after) = match next_line(rest) {
             Ok(parts) => parts,
             Err(why) => return Err(fault_of(line, why)),
         };
-        let ended = match reading.take_line(front) {
+        let ended = match reading.accept_line(prefix) {
             Ok(ended) => ended,
             Err(why) => return Err(fault_of(line, why)),
         };
-        rest = behind;
+        rest = after;
         line += 1;
         if ended {
             if !rest.is_empty() {
@@ -111,7 +111,7 @@ fn body_of<T: Form>(text: &[u8]) -> Result<&[u8], TextFault>
     ensures body { IfOk result (λ rest. parts_of text.now ≡ T.grammar.header ∷ parts_of rest.now) }
     ensures short { OnOk result (length text.now ≤ 1048576) }
     ensures shorter { IfOk result (λ rest. length rest.now < length text.now) }
-    ensures refused { IfErr result (λ fault. IsRefusal T.grammar text.now fault.line fault.why) }
+    ensures refused { IfErr result (λ fault. IsTextRefusal T.grammar text.now fault.line fault.why) }
     ensures why { IfErr result (λ fault. fault.why ≢ Why.OutOfMemory) }
 {
     if text.len() > MAX_BYTES {

@@ -1,7 +1,7 @@
 ghost use Rattle.std.specs.Prelude.{◌≡◌, ◌<◌, ◌≤◌, length, OnOk, IfOk, IfErr, vec_len};
 ghost use Rattle.tso_ops.specs.Values.{rows};
 ghost use Rattle.tso_text.specs.Spelling.{push_last, items_of};
-ghost use Rattle.tso_text.specs.Taken.{TakesLine, TakesSaid, IsLineTurnedAway, IsSaidTurnedAway};
+ghost use Rattle.tso_text.specs.Internal.Accepted.{AcceptsLine, AcceptsSaid, IsLineRefusedFor, IsSaidRefusedFor};
 ghost use Rattle.tso_text.specs.declared.faults.Why.{Why};
 
 use crate::faults::Why;
@@ -33,26 +33,26 @@ impl<T: Form> Reading<T> {
     }
 
     /// Takes the next line, and tells whether it ends the text; or refuses it for its first fault.
-    pub(crate) fn take_line(&mut self, line: &[u8]) -> Result<bool, Why>
+    pub(crate) fn accept_line(&mut self, line: &[u8]) -> Result<bool, Why>
         requires keeps { T.keeps self.old.tally (items_of (rows self.old.lists.items)) }
         requires few { length (rows self.old.lists.items) ≤ 16 }
-        ensures taken { IfOk result (λ ended. TakesLine T.grammar (rows self.old.lists.items) line.now ended (rows self.new.lists.items)) }
+        ensures accepted { IfOk result (λ ended. AcceptsLine T.grammar (rows self.old.lists.items) line.now ended (rows self.new.lists.items)) }
         ensures keeps { OnOk result (T.keeps self.new.tally (items_of (rows self.new.lists.items))) }
         ensures few { OnOk result (length (rows self.new.lists.items) ≤ 16) }
-        ensures refused { IfErr result (IsLineTurnedAway T.grammar (rows self.old.lists.items) line.now) }
+        ensures refused { IfErr result (IsLineRefusedFor T.grammar (rows self.old.lists.items) line.now) }
     {
         let said = T::said_by(line)?;
-        self.take(said)
+        self.accept(said)
     }
 
     /// Takes what the next line says, and tells whether it ends the text; or refuses it for its first fault.
-    fn take(&mut self, said: Line<T>) -> Result<bool, Why>
+    fn accept(&mut self, said: Line<T>) -> Result<bool, Why>
         requires keeps { T.keeps self.old.tally (items_of (rows self.old.lists.items)) }
         requires few { length (rows self.old.lists.items) ≤ 16 }
-        ensures taken { IfOk result (λ ended. TakesSaid T.grammar (rows self.old.lists.items) said ended (rows self.new.lists.items)) }
+        ensures accepted { IfOk result (λ ended. AcceptsSaid T.grammar (rows self.old.lists.items) said ended (rows self.new.lists.items)) }
         ensures keeps { OnOk result (T.keeps self.new.tally (items_of (rows self.new.lists.items))) }
         ensures few { OnOk result (length (rows self.new.lists.items) ≤ 16) }
-        ensures refused { IfErr result (IsSaidTurnedAway T.grammar (rows self.old.lists.items) said) }
+        ensures refused { IfErr result (IsSaidRefusedFor T.grammar (rows self.old.lists.items) said) }
     {
         match said {
             Line::Proc => {

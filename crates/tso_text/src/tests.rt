@@ -8,7 +8,7 @@ use tso_ops::Outcome;
 
 mod examples;
 mod faults;
-mod growths;
+mod refused_allocations;
 
 fn trace_fault(alloc: Global, text: &[u8]) -> Option<TextFault> {
     read_trace(alloc, text).err()
@@ -25,12 +25,12 @@ fn at(line: usize, why: Why) -> Option<TextFault> {
 /// A front, many times the same line, and a back.
 fn repeated(
     alloc: Global,
-    front: &str,
+    prefix: &str,
     line: &str,
     count: usize,
     back: &str,
 ) -> Result<String, AllocError> {
-    let mut text = String::from_str(alloc, front)?;
+    let mut text = String::from_str(alloc, prefix)?;
     for _ in 0..count {
         text.push_str(line)?;
     }
@@ -92,20 +92,20 @@ fn refusals_of_traces(rt: HostRuntime) -> Result<(), Fail> {
 #[test]
 fn counts_at_their_limits(rt: HostRuntime) -> Result<(), Fail> {
     let alloc = rt.alloc();
-    let front = "tso trace 1\nproc\n";
-    let full = repeated(alloc, front, "ld 1 0\n", 2_000, "end\n")?;
+    let prefix = "tso trace 1\nproc\n";
+    let full = repeated(alloc, prefix, "ld 1 0\n", 2_000, "end\n")?;
     assert_eq!(rt; trace_fault(alloc, full.as_bytes()), None);
-    let more = repeated(alloc, front, "ld 1 0\n", 2_001, "end\n")?;
+    let more = repeated(alloc, prefix, "ld 1 0\n", 2_001, "end\n")?;
     assert_eq!(rt;
         trace_fault(alloc, more.as_bytes()),
         at(2_003, Why::TooManyEvents)
     );
-    let swap = repeated(alloc, front, "ld 1 0\n", 1_999, "sw 1 0 1\nend\n")?;
+    let swap = repeated(alloc, prefix, "ld 1 0\n", 1_999, "sw 1 0 1\nend\n")?;
     assert_eq!(rt;
         trace_fault(alloc, swap.as_bytes()),
         at(2_002, Why::TooManyEvents)
     );
-    let bars = repeated(alloc, front, "mb\n", 2_001, "end\n")?;
+    let bars = repeated(alloc, prefix, "mb\n", 2_001, "end\n")?;
     assert_eq!(rt;
         trace_fault(alloc, bars.as_bytes()),
         at(2_003, Why::TooManyEvents)

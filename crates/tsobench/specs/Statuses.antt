@@ -6,7 +6,7 @@ use Rattle.tso_report.specs.declared.verdicts.Verdict.TheVariants.{NoViolation, 
 use Rattle.tso_report.specs.declared.faults.Fault.{Fault}
 use Rattle.tso_report.specs.Checks.{LeavesCheckFault, WritesCheckReport}
 use Rattle.tso_report.specs.Reports.{LeavesFault, WritesReport}
-use Rattle.tso_report.specs.Streams.{AppendsFront}
+use Rattle.tso_report.specs.Streams.{AppendsPrefix}
 
 abbrev pub status_of : Verdict → ℕ
 status_of NoViolation = 0
@@ -45,11 +45,11 @@ LeavesChecking old new fault = (traces : Option (List ℕ)) × (certs : Option (
 abbrev pub EndsShown : Option (List ℕ) → Option (List ℕ) → ℕ → Type 0
 EndsShown old new status =
     ((text : List ℕ) × Appends old new text × (status ≡ 0))
-    ⊎ ((Keeps old new × (status ≡ 2)) ⊎ ((Keeps old new × (status ≡ 4)) ⊎ ((text : List ℕ) × AppendsFront old new text × (status ≡ 4))))
+    ⊎ ((Keeps old new × (status ≡ 2)) ⊎ ((Keeps old new × (status ≡ 4)) ⊎ ((text : List ℕ) × AppendsPrefix old new text × (status ≡ 4))))
 
 -- A report was written, of a trace or of a trace and a certificate, and the status is that of its verdict; or a fault left nothing or, on
 -- Write, a front of it, and the status is 4; or the words asked for no report.
-abbrev pub EndsByWords : Option (List ℕ) → Option (List ℕ) → ℕ → Type 0
-EndsByWords old new status =
+abbrev pub EndsByArguments : Option (List ℕ) → Option (List ℕ) → ℕ → Type 0
+EndsByArguments old new status =
     ((verdict : Verdict) × (JudgesSome old new verdict ⊎ ChecksSome old new verdict) × (status ≡ status_of verdict))
     ⊎ (((fault : Fault) × (LeavesJudging old new fault ⊎ LeavesChecking old new fault) × (status ≡ 4)) ⊎ EndsShown old new status)

@@ -3,9 +3,9 @@ ghost use Rattle.std.specs.Io.KnownBytes.{Keeps};
 ghost use Rattle.std.specs.declared.io.ErrorKind.TheVariants.{OutOfMemory as NoMemory};
 ghost use Rattle.clap.specs.Words.{kind_of};
 ghost use Rattle.tso_report.specs.declared.faults.Fault.{Fault};
-ghost use Rattle.tsobench.specs.Statuses.{EndsByWords, EndsJudged, EndsShown, JudgesSome, LeavesJudging, ChecksSome, LeavesChecking, status_of};
+ghost use Rattle.tsobench.specs.Statuses.{EndsByArguments, EndsJudged, EndsShown, JudgesSome, LeavesJudging, ChecksSome, LeavesChecking, status_of};
 
-use crate::requests::{Request, read_words};
+use crate::requests::{Request, read_arguments};
 use clap::Error;
 use clap::error::ErrorKind;
 use std::alloc::Global;
@@ -44,13 +44,13 @@ pub fn drive<H: Threads + Wait + Sync + Files, R: Read, W: Write, E: Write>(
     errors: &mut E,
 ) -> u8
     ensures judged { length words.now ≡ 0 → EndsJudged (R.remaining reader.old) (W.contents writer.old) (W.contents writer.new) result }
-    ensures ends { EndsByWords (W.contents writer.old) (W.contents writer.new) result }
+    ensures ends { EndsByArguments (W.contents writer.old) (W.contents writer.new) result }
     ensures quiet { (result ≡ 0) ⊎ (result ≡ 3) → Keeps (E.contents errors.old) (E.contents errors.new) }
 {
     if words.is_empty() {
         return end(judge(rt, alloc, reader, writer, 1), errors);
     }
-    match read_words(alloc, words) {
+    match read_arguments(alloc, words) {
         Ok(
             Request::Judge {
                 file: None,

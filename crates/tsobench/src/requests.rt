@@ -20,7 +20,7 @@ pub(crate) enum Request<'a> {
 }
 
 /// What these words ask for; or the text for their user, where they ask for help or can't be understood.
-pub(crate) fn read_words<'a>(alloc: Global, words: &'a [String]) -> Result<Request<'a>, Error> {
+pub(crate) fn read_arguments<'a>(alloc: Global, words: &'a [String]) -> Result<Request<'a>, Error> {
     let matches = command(alloc)?.try_get_matches_from(words)?;
     if let Some(found) = matches.subcommand_matches("check") {
         return Ok(Request::Check {

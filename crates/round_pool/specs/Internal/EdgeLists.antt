@@ -4,7 +4,7 @@ use Rattle.order_graph.specs.Digraphs.{Digraph, IsEdge}
 use Rattle.tso_ops.specs.Values.{TraceValue}
 use Rattle.tso_model.specs.EdgeLists.{IsNew}
 use Rattle.round_pool.specs.declared.ranked.Edge.{Edge}
-use Rattle.round_pool.specs.Rankings.{HasEdge, IsAscending, AreWithin, edge_from}
+use Rattle.round_pool.specs.Rankings.{ListsEdge, AreEdgesAscending, AreWithin, edge_from}
 
 -- the edges of these rows, of which the first is that of this number
 abbrev pub edges_of_rows : ℕ → List (List ℕ) → List Edge
@@ -18,7 +18,7 @@ AreAllWithin nodes added = (k : ℕ) → k < length added → AreWithin nodes (g
 -- The graph has the edges of the lists from the one place on and before the other, and no others.
 pub record IsGraphOf (nodes : ℕ) (added : List (List Edge)) (first end : ℕ) (g : Digraph) : Type 0 where
   pub nodes_are : g.nodes ≡ nodes
-  pub edges : (x y : ℕ) → IsEdge g x y ↔ ((j : ℕ) × (first ≤ j) × (j < end) × HasEdge (get_or added j []) x y)
+  pub edges : (x y : ℕ) → IsEdge g x y ↔ ((j : ℕ) × (first ≤ j) × (j < end) × ListsEdge (get_or added j []) x y)
 
 -- The graph has the edges of the first graph from this number on that the second lacks.
 pub record IsDifferenceFrom (last later : Digraph) (first : ℕ) (g : Digraph) : Type 0 where
@@ -27,6 +27,6 @@ pub record IsDifferenceFrom (last later : Digraph) (first : ℕ) (g : Digraph) :
 
 -- The edges are those that a round adds to the graph's, in ascending order.
 pub record AreNewEdges (t : TraceValue) (g : Digraph) (edges : List Edge) : Type 0 where
-  pub all : (u v : ℕ) → IsNew t (IsEdge g) u v → HasEdge edges u v
-  pub only : (u v : ℕ) → HasEdge edges u v → IsNew t (IsEdge g) u v
-  pub ascending : IsAscending edges
+  pub all : (u v : ℕ) → IsNew t (IsEdge g) u v → ListsEdge edges u v
+  pub only : (u v : ℕ) → ListsEdge edges u v → IsNew t (IsEdge g) u v
+  pub ascending : AreEdgesAscending edges

@@ -1,13 +1,14 @@
 //! Edges as a list of pairs of numbers.
 ghost use Rattle.std.specs.Prelude.{◌↔◌, IsTrue, IfOk, OnOk};
-ghost use Rattle.tso_model.specs.EdgeLists.{HasEdge, AddsRow, ArePassing};
+ghost use Rattle.tso_model.specs.EdgeLists.{HasPair};
+ghost use Rattle.tso_model.specs.Internal.PlainLists.{AddsRow, ArePassing};
 
 use std::alloc::Global;
 use tso_ops::OutOfMemory;
 
 /// Whether the list has the edge from `u` to `v`.
 pub fn has_edge(edges: &[(usize, usize)], u: usize, v: usize) -> bool
-    ensures { IsTrue result ↔ HasEdge edges.now u v }
+    ensures { IsTrue result ↔ HasPair edges.now u v }
 {
     edges.contains(&(u, v))
 }

@@ -1,6 +1,6 @@
 //! Tests of the words on events.
 ghost use Rattle.std.specs.Prelude.{◌≡◌, ◌↔◌, ℕ, suc, IsTrue, MatchOption};
-ghost use Rattle.tso_ops.specs.Events.{event_total, IsEvent, IsLoad, IsStore, IsSwapLoad, HasValue, SameAddress, SameValue, Earlier, BarrierBetween, HasSource, IsUnwritten};
+ghost use Rattle.tso_ops.specs.Events.{event_total, IsEvent, IsLoad, IsStore, IsSwapLoad, HasValue, SameAddress, SameValue, Earlier, HasFewerBarriersBefore, HasSource, IsUnwritten};
 
 use tso_ops::Trace;
 
@@ -81,7 +81,7 @@ pub fn is_earlier(trace: &Trace, u: usize, v: usize) -> bool
 
 /// Whether a barrier stands between the events, of which `u` is program-earlier.
 pub fn has_barrier_between(trace: &Trace, u: usize, v: usize) -> bool
-    ensures { IsTrue result ↔ BarrierBetween trace.now u v }
+    ensures { IsTrue result ↔ HasFewerBarriersBefore trace.now u v }
 {
     match (trace.event(u), trace.event(v)) {
         (Some(d), Some(e)) => d.bars < e.bars,

@@ -1,7 +1,8 @@
 //! Paths and cycles over a list of edges, by joining paths at each number in turn.
 ghost use Rattle.std.specs.Prelude.{◌↔◌, IsTrue, IfOk};
 ghost use Rattle.order_paths.specs.Paths.{Reaches, HasCycle};
-ghost use Rattle.tso_model.specs.EdgeLists.{HasEdge, AreEdges, AreBelow, IsJoinedAt};
+ghost use Rattle.tso_model.specs.EdgeLists.{HasPair, AreEdges, AreEdgesBelow};
+ghost use Rattle.tso_model.specs.Internal.PlainLists.{IsJoinedAt};
 
 use crate::plain::edges::{has_edge, pairs_where};
 use std::alloc::Global;
@@ -15,8 +16,8 @@ pub fn has_path(
     u: usize,
     v: usize,
 ) -> Result<bool, OutOfMemory>
-    requires { AreBelow n edges.now }
-    ensures { IfOk result (λ found. IsTrue found ↔ Reaches (HasEdge edges.now) u v) }
+    requires { AreEdgesBelow n edges.now }
+    ensures { IfOk result (λ found. IsTrue found ↔ Reaches (HasPair edges.now) u v) }
 {
     let paths = list_paths(alloc, edges, n)?;
     Ok(has_edge(&paths, u, v))
@@ -24,8 +25,8 @@ pub fn has_path(
 
 /// Whether the edges, whose numbers lie below `n`, have a cycle.
 pub fn has_cycle(alloc: Global, edges: &[(usize, usize)], n: usize) -> Result<bool, OutOfMemory>
-    requires { AreBelow n edges.now }
-    ensures { IfOk result (λ found. IsTrue found ↔ HasCycle (HasEdge edges.now)) }
+    requires { AreEdgesBelow n edges.now }
+    ensures { IfOk result (λ found. IsTrue found ↔ HasCycle (HasPair edges.now)) }
 {
     let paths = list_paths(alloc, edges, n)?;
     for u in 0..n {
@@ -42,8 +43,8 @@ pub(super) fn list_paths(
     edges: &[(usize, usize)],
     n: usize,
 ) -> Result<Vec<(usize, usize)>, OutOfMemory>
-    requires { AreBelow n edges.now }
-    ensures { IfOk result (λ paths. AreEdges paths.items (Reaches (HasEdge edges.now))) }
+    requires { AreEdgesBelow n edges.now }
+    ensures { IfOk result (λ paths. AreEdges paths.items (Reaches (HasPair edges.now))) }
 {
     let mut paths = Vec::new(alloc);
     paths.extend_from_slice(edges)?;
@@ -60,7 +61,7 @@ fn join_at(
     n: usize,
     middle: usize,
 ) -> Result<Vec<(usize, usize)>, OutOfMemory>
-    requires { AreBelow n paths.now }
+    requires { AreEdgesBelow n paths.now }
     ensures { IfOk result (λ more. AreEdges more.items (IsJoinedAt paths.now middle)) }
 {
     pairs_where(alloc, n, |u, v| is_joined_at(paths, middle, u, v))

@@ -1,8 +1,8 @@
 //! The rank sets, round by round.
 ghost use Rattle.std.specs.Prelude.{◌↔◌, ℕ, suc, IsTrue, IfOk};
 ghost use Rattle.tso_ops.specs.Events.{event_total};
-ghost use Rattle.tso_model.specs.Ranks.{F};
-ghost use Rattle.tso_model.specs.EdgeLists.{HasEdge, AreEdges, AreBelow, IsGiven, IsNew};
+ghost use Rattle.tso_model.specs.Ranks.{RankSet};
+ghost use Rattle.tso_model.specs.EdgeLists.{HasPair, AreEdges, AreEdgesBelow, IsGiven, IsNew};
 
 use crate::plain::base::first_base_rule;
 use crate::plain::edges::{has_edge, pairs_where};
@@ -14,15 +14,15 @@ use tso_ops::{OutOfMemory, Trace};
 
 /// The edges that the base rules give.
 pub fn base_edges(alloc: Global, trace: &Trace) -> Result<Vec<(usize, usize)>, OutOfMemory>
-    ensures rank { IfOk result (λ edges. AreEdges edges.items (F trace.now 0)) }
-    ensures within { IfOk result (λ edges. AreBelow (suc (event_total trace.now)) edges.items) }
+    ensures rank { IfOk result (λ edges. AreEdges edges.items (RankSet trace.now 0)) }
+    ensures within { IfOk result (λ edges. AreEdgesBelow (suc (event_total trace.now)) edges.items) }
 {
     pairs_where(alloc, node_count(trace), |u, v| is_base_edge(trace, u, v))
 }
 
 /// Whether a base rule gives the edge from `u` to `v`.
 fn is_base_edge(trace: &Trace, u: usize, v: usize) -> bool
-    ensures { IsTrue result ↔ F trace.now 0 u v }
+    ensures { IsTrue result ↔ RankSet trace.now 0 u v }
 {
     first_base_rule(trace, u, v).is_some()
 }
@@ -33,9 +33,9 @@ pub fn new_edges(
     trace: &Trace,
     edges: &[(usize, usize)],
 ) -> Result<Vec<(usize, usize)>, OutOfMemory>
-    requires { AreBelow (suc (event_total trace.now)) edges.now }
-    ensures new { IfOk result (λ new. AreEdges new.items (IsNew trace.now (HasEdge edges.now))) }
-    ensures within { IfOk result (λ new. AreBelow (suc (event_total trace.now)) new.items) }
+    requires { AreEdgesBelow (suc (event_total trace.now)) edges.now }
+    ensures new { IfOk result (λ new. AreEdges new.items (IsNew trace.now (HasPair edges.now))) }
+    ensures within { IfOk result (λ new. AreEdgesBelow (suc (event_total trace.now)) new.items) }
 {
     let n = node_count(trace);
     let ends = list_paths(alloc, edges, n)?;
@@ -45,15 +45,15 @@ pub fn new_edges(
 
 /// Whether an inferred rule gives the edge from `u` to `v`, where the paths are these, and it is none of them.
 fn is_new(trace: &Trace, paths: &[(usize, usize)], u: usize, v: usize) -> bool
-    ensures { IsTrue result ↔ (IsGiven trace.now (HasEdge paths.now) u v × (HasEdge paths.now u v → ⊥)) }
+    ensures { IsTrue result ↔ (IsGiven trace.now (HasPair paths.now) u v × (HasPair paths.now u v → ⊥)) }
 {
     is_given(trace, paths, u, v) && !has_edge(paths, u, v)
 }
 
 /// The edges of rank `k` or less.
 pub fn rank_set(alloc: Global, trace: &Trace, k: usize) -> Result<Vec<(usize, usize)>, OutOfMemory>
-    ensures rank { IfOk result (λ edges. AreEdges edges.items (F trace.now k)) }
-    ensures within { IfOk result (λ edges. AreBelow (suc (event_total trace.now)) edges.items) }
+    ensures rank { IfOk result (λ edges. AreEdges edges.items (RankSet trace.now k)) }
+    ensures within { IfOk result (λ edges. AreEdgesBelow (suc (event_total trace.now)) edges.items) }
 {
     let mut edges = base_edges(alloc, trace)?;
     for _round in 0..k {

@@ -121,12 +121,12 @@ pub(super) fn judged<H: Threads + Wait + Sync>(
 /// A front, many times the same line, and a back.
 fn repeated(
     alloc: Global,
-    front: &str,
+    prefix: &str,
     line: &str,
     count: usize,
     back: &str,
 ) -> Result<String, AllocError> {
-    let mut text = String::from_str(alloc, front)?;
+    let mut text = String::from_str(alloc, prefix)?;
     for _ in 0..count {
         text.push_str(line)?;
     }

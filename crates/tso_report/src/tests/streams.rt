@@ -133,8 +133,8 @@ fn writer_stops_short(rt: HostRuntime) -> Result<(), Fail> {
                 let mut writer = short_writer(alloc, room, full);
                 let fault = judge(&rt, alloc, &mut reader, &mut writer, 1).err();
                 assert_eq!(rt; fault, Some(Fault::Write), "{room}");
-                let front = report.as_bytes().get(..room).unwrap_or(TRACE);
-                assert_eq!(rt; writer.taken.as_slice(), front, "{room}");
+                let prefix = report.as_bytes().get(..room).unwrap_or(TRACE);
+                assert_eq!(rt; writer.taken.as_slice(), prefix, "{room}");
             }
         }
         let mut reader = trace.as_bytes();
@@ -148,7 +148,7 @@ fn writer_stops_short(rt: HostRuntime) -> Result<(), Fail> {
 
 /// writer_fails behind the first line
 #[test]
-fn writer_fails_behind_the_first_line(rt: HostRuntime) -> Result<(), Fail> {
+fn writer_fails_after_the_first_line(rt: HostRuntime) -> Result<(), Fail> {
     let alloc = rt.alloc();
     let mut reader = TRACE;
     let mut writer = short_writer(alloc, 13, Full::Fails(ErrorKind::Other));

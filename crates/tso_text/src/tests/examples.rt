@@ -303,17 +303,17 @@ fn schedules_printed_back(rt: HostRuntime) -> Result<(), Fail> {
 #[test]
 fn events_at_their_limit(rt: HostRuntime) -> Result<(), Fail> {
     let alloc = rt.alloc();
-    let front = "tso trace 1\nproc\n";
-    let full = repeated(alloc, front, "ld 0 0\n", 2_000, "end\n")?;
+    let prefix = "tso trace 1\nproc\n";
+    let full = repeated(alloc, prefix, "ld 0 0\n", 2_000, "end\n")?;
     assert_eq!(rt; full.len(), 14_021);
     assert_eq!(rt; trace_back(alloc, full.as_str())?.as_str(), full.as_str());
-    let more = repeated(alloc, front, "ld 0 0\n", 2_001, "end\n")?;
+    let more = repeated(alloc, prefix, "ld 0 0\n", 2_001, "end\n")?;
     assert_eq!(rt; more.len(), 14_028);
     assert_eq!(rt;
         trace_fault(alloc, more.as_bytes()),
         at(2_003, Why::TooManyEvents)
     );
-    let swap = repeated(alloc, front, "ld 0 0\n", 1_999, "sw 0 0 1\nend\n")?;
+    let swap = repeated(alloc, prefix, "ld 0 0\n", 1_999, "sw 0 0 1\nend\n")?;
     assert_eq!(rt; swap.len(), 14_023);
     assert_eq!(rt;
         trace_fault(alloc, swap.as_bytes()),

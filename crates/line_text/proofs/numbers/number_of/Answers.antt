@@ -1,6 +1,6 @@
 use Rattle.std.proofs.Common.{sym, ◌∙◌, refl, arith, ◌+◌, drop, get_or}
 use Rattle.std.proofs.lemmas.List.{drop_more, drop_all}
-use Rattle.line_text.proofs.NumberFacts.{number-not_plain, number-plain, number_behind-nil, number_behind-taken, number_behind-refused, number_with-fits}
+use Rattle.line_text.proofs.NumberFacts.{number-not_plain, number-plain, number_after-nil, number_after-digit, number_after-refused, number_with-fits}
 use Rattle.line_text.proofs.numbers.number_of.Goals as goal
 
 pub returns-then-not-is_plain : goal.returns-then-not-is_plain
@@ -13,7 +13,7 @@ pub returns-in_err-value : goal.returns-in_err-value
 returns-in_err-value c =
     let piece = c.args.piece.now in
     let i = c.loop-byte.byte-index in
-    let refused = number_behind-refused c.loop-byte.value _ (drop (i + 1) piece) (sym c.with_digit.ensures ∙ c.in_err-value.was) in
+    let refused = number_after-refused c.loop-byte.value _ (drop (i + 1) piece) (sym c.with_digit.ensures ∙ c.in_err-value.was) in
     c.from_residual.ensures
     ∙ sym (number-plain piece (sym c.is_plain.ensures ∙ c.if-not-is_plain.false) ∙ c.loop-byte.invariant.read ∙ rw (drop_more piece i 0 c.loop-byte-test.true) refused)
 
@@ -23,7 +23,7 @@ loop-byte-preserved c =
     let i = c.loop-byte.byte-index in
     let taken = sym c.with_digit.ensures ∙ c.in_ok-value.was in
     record {
-      read = c.loop-byte.invariant.read ∙ rw (drop_more piece i 0 c.loop-byte-test.true) (number_behind-taken c.loop-byte.value c.in_ok-value.value _ (drop (i + 1) piece) taken);
+      read = c.loop-byte.invariant.read ∙ rw (drop_more piece i 0 c.loop-byte-test.true) (number_after-digit c.loop-byte.value c.in_ok-value.value _ (drop (i + 1) piece) taken);
       fits = number_with-fits c.loop-byte.value (get_or piece i 0) c.in_ok-value.value taken;
     }
 
@@ -31,4 +31,4 @@ pub returns : goal.returns
 returns c =
     let piece = c.args.piece.now in
     sym (number-plain piece (sym c.is_plain.ensures ∙ c.if-not-is_plain.false) ∙ c.loop-byte.invariant.read
-    ∙ rw (drop_all c.loop-byte.byte-index piece c.loop-byte-test.false) (number_behind-nil c.loop-byte.value c.loop-byte.invariant.fits))
+    ∙ rw (drop_all c.loop-byte.byte-index piece c.loop-byte-test.false) (number_after-nil c.loop-byte.value c.loop-byte.invariant.fits))

@@ -1,4 +1,4 @@
-use Rattle.order_graph.specs.Digraphs.{KeepsPathsToDone}
+use Rattle.order_graph.specs.Internal.KeptPaths.{KeepsPathsToDone}
 use Rattle.order_graph.proofs.all_paths.finish.Given as goal
 
 abbrev pub invariant-loop-j : goal.invariant-loop-j

@@ -7,7 +7,7 @@ use Rattle.order_graph.proofs.all_paths.join_word.Goals as goal
 pub loop-left-init : goal.loop-left-init
 loop-left-init c =
     let a = c.args in
-    Joining-start a.nodes a.width a.edges.now a.paths.now a.turned.now a.x a.j c.requires.paths c.requires.turned (search rules)
+    Joining-start a.nodes a.width a.edges.now a.paths.now a.transposed.now a.x a.j c.requires.paths c.requires.transposed (search rules)
 
 pub join-requires-clause-to : goal.join-requires-clause-to
 join-requires-clause-to c =
@@ -27,12 +27,12 @@ loop-left-smaller c =
 pub loop-left-preserved : goal.loop-left-preserved
 loop-left-preserved c =
     let a = c.args in
-    Joining-step a.nodes a.width a.edges.now a.paths.now c.loop-left.paths c.join.new.table c.loop-left.turned c.join.new.turned a.x a.j c.loop-left.left c.requires.edges c.loop-left.invariant
-    c.requires.row c.requires.word (omega arith) (omega arith) (search rules) c.join.ensures.added c.join.ensures.turned
+    Joining-step a.nodes a.width a.edges.now a.paths.now c.loop-left.paths c.join.new.table c.loop-left.transposed c.join.new.transposed a.x a.j c.loop-left.left c.requires.edges c.loop-left.invariant
+    c.requires.row c.requires.word (omega arith) (omega arith) (search rules) c.join.ensures.added c.join.ensures.transposed
 
 pub returns-clause-joined : goal.returns-clause-joined
 returns-clause-joined c =
     let a = c.args in
     let done : c.loop-left.left ≡ 0 = omega arith in
-    Joining-end a.nodes a.width a.edges.now a.paths.now c.loop-left.paths c.loop-left.turned a.x a.j
-    (subst (λ n. Joining a.nodes a.width a.edges.now a.paths.now c.loop-left.paths c.loop-left.turned a.x a.j n) done c.loop-left.invariant)
+    Joining-end a.nodes a.width a.edges.now a.paths.now c.loop-left.paths c.loop-left.transposed a.x a.j
+    (subst (λ n. Joining a.nodes a.width a.edges.now a.paths.now c.loop-left.paths c.loop-left.transposed a.x a.j n) done c.loop-left.invariant)

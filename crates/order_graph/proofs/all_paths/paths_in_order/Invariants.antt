@@ -1,5 +1,5 @@
 use Rattle.std.proofs.Common.{◌≡◌, length}
-use Rattle.order_graph.specs.Digraphs.{KeepsPathsToDone}
+use Rattle.order_graph.specs.Internal.KeptPaths.{KeepsPathsToDone}
 use Rattle.order_graph.proofs.all_paths.paths_in_order.Given as goal
 
 abbrev pub invariant-loop-x : goal.invariant-loop-x

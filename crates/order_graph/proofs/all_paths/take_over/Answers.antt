@@ -1,7 +1,7 @@
 use Rattle.std.proofs.Common.{◌<◌, ◌+◌, ◌*◌, inl, inr, refl, arith, rules}
 use Rattle.std.specs.Int.{trailing_zeros, w64}
 use Rattle.order_graph.proofs.Words.{HasBit-lowest}
-use Rattle.order_graph.proofs.Growth.{row_within}
+use Rattle.order_graph.proofs.AddedBits.{row_within}
 use Rattle.order_graph.proofs.AllPaths.{Taking-start, Taking-step, left_less}
 use Rattle.order_graph.proofs.all_paths.take_over.Goals as goal
 

@@ -1,7 +1,7 @@
 use Rattle.std.proofs.Common.{◌≡◌, ◌<◌, ◌+◌, ◌*◌, ◌%◌, ◌/◌, subst, sym, arith, slice_index_or}
-use Rattle.order_graph.specs.Tables.{HasBit}
+use Rattle.order_graph.specs.BitRows.{HasBit}
 use Rattle.order_graph.proofs.Words.{IsSet-word}
-use Rattle.order_graph.proofs.Growth.{row_within}
+use Rattle.order_graph.proofs.AddedBits.{row_within}
 use Rattle.order_graph.proofs.Spreading.{NextFrom-step}
 use Rattle.order_graph.proofs.closing.spread.Goals as goal
 

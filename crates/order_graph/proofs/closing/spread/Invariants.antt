@@ -1,4 +1,4 @@
-use Rattle.order_graph.proofs.Growth.{Leaves}
+use Rattle.order_graph.proofs.AddedBits.{Leaves}
 use Rattle.order_graph.proofs.Spreading.{NextFrom}
 use Rattle.order_graph.proofs.closing.spread.Given as goal
 

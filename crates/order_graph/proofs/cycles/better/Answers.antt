@@ -1,33 +1,33 @@
 use Rattle.std.proofs.Common.{inl, inr, arith}
 use Rattle.std.proofs.lemmas.Bool.{both_ways}
-use Rattle.order_graph.specs.Tables.{Joined}
+use Rattle.order_graph.specs.Internal.Tables.{Joined}
 use Rattle.order_graph.proofs.Cycling.{next_longer, next_found}
 use Rattle.order_graph.proofs.Searching.{Keeps-covers}
-use Rattle.order_graph.proofs.ShortCycles.{IsClosed-reach, next_closed, next_unclosed}
+use Rattle.order_graph.proofs.ShortCycles.{IsClosedNumber-reach, next_closed, next_unclosed}
 use Rattle.order_graph.proofs.cycles.better.Goals as goal
 
 pub returns-then-not-bit : goal.returns-then-not-bit
 returns-then-not-bit c =
     let a = c.args in
-    next_unclosed (λ v. v.items) a.nodes a.width a.edges.now a.paths.now a.turned.now a.start a.best c.requires.keeps c.requires.within
+    next_unclosed (λ v. v.items) a.nodes a.width a.edges.now a.paths.now a.transposed.now a.start a.best c.requires.keeps c.requires.within
     (λ p. both_ways c.bit.result c.if-not-bit.true (c.bit.ensures.1 ((c.requires.closed a.start (omega arith)).1 p))) c.requires.best
 
 pub shortest-requires-clause-covers : goal.shortest-requires-clause-covers
 shortest-requires-clause-covers c =
     let a = c.args in
-    Keeps-covers a.nodes a.width a.edges.now a.paths.now a.turned.now c.requires.keeps
+    Keeps-covers a.nodes a.width a.edges.now a.paths.now a.transposed.now c.requires.keeps
 
 pub shortest-requires-clause-path : goal.shortest-requires-clause-path
 shortest-requires-clause-path c =
     let a = c.args in
-    IsClosed-reach a.nodes a.width a.edges.now a.paths.now a.turned.now a.start c.requires.keeps c.requires.within ((c.requires.closed a.start (omega arith)).0 (c.bit.ensures.0 c.if-not-bit.false))
+    IsClosedNumber-reach a.nodes a.width a.edges.now a.paths.now a.transposed.now a.start c.requires.keeps c.requires.within ((c.requires.closed a.start (omega arith)).0 (c.bit.ensures.0 c.if-not-bit.false))
 
 pub returns-then-not-may : goal.returns-then-not-may
 returns-then-not-may c =
     let a = c.args in
     elim c.in_ok-may.ensures [
       | inl may ↦ absurd (both_ways c.in_ok-may.may c.if-not-may.true may)
-      | inr none ↦ next_closed (λ v. v.items) a.nodes a.width a.edges.now a.paths.now a.turned.now a.start a.best c.limit_below-limit.result c.requires.keeps c.requires.within
+      | inr none ↦ next_closed (λ v. v.items) a.nodes a.width a.edges.now a.paths.now a.transposed.now a.start a.best c.limit_below-limit.result c.requires.keeps c.requires.within
           c.limit_below-limit.ensures none c.requires.best
     ]
 

@@ -1,5 +1,5 @@
 use Rattle.std.proofs.Common.{◌≡◌, ℕ, ◌/◌, ◌<◌, All, length}
-use Rattle.order_graph.specs.Tables.{IsSet}
+use Rattle.order_graph.specs.Internal.Tables.{IsSet}
 use Rattle.order_graph.proofs.postorder.postorder.Given as goal
 
 abbrev pub invariant-loop : goal.invariant-loop

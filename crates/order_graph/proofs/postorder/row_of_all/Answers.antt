@@ -1,6 +1,6 @@
 use Rattle.std.proofs.Common.{◌≡◌, ℕ, length, replicate, ap, subst, ◌∙◌, arith}
 use Rattle.std.proofs.lemmas.List.{length-replicate}
-use Rattle.order_graph.specs.Tables.{IsSet}
+use Rattle.order_graph.specs.Internal.Tables.{IsSet}
 use Rattle.order_graph.proofs.Keeping.{no_bit}
 use Rattle.order_graph.proofs.postorder.row_of_all.Goals as goal
 

@@ -1,6 +1,6 @@
 use Rattle.std.proofs.Common.{◌≡◌, suc, ◌+◌, ◌-◌, [], ◌∷◌, ◌++◌, sym, subst, arith}
 use Rattle.std.proofs.lemmas.Grind.{common_steps}
-use Rattle.order_graph.specs.Tracks.{IsFirstShared, IsLevel}
+use Rattle.order_graph.specs.Internal.Tracks.{IsFirstShared, IsLevel}
 use Rattle.order_graph.proofs.Searching.{Descends, Descends-start, Descends-meets, Descends-step, Descends-end}
 use Rattle.order_graph.proofs.searches.descend.Goals as goal
 
@@ -11,12 +11,12 @@ loop-done-init c =
     let all : a.count - 0 ≡ a.count = omega arith in
     subst (λ n. Descends a.edges.now a.paths.now a.width a.nodes a.u a.v a.count n a.u c.push.new.self.items) (sym all)
     (subst (λ l. Descends a.edges.now a.paths.now a.width a.nodes a.u a.v a.count a.count a.u l) (sym items)
-    (Descends-start a.nodes a.width a.edges.now a.paths.now a.turned.now a.levels.now a.u a.v a.count c.requires.covers c.requires.from (c.requires.levels a.count (omega arith)) c.requires.meets))
+    (Descends-start a.nodes a.width a.edges.now a.paths.now a.transposed.now a.levels.now a.u a.v a.count c.requires.covers c.requires.from (c.requires.levels a.count (omega arith)) c.requires.meets))
 
 pub unreachable-requires : goal.unreachable-requires
 unreachable-requires c =
     let a = c.args in
-    Descends-meets a.nodes a.width a.edges.now a.paths.now a.turned.now a.levels.now a.u a.v a.count (a.count - c.loop-done.done) c.loop-done.at c.loop-done.list.items
+    Descends-meets a.nodes a.width a.edges.now a.paths.now a.transposed.now a.levels.now a.u a.v a.count (a.count - c.loop-done.done) c.loop-done.at c.loop-done.list.items
     c.requires.covers (c.requires.levels (a.count - c.loop-done.done) (omega arith)) c.loop-done.invariant c.in_default.ensures
 
 pub loop-done-preserved : goal.loop-done-preserved
@@ -27,7 +27,7 @@ loop-done-preserved c =
     let items : c.push-in-loop-done.new.self.items ≡ list ++ c.in-Some.next ∷ [] = grind (arith, common_steps, c.in_ok-push-2.ensures.items) in
     let e : a.count - c.loop-done.done ≡ suc left = omega arith in
     subst (λ l. Descends a.edges.now a.paths.now a.width a.nodes a.u a.v a.count left c.in-Some.next l) (sym items)
-    (Descends-step a.nodes a.width a.edges.now a.paths.now a.turned.now a.levels.now a.u a.v a.count left c.loop-done.at c.in-Some.next list c.requires.covers c.requires.from
+    (Descends-step a.nodes a.width a.edges.now a.paths.now a.transposed.now a.levels.now a.u a.v a.count left c.loop-done.at c.in-Some.next list c.requires.covers c.requires.from
     (subst (λ n. IsLevel a.edges.now a.paths.now a.levels.now a.width a.nodes a.u a.v n) e (c.requires.levels (a.count - c.loop-done.done) (omega arith)))
     (subst (λ n. Descends a.edges.now a.paths.now a.width a.nodes a.u a.v a.count n c.loop-done.at list) e c.loop-done.invariant)
     (subst (λ n. IsFirstShared a.edges.now c.loop-done.at a.levels.now n a.width c.in-Some.next) e c.in-Some.ensures))

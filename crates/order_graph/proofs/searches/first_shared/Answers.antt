@@ -16,5 +16,5 @@ loop-j-preserved c = λ y h w. none_shared_more c.args.table.now c.args.x c.args
 pub returns : goal.returns
 returns c = λ y w s t. elim (cases_lt (y / 64) c.loop-j.j) [
   | inl before ↦ c.loop-j.invariant y before w s t
-  | inr behind ↦ (let within = c.requires.used y w t in omega (arith, behind, within.1))
+  | inr after ↦ (let within = c.requires.used y w t in omega (arith, after, within.1))
 ]

@@ -1,5 +1,5 @@
 use Rattle.std.proofs.Common.{ℕ, ◌/◌, ◌<◌}
-use Rattle.order_graph.specs.Tables.{IsSet}
+use Rattle.order_graph.specs.Internal.Tables.{IsSet}
 use Rattle.order_graph.proofs.searches.first_shared.Given as goal
 
 abbrev pub invariant-loop-j : goal.invariant-loop-j

@@ -25,5 +25,5 @@ levels-preserved c =
     let shared = rw c.deref.ensures.value at c.first_shared.ensures in
     let same : c.resize.new.self.items ≡ c.levels.levels.items ++ replicate a.width 0 = grind (arith, common_steps, c.in_ok-resize.ensures.items, c.len.ensures) in
     rw (take_at c.raise.new.levels _ c.resize.new.self.len (omega arith))
-    (Levels-step a.nodes a.width a.edges.now a.paths.now a.turned.now c.levels.levels.items c.resize.new.self.items c.raise.new.levels a.u a.v c.levels.count c.requires.covers c.requires.from c.requires.to
+    (Levels-step a.nodes a.width a.edges.now a.paths.now a.transposed.now c.levels.levels.items c.resize.new.self.items c.raise.new.levels a.u a.v c.levels.count c.requires.covers c.requires.from c.requires.to
     c.levels.invariant (none_from_match _ _ _ shared (sym c.is_some.ensures ∙ c.if-is_some.false)) same (omega arith) adds)

@@ -1,5 +1,5 @@
 use Rattle.std.proofs.Common.{arith}
-use Rattle.order_graph.proofs.Growth.{SpreadFrom-step}
+use Rattle.order_graph.proofs.AddedBits.{SpreadFrom-step}
 use Rattle.order_graph.proofs.tables.add_row.Goals as goal
 
 pub loop-j-preserved : goal.loop-j-preserved

@@ -1,6 +1,6 @@
 use Rattle.std.proofs.Common.{◌≡◌}
-use Rattle.order_graph.specs.Tables.{IsSelfOrSet}
-use Rattle.order_graph.proofs.Growth.{Leaves, SpreadFrom}
+use Rattle.order_graph.specs.Internal.Tables.{IsSelfOrSet}
+use Rattle.order_graph.proofs.AddedBits.{Leaves, SpreadFrom}
 use Rattle.order_graph.proofs.tables.add_row.Given as goal
 
 abbrev pub invariant-loop-j : goal.invariant-loop-j

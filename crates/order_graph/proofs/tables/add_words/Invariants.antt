@@ -1,6 +1,6 @@
 use Rattle.std.proofs.Common.{◌≡◌}
-use Rattle.order_graph.specs.Tables.{HasNumber}
-use Rattle.order_graph.proofs.Growth.{Leaves}
+use Rattle.order_graph.specs.BitRows.{HasNumber}
+use Rattle.order_graph.proofs.AddedBits.{Leaves}
 use Rattle.order_graph.proofs.Rows.{WordsFrom}
 use Rattle.order_graph.proofs.tables.add_words.Given as goal
 

@@ -1,7 +1,8 @@
 use Rattle.std.proofs.Common.{◌+◌, ◌*◌, ◌/◌, ◌%◌, sym, ◌∙◌, slice_index_or}
 use Rattle.std.proofs.lemmas.Bool.{eqb-true, eq-eqb}
 use Rattle.std.proofs.lemmas.Nat.Bits.{shr_and_one}
-use Rattle.order_graph.specs.Tables.{HasBit, IsSet}
+use Rattle.order_graph.specs.BitRows.{HasBit}
+use Rattle.order_graph.specs.Internal.Tables.{IsSet}
 use Rattle.order_graph.proofs.tables.bit.Goals as goal
 
 pub returns : goal.returns

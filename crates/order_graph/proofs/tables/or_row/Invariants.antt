@@ -1,4 +1,4 @@
-use Rattle.order_graph.proofs.Growth.{Leaves}
+use Rattle.order_graph.proofs.AddedBits.{Leaves}
 use Rattle.order_graph.proofs.Spreading.{RowFrom}
 use Rattle.order_graph.proofs.tables.or_row.Given as goal
 

@@ -1,5 +1,5 @@
 use Rattle.std.proofs.Common.{◌+◌, ◌*◌, ◌%◌, ◌-◌, ◌^◌, slice_index_or, bit_or, arith, rules}
-use Rattle.order_graph.specs.Tables.{HasBit}
+use Rattle.order_graph.specs.BitRows.{HasBit}
 use Rattle.order_graph.proofs.Words.{Adds-written, HasBit-or, HasBit-and, HasBit-not, IsSet-word}
 use Rattle.order_graph.proofs.tables.set_word.Goals as goal
 

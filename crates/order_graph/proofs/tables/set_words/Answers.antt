@@ -1,8 +1,8 @@
 use Rattle.std.proofs.Common.{◌≡◌, inl, inr, ◌%◌, subst, arith}
 use Rattle.std.specs.Int.{trailing_zeros, w64}
-use Rattle.order_graph.specs.Tables.{HasBit}
+use Rattle.order_graph.specs.BitRows.{HasBit}
 use Rattle.order_graph.proofs.Words.{HasBit-lowest, HasBit-zero, clear_less}
-use Rattle.order_graph.proofs.Growth.{Marks, Marks-start, Marks-step, Marks-end, Tells-start, Tells-step}
+use Rattle.order_graph.proofs.AddedBits.{Marks, Marks-start, Marks-step, Marks-end, Tells-start, Tells-step}
 use Rattle.order_graph.proofs.tables.set_words.Goals as goal
 
 pub set_word-fresh-requires-clause-row : goal.set_word-fresh-requires-clause-row

@@ -1,4 +1,4 @@
-use Rattle.order_graph.proofs.Growth.{Marks, Tells}
+use Rattle.order_graph.proofs.AddedBits.{Marks, Tells}
 use Rattle.order_graph.proofs.tables.set_words.Given as goal
 
 abbrev pub invariant-loop-left : goal.invariant-loop-left

@@ -1,7 +1,7 @@
 use Rattle.std.proofs.Common.{◌≡◌, ◌+◌, ◌*◌, ◌/◌, ◌%◌, inl, inr, length, slice_index_or, drop, subst, arith}
 use Rattle.std.proofs.lemmas.Bool.{cases_lt}
 use Rattle.std.proofs.lemmas.List.{get_or_past, take_at}
-use Rattle.order_graph.specs.Tables.{HasBit}
+use Rattle.order_graph.specs.BitRows.{HasBit}
 use Rattle.order_graph.proofs.Words.{HasBit-zero, IsSet-word}
 use Rattle.order_graph.proofs.Keeping.{no_bit}
 use Rattle.order_graph.proofs.tests.row_of.Goals as goal

@@ -3,7 +3,7 @@ use Rattle.std.proofs.lemmas.List.{take_all}
 use Rattle.std.proofs.lemmas.List.Elements.{Contains-get_or}
 use Rattle.round_pool.specs.declared.ranked.Edge.{Edge}
 use Rattle.round_pool.specs.RankGraphs.{AddsEdges}
-use Rattle.round_pool.specs.Rankings.{HasEdge}
+use Rattle.round_pool.specs.Rankings.{ListsEdge}
 use Rattle.round_pool.proofs.GraphFacts.{edges_more}
 use Rattle.round_pool.proofs.graphs.add_edges.Goals as goal
 
@@ -28,4 +28,4 @@ loop-edge-preserved c =
     c.loop-edge.invariant c.loop-edge-test.true refl c.add.ensures.nodes c.add.ensures.edges
 
 pub returns : goal.returns
-returns c = subst (λ l. AddsEdges c.args.graph.now c.loop-edge.graph (HasEdge l)) (take_all c.loop-edge.edge-index c.args.edges.now c.loop-edge-test.false) c.loop-edge.invariant
+returns c = subst (λ l. AddsEdges c.args.graph.now c.loop-edge.graph (ListsEdge l)) (take_all c.loop-edge.edge-index c.args.edges.now c.loop-edge-test.false) c.loop-edge.invariant

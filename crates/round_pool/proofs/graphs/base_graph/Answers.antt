@@ -1,6 +1,6 @@
 use Rattle.std.proofs.Common.{◌<◌, sym, subst, arith}
-use Rattle.order_graph.specs.Tables.{HasNumber}
-use Rattle.tso_model.proofs.Bounds.{F-within}
+use Rattle.order_graph.specs.BitRows.{HasNumber}
+use Rattle.tso_model.proofs.Bounds.{RankSet-within}
 use Rattle.round_pool.specs.RankGraphs.{IsRankGraph}
 use Rattle.round_pool.proofs.GraphFacts.{rows_more, rows_whole}
 use Rattle.round_pool.proofs.graphs.base_graph.Goals as goal
@@ -8,7 +8,7 @@ use Rattle.round_pool.proofs.graphs.base_graph.Goals as goal
 pub add_row-requires-clause-to : goal.add_row-requires-clause-to
 add_row-requires-clause-to c = λ v has.
     let edge = (c.in_ok-row.ensures v).0 (subst (λ row. HasNumber row v) c.deref.ensures.value has) in
-    subst (λ n. v < n) (sym c.loop-u.invariant.nodes) (F-within c.args.trace.now 0 c.loop-u.u v edge).1
+    subst (λ n. v < n) (sym c.loop-u.invariant.nodes) (RankSet-within c.args.trace.now 0 c.loop-u.u v edge).1
 
 pub loop-u-preserved : goal.loop-u-preserved
 loop-u-preserved c =

@@ -23,7 +23,7 @@ returns-in-Err-clause-refused c =
     let at = c.lines.invariant in
     let fault = c.fault_of-in-Err in
     answered c.args.text.now (suc (length c.lines.steps.items)) c.in-Err.why fault.result.line fault.result.why fault.ensures.why (λ other. fault.ensures.line other ∙ at.count)
-    (λ other. read_refused c.args.text.now c.lines.rest.now c.lines.steps.items c.in-Some.line.now c.in-Some.behind.now c.in-Err.why at.read c.in-Some.ensures.line (rw at.count at (c.in-Err.ensures.refused other)))
+    (λ other. read_refused c.args.text.now c.lines.rest.now c.lines.steps.items c.in-Some.line.now c.in-Some.after.now c.in-Err.why at.read c.in-Some.ensures.line (rw at.count at (c.in-Err.ensures.refused other)))
 
 pub lines-preserved : goal.lines-preserved
 lines-preserved c =
@@ -31,7 +31,7 @@ lines-preserved c =
     let added = c.in-Ok-add.ensures.added in
     let says = rw (at.count, c.in-Step.is) at c.in-Ok.ensures.found in
     record {
-      read = rw added (IsRead-next c.args.text.now c.lines.rest.now c.lines.steps.items c.in-Step.step c.in-Some.line.now c.in-Some.behind.now at.read c.in-Some.ensures.line says);
+      read = rw added (IsRead-next c.args.text.now c.lines.rest.now c.lines.steps.items c.in-Step.step c.in-Some.line.now c.in-Some.after.now at.read c.in-Some.ensures.line says);
       count = omega (arith, at.count, ap length added, length-append c.lines.steps.items (c.in-Step.step ∷ []));
       room = omega (arith, at.room, c.in-Some.ensures.shorter);
     }
@@ -40,26 +40,26 @@ pub returns-in-Cycle-clause-found : goal.returns-in-Cycle-clause-found
 returns-in-Cycle-clause-found c =
     let at = c.lines.invariant in
     let says = rw (at.count, c.in-Cycle.is) at c.in-Ok.ensures.found in
-    ended_found c.args.text.now c.ended.result _ (length c.in-Some.behind.now) (rw c.new-steps-in-Cycle.ensures at c.ended.ensures.found)
-    (read_cycle c.args.text.now c.lines.rest.now c.lines.steps.items c.in-Cycle.cycle c.in-Some.line.now c.in-Some.behind.now at.read c.in-Some.ensures.line says)
+    ended_found c.args.text.now c.ended.result _ (length c.in-Some.after.now) (rw c.new-steps-in-Cycle.ensures at c.ended.ensures.found)
+    (read_cycle c.args.text.now c.lines.rest.now c.lines.steps.items c.in-Cycle.cycle c.in-Some.line.now c.in-Some.after.now at.read c.in-Some.ensures.line says)
 
 pub returns-in-Cycle-clause-refused : goal.returns-in-Cycle-clause-refused
 returns-in-Cycle-clause-refused c =
     let at = c.lines.invariant in
     let says = rw (at.count, c.in-Cycle.is) at c.in-Ok.ensures.found in
-    ended_not c.args.text.now c.ended.result (c.lines.number + 1) (suc (suc (length c.lines.steps.items))) (length c.in-Some.behind.now) c.ended.ensures.refused (omega (arith, at.count))
-    (read_after c.args.text.now c.lines.rest.now c.lines.steps.items (Cycle c.in-Cycle.cycle) c.in-Some.line.now c.in-Some.behind.now at.read c.in-Some.ensures.line says refl)
+    ended_not c.args.text.now c.ended.result (c.lines.number + 1) (suc (suc (length c.lines.steps.items))) (length c.in-Some.after.now) c.ended.ensures.refused (omega (arith, at.count))
+    (read_after c.args.text.now c.lines.rest.now c.lines.steps.items (Cycle c.in-Cycle.cycle) c.in-Some.line.now c.in-Some.after.now at.read c.in-Some.ensures.line says refl)
 
 pub returns-in-Unwritten-clause-found : goal.returns-in-Unwritten-clause-found
 returns-in-Unwritten-clause-found c =
     let at = c.lines.invariant in
     let says = rw (at.count, c.in-Unwritten.is) at c.in-Ok.ensures.found in
-    ended_found c.args.text.now c.ended-in-Unwritten.result _ (length c.in-Some.behind.now) c.ended-in-Unwritten.ensures.found
-    (read_unwritten c.args.text.now c.lines.rest.now c.lines.steps.items c.in-Unwritten.n c.in-Some.line.now c.in-Some.behind.now at.read c.in-Some.ensures.line says)
+    ended_found c.args.text.now c.ended-in-Unwritten.result _ (length c.in-Some.after.now) c.ended-in-Unwritten.ensures.found
+    (read_unwritten c.args.text.now c.lines.rest.now c.lines.steps.items c.in-Unwritten.n c.in-Some.line.now c.in-Some.after.now at.read c.in-Some.ensures.line says)
 
 pub returns-in-Unwritten-clause-refused : goal.returns-in-Unwritten-clause-refused
 returns-in-Unwritten-clause-refused c =
     let at = c.lines.invariant in
     let says = rw (at.count, c.in-Unwritten.is) at c.in-Ok.ensures.found in
-    ended_not c.args.text.now c.ended-in-Unwritten.result (c.lines.number + 1) (suc (suc (length c.lines.steps.items))) (length c.in-Some.behind.now) c.ended-in-Unwritten.ensures.refused (omega (arith, at.count))
-    (read_after c.args.text.now c.lines.rest.now c.lines.steps.items (Unwritten c.in-Unwritten.n) c.in-Some.line.now c.in-Some.behind.now at.read c.in-Some.ensures.line says refl)
+    ended_not c.args.text.now c.ended-in-Unwritten.result (c.lines.number + 1) (suc (suc (length c.lines.steps.items))) (length c.in-Some.after.now) c.ended-in-Unwritten.ensures.refused (omega (arith, at.count))
+    (read_after c.args.text.now c.lines.rest.now c.lines.steps.items (Unwritten c.in-Unwritten.n) c.in-Some.line.now c.in-Some.after.now at.read c.in-Some.ensures.line says refl)

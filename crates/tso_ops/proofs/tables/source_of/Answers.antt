@@ -2,7 +2,7 @@ use Rattle.std.proofs.Common.{◌≡◌, ◌∙◌, ap, sym, subst, length, None
 use Rattle.std.specs.Ordering.{nat_cmp}
 use Rattle.std.specs.Option.{option_copied}
 use Rattle.std.specs.BTreeMap.{get}
-use Rattle.tso_ops.specs.Tables.{FindsStore}
+use Rattle.tso_ops.specs.Internal.Tables.{FindsStore}
 use Rattle.tso_ops.proofs.TableFacts.{row_found, row_elsewhere, row_missing}
 use Rattle.tso_ops.proofs.tables.source_of.Goals as goal
 

@@ -1,6 +1,6 @@
 use Rattle.std.proofs.Common.{◌≡◌, arith, subst, length, sym}
 use Rattle.std.proofs.lemmas.Option.{slice_get-get_or}
-use Rattle.tso_ops.specs.Tables.{FindsStores}
+use Rattle.tso_ops.specs.Internal.Tables.{FindsStores}
 use Rattle.tso_ops.proofs.TableFacts.{FindsStores-none, FindsStores-load, FindsStores-store}
 use Rattle.tso_ops.proofs.tables.stores_by_value.Goals as goal
 use Rattle.tso_ops.proofs.tables.stores_by_value.Goals.{then-not-event+in_ok-insert, else-not-event}

@@ -1,7 +1,7 @@
 use Rattle.std.proofs.Common.{◌∙◌, sym, subst}
 use Rattle.tso_ops.specs.Values.{rows, trace_of_lists}
 use Rattle.tso_ops.specs.Events.{events_of}
-use Rattle.tso_ops.specs.Tables.{AreSources}
+use Rattle.tso_ops.specs.Internal.Tables.{AreSources}
 use Rattle.tso_ops.proofs.traces.tables.Goals as goal
 
 pub returns : goal.returns

@@ -1,11 +1,11 @@
 use Rattle.std.proofs.Common.{◌≡◌, ◌+◌, ◌-◌, ◌<◌, suc, [], get_or, reverse, sym, subst, ◌∙◌, arith}
 use Rattle.order_graph.specs.Digraphs.{IsEdge}
 use Rattle.tso_ops.specs.Events.{event_total}
-use Rattle.tso_model.specs.Ranks.{F}
-use Rattle.tso_model.proofs.Bounds.{F-within}
+use Rattle.tso_model.specs.Ranks.{RankSet}
+use Rattle.tso_model.proofs.Bounds.{RankSet-within}
 use Rattle.round_pool.specs.RankGraphs.{IsRankGraph}
 use Rattle.round_pool.specs.Rankings.{IsRound, rounds_of}
-use Rattle.tso_report.specs.Collecting.{Collects, IsAbove}
+use Rattle.tso_report.specs.Collecting.{Collects, IsAboveRank}
 use Rattle.tso_report.proofs.CollectFacts.{Collects-end}
 use Rattle.tso_report.proofs.Neighbours.{cycle_below}
 use Rattle.tso_report.proofs.RoundSteps.{rank_graph_as, rank_graph_less, round_within, first_steps, all_done}
@@ -16,7 +16,7 @@ mark_cycle-requires c =
     let t = c.args.trace.now in
     let last = rw c.last.ensures at c.in_ok-set.ensures in
     let nodes : c.in_ok-marks.marks.nodes ≡ suc (event_total t) = c.in_ok-marks.ensures.0 ∙ c.nodes.ensures.size ∙ last.0 ∙ c.requires.ranked.last.nodes in
-    let below = cycle_below (F t (rounds_of c.args.ranked.now)) (suc (event_total t)) c.args.cycle.now (F-within t (rounds_of c.args.ranked.now)) c.requires.cycle in
+    let below = cycle_below (RankSet t (rounds_of c.args.ranked.now)) (suc (event_total t)) c.args.cycle.now (RankSet-within t (rounds_of c.args.ranked.now)) c.requires.cycle in
     rw (c.items.ensures, nodes) below
 
 pub loop-r-init : goal.loop-r-init
@@ -31,8 +31,8 @@ loop-r-init c =
       first_steps t (rounds_of c.args.ranked.now) c.args.cycle.now c.in_ok-marks.marks c.mark_cycle.new.marks c.requires.cycle c.in_ok-marks.ensures.1 marks,
     )
 
-pub take_away-requires : goal.take_away-requires
-take_away-requires c = λ u v has.
+pub remove_edges-requires : goal.remove_edges-requires
+remove_edges-requires c = λ u v has.
     let t = c.args.trace.now in
     let r = c.loop-r.r - 1 in
     let edges = c.added.result.now in
@@ -53,7 +53,7 @@ collect_round-requires-clause-set c =
     let place : r + 1 - 1 ≡ r = omega arith in
     let below : r < rounds_of c.args.ranked.now = omega (arith, c.loop-r-test.true, c.loop-r.auto.r, c.rounds-r.ensures) in
     let round : IsRound t r edges = subst (IsRound t r) (sym (subst (λ n. edges ≡ get_or c.args.ranked.now.added n []) place c.added.ensures)) (c.requires.ranked.each r below) in
-    rank_graph_less t r c.loop-r.set c.take_away.new.set edges (subst (λ n. IsRankGraph t n c.loop-r.set) after c.loop-r.invariant.0) round c.take_away.ensures.nodes c.take_away.ensures.edges
+    rank_graph_less t r c.loop-r.set c.remove_edges.new.set edges (subst (λ n. IsRankGraph t n c.loop-r.set) after c.loop-r.invariant.0) round c.remove_edges.ensures.nodes c.remove_edges.ensures.edges
 
 pub collect_round-requires-clause-nodes : goal.collect_round-requires-clause-nodes
 collect_round-requires-clause-nodes c = c.loop-r.invariant.1
@@ -67,10 +67,10 @@ loop-r-preserved c =
     let place : r + 1 - 1 ≡ r = omega arith in
     let below : r < rounds_of c.args.ranked.now = omega (arith, c.loop-r-test.true, c.loop-r.auto.r, c.rounds-r.ensures) in
     let round : IsRound t r edges = subst (IsRound t r) (sym (subst (λ n. edges ≡ get_or c.args.ranked.now.added n []) place c.added.ensures)) (c.requires.ranked.each r below) in (
-      rank_graph_less t r c.loop-r.set c.take_away.new.set edges (subst (λ n. IsRankGraph t n c.loop-r.set) after c.loop-r.invariant.0) round c.take_away.ensures.nodes c.take_away.ensures.edges,
+      rank_graph_less t r c.loop-r.set c.remove_edges.new.set edges (subst (λ n. IsRankGraph t n c.loop-r.set) after c.loop-r.invariant.0) round c.remove_edges.ensures.nodes c.remove_edges.ensures.edges,
       c.in_ok-collect_round.ensures.nodes ∙ c.loop-r.invariant.1,
       c.in_ok-collect_round.ensures.steps c.args.cycle.now
-          (subst (λ n. Collects t (rounds_of c.args.ranked.now) c.args.cycle.now (IsEdge c.loop-r.marks) (IsAbove t n) (reverse c.loop-r.steps.items)) after c.loop-r.invariant.2),
+          (subst (λ n. Collects t (rounds_of c.args.ranked.now) c.args.cycle.now (IsEdge c.loop-r.marks) (IsAboveRank t n) (reverse c.loop-r.steps.items)) after c.loop-r.invariant.2),
     )
 
 pub collect_base-requires : goal.collect_base-requires
@@ -82,5 +82,5 @@ returns c =
     let k = rounds_of c.args.ranked.now in
     let none : c.loop-r.r ≡ 0 = omega (arith, c.loop-r-test.false) in
     Collects-end t k c.args.cycle.now _ _ (reverse c.collect_base.new.steps.items)
-    (c.in_ok-collect_base.ensures.steps k c.args.cycle.now (subst (λ n. Collects t k c.args.cycle.now (IsEdge c.loop-r.marks) (IsAbove t n) (reverse c.loop-r.steps.items)) none c.loop-r.invariant.2))
+    (c.in_ok-collect_base.ensures.steps k c.args.cycle.now (subst (λ n. Collects t k c.args.cycle.now (IsEdge c.loop-r.marks) (IsAboveRank t n) (reverse c.loop-r.steps.items)) none c.loop-r.invariant.2))
     (all_done t k)

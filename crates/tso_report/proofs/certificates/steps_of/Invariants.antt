@@ -3,9 +3,9 @@ use Rattle.order_graph.specs.Digraphs.{IsEdge}
 use Rattle.tso_ops.specs.Events.{event_total}
 use Rattle.round_pool.specs.RankGraphs.{IsRankGraph}
 use Rattle.round_pool.specs.Rankings.{rounds_of}
-use Rattle.tso_report.specs.Collecting.{Collects, IsAbove}
+use Rattle.tso_report.specs.Collecting.{Collects, IsAboveRank}
 use Rattle.tso_report.proofs.certificates.steps_of.Given as goal
 
 abbrev pub invariant-loop-r : goal.invariant-loop-r
 invariant-loop-r l = IsRankGraph l.trace l.r l.set × (l.marks.nodes ≡ suc (event_total l.trace)) ×
-    Collects l.trace (rounds_of l.ranked) l.cycle (IsEdge l.marks) (IsAbove l.trace l.r) (reverse l.steps.items)
+    Collects l.trace (rounds_of l.ranked) l.cycle (IsEdge l.marks) (IsAboveRank l.trace l.r) (reverse l.steps.items)

@@ -9,7 +9,7 @@ returns-in-Ok-clause-report g c =
     let traces = g.T.Read.remaining c.args.trace_reader.now in
     let certs = g.C.Read.remaining c.args.cert_reader.now in
     IfOk-weaker c.read_certificate.result _ _
-    (λ report is. spelled_report traces certs _ _ (string_bytes report.text) report.verdict _ c.in_ok-input.ensures.front c.deref.ensures.value c.in-Ok.ensures.found is)
+    (λ report is. spelled_report traces certs _ _ (string_bytes report.text) report.verdict _ c.in_ok-input.ensures.prefix c.deref.ensures.value c.in-Ok.ensures.found is)
     c.read_certificate.ensures.report
 
 pub returns-in-Ok-clause-no_order : goal.returns-in-Ok-clause-no_order
@@ -17,15 +17,15 @@ returns-in-Ok-clause-no_order g c =
     let traces = g.T.Read.remaining c.args.trace_reader.now in
     let certs = g.C.Read.remaining c.args.cert_reader.now in
     IfOk-weaker c.read_certificate.result _ _
-    (λ report is. no_order_of_readers traces certs _ _ (string_bytes report.text) report.verdict _ c.in_ok-input.ensures.front c.deref.ensures.value c.in-Ok.ensures.found (subst IsTrace c.trace.view_is c.trace.invariant.trace) is)
+    (λ report is. no_order_of_readers traces certs _ _ (string_bytes report.text) report.verdict _ c.in_ok-input.ensures.prefix c.deref.ensures.value c.in-Ok.ensures.found (subst IsTrace c.trace.view_is c.trace.invariant.trace) is)
     c.read_certificate.ensures.report
 
 pub returns-in-Ok-clause-unread : goal.returns-in-Ok-clause-unread
 returns-in-Ok-clause-unread g c =
-    not_refused_trace _ (g.T.Read.remaining c.args.trace_reader.now) _ _ _ c.in_ok-input.ensures.front c.deref.ensures.value c.in-Ok.ensures.found
+    not_refused_trace _ (g.T.Read.remaining c.args.trace_reader.now) _ _ _ c.in_ok-input.ensures.prefix c.deref.ensures.value c.in-Ok.ensures.found
 
 pub returns-clause-report : goal.returns-clause-report
 returns-clause-report g c =
     let refused = c.in_ok-refusal_report-in-Err.ensures.refused in
     refused_report (g.T.Read.remaining c.args.trace_reader.now) (g.C.Read.remaining c.args.cert_reader.now) _ _ _ c.in_ok-refusal_report-in-Err.field-0.verdict
-    c.in-Err.fault.line c.in-Err.fault.why c.in_ok-input.ensures.front c.deref.ensures.value (c.in-Err.ensures.refused refused.0) refused.1 refused.2
+    c.in-Err.fault.line c.in-Err.fault.why c.in_ok-input.ensures.prefix c.deref.ensures.value (c.in-Err.ensures.refused refused.0) refused.1 refused.2

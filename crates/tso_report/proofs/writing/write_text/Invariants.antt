@@ -6,7 +6,7 @@ abbrev pub invariant-loop-written : goal.invariant-loop-written
 invariant-loop-written g l = record {
   bound : l.written ≤ length l.text;
   tries : l.interrupts ≤ 1048576;
-  front : Appends (g.W.Write.contents l.fn.writer) (g.W.Write.contents l.writer) (take l.written l.text);
+  prefix : Appends (g.W.Write.contents l.fn.writer) (g.W.Write.contents l.writer) (take l.written l.text);
 }
 
 abbrev pub decreases-loop-written : goal.decreases-loop-written

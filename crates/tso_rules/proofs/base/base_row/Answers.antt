@@ -1,10 +1,10 @@
 use Rattle.std.proofs.Common.{◌<◌, suc, subst, arith}
 use Rattle.std.specs.Result.{IfOk}
-use Rattle.order_graph.specs.Tables.{HasNumber}
+use Rattle.order_graph.specs.BitRows.{HasNumber}
 use Rattle.tso_ops.specs.Events.{event_total}
 use Rattle.tso_ops.proofs.EventFacts.{event_total-bound}
-use Rattle.tso_model.specs.Ranks.{F}
-use Rattle.tso_model.proofs.Bounds.{F-within}
+use Rattle.tso_model.specs.Ranks.{RankSet}
+use Rattle.tso_model.proofs.Bounds.{RankSet-within}
 use Rattle.tso_rules.specs.Rows.{IsRow}
 use Rattle.tso_rules.proofs.RowFacts.{row_listed}
 use Rattle.tso_rules.proofs.base.base_row.Goals as goal
@@ -15,10 +15,10 @@ marked-requires-clause-small c = omega (arith, c.node_count.ensures, event_total
 pub marked-requires-clause-within : goal.marked-requires-clause-within
 marked-requires-clause-within c = λ v has.
     let to = (c.in_ok-base_words.ensures v).0 (subst (λ m. HasNumber m v) c.deref.ensures.value has) in
-    let low : v < suc (event_total c.args.trace.now) = (F-within c.args.trace.now 0 c.args.u v to).1 in
+    let low : v < suc (event_total c.args.trace.now) = (RankSet-within c.args.trace.now 0 c.args.u v to).1 in
     omega (arith, low, c.node_count.ensures)
 
 pub returns : goal.returns
 returns c =
-    row_listed c.marked.result c.in_ok-base_words.field-0.items (F c.args.trace.now 0 c.args.u) c.in_ok-base_words.ensures
+    row_listed c.marked.result c.in_ok-base_words.field-0.items (RankSet c.args.trace.now 0 c.args.u) c.in_ok-base_words.ensures
     (subst (λ m. IfOk c.marked.result (λ row. IsRow row.items (HasNumber m))) c.deref.ensures.value c.marked.ensures)

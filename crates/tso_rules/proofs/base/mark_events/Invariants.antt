@@ -1,6 +1,6 @@
 use Rattle.std.proofs.Common.{◌≡◌}
 use Rattle.tso_ops.specs.Events.{IsEvent}
-use Rattle.tso_rules.specs.Rows.{Marks}
+use Rattle.tso_rules.specs.Internal.MarkedRows.{Marks}
 use Rattle.tso_rules.proofs.RowFacts.{BySteps}
 use Rattle.tso_rules.proofs.base.mark_events.Given as goal
 

@@ -1,8 +1,8 @@
 use Rattle.std.proofs.Common.{◌∙◌, sym, arith}
 use Rattle.tso_ops.specs.Events.{IsEventOf}
-use Rattle.tso_rules.specs.Rows.{IsLater}
+use Rattle.tso_rules.specs.Internal.MarkedRows.{IsLater}
 use Rattle.tso_rules.proofs.BaseFacts.{later_is, later_more}
-use Rattle.tso_rules.proofs.RowFacts.{front_all, mask_number, HasNumber-within}
+use Rattle.tso_rules.proofs.RowFacts.{earlier_words_all, mask_number, HasNumber-within}
 use Rattle.tso_rules.proofs.base.mark_later.Goals as goal
 
 pub loop-j-preserved : goal.loop-j-preserved
@@ -15,6 +15,6 @@ pub returns : goal.returns
 returns c =
     let t = c.args.trace.now in
     let processor = c.processor_words-processor.result.now in
-    front_all c.args.marks.now.items c.loop-j.marks.items c.loop-j.j (IsLater t c.args.u) c.loop-j.invariant
+    earlier_words_all c.args.marks.now.items c.loop-j.marks.items c.loop-j.j (IsLater t c.args.u) c.loop-j.invariant
     (λ v later. let of = ((later_is t c.args.u v c.in-Some.event (sym c.event.ensures ∙ c.in-Some.is)).1 later).0.0 in
     let low = HasNumber-within processor v ((mask_number processor (IsEventOf t c.in-Some.event.proc) c.processor_words-processor.ensures v).1 of) in omega (arith, low, c.loop-j-test.false))

@@ -1,4 +1,4 @@
-use Rattle.tso_rules.specs.Rows.{Marks, IsReadBy}
+use Rattle.tso_rules.specs.Internal.MarkedRows.{Marks, IsReadBy}
 use Rattle.tso_rules.proofs.RowFacts.{ByWords}
 use Rattle.tso_rules.proofs.base.mark_reads.Given as goal
 

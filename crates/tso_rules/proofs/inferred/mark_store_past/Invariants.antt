@@ -1,9 +1,9 @@
 use Rattle.order_graph.specs.Digraphs.{IsEdge}
 use Rattle.tso_cert.specs.declared.rules.InferredRule.TheVariants.{StorePast}
-use Rattle.tso_rules.specs.Rows.{Marks, IsNewRow}
-use Rattle.tso_rules.proofs.RowFacts.{IsInFront}
+use Rattle.tso_rules.specs.Internal.MarkedRows.{Marks, IsNewRow}
+use Rattle.tso_rules.proofs.RowFacts.{IsInEarlierWord}
 use Rattle.tso_rules.proofs.inferred.mark_store_past.Given as goal
 
 -- the ends in the passed words are marked
 abbrev pub invariant-loop-j : goal.invariant-loop-j
-invariant-loop-j l = Marks l.fn.marks.items l.marks.items (IsInFront (IsNewRow l.trace StorePast (IsEdge l.graph) l.u) l.j)
+invariant-loop-j l = Marks l.fn.marks.items l.marks.items (IsInEarlierWord (IsNewRow l.trace StorePast (IsEdge l.graph) l.u) l.j)

@@ -1,11 +1,11 @@
 use Rattle.std.proofs.Common.{get_or, refl, arith}
 use Rattle.std.proofs.lemmas.Option.{none-some}
 use Rattle.order_graph.specs.Digraphs.{IsEdge}
-use Rattle.order_graph.specs.Tables.{HasNumber}
+use Rattle.order_graph.specs.BitRows.{HasNumber}
 use Rattle.tso_cert.specs.declared.rules.InferredRule.TheVariants.{SwapAfter}
-use Rattle.tso_rules.specs.Rows.{IsNewRow}
+use Rattle.tso_rules.specs.Internal.MarkedRows.{IsNewRow}
 use Rattle.tso_rules.proofs.InferredFacts.{swap_after_is}
-use Rattle.tso_rules.proofs.RowFacts.{front_all, front_more_kept, word_number, HasNumber-within, marks_none}
+use Rattle.tso_rules.proofs.RowFacts.{earlier_words_all, earlier_words_kept, word_number, HasNumber-within, marks_none}
 use Rattle.tso_rules.proofs.inferred.mark_swap_after.Goals as goal
 
 pub returns-in_default : goal.returns-in_default
@@ -18,7 +18,7 @@ loop-j-preserved c =
     let from = c.path_row-word-items.result.now in
     let stores = c.all_store_words-stores.result.now in
     let reached = c.path_row-reached.result.now in
-    front_more_kept c.args.marks.now.items c.loop-j.marks.items c.mark_word.new.marks.items stores reached c.loop-j.j (get_or from c.loop-j.j 0) c.word_at.result c.word_at-in-loop-j.result
+    earlier_words_kept c.args.marks.now.items c.loop-j.marks.items c.mark_word.new.marks.items stores reached c.loop-j.j (get_or from c.loop-j.j 0) c.word_at.result c.word_at-in-loop-j.result
     c.word_without.result c.args.u (HasNumber from) (IsNewRow t SwapAfter Edge c.args.u) c.loop-j.invariant c.in_ok-mark_word.ensures
     (λ v at. word_number from c.loop-j.j (get_or from c.loop-j.j 0) v at refl) c.word_at.ensures c.word_at-in-loop-j.ensures (omega arith)
     c.word_without.ensures
@@ -32,7 +32,7 @@ returns c =
     let from = c.path_row-word-items.result.now in
     let stores = c.all_store_words-stores.result.now in
     let reached = c.path_row-reached.result.now in
-    front_all c.args.marks.now.items c.loop-j.marks.items c.loop-j.j (IsNewRow t SwapAfter Edge c.args.u) c.loop-j.invariant
+    earlier_words_all c.args.marks.now.items c.loop-j.marks.items c.loop-j.j (IsNewRow t SwapAfter Edge c.args.u) c.loop-j.invariant
     (λ v new. let is = (swap_after_is t Edge c.args.u c.in-Some.l v from stores reached c.in-Some.ensures.is.0 c.in-Some.ensures.is.1 c.path_row-word-items.ensures.paths
     c.all_store_words-stores.ensures c.path_row-reached.ensures.paths).1 new in
     let low = HasNumber-within from v is.0.0 in omega (arith, low, c.loop-j-test.false))

@@ -1,11 +1,11 @@
 use Rattle.std.proofs.Common.{◌-◌, suc, get_or, refl, arith}
 use Rattle.order_graph.specs.Digraphs.{IsEdge}
-use Rattle.order_graph.specs.Tables.{HasNumber}
+use Rattle.order_graph.specs.BitRows.{HasNumber}
 use Rattle.tso_cert.specs.declared.rules.InferredRule.TheVariants.{SwapBefore}
 use Rattle.tso_model.proofs.Events.{event_above_zero, store_event}
-use Rattle.tso_rules.specs.Rows.{IsNewRow}
+use Rattle.tso_rules.specs.Internal.MarkedRows.{IsNewRow}
 use Rattle.tso_rules.proofs.InferredFacts.{swap_before_is}
-use Rattle.tso_rules.proofs.RowFacts.{front_all, front_more_kept, below_number, HasNumber-within}
+use Rattle.tso_rules.proofs.RowFacts.{earlier_words_all, earlier_words_kept, below_number, HasNumber-within}
 use Rattle.tso_rules.proofs.inferred.mark_swap_before.Goals as goal
 
 pub overflow_sub-u : goal.overflow_sub-u
@@ -19,7 +19,7 @@ loop-j-preserved c =
     let Edge = IsEdge c.args.graph.now in
     let loads = c.swap_load_words-loads.result.now in
     let reached = c.path_row-reached.result.now in
-    front_more_kept c.args.marks.now.items c.loop-j.marks.items c.mark_word.new.marks.items loads reached c.loop-j.j c.word_below.result c.word_at.result (get_or reached c.loop-j.j 0)
+    earlier_words_kept c.args.marks.now.items c.loop-j.marks.items c.mark_word.new.marks.items loads reached c.loop-j.j c.word_below.result c.word_at.result (get_or reached c.loop-j.j 0)
     c.word_without.result (c.args.u - 1) (λ v. HasNumber reached (suc v)) (IsNewRow t SwapBefore Edge c.args.u) c.loop-j.invariant c.in_ok-mark_word.ensures
     (λ v at. below_number reached c.loop-j.j c.word_below.result v at c.word_below.ensures) c.word_at.ensures refl (omega arith)
     c.word_without.ensures
@@ -31,6 +31,6 @@ returns c =
     let Edge = IsEdge c.args.graph.now in
     let loads = c.swap_load_words-loads.result.now in
     let reached = c.path_row-reached.result.now in
-    front_all c.args.marks.now.items c.loop-j.marks.items c.loop-j.j (IsNewRow t SwapBefore Edge c.args.u) c.loop-j.invariant
+    earlier_words_all c.args.marks.now.items c.loop-j.marks.items c.loop-j.j (IsNewRow t SwapBefore Edge c.args.u) c.loop-j.invariant
     (λ v new. let is = (swap_before_is t Edge c.args.u v loads reached (c.is_store.ensures.0 c.if-not-is_store.false) c.swap_load_words-loads.ensures c.path_row-reached.ensures.paths).1 new in
     let low = HasNumber-within reached (suc v) is.0.0 in omega (arith, low, c.loop-j-test.false))

@@ -1,6 +1,6 @@
 use Rattle.std.proofs.Common.{◌<◌, suc, subst, arith}
 use Rattle.std.specs.Result.{IfOk}
-use Rattle.order_graph.specs.Tables.{HasNumber}
+use Rattle.order_graph.specs.BitRows.{HasNumber}
 use Rattle.tso_ops.specs.Events.{event_total}
 use Rattle.tso_ops.proofs.EventFacts.{event_total-bound}
 use Rattle.order_graph.specs.Digraphs.{IsEdge}

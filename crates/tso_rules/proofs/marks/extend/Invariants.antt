@@ -1,5 +1,5 @@
 use Rattle.std.proofs.Common.{ℕ, ◌↔◌, ◌≤◌, length}
-use Rattle.order_graph.specs.Tables.{HasNumber}
+use Rattle.order_graph.specs.BitRows.{HasNumber}
 use Rattle.tso_rules.proofs.marks.extend.Given as goal
 
 -- the row is as long as the turns say, and has the numbers that it had

@@ -1,6 +1,6 @@
 use Rattle.std.proofs.Common.{ℕ, ◌<◌, ◌↔◌, length, sym, subst, arith}
 use Rattle.std.specs.Global.{Vec}
-use Rattle.order_graph.specs.Tables.{HasNumber}
+use Rattle.order_graph.specs.BitRows.{HasNumber}
 use Rattle.tso_rules.proofs.RowFacts.{marks_zero, marks_word_in}
 use Rattle.tso_rules.proofs.marks.mark_word.Goals as goal
 use Rattle.tso_rules.proofs.marks.mark_word.Goals.{then-len-j+in_ok-extend, else-len-j}

@@ -1,6 +1,6 @@
 use Rattle.std.proofs.Common.{◌*◌}
-use Rattle.order_graph.specs.Tables.{HasNumber}
-use Rattle.tso_rules.specs.Rows.{IsRowBelow}
+use Rattle.order_graph.specs.BitRows.{HasNumber}
+use Rattle.tso_rules.specs.Internal.MarkedRows.{IsRowBelow}
 use Rattle.tso_rules.proofs.marks.marked.Given as goal
 
 -- the marked numbers of the words passed are listed

@@ -1,5 +1,5 @@
 use Rattle.std.proofs.Common.{ℕ, ◌<◌}
-use Rattle.tso_rules.specs.Rows.{IsPastBy}
+use Rattle.tso_rules.specs.Internal.MarkedRows.{IsPastBy}
 use Rattle.tso_rules.proofs.reasons.least_load_past.Given as goal
 
 -- no load tried so far gives the edge

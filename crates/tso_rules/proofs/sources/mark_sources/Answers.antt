@@ -1,6 +1,6 @@
 use Rattle.std.proofs.Common.{◌+◌, ◌*◌, arith}
 use Rattle.std.specs.Int.{trailing_zeros, w64}
-use Rattle.tso_rules.specs.Rows.{IsOtherSource}
+use Rattle.tso_rules.specs.Internal.MarkedRows.{IsOtherSource}
 use Rattle.tso_rules.proofs.RowFacts.{drop_less, Passed-step, Passed-end, marks_as, some_as}
 use Rattle.tso_rules.proofs.sources.mark_sources.Goals as goal
 

@@ -1,4 +1,4 @@
-use Rattle.tso_rules.specs.Rows.{IsOtherSource}
+use Rattle.tso_rules.specs.Internal.MarkedRows.{IsOtherSource}
 use Rattle.tso_rules.proofs.RowFacts.{Passed}
 use Rattle.tso_rules.proofs.sources.mark_sources.Given as goal
 

@@ -19,20 +19,20 @@ returns-in-Err-next_line-clause-refused g c =
     answered g.T.Form.grammar c.args.text.now c.lines.line at.0 c.in-Err-next_line.why fault.result.line fault.result.why at.1 fault.ensures.why fault.ensures.line
     (λ _. unended_refused g.T.Form.grammar c.args.text.now at.0 c.lines.rest.now _ c.in-Err-next_line.why at.2 c.in-Err-next_line.ensures.none c.in-Err-next_line.ensures.why)
 
-pub returns-in-Err-take_line-clause-refused : goal.returns-in-Err-take_line-clause-refused
-returns-in-Err-take_line-clause-refused g c =
+pub returns-in-Err-accept_line-clause-refused : goal.returns-in-Err-accept_line-clause-refused
+returns-in-Err-accept_line-clause-refused g c =
     let at = c.lines.invariant.reached in
-    let fault = c.fault_of-in-Err-take_line in
+    let fault = c.fault_of-in-Err-accept_line in
     let parts = c.in-Ok-next_line.parts in
-    answered g.T.Form.grammar c.args.text.now c.lines.line at.0 c.in-Err-take_line.why fault.result.line fault.result.why at.1 fault.ensures.why fault.ensures.line
-    (λ other. line_refused g.T.Form.grammar c.args.text.now at.0 c.lines.rest.now _ parts.0.now parts.1.now c.in-Err-take_line.why at.2 c.in-Ok-next_line.ensures.line
-    (first_fault _ c.in-Err-take_line.why c.in-Err-take_line.ensures.refused other))
+    answered g.T.Form.grammar c.args.text.now c.lines.line at.0 c.in-Err-accept_line.why fault.result.line fault.result.why at.1 fault.ensures.why fault.ensures.line
+    (λ other. line_refused g.T.Form.grammar c.args.text.now at.0 c.lines.rest.now _ parts.0.now parts.1.now c.in-Err-accept_line.why at.2 c.in-Ok-next_line.ensures.line
+    (first_fault _ c.in-Err-accept_line.why c.in-Err-accept_line.ensures.refused other))
 
 pub returns-then-ended-clause-found : goal.returns-then-ended-clause-found
 returns-then-ended-clause-found g c =
     let at = c.lines.invariant.reached in
     let parts = c.in-Ok-next_line.parts in
-    Reached-end g.T.Form.grammar c.args.text.now at.0 c.lines.rest.now _ parts.0.now parts.1.now _ at.2 c.in-Ok-next_line.ensures.line (rw c.if-ended.true at c.in-Ok-take_line.ensures.taken)
+    Reached-end g.T.Form.grammar c.args.text.now at.0 c.lines.rest.now _ parts.0.now parts.1.now _ at.2 c.in-Ok-next_line.ensures.line (rw c.if-ended.true at c.in-Ok-accept_line.ensures.accepted)
     (is_zero _ c.is_empty.result c.is_empty.ensures c.if-not-is_empty.false)
 
 pub returns-then-not-is_empty-clause-refused : goal.returns-then-not-is_empty-clause-refused
@@ -41,7 +41,7 @@ returns-then-not-is_empty-clause-refused g c =
     let parts = c.in-Ok-next_line.parts in
     let fault = c.fault_of-then-not-is_empty in
     answered g.T.Form.grammar c.args.text.now (c.lines.line + 1) (suc at.0) AfterEnd fault.result.line fault.result.why (omega (arith, at.1)) fault.ensures.why fault.ensures.line
-    (λ _. ended_refused g.T.Form.grammar c.args.text.now at.0 c.lines.rest.now _ parts.0.now parts.1.now _ at.2 c.in-Ok-next_line.ensures.line (rw c.if-ended.true at c.in-Ok-take_line.ensures.taken)
+    (λ _. ended_refused g.T.Form.grammar c.args.text.now at.0 c.lines.rest.now _ parts.0.now parts.1.now _ at.2 c.in-Ok-next_line.ensures.line (rw c.if-ended.true at c.in-Ok-accept_line.ensures.accepted)
     (not_zero _ c.is_empty.result c.is_empty.ensures c.if-not-is_empty.true))
 
 pub lines-preserved : goal.lines-preserved
@@ -49,8 +49,8 @@ lines-preserved g c =
     let at = c.lines.invariant.reached in
     let parts = c.in-Ok-next_line.parts in
     record {
-      reached = (suc at.0, omega (arith, at.1), Reached-next g.T.Form.grammar c.args.text.now at.0 c.lines.rest.now _ parts.0.now parts.1.now _ at.2 c.in-Ok-next_line.ensures.line (rw c.if-ended.false at c.in-Ok-take_line.ensures.taken));
-      keeps = c.in-Ok-take_line.ensures.keeps;
-      few = c.in-Ok-take_line.ensures.few;
+      reached = (suc at.0, omega (arith, at.1), Reached-next g.T.Form.grammar c.args.text.now at.0 c.lines.rest.now _ parts.0.now parts.1.now _ at.2 c.in-Ok-next_line.ensures.line (rw c.if-ended.false at c.in-Ok-accept_line.ensures.accepted));
+      keeps = c.in-Ok-accept_line.ensures.keeps;
+      few = c.in-Ok-accept_line.ensures.few;
       room = omega (arith, c.in-Ok-next_line.ensures.shorter, c.lines.invariant.room);
     }

@@ -1,9 +1,9 @@
 use Rattle.std.proofs.Common.{arith}
 use Rattle.std.proofs.lemmas.Bool.{both_ways}
-use Rattle.order_graph.specs.Tables.{Joined}
+use Rattle.order_graph.specs.Internal.Tables.{Joined}
 use Rattle.order_graph.specs.Digraphs.{IsEdge}
 use Rattle.order_graph.proofs.Keeping.{sees_nodes, sees_edge, sees_path}
-use Rattle.order_graph.proofs.Growth.{column_within}
+use Rattle.order_graph.proofs.AddedBits.{column_within}
 use Rattle.order_graph.proofs.Cycling.{IsLeastPath-same}
 use Rattle.order_graph.proofs.edge_sets.EdgeSet.least_path.Goals as goal
 

@@ -1,4 +1,4 @@
-use Rattle.order_graph.proofs.Growth.{column_within}
+use Rattle.order_graph.proofs.AddedBits.{column_within}
 use Rattle.order_graph.proofs.Reached.{tests_are_paths}
 use Rattle.order_graph.proofs.edge_sets.EdgeSet.reached.Goals as goal
 

@@ -7,7 +7,7 @@ pub invariant_of-self : goal.invariant_of-self
 invariant_of-self c =
     let g = c.self.inside in
     let loses = rw c.deref_mut.ensures.value at c.clear_bit.ensures in
-    Covers-less g.nodes g.width g.edges.items c.clear_bit.new.table _ g.paths.items g.turned.items c.args.u c.args.v c.self.invariant
+    Covers-less g.nodes g.width g.edges.items c.clear_bit.new.table _ g.paths.items g.transposed.items c.args.u c.args.v c.self.invariant
     (take_at _ _ _ (omega arith)) (omega arith) loses
 
 pub returns-clause-edges : goal.returns-clause-edges

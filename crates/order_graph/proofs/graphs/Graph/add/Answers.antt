@@ -9,7 +9,7 @@ invariant_of-self c =
     let n = sees_nodes c.args.self.now g.nodes g.width g.edges.items (record { is = c.self.view_is }) in
     let adds = rw c.deref_mut.ensures.value at c.set_bit.ensures in
     let bit = rw c.deref.ensures.value at c.bit.ensures in
-    Keeps-edge g.nodes g.width g.edges.items c.set_bit.new.table _ g.paths.items g.turned.items c.args.u c.args.v c.self.invariant
+    Keeps-edge g.nodes g.width g.edges.items c.set_bit.new.table _ g.paths.items g.transposed.items c.args.u c.args.v c.self.invariant
     (take_at _ _ _ (omega arith)) (omega arith) (omega arith) (omega arith) adds (bit.0 c.if-bit.true)
 
 pub returns-then-bit-clause-edges : goal.returns-then-bit-clause-edges
@@ -22,7 +22,7 @@ returns-then-bit-clause-edges c = λ x y.
 
 pub join-requires-clause-transitive : goal.join-requires-clause-transitive
 join-requires-clause-transitive c =
-    rw c.deref_mut-2.ensures.value (Keeps-transitive c.self.inside.nodes c.self.inside.width _ c.self.inside.paths.items c.self.inside.turned.items c.self.invariant)
+    rw c.deref_mut-2.ensures.value (Keeps-transitive c.self.inside.nodes c.self.inside.width _ c.self.inside.paths.items c.self.inside.transposed.items c.self.invariant)
 
 pub invariant_of-self-2 : goal.invariant_of-self-2
 invariant_of-self-2 c =
@@ -30,8 +30,8 @@ invariant_of-self-2 c =
     let n = sees_nodes c.args.self.now g.nodes g.width g.edges.items (record { is = c.self.view_is }) in
     let adds = rw c.deref_mut.ensures.value at c.set_bit.ensures in
     let joins = rw c.deref_mut-2.ensures.value at c.join.ensures.added in
-    Keeps-join g.nodes g.width g.edges.items c.set_bit.new.table _ g.paths.items c.join.new.table _ g.turned.items c.join.new.turned _ c.args.u c.args.v c.self.invariant
-    (take_at _ _ _ (omega arith)) (take_at _ _ _ (omega arith)) (take_at _ _ _ (omega arith)) (omega arith) (omega arith) (omega arith) adds joins c.join.ensures.turned
+    Keeps-join g.nodes g.width g.edges.items c.set_bit.new.table _ g.paths.items c.join.new.table _ g.transposed.items c.join.new.transposed _ c.args.u c.args.v c.self.invariant
+    (take_at _ _ _ (omega arith)) (take_at _ _ _ (omega arith)) (take_at _ _ _ (omega arith)) (omega arith) (omega arith) (omega arith) adds joins c.join.ensures.transposed
 
 pub returns-clause-edges : goal.returns-clause-edges
 returns-clause-edges c = λ x y.

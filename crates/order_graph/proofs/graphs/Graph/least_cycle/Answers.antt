@@ -1,6 +1,6 @@
 use Rattle.std.proofs.Common.{◌≡◌, ℕ, length, replicate, ap, subst, ◌∙◌, arith}
 use Rattle.std.proofs.lemmas.List.{length-replicate}
-use Rattle.order_graph.specs.Tables.{IsSet, Joined}
+use Rattle.order_graph.specs.Internal.Tables.{IsSet, Joined}
 use Rattle.order_graph.specs.Digraphs.{IsEdge}
 use Rattle.order_graph.proofs.Keeping.{no_bit, sees_edge}
 use Rattle.order_graph.proofs.Cycling.{last_start}

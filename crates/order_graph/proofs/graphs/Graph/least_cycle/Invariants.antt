@@ -1,6 +1,6 @@
 use Rattle.std.proofs.Common.{◌≡◌, ◌↔◌, ℕ, ◌/◌, ◌<◌, MatchOption, length}
-use Rattle.order_graph.specs.Tables.{IsSet, Joined}
-use Rattle.order_graph.specs.Tracks.{NoCycleBefore, IsLeastCycleBefore}
+use Rattle.order_graph.specs.Internal.Tables.{IsSet, Joined}
+use Rattle.order_graph.specs.Internal.Tracks.{NoCycleBefore, IsLeastCycleBefore}
 use Rattle.order_graph.proofs.graphs.Graph.least_cycle.Given as goal
 
 abbrev pub invariant-loop-start : goal.invariant-loop-start

@@ -1,6 +1,6 @@
 use Rattle.std.proofs.Common.{arith}
 use Rattle.std.proofs.lemmas.Bool.{both_ways}
-use Rattle.order_graph.specs.Tables.{Joined}
+use Rattle.order_graph.specs.Internal.Tables.{Joined}
 use Rattle.order_graph.specs.Digraphs.{IsEdge}
 use Rattle.order_graph.proofs.Keeping.{sees_nodes, sees_edge, sees_path}
 use Rattle.order_graph.proofs.Cycling.{IsLeastPath-same}
@@ -18,7 +18,7 @@ returns-then-not-bit c =
 pub least_path_of-requires-clause-covers : goal.least_path_of-requires-clause-covers
 least_path_of-requires-clause-covers c =
     let g = c.self.inside in
-    rw (c.deref-2.ensures.value, c.deref-3.ensures.value, c.deref-4.ensures.value) (Keeps-covers g.nodes g.width g.edges.items g.paths.items g.turned.items c.self.invariant)
+    rw (c.deref-2.ensures.value, c.deref-3.ensures.value, c.deref-4.ensures.value) (Keeps-covers g.nodes g.width g.edges.items g.paths.items g.transposed.items c.self.invariant)
 
 pub returns : goal.returns
 returns c =

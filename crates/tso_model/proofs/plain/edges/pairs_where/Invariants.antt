@@ -1,5 +1,5 @@
 use Rattle.std.proofs.Common.{ℕ, Bool}
-use Rattle.tso_model.specs.EdgeLists.{ArePassing}
+use Rattle.tso_model.specs.Internal.PlainLists.{ArePassing}
 use Rattle.tso_model.proofs.plain.edges.pairs_where.Given as goal
 
 -- the pairs of all rows so far

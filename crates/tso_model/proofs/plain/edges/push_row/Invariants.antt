@@ -1,5 +1,5 @@
 use Rattle.std.proofs.Common.{ℕ, Bool}
-use Rattle.tso_model.specs.EdgeLists.{AddsRow}
+use Rattle.tso_model.specs.Internal.PlainLists.{AddsRow}
 use Rattle.tso_model.proofs.plain.edges.push_row.Given as goal
 
 -- the row has been added as far as the column

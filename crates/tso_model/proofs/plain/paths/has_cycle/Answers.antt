@@ -1,6 +1,6 @@
 use Rattle.std.proofs.Common.{◌≡◌, refl, arith}
 use Rattle.std.proofs.lemmas.Bool.{false≢true}
-use Rattle.tso_model.specs.EdgeLists.{HasEdge}
+use Rattle.tso_model.specs.EdgeLists.{HasPair}
 use Rattle.tso_model.proofs.PathFacts.{cycle_found, no_cycle_found}
 use Rattle.tso_model.proofs.Searches.{none_more}
 use Rattle.tso_model.proofs.plain.paths.has_cycle.Goals as goal
@@ -13,7 +13,7 @@ returns-then-has_edge c =
 
 pub loop-u-preserved : goal.loop-u-preserved
 loop-u-preserved c =
-    none_more (λ u. HasEdge c.in_ok-paths.paths.items u u) c.loop-u.u c.loop-u.invariant (rw c.deref.ensures.value at c.if-has_edge.ensures)
+    none_more (λ u. HasPair c.in_ok-paths.paths.items u u) c.loop-u.u c.loop-u.invariant (rw c.deref.ensures.value at c.if-has_edge.ensures)
 
 pub returns : goal.returns
 returns c =

@@ -1,6 +1,6 @@
 use Rattle.std.proofs.Common.{rules}
 use Rattle.std.proofs.lemmas.Result.{IfOk-weaker}
-use Rattle.tso_model.specs.EdgeLists.{IsJoinedAt}
+use Rattle.tso_model.specs.Internal.PlainLists.{IsJoinedAt}
 use Rattle.tso_model.proofs.EdgeFacts.{passing_edges}
 use Rattle.tso_model.proofs.PathFacts.{joined_at_below}
 use Rattle.tso_model.proofs.plain.paths.join_at.Goals as goal

@@ -1,6 +1,6 @@
 use Rattle.std.proofs.Common.{◌↔◌, IsTrue, rules}
 use Rattle.std.proofs.lemmas.Result.{IfOk-weaker}
-use Rattle.tso_model.specs.EdgeLists.{HasEdge, IsGiven, IsNew}
+use Rattle.tso_model.specs.EdgeLists.{HasPair, IsGiven, IsNew}
 use Rattle.tso_model.proofs.EdgeFacts.{passing_edges, passing_below}
 use Rattle.tso_model.proofs.RankFacts.{given_new, new_within}
 use Rattle.tso_model.proofs.plain.ranks.new_edges.Goals as goal
@@ -12,12 +12,12 @@ returns-clause-new c =
     let paths = c.as_slice-paths.result.now in
     let ends = rw (← c.as_slice-paths.ensures.value) at c.in_ok-ends.ensures in
     IfOk-weaker c.pairs_where.result _ _ (λ new found.
-    passing_edges _ (IsNew t (HasEdge edges)) new.items c.node_count-n.result found
+    passing_edges _ (IsNew t (HasPair edges)) new.items c.node_count-n.result found
     (λ u v answer below_u below_v h. (
-    let exact = given_new t paths (HasEdge edges) ends u v in
-    let test : IsTrue answer ↔ (IsGiven t (HasEdge paths) u v × (HasEdge paths u v → ⊥)) = search rules in
+    let exact = given_new t paths (HasPair edges) ends u v in
+    let test : IsTrue answer ↔ (IsGiven t (HasPair paths) u v × (HasPair paths u v → ⊥)) = search rules in
     (λ e. exact.0 (test.0 e), λ new_edge. test.1 (exact.1 new_edge))))
-    (λ u v edge. rw c.node_count-n.ensures (new_within t (HasEdge edges) u v edge))) c.pairs_where.ensures
+    (λ u v edge. rw c.node_count-n.ensures (new_within t (HasPair edges) u v edge))) c.pairs_where.ensures
 
 pub returns-clause-within : goal.returns-clause-within
 returns-clause-within c =

@@ -1,6 +1,6 @@
 use Rattle.std.proofs.Common.{◌∙◌, ap, sym, subst, refl}
 use Rattle.tso_ops.specs.Values.{rows, program_of_lists}
-use Rattle.tso_ops.specs.Limits.{IsProgram, IsRefusal}
+use Rattle.tso_ops.specs.Limits.{IsProgram, IsValueRefusal}
 use Rattle.tso_ops.proofs.CheckFacts.{program_by-same}
 use Rattle.tso_ops.proofs.programs.Program.new.Goals as goal
 
@@ -11,9 +11,9 @@ invariant_of-result c =
 pub returns-in-Ok-clause-accepted : goal.returns-in-Ok-clause-accepted
 returns-in-Ok-clause-accepted c why refusal =
     c.in-Ok.ensures.accepted why
-    (subst (λ p. IsRefusal p why) (sym (program_by-same _ (λ _. refl) _ ∙ ap (λ lists. program_of_lists (rows lists)) c.deref.ensures.value)) refusal)
+    (subst (λ p. IsValueRefusal p why) (sym (program_by-same _ (λ _. refl) _ ∙ ap (λ lists. program_of_lists (rows lists)) c.deref.ensures.value)) refusal)
 
 pub returns-in-Err-clause-refused : goal.returns-in-Err-clause-refused
 returns-in-Err-clause-refused c other =
-    subst (λ p. IsRefusal p c.in-Err.why) (program_by-same _ (λ _. refl) _ ∙ ap (λ lists. program_of_lists (rows lists)) c.deref.ensures.value)
+    subst (λ p. IsValueRefusal p c.in-Err.why) (program_by-same _ (λ _. refl) _ ∙ ap (λ lists. program_of_lists (rows lists)) c.deref.ensures.value)
     (c.in-Err.ensures.refused other)

@@ -1,6 +1,6 @@
 use Rattle.std.proofs.Common.{◌≤◌, ap, subst, arith, length}
 use Rattle.tso_ops.specs.Events.{event_total}
-use Rattle.tso_ops.specs.Tables.{AreSources}
+use Rattle.tso_ops.specs.Internal.Tables.{AreSources}
 use Rattle.tso_ops.proofs.ReadFacts.{event_at-before_first, event_at-past, nothing_told, row_read, row_tells_load, row_tells_source}
 use Rattle.tso_ops.proofs.traces.Trace.source.Goals as goal
 

@@ -1,0 +1,4 @@
+-- What private tables keep and how far loops have come. No public contract uses these words.
+pub mod KeptPaths
+pub mod Tables
+pub mod Tracks

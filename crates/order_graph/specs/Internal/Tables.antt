@@ -1,0 +1,42 @@
+-- Flat tables of bits: rows of 64-bit words, one behind another.
+use Rattle.std.specs.Prelude.{◌≡◌, ◌⊎◌, ◌↔◌, ℕ, ◌+◌, ◌*◌, ◌/◌, ◌%◌, ◌^◌, ◌<◌, List, length, slice_index}
+use Rattle.order_graph.specs.BitRows.{HasBit}
+
+-- the bit of row x and column y is set, where a row has this many words
+unfoldable pub IsSet : List ℕ → ℕ → ℕ → ℕ → Type 0
+IsSet table width x y = HasBit (slice_index table (x * width + y / 64)) (y % 64)
+
+-- the new table has the bits of the old one and the bits given
+pub record Adds (old new : List ℕ) (width : ℕ) (Given : ℕ → ℕ → Type 0) : Type 0 where
+  pub bits : (x y : ℕ) → y / 64 < width → IsSet new width x y ↔ (IsSet old width x y ⊎ Given x y)
+
+-- the new table has the bits of the old one, without this one
+pub record Loses (old new : List ℕ) (width u v : ℕ) : Type 0 where
+  pub bits : (x y : ℕ) → y / 64 < width → IsSet new width x y ↔ (IsSet old width x y × ((x ≡ u) × (y ≡ v) → ⊥))
+
+-- y is the number itself, or its bit is set in the number's row
+abbrev pub IsSelfOrSet : List ℕ → ℕ → ℕ → ℕ → Type 0
+IsSelfOrSet table width v y = (y ≡ v) ⊎ IsSet table width v y
+
+-- A table with a row for each number below `nodes`, whose columns are these numbers too.
+pub record IsTable (nodes width : ℕ) (table : List ℕ) : Type 0 where
+  pub small : nodes < 2 ^ 32
+  pub fits : width ≡ (nodes + 63) / 64
+  pub sized : length table ≡ nodes * width
+  pub within : (x y : ℕ) → x < nodes → y / 64 < width → IsSet table width x y → y < nodes
+
+-- two tables over the numbers below `nodes`, of which each is the other with rows for columns
+pub record AreTransposed (table transposed : List ℕ) (width nodes : ℕ) : Type 0 where
+  pub table_sized : length table ≡ nodes * width
+  pub transposed_sized : length transposed ≡ nodes * width
+  pub within : (x y : ℕ) → x < nodes → y / 64 < width → IsSet table width x y → y < nodes
+  pub transposed_within : (x y : ℕ) → x < nodes → y / 64 < width → IsSet transposed width x y → y < nodes
+  pub same : (x y : ℕ) → x < nodes → y < nodes → IsSet transposed width y x ↔ IsSet table width x y
+
+-- where x leads to y and y to z, x leads to z
+pub record IsTransitive (table : List ℕ) (width nodes : ℕ) : Type 0 where
+  pub joins : (x y z : ℕ) → x < nodes → y < nodes → z < nodes → IsSet table width x y → IsSet table width y z → IsSet table width x z
+
+-- an edge of the table between numbers below `nodes`
+abbrev pub Joined : List ℕ → ℕ → ℕ → ℕ → ℕ → Type 0
+Joined edges width nodes x y = (x < nodes) × (y < nodes) × IsSet edges width x y

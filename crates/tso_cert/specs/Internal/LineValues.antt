@@ -1,0 +1,82 @@
+-- What a reader makes of one line.
+use Rattle.std.specs.Prelude.{◌≡◌, ℕ, ◌<◌, ◌==◌, Bool, true, false, List, [], ◌∷◌, Option, Some, None, Result, Ok, Err, codes, if◌then◌else◌}
+use Rattle.std.specs.Str.{bytes_eq}
+use Rattle.std.specs.Fmt.{decimal}
+use Rattle.tso_cert.specs.declared.rules.BaseRule.{BaseRule}
+use Rattle.tso_cert.specs.declared.rules.InferredRule.{InferredRule}
+use Rattle.tso_cert.specs.declared.steps.Reason.{Reason}
+use Rattle.tso_cert.specs.declared.steps.Reason.TheVariants.{Base, Inferred}
+use Rattle.tso_cert.specs.declared.steps.CertStep.{CertStep}
+use Rattle.tso_cert.specs.declared.lines.Line.{Line}
+use Rattle.tso_cert.specs.declared.lines.Line.TheVariants.{Step, Cycle, Unwritten}
+use Rattle.tso_cert.specs.declared.faults.Why.{Why}
+use Rattle.tso_cert.specs.declared.faults.Why.TheVariants.{BadLine, BadNumber, BadRule}
+use Rattle.tso_cert.specs.Printed.{base_name, inferred_name}
+use Rattle.tso_cert.specs.Spelling.{event_number, base_rules, inferred_rules, cert_fault_number}
+
+infixl 10 ◌>>=◌
+-- the next step, where there was no fault
+abbrev pub ◌>>=◌ : {A B : Type 0} → Result A Why → (A → Result B Why) → Result B Why
+Ok x >>= f = f x
+Err why >>= f = Err why
+
+abbrev pub or_bad_event : Option ℕ → Result ℕ Why
+or_bad_event None = Err BadNumber
+or_bad_event (Some n) = Ok n
+
+-- the event number of a piece, or its fault
+abbrev pub event : List ℕ → Result ℕ Why
+event piece = or_bad_event (event_number piece)
+
+-- the event numbers of pieces, or their fault
+abbrev pub events : List (List ℕ) → Result (List ℕ) Why
+events [] = Ok []
+events (piece ∷ pieces) = event piece >>= λ n. events pieces >>= λ ns. Ok (n ∷ ns)
+
+-- the first of these rules that has the name
+abbrev pub named : {R : Type 0} → (R → List ℕ) → List R → List ℕ → Result R Why
+named name_of [] name = Err BadRule
+named name_of (rule ∷ rules) name = if bytes_eq name (name_of rule) then Ok rule else named name_of rules name
+
+-- the base rule of this name
+unfoldable pub base_rule : List ℕ → Result BaseRule Why
+base_rule name = named base_name base_rules name
+
+-- the inferred rule of this name
+unfoldable pub inferred_rule : List ℕ → Result InferredRule Why
+inferred_rule name = named inferred_name inferred_rules name
+
+-- the reason of the fourth piece and the pieces behind it
+unfoldable pub reason_said : List ℕ → List (List ℕ) → Result Reason Why
+reason_said name [] = base_rule name >>= λ rule. Ok (Base rule)
+reason_said name (load ∷ path) = event load >>= λ l. events path >>= λ p. inferred_rule name >>= λ rule. Ok (Inferred rule l p)
+
+-- the step of a line's number and pieces
+unfoldable pub step_said : ℕ → List (List ℕ) → Result CertStep Why
+step_said number [] = Err BadLine
+step_said number (k ∷ []) = Err BadLine
+step_said number (k ∷ from ∷ []) = Err BadLine
+step_said number (k ∷ from ∷ to ∷ []) = Err BadLine
+step_said number (k ∷ from ∷ to ∷ name ∷ pieces) =
+    if bytes_eq k (decimal number)
+    then (event from >>= λ u. event to >>= λ v. reason_said name pieces >>= λ r. Ok (record { from = u; to = v; reason = r }))
+    else Err BadNumber
+
+-- the load of a line `unwritten` with this number, and these pieces behind the word
+unfoldable pub unwritten_said : ℕ → List (List ℕ) → Result ℕ Why
+unwritten_said number [] = Err BadLine
+unwritten_said number (n ∷ []) = if number == 1 then event n else Err BadLine
+unwritten_said number (n ∷ m ∷ pieces) = Err BadLine
+
+-- What the line of this number and these pieces says, or its fault of the least number.
+unfoldable pub cert_line_said : ℕ → List (List ℕ) → Result Line Why
+cert_line_said number [] = Err BadLine
+cert_line_said number (word ∷ pieces) =
+    if bytes_eq word (codes "cycle") then (events pieces >>= λ cycle. Ok (Cycle cycle))
+    else if bytes_eq word (codes "unwritten") then (unwritten_said number pieces >>= λ n. Ok (Unwritten n))
+    else step_said number (word ∷ pieces) >>= λ step. Ok (Step step)
+
+-- the fault of the least number, of those that a test finds
+pub record IsFirstCertFault (has : Why → Bool) (why : Why) : Type 0 where
+  pub fault : has why ≡ true
+  pub least : (w : Why) → cert_fault_number w < cert_fault_number why → has w ≡ false

@@ -1,0 +1,54 @@
+-- What a reader says of one line or one item: it is taken behind what came before, or it is refused.
+use Rattle.std.specs.Prelude.{◌≡◌, ◌⊎◌, ℕ, ◌<◌, ◌≤◌, Bool, true, false, List, length, Ok}
+use Rattle.tso_ops.specs.declared.limits.Tally.{Tally}
+use Rattle.tso_ops.specs.declared.faults.ValueFault.{ValueFault}
+use Rattle.tso_ops.specs.declared.faults.ValueFault.TheVariants.{TooManyProcessors as ManyProcessors, TooManyEvents as ManyEvents, AddressRange as PastAddresses, ZeroValue as ZeroStored, RepeatedValue as Repeated, OutOfMemory as NoMemory}
+use Rattle.tso_text.specs.declared.faults.Why.{Why}
+use Rattle.tso_text.specs.declared.faults.Why.TheVariants.{TooManyProcessors, TooManyEvents, AddressRange, ZeroValue, RepeatedValue, OutOfMemory}
+use Rattle.tso_text.specs.declared.lines.Line.{Line}
+use Rattle.tso_text.specs.Spelling.{Grammar, said, said_fault, line_fault, with_line, is_end, items_of, text_fault_number}
+
+-- the refusal of a value, as that of a text
+abbrev pub why_of : ValueFault → Why
+why_of ManyProcessors = TooManyProcessors
+why_of ManyEvents = TooManyEvents
+why_of PastAddresses = AddressRange
+why_of ZeroStored = ZeroValue
+why_of Repeated = RepeatedValue
+why_of NoMemory = OutOfMemory
+
+-- the fault of the least number, of those that a test finds
+pub record IsFirstTextFault (has : Why → Bool) (why : Why) : Type 0 where
+  pub fault : has why ≡ true
+  pub least : (w : Why) → text_fault_number w < text_fault_number why → has w ≡ false
+
+-- refused for the first fault, or memory was refused
+abbrev pub IsRefusedFor : (Why → Bool) → Why → Type 0
+IsRefusedFor has why = (why ≡ OutOfMemory) ⊎ IsFirstTextFault has why
+
+abbrev pub IsItemRefusedFor : {X : Type 0} → Grammar X → List X → X → Why → Type 0
+IsItemRefusedFor g items x why = IsRefusedFor (g.item_fault items x) why
+
+abbrev pub IsSaidRefusedFor : {X : Type 0} → Grammar X → List (List X) → Line X → Why → Type 0
+IsSaidRefusedFor g lists line why = IsRefusedFor (line_fault g lists line) why
+
+abbrev pub IsLineRefusedFor : {X : Type 0} → Grammar X → List (List X) → List ℕ → Why → Type 0
+IsLineRefusedFor g lists line why = IsRefusedFor (said_fault g lists (said g line)) why
+
+-- what a line says is taken: it has no fault behind the old lists, and makes the new ones of them
+pub record AcceptsSaid {X : Type 0} (g : Grammar X) (old : List (List X)) (line : Line X) (ended : Bool) (new : List (List X)) : Type 0 where
+  pub clean : (w : Why) → line_fault g old line w ≡ false
+  pub ends : is_end (Ok line) ≡ ended
+  pub after : with_line old line ≡ new
+
+-- the line is taken
+pub record AcceptsLine {X : Type 0} (g : Grammar X) (old : List (List X)) (line : List ℕ) (ended : Bool) (new : List (List X)) : Type 0 where
+  pub line_said : Line X
+  pub says : said g line ≡ Ok line_said
+  pub accepts : AcceptsSaid g old line_said ended new
+
+-- a tally keeps the items of these lists, of which there are few
+pub record IsKept {X : Type 0} (keeps : Tally → List X → Type 0) (lists : List (List X)) : Type 0 where
+  pub tally : Tally
+  pub keeps_items : keeps tally (items_of lists)
+  pub few : length lists ≤ 16

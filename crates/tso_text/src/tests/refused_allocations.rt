@@ -1,0 +1,79 @@
+//! Growths refused in turn: `rt try --test --fail-alloc N` refuses the Nth of each test.
+//!
+//! The call that meets it answers OutOfMemory, at line 0 where it is a reader, and the next call the ordinary answer.
+use crate::{
+    Act, TextFault, Why, print_program, print_schedule, print_trace, read_program, read_schedule,
+    read_trace,
+};
+use std::alloc::{AllocError, Global};
+use std::test::Fail;
+use tso_ops::{Program, Trace};
+
+/// The refusal of a growth.
+const REFUSED: TextFault = TextFault {
+    line: 0,
+    why: Why::OutOfMemory,
+};
+
+const TRACE: &str = "tso trace 1\nproc\nst 1 1\nld 2 0\nproc\nst 2 2\nmb\nsw 1 0 3\nend\n";
+
+const PROGRAM: &str = "tso program 1\nproc\nst 1 1\nld 2\nproc\nst 2 2\nmb\nsw 1 3\nend\n";
+
+const SCHEDULE: &str = "tso schedule 1\ni 0\ni 1\nd 0\ni 0\nd 1\ni 1\nend\n";
+
+fn trace_of(alloc: Global) -> Result<Trace, TextFault> {
+    match read_trace(alloc, TRACE.as_bytes()) {
+        Err(REFUSED) => read_trace(alloc, TRACE.as_bytes()),
+        first => first,
+    }
+}
+
+fn program_of(alloc: Global) -> Result<Program, TextFault> {
+    match read_program(alloc, PROGRAM.as_bytes()) {
+        Err(REFUSED) => read_program(alloc, PROGRAM.as_bytes()),
+        first => first,
+    }
+}
+
+fn schedule_of(alloc: Global) -> Result<Vec<Act>, TextFault> {
+    match read_schedule(alloc, SCHEDULE.as_bytes()) {
+        Err(REFUSED) => read_schedule(alloc, SCHEDULE.as_bytes()),
+        first => first,
+    }
+}
+
+#[test]
+fn refused_allocations_of_a_trace(rt: HostRuntime) -> Result<(), Fail> {
+    let alloc = rt.alloc();
+    let trace = trace_of(alloc)?;
+    let text = match print_trace(alloc, &trace) {
+        Err(AllocError) => print_trace(alloc, &trace)?,
+        Ok(text) => text,
+    };
+    assert_eq!(rt; text.as_str(), TRACE);
+    Ok(())
+}
+
+#[test]
+fn refused_allocations_of_a_program(rt: HostRuntime) -> Result<(), Fail> {
+    let alloc = rt.alloc();
+    let program = program_of(alloc)?;
+    let text = match print_program(alloc, &program) {
+        Err(AllocError) => print_program(alloc, &program)?,
+        Ok(text) => text,
+    };
+    assert_eq!(rt; text.as_str(), PROGRAM);
+    Ok(())
+}
+
+#[test]
+fn refused_allocations_of_a_schedule(rt: HostRuntime) -> Result<(), Fail> {
+    let alloc = rt.alloc();
+    let acts = schedule_of(alloc)?;
+    let text = match print_schedule(alloc, &acts) {
+        Err(AllocError) => print_schedule(alloc, &acts)?,
+        Ok(text) => text,
+    };
+    assert_eq!(rt; text.as_str(), SCHEDULE);
+    Ok(())
+}
