@@ -58,5 +58,5 @@ Exit status:
   4  a fault, which one line on standard error names, as FAULT Read
 
 Example:
-  tsobench judge TRACE | sed '1,/^VIOLATION$/d' > CERT
+  tsobench judge TRACE | tail -n +4 > CERT
   tsobench check TRACE CERT";
