@@ -326,3 +326,20 @@ fn two_thousand_steps_hold(rt: HostRuntime) -> Result<(), Fail> {
     assert_eq!(rt; check(&given, &certificate(alloc, steps, &cycle)?), Ok(()));
     Ok(())
 }
+
+#[test]
+fn texts_of_faults(rt: HostRuntime) -> Result<(), Fail> {
+    let alloc = rt.alloc();
+    for (fault, text) in [
+        (CertFault::EventRange, "EventRange"),
+        (CertFault::NotUnwritten, "NotUnwritten"),
+        (CertFault::BaseRefused(1), "BaseRefused step 1"),
+        (CertFault::SideRefused(20), "SideRefused step 20"),
+        (CertFault::PathUnlisted(3), "PathUnlisted step 3"),
+        (CertFault::CycleUnlisted, "CycleUnlisted"),
+        (CertFault::EmptyCycle, "EmptyCycle"),
+    ] {
+        assert_eq!(rt; format!(in alloc; "{fault}")?.as_str(), text);
+    }
+    Ok(())
+}

@@ -11,8 +11,9 @@ use Rattle.tso_model.specs.EdgeLists.{IsNew}
 use Rattle.tso_model.proofs.RankFacts.{new_within}
 use Rattle.tso_rules.specs.Rows.{IsAscending as IsAscendingRow}
 use Rattle.round_pool.specs.declared.ranked.Edge.{Edge}
-use Rattle.round_pool.specs.RankGraphs.{AreRoundRows}
-use Rattle.round_pool.specs.Rankings.{ListsEdge, IsEdgeBefore, AreEdgesAscending, edge_from, edges_of_rows, AreNewEdges}
+use Rattle.round_pool.specs.Internal.SharedRows.{AreRoundRows}
+use Rattle.round_pool.specs.Internal.EdgeLists.{edges_of_rows, AreNewEdges}
+use Rattle.round_pool.specs.Rankings.{ListsEdge, IsEdgeBefore, AreEdgesAscending, edge_from}
 use Rattle.round_pool.proofs.GraphFacts.{no_new_from_init, empty_list}
 
 -- ---- the edges of one row

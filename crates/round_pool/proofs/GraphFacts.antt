@@ -19,7 +19,8 @@ use Rattle.tso_model.proofs.Events.{event_above_zero, store_event, load_event, s
 use Rattle.tso_model.proofs.RankFacts.{new_within}
 use Rattle.tso_rules.specs.Rows.{IsRow}
 use Rattle.round_pool.specs.declared.ranked.Edge.{Edge}
-use Rattle.round_pool.specs.RankGraphs.{IsRankGraph, AddsEdges, AreRoundRows, AreRowsBelow}
+use Rattle.round_pool.specs.Internal.SharedRows.{AreRoundRows, AreRowsBelow}
+use Rattle.round_pool.specs.RankGraphs.{IsRankGraph, AddsEdges}
 use Rattle.round_pool.specs.Rankings.{ListsEdge, edge_from}
 
 -- ---- the rows of base edges

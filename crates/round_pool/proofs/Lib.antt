@@ -1,3 +1,4 @@
+pub mod AnswerFacts
 pub mod EdgeFacts
 pub mod GraphFacts
 pub mod RankedFacts

@@ -11,7 +11,8 @@ use Rattle.tso_model.proofs.Decided.{RankSet-decided}
 use Rattle.tso_model.proofs.LastRankSet.{RankSet-mono}
 use Rattle.round_pool.specs.declared.ranked.Edge.{Edge}
 use Rattle.round_pool.specs.RankGraphs.{IsRankGraph, AddsEdges}
-use Rattle.round_pool.specs.Rankings.{Ranking, rounds_of, ListsEdge, IsRankingOf, AreAllWithin, IsGraphOf, IsDifferenceFrom}
+use Rattle.round_pool.specs.Internal.EdgeLists.{AreAllWithin, IsGraphOf, IsDifferenceFrom}
+use Rattle.round_pool.specs.Rankings.{Ranking, rounds_of, ListsEdge, IsRankingOf}
 
 -- the list that a vector of a list of edges holds
 pub edges_at : (vectors : List (Vec Edge)) (i : ℕ) (v d : Vec Edge) → i < length vectors → v ≡ get_or vectors i d → v.items ≡ get_or (map (λ (w : Vec Edge). w.items) vectors) i []

@@ -13,7 +13,8 @@ use Rattle.tso_model.proofs.RankFacts.{new_same}
 use Rattle.tso_model.proofs.RoundFacts.{before_last}
 use Rattle.round_pool.specs.declared.ranked.Edge.{Edge}
 use Rattle.round_pool.specs.RankGraphs.{IsRankGraph, AddsEdges}
-use Rattle.round_pool.specs.Rankings.{ListsEdge, IsRound, IsRankingOf, AreNewEdges}
+use Rattle.round_pool.specs.Internal.EdgeLists.{AreNewEdges}
+use Rattle.round_pool.specs.Rankings.{ListsEdge, IsRound, IsRankingOf}
 
 -- What is known before each round: the graph is that of a rank set, each round before added what the next rank set has more, and no rank set
 -- before it has a cycle or is last.
@@ -39,7 +40,7 @@ graph_cycle t k g graph = HasCycle-mono (RankSet t k) (IsEdge g) (λ x y. (graph
 set_cycle : (t : TraceValue) (k : ℕ) (g : Digraph) → IsRankGraph t k g → HasCycle (IsEdge g) → HasCycle (RankSet t k)
 set_cycle t k g graph = HasCycle-mono (IsEdge g) (RankSet t k) (λ x y. (graph.edges x y).0)
 
--- new edges over the graph of a rank set are those of a round behind it
+-- new edges over the graph of a rank set are those of the round after it
 pub new_round : (t : TraceValue) (k : ℕ) (g : Digraph) (edges : List Edge) → IsRankGraph t k g → AreNewEdges t g edges → IsRound t k edges
 new_round t k g edges graph new = record {
   all = λ u v next not_yet. new.all u v (⊎_elim
@@ -53,7 +54,7 @@ new_round t k g edges graph new = record {
   ascending = new.ascending;
 }
 
--- a round that adds an edge isn't behind a last rank set
+-- a round that adds an edge isn't after a last rank set
 pub round_not_last : (t : TraceValue) (k : ℕ) (edges : List Edge) → IsRound t k edges → 0 < length edges → IsLast t k → ⊥
 round_not_last t k [] round some last = omega arith
 round_not_last t k (e ∷ edges) round some last =

@@ -1,7 +1,7 @@
--- Lemmas on how the rows are shared out among the workers.
+-- Lemmas on how the rows are divided among the workers.
 use Rattle.std.proofs.Common.{◌≡◌, ◌∙◌, ℕ, ◌+◌, ◌*◌, ◌/◌, ◌<◌, ◌≤◌, ◌^◌, ap, arith}
 use Rattle.std.proofs.Math.Nat.{div-le_of_le-mul, div-le_self, le-div_iff_mul-le, div-mul-le_self, mul-le-mul, mul-le-mul_left, mul-div_cancel_left, mul_comm}
-use Rattle.round_pool.specs.RankGraphs.{bound_of}
+use Rattle.round_pool.specs.Internal.SharedRows.{bound_of}
 
 -- nobody stands before the first worker
 pub bound_of-zero : (count workers : ℕ) → 1 ≤ workers → bound_of count 0 workers ≡ 0

@@ -1,9 +1,8 @@
 -- The ranks of a trace's edges, round by round.
-use Rattle.std.specs.Prelude.{◌≡◌, ◌⊎◌, ◌↔◌, ℕ, suc, ◌<◌, ◌≤◌, List, [], ◌∷◌, ◌++◌, length, map, get_or, Contains}
-use Rattle.order_graph.specs.Digraphs.{Digraph, IsEdge}
+use Rattle.std.specs.Prelude.{◌≡◌, ◌⊎◌, ℕ, suc, ◌<◌, List, [], ◌∷◌, length, get_or, Contains}
+use Rattle.order_graph.specs.Digraphs.{Digraph}
 use Rattle.tso_ops.specs.Values.{TraceValue}
 use Rattle.tso_model.specs.Ranks.{RankSet, IsRounds}
-use Rattle.tso_model.specs.EdgeLists.{IsNew}
 use Rattle.round_pool.specs.declared.ranked.Edge.{Edge}
 use Rattle.round_pool.specs.RankGraphs.{IsRankGraph}
 
@@ -16,20 +15,28 @@ pub record Ranking : Type 0 where
 abbrev pub rounds_of : Ranking → ℕ
 rounds_of r = length r.added
 
+-- the edge from u to v
+abbrev pub edge_from : ℕ → ℕ → Edge
+edge_from u v = record { from = u; to = v }
+
 -- the list has the edge from u to v
 abbrev pub ListsEdge : List Edge → ℕ → ℕ → Type 0
-ListsEdge edges u v = Contains edges (record { from = u; to = v })
+ListsEdge edges u v = Contains edges (edge_from u v)
+
+-- the edges lie between numbers below this one
+abbrev pub AreWithin : ℕ → List Edge → Type 0
+AreWithin nodes edges = (u v : ℕ) → ListsEdge edges u v → (u < nodes) × (v < nodes)
 
 -- the first edge stands before the second: by its first number, then by its second
 abbrev pub IsEdgeBefore : Edge → Edge → Type 0
 IsEdgeBefore d e = (d.from < e.from) ⊎ ((d.from ≡ e.from) × (d.to < e.to))
 
--- each edge stands before all that are listed behind it
+-- each edge stands before all that are listed after it
 abbrev pub AreEdgesAscending : List Edge → Type 0
 AreEdgesAscending [] = Unit {0}
 AreEdgesAscending (e ∷ edges) = ((other : Edge) → Contains edges other → IsEdgeBefore e other) × AreEdgesAscending edges
 
--- The edges are those that the round behind rank set k adds to it, in ascending order.
+-- The edges are those that the round after rank set k adds to it, in ascending order.
 pub record IsRound (t : TraceValue) (k : ℕ) (edges : List Edge) : Type 0 where
   pub all : (u v : ℕ) → RankSet t (suc k) u v → (RankSet t k u v → ⊥) → ListsEdge edges u v
   pub only : (u v : ℕ) → ListsEdge edges u v → RankSet t (suc k) u v × (RankSet t k u v → ⊥)
@@ -41,37 +48,3 @@ pub record IsRankingOf (t : TraceValue) (r : Ranking) : Type 0 where
   pub rounds : IsRounds t (rounds_of r)
   pub last : IsRankGraph t (rounds_of r) r.last
   pub each : (k : ℕ) → k < rounds_of r → IsRound t k (get_or r.added k [])
-
--- ---- what the steps of a round make
-
-abbrev pub edge_from : ℕ → ℕ → Edge
-edge_from u v = record { from = u; to = v }
-
--- the edges of these rows, of which the first is that of this number
-abbrev pub edges_of_rows : ℕ → List (List ℕ) → List Edge
-edges_of_rows first [] = []
-edges_of_rows first (row ∷ rows) = map (edge_from first) row ++ edges_of_rows (suc first) rows
-
--- the edges lie between numbers below this one
-abbrev pub AreWithin : ℕ → List Edge → Type 0
-AreWithin nodes edges = (u v : ℕ) → ListsEdge edges u v → (u < nodes) × (v < nodes)
-
--- the edges that each round added do
-abbrev pub AreAllWithin : ℕ → List (List Edge) → Type 0
-AreAllWithin nodes added = (k : ℕ) → k < length added → AreWithin nodes (get_or added k [])
-
--- The graph has the edges of the lists from the one place on and before the other, and no others.
-pub record IsGraphOf (nodes : ℕ) (added : List (List Edge)) (first end : ℕ) (g : Digraph) : Type 0 where
-  pub nodes_are : g.nodes ≡ nodes
-  pub edges : (x y : ℕ) → IsEdge g x y ↔ ((j : ℕ) × (first ≤ j) × (j < end) × ListsEdge (get_or added j []) x y)
-
--- The graph has the edges of the first graph from this number on that the second lacks.
-pub record IsDifferenceFrom (last later : Digraph) (first : ℕ) (g : Digraph) : Type 0 where
-  pub nodes_are : g.nodes ≡ last.nodes
-  pub edges : (x y : ℕ) → IsEdge g x y ↔ ((first ≤ x) × IsEdge last x y × (IsEdge later x y → ⊥))
-
--- The edges are those that a round adds to the graph's, in ascending order.
-pub record AreNewEdges (t : TraceValue) (g : Digraph) (edges : List Edge) : Type 0 where
-  pub all : (u v : ℕ) → IsNew t (IsEdge g) u v → ListsEdge edges u v
-  pub only : (u v : ℕ) → ListsEdge edges u v → IsNew t (IsEdge g) u v
-  pub ascending : AreEdgesAscending edges

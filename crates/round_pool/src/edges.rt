@@ -1,8 +1,9 @@
 //! The edges that a round adds.
 ghost use Rattle.std.specs.Prelude.{◌≡◌, ◌+◌, ◌<◌, ◌≤◌, ◌++◌, ℕ, length, map, All, IfOk, OnOk};
 ghost use Rattle.tso_ops.specs.Values.{rows};
-ghost use Rattle.round_pool.specs.RankGraphs.{AreRowsBelow};
-ghost use Rattle.round_pool.specs.Rankings.{AreNewEdges, edge_from, edges_of_rows};
+ghost use Rattle.round_pool.specs.Internal.SharedRows.{AreRowsBelow};
+ghost use Rattle.round_pool.specs.Internal.EdgeLists.{AreNewEdges, edges_of_rows};
+ghost use Rattle.round_pool.specs.Rankings.{edge_from};
 
 use crate::faults::PoolFault;
 use crate::gates::PoolGate;

@@ -8,7 +8,7 @@ use thiserror::Error;
 /// Why rounds were given up, in the order in which a fault is chosen.
 #[derive(Clone, Copy, Debug, PartialEq, Eq, Error)]
 pub enum PoolFault {
-    /// A growth was refused, of the caller's or of a worker's.
+    /// An allocation was refused, the caller's or a worker's.
     #[error("OutOfMemory")]
     OutOfMemory,
     /// The system refused a thread.

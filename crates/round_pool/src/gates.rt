@@ -8,7 +8,7 @@ pub trait PoolGate {
     fn row(&self, worker: usize, row: usize);
 }
 
-/// The gate that lets every worker go on.
+/// The gate that never waits.
 #[derive(Clone, Copy, Debug, Drop)]
 pub struct OpenPoolGate;
 

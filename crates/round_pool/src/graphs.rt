@@ -10,7 +10,7 @@ use tso_model::plain::node_count;
 use tso_ops::{OutOfMemory, Trace};
 use tso_rules::base_words;
 
-/// The graph of the base edges, or OutOfMemory where a growth was refused.
+/// The graph of the base edges, or OutOfMemory where an allocation was refused.
 pub fn base_graph(alloc: Global, trace: &Trace) -> Result<Graph, OutOfMemory>
     ensures { IfOk result (IsRankGraph trace.now 0) }
 {

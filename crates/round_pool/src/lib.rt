@@ -1,11 +1,13 @@
 //! The rank sets of a trace, round by round.
 #![tactic(auto)]
 
+pub use answers::both_answers;
 pub use faults::PoolFault;
 pub use gates::{OpenPoolGate, PoolGate};
 pub use ranked::{Edge, Ranked};
 pub use round_loop::rounds;
 
+mod answers;
 mod edges;
 mod faults;
 mod gates;

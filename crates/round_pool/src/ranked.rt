@@ -4,7 +4,8 @@ ghost use Rattle.order_graph.specs.Digraphs.{IsEdge};
 ghost use Rattle.tso_ops.specs.Values.{TraceValue};
 ghost use Rattle.tso_model.specs.Ranks.{RankSet, HasRank};
 ghost use Rattle.round_pool.specs.RankGraphs.{IsRankGraph, AddsEdges};
-ghost use Rattle.round_pool.specs.Rankings.{IsRankingOf, rounds_of, ListsEdge, AreAllWithin, IsGraphOf, IsDifferenceFrom};
+ghost use Rattle.round_pool.specs.Internal.EdgeLists.{AreAllWithin, IsGraphOf, IsDifferenceFrom};
+ghost use Rattle.round_pool.specs.Rankings.{IsRankingOf, rounds_of, ListsEdge};
 
 use crate::graphs::add_edges;
 use order_graph::Graph;
@@ -21,7 +22,7 @@ pub struct Edge {
     pub to: u16,
 }
 
-/// What the rounds over a trace came to: how many they were, and which edges each added.
+/// The result of the rounds over a trace: how many they were, and which edges each added.
 #[derive(Debug, Drop)]
 pub struct Ranked {
     pub(crate) last: Graph,
@@ -30,7 +31,8 @@ pub struct Ranked {
 
 impl Model for Ranked {
     ghost use Rattle.std.specs.Prelude.{map};
-    ghost use Rattle.round_pool.specs.Rankings.{Ranking, AreAllWithin};
+    ghost use Rattle.round_pool.specs.Internal.EdgeLists.{AreAllWithin};
+    ghost use Rattle.round_pool.specs.Rankings.{Ranking};
 
     ghost Value = { Ranking };
 
@@ -79,7 +81,7 @@ impl Ranked {
         Some(0)
     }
 
-    /// The graph of rank set `k`, from 0 to `rounds()`; OutOfMemory where a growth was refused.
+    /// The graph of rank set `k`, from 0 to `rounds()`; OutOfMemory where an allocation was refused.
     pub fn up_to(&self, k: u64) -> Result<Graph, OutOfMemory>
         requires { k ≤ rounds_of self.now }
         ensures { (t : TraceValue) → IsRankingOf t self.now → IfOk result (IsRankGraph t k) }

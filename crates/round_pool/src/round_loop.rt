@@ -24,7 +24,7 @@ use tso_ops::Trace;
 /// `events() * w / workers` and up to `events() * (w + 1) / workers`. A worker without rows isn't started. Each calls the
 /// gate before it computes a row. The answer is the same for each number of workers and each gate.
 ///
-/// OutOfMemory where a growth was refused, the caller's or a worker's; else NoThread where the system refused a thread. All
+/// OutOfMemory where an allocation was refused, the caller's or a worker's; else NoThread where the system refused a thread. All
 /// threads are joined on each.
 pub fn rounds<H: Threads + Wait, G: PoolGate + Sync>(
     rt: &H,

@@ -2,6 +2,7 @@
 
 mod by_hand;
 mod drawn;
+mod faults;
 mod gates;
 mod refused_allocations;
 
@@ -75,26 +76,43 @@ fn has(graph: &Graph, u: usize, v: usize) -> bool {
     u < graph.nodes() && v < graph.nodes() && graph.has(u, v)
 }
 
-/// Fails unless rounds number, ranks and graphs are those of the plain program.
-fn compare(
-    rt: &impl Abort,
-    alloc: Global,
-    trace: &Trace,
-    ranked: &Ranked,
-) -> Result<(), AllocError> {
-    let count = rounds_number(alloc, trace)?;
-    assert_eq!(rt; ranked.rounds(), count as u64, "{trace:?}");
-    let mut ranks = Vec::new(alloc);
-    for k in 0..count.saturating_add(1) {
-        let edges = rank_set(alloc, trace, k)?;
-        if k as u64 <= ranked.rounds() {
-            compare_graph(rt, trace, &ranked.up_to(k as u64)?, &edges);
+/// The rank sets of a trace by the plain program, up to the last.
+#[derive(Drop)]
+struct Plain {
+    ranks: Vec<Vec<(usize, usize)>>,
+}
+
+impl Plain {
+    fn of(alloc: Global, trace: &Trace) -> Result<Plain, AllocError> {
+        let mut ranks = Vec::new(alloc);
+        for k in 0..rounds_number(alloc, trace)?.saturating_add(1) {
+            ranks.push(rank_set(alloc, trace, k)?)?;
         }
-        ranks.push(edges)?;
+        Ok(Plain { ranks })
     }
-    for u in 0..node_count(trace).saturating_add(1) {
+
+    /// Fails unless rounds number, ranks and graphs are these.
+    fn compare(&self, rt: &impl Abort, trace: &Trace, ranked: &Ranked) -> Result<(), AllocError> {
+        assert_eq!(rt;
+            ranked.rounds().saturating_add(1),
+            self.ranks.len() as u64,
+            "{trace:?}"
+        );
+        for (k, edges) in self.ranks.iter().enumerate() {
+            if k as u64 <= ranked.rounds() {
+                compare_graph(rt, trace, &ranked.up_to(k as u64)?, edges);
+            }
+        }
+        for u in 0..node_count(trace).saturating_add(1) {
+            self.compare_ranks(rt, trace, ranked, u);
+        }
+        Ok(())
+    }
+
+    /// Fails unless the ranks of the edges from `u` are these.
+    fn compare_ranks(&self, rt: &impl Abort, trace: &Trace, ranked: &Ranked, u: usize) {
         for v in 0..node_count(trace).saturating_add(1) {
-            let first = ranks.iter().position(|edges| has_edge(edges, u, v));
+            let first = self.ranks.iter().position(|edges| has_edge(edges, u, v));
             assert_eq!(rt;
                 ranked.rank(u, v),
                 first.map(|k| k as u64),
@@ -102,7 +120,16 @@ fn compare(
             );
         }
     }
-    Ok(())
+}
+
+/// Fails unless rounds number, ranks and graphs are those of the plain program.
+fn compare(
+    rt: &impl Abort,
+    alloc: Global,
+    trace: &Trace,
+    ranked: &Ranked,
+) -> Result<(), AllocError> {
+    Plain::of(alloc, trace)?.compare(rt, trace, ranked)
 }
 
 /// Fails unless the graph has just these edges.

@@ -4,19 +4,20 @@ ghost use Rattle.std.specs.Thread.{IsSync};
 ghost use Rattle.order_graph.specs.Digraphs.{Digraph};
 ghost use Rattle.tso_ops.specs.Values.{TraceValue, rows};
 ghost use Rattle.tso_ops.specs.Events.{event_total};
-ghost use Rattle.round_pool.specs.RankGraphs.{AreRoundRows, AreRoundRowsFrom, bound_of};
+ghost use Rattle.round_pool.specs.Internal.SharedRows.{AreRoundRows, AreRoundRowsFrom, bound_of};
 
+use crate::answers::both_answers;
 use crate::faults::PoolFault;
 use crate::gates::PoolGate;
 use order_graph::Graph;
 use std::alloc::Global;
 use std::sync::Wait;
 use std::thread;
-use std::thread::{Promise, Scope, Threads};
+use std::thread::{Promise, PromisedHandle, Scope, Threads};
 use tso_ops::{OutOfMemory, Trace};
 use tso_rules::row_edges;
 
-/// A run of rows that a worker is to compute: `count` rows from number `first` on.
+/// The rows that one worker is to compute: `count` of them, from number `first` on.
 #[derive(Clone, Copy)]
 struct Piece<'a> {
     trace: &'a Trace,
@@ -29,31 +30,57 @@ impl<'a> Promise<Result<Vec<Vec<usize>>, OutOfMemory>> for Piece<'a> {
     ghost use Rattle.std.specs.Prelude.{IfOk};
     ghost use Rattle.order_graph.specs.Digraphs.{Digraph};
     ghost use Rattle.tso_ops.specs.Values.{TraceValue, rows};
-    ghost use Rattle.round_pool.specs.RankGraphs.{AreRoundRows};
+    ghost use Rattle.round_pool.specs.Internal.SharedRows.{AreRoundRows};
 
     ghost kept_by = { λ p r. IfOk r (λ made. AreRoundRows p.trace.now p.graph.now p.first p.count (rows made.items)) };
 }
 
-/// Computes the rows of one piece; the gate is called before each. OutOfMemory where a growth was refused.
-fn piece_rows<G: PoolGate>(
+/// What the workers of a round share; the gate is a reference.
+#[derive(Clone, Copy)]
+struct Round<'a, Gate> {
+    trace: &'a Trace,
+    graph: &'a Graph,
+    gate: Gate,
+    workers: usize,
+}
+
+/// Computes the rows of one piece; the gate is called before each. OutOfMemory where an allocation was refused.
+fn piece_rows<'a, G: PoolGate>(
     alloc: Global,
-    trace: &Trace,
-    graph: &Graph,
+    piece: Piece<'a>,
     gate: &G,
     worker: usize,
-    first: usize,
-    count: usize,
 ) -> Result<Vec<Vec<usize>>, OutOfMemory>
-    requires { first + count ≤ 1 + event_total trace.now }
-    ensures { IfOk result (λ made. AreRoundRows trace.now graph.now first count (rows made.items)) }
+    requires { piece.first + piece.count ≤ 1 + event_total piece.trace.now }
+    ensures { IfOk result (λ made. AreRoundRows piece.entry.trace.now piece.entry.graph.now piece.entry.first piece.entry.count (rows made.items)) }
 {
-    let _events = trace.events();
+    let _events = piece.trace.events();
     let mut rows = Vec::new(alloc);
-    for i in 0..count {
-        gate.row(worker, first + i);
-        rows.push(row_edges(alloc, trace, graph, first + i)?)?;
+    for i in 0..piece.count {
+        gate.row(worker, piece.first + i);
+        rows.push(row_edges(alloc, piece.trace, piece.graph, piece.first + i)?)?;
     }
     Ok(rows)
+}
+
+/// Starts the thread that computes a piece, which has a row. NoThread where the system refused the thread.
+fn start_worker<'s, E, G: PoolGate + Sync>(
+    scope: &'s Scope<'s, E>,
+    alloc: Global,
+    piece: Piece<'s>,
+    gate: &'s G,
+    worker: usize,
+) -> Result<PromisedHandle<Result<Vec<Vec<usize>>, OutOfMemory>, Piece<'s>>, PoolFault>
+    requires some { 1 ≤ piece.count }
+    requires within { piece.first + piece.count ≤ 1 + event_total piece.trace.now }
+    ensures started { IfOk result (λ child. child.promise ≡ piece.entry) }
+    ensures refused { IfErr result (λ fault. fault ≡ PoolFault.NoThread) }
+{
+    let job = move || piece_rows(alloc, piece, gate, worker);
+    match scope.spawn_with(piece, job) {
+        Ok(child) => Ok(child),
+        Err(_) => Err(PoolFault::NoThread),
+    }
 }
 
 /// How many rows the workers before this one have.
@@ -67,18 +94,19 @@ fn rows_before(trace: &Trace, worker: usize, workers: usize) -> usize
     trace.events() * worker / workers
 }
 
-/// The rows of two runs in one list. OutOfMemory, of either, before NoThread.
+/// The rows of two runs in one list, or the fault that is reported of both; OutOfMemory also where the list found no memory.
 fn joined_rows(
     own: Result<Vec<Vec<usize>>, OutOfMemory>,
     rest: Result<Vec<Vec<usize>>, PoolFault>,
 ) -> Result<Vec<Vec<usize>>, PoolFault>
     ensures memory { IfErr own (λ _. result ≡ Err PoolFault.OutOfMemory) }
+    ensures rest { IfOk own (λ _. IfErr rest (λ fault. result ≡ Err fault)) }
+    ensures joined { IfOk own (λ _. IfOk rest (λ _. IfErr result (λ fault. fault ≡ PoolFault.OutOfMemory))) }
     ensures rows { (t : TraceValue) (g : Digraph) (first own_count rest_count : ℕ) → IfOk own (λ made. AreRoundRows t g first own_count (rows made.items)) →
         IfOk rest (λ made. AreRoundRows t g (first + own_count) rest_count (rows made.items)) →
         IfOk result (λ made. AreRoundRows t g first (own_count + rest_count) (rows made.items)) }
 {
-    let mut rows = own?;
-    let mut more = rest?;
+    let (mut rows, mut more) = both_answers(own, rest)?;
     rows.append(&mut more)?;
     Ok(rows)
 }
@@ -89,40 +117,31 @@ fn rows_from<'s, E, H: Threads, G: PoolGate + Sync>(
     scope: &'s Scope<'s, E>,
     rt: &H,
     alloc: Global,
-    trace: &'s Trace,
-    graph: &'s Graph,
-    gate: &'s G,
-    workers: usize,
+    round: Round<'s, &'s G>,
     worker: usize,
 ) -> Result<Vec<Vec<usize>>, PoolFault>
-    requires some { 1 ≤ workers }
-    requires most { workers ≤ 64 }
-    requires worker { worker ≤ workers }
-    ensures { IfOk result (λ made. AreRoundRowsFrom trace.now graph.now worker workers (rows made.items)) }
+    requires some { 1 ≤ round.workers }
+    requires most { round.workers ≤ 64 }
+    requires worker { worker ≤ round.workers }
+    ensures { IfOk result (λ made. AreRoundRowsFrom round.entry.trace.now round.entry.graph.now worker round.entry.workers (rows made.items)) }
 {
-    if worker == workers {
+    if worker == round.workers {
         return Ok(Vec::new(alloc));
     }
-    let start = rows_before(trace, worker, workers);
-    let end = rows_before(trace, worker + 1, workers);
+    let start = rows_before(round.trace, worker, round.workers);
+    let end = rows_before(round.trace, worker + 1, round.workers);
     if start == end {
-        return rows_from(scope, rt, alloc, trace, graph, gate, workers, worker + 1);
+        return rows_from(scope, rt, alloc, round, worker + 1);
     }
-    let (first, count) = (start + 1, end - start);
     let piece = Piece {
-        trace,
-        graph,
-        first,
-        count,
+        trace: round.trace,
+        graph: round.graph,
+        first: start + 1,
+        count: end - start,
     };
-    let job = move || piece_rows(alloc, trace, graph, gate, worker, first, count);
-    match scope.spawn_with(piece, job) {
-        Ok(child) => {
-            let rest = rows_from(scope, rt, alloc, trace, graph, gate, workers, worker + 1);
-            joined_rows(child.join(rt), rest)
-        }
-        Err(_) => Err(PoolFault::NoThread),
-    }
+    let child = start_worker(scope, alloc, piece, round.gate, worker)?;
+    let rest = rows_from(scope, rt, alloc, round, worker + 1);
+    joined_rows(child.join(rt), rest)
 }
 
 /// The rows of edges that a round adds to the graph of a rank set, computed by `workers` threads, 1 to 64: row `i` is that
@@ -146,6 +165,14 @@ pub fn shared_rows<H: Threads + Wait, G: PoolGate + Sync>(
             requires some { 1 ≤ workers }
             requires most { workers ≤ 64 }
             ensures { IfOk result (λ made. AreRoundRows trace.entry.now graph.entry.now 1 (event_total trace.entry.now) (rows made.items)) }
-        { rows_from(scope, rt, alloc, trace, graph, gate, workers, 0) },
+        {
+            let round = Round {
+                trace,
+                graph,
+                gate,
+                workers,
+            };
+            rows_from(scope, rt, alloc, round, 0)
+        },
     )
 }

@@ -1,7 +1,12 @@
 use crate::{BaseRule, CertStep, Certificate, InferredRule, NumList, Reason, StepList};
 use std::test::Fail;
 
+<<<<<<< ours
 mod refused_allocations;
+=======
+mod faults;
+mod growths;
+>>>>>>> theirs
 mod texts;
 
 #[test]

@@ -1,4 +1,4 @@
-use crate::{Event, Op, Outcome, Program, Source, Tally, Trace, ValueFault};
+use crate::{Event, Op, Outcome, Program, Refused, Source, Tally, Trace, ValueFault};
 use std::alloc::{AllocError, Global};
 use std::test::Fail;
 
@@ -344,5 +344,26 @@ fn known_lists_need_no_check(rt: HostRuntime) -> Result<(), Fail> {
     assert_eq!(rt; trace.processors(), 0);
     assert_eq!(rt; trace.events(), 0);
     assert_eq!(rt; Program::of_lists(Vec::new(alloc)).processors(), 0);
+    Ok(())
+}
+
+#[test]
+fn texts_of_faults(rt: HostRuntime) -> Result<(), Fail> {
+    let alloc = rt.alloc();
+    for (why, text) in [
+        (ValueFault::TooManyProcessors, "TooManyProcessors"),
+        (ValueFault::TooManyEvents, "TooManyEvents"),
+        (ValueFault::AddressRange, "AddressRange"),
+        (ValueFault::ZeroValue, "ZeroValue"),
+        (ValueFault::RepeatedValue, "RepeatedValue"),
+        (ValueFault::OutOfMemory, "OutOfMemory"),
+    ] {
+        assert_eq!(rt; format!(in alloc; "{why}")?.as_str(), text);
+        let refused = Refused::<Op> {
+            why,
+            lists: Vec::new(alloc),
+        };
+        assert_eq!(rt; format!(in alloc; "{refused}")?.as_str(), text);
+    }
     Ok(())
 }

@@ -7,7 +7,12 @@ use std::test::Fail;
 use tso_ops::Outcome;
 
 mod examples;
+<<<<<<< ours
 mod refused_allocations;
+=======
+mod faults;
+mod growths;
+>>>>>>> theirs
 
 fn trace_fault(alloc: Global, text: &[u8]) -> Option<TextFault> {
     read_trace(alloc, text).err()

@@ -103,3 +103,61 @@ fn rows_are_shared_out(rt: HostRuntime) -> Result<(), Fail> {
     assert_eq!(rt; gate.of_rows.load(Ordering::SeqCst), 0b11_11_10_10_01_01_00);
     Ok(())
 }
+
+/// Four bits for each row below 16: how often the gate was called before it.
+#[derive(Drop)]
+struct Calls {
+    of_rows: AtomicU64,
+}
+
+impl PoolGate for Calls {
+    fn row(&self, _worker: usize, row: usize) {
+        self.of_rows
+            .fetch_add(1 << (4 * (row % 16)), Ordering::SeqCst);
+    }
+}
+
+/// Four rows are computed twice, in the one round that adds edges and in the next, which finds none.
+#[test]
+fn the_gate_is_called_for_each_row(rt: HostRuntime) -> Result<(), Fail> {
+    let alloc = rt.alloc();
+    let trace = store_buffering(alloc)?;
+    for workers in [1, 2, 3, 4, 5, 64] {
+        let gate = Calls {
+            of_rows: AtomicU64::new(0),
+        };
+        let ranked = made(&rt, alloc, &trace, workers, &gate)?;
+        assert_eq!(rt; ranked.rounds(), 1);
+        assert_eq!(rt;
+            gate.of_rows.load(Ordering::SeqCst),
+            0x2_2220,
+            "{workers} workers"
+        );
+    }
+    Ok(())
+}
+
+/// Four bits for each worker below 16: how many rows it computed.
+#[derive(Drop)]
+struct RowsOfWorkers {
+    counts: AtomicU64,
+}
+
+impl PoolGate for RowsOfWorkers {
+    fn row(&self, worker: usize, _row: usize) {
+        self.counts
+            .fetch_add(1 << (4 * (worker % 16)), Ordering::SeqCst);
+    }
+}
+
+/// Of five workers the first has none of four rows, and each other has one in each of two rounds.
+#[test]
+fn a_worker_without_rows_calls_no_gate(rt: HostRuntime) -> Result<(), Fail> {
+    let alloc = rt.alloc();
+    let gate = RowsOfWorkers {
+        counts: AtomicU64::new(0),
+    };
+    made(&rt, alloc, &store_buffering(alloc)?, 5, &gate)?;
+    assert_eq!(rt; gate.counts.load(Ordering::SeqCst), 0x2_2220);
+    Ok(())
+}

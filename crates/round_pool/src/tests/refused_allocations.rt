@@ -1,6 +1,6 @@
-//! Growths refused in turn: `rt try --test --fail-alloc N` refuses the Nth of each test.
+//! Allocations refused in turn: `rt try --test --fail-alloc N` refuses the Nth of each test.
 //!
-//! The call that meets it answers OutOfMemory, or NoThread where the growth was that of a thread's start, and the next
+//! The call that meets it answers OutOfMemory, or NoThread where the allocation was that of a thread's start, and the next
 //! call the ordinary answer.
 
 use super::{compare, made, two_swaps_both_first};

@@ -197,14 +197,3 @@ fn refused_with_their_line(rt: HostRuntime) -> Result<(), Fail> {
     }
     Ok(())
 }
-
-#[test]
-fn refusals_are_written_with_their_line(rt: HostRuntime) -> Result<(), Fail> {
-    let alloc = rt.alloc();
-    let fault = TextFault {
-        line: 7,
-        why: Why::BadRule,
-    };
-    assert_eq!(rt; format!(in alloc; "{fault}")?.as_str(), "BadRule line 7");
-    Ok(())
-}

@@ -4,7 +4,8 @@ use Rattle.std.specs.Global.{Vec}
 use Rattle.std.proofs.lemmas.List.{length-map}
 use Rattle.std.proofs.lemmas.List.Elements.{Contains-get_or}
 use Rattle.tso_ops.specs.Values.{rows}
-use Rattle.round_pool.specs.Rankings.{edge_from, edges_of_rows}
+use Rattle.round_pool.specs.Internal.EdgeLists.{edges_of_rows}
+use Rattle.round_pool.specs.Rankings.{edge_from}
 use Rattle.round_pool.proofs.EdgeFacts.{edges_of_rows-more}
 use Rattle.round_pool.proofs.GraphFacts.{row_at}
 use Rattle.round_pool.proofs.edges.edges_of.Goals as goal

@@ -1,6 +1,6 @@
 use Rattle.std.proofs.Common.{◌≡◌, take}
 use Rattle.tso_ops.specs.Values.{rows}
-use Rattle.round_pool.specs.Rankings.{edges_of_rows}
+use Rattle.round_pool.specs.Internal.EdgeLists.{edges_of_rows}
 use Rattle.round_pool.proofs.edges.edges_of.Given as goal
 
 -- the edges of the rows passed are listed

@@ -4,8 +4,8 @@ use Rattle.std.proofs.lemmas.List.{length-map}
 use Rattle.tso_ops.specs.Values.{rows}
 use Rattle.tso_ops.specs.Events.{event_total}
 use Rattle.tso_ops.proofs.EventFacts.{event_total-bound}
-use Rattle.round_pool.specs.RankGraphs.{AreRowsBelow}
-use Rattle.round_pool.specs.Rankings.{AreNewEdges, edges_of_rows}
+use Rattle.round_pool.specs.Internal.SharedRows.{AreRowsBelow}
+use Rattle.round_pool.specs.Internal.EdgeLists.{AreNewEdges, edges_of_rows}
 use Rattle.round_pool.proofs.EdgeFacts.{round_rows}
 use Rattle.round_pool.proofs.GraphFacts.{rows_below, rows_narrow}
 use Rattle.round_pool.proofs.edges.round_edges.Goals as goal

@@ -1,4 +1,4 @@
-use Rattle.round_pool.specs.Rankings.{IsDifferenceFrom}
+use Rattle.round_pool.specs.Internal.EdgeLists.{IsDifferenceFrom}
 use Rattle.round_pool.proofs.ranked.difference.Given as goal
 
 -- the edges from the numbers passed are added

@@ -1,5 +1,5 @@
 use Rattle.std.proofs.Common.{map}
-use Rattle.round_pool.specs.Rankings.{IsGraphOf}
+use Rattle.round_pool.specs.Internal.EdgeLists.{IsGraphOf}
 use Rattle.round_pool.proofs.ranked.graph_of.Given as goal
 
 -- the edges of the lists passed are added

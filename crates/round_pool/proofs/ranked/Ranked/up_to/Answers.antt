@@ -4,7 +4,8 @@ use Rattle.std.proofs.lemmas.List.{length-map}
 use Rattle.std.proofs.lemmas.Result.{IfOk-weaker}
 use Rattle.round_pool.specs.RankGraphs.{IsRankGraph}
 use Rattle.round_pool.specs.declared.ranked.Edge.{Edge}
-use Rattle.round_pool.specs.Rankings.{Ranking, AreAllWithin, IsGraphOf, IsDifferenceFrom}
+use Rattle.round_pool.specs.Internal.EdgeLists.{AreAllWithin, IsGraphOf, IsDifferenceFrom}
+use Rattle.round_pool.specs.Rankings.{Ranking}
 use Rattle.round_pool.proofs.RankedFacts.{earlier_graph}
 use Rattle.round_pool.proofs.ranked.Ranked.up_to.Goals as goal
 

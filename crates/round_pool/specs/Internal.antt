@@ -1,0 +1,3 @@
+-- What private functions say; no clause of a public call names it.
+pub mod EdgeLists
+pub mod SharedRows
