@@ -1,0 +1,7 @@
+pub mod FoundLemmas
+pub mod KindLemmas
+pub mod ValueLemmas
+pub mod ProgramLemmas
+pub mod JudgeLemmas
+pub mod CheckLemmas
+pub mod SpellingLemmas

@@ -1,0 +1,68 @@
+-- What a parse makes of the arguments before a subcommand, and of requests for help.
+use Rattle.std.proofs.Common.{◌≡◌, ◌∙◌, ◌||◌, refl, sym, true≢false, Bool, true, false, List, [], ◌∷◌, codes}
+use Rattle.std.specs.Str.{bytes_eq}
+use Rattle.std.proofs.lemmas.Slice.Eq.{bytes_eq-Decides}
+use Rattle.clap.specs.Words.{fault_of}
+use Rattle.clap.specs.declared.error.kind.ErrorKind.TheVariants.{DisplayHelp, DisplayVersion, InvalidSubcommand, UnknownArgument}
+use Rattle.clap.proofs.OnLiterals.{clap_on_literals}
+use Rattle.command_line.proofs.ValueLemmas.{IsValue}
+use Rattle.command_line.specs.Requests.{Text}
+use Rattle.command_line.specs.Refusals.{is_subcommand}
+use Rattle.command_line.specs.Commands.{parsed_as, tsobench_app}
+
+pub help_shown : fault_of tsobench_app (codes "--help" ∷ []) ≡ DisplayHelp ∷ []
+unfolding clap_on_literals
+help_shown = refl
+
+pub short_help_shown : fault_of tsobench_app (codes "-h" ∷ []) ≡ DisplayHelp ∷ []
+unfolding clap_on_literals
+short_help_shown = refl
+
+pub judge_help_shown : fault_of tsobench_app (codes "judge" ∷ codes "--help" ∷ []) ≡ DisplayHelp ∷ []
+unfolding clap_on_literals
+judge_help_shown = refl
+
+pub check_help_shown : fault_of tsobench_app (codes "check" ∷ codes "--help" ∷ []) ≡ DisplayHelp ∷ []
+unfolding clap_on_literals
+check_help_shown = refl
+
+pub version_shown : fault_of tsobench_app (codes "--version" ∷ []) ≡ DisplayVersion ∷ []
+unfolding clap_on_literals
+version_shown = refl
+
+pub short_version_shown : fault_of tsobench_app (codes "-V" ∷ []) ≡ DisplayVersion ∷ []
+unfolding clap_on_literals
+short_version_shown = refl
+
+-- two tests for the same bytes, in either order
+other_order : (a b : Text) → bytes_eq a b ≡ false → bytes_eq b a ≡ false
+other_order a b e = go (bytes_eq b a) refl
+  where
+    go : (x : Bool) → bytes_eq b a ≡ x → x ≡ false
+    go false is = refl
+    go true is =
+        let same : bytes_eq a b ≡ true = (bytes_eq-Decides a b).1 (sym ((bytes_eq-Decides b a).0 is)) in
+        absurd (true≢false (sym same ∙ e))
+
+neither : (a b : Bool) → (a || b) ≡ false → (a ≡ false) × (b ≡ false)
+neither false b e = (refl, e)
+neither true b e = absurd (true≢false e)
+
+module _ (first : Text) (is : IsValue first) (unknown : is_subcommand first ≡ false) where
+  -- the argument is none of the names
+  no_judge : bytes_eq (codes "judge") first ≡ false
+  no_judge = other_order first (codes "judge") (neither _ _ unknown).0
+
+  no_check : bytes_eq (codes "check") first ≡ false
+  no_check = other_order first (codes "check") (neither _ _ (neither _ _ unknown).1).0
+
+  no_help : bytes_eq first (codes "help") ≡ false
+  no_help = (neither _ _ (neither _ _ unknown).1).1
+
+  pub unknown_refused : (rest : List Text) → fault_of tsobench_app (first ∷ rest) ≡ UnknownArgument ∷ InvalidSubcommand ∷ []
+  unfolding clap_on_literals
+  unknown_refused rest = rw (no_judge, no_check, other_order first (codes "help") no_help, is.no_escape, is.no_long, is.no_short) refl
+
+  pub parsed_unchanged : (rest : List Text) → parsed_as (first ∷ rest) ≡ first ∷ rest
+  parsed_unchanged [] = rw no_help refl
+  parsed_unchanged (x ∷ xs) = refl

@@ -1,0 +1,4 @@
+pub mod Requests
+pub mod Spellings
+pub mod Refusals
+pub mod Commands

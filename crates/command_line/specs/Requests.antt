@@ -1,0 +1,38 @@
+-- What the arguments of a command line may ask for.
+use Rattle.std.specs.Prelude.{◌≤◌, ℕ, List, map, Option, option_map, String, string_bytes}
+use Rattle.command_line.specs.declared.requests.Request.{Request}
+use Rattle.command_line.specs.declared.requests.Request.TheVariants.{Judge, Check, Show, Refuse}
+
+-- the bytes of a text
+abbrev pub Text : Type 0
+Text = List ℕ
+
+module _ {Z : Type 0} where
+  -- the texts of a list of arguments
+  abbrev pub texts_in : List (String Z) → List Text
+  texts_in = map string_bytes
+
+-- what is asked for
+pub data Asked : Type 0 where
+  -- to judge the trace in a file, or on standard input where none is named, with so many workers
+  judging : Option Text → ℕ → Asked
+  -- to check against the trace in the first file the certificate in the second
+  checking : Text → Text → Asked
+  -- to print the help or the version
+  showing : Asked
+  -- nothing that the program does: the arguments are refused
+  refusing : Asked
+
+-- what a request asks for
+abbrev pub asked_of : Request → Asked
+asked_of (Judge file workers) = judging (option_map (λ f. f.now) file) workers
+asked_of (Check trace certificate) = checking trace.now certificate.now
+asked_of (Show text) = showing
+asked_of (Refuse text) = refusing
+
+-- judging is done by 1 to 64 workers
+abbrev pub HasWorkers : Asked → Type 0
+HasWorkers (judging file workers) = (1 ≤ workers) × (workers ≤ 64)
+HasWorkers (checking trace certificate) = Unit {0}
+HasWorkers showing = Unit {0}
+HasWorkers refusing = Unit {0}

@@ -1,0 +1,54 @@
+-- The plain spellings of requests: which arguments ask for what, in the program's own terms.
+use Rattle.std.specs.Prelude.{◌≡◌, ◌≤◌, ◌==◌, ◌||◌, ℕ, Bool, true, false, not, List, [], ◌∷◌, Option, Some, None, codes}
+use Rattle.std.specs.Fmt.{decimal}
+use Rattle.command_line.specs.Requests.{Text, Asked, judging, checking}
+
+abbrev pub is_empty : Text → Bool
+is_empty [] = true
+is_empty (x ∷ rest) = false
+
+-- a text that names a file: one that doesn't begin with a hyphen (45), or the hyphen alone, which
+-- is a file of that name
+abbrev pub is_file_name : Text → Bool
+is_file_name [] = true
+is_file_name (x ∷ rest) = not (x == 45) || is_empty rest
+
+-- the arguments after `judge` ask for judging a file, or standard input, with so many workers
+pub data AsksToJudge : List Text → Option Text → ℕ → Type 0 where
+  -- judge
+  input : AsksToJudge [] None 1
+  -- judge FILE
+  file : (name : Text) → is_file_name name ≡ true → AsksToJudge (name ∷ []) (Some name) 1
+  -- judge --workers N
+  workers : (n : ℕ) → 1 ≤ n → n ≤ 64 → AsksToJudge (codes "--workers" ∷ decimal n ∷ []) None n
+  -- judge --workers N FILE
+  workers_file : (n : ℕ) (name : Text) → 1 ≤ n → n ≤ 64 → is_file_name name ≡ true
+      → AsksToJudge (codes "--workers" ∷ decimal n ∷ name ∷ []) (Some name) n
+  -- judge FILE --workers N
+  file_workers : (name : Text) (n : ℕ) → 1 ≤ n → n ≤ 64 → is_file_name name ≡ true
+      → AsksToJudge (name ∷ codes "--workers" ∷ decimal n ∷ []) (Some name) n
+
+-- the arguments after `check` ask for checking a trace's certificate
+pub data AsksToCheck : List Text → Text → Text → Type 0 where
+  -- check TRACE CERT
+  files : (trace certificate : Text) → is_file_name trace ≡ true → is_file_name certificate ≡ true
+      → AsksToCheck (trace ∷ certificate ∷ []) trace certificate
+
+-- the arguments ask for this
+pub data Asks : List Text → Asked → Type 0 where
+  -- no arguments: standard input, with one worker
+  nothing : Asks [] (judging None 1)
+  judge : (rest : List Text) (named : Option Text) (n : ℕ) → AsksToJudge rest named n
+      → Asks (codes "judge" ∷ rest) (judging named n)
+  check : (rest : List Text) (trace certificate : Text) → AsksToCheck rest trace certificate
+      → Asks (codes "check" ∷ rest) (checking trace certificate)
+
+-- the arguments ask for the help or for the version
+pub data AsksHelp : List Text → Type 0 where
+  help : AsksHelp (codes "help" ∷ [])
+  help_option : AsksHelp (codes "--help" ∷ [])
+  help_short : AsksHelp (codes "-h" ∷ [])
+  judge_help : AsksHelp (codes "judge" ∷ codes "--help" ∷ [])
+  check_help : AsksHelp (codes "check" ∷ codes "--help" ∷ [])
+  version_option : AsksHelp (codes "--version" ∷ [])
+  version_short : AsksHelp (codes "-V" ∷ [])

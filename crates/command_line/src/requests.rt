@@ -1,0 +1,97 @@
+//! What the arguments of a command line ask for.
+ghost use Rattle.std.specs.Prelude.{◌≡◌, ◌≢◌, IfOk, IsErr, OnErr};
+ghost use Rattle.clap.specs.Words.{FailsBy, app_of, fault_of, kind_of, subcommand_of, subcommand_rows_of};
+ghost use Rattle.clap.specs.declared.error.kind.ErrorKind.TheVariants.{OutOfMemory};
+ghost use Rattle.command_line.specs.Requests.{Asked, HasWorkers, asked_of, refusing, showing, texts_in};
+ghost use Rattle.command_line.specs.Spellings.{Asks, AsksHelp};
+ghost use Rattle.command_line.specs.Refusals.{Refuses};
+ghost use Rattle.command_line.specs.Commands.{IsAskedBy, asked_at, is_help, parsed_as, tsobench_app};
+
+use crate::commands::tsobench_command;
+use crate::found::request;
+use clap::error::ErrorKind;
+use clap::{ArgMatches, Error};
+use std::alloc::{AllocError, Global};
+
+/// What the arguments of a command line ask for.
+#[derive(Debug, Drop)]
+pub enum Request<'a> {
+    /// To judge the trace in this file, or else on standard input, with 1 to 64 workers.
+    Judge {
+        file: Option<&'a str>,
+        workers: usize,
+    },
+    /// To check the certificate in one file against the trace in another.
+    Check {
+        trace: &'a str,
+        certificate: &'a str,
+    },
+    /// To print this text on standard output: the help or the version that was asked for.
+    Show(String),
+    /// To refuse the arguments, with this text for standard error.
+    Refuse(String),
+}
+
+/// What these arguments ask for; the program's name is none of them.
+///
+/// Its only error is that memory ran out, and it may come for any arguments.
+pub fn read_arguments<'a>(alloc: Global, arguments: &'a [String]) -> Result<Request<'a>, AllocError>
+    ensures parsed { let arguments = parsed_as (texts_in arguments.now) in
+        IfOk result (λ request. IsAskedBy (fault_of tsobench_app arguments)
+        (subcommand_of tsobench_app arguments) (asked_of request)) }
+    ensures plain { (asked : Asked) → Asks (texts_in arguments.now) asked
+        → IfOk result (λ request. asked_of request ≡ asked) }
+    ensures helped { AsksHelp (texts_in arguments.now)
+        → IfOk result (λ request. asked_of request ≡ showing) }
+    ensures refused { Refuses (texts_in arguments.now)
+        → IfOk result (λ request. asked_of request ≡ refusing) }
+    ensures workers { IfOk result (λ request. HasWorkers (asked_of request)) }
+{
+    match matches(alloc, arguments) {
+        Ok(matches) => Ok(request(&matches)),
+        Err(error) => text_request(alloc, &error),
+    }
+}
+
+/// The argument that asks for the help of the program.
+static HELP: [&str; 1] = ["--help"];
+
+/// What the command line of the program makes of the arguments.
+fn matches<'a>(alloc: Global, arguments: &'a [String]) -> Result<ArgMatches<'a>, Error>
+    ensures found { IfOk result (λ found. subcommand_rows_of found
+        ≡ subcommand_of tsobench_app (parsed_as (texts_in arguments.now))) }
+    ensures kinds { FailsBy (fault_of tsobench_app (parsed_as (texts_in arguments.now))) result }
+{
+    let command = tsobench_command(alloc)?;
+    if is_help(arguments) {
+        return command.try_get_matches_from(HELP.as_slice());
+    }
+    command.try_get_matches_from(arguments)
+}
+
+/// Whether the only argument is `help`. It is parsed as `--help`, of which `clap` promises more and which gives the
+/// same text.
+fn is_help(arguments: &[String]) -> bool
+    ensures { result ≡ is_help (texts_in arguments.now) }
+{
+    match arguments {
+        [argument] => argument.as_str() == "help",
+        _ => false,
+    }
+}
+
+/// The text that the arguments lead to in place of matches: the help or the version, or their refusal.
+fn text_request<'a>(alloc: Global, error: &Error) -> Result<Request<'a>, AllocError>
+    ensures asked { IfOk result (λ request. asked_of request ≡ asked_at (kind_of error.now)) }
+    ensures memory { kind_of error.now ≡ OutOfMemory → IsErr result }
+{
+    if error.kind() == ErrorKind::OutOfMemory {
+        return Err(AllocError);
+    }
+    let text = format!(in alloc; "{error}")?;
+    if error.use_stderr() {
+        Ok(Request::Refuse(text))
+    } else {
+        Ok(Request::Show(text))
+    }
+}

@@ -1,0 +1,218 @@
+use crate::{Request, read_arguments};
+use std::alloc::{AllocError, Global};
+use std::test::Fail;
+
+/// What a request is, as one line of text with the texts that it shows.
+fn described(alloc: Global, request: &Request<'_>) -> Result<String, AllocError> {
+    match request {
+        Request::Judge {
+            file: None,
+            workers,
+        } => format!(in alloc; "judge standard input with {workers}"),
+        Request::Judge {
+            file: Some(file),
+            workers,
+        } => format!(in alloc; "judge {file:?} with {workers}"),
+        Request::Check { trace, certificate } => {
+            format!(in alloc; "check {trace:?} against {certificate:?}")
+        }
+        Request::Show(text) => format!(in alloc; "show {text}"),
+        Request::Refuse(text) => format!(in alloc; "refuse {text}"),
+    }
+}
+
+/// What these arguments ask for.
+fn asked(alloc: Global, arguments: &[&str]) -> Result<String, AllocError> {
+    let mut owned = Vec::new(alloc);
+    for argument in arguments {
+        owned.push(String::from_str(alloc, argument)?)?;
+    }
+    described(alloc, &read_arguments(alloc, &owned)?)
+}
+
+#[test]
+fn plain_arguments(rt: HostRuntime) -> Result<(), Fail> {
+    let cases: [(&[&str], &str); 10] = [
+        (&[], "judge standard input with 1"),
+        (&["judge"], "judge standard input with 1"),
+        (&["judge", "a.trace"], "judge \"a.trace\" with 1"),
+        (&["judge", "-"], "judge \"-\" with 1"),
+        (
+            &["judge", "--workers", "64"],
+            "judge standard input with 64",
+        ),
+        (&["judge", "--workers", "7", "a b"], "judge \"a b\" with 7"),
+        (&["judge", "a b", "--workers", "7"], "judge \"a b\" with 7"),
+        (&["judge", "--workers=2", "--", "-x"], "judge \"-x\" with 2"),
+        (&["judge", "check"], "judge \"check\" with 1"),
+        (&["check", "t", "c"], "check \"t\" against \"c\""),
+    ];
+    for (arguments, request) in cases {
+        assert_eq!(rt;
+            asked(rt.alloc(), arguments)?.as_str(),
+            request,
+            "{arguments:?}"
+        );
+    }
+    Ok(())
+}
+
+#[test]
+fn help_and_version(rt: HostRuntime) -> Result<(), Fail> {
+    let cases: [(&[&str], &str); 9] = [
+        (&["--help"], PROGRAM_HELP),
+        (&["-h"], PROGRAM_HELP),
+        (&["help"], PROGRAM_HELP),
+        (&["judge", "--help"], JUDGE_HELP),
+        (&["help", "judge"], JUDGE_HELP),
+        (&["check", "--help"], CHECK_HELP),
+        (&["help", "check"], CHECK_HELP),
+        (&["--version"], "tsobench 0.1.0\n"),
+        (&["-V"], "tsobench 0.1.0\n"),
+    ];
+    for (arguments, text) in cases {
+        let wanted = format!(in rt.alloc(); "show {text}")?;
+        assert_eq!(rt;
+            asked(rt.alloc(), arguments)?.as_str(),
+            wanted.as_str(),
+            "{arguments:?}"
+        );
+    }
+    Ok(())
+}
+
+#[test]
+fn refused_arguments(rt: HostRuntime) -> Result<(), Fail> {
+    let cases: [(&[&str], &str); 7] = [
+        (
+            &["seek", "judge"],
+            "error: unrecognized subcommand 'seek'\n\nUsage: tsobench [COMMAND]\n\nFor more information, try '--help'.\n",
+        ),
+        (
+            &["help", "seek"],
+            "error: unrecognized subcommand 'seek'\n\nUsage: tsobench [COMMAND]\n\nFor more information, try '--help'.\n",
+        ),
+        (
+            &["judge", "--workers", "65"],
+            "error: invalid value '65' for '--workers <N>': 65 is not in 1..=64\n\nFor more information, try '--help'.\n",
+        ),
+        (
+            &["judge", "--workers", "0"],
+            "error: invalid value '0' for '--workers <N>': 0 is not in 1..=64\n\nFor more information, try '--help'.\n",
+        ),
+        (
+            &["judge", "a", "b"],
+            "error: unexpected argument 'b' found\n\nUsage: tsobench judge [OPTIONS] [FILE]\n\nFor more information, try '--help'.\n",
+        ),
+        (
+            &["check", "a"],
+            "error: the following required arguments were not provided:\n  <CERT>\n\nUsage: tsobench check <TRACE> <CERT>\n\nFor more information, try '--help'.\n",
+        ),
+        (
+            &["check"],
+            "error: the following required arguments were not provided:\n  <TRACE>\n  <CERT>\n\nUsage: tsobench check <TRACE> <CERT>\n\nFor more information, try '--help'.\n",
+        ),
+    ];
+    for (arguments, text) in cases {
+        let wanted = format!(in rt.alloc(); "refuse {text}")?;
+        assert_eq!(rt;
+            asked(rt.alloc(), arguments)?.as_str(),
+            wanted.as_str(),
+            "{arguments:?}"
+        );
+    }
+    Ok(())
+}
+
+const PROGRAM_HELP: &str = "\
+Judges traces of multiprocessor memory operations against Total Store Order (TSO)
+
+Usage: tsobench [COMMAND]
+
+Commands:
+  judge  Judges a trace and prints its report
+  check  Checks a certificate of a violation against its trace
+  help   Print this message or the help of the given subcommand(s)
+
+Options:
+  -h, --help     Print help
+  -V, --version  Print version
+
+Without arguments it judges the trace on standard input, with one worker.
+
+A trace says what each processor loaded, stored and swapped, and the values
+that it read:
+
+  tso trace 1
+  proc
+  st 1 1
+  ld 1 1
+  end
+
+Exit status:
+  0  no violation was found, which proves nothing about the trace
+  2  a text or the command line was refused
+  3  the trace violates TSO, or the certificate holds
+  4  a fault, which one line on standard error names
+
+Example:
+  tsobench < TRACE
+";
+
+const JUDGE_HELP: &str = "\
+Judges a trace and prints its report
+
+Usage: tsobench judge [OPTIONS] [FILE]
+
+Arguments:
+  [FILE]  The text of a trace; standard input where none is named
+
+Options:
+      --workers <N>  How many workers judge, 1 to 64 [default: 1]
+  -h, --help         Print help
+
+It reads the text of a trace, at most 1,048,576 bytes, and prints its report:
+two lines with the numbers of processors, events and rounds, and then
+NO VIOLATION FOUND, or VIOLATION and the certificate, which `tsobench check`
+can check. A text that is no trace gets one line, as REFUSED BadLine line 3.
+The report is the same for each number of workers. A FILE that is a hyphen
+alone is a file of that name.
+
+Exit status:
+  0  no violation was found, which proves nothing about the trace
+  2  the text is no trace, or the command line was refused
+  3  the trace violates TSO
+  4  a fault, which one line on standard error names, as FAULT Read
+
+Example:
+  tsobench judge --workers 4 TRACE
+";
+
+const CHECK_HELP: &str = "\
+Checks a certificate of a violation against its trace
+
+Usage: tsobench check <TRACE> <CERT>
+
+Arguments:
+  <TRACE>  The text of a trace
+  <CERT>   The text of a certificate
+
+Options:
+  -h, --help  Print help
+
+It reads the text of a trace and that of a certificate, at most 67,108,864
+bytes, as it stands in a report after the line VIOLATION. It prints one line:
+CERTIFICATE HOLDS, which proves that no order of the trace meets TSO, or
+CERTIFICATE REFUSED and why. A text that is no trace gets a line as
+REFUSED BadLine line 3, and the certificate isn't read. Both files are opened
+before one is read.
+
+Exit status:
+  2  the trace, the certificate or the command line was refused
+  3  the certificate holds: the trace violates TSO
+  4  a fault, which one line on standard error names, as FAULT Read
+
+Example:
+  tsobench judge TRACE | sed '1,/^VIOLATION$/d' > CERT
+  tsobench check TRACE CERT
+";
