@@ -1,11 +1,13 @@
 -- The plain spellings ask for what their definitions say.
-use Rattle.std.proofs.Common.{◌≡◌, ◌∙◌, ◌≤◌, ◌<◌, ◌^◌, ap, subst, inl, inr, arith, ℕ, false, List, [], ◌∷◌, Option, Some, None, codes}
+use Rattle.std.proofs.Common.{◌≡◌, ◌∙◌, ◌≤◌, ◌<◌, ◌^◌, ap, subst, inl, inr, arith, ℕ, true, false, List, [], ◌∷◌, ◌++◌, Option, Some, None, codes}
 use Rattle.std.specs.Fmt.{decimal}
+use Rattle.clap.specs.ValueTests.{accepts}
+use Rattle.clap.specs.declared.builder.value_parser.ValueParser.TheVariants as parser
 use Rattle.clap.specs.Words.{Kinds, Row, fault_of, subcommand_of}
 use Rattle.clap.specs.declared.error.kind.ErrorKind.{ErrorKind}
 use Rattle.clap.specs.declared.error.kind.ErrorKind.TheVariants.{InvalidSubcommand, UnknownArgument}
 use Rattle.command_line.specs.Requests.{Text, Asked, judging, refusing, showing}
-use Rattle.command_line.specs.Spellings.{Asks, AsksHelp, AsksToJudge, AsksToCheck, is_file_name}
+use Rattle.command_line.specs.Spellings.{Asks, AsksHelp, AsksToJudge, NamesWorkers, AsksToCheck, is_file_name}
 use Rattle.command_line.specs.Spellings as asks
 use Rattle.command_line.specs.Refusals.{Refuses, RefusesToJudge, RefusesToCheck, IsRefusedNumber}
 use Rattle.command_line.specs.Refusals as refuses
@@ -45,27 +47,46 @@ small_number n most = (omega arith, omega arith)
 workers_same : (n : ℕ) → 1 ≤ n → n ≤ 64 → within_workers (number_in (decimal n)) ≡ n
 workers_same n least most = ap within_workers (number_in-decimal n (small_number n most).0) ∙ within_workers-same n least most
 
+-- what is proved of both spellings of a number of workers, before and after more arguments
+module _ (n : ℕ) (least : 1 ≤ n) (most : n ≤ 64) where
+  value : IsValue (decimal n)
+  value = decimal_is_value n (small_number n most).1
+
+  passes : accepts false (parser.Unsigned 1 64) (decimal n) ≡ true
+  passes = decimal_passes 1 64 n least most (small_number n most).0
+
+  workers_is : (option : List Text) (asked : Asked) → NamesWorkers n option → IsParsed (codes "judge" ∷ option) asked → asked ≡ judging None n
+  workers_is option asked asks.apart is =
+      by_matches _ asked _ (judge.apart_taken (decimal n) value passes) is ∙ judge.apart_asked (decimal n) value ∙ ap (judging None) (workers_same n least most)
+  workers_is option asked asks.joined is =
+      by_matches _ asked _ (judge.joined_taken (decimal n) value passes) is ∙ judge.joined_asked (decimal n) value ∙ ap (judging None) (workers_same n least most)
+
+  module _ (name : Text) (file : IsValue name) where
+    workers_file_is : (option : List Text) (asked : Asked) → NamesWorkers n option → IsParsed (codes "judge" ∷ (option ++ name ∷ [])) asked → asked ≡ judging (Some name) n
+    workers_file_is option asked asks.apart is =
+        by_matches _ asked _ (judge.apart_file_taken (decimal n) name value file passes) is ∙ judge.apart_file_asked (decimal n) name value file
+        ∙ ap (judging (Some name)) (workers_same n least most)
+    workers_file_is option asked asks.joined is =
+        by_matches _ asked _ (judge.joined_file_taken (decimal n) name value file passes) is ∙ judge.joined_file_asked (decimal n) name value file
+        ∙ ap (judging (Some name)) (workers_same n least most)
+
+    file_workers_is : (option : List Text) (asked : Asked) → NamesWorkers n option → IsParsed (codes "judge" ∷ name ∷ option) asked → asked ≡ judging (Some name) n
+    file_workers_is option asked asks.apart is =
+        by_matches _ asked _ (judge.file_apart_taken (decimal n) name value file passes) is ∙ judge.file_apart_asked (decimal n) name value file
+        ∙ ap (judging (Some name)) (workers_same n least most)
+    file_workers_is option asked asks.joined is =
+        by_matches _ asked _ (judge.file_joined_taken (decimal n) name value file passes) is ∙ judge.file_joined_asked (decimal n) name value file
+        ∙ ap (judging (Some name)) (workers_same n least most)
+
 judge_is : (rest : List Text) (named : Option Text) (n : ℕ) (asked : Asked) → AsksToJudge rest named n → IsParsed (codes "judge" ∷ rest) asked → asked ≡ judging named n
 judge_is rest named n asked asks.input is = by_matches _ asked _ judge.judge_taken is ∙ judge.judge_asked
 judge_is rest named n asked (asks.file name file) is =
     by_matches _ asked _ (judge.file_taken name (file_is_value name file)) is ∙ judge.file_asked name (file_is_value name file)
-judge_is rest named n asked (asks.workers m least most) is =
-    let value = decimal_is_value m (small_number m most).1 in
-    let passes = decimal_passes 1 64 m least most (small_number m most).0 in
-    by_matches _ asked _ (judge.workers_taken (decimal m) value passes) is ∙ judge.workers_asked (decimal m) value passes
-    ∙ ap (judging None) (workers_same m least most)
-judge_is rest named n asked (asks.workers_file m name least most file) is =
-    let value = decimal_is_value m (small_number m most).1 in
-    let passes = decimal_passes 1 64 m least most (small_number m most).0 in
-    by_matches _ asked _ (judge.workers_file_taken (decimal m) value passes name (file_is_value name file)) is
-    ∙ judge.workers_file_asked (decimal m) value passes name (file_is_value name file)
-    ∙ ap (judging (Some name)) (workers_same m least most)
-judge_is rest named n asked (asks.file_workers name m least most file) is =
-    let value = decimal_is_value m (small_number m most).1 in
-    let passes = decimal_passes 1 64 m least most (small_number m most).0 in
-    by_matches _ asked _ (judge.file_workers_taken (decimal m) value passes name (file_is_value name file)) is
-    ∙ judge.file_workers_asked (decimal m) value passes name (file_is_value name file)
-    ∙ ap (judging (Some name)) (workers_same m least most)
+judge_is rest named n asked (asks.workers m option names least most) is = workers_is m least most option asked names is
+judge_is rest named n asked (asks.workers_file m option name names least most file) is =
+    workers_file_is m least most name (file_is_value name file) option asked names is
+judge_is rest named n asked (asks.file_workers m option name names least most file) is =
+    file_workers_is m least most name (file_is_value name file) option asked names is
 
 pub plain_is : (arguments : List Text) (wanted asked : Asked) → Asks arguments wanted → IsParsed arguments asked → asked ≡ wanted
 plain_is arguments wanted asked asks.nothing is = by_matches _ asked _ judge.nothing_taken is
@@ -91,13 +112,29 @@ outside : (n : ℕ) → IsRefusedNumber n → 1 ≤ n → n ≤ 64 → ⊥
 outside n (inl zero) least most = omega arith
 outside n (inr above) least most = omega arith
 
+module _ (n : ℕ) (wrong : IsRefusedNumber n) (small : n < 10 ^ 64) where
+  fails : accepts false (parser.Unsigned 1 64) (decimal n) ≡ false
+  fails = decimal_fails 1 64 n (outside n wrong) small
+
+  number_refused : (option : List Text) (asked : Asked) → NamesWorkers n option → IsParsed (codes "judge" ∷ option) asked → asked ≡ refusing
+  number_refused option asked asks.apart is = by_kind _ asked _ _ (judge.apart_refused (decimal n) (decimal_is_value n small) fails) is
+  number_refused option asked asks.joined is = by_kind _ asked _ _ (judge.joined_refused (decimal n) (decimal_is_value n small) fails) is
+
+  module _ (name : Text) (file : IsValue name) where
+    number_file_refused : (option : List Text) (asked : Asked) → NamesWorkers n option → IsParsed (codes "judge" ∷ (option ++ name ∷ [])) asked → asked ≡ refusing
+    number_file_refused option asked asks.apart is = by_kind _ asked _ _ (judge.apart_file_refused (decimal n) name (decimal_is_value n small) file fails) is
+    number_file_refused option asked asks.joined is = by_kind _ asked _ _ (judge.joined_file_refused (decimal n) name (decimal_is_value n small) file fails) is
+
+    file_number_refused : (option : List Text) (asked : Asked) → NamesWorkers n option → IsParsed (codes "judge" ∷ name ∷ option) asked → asked ≡ refusing
+    file_number_refused option asked asks.apart is = by_kind _ asked _ _ (judge.file_apart_refused (decimal n) name (decimal_is_value n small) file fails) is
+    file_number_refused option asked asks.joined is = by_kind _ asked _ _ (judge.file_joined_refused (decimal n) name (decimal_is_value n small) file fails) is
+
 judge_refused : (rest : List Text) (asked : Asked) → RefusesToJudge rest → IsParsed (codes "judge" ∷ rest) asked → asked ≡ refusing
-judge_refused rest asked (refuses.number n wrong small) is =
-    by_kind _ asked _ _ (judge.number_refused (decimal n) (decimal_is_value n small) (decimal_fails 1 64 n (outside n wrong) small)) is
-judge_refused rest asked (refuses.number_file n name wrong small file) is =
-    by_kind _ asked _ _ (judge.number_file_refused (decimal n) (decimal_is_value n small) (decimal_fails 1 64 n (outside n wrong) small) name (file_is_value name file)) is
-judge_refused rest asked (refuses.file_number name n wrong small file) is =
-    by_kind _ asked _ _ (judge.file_number_refused (decimal n) (decimal_is_value n small) (decimal_fails 1 64 n (outside n wrong) small) name (file_is_value name file)) is
+judge_refused rest asked (refuses.number n option names wrong small) is = number_refused n wrong small option asked names is
+judge_refused rest asked (refuses.number_file n option name names wrong small file) is =
+    number_file_refused n wrong small name (file_is_value name file) option asked names is
+judge_refused rest asked (refuses.file_number n option name names wrong small file) is =
+    file_number_refused n wrong small name (file_is_value name file) option asked names is
 judge_refused rest asked (refuses.second_file name other file other_file) is =
     by_kind _ asked _ _ (judge.second_refused name other (file_is_value name file) (file_is_value other other_file)) is
 

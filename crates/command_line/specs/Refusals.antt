@@ -1,29 +1,29 @@
 -- Plain arguments that are refused, in the program's own terms.
-use Rattle.std.specs.Prelude.{◌≡◌, ◌<◌, ◌^◌, ◌⊎◌, ◌||◌, ℕ, Bool, true, false, List, [], ◌∷◌, codes}
-use Rattle.std.specs.Fmt.{decimal}
+use Rattle.std.specs.Prelude.{◌≡◌, ◌<◌, ◌^◌, ◌⊎◌, ◌||◌, ℕ, Bool, true, false, List, [], ◌∷◌, ◌++◌, codes}
 use Rattle.std.specs.Str.{bytes_eq}
 use Rattle.command_line.specs.Requests.{Text}
-use Rattle.command_line.specs.Spellings.{is_file_name}
+use Rattle.command_line.specs.Spellings.{NamesWorkers, is_file_name}
 
 -- the text is the name of a subcommand
 abbrev pub is_subcommand : Text → Bool
 is_subcommand text =
     bytes_eq text (codes "judge") || (bytes_eq text (codes "check") || bytes_eq text (codes "help"))
 
--- a number of workers that is refused: 0, and above 64
+-- a number of workers that is refused: 0, and above 64. A number of more than 64 digits is not spoken of below.
 abbrev pub IsRefusedNumber : ℕ → Type 0
 IsRefusedNumber n = (n ≡ 0) ⊎ (64 < n)
 
 -- the arguments after `judge` are refused
 pub data RefusesToJudge : List Text → Type 0 where
   -- judge --workers N
-  number : (n : ℕ) → IsRefusedNumber n → n < 10 ^ 64 → RefusesToJudge (codes "--workers" ∷ decimal n ∷ [])
+  number : (n : ℕ) (option : List Text) → NamesWorkers n option → IsRefusedNumber n → n < 10 ^ 64
+      → RefusesToJudge option
   -- judge --workers N FILE
-  number_file : (n : ℕ) (name : Text) → IsRefusedNumber n → n < 10 ^ 64 → is_file_name name ≡ true
-      → RefusesToJudge (codes "--workers" ∷ decimal n ∷ name ∷ [])
+  number_file : (n : ℕ) (option : List Text) (name : Text) → NamesWorkers n option → IsRefusedNumber n
+      → n < 10 ^ 64 → is_file_name name ≡ true → RefusesToJudge (option ++ name ∷ [])
   -- judge FILE --workers N
-  file_number : (name : Text) (n : ℕ) → IsRefusedNumber n → n < 10 ^ 64 → is_file_name name ≡ true
-      → RefusesToJudge (name ∷ codes "--workers" ∷ decimal n ∷ [])
+  file_number : (n : ℕ) (option : List Text) (name : Text) → NamesWorkers n option → IsRefusedNumber n
+      → n < 10 ^ 64 → is_file_name name ≡ true → RefusesToJudge (name ∷ option)
   -- judge FILE FILE
   second_file : (name other : Text) → is_file_name name ≡ true → is_file_name other ≡ true
       → RefusesToJudge (name ∷ other ∷ [])

@@ -1,5 +1,5 @@
 -- The plain spellings of requests: which arguments ask for what, in the program's own terms.
-use Rattle.std.specs.Prelude.{◌≡◌, ◌≤◌, ◌==◌, ◌||◌, ℕ, Bool, true, false, not, List, [], ◌∷◌, Option, Some, None, codes}
+use Rattle.std.specs.Prelude.{◌≡◌, ◌≤◌, ◌==◌, ◌||◌, ℕ, Bool, true, false, not, List, [], ◌∷◌, ◌++◌, Option, Some, None, codes}
 use Rattle.std.specs.Fmt.{decimal}
 use Rattle.command_line.specs.Requests.{Text, Asked, judging, checking}
 
@@ -13,6 +13,13 @@ abbrev pub is_file_name : Text → Bool
 is_file_name [] = true
 is_file_name (x ∷ rest) = not (x == 45) || is_empty rest
 
+-- the option that names a number of workers, in its two spellings; the number in digits, without a leading zero
+pub data NamesWorkers (n : ℕ) : List Text → Type 0 where
+  -- --workers N
+  apart : NamesWorkers n (codes "--workers" ∷ decimal n ∷ [])
+  -- --workers=N
+  joined : NamesWorkers n ((codes "--workers=" ++ decimal n) ∷ [])
+
 -- the arguments after `judge` ask for judging a file, or standard input, with so many workers
 pub data AsksToJudge : List Text → Option Text → ℕ → Type 0 where
   -- judge
@@ -20,13 +27,14 @@ pub data AsksToJudge : List Text → Option Text → ℕ → Type 0 where
   -- judge FILE
   file : (name : Text) → is_file_name name ≡ true → AsksToJudge (name ∷ []) (Some name) 1
   -- judge --workers N
-  workers : (n : ℕ) → 1 ≤ n → n ≤ 64 → AsksToJudge (codes "--workers" ∷ decimal n ∷ []) None n
+  workers : (n : ℕ) (option : List Text) → NamesWorkers n option → 1 ≤ n → n ≤ 64
+      → AsksToJudge option None n
   -- judge --workers N FILE
-  workers_file : (n : ℕ) (name : Text) → 1 ≤ n → n ≤ 64 → is_file_name name ≡ true
-      → AsksToJudge (codes "--workers" ∷ decimal n ∷ name ∷ []) (Some name) n
+  workers_file : (n : ℕ) (option : List Text) (name : Text) → NamesWorkers n option → 1 ≤ n → n ≤ 64
+      → is_file_name name ≡ true → AsksToJudge (option ++ name ∷ []) (Some name) n
   -- judge FILE --workers N
-  file_workers : (name : Text) (n : ℕ) → 1 ≤ n → n ≤ 64 → is_file_name name ≡ true
-      → AsksToJudge (name ∷ codes "--workers" ∷ decimal n ∷ []) (Some name) n
+  file_workers : (n : ℕ) (option : List Text) (name : Text) → NamesWorkers n option → 1 ≤ n → n ≤ 64
+      → is_file_name name ≡ true → AsksToJudge (name ∷ option) (Some name) n
 
 -- the arguments after `check` ask for checking a trace's certificate
 pub data AsksToCheck : List Text → Text → Text → Type 0 where
