@@ -47,7 +47,7 @@ small_number n most = (omega arith, omega arith)
 workers_same : (n : ℕ) → 1 ≤ n → n ≤ 64 → within_workers (number_in (decimal n)) ≡ n
 workers_same n least most = ap within_workers (number_in-decimal n (small_number n most).0) ∙ within_workers-same n least most
 
--- what is proved of both spellings of a number of workers, before and after more arguments
+-- a number of workers in both spellings, alone, before a file and after one
 module _ (n : ℕ) (least : 1 ≤ n) (most : n ≤ 64) where
   value : IsValue (decimal n)
   value = decimal_is_value n (small_number n most).1

@@ -1,24 +1,24 @@
 -- The plain spellings of requests: which arguments ask for what, in the program's own terms.
-use Rattle.std.specs.Prelude.{◌≡◌, ◌≤◌, ◌==◌, ◌||◌, ℕ, Bool, true, false, not, List, [], ◌∷◌, ◌++◌, Option, Some, None, codes}
+use Rattle.std.specs.Prelude.{◌≡◌, ◌≤◌, ◌==◌, ℕ, Bool, true, not, List, [], ◌∷◌, ◌++◌, Option, Some, None, codes}
 use Rattle.std.specs.Fmt.{decimal}
 use Rattle.command_line.specs.Requests.{Text, Asked, judging, checking}
 
-abbrev pub is_empty : Text → Bool
-is_empty [] = true
-is_empty (x ∷ rest) = false
-
--- a text that names a file: one that doesn't begin with a hyphen (45), or the hyphen alone, which
--- is a file of that name
+-- a text that names a file: one that doesn't begin with a hyphen (45), or the hyphen alone, which is a file of that name
 abbrev pub is_file_name : Text → Bool
 is_file_name [] = true
-is_file_name (x ∷ rest) = not (x == 45) || is_empty rest
+is_file_name (first ∷ []) = true
+is_file_name (first ∷ second ∷ rest) = not (first == 45)
 
--- the option that names a number of workers, in its two spellings; the number in digits, without a leading zero
-pub data NamesWorkers (n : ℕ) : List Text → Type 0 where
-  -- --workers N
-  apart : NamesWorkers n (codes "--workers" ∷ decimal n ∷ [])
-  -- --workers=N
-  joined : NamesWorkers n ((codes "--workers=" ++ decimal n) ∷ [])
+-- an option with its value
+pub data NamesOption (name value : Text) : List Text → Type 0 where
+  -- --name value
+  apart : NamesOption name value ((codes "--" ++ name) ∷ value ∷ [])
+  -- --name=value
+  joined : NamesOption name value ((codes "--" ++ name ++ codes "=" ++ value) ∷ [])
+
+-- the option `--workers` with a number of workers, which is written in digits, without a leading zero
+abbrev pub NamesWorkers : ℕ → List Text → Type 0
+NamesWorkers n = NamesOption (codes "workers") (decimal n)
 
 -- the arguments after `judge` ask for judging a file, or standard input, with so many workers
 pub data AsksToJudge : List Text → Option Text → ℕ → Type 0 where

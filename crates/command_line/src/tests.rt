@@ -32,7 +32,7 @@ fn asked(alloc: Global, arguments: &[&str]) -> Result<String, AllocError> {
 
 #[test]
 fn plain_arguments(rt: HostRuntime) -> Result<(), Fail> {
-    let cases: [(&[&str], &str); 10] = [
+    let cases: [(&[&str], &str); 12] = [
         (&[], "judge standard input with 1"),
         (&["judge"], "judge standard input with 1"),
         (&["judge", "a.trace"], "judge \"a.trace\" with 1"),
@@ -44,6 +44,11 @@ fn plain_arguments(rt: HostRuntime) -> Result<(), Fail> {
         (&["judge", "--workers", "7", "a b"], "judge \"a b\" with 7"),
         (&["judge", "a b", "--workers", "7"], "judge \"a b\" with 7"),
         (&["judge", "--workers=2", "--", "-x"], "judge \"-x\" with 2"),
+        (&["judge", "--workers=64", "x"], "judge \"x\" with 64"),
+        (
+            &["judge", "--workers", "+007"],
+            "judge standard input with 7",
+        ),
         (&["judge", "check"], "judge \"check\" with 1"),
         (&["check", "t", "c"], "check \"t\" against \"c\""),
     ];
