@@ -1,5 +1,6 @@
 pub mod FoundLemmas
 pub mod KindLemmas
+pub mod ParseLemmas
 pub mod ValueLemmas
 pub mod ProgramLemmas
 pub mod JudgeLemmas

@@ -89,14 +89,8 @@ fn help_and_version(rt: HostRuntime) -> Result<(), Fail> {
 #[test]
 fn refused_arguments(rt: HostRuntime) -> Result<(), Fail> {
     let cases: [(&[&str], &str); 7] = [
-        (
-            &["seek", "judge"],
-            "error: unrecognized subcommand 'seek'\n\nUsage: tsobench [COMMAND]\n\nFor more information, try '--help'.\n",
-        ),
-        (
-            &["help", "seek"],
-            "error: unrecognized subcommand 'seek'\n\nUsage: tsobench [COMMAND]\n\nFor more information, try '--help'.\n",
-        ),
+        (&["seek", "judge"], UNKNOWN),
+        (&["help", "seek"], UNKNOWN),
         (
             &["judge", "--workers", "65"],
             "error: invalid value '65' for '--workers <N>': 65 is not in 1..=64\n\nFor more information, try '--help'.\n",
@@ -128,6 +122,9 @@ fn refused_arguments(rt: HostRuntime) -> Result<(), Fail> {
     }
     Ok(())
 }
+
+const UNKNOWN: &str =
+    "error: unrecognized subcommand 'seek'\n\nUsage: tsobench [COMMAND]\n\nFor more information, try '--help'.\n";
 
 const PROGRAM_HELP: &str = "\
 Judges traces of multiprocessor memory operations against Total Store Order (TSO)
