@@ -1,46 +1,25 @@
 -- The plain spellings of requests: which arguments ask for what, in the program's own terms.
-use Rattle.std.specs.Prelude.{◌≡◌, ◌≤◌, ◌==◌, ℕ, Bool, true, not, List, [], ◌∷◌, ◌++◌, Option, Some, None, codes}
+use Rattle.std.specs.Prelude.{◌≡◌, ◌≤◌, ℕ, List, [], ◌∷◌, Option, None, codes, option_to_list}
 use Rattle.std.specs.Fmt.{decimal}
+use Rattle.command_line.specs.Options.{AreGiven}
 use Rattle.command_line.specs.Requests.{Text, Asked, judging, checking}
 
--- a text that names a file: one that doesn't begin with a hyphen (45), or the hyphen alone, which is a file of that name
-abbrev pub is_file_name : Text → Bool
-is_file_name [] = true
-is_file_name (first ∷ []) = true
-is_file_name (first ∷ second ∷ rest) = not (first == 45)
+-- the options of `judge`: none, for one worker, or a number of workers, in digits without a leading zero
+abbrev pub AsksWorkers : List (Text × Text) → ℕ → Type 0
+AsksWorkers [] n = n ≡ 1
+AsksWorkers (option ∷ []) n = (option ≡ (codes "workers", decimal n)) × (1 ≤ n) × (n ≤ 64)
+AsksWorkers (option ∷ second ∷ others) n = ⊥
 
--- an option with its value
-pub data NamesOption (name value : Text) : List Text → Type 0 where
-  -- --name value
-  apart : NamesOption name value ((codes "--" ++ name) ∷ value ∷ [])
-  -- --name=value
-  joined : NamesOption name value ((codes "--" ++ name ++ codes "=" ++ value) ∷ [])
+-- the arguments after `judge`, as `[--workers N] [FILE]`, ask for judging a file, or standard input, with n workers. A
+-- file that is a hyphen alone is a file of that name.
+pub record AsksToJudge (arguments : List Text) (file : Option Text) (n : ℕ) : Type 0 where
+  pub options : List (Text × Text)
+  pub given : AreGiven options (option_to_list file) arguments
+  pub workers : AsksWorkers options n
 
--- the option `--workers` with a number of workers, which is written in digits, without a leading zero
-abbrev pub NamesWorkers : ℕ → List Text → Type 0
-NamesWorkers n = NamesOption (codes "workers") (decimal n)
-
--- the arguments after `judge` ask for judging a file, or standard input, with so many workers
-pub data AsksToJudge : List Text → Option Text → ℕ → Type 0 where
-  -- judge
-  input : AsksToJudge [] None 1
-  -- judge FILE
-  file : (name : Text) → is_file_name name ≡ true → AsksToJudge (name ∷ []) (Some name) 1
-  -- judge --workers N
-  workers : (n : ℕ) (option : List Text) → NamesWorkers n option → 1 ≤ n → n ≤ 64
-      → AsksToJudge option None n
-  -- judge --workers N FILE
-  workers_file : (n : ℕ) (option : List Text) (name : Text) → NamesWorkers n option → 1 ≤ n → n ≤ 64
-      → is_file_name name ≡ true → AsksToJudge (option ++ name ∷ []) (Some name) n
-  -- judge FILE --workers N
-  file_workers : (n : ℕ) (option : List Text) (name : Text) → NamesWorkers n option → 1 ≤ n → n ≤ 64
-      → is_file_name name ≡ true → AsksToJudge (name ∷ option) (Some name) n
-
--- the arguments after `check` ask for checking a trace's certificate
-pub data AsksToCheck : List Text → Text → Text → Type 0 where
-  -- check TRACE CERT
-  files : (trace certificate : Text) → is_file_name trace ≡ true → is_file_name certificate ≡ true
-      → AsksToCheck (trace ∷ certificate ∷ []) trace certificate
+-- the arguments after `check`, as `TRACE CERT`, ask for checking a trace's certificate
+abbrev pub AsksToCheck : List Text → Text → Text → Type 0
+AsksToCheck arguments trace certificate = AreGiven [] (trace ∷ certificate ∷ []) arguments
 
 -- the arguments ask for this
 pub data Asks : List Text → Asked → Type 0 where
