@@ -1,75 +1,134 @@
 -- What a parse makes of the arguments after `judge`.
-use Rattle.std.proofs.Common.{◌≡◌, refl, true, false, [], ◌∷◌, Some, None, codes}
+use Rattle.std.proofs.Common.{◌≡◌, ◌∙◌, ◌<◌, ◌^◌, ap, refl, subst, sym, inl, inr, arith, ℕ, true, false, List, [], ◌∷◌, Option, Some, None, codes}
+use Rattle.std.specs.Fmt.{decimal}
+use Rattle.std.specs.List.{fold}
+use Rattle.std.specs.Option.{option_to_list}
+use Rattle.clap.specs.Faults.{check_fault, defaults_fault}
+use Rattle.clap.specs.Kinds.{or_else}
+use Rattle.clap.specs.Simple.{Shape, filled, with_index}
 use Rattle.clap.specs.ValueTests.{accepts}
-use Rattle.clap.specs.declared.builder.value_parser.ValueParser.TheVariants as parser
-use Rattle.clap.specs.declared.error.kind.ErrorKind.TheVariants.{UnknownArgument, ValueValidation}
+use Rattle.clap.specs.Walk.{Row, Rule, with_default}
 use Rattle.clap.specs.Words.{fault_of, subcommand_of}
+use Rattle.clap.specs.declared.builder.value_parser.ValueParser.TheVariants as parser
 use Rattle.clap.proofs.OnLiterals.{clap_on_literals}
-use Rattle.command_line.proofs.ValueLemmas.{IsValue}
+use Rattle.command_line.specs.Commands.{asked_by, file_rule, judge_app, judging_by, number_in, tsobench_app, within_workers, workers_rule}
+use Rattle.command_line.specs.Options.{AreGiven}
 use Rattle.command_line.specs.Requests.{Text, judging}
-use Rattle.command_line.specs.Commands.{asked_by, number_in, tsobench_app, within_workers}
+use Rattle.command_line.specs.Spellings.{AsksToJudge, AsksWorkers}
+use Rattle.command_line.proofs.OptionLemmas.{Gives, IsOption, Placed, TakesOne, gives_of, level_fault_uses, merges_left, merges_right, merges_two, no_option, no_other, offered, placed, rows_after_uses, used_all, uses_fault}
+use Rattle.command_line.proofs.SubcommandLemmas.{built_below, judge_fault, judge_found}
+use Rattle.command_line.proofs.ValueLemmas.{decimal_passes, number_in-decimal, within_workers-same}
 
-pub nothing_taken : fault_of tsobench_app [] ≡ []
+abbrev pub judge : Shape
+judge = built_below judge_app
+
+abbrev workers_built : Rule
+workers_built = filled workers_rule
+
+abbrev file_built : Rule
+file_built = with_index 1 (filled file_rule)
+
+workers_offered : IsOption judge.rules workers_built (codes "workers")
+workers_offered = record {
+  takes = record { by_id = refl; same_id = refl; most = refl; single = refl };
+  by_long = refl;
+  no_escape = refl;
+  long = refl;
+  no_escape_joined = λ value. refl;
+  long_joined = λ value. refl;
+}
+
+file_taken : TakesOne judge.rules file_built
+file_taken = record { by_id = refl; same_id = refl; most = refl; single = refl }
+
+file_placed : (name : Text) → Placed judge 1 (name ∷ []) ((file_built, name) ∷ [])
+file_placed name = placed 1 file_built name [] [] file_taken refl refl refl (no_other 2)
+
+-- nothing fails at these uses, and they ask for that
+pub record AreJudging (uses : List (Rule × Text)) (file : Option Text) (n : ℕ) : Type 0 where
+  pub passes : uses_fault false uses [] ≡ []
+  pub ends : or_else (defaults_fault (used_all uses []) judge.rules) (check_fault judge (fold with_default (used_all uses []) judge.rules) false) ≡ []
+  pub asks : judging_by (fold with_default (used_all uses []) judge.rules) ≡ judging file n
+
+no_use : AreJudging [] None 1
 unfolding clap_on_literals
-nothing_taken = refl
+no_use = record { passes = refl; ends = refl; asks = refl }
 
-pub judge_taken : fault_of tsobench_app (codes "judge" ∷ []) ≡ []
+file_use : (name : Text) → AreJudging ((file_built, name) ∷ []) (Some name) 1
 unfolding clap_on_literals
-judge_taken = refl
+file_use name = record { passes = refl; ends = refl; asks = refl }
 
-pub judge_asked : asked_by (subcommand_of tsobench_app (codes "judge" ∷ [])) ≡ judging None 1
-unfolding clap_on_literals
-judge_asked = refl
+module _ (number : Text) (passes : accepts false (parser.Unsigned 1 64) number ≡ true) where
+  abbrev n : ℕ
+  n = within_workers (number_in number)
 
-pub file_taken : (file : Text) → IsValue file → fault_of tsobench_app (codes "judge" ∷ file ∷ []) ≡ []
-unfolding clap_on_literals
-file_taken file is = rw (is.no_escape, is.no_long, is.no_short) refl
-
-pub file_asked : (file : Text) → IsValue file → asked_by (subcommand_of tsobench_app (codes "judge" ∷ file ∷ [])) ≡ judging (Some file) 1
-unfolding clap_on_literals
-file_asked file is = rw (is.no_escape, is.no_long, is.no_short) refl
-
-module _ (number : Text) (is_number : IsValue number) (passes : accepts false (parser.Unsigned 1 64) number ≡ true) where
-  pub workers_taken : fault_of tsobench_app (codes "judge" ∷ codes "--workers" ∷ number ∷ []) ≡ []
+  workers_use : AreJudging ((workers_built, number) ∷ []) None n
   unfolding clap_on_literals
-  workers_taken = rw (is_number.no_escape, is_number.no_long, is_number.no_short, passes) refl
+  workers_use = record { passes = rw passes refl; ends = refl; asks = refl }
 
-  pub workers_asked : asked_by (subcommand_of tsobench_app (codes "judge" ∷ codes "--workers" ∷ number ∷ [])) ≡ judging None (within_workers (number_in number))
+  workers_file_use : (name : Text) → AreJudging ((workers_built, number) ∷ (file_built, name) ∷ []) (Some name) n
   unfolding clap_on_literals
-  workers_asked = rw (is_number.no_escape, is_number.no_long, is_number.no_short) refl
+  workers_file_use name = record { passes = rw passes refl; ends = refl; asks = refl }
 
-  module _ (file : Text) (is : IsValue file) where
-    pub workers_file_taken : fault_of tsobench_app (codes "judge" ∷ codes "--workers" ∷ number ∷ file ∷ []) ≡ []
-    unfolding clap_on_literals
-    workers_file_taken = rw (is_number.no_escape, is_number.no_long, is_number.no_short, is.no_escape, is.no_long, is.no_short, passes) refl
-
-    pub workers_file_asked : asked_by (subcommand_of tsobench_app (codes "judge" ∷ codes "--workers" ∷ number ∷ file ∷ [])) ≡ judging (Some file) (within_workers (number_in number))
-    unfolding clap_on_literals
-    workers_file_asked = rw (is_number.no_escape, is_number.no_long, is_number.no_short, is.no_escape, is.no_long, is.no_short) refl
-
-    pub file_workers_taken : fault_of tsobench_app (codes "judge" ∷ file ∷ codes "--workers" ∷ number ∷ []) ≡ []
-    unfolding clap_on_literals
-    file_workers_taken = rw (is.no_escape, is.no_long, is.no_short, is_number.no_escape, is_number.no_long, is_number.no_short, passes) refl
-
-    pub file_workers_asked : asked_by (subcommand_of tsobench_app (codes "judge" ∷ file ∷ codes "--workers" ∷ number ∷ [])) ≡ judging (Some file) (within_workers (number_in number))
-    unfolding clap_on_literals
-    file_workers_asked = rw (is.no_escape, is.no_long, is.no_short, is_number.no_escape, is_number.no_long, is_number.no_short) refl
-
--- a file after a file
-pub second_refused : (file other : Text) → IsValue file → IsValue other → fault_of tsobench_app (codes "judge" ∷ file ∷ other ∷ []) ≡ UnknownArgument ∷ []
-unfolding clap_on_literals
-second_refused file other is is_other = rw (is.no_escape, is.no_long, is.no_short, is_other.no_escape, is_other.no_long, is_other.no_short) refl
-
-module _ (number : Text) (is_number : IsValue number) (fails : accepts false (parser.Unsigned 1 64) number ≡ false) where
-  pub number_refused : fault_of tsobench_app (codes "judge" ∷ codes "--workers" ∷ number ∷ []) ≡ ValueValidation ∷ []
+  file_workers_use : (name : Text) → AreJudging ((file_built, name) ∷ (workers_built, number) ∷ []) (Some name) n
   unfolding clap_on_literals
-  number_refused = rw (is_number.no_escape, is_number.no_long, is_number.no_short, fails) refl
+  file_workers_use name = record { passes = rw passes refl; ends = refl; asks = refl }
 
-  module _ (file : Text) (is : IsValue file) where
-    pub number_file_refused : fault_of tsobench_app (codes "judge" ∷ codes "--workers" ∷ number ∷ file ∷ []) ≡ ValueValidation ∷ []
-    unfolding clap_on_literals
-    number_file_refused = rw (is_number.no_escape, is_number.no_long, is_number.no_short, is.no_escape, is.no_long, is.no_short, fails) refl
+-- the uses that the arguments give
+pub record JudgingUses (arguments : List Text) (file : Option Text) (n : ℕ) : Type 0 where
+  pub uses : List (Rule × Text)
+  pub gives : Gives judge 1 uses arguments
+  pub are : AreJudging uses file n
 
-    pub file_number_refused : fault_of tsobench_app (codes "judge" ∷ file ∷ codes "--workers" ∷ number ∷ []) ≡ ValueValidation ∷ []
-    unfolding clap_on_literals
-    file_number_refused = rw (is.no_escape, is.no_long, is.no_short, is_number.no_escape, is_number.no_long, is_number.no_short, fails) refl
+by_uses : (arguments : List Text) (file : Option Text) (n : ℕ) (uses wanted : List (Rule × Text)) → Gives judge 1 uses arguments → uses ≡ wanted → AreJudging wanted file n
+    → JudgingUses arguments file n
+by_uses arguments file n uses wanted gives is are =
+    record { uses = wanted; gives = subst (λ (u : List (Rule × Text)). Gives judge 1 u arguments) is gives; are = are }
+
+unnamed : (arguments : List Text) (file : Option Text) → AreGiven [] (option_to_list file) arguments → JudgingUses arguments file 1
+unnamed arguments None given =
+    let some = gives_of judge 1 [] [] arguments [] [] given no_option (no_other 1) in
+    by_uses arguments None 1 some.uses [] some.gives (merges_right _ _ _ some.merges refl) no_use
+unnamed arguments (Some name) given =
+    let some = gives_of judge 1 [] (name ∷ []) arguments [] ((file_built, name) ∷ []) given no_option (file_placed name) in
+    by_uses arguments (Some name) 1 some.uses ((file_built, name) ∷ []) some.gives (merges_right _ _ _ some.merges refl) (file_use name)
+
+module _ (number : Text) (passes : accepts false (parser.Unsigned 1 64) number ≡ true) (arguments : List Text) where
+  abbrev workers_in_range : ℕ
+  workers_in_range = within_workers (number_in number)
+
+  numbered : (file : Option Text) → AreGiven ((codes "workers", number) ∷ []) (option_to_list file) arguments → JudgingUses arguments file workers_in_range
+  numbered None given =
+      let offers = offered workers_built (codes "workers") number [] [] workers_offered no_option in
+      let some = gives_of judge 1 _ [] arguments ((workers_built, number) ∷ []) [] given offers (no_other 1) in
+      by_uses arguments None workers_in_range some.uses ((workers_built, number) ∷ []) some.gives (merges_left _ _ _ some.merges refl) (workers_use number passes)
+  numbered (Some name) given =
+      let offers = offered workers_built (codes "workers") number [] [] workers_offered no_option in
+      let some = gives_of judge 1 _ (name ∷ []) arguments ((workers_built, number) ∷ []) ((file_built, name) ∷ []) given offers (file_placed name) in
+      elim (merges_two _ _ _ (workers_built, number) (file_built, name) some.merges refl refl) [
+        | inl is ↦ by_uses arguments (Some name) workers_in_range some.uses _ some.gives is (workers_file_use number passes name)
+        | inr is ↦ by_uses arguments (Some name) workers_in_range some.uses _ some.gives is (file_workers_use number passes name)
+      ]
+
+uses_of : (options : List (Text × Text)) (arguments : List Text) (file : Option Text) (n : ℕ) → AreGiven options (option_to_list file) arguments → AsksWorkers options n
+    → JudgingUses arguments file n
+uses_of [] arguments file n given is = subst (λ (m : ℕ). JudgingUses arguments file m) (sym is) (unnamed arguments file given)
+uses_of (option ∷ []) arguments file n given is =
+    let small : n < 2 ^ 64 = omega (arith, is.2) in
+    let same : within_workers (number_in (decimal n)) ≡ n = ap within_workers (number_in-decimal n small) ∙ within_workers-same n is.1 is.2 in
+    let named = subst (λ (o : Text × Text). AreGiven (o ∷ []) (option_to_list file) arguments) is.0 given in
+    subst (λ (m : ℕ). JudgingUses arguments file m) same (numbered (decimal n) (decimal_passes 1 64 n is.1 is.2 small) arguments file named)
+uses_of (option ∷ other ∷ others) arguments file n given is = absurd is
+
+-- what is asked for by arguments that ask for judging
+module _ (arguments : List Text) (file : Option Text) (n : ℕ) (asks : AsksToJudge arguments file n) where
+  found : JudgingUses arguments file n
+  found = uses_of asks.options arguments file n asks.given asks.workers
+
+  pub judge_taken : fault_of tsobench_app (codes "judge" ∷ arguments) ≡ []
+  judge_taken = judge_fault arguments
+      ∙ ap (λ kinds. or_else kinds []) (level_fault_uses judge found.uses arguments found.gives found.are.passes ∙ found.are.ends)
+
+  pub judge_asked : asked_by (subcommand_of tsobench_app (codes "judge" ∷ arguments)) ≡ judging file n
+  judge_asked = ap asked_by (judge_found arguments)
+      ∙ ap (λ (rows : List Row). asked_by (Some (codes "judge", rows))) (rows_after_uses judge found.uses arguments found.gives found.are.passes) ∙ found.are.asks

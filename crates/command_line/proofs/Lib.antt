@@ -1,7 +1,12 @@
 pub mod FoundLemmas
 pub mod KindLemmas
+pub mod ParseLemmas
 pub mod ValueLemmas
+pub mod OptionLemmas
+pub mod SubcommandLemmas
 pub mod ProgramLemmas
 pub mod JudgeLemmas
 pub mod CheckLemmas
+pub mod JudgeRefusals
+pub mod CheckRefusals
 pub mod SpellingLemmas

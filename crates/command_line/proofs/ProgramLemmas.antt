@@ -10,6 +10,10 @@ use Rattle.command_line.specs.Requests.{Text}
 use Rattle.command_line.specs.Refusals.{is_subcommand}
 use Rattle.command_line.specs.Commands.{parsed_as, tsobench_app}
 
+pub nothing_taken : fault_of tsobench_app [] ≡ []
+unfolding clap_on_literals
+nothing_taken = refl
+
 pub help_shown : fault_of tsobench_app (codes "--help" ∷ []) ≡ DisplayHelp ∷ []
 unfolding clap_on_literals
 help_shown = refl

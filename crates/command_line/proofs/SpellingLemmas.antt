@@ -1,19 +1,26 @@
 -- The plain spellings ask for what their definitions say.
-use Rattle.std.proofs.Common.{◌≡◌, ◌∙◌, ◌≤◌, ◌<◌, ◌^◌, ap, subst, inl, inr, arith, ℕ, false, List, [], ◌∷◌, Option, Some, None, codes}
+use Rattle.std.proofs.Common.{◌≡◌, ◌∙◌, ◌≤◌, ◌<◌, ◌^◌, subst, inl, inr, arith, ℕ, false, List, [], ◌∷◌, ◌++◌, Option, codes}
 use Rattle.std.specs.Fmt.{decimal}
+use Rattle.clap.specs.ValueTests.{accepts}
+use Rattle.clap.specs.declared.builder.value_parser.ValueParser.TheVariants as parser
 use Rattle.clap.specs.Words.{Kinds, Row, fault_of, subcommand_of}
 use Rattle.clap.specs.declared.error.kind.ErrorKind.{ErrorKind}
 use Rattle.clap.specs.declared.error.kind.ErrorKind.TheVariants.{InvalidSubcommand, UnknownArgument}
-use Rattle.command_line.specs.Requests.{Text, Asked, judging, refusing, showing}
-use Rattle.command_line.specs.Spellings.{Asks, AsksHelp, AsksToJudge, AsksToCheck, is_file_name}
+use Rattle.command_line.specs.Requests.{Text, Asked, refusing, showing}
+use Rattle.command_line.specs.Options.{NamesOption}
+use Rattle.command_line.specs.Options as given
+use Rattle.command_line.specs.Spellings.{Asks, AsksHelp}
 use Rattle.command_line.specs.Spellings as asks
 use Rattle.command_line.specs.Refusals.{Refuses, RefusesToJudge, RefusesToCheck, IsRefusedNumber}
 use Rattle.command_line.specs.Refusals as refuses
-use Rattle.command_line.specs.Commands.{IsAskedBy, asked_at, asked_by, number_in, parsed_as, tsobench_app, within_workers}
-use Rattle.command_line.proofs.ValueLemmas.{IsValue, decimal_fails, decimal_is_value, decimal_passes, file_is_value, number_in-decimal, within_workers-same}
+use Rattle.command_line.specs.Commands.{IsAskedBy, asked_at, asked_by, parsed_as, tsobench_app}
+use Rattle.command_line.proofs.ValueLemmas.{IsValue, decimal_fails, decimal_is_value, value_is}
 use Rattle.command_line.proofs.ProgramLemmas as program
+use Rattle.command_line.proofs.SubcommandLemmas as subcommand
 use Rattle.command_line.proofs.JudgeLemmas as judge
+use Rattle.command_line.proofs.JudgeRefusals as not_judged
 use Rattle.command_line.proofs.CheckLemmas as check
+use Rattle.command_line.proofs.CheckRefusals as not_checked
 
 -- what a parse of the arguments says of what is asked for
 abbrev pub IsParsed : List Text → Asked → Type 0
@@ -39,40 +46,19 @@ module _ (found : Option (Text × List Row)) (asked : Asked) where
 
 -- ---- plain requests
 
-small_number : (n : ℕ) → n ≤ 64 → (n < 2 ^ 64) × (n < 10 ^ 64)
-small_number n most = (omega arith, omega arith)
-
-workers_same : (n : ℕ) → 1 ≤ n → n ≤ 64 → within_workers (number_in (decimal n)) ≡ n
-workers_same n least most = ap within_workers (number_in-decimal n (small_number n most).0) ∙ within_workers-same n least most
-
-judge_is : (rest : List Text) (named : Option Text) (n : ℕ) (asked : Asked) → AsksToJudge rest named n → IsParsed (codes "judge" ∷ rest) asked → asked ≡ judging named n
-judge_is rest named n asked asks.input is = by_matches _ asked _ judge.judge_taken is ∙ judge.judge_asked
-judge_is rest named n asked (asks.file name file) is =
-    by_matches _ asked _ (judge.file_taken name (file_is_value name file)) is ∙ judge.file_asked name (file_is_value name file)
-judge_is rest named n asked (asks.workers m least most) is =
-    let value = decimal_is_value m (small_number m most).1 in
-    let passes = decimal_passes 1 64 m least most (small_number m most).0 in
-    by_matches _ asked _ (judge.workers_taken (decimal m) value passes) is ∙ judge.workers_asked (decimal m) value passes
-    ∙ ap (judging None) (workers_same m least most)
-judge_is rest named n asked (asks.workers_file m name least most file) is =
-    let value = decimal_is_value m (small_number m most).1 in
-    let passes = decimal_passes 1 64 m least most (small_number m most).0 in
-    by_matches _ asked _ (judge.workers_file_taken (decimal m) value passes name (file_is_value name file)) is
-    ∙ judge.workers_file_asked (decimal m) value passes name (file_is_value name file)
-    ∙ ap (judging (Some name)) (workers_same m least most)
-judge_is rest named n asked (asks.file_workers name m least most file) is =
-    let value = decimal_is_value m (small_number m most).1 in
-    let passes = decimal_passes 1 64 m least most (small_number m most).0 in
-    by_matches _ asked _ (judge.file_workers_taken (decimal m) value passes name (file_is_value name file)) is
-    ∙ judge.file_workers_asked (decimal m) value passes name (file_is_value name file)
-    ∙ ap (judging (Some name)) (workers_same m least most)
+-- what is asked for by the arguments that are parsed as they stand
+unchanged : (arguments : List Text) (asked : Asked) → parsed_as arguments ≡ arguments → IsParsed arguments asked
+    → IsAskedBy (fault_of tsobench_app arguments) (subcommand_of tsobench_app arguments) asked
+unchanged arguments asked same is = subst (λ (a : List Text). IsAskedBy (fault_of tsobench_app a) (subcommand_of tsobench_app a) asked) same is
 
 pub plain_is : (arguments : List Text) (wanted asked : Asked) → Asks arguments wanted → IsParsed arguments asked → asked ≡ wanted
-plain_is arguments wanted asked asks.nothing is = by_matches _ asked _ judge.nothing_taken is
-plain_is arguments wanted asked (asks.judge rest named n h) is = judge_is rest named n asked h is
-plain_is arguments wanted asked (asks.check rest trace certificate (asks.files t c is_trace is_certificate)) is =
-    by_matches _ asked _ (check.files_taken t (file_is_value t is_trace) c (file_is_value c is_certificate)) is
-    ∙ check.files_asked t (file_is_value t is_trace) c (file_is_value c is_certificate)
+plain_is arguments wanted asked asks.nothing is = by_matches _ asked _ program.nothing_taken is
+plain_is arguments wanted asked (asks.judge rest file n h) is =
+    by_matches _ asked _ (judge.judge_taken rest file n h) (unchanged (codes "judge" ∷ rest) asked (subcommand.judge_parsed rest) is)
+    ∙ judge.judge_asked rest file n h
+plain_is arguments wanted asked (asks.check rest trace certificate h) is =
+    by_matches _ asked _ (check.check_taken trace certificate rest h) (unchanged (codes "check" ∷ rest) asked (subcommand.check_parsed rest) is)
+    ∙ check.check_asked trace certificate rest h
 
 -- ---- requests for a text
 
@@ -91,21 +77,37 @@ outside : (n : ℕ) → IsRefusedNumber n → 1 ≤ n → n ≤ 64 → ⊥
 outside n (inl zero) least most = omega arith
 outside n (inr above) least most = omega arith
 
+module _ (n : ℕ) (wrong : IsRefusedNumber n) (small : n < 10 ^ 64) where
+  fails : accepts false (parser.Unsigned 1 64) (decimal n) ≡ false
+  fails = decimal_fails 1 64 n (outside n wrong) small
+
+  number_refused : (option : List Text) (asked : Asked) → NamesOption (codes "workers") (decimal n) option → IsParsed (codes "judge" ∷ option) asked → asked ≡ refusing
+  number_refused option asked (given.apart plain) is = by_kind _ asked _ _ (not_judged.apart_refused (decimal n) (decimal_is_value n small) fails) is
+  number_refused option asked given.joined is = by_kind _ asked _ _ (not_judged.joined_refused (decimal n) (decimal_is_value n small) fails) is
+
+  module _ (name : Text) (file : IsValue name) where
+    number_file_refused : (option : List Text) (asked : Asked) → NamesOption (codes "workers") (decimal n) option → IsParsed (codes "judge" ∷ (option ++ name ∷ [])) asked → asked ≡ refusing
+    number_file_refused option asked (given.apart plain) is = by_kind _ asked _ _ (not_judged.apart_file_refused (decimal n) name (decimal_is_value n small) file fails) is
+    number_file_refused option asked given.joined is = by_kind _ asked _ _ (not_judged.joined_file_refused (decimal n) name (decimal_is_value n small) file fails) is
+
+    file_number_refused : (option : List Text) (asked : Asked) → NamesOption (codes "workers") (decimal n) option → IsParsed (codes "judge" ∷ name ∷ option) asked → asked ≡ refusing
+    file_number_refused option asked (given.apart plain) is = by_kind _ asked _ _ (not_judged.file_apart_refused (decimal n) name (decimal_is_value n small) file fails) is
+    file_number_refused option asked given.joined is = by_kind _ asked _ _ (not_judged.file_joined_refused (decimal n) name (decimal_is_value n small) file fails) is
+
 judge_refused : (rest : List Text) (asked : Asked) → RefusesToJudge rest → IsParsed (codes "judge" ∷ rest) asked → asked ≡ refusing
-judge_refused rest asked (refuses.number n wrong small) is =
-    by_kind _ asked _ _ (judge.number_refused (decimal n) (decimal_is_value n small) (decimal_fails 1 64 n (outside n wrong) small)) is
-judge_refused rest asked (refuses.number_file n name wrong small file) is =
-    by_kind _ asked _ _ (judge.number_file_refused (decimal n) (decimal_is_value n small) (decimal_fails 1 64 n (outside n wrong) small) name (file_is_value name file)) is
-judge_refused rest asked (refuses.file_number name n wrong small file) is =
-    by_kind _ asked _ _ (judge.file_number_refused (decimal n) (decimal_is_value n small) (decimal_fails 1 64 n (outside n wrong) small) name (file_is_value name file)) is
+judge_refused rest asked (refuses.number n option names wrong small) is = number_refused n wrong small option asked names is
+judge_refused rest asked (refuses.number_file n option name names wrong small file) is =
+    number_file_refused n wrong small name (value_is name file) option asked names is
+judge_refused rest asked (refuses.file_number n option name names wrong small file) is =
+    file_number_refused n wrong small name (value_is name file) option asked names is
 judge_refused rest asked (refuses.second_file name other file other_file) is =
-    by_kind _ asked _ _ (judge.second_refused name other (file_is_value name file) (file_is_value other other_file)) is
+    by_kind _ asked _ _ (not_judged.second_refused name other (value_is name file) (value_is other other_file)) is
 
 check_refused : (rest : List Text) (asked : Asked) → RefusesToCheck rest → IsParsed (codes "check" ∷ rest) asked → asked ≡ refusing
-check_refused rest asked refuses.no_files is = by_kind _ asked _ _ check.check_refused is
-check_refused rest asked (refuses.no_certificate trace is_trace) is = by_kind _ asked _ _ (check.trace_refused trace (file_is_value trace is_trace)) is
+check_refused rest asked refuses.no_files is = by_kind _ asked _ _ not_checked.check_refused is
+check_refused rest asked (refuses.no_certificate trace is_trace) is = by_kind _ asked _ _ (not_checked.trace_refused trace (value_is trace is_trace)) is
 check_refused rest asked (refuses.third_file trace certificate other is_trace is_certificate is_other) is =
-    by_kind _ asked _ _ (check.third_refused trace (file_is_value trace is_trace) certificate (file_is_value certificate is_certificate) other (file_is_value other is_other)) is
+    by_kind _ asked _ _ (not_checked.third_refused trace (value_is trace is_trace) certificate (value_is certificate is_certificate) other (value_is other is_other)) is
 
 unknown_refused : (first : Text) (rest : List Text) (asked : Asked) (value : IsValue first) → refuses.is_subcommand first ≡ false → IsParsed (first ∷ rest) asked → asked ≡ refusing
 unknown_refused first rest asked value unknown is =
@@ -115,6 +117,6 @@ unknown_refused first rest asked value unknown is =
     stray_kinds found asked (subst (λ (k : Kinds). IsAskedBy k found asked) (program.unknown_refused first value unknown rest) parsed)
 
 pub refused_is : (arguments : List Text) (asked : Asked) → Refuses arguments → IsParsed arguments asked → asked ≡ refusing
-refused_is arguments asked (refuses.unknown first rest file unknown) is = unknown_refused first rest asked (file_is_value first file) unknown is
+refused_is arguments asked (refuses.unknown first rest file unknown) is = unknown_refused first rest asked (value_is first file) unknown is
 refused_is arguments asked (refuses.judge rest h) is = judge_refused rest asked h is
 refused_is arguments asked (refuses.check rest h) is = check_refused rest asked h is

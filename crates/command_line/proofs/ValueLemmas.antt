@@ -1,5 +1,5 @@
 -- Names of files and numbers are values, and no options.
-use Rattle.std.proofs.Common.{◌≡◌, ◌∙◌, ◌≤◌, ◌<◌, ◌^◌, ◌==◌, ◌||◌, ap, refl, sym, true≢false, arith, ℕ, Bool, true, false, not, [], ◌∷◌, None, drop, cond, ◌-◌}
+use Rattle.std.proofs.Common.{◌≡◌, ◌∙◌, ◌≤◌, ◌<◌, ◌^◌, ◌==◌, ap, refl, sym, true≢false, arith, ℕ, Bool, true, false, not, [], ◌∷◌, None, drop, cond, ◌-◌}
 use Rattle.std.specs.Fmt.{decimal}
 use Rattle.std.specs.Str.{bytes_eq}
 use Rattle.std.specs.Str.Parse.{IsNumeral, digits_value, without_leading_plus}
@@ -11,7 +11,7 @@ use Rattle.clap.specs.ValueTests.{accepts}
 use Rattle.clap.specs.declared.builder.value_parser.ValueParser.TheVariants as parser
 use Rattle.clap.proofs.ValueTestLemmas.{accepts-Accepts, Accepts-accepts}
 use Rattle.command_line.specs.Requests.{Text}
-use Rattle.command_line.specs.Spellings.{is_empty, is_file_name}
+use Rattle.command_line.specs.Options.{is_value}
 use Rattle.command_line.specs.Commands.{number_in, within_workers}
 
 -- an argument that is no option, as a parse sees it
@@ -23,14 +23,18 @@ pub record IsValue (argument : Text) : Type 0 where
 plain_value : (x : ℕ) (rest : Text) → (x == 45) ≡ false → IsValue (x ∷ rest)
 plain_value x rest other = record { no_long = rw other refl; no_short = rw other refl; no_escape = rw other refl }
 
-pub file_is_value : (name : Text) → is_file_name name ≡ true → IsValue name
-file_is_value [] is = record { no_long = refl; no_short = refl; no_escape = refl }
-file_is_value (x ∷ rest) is = go (x == 45) refl rest is
+pub value_is : (name : Text) → is_value name ≡ true → IsValue name
+value_is [] is = record { no_long = refl; no_short = refl; no_escape = refl }
+value_is (x ∷ []) is = go (x == 45) refl
   where
-    go : (b : Bool) → (x == 45) ≡ b → (rest : Text) → (not b || is_empty rest) ≡ true → IsValue (x ∷ rest)
-    go false e rest h = plain_value x rest e
-    go true e [] h = record { no_long = rw e refl; no_short = rw e refl; no_escape = rw e refl }
-    go true e (y ∷ ys) h = absurd (true≢false (sym h))
+    go : (b : Bool) → (x == 45) ≡ b → IsValue (x ∷ [])
+    go false e = plain_value x [] e
+    go true e = record { no_long = rw e refl; no_short = rw e refl; no_escape = rw e refl }
+value_is (x ∷ y ∷ rest) is = go (x == 45) refl is
+  where
+    go : (b : Bool) → (x == 45) ≡ b → not b ≡ true → IsValue (x ∷ y ∷ rest)
+    go false e h = plain_value x (y ∷ rest) e
+    go true e h = absurd (true≢false (sym h))
 
 digits_are_value : (digits : Text) → IsNumeral 10 digits → IsValue digits
 digits_are_value [] is = absurd (omega (arith, is.0))

@@ -1,4 +1,5 @@
 pub mod Requests
+pub mod Options
 pub mod Spellings
 pub mod Refusals
 pub mod Commands

@@ -1,38 +1,25 @@
 -- The plain spellings of requests: which arguments ask for what, in the program's own terms.
-use Rattle.std.specs.Prelude.{◌≡◌, ◌≤◌, ◌==◌, ◌||◌, ℕ, Bool, true, false, not, List, [], ◌∷◌, Option, Some, None, codes}
+use Rattle.std.specs.Prelude.{◌≡◌, ◌≤◌, ℕ, List, [], ◌∷◌, Option, None, codes, option_to_list}
 use Rattle.std.specs.Fmt.{decimal}
+use Rattle.command_line.specs.Options.{AreGiven}
 use Rattle.command_line.specs.Requests.{Text, Asked, judging, checking}
 
-abbrev pub is_empty : Text → Bool
-is_empty [] = true
-is_empty (x ∷ rest) = false
+-- the options of `judge`: none, for one worker, or a number of workers, in digits without a leading zero
+abbrev pub AsksWorkers : List (Text × Text) → ℕ → Type 0
+AsksWorkers [] n = n ≡ 1
+AsksWorkers (option ∷ []) n = (option ≡ (codes "workers", decimal n)) × (1 ≤ n) × (n ≤ 64)
+AsksWorkers (option ∷ second ∷ others) n = ⊥
 
--- a text that names a file: one that doesn't begin with a hyphen (45), or the hyphen alone, which
--- is a file of that name
-abbrev pub is_file_name : Text → Bool
-is_file_name [] = true
-is_file_name (x ∷ rest) = not (x == 45) || is_empty rest
+-- the arguments after `judge`, as `[--workers N] [FILE]`, ask for judging a file, or standard input, with n workers. A
+-- file that is a hyphen alone is a file of that name.
+pub record AsksToJudge (arguments : List Text) (file : Option Text) (n : ℕ) : Type 0 where
+  pub options : List (Text × Text)
+  pub given : AreGiven options (option_to_list file) arguments
+  pub workers : AsksWorkers options n
 
--- the arguments after `judge` ask for judging a file, or standard input, with so many workers
-pub data AsksToJudge : List Text → Option Text → ℕ → Type 0 where
-  -- judge
-  input : AsksToJudge [] None 1
-  -- judge FILE
-  file : (name : Text) → is_file_name name ≡ true → AsksToJudge (name ∷ []) (Some name) 1
-  -- judge --workers N
-  workers : (n : ℕ) → 1 ≤ n → n ≤ 64 → AsksToJudge (codes "--workers" ∷ decimal n ∷ []) None n
-  -- judge --workers N FILE
-  workers_file : (n : ℕ) (name : Text) → 1 ≤ n → n ≤ 64 → is_file_name name ≡ true
-      → AsksToJudge (codes "--workers" ∷ decimal n ∷ name ∷ []) (Some name) n
-  -- judge FILE --workers N
-  file_workers : (name : Text) (n : ℕ) → 1 ≤ n → n ≤ 64 → is_file_name name ≡ true
-      → AsksToJudge (name ∷ codes "--workers" ∷ decimal n ∷ []) (Some name) n
-
--- the arguments after `check` ask for checking a trace's certificate
-pub data AsksToCheck : List Text → Text → Text → Type 0 where
-  -- check TRACE CERT
-  files : (trace certificate : Text) → is_file_name trace ≡ true → is_file_name certificate ≡ true
-      → AsksToCheck (trace ∷ certificate ∷ []) trace certificate
+-- the arguments after `check`, as `TRACE CERT`, ask for checking a trace's certificate
+abbrev pub AsksToCheck : List Text → Text → Text → Type 0
+AsksToCheck arguments trace certificate = AreGiven [] (trace ∷ certificate ∷ []) arguments
 
 -- the arguments ask for this
 pub data Asks : List Text → Asked → Type 0 where

@@ -8,6 +8,9 @@ use crate::help;
 use clap::{Arg, Command, value_parser};
 use std::alloc::{AllocError, Global};
 
+/// The version of the program.
+const VERSION: &str = "0.1.0";
+
 /// The command line of the program.
 pub(crate) fn tsobench_command<'a>(alloc: Global) -> Result<Command<'a>, AllocError>
     ensures app { IfOk result (λ command. app_of command ≡ tsobench_app) }
@@ -16,7 +19,7 @@ pub(crate) fn tsobench_command<'a>(alloc: Global) -> Result<Command<'a>, AllocEr
     Command::new(alloc, "tsobench")
         .bin_name("tsobench")?
         .no_binary_name(true)
-        .version("0.1.0")
+        .version(VERSION)
         .about(help::ABOUT)
         .after_help(help::PROGRAM)
         .subcommand(judge_command(alloc)?)?

@@ -32,7 +32,7 @@ fn asked(alloc: Global, arguments: &[&str]) -> Result<String, AllocError> {
 
 #[test]
 fn plain_arguments(rt: HostRuntime) -> Result<(), Fail> {
-    let cases: [(&[&str], &str); 10] = [
+    let cases: [(&[&str], &str); 12] = [
         (&[], "judge standard input with 1"),
         (&["judge"], "judge standard input with 1"),
         (&["judge", "a.trace"], "judge \"a.trace\" with 1"),
@@ -44,6 +44,11 @@ fn plain_arguments(rt: HostRuntime) -> Result<(), Fail> {
         (&["judge", "--workers", "7", "a b"], "judge \"a b\" with 7"),
         (&["judge", "a b", "--workers", "7"], "judge \"a b\" with 7"),
         (&["judge", "--workers=2", "--", "-x"], "judge \"-x\" with 2"),
+        (&["judge", "--workers=64", "x"], "judge \"x\" with 64"),
+        (
+            &["judge", "--workers", "+007"],
+            "judge standard input with 7",
+        ),
         (&["judge", "check"], "judge \"check\" with 1"),
         (&["check", "t", "c"], "check \"t\" against \"c\""),
     ];
@@ -84,14 +89,8 @@ fn help_and_version(rt: HostRuntime) -> Result<(), Fail> {
 #[test]
 fn refused_arguments(rt: HostRuntime) -> Result<(), Fail> {
     let cases: [(&[&str], &str); 7] = [
-        (
-            &["seek", "judge"],
-            "error: unrecognized subcommand 'seek'\n\nUsage: tsobench [COMMAND]\n\nFor more information, try '--help'.\n",
-        ),
-        (
-            &["help", "seek"],
-            "error: unrecognized subcommand 'seek'\n\nUsage: tsobench [COMMAND]\n\nFor more information, try '--help'.\n",
-        ),
+        (&["seek", "judge"], UNKNOWN),
+        (&["help", "seek"], UNKNOWN),
         (
             &["judge", "--workers", "65"],
             "error: invalid value '65' for '--workers <N>': 65 is not in 1..=64\n\nFor more information, try '--help'.\n",
@@ -123,6 +122,9 @@ fn refused_arguments(rt: HostRuntime) -> Result<(), Fail> {
     }
     Ok(())
 }
+
+const UNKNOWN: &str =
+    "error: unrecognized subcommand 'seek'\n\nUsage: tsobench [COMMAND]\n\nFor more information, try '--help'.\n";
 
 const PROGRAM_HELP: &str = "\
 Judges traces of multiprocessor memory operations against Total Store Order (TSO)

@@ -1,12 +1,8 @@
 use crate::{BaseRule, CertStep, Certificate, InferredRule, NumList, Reason, StepList};
 use std::test::Fail;
 
-<<<<<<< ours
-mod refused_allocations;
-=======
 mod faults;
-mod growths;
->>>>>>> theirs
+mod refused_allocations;
 mod texts;
 
 #[test]

@@ -7,12 +7,8 @@ use std::test::Fail;
 use tso_ops::Outcome;
 
 mod examples;
-<<<<<<< ours
-mod refused_allocations;
-=======
 mod faults;
-mod growths;
->>>>>>> theirs
+mod refused_allocations;
 
 fn trace_fault(alloc: Global, text: &[u8]) -> Option<TextFault> {
     read_trace(alloc, text).err()

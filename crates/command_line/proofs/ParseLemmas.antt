@@ -1,0 +1,28 @@
+-- What `clap` says of a parse, of the program's command line as a value.
+use Rattle.std.proofs.Common.{◌≡◌, ◌∙◌, ap, ap₂, subst, refl, true, false, List, [], ◌∷◌, Result, IfOk, codes}
+use Rattle.std.proofs.lemmas.Result.{IfOk-weaker}
+use Rattle.clap.specs.Words.{App, FailsBy, HasMatchesOf, Kinds, fault_of, is_simple, is_simple_and_free, subcommand_of, subcommand_rows_of}
+use Rattle.clap.specs.declared.error.Error.{Error}
+use Rattle.clap.specs.declared.parser.matches.ArgMatches.{ArgMatches}
+use Rattle.command_line.specs.Requests.{Text}
+use Rattle.command_line.specs.Commands.{is_help, parsed_as, tsobench_app}
+
+-- the command line is one of those whose matches and errors `clap` states exactly
+simple : is_simple tsobench_app ≡ true
+simple = refl
+
+simple_and_free : is_simple_and_free tsobench_app ≡ true
+simple_and_free = refl
+
+module _ (r : Result ArgMatches Error) (app : App) (texts parsed : List Text) (same : app ≡ tsobench_app) (is : texts ≡ parsed) where
+  pub subcommand_found : IfOk r (HasMatchesOf app texts) → IfOk r (λ found. subcommand_rows_of found ≡ subcommand_of tsobench_app parsed)
+  subcommand_found matches = IfOk-weaker r _ _ (λ found has. (has (ap is_simple same ∙ simple)).1 ∙ ap₂ subcommand_of same is) matches
+
+  pub fails_by : (is_simple_and_free app ≡ true → FailsBy (fault_of app texts) r) → FailsBy (fault_of tsobench_app parsed) r
+  fails_by kinds = subst (λ (k : Kinds). FailsBy k r) (ap₂ fault_of same is) (kinds (ap is_simple_and_free same ∙ simple_and_free))
+
+pub help_parsed : (texts : List Text) → is_help texts ≡ true → codes "--help" ∷ [] ≡ parsed_as texts
+help_parsed texts is = rw is refl
+
+pub others_parsed : (texts : List Text) → is_help texts ≡ false → texts ≡ parsed_as texts
+others_parsed texts is = rw is refl

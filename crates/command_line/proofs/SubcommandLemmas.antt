@@ -1,0 +1,59 @@
+-- The arguments after the name of a subcommand are left to it.
+use Rattle.std.proofs.Common.{◌≡◌, ap, refl, sym, false, List, [], ◌∷◌, ◌++◌, Some, None, codes}
+use Rattle.std.specs.List.{fold}
+use Rattle.clap.specs.Walk.{Names, Walk, nothing_held, rows_after, walked}
+use Rattle.clap.specs.Simple.{App, Shape, built_leaf, entered, inherited, marked_built, names_of, with_leaf_noted}
+use Rattle.clap.specs.Words.{built, fault_of, subcommand_of}
+use Rattle.clap.specs.Kinds.{or_else}
+use Rattle.clap.specs.Faults.{level_fault, walk_fault}
+use Rattle.clap.proofs.OnLiterals.{clap_on_literals}
+use Rattle.clap.proofs.WalkLemmas.{walk_stopped}
+use Rattle.command_line.proofs.OptionLemmas.{standing}
+use Rattle.command_line.specs.Requests.{Text}
+use Rattle.command_line.specs.Commands.{check_app, judge_app, parsed_as, tsobench_app}
+
+-- a subcommand as the program's build leaves it
+abbrev pub built_below : App → Shape
+built_below sub = built_leaf (inherited (with_leaf_noted (marked_built tsobench_app.top)) sub.top)
+
+abbrev top : Shape
+top = (built tsobench_app).top
+
+abbrev names : Names
+names = names_of (built tsobench_app)
+
+abbrev stopped_at : Text → List Text → Walk
+stopped_at name rest = record (standing [] None 1) { stopped = Some (name, rest) }
+
+left_to : (name : Text) (rest : List Text) → fold (walked top.rules names) (stopped_at name []) rest ≡ stopped_at name rest
+left_to name rest = sym (walk_stopped top.rules names (standing [] None 1) name [] rest)
+
+nothing_fails : (name : Text) (seen rest : List Text) → walk_fault top names (stopped_at name seen) rest ≡ []
+unfolding walk_fault walked
+nothing_fails name seen [] = refl
+nothing_fails name seen (x ∷ xs) = nothing_fails name (seen ++ x ∷ []) xs
+
+module _ (rest : List Text) where
+  pub judge_found : subcommand_of tsobench_app (codes "judge" ∷ rest) ≡ Some (codes "judge", rows_after (built_below judge_app).rules [] rest)
+  unfolding walked
+  judge_found = ap (λ (w : Walk). entered (built tsobench_app) w.stopped) (left_to (codes "judge") rest)
+
+  pub judge_fault : fault_of tsobench_app (codes "judge" ∷ rest) ≡ or_else (level_fault (built_below judge_app) [] nothing_held rest false []) []
+  unfolding clap_on_literals
+  judge_fault = rw (left_to (codes "judge") rest, nothing_fails (codes "judge") [] rest) refl
+
+  pub check_found : subcommand_of tsobench_app (codes "check" ∷ rest) ≡ Some (codes "check", rows_after (built_below check_app).rules [] rest)
+  unfolding walked
+  check_found = ap (λ (w : Walk). entered (built tsobench_app) w.stopped) (left_to (codes "check") rest)
+
+  pub check_fault : fault_of tsobench_app (codes "check" ∷ rest) ≡ or_else (level_fault (built_below check_app) [] nothing_held rest false []) []
+  unfolding clap_on_literals
+  check_fault = rw (left_to (codes "check") rest, nothing_fails (codes "check") [] rest) refl
+
+pub judge_parsed : (rest : List Text) → parsed_as (codes "judge" ∷ rest) ≡ codes "judge" ∷ rest
+judge_parsed [] = refl
+judge_parsed (x ∷ xs) = refl
+
+pub check_parsed : (rest : List Text) → parsed_as (codes "check" ∷ rest) ≡ codes "check" ∷ rest
+check_parsed [] = refl
+check_parsed (x ∷ xs) = refl
