@@ -49,14 +49,14 @@ Collects-as t k cycle Marked Done Other steps collects to back = record {
   needed = collects.needed;
 }
 
--- one step more in front
+-- one step more, put first
 IsStep-more : (s : CertStep) (steps : List CertStep) (u v : ℕ) → IsStep steps u v → IsStep (s ∷ steps) u v
 IsStep-more s steps u v step = (suc step.0, step.1, step.2, step.3, step.4)
 
 AreUsed-less : (s : CertStep) (steps : List CertStep) (cycle : List ℕ) (pairs : ℕ → ℕ → Bool) → AreUsed (s ∷ steps) cycle pairs → AreUsed steps cycle pairs
 AreUsed-less s steps cycle pairs used = record { cycle_edges = used.cycle_edges; path_edges = λ i d at. used.path_edges (suc i) d at }
 
--- The step of a marked edge that comes before all that are done is put in front, and what its justification uses is marked.
+-- The step of a marked edge that comes before all that are done is put first, and what its justification uses is marked.
 pub Collects-step : (t : TraceValue) (k : ℕ) (cycle : List ℕ) (Marked More Done Other : ℕ → ℕ → Type 0) (steps : List CertStep) (r : ℕ) (s : CertStep) →
     Collects t k cycle Marked Done steps → Marked s.from s.to → HasRank t s.from s.to r → IsJustified t r s.from s.to s.reason →
     ((u v : ℕ) → More u v ↔ (Marked u v ⊎ AreUsedBy s.reason u v)) →
@@ -147,6 +147,6 @@ Collects-end t k cycle Marked Done steps collects done = record {
     listed : (u v : ℕ) → Marked u v → IsStep steps u v
     listed u v m = collects.all u v m (done u v (collects.edges u v m))
 
--- a step put behind the list stands in front of the list turned round
+-- a step put after the list stands first in the list reversed
 pub reverse_push : (steps new : List CertStep) (s : CertStep) → new ≡ steps ++ s ∷ [] → reverse new ≡ s ∷ reverse steps
 reverse_push steps new s same = ap reverse same ∙ reverse-append steps (s ∷ [])

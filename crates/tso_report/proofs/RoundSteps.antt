@@ -1,4 +1,4 @@
--- How the steps of a rank are collected, and its edges taken away.
+-- How the steps of a rank are collected, and its edges removed.
 use Rattle.std.proofs.Common.{◌≡◌, ◌⊎◌, ◌↔◌, inl, inr, ℕ, zero, suc, ◌+◌, ◌<◌, ◌≤◌, List, [], ◌∷◌, ◌++◌, length, get_or, reverse, refl, sym, ap, subst, ◌∙◌, arith}
 use Rattle.std.proofs.lemmas.Bool.{cases_eq}
 use Rattle.std.proofs.lemmas.List.Elements.{Contains-get_or}
@@ -118,7 +118,7 @@ listed_step edges i u v e within at = (
 pub edge_at : (edges : List Edge) (i : ℕ) (e : Edge) → i < length edges → ((d : Edge) → get_or edges i d ≡ e) → ListsEdge edges e.from e.to
 edge_at edges i e within at = (i, within, at e)
 
--- The edge at a place, with those behind it collected.
+-- The edge at a place, with those after it collected.
 pub round_step : (t : TraceValue) (k r i : ℕ) (cycle : List ℕ) (edges : List Edge) (e : Edge) (set marks more : Digraph) (old new : List CertStep) → IsRound t r edges → IsRankGraph t r set →
     i < length edges → ((d : Edge) → get_or edges i d ≡ e) → CollectsEdge t (IsEdge set) e.from e.to marks more old new →
     Collects t k cycle (IsEdge marks) (IsAboveOrListed t (suc r) edges (i + 1)) (reverse old) → Collects t k cycle (IsEdge more) (IsAboveOrListed t (suc r) edges i) (reverse new)
@@ -210,7 +210,7 @@ collects_nodes t Edge u v marks more old new (inr (marked, adds)) = adds.marked.
 base_rank : (t : TraceValue) (u v : ℕ) → RankSet t 0 u v → HasRank t u v 0
 base_rank t u v edge = (edge, λ j less f. omega (arith, less))
 
--- Behind all numbers no base edge stands.
+-- After all numbers no base edge stands.
 pub base_start : (t : TraceValue) (k n : ℕ) (cycle : List ℕ) (marks : Digraph) (steps : List CertStep) → n ≡ suc (event_total t) →
     Collects t k cycle (IsEdge marks) (IsAboveRank t 0) steps → Collects t k cycle (IsEdge marks) (IsAboveOrBase t n 0) steps
 base_start t k n cycle marks steps all collects = Collects-as t k cycle (IsEdge marks) (IsAboveRank t 0) (IsAboveOrBase t n 0) steps collects
@@ -275,7 +275,7 @@ base_split t x y u v edge = (
   ],
 )
 
--- The step of a marked base edge is put in front.
+-- The step of a marked base edge is put first.
 pub base_step : (t : TraceValue) (k x y : ℕ) (cycle : List ℕ) (rule : BaseRule) (marks : Digraph) (old new : List CertStep) → IsFirstBase t x y rule → IsEdge marks x y →
     new ≡ old ++ record { from = x; to = y; reason = Base rule } ∷ [] →
     Collects t k cycle (IsEdge marks) (IsAboveOrBase t x (y + 1)) (reverse old) → Collects t k cycle (IsEdge marks) (IsAboveOrBase t x y) (reverse new)

@@ -21,9 +21,9 @@ use tso_ops::{OutOfMemory, Trace};
 use tso_rules::{base_edge, justify};
 
 /// The certificate of a trace, from the ranks of its edges: the least cycle of the last rank set, with the steps that
-/// it rests on. None where the last rank set has no cycle. OutOfMemory where a growth was refused.
+/// it rests on. None where the last rank set has no cycle. OutOfMemory where an allocation was refused.
 ///
-/// It goes from the last rank down over one set of edges, from which it takes away those of each rank before it
+/// It goes from the last rank down over one set of edges, from which it removes those of each rank before it
 /// justifies them.
 pub fn build_cert(
     alloc: Global,

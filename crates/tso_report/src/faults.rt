@@ -9,10 +9,10 @@ use thiserror::Error;
 /// Why a call gave no verdict, in the order in which the faults are tried.
 #[derive(Clone, Copy, Debug, PartialEq, Eq, Error)]
 pub enum Fault {
-    /// A growth was refused.
+    /// An allocation was refused.
     #[error("OutOfMemory")]
     OutOfMemory,
-    /// A reader failed, or gave neither its end nor the byte behind the limit within 2,097,152 calls.
+    /// A reader failed, or gave neither its end nor the byte after the limit within 2,097,152 calls.
     #[error("Read")]
     Read,
     /// A writer failed, took no byte, or was interrupted more than 1,048,576 times.

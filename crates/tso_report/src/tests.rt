@@ -1,7 +1,7 @@
 mod certificates;
 mod checked;
 mod ends;
-mod refused_allocations;
 mod judged;
+mod refused_allocations;
 mod streams;
 mod violations;

@@ -118,7 +118,7 @@ pub(super) fn judged<H: Threads + Wait + Sync>(
     Ok((verdict, written))
 }
 
-/// A front, many times the same line, and a back.
+/// A prefix, many times the same line, and an ending.
 fn repeated(
     alloc: Global,
     prefix: &str,
@@ -183,7 +183,7 @@ fn events_at_their_limit(rt: HostRuntime) -> Result<(), Fail> {
     Ok(())
 }
 
-/// oversized: whatever the bytes are, a good trace in front of them included
+/// oversized: whatever the bytes are, a good trace before them included
 #[test]
 fn bytes_at_their_limit(rt: HostRuntime) -> Result<(), Fail> {
     let alloc = rt.alloc();

@@ -1,6 +1,6 @@
-//! Growths refused in turn: `rt try --test --fail-alloc N` refuses the Nth of each test.
+//! Allocations refused in turn: `rt try --test --fail-alloc N` refuses the Nth of each test.
 //!
-//! The call that meets it answers OutOfMemory, or NoThread where the growth was that of a thread's start, and writes nothing, and the next call writes the ordinary report.
+//! The call that meets it answers OutOfMemory, or NoThread where the allocation was that of a thread's start, and writes nothing, and the next call writes the ordinary report.
 
 use super::checked::HOLDS;
 use super::violations::{
@@ -16,7 +16,7 @@ use std::thread::Threads;
 /// The room that a report gets.
 const ROOM: usize = 256;
 
-/// Judges an input, once more where a growth was refused: this is the verdict, and this the report.
+/// Judges an input, once more where an allocation was refused: this is the verdict, and this the report.
 fn judges<H: Abort + Threads + Wait + Sync>(
     rt: &H,
     alloc: Global,

@@ -62,7 +62,7 @@ const VIOLATIONS: [Case; 8] = [
 ];
 
 /// Traces of which nothing is found.
-const OTHERS: [Case; 2] = [
+const OTHERS: [Case; 3] = [
     // store_buffering
     (
         "tso trace 1\nproc\nst 1 1\nld 2 0\nproc\nst 2 2\nld 1 0\nend\n",
@@ -72,6 +72,11 @@ const OTHERS: [Case; 2] = [
     (
         "tso trace 1\nproc\nst 1 1\nld 1 1\nld 2 0\nproc\nst 2 2\nld 2 2\nld 1 0\nend\n",
         "TSO REPORT 1\nprocessors 2 events 6 rounds 1\nNO VIOLATION FOUND\n",
+    ),
+    // inconsistent_without_cycle: no order meets the axioms, and the rules find no cycle
+    (
+        "tso trace 1\nproc\nst 1 1\nmb\nld 2 3\nld 1 1\nproc\nst 1 2\nmb\nld 2 4\nld 1 2\nproc\nst 2 3\nmb\nld 1 2\nld 2 3\nproc\nst 2 4\nmb\nld 1 1\nld 2 4\nend\n",
+        "TSO REPORT 1\nprocessors 4 events 12 rounds 0\nNO VIOLATION FOUND\n",
     ),
 ];
 

@@ -168,8 +168,8 @@ fn certificates_in_files(rt: HostRuntime) -> Result<(), Fail> {
             format!(in alloc; "{folder}/cert")?.as_str(),
             certificate,
         )?;
-        let words = ["check", "@trace", "@cert"];
-        let ended = ended(&rt, alloc, folder.as_str(), &words)?;
+        let arguments = ["check", "@trace", "@cert"];
+        let ended = ended(&rt, alloc, folder.as_str(), &arguments)?;
         assert_eq!(rt; ended.status, status, "{certificate:?}");
         assert_eq!(rt;
             ended.written.as_slice(),

@@ -172,7 +172,7 @@ const JUDGED: [Judged; 31] = [
     ),
 ];
 
-/// The examples whose texts are long: so many loads, the lines behind them, the status, and what is written.
+/// The examples whose texts are long: so many loads, the lines after them, the status, and what is written.
 const LONG: [(usize, &str, u8, &str); 3] = [
     // full_trace
     (
@@ -192,7 +192,7 @@ const LONG: [(usize, &str, u8, &str); 3] = [
     ),
 ];
 
-/// The text of a trace of one processor: so many loads, and these lines behind them.
+/// The text of a trace of one processor: so many loads, and these lines after them.
 fn trace_of_loads(alloc: Global, count: usize, back: &str) -> Result<String, AllocError> {
     let mut text = String::from_str(alloc, "tso trace 1\nproc\n")?;
     for _ in 0..count {
