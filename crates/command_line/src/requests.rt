@@ -16,7 +16,8 @@ use std::alloc::{AllocError, Global};
 /// What the arguments of a command line ask for.
 #[derive(Debug, Drop)]
 pub enum Request<'a> {
-    /// To judge the trace in this file, or else on standard input, with 1 to 64 workers.
+    /// To judge the trace in this file, or else on standard input, with 1 to 64 workers. A file `-` is a file of that
+    /// name, and not standard input.
     Judge {
         file: Option<&'a str>,
         workers: usize,

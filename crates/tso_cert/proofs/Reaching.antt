@@ -62,7 +62,7 @@ IsClean-push prefix line clean at_line i w low =
 
 -- ---- the place in the text
 
--- A reader has come after i lines: they have no fault and none of them is a last line; `rest` is what follows them, and `pieces` are
+-- The reader is after i lines: these have no fault and none of them is a last line; `rest` is what follows them, and `pieces` are
 -- their pieces.
 pub record Reached (text : List ℕ) (i : ℕ) (rest : List ℕ) (pieces : List (List (List ℕ))) : Type 0 where
   pub prefix : List (List ℕ)
