@@ -36,14 +36,14 @@ AdmitsMore-next op old between new xs i x o within at is before step ops was =
 pub refused_at : {X : Type 0} (op : X → Op) → (old tally : Tally) (xs : List X) (i : ℕ) (x : X) (o : Op) (why : ValueFault) → i < length xs → x ≡ get_or xs i x → o ≡ op x →
     AdmitsMore old tally (map op (take i xs)) → ((ops : List Op) → Admitted tally ops → IsAdmitRefusal ops o why) →
     (ops : List Op) → Admitted old ops → why ≢ OutOfMemory → IsFaultOf (ops ++ map op xs) why
-refused_at op old tally xs i x o why within at is before turned ops was other =
+refused_at op old tally xs i x o why within at is before refusal ops was other =
     let prefix = map op (take i xs) in
     let rest = map op (drop (i + 1) xs) in
     let parts : ops ++ map op xs ≡ (ops ++ prefix) ++ o ∷ rest =
     ap (λ ys. ops ++ map op ys) (split_at xs i x within at) ∙ ap (λ ys. ops ++ ys) (map-append op (take i xs) (x ∷ drop (i + 1) xs))
     ∙ ap (λ y. ops ++ (prefix ++ y ∷ rest)) (sym is) ∙ sym (append_assoc ops prefix (o ∷ rest)) in
     let admitted = before ops was in
-    ⊎_elim (λ memory. absurd (other memory)) (λ first. rw parts (IsFaultOf-next (ops ++ prefix) o rest why admitted.faultless first)) (turned (ops ++ prefix) admitted)
+    ⊎_elim (λ memory. absurd (other memory)) (λ first. rw parts (IsFaultOf-next (ops ++ prefix) o rest why admitted.faultless first)) (refusal (ops ++ prefix) admitted)
 
 -- ---- lists of lists, joined in file order
 

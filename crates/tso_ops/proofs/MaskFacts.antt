@@ -110,14 +110,14 @@ pub marks_row : (first table : List (Vec ℕ)) (row number : ℕ) (new d : Vec �
     MarksNumber (get_or table row d).items new.items number → MarksInRow (rows first) (rows (set table row new)) (Some row) number
 marks_row first table row number new d same within marks = record { bits = at }
   where
-    turned : rows (set table row new) ≡ set (rows table) row new.items
-    turned = map-set (λ (v : Vec ℕ). v.items) table row new
+    replaced : rows (set table row new) ≡ set (rows table) row new.items
+    replaced = map-set (λ (v : Vec ℕ). v.items) table row new
 
     before : get_or (rows table) row [] ≡ (get_or table row d).items
     before = get_or-map (λ (v : Vec ℕ). v.items) table row d [] within
 
     here : get_or (rows (set table row new)) row [] ≡ new.items
-    here = ap (λ rs. get_or rs row []) turned
+    here = ap (λ rs. get_or rs row []) replaced
         ∙ get_or-set_same (rows table) row new.items [] (subst (λ m. row < m) (sym (length-map table (λ (v : Vec ℕ). v.items))) within)
 
     first_row : get_or (rows first) row [] ≡ (get_or table row d).items
@@ -139,7 +139,7 @@ marks_row first table row number new d same within marks = record { bits = at }
     at r n = elim (cases_eq r row) [
       | inl e ↦ subst (λ i. IsMarked (get_or (rows (set table row new)) i []) n ↔ (IsMarked (get_or (rows first) i []) n ⊎ ((Some row ≡ Some i) × (n ≡ number)))) (sym e) (at_row n)
       | inr other ↦ (let kept : get_or (rows (set table row new)) r [] ≡ get_or (rows first) r [] =
-          ap (λ rs. get_or rs r []) turned ∙ get_or-set_other (rows table) row r new.items [] other ∙ same r in (
+          ap (λ rs. get_or rs r []) replaced ∙ get_or-set_other (rows table) row r new.items [] other ∙ same r in (
             λ is. inl (subst (λ xs. IsMarked xs n) kept is),
             λ either. elim either [
               | inl was ↦ subst (λ xs. IsMarked xs n) (sym kept) was
