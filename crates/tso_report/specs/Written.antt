@@ -28,7 +28,7 @@ LeavesAtFault is_report old new (Missing seed) = ⊥
 
 -- ---- the report of an input
 
--- The text is the report of the bytes that were read, and of all bytes of the reader where these are known.
+-- The text is the report of some bytes, and of all bytes of the reader where these are known.
 pub record IsReportOfReader (remaining : Option (List ℕ)) (text : List ℕ) (verdict : Verdict) : Type 0 where
   pub bytes : List ℕ
   pub of_read : IsReport bytes text verdict

@@ -1,10 +1,13 @@
 -- Lemmas on how the program ends.
-use Rattle.std.proofs.Common.{◌≡◌, ◌⊎◌, ℕ, List, Ok, Err, Result, IfOk, IfErr, Some, None, arith, length, refl, subst, sym, inl, inr}
+use Rattle.std.proofs.Common.{◌≡◌, ◌⊎◌, ℕ, List, [], ◌∷◌, Ok, Err, Result, IfOk, IfErr, Some, None, arith, length, ap, refl, subst, sym, inl, inr}
 use Rattle.std.specs.Prelude.{Option, string_bytes}
 use Rattle.std.specs.Io.KnownBytes.{Keeps}
 use Rattle.command_line.specs.declared.requests.Request.{Request}
 use Rattle.command_line.specs.declared.requests.Request.TheVariants.{Judge, Check, Show, Refuse}
-use Rattle.command_line.specs.Requests.{Asked, asked_of}
+use Rattle.clap.specs.Words.{Kinds, Row}
+use Rattle.command_line.specs.Commands.{IsAskedBy, asked_at, asked_by}
+use Rattle.command_line.specs.Requests.{Asked, Text, asked_of}
+use Rattle.std.proofs.lemmas.List.{append-nil}
 use Rattle.tso_report.specs.declared.verdicts.Verdict.{Verdict}
 use Rattle.tso_report.specs.declared.faults.Fault.{Fault}
 use Rattle.tso_report.specs.declared.faults.Fault.TheVariants.{OutOfMemory, Read, Write, NoThread, Missing}
@@ -88,10 +91,20 @@ pub ends_by_report : (is_report : List ℕ → Verdict → Type 0) (o : Outputs)
 ends_by_report is_report o (Ok verdict) status writes leaves told faulty = inl (verdict, writes, told.1, told.0)
 ends_by_report is_report o (Err fault) status writes leaves told faulty = inr (fault, leaves, faulty)
 
--- what was done for a request was asked for, where nothing is known of files
-pub does_asked : (request : Request) (input : Option (List ℕ)) (o : Outputs) (status : ℕ) → EndsAs request input (λ _. None) o status → EndsAsAsked (asked_of request) input o status
-does_asked (Judge None workers) input o status ends = ends
-does_asked (Judge (Some name) workers) input o status ends = ends
-does_asked (Check trace certificate) input o status ends = ends
-does_asked (Show text) input o status ends = (string_bytes text, ends)
-does_asked (Refuse text) input o status ends = (string_bytes text, ends)
+-- what was done for a request was asked for
+pub does_asked : (request : Request) (input : Option (List ℕ)) (files : List ℕ → Option (List ℕ)) (o : Outputs) (status : ℕ) → EndsAs request input files o status →
+    EndsAsAsked (asked_of request) input files o status
+does_asked (Judge file workers) input files o status ends = ends
+does_asked (Check trace certificate) input files o status ends = ends
+does_asked (Show text) input files o status ends = (string_bytes text, ends)
+does_asked (Refuse text) input files o status ends = (string_bytes text, ends)
+
+-- something is asked for by all arguments
+pub some_asked : (kinds : Kinds) (found : Option (Text × List Row)) → (asked : Asked) × IsAskedBy kinds found asked
+some_asked [] found = (asked_by found, refl)
+some_asked (kind ∷ others) found = (asked_at kind, inl refl)
+
+-- where nothing was opened
+pub opens_none : (old : Option (List (List ℕ))) (names : List (List ℕ)) → OpensFirst old old names
+opens_none None names = (0, omega arith, tt)
+opens_none (Some before) names = (0, omega arith, ap Some (sym (append-nil before)))

@@ -10,7 +10,9 @@ use Rattle.tso_report.specs.Written.{IsCheckReportOfReaders, IsReportOfReader, L
 use Rattle.tsobench.specs.Named.{name_in}
 use Rattle.command_line.specs.declared.requests.Request.{Request}
 use Rattle.command_line.specs.declared.requests.Request.TheVariants.{Judge, Check, Show, Refuse}
-use Rattle.command_line.specs.Requests.{Asked, judging, checking, showing, refusing}
+use Rattle.clap.specs.Words.{fault_of, subcommand_of}
+use Rattle.command_line.specs.Commands.{IsAskedBy, parsed_as, tsobench_app}
+use Rattle.command_line.specs.Requests.{Asked, Text, judging, checking, showing, refusing}
 
 -- ---- statuses and the lines of faults
 
@@ -23,7 +25,7 @@ status_of Violation = 3
 abbrev pub fault_line : List ℕ → List ℕ
 fault_line name = codes "FAULT " ++ name ++ 10 ∷ []
 
--- Known errors grow by the fault's line, or by a prefix of it where their writer failed. No request ends by a missing seed.
+-- Known errors grow by the fault's line or a prefix of it, since their writer may fail. No request ends by a missing seed.
 abbrev pub TellsFault : Option (List ℕ) → Option (List ℕ) → Fault → Type 0
 TellsFault before errors OutOfMemory = AppendsPrefix before errors (fault_line (codes "OutOfMemory"))
 TellsFault before errors Read = AppendsPrefix before errors (fault_line (codes "Read"))
@@ -68,7 +70,7 @@ EndsShowing text o status =
     (Appends o.written_before o.written text × Keeps o.errors_before o.errors × (status ≡ 0))
     ⊎ (AppendsPrefix o.written_before o.written text × EndsByFault Write o status)
 
--- The errors grow by the text, or by a prefix of it where their writer failed, and the output by nothing; and the status is 2.
+-- The errors grow by the text or a prefix of it, since their writer may fail, and the output by nothing; and the status is 2.
 abbrev pub EndsRefusing : List ℕ → Outputs → ℕ → Type 0
 EndsRefusing text o status = Keeps o.written_before o.written × AppendsPrefix o.errors_before o.errors text × (status ≡ 2)
 
@@ -90,14 +92,18 @@ EndsAs (Check trace certificate) input files o status = EndsChecked (files trace
 EndsAs (Show text) input files o status = EndsShowing (string_bytes text) o status
 EndsAs (Refuse text) input files o status = EndsRefusing (string_bytes text) o status
 
--- What was asked for was done, where standard input has these bytes. What files have isn't known, nor which text is shown or refuses.
-abbrev pub EndsAsAsked : Asked → Option (List ℕ) → Outputs → ℕ → Type 0
-EndsAsAsked (judging None workers) input o status = EndsJudged input o status
-EndsAsAsked (judging (Some name) workers) input o status = EndsJudged None o status
-EndsAsAsked (checking trace certificate) input o status = EndsChecked None None o status
-EndsAsAsked showing input o status = (text : List ℕ) × EndsShowing text o status
-EndsAsAsked refusing input o status = (text : List ℕ) × EndsRefusing text o status
+-- What was asked for was done, where standard input has these bytes, and the file of each name those. Which text is shown or refuses isn't
+-- said.
+abbrev pub EndsAsAsked : Asked → Option (List ℕ) → (List ℕ → Option (List ℕ)) → Outputs → ℕ → Type 0
+EndsAsAsked (judging file workers) input files o status = EndsJudged (judged_bytes file input files) o status
+EndsAsAsked (checking trace certificate) input files o status = EndsChecked (files trace) (files certificate) o status
+EndsAsAsked showing input files o status = (text : List ℕ) × EndsShowing text o status
+EndsAsAsked refusing input files o status = (text : List ℕ) × EndsRefusing text o status
 
 -- so it was, or memory ran out while the arguments were read
-abbrev pub Does : Asked → Option (List ℕ) → Outputs → ℕ → Type 0
-Does asked input o status = EndsAsAsked asked input o status ⊎ EndsOutOfMemory o status
+abbrev pub Does : Asked → Option (List ℕ) → (List ℕ → Option (List ℕ)) → Outputs → ℕ → Type 0
+Does asked input files o status = EndsAsAsked asked input files o status ⊎ EndsOutOfMemory o status
+
+-- what clap says that any arguments ask for
+abbrev pub IsAskedFor : List Text → Asked → Type 0
+IsAskedFor arguments asked = IsAskedBy (fault_of tsobench_app (parsed_as arguments)) (subcommand_of tsobench_app (parsed_as arguments)) asked

@@ -1,15 +1,16 @@
 //! All that the program does, from its arguments on.
-ghost use Rattle.std.specs.Prelude.{◌≡◌, ◌≢◌};
+ghost use Rattle.std.specs.Prelude.{◌≡◌, ◌≢◌, None, false};
 ghost use Rattle.std.specs.Io.KnownBytes.{Keeps};
 ghost use Rattle.std.specs.declared.io.ErrorKind.TheVariants.{OutOfMemory as NoMemory};
 ghost use Rattle.command_line.specs.Refusals.{Refuses};
 ghost use Rattle.command_line.specs.Requests.{Asked, refusing, showing, texts_in};
 ghost use Rattle.command_line.specs.Spellings.{Asks, AsksHelp};
 ghost use Rattle.tso_report.specs.declared.faults.Fault.TheVariants.{OutOfMemory};
-ghost use Rattle.tsobench.specs.Endings.{Does, TellsFault, outputs};
+ghost use Rattle.tsobench.specs.Endings.{Does, IsAskedFor, TellsFault, outputs};
+ghost use Rattle.tsobench.specs.Named.{OpensFirst, files_named, reads_input};
 
 use crate::endings::{REFUSED, end_by};
-use crate::files::SystemFiles;
+use crate::files::{NamedFiles, SystemFiles};
 use crate::serving::serve;
 use command_line::read_arguments;
 use std::io;
@@ -34,20 +35,33 @@ pub fn drive<H: Threads + Wait + Sync + Files + AllocGlobal, R: Read, W: Write, 
     writer: &mut W,
     errors: &mut E,
 ) -> u8
-    ensures asked { (asked : Asked) → Asks (texts_in arguments.now) asked → Does asked (R.remaining reader.old) (outputs (W.contents writer.old) (W.contents writer.new) (E.contents errors.old) (E.contents errors.new)) result }
-    ensures helped { AsksHelp (texts_in arguments.now) → Does showing (R.remaining reader.old) (outputs (W.contents writer.old) (W.contents writer.new) (E.contents errors.old) (E.contents errors.new)) result }
-    ensures refused { Refuses (texts_in arguments.now) → Does refusing (R.remaining reader.old) (outputs (W.contents writer.old) (W.contents writer.new) (E.contents errors.old) (E.contents errors.new)) result }
-    ensures ends { (asked : Asked) × Does asked (R.remaining reader.old) (outputs (W.contents writer.old) (W.contents writer.new) (E.contents errors.old) (E.contents errors.new)) result }
+    ensures asked { (asked : Asked) → Asks (texts_in arguments.now) asked → Does asked (R.remaining reader.old) (λ _. None) (outputs (W.contents writer.old) (W.contents writer.new) (E.contents errors.old) (E.contents errors.new)) result }
+    ensures helped { AsksHelp (texts_in arguments.now) → Does showing (R.remaining reader.old) (λ _. None) (outputs (W.contents writer.old) (W.contents writer.new) (E.contents errors.old) (E.contents errors.new)) result }
+    ensures refused { Refuses (texts_in arguments.now) → Does refusing (R.remaining reader.old) (λ _. None) (outputs (W.contents writer.old) (W.contents writer.new) (E.contents errors.old) (E.contents errors.new)) result }
+    ensures ends { (asked : Asked) × IsAskedFor (texts_in arguments.now) asked × Does asked (R.remaining reader.old) (λ _. None) (outputs (W.contents writer.old) (W.contents writer.new) (E.contents errors.old) (E.contents errors.new)) result }
+    ensures unread { (asked : Asked) → Asks (texts_in arguments.now) asked → reads_input asked ≡ false → reader.new ≡ reader.old }
+{
+    let mut files = SystemFiles::new(rt);
+    drive_over(rt, arguments, &mut files, reader, writer, errors)
+}
+
+/// Does so with these files in place of the system's.
+pub fn drive_over<
+    H: Threads + Wait + Sync + AllocGlobal,
+    O: NamedFiles,
+    R: Read,
+    W: Write,
+    E: Write,
+>(rt: &H, arguments: &[String], files: &mut O, reader: &mut R, writer: &mut W, errors: &mut E) -> u8
+    ensures asked { (asked : Asked) → Asks (texts_in arguments.now) asked → Does asked (R.remaining reader.old) (O.bytes files.old) (outputs (W.contents writer.old) (W.contents writer.new) (E.contents errors.old) (E.contents errors.new)) result }
+    ensures helped { AsksHelp (texts_in arguments.now) → Does showing (R.remaining reader.old) (O.bytes files.old) (outputs (W.contents writer.old) (W.contents writer.new) (E.contents errors.old) (E.contents errors.new)) result }
+    ensures refused { Refuses (texts_in arguments.now) → Does refusing (R.remaining reader.old) (O.bytes files.old) (outputs (W.contents writer.old) (W.contents writer.new) (E.contents errors.old) (E.contents errors.new)) result }
+    ensures ends { (asked : Asked) × IsAskedFor (texts_in arguments.now) asked × Does asked (R.remaining reader.old) (O.bytes files.old) (outputs (W.contents writer.old) (W.contents writer.new) (E.contents errors.old) (E.contents errors.new)) result }
+    ensures opened { (asked : Asked) → Asks (texts_in arguments.now) asked → OpensFirst (O.opened files.old) (O.opened files.new) (files_named asked) }
+    ensures unread { (asked : Asked) → Asks (texts_in arguments.now) asked → reads_input asked ≡ false → reader.new ≡ reader.old }
 {
     match read_arguments(rt.alloc(), arguments) {
-        Ok(request) => serve(
-            rt,
-            &request,
-            &mut SystemFiles::new(rt),
-            reader,
-            writer,
-            errors,
-        ),
+        Ok(request) => serve(rt, &request, files, reader, writer, errors),
         Err(_) => end_by(Fault::OutOfMemory, errors),
     }
 }

@@ -50,6 +50,48 @@ impl Read for TornReader<'_> {
     }
 }
 
+/// A reader that gives its bytes, then its end, and fails after that. It counts the calls.
+#[derive(Drop)]
+pub(super) struct EndedReader<'a> {
+    pub(super) rest: &'a [u8],
+    pub(super) ended: bool,
+    pub(super) calls: usize,
+}
+
+impl Read for EndedReader<'_> {
+    fn read(&mut self, buf: &mut [u8]) -> io::Result<usize> {
+        self.calls = self.calls.saturating_add(1);
+        if self.ended {
+            return Err(Error::from(ErrorKind::Other));
+        }
+        self.ended = self.rest.is_empty();
+        self.rest.read(buf)
+    }
+}
+
+/// A writer of one byte a call, interrupted once before each.
+#[derive(Drop)]
+pub(super) struct SlowWriter {
+    pub(super) taken: Vec<u8>,
+    pub(super) interrupted: bool,
+}
+
+impl Write for SlowWriter {
+    fn write(&mut self, buf: &[u8]) -> io::Result<usize> {
+        self.interrupted = !self.interrupted;
+        if self.interrupted {
+            return Err(Error::from(ErrorKind::Interrupted));
+        }
+        let count = buf.len().min(1);
+        self.taken.extend_from_slice(&buf[..count])?;
+        Ok(count)
+    }
+
+    fn flush(&mut self) -> io::Result<()> {
+        Ok(())
+    }
+}
+
 /// What a writer does that has no room left.
 #[derive(Clone, Copy)]
 pub(super) enum Full {

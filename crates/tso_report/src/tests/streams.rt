@@ -1,6 +1,8 @@
 //! Faults of readers and of writers.
 
-use super::ends::{FailingReader, Full, ShortWriter, SlowReader, TornReader};
+use super::ends::{
+    EndedReader, FailingReader, Full, ShortWriter, SlowReader, SlowWriter, TornReader,
+};
 use super::violations::{
     Case, STORE_BUFFERING_WITH_BARRIERS, TWO_SWAPS_BOTH_FIRST, UNWRITTEN_LOAD,
 };
@@ -100,6 +102,43 @@ fn reader_one_byte_a_call(rt: HostRuntime) -> Result<(), Fail> {
     let verdict = judge(&rt, alloc, &mut reader, &mut written, 1)?;
     assert_eq!(rt; verdict, Verdict::Violation);
     assert_eq!(rt; written.as_slice(), REPORT);
+    Ok(())
+}
+
+/// The end of a reader is seen once, and nothing is read after it.
+#[test]
+fn nothing_read_after_the_end(rt: HostRuntime) -> Result<(), Fail> {
+    let alloc = rt.alloc();
+    let mut reader = EndedReader {
+        rest: TRACE,
+        ended: false,
+        calls: 0,
+    };
+    assert_eq!(rt; read_all(alloc, &mut reader, 1_048_576)?.as_slice(), TRACE);
+    assert_eq!(rt; reader.calls, 2);
+    let mut reader = EndedReader {
+        rest: TRACE,
+        ended: false,
+        calls: 0,
+    };
+    let mut written = Vec::new(alloc);
+    let verdict = judge(&rt, alloc, &mut reader, &mut written, 1)?;
+    assert_eq!(rt; verdict, Verdict::Violation);
+    assert_eq!(rt; reader.calls, 2);
+    Ok(())
+}
+
+#[test]
+fn writer_one_byte_a_call(rt: HostRuntime) -> Result<(), Fail> {
+    let alloc = rt.alloc();
+    let mut reader = TRACE;
+    let mut writer = SlowWriter {
+        taken: Vec::new(alloc),
+        interrupted: false,
+    };
+    let verdict = judge(&rt, alloc, &mut reader, &mut writer, 1)?;
+    assert_eq!(rt; verdict, Verdict::Violation);
+    assert_eq!(rt; writer.taken.as_slice(), REPORT);
     Ok(())
 }
 

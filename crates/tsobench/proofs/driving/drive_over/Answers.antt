@@ -1,0 +1,40 @@
+use Rattle.std.proofs.Common.{inl, inr, rules, subst}
+use Rattle.clap.specs.Words.{fault_of, subcommand_of}
+use Rattle.command_line.specs.Commands.{parsed_as, tsobench_app}
+use Rattle.command_line.specs.Requests.{asked_of, texts_in}
+use Rattle.tsobench.specs.Endings.{Does, Outputs, outputs}
+use Rattle.tsobench.specs.Named.{OpensFirst, files_named, reads_input}
+use Rattle.tsobench.proofs.EndFacts.{does_asked, opens_none, some_asked}
+use Rattle.tsobench.proofs.driving.drive_over.Given as given
+use Rattle.tsobench.proofs.driving.drive_over.Goals as goal
+
+pub returns-in-Ok-clause-asked : goal.returns-in-Ok-clause-asked
+returns-in-Ok-clause-asked g c = λ asked asks.
+    let o : Outputs = outputs (g.W.Write.contents c.args.writer.now) (g.W.Write.contents c.serve.new.writer) (g.E.Write.contents c.args.errors.now) (g.E.Write.contents c.serve.new.errors) in
+    subst (λ a. Does a (g.R.Read.remaining c.args.reader.now) (g.O.NamedFiles.bytes c.args.files.now) o c.serve.result) (c.in-Ok.ensures.plain asked asks)
+    (inl (does_asked c.in-Ok.request _ _ o _ c.serve.ensures.ends))
+
+pub returns-in-Ok-clause-helped : goal.returns-in-Ok-clause-helped
+returns-in-Ok-clause-helped g c = λ asks.
+    let o : Outputs = outputs (g.W.Write.contents c.args.writer.now) (g.W.Write.contents c.serve.new.writer) (g.E.Write.contents c.args.errors.now) (g.E.Write.contents c.serve.new.errors) in
+    subst (λ a. Does a (g.R.Read.remaining c.args.reader.now) (g.O.NamedFiles.bytes c.args.files.now) o c.serve.result) (c.in-Ok.ensures.helped asks)
+    (inl (does_asked c.in-Ok.request _ _ o _ c.serve.ensures.ends))
+
+pub returns-in-Ok-clause-refused : goal.returns-in-Ok-clause-refused
+returns-in-Ok-clause-refused g c = λ asks.
+    let o : Outputs = outputs (g.W.Write.contents c.args.writer.now) (g.W.Write.contents c.serve.new.writer) (g.E.Write.contents c.args.errors.now) (g.E.Write.contents c.serve.new.errors) in
+    subst (λ a. Does a (g.R.Read.remaining c.args.reader.now) (g.O.NamedFiles.bytes c.args.files.now) o c.serve.result) (c.in-Ok.ensures.refused asks)
+    (inl (does_asked c.in-Ok.request _ _ o _ c.serve.ensures.ends))
+
+pub returns-in-Ok-clause-ends : goal.returns-in-Ok-clause-ends
+returns-in-Ok-clause-ends g c = (asked_of c.in-Ok.request, c.in-Ok.ensures.parsed, inl (does_asked c.in-Ok.request _ _ _ _ c.serve.ensures.ends))
+
+pub returns-in-Ok-clause-opened : goal.returns-in-Ok-clause-opened
+returns-in-Ok-clause-opened g c = λ asked asks.
+    subst (λ a. OpensFirst (g.O.NamedFiles.opened c.args.files.now) (g.O.NamedFiles.opened c.serve.new.files) (files_named a)) (c.in-Ok.ensures.plain asked asks) c.serve.ensures.first
+
+pub returns-in-Err-clause-ends : goal.returns-in-Err-clause-ends
+returns-in-Err-clause-ends g c =
+    let arguments = parsed_as (texts_in c.args.arguments.now) in
+    let some = some_asked (fault_of tsobench_app arguments) (subcommand_of tsobench_app arguments) in
+    (some.0, some.1, inr (search rules))
