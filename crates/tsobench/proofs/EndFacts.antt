@@ -12,7 +12,7 @@ use Rattle.tso_report.specs.declared.verdicts.Verdict.{Verdict}
 use Rattle.tso_report.specs.declared.faults.Fault.{Fault}
 use Rattle.tso_report.specs.declared.faults.Fault.TheVariants.{OutOfMemory, Read, Write, NoThread, Missing}
 use Rattle.tso_report.specs.Written.{IsCheckReportOfReaders, IsReportOfReader, LeavesAtFault, LeavesCheckFault, LeavesFault, WritesCheckReport, WritesReport, WritesWhole}
-use Rattle.tsobench.specs.Endings.{Does, EndsAs, EndsAsAsked, EndsByFault, EndsByReport, Outputs, TellsFault, status_of}
+use Rattle.tsobench.specs.Endings.{Does, EndsAs, EndsAsAsked, EndsByFault, EndsByReport, Outputs, WritesFaultLine, status_of}
 use Rattle.std.proofs.Math.Seq.{take-length}
 use Rattle.tsobench.specs.Named.{HasKnown, OpensFirst, OpensNext}
 
@@ -87,7 +87,7 @@ opens_all old new names opens = (length names, omega arith, subst (OpensNext old
 
 pub ends_by_report : (is_report : List ℕ → Verdict → Type 0) (o : Outputs) (outcome : Result Verdict Fault) (status : ℕ) → IfOk outcome (WritesWhole is_report o.written_before o.written) →
     IfErr outcome (LeavesAtFault is_report o.written_before o.written) → IfOk outcome (λ verdict. (status ≡ status_of verdict) × Keeps o.errors_before o.errors) →
-    IfErr outcome (λ fault. TellsFault o.errors_before o.errors fault × (status ≡ 4)) → EndsByReport is_report o status
+    IfErr outcome (λ fault. WritesFaultLine o.errors_before o.errors fault × (status ≡ 4)) → EndsByReport is_report o status
 ends_by_report is_report o (Ok verdict) status writes leaves told faulty = inl (verdict, writes, told.1, told.0)
 ends_by_report is_report o (Err fault) status writes leaves told faulty = inr (fault, leaves, faulty)
 

@@ -26,12 +26,12 @@ abbrev pub fault_line : List ℕ → List ℕ
 fault_line name = codes "FAULT " ++ name ++ 10 ∷ []
 
 -- Known errors grow by the fault's line or a prefix of it, since their writer may fail. No request ends by a missing seed.
-abbrev pub TellsFault : Option (List ℕ) → Option (List ℕ) → Fault → Type 0
-TellsFault before errors OutOfMemory = AppendsPrefix before errors (fault_line (codes "OutOfMemory"))
-TellsFault before errors Read = AppendsPrefix before errors (fault_line (codes "Read"))
-TellsFault before errors Write = AppendsPrefix before errors (fault_line (codes "Write"))
-TellsFault before errors NoThread = AppendsPrefix before errors (fault_line (codes "NoThread"))
-TellsFault before errors (Missing seed) = Unit {0}
+abbrev pub WritesFaultLine : Option (List ℕ) → Option (List ℕ) → Fault → Type 0
+WritesFaultLine before errors OutOfMemory = AppendsPrefix before errors (fault_line (codes "OutOfMemory"))
+WritesFaultLine before errors Read = AppendsPrefix before errors (fault_line (codes "Read"))
+WritesFaultLine before errors Write = AppendsPrefix before errors (fault_line (codes "Write"))
+WritesFaultLine before errors NoThread = AppendsPrefix before errors (fault_line (codes "NoThread"))
+WritesFaultLine before errors (Missing seed) = Unit {0}
 
 -- ---- what was written, and the status
 
@@ -47,7 +47,7 @@ outputs written_before written errors_before errors = record { written_before = 
 
 -- The fault's line was written to the errors, and the status is 4.
 abbrev pub EndsByFault : Fault → Outputs → ℕ → Type 0
-EndsByFault fault o status = TellsFault o.errors_before o.errors fault × (status ≡ 4)
+EndsByFault fault o status = WritesFaultLine o.errors_before o.errors fault × (status ≡ 4)
 
 -- The output grows by the report and the errors by nothing, and the status is that of the report's verdict; or a fault left nothing or, on
 -- Write, a prefix of the report.

@@ -1,5 +1,5 @@
 -- Files that are opened by their names, as far as they are known.
-use Rattle.std.specs.Prelude.{◌≡◌, ℕ, Bool, true, false, ◌≤◌, List, [], ◌∷◌, ◌++◌, length, take, option_map, Option, Some, None, IfSome}
+use Rattle.std.specs.Prelude.{◌≡◌, ℕ, Bool, true, false, ◌≤◌, List, [], ◌∷◌, ◌++◌, length, take, option_map, option_to_list, Option, Some, None, IfSome}
 use Rattle.std.specs.Borrow.{Bor}
 use Rattle.command_line.specs.Requests.{Asked, judging, checking, showing, refusing}
 
@@ -23,14 +23,9 @@ OpensNext old new names = IfSome old (λ before. new ≡ Some (before ++ names))
 abbrev pub name_in : Option (Bor (List ℕ)) → Option (List ℕ)
 name_in file = option_map (λ f. f.now) file
 
--- the one name, or none
-abbrev pub list_of : Option (List ℕ) → List (List ℕ)
-list_of None = []
-list_of (Some name) = name ∷ []
-
 -- the files that are named, in their order
 abbrev pub files_named : Asked → List (List ℕ)
-files_named (judging file workers) = list_of file
+files_named (judging file workers) = option_to_list file
 files_named (checking trace certificate) = trace ∷ certificate ∷ []
 files_named showing = []
 files_named refusing = []

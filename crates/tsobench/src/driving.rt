@@ -6,7 +6,7 @@ ghost use Rattle.command_line.specs.Refusals.{Refuses};
 ghost use Rattle.command_line.specs.Requests.{Asked, refusing, showing, texts_in};
 ghost use Rattle.command_line.specs.Spellings.{Asks, AsksHelp};
 ghost use Rattle.tso_report.specs.declared.faults.Fault.TheVariants.{OutOfMemory};
-ghost use Rattle.tsobench.specs.Endings.{Does, IsAskedFor, TellsFault, outputs};
+ghost use Rattle.tsobench.specs.Endings.{Does, IsAskedFor, WritesFaultLine, outputs};
 ghost use Rattle.tsobench.specs.Named.{OpensFirst, files_named, reads_input};
 
 use crate::endings::{REFUSED, end_by};
@@ -69,7 +69,7 @@ pub fn drive_over<
 /// The status where the arguments could not be had: where memory ran out that of a fault, whose line is written to
 /// `errors`, else that of a refusal.
 pub fn end_without_arguments<E: Write>(kind: io::ErrorKind, errors: &mut E) -> u8
-    ensures memory { kind ≡ NoMemory → TellsFault (E.contents errors.old) (E.contents errors.new) OutOfMemory × (result ≡ 4) }
+    ensures memory { kind ≡ NoMemory → WritesFaultLine (E.contents errors.old) (E.contents errors.new) OutOfMemory × (result ≡ 4) }
     ensures other { kind ≢ NoMemory → (result ≡ 2) × Keeps (E.contents errors.old) (E.contents errors.new) }
 {
     if kind == io::ErrorKind::OutOfMemory {

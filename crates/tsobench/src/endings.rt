@@ -1,7 +1,7 @@
 //! Statuses, and the lines of faults.
 ghost use Rattle.std.specs.Prelude.{◌≡◌, IfOk, IfErr};
 ghost use Rattle.std.specs.Io.KnownBytes.{Keeps};
-ghost use Rattle.tsobench.specs.Endings.{TellsFault, status_of};
+ghost use Rattle.tsobench.specs.Endings.{WritesFaultLine, status_of};
 
 use std::io::Write;
 use tso_report::{Fault, Verdict, write_text};
@@ -21,7 +21,7 @@ const FAULT: u8 = 4;
 /// The status of a verdict; or that of a fault, whose line it writes.
 pub(crate) fn end<E: Write>(outcome: Result<Verdict, Fault>, errors: &mut E) -> u8
     ensures verdict { IfOk outcome (λ verdict. (result ≡ status_of verdict) × Keeps (E.contents errors.old) (E.contents errors.new)) }
-    ensures fault { IfErr outcome (λ fault. TellsFault (E.contents errors.old) (E.contents errors.new) fault × (result ≡ 4)) }
+    ensures fault { IfErr outcome (λ fault. WritesFaultLine (E.contents errors.old) (E.contents errors.new) fault × (result ≡ 4)) }
 {
     match outcome {
         Ok(verdict) => status_of(verdict),
@@ -31,7 +31,7 @@ pub(crate) fn end<E: Write>(outcome: Result<Verdict, Fault>, errors: &mut E) -> 
 
 /// The status of a fault, whose line it writes. Nothing can be done where that line can't be written.
 pub(crate) fn end_by<E: Write>(fault: Fault, errors: &mut E) -> u8
-    ensures told { TellsFault (E.contents errors.old) (E.contents errors.new) fault }
+    ensures line { WritesFaultLine (E.contents errors.old) (E.contents errors.new) fault }
     ensures status { result ≡ 4 }
 {
     let _ = match fault {

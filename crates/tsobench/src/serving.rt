@@ -1,11 +1,11 @@
 //! What the program does for each request.
-ghost use Rattle.std.specs.Prelude.{◌≡◌, ◌≢◌, ◌≤◌, [], ◌∷◌, IfOk, IfErr, OnOk, OnSome, false, string_bytes};
+ghost use Rattle.std.specs.Prelude.{◌≡◌, ◌≢◌, ◌≤◌, [], ◌∷◌, IfOk, IfErr, OnOk, OnSome, false, option_to_list, string_bytes};
 ghost use Rattle.command_line.specs.Requests.{HasWorkers, asked_of};
 ghost use Rattle.tso_report.specs.Streams.{AppendsPrefix};
 ghost use Rattle.tso_report.specs.Written.{LeavesCheckFault, LeavesFault, WritesCheckReport, WritesReport};
 ghost use Rattle.tso_report.specs.declared.faults.Fault.{Fault};
 ghost use Rattle.tsobench.specs.Endings.{EndsAs, EndsShowing, judged_bytes, outputs};
-ghost use Rattle.tsobench.specs.Named.{HasKnown, OpensFirst, OpensNext, files_named, list_of, name_in, reads_input};
+ghost use Rattle.tsobench.specs.Named.{HasKnown, OpensFirst, OpensNext, files_named, name_in, reads_input};
 
 use crate::endings::{DONE, REFUSED, end, end_by};
 use crate::files::NamedFiles;
@@ -65,7 +65,7 @@ fn judge_named<H: Threads + Wait + Sync + AllocGlobal, O: NamedFiles, R: Read, W
     requires most { workers ≤ 64 }
     ensures report { let remaining = judged_bytes (name_in file.entry) (R.remaining reader.old) (O.bytes files.old) in IfOk result (WritesReport remaining (W.contents writer.old) (W.contents writer.new)) }
     ensures fault { let remaining = judged_bytes (name_in file.entry) (R.remaining reader.old) (O.bytes files.old) in IfErr result (LeavesFault remaining (W.contents writer.old) (W.contents writer.new)) }
-    ensures opened { OpensNext (O.opened files.old) (O.opened files.new) (list_of (name_in file.entry)) }
+    ensures opened { OpensNext (O.opened files.old) (O.opened files.new) (option_to_list (name_in file.entry)) }
     ensures unread { OnSome file.entry (reader.new ≡ reader.old) }
 {
     match file {
@@ -132,7 +132,7 @@ fn show<W: Write, E: Write>(text: &str, writer: &mut W, errors: &mut E) -> u8
 
 /// Writes why the arguments were refused. Nothing can be done where that can't be written.
 fn refuse<E: Write>(text: &str, errors: &mut E) -> u8
-    ensures told { AppendsPrefix (E.contents errors.old) (E.contents errors.new) text.now }
+    ensures text { AppendsPrefix (E.contents errors.old) (E.contents errors.new) text.now }
     ensures status { result ≡ 2 }
 {
     let _ = write_text(errors, text.as_bytes());

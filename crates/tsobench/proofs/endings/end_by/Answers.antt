@@ -1,4 +1,4 @@
 use Rattle.tsobench.proofs.endings.end_by.Goals as goal
 
-pub returns-in-OutOfMemory-clause-told : goal.returns-in-OutOfMemory-clause-told
-returns-in-OutOfMemory-clause-told g c = rw c.in-OutOfMemory.is c.write_text.ensures.prefix
+pub returns-in-OutOfMemory-clause-line : goal.returns-in-OutOfMemory-clause-line
+returns-in-OutOfMemory-clause-line g c = rw c.in-OutOfMemory.is c.write_text.ensures.prefix

@@ -1,6 +1,7 @@
+use Rattle.std.specs.Prelude.{option_to_list}
 use Rattle.tso_report.specs.Written.{IsCheckReportOfReaders, IsReportOfReader}
 use Rattle.tsobench.specs.Endings.{Outputs, judged_bytes, outputs}
-use Rattle.tsobench.specs.Named.{list_of, name_in}
+use Rattle.tsobench.specs.Named.{name_in}
 use Rattle.tsobench.proofs.EndFacts.{ends_by_report, opens_all}
 use Rattle.tsobench.proofs.serving.serve.Goals as goal
 
@@ -11,4 +12,4 @@ returns-in-Judge-clause-ends g c =
     rw c.in-Judge.is (ends_by_report (IsReportOfReader remaining) o c.judge_named.result c.end.result c.judge_named.ensures.report c.judge_named.ensures.fault c.end.ensures.verdict c.end.ensures.fault)
 
 pub returns-in-Judge-clause-first : goal.returns-in-Judge-clause-first
-returns-in-Judge-clause-first g c = rw c.in-Judge.is (opens_all _ _ (list_of (name_in c.in-Judge.file)) c.judge_named.ensures.opened)
+returns-in-Judge-clause-first g c = rw c.in-Judge.is (opens_all _ _ (option_to_list (name_in c.in-Judge.file)) c.judge_named.ensures.opened)
