@@ -9,7 +9,7 @@ use Rattle.tso_text.specs.declared.lines.Line.{Line}
 use Rattle.tso_text.specs.declared.lines.Line.TheVariants.{End}
 use Rattle.tso_text.specs.Printed.{whole_text}
 use Rattle.line_text.specs.Lines.{line_text, parts_of, pieces_of}
-use Rattle.tso_text.specs.Spelling.{Grammar, SpellsLists, said, said_fault, line_fault, lists_of, with_line, with_said, has_end_line, is_end}
+use Rattle.tso_text.specs.Spelling.{Grammar, text_byte_limit, SpellsLists, said, said_fault, line_fault, lists_of, with_line, with_said, has_end_line, is_end}
 use Rattle.tso_text.proofs.CanonicalFacts.{pieces_by}
 use Rattle.tso_text.proofs.Reaching.{IsClean, IsClean-push, Begins, part_fault-open, lists_of-push, has_end_line-push, spelled}
 use Rattle.line_text.proofs.SplitFacts.{has_byte, has_byte_in, split_part, split_joined, joined_without}
@@ -107,7 +107,7 @@ nothing_before g = record { clean = λ i w low. absurd (omega arith); running = 
 -- a text of the header, lines that are accepted, and `end` spells what the lines make
 pub printed_spells : {X : Type 0} (g : Grammar X) (p : X → List (List ℕ)) (ls : List (Line X)) (last : List (List X)) (lines : List ℕ) →
     has_byte 10 g.header ≡ false → IsReadBack g p End → AreAccepted g p g.start ls last → flat_map (λ l. line_text (pieces_by p l)) ls ≡ lines →
-    length (whole_text g.header lines) ≤ 1048576 → SpellsLists g (whole_text g.header lines) last
+    length (whole_text g.header lines) ≤ text_byte_limit → SpellsLists g (whole_text g.header lines) last
 unfolding parts_of whole_text
 printed_spells {X} g p ls last lines header end accepted bytes short =
     let ending = line_of p End in
@@ -132,7 +132,7 @@ printed_spells {X} g p ls last lines header end accepted bytes short =
     header_stands [] ending header = (ending, [] ∷ [], refl)
     header_stands (f ∷ prefix) ending header = (f, prefix ++ ending ∷ [] ∷ [], refl)
 
-    begins : {X : Type 0} (g : Grammar X) (text : List ℕ) (prefix : List (List ℕ)) (ending : List ℕ) → length text ≤ 1048576 → parts_of text ≡ g.header ∷ (prefix ++ ending ∷ [] ∷ []) → Begins g text
+    begins : {X : Type 0} (g : Grammar X) (text : List ℕ) (prefix : List (List ℕ)) (ending : List ℕ) → length text ≤ text_byte_limit → parts_of text ≡ g.header ∷ (prefix ++ ending ∷ [] ∷ []) → Begins g text
     begins g text prefix ending short parts =
         let p = header_stands prefix ending g.header in
         record { short = short; header = rw (parts, p.2) ((bytes_eq-Decides g.header g.header).1 refl) }

@@ -21,7 +21,7 @@ use Rattle.tso_text.specs.Grammars.{trace_grammar, program_grammar, schedule_gra
 use Rattle.tso_text.specs.Numbers.{numeral, or_bad_number, no_number, one_number, two_numbers, three_numbers}
 use Rattle.tso_text.specs.Printed.{items_text, processor_text, whole_text, outcome_pieces, op_pieces, act_pieces, trace_text, program_text, schedule_text}
 use Rattle.line_text.specs.Lines.{line_text}
-use Rattle.tso_text.specs.Spelling.{Grammar, items_of}
+use Rattle.tso_text.specs.Spelling.{Grammar, items_of, text_byte_limit}
 use Rattle.tso_text.proofs.CanonicalFacts.{pieces_by}
 use Rattle.tso_text.proofs.FaultFacts.{op_clean, act_clean}
 use Rattle.tso_text.proofs.LineFacts.{items_of-map}
@@ -134,7 +134,7 @@ short_text g p lists last accepted few some =
     let same = ap length (made_by-text p lists) in
     omega (arith, lines, count, same, few, some)
 
-length-whole : (header lines : List ℕ) → length header ≤ 20 → length lines ≤ 281120 → length (whole_text header lines) ≤ 1048576
+length-whole : (header lines : List ℕ) → length header ≤ 20 → length lines ≤ 281120 → length (whole_text header lines) ≤ text_byte_limit
 unfolding whole_text
 length-whole header lines short few = omega (arith, length-append (header ++ 10 ∷ lines) (line_text (codes "end" ∷ [])), length-append header (10 ∷ lines), short, few)
 
@@ -218,7 +218,7 @@ acts_fit acts within = record {
   clean = λ before x after at w. act_clean before x (each-middle (λ x. processor_of x ≤ 15) before x after (subst (AllByRecursion (λ x. processor_of x ≤ 15)) at (recursion_from_All _ _ within))) w;
 }
 
-pub printed_schedule_spells : (acts : List Act) → All (λ x. processor_of x ≤ 15) acts → length (schedule_text acts) ≤ 1048576 → SpellsSchedule (schedule_text acts) acts
+pub printed_schedule_spells : (acts : List Act) → All (λ x. processor_of x ≤ 15) acts → length (schedule_text acts) ≤ text_byte_limit → SpellsSchedule (schedule_text acts) acts
 unfolding schedule_text items_text
 printed_schedule_spells acts within short =
     printed_spells schedule_grammar act_pieces (map Item acts) (acts ∷ []) (flat_map (λ x. line_text (act_pieces x)) acts) refl schedule_end (items_accepted schedule_grammar act_pieces acts (acts_fit acts within))
@@ -232,5 +232,5 @@ trace_answered t bytes kept is = subst (λ b. SpellsTrace b t) (sym is) (printed
 pub program_answered : (p : ProgramValue) (bytes : List ℕ) → IsProgram p → bytes ≡ program_text p → SpellsProgram bytes p
 program_answered p bytes kept is = subst (λ b. SpellsProgram b p) (sym is) (printed_program_spells p kept)
 
-pub schedule_answered : (acts : List Act) (bytes : List ℕ) → bytes ≡ schedule_text acts → All (λ x. processor_of x ≤ 15) acts → length bytes ≤ 1048576 → SpellsSchedule bytes acts
-schedule_answered acts bytes is within short = subst (λ b. SpellsSchedule b acts) (sym is) (printed_schedule_spells acts within (subst (λ b. length b ≤ 1048576) is short))
+pub schedule_answered : (acts : List Act) (bytes : List ℕ) → bytes ≡ schedule_text acts → All (λ x. processor_of x ≤ 15) acts → length bytes ≤ text_byte_limit → SpellsSchedule bytes acts
+schedule_answered acts bytes is within short = subst (λ b. SpellsSchedule b acts) (sym is) (printed_schedule_spells acts within (subst (λ b. length b ≤ text_byte_limit) is short))

@@ -11,7 +11,7 @@ use Rattle.line_text.specs.Lines.{is_empty, parts_of}
 use Rattle.line_text.proofs.CutFacts.{split_parts, some_part}
 use Rattle.tso_text.specs.declared.faults.Why.{Why}
 use Rattle.tso_text.specs.declared.faults.Why.TheVariants.{BadHeader, AfterEnd, TooLong, OutOfMemory}
-use Rattle.tso_text.specs.Spelling.{Grammar, SpellsLists, IsTextRefusal, fault_at, part_fault, said_fault, said, lists_of, lists_after, with_said, has_end_line, has_header, is_end, unended_text_fault, body_of, same_text_fault}
+use Rattle.tso_text.specs.Spelling.{Grammar, SpellsLists, IsTextRefusal, text_byte_limit, fault_at, part_fault, said_fault, said, lists_of, lists_after, with_said, has_end_line, has_header, is_end, unended_text_fault, body_of, same_text_fault}
 use Rattle.tso_text.specs.Internal.Accepted.{IsFirstTextFault, IsRefusedFor, AcceptsLine}
 
 -- ---- parts before
@@ -77,7 +77,7 @@ IsClean-push g prefix line clean at_line i w low =
 
 -- A text that is short enough and begins with the header.
 pub record Begins {X : Type 0} (g : Grammar X) (text : List ℕ) : Type 0 where
-  pub short : length text ≤ 1048576
+  pub short : length text ≤ text_byte_limit
   pub header : has_header g.header (parts_of text) ≡ true
 
 -- The reader is i lines after the header: these lines have no fault and none of them is an `end`; `rest` is what
@@ -132,7 +132,7 @@ fault_at-begins : {X : Type 0} (g : Grammar X) (text : List ℕ) (w : Why) → B
 unfolding fault_at
 fault_at-begins g text w begins =
     let fits = begins.short in
-    let off : ltb 1048576 (length text) ≡ false = grind (arith, nat_tests) in
+    let off : ltb text_byte_limit (length text) ≡ false = grind (arith, nat_tests) in
     (rw off (and-false (same_text_fault TooLong w)), rw begins.header (and-false (same_text_fault BadHeader w)))
 
 -- no line before a place after clean lines has a fault
@@ -262,7 +262,7 @@ Reached-end g text i rest lists line (b ∷ after) new r parts accepts none = ab
 -- ---- the beginning
 
 -- after the header
-pub Reached-start : {X : Type 0} (g : Grammar X) (text rest : List ℕ) → length text ≤ 1048576 → parts_of text ≡ g.header ∷ parts_of rest → Reached g text 0 rest g.start
+pub Reached-start : {X : Type 0} (g : Grammar X) (text rest : List ℕ) → length text ≤ text_byte_limit → parts_of text ≡ g.header ∷ parts_of rest → Reached g text 0 rest g.start
 unfolding parts_of has_end_line lists_of
 Reached-start g text rest short parts =
     let p = split_parts (λ b. eqb b 10) rest in
@@ -277,34 +277,34 @@ Reached-start g text rest short parts =
     }
 
 -- too many bytes
-pub too_long : {X : Type 0} (g : Grammar X) (text : List ℕ) → 1048576 < length text → IsTextRefusal g text 0 TooLong
+pub too_long : {X : Type 0} (g : Grammar X) (text : List ℕ) → text_byte_limit < length text → IsTextRefusal g text 0 TooLong
 unfolding fault_at
 too_long g text long =
-    let on : ltb 1048576 (length text) ≡ true = grind (arith, nat_tests) in
+    let on : ltb text_byte_limit (length text) ≡ true = grind (arith, nat_tests) in
     let first : IsFirstTextFault (fault_at g text 0) TooLong = IsFirstTextFault-same TooLong (λ w. rw on (and_true (same_text_fault TooLong w))) (same_text_fault-first TooLong) in
     record { fault = first.fault; first = λ j w low. absurd (omega arith); least = first.least }
 
-only_whole : {X : Type 0} (g : Grammar X) (text : List ℕ) → length text ≤ 1048576 → (j : ℕ) (w : Why) → j < 1 → fault_at g text j w ≡ false
+only_whole : {X : Type 0} (g : Grammar X) (text : List ℕ) → length text ≤ text_byte_limit → (j : ℕ) (w : Why) → j < 1 → fault_at g text j w ≡ false
 unfolding fault_at
-only_whole g text short zero w low = let off : ltb 1048576 (length text) ≡ false = grind (arith, nat_tests) in rw off (and-false (same_text_fault TooLong w))
+only_whole g text short zero w low = let off : ltb text_byte_limit (length text) ≡ false = grind (arith, nat_tests) in rw off (and-false (same_text_fault TooLong w))
 only_whole g text short (suc j) w low = absurd (omega arith)
 
 -- no header line
-pub bad_header : {X : Type 0} (g : Grammar X) (text : List ℕ) → length text ≤ 1048576 → has_header g.header (parts_of text) ≡ false → IsTextRefusal g text 1 BadHeader
+pub bad_header : {X : Type 0} (g : Grammar X) (text : List ℕ) → length text ≤ text_byte_limit → has_header g.header (parts_of text) ≡ false → IsTextRefusal g text 1 BadHeader
 unfolding fault_at
 bad_header g text short none =
     let first : IsFirstTextFault (fault_at g text (suc zero)) BadHeader = IsFirstTextFault-same BadHeader (λ w. rw none (and_true (same_text_fault BadHeader w))) (same_text_fault-first BadHeader) in
     record { fault = first.fault; first = λ j w low. only_whole g text short j w low; least = first.least }
 
 -- the first line is another
-pub other_header : {X : Type 0} (g : Grammar X) (text part rest : List ℕ) → length text ≤ 1048576 → parts_of text ≡ part ∷ parts_of rest → bytes_eq part g.header ≡ false → IsTextRefusal g text 1 BadHeader
+pub other_header : {X : Type 0} (g : Grammar X) (text part rest : List ℕ) → length text ≤ text_byte_limit → parts_of text ≡ part ∷ parts_of rest → bytes_eq part g.header ≡ false → IsTextRefusal g text 1 BadHeader
 unfolding parts_of
 other_header g text part rest short parts differs =
     let p = split_parts (λ b. eqb b 10) rest in
     bad_header g text short (rw (parts, p.2) differs)
 
 -- no line end
-pub no_header : {X : Type 0} (g : Grammar X) (text : List ℕ) → length text ≤ 1048576 → parts_of text ≡ text ∷ [] → IsTextRefusal g text 1 BadHeader
+pub no_header : {X : Type 0} (g : Grammar X) (text : List ℕ) → length text ≤ text_byte_limit → parts_of text ≡ text ∷ [] → IsTextRefusal g text 1 BadHeader
 no_header g text short parts = bad_header g text short (rw parts refl)
 
 -- the fault that a reader answers is the refusal at its line, unless memory ran out

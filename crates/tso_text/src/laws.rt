@@ -5,6 +5,7 @@ ghost use Rattle.tso_ops.specs.Limits.{IsTrace, IsProgram};
 ghost use Rattle.tso_ops.specs.Values.{TraceValue, ProgramValue};
 ghost use Rattle.tso_text.specs.Grammars.{processor_of, SpellsTrace, SpellsProgram, SpellsSchedule, IsTraceRefusal, IsProgramRefusal, IsScheduleRefusal, IsSpelledTrace, IsRefusedTrace, IsSpelledProgram, IsRefusedProgram, IsSpelledSchedule, IsRefusedSchedule};
 ghost use Rattle.tso_text.specs.Printed.{trace_text, program_text, schedule_text};
+ghost use Rattle.tso_text.specs.Spelling.{text_byte_limit};
 ghost use Rattle.tso_text.specs.declared.acts.Act.{Act};
 ghost use Rattle.tso_text.specs.declared.faults.Why.{Why};
 
@@ -42,6 +43,6 @@ pub fn schedules()
     ensures never_both { (text : List ℕ) → IsSpelledSchedule text → IsRefusedSchedule text → ⊥ }
     ensures one_value { (text : List ℕ) (acts others : List Act) → SpellsSchedule text acts → SpellsSchedule text others → acts ≡ others }
     ensures one_text { (text : List ℕ) (acts : List Act) → SpellsSchedule text acts → text ≡ schedule_text acts }
-    ensures printed { (acts : List Act) → All (λ act. processor_of act ≤ 15) acts → length (schedule_text acts) ≤ 1048576 → SpellsSchedule (schedule_text acts) acts }
+    ensures printed { (acts : List Act) → All (λ act. processor_of act ≤ 15) acts → length (schedule_text acts) ≤ text_byte_limit → SpellsSchedule (schedule_text acts) acts }
     ensures one_refusal { (text : List ℕ) (j k : ℕ) (v w : Why) → IsScheduleRefusal text j v → IsScheduleRefusal text k w → (j ≡ k) × (v ≡ w) }
 {}

@@ -1,6 +1,7 @@
 ghost use Rattle.std.specs.Prelude.{◌≡◌, ◌++◌, ◌≤◌, All, length, string_bytes, OnOk, IfOk};
 ghost use Rattle.tso_text.specs.Grammars.{processor_of, SpellsTrace, SpellsProgram, SpellsSchedule};
 ghost use Rattle.tso_text.specs.Printed.{items_text, processor_text, trace_text, program_text, schedule_text};
+ghost use Rattle.tso_text.specs.Spelling.{text_byte_limit};
 
 use crate::acts::Act;
 use crate::forms::Form;
@@ -38,7 +39,7 @@ pub fn print_program(alloc: Global, program: &Program) -> Result<String, OutOfMe
 /// and the text is within the limit. OutOfMemory where an allocation was refused.
 pub fn print_schedule(alloc: Global, acts: &[Act]) -> Result<String, OutOfMemory>
     ensures lines { IfOk result (λ text. string_bytes text ≡ schedule_text acts.now) }
-    ensures spelled { IfOk result (λ text. All (λ act. processor_of act ≤ 15) acts.now → length (string_bytes text) ≤ 1048576 → SpellsSchedule (string_bytes text) acts.now) }
+    ensures spelled { IfOk result (λ text. All (λ act. processor_of act ≤ 15) acts.now → length (string_bytes text) ≤ text_byte_limit → SpellsSchedule (string_bytes text) acts.now) }
 {
     let mut text = String::from_str(alloc, "tso schedule 1\n")?;
     print_items(&mut text, acts)?;

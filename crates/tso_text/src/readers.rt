@@ -2,7 +2,7 @@ ghost use Rattle.std.specs.Prelude.{◌≡◌, ◌≢◌, ◌∷◌, [], List, �
 ghost use Rattle.line_text.specs.Lines.{parts_of};
 ghost use Rattle.tso_ops.specs.Values.{TraceValue, ProgramValue, rows};
 ghost use Rattle.tso_text.specs.Grammars.{SpellsTrace, SpellsProgram, SpellsSchedule, IsTraceRefusal, IsProgramRefusal, IsScheduleRefusal};
-ghost use Rattle.tso_text.specs.Spelling.{SpellsLists, IsTextRefusal};
+ghost use Rattle.tso_text.specs.Spelling.{text_byte_limit, SpellsLists, IsTextRefusal};
 ghost use Rattle.tso_text.specs.Internal.Accepted.{IsKept};
 ghost use Rattle.tso_text.specs.declared.acts.Act.{Act};
 ghost use Rattle.tso_text.specs.declared.faults.Why.{Why};
@@ -109,7 +109,7 @@ pub(crate) fn read_lists<T: Form>(alloc: Global, text: &[u8]) -> Result<Vec<Vec<
 /// What stands after the header line.
 fn body_of<T: Form>(text: &[u8]) -> Result<&[u8], TextFault>
     ensures body { IfOk result (λ rest. parts_of text.now ≡ T.grammar.header ∷ parts_of rest.now) }
-    ensures short { OnOk result (length text.now ≤ 1048576) }
+    ensures short { OnOk result (length text.now ≤ text_byte_limit) }
     ensures shorter { IfOk result (λ rest. length rest.now < length text.now) }
     ensures refused { IfErr result (λ fault. IsTextRefusal T.grammar text.now fault.line fault.why) }
     ensures why { IfErr result (λ fault. fault.why ≢ Why.OutOfMemory) }
