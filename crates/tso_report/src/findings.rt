@@ -5,6 +5,7 @@ ghost use Rattle.tso_cert.specs.declared.steps.Certificate.TheVariants.{Unwritte
 ghost use Rattle.tso_model.specs.Certs.{IsCertificateOf};
 ghost use Rattle.tso_report.specs.declared.faults.Fault.{Fault};
 ghost use Rattle.tso_report.specs.Findings.{IsFinding};
+ghost use Rattle.tso_report.specs.Limits.{worker_limit};
 
 use crate::certificates::build_cert;
 use crate::faults::Fault;
@@ -36,7 +37,7 @@ pub fn find_violation<H: Threads + Wait>(
     workers: usize,
 ) -> Result<Finding, Fault>
     requires some { 1 ≤ workers }
-    requires most { workers ≤ 64 }
+    requires most { workers ≤ worker_limit }
     ensures found { IfOk result (IsFinding trace.now) }
     ensures fault { IfErr result (λ fault. (fault ≡ Fault.OutOfMemory) ⊎ (fault ≡ Fault.NoThread)) }
 {

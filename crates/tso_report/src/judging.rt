@@ -6,7 +6,7 @@ ghost use Rattle.tso_text.specs.Grammars.{SpellsTrace};
 ghost use Rattle.tso_model.specs.Order.{IsConsistent};
 ghost use Rattle.tso_report.specs.declared.faults.Fault.{Fault};
 ghost use Rattle.tso_report.specs.declared.verdicts.Verdict.{Verdict};
-ghost use Rattle.tso_report.specs.Limits.{trace_read_limit};
+ghost use Rattle.tso_report.specs.Limits.{trace_read_limit, worker_limit};
 ghost use Rattle.tso_report.specs.Reports.{ShowsViolation, SpellsViolation};
 ghost use Rattle.tso_report.specs.Streams.{LosesPrefix};
 ghost use Rattle.tso_report.specs.Written.{LeavesFault, WritesReport};
@@ -38,7 +38,7 @@ pub fn judge<H: Threads + Wait + Sync, R: Read, W: Write>(
     workers: usize,
 ) -> Result<Verdict, Fault>
     requires some { 1 ≤ workers }
-    requires most { workers ≤ 64 }
+    requires most { workers ≤ worker_limit }
     ensures report { IfOk result (WritesReport (R.remaining reader.old) (W.contents writer.old) (W.contents writer.new)) }
     ensures violation { IfOk result (λ verdict. IfSome (R.remaining reader.old) (λ all. (verdict ≡ Verdict.Violation) ↔ SpellsViolation all)) }
     ensures no_order { IfOk result (λ verdict. verdict ≡ Verdict.Violation → IfSome (R.remaining reader.old) (λ all. (t : TraceValue) → SpellsTrace all t → IsConsistent t → ⊥)) }

@@ -1,10 +1,12 @@
 //! All that the program does, from its arguments on.
-ghost use Rattle.std.specs.Prelude.{◌≡◌, ◌≢◌, None, false};
+ghost use Rattle.std.specs.Prelude.{◌≡◌, ◌≢◌, None, true, false};
 ghost use Rattle.std.specs.Io.KnownBytes.{Keeps};
 ghost use Rattle.std.specs.declared.io.ErrorKind.TheVariants.{OutOfMemory as NoMemory};
 ghost use Rattle.command_line.specs.Refusals.{Refuses};
 ghost use Rattle.command_line.specs.Requests.{Asked, refusing, showing, texts_in};
 ghost use Rattle.command_line.specs.Spellings.{Asks, AsksHelp};
+ghost use Rattle.tso_report.specs.Limits.{trace_read_limit};
+ghost use Rattle.tso_report.specs.Streams.{LosesPrefix};
 ghost use Rattle.tso_report.specs.declared.faults.Fault.TheVariants.{OutOfMemory};
 ghost use Rattle.tsobench.specs.Endings.{Does, IsAskedFor, WritesFaultLine, outputs};
 ghost use Rattle.tsobench.specs.Named.{OpensFirst, files_named, reads_input};
@@ -40,6 +42,9 @@ pub fn drive<H: Threads + Wait + Sync + Files + AllocGlobal, R: Read, W: Write, 
     ensures refused { Refuses (texts_in arguments.now) → Does refusing (R.remaining reader.old) (λ _. None) (outputs (W.contents writer.old) (W.contents writer.new) (E.contents errors.old) (E.contents errors.new)) result }
     ensures ends { (asked : Asked) × IsAskedFor (texts_in arguments.now) asked × Does asked (R.remaining reader.old) (λ _. None) (outputs (W.contents writer.old) (W.contents writer.new) (E.contents errors.old) (E.contents errors.new)) result }
     ensures unread { (asked : Asked) → Asks (texts_in arguments.now) asked → reads_input asked ≡ false → reader.new ≡ reader.old }
+    ensures unread_help { AsksHelp (texts_in arguments.now) → reader.new ≡ reader.old }
+    ensures unread_refusal { Refuses (texts_in arguments.now) → reader.new ≡ reader.old }
+    ensures taken { (asked : Asked) → Asks (texts_in arguments.now) asked → reads_input asked ≡ true → result ≢ 4 → LosesPrefix trace_read_limit (R.remaining reader.old) (R.remaining reader.new) }
 {
     let mut files = SystemFiles::new(rt);
     drive_over(rt, arguments, &mut files, reader, writer, errors)
@@ -59,6 +64,9 @@ pub fn drive_over<
     ensures ends { (asked : Asked) × IsAskedFor (texts_in arguments.now) asked × Does asked (R.remaining reader.old) (O.bytes files.old) (outputs (W.contents writer.old) (W.contents writer.new) (E.contents errors.old) (E.contents errors.new)) result }
     ensures opened { (asked : Asked) → Asks (texts_in arguments.now) asked → OpensFirst (O.opened files.old) (O.opened files.new) (files_named asked) }
     ensures unread { (asked : Asked) → Asks (texts_in arguments.now) asked → reads_input asked ≡ false → reader.new ≡ reader.old }
+    ensures unread_help { AsksHelp (texts_in arguments.now) → reader.new ≡ reader.old }
+    ensures unread_refusal { Refuses (texts_in arguments.now) → reader.new ≡ reader.old }
+    ensures taken { (asked : Asked) → Asks (texts_in arguments.now) asked → reads_input asked ≡ true → result ≢ 4 → LosesPrefix trace_read_limit (R.remaining reader.old) (R.remaining reader.new) }
 {
     match read_arguments(rt.alloc(), arguments) {
         Ok(request) => serve(rt, &request, files, reader, writer, errors),
