@@ -1,13 +1,11 @@
 -- Lemmas on how the program ends.
-use Rattle.std.proofs.Common.{◌≡◌, ◌⊎◌, ℕ, List, [], ◌∷◌, Ok, Err, Result, IfOk, IfErr, Some, None, arith, length, ap, refl, subst, sym, inl, inr, true, true≢false}
+use Rattle.std.proofs.Common.{◌≡◌, ◌⊎◌, ℕ, List, Ok, Err, Result, IfOk, IfErr, Some, None, arith, length, ap, refl, subst, sym, inl, inr, true, true≢false}
 use Rattle.std.specs.Prelude.{Option, ◌≢◌, option_map, string_bytes}
 use Rattle.std.specs.Borrow.{Bor}
 use Rattle.std.specs.Io.KnownBytes.{Keeps}
 use Rattle.command_line.specs.declared.requests.Request.{Request}
 use Rattle.command_line.specs.declared.requests.Request.TheVariants.{Judge, Check, Show, Refuse}
-use Rattle.clap.specs.Words.{Kinds, Row}
-use Rattle.command_line.specs.Commands.{IsAskedBy, asked_at, asked_by}
-use Rattle.command_line.specs.Requests.{Asked, Text, asked_of, judging}
+use Rattle.command_line.specs.Requests.{asked_of, judging}
 use Rattle.std.proofs.lemmas.List.{append-nil}
 use Rattle.tso_report.specs.declared.verdicts.Verdict.{Verdict}
 use Rattle.tso_report.specs.declared.faults.Fault.{Fault}
@@ -99,11 +97,6 @@ does_asked (Judge file workers) input files o status ends = ends
 does_asked (Check trace certificate) input files o status ends = ends
 does_asked (Show text) input files o status ends = (string_bytes text, ends)
 does_asked (Refuse text) input files o status ends = (string_bytes text, ends)
-
--- something is asked for by all arguments
-pub some_asked : (kinds : Kinds) (found : Option (Text × List Row)) → (asked : Asked) × IsAskedBy kinds found asked
-some_asked [] found = (asked_by found, refl)
-some_asked (kind ∷ others) found = (asked_at kind, inl refl)
 
 -- where nothing was opened
 pub opens_none : (old : Option (List (List ℕ))) (names : List (List ℕ)) → OpensFirst old old names

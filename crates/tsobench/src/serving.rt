@@ -134,7 +134,7 @@ fn show<W: Write, E: Write>(text: &str, writer: &mut W, errors: &mut E) -> u8
 }
 
 /// Writes why the arguments were refused. Nothing can be done where that can't be written.
-fn refuse<E: Write>(text: &str, errors: &mut E) -> u8
+pub(crate) fn refuse<E: Write>(text: &str, errors: &mut E) -> u8
     ensures text { AppendsPrefix (E.contents errors.old) (E.contents errors.new) text.now }
     ensures status { result ≡ 2 }
 {
