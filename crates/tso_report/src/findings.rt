@@ -1,11 +1,11 @@
 //! What is found of a trace.
 ghost use Rattle.std.specs.Prelude.{◌≡◌, ◌⊎◌, ◌↔◌, ◌≤◌, ℕ, IsTrue, MatchOption, IfOk, IfErr};
+ghost use Rattle.round_pool.specs.Workers.{worker_limit};
 ghost use Rattle.tso_ops.specs.Events.{IsUnwritten};
 ghost use Rattle.tso_cert.specs.declared.steps.Certificate.TheVariants.{Unwritten};
 ghost use Rattle.tso_model.specs.Certs.{IsCertificateOf};
 ghost use Rattle.tso_report.specs.declared.faults.Fault.{Fault};
 ghost use Rattle.tso_report.specs.Findings.{IsFinding};
-ghost use Rattle.tso_report.specs.Limits.{worker_limit};
 
 use crate::certificates::build_cert;
 use crate::faults::Fault;

@@ -1,12 +1,13 @@
 //! The way of a trace: read, parse, find, render, write.
 ghost use Rattle.std.specs.Prelude.{◌≡◌, ◌↔◌, ◌≤◌, ℕ, List, IfSome, IfOk, IfErr};
 ghost use Rattle.std.specs.Io.KnownBytes.{Appends};
+ghost use Rattle.round_pool.specs.Workers.{worker_limit};
 ghost use Rattle.tso_ops.specs.Values.{TraceValue};
 ghost use Rattle.tso_text.specs.Grammars.{SpellsTrace};
 ghost use Rattle.tso_model.specs.Order.{IsConsistent};
 ghost use Rattle.tso_report.specs.declared.faults.Fault.{Fault};
 ghost use Rattle.tso_report.specs.declared.verdicts.Verdict.{Verdict};
-ghost use Rattle.tso_report.specs.Limits.{trace_read_limit, worker_limit};
+ghost use Rattle.tso_report.specs.Limits.{trace_read_limit};
 ghost use Rattle.tso_report.specs.Reports.{ShowsViolation, SpellsViolation};
 ghost use Rattle.tso_report.specs.Streams.{LosesPrefix};
 ghost use Rattle.tso_report.specs.Written.{LeavesFault, WritesReport};
