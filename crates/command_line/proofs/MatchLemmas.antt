@@ -55,8 +55,8 @@ as_given arguments asked same is =
 shown : (arguments : List Text) (asked : Asked) → fault_of tsobench_app arguments ≡ DisplayHelp ∷ InvalidSubcommand ∷ [] → asked ≡ showing → IsAskedFor arguments asked
 shown arguments asked kinds is = subst (λ (k : Kinds). IsAskedBy k (subcommand_of tsobench_app arguments) asked) (sym kinds) (inl is)
 
-same_text : (a b : Text) → bytes_eq a b ≡ true → a ≡ b
-same_text a b e = (bytes_eq-Decides a b).0 e
+text_is : (a b : Text) → bytes_eq a b ≡ true → a ≡ b
+text_is a b e = (bytes_eq-Decides a b).0 e
 
 one_asked : (first : Text) (asked : Asked) → IsFound (first ∷ []) asked → IsAskedFor (first ∷ []) asked
 one_asked first asked is = go (bytes_eq first (codes "help")) refl
@@ -64,7 +64,7 @@ one_asked first asked is = go (bytes_eq first (codes "help")) refl
     go : (b : Bool) → bytes_eq first (codes "help") ≡ b → IsAskedFor (first ∷ []) asked
     go false e = as_given (first ∷ []) asked (rw e refl) is
     go true e =
-        let named = same_text first (codes "help") e in
+        let named = text_is first (codes "help") e in
         let shows : asked ≡ showing = by_kind _ asked _ _ program.help_shown (subst (λ (t : Text). IsFound (t ∷ []) asked) named is) in
         subst (λ (t : Text). IsAskedFor (t ∷ []) asked) (sym named) (shown (codes "help" ∷ []) asked program.help_called shows)
 
@@ -73,8 +73,8 @@ module _ (first name : Text) (asked : Asked) (is : IsFound (first ∷ name ∷ [
   help_named : (other : Text) → bytes_eq name other ≡ true → (IsFound (codes "help" ∷ other ∷ []) asked → asked ≡ showing)
       → fault_of tsobench_app (codes "help" ∷ other ∷ []) ≡ DisplayHelp ∷ InvalidSubcommand ∷ [] → IsAskedFor (first ∷ name ∷ []) asked
   help_named other e shows kinds =
-      let is_help = same_text first (codes "help") called in
-      let is_other = same_text name other e in
+      let is_help = text_is first (codes "help") called in
+      let is_other = text_is name other e in
       let found = subst (λ (t : Text). IsFound (codes "help" ∷ t ∷ []) asked) is_other (subst (λ (t : Text). IsFound (t ∷ name ∷ []) asked) is_help is) in
       let wanted = shown (codes "help" ∷ other ∷ []) asked kinds (shows found) in
       subst (λ (t : Text). IsAskedFor (t ∷ name ∷ []) asked) (sym is_help) (subst (λ (t : Text). IsAskedFor (codes "help" ∷ t ∷ []) asked) (sym is_other) wanted)

@@ -78,7 +78,7 @@ static CHECK_HELP: [&str; 2] = ["check", "--help"];
 /// The option that asks for what `help`, alone or with the name of a subcommand, asks for: `clap` promises more of it,
 /// and it gives the same text. None of all other arguments.
 fn help_option(arguments: &[String]) -> Option<&'static [&'static str]>
-    ensures { unwrap_or (option_map (λ words. map (λ word. word.now) words.now) result) (texts_in arguments.now) ≡ parsed_as (texts_in arguments.now) }
+    ensures { unwrap_or (option_map (λ option. map (λ argument. argument.now) option.now) result) (texts_in arguments.now) ≡ parsed_as (texts_in arguments.now) }
 {
     match arguments {
         [first] if first.as_str() == "help" => Some(PROGRAM_HELP.as_slice()),
@@ -89,7 +89,7 @@ fn help_option(arguments: &[String]) -> Option<&'static [&'static str]>
 
 /// The option that asks for the help of the subcommand of this name.
 fn subcommand_help_option(name: &str) -> Option<&'static [&'static str]>
-    ensures { option_map (λ words. map (λ word. word.now) words.now) result ≡ help_option_of name.now }
+    ensures { option_map (λ option. map (λ argument. argument.now) option.now) result ≡ help_option_of name.now }
 {
     if name == "judge" {
         return Some(JUDGE_HELP.as_slice());

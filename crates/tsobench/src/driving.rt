@@ -28,7 +28,7 @@ use tso_report::Fault;
 /// 0: no violation was found, or help was asked for and written. 2: a text or a certificate was refused, or the
 /// arguments were, whose refusal is written to `errors`. 3: a violation, or a certificate that holds. 4: a fault; one
 /// line, as `FAULT Read`, is written to `errors`. All files that the arguments name are opened, in their order, before
-/// one is read.
+/// one is read. At most 1,048,577 bytes of a trace are read.
 pub fn drive<H: Threads + Wait + Sync + Files + AllocGlobal, R: Read, W: Write, E: Write>(
     rt: &H,
     arguments: &[String],
