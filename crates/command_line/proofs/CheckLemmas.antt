@@ -7,7 +7,8 @@ use Rattle.clap.specs.Walk.{Row, Rule, with_default}
 use Rattle.clap.specs.Words.{fault_of, subcommand_of}
 use Rattle.clap.specs.Faults.{check_fault, defaults_fault}
 use Rattle.clap.proofs.OnLiterals.{clap_on_literals}
-use Rattle.command_line.specs.Commands.{asked_by, certificate_rule, check_app, checking_by, trace_rule, tsobench_app}
+use Rattle.command_line.specs.Commands.{certificate_rule, check_app, checking_by, trace_rule, tsobench_app}
+use Rattle.command_line.specs.Internal.Computed.{asked_by}
 use Rattle.command_line.specs.Requests.{Text, checking}
 use Rattle.command_line.specs.Spellings.{AsksToCheck}
 use Rattle.command_line.proofs.OptionLemmas.{Gives, Placed, TakesOne, gives_of, level_fault_uses, merges_right, no_option, no_other, placed, rows_after_uses, used_all, uses_fault}

@@ -11,7 +11,9 @@ use Rattle.clap.specs.Walk.{Row, Rule, with_default}
 use Rattle.clap.specs.Words.{fault_of, subcommand_of}
 use Rattle.clap.specs.declared.builder.value_parser.ValueParser.TheVariants as parser
 use Rattle.clap.proofs.OnLiterals.{clap_on_literals}
-use Rattle.command_line.specs.Commands.{asked_by, file_rule, judge_app, judging_by, number_in, tsobench_app, within_workers, workers_rule}
+use Rattle.round_pool.specs.Workers.{worker_limit}
+use Rattle.command_line.specs.Commands.{file_rule, judge_app, tsobench_app, workers_rule}
+use Rattle.command_line.specs.Internal.Computed.{asked_by, judging_by, number_in, within_workers}
 use Rattle.command_line.specs.Options.{AreGiven}
 use Rattle.command_line.specs.Requests.{Text, judging}
 use Rattle.command_line.specs.Spellings.{AsksToJudge, AsksWorkers}
@@ -58,7 +60,7 @@ file_use : (name : Text) → AreJudging ((file_built, name) ∷ []) (Some name) 
 unfolding clap_on_literals
 file_use name = record { passes = refl; ends = refl; asks = refl }
 
-module _ (number : Text) (passes : accepts false (parser.Unsigned 1 64) number ≡ true) where
+module _ (number : Text) (passes : accepts false (parser.Unsigned 1 worker_limit) number ≡ true) where
   abbrev n : ℕ
   n = within_workers (number_in number)
 
@@ -93,7 +95,7 @@ unnamed arguments (Some name) given =
     let some = gives_of judge 1 [] (name ∷ []) arguments [] ((file_built, name) ∷ []) given no_option (file_placed name) in
     by_uses arguments (Some name) 1 some.uses ((file_built, name) ∷ []) some.gives (merges_right _ _ _ some.merges refl) (file_use name)
 
-module _ (number : Text) (passes : accepts false (parser.Unsigned 1 64) number ≡ true) (arguments : List Text) where
+module _ (number : Text) (passes : accepts false (parser.Unsigned 1 worker_limit) number ≡ true) (arguments : List Text) where
   abbrev workers_in_range : ℕ
   workers_in_range = within_workers (number_in number)
 
@@ -117,7 +119,7 @@ uses_of (option ∷ []) arguments file n given is =
     let small : n < 2 ^ 64 = omega (arith, is.2) in
     let same : within_workers (number_in (decimal n)) ≡ n = ap within_workers (number_in-decimal n small) ∙ within_workers-same n is.1 is.2 in
     let named = subst (λ (o : Text × Text). AreGiven (o ∷ []) (option_to_list file) arguments) is.0 given in
-    subst (λ (m : ℕ). JudgingUses arguments file m) same (numbered (decimal n) (decimal_passes 1 64 n is.1 is.2 small) arguments file named)
+    subst (λ (m : ℕ). JudgingUses arguments file m) same (numbered (decimal n) (decimal_passes 1 worker_limit n is.1 is.2 small) arguments file named)
 uses_of (option ∷ other ∷ others) arguments file n given is = absurd is
 
 -- what is asked for by arguments that ask for judging

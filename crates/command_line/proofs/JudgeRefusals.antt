@@ -6,6 +6,7 @@ use Rattle.clap.specs.declared.error.kind.ErrorKind.TheVariants.{UnknownArgument
 use Rattle.clap.specs.Words.{fault_of}
 use Rattle.clap.proofs.OnLiterals.{clap_on_literals}
 use Rattle.command_line.proofs.ValueLemmas.{IsValue}
+use Rattle.round_pool.specs.Workers.{worker_limit}
 use Rattle.command_line.specs.Requests.{Text}
 use Rattle.command_line.specs.Commands.{tsobench_app}
 
@@ -23,7 +24,7 @@ joined number = (codes "--workers=" ++ number) ∷ []
 -- ---- a number of workers, which passes or not
 
 module _ (number : Text) (is_number : IsValue number) where
-  module _ (fails : accepts false (parser.Unsigned 1 64) number ≡ false) where
+  module _ (fails : accepts false (parser.Unsigned 1 worker_limit) number ≡ false) where
     pub apart_refused : fault_of tsobench_app (codes "judge" ∷ apart number) ≡ ValueValidation ∷ []
     unfolding clap_on_literals
     apart_refused = rw (is_number.no_escape, is_number.no_long, is_number.no_short, fails) refl
@@ -35,7 +36,7 @@ module _ (number : Text) (is_number : IsValue number) where
 -- ---- and a file, after it or before it
 
 module _ (number file : Text) (is_number : IsValue number) (is : IsValue file) where
-  module _ (fails : accepts false (parser.Unsigned 1 64) number ≡ false) where
+  module _ (fails : accepts false (parser.Unsigned 1 worker_limit) number ≡ false) where
     pub apart_file_refused : fault_of tsobench_app (codes "judge" ∷ (apart number ++ file ∷ [])) ≡ ValueValidation ∷ []
     unfolding clap_on_literals
     apart_file_refused = rw (is_number.no_escape, is_number.no_long, is_number.no_short, is.no_escape, is.no_long, is.no_short, fails) refl

@@ -10,3 +10,4 @@ pub mod CheckLemmas
 pub mod JudgeRefusals
 pub mod CheckRefusals
 pub mod SpellingLemmas
+pub mod MatchLemmas

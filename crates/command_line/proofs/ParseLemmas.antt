@@ -1,11 +1,11 @@
 -- What `clap` says of a parse, of the program's command line as a value.
-use Rattle.std.proofs.Common.{◌≡◌, ◌∙◌, ap, ap₂, subst, refl, true, false, List, [], ◌∷◌, Result, IfOk, codes}
+use Rattle.std.proofs.Common.{◌≡◌, ◌∙◌, ap, ap₂, subst, refl, true, List, Result, IfOk}
 use Rattle.std.proofs.lemmas.Result.{IfOk-weaker}
 use Rattle.clap.specs.Words.{App, FailsBy, HasMatchesOf, Kinds, fault_of, is_simple, is_simple_and_free, subcommand_of, subcommand_rows_of}
 use Rattle.clap.specs.declared.error.Error.{Error}
 use Rattle.clap.specs.declared.parser.matches.ArgMatches.{ArgMatches}
 use Rattle.command_line.specs.Requests.{Text}
-use Rattle.command_line.specs.Commands.{is_help, parsed_as, tsobench_app}
+use Rattle.command_line.specs.Commands.{tsobench_app}
 
 -- the command line is one of those whose matches and errors `clap` states exactly
 simple : is_simple tsobench_app ≡ true
@@ -20,9 +20,3 @@ module _ (r : Result ArgMatches Error) (app : App) (texts parsed : List Text) (s
 
   pub fails_by : (is_simple_and_free app ≡ true → FailsBy (fault_of app texts) r) → FailsBy (fault_of tsobench_app parsed) r
   fails_by kinds = subst (λ (k : Kinds). FailsBy k r) (ap₂ fault_of same is) (kinds (ap is_simple_and_free same ∙ simple_and_free))
-
-pub help_parsed : (texts : List Text) → is_help texts ≡ true → codes "--help" ∷ [] ≡ parsed_as texts
-help_parsed texts is = rw is refl
-
-pub others_parsed : (texts : List Text) → is_help texts ≡ false → texts ≡ parsed_as texts
-others_parsed texts is = rw is refl

@@ -8,7 +8,8 @@ use Rattle.clap.proofs.OnLiterals.{clap_on_literals}
 use Rattle.command_line.proofs.ValueLemmas.{IsValue}
 use Rattle.command_line.specs.Requests.{Text}
 use Rattle.command_line.specs.Refusals.{is_subcommand}
-use Rattle.command_line.specs.Commands.{parsed_as, tsobench_app}
+use Rattle.command_line.specs.Commands.{tsobench_app}
+use Rattle.command_line.specs.Internal.Computed.{parsed_as}
 
 pub nothing_taken : fault_of tsobench_app [] ≡ []
 unfolding clap_on_literals
@@ -25,6 +26,27 @@ short_help_shown = refl
 pub judge_help_shown : fault_of tsobench_app (codes "judge" ∷ codes "--help" ∷ []) ≡ DisplayHelp ∷ []
 unfolding clap_on_literals
 judge_help_shown = refl
+
+pub judge_short_shown : fault_of tsobench_app (codes "judge" ∷ codes "-h" ∷ []) ≡ DisplayHelp ∷ []
+unfolding clap_on_literals
+judge_short_shown = refl
+
+pub check_short_shown : fault_of tsobench_app (codes "check" ∷ codes "-h" ∷ []) ≡ DisplayHelp ∷ []
+unfolding clap_on_literals
+check_short_shown = refl
+
+-- what `clap` promises of `help`
+pub help_called : fault_of tsobench_app (codes "help" ∷ []) ≡ DisplayHelp ∷ InvalidSubcommand ∷ []
+unfolding clap_on_literals
+help_called = refl
+
+pub judge_help_called : fault_of tsobench_app (codes "help" ∷ codes "judge" ∷ []) ≡ DisplayHelp ∷ InvalidSubcommand ∷ []
+unfolding clap_on_literals
+judge_help_called = refl
+
+pub check_help_called : fault_of tsobench_app (codes "help" ∷ codes "check" ∷ []) ≡ DisplayHelp ∷ InvalidSubcommand ∷ []
+unfolding clap_on_literals
+check_help_called = refl
 
 pub check_help_shown : fault_of tsobench_app (codes "check" ∷ codes "--help" ∷ []) ≡ DisplayHelp ∷ []
 unfolding clap_on_literals
@@ -69,4 +91,5 @@ module _ (first : Text) (is : IsValue first) (unknown : is_subcommand first ≡ 
 
   pub parsed_unchanged : (rest : List Text) → parsed_as (first ∷ rest) ≡ first ∷ rest
   parsed_unchanged [] = rw no_help refl
-  parsed_unchanged (x ∷ xs) = refl
+  parsed_unchanged (x ∷ []) = rw no_help refl
+  parsed_unchanged (x ∷ y ∷ ys) = refl

@@ -13,7 +13,9 @@ use Rattle.command_line.specs.Spellings.{Asks, AsksHelp}
 use Rattle.command_line.specs.Spellings as asks
 use Rattle.command_line.specs.Refusals.{Refuses, RefusesToJudge, RefusesToCheck, IsRefusedNumber}
 use Rattle.command_line.specs.Refusals as refuses
-use Rattle.command_line.specs.Commands.{IsAskedBy, asked_at, asked_by, parsed_as, tsobench_app}
+use Rattle.command_line.specs.Commands.{asked_at, tsobench_app}
+use Rattle.command_line.specs.Internal.Computed.{IsFoundBy, asked_by, parsed_as}
+use Rattle.round_pool.specs.Workers.{worker_limit}
 use Rattle.command_line.proofs.ValueLemmas.{IsValue, decimal_fails, decimal_is_value, value_is}
 use Rattle.command_line.proofs.ProgramLemmas as program
 use Rattle.command_line.proofs.SubcommandLemmas as subcommand
@@ -23,23 +25,23 @@ use Rattle.command_line.proofs.CheckLemmas as check
 use Rattle.command_line.proofs.CheckRefusals as not_checked
 
 -- what a parse of the arguments says of what is asked for
-abbrev pub IsParsed : List Text → Asked → Type 0
-IsParsed arguments asked = IsAskedBy (fault_of tsobench_app (parsed_as arguments)) (subcommand_of tsobench_app (parsed_as arguments)) asked
+abbrev pub IsFound : List Text → Asked → Type 0
+IsFound arguments asked = IsFoundBy (fault_of tsobench_app (parsed_as arguments)) (subcommand_of tsobench_app (parsed_as arguments)) asked
 
 -- ---- by the kinds of error
 
 module _ (found : Option (Text × List Row)) (asked : Asked) where
-  by_matches : (kinds : Kinds) → kinds ≡ [] → IsAskedBy kinds found asked → asked ≡ asked_by found
-  by_matches kinds none is = subst (λ (k : Kinds). IsAskedBy k found asked) none is
+  by_matches : (kinds : Kinds) → kinds ≡ [] → IsFoundBy kinds found asked → asked ≡ asked_by found
+  by_matches kinds none is = subst (λ (k : Kinds). IsFoundBy k found asked) none is
 
-  one_kind : (kind : ErrorKind) → IsAskedBy (kind ∷ []) found asked → asked ≡ asked_at kind
+  one_kind : (kind : ErrorKind) → IsFoundBy (kind ∷ []) found asked → asked ≡ asked_at kind
   one_kind kind (inl is) = is
   one_kind kind (inr is) = absurd is
 
-  by_kind : (kind : ErrorKind) (kinds : Kinds) → kinds ≡ kind ∷ [] → IsAskedBy kinds found asked → asked ≡ asked_at kind
-  by_kind kind kinds only is = one_kind kind (subst (λ (k : Kinds). IsAskedBy k found asked) only is)
+  pub by_kind : (kind : ErrorKind) (kinds : Kinds) → kinds ≡ kind ∷ [] → IsFoundBy kinds found asked → asked ≡ asked_at kind
+  by_kind kind kinds only is = one_kind kind (subst (λ (k : Kinds). IsFoundBy k found asked) only is)
 
-  stray_kinds : IsAskedBy (UnknownArgument ∷ InvalidSubcommand ∷ []) found asked → asked ≡ refusing
+  stray_kinds : IsFoundBy (UnknownArgument ∷ InvalidSubcommand ∷ []) found asked → asked ≡ refusing
   stray_kinds (inl is) = is
   stray_kinds (inr (inl is)) = is
   stray_kinds (inr (inr is)) = absurd is
@@ -47,11 +49,11 @@ module _ (found : Option (Text × List Row)) (asked : Asked) where
 -- ---- plain requests
 
 -- what is asked for by the arguments that are parsed as they stand
-unchanged : (arguments : List Text) (asked : Asked) → parsed_as arguments ≡ arguments → IsParsed arguments asked
-    → IsAskedBy (fault_of tsobench_app arguments) (subcommand_of tsobench_app arguments) asked
-unchanged arguments asked same is = subst (λ (a : List Text). IsAskedBy (fault_of tsobench_app a) (subcommand_of tsobench_app a) asked) same is
+unchanged : (arguments : List Text) (asked : Asked) → parsed_as arguments ≡ arguments → IsFound arguments asked
+    → IsFoundBy (fault_of tsobench_app arguments) (subcommand_of tsobench_app arguments) asked
+unchanged arguments asked same is = subst (λ (a : List Text). IsFoundBy (fault_of tsobench_app a) (subcommand_of tsobench_app a) asked) same is
 
-pub plain_is : (arguments : List Text) (wanted asked : Asked) → Asks arguments wanted → IsParsed arguments asked → asked ≡ wanted
+pub plain_is : (arguments : List Text) (wanted asked : Asked) → Asks arguments wanted → IsFound arguments asked → asked ≡ wanted
 plain_is arguments wanted asked asks.nothing is = by_matches _ asked _ program.nothing_taken is
 plain_is arguments wanted asked (asks.judge rest file n h) is =
     by_matches _ asked _ (judge.judge_taken rest file n h) (unchanged (codes "judge" ∷ rest) asked (subcommand.judge_parsed rest) is)
@@ -62,39 +64,43 @@ plain_is arguments wanted asked (asks.check rest trace certificate h) is =
 
 -- ---- requests for a text
 
-pub help_is : (arguments : List Text) (asked : Asked) → AsksHelp arguments → IsParsed arguments asked → asked ≡ showing
+pub help_is : (arguments : List Text) (asked : Asked) → AsksHelp arguments → IsFound arguments asked → asked ≡ showing
 help_is arguments asked asks.help is = by_kind _ asked _ _ program.help_shown is
 help_is arguments asked asks.help_option is = by_kind _ asked _ _ program.help_shown is
 help_is arguments asked asks.help_short is = by_kind _ asked _ _ program.short_help_shown is
 help_is arguments asked asks.judge_help is = by_kind _ asked _ _ program.judge_help_shown is
+help_is arguments asked asks.judge_short is = by_kind _ asked _ _ program.judge_short_shown is
+help_is arguments asked asks.help_judge is = by_kind _ asked _ _ program.judge_help_shown is
+help_is arguments asked asks.check_short is = by_kind _ asked _ _ program.check_short_shown is
+help_is arguments asked asks.help_check is = by_kind _ asked _ _ program.check_help_shown is
 help_is arguments asked asks.check_help is = by_kind _ asked _ _ program.check_help_shown is
 help_is arguments asked asks.version_option is = by_kind _ asked _ _ program.version_shown is
 help_is arguments asked asks.version_short is = by_kind _ asked _ _ program.short_version_shown is
 
 -- ---- refused arguments
 
-outside : (n : ℕ) → IsRefusedNumber n → 1 ≤ n → n ≤ 64 → ⊥
+outside : (n : ℕ) → IsRefusedNumber n → 1 ≤ n → n ≤ worker_limit → ⊥
 outside n (inl zero) least most = omega arith
 outside n (inr above) least most = omega arith
 
 module _ (n : ℕ) (wrong : IsRefusedNumber n) (small : n < 10 ^ 64) where
-  fails : accepts false (parser.Unsigned 1 64) (decimal n) ≡ false
-  fails = decimal_fails 1 64 n (outside n wrong) small
+  fails : accepts false (parser.Unsigned 1 worker_limit) (decimal n) ≡ false
+  fails = decimal_fails 1 worker_limit n (outside n wrong) small
 
-  number_refused : (option : List Text) (asked : Asked) → NamesOption (codes "workers") (decimal n) option → IsParsed (codes "judge" ∷ option) asked → asked ≡ refusing
+  number_refused : (option : List Text) (asked : Asked) → NamesOption (codes "workers") (decimal n) option → IsFound (codes "judge" ∷ option) asked → asked ≡ refusing
   number_refused option asked (given.apart plain) is = by_kind _ asked _ _ (not_judged.apart_refused (decimal n) (decimal_is_value n small) fails) is
   number_refused option asked given.joined is = by_kind _ asked _ _ (not_judged.joined_refused (decimal n) (decimal_is_value n small) fails) is
 
   module _ (name : Text) (file : IsValue name) where
-    number_file_refused : (option : List Text) (asked : Asked) → NamesOption (codes "workers") (decimal n) option → IsParsed (codes "judge" ∷ (option ++ name ∷ [])) asked → asked ≡ refusing
+    number_file_refused : (option : List Text) (asked : Asked) → NamesOption (codes "workers") (decimal n) option → IsFound (codes "judge" ∷ (option ++ name ∷ [])) asked → asked ≡ refusing
     number_file_refused option asked (given.apart plain) is = by_kind _ asked _ _ (not_judged.apart_file_refused (decimal n) name (decimal_is_value n small) file fails) is
     number_file_refused option asked given.joined is = by_kind _ asked _ _ (not_judged.joined_file_refused (decimal n) name (decimal_is_value n small) file fails) is
 
-    file_number_refused : (option : List Text) (asked : Asked) → NamesOption (codes "workers") (decimal n) option → IsParsed (codes "judge" ∷ name ∷ option) asked → asked ≡ refusing
+    file_number_refused : (option : List Text) (asked : Asked) → NamesOption (codes "workers") (decimal n) option → IsFound (codes "judge" ∷ name ∷ option) asked → asked ≡ refusing
     file_number_refused option asked (given.apart plain) is = by_kind _ asked _ _ (not_judged.file_apart_refused (decimal n) name (decimal_is_value n small) file fails) is
     file_number_refused option asked given.joined is = by_kind _ asked _ _ (not_judged.file_joined_refused (decimal n) name (decimal_is_value n small) file fails) is
 
-judge_refused : (rest : List Text) (asked : Asked) → RefusesToJudge rest → IsParsed (codes "judge" ∷ rest) asked → asked ≡ refusing
+judge_refused : (rest : List Text) (asked : Asked) → RefusesToJudge rest → IsFound (codes "judge" ∷ rest) asked → asked ≡ refusing
 judge_refused rest asked (refuses.number n option names wrong small) is = number_refused n wrong small option asked names is
 judge_refused rest asked (refuses.number_file n option name names wrong small file) is =
     number_file_refused n wrong small name (value_is name file) option asked names is
@@ -103,20 +109,20 @@ judge_refused rest asked (refuses.file_number n option name names wrong small fi
 judge_refused rest asked (refuses.second_file name other file other_file) is =
     by_kind _ asked _ _ (not_judged.second_refused name other (value_is name file) (value_is other other_file)) is
 
-check_refused : (rest : List Text) (asked : Asked) → RefusesToCheck rest → IsParsed (codes "check" ∷ rest) asked → asked ≡ refusing
+check_refused : (rest : List Text) (asked : Asked) → RefusesToCheck rest → IsFound (codes "check" ∷ rest) asked → asked ≡ refusing
 check_refused rest asked refuses.no_files is = by_kind _ asked _ _ not_checked.check_refused is
 check_refused rest asked (refuses.no_certificate trace is_trace) is = by_kind _ asked _ _ (not_checked.trace_refused trace (value_is trace is_trace)) is
 check_refused rest asked (refuses.third_file trace certificate other is_trace is_certificate is_other) is =
     by_kind _ asked _ _ (not_checked.third_refused trace (value_is trace is_trace) certificate (value_is certificate is_certificate) other (value_is other is_other)) is
 
-unknown_refused : (first : Text) (rest : List Text) (asked : Asked) (value : IsValue first) → refuses.is_subcommand first ≡ false → IsParsed (first ∷ rest) asked → asked ≡ refusing
+unknown_refused : (first : Text) (rest : List Text) (asked : Asked) (value : IsValue first) → refuses.is_subcommand first ≡ false → IsFound (first ∷ rest) asked → asked ≡ refusing
 unknown_refused first rest asked value unknown is =
-    let parsed : IsAskedBy (fault_of tsobench_app (first ∷ rest)) (subcommand_of tsobench_app (first ∷ rest)) asked =
-    subst (λ (a : List Text). IsAskedBy (fault_of tsobench_app a) (subcommand_of tsobench_app a) asked) (program.parsed_unchanged first value unknown rest) is in
+    let parsed : IsFoundBy (fault_of tsobench_app (first ∷ rest)) (subcommand_of tsobench_app (first ∷ rest)) asked =
+    subst (λ (a : List Text). IsFoundBy (fault_of tsobench_app a) (subcommand_of tsobench_app a) asked) (program.parsed_unchanged first value unknown rest) is in
     let found = subcommand_of tsobench_app (first ∷ rest) in
-    stray_kinds found asked (subst (λ (k : Kinds). IsAskedBy k found asked) (program.unknown_refused first value unknown rest) parsed)
+    stray_kinds found asked (subst (λ (k : Kinds). IsFoundBy k found asked) (program.unknown_refused first value unknown rest) parsed)
 
-pub refused_is : (arguments : List Text) (asked : Asked) → Refuses arguments → IsParsed arguments asked → asked ≡ refusing
+pub refused_is : (arguments : List Text) (asked : Asked) → Refuses arguments → IsFound arguments asked → asked ≡ refusing
 refused_is arguments asked (refuses.unknown first rest file unknown) is = unknown_refused first rest asked (value_is first file) unknown is
 refused_is arguments asked (refuses.judge rest h) is = judge_refused rest asked h is
 refused_is arguments asked (refuses.check rest h) is = check_refused rest asked h is

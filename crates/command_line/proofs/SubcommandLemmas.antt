@@ -10,7 +10,8 @@ use Rattle.clap.proofs.OnLiterals.{clap_on_literals}
 use Rattle.clap.proofs.WalkLemmas.{walk_stopped}
 use Rattle.command_line.proofs.OptionLemmas.{standing}
 use Rattle.command_line.specs.Requests.{Text}
-use Rattle.command_line.specs.Commands.{check_app, judge_app, parsed_as, tsobench_app}
+use Rattle.command_line.specs.Commands.{check_app, judge_app, tsobench_app}
+use Rattle.command_line.specs.Internal.Computed.{parsed_as}
 
 -- a subcommand as the program's build leaves it
 abbrev pub built_below : App → Shape
@@ -52,8 +53,10 @@ module _ (rest : List Text) where
 
 pub judge_parsed : (rest : List Text) → parsed_as (codes "judge" ∷ rest) ≡ codes "judge" ∷ rest
 judge_parsed [] = refl
-judge_parsed (x ∷ xs) = refl
+judge_parsed (x ∷ []) = refl
+judge_parsed (x ∷ y ∷ ys) = refl
 
 pub check_parsed : (rest : List Text) → parsed_as (codes "check" ∷ rest) ≡ codes "check" ∷ rest
 check_parsed [] = refl
-check_parsed (x ∷ xs) = refl
+check_parsed (x ∷ []) = refl
+check_parsed (x ∷ y ∷ ys) = refl

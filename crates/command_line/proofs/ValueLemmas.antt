@@ -12,7 +12,8 @@ use Rattle.clap.specs.declared.builder.value_parser.ValueParser.TheVariants as p
 use Rattle.clap.proofs.ValueTestLemmas.{accepts-Accepts, Accepts-accepts}
 use Rattle.command_line.specs.Requests.{Text}
 use Rattle.command_line.specs.Options.{is_value}
-use Rattle.command_line.specs.Commands.{number_in, within_workers}
+use Rattle.round_pool.specs.Workers.{worker_limit}
+use Rattle.command_line.specs.Internal.Computed.{number_in, within_workers}
 
 -- an argument that is no option, as a parse sees it
 pub record IsValue (argument : Text) : Type 0 where
@@ -67,7 +68,7 @@ number_in-decimal n small =
     let passes = decimal_passes 0 (2 ^ 64 - 1) n (omega arith) (omega arith) small in
     rw passes (decimal_read n small)
 
-pub within_workers-same : (n : ℕ) → 1 ≤ n → n ≤ 64 → within_workers n ≡ n
+pub within_workers-same : (n : ℕ) → 1 ≤ n → n ≤ worker_limit → within_workers n ≡ n
 within_workers-same n least most = omega arith
 
 -- a number outside a range does not pass it

@@ -3,3 +3,4 @@ pub mod Options
 pub mod Spellings
 pub mod Refusals
 pub mod Commands
+pub mod Internal

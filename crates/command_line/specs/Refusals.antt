@@ -2,6 +2,7 @@
 use Rattle.std.specs.Prelude.{◌≡◌, ◌<◌, ◌^◌, ◌⊎◌, ◌||◌, ℕ, Bool, true, false, List, [], ◌∷◌, ◌++◌, codes}
 use Rattle.std.specs.Fmt.{decimal}
 use Rattle.std.specs.Str.{bytes_eq}
+use Rattle.round_pool.specs.Workers.{worker_limit}
 use Rattle.command_line.specs.Requests.{Text}
 use Rattle.command_line.specs.Options.{NamesOption, is_value}
 
@@ -10,9 +11,9 @@ abbrev pub is_subcommand : Text → Bool
 is_subcommand text =
     bytes_eq text (codes "judge") || (bytes_eq text (codes "check") || bytes_eq text (codes "help"))
 
--- a number of workers that is refused: 0, and above 64. Below, numbers have at most 64 digits.
+-- a number of workers that is refused: 0, and one above the limit. Below, numbers have at most 64 digits.
 abbrev pub IsRefusedNumber : ℕ → Type 0
-IsRefusedNumber n = (n ≡ 0) ⊎ (64 < n)
+IsRefusedNumber n = (n ≡ 0) ⊎ (worker_limit < n)
 
 -- the arguments after `judge` are refused
 pub data RefusesToJudge : List Text → Type 0 where

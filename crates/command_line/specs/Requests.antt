@@ -1,5 +1,6 @@
 -- What the arguments of a command line may ask for.
 use Rattle.std.specs.Prelude.{◌≤◌, ℕ, List, map, Option, option_map, String, string_bytes}
+use Rattle.round_pool.specs.Workers.{worker_limit}
 use Rattle.command_line.specs.declared.requests.Request.{Request}
 use Rattle.command_line.specs.declared.requests.Request.TheVariants.{Judge, Check, Show, Refuse}
 
@@ -30,9 +31,9 @@ asked_of (Check trace certificate) = checking trace.now certificate.now
 asked_of (Show text) = showing
 asked_of (Refuse text) = refusing
 
--- judging is done by 1 to 64 workers
+-- judging is done by a number of workers within the limits
 abbrev pub HasWorkers : Asked → Type 0
-HasWorkers (judging file workers) = (1 ≤ workers) × (workers ≤ 64)
+HasWorkers (judging file workers) = (1 ≤ workers) × (workers ≤ worker_limit)
 HasWorkers (checking trace certificate) = Unit {0}
 HasWorkers showing = Unit {0}
 HasWorkers refusing = Unit {0}

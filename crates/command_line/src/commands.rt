@@ -6,6 +6,7 @@ ghost use Rattle.command_line.specs.Commands.{check_app, judge_app, tsobench_app
 
 use crate::help;
 use clap::{Arg, Command, value_parser};
+use round_pool::MAX_WORKERS;
 use std::alloc::{AllocError, Global};
 
 /// The version of the program.
@@ -34,9 +35,9 @@ fn judge_command<'a>(alloc: Global) -> Result<Command<'a>, AllocError>
     let workers = Arg::new(alloc, "workers")
         .long("workers")
         .value_name("N")
-        .value_parser(value_parser!(u64).range(1..=64))
+        .value_parser(value_parser!(u64).range(1..=MAX_WORKERS as i64))
         .default_value("1")
-        .help("How many workers judge, 1 to 64");
+        .help(help::WORKERS);
     let file = Arg::new(alloc, "file")
         .value_name("FILE")
         .help("The text of a trace; standard input where none is named");

@@ -2,10 +2,13 @@
 ghost use Rattle.std.specs.Prelude.{◌≡◌, ◌≤◌, unwrap_or};
 ghost use Rattle.clap.specs.Words.{found_of, rows_of, subcommand_rows_of};
 ghost use Rattle.command_line.specs.Requests.{HasWorkers, asked_of};
-ghost use Rattle.command_line.specs.Commands.{asked_by, checking_by, judging_by, within_workers};
+ghost use Rattle.round_pool.specs.Workers.{worker_limit};
+ghost use Rattle.command_line.specs.Commands.{checking_by};
+ghost use Rattle.command_line.specs.Internal.Computed.{asked_by, judging_by, within_workers};
 
 use crate::requests::Request;
 use clap::ArgMatches;
+use round_pool::MAX_WORKERS;
 
 /// What the matches ask for: without a subcommand, to judge standard input with one worker.
 pub(crate) fn request<'a>(matches: &ArgMatches<'a>) -> Request<'a>
@@ -45,10 +48,11 @@ fn check_request<'a>(matches: &ArgMatches<'a>) -> Request<'a>
     }
 }
 
-/// The number of workers, 1 where none is named. The command has refused numbers out of range.
+/// The number of workers, 1 where none is named. The command has refused numbers out of range; what `clap` promises of
+/// the values of a subcommand doesn't say so, hence the clamp.
 fn workers(named: Option<u64>) -> usize
     ensures value { result ≡ within_workers (unwrap_or named 1) }
-    ensures range { (1 ≤ result) × (result ≤ 64) }
+    ensures range { (1 ≤ result) × (result ≤ worker_limit) }
 {
-    named.unwrap_or(1).clamp(1, 64) as usize
+    named.unwrap_or(1).clamp(1, MAX_WORKERS as u64) as usize
 }

@@ -1,5 +1,7 @@
 //! The texts of `--help` after the list of arguments.
 
+use round_pool::MAX_WORKERS;
+
 /// What the program is for.
 pub(crate) const ABOUT: &str =
     "Judges traces of multiprocessor memory operations against Total Store Order (TSO)";
@@ -25,6 +27,11 @@ Exit status:
 
 Example:
   tsobench < TRACE";
+
+/// Of `--workers`; it tells the limit of workers.
+pub(crate) const WORKERS: &str = "How many workers judge, 1 to 64";
+
+const _: () = prove!(MAX_WORKERS == 64);
 
 /// Of `judge`.
 pub(crate) const JUDGE: &str = "\

@@ -1,11 +1,12 @@
 //! What the arguments of a command line ask for.
-ghost use Rattle.std.specs.Prelude.{◌≡◌, ◌≢◌, IfOk, IsErr, OnErr};
+ghost use Rattle.std.specs.Prelude.{◌≡◌, IfOk, IsErr, map, option_map, unwrap_or};
 ghost use Rattle.clap.specs.Words.{FailsBy, app_of, fault_of, kind_of, subcommand_of, subcommand_rows_of};
 ghost use Rattle.clap.specs.declared.error.kind.ErrorKind.TheVariants.{OutOfMemory};
 ghost use Rattle.command_line.specs.Requests.{Asked, HasWorkers, asked_of, refusing, showing, texts_in};
 ghost use Rattle.command_line.specs.Spellings.{Asks, AsksHelp};
 ghost use Rattle.command_line.specs.Refusals.{Refuses};
-ghost use Rattle.command_line.specs.Commands.{IsAskedBy, asked_at, is_help, parsed_as, tsobench_app};
+ghost use Rattle.command_line.specs.Commands.{IsAskedFor, asked_at, tsobench_app};
+ghost use Rattle.command_line.specs.Internal.Computed.{help_option_of, parsed_as};
 
 use crate::commands::tsobench_command;
 use crate::found::request;
@@ -37,9 +38,7 @@ pub enum Request<'a> {
 ///
 /// Its only error is that memory ran out, and it may come for any arguments.
 pub fn read_arguments<'a>(alloc: Global, arguments: &'a [String]) -> Result<Request<'a>, AllocError>
-    ensures parsed { let arguments = parsed_as (texts_in arguments.now) in
-        IfOk result (λ request. IsAskedBy (fault_of tsobench_app arguments)
-        (subcommand_of tsobench_app arguments) (asked_of request)) }
+    ensures parsed { IfOk result (λ request. IsAskedFor (texts_in arguments.now) (asked_of request)) }
     ensures plain { (asked : Asked) → Asks (texts_in arguments.now) asked
         → IfOk result (λ request. asked_of request ≡ asked) }
     ensures helped { AsksHelp (texts_in arguments.now)
@@ -54,9 +53,6 @@ pub fn read_arguments<'a>(alloc: Global, arguments: &'a [String]) -> Result<Requ
     }
 }
 
-/// The argument that asks for the help of the program.
-static HELP: [&str; 1] = ["--help"];
-
 /// What the command line of the program makes of the arguments.
 fn matches<'a>(alloc: Global, arguments: &'a [String]) -> Result<ArgMatches<'a>, Error>
     ensures found { IfOk result (λ found. subcommand_rows_of found
@@ -64,21 +60,44 @@ fn matches<'a>(alloc: Global, arguments: &'a [String]) -> Result<ArgMatches<'a>,
     ensures kinds { FailsBy (fault_of tsobench_app (parsed_as (texts_in arguments.now))) result }
 {
     let command = tsobench_command(alloc)?;
-    if is_help(arguments) {
-        return command.try_get_matches_from(HELP.as_slice());
+    match help_option(arguments) {
+        Some(option) => command.try_get_matches_from(option),
+        None => command.try_get_matches_from(arguments),
     }
-    command.try_get_matches_from(arguments)
 }
 
-/// Whether the only argument is `help`. It is parsed as `--help`, of which `clap` promises more and which gives the
-/// same text.
-fn is_help(arguments: &[String]) -> bool
-    ensures { result ≡ is_help (texts_in arguments.now) }
+/// The option that asks for the help of the program.
+static PROGRAM_HELP: [&str; 1] = ["--help"];
+
+/// The option that asks for the help of `judge`.
+static JUDGE_HELP: [&str; 2] = ["judge", "--help"];
+
+/// The option that asks for the help of `check`.
+static CHECK_HELP: [&str; 2] = ["check", "--help"];
+
+/// The option that asks for what `help`, alone or with the name of a subcommand, asks for: `clap` promises more of it,
+/// and it gives the same text. None of all other arguments.
+fn help_option(arguments: &[String]) -> Option<&'static [&'static str]>
+    ensures { unwrap_or (option_map (λ option. map (λ argument. argument.now) option.now) result) (texts_in arguments.now) ≡ parsed_as (texts_in arguments.now) }
 {
     match arguments {
-        [argument] => argument.as_str() == "help",
-        _ => false,
+        [first] if first.as_str() == "help" => Some(PROGRAM_HELP.as_slice()),
+        [first, name] if first.as_str() == "help" => subcommand_help_option(name.as_str()),
+        _ => None,
     }
+}
+
+/// The option that asks for the help of the subcommand of this name.
+fn subcommand_help_option(name: &str) -> Option<&'static [&'static str]>
+    ensures { option_map (λ option. map (λ argument. argument.now) option.now) result ≡ help_option_of name.now }
+{
+    if name == "judge" {
+        return Some(JUDGE_HELP.as_slice());
+    }
+    if name == "check" {
+        return Some(CHECK_HELP.as_slice());
+    }
+    None
 }
 
 /// The text that the arguments lead to in place of matches: the help or the version, or their refusal.

@@ -64,14 +64,17 @@ fn plain_arguments(rt: HostRuntime) -> Result<(), Fail> {
 
 #[test]
 fn help_and_version(rt: HostRuntime) -> Result<(), Fail> {
-    let cases: [(&[&str], &str); 9] = [
+    let cases: [(&[&str], &str); 12] = [
         (&["--help"], PROGRAM_HELP),
         (&["-h"], PROGRAM_HELP),
         (&["help"], PROGRAM_HELP),
         (&["judge", "--help"], JUDGE_HELP),
+        (&["judge", "-h"], JUDGE_HELP),
         (&["help", "judge"], JUDGE_HELP),
         (&["check", "--help"], CHECK_HELP),
+        (&["check", "-h"], CHECK_HELP),
         (&["help", "check"], CHECK_HELP),
+        (&["judge", "a.trace", "-h"], JUDGE_HELP),
         (&["--version"], "tsobench 0.1.0\n"),
         (&["-V"], "tsobench 0.1.0\n"),
     ];

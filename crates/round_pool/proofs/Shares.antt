@@ -2,6 +2,7 @@
 use Rattle.std.proofs.Common.{◌≡◌, ◌∙◌, ℕ, ◌+◌, ◌*◌, ◌/◌, ◌<◌, ◌≤◌, ◌^◌, ap, arith}
 use Rattle.std.proofs.Math.Nat.{div-le_of_le-mul, div-le_self, le-div_iff_mul-le, div-mul-le_self, mul-le-mul, mul-le-mul_left, mul-div_cancel_left, mul_comm}
 use Rattle.round_pool.specs.Internal.SharedRows.{bound_of}
+use Rattle.round_pool.specs.Workers.{worker_limit}
 
 -- nobody stands before the first worker
 pub bound_of-zero : (count workers : ℕ) → 1 ≤ workers → bound_of count 0 workers ≡ 0
@@ -23,8 +24,8 @@ pub bound_of-within : (count w workers : ℕ) → 1 ≤ workers → w ≤ worker
 bound_of-within count w workers some low = div-le_of_le-mul workers (let more = mul-le-mul_left {m = w} {n = workers} count low in let same = mul_comm count workers in omega (arith, more, same))
 
 -- the product fits
-pub product_fits : (count w workers : ℕ) → count ≤ 2000 → workers ≤ 64 → w ≤ workers → count * w < 2 ^ 64
+pub product_fits : (count w workers : ℕ) → count ≤ 2000 → workers ≤ worker_limit → w ≤ workers → count * w < 2 ^ 64
 product_fits count w workers few most low =
-    let small : w ≤ 64 = omega (arith, most, low) in
+    let small : w ≤ worker_limit = omega (arith, most, low) in
     let product = mul-le-mul few small in
     omega (arith, product)

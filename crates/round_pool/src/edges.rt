@@ -4,6 +4,7 @@ ghost use Rattle.tso_ops.specs.Values.{rows};
 ghost use Rattle.round_pool.specs.Internal.SharedRows.{AreRowsBelow};
 ghost use Rattle.round_pool.specs.Internal.EdgeLists.{AreNewEdges, edges_of_rows};
 ghost use Rattle.round_pool.specs.Rankings.{edge_from};
+ghost use Rattle.round_pool.specs.Workers.{worker_limit};
 
 use crate::faults::PoolFault;
 use crate::gates::PoolGate;
@@ -63,7 +64,7 @@ pub fn round_edges<H: Threads + Wait, G: PoolGate + Sync>(
     gate: &G,
 ) -> Result<Vec<Edge>, PoolFault>
     requires some { 1 ≤ workers }
-    requires most { workers ≤ 64 }
+    requires most { workers ≤ worker_limit }
     ensures { IfOk result (λ edges. AreNewEdges trace.now graph.now edges.items) }
 {
     let _events = trace.events();

@@ -5,7 +5,7 @@ pub use answers::both_answers;
 pub use faults::PoolFault;
 pub use gates::{OpenPoolGate, PoolGate};
 pub use ranked::{Edge, Ranked};
-pub use round_loop::rounds;
+pub use round_loop::{MAX_WORKERS, rounds};
 
 mod answers;
 mod edges;

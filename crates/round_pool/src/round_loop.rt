@@ -4,6 +4,7 @@ ghost use Rattle.order_paths.specs.Paths.{HasCycle};
 ghost use Rattle.order_graph.specs.Digraphs.{IsEdge};
 ghost use Rattle.tso_ops.specs.Events.{IsUnwritten};
 ghost use Rattle.round_pool.specs.Rankings.{IsRankingOf};
+ghost use Rattle.round_pool.specs.Workers.{worker_limit};
 
 use crate::edges::round_edges;
 use crate::faults::PoolFault;
@@ -15,6 +16,9 @@ use std::alloc::Global;
 use std::sync::Wait;
 use std::thread::Threads;
 use tso_ops::Trace;
+
+/// The greatest number of workers.
+pub const MAX_WORKERS: usize = 64;
 
 /// Makes the rounds over a trace in which no load is unwritten: from the base edges, each adds the edges that an inferred
 /// rule gives by a path over the edges before it and that have no path yet. They end with the first rank set that has a
@@ -35,7 +39,7 @@ pub fn rounds<H: Threads + Wait, G: PoolGate + Sync>(
 ) -> Result<Ranked, PoolFault>
     requires written { (l : ℕ) → IsUnwritten trace.now l → ⊥ }
     requires some { 1 ≤ workers }
-    requires most { workers ≤ 64 }
+    requires most { workers ≤ worker_limit }
     ensures { IfOk result (IsRankingOf trace.now) }
 {
     let mut last = base_graph(alloc, trace)?;

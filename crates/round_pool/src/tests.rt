@@ -6,7 +6,7 @@ mod faults;
 mod gates;
 mod refused_allocations;
 
-use crate::{PoolFault, PoolGate, Ranked, rounds};
+use crate::{MAX_WORKERS, PoolFault, PoolGate, Ranked, rounds};
 use order_graph::Graph;
 use std::alloc::{AllocError, Global};
 use std::process::Abort;
@@ -65,7 +65,7 @@ fn made<H: Threads + Wait, G: PoolGate + Sync>(
     workers: usize,
     gate: &G,
 ) -> Result<Ranked, PoolFault> {
-    if has_unwritten_load(trace) || workers < 1 || workers > 64 {
+    if has_unwritten_load(trace) || workers < 1 || workers > MAX_WORKERS {
         return Err(PoolFault::NoThread);
     }
     rounds(rt, alloc, trace, workers, gate)

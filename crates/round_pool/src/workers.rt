@@ -5,6 +5,7 @@ ghost use Rattle.order_graph.specs.Digraphs.{Digraph};
 ghost use Rattle.tso_ops.specs.Values.{TraceValue, rows};
 ghost use Rattle.tso_ops.specs.Events.{event_total};
 ghost use Rattle.round_pool.specs.Internal.SharedRows.{AreRoundRows, AreRoundRowsFrom, bound_of};
+ghost use Rattle.round_pool.specs.Workers.{worker_limit};
 
 use crate::answers::both_answers;
 use crate::faults::PoolFault;
@@ -86,7 +87,7 @@ fn start_worker<'s, E, G: PoolGate + Sync>(
 /// How many rows the workers before this one have.
 fn rows_before(trace: &Trace, worker: usize, workers: usize) -> usize
     requires some { 1 ≤ workers }
-    requires most { workers ≤ 64 }
+    requires most { workers ≤ worker_limit }
     requires worker { worker ≤ workers }
     ensures count { result ≡ bound_of (event_total trace.now) worker workers }
     ensures within { result ≤ event_total trace.now }
@@ -121,7 +122,7 @@ fn rows_from<'s, E, H: Threads, G: PoolGate + Sync>(
     worker: usize,
 ) -> Result<Vec<Vec<usize>>, PoolFault>
     requires some { 1 ≤ round.workers }
-    requires most { round.workers ≤ 64 }
+    requires most { round.workers ≤ worker_limit }
     requires worker { worker ≤ round.workers }
     ensures { IfOk result (λ made. AreRoundRowsFrom round.entry.trace.now round.entry.graph.now worker round.entry.workers (rows made.items)) }
 {
@@ -155,7 +156,7 @@ pub fn shared_rows<H: Threads + Wait, G: PoolGate + Sync>(
     workers: usize,
 ) -> Result<Vec<Vec<usize>>, PoolFault>
     requires some { 1 ≤ workers }
-    requires most { workers ≤ 64 }
+    requires most { workers ≤ worker_limit }
     ensures { IfOk result (λ made. AreRoundRows trace.now graph.now 1 (event_total trace.now) (rows made.items)) }
 {
     thread::scope(
@@ -163,7 +164,7 @@ pub fn shared_rows<H: Threads + Wait, G: PoolGate + Sync>(
         rt,
         |scope| -> Result<Vec<Vec<usize>>, PoolFault>
             requires some { 1 ≤ workers }
-            requires most { workers ≤ 64 }
+            requires most { workers ≤ worker_limit }
             ensures { IfOk result (λ made. AreRoundRows trace.entry.now graph.entry.now 1 (event_total trace.entry.now) (rows made.items)) }
         {
             let round = Round {

@@ -7,6 +7,10 @@ use Rattle.std.proofs.lemmas.List.{take_all, take-append-le, append-nil}
 use Rattle.std.proofs.Math.Seq.{take-add}
 use Rattle.tso_report.specs.Streams.{LosesPrefix}
 
+-- how often an interrupted write is tried again at most
+abbrev pub interrupt_limit : ℕ
+interrupt_limit = 1048576
+
 -- what was read up to the end is all there was, where it keeps the limit
 pub read_whole : (old mid new : Option (List ℕ)) (bytes chunk : List ℕ) (limit : ℕ) → Consumes old mid bytes → Consumes mid new (take 0 chunk) → IsAtEnd new → length bytes ≤ limit →
     IfSome old (λ all. bytes ≡ take (limit + 1) all)

@@ -1,5 +1,6 @@
 //! What is found of a trace.
 ghost use Rattle.std.specs.Prelude.{◌≡◌, ◌⊎◌, ◌↔◌, ◌≤◌, ℕ, IsTrue, MatchOption, IfOk, IfErr};
+ghost use Rattle.round_pool.specs.Workers.{worker_limit};
 ghost use Rattle.tso_ops.specs.Events.{IsUnwritten};
 ghost use Rattle.tso_cert.specs.declared.steps.Certificate.TheVariants.{Unwritten};
 ghost use Rattle.tso_model.specs.Certs.{IsCertificateOf};
@@ -36,7 +37,7 @@ pub fn find_violation<H: Threads + Wait>(
     workers: usize,
 ) -> Result<Finding, Fault>
     requires some { 1 ≤ workers }
-    requires most { workers ≤ 64 }
+    requires most { workers ≤ worker_limit }
     ensures found { IfOk result (IsFinding trace.now) }
     ensures fault { IfErr result (λ fault. (fault ≡ Fault.OutOfMemory) ⊎ (fault ≡ Fault.NoThread)) }
 {

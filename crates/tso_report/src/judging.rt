@@ -1,6 +1,7 @@
 //! The way of a trace: read, parse, find, render, write.
 ghost use Rattle.std.specs.Prelude.{◌≡◌, ◌↔◌, ◌≤◌, ℕ, List, IfSome, IfOk, IfErr};
 ghost use Rattle.std.specs.Io.KnownBytes.{Appends};
+ghost use Rattle.round_pool.specs.Workers.{worker_limit};
 ghost use Rattle.tso_ops.specs.Values.{TraceValue};
 ghost use Rattle.tso_text.specs.Grammars.{SpellsTrace};
 ghost use Rattle.tso_model.specs.Order.{IsConsistent};
@@ -38,7 +39,7 @@ pub fn judge<H: Threads + Wait + Sync, R: Read, W: Write>(
     workers: usize,
 ) -> Result<Verdict, Fault>
     requires some { 1 ≤ workers }
-    requires most { workers ≤ 64 }
+    requires most { workers ≤ worker_limit }
     ensures report { IfOk result (WritesReport (R.remaining reader.old) (W.contents writer.old) (W.contents writer.new)) }
     ensures violation { IfOk result (λ verdict. IfSome (R.remaining reader.old) (λ all. (verdict ≡ Verdict.Violation) ↔ SpellsViolation all)) }
     ensures no_order { IfOk result (λ verdict. verdict ≡ Verdict.Violation → IfSome (R.remaining reader.old) (λ all. (t : TraceValue) → SpellsTrace all t → IsConsistent t → ⊥)) }

@@ -6,6 +6,7 @@ ghost use Rattle.tso_text.specs.Grammars.{IsRefusedTrace, SpellsTrace};
 ghost use Rattle.tso_model.specs.Order.{IsConsistent};
 ghost use Rattle.tso_report.specs.declared.verdicts.Verdict.{Verdict};
 ghost use Rattle.tso_report.specs.Checks.{IsCheckReport, SpellHolding};
+ghost use Rattle.tso_report.specs.Limits.{certificate_byte_limit};
 ghost use Rattle.tso_report.specs.Reports.{IsReport, ShowsViolation, SpellsViolation};
 
 /// Each input has one report. It says VIOLATION exactly where the input spells a trace that is a violation, which then
@@ -23,7 +24,7 @@ pub fn reports()
 /// certificate holds exactly where the first spells a trace and the second a certificate that holds for it, and it is
 /// Refused otherwise.
 pub fn checks()
-    ensures exists { (trace cert : List ℕ) → length cert ≤ 67108864 → (text : List ℕ) × (verdict : Verdict) × IsCheckReport trace cert text verdict }
+    ensures exists { (trace cert : List ℕ) → length cert ≤ certificate_byte_limit → (text : List ℕ) × (verdict : Verdict) × IsCheckReport trace cert text verdict }
     ensures one { (trace cert text other : List ℕ) (v w : Verdict) → IsCheckReport trace cert text v → IsCheckReport trace cert other w → (text ≡ other) × (v ≡ w) }
     ensures violation { (trace cert text : List ℕ) (v : Verdict) → IsCheckReport trace cert text v → (v ≡ Verdict.Violation) ↔ SpellHolding trace cert }
     ensures otherwise { (trace cert text : List ℕ) (v : Verdict) → IsCheckReport trace cert text v → (v ≡ Verdict.Violation) ⊎ (v ≡ Verdict.Refused) }

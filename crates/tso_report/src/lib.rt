@@ -11,6 +11,7 @@ pub use faults::Fault;
 pub use findings::{Finding, find_violation};
 pub use judging::judge;
 pub use rendering::{Report, render_trace};
+pub use round_pool::MAX_WORKERS;
 pub use streams::reading::read_all;
 pub use streams::writing::write_text;
 pub use verdicts::Verdict;

@@ -1,20 +1,19 @@
 -- Lemmas on how the program ends.
-use Rattle.std.proofs.Common.{◌≡◌, ◌⊎◌, ℕ, List, [], ◌∷◌, Ok, Err, Result, IfOk, IfErr, Some, None, arith, length, ap, refl, subst, sym, inl, inr}
-use Rattle.std.specs.Prelude.{Option, string_bytes}
+use Rattle.std.proofs.Common.{◌≡◌, ◌⊎◌, ℕ, List, Ok, Err, Result, IfOk, IfErr, Some, None, arith, length, ap, refl, subst, sym, inl, inr, true, true≢false}
+use Rattle.std.specs.Prelude.{Option, ◌≢◌, option_map, string_bytes}
+use Rattle.std.specs.Borrow.{Bor}
 use Rattle.std.specs.Io.KnownBytes.{Keeps}
 use Rattle.command_line.specs.declared.requests.Request.{Request}
 use Rattle.command_line.specs.declared.requests.Request.TheVariants.{Judge, Check, Show, Refuse}
-use Rattle.clap.specs.Words.{Kinds, Row}
-use Rattle.command_line.specs.Commands.{IsAskedBy, asked_at, asked_by}
-use Rattle.command_line.specs.Requests.{Asked, Text, asked_of}
+use Rattle.command_line.specs.Requests.{asked_of, judging}
 use Rattle.std.proofs.lemmas.List.{append-nil}
 use Rattle.tso_report.specs.declared.verdicts.Verdict.{Verdict}
 use Rattle.tso_report.specs.declared.faults.Fault.{Fault}
 use Rattle.tso_report.specs.declared.faults.Fault.TheVariants.{OutOfMemory, Read, Write, NoThread, Missing}
 use Rattle.tso_report.specs.Written.{IsCheckReportOfReaders, IsReportOfReader, LeavesAtFault, LeavesCheckFault, LeavesFault, WritesCheckReport, WritesReport, WritesWhole}
-use Rattle.tsobench.specs.Endings.{Does, EndsAs, EndsAsAsked, EndsByFault, EndsByReport, Outputs, WritesFaultLine, status_of}
+use Rattle.tsobench.specs.Endings.{EndsAs, EndsAsAsked, EndsByReport, Outputs, WritesFaultLine, status_of}
 use Rattle.std.proofs.Math.Seq.{take-length}
-use Rattle.tsobench.specs.Named.{HasKnown, OpensFirst, OpensNext}
+use Rattle.tsobench.specs.Named.{HasKnown, OpensFirst, OpensNext, reads_input}
 
 -- ---- reports of files of which less may be known
 
@@ -99,12 +98,20 @@ does_asked (Check trace certificate) input files o status ends = ends
 does_asked (Show text) input files o status ends = (string_bytes text, ends)
 does_asked (Refuse text) input files o status ends = (string_bytes text, ends)
 
--- something is asked for by all arguments
-pub some_asked : (kinds : Kinds) (found : Option (Text × List Row)) → (asked : Asked) × IsAskedBy kinds found asked
-some_asked [] found = (asked_by found, refl)
-some_asked (kind ∷ others) found = (asked_at kind, inl refl)
-
 -- where nothing was opened
 pub opens_none : (old : Option (List (List ℕ))) (names : List (List ℕ)) → OpensFirst old old names
 opens_none None names = (0, omega arith, tt)
 opens_none (Some before) names = (0, omega arith, ap Some (sym (append-nil before)))
+
+-- ---- standard input
+
+-- it is judged where no file is named
+pub unnamed_read : (file : Option (Bor (List ℕ))) (workers : ℕ) → reads_input (judging (option_map (λ f. f.now) file) workers) ≡ true → file ≡ None
+unnamed_read None workers reads = refl
+unnamed_read (Some name) workers reads = absurd (true≢false (sym reads))
+
+-- a status other than that of a fault is that of a verdict
+pub at_verdict : (outcome : Result Verdict Fault) (status : ℕ) (before errors : Option (List ℕ)) (P : Type 0) → IfErr outcome (λ fault. WritesFaultLine before errors fault × (status ≡ 4))
+    → IfOk outcome (λ _. P) → status ≢ 4 → P
+at_verdict (Ok verdict) status before errors P faulty holds other = holds
+at_verdict (Err fault) status before errors P faulty holds other = absurd (other faulty.1)

@@ -10,8 +10,7 @@ use Rattle.tso_report.specs.Written.{IsCheckReportOfReaders, IsReportOfReader, L
 use Rattle.tsobench.specs.Named.{name_in}
 use Rattle.command_line.specs.declared.requests.Request.{Request}
 use Rattle.command_line.specs.declared.requests.Request.TheVariants.{Judge, Check, Show, Refuse}
-use Rattle.clap.specs.Words.{fault_of, subcommand_of}
-use Rattle.command_line.specs.Commands.{IsAskedBy, parsed_as, tsobench_app}
+use Rattle.command_line.specs.Commands.{IsAskedFor}
 use Rattle.command_line.specs.Requests.{Asked, Text, judging, checking, showing, refusing}
 
 -- ---- statuses and the lines of faults
@@ -104,6 +103,12 @@ EndsAsAsked refusing input files o status = (text : List ℕ) × EndsRefusing te
 abbrev pub Does : Asked → Option (List ℕ) → (List ℕ → Option (List ℕ)) → Outputs → ℕ → Type 0
 Does asked input files o status = EndsAsAsked asked input files o status ⊎ EndsOutOfMemory o status
 
--- what clap says that any arguments ask for
-abbrev pub IsAskedFor : List Text → Asked → Type 0
-IsAskedFor arguments asked = IsAskedBy (fault_of tsobench_app (parsed_as arguments)) (subcommand_of tsobench_app (parsed_as arguments)) asked
+-- what clap says that the arguments ask for was done, or memory ran out while they were read
+abbrev pub DoesWhatClapSays : List Text → Option (List ℕ) → (List ℕ → Option (List ℕ)) → Outputs → ℕ → Type 0
+DoesWhatClapSays arguments input files o status = ((asked : Asked) × IsAskedFor arguments asked × EndsAsAsked asked input files o status) ⊎ EndsOutOfMemory o status
+
+-- ---- arguments that can't be had
+
+-- the line that refuses arguments of which one is not UTF-8
+abbrev pub invalid_utf8_line : List ℕ
+invalid_utf8_line = codes "error: invalid UTF-8 was detected in one or more arguments" ++ 10 ∷ []

@@ -1,17 +1,18 @@
 //! All that the program does, from its arguments on.
-ghost use Rattle.std.specs.Prelude.{◌≡◌, ◌≢◌, None, false};
-ghost use Rattle.std.specs.Io.KnownBytes.{Keeps};
+ghost use Rattle.std.specs.Prelude.{◌≡◌, ◌≢◌, None, true, false};
 ghost use Rattle.std.specs.declared.io.ErrorKind.TheVariants.{OutOfMemory as NoMemory};
 ghost use Rattle.command_line.specs.Refusals.{Refuses};
 ghost use Rattle.command_line.specs.Requests.{Asked, refusing, showing, texts_in};
 ghost use Rattle.command_line.specs.Spellings.{Asks, AsksHelp};
+ghost use Rattle.tso_report.specs.Limits.{trace_read_limit};
+ghost use Rattle.tso_report.specs.Streams.{AppendsPrefix, LosesPrefix};
 ghost use Rattle.tso_report.specs.declared.faults.Fault.TheVariants.{OutOfMemory};
-ghost use Rattle.tsobench.specs.Endings.{Does, IsAskedFor, WritesFaultLine, outputs};
+ghost use Rattle.tsobench.specs.Endings.{Does, DoesWhatClapSays, WritesFaultLine, invalid_utf8_line, outputs};
 ghost use Rattle.tsobench.specs.Named.{OpensFirst, files_named, reads_input};
 
-use crate::endings::{REFUSED, end_by};
+use crate::endings::end_by;
 use crate::files::{NamedFiles, SystemFiles};
-use crate::serving::serve;
+use crate::serving::{refuse, serve};
 use command_line::read_arguments;
 use std::io;
 use std::io::{Read, Write};
@@ -27,7 +28,7 @@ use tso_report::Fault;
 /// 0: no violation was found, or help was asked for and written. 2: a text or a certificate was refused, or the
 /// arguments were, whose refusal is written to `errors`. 3: a violation, or a certificate that holds. 4: a fault; one
 /// line, as `FAULT Read`, is written to `errors`. All files that the arguments name are opened, in their order, before
-/// one is read.
+/// one is read. At most 1,048,577 bytes of a trace are read.
 pub fn drive<H: Threads + Wait + Sync + Files + AllocGlobal, R: Read, W: Write, E: Write>(
     rt: &H,
     arguments: &[String],
@@ -38,8 +39,11 @@ pub fn drive<H: Threads + Wait + Sync + Files + AllocGlobal, R: Read, W: Write, 
     ensures asked { (asked : Asked) → Asks (texts_in arguments.now) asked → Does asked (R.remaining reader.old) (λ _. None) (outputs (W.contents writer.old) (W.contents writer.new) (E.contents errors.old) (E.contents errors.new)) result }
     ensures helped { AsksHelp (texts_in arguments.now) → Does showing (R.remaining reader.old) (λ _. None) (outputs (W.contents writer.old) (W.contents writer.new) (E.contents errors.old) (E.contents errors.new)) result }
     ensures refused { Refuses (texts_in arguments.now) → Does refusing (R.remaining reader.old) (λ _. None) (outputs (W.contents writer.old) (W.contents writer.new) (E.contents errors.old) (E.contents errors.new)) result }
-    ensures ends { (asked : Asked) × IsAskedFor (texts_in arguments.now) asked × Does asked (R.remaining reader.old) (λ _. None) (outputs (W.contents writer.old) (W.contents writer.new) (E.contents errors.old) (E.contents errors.new)) result }
+    ensures ends { DoesWhatClapSays (texts_in arguments.now) (R.remaining reader.old) (λ _. None) (outputs (W.contents writer.old) (W.contents writer.new) (E.contents errors.old) (E.contents errors.new)) result }
     ensures unread { (asked : Asked) → Asks (texts_in arguments.now) asked → reads_input asked ≡ false → reader.new ≡ reader.old }
+    ensures unread_help { AsksHelp (texts_in arguments.now) → reader.new ≡ reader.old }
+    ensures unread_refusal { Refuses (texts_in arguments.now) → reader.new ≡ reader.old }
+    ensures taken { (asked : Asked) → Asks (texts_in arguments.now) asked → reads_input asked ≡ true → result ≢ 4 → LosesPrefix trace_read_limit (R.remaining reader.old) (R.remaining reader.new) }
 {
     let mut files = SystemFiles::new(rt);
     drive_over(rt, arguments, &mut files, reader, writer, errors)
@@ -56,9 +60,12 @@ pub fn drive_over<
     ensures asked { (asked : Asked) → Asks (texts_in arguments.now) asked → Does asked (R.remaining reader.old) (O.bytes files.old) (outputs (W.contents writer.old) (W.contents writer.new) (E.contents errors.old) (E.contents errors.new)) result }
     ensures helped { AsksHelp (texts_in arguments.now) → Does showing (R.remaining reader.old) (O.bytes files.old) (outputs (W.contents writer.old) (W.contents writer.new) (E.contents errors.old) (E.contents errors.new)) result }
     ensures refused { Refuses (texts_in arguments.now) → Does refusing (R.remaining reader.old) (O.bytes files.old) (outputs (W.contents writer.old) (W.contents writer.new) (E.contents errors.old) (E.contents errors.new)) result }
-    ensures ends { (asked : Asked) × IsAskedFor (texts_in arguments.now) asked × Does asked (R.remaining reader.old) (O.bytes files.old) (outputs (W.contents writer.old) (W.contents writer.new) (E.contents errors.old) (E.contents errors.new)) result }
+    ensures ends { DoesWhatClapSays (texts_in arguments.now) (R.remaining reader.old) (O.bytes files.old) (outputs (W.contents writer.old) (W.contents writer.new) (E.contents errors.old) (E.contents errors.new)) result }
     ensures opened { (asked : Asked) → Asks (texts_in arguments.now) asked → OpensFirst (O.opened files.old) (O.opened files.new) (files_named asked) }
     ensures unread { (asked : Asked) → Asks (texts_in arguments.now) asked → reads_input asked ≡ false → reader.new ≡ reader.old }
+    ensures unread_help { AsksHelp (texts_in arguments.now) → reader.new ≡ reader.old }
+    ensures unread_refusal { Refuses (texts_in arguments.now) → reader.new ≡ reader.old }
+    ensures taken { (asked : Asked) → Asks (texts_in arguments.now) asked → reads_input asked ≡ true → result ≢ 4 → LosesPrefix trace_read_limit (R.remaining reader.old) (R.remaining reader.new) }
 {
     match read_arguments(rt.alloc(), arguments) {
         Ok(request) => serve(rt, &request, files, reader, writer, errors),
@@ -66,15 +73,15 @@ pub fn drive_over<
     }
 }
 
-/// The status where the arguments could not be had: where memory ran out that of a fault, whose line is written to
-/// `errors`, else that of a refusal.
+/// The status where the arguments could not be had, of which a line is written to `errors`: where memory ran out that of
+/// a fault, else, where one of them isn't UTF-8, that of a refusal.
 pub fn end_without_arguments<E: Write>(kind: io::ErrorKind, errors: &mut E) -> u8
     ensures memory { kind ≡ NoMemory → WritesFaultLine (E.contents errors.old) (E.contents errors.new) OutOfMemory × (result ≡ 4) }
-    ensures other { kind ≢ NoMemory → (result ≡ 2) × Keeps (E.contents errors.old) (E.contents errors.new) }
+    ensures other { kind ≢ NoMemory → AppendsPrefix (E.contents errors.old) (E.contents errors.new) invalid_utf8_line × (result ≡ 2) }
 {
     if kind == io::ErrorKind::OutOfMemory {
-        end_by(Fault::OutOfMemory, errors)
-    } else {
-        REFUSED
+        return end_by(Fault::OutOfMemory, errors);
     }
+    let line = "error: invalid UTF-8 was detected in one or more arguments\n";
+    refuse(line, errors)
 }

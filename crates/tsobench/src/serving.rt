@@ -1,7 +1,8 @@
 //! What the program does for each request.
-ghost use Rattle.std.specs.Prelude.{◌≡◌, ◌≢◌, ◌≤◌, [], ◌∷◌, IfOk, IfErr, OnOk, OnSome, false, option_to_list, string_bytes};
+ghost use Rattle.std.specs.Prelude.{◌≡◌, ◌≢◌, ◌≤◌, [], ◌∷◌, IfOk, IfErr, OnOk, OnSome, None, true, false, option_to_list, string_bytes};
 ghost use Rattle.command_line.specs.Requests.{HasWorkers, asked_of};
-ghost use Rattle.tso_report.specs.Streams.{AppendsPrefix};
+ghost use Rattle.tso_report.specs.Limits.{trace_read_limit, worker_limit};
+ghost use Rattle.tso_report.specs.Streams.{AppendsPrefix, LosesPrefix};
 ghost use Rattle.tso_report.specs.Written.{LeavesCheckFault, LeavesFault, WritesCheckReport, WritesReport};
 ghost use Rattle.tso_report.specs.declared.faults.Fault.{Fault};
 ghost use Rattle.tsobench.specs.Endings.{EndsAs, EndsShowing, judged_bytes, outputs};
@@ -37,6 +38,7 @@ pub fn serve<H: Threads + Wait + Sync + AllocGlobal, O: NamedFiles, R: Read, W: 
     ensures first { OpensFirst (O.opened files.old) (O.opened files.new) (files_named (asked_of request.now)) }
     ensures opened { result ≢ 4 → OpensNext (O.opened files.old) (O.opened files.new) (files_named (asked_of request.now)) }
     ensures unread { reads_input (asked_of request.now) ≡ false → reader.new ≡ reader.old }
+    ensures taken { reads_input (asked_of request.now) ≡ true → result ≢ 4 → LosesPrefix trace_read_limit (R.remaining reader.old) (R.remaining reader.new) }
 {
     match request {
         Request::Judge { file, workers } => end(
@@ -62,11 +64,12 @@ fn judge_named<H: Threads + Wait + Sync + AllocGlobal, O: NamedFiles, R: Read, W
     writer: &mut W,
 ) -> Result<Verdict, Fault>
     requires some { 1 ≤ workers }
-    requires most { workers ≤ 64 }
+    requires most { workers ≤ worker_limit }
     ensures report { let remaining = judged_bytes (name_in file.entry) (R.remaining reader.old) (O.bytes files.old) in IfOk result (WritesReport remaining (W.contents writer.old) (W.contents writer.new)) }
     ensures fault { let remaining = judged_bytes (name_in file.entry) (R.remaining reader.old) (O.bytes files.old) in IfErr result (LeavesFault remaining (W.contents writer.old) (W.contents writer.new)) }
     ensures opened { OpensNext (O.opened files.old) (O.opened files.new) (option_to_list (name_in file.entry)) }
     ensures unread { OnSome file.entry (reader.new ≡ reader.old) }
+    ensures taken { file.entry ≡ None → IfOk result (λ _. LosesPrefix trace_read_limit (R.remaining reader.old) (R.remaining reader.new)) }
 {
     match file {
         None => judge(rt, rt.alloc(), reader, writer, workers),
@@ -83,7 +86,7 @@ fn judge_file<H: Threads + Wait + Sync + AllocGlobal, O: NamedFiles, W: Write>(
     workers: usize,
 ) -> Result<Verdict, Fault>
     requires some { 1 ≤ workers }
-    requires most { workers ≤ 64 }
+    requires most { workers ≤ worker_limit }
     ensures report { IfOk result (WritesReport (O.bytes files.old name.now) (W.contents writer.old) (W.contents writer.new)) }
     ensures fault { IfErr result (LeavesFault (O.bytes files.old name.now) (W.contents writer.old) (W.contents writer.new)) }
     ensures opened { OpensNext (O.opened files.old) (O.opened files.new) (name.now ∷ []) }
@@ -131,7 +134,7 @@ fn show<W: Write, E: Write>(text: &str, writer: &mut W, errors: &mut E) -> u8
 }
 
 /// Writes why the arguments were refused. Nothing can be done where that can't be written.
-fn refuse<E: Write>(text: &str, errors: &mut E) -> u8
+pub(crate) fn refuse<E: Write>(text: &str, errors: &mut E) -> u8
     ensures text { AppendsPrefix (E.contents errors.old) (E.contents errors.new) text.now }
     ensures status { result ≡ 2 }
 {

@@ -118,7 +118,9 @@ fn arguments_that_cannot_be_had(rt: HostRuntime) -> Result<(), Fail> {
     let mut errors = Vec::new(rt.alloc());
     let status = end_without_arguments(ErrorKind::InvalidData, &mut errors);
     assert_eq!(rt; status, 2);
-    assert_eq!(rt; errors.len(), 0);
+    let line = b"error: invalid UTF-8 was detected in one or more arguments\n";
+    assert_eq!(rt; errors.as_slice(), line.as_slice());
+    errors.clear();
     let status = end_without_arguments(ErrorKind::OutOfMemory, &mut errors);
     assert_eq!(rt; status, 4);
     assert_eq!(rt; errors.as_slice(), b"FAULT OutOfMemory\n".as_slice());

@@ -1,6 +1,7 @@
 //! A reader's bytes, up to a limit.
 ghost use Rattle.std.specs.Prelude.{◌≡◌, ◌⊎◌, ◌+◌, ◌≤◌, length, take, IfSome, IfOk, IfErr};
 ghost use Rattle.std.specs.Io.KnownBytes.{Consumes};
+ghost use Rattle.tso_report.specs.Limits.{read_call_limit};
 ghost use Rattle.tso_report.specs.declared.faults.Fault.{Fault};
 
 use crate::faults::Fault;
@@ -39,7 +40,7 @@ fn read_counted<R: Read>(
     limit: usize,
 ) -> Result<Vec<u8>, Fault>
     requires fresh { reader.old.calls ≡ 0 }
-    ensures calls { reader.new.calls ≤ 2097152 }
+    ensures calls { reader.new.calls ≤ read_call_limit }
     ensures same_reference { reader.new.reader.ghost_name ≡ reader.old.reader.ghost_name }
     ensures prefix { IfOk result (λ bytes. IfSome (R.remaining reader.old.reader.now) (λ all. bytes.items ≡ take (limit + 1) all)) }
     ensures taken { IfOk result (λ bytes. Consumes (R.remaining reader.old.reader.now) (R.remaining reader.new.reader.now) bytes.items) }

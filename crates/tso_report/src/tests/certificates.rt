@@ -1,7 +1,7 @@
 //! Certificates of whole traces, with the expected text of each.
 
-use crate::build_cert;
 use crate::findings::least_unwritten;
+use crate::{MAX_WORKERS, build_cert};
 use round_pool::{OpenPoolGate, rounds};
 use std::alloc::Global;
 use std::sync::Wait;
@@ -19,7 +19,7 @@ fn certificate<H: Threads + Wait>(
     workers: usize,
 ) -> Result<Option<String>, Fail> {
     let trace = read_trace(alloc, trace.as_bytes())?;
-    if workers < 1 || workers > 64 {
+    if workers < 1 || workers > MAX_WORKERS {
         return Ok(None);
     }
     match least_unwritten(&trace) {

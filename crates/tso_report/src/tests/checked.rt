@@ -1,6 +1,6 @@
 //! Reports on certificates, with the expected bytes of each.
 
-use super::ends::{FailingReader, Full, ShortWriter};
+use super::ends::{EndedReader, FailingReader, Full, ShortWriter, SlowReader, SlowWriter};
 use crate::{Fault, Verdict, check_texts};
 use std::alloc::Global;
 use std::io;
@@ -156,6 +156,15 @@ fn failing() -> FailingReader {
     }
 }
 
+/// A reader of this text that fails after its end.
+fn ended(text: &str) -> EndedReader<'_> {
+    EndedReader {
+        rest: text.as_bytes(),
+        ended: false,
+        calls: 0,
+    }
+}
+
 #[test]
 fn certificates_that_hold(rt: HostRuntime) -> Result<(), Fail> {
     let unwritten = (
@@ -232,6 +241,45 @@ fn bytes_of_a_certificate_at_their_limit(rt: HostRuntime) -> Result<(), Fail> {
     assert_eq!(rt; verdict, Verdict::Refused);
     let report = "CERTIFICATE REFUSED BadLine line 1\n";
     assert_eq!(rt; written.as_slice(), report.as_bytes());
+    Ok(())
+}
+
+/// Readers and a writer of one byte a call, each interrupted once before it.
+#[test]
+fn slow_readers_and_writer(rt: HostRuntime) -> Result<(), Fail> {
+    let alloc = rt.alloc();
+    let (trace, certificate, report) = HOLDS;
+    let mut trace = SlowReader {
+        inner: trace.as_bytes(),
+        interrupted: false,
+    };
+    let mut certificate = SlowReader {
+        inner: certificate.as_bytes(),
+        interrupted: false,
+    };
+    let mut writer = SlowWriter {
+        taken: Vec::new(alloc),
+        interrupted: false,
+    };
+    let verdict = check_texts(alloc, &mut trace, &mut certificate, &mut writer)?;
+    assert_eq!(rt; verdict, Verdict::Violation);
+    assert_eq!(rt; writer.taken.as_slice(), report.as_bytes());
+    Ok(())
+}
+
+/// Neither text is read after its end, which is seen once.
+#[test]
+fn nothing_read_after_either_end(rt: HostRuntime) -> Result<(), Fail> {
+    let alloc = rt.alloc();
+    let (trace, certificate, report) = HOLDS;
+    let mut trace = ended(trace);
+    let mut certificate = ended(certificate);
+    let mut written = Vec::new(alloc);
+    let verdict = check_texts(alloc, &mut trace, &mut certificate, &mut written)?;
+    assert_eq!(rt; verdict, Verdict::Violation);
+    assert_eq!(rt; written.as_slice(), report.as_bytes());
+    assert_eq!(rt; trace.calls, 2);
+    assert_eq!(rt; certificate.calls, 2);
     Ok(())
 }
 

@@ -92,6 +92,29 @@ impl Write for SlowWriter {
     }
 }
 
+/// A writer that is interrupted so many times and then takes all bytes. It counts the calls.
+#[derive(Drop)]
+pub(super) struct InterruptedWriter {
+    pub(super) taken: Vec<u8>,
+    pub(super) interrupts: usize,
+    pub(super) calls: usize,
+}
+
+impl Write for InterruptedWriter {
+    fn write(&mut self, buf: &[u8]) -> io::Result<usize> {
+        self.calls = self.calls.saturating_add(1);
+        if self.calls <= self.interrupts {
+            return Err(Error::from(ErrorKind::Interrupted));
+        }
+        self.taken.extend_from_slice(buf)?;
+        Ok(buf.len())
+    }
+
+    fn flush(&mut self) -> io::Result<()> {
+        Ok(())
+    }
+}
+
 /// What a writer does that has no room left.
 #[derive(Clone, Copy)]
 pub(super) enum Full {

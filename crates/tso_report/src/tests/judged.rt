@@ -1,6 +1,6 @@
 //! Reports of whole inputs, with the expected bytes of each.
 
-use crate::{Verdict, judge};
+use crate::{MAX_WORKERS, Verdict, judge};
 use std::alloc::{AllocError, Global};
 use std::sync::Wait;
 use std::test::Fail;
@@ -109,7 +109,7 @@ pub(super) fn judged<H: Threads + Wait + Sync>(
     input: &[u8],
     workers: usize,
 ) -> Result<(Verdict, Vec<u8>), Fail> {
-    if workers < 1 || workers > 64 {
+    if workers < 1 || workers > MAX_WORKERS {
         return Err(Fail::new("not 1 to 64 workers"));
     }
     let mut reader = input;

@@ -6,7 +6,7 @@ use super::checked::HOLDS;
 use super::violations::{
     Case, STORE_BUFFERING_WITH_BARRIERS, TWO_SWAPS_BOTH_FIRST, UNWRITTEN_LOAD,
 };
-use crate::{Fault, Verdict, check_texts, judge};
+use crate::{Fault, MAX_WORKERS, Verdict, check_texts, judge};
 use std::alloc::Global;
 use std::process::Abort;
 use std::sync::Wait;
@@ -24,7 +24,7 @@ fn judges<H: Abort + Threads + Wait + Sync>(
     verdict: Verdict,
     workers: usize,
 ) -> Result<(), Fail> {
-    if workers < 1 || workers > 64 {
+    if workers < 1 || workers > MAX_WORKERS {
         return Err(Fail::new("not 1 to 64 workers"));
     }
     let mut bytes = [0u8; ROOM];

@@ -1,7 +1,8 @@
 //! Faults of readers and of writers.
 
 use super::ends::{
-    EndedReader, FailingReader, Full, ShortWriter, SlowReader, SlowWriter, TornReader,
+    EndedReader, FailingReader, Full, InterruptedWriter, ShortWriter, SlowReader, SlowWriter,
+    TornReader,
 };
 use super::violations::{
     Case, STORE_BUFFERING_WITH_BARRIERS, TWO_SWAPS_BOTH_FIRST, UNWRITTEN_LOAD,
@@ -139,6 +140,40 @@ fn writer_one_byte_a_call(rt: HostRuntime) -> Result<(), Fail> {
     let verdict = judge(&rt, alloc, &mut reader, &mut writer, 1)?;
     assert_eq!(rt; verdict, Verdict::Violation);
     assert_eq!(rt; writer.taken.as_slice(), REPORT);
+    Ok(())
+}
+
+#[test]
+fn text_to_a_slow_writer(rt: HostRuntime) -> Result<(), Fail> {
+    let mut writer = SlowWriter {
+        taken: Vec::new(rt.alloc()),
+        interrupted: false,
+    };
+    write_text(&mut writer, REPORT)?;
+    assert_eq!(rt; writer.taken.as_slice(), REPORT);
+    Ok(())
+}
+
+/// 1,048,576 interruptions of one text are not too many, and one more is.
+#[test]
+fn writer_interrupted_up_to_the_limit(rt: HostRuntime) -> Result<(), Fail> {
+    let alloc = rt.alloc();
+    let mut writer = InterruptedWriter {
+        taken: Vec::new(alloc),
+        interrupts: 1_048_576,
+        calls: 0,
+    };
+    write_text(&mut writer, REPORT)?;
+    assert_eq!(rt; writer.taken.as_slice(), REPORT);
+    assert_eq!(rt; writer.calls, 1_048_577);
+    let mut writer = InterruptedWriter {
+        taken: Vec::new(alloc),
+        interrupts: 1_048_577,
+        calls: 0,
+    };
+    assert_eq!(rt; write_text(&mut writer, REPORT).err(), Some(Fault::Write));
+    assert_eq!(rt; writer.taken.len(), 0);
+    assert_eq!(rt; writer.calls, 1_048_577);
     Ok(())
 }
 

@@ -133,35 +133,20 @@ fn files_that_cannot_be_read(rt: HostRuntime) -> Result<(), Fail> {
     Ok(())
 }
 
+/// The whole texts stand in the tests of `command_line`.
 #[test]
 fn arguments_that_are_refused(rt: HostRuntime) -> Result<(), Fail> {
-    let cases: [(&[&str], &str); 5] = [
-        (
-            &["seek"],
-            "error: unrecognized subcommand 'seek'\n\nUsage: tsobench [COMMAND]\n\nFor more information, try '--help'.\n",
-        ),
-        (
-            &["judge", "--workers", "65"],
-            "error: invalid value '65' for '--workers <N>': 65 is not in 1..=64\n\nFor more information, try '--help'.\n",
-        ),
-        (
-            &["judge", "--workers", "0"],
-            "error: invalid value '0' for '--workers <N>': 0 is not in 1..=64\n\nFor more information, try '--help'.\n",
-        ),
-        (
-            &["judge", "a", "b"],
-            "error: unexpected argument 'b' found\n\nUsage: tsobench judge [OPTIONS] [FILE]\n\nFor more information, try '--help'.\n",
-        ),
-        (
-            &["check", "a"],
-            "error: the following required arguments were not provided:\n  <CERT>\n\nUsage: tsobench check <TRACE> <CERT>\n\nFor more information, try '--help'.\n",
-        ),
+    let cases: [(&[&str], &str); 4] = [
+        (&["seek"], "error: unrecognized subcommand 'seek'\n"),
+        (&["judge", "--workers", "65"], "error: invalid value '65' "),
+        (&["judge", "a", "b"], "error: unexpected argument 'b' "),
+        (&["check", "a"], "error: the following required arguments "),
     ];
-    for (arguments, text) in cases {
+    for (arguments, start) in cases {
         let ended = ended(&rt, rt.alloc(), "", arguments)?;
         assert_eq!(rt; ended.status, 2, "{arguments:?}");
         assert_eq!(rt; ended.written.len(), 0, "{arguments:?}");
-        assert_eq!(rt; ended.errors.as_slice(), text.as_bytes(), "{arguments:?}");
+        assert!(rt; ended.errors.starts_with(start.as_bytes()), "{arguments:?}");
     }
     Ok(())
 }
@@ -173,12 +158,13 @@ fn help_and_version_are_printed(rt: HostRuntime) -> Result<(), Fail> {
     assert_eq!(rt; version.status, 0);
     assert_eq!(rt; version.written.as_slice(), b"tsobench 0.1.0\n".as_slice());
     assert_eq!(rt; version.errors.len(), 0);
-    let help = ended(&rt, alloc, "", &["judge", "--help"])?;
-    assert_eq!(rt; help.status, 0);
-    assert!(rt;
-        help.written
-            .starts_with(b"Judges a trace and prints its report\n\nUsage: ")
-    );
-    assert_eq!(rt; help.errors.len(), 0);
+    let cases: [&[&str]; 3] = [&["judge", "--help"], &["judge", "-h"], &["help", "judge"]];
+    for arguments in cases {
+        let help = ended(&rt, alloc, "", arguments)?;
+        assert_eq!(rt; help.status, 0, "{arguments:?}");
+        let start = b"Judges a trace and prints its report\n\nUsage: ";
+        assert!(rt; help.written.starts_with(start), "{arguments:?}");
+        assert_eq!(rt; help.errors.len(), 0, "{arguments:?}");
+    }
     Ok(())
 }

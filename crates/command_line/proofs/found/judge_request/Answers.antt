@@ -4,7 +4,7 @@ use Rattle.std.specs.Str.Parse.{ExplainsUnsignedError, HasUnsignedDigitsIfOk, Pa
 use Rattle.clap.specs.Words.{found_of}
 use Rattle.clap.proofs.WalkLemmas.{first_value-rows, one_text-rows}
 use Rattle.command_line.specs.Requests.{judging}
-use Rattle.command_line.specs.Commands.{number_in, within_workers}
+use Rattle.command_line.specs.Internal.Computed.{number_in, within_workers}
 use Rattle.command_line.proofs.FoundLemmas.{number_or_one}
 use Rattle.command_line.proofs.found.judge_request.Goals as goal
 

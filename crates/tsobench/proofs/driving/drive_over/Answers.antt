@@ -1,11 +1,8 @@
-use Rattle.std.proofs.Common.{inl, inr, rules, subst}
-use Rattle.clap.specs.Words.{fault_of, subcommand_of}
-use Rattle.command_line.specs.Commands.{parsed_as, tsobench_app}
-use Rattle.command_line.specs.Requests.{asked_of, texts_in}
+use Rattle.std.proofs.Common.{◌∙◌, ap, inl, inr, rules, subst}
+use Rattle.command_line.specs.Requests.{asked_of}
 use Rattle.tsobench.specs.Endings.{Does, Outputs, outputs}
 use Rattle.tsobench.specs.Named.{OpensFirst, files_named, reads_input}
-use Rattle.tsobench.proofs.EndFacts.{does_asked, opens_none, some_asked}
-use Rattle.tsobench.proofs.driving.drive_over.Given as given
+use Rattle.tsobench.proofs.EndFacts.{does_asked}
 use Rattle.tsobench.proofs.driving.drive_over.Goals as goal
 
 pub returns-in-Ok-clause-asked : goal.returns-in-Ok-clause-asked
@@ -27,14 +24,24 @@ returns-in-Ok-clause-refused g c = λ asks.
     (inl (does_asked c.in-Ok.request _ _ o _ c.serve.ensures.ends))
 
 pub returns-in-Ok-clause-ends : goal.returns-in-Ok-clause-ends
-returns-in-Ok-clause-ends g c = (asked_of c.in-Ok.request, c.in-Ok.ensures.parsed, inl (does_asked c.in-Ok.request _ _ _ _ c.serve.ensures.ends))
+returns-in-Ok-clause-ends g c = inl (asked_of c.in-Ok.request, c.in-Ok.ensures.parsed, does_asked c.in-Ok.request _ _ _ _ c.serve.ensures.ends)
 
 pub returns-in-Ok-clause-opened : goal.returns-in-Ok-clause-opened
 returns-in-Ok-clause-opened g c = λ asked asks.
     subst (λ a. OpensFirst (g.O.NamedFiles.opened c.args.files.now) (g.O.NamedFiles.opened c.serve.new.files) (files_named a)) (c.in-Ok.ensures.plain asked asks) c.serve.ensures.first
 
 pub returns-in-Err-clause-ends : goal.returns-in-Err-clause-ends
-returns-in-Err-clause-ends g c =
-    let arguments = parsed_as (texts_in c.args.arguments.now) in
-    let some = some_asked (fault_of tsobench_app arguments) (subcommand_of tsobench_app arguments) in
-    (some.0, some.1, inr (search rules))
+returns-in-Err-clause-ends g c = inr (search rules)
+
+pub returns-in-Ok-clause-unread_help : goal.returns-in-Ok-clause-unread_help
+returns-in-Ok-clause-unread_help g c = λ asks. c.serve.ensures.unread (ap reads_input (c.in-Ok.ensures.helped asks))
+
+pub returns-in-Ok-clause-unread_refusal : goal.returns-in-Ok-clause-unread_refusal
+returns-in-Ok-clause-unread_refusal g c = λ refuses. c.serve.ensures.unread (ap reads_input (c.in-Ok.ensures.refused refuses))
+
+pub returns-in-Ok-clause-taken : goal.returns-in-Ok-clause-taken
+returns-in-Ok-clause-taken g c = λ asked asks reads other.
+    c.serve.ensures.taken (ap reads_input (c.in-Ok.ensures.plain asked asks) ∙ reads) other
+
+pub returns-in-Err-clause-taken : goal.returns-in-Err-clause-taken
+returns-in-Err-clause-taken g c = λ asked asks reads other. absurd (other c.end_by.ensures.status)

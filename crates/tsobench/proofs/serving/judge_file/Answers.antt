@@ -1,4 +1,4 @@
-use Rattle.tsobench.proofs.EndFacts.{file_leaves, file_writes}
+use Rattle.tsobench.proofs.EndFacts.{file_writes}
 use Rattle.tsobench.proofs.serving.judge_file.Goals as goal
 
 pub returns-clause-report : goal.returns-clause-report

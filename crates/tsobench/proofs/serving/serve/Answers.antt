@@ -1,8 +1,8 @@
 use Rattle.std.specs.Prelude.{option_to_list}
-use Rattle.tso_report.specs.Written.{IsCheckReportOfReaders, IsReportOfReader}
+use Rattle.tso_report.specs.Written.{IsReportOfReader}
 use Rattle.tsobench.specs.Endings.{Outputs, judged_bytes, outputs}
 use Rattle.tsobench.specs.Named.{name_in}
-use Rattle.tsobench.proofs.EndFacts.{ends_by_report, opens_all}
+use Rattle.tsobench.proofs.EndFacts.{at_verdict, ends_by_report, opens_all, unnamed_read}
 use Rattle.tsobench.proofs.serving.serve.Goals as goal
 
 pub returns-in-Judge-clause-ends : goal.returns-in-Judge-clause-ends
@@ -13,3 +13,8 @@ returns-in-Judge-clause-ends g c =
 
 pub returns-in-Judge-clause-first : goal.returns-in-Judge-clause-first
 returns-in-Judge-clause-first g c = rw c.in-Judge.is (opens_all _ _ (option_to_list (name_in c.in-Judge.file)) c.judge_named.ensures.opened)
+
+pub returns-in-Judge-clause-taken : goal.returns-in-Judge-clause-taken
+returns-in-Judge-clause-taken g c = λ reads other.
+    let unnamed = unnamed_read c.in-Judge.file c.in-Judge.workers (rw c.in-Judge.is at reads) in
+    at_verdict c.judge_named.result c.end.result _ _ _ c.end.ensures.fault (c.judge_named.ensures.taken unnamed) other
