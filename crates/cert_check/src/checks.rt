@@ -17,7 +17,7 @@ use tso_model::plain::events::is_unwritten;
 use tso_model::plain::is_base_pair;
 use tso_ops::Trace;
 
-/// Checks a certificate: Ok exactly where it holds for the trace, which then has no TSO order.
+/// Checks a certificate: Ok exactly where it holds for the trace, which then has no order of its memory model.
 ///
 /// Where it doesn't hold, EventRange is looked for over the whole certificate first; then the first step with a
 /// fault decides; then the cycle. It allocates nothing.

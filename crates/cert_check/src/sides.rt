@@ -20,7 +20,7 @@ pub(crate) fn has_sides(
     ensures { IsTrue result ↔ HasSides trace.now rule l u v path.now }
 {
     match ends_of(path) {
-        Some((x, y)) => is_inferred_by(trace, rule, l, u, v, x, y),
+        Some(ends) => is_inferred_by(trace, rule, l, u, v, ends),
         None => false,
     }
 }
@@ -35,18 +35,18 @@ fn ends_of(path: &[u64]) -> Option<(usize, usize)>
     }
 }
 
-/// Whether the rule gives the edge from `u` to `v` for load `l` by a path from `x` to `y`.
+/// Whether the rule gives the edge from `u` to `v` for load `l` by a path with these ends.
 fn is_inferred_by(
     trace: &Trace,
     rule: InferredRule,
     l: usize,
     u: usize,
     v: usize,
-    x: usize,
-    y: usize,
+    ends: (usize, usize),
 ) -> bool
-    ensures { IsTrue result ↔ InferredBy trace.now rule l u v x y }
+    ensures { IsTrue result ↔ InferredBy trace.now rule l u v ends.0 ends.1 }
 {
+    let (x, y) = ends;
     match rule {
         InferredRule::LoadPast => is_load_past(trace, l, u, v, x, y),
         InferredRule::StorePast => is_store_past(trace, l, u, v, x, y),

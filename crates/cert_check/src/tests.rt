@@ -1,10 +1,10 @@
 use crate::{CertFault, check};
 use std::alloc::{AllocError, Global};
 use std::test::Fail;
-use tso_cert::BaseRule::{Init, LoadOp, Membar, Own, Read, StoreStore};
+use tso_cert::BaseRule::{Init, LoadOp, Membar, Own, Read, Stbar, StoreStore};
 use tso_cert::InferredRule::{LoadPast, StorePast, SwapAfter};
 use tso_cert::{BaseRule, CertStep, Certificate, InferredRule, NumList, Reason, StepList};
-use tso_ops::{Outcome, Trace};
+use tso_ops::{Order, Outcome, Trace};
 
 /// A step by a base rule.
 fn base(from: u64, to: u64, rule: BaseRule) -> CertStep {
@@ -43,13 +43,23 @@ fn certificate(
     })
 }
 
-/// The trace of these lists.
-fn trace(alloc: Global, lists: &[&[Outcome]]) -> Result<Trace, Fail> {
+/// These lists, owned.
+fn owned(alloc: Global, lists: &[&[Outcome]]) -> Result<Vec<Vec<Outcome>>, Fail> {
     let mut owned = Vec::new(alloc);
     for list in lists {
         owned.push(list.to_vec(alloc)?)?;
     }
-    Ok(Trace::new(alloc, owned)?)
+    Ok(owned)
+}
+
+/// The trace of these lists.
+fn trace(alloc: Global, lists: &[&[Outcome]]) -> Result<Trace, Fail> {
+    Ok(Trace::new(alloc, owned(alloc, lists)?)?)
+}
+
+/// The trace of these lists under partial store order.
+fn pso_trace(alloc: Global, lists: &[&[Outcome]]) -> Result<Trace, Fail> {
+    Ok(Trace::with_order(alloc, Order::Pso, owned(alloc, lists)?)?)
 }
 
 fn st(a: u16, v: u64) -> Outcome {
@@ -129,6 +139,19 @@ fn certificates_of_litmus_tests_hold(rt: HostRuntime) -> Result<(), Fail> {
     Ok(())
 }
 
+/// The certificate of message passing whose last load, event 4, reads the first value: the two stores are in order by
+/// this rule.
+fn passing_certificate(alloc: Global, rule: BaseRule) -> Result<Certificate, AllocError> {
+    let steps = vec![in alloc;
+        base(0, 1, Init),
+        base(1, 2, rule),
+        base(2, 3, Read),
+        base(3, 4, LoadOp),
+        inferred(alloc, 1, 0, LoadPast, 4, &[1, 2, 3, 4])?,
+    ]?;
+    certificate(alloc, steps, &[0, 1])
+}
+
 #[test]
 fn certificates_of_stale_reads_hold(rt: HostRuntime) -> Result<(), Fail> {
     let alloc = rt.alloc();
@@ -140,15 +163,8 @@ fn certificates_of_stale_reads_hold(rt: HostRuntime) -> Result<(), Fail> {
     );
 
     let stale = trace(alloc, &[&[st(1, 1), st(2, 2)], &[ld(2, 2), ld(1, 0)]])?;
-    let steps = vec![in alloc;
-        base(0, 1, Init),
-        base(1, 2, StoreStore),
-        base(2, 3, Read),
-        base(3, 4, LoadOp),
-        inferred(alloc, 1, 0, LoadPast, 4, &[1, 2, 3, 4])?,
-    ]?;
     assert_eq!(rt;
-        check(&stale, &certificate(alloc, steps, &[0, 1])?),
+        check(&stale, &passing_certificate(alloc, StoreStore)?),
         Ok(()),
         "message_passing_stale"
     );
@@ -169,6 +185,78 @@ fn certificates_of_stale_reads_hold(rt: HostRuntime) -> Result<(), Fail> {
     Ok(())
 }
 
+/// Message passing with these stores under partial store order: its last load reads the first value.
+fn pso_passing(alloc: Global, stores: &[Outcome]) -> Result<Trace, Fail> {
+    let reader = vec![in alloc; ld(2, 2), ld(1, 0)]?;
+    let lists = vec![in alloc; stores.to_vec(alloc)?, reader]?;
+    Ok(Trace::with_order(alloc, Order::Pso, lists)?)
+}
+
+#[test]
+fn stores_of_partial_store_order(rt: HostRuntime) -> Result<(), Fail> {
+    let alloc = rt.alloc();
+    let stbar = passing_certificate(alloc, Stbar)?;
+    let store_store = passing_certificate(alloc, StoreStore)?;
+    let refused = Err(CertFault::BaseRefused(2));
+    let cases: [(&[Outcome], Result<(), CertFault>); 3] = [
+        (&[st(1, 1), Outcome::Sb, st(2, 2)], Ok(())),
+        (&[st(1, 1), st(2, 2)], refused),
+        (&[st(1, 1), Outcome::Mb, st(2, 2)], refused),
+    ];
+    for (stores, answer) in cases {
+        let passing = pso_passing(alloc, stores)?;
+        assert_eq!(rt; check(&passing, &stbar), answer, "{stores:?}");
+        assert_eq!(rt; check(&passing, &store_store), refused, "{stores:?}");
+    }
+    Ok(())
+}
+
+#[test]
+fn certificates_from_first_values(rt: HostRuntime) -> Result<(), Fail> {
+    let alloc = rt.alloc();
+    let lists = owned(alloc, &[&[st(1, 1), st(2, 2)], &[ld(2, 2), ld(1, 7)]])?;
+    let passing = Trace::with_first(alloc, Order::Tso, vec![in alloc; (1, 7)]?, lists)?;
+    assert_eq!(rt;
+        check(&passing, &passing_certificate(alloc, StoreStore)?),
+        Ok(()),
+        "first_values_message_passing"
+    );
+
+    let lists = owned(alloc, &[&[ld(1, 0)], &[ld(1, 7)]])?;
+    let zero = Trace::with_first(alloc, Order::Tso, vec![in alloc; (1, 7)]?, lists)?;
+    assert_eq!(rt;
+        check(&zero, &Certificate::Unwritten(1)),
+        Ok(()),
+        "first_values_read_of_zero"
+    );
+    assert_eq!(rt;
+        check(&zero, &Certificate::Unwritten(2)),
+        Err(CertFault::NotUnwritten)
+    );
+    Ok(())
+}
+
+/// The certificate of a store read past by a later load of its address, event 4, under either memory model.
+#[test]
+fn stores_of_one_location_stay_in_order(rt: HostRuntime) -> Result<(), Fail> {
+    let alloc = rt.alloc();
+    let lists: [&[Outcome]; 2] = [&[st(1, 1), st(1, 2)], &[ld(1, 2), ld(1, 1)]];
+    for given in [trace(alloc, &lists)?, pso_trace(alloc, &lists)?] {
+        let steps = vec![in alloc;
+            base(1, 2, StoreStore),
+            base(2, 3, Read),
+            base(3, 4, LoadOp),
+            inferred(alloc, 2, 1, LoadPast, 4, &[2, 3, 4])?,
+        ]?;
+        assert_eq!(rt;
+            check(&given, &certificate(alloc, steps, &[1, 2])?),
+            Ok(()),
+            "one_location_backwards"
+        );
+    }
+    Ok(())
+}
+
 #[test]
 fn certificates_of_one_location_hold(rt: HostRuntime) -> Result<(), Fail> {
     let alloc = rt.alloc();
@@ -179,19 +267,6 @@ fn certificates_of_one_location_hold(rt: HostRuntime) -> Result<(), Fail> {
         let given = check(&given, &certificate(alloc, steps, &[0, 1])?);
         assert_eq!(rt; given, Ok(()), "{name}");
     }
-
-    let backwards = trace(alloc, &[&[st(1, 1), st(1, 2)], &[ld(1, 2), ld(1, 1)]])?;
-    let steps = vec![in alloc;
-        base(1, 2, StoreStore),
-        base(2, 3, Read),
-        base(3, 4, LoadOp),
-        inferred(alloc, 2, 1, LoadPast, 4, &[2, 3, 4])?,
-    ]?;
-    assert_eq!(rt;
-        check(&backwards, &certificate(alloc, steps, &[1, 2])?),
-        Ok(()),
-        "one_location_backwards"
-    );
     Ok(())
 }
 

@@ -24,7 +24,7 @@ pub bound_of-within : (count w workers : ℕ) → 1 ≤ workers → w ≤ worker
 bound_of-within count w workers some low = div-le_of_le-mul workers (let more = mul-le-mul_left {m = w} {n = workers} count low in let same = mul_comm count workers in omega (arith, more, same))
 
 -- the product fits
-pub product_fits : (count w workers : ℕ) → count ≤ 2000 → workers ≤ worker_limit → w ≤ workers → count * w < 2 ^ 64
+pub product_fits : (count w workers : ℕ) → count ≤ 8000 → workers ≤ worker_limit → w ≤ workers → count * w < 2 ^ 64
 product_fits count w workers few most low =
     let small : w ≤ worker_limit = omega (arith, most, low) in
     let product = mul-le-mul few small in

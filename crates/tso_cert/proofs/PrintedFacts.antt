@@ -6,7 +6,7 @@ use Rattle.std.specs.List.{flat_map, slice_split, join_with_byte}
 use Rattle.line_text.specs.Lines.{line_text, parts_of, pieces_of}
 use Rattle.line_text.proofs.SplitFacts.{has_byte, has_byte_in, split_part, split_joined, joined_without, decimal_without}
 use Rattle.tso_cert.specs.declared.rules.BaseRule.{BaseRule}
-use Rattle.tso_cert.specs.declared.rules.BaseRule.TheVariants.{Init, LoadOp, StoreStore, Membar, Read, Own}
+use Rattle.tso_cert.specs.declared.rules.BaseRule.TheVariants.{Init, LoadOp, StoreStore, Stbar, Membar, Read, Own}
 use Rattle.tso_cert.specs.declared.rules.InferredRule.{InferredRule}
 use Rattle.tso_cert.specs.declared.rules.InferredRule.TheVariants.{LoadPast, StorePast, SwapBefore, SwapAfter}
 use Rattle.tso_cert.specs.declared.steps.Reason.{Reason}
@@ -56,6 +56,7 @@ base_without : (c : ℕ) (rule : BaseRule) → IsBreak c → has_byte c (base_na
 base_without c Init is = word_without c (codes "Init") is refl refl
 base_without c LoadOp is = word_without c (codes "LoadOp") is refl refl
 base_without c StoreStore is = word_without c (codes "StoreStore") is refl refl
+base_without c Stbar is = word_without c (codes "Stbar") is refl refl
 base_without c Membar is = word_without c (codes "Membar") is refl refl
 base_without c Read is = word_without c (codes "Read") is refl refl
 base_without c Own is = word_without c (codes "Own") is refl refl

@@ -4,7 +4,7 @@ use Rattle.std.specs.List.{flat_map}
 use Rattle.std.specs.Fmt.{decimal}
 use Rattle.line_text.specs.Lines.{line_text}
 use Rattle.tso_cert.specs.declared.rules.BaseRule.{BaseRule}
-use Rattle.tso_cert.specs.declared.rules.BaseRule.TheVariants.{Init, LoadOp, StoreStore, Membar, Read, Own}
+use Rattle.tso_cert.specs.declared.rules.BaseRule.TheVariants.{Init, LoadOp, StoreStore, Stbar, Membar, Read, Own}
 use Rattle.tso_cert.specs.declared.rules.InferredRule.{InferredRule}
 use Rattle.tso_cert.specs.declared.rules.InferredRule.TheVariants.{LoadPast, StorePast, SwapBefore, SwapAfter}
 use Rattle.tso_cert.specs.declared.steps.Reason.{Reason}
@@ -17,6 +17,7 @@ abbrev pub base_name : BaseRule → List ℕ
 base_name Init = codes "Init"
 base_name LoadOp = codes "LoadOp"
 base_name StoreStore = codes "StoreStore"
+base_name Stbar = codes "Stbar"
 base_name Membar = codes "Membar"
 base_name Read = codes "Read"
 base_name Own = codes "Own"

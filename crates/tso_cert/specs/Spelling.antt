@@ -6,7 +6,7 @@ use Rattle.std.specs.Fmt.{decimal}
 use Rattle.line_text.specs.Lines.{parts_of, pieces_of, is_empty}
 use Rattle.line_text.specs.Numbers.{number}
 use Rattle.tso_cert.specs.declared.rules.BaseRule.{BaseRule}
-use Rattle.tso_cert.specs.declared.rules.BaseRule.TheVariants.{Init, LoadOp, StoreStore, Membar, Read, Own}
+use Rattle.tso_cert.specs.declared.rules.BaseRule.TheVariants.{Init, LoadOp, StoreStore, Stbar, Membar, Read, Own}
 use Rattle.tso_cert.specs.declared.rules.InferredRule.{InferredRule}
 use Rattle.tso_cert.specs.declared.rules.InferredRule.TheVariants.{LoadPast, StorePast, SwapBefore, SwapAfter}
 use Rattle.tso_cert.specs.declared.steps.Certificate.{Certificate}
@@ -43,7 +43,7 @@ abbrev pub are_events : List (List ℕ) → Bool
 are_events pieces = list_all (λ piece. is_some (event_number piece)) pieces
 
 abbrev pub base_rules : List BaseRule
-base_rules = Init ∷ LoadOp ∷ StoreStore ∷ Membar ∷ Read ∷ Own ∷ []
+base_rules = Init ∷ LoadOp ∷ StoreStore ∷ Stbar ∷ Membar ∷ Read ∷ Own ∷ []
 
 abbrev pub inferred_rules : List InferredRule
 inferred_rules = LoadPast ∷ StorePast ∷ SwapBefore ∷ SwapAfter ∷ []

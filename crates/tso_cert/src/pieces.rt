@@ -75,6 +75,8 @@ pub(crate) fn base_rule(name: &[u8]) -> Result<BaseRule, Why>
         Ok(BaseRule::LoadOp)
     } else if name == b"StoreStore".as_slice() {
         Ok(BaseRule::StoreStore)
+    } else if name == b"Stbar".as_slice() {
+        Ok(BaseRule::Stbar)
     } else if name == b"Membar".as_slice() {
         Ok(BaseRule::Membar)
     } else if name == b"Read".as_slice() {

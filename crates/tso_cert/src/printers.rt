@@ -111,6 +111,7 @@ fn base_name(rule: BaseRule) -> &'static str
         BaseRule::Init => "Init",
         BaseRule::LoadOp => "LoadOp",
         BaseRule::StoreStore => "StoreStore",
+        BaseRule::Stbar => "Stbar",
         BaseRule::Membar => "Membar",
         BaseRule::Read => "Read",
         BaseRule::Own => "Own",

@@ -5,8 +5,11 @@ pub enum BaseRule {
     Init,
     /// From a load to a program-later event (the axiom LoadOp: SPARC Architecture Manual Version 8, K.2).
     LoadOp,
-    /// From a store to a program-later store (the axiom StoreStore: SPARC Architecture Manual Version 8, K.2).
+    /// From a store to a program-later store: under TSO to any, under PSO to one to the same address (the axiom StoreStore:
+    /// SPARC Architecture Manual Version 8, K.2; for PSO 6.3 and appendix K).
     StoreStore,
+    /// From a store to a program-later store after an STBAR (SPARC Architecture Manual Version 8, 6.3 and appendix K).
+    Stbar,
     /// From a store to a program-later load after a barrier (MEMBAR #StoreLoad: SPARC Architecture Manual Version 9, 8.4.3 and appendix D).
     Membar,
     /// From the store that is the source of a load, and isn't program-earlier, to the load.

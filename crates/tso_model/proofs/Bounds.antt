@@ -3,7 +3,7 @@ use Rattle.std.proofs.Common.{◌≡◌, ℕ, zero, suc, ◌<◌, inl, inr, arit
 use Rattle.tso_ops.specs.Values.{TraceValue}
 use Rattle.tso_ops.specs.Events.{event_total, IsSwapLoad}
 use Rattle.tso_cert.specs.declared.rules.BaseRule.{BaseRule}
-use Rattle.tso_cert.specs.declared.rules.BaseRule.TheVariants.{Init, LoadOp, StoreStore, Membar, Read, Own}
+use Rattle.tso_cert.specs.declared.rules.BaseRule.TheVariants.{Init, LoadOp, StoreStore, Stbar, Membar, Read, Own}
 use Rattle.tso_cert.specs.declared.rules.InferredRule.{InferredRule}
 use Rattle.tso_cert.specs.declared.rules.InferredRule.TheVariants.{LoadPast, StorePast, SwapBefore, SwapAfter}
 use Rattle.tso_model.specs.Rules.{BasePair, InferredBy}
@@ -20,6 +20,7 @@ pub BasePair-within : (t : TraceValue) (rule : BaseRule) (u v : ℕ) → BasePai
 BasePair-within t Init u v h = let first : u ≡ 0 = h.0 in (omega arith, IsEvent-within t v h.1)
 BasePair-within t LoadOp u v h = (IsLoad-within t u h.0, IsEvent-within t v (h.1.1, h.1.3))
 BasePair-within t StoreStore u v h = (IsStore-within t u h.0, IsStore-within t v h.1)
+BasePair-within t Stbar u v h = (IsStore-within t u h.0, IsStore-within t v h.1)
 BasePair-within t Membar u v h = (IsStore-within t u h.0, IsLoad-within t v h.1)
 BasePair-within t Read u v h = (IsStore-within t u h.0, (HasSource-within t v u h.1).0)
 BasePair-within t Own u v h = (IsStore-within t u h.1.0, (HasSource-within t h.0 v h.1.3).1)

@@ -9,7 +9,7 @@ use Rattle.tso_cert.specs.declared.steps.Certificate.{Certificate}
 use Rattle.tso_cert.specs.declared.steps.Certificate.TheVariants.{Unwritten, Cycle}
 use Rattle.order_paths.proofs.Reach.{Linked-both, Linked-mono}
 use Rattle.order_paths.proofs.Rising.{Rises, rises_on_path, rises_without_cycle}
-use Rattle.tso_model.specs.Order.{place, IsBefore, IsTsoOrder, IsConsistent}
+use Rattle.tso_model.specs.Order.{place, IsBefore, IsModelOrder, IsConsistent}
 use Rattle.tso_model.specs.Ranks.{RankSet, HasRank}
 use Rattle.tso_model.specs.Certs.{IsStep, MeetsRule, IsPathIn, StepsHold, Holds, IsJustified, IsListedBefore, AreStepsOf, IsCertificateOf}
 use Rattle.tso_model.proofs.Events.{HasOwnValues}
@@ -17,13 +17,13 @@ use Rattle.tso_model.proofs.Places.{before_of_same}
 use Rattle.tso_model.proofs.EdgesForward.{base_before, inferred_before, all_written}
 use Rattle.tso_model.proofs.OrderedLists.{slice_get-take, slice_get-take_below}
 
-module _ (t : TraceValue) (own : HasOwnValues t) (order : List ℕ) (tso : IsTsoOrder t order) where
+module _ (t : TraceValue) (own : HasOwnValues t) (order : List ℕ) (axioms : IsModelOrder t order) where
   -- an edge that meets its rule, by a path of edges that lead forwards, leads forwards
   reason_before : (u v : ℕ) (reason : Reason) (Edge : ℕ → ℕ → Type 0) → Rises Edge (place (0 ∷ order)) →
       MeetsRule t u v reason → IsPathIn Edge reason → IsBefore order u v
-  reason_before u v (Base rule) Edge rises meets path = base_before t own order tso rule u v meets
+  reason_before u v (Base rule) Edge rises meets path = base_before t own order axioms rule u v meets
   reason_before u v (Inferred rule load path) Edge rises meets linked =
-      inferred_before t own order tso rule load u v meets.0 meets.1 meets.2
+      inferred_before t own order axioms rule load u v meets.0 meets.1 meets.2
       (rises_on_path Edge (place (0 ∷ order)) rises meets.0 meets.1 (path, (meets.3, linked)))
 
   -- each step below n leads forwards
@@ -46,7 +46,7 @@ module _ (t : TraceValue) (own : HasOwnValues t) (order : List ℕ) (tso : IsTso
 
   -- no certificate holds
   pub nothing_holds : (certificate : Certificate) → Holds t certificate → ⊥
-  nothing_holds (Unwritten n) holds = all_written t order tso n holds
+  nothing_holds (Unwritten n) holds = all_written t order axioms n holds
   nothing_holds (Cycle steps cycle) holds =
       rises_without_cycle (λ x y. IsStep steps x y) (place (0 ∷ order))
       (record { on_edge = step_before steps holds.0 }) cycle holds.1

@@ -6,10 +6,13 @@ use Rattle.order_paths.specs.Paths.{Reaches, HasCycle}
 use Rattle.order_paths.proofs.Decisions.{Decision, Decision-iff, Decision-both, Decision-three, Decision-four, Decision-five, Decision-six, Decision-either, Decision-not, Decision-lt, Decision-IsTrue, Decision-IsFalse, Decision-some}
 use Rattle.order_paths.proofs.Reach.{Reaches-decided, HasCycle-decided}
 use Rattle.tso_ops.specs.declared.events.Event.{Event}
+use Rattle.tso_ops.specs.declared.settings.Order.{Order}
+use Rattle.tso_ops.specs.declared.settings.Order.TheVariants.{Tso, Pso}
+use Rattle.tso_ops.specs.Settings.{first_value}
 use Rattle.tso_ops.specs.Values.{TraceValue}
-use Rattle.tso_ops.specs.Events.{event_total, event_at, IsEvent, IsLoad, IsStore, IsSwapLoad, HasValue, SameAddress, SameValue, Earlier, HasFewerBarriersBefore, HasSource, IsUnwritten}
+use Rattle.tso_ops.specs.Events.{event_total, event_at, IsEvent, IsLoad, IsStore, IsSwapLoad, HasFirstValue, SameAddress, SameValue, Earlier, HasFewerBarriersBefore, HasFewerStbarsBefore, KeepsStores, HasSource, IsUnwritten}
 use Rattle.tso_cert.specs.declared.rules.BaseRule.{BaseRule}
-use Rattle.tso_cert.specs.declared.rules.BaseRule.TheVariants.{Init, LoadOp, StoreStore, Membar, Read, Own}
+use Rattle.tso_cert.specs.declared.rules.BaseRule.TheVariants.{Init, LoadOp, StoreStore, Stbar, Membar, Read, Own}
 use Rattle.tso_cert.specs.declared.rules.InferredRule.{InferredRule}
 use Rattle.tso_cert.specs.declared.rules.InferredRule.TheVariants.{LoadPast, StorePast, SwapBefore, SwapAfter}
 use Rattle.tso_model.specs.Rules.{IsOwnBy, BasePair, InferredBy}
@@ -43,8 +46,9 @@ pub IsSwapLoad-decided : (t : TraceValue) (n : ℕ) → Decision (IsSwapLoad t n
 IsSwapLoad-decided t n = Decision-iff (λ p. (p.0, p.1, p.2.0, p.2.1)) (λ p. (p.0, p.1, (p.2, p.3)))
     (IsSome-decided (λ e. IsTrue e.load × IsTrue e.swap) (λ e. Decision-both (Decision-IsTrue e.load) (Decision-IsTrue e.swap)) (event_at t n))
 
-pub HasValue-decided : (t : TraceValue) (n value : ℕ) → Decision (HasValue t n value)
-HasValue-decided t n value = IsSome-decided (λ e. e.value ≡ value) (λ e. cases_eq e.value value) (event_at t n)
+pub HasFirstValue-decided : (t : TraceValue) (n : ℕ) → Decision (HasFirstValue t n)
+HasFirstValue-decided t n =
+    IsSome-decided (λ e. e.value ≡ first_value t.setting.first e.a) (λ e. cases_eq e.value (first_value t.setting.first e.a)) (event_at t n)
 
 pub SameAddress-decided : (t : TraceValue) (u v : ℕ) → Decision (SameAddress t u v)
 SameAddress-decided t u v = AreSome-decided (λ d e. d.a ≡ e.a) (λ d e. cases_eq d.a e.a) (event_at t u) (event_at t v)
@@ -59,9 +63,23 @@ Earlier-decided t u v = Decision-iff (λ p. (p.0, p.1, p.2, p.3, p.4.0, p.4.1)) 
 pub HasFewerBarriersBefore-decided : (t : TraceValue) (u v : ℕ) → Decision (HasFewerBarriersBefore t u v)
 HasFewerBarriersBefore-decided t u v = AreSome-decided (λ d e. d.bars < e.bars) (λ d e. Decision-lt d.bars e.bars) (event_at t u) (event_at t v)
 
+pub HasFewerStbarsBefore-decided : (t : TraceValue) (u v : ℕ) → Decision (HasFewerStbarsBefore t u v)
+HasFewerStbarsBefore-decided t u v = AreSome-decided (λ d e. d.stbars < e.stbars) (λ d e. Decision-lt d.stbars e.stbars) (event_at t u) (event_at t v)
+
+-- whether the memory model is TSO
+is_tso_decided : (order : Order) → Decision (order ≡ Tso)
+is_tso_decided Tso = inl refl
+is_tso_decided Pso = inr other
+  where
+    other : Pso ≡ Tso → ⊥
+    other same = cc
+
+pub KeepsStores-decided : (t : TraceValue) (u v : ℕ) → Decision (KeepsStores t u v)
+KeepsStores-decided t u v = Decision-either (is_tso_decided t.setting.order) (SameAddress-decided t u v)
+
 -- the sources of a load
 pub HasSource-decided : (t : TraceValue) (l s : ℕ) → Decision (HasSource t l s)
-HasSource-decided t l zero = Decision-both (IsLoad-decided t l) (HasValue-decided t l 0)
+HasSource-decided t l zero = Decision-both (IsLoad-decided t l) (HasFirstValue-decided t l)
 HasSource-decided t l (suc k) =
     Decision-four (IsLoad-decided t l) (IsStore-decided t (suc k)) (SameAddress-decided t (suc k) l) (SameValue-decided t (suc k) l)
 
@@ -83,7 +101,10 @@ IsOwnBy-decided t l u v = Decision-five (IsStore-decided t u) (SameAddress-decid
 pub BasePair-decided : (t : TraceValue) (rule : BaseRule) (u v : ℕ) → Decision (BasePair t rule u v)
 BasePair-decided t Init u v = Decision-both (cases_eq u 0) (IsEvent-decided t v)
 BasePair-decided t LoadOp u v = Decision-both (IsLoad-decided t u) (Earlier-decided t u v)
-BasePair-decided t StoreStore u v = Decision-three (IsStore-decided t u) (IsStore-decided t v) (Earlier-decided t u v)
+BasePair-decided t StoreStore u v =
+    Decision-four (IsStore-decided t u) (IsStore-decided t v) (Earlier-decided t u v) (KeepsStores-decided t u v)
+BasePair-decided t Stbar u v =
+    Decision-four (IsStore-decided t u) (IsStore-decided t v) (Earlier-decided t u v) (HasFewerStbarsBefore-decided t u v)
 BasePair-decided t Membar u v =
     Decision-four (IsStore-decided t u) (IsLoad-decided t v) (Earlier-decided t u v) (HasFewerBarriersBefore-decided t u v)
 BasePair-decided t Read u v = Decision-three (IsStore-decided t u) (HasSource-decided t v u) (Decision-not (Earlier-decided t u v))
@@ -104,26 +125,28 @@ InferredBy-decided t SwapAfter l u v x y = Decision-six (IsSwapLoad-decided t l)
 pub BaseRule-some : (P : BaseRule → Type 0) → ((rule : BaseRule) → Decision (P rule)) → Decision ((rule : BaseRule) × P rule)
 BaseRule-some P decide = Decision-iff to (λ p. back p.0 p.1)
     (Decision-either (decide Init) (Decision-either (decide LoadOp) (Decision-either (decide StoreStore)
-    (Decision-either (decide Membar) (Decision-either (decide Read) (decide Own))))))
+    (Decision-either (decide Stbar) (Decision-either (decide Membar) (Decision-either (decide Read) (decide Own)))))))
   where
     Either : Type 0
-    Either = P Init ⊎ (P LoadOp ⊎ (P StoreStore ⊎ (P Membar ⊎ (P Read ⊎ P Own))))
+    Either = P Init ⊎ (P LoadOp ⊎ (P StoreStore ⊎ (P Stbar ⊎ (P Membar ⊎ (P Read ⊎ P Own)))))
 
     to : Either → (rule : BaseRule) × P rule
     to (inl p) = (Init, p)
     to (inr (inl p)) = (LoadOp, p)
     to (inr (inr (inl p))) = (StoreStore, p)
-    to (inr (inr (inr (inl p)))) = (Membar, p)
-    to (inr (inr (inr (inr (inl p))))) = (Read, p)
-    to (inr (inr (inr (inr (inr p))))) = (Own, p)
+    to (inr (inr (inr (inl p)))) = (Stbar, p)
+    to (inr (inr (inr (inr (inl p))))) = (Membar, p)
+    to (inr (inr (inr (inr (inr (inl p)))))) = (Read, p)
+    to (inr (inr (inr (inr (inr (inr p)))))) = (Own, p)
 
     back : (rule : BaseRule) → P rule → Either
     back Init p = inl p
     back LoadOp p = inr (inl p)
     back StoreStore p = inr (inr (inl p))
-    back Membar p = inr (inr (inr (inl p)))
-    back Read p = inr (inr (inr (inr (inl p))))
-    back Own p = inr (inr (inr (inr (inr p))))
+    back Stbar p = inr (inr (inr (inl p)))
+    back Membar p = inr (inr (inr (inr (inl p))))
+    back Read p = inr (inr (inr (inr (inr (inl p)))))
+    back Own p = inr (inr (inr (inr (inr (inr p)))))
 
 -- likewise of the inferred rules
 pub InferredRule-some : (P : InferredRule → Type 0) → ((rule : InferredRule) → Decision (P rule)) → Decision ((rule : InferredRule) × P rule)

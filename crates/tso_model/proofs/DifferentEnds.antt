@@ -3,7 +3,7 @@ use Rattle.std.proofs.Common.{◌≡◌, ℕ, refl, arith}
 use Rattle.tso_ops.specs.Values.{TraceValue}
 use Rattle.tso_ops.specs.Events.{IsStore, IsSwapLoad, HasSource, Earlier}
 use Rattle.tso_cert.specs.declared.rules.BaseRule.{BaseRule}
-use Rattle.tso_cert.specs.declared.rules.BaseRule.TheVariants.{Init, LoadOp, StoreStore, Membar, Read, Own}
+use Rattle.tso_cert.specs.declared.rules.BaseRule.TheVariants.{Init, LoadOp, StoreStore, Stbar, Membar, Read, Own}
 use Rattle.tso_cert.specs.declared.rules.InferredRule.{InferredRule}
 use Rattle.tso_cert.specs.declared.rules.InferredRule.TheVariants.{LoadPast, StorePast, SwapBefore, SwapAfter}
 use Rattle.tso_model.specs.Rules.{BasePair, InferredBy}
@@ -26,6 +26,7 @@ pub BasePair-different : (t : TraceValue) (rule : BaseRule) (u : ℕ) → BasePa
 BasePair-different t Init u pair = let above = event_above_zero t u pair.1 in omega (arith, pair.0, above)
 BasePair-different t LoadOp u pair = Earlier-irreflexive t u pair.1
 BasePair-different t StoreStore u pair = Earlier-irreflexive t u pair.2
+BasePair-different t Stbar u pair = Earlier-irreflexive t u pair.2
 BasePair-different t Membar u pair = Earlier-irreflexive t u pair.2
 BasePair-different t Read u pair = no_store_source t u u u refl pair.0 pair.1
 BasePair-different t Own u pair = pair.1.4 refl

@@ -1,14 +1,14 @@
--- Soundness: in every order that meets the axioms each edge of a rank set and each derived pair leads forwards.
+-- Soundness: in every order of the trace's model each edge of a rank set and each derived pair leads forwards.
 use Rattle.std.proofs.Common.{◌≡◌, ◌≢◌, ◌⊎◌, ℕ, zero, suc, List, ◌∷◌, refl, sym, arith, inl, inr}
 use Rattle.tso_ops.specs.Values.{TraceValue}
 use Rattle.tso_ops.specs.Events.{IsEvent, IsLoad, IsStore, IsSwapLoad, SameAddress, Earlier, HasSource, IsUnwritten}
 use Rattle.tso_cert.specs.declared.rules.BaseRule.{BaseRule}
-use Rattle.tso_cert.specs.declared.rules.BaseRule.TheVariants.{Init, LoadOp, StoreStore, Membar, Read, Own}
+use Rattle.tso_cert.specs.declared.rules.BaseRule.TheVariants.{Init, LoadOp, StoreStore, Stbar, Membar, Read, Own}
 use Rattle.tso_cert.specs.declared.rules.InferredRule.{InferredRule}
 use Rattle.tso_cert.specs.declared.rules.InferredRule.TheVariants.{LoadPast, StorePast, SwapBefore, SwapAfter}
 use Rattle.order_paths.specs.Paths.{HasCycle}
 use Rattle.order_paths.proofs.Rising.{Rises, rises_on_path, rises_without_cycle}
-use Rattle.tso_model.specs.Order.{place, IsUpTo, IsBefore, IsVisible, ReadsGreatest, IsTsoOrder}
+use Rattle.tso_model.specs.Order.{place, IsUpTo, IsBefore, IsVisible, ReadsGreatest, IsModelOrder}
 use Rattle.tso_model.specs.Rules.{BasePair, InferredBy, IsDerived, HasDerivedCycle}
 use Rattle.tso_model.specs.Ranks.{RankSet}
 use Rattle.tso_model.proofs.Events.{HasOwnValues, event_above_zero, load_is_no_store, store_event, load_event, source_load, store_source, source_unique}
@@ -16,8 +16,8 @@ use Rattle.tso_model.proofs.DerivedPaths.{derived_exactly}
 use Rattle.tso_model.proofs.Places.{zero_before, nothing_before_zero, before_from_up_to, before_or_up_to, up_to_from_before, before_not_up_to, before_of_same}
 
 -- a trace with an order has no unwritten load
-pub all_written : (t : TraceValue) (order : List ℕ) → IsTsoOrder t order → (l : ℕ) → IsUnwritten t l → ⊥
-all_written t order tso l unwritten = by_cases (tso.value l unwritten.0)
+pub all_written : (t : TraceValue) (order : List ℕ) → IsModelOrder t order → (l : ℕ) → IsUnwritten t l → ⊥
+all_written t order axioms l unwritten = by_cases (axioms.value l unwritten.0)
   where
     by_cases : ReadsGreatest t order l → ⊥
     by_cases (inl read) = unwritten.1 0 (unwritten.0, read.0)
@@ -28,16 +28,16 @@ pub data SeesSource (t : TraceValue) (order : List ℕ) (l s : ℕ) : Type 0 whe
   nothing : s ≡ 0 → ((other : ℕ) → IsVisible t order other l → ⊥) → SeesSource t order l s
   greatest : IsVisible t order s l → ((other : ℕ) → IsVisible t order other l → IsUpTo order other s) → SeesSource t order l s
 
-module _ (t : TraceValue) (own : HasOwnValues t) (order : List ℕ) (tso : IsTsoOrder t order) where
+module _ (t : TraceValue) (own : HasOwnValues t) (order : List ℕ) (axioms : IsModelOrder t order) where
   -- a number that stands no later than another, where that is an event, stands before it
   strict : (u v : ℕ) → IsEvent t v → u ≢ v → IsUpTo order u v → IsBefore order u v
   strict u v event other up_to =
-      let once = tso.memory_order.once v event in
+      let once = axioms.memory_order.once v event in
       before_from_up_to order u v (omega arith) (event_above_zero t v event) other up_to
 
   -- a load sees its source as the greatest store, or nothing
   sees_source : (l s : ℕ) → HasSource t l s → SeesSource t order l s
-  sees_source l s source = by_cases (tso.value l (source_load t l s source))
+  sees_source l s source = by_cases (axioms.value l (source_load t l s source))
     where
       by_cases : ReadsGreatest t order l → SeesSource t order l s
       by_cases (inl read) = nothing (source_unique t own l s 0 source (source_load t l s source, read.0)) read.1
@@ -78,9 +78,10 @@ module _ (t : TraceValue) (own : HasOwnValues t) (order : List ℕ) (tso : IsTso
   pub base_before : (rule : BaseRule) (u v : ℕ) → BasePair t rule u v → IsBefore order u v
   base_before Init u v pair =
       rw pair.0 (zero_before order v (event_above_zero t v pair.1))
-  base_before LoadOp u v pair = earlier_before u v pair.1 (tso.load_op u v pair.0 pair.1)
-  base_before StoreStore u v pair = earlier_before u v pair.2 (tso.store_store u v pair.0 pair.1 pair.2)
-  base_before Membar u v pair = earlier_before u v pair.2 (tso.membar u v pair.0 pair.1 pair.2 pair.3)
+  base_before LoadOp u v pair = earlier_before u v pair.1 (axioms.load_op u v pair.0 pair.1)
+  base_before StoreStore u v pair = earlier_before u v pair.2 (axioms.store_store u v pair.0 pair.1 pair.2 pair.3)
+  base_before Stbar u v pair = earlier_before u v pair.2 (axioms.stbar u v pair.0 pair.1 pair.2 pair.3)
+  base_before Membar u v pair = earlier_before u v pair.2 (axioms.membar u v pair.0 pair.1 pair.2 pair.3)
   base_before Read u v pair = read_before u v pair.0 pair.1 pair.2
   base_before Own u v pair =
       let own_store = pair.1 in
@@ -108,7 +109,7 @@ module _ (t : TraceValue) (own : HasOwnValues t) (order : List ℕ) (tso : IsTso
 
   -- a store that stands before a swap's store stands before the swap's load
   swap_before_before : (l u : ℕ) → IsSwapLoad t l → IsStore t u → u ≢ suc l → IsBefore order u (suc l) → IsBefore order u l
-  swap_before_before l u swap store other before = by_cases (tso.atomicity l u swap store other)
+  swap_before_before l u swap store other before = by_cases (axioms.atomicity l u swap store other)
     where
       load : IsLoad t l
       load = (swap.0, swap.1, swap.2)
@@ -119,7 +120,7 @@ module _ (t : TraceValue) (own : HasOwnValues t) (order : List ℕ) (tso : IsTso
 
   -- a swap's store stands before each store that the swap's load stands before
   swap_after_before : (l v : ℕ) → IsSwapLoad t l → IsStore t v → v ≢ suc l → IsBefore order l v → IsBefore order (suc l) v
-  swap_after_before l v swap store other before = by_cases (tso.atomicity l v swap store other)
+  swap_after_before l v swap store other before = by_cases (axioms.atomicity l v swap store other)
     where
       by_cases : IsUpTo order v l ⊎ IsUpTo order (suc l) v → IsBefore order (suc l) v
       by_cases (inl up_to) = absurd (before_not_up_to order l v (event_above_zero t l (swap.0, swap.1)) before up_to)

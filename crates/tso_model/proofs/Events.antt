@@ -1,21 +1,22 @@
 -- Events by their numbers: these are from 1 to the number of events, a number has one event, and a load has one source.
 use Rattle.std.proofs.Common.{◌≡◌, ℕ, zero, suc, ◌<◌, ◌≤◌, Some, true, false, refl, arith}
 use Rattle.std.proofs.lemmas.Option.{none-some, slice_get_within}
+use Rattle.tso_ops.specs.Settings.{first_value}
 use Rattle.tso_ops.specs.Values.{TraceValue}
 use Rattle.tso_ops.specs.Limits.{IsTrace}
 use Rattle.tso_ops.specs.declared.events.Event.{Event}
 use Rattle.tso_ops.specs.Events.{events_of, event_total, event_at, IsEvent, IsLoad, IsStore, HasValue, SameAddress, SameValue, HasSource}
-use Rattle.tso_ops.proofs.EventFacts.{store_value_not_zero, stores_distinct}
+use Rattle.tso_ops.proofs.EventFacts.{store_value_not_first, stores_distinct}
 pub use Rattle.tso_ops.proofs.TableFacts.{source_load}
 
--- What the laws need of a trace: each store has a value of its own, which isn't 0.
+-- What the laws need of a trace: each store has a value of its own, which is no first value of any address.
 pub record HasOwnValues (t : TraceValue) : Type 0 where
-  pub non_zero : (n value : ℕ) → IsStore t n → HasValue t n value → 0 < value
+  pub not_first : (n a value : ℕ) → IsStore t n → HasValue t n value → (value ≡ first_value t.setting.first a) → ⊥
   pub distinct : (m n : ℕ) → IsStore t m → IsStore t n → SameValue t m n → m ≡ n
 
 -- the limits of a trace give it these
 pub own_values : (t : TraceValue) → IsTrace t → HasOwnValues t
-own_values t trace = record { non_zero = store_value_not_zero t trace; distinct = stores_distinct t trace }
+own_values t trace = record { not_first = store_value_not_first t trace; distinct = stores_distinct t trace }
 
 -- an event's number is from 1 to the number of events
 pub event_at-within : (t : TraceValue) (n : ℕ) (e : Event) → event_at t n ≡ Some e → (0 < n) × (n ≤ event_total t)
@@ -75,21 +76,20 @@ same_value_of_both t l m n first second =
     let second_value : second.0.value ≡ second.1.value = second.4 in
     (first.0, second.0, first.2, second.2, cc)
 
--- a load that read 0 has no store for a source
-pub zero_not_from_store : (t : TraceValue) → HasOwnValues t → (l k : ℕ) → HasSource t l 0 → HasSource t l (suc k) → ⊥
-zero_not_from_store t own l k from_zero from_store =
-    let value = from_zero.1 in
+-- a load that read the first value of its address has no store for a source
+pub first_not_from_store : (t : TraceValue) → HasOwnValues t → (l k : ℕ) → HasSource t l 0 → HasSource t l (suc k) → ⊥
+first_not_from_store t own l k from_init from_store =
+    let value = from_init.1 in
     let same = from_store.3 in
     let one = event_unique t l value.0 same.1 value.1 same.3 in
-    let zero_value : value.0.value ≡ 0 = value.2 in
+    let is_first : value.0.value ≡ first_value t.setting.first value.0.a = value.2 in
     let written : same.0.value ≡ same.1.value = same.4 in
-    let above : 0 < 0 = own.non_zero (suc k) 0 from_store.1 (same.0, same.2, cc) in
-    omega arith
+    own.not_first (suc k) value.0.a same.0.value from_store.1 (same.0, same.2, refl) cc
 
 -- a load has one source
 pub source_unique : (t : TraceValue) → HasOwnValues t → (l r s : ℕ) → HasSource t l r → HasSource t l s → r ≡ s
 source_unique t own l zero zero left right = refl
-source_unique t own l zero (suc k) left right = absurd (zero_not_from_store t own l k left right)
-source_unique t own l (suc j) zero left right = absurd (zero_not_from_store t own l j right left)
+source_unique t own l zero (suc k) left right = absurd (first_not_from_store t own l k left right)
+source_unique t own l (suc j) zero left right = absurd (first_not_from_store t own l j right left)
 source_unique t own l (suc j) (suc k) left right =
     own.distinct (suc j) (suc k) left.1 right.1 (same_value_of_both t l (suc j) (suc k) left.3 right.3)

@@ -4,7 +4,7 @@ use Rattle.std.specs.List.{slice_get}
 use Rattle.std.proofs.lemmas.Bool.{false≢true}
 use Rattle.std.proofs.lemmas.Option.{none-some, same_Some}
 use Rattle.tso_ops.specs.declared.ops.Outcome.{Outcome}
-use Rattle.tso_ops.specs.declared.ops.Outcome.TheVariants.{Ld, St, Sw, Mb}
+use Rattle.tso_ops.specs.declared.ops.Outcome.TheVariants.{Ld, St, Sw, Mb, Sb}
 use Rattle.tso_ops.specs.declared.events.Event.{Event}
 use Rattle.tso_ops.specs.Values.{TraceValue}
 use Rattle.tso_ops.specs.Events.{events_from, events_of_lists, events_of, event_at, IsStore, IsSwapLoad}
@@ -30,18 +30,19 @@ SwapsHaveStores-swap first second events store paired (suc k) e at load swap =
     SwapsHaveStores-one second events (λ l s. false≢true (sym store ∙ l)) paired k e at load swap
 
 -- and with the events of these operations prepended
-SwapsHaveStores-from : (p bars : ℕ) (ops : List Outcome) (rest : List Event) → SwapsHaveStores rest → SwapsHaveStores (events_from p bars ops ++ rest)
-SwapsHaveStores-from p bars [] rest paired = paired
-SwapsHaveStores-from p bars (Ld a r ∷ ops) rest paired = SwapsHaveStores-one _ (events_from p bars ops ++ rest) (λ l s. false≢true s) (SwapsHaveStores-from p bars ops rest paired)
-SwapsHaveStores-from p bars (St a v ∷ ops) rest paired = SwapsHaveStores-one _ (events_from p bars ops ++ rest) (λ l s. false≢true s) (SwapsHaveStores-from p bars ops rest paired)
-SwapsHaveStores-from p bars (Sw a r v ∷ ops) rest paired = SwapsHaveStores-swap _ _ (events_from p bars ops ++ rest) refl (SwapsHaveStores-from p bars ops rest paired)
-SwapsHaveStores-from p bars (Mb ∷ ops) rest paired = SwapsHaveStores-from p (suc bars) ops rest paired
+SwapsHaveStores-from : (p bars stbars : ℕ) (ops : List Outcome) (rest : List Event) → SwapsHaveStores rest → SwapsHaveStores (events_from p bars stbars ops ++ rest)
+SwapsHaveStores-from p bars stbars [] rest paired = paired
+SwapsHaveStores-from p bars stbars (Ld a r ∷ ops) rest paired = SwapsHaveStores-one _ (events_from p bars stbars ops ++ rest) (λ l s. false≢true s) (SwapsHaveStores-from p bars stbars ops rest paired)
+SwapsHaveStores-from p bars stbars (St a v ∷ ops) rest paired = SwapsHaveStores-one _ (events_from p bars stbars ops ++ rest) (λ l s. false≢true s) (SwapsHaveStores-from p bars stbars ops rest paired)
+SwapsHaveStores-from p bars stbars (Sw a r v ∷ ops) rest paired = SwapsHaveStores-swap _ _ (events_from p bars stbars ops ++ rest) refl (SwapsHaveStores-from p bars stbars ops rest paired)
+SwapsHaveStores-from p bars stbars (Mb ∷ ops) rest paired = SwapsHaveStores-from p (suc bars) stbars ops rest paired
+SwapsHaveStores-from p bars stbars (Sb ∷ ops) rest paired = SwapsHaveStores-from p bars (suc stbars) ops rest paired
 
 -- the events of all processors have a store after each swap's load
 SwapsHaveStores-lists : (p : ℕ) (lists : List (List Outcome)) → SwapsHaveStores (events_of_lists p lists)
 unfolding SwapsHaveStores
 SwapsHaveStores-lists p [] = λ k e at load swap. absurd (none-some e at)
-SwapsHaveStores-lists p (ops ∷ lists) = SwapsHaveStores-from p 0 ops (events_of_lists (suc p) lists) (SwapsHaveStores-lists (suc p) lists)
+SwapsHaveStores-lists p (ops ∷ lists) = SwapsHaveStores-from p 0 0 ops (events_of_lists (suc p) lists) (SwapsHaveStores-lists (suc p) lists)
 
 -- the number after a swap's load is a store's
 pub IsSwapLoad-store : (t : TraceValue) (l : ℕ) → IsSwapLoad t l → IsStore t (suc l)

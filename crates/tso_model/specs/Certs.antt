@@ -1,9 +1,9 @@
--- Which certificates hold for a trace, so that it has no order that meets the axioms, and which one certificate is the trace's own.
+-- Which certificates hold for a trace, so that it has no order of its model, and which one certificate is the trace's own.
 use Rattle.std.specs.Prelude.{◌≡◌, ◌⊎◌, ℕ, zero, suc, ◌<◌, ◌≤◌, Bool, IsTrue, List, Some, slice_get, take}
 use Rattle.tso_ops.specs.Values.{TraceValue}
 use Rattle.tso_ops.specs.Events.{IsUnwritten}
 use Rattle.tso_cert.specs.declared.rules.BaseRule.{BaseRule}
-use Rattle.tso_cert.specs.declared.rules.BaseRule.TheVariants.{Init, LoadOp, StoreStore, Membar, Read, Own}
+use Rattle.tso_cert.specs.declared.rules.BaseRule.TheVariants.{Init, LoadOp, StoreStore, Stbar, Membar, Read, Own}
 use Rattle.tso_cert.specs.declared.rules.InferredRule.{InferredRule}
 use Rattle.tso_cert.specs.declared.rules.InferredRule.TheVariants.{LoadPast, StorePast, SwapBefore, SwapAfter}
 use Rattle.tso_cert.specs.declared.steps.Reason.{Reason}
@@ -49,9 +49,10 @@ abbrev pub base_index : BaseRule → ℕ
 base_index Init = 0
 base_index LoadOp = 1
 base_index StoreStore = 2
-base_index Membar = 3
-base_index Read = 4
-base_index Own = 5
+base_index Stbar = 3
+base_index Membar = 4
+base_index Read = 5
+base_index Own = 6
 
 abbrev pub inferred_index : InferredRule → ℕ
 inferred_index LoadPast = 0

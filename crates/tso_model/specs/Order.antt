@@ -1,9 +1,10 @@
--- Memory orders, and the axioms of Total Store Order (TSO).
--- The axioms are those of the SPARC Architecture Manual Version 8, appendix K 'Formal Specification of the Memory Model', section K.2,
--- over the events of a trace, and one for the barrier MEMBAR #StoreLoad of the SPARC Architecture Manual Version 9.
+-- Memory orders, and the axioms of Total Store Order (TSO) and of Partial Store Order (PSO).
+-- The axioms are those of the SPARC Architecture Manual Version 8, chapter 6 'Memory Model' and appendix K 'Formal Specification of the Memory
+-- Model' (section K.2 has those of TSO), over the events of a trace, and one for the barrier MEMBAR #StoreLoad of the SPARC Architecture Manual
+-- Version 9. The two models differ in StoreStore alone.
 use Rattle.std.specs.Prelude.{◌≡◌, ◌≢◌, ◌⊎◌, ℕ, suc, ◌<◌, ◌≤◌, List, [], ◌∷◌, cond, ◌==◌}
 use Rattle.tso_ops.specs.Values.{TraceValue}
-use Rattle.tso_ops.specs.Events.{IsEvent, IsLoad, IsStore, IsSwapLoad, HasValue, SameAddress, SameValue, Earlier, HasFewerBarriersBefore}
+use Rattle.tso_ops.specs.Events.{IsEvent, IsLoad, IsStore, IsSwapLoad, HasFirstValue, SameAddress, SameValue, Earlier, HasFewerBarriersBefore, HasFewerStbarsBefore, KeepsStores}
 
 -- how often the number stands in the list
 abbrev pub occurrences : ℕ → List ℕ → ℕ
@@ -35,20 +36,26 @@ IsBefore order u v = place (0 ∷ order) u < place (0 ∷ order) v
 abbrev pub IsVisible : TraceValue → List ℕ → ℕ → ℕ → Type 0
 IsVisible t order s l = IsStore t s × SameAddress t s l × (IsUpTo order s l ⊎ Earlier t s l)
 
--- Load l returns the value of the greatest store that it sees, the last of them in the order, and the first value 0 where it sees none.
+-- Load l returns the value of the greatest store that it sees, the last of them in the order, and the first value of its address where it
+-- sees none.
 abbrev pub ReadsGreatest : TraceValue → List ℕ → ℕ → Type 0
 ReadsGreatest t order l =
-    (HasValue t l 0 × ((s : ℕ) → IsVisible t order s l → ⊥))
+    (HasFirstValue t l × ((s : ℕ) → IsVisible t order s l → ⊥))
     ⊎ ((s : ℕ) × IsVisible t order s l × SameValue t s l × ((other : ℕ) → IsVisible t order other l → IsUpTo order other s))
 
--- The order meets the axioms. A swap's load counts as a load in each of them, and its store, whose number is the next, as a store.
-pub record IsTsoOrder (t : TraceValue) (order : List ℕ) : Type 0 where
+-- The order meets the axioms of the trace's memory model. A swap's load counts as a load in each of them, and its store, whose number is the
+-- next, as a store.
+pub record IsModelOrder (t : TraceValue) (order : List ℕ) : Type 0 where
   -- Order and Termination
   pub memory_order : IsMemoryOrder t order
   -- LoadOp (V8, K.2): what a processor does after a load, memory orders after that load.
   pub load_op : (u v : ℕ) → IsLoad t u → Earlier t u v → IsUpTo order u v
-  -- StoreStore (V8, K.2): memory keeps the order of a processor's stores. Under TSO this holds of any two of them, with no barrier.
-  pub store_store : (u v : ℕ) → IsStore t u → IsStore t v → Earlier t u v → IsUpTo order u v
+  -- StoreStore (V8, K.2; for PSO 6.3 and appendix K): memory keeps the order of a processor's stores. Under TSO this holds of any two of
+  -- them, with no barrier; under PSO of two to one address.
+  pub store_store : (u v : ℕ) → IsStore t u → IsStore t v → Earlier t u v → KeepsStores t u v → IsUpTo order u v
+  -- STBAR (V8, 6.3 and appendix K): under PSO memory keeps the order of two stores with an STBAR between them. A trace under TSO has no STBAR:
+  -- its stores are in order without one.
+  pub stbar : (u v : ℕ) → IsStore t u → IsStore t v → Earlier t u v → HasFewerStbarsBefore t u v → IsUpTo order u v
   -- MEMBAR #StoreLoad (V9, 8.4.3 'The MEMBAR Instruction' and appendix D): memory orders a store before each load after the barrier.
   pub membar : (u v : ℕ) → IsStore t u → IsLoad t v → Earlier t u v → HasFewerBarriersBefore t u v → IsUpTo order u v
   -- Atomicity (V8, K.2): a swap's load comes before its store, and no other store, to any address, comes between the two.
@@ -57,6 +64,6 @@ pub record IsTsoOrder (t : TraceValue) (order : List ℕ) : Type 0 where
   -- Value (V8, K.2): a load returns what the last store that it sees wrote.
   pub value : (l : ℕ) → IsLoad t l → ReadsGreatest t order l
 
--- some order meets the axioms
+-- some order meets the axioms of the trace's model
 abbrev pub IsConsistent : TraceValue → Type 0
-IsConsistent t = (order : List ℕ) × IsTsoOrder t order
+IsConsistent t = (order : List ℕ) × IsModelOrder t order

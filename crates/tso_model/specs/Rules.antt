@@ -1,11 +1,11 @@
 -- Which edges the axioms force: base pairs, inferred pairs and the derived order.
--- An edge from u to v says that u stands before v in each order that meets the axioms. Its ends are numbers of events, or 0, which stands
--- for `init`, the writer of the first values. A rule that names the source of a load doesn't apply to a load that is unwritten.
+-- An edge from u to v says that u stands before v in each order that meets the axioms of the trace's model. Its ends are numbers of events, or
+-- 0, which stands for `init`, the writer of the first values. A rule that names the source of a load doesn't apply to a load that is unwritten.
 use Rattle.std.specs.Prelude.{◌≡◌, ◌≢◌, ℕ, suc, Bool, IsTrue}
 use Rattle.tso_ops.specs.Values.{TraceValue}
-use Rattle.tso_ops.specs.Events.{IsEvent, IsLoad, IsStore, IsSwapLoad, HasSource, SameAddress, Earlier, HasFewerBarriersBefore}
+use Rattle.tso_ops.specs.Events.{IsEvent, IsLoad, IsStore, IsSwapLoad, HasSource, SameAddress, Earlier, HasFewerBarriersBefore, HasFewerStbarsBefore, KeepsStores}
 use Rattle.tso_cert.specs.declared.rules.BaseRule.{BaseRule}
-use Rattle.tso_cert.specs.declared.rules.BaseRule.TheVariants.{Init, LoadOp, StoreStore, Membar, Read, Own}
+use Rattle.tso_cert.specs.declared.rules.BaseRule.TheVariants.{Init, LoadOp, StoreStore, Stbar, Membar, Read, Own}
 use Rattle.tso_cert.specs.declared.rules.InferredRule.{InferredRule}
 use Rattle.tso_cert.specs.declared.rules.InferredRule.TheVariants.{LoadPast, StorePast, SwapBefore, SwapAfter}
 
@@ -17,9 +17,10 @@ IsOwnBy t l u v = IsStore t u × SameAddress t u l × Earlier t u l × HasSource
 abbrev pub BasePair : TraceValue → BaseRule → ℕ → ℕ → Type 0
 -- the first values come before all events
 BasePair t Init u v = (u ≡ 0) × IsEvent t v
--- the axioms LoadOp, StoreStore and MEMBAR #StoreLoad
+-- the axioms LoadOp, StoreStore, STBAR and MEMBAR #StoreLoad
 BasePair t LoadOp u v = IsLoad t u × Earlier t u v
-BasePair t StoreStore u v = IsStore t u × IsStore t v × Earlier t u v
+BasePair t StoreStore u v = IsStore t u × IsStore t v × Earlier t u v × KeepsStores t u v
+BasePair t Stbar u v = IsStore t u × IsStore t v × Earlier t u v × HasFewerStbarsBefore t u v
 BasePair t Membar u v = IsStore t u × IsLoad t v × Earlier t u v × HasFewerBarriersBefore t u v
 -- a load sees its source; a program-earlier one it may have seen by store forwarding, which orders nothing
 BasePair t Read u v = IsStore t u × HasSource t v u × (Earlier t u v → ⊥)

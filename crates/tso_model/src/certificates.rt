@@ -1,4 +1,4 @@
-//! Laws on certificates: one that holds leaves no TSO order, and a trace has one of its own, which holds, exactly if it has an unwritten load or a derived cycle.
+//! Laws on certificates: one that holds leaves no order of the trace's model, and a trace has one of its own, which holds, exactly if it has an unwritten load or a derived cycle.
 ghost use Rattle.std.specs.Prelude.{◌≡◌, ◌⊎◌, ◌↔◌, ℕ};
 ghost use Rattle.tso_ops.specs.Values.{TraceValue};
 ghost use Rattle.tso_ops.specs.Limits.{IsTrace};
@@ -9,7 +9,7 @@ ghost use Rattle.tso_model.specs.Order.{IsConsistent};
 ghost use Rattle.tso_model.specs.Rules.{HasDerivedCycle};
 ghost use Rattle.tso_model.specs.Certs.{Holds, IsCertificateOf};
 
-/// A certificate that holds for a trace leaves no TSO order.
+/// A certificate that holds for a trace leaves no order of its model.
 pub fn holding_certificate_leaves_no_order()
     ensures { (t : TraceValue) (certificate : Certificate) → IsTrace t → Holds t certificate → IsConsistent t → ⊥ }
 {}

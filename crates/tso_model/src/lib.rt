@@ -1,4 +1,4 @@
-//! The model of total store order: axioms, rules, rank sets, certificates, and their laws.
+//! Total store order and partial store order: axioms, rules, rank sets, certificates, and their laws.
 #![tactic(auto)]
 
 pub mod certificates;

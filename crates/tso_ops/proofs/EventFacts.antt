@@ -1,7 +1,7 @@
 -- What the limits of a trace say of its events: their number, addresses and values, and that no two stores share a value.
-use Rattle.std.proofs.Common.{◌≡◌, ◌∙◌, ⊎_elim, sym, ap, subst, refl, ℕ, zero, suc, ◌<◌, ◌≤◌, ◌^◌, Bool, true, false, cond, eqb, List, [], ◌∷◌, ◌++◌, length, map, Some, IsFalse, slice_get, arith}
-use Rattle.std.specs.List.{flat_map, IsDistinct, AllByRecursion}
-use Rattle.std.proofs.lemmas.Bool.{false≢true, cases_lt}
+use Rattle.std.proofs.Common.{◌≡◌, ◌∙◌, ⊎_elim, sym, ap, subst, refl, ℕ, zero, suc, ◌<◌, ◌≤◌, ◌^◌, Bool, true, false, cond, eqb, ◌||◌, inl, inr, All, List, [], ◌∷◌, ◌++◌, length, map, Some, IsFalse, slice_get, arith}
+use Rattle.std.specs.List.{flat_map, list_any, IsDistinct, AllByRecursion}
+use Rattle.std.proofs.lemmas.Bool.{false≢true, cases_eq, cases_lt}
 use Rattle.std.proofs.lemmas.Bool.Decides.{nat_tests}
 use Rattle.std.proofs.lemmas.List.{length-append}
 use Rattle.std.proofs.lemmas.List.Concat.{flat_map-append}
@@ -10,9 +10,12 @@ use Rattle.std.proofs.lemmas.List.Elements.{recursion_from_All}
 use Rattle.std.proofs.lemmas.Map.Keys.{IsDistinct-head, IsDistinct-tail}
 use Rattle.tso_ops.specs.declared.ops.Op.{Op}
 use Rattle.tso_ops.specs.declared.ops.Outcome.{Outcome}
-use Rattle.tso_ops.specs.declared.ops.Outcome.TheVariants.{Ld, St, Sw, Mb}
+use Rattle.tso_ops.specs.declared.ops.Outcome.TheVariants.{Ld, St, Sw, Mb, Sb}
 use Rattle.tso_ops.specs.declared.events.Event.{Event}
-use Rattle.tso_ops.specs.Values.{TraceValue, op_of, ReadFits}
+use Rattle.tso_ops.specs.declared.settings.Version.{Version}
+use Rattle.tso_ops.specs.declared.settings.Version.TheVariants.{One, Two}
+use Rattle.tso_ops.specs.Settings.{event_limit, first_value, values_of}
+use Rattle.tso_ops.specs.Values.{TraceValue, op_of, program_of, in_file_order, ReadFits}
 use Rattle.tso_ops.specs.Limits.{event_count, total_events, stored_values, addresses_of, IsTrace}
 use Rattle.tso_ops.specs.Events.{events_from, events_of_lists, events_of, event_at, event_total, IsStore, HasValue, SameValue}
 
@@ -25,13 +28,14 @@ store_value e = cond e.load [] (e.value ∷ [])
 abbrev joined : List (List Outcome) → List Op
 joined lists = flat_map (λ ops. ops) (map (map op_of) lists)
 
-store_values-from : (p bars : ℕ) (ops : List Outcome) → flat_map store_value (events_from p bars ops) ≡ stored_values (map op_of ops)
+store_values-from : (p bars stbars : ℕ) (ops : List Outcome) → flat_map store_value (events_from p bars stbars ops) ≡ stored_values (map op_of ops)
 unfolding store_value
-store_values-from p bars [] = refl
-store_values-from p bars (Ld a r ∷ ops) = store_values-from p bars ops
-store_values-from p bars (St a v ∷ ops) = ap (λ rest. v ∷ rest) (store_values-from p bars ops)
-store_values-from p bars (Sw a r v ∷ ops) = ap (λ rest. v ∷ rest) (store_values-from p bars ops)
-store_values-from p bars (Mb ∷ ops) = store_values-from p (suc bars) ops
+store_values-from p bars stbars [] = refl
+store_values-from p bars stbars (Ld a r ∷ ops) = store_values-from p bars stbars ops
+store_values-from p bars stbars (St a v ∷ ops) = ap (λ rest. v ∷ rest) (store_values-from p bars stbars ops)
+store_values-from p bars stbars (Sw a r v ∷ ops) = ap (λ rest. v ∷ rest) (store_values-from p bars stbars ops)
+store_values-from p bars stbars (Mb ∷ ops) = store_values-from p (suc bars) stbars ops
+store_values-from p bars stbars (Sb ∷ ops) = store_values-from p bars (suc stbars) ops
 
 stored_values-append : (xs ys : List Op) → stored_values (xs ++ ys) ≡ stored_values xs ++ stored_values ys
 stored_values-append xs ys = flat_map-append _ xs ys
@@ -39,8 +43,8 @@ stored_values-append xs ys = flat_map-append _ xs ys
 store_values-lists : (p : ℕ) (lists : List (List Outcome)) → flat_map store_value (events_of_lists p lists) ≡ stored_values (joined lists)
 store_values-lists p [] = refl
 store_values-lists p (ops ∷ lists) =
-    flat_map-append store_value (events_from p 0 ops) (events_of_lists (suc p) lists)
-    ∙ ap (λ prefix. prefix ++ flat_map store_value (events_of_lists (suc p) lists)) (store_values-from p 0 ops)
+    flat_map-append store_value (events_from p 0 0 ops) (events_of_lists (suc p) lists)
+    ∙ ap (λ prefix. prefix ++ flat_map store_value (events_of_lists (suc p) lists)) (store_values-from p 0 0 ops)
     ∙ ap (λ rest. stored_values (map op_of ops) ++ rest) (store_values-lists (suc p) lists)
     ∙ sym (stored_values-append (map op_of ops) (joined lists))
 
@@ -85,20 +89,21 @@ stores_apart (x ∷ events) (suc j) (suc k) d e before at_j at_k store_j store_k
 
 -- ---- the number of events, their addresses and values
 
-event_total-from : (p bars : ℕ) (ops : List Outcome) → length (events_from p bars ops) ≡ total_events (map op_of ops)
-event_total-from p bars [] = refl
-event_total-from p bars (Ld a r ∷ ops) = omega (arith, event_total-from p bars ops, sum_by-cons event_count (op_of (Ld a r)) (map op_of ops))
-event_total-from p bars (St a v ∷ ops) = omega (arith, event_total-from p bars ops, sum_by-cons event_count (op_of (St a v)) (map op_of ops))
-event_total-from p bars (Sw a r v ∷ ops) = omega (arith, event_total-from p bars ops, sum_by-cons event_count (op_of (Sw a r v)) (map op_of ops))
-event_total-from p bars (Mb ∷ ops) = omega (arith, event_total-from p (suc bars) ops, sum_by-cons event_count (op_of Mb) (map op_of ops))
+event_total-from : (p bars stbars : ℕ) (ops : List Outcome) → length (events_from p bars stbars ops) ≡ total_events (map op_of ops)
+event_total-from p bars stbars [] = refl
+event_total-from p bars stbars (Ld a r ∷ ops) = omega (arith, event_total-from p bars stbars ops, sum_by-cons event_count (op_of (Ld a r)) (map op_of ops))
+event_total-from p bars stbars (St a v ∷ ops) = omega (arith, event_total-from p bars stbars ops, sum_by-cons event_count (op_of (St a v)) (map op_of ops))
+event_total-from p bars stbars (Sw a r v ∷ ops) = omega (arith, event_total-from p bars stbars ops, sum_by-cons event_count (op_of (Sw a r v)) (map op_of ops))
+event_total-from p bars stbars (Mb ∷ ops) = omega (arith, event_total-from p (suc bars) stbars ops, sum_by-cons event_count (op_of Mb) (map op_of ops))
+event_total-from p bars stbars (Sb ∷ ops) = omega (arith, event_total-from p bars (suc stbars) ops, sum_by-cons event_count (op_of Sb) (map op_of ops))
 
 event_total-lists : (p : ℕ) (lists : List (List Outcome)) → length (events_of_lists p lists) ≡ total_events (joined lists)
 event_total-lists p [] = refl
 event_total-lists p (ops ∷ lists) =
     omega (
       arith,
-      length-append (events_from p 0 ops) (events_of_lists (suc p) lists),
-      event_total-from p 0 ops,
+      length-append (events_from p 0 0 ops) (events_of_lists (suc p) lists),
+      event_total-from p 0 0 ops,
       event_total-lists (suc p) lists,
       sum_by-append event_count (map op_of ops) (joined lists),
     )
@@ -115,14 +120,15 @@ each-prefix : {X : Type 0} (P : X → Type 0) → (xs ys : List X) → AllByRecu
 each-prefix P [] ys all = (tt, all)
 each-prefix P (x ∷ xs) ys all = let rest = each-prefix P xs ys all.1 in ((all.0, rest.0), rest.1)
 
-in_range-from : (p bars : ℕ) (ops : List Outcome) → AllByRecursion (λ a. a < 256) (addresses_of (map op_of ops)) →
-    AllByRecursion (λ v. v < 2 ^ 64) (stored_values (map op_of ops)) → AllByRecursion ReadFits ops → AllByRecursion InRange (events_from p bars ops)
-in_range-from p bars [] addresses stored reads = tt
-in_range-from p bars (Ld a r ∷ ops) addresses stored reads = ((addresses.0, reads.0), in_range-from p bars ops addresses.1 stored reads.1)
-in_range-from p bars (St a v ∷ ops) addresses stored reads = ((addresses.0, stored.0), in_range-from p bars ops addresses.1 stored.1 reads.1)
-in_range-from p bars (Sw a r v ∷ ops) addresses stored reads =
-    ((addresses.0, reads.0), ((addresses.0, stored.0), in_range-from p bars ops addresses.1 stored.1 reads.1))
-in_range-from p bars (Mb ∷ ops) addresses stored reads = in_range-from p (suc bars) ops addresses stored reads.1
+in_range-from : (p bars stbars : ℕ) (ops : List Outcome) → AllByRecursion (λ a. a < 256) (addresses_of (map op_of ops)) →
+    AllByRecursion (λ v. v < 2 ^ 64) (stored_values (map op_of ops)) → AllByRecursion ReadFits ops → AllByRecursion InRange (events_from p bars stbars ops)
+in_range-from p bars stbars [] addresses stored reads = tt
+in_range-from p bars stbars (Ld a r ∷ ops) addresses stored reads = ((addresses.0, reads.0), in_range-from p bars stbars ops addresses.1 stored reads.1)
+in_range-from p bars stbars (St a v ∷ ops) addresses stored reads = ((addresses.0, stored.0), in_range-from p bars stbars ops addresses.1 stored.1 reads.1)
+in_range-from p bars stbars (Sw a r v ∷ ops) addresses stored reads =
+    ((addresses.0, reads.0), ((addresses.0, stored.0), in_range-from p bars stbars ops addresses.1 stored.1 reads.1))
+in_range-from p bars stbars (Mb ∷ ops) addresses stored reads = in_range-from p (suc bars) stbars ops addresses stored reads.1
+in_range-from p bars stbars (Sb ∷ ops) addresses stored reads = in_range-from p bars (suc stbars) ops addresses stored reads.1
 
 addresses_of-append : (xs ys : List Op) → addresses_of (xs ++ ys) ≡ addresses_of xs ++ addresses_of ys
 addresses_of-append xs ys = flat_map-append _ xs ys
@@ -134,8 +140,8 @@ in_range-lists p (ops ∷ lists) addresses stored reads =
     let a = each-prefix (λ a. a < 256) (addresses_of (map op_of ops)) (addresses_of (joined lists)) (rw addresses_of-append at addresses) in
     let v = each-prefix (λ v. v < 2 ^ 64) (stored_values (map op_of ops)) (stored_values (joined lists)) (rw stored_values-append at stored) in
     let r = each-prefix ReadFits ops (flat_map (λ ops. ops) lists) reads in
-    each-append InRange (events_from p 0 ops) (events_of_lists (suc p) lists)
-    (in_range-from p 0 ops a.0 v.0 r.0) (in_range-lists (suc p) lists a.1 v.1 r.1)
+    each-append InRange (events_from p 0 0 ops) (events_of_lists (suc p) lists)
+    (in_range-from p 0 0 ops a.0 v.0 r.0) (in_range-lists (suc p) lists a.1 v.1 r.1)
 
 pub each-at : {X : Type 0} (P : X → Type 0) → (xs : List X) (k : ℕ) (x : X) → slice_get xs k ≡ Some x → AllByRecursion P xs → P x
 each-at P [] k x at all = absurd cc
@@ -144,10 +150,18 @@ each-at P (y ∷ xs) (suc k) x at all = each-at P xs k x at all.1
 
 -- ---- what a trace's limits say of its events
 
--- a trace has at most 2,000 events
-pub event_total-bound : (t : TraceValue) → IsTrace t → event_total t ≤ 2000
+-- a trace has at most as many events as its version allows
+pub event_total-bound : (t : TraceValue) → IsTrace t → event_total t ≤ event_limit t.setting.version
 unfolding events_of
 event_total-bound t trace = omega (arith, event_total-lists 0 t.lists, trace.program.limits.events)
+
+-- and no version allows more than 8,000
+event_limit-most : (v : Version) → event_limit v ≤ 8000
+event_limit-most One = omega arith
+event_limit-most Two = omega arith
+
+pub event_total-most : (t : TraceValue) → IsTrace t → event_total t ≤ 8000
+event_total-most t trace = omega (arith, event_total-bound t trace, event_limit-most t.setting.version)
 
 -- the address of an event is below 256, and its value is a number of 64 bits
 pub event_in_range : (t : TraceValue) → IsTrace t → (n : ℕ) (e : Event) → event_at t n ≡ Some e → (e.a < 256) × (e.value < 2 ^ 64)
@@ -158,16 +172,50 @@ event_in_range t trace (suc k) e at =
     each-at InRange (events_of_lists 0 t.lists) k e at
     (in_range-lists 0 t.lists (recursion_from_All _ _ limits.addresses) (recursion_from_All _ _ limits.fits) (recursion_from_All _ _ trace.reads))
 
--- no store writes 0
-pub store_value_not_zero : (t : TraceValue) → IsTrace t → (n value : ℕ) → IsStore t n → HasValue t n value → 0 < value
+-- what holds of each value that operations write holds of that of a store
+stored_value-holds : (P : ℕ → Type 0) (t : TraceValue) → All P (stored_values (in_file_order (program_of t))) → (n value : ℕ) → IsStore t n → HasValue t n value → P value
 unfolding events_of event_at
-store_value_not_zero t trace zero value store has = absurd cc
-store_value_not_zero t trace (suc k) value (e, at, is_store) (d, at_d, same) =
+stored_value-holds P t all zero value store has = absurd cc
+stored_value-holds P t all (suc k) value (e, at, is_store) (d, at_d, same) =
     let one : d ≡ e = cc in
-    let each = recursion_from_All (λ v. 0 < v) _ trace.program.limits.non_zero in
-    let above = store_value-holds (λ v. 0 < v) (events_of_lists 0 t.lists) k e at is_store (rw (store_values-lists 0 t.lists) each) in
+    let each = recursion_from_All P _ all in
     let value_is : e.value ≡ value = ap (λ (x : Event). x.value) (sym one) ∙ same in
-    omega arith
+    subst P value_is (store_value-holds P (events_of_lists 0 t.lists) k e at is_store (rw (store_values-lists 0 t.lists) each))
+
+-- no store writes 0
+store_value_not_zero : (t : TraceValue) → IsTrace t → (n value : ℕ) → IsStore t n → HasValue t n value → 0 < value
+store_value_not_zero t trace = stored_value-holds (λ v. 0 < v) t trace.program.limits.non_zero
+
+-- a value that isn't 0 and isn't among the values of the entries is no first value
+not_first : (first : List (ℕ × ℕ)) (v a : ℕ) → 0 < v → list_any (eqb v) (values_of first) ≡ false → v ≡ first_value first a → ⊥
+not_first [] v a above none same = omega arith
+not_first (entry ∷ rest) v a above none same = elim (cases_eq entry.0 a) [
+  | inl here ↦ (
+      let test : eqb entry.0 a ≡ true = grind (arith, nat_tests) in
+      let value : v ≡ entry.1 = same ∙ ap (λ b. cond b entry.1 (first_value rest a)) test in
+      let found : eqb v entry.1 ≡ true = grind (arith, nat_tests) in
+      false≢true (sym (or_first (eqb v entry.1) (list_any (eqb v) (values_of rest)) none) ∙ found)
+      )
+  | inr other ↦ (
+      let test : eqb entry.0 a ≡ false = grind (arith, nat_tests) in
+      let value : v ≡ first_value rest a = same ∙ ap (λ b. cond b entry.1 (first_value rest a)) test in
+      not_first rest v a above (or_rest (eqb v entry.1) (list_any (eqb v) (values_of rest)) none) value
+      )
+]
+  where
+    or_first : (a b : Bool) → (a || b) ≡ false → a ≡ false
+    or_first true b e = absurd (false≢true (sym e))
+    or_first false b e = refl
+
+    or_rest : (a b : Bool) → (a || b) ≡ false → b ≡ false
+    or_rest true b e = absurd (false≢true (sym e))
+    or_rest false b e = e
+
+-- no store writes a first value of any address
+pub store_value_not_first : (t : TraceValue) → IsTrace t → (n a value : ℕ) → IsStore t n → HasValue t n value → value ≡ first_value t.setting.first a → ⊥
+store_value_not_first t trace n a value store has =
+    not_first t.setting.first value a (store_value_not_zero t trace n value store has)
+    (stored_value-holds (λ v. list_any (eqb v) (values_of t.setting.first) ≡ false) t trace.program.limits.apart n value store has)
 
 -- no two stores write one value
 pub stores_distinct : (t : TraceValue) → IsTrace t → (m n : ℕ) → IsStore t m → IsStore t n → SameValue t m n → m ≡ n

@@ -1,4 +1,5 @@
 pub mod CheckFacts
+pub mod EntryFacts
 pub mod EventFacts
 pub mod LimitFacts
 pub mod MaskFacts

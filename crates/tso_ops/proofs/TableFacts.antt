@@ -11,16 +11,17 @@ use Rattle.tso_ops.specs.declared.ops.Outcome.{Outcome}
 use Rattle.tso_ops.specs.declared.events.Event.{Event}
 use Rattle.tso_ops.specs.declared.events.Source.{Source}
 use Rattle.tso_ops.specs.declared.events.Source.TheVariants.{Init, Store, Unwritten}
+use Rattle.tso_ops.specs.Settings.{first_value}
 use Rattle.tso_ops.specs.Values.{TraceValue, rows}
 use Rattle.tso_ops.specs.Limits.{IsTrace}
 use Rattle.tso_ops.specs.Events.{events_from, events_of_lists, events_of, event_at, IsLoad, HasSource}
 use Rattle.tso_ops.specs.Internal.Tables.{IsStoreAt, FindsStore, FindsStores, IsSourceRow, AreSources}
-use Rattle.tso_ops.proofs.EventFacts.{stores_distinct, store_value_not_zero}
+use Rattle.tso_ops.proofs.EventFacts.{stores_distinct, store_value_not_first}
 use Rattle.tso_ops.proofs.TallyFacts.{is_at-nat_eq}
 
 -- the events of the lists that are left, list by list
 pub events-next : (lists : List (Vec Outcome)) (i : ℕ) (x : Vec Outcome) → i < length lists → x ≡ get_or lists i x →
-    events_of_lists i (drop i (rows lists)) ≡ events_from i 0 x.items ++ events_of_lists (i + 1) (drop (i + 1) (rows lists))
+    events_of_lists i (drop i (rows lists)) ≡ events_from i 0 0 x.items ++ events_of_lists (i + 1) (drop (i + 1) (rows lists))
 events-next lists i x within at =
     let items = λ (row : Vec Outcome). row.items in
     let rest : drop i (rows lists) ≡ x.items ∷ drop (i + 1) (rows lists) =
@@ -83,9 +84,14 @@ pub row_of_store : (t : TraceValue) (n : ℕ) (e : Event) → event_at t n ≡ S
 row_of_store t n e at store (d, at_d, load) =
     let one = same_at t n d e at_d at in false≢true (sym store ∙ ap (λ (x : Event). x.load) (sym one) ∙ load)
 
--- a load that read 0
-pub row_of_init : (t : TraceValue) (n : ℕ) (e : Event) → event_at t n ≡ Some e → e.load ≡ true → e.value ≡ 0 → IsSourceRow t n (Some Init)
-row_of_init t n e at load zero_value = ((e, at, load), ((e, at, load), (e, at, zero_value)))
+-- a load that read the first value of its address
+pub row_of_init : (t : TraceValue) (n : ℕ) (e : Event) → event_at t n ≡ Some e → e.load ≡ true → e.value ≡ first_value t.setting.first e.a → IsSourceRow t n (Some Init)
+row_of_init t n e at load is_first = ((e, at, load), ((e, at, load), (e, at, is_first)))
+
+-- the first value is that of the trace
+pub unlike_first : (t : TraceValue) (first : List (ℕ × ℕ)) (e : Event) → t.setting.first ≡ first → (value : ℕ) → value ≡ first_value first e.a → (e.value ≡ value → ⊥) →
+    e.value ≡ first_value t.setting.first e.a → ⊥
+unlike_first t first e is value value_is other same = other (same ∙ ap (λ entries. first_value entries e.a) is ∙ sym value_is)
 
 -- a load that read what a store to its address wrote
 pub row_of_stored : (t : TraceValue) (events : List Event) → events_of t ≡ events → (n : ℕ) (e : Event) → event_at t n ≡ Some e → e.load ≡ true →
@@ -98,19 +104,19 @@ row_of_stored t events is n e at load s k d s_is (d', at_d', store, value) at_d 
     let stored : HasSource t n (suc k) = ((e, at, load), (d, at_k, is_store), (d, e, at_k, at, address), (d, e, at_k, at, same_value)) in
     ((e, at, load), (subst (λ x. HasSource t n x) (sym s_is) stored, omega arith))
 
-no_source : (t : TraceValue) (n : ℕ) (e : Event) → event_at t n ≡ Some e → (e.value ≡ 0 → ⊥) →
+no_source : (t : TraceValue) (n : ℕ) (e : Event) → event_at t n ≡ Some e → (e.value ≡ first_value t.setting.first e.a → ⊥) →
     ((k : ℕ) (d : Event) → event_at t (suc k) ≡ Some d → d.load ≡ false → d.a ≡ e.a → d.value ≡ e.value → ⊥) → (s : ℕ) → HasSource t n s → ⊥
-no_source t n e at non_zero none zero (load, (d, at_d, zero_value)) =
-    non_zero (ap (λ (x : Event). x.value) (same_at t n e d at at_d) ∙ zero_value)
-no_source t n e at non_zero none (suc k) (load, (d, at_d, store), (d', e', at_d', at_e', address), (d'', e'', at_d'', at_e'', value)) =
+no_source t n e at not_first none zero (load, (d, at_d, is_first)) =
+    not_first (subst (λ (x : Event). x.value ≡ first_value t.setting.first x.a) (same_at t n d e at_d at) is_first)
+no_source t n e at not_first none (suc k) (load, (d, at_d, store), (d', e', at_d', at_e', address), (d'', e'', at_d'', at_e'', value)) =
     none k d at_d store
     (ap (λ (x : Event). x.a) (same_at t (suc k) d d' at_d at_d') ∙ address ∙ ap (λ (x : Event). x.a) (same_at t n e' e at_e' at))
     (ap (λ (x : Event). x.value) (same_at t (suc k) d d'' at_d at_d'') ∙ value ∙ ap (λ (x : Event). x.value) (same_at t n e'' e at_e'' at))
 
 -- a load of a value that no store to its address wrote
-pub row_of_unwritten : (t : TraceValue) (n : ℕ) (e : Event) → event_at t n ≡ Some e → e.load ≡ true → (e.value ≡ 0 → ⊥) →
+pub row_of_unwritten : (t : TraceValue) (n : ℕ) (e : Event) → event_at t n ≡ Some e → e.load ≡ true → (e.value ≡ first_value t.setting.first e.a → ⊥) →
     ((k : ℕ) (d : Event) → event_at t (suc k) ≡ Some d → d.load ≡ false → d.a ≡ e.a → d.value ≡ e.value → ⊥) → IsSourceRow t n (Some Unwritten)
-row_of_unwritten t n e at load non_zero none = ((e, at, load), ((e, at, load), no_source t n e at non_zero none))
+row_of_unwritten t n e at load not_first none = ((e, at, load), ((e, at, load), no_source t n e at not_first none))
 
 -- what a look-up that succeeds says of the event at the place that it names
 found_event : (events : List Event) (value n : ℕ) (default : Event) → FindsStore events (length events) value (Some n) →
@@ -128,12 +134,12 @@ row_found t l events e default n is at load finds address =
 
 -- the row of a load whose value is found at another address
 pub row_elsewhere : (t : TraceValue) (l : ℕ) (events : List Event) (e default : Event) (n : ℕ) → IsTrace t → events_of t ≡ events → event_at t l ≡ Some e → e.load ≡ true →
-    (e.value ≡ 0 → ⊥) → FindsStore events (length events) e.value (Some n) → ((get_or events (n - 1) default).a ≡ e.a → ⊥) → IsSourceRow t l (Some Unwritten)
-row_elsewhere t l events e default n trace is at load non_zero finds elsewhere =
+    (e.value ≡ first_value t.setting.first e.a → ⊥) → FindsStore events (length events) e.value (Some n) → ((get_or events (n - 1) default).a ≡ e.a → ⊥) → IsSourceRow t l (Some Unwritten)
+row_elsewhere t l events e default n trace is at load not_first finds elsewhere =
     let found = found_event events e.value n default finds in
     let k = found.0 in
     let store = found.2 in
-    row_of_unwritten t l e at load non_zero
+    row_of_unwritten t l e at load not_first
     (λ j d at_j is_store address value.
     let at_k : event_at t (suc k) ≡ Some store.0 = event_at-suc t events is k ∙ store.1 in
     let same : suc j ≡ suc k =
@@ -144,9 +150,9 @@ row_elsewhere t l events e default n trace is at load non_zero finds elsewhere =
 
 -- the row of a load whose value isn't found
 pub row_missing : (t : TraceValue) (l : ℕ) (events : List Event) (e : Event) → events_of t ≡ events → event_at t l ≡ Some e → e.load ≡ true →
-    (e.value ≡ 0 → ⊥) → FindsStore events (length events) e.value None → IsSourceRow t l (Some Unwritten)
-row_missing t l events e is at load non_zero none =
-    row_of_unwritten t l e at load non_zero
+    (e.value ≡ first_value t.setting.first e.a → ⊥) → FindsStore events (length events) e.value None → IsSourceRow t l (Some Unwritten)
+row_missing t l events e is at load not_first none =
+    row_of_unwritten t l e at load not_first
     (λ k d at_k is_store address value.
     let here : slice_get events k ≡ Some d = sym (event_at-suc t events is k) ∙ at_k in
     none k (slice_get_within events k d here) (d, here, is_store, value))
@@ -156,18 +162,16 @@ pub source_load : (t : TraceValue) (l s : ℕ) → HasSource t l s → IsLoad t 
 source_load t l zero has = has.0
 source_load t l (suc k) has = has.0
 
--- a load of 0 has no store for its source
-zero_from_init : (t : TraceValue) → IsTrace t → (l k : ℕ) → HasSource t l 0 → HasSource t l (suc k) → ⊥
-zero_from_init t trace l k (load, (d, at_d, zero_value)) (other, store, address, (x, y, at_x, at_y, value)) =
-    let same : y.value ≡ 0 = ap (λ (e : Event). e.value) (same_at t l y d at_y at_d) ∙ zero_value in
-    let above = store_value_not_zero t trace (suc k) x.value store (x, at_x, refl) in
-    omega (arith, above, value, same)
+-- a load of a first value has no store for its source
+first_from_init : (t : TraceValue) → IsTrace t → (l k : ℕ) → HasSource t l 0 → HasSource t l (suc k) → ⊥
+first_from_init t trace l k (load, (d, at_d, is_first)) (other, store, address, (x, y, at_x, at_y, value)) =
+    store_value_not_first t trace (suc k) d.a x.value store (x, at_x, refl) (value ∙ ap (λ (e : Event). e.value) (same_at t l y d at_y at_d) ∙ is_first)
 
 -- a load has one source
 pub one_source : (t : TraceValue) → IsTrace t → (l r s : ℕ) → HasSource t l r → HasSource t l s → r ≡ s
 one_source t trace l zero zero left right = refl
-one_source t trace l zero (suc k) left right = absurd (zero_from_init t trace l k left right)
-one_source t trace l (suc j) zero left right = absurd (zero_from_init t trace l j right left)
+one_source t trace l zero (suc k) left right = absurd (first_from_init t trace l k left right)
+one_source t trace l (suc j) zero left right = absurd (first_from_init t trace l j right left)
 one_source t trace l (suc j) (suc k) (load, store, address, (d, e, at_d, at_e, value)) (load', store', address', (d', e', at_d', at_e', value')) =
     stores_distinct t trace (suc j) (suc k) store store' (d, d', at_d, at_d', value ∙ ap (λ (x : Event). x.value) (same_at t l e e' at_e at_e') ∙ sym value')
 

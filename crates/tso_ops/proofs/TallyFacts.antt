@@ -1,5 +1,5 @@
 -- Lemmas on a tally: what it has admitted at first, and after one more operation.
-use Rattle.std.proofs.Common.{◌≡◌, ◌∙◌, sym, ap, refl, ℕ, ◌+◌, ◌<◌, ◌≤◌, ◌^◌, ◌||◌, Bool, true, false, not, cond, subst, nat_eq, List, [], ◌∷◌, ◌++◌, Option, Some, None, arith}
+use Rattle.std.proofs.Common.{◌≡◌, ◌∙◌, sym, ap, refl, ℕ, ◌+◌, ◌<◌, ◌≤◌, ◌^◌, ◌||◌, Bool, true, false, not, cond, subst, nat_eq, List, [], ◌∷◌, ◌++◌, Option, Some, None, arith, append_assoc}
 use Rattle.std.specs.List.{list_any}
 use Rattle.std.specs.Option.{option_to_list}
 use Rattle.std.specs.Ordering.{nat_cmp}
@@ -9,19 +9,27 @@ use Rattle.std.proofs.lemmas.Bool.Decides.{nat_tests}
 use Rattle.std.proofs.lemmas.List.{append-nil}
 use Rattle.tso_ops.specs.declared.ops.Op.{Op}
 use Rattle.tso_ops.specs.declared.limits.Tally.{Tally}
-use Rattle.tso_ops.specs.Limits.{event_count, barrier_count, address_of, stored_by, stored_values, is_past_addresses, is_zero, total_events, total_barriers}
+use Rattle.tso_ops.specs.Settings.{SettingValue, values_of, event_limit, barrier_limit}
+use Rattle.tso_ops.specs.Limits.{event_count, barrier_count, address_of, stored_by, stored_values, is_past_addresses, is_zero, is_stbar_in_tso, has_fault, total_events, total_barriers}
 use Rattle.tso_ops.specs.Tally.{Admitted}
-use Rattle.tso_ops.proofs.LimitFacts.{IsStorable, IsFaultless-nil, IsFaultless-push, KeepsLimits-nil, KeepsLimits-push, no_fault, stored_values-push, total_events-push, total_barriers-push}
+use Rattle.tso_ops.proofs.LimitFacts.{IsStorable, IsAdmissible, IsFaultless-nil, IsFaultless-push, KeepsLimits-nil, KeepsLimits-push, no_fault, stored_values-push, total_events-push, total_barriers-push}
 
--- a new tally has admitted nothing
-pub Admitted-nil : (tally : Tally) → tally.events ≡ 0 → tally.barriers ≡ 0 → IsEmpty tally.stored → Admitted tally []
-Admitted-nil tally events barriers empty = record {
+-- a tally whose set has the first values has admitted nothing
+pub Admitted-nil : (setting : SettingValue) (tally : Tally) → tally.version ≡ setting.version → tally.order ≡ setting.order → tally.events ≡ 0 → tally.barriers ≡ 0 →
+    ((v : ℕ) → contains nat_cmp tally.stored v ≡ list_any (nat_eq v) (values_of setting.first)) → Admitted setting tally []
+Admitted-nil setting tally version order events barriers first = record {
+  version = version;
+  order = order;
   events = events;
   barriers = barriers;
-  stored = λ v. ap (list_any _) empty;
-  limits = KeepsLimits-nil;
-  faultless = IsFaultless-nil;
+  stored = λ v. rw append-nil (first v);
+  limits = KeepsLimits-nil setting;
+  faultless = IsFaultless-nil (has_fault setting);
 }
+
+-- an empty set has no value
+pub stored-none : (stored : BTreeSet ℕ) → IsEmpty stored → (v : ℕ) → contains nat_cmp stored v ≡ list_any (nat_eq v) []
+stored-none stored empty v = ap (list_any _) empty
 
 -- the set has the value that is stored, if there is one, and what it had before
 abbrev pub TakesValue : BTreeSet ℕ → BTreeSet ℕ → Option ℕ → Type 0
@@ -39,7 +47,7 @@ list_any-push v (x ∷ values) s =
     rw rest (elim (nat_eq v x) as (λ a. (a || cond (nat_eq v s) true (list_any (nat_eq v) values)) ≡ cond (nat_eq v s) true (a || list_any (nat_eq v) values))
     [ true ↦ elim (nat_eq v s) as (λ b. true ≡ cond b true true) [ true ↦ refl | false ↦ refl ] | false ↦ refl ])
 
-stored-push : (old new : BTreeSet ℕ) (values : List ℕ) (stored : Option ℕ) → ((v : ℕ) → contains nat_cmp old v ≡ list_any (nat_eq v) values) →
+pub stored-push : (old new : BTreeSet ℕ) (values : List ℕ) (stored : Option ℕ) → ((v : ℕ) → contains nat_cmp old v ≡ list_any (nat_eq v) values) →
     TakesValue old new stored → (v : ℕ) → contains nat_cmp new v ≡ list_any (nat_eq v) (values ++ option_to_list stored)
 stored-push old new values None had takes v = rw (append-nil, takes) (had v)
 stored-push old new values (Some s) had takes v =
@@ -73,24 +81,34 @@ StoresNew-Some old new stored v added e updates non_zero was new_to_it fits =
 pub StoresNew-None : (old : BTreeSet ℕ) (stored : Option ℕ) → stored ≡ None → StoresNew old old stored
 StoresNew-None old stored e = rw e record { takes = refl; non_zero = refl; absent = λ v same. absurd cc; fits = λ v same. absurd cc }
 
-storable : (old new : BTreeSet ℕ) (values : List ℕ) (stored : Option ℕ) → ((v : ℕ) → contains nat_cmp old v ≡ list_any (nat_eq v) values) →
-    StoresNew old new stored → IsStorable values stored
-storable old new values None had stores = record { non_zero = refl; new = refl; fits = stores.fits }
-storable old new values (Some s) had stores = record { non_zero = stores.non_zero; new = sym (had s) ∙ stores.absent s refl; fits = stores.fits }
+storable : (old new : BTreeSet ℕ) (first values : List ℕ) (stored : Option ℕ) → ((v : ℕ) → contains nat_cmp old v ≡ list_any (nat_eq v) (first ++ values)) →
+    StoresNew old new stored → IsStorable first values stored
+storable old new first values None had stores = record { non_zero = refl; new = refl; fits = stores.fits }
+storable old new first values (Some s) had stores = record { non_zero = stores.non_zero; new = sym (had s) ∙ stores.absent s refl; fits = stores.fits }
 
 -- a tally after one more operation
-pub Admitted-push : (old new : Tally) (ops : List Op) (op : Op) → Admitted old ops →
+pub Admitted-push : (setting : SettingValue) (old new : Tally) (ops : List Op) (op : Op) → Admitted setting old ops → new.version ≡ old.version → new.order ≡ old.order →
     new.events ≡ old.events + event_count op → new.barriers ≡ old.barriers + barrier_count op →
-    is_past_addresses (address_of op) ≡ false → StoresNew old.stored new.stored (stored_by op) → Admitted new (ops ++ op ∷ [])
-Admitted-push old new ops op was events barriers in_range stores =
+    is_past_addresses (address_of op) ≡ false → is_stbar_in_tso old.order op ≡ false → StoresNew old.stored new.stored (stored_by op) → Admitted setting new (ops ++ op ∷ [])
+Admitted-push setting old new ops op was version order events barriers in_range no_stbar stores =
+    let first = values_of setting.first in
     let values = stored_values ops in
-    let ok = storable old.stored new.stored values (stored_by op) was.stored stores in
-    let few_events : total_events ops + event_count op ≤ 2000 = omega (arith, was.events, events, new.few_events) in
-    let few_barriers : total_barriers ops + barrier_count op ≤ 2000 = omega (arith, was.barriers, barriers, new.few_barriers) in
+    let same : new.version ≡ setting.version = version ∙ was.version in
+    let few : new.events ≤ event_limit setting.version = subst (λ v. new.events ≤ event_limit v) same new.few_events in
+    let few_barriers : new.barriers ≤ barrier_limit setting.version = subst (λ v. new.barriers ≤ barrier_limit v) same new.few_barriers in
+    let may : IsAdmissible setting ops op = record {
+      few_events = omega (arith, was.events, events, few);
+      few_barriers = omega (arith, was.barriers, barriers, few_barriers);
+      in_range = in_range;
+      storable = storable old.stored new.stored first values (stored_by op) was.stored stores;
+      no_stbar = subst (λ o. is_stbar_in_tso o op ≡ false) was.order no_stbar;
+    } in
     record {
+      version = same;
+      order = order ∙ was.order;
       events = rw total_events-push (events ∙ ap (λ n. n + event_count op) was.events);
       barriers = rw total_barriers-push (barriers ∙ ap (λ n. n + barrier_count op) was.barriers);
-      stored = λ v. rw stored_values-push (stored-push old.stored new.stored values (stored_by op) was.stored stores.takes v);
-      limits = KeepsLimits-push ops op was.limits few_events few_barriers in_range ok;
-      faultless = IsFaultless-push ops op was.faultless (no_fault ops op few_events few_barriers in_range ok);
+      stored = λ v. rw (stored_values-push, ← append_assoc) (stored-push old.stored new.stored (first ++ values) (stored_by op) was.stored stores.takes v);
+      limits = KeepsLimits-push setting ops op was.limits may;
+      faultless = IsFaultless-push (has_fault setting) ops op was.faultless (no_fault setting ops op may);
     }

@@ -1,10 +1,12 @@
 -- The events of a trace, program order, barriers and sources.
-use Rattle.std.specs.Prelude.{◌≡◌, ℕ, zero, suc, ◌<◌, true, false, IsTrue, IsFalse, List, [], ◌∷◌, ◌++◌, length, Option, None, Some, slice_get, get_or}
+use Rattle.std.specs.Prelude.{◌≡◌, ◌⊎◌, ℕ, zero, suc, ◌<◌, true, false, IsTrue, IsFalse, List, [], ◌∷◌, ◌++◌, length, Option, None, Some, slice_get, get_or}
 use Rattle.tso_ops.specs.declared.ops.Outcome.{Outcome}
-use Rattle.tso_ops.specs.declared.ops.Outcome.TheVariants.{Ld, St, Sw, Mb}
+use Rattle.tso_ops.specs.declared.ops.Outcome.TheVariants.{Ld, St, Sw, Mb, Sb}
 use Rattle.tso_ops.specs.declared.events.Event.{Event}
 use Rattle.tso_ops.specs.declared.events.Source.{Source}
 use Rattle.tso_ops.specs.declared.events.Source.TheVariants.{Init, Store, Unwritten}
+use Rattle.tso_ops.specs.declared.settings.Order.TheVariants.{Tso}
+use Rattle.tso_ops.specs.Settings.{first_value}
 use Rattle.tso_ops.specs.Values.{TraceValue}
 
 -- the number of processors
@@ -15,18 +17,24 @@ processor_count t = length t.lists
 abbrev pub outcomes_at : TraceValue → ℕ → List Outcome
 outcomes_at t p = get_or t.lists p []
 
--- The events of processor p's operations, after this many barriers. A swap gives its load and then its store, a barrier none.
-abbrev pub events_from : ℕ → ℕ → List Outcome → List Event
-events_from p bars [] = []
-events_from p bars (Ld a r ∷ ops) = record { proc = p; load = true; swap = false; a = a; value = r; bars = bars } ∷ events_from p bars ops
-events_from p bars (St a v ∷ ops) = record { proc = p; load = false; swap = false; a = a; value = v; bars = bars } ∷ events_from p bars ops
-events_from p bars (Sw a r v ∷ ops) = record { proc = p; load = true; swap = true; a = a; value = r; bars = bars } ∷ record { proc = p; load = false; swap = true; a = a; value = v; bars = bars } ∷ events_from p bars ops
-events_from p bars (Mb ∷ ops) = events_from p (suc bars) ops
+-- The events of processor p's operations, after this many barriers and STBARs. A swap gives its load and then its store, a barrier of either
+-- kind none.
+abbrev pub events_from : ℕ → ℕ → ℕ → List Outcome → List Event
+events_from p bars stbars [] = []
+events_from p bars stbars (Ld a r ∷ ops) =
+    record { proc = p; load = true; swap = false; a = a; value = r; bars = bars; stbars = stbars } ∷ events_from p bars stbars ops
+events_from p bars stbars (St a v ∷ ops) =
+    record { proc = p; load = false; swap = false; a = a; value = v; bars = bars; stbars = stbars } ∷ events_from p bars stbars ops
+events_from p bars stbars (Sw a r v ∷ ops) =
+    record { proc = p; load = true; swap = true; a = a; value = r; bars = bars; stbars = stbars }
+    ∷ record { proc = p; load = false; swap = true; a = a; value = v; bars = bars; stbars = stbars } ∷ events_from p bars stbars ops
+events_from p bars stbars (Mb ∷ ops) = events_from p (suc bars) stbars ops
+events_from p bars stbars (Sb ∷ ops) = events_from p bars (suc stbars) ops
 
 -- The events of these processors' lists, the first of which is processor p's.
 abbrev pub events_of_lists : ℕ → List (List Outcome) → List Event
 events_of_lists p [] = []
-events_of_lists p (ops ∷ lists) = events_from p 0 ops ++ events_of_lists (suc p) lists
+events_of_lists p (ops ∷ lists) = events_from p 0 0 ops ++ events_of_lists (suc p) lists
 
 -- The events in file order.
 unfoldable pub events_of : TraceValue → List Event
@@ -70,8 +78,16 @@ IsEventOf t p n = (e : Event) × (event_at t n ≡ Some e) × (e.proc ≡ p)
 abbrev pub HasBarriersBefore : TraceValue → ℕ → ℕ → Type 0
 HasBarriersBefore t bars n = (e : Event) × (event_at t n ≡ Some e) × (e.bars ≡ bars)
 
+-- so many STBARs stand before event n on its processor
+abbrev pub HasStbarsBefore : TraceValue → ℕ → ℕ → Type 0
+HasStbarsBefore t stbars n = (e : Event) × (event_at t n ≡ Some e) × (e.stbars ≡ stbars)
+
 abbrev pub HasValue : TraceValue → ℕ → ℕ → Type 0
 HasValue t n value = (e : Event) × (event_at t n ≡ Some e) × (e.value ≡ value)
+
+-- event n has the first value of its address
+abbrev pub HasFirstValue : TraceValue → ℕ → Type 0
+HasFirstValue t n = (e : Event) × (event_at t n ≡ Some e) × (e.value ≡ first_value t.setting.first e.a)
 
 abbrev pub SameAddress : TraceValue → ℕ → ℕ → Type 0
 SameAddress t u v = (d : Event) × (e : Event) × (event_at t u ≡ Some d) × (event_at t v ≡ Some e) × (d.a ≡ e.a)
@@ -87,10 +103,18 @@ Earlier t u v = (d : Event) × (e : Event) × (event_at t u ≡ Some d) × (even
 abbrev pub HasFewerBarriersBefore : TraceValue → ℕ → ℕ → Type 0
 HasFewerBarriersBefore t u v = (d : Event) × (e : Event) × (event_at t u ≡ Some d) × (event_at t v ≡ Some e) × (d.bars < e.bars)
 
--- Number s wrote the value that load l read: number 0 if it read 0; a store if it wrote that value to the load's address.
--- In a trace that is one number at most, since no store writes 0 and no two stores write one value.
+-- the same of STBARs
+abbrev pub HasFewerStbarsBefore : TraceValue → ℕ → ℕ → Type 0
+HasFewerStbarsBefore t u v = (d : Event) × (e : Event) × (event_at t u ≡ Some d) × (event_at t v ≡ Some e) × (d.stbars < e.stbars)
+
+-- the memory model keeps the program order of the stores u and v, with no STBAR between them: TSO of any two, PSO of those to one address
+abbrev pub KeepsStores : TraceValue → ℕ → ℕ → Type 0
+KeepsStores t u v = (t.setting.order ≡ Tso) ⊎ SameAddress t u v
+
+-- Number s wrote the value that load l read: number 0 if it read the first value of its address; a store if it wrote that value to the load's
+-- address. In a trace that is one number at most, since no store writes a first value and no two stores write one value.
 abbrev pub HasSource : TraceValue → ℕ → ℕ → Type 0
-HasSource t l zero = IsLoad t l × HasValue t l 0
+HasSource t l zero = IsLoad t l × HasFirstValue t l
 HasSource t l (suc k) = IsLoad t l × IsStore t (suc k) × SameAddress t (suc k) l × SameValue t (suc k) l
 
 -- a load whose value nothing wrote

@@ -11,14 +11,16 @@ pub struct Event {
     pub a: u16,
     /// The value that it read or stored.
     pub value: u64,
-    /// How many barriers stand before it on its processor.
+    /// How many barriers (`Mb`) stand before it on its processor.
     pub bars: usize,
+    /// How many STBARs stand before it on its processor.
+    pub stbars: usize,
 }
 
 /// Where the value that a load read comes from.
 #[derive(Clone, Copy, Debug, PartialEq, Eq)]
 pub enum Source {
-    /// The load read 0, the first value of every location.
+    /// The load read the first value of its address.
     Init,
     /// The number of the store to its address that wrote the value.
     Store(usize),

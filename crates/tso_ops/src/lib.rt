@@ -4,10 +4,11 @@
 #![tactic(auto)]
 
 pub use events::{Event, Source};
-pub use faults::{OutOfMemory, Refused, ValueFault};
+pub use faults::{OutOfMemory, Refused, RefusedFirst, ValueFault};
 pub use limits::Tally;
 pub use ops::{Op, Outcome};
 pub use programs::Program;
+pub use settings::{Order, Version};
 pub use traces::Trace;
 
 mod checks;
@@ -18,6 +19,7 @@ mod limits;
 mod masks;
 mod ops;
 mod programs;
+mod settings;
 mod tables;
 #[cfg(test)]
 mod tests;

@@ -25,6 +25,8 @@ pub(crate) enum Kind {
     Processors,
     /// The events that so many barriers stand before on their processors.
     Barriers,
+    /// The events that so many STBARs stand before on their processors.
+    Stbars,
     /// The stores of all addresses, in one row.
     AllStores,
 }
@@ -37,6 +39,7 @@ pub(crate) struct Masks {
     pub swap_loads: Vec<Vec<u64>>,
     pub processors: Vec<Vec<u64>>,
     pub barriers: Vec<Vec<u64>>,
+    pub stbars: Vec<Vec<u64>>,
     pub all_stores: Vec<Vec<u64>>,
     pub readers: Vec<Vec<u64>>,
 }
@@ -55,6 +58,7 @@ pub(crate) fn list_masks(
         swap_loads: list_rows(alloc, events, Kind::SwapLoads)?,
         processors: list_rows(alloc, events, Kind::Processors)?,
         barriers: list_rows(alloc, events, Kind::Barriers)?,
+        stbars: list_rows(alloc, events, Kind::Stbars)?,
         all_stores: list_rows(alloc, events, Kind::AllStores)?,
         readers: list_readers(alloc, sources)?,
     })
@@ -105,6 +109,7 @@ fn row_of(kind: Kind, event: Event) -> Option<usize>
         Kind::SwapLoads => (event.load && event.swap).then_some(0),
         Kind::Processors => Some(event.proc),
         Kind::Barriers => Some(event.bars),
+        Kind::Stbars => Some(event.stbars),
         Kind::AllStores => (!event.load).then_some(0),
     }
 }

@@ -17,6 +17,9 @@ pub enum Op {
     Sw { a: u16, v: u64 },
     /// A barrier, MEMBAR #StoreLoad (SPARC V9 manual, appendix A, memory barrier).
     Mb,
+    /// STBAR: the processor's stores before it come before those after it (SPARC V8 manual, chapter 6 and appendix K). A
+    /// program under TSO has none.
+    Sb,
 }
 
 /// One operation of a trace: an operation of a program with the value that it read.
@@ -28,29 +31,31 @@ pub enum Outcome {
     St { a: u16, v: u64 },
     /// A swap at address `a` that read `r` and stored `v`.
     Sw { a: u16, r: u64, v: u64 },
-    /// A barrier.
+    /// A barrier, MEMBAR #StoreLoad.
     Mb,
+    /// An STBAR.
+    Sb,
 }
 
 impl Op {
-    /// How many events the operation gives: 2 for a swap, 0 for a barrier, else 1.
+    /// How many events the operation gives: 2 for a swap, 0 for a barrier of either kind, else 1.
     pub(crate) fn events(self) -> usize
         ensures { result ≡ event_count self }
     {
         match self {
             Op::Ld { .. } | Op::St { .. } => 1,
             Op::Sw { .. } => 2,
-            Op::Mb => 0,
+            Op::Mb | Op::Sb => 0,
         }
     }
 
-    /// How many barriers the operation is: 1 for a barrier, else 0.
+    /// How many barriers the operation is: 1 for a barrier of either kind, else 0.
     pub(crate) fn barriers(self) -> usize
         ensures { result ≡ barrier_count self }
     {
         match self {
             Op::Ld { .. } | Op::St { .. } | Op::Sw { .. } => 0,
-            Op::Mb => 1,
+            Op::Mb | Op::Sb => 1,
         }
     }
 
@@ -60,7 +65,7 @@ impl Op {
     {
         match self {
             Op::Ld { a } | Op::St { a, .. } | Op::Sw { a, .. } => Some(a),
-            Op::Mb => None,
+            Op::Mb | Op::Sb => None,
         }
     }
 
@@ -70,7 +75,7 @@ impl Op {
     {
         match self {
             Op::St { v, .. } | Op::Sw { v, .. } => Some(v),
-            Op::Ld { .. } | Op::Mb => None,
+            Op::Ld { .. } | Op::Mb | Op::Sb => None,
         }
     }
 }
@@ -108,6 +113,7 @@ impl Operation for Outcome {
             Outcome::St { a, v } => Op::St { a, v },
             Outcome::Sw { a, v, .. } => Op::Sw { a, v },
             Outcome::Mb => Op::Mb,
+            Outcome::Sb => Op::Sb,
         }
     }
 }

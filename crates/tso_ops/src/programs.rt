@@ -1,55 +1,127 @@
-ghost use Rattle.std.specs.Prelude.{◌≡◌, ◌≢◌, ◌<◌, IfOk, IfErr, OnOk};
+ghost use Rattle.std.specs.Prelude.{◌≡◌, ◌≢◌, ◌<◌, [], IfOk, IfErr, OnOk};
 ghost use Rattle.tso_ops.specs.declared.faults.ValueFault.{ValueFault};
+ghost use Rattle.tso_ops.specs.declared.settings.Version.TheVariants.{One};
+ghost use Rattle.tso_ops.specs.Settings.{first_value, plain, setting_of, setting_of_first, setting_of_order};
 ghost use Rattle.tso_ops.specs.Values.{rows, program_of_lists, ops_at, list_count};
 ghost use Rattle.tso_ops.specs.Limits.{IsProgram, IsValueRefusal};
 
 use crate::checks::check_lists;
-use crate::faults::{OutOfMemory, Refused, ValueFault};
+use crate::faults::{OutOfMemory, Refused, RefusedFirst, ValueFault};
 use crate::ops::Op;
+use crate::settings::{Order, Setting, Version, first_at};
 use std::alloc::Global;
 use std::marker::Model;
 
-/// A program for up to 16 processors: the operations of each, within the limits.
+/// A program for up to 16 processors: its memory model, the first values of memory and the operations of each processor,
+/// within the limits of its version.
 #[derive(Debug, Drop)]
 pub struct Program {
+    setting: Setting,
     lists: Vec<Vec<Op>>,
 }
 
 impl Model for Program {
+    ghost use Rattle.tso_ops.specs.Settings.{setting_of};
     ghost use Rattle.tso_ops.specs.Values.{ProgramValue, rows, program_of_lists};
     ghost use Rattle.tso_ops.specs.Limits.{IsProgram};
 
     ghost Value = { ProgramValue };
 
-    ghost view = { λ p. program_of_lists (rows p.lists.items) };
+    ghost view = { λ p. program_of_lists (setting_of p.setting) (rows p.lists.items) };
 
-    ghost invariant = { λ p. IsProgram (program_of_lists (rows p.lists.items)) };
+    ghost invariant = { λ p. IsProgram (program_of_lists (setting_of p.setting) (rows p.lists.items)) };
 }
 
 impl Program {
-    /// The program of these lists, one for each processor.
-    ///
-    /// Refused, with the lists handed back: TooManyProcessors above 16 lists; else the first operation in file
-    /// order that has a fault decides, by the order TooManyEvents, AddressRange, ZeroValue, RepeatedValue; or
-    /// OutOfMemory where an allocation was refused.
+    /// The program of these lists, one for each processor: `with_order` under TSO.
     pub fn new(alloc: Global, lists: Vec<Vec<Op>>) -> Result<Program, Refused<Op>>
-        ensures made { IfOk result (λ p. p ≡ program_of_lists (rows lists.items)) }
-        ensures accepted { OnOk result ((why : ValueFault) → IsValueRefusal (program_of_lists (rows lists.items)) why → ⊥) }
-        ensures refused { IfErr result (λ r. r.why ≢ ValueFault.OutOfMemory → IsValueRefusal (program_of_lists (rows lists.items)) r.why) }
+        ensures made { IfOk result (λ p. p ≡ program_of_lists plain (rows lists.items)) }
+        ensures accepted { OnOk result ((why : ValueFault) → IsValueRefusal (program_of_lists plain (rows lists.items)) why → ⊥) }
+        ensures refused { IfErr result (λ r. r.why ≢ ValueFault.OutOfMemory → IsValueRefusal (program_of_lists plain (rows lists.items)) r.why) }
         ensures handed_back { IfErr result (λ r. r.lists ≡ lists) }
     {
-        match check_lists(alloc, &lists) {
-            Ok(()) => Ok(Program { lists }),
-            Err(why) => Err(Refused { why, lists }),
+        Program::with_order(alloc, Order::Tso, lists)
+    }
+
+    /// The program of these lists under this memory model, of version 1: each location is 0 at first.
+    ///
+    /// Refused, with the lists handed back: TooManyProcessors above 16 lists; else the first operation in file
+    /// order that has a fault decides, by the order TooManyEvents, AddressRange, ZeroValue, RepeatedValue, StbarInTso;
+    /// or OutOfMemory where an allocation was refused.
+    pub fn with_order(
+        alloc: Global,
+        order: Order,
+        lists: Vec<Vec<Op>>,
+    ) -> Result<Program, Refused<Op>>
+        ensures made { IfOk result (λ p. p ≡ program_of_lists (setting_of_order order) (rows lists.items)) }
+        ensures accepted { OnOk result ((why : ValueFault) → IsValueRefusal (program_of_lists (setting_of_order order) (rows lists.items)) why → ⊥) }
+        ensures refused { IfErr result (λ r. r.why ≢ ValueFault.OutOfMemory → IsValueRefusal (program_of_lists (setting_of_order order) (rows lists.items)) r.why) }
+        ensures handed_back { IfErr result (λ r. r.lists ≡ lists) }
+    {
+        match check_program(alloc, Setting::of_order(alloc, order), lists) {
+            Ok(program) => Ok(program),
+            Err(refused) => Err(Refused {
+                why: refused.why,
+                lists: refused.lists,
+            }),
         }
     }
 
-    /// The program of lists that are known to keep the limits.
-    pub fn of_lists(lists: Vec<Vec<Op>>) -> Program
-        requires { IsProgram (program_of_lists (rows lists.items)) }
-        ensures { result ≡ program_of_lists (rows lists.items) }
+    /// The program of these lists under this memory model, of version 2: `first` has addresses, in ascending order, with
+    /// their first values; each other location is 0 at first.
+    ///
+    /// Refused, with first values and lists handed back: TooManyProcessors above 16 lists; else the first entry of
+    /// `first` that has a fault decides, by the order AddressRange, ZeroValue, InitOrder; else the first operation as for
+    /// `with_order`, where RepeatedValue is also a store of a first value of any address; or OutOfMemory where an
+    /// allocation was refused.
+    pub fn with_first(
+        alloc: Global,
+        order: Order,
+        first: Vec<(u16, u64)>,
+        lists: Vec<Vec<Op>>,
+    ) -> Result<Program, RefusedFirst<Op>>
+        ensures made { IfOk result (λ p. p ≡ program_of_lists (setting_of_first order first.items) (rows lists.items)) }
+        ensures accepted { OnOk result ((why : ValueFault) → IsValueRefusal (program_of_lists (setting_of_first order first.items) (rows lists.items)) why → ⊥) }
+        ensures refused { IfErr result (λ r. r.why ≢ ValueFault.OutOfMemory → IsValueRefusal (program_of_lists (setting_of_first order first.items) (rows lists.items)) r.why) }
+        ensures handed_back { IfErr result (λ r. r.lists ≡ lists) }
+        ensures first_handed_back { IfErr result (λ r. r.first ≡ first) }
     {
-        Program { lists }
+        let setting = Setting {
+            version: Version::Two,
+            order,
+            first,
+        };
+        check_program(alloc, setting, lists)
+    }
+
+    /// The program of lists that are known to keep the limits, of version 1 under TSO.
+    pub fn of_lists(lists: Vec<Vec<Op>>) -> Program
+        requires { IsProgram (program_of_lists plain (rows lists.items)) }
+        ensures { result ≡ program_of_lists plain (rows lists.items) }
+    {
+        let setting = Setting::of_order(*lists.allocator(), Order::Tso);
+        Program { setting, lists }
+    }
+
+    /// The memory model.
+    pub fn order(&self) -> Order
+        ensures { result ≡ self.now.setting.order }
+    {
+        self.setting.order
+    }
+
+    /// The version.
+    pub fn version(&self) -> Version
+        ensures { result ≡ self.now.setting.version }
+    {
+        self.setting.version
+    }
+
+    /// The first value of address `a`: 0 where it has none of its own.
+    pub fn first(&self, a: u16) -> u64
+        ensures { result ≡ first_value self.now.setting.first a }
+    {
+        first_at(&self.setting.first, a)
     }
 
     /// The number of processors, from 0 to 16.
@@ -68,7 +140,7 @@ impl Program {
         &self.lists[p]
     }
 
-    /// An equal program, or OutOfMemory where an allocation was refused.
+    /// An equal program, also in version, memory model and first values, or OutOfMemory where an allocation was refused.
     pub fn copy(&self) -> Result<Program, OutOfMemory>
         ensures { IfOk result (λ p. p ≡ self.now) }
     {
@@ -77,6 +149,34 @@ impl Program {
         for list in &self.lists {
             lists.push(Vec::from_slice(alloc, list)?)?;
         }
-        Ok(Program { lists })
+        let setting = Setting {
+            version: self.setting.version,
+            order: self.setting.order,
+            first: Vec::from_slice(alloc, &self.setting.first)?,
+        };
+        Ok(Program { setting, lists })
+    }
+}
+
+/// The program of this setting and these lists, if they keep the limits.
+fn check_program(
+    alloc: Global,
+    setting: Setting,
+    lists: Vec<Vec<Op>>,
+) -> Result<Program, RefusedFirst<Op>>
+    requires { setting.version ≡ One → setting.first.items ≡ [] }
+    ensures made { IfOk result (λ p. p ≡ program_of_lists (setting_of setting) (rows lists.items)) }
+    ensures accepted { OnOk result ((why : ValueFault) → IsValueRefusal (program_of_lists (setting_of setting) (rows lists.items)) why → ⊥) }
+    ensures refused { IfErr result (λ r. r.why ≢ ValueFault.OutOfMemory → IsValueRefusal (program_of_lists (setting_of setting) (rows lists.items)) r.why) }
+    ensures handed_back { IfErr result (λ r. r.lists ≡ lists) }
+    ensures first_handed_back { IfErr result (λ r. r.first ≡ setting.first) }
+{
+    match check_lists(alloc, &setting, &lists) {
+        Ok(()) => Ok(Program { setting, lists }),
+        Err(why) => Err(RefusedFirst {
+            why,
+            first: setting.first,
+            lists,
+        }),
     }
 }

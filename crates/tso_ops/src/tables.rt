@@ -7,6 +7,7 @@ ghost use Rattle.tso_ops.specs.Internal.Tables.{AreSources, FindsStores, IsSourc
 use crate::events::{Event, Source};
 use crate::faults::OutOfMemory;
 use crate::ops::Outcome;
+use crate::settings::first_at;
 use std::alloc::Global;
 use std::collections::BTreeMap;
 
@@ -23,9 +24,10 @@ pub(crate) fn list_events(alloc: Global, lists: &[Vec<Outcome>]) -> Result<Vec<E
 
 /// Pushes the events of one processor.
 fn push_events(events: &mut Vec<Event>, proc: usize, list: &[Outcome]) -> Result<(), OutOfMemory>
-    ensures { OnOk result (events.new.items ≡ events.old.items ++ events_from proc 0 list.now) }
+    ensures { OnOk result (events.new.items ≡ events.old.items ++ events_from proc 0 0 list.now) }
 {
     let mut bars = 0;
+    let mut stbars = 0;
     for outcome in list {
         match *outcome {
             Outcome::Ld { a, r } => events.push(Event {
@@ -35,6 +37,7 @@ fn push_events(events: &mut Vec<Event>, proc: usize, list: &[Outcome]) -> Result
                 a,
                 value: r,
                 bars,
+                stbars,
             })?,
             Outcome::St { a, v } => events.push(Event {
                 proc,
@@ -43,6 +46,7 @@ fn push_events(events: &mut Vec<Event>, proc: usize, list: &[Outcome]) -> Result
                 a,
                 value: v,
                 bars,
+                stbars,
             })?,
             Outcome::Sw { a, r, v } => {
                 let load = Event {
@@ -52,6 +56,7 @@ fn push_events(events: &mut Vec<Event>, proc: usize, list: &[Outcome]) -> Result
                     a,
                     value: r,
                     bars,
+                    stbars,
                 };
                 let store = Event {
                     load: false,
@@ -62,22 +67,24 @@ fn push_events(events: &mut Vec<Event>, proc: usize, list: &[Outcome]) -> Result
                 events.push(store)?;
             }
             Outcome::Mb => bars += 1,
+            Outcome::Sb => stbars += 1,
         }
     }
     Ok(())
 }
 
-/// The source of each load among the events of a trace, and None for a store.
+/// The source of each load among the events of a trace with these first values, and None for a store.
 pub(crate) fn list_sources(
     alloc: Global,
+    first: &[(u16, u64)],
     events: &[Event],
 ) -> Result<Vec<Option<Source>>, OutOfMemory>
-    ensures { (t : TraceValue) → IsTrace t → events_of t ≡ events.now → IfOk result (λ sources. AreSources t sources.items) }
+    ensures { (t : TraceValue) → IsTrace t → t.setting.first ≡ first.now → events_of t ≡ events.now → IfOk result (λ sources. AreSources t sources.items) }
 {
     let stores = stores_by_value(alloc, events)?;
     let mut sources = Vec::new(alloc);
     for event in events {
-        sources.push(source_of(&stores, events, *event))?;
+        sources.push(source_of(&stores, first, events, *event))?;
     }
     Ok(sources)
 }
@@ -96,15 +103,20 @@ fn stores_by_value(alloc: Global, events: &[Event]) -> Result<BTreeMap<u64, usiz
 }
 
 /// Where the value of an event comes from, if it is a load.
-fn source_of(stores: &BTreeMap<u64, usize>, events: &[Event], event: Event) -> Option<Source>
+fn source_of(
+    stores: &BTreeMap<u64, usize>,
+    first: &[(u16, u64)],
+    events: &[Event],
+    event: Event,
+) -> Option<Source>
     requires { FindsStores events.now (length events.now) stores.now }
-    ensures { (t : TraceValue) (n : ℕ) → IsTrace t → events_of t ≡ events.now → event_at t n ≡ Some event →
+    ensures { (t : TraceValue) (n : ℕ) → IsTrace t → t.setting.first ≡ first.now → events_of t ≡ events.now → event_at t n ≡ Some event →
         IsSourceRow t n result }
 {
     if !event.load {
         return None;
     }
-    if event.value == 0 {
+    if event.value == first_at(first, event.a) {
         return Some(Source::Init);
     }
     match stores.get(&event.value) {

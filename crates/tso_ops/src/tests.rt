@@ -2,6 +2,8 @@ use crate::{Event, Op, Outcome, Program, Refused, Source, Tally, Trace, ValueFau
 use std::alloc::{AllocError, Global};
 use std::test::Fail;
 
+mod settings;
+
 /// A list of `count` copies of `item`.
 fn copies<T: Copy>(alloc: Global, item: T, count: usize) -> Result<Vec<T>, AllocError> {
     let mut list = Vec::new(alloc);
@@ -71,6 +73,7 @@ fn events_of_a_trace(rt: HostRuntime) -> Result<(), Fail> {
             a,
             value,
             bars,
+            stbars: 0,
         };
         assert_eq!(rt; trace.event(n), Some(event), "event {n}");
     }
@@ -357,6 +360,8 @@ fn texts_of_faults(rt: HostRuntime) -> Result<(), Fail> {
         (ValueFault::ZeroValue, "ZeroValue"),
         (ValueFault::RepeatedValue, "RepeatedValue"),
         (ValueFault::OutOfMemory, "OutOfMemory"),
+        (ValueFault::StbarInTso, "StbarInTso"),
+        (ValueFault::InitOrder, "InitOrder"),
     ] {
         assert_eq!(rt; format!(in alloc; "{why}")?.as_str(), text);
         let refused = Refused::<Op> {

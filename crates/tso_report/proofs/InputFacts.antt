@@ -4,6 +4,7 @@ use Rattle.std.proofs.lemmas.Bool.{false≢true, cases_lt}
 use Rattle.std.proofs.lemmas.List.{take_all, length-take-le}
 use Rattle.std.specs.Prelude.{Option}
 use Rattle.std.specs.Io.KnownBytes.{Appends}
+use Rattle.tso_ops.specs.Settings.{plain}
 use Rattle.tso_ops.specs.Values.{TraceValue, trace_of_lists}
 use Rattle.tso_ops.specs.Events.{processor_count, event_total, IsUnwritten}
 use Rattle.tso_text.specs.declared.faults.Why.{Why}
@@ -39,7 +40,7 @@ use Rattle.tso_report.specs.Streams.{AppendsPrefix}
 
 -- A prefix that reaches past the limit is refused for its length alone, as all is.
 spells_past : (input : List ℕ) (t : TraceValue) → text_byte_limit < length input → SpellsTrace input t → ⊥
-spells_past input t long spells = not_both trace_grammar input t.lists 0 TooLong spells (too_long trace_grammar input long)
+spells_past input t long spells = not_both trace_grammar input t.lists 0 TooLong spells.1 (too_long trace_grammar input long)
 
 length_past : (input : List ℕ) → text_byte_limit < length input → text_byte_limit < length (take trace_read_limit input)
 length_past input long = let count = length-take-le trace_read_limit input (omega arith) in omega (arith, count)
@@ -97,7 +98,7 @@ spelled_own : (input : List ℕ) (t : TraceValue) → SpellsTrace input t → Ha
 spelled_own input t spells = own_values t (spelled_trace input t spells)
 
 pub one_trace : (input : List ℕ) (t u : TraceValue) → SpellsTrace input t → SpellsTrace input u → t ≡ u
-one_trace input t u s r = ap trace_of_lists (one_value trace_grammar input t.lists u.lists s r)
+one_trace input t u s r = ap (λ setting. trace_of_lists setting t.lists) (s.0 ∙ sym r.0) ∙ ap (trace_of_lists u.setting) (one_value trace_grammar input t.lists u.lists s.1 r.1)
 
 pub one_refused_input : (input a b : List ℕ) (v w : Verdict) → IsRefusalReport input a v → IsRefusalReport input b w → (a ≡ b) × (v ≡ w)
 one_refused_input input a b v w p q =
@@ -106,8 +107,8 @@ one_refused_input input a b v w p q =
 
 pub one_report : (input a b : List ℕ) (v w : Verdict) → IsReport input a v → IsReport input b w → (a ≡ b) × (v ≡ w)
 one_report input a b v w (inl p) (inl q) = one_trace_report q.0 (spelled_own input q.0 q.1) a b v w (subst (λ t. IsTraceReport t a v) (one_trace input p.0 q.0 p.1 q.1) p.2) q.2
-one_report input a b v w (inl p) (inr q) = absurd (not_both trace_grammar input p.0.lists q.0 q.1 p.1 q.2)
-one_report input a b v w (inr p) (inl q) = absurd (not_both trace_grammar input q.0.lists p.0 p.1 q.1 p.2)
+one_report input a b v w (inl p) (inr q) = absurd (not_both trace_grammar input p.0.lists q.0 q.1 p.1.1 q.2)
+one_report input a b v w (inr p) (inl q) = absurd (not_both trace_grammar input q.0.lists p.0 p.1 q.1.1 p.2)
 one_report input a b v w (inr p) (inr q) = one_refused_input input a b v w p q
 
 -- ---- some report
@@ -132,7 +133,7 @@ some_trace_report input t spells =
 
 pub some_report : (input : List ℕ) → (text : List ℕ) × (v : Verdict) × IsReport input text v
 some_report input =
-    ⊎_elim (λ s. some_trace_report input (trace_of_lists s.0) s.1) (λ r. (refusal_text r.0 r.1, Refused, inr (r.0, r.1, r.2, refl, refl))) (spelled_or_refused trace_grammar input)
+    ⊎_elim (λ s. some_trace_report input (trace_of_lists plain s.0) (refl, s.1)) (λ r. (refusal_text r.0 r.1, Refused, inr (r.0, r.1, r.2, refl, refl))) (spelled_or_refused trace_grammar input)
 
 -- ---- what the verdict says
 
@@ -158,12 +159,12 @@ violation_exactly input text v (inl p) =
     let said = said_violation p.0 p.2.lines v p.2.says in
     (λ e. (p.0, p.1, said.0 e), λ s. said.1 (subst IsViolation (one_trace input s.0 p.0 s.1 p.1) s.2))
 violation_exactly input text v (inr p) =
-    (λ e. absurd (false≢true (ap is_violation (sym p.4 ∙ e))), λ s. absurd (not_both trace_grammar input s.0.lists p.0 p.1 s.1 p.2))
+    (λ e. absurd (false≢true (ap is_violation (sym p.4 ∙ e))), λ s. absurd (not_both trace_grammar input s.0.lists p.0 p.1 s.1.1 p.2))
 
 -- and REFUSED exactly where it spells no trace
 pub refused_exactly : (input text : List ℕ) (v : Verdict) → IsReport input text v → (v ≡ Refused) ↔ IsRefusedTrace input
 refused_exactly input text v (inl p) =
-    (λ e. absurd (subst (SaysVerdict p.0 p.2.lines) e p.2.says), λ r. absurd (not_both trace_grammar input p.0.lists r.0 r.1 p.1 r.2))
+    (λ e. absurd (subst (SaysVerdict p.0 p.2.lines) e p.2.says), λ r. absurd (not_both trace_grammar input p.0.lists r.0 r.1 p.1.1 r.2))
 refused_exactly input text v (inr p) = (λ _. (p.0, p.1, p.2), λ _. p.4)
 
 -- a violation leaves no order

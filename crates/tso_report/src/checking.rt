@@ -27,7 +27,7 @@ pub const MAX_CERTIFICATE_BYTES: usize = 67_108_864;
 /// Checks a certificate against a trace: reads the text of the trace, then that of the certificate, builds the whole
 /// report of both, and then writes it.
 ///
-/// The verdict is Violation where the certificate holds, which leaves the trace no TSO order, else Refused. A first
+/// The verdict is Violation where the certificate holds, which leaves the trace no order of its model, else Refused. A first
 /// text that is no trace is reported by its refusal, and the certificate isn't read then. At most 1,048,577 bytes of
 /// the trace are read and 67,108,865 of the certificate. Faults: OutOfMemory where an allocation was refused; Read
 /// where a reader failed or passed 2,097,152 calls, or the text of the certificate has more than 67,108,864 bytes; with

@@ -10,7 +10,7 @@ ghost use Rattle.tso_report.specs.Limits.{certificate_byte_limit};
 ghost use Rattle.tso_report.specs.Reports.{IsReport, ShowsViolation, SpellsViolation};
 
 /// Each input has one report. It says VIOLATION exactly where the input spells a trace that is a violation, which then
-/// has no TSO order, as the certificate at its end shows, and it is Refused exactly where the input spells no trace.
+/// has no order of its model, as the certificate at its end shows, and it is Refused exactly where the input spells no trace.
 pub fn reports()
     ensures exists { (input : List ℕ) → (text : List ℕ) × (verdict : Verdict) × IsReport input text verdict }
     ensures one { (input text other : List ℕ) (v w : Verdict) → IsReport input text v → IsReport input other w → (text ≡ other) × (v ≡ w) }

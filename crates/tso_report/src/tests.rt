@@ -2,6 +2,8 @@ mod certificates;
 mod checked;
 mod ends;
 mod judged;
+mod machine;
 mod refused_allocations;
+mod settings;
 mod streams;
 mod violations;

@@ -1,9 +1,10 @@
 -- Lemmas on rows of base pairs.
 use Rattle.std.proofs.Common.{◌≡◌, ◌⊎◌, ◌↔◌, inl, inr, ℕ, ◌+◌, ◌*◌, ◌/◌, ◌%◌, ◌^◌, ◌<◌, ◌≤◌, Bool, true, false, List, get_or, Some, refl, sym, ap, ◌∙◌, subst, arith}
 use Rattle.tso_ops.specs.declared.events.Event.{Event}
+use Rattle.tso_ops.specs.declared.settings.Order.TheVariants.{Tso, Pso}
 use Rattle.tso_ops.specs.Values.{TraceValue}
-use Rattle.tso_ops.specs.Events.{event_at, IsLoad, IsStore, IsLoadAt, IsStoreTo, IsEventOf, HasBarriersBefore, HasSource, SameAddress, Earlier}
-use Rattle.tso_ops.proofs.ProcessorFacts.{bars_ascend}
+use Rattle.tso_ops.specs.Events.{event_at, IsLoad, IsStore, IsLoadAt, IsStoreTo, IsEventOf, HasBarriersBefore, HasStbarsBefore, HasSource, KeepsStores, SameAddress, Earlier}
+use Rattle.tso_ops.proofs.ProcessorFacts.{bars_ascend, stbars_ascend}
 use Rattle.tso_ops.proofs.TableFacts.{source_load}
 use Rattle.tso_ops.specs.Masks.{IsMask}
 use Rattle.order_graph.specs.BitRows.{HasBit, HasNumber}
@@ -13,11 +14,11 @@ use Rattle.std.specs.Int.{bit_not, w64}
 use Rattle.std.proofs.lemmas.Bool.{false≢true, cases_lt}
 use Rattle.tso_rules.proofs.RowFacts.{marks_as, marks_both, earlier_words_more, IsInEarlierWord, OnWord, words_more, ByWords, word_number, mask_number}
 use Rattle.tso_cert.specs.declared.rules.BaseRule.{BaseRule}
-use Rattle.tso_cert.specs.declared.rules.BaseRule.TheVariants.{Init, LoadOp, StoreStore, Membar, Read, Own}
+use Rattle.tso_cert.specs.declared.rules.BaseRule.TheVariants.{Init, LoadOp, StoreStore, Stbar, Membar, Read, Own}
 use Rattle.tso_model.specs.Rules.{BasePair}
 use Rattle.tso_model.specs.Ranks.{RankSet}
 use Rattle.tso_model.proofs.Events.{event_unique}
-use Rattle.tso_rules.specs.Internal.MarkedRows.{Marks, IsLater, IsOrdered, IsReadBy, IsSourceIn}
+use Rattle.tso_rules.specs.Internal.MarkedRows.{Marks, IsKeptStore, IsLater, IsOrdered, IsReadBy, IsSourceIn}
 
 -- a base pair is one of the rule Init, of program order, or by a load
 pub base_by : (t : TraceValue) (u v : ℕ) → ((BasePair t Init u v ⊎ IsLater t u v) ⊎ ((l : ℕ) × IsReadBy t u l v)) ↔ RankSet t 0 u v
@@ -27,7 +28,8 @@ base_by t u v = (to, λ edge. from edge.0 edge.1)
     to (inl (inl pair)) = (Init, pair)
     to (inl (inr (inl pair))) = (LoadOp, pair)
     to (inl (inr (inr (inl pair)))) = (StoreStore, pair)
-    to (inl (inr (inr (inr pair)))) = (Membar, pair)
+    to (inl (inr (inr (inr (inl pair))))) = (Stbar, pair)
+    to (inl (inr (inr (inr (inr pair))))) = (Membar, pair)
     to (inr (l, inl read)) = (Read, subst (λ m. BasePair t Read u m) (sym read.0) read.1)
     to (inr (l, inr own)) = (Own, (l, own))
 
@@ -35,7 +37,8 @@ base_by t u v = (to, λ edge. from edge.0 edge.1)
     from Init pair = inl (inl pair)
     from LoadOp pair = inl (inr (inl pair))
     from StoreStore pair = inl (inr (inr (inl pair)))
-    from Membar pair = inl (inr (inr (inr pair)))
+    from Stbar pair = inl (inr (inr (inr (inl pair))))
+    from Membar pair = inl (inr (inr (inr (inr pair))))
     from Read pair = inr (v, inl (refl, pair))
     from Own pair = inr (pair.0, inr pair.1)
 
@@ -52,6 +55,22 @@ earlier_of t u v event at of order = (event, of.0, at, of.1, sym of.2, order)
 of_earlier : (t : TraceValue) (u v : ℕ) (event : Event) → event_at t u ≡ Some event → Earlier t u v → IsEventOf t event.proc v × (u < v)
 of_earlier t u v event at e = let first = event_unique t u e.0 event e.2 at in ((e.1, e.3, sym e.4 ∙ ap (λ (x : Event). x.proc) first), e.5)
 
+-- a store that the model keeps after the event
+keeps_of : (t : TraceValue) (u v : ℕ) (event : Event) → event_at t u ≡ Some event → IsKeptStore t event v → KeepsStores t u v
+keeps_of t u v event at (store, inl tso) = inl tso
+keeps_of t u v event at (store, inr to) = inr (event, to.0, at, to.1, sym to.3)
+
+kept_of : (t : TraceValue) (u v : ℕ) (event : Event) → event_at t u ≡ Some event → IsStore t v → KeepsStores t u v → IsKeptStore t event v
+kept_of t u v event at store (inl tso) = (store, inl tso)
+kept_of t u v event at store (inr same) =
+    let first = event_unique t u same.0 event same.2 at in
+    let second = event_unique t v store.0 same.1 store.1 same.3 in
+    (store, inr (store.0, store.1, store.2, ap (λ (x : Event). x.a) second ∙ sym same.4 ∙ ap (λ (x : Event). x.a) first))
+
+-- a load is no store
+no_store : (t : TraceValue) (n : ℕ) → IsLoad t n → IsStore t n → ⊥
+no_store t n load store = false≢true (sym store.2 ∙ ap (λ (x : Event). x.load) (event_unique t n store.0 load.0 store.1 load.1) ∙ load.2)
+
 -- Program order leads from an event to the program-later ones that it puts after it.
 pub later_is : (t : TraceValue) (u v : ℕ) (event : Event) → event_at t u ≡ Some event → ((IsEventOf t event.proc v × (u < v)) × IsOrdered t event v) ↔ IsLater t u v
 later_is t u v event at = (λ is. to event.load refl is.0.0 is.0.1 is.1, from)
@@ -59,55 +78,128 @@ later_is t u v event at = (λ is. to event.load refl is.0.0 is.0.1 is.1, from)
     to : (load : Bool) → event.load ≡ load → (of : IsEventOf t event.proc v) → u < v → IsOrdered t event v → IsLater t u v
     to true is of order ordered = inl ((event, at, is), earlier_of t u v event at of order)
     to false is of order (inl load) = absurd (false≢true (sym is ∙ load))
-    to false is of order (inr (inl store)) = inr (inl ((event, at, is), store, earlier_of t u v event at of order))
-    to false is of order (inr (inr other)) = elim (event_kind t v of.0 of.0.load of.1 refl) [
+    to false is of order (inr (inl kept)) = inr (inl ((event, at, is), kept.0, earlier_of t u v event at of order, keeps_of t u v event at kept))
+    to false is of order (inr (inr (inl (store, other)))) =
+        let low : event.stbars ≤ of.0.stbars = stbars_ascend t u v event of.0 at of.1 (sym of.2) order in
+        let more : event.stbars < of.0.stbars = elim (cases_lt event.stbars of.0.stbars) [
+          | inl less ↦ less
+          | inr not_less ↦ absurd (other (of.0, of.1, omega arith))
+        ] in
+        inr (inr (inl ((event, at, is), store, earlier_of t u v event at of order, (event, of.0, at, of.1, more))))
+    to false is of order (inr (inr (inr (no_store, other)))) = elim (event_kind t v of.0 of.0.load of.1 refl) [
       | inl load ↦ (let low : event.bars ≤ of.0.bars = bars_ascend t u v event of.0 at of.1 (sym of.2) order in
           let more : event.bars < of.0.bars = elim (cases_lt event.bars of.0.bars) [
             | inl less ↦ less
             | inr not_less ↦ absurd (other (of.0, of.1, omega arith))
           ] in
-          inr (inr ((event, at, is), load, earlier_of t u v event at of order, (event, of.0, at, of.1, more))))
-      | inr store ↦ inr (inl ((event, at, is), store, earlier_of t u v event at of order))
+          inr (inr (inr ((event, at, is), load, earlier_of t u v event at of order, (event, of.0, at, of.1, more)))))
+      | inr store ↦ absurd (no_store store)
     ]
 
     from : IsLater t u v → (IsEventOf t event.proc v × (u < v)) × IsOrdered t event v
     from (inl pair) = (of_earlier t u v event at pair.1, inl (ap (λ (x : Event). x.load) (event_unique t u event pair.0.0 at pair.0.1) ∙ pair.0.2))
-    from (inr (inl pair)) = (of_earlier t u v event at pair.2, inr (inl pair.1))
-    from (inr (inr pair)) = (
+    from (inr (inl pair)) = (of_earlier t u v event at pair.2, inr (inl (kept_of t u v event at pair.1 pair.3)))
+    from (inr (inr (inl pair))) = (
       of_earlier t u v event at pair.2,
-      inr (inr (λ after.
-          let between = pair.3 in
-          let first : between.0.bars ≡ event.bars = ap (λ (x : Event). x.bars) (event_unique t u between.0 event between.2 at) in
-          let second : between.1.bars ≡ after.0.bars = ap (λ (x : Event). x.bars) (event_unique t v between.1 after.0 between.3 after.1) in
-          let less : between.0.bars < between.1.bars = between.4 in
-          let same : after.0.bars ≡ event.bars = after.2 in
-          omega arith)),
+      inr (inr (inl (
+        pair.1,
+        λ after.
+            let between = pair.3 in
+            let first : between.0.stbars ≡ event.stbars = ap (λ (x : Event). x.stbars) (event_unique t u between.0 event between.2 at) in
+            let second : between.1.stbars ≡ after.0.stbars = ap (λ (x : Event). x.stbars) (event_unique t v between.1 after.0 between.3 after.1) in
+            let less : between.0.stbars < between.1.stbars = between.4 in
+            let same : after.0.stbars ≡ event.stbars = after.2 in
+            omega arith,
+      ))),
+    )
+    from (inr (inr (inr pair))) = (
+      of_earlier t u v event at pair.2,
+      inr (inr (inr (
+        no_store t v pair.1,
+        λ after.
+            let between = pair.3 in
+            let first : between.0.bars ≡ event.bars = ap (λ (x : Event). x.bars) (event_unique t u between.0 event between.2 at) in
+            let second : between.1.bars ≡ after.0.bars = ap (λ (x : Event). x.bars) (event_unique t v between.1 after.0 between.3 after.1) in
+            let less : between.0.bars < between.1.bars = between.4 in
+            let same : after.0.bars ≡ event.bars = after.2 in
+            omega arith,
+      ))),
     )
 
--- the bits of what program order puts after a store
-pub ordered_bit : (t : TraceValue) (event : Event) (stores after : List ℕ) (j a b k : ℕ) → k < 64 → event.load ≡ false → IsMask stores (IsStore t) → IsMask after (HasBarriersBefore t event.bars) →
-    a ≡ get_or stores j 0 → b ≡ get_or after j 0 → b < 2 ^ 64 → HasBit (bit_or a (bit_not w64 b)) k ↔ IsOrdered t event (64 * j + k)
-ordered_bit t event stores after j a b k low store stores_are barriers_before_is a_is b_is fits =
+-- the rows of bits that the word for a store is made of, and their words
+pub record AreOrderWords (t : TraceValue) (event : Event) (stores no_stbar no_barrier : List ℕ) (j kept a b c : ℕ) : Type 0 where
+  pub stores_are : IsMask stores (IsStore t)
+  pub stbars_are : IsMask no_stbar (HasStbarsBefore t event.stbars)
+  pub barriers_are : IsMask no_barrier (HasBarriersBefore t event.bars)
+  pub kept_is : (k : ℕ) → k < 64 → HasBit kept k ↔ IsKeptStore t event (64 * j + k)
+  pub store_word : a ≡ get_or stores j 0
+  pub stbar_word : b ≡ get_or no_stbar j 0
+  pub barrier_word : c ≡ get_or no_barrier j 0
+  pub store_fits : a < 2 ^ 64
+  pub stbar_fits : b < 2 ^ 64
+  pub barrier_fits : c < 2 ^ 64
+
+-- a bit of a row's word is that of its number
+word_bit : (row : List ℕ) (Of : ℕ → Type 0) (j word k : ℕ) → k < 64 → IsMask row Of → word ≡ get_or row j 0 → HasBit word k ↔ Of (64 * j + k)
+word_bit row Of j word k low mask is =
     let n : ℕ = 64 * j + k in
     let at : n / 64 ≡ j = omega arith in
     let place : n % 64 ≡ k = omega arith in
-    let either = HasBit-or a (bit_not w64 b) k in
-    let not = HasBit-not b k fits low in
-    let first = subst (λ i. HasBit a i ↔ HasNumber stores n) place (word_number stores j a n at a_is) in
-    let second = subst (λ i. HasBit b i ↔ HasNumber after n) place (word_number after j b n at b_is) in
-    let is_store = mask_number stores (IsStore t) stores_are n in
-    let has_barriers_before = mask_number after (HasBarriersBefore t event.bars) barriers_before_is n in (
+    let bit = subst (λ i. HasBit word i ↔ HasNumber row n) place (word_number row j word n at is) in
+    let of = mask_number row Of mask n in
+    (λ set. of.0 (bit.0 set), λ holds. bit.1 (of.1 holds))
+
+-- the bits of what program order puts after a store
+pub ordered_bit : (t : TraceValue) (event : Event) (stores no_stbar no_barrier : List ℕ) (j kept a b c k : ℕ) → k < 64 → event.load ≡ false →
+    AreOrderWords t event stores no_stbar no_barrier j kept a b c →
+    HasBit (bit_or (bit_or kept (bit_and a (bit_not w64 b))) (bit_and (bit_not w64 a) (bit_not w64 c))) k ↔ IsOrdered t event (64 * j + k)
+ordered_bit t event stores no_stbar no_barrier j kept a b c k low store words =
+    let either = HasBit-or (bit_or kept (bit_and a (bit_not w64 b))) (bit_and (bit_not w64 a) (bit_not w64 c)) k in
+    let first = HasBit-or kept (bit_and a (bit_not w64 b)) k in
+    let second = HasBit-and a (bit_not w64 b) k in
+    let third = HasBit-and (bit_not w64 a) (bit_not w64 c) k in
+    let not_store = HasBit-not a k words.store_fits low in
+    let not_stbar = HasBit-not b k words.stbar_fits low in
+    let not_barrier = HasBit-not c k words.barrier_fits low in
+    let is_kept = words.kept_is k low in
+    let is_store = word_bit stores (IsStore t) j a k low words.stores_are words.store_word in
+    let has_stbars = word_bit no_stbar (HasStbarsBefore t event.stbars) j b k low words.stbars_are words.stbar_word in
+    let has_barriers = word_bit no_barrier (HasBarriersBefore t event.bars) j c k low words.barriers_are words.barrier_word in (
       λ bit. elim (either.0 bit) [
-        | inl one ↦ inr (inl (is_store.0 (first.0 one)))
-        | inr one ↦ inr (inr (λ is. not.0 one (second.1 (has_barriers_before.1 is))))
+        | inl one ↦ elim (first.0 one) [
+          | inl by ↦ inr (inl (is_kept.0 by))
+          | inr by ↦ inr (inr (inl (is_store.0 (second.0 by).0, λ has. not_stbar.0 (second.0 by).1 (has_stbars.1 has))))
+        ]
+        | inr by ↦ inr (inr (inr (λ has. not_store.0 (third.0 by).0 (is_store.1 has), λ has. not_barrier.0 (third.0 by).1 (has_barriers.1 has))))
       ],
       λ ordered. either.1 (elim ordered [
         | inl load ↦ absurd (false≢true (sym store ∙ load))
         | inr rest ↦ elim rest [
-          | inl is ↦ inl (first.1 (is_store.1 is))
-          | inr other ↦ inr (not.1 (λ one. other (has_barriers_before.0 (second.0 one))))
+          | inl by ↦ inl (first.1 (inl (is_kept.1 by)))
+          | inr later ↦ elim later [
+            | inl by ↦ inl (first.1 (inr (second.1 (is_store.1 by.0, not_stbar.1 (λ set. by.1 (has_stbars.0 set))))))
+            | inr by ↦ inr (third.1 (not_store.1 (λ set. by.0 (is_store.0 set)), not_barrier.1 (λ set. by.1 (has_barriers.0 set))))
+          ]
         ]
       ]),
+    )
+
+-- the bits of the stores that TSO keeps
+pub kept_under_tso : (t : TraceValue) (event : Event) (stores : List ℕ) (j a k : ℕ) → k < 64 → t.setting.order ≡ Tso → IsMask stores (IsStore t) → a ≡ get_or stores j 0 →
+    HasBit a k ↔ IsKeptStore t event (64 * j + k)
+kept_under_tso t event stores j a k low tso mask is =
+    let bit = word_bit stores (IsStore t) j a k low mask is in (λ set. (bit.0 set, inl tso), λ kept. bit.1 kept.0)
+
+-- and of those that PSO keeps
+pub kept_under_pso : (t : TraceValue) (event : Event) (stores : List ℕ) (j a k : ℕ) → k < 64 → t.setting.order ≡ Pso → IsMask stores (IsStoreTo t event.a) → a ≡ get_or stores j 0 →
+    HasBit a k ↔ IsKeptStore t event (64 * j + k)
+kept_under_pso t event stores j a k low pso mask is =
+    let bit = word_bit stores (IsStoreTo t event.a) j a k low mask is in (
+      λ set. (let to = bit.0 set in ((to.0, to.1, to.2), inr to)),
+      λ kept. elim kept.1 [
+        | inl tso ↦ absurd (let clash : Tso ≡ Pso = sym tso ∙ pso in cc)
+        | inr to ↦ bit.1 to
+      ],
     )
 
 -- the words of a processor's program-later numbers

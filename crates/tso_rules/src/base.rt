@@ -6,7 +6,7 @@ ghost use Rattle.tso_model.specs.Rules.{IsOwnBy, BasePair};
 ghost use Rattle.tso_model.specs.Ranks.{RankSet};
 ghost use Rattle.tso_model.specs.Certs.{IsFirstBase};
 ghost use Rattle.tso_rules.specs.Rows.{IsRow};
-ghost use Rattle.tso_rules.specs.Internal.MarkedRows.{Marks, IsLater, IsOrdered, IsReadBy};
+ghost use Rattle.tso_rules.specs.Internal.MarkedRows.{Marks, IsKeptStore, IsLater, IsOrdered, IsReadBy};
 
 use crate::marks::{mark_end, mark_word, marked, word_above, word_at};
 use crate::sources::{mark_sources, source_of};
@@ -14,7 +14,7 @@ use std::alloc::Global;
 use tso_cert::BaseRule;
 use tso_model::plain::events::{is_earlier, is_event, is_store, node_count, same_address};
 use tso_model::plain::is_base_pair;
-use tso_ops::{Event, OutOfMemory, Trace};
+use tso_ops::{Event, Order, OutOfMemory, Trace};
 
 /// The first base rule that gives the edge from `u` to `v`, or None where no rule does.
 ///
@@ -28,6 +28,8 @@ pub fn base_edge(trace: &Trace, u: usize, v: usize) -> Option<BaseRule>
         Some(BaseRule::LoadOp)
     } else if is_base_pair(trace, BaseRule::StoreStore, u, v) {
         Some(BaseRule::StoreStore)
+    } else if is_base_pair(trace, BaseRule::Stbar, u, v) {
+        Some(BaseRule::Stbar)
     } else if is_base_pair(trace, BaseRule::Membar, u, v) {
         Some(BaseRule::Membar)
     } else if is_base_pair(trace, BaseRule::Read, u, v) {
@@ -71,7 +73,7 @@ pub fn base_row(alloc: Global, trace: &Trace, u: usize) -> Result<Vec<usize>, Ou
     ensures { IfOk result (λ row. IsRow row.items (RankSet trace.now 0 u)) }
 {
     // The call is for the proof: the contract of `events` says that the trace keeps its limits, so no number is above
-    // 2,000. Elsewhere too, a call whose answer isn't used brings what its contract says into the proof.
+    // 8,000. Elsewhere too, a call whose answer isn't used brings what its contract says into the proof.
     let _events = trace.events();
     marked(alloc, &base_words(alloc, trace, u)?, node_count(trace))
 }
@@ -145,7 +147,8 @@ fn mark_later(trace: &Trace, marks: &mut Vec<u64>, u: usize) -> Result<(), OutOf
 }
 
 /// Word `j` of the row of the numbers that program order puts after the event, if they are program-later: all for a load,
-/// and for a store the stores and what has more barriers before it.
+/// and for a store the stores that the memory model keeps after it or that have more STBARs before them, and the loads that
+/// have more barriers before them.
 #[inline]
 fn ordered_word(trace: &Trace, event: Event, j: usize) -> u64
     ensures { (k : ℕ) → k < 64 → HasBit result k ↔ IsOrdered trace.now event (64 * j + k) }
@@ -153,7 +156,22 @@ fn ordered_word(trace: &Trace, event: Event, j: usize) -> u64
     if event.load {
         u64::MAX
     } else {
-        word_at(trace.all_store_words(), j) | !word_at(trace.barrier_words(event.bars), j)
+        let stores = word_at(trace.all_store_words(), j);
+        let no_stbar = word_at(trace.stbar_words(event.stbars), j);
+        let no_barrier = word_at(trace.barrier_words(event.bars), j);
+        kept_word(trace, event, j) | stores & !no_stbar | !stores & !no_barrier
+    }
+}
+
+/// Word `j` of the row of the stores that the memory model keeps after the store without an STBAR, if they are
+/// program-later: under TSO all, under PSO those to its address.
+#[inline]
+fn kept_word(trace: &Trace, event: Event, j: usize) -> u64
+    ensures { (k : ℕ) → k < 64 → HasBit result k ↔ IsKeptStore trace.now event (64 * j + k) }
+{
+    match trace.order() {
+        Order::Tso => word_at(trace.all_store_words(), j),
+        Order::Pso => word_at(trace.store_words(event.a), j),
     }
 }
 

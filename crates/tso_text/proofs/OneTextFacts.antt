@@ -152,11 +152,11 @@ whole header lines text others same is = is ∙ ap (λ ls. header ++ 10 ∷ (ls 
 
 pub trace_printed : (text : List ℕ) (t : TraceValue) → SpellsTrace text t → text ≡ trace_text t
 unfolding trace_text
-trace_printed text t spells = whole trace_header _ text _ (made_by-text outcome_pieces t.lists) (spelled_text trace_grammar made_by (pieces_by outcome_pieces) prints_trace text t.lists spells)
+trace_printed text t spells = whole trace_header _ text _ (made_by-text outcome_pieces t.lists) (spelled_text trace_grammar made_by (pieces_by outcome_pieces) prints_trace text t.lists spells.1)
 
 pub program_printed : (text : List ℕ) (p : ProgramValue) → SpellsProgram text p → text ≡ program_text p
 unfolding program_text
-program_printed text p spells = whole program_header _ text _ (made_by-text op_pieces p.lists) (spelled_text program_grammar made_by (pieces_by op_pieces) prints_program text p.lists spells)
+program_printed text p spells = whole program_header _ text _ (made_by-text op_pieces p.lists) (spelled_text program_grammar made_by (pieces_by op_pieces) prints_program text p.lists spells.1)
 
 -- ---- schedules
 

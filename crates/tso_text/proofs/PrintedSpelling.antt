@@ -1,5 +1,6 @@
 -- The printed text of a value within the limits spells it.
 use Rattle.std.proofs.Common.{◌≡◌, ℕ, ◌+◌, ◌*◌, ◌<◌, ◌≤◌, ◌^◌, false, List, [], ◌∷◌, ◌++◌, length, map, Some, Ok, refl, ap, sym, ◌∙◌, subst, arith, length-append, All}
+use Rattle.std.proofs.lemmas.Bool.{false≢true}
 use Rattle.std.specs.Prelude.{codes}
 use Rattle.std.specs.Fmt.{decimal}
 use Rattle.std.specs.List.{flat_map, join_with_byte, AllByRecursion}
@@ -7,10 +8,13 @@ use Rattle.std.proofs.lemmas.Fmt.{length-decimal-le}
 use Rattle.std.proofs.lemmas.List.{map-append, length-map}
 use Rattle.std.proofs.lemmas.List.Elements.{recursion_from_All}
 use Rattle.tso_ops.specs.declared.ops.Op.{Op}
-use Rattle.tso_ops.specs.declared.ops.Op.TheVariants.{Ld as OpLd, St as OpSt, Sw as OpSw, Mb as OpMb}
+use Rattle.tso_ops.specs.declared.ops.Op.TheVariants.{Ld as OpLd, St as OpSt, Sw as OpSw, Mb as OpMb, Sb as OpSb}
 use Rattle.tso_ops.specs.declared.ops.Outcome.{Outcome}
-use Rattle.tso_ops.specs.declared.ops.Outcome.TheVariants.{Ld, St, Sw, Mb}
-use Rattle.tso_ops.specs.Limits.{KeepsLimits, IsProgram, IsTrace, address_of, stored_by}
+use Rattle.tso_ops.specs.declared.ops.Outcome.TheVariants.{Ld, St, Sw, Mb, Sb}
+use Rattle.tso_ops.specs.declared.settings.Order.TheVariants.{Tso}
+use Rattle.tso_ops.specs.declared.faults.ValueFault.TheVariants.{StbarInTso}
+use Rattle.tso_ops.specs.Settings.{plain}
+use Rattle.tso_ops.specs.Limits.{KeepsLimits, IsProgram, IsTrace, address_of, stored_by, is_stbar_in_tso}
 use Rattle.tso_ops.specs.Values.{TraceValue, ProgramValue, ReadFits, op_of}
 use Rattle.tso_ops.proofs.RefusalFacts.{each-middle, kept_faultless, kept_address, kept_value, kept_few}
 use Rattle.tso_text.specs.declared.acts.Act.{Act}
@@ -91,38 +95,41 @@ trace_proc : IsReadBack trace_grammar outcome_pieces Proc
 unfolding trace_line no_number
 trace_proc = read_back trace_grammar outcome_pieces Proc (codes "proc") [] refl refl refl (omega arith) (omega arith) tt refl
 
-outcome_back : (x : Outcome) → ((a : ℕ) → address_of (op_of x) ≡ Some a → a < 256) → ((v : ℕ) → stored_by (op_of x) ≡ Some v → v < 2 ^ 64) → ReadFits x → IsReadBack trace_grammar outcome_pieces (Item x)
+outcome_back : (x : Outcome) → ((a : ℕ) → address_of (op_of x) ≡ Some a → a < 256) → ((v : ℕ) → stored_by (op_of x) ≡ Some v → v < 2 ^ 64) → ReadFits x →
+    is_stbar_in_tso Tso (op_of x) ≡ false → IsReadBack trace_grammar outcome_pieces (Item x)
 unfolding trace_line no_number
-outcome_back (Ld a r) within writes reads =
+outcome_back (Ld a r) within writes reads no_stbar =
     let low = within a refl in
     let fits : a < 2 ^ 64 = omega (arith, low) in
     read_back trace_grammar outcome_pieces (Item (Ld a r)) (codes "ld") (a ∷ r ∷ []) refl refl refl (omega arith) (omega arith) (fits, (reads, tt))
     (rw (two-decimal a r fits reads) (ap (λ b. Ok (Item (Ld b r))) (address-within a low)))
-outcome_back (St a v) within writes reads =
+outcome_back (St a v) within writes reads no_stbar =
     let low = within a refl in
     let fits : a < 2 ^ 64 = omega (arith, low) in
     let value = writes v refl in
     read_back trace_grammar outcome_pieces (Item (St a v)) (codes "st") (a ∷ v ∷ []) refl refl refl (omega arith) (omega arith) (fits, (value, tt))
     (rw (two-decimal a v fits value) (ap (λ b. Ok (Item (St b v))) (address-within a low)))
-outcome_back (Sw a r v) within writes reads =
+outcome_back (Sw a r v) within writes reads no_stbar =
     let low = within a refl in
     let fits : a < 2 ^ 64 = omega (arith, low) in
     let value = writes v refl in
     read_back trace_grammar outcome_pieces (Item (Sw a r v)) (codes "sw") (a ∷ r ∷ v ∷ []) refl refl refl (omega arith) (omega arith) (fits, (reads, (value, tt)))
     (rw (three-decimal a r v fits reads value) (ap (λ b. Ok (Item (Sw b r v))) (address-within a low)))
-outcome_back Mb within writes reads = read_back trace_grammar outcome_pieces (Item Mb) (codes "mb") [] refl refl refl (omega arith) (omega arith) tt refl
+outcome_back Mb within writes reads no_stbar = read_back trace_grammar outcome_pieces (Item Mb) (codes "mb") [] refl refl refl (omega arith) (omega arith) tt refl
+outcome_back Sb within writes reads no_stbar = absurd (false≢true (sym no_stbar))
 
-middle_limits : (items before : List Outcome) (x : Outcome) (after : List Outcome) → KeepsLimits (map op_of items) → items ≡ before ++ x ∷ after → KeepsLimits (map op_of before ++ op_of x ∷ map op_of after)
-middle_limits items before x after limits at = subst KeepsLimits (ap (map op_of) at ∙ map-append op_of before (x ∷ after)) limits
+middle_limits : (items before : List Outcome) (x : Outcome) (after : List Outcome) → KeepsLimits plain (map op_of items) → items ≡ before ++ x ∷ after → KeepsLimits plain (map op_of before ++ op_of x ∷ map op_of after)
+middle_limits items before x after limits at = subst (KeepsLimits plain) (ap (map op_of) at ∙ map-append op_of before (x ∷ after)) limits
 
-outcomes_fit : (items : List Outcome) → KeepsLimits (map op_of items) → All ReadFits items → AreFit trace_grammar outcome_pieces items
+outcomes_fit : (items : List Outcome) → KeepsLimits plain (map op_of items) → All ReadFits items → AreFit trace_grammar outcome_pieces items
 unfolding outcome_fault
 outcomes_fit items limits reads = record {
   back = λ before x after at.
       let kept = middle_limits items before x after limits at in
-      outcome_back x (λ a is. kept_address (map op_of before) (op_of x) (map op_of after) a kept is) (λ v is. kept_value (map op_of before) (op_of x) (map op_of after) v kept is)
-      (each-middle ReadFits before x after (subst (AllByRecursion ReadFits) at (recursion_from_All _ _ reads)));
-  clean = λ before x after at w. op_clean (map op_of before) (op_of x) (kept_faultless (map op_of before) (op_of x) (map op_of after) (middle_limits items before x after limits at)) w;
+      outcome_back x (λ a is. kept_address plain (map op_of before) (op_of x) (map op_of after) a kept is) (λ v is. kept_value plain (map op_of before) (op_of x) (map op_of after) v kept is)
+      (each-middle ReadFits before x after (subst (AllByRecursion ReadFits) at (recursion_from_All _ _ reads)))
+      (kept_faultless plain (map op_of before) (op_of x) (map op_of after) kept StbarInTso);
+  clean = λ before x after at w. op_clean (map op_of before) (op_of x) (kept_faultless plain (map op_of before) (op_of x) (map op_of after) (middle_limits items before x after limits at)) w;
 }
 
 -- lines of at most 16 processors and 4,000 items are a short text
@@ -138,16 +145,19 @@ length-whole : (header lines : List ℕ) → length header ≤ 20 → length lin
 unfolding whole_text
 length-whole header lines short few = omega (arith, length-append (header ++ 10 ∷ lines) (line_text (codes "end" ∷ [])), length-append header (10 ∷ lines), short, few)
 
-pub printed_trace_spells : (t : TraceValue) → IsTrace t → SpellsTrace (trace_text t) t
+pub printed_trace_spells : (t : TraceValue) → IsTrace t → t.setting ≡ plain → SpellsTrace (trace_text t) t
 unfolding trace_text
-printed_trace_spells t trace =
-    let limits : KeepsLimits (map op_of (items_of t.lists)) = subst KeepsLimits (items_of-map op_of t.lists) trace.program.limits in
+printed_trace_spells t trace is =
+    let limits : KeepsLimits plain (map op_of (items_of t.lists)) =
+    subst (λ setting. KeepsLimits setting (map op_of (items_of t.lists))) is (subst (KeepsLimits t.setting) (items_of-map op_of t.lists) trace.program.limits) in
     let few : length t.lists ≤ 16 = omega (arith, length-map t.lists (map op_of), trace.program.processors) in
     let fit = outcomes_fit (items_of t.lists) limits trace.reads in
     let accepted = lists_accepted trace_grammar outcome_pieces (items_of t.lists) fit trace_proc [] t.lists (omega (arith, few)) refl in
-    let some : length (items_of t.lists) ≤ 4000 = omega (arith, kept_few (map op_of (items_of t.lists)) limits, length-map (items_of t.lists) op_of) in
-    printed_spells trace_grammar outcome_pieces (made_by t.lists) t.lists (flat_map (processor_text outcome_pieces) t.lists) refl trace_end accepted (made_by-text outcome_pieces t.lists)
-    (length-whole trace_header (flat_map (processor_text outcome_pieces) t.lists) (omega arith) (short_text trace_grammar outcome_pieces t.lists t.lists accepted few some))
+    let some : length (items_of t.lists) ≤ 4000 = omega (arith, kept_few plain (map op_of (items_of t.lists)) limits, length-map (items_of t.lists) op_of) in (
+      is,
+      printed_spells trace_grammar outcome_pieces (made_by t.lists) t.lists (flat_map (processor_text outcome_pieces) t.lists) refl trace_end accepted (made_by-text outcome_pieces t.lists)
+          (length-whole trace_header (flat_map (processor_text outcome_pieces) t.lists) (omega arith) (short_text trace_grammar outcome_pieces t.lists t.lists accepted few some)),
+    )
 
 -- ---- the lines of programs
 
@@ -159,43 +169,47 @@ program_proc : IsReadBack program_grammar op_pieces Proc
 unfolding program_line no_number
 program_proc = read_back program_grammar op_pieces Proc (codes "proc") [] refl refl refl (omega arith) (omega arith) tt refl
 
-op_back : (x : Op) → ((a : ℕ) → address_of x ≡ Some a → a < 256) → ((v : ℕ) → stored_by x ≡ Some v → v < 2 ^ 64) → IsReadBack program_grammar op_pieces (Item x)
+op_back : (x : Op) → ((a : ℕ) → address_of x ≡ Some a → a < 256) → ((v : ℕ) → stored_by x ≡ Some v → v < 2 ^ 64) → is_stbar_in_tso Tso x ≡ false → IsReadBack program_grammar op_pieces (Item x)
 unfolding program_line no_number
-op_back (OpLd a) within writes =
+op_back (OpLd a) within writes no_stbar =
     let low = within a refl in
     let fits : a < 2 ^ 64 = omega (arith, low) in
     read_back program_grammar op_pieces (Item (OpLd a)) (codes "ld") (a ∷ []) refl refl refl (omega arith) (omega arith) (fits, tt)
     (rw (one-decimal a fits) (ap (λ b. Ok (Item (OpLd b))) (address-within a low)))
-op_back (OpSt a v) within writes =
+op_back (OpSt a v) within writes no_stbar =
     let low = within a refl in
     let fits : a < 2 ^ 64 = omega (arith, low) in
     let value = writes v refl in
     read_back program_grammar op_pieces (Item (OpSt a v)) (codes "st") (a ∷ v ∷ []) refl refl refl (omega arith) (omega arith) (fits, (value, tt))
     (rw (two-decimal a v fits value) (ap (λ b. Ok (Item (OpSt b v))) (address-within a low)))
-op_back (OpSw a v) within writes =
+op_back (OpSw a v) within writes no_stbar =
     let low = within a refl in
     let fits : a < 2 ^ 64 = omega (arith, low) in
     let value = writes v refl in
     read_back program_grammar op_pieces (Item (OpSw a v)) (codes "sw") (a ∷ v ∷ []) refl refl refl (omega arith) (omega arith) (fits, (value, tt))
     (rw (two-decimal a v fits value) (ap (λ b. Ok (Item (OpSw b v))) (address-within a low)))
-op_back OpMb within writes = read_back program_grammar op_pieces (Item OpMb) (codes "mb") [] refl refl refl (omega arith) (omega arith) tt refl
+op_back OpMb within writes no_stbar = read_back program_grammar op_pieces (Item OpMb) (codes "mb") [] refl refl refl (omega arith) (omega arith) tt refl
+op_back OpSb within writes no_stbar = absurd (false≢true (sym no_stbar))
 
-ops_fit : (items : List Op) → KeepsLimits items → AreFit program_grammar op_pieces items
+ops_fit : (items : List Op) → KeepsLimits plain items → AreFit program_grammar op_pieces items
 unfolding plain_fault
 ops_fit items limits = record {
   back = λ before x after at.
-      let kept = subst KeepsLimits at limits in
-      op_back x (λ a is. kept_address before x after a kept is) (λ v is. kept_value before x after v kept is);
-  clean = λ before x after at w. op_clean before x (kept_faultless before x after (subst KeepsLimits at limits)) w;
+      let kept = subst (KeepsLimits plain) at limits in
+      op_back x (λ a is. kept_address plain before x after a kept is) (λ v is. kept_value plain before x after v kept is) (kept_faultless plain before x after kept StbarInTso);
+  clean = λ before x after at w. op_clean before x (kept_faultless plain before x after (subst (KeepsLimits plain) at limits)) w;
 }
 
-pub printed_program_spells : (p : ProgramValue) → IsProgram p → SpellsProgram (program_text p) p
+pub printed_program_spells : (p : ProgramValue) → IsProgram p → p.setting ≡ plain → SpellsProgram (program_text p) p
 unfolding program_text
-printed_program_spells p program =
-    let fit = ops_fit (items_of p.lists) program.limits in
-    let accepted = lists_accepted program_grammar op_pieces (items_of p.lists) fit program_proc [] p.lists (omega (arith, program.processors)) refl in
-    printed_spells program_grammar op_pieces (made_by p.lists) p.lists (flat_map (processor_text op_pieces) p.lists) refl program_end accepted (made_by-text op_pieces p.lists)
-    (length-whole program_header (flat_map (processor_text op_pieces) p.lists) (omega arith) (short_text program_grammar op_pieces p.lists p.lists accepted program.processors (kept_few (items_of p.lists) program.limits)))
+printed_program_spells p program is =
+    let limits : KeepsLimits plain (items_of p.lists) = subst (λ setting. KeepsLimits setting (items_of p.lists)) is program.limits in
+    let fit = ops_fit (items_of p.lists) limits in
+    let accepted = lists_accepted program_grammar op_pieces (items_of p.lists) fit program_proc [] p.lists (omega (arith, program.processors)) refl in (
+      is,
+      printed_spells program_grammar op_pieces (made_by p.lists) p.lists (flat_map (processor_text op_pieces) p.lists) refl program_end accepted (made_by-text op_pieces p.lists)
+          (length-whole program_header (flat_map (processor_text op_pieces) p.lists) (omega arith) (short_text program_grammar op_pieces p.lists p.lists accepted program.processors (kept_few plain (items_of p.lists) limits))),
+    )
 
 -- ---- the lines of schedules
 
@@ -226,11 +240,11 @@ printed_schedule_spells acts within short =
 
 -- ---- what a printer answers
 
-pub trace_answered : (t : TraceValue) (bytes : List ℕ) → IsTrace t → bytes ≡ trace_text t → SpellsTrace bytes t
-trace_answered t bytes kept is = subst (λ b. SpellsTrace b t) (sym is) (printed_trace_spells t kept)
+pub trace_answered : (t : TraceValue) (bytes : List ℕ) → IsTrace t → bytes ≡ trace_text t → t.setting ≡ plain → SpellsTrace bytes t
+trace_answered t bytes kept is setting = subst (λ b. SpellsTrace b t) (sym is) (printed_trace_spells t kept setting)
 
-pub program_answered : (p : ProgramValue) (bytes : List ℕ) → IsProgram p → bytes ≡ program_text p → SpellsProgram bytes p
-program_answered p bytes kept is = subst (λ b. SpellsProgram b p) (sym is) (printed_program_spells p kept)
+pub program_answered : (p : ProgramValue) (bytes : List ℕ) → IsProgram p → bytes ≡ program_text p → p.setting ≡ plain → SpellsProgram bytes p
+program_answered p bytes kept is setting = subst (λ b. SpellsProgram b p) (sym is) (printed_program_spells p kept setting)
 
 pub schedule_answered : (acts : List Act) (bytes : List ℕ) → bytes ≡ schedule_text acts → All (λ x. processor_of x ≤ 15) acts → length bytes ≤ text_byte_limit → SpellsSchedule bytes acts
 schedule_answered acts bytes is within short = subst (λ b. SpellsSchedule b acts) (sym is) (printed_schedule_spells acts within (subst (λ b. length b ≤ text_byte_limit) is short))

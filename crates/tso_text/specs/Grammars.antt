@@ -1,12 +1,13 @@
 -- The grammars of traces, programs and schedules.
-use Rattle.std.specs.Prelude.{ℕ, ◌&&◌, Bool, false, nat_lt, min, List, [], ◌∷◌, map, Result, Ok, Err, codes, if◌then◌else◌}
+use Rattle.std.specs.Prelude.{◌≡◌, ℕ, ◌&&◌, Bool, false, nat_lt, min, List, [], ◌∷◌, map, Result, Ok, Err, codes, if◌then◌else◌}
 use Rattle.std.specs.Str.{bytes_eq}
 use Rattle.line_text.specs.Results.{◌>>=◌}
 use Rattle.tso_ops.specs.declared.ops.Op.{Op}
 use Rattle.tso_ops.specs.declared.ops.Op.TheVariants.{Ld as OpLd, St as OpSt, Sw as OpSw, Mb as OpMb}
 use Rattle.tso_ops.specs.declared.ops.Outcome.{Outcome}
 use Rattle.tso_ops.specs.declared.ops.Outcome.TheVariants.{Ld, St, Sw, Mb}
-use Rattle.tso_ops.specs.declared.faults.ValueFault.TheVariants.{TooManyEvents as ManyEvents, AddressRange as PastAddresses, ZeroValue as ZeroStored, RepeatedValue as Repeated}
+use Rattle.tso_ops.specs.declared.faults.ValueFault.TheVariants.{TooManyEvents as ManyEvents, AddressRange as PastAddresses, ZeroValue as ZeroStored, RepeatedValue as Repeated, StbarInTso}
+use Rattle.tso_ops.specs.Settings.{plain}
 use Rattle.tso_ops.specs.Values.{TraceValue, ProgramValue, op_of}
 use Rattle.tso_ops.specs.Limits.{has_fault}
 use Rattle.tso_text.specs.declared.acts.Act.{Act}
@@ -39,12 +40,13 @@ trace_line (word ∷ pieces) =
     else if is_word word (codes "end") then no_number pieces >>= (λ _. Ok End)
     else Err BadLine
 
--- the fault of an operation in texts is that of values
+-- The fault of an operation in texts is that of values of version 1 under TSO, which texts are of. No line spells an STBAR.
 abbrev pub op_fault : List Op → Op → Why → Bool
-op_fault before op TooManyEvents = has_fault before op ManyEvents
-op_fault before op AddressRange = has_fault before op PastAddresses
-op_fault before op ZeroValue = has_fault before op ZeroStored
-op_fault before op RepeatedValue = has_fault before op Repeated
+op_fault before op BadLine = has_fault plain before op StbarInTso
+op_fault before op TooManyEvents = has_fault plain before op ManyEvents
+op_fault before op AddressRange = has_fault plain before op PastAddresses
+op_fault before op ZeroValue = has_fault plain before op ZeroStored
+op_fault before op RepeatedValue = has_fault plain before op Repeated
 op_fault before op _ = false
 
 unfoldable pub outcome_fault : List Outcome → Outcome → Why → Bool
@@ -105,11 +107,12 @@ schedule_grammar = record { header = schedule_header; start = [] ∷ []; said_by
 
 -- ---- what texts spell, and how they are refused
 
+-- a text spells traces and programs of version 1 under TSO
 abbrev pub SpellsTrace : List ℕ → TraceValue → Type 0
-SpellsTrace text t = SpellsLists trace_grammar text t.lists
+SpellsTrace text t = (t.setting ≡ plain) × SpellsLists trace_grammar text t.lists
 
 abbrev pub SpellsProgram : List ℕ → ProgramValue → Type 0
-SpellsProgram text p = SpellsLists program_grammar text p.lists
+SpellsProgram text p = (p.setting ≡ plain) × SpellsLists program_grammar text p.lists
 
 abbrev pub SpellsSchedule : List ℕ → List Act → Type 0
 SpellsSchedule text acts = SpellsLists schedule_grammar text (acts ∷ [])

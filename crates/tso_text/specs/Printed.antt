@@ -4,9 +4,9 @@ use Rattle.std.specs.List.{flat_map}
 use Rattle.std.specs.Fmt.{decimal}
 use Rattle.line_text.specs.Lines.{line_text}
 use Rattle.tso_ops.specs.declared.ops.Op.{Op}
-use Rattle.tso_ops.specs.declared.ops.Op.TheVariants.{Ld as OpLd, St as OpSt, Sw as OpSw, Mb as OpMb}
+use Rattle.tso_ops.specs.declared.ops.Op.TheVariants.{Ld as OpLd, St as OpSt, Sw as OpSw, Mb as OpMb, Sb as OpSb}
 use Rattle.tso_ops.specs.declared.ops.Outcome.{Outcome}
-use Rattle.tso_ops.specs.declared.ops.Outcome.TheVariants.{Ld, St, Sw, Mb}
+use Rattle.tso_ops.specs.declared.ops.Outcome.TheVariants.{Ld, St, Sw, Mb, Sb}
 use Rattle.tso_ops.specs.Values.{TraceValue, ProgramValue}
 use Rattle.tso_text.specs.declared.acts.Act.{Act}
 use Rattle.tso_text.specs.declared.acts.Act.TheVariants.{Issue, Drain}
@@ -17,12 +17,14 @@ outcome_pieces (Ld a r) = codes "ld" ∷ decimal a ∷ decimal r ∷ []
 outcome_pieces (St a v) = codes "st" ∷ decimal a ∷ decimal v ∷ []
 outcome_pieces (Sw a r v) = codes "sw" ∷ decimal a ∷ decimal r ∷ decimal v ∷ []
 outcome_pieces Mb = codes "mb" ∷ []
+outcome_pieces Sb = codes "stbar" ∷ []
 
 abbrev pub op_pieces : Op → List (List ℕ)
 op_pieces (OpLd a) = codes "ld" ∷ decimal a ∷ []
 op_pieces (OpSt a v) = codes "st" ∷ decimal a ∷ decimal v ∷ []
 op_pieces (OpSw a v) = codes "sw" ∷ decimal a ∷ decimal v ∷ []
 op_pieces OpMb = codes "mb" ∷ []
+op_pieces OpSb = codes "stbar" ∷ []
 
 abbrev pub act_pieces : Act → List (List ℕ)
 act_pieces (Issue p) = codes "i" ∷ decimal p ∷ []

@@ -1,7 +1,10 @@
-ghost use Rattle.std.specs.Prelude.{◌≡◌, ◌≢◌, ◌++◌, ◌∷◌, [], ◌≤◌, false, ℕ, List, map, length, All, string_bytes, OnOk, IfOk, IfErr};
+ghost use Rattle.std.specs.Prelude.{◌≡◌, ◌≢◌, ◌++◌, ◌∷◌, [], ◌≤◌, true, false, ℕ, List, map, length, All, string_bytes, OnOk, IfOk, IfErr};
 ghost use Rattle.line_text.specs.Lines.{line_text};
 ghost use Rattle.tso_ops.specs.declared.limits.Tally.{Tally};
 ghost use Rattle.tso_ops.specs.declared.faults.ValueFault.{ValueFault};
+ghost use Rattle.tso_ops.specs.declared.settings.Order.TheVariants.{Tso};
+ghost use Rattle.tso_ops.specs.Limits.{is_stbar_in_tso};
+ghost use Rattle.tso_ops.specs.Settings.{plain};
 ghost use Rattle.tso_ops.specs.Tally.{Admitted};
 ghost use Rattle.tso_ops.specs.Values.{rows, op_of, ReadFits};
 ghost use Rattle.tso_text.specs.Grammars.{trace_grammar, program_grammar, schedule_grammar, processor_of};
@@ -58,7 +61,7 @@ pub(crate) trait Form: Copy {
 impl Form for Outcome {
     ghost grammar = { trace_grammar };
 
-    ghost keeps = { λ tally items. Admitted tally (map op_of items) × All ReadFits items };
+    ghost keeps = { λ tally items. Admitted plain tally (map op_of items) × All ReadFits items };
 
     ghost pieces = { outcome_pieces };
 
@@ -106,18 +109,21 @@ impl Form for Outcome {
             Outcome::St { a, v } => writeln!(text, "st {a} {v}"),
             Outcome::Sw { a, r, v } => writeln!(text, "sw {a} {r} {v}"),
             Outcome::Mb => writeln!(text, "mb"),
+            Outcome::Sb => writeln!(text, "stbar"),
         }
     }
 
     fn admit(self, tally: &mut Tally) -> Result<(), Why> {
-        Ok(tally.admit(op_of(self))?)
+        let op = op_of(self);
+        no_stbar(op)?;
+        Ok(tally.admit(op)?)
     }
 }
 
 impl Form for Op {
     ghost grammar = { program_grammar };
 
-    ghost keeps = { λ tally items. Admitted tally items };
+    ghost keeps = { λ tally items. Admitted plain tally items };
 
     ghost pieces = { op_pieces };
 
@@ -161,10 +167,12 @@ impl Form for Op {
             Op::St { a, v } => writeln!(text, "st {a} {v}"),
             Op::Sw { a, v } => writeln!(text, "sw {a} {v}"),
             Op::Mb => writeln!(text, "mb"),
+            Op::Sb => writeln!(text, "stbar"),
         }
     }
 
     fn admit(self, tally: &mut Tally) -> Result<(), Why> {
+        no_stbar(self)?;
         Ok(tally.admit(self)?)
     }
 }
@@ -172,7 +180,7 @@ impl Form for Op {
 impl Form for Act {
     ghost grammar = { schedule_grammar };
 
-    ghost keeps = { λ tally items. Admitted tally [] };
+    ghost keeps = { λ tally items. Admitted plain tally [] };
 
     ghost pieces = { act_pieces };
 
@@ -229,7 +237,20 @@ impl From<ValueFault> for Why {
             ValueFault::ZeroValue => Why::ZeroValue,
             ValueFault::RepeatedValue => Why::RepeatedValue,
             ValueFault::OutOfMemory => Why::OutOfMemory,
+            // No text says either: the word `stbar` and the line `init` are bad lines.
+            ValueFault::StbarInTso | ValueFault::InitOrder => Why::BadLine,
         }
+    }
+}
+
+/// Refuses an STBAR, which no line spells.
+fn no_stbar(op: Op) -> Result<(), Why>
+    ensures none { OnOk result (is_stbar_in_tso Tso op ≡ false) }
+    ensures refused { IfErr result (λ why. (why ≡ Why.BadLine) × (is_stbar_in_tso Tso op ≡ true)) }
+{
+    match op {
+        Op::Sb => Err(Why::BadLine),
+        Op::Ld { .. } | Op::St { .. } | Op::Sw { .. } | Op::Mb => Ok(()),
     }
 }
 
@@ -252,5 +273,6 @@ fn op_of(outcome: Outcome) -> Op
         Outcome::St { a, v } => Op::St { a, v },
         Outcome::Sw { a, v, .. } => Op::Sw { a, v },
         Outcome::Mb => Op::Mb,
+        Outcome::Sb => Op::Sb,
     }
 }

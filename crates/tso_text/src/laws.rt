@@ -2,6 +2,7 @@
 
 ghost use Rattle.std.specs.Prelude.{◌≡◌, ◌⊎◌, ◌≤◌, ℕ, List, All, length};
 ghost use Rattle.tso_ops.specs.Limits.{IsTrace, IsProgram};
+ghost use Rattle.tso_ops.specs.Settings.{plain};
 ghost use Rattle.tso_ops.specs.Values.{TraceValue, ProgramValue};
 ghost use Rattle.tso_text.specs.Grammars.{processor_of, SpellsTrace, SpellsProgram, SpellsSchedule, IsTraceRefusal, IsProgramRefusal, IsScheduleRefusal, IsSpelledTrace, IsRefusedTrace, IsSpelledProgram, IsRefusedProgram, IsSpelledSchedule, IsRefusedSchedule};
 ghost use Rattle.tso_text.specs.Printed.{trace_text, program_text, schedule_text};
@@ -10,28 +11,28 @@ ghost use Rattle.tso_text.specs.declared.acts.Act.{Act};
 ghost use Rattle.tso_text.specs.declared.faults.Why.{Why};
 
 /// Each text spells a trace or is refused, never both; it spells one trace, and gets one refusal;
-/// what it spells keeps the limits of a trace; what spells a trace is its printed text, and the printed text of a trace
-/// within the limits spells it.
+/// what it spells keeps the limits of a trace of version 1 under TSO; what spells a trace is its printed text, and the
+/// printed text of such a trace spells it.
 pub fn traces()
     ensures spelled_or_refused { (text : List ℕ) → IsSpelledTrace text ⊎ IsRefusedTrace text }
     ensures never_both { (text : List ℕ) → IsSpelledTrace text → IsRefusedTrace text → ⊥ }
     ensures one_value { (text : List ℕ) (t u : TraceValue) → SpellsTrace text t → SpellsTrace text u → t ≡ u }
     ensures one_text { (text : List ℕ) (t : TraceValue) → SpellsTrace text t → text ≡ trace_text t }
     ensures lawful { (text : List ℕ) (t : TraceValue) → SpellsTrace text t → IsTrace t }
-    ensures printed { (t : TraceValue) → IsTrace t → SpellsTrace (trace_text t) t }
+    ensures printed { (t : TraceValue) → IsTrace t → t.setting ≡ plain → SpellsTrace (trace_text t) t }
     ensures one_refusal { (text : List ℕ) (j k : ℕ) (v w : Why) → IsTraceRefusal text j v → IsTraceRefusal text k w → (j ≡ k) × (v ≡ w) }
 {}
 
 /// Each text spells a program or is refused, never both; it spells one program, and gets one refusal;
-/// what it spells keeps the limits of a program; what spells a program is its printed text, and the printed text of a
-/// program within the limits spells it.
+/// what it spells keeps the limits of a program of version 1 under TSO; what spells a program is its printed text, and
+/// the printed text of such a program spells it.
 pub fn programs()
     ensures spelled_or_refused { (text : List ℕ) → IsSpelledProgram text ⊎ IsRefusedProgram text }
     ensures never_both { (text : List ℕ) → IsSpelledProgram text → IsRefusedProgram text → ⊥ }
     ensures one_value { (text : List ℕ) (p q : ProgramValue) → SpellsProgram text p → SpellsProgram text q → p ≡ q }
     ensures one_text { (text : List ℕ) (p : ProgramValue) → SpellsProgram text p → text ≡ program_text p }
     ensures lawful { (text : List ℕ) (p : ProgramValue) → SpellsProgram text p → IsProgram p }
-    ensures printed { (p : ProgramValue) → IsProgram p → SpellsProgram (program_text p) p }
+    ensures printed { (p : ProgramValue) → IsProgram p → p.setting ≡ plain → SpellsProgram (program_text p) p }
     ensures one_refusal { (text : List ℕ) (j k : ℕ) (v w : Why) → IsProgramRefusal text j v → IsProgramRefusal text k w → (j ≡ k) × (v ≡ w) }
 {}
 

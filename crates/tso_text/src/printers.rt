@@ -1,4 +1,5 @@
 ghost use Rattle.std.specs.Prelude.{◌≡◌, ◌++◌, ◌≤◌, All, length, string_bytes, OnOk, IfOk};
+ghost use Rattle.tso_ops.specs.Settings.{plain};
 ghost use Rattle.tso_text.specs.Grammars.{processor_of, SpellsTrace, SpellsProgram, SpellsSchedule};
 ghost use Rattle.tso_text.specs.Printed.{items_text, processor_text, trace_text, program_text, schedule_text};
 ghost use Rattle.tso_text.specs.Spelling.{text_byte_limit};
@@ -9,10 +10,11 @@ use std::alloc::Global;
 use std::fmt::Write;
 use tso_ops::{OutOfMemory, Program, Trace};
 
-/// The text of a trace. It spells the trace. OutOfMemory where an allocation was refused.
+/// The text of a trace. It spells a trace of version 1 under TSO: there are no texts of others yet. OutOfMemory where an
+/// allocation was refused.
 pub fn print_trace(alloc: Global, trace: &Trace) -> Result<String, OutOfMemory>
     ensures lines { IfOk result (λ text. string_bytes text ≡ trace_text trace.now) }
-    ensures spelled { IfOk result (λ text. SpellsTrace (string_bytes text) trace.now) }
+    ensures spelled { IfOk result (λ text. trace.now.setting ≡ plain → SpellsTrace (string_bytes text) trace.now) }
 {
     let mut text = String::from_str(alloc, "tso trace 1\n")?;
     for p in 0..trace.processors() {
@@ -22,10 +24,11 @@ pub fn print_trace(alloc: Global, trace: &Trace) -> Result<String, OutOfMemory>
     Ok(text)
 }
 
-/// The text of a program. It spells the program. OutOfMemory where an allocation was refused.
+/// The text of a program. It spells a program of version 1 under TSO: there are no texts of others yet. OutOfMemory where
+/// an allocation was refused.
 pub fn print_program(alloc: Global, program: &Program) -> Result<String, OutOfMemory>
     ensures lines { IfOk result (λ text. string_bytes text ≡ program_text program.now) }
-    ensures spelled { IfOk result (λ text. SpellsProgram (string_bytes text) program.now) }
+    ensures spelled { IfOk result (λ text. program.now.setting ≡ plain → SpellsProgram (string_bytes text) program.now) }
 {
     let mut text = String::from_str(alloc, "tso program 1\n")?;
     for p in 0..program.processors() {

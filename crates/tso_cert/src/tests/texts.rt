@@ -1,5 +1,5 @@
 //! The worked examples of the texts of certificates: read and printed back, or refused with their line.
-use crate::BaseRule::{Init, Membar};
+use crate::BaseRule::{Init, Membar, Stbar};
 use crate::InferredRule::{StorePast, SwapBefore};
 use crate::{
     BaseRule, CertStep, Certificate, InferredRule, NumList, Reason, StepList, TextFault, Why,
@@ -51,12 +51,16 @@ fn certificate(
 #[test]
 fn read_and_printed_back(rt: HostRuntime) -> Result<(), Fail> {
     let alloc = rt.alloc();
-    let cases: [(&str, &str); 13] = [
+    let cases: [(&str, &str); 14] = [
         ("unwritten_load", "unwritten 1\n"),
         ("store_buffering_with_barriers", BARRIERS),
         (
             "message_passing_stale",
             "1 init 1 Init\n2 1 2 StoreStore\n3 2 3 Read\n4 3 4 LoadOp\n5 1 init LoadPast 4 1 2 3 4\ncycle init 1\n",
+        ),
+        (
+            "pso_with_stbar",
+            "1 init 1 Init\n2 1 2 Stbar\n3 2 3 Read\n4 3 4 LoadOp\n5 1 init LoadPast 4 1 2 3 4\ncycle init 1\n",
         ),
         (
             "independent_reads",
@@ -151,9 +155,27 @@ fn read_as_built_by_hand(rt: HostRuntime) -> Result<(), Fail> {
 }
 
 #[test]
+fn the_rule_of_an_stbar(rt: HostRuntime) -> Result<(), Fail> {
+    let alloc = rt.alloc();
+    let text = "1 1 2 Stbar\ncycle 1 2\n";
+    let steps = vec![in alloc; base(1, 2, Stbar)]?;
+    let built = certificate(alloc, steps, &[1, 2])?;
+    assert_eq!(rt; print_cert(alloc, &built)?.as_str(), text);
+    let Certificate::Cycle { steps, .. } = read_cert(alloc, text.as_bytes())? else {
+        return Err("a cycle")?;
+    };
+    assert_eq!(rt; steps.items().len(), 1);
+    match &steps.items()[0].reason {
+        Reason::Base(rule) => assert_eq!(rt; *rule, Stbar),
+        Reason::Inferred { .. } => return Err("a base reason")?,
+    }
+    Ok(())
+}
+
+#[test]
 fn refused_with_their_line(rt: HostRuntime) -> Result<(), Fail> {
     let alloc = rt.alloc();
-    let cases: [(&str, usize, Why); 36] = [
+    let cases: [(&str, usize, Why); 38] = [
         ("", 1, Why::NoCycle),
         ("1 init 1 Init\n", 2, Why::NoCycle),
         ("\n", 1, Why::BadLine),
@@ -186,6 +208,8 @@ fn refused_with_their_line(rt: HostRuntime) -> Result<(), Fail> {
         ("1 2 3 StorePast 02 init 3\ncycle 2\n", 1, Why::BadNumber),
         ("1 1 2 LoadOp 3\ncycle 1\n", 1, Why::BadRule),
         ("1 1 2 Loadop\ncycle 1\n", 1, Why::BadRule),
+        ("1 1 2 STBAR\ncycle 1\n", 1, Why::BadRule),
+        ("1 1 2 Stbar 3\ncycle 1\n", 1, Why::BadRule),
         ("1 1 2 LoadPast\ncycle 1\n", 1, Why::BadRule),
         ("1 init 1 Init\r\ncycle 1\n", 1, Why::BadRule),
         ("cycle 1\n\n", 2, Why::AfterCycle),

@@ -4,8 +4,8 @@ ghost use Rattle.tso_model.specs.Rules.{IsOwnBy, BasePair};
 ghost use Rattle.tso_model.specs.Certs.{IsFirstBase};
 
 use crate::plain::events::{
-    has_barrier_between, has_source, is_earlier, is_event, is_load, is_store, node_count,
-    same_address,
+    has_barrier_between, has_source, has_stbar_between, is_earlier, is_event, is_load, is_store,
+    keeps_stores, node_count, same_address,
 };
 use tso_cert::BaseRule;
 use tso_ops::Trace;
@@ -18,6 +18,7 @@ pub fn is_base_pair(trace: &Trace, rule: BaseRule, u: usize, v: usize) -> bool
         BaseRule::Init => is_init_pair(trace, u, v),
         BaseRule::LoadOp => is_load_op_pair(trace, u, v),
         BaseRule::StoreStore => is_store_store_pair(trace, u, v),
+        BaseRule::Stbar => is_stbar_pair(trace, u, v),
         BaseRule::Membar => is_membar_pair(trace, u, v),
         BaseRule::Read => is_read_pair(trace, u, v),
         BaseRule::Own => is_own_pair(trace, u, v),
@@ -34,6 +35,8 @@ pub fn first_base_rule(trace: &Trace, u: usize, v: usize) -> Option<BaseRule>
         Some(BaseRule::LoadOp)
     } else if is_store_store_pair(trace, u, v) {
         Some(BaseRule::StoreStore)
+    } else if is_stbar_pair(trace, u, v) {
+        Some(BaseRule::Stbar)
     } else if is_membar_pair(trace, u, v) {
         Some(BaseRule::Membar)
     } else if is_read_pair(trace, u, v) {
@@ -59,11 +62,21 @@ fn is_load_op_pair(trace: &Trace, u: usize, v: usize) -> bool
     is_load(trace, u) && is_earlier(trace, u, v)
 }
 
-/// Whether `u` is a store and `v` a program-later store.
+/// Whether `u` is a store and `v` a program-later store, in the order that the memory model keeps without an STBAR.
 fn is_store_store_pair(trace: &Trace, u: usize, v: usize) -> bool
     ensures { IsTrue result ↔ BasePair trace.now BaseRule.StoreStore u v }
 {
-    is_store(trace, u) && is_store(trace, v) && is_earlier(trace, u, v)
+    is_store(trace, u) && is_store(trace, v) && is_earlier(trace, u, v) && keeps_stores(trace, u, v)
+}
+
+/// Whether `u` is a store and `v` a program-later store after an STBAR.
+fn is_stbar_pair(trace: &Trace, u: usize, v: usize) -> bool
+    ensures { IsTrue result ↔ BasePair trace.now BaseRule.Stbar u v }
+{
+    is_store(trace, u)
+        && is_store(trace, v)
+        && is_earlier(trace, u, v)
+        && has_stbar_between(trace, u, v)
 }
 
 /// Whether `u` is a store and `v` a program-later load after a barrier.

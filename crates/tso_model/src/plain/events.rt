@@ -1,8 +1,8 @@
 //! Tests of what the specs define of events.
 ghost use Rattle.std.specs.Prelude.{◌≡◌, ◌↔◌, ℕ, suc, IsTrue, MatchOption};
-ghost use Rattle.tso_ops.specs.Events.{event_total, IsEvent, IsLoad, IsStore, IsSwapLoad, HasValue, SameAddress, SameValue, Earlier, HasFewerBarriersBefore, HasSource, IsUnwritten};
+ghost use Rattle.tso_ops.specs.Events.{event_total, IsEvent, IsLoad, IsStore, IsSwapLoad, HasFirstValue, SameAddress, SameValue, Earlier, HasFewerBarriersBefore, HasFewerStbarsBefore, KeepsStores, HasSource, IsUnwritten};
 
-use tso_ops::Trace;
+use tso_ops::{Order, Trace};
 
 /// One more than the number of events: the numbers of `init` and of the events lie below it.
 pub fn node_count(trace: &Trace) -> usize
@@ -42,11 +42,11 @@ pub fn swap_store(trace: &Trace, l: usize) -> Option<usize>
     }
 }
 
-/// Whether event `n` read or stored the value.
-pub fn has_value(trace: &Trace, n: usize, value: u64) -> bool
-    ensures { IsTrue result ↔ HasValue trace.now n value }
+/// Whether event `n` read or stored the first value of its address.
+pub fn has_first_value(trace: &Trace, n: usize) -> bool
+    ensures { IsTrue result ↔ HasFirstValue trace.now n }
 {
-    trace.event(n).is_some_and(|e| e.value == value)
+    trace.event(n).is_some_and(|e| e.value == trace.first(e.a))
 }
 
 /// Whether the events have one address.
@@ -89,12 +89,32 @@ pub fn has_barrier_between(trace: &Trace, u: usize, v: usize) -> bool
     }
 }
 
+/// Whether an STBAR stands between the events, of which `u` is program-earlier.
+pub fn has_stbar_between(trace: &Trace, u: usize, v: usize) -> bool
+    ensures { IsTrue result ↔ HasFewerStbarsBefore trace.now u v }
+{
+    match (trace.event(u), trace.event(v)) {
+        (Some(d), Some(e)) => d.stbars < e.stbars,
+        _ => false,
+    }
+}
+
+/// Whether the memory model keeps the program order of the stores `u` and `v` without an STBAR.
+pub fn keeps_stores(trace: &Trace, u: usize, v: usize) -> bool
+    ensures { IsTrue result ↔ KeepsStores trace.now u v }
+{
+    match trace.order() {
+        Order::Tso => true,
+        Order::Pso => same_address(trace, u, v),
+    }
+}
+
 /// Whether number `s`, 0 or a store, wrote the value that load `l` read.
 pub fn has_source(trace: &Trace, l: usize, s: usize) -> bool
     ensures { IsTrue result ↔ HasSource trace.now l s }
 {
     if s == 0 {
-        is_load(trace, l) && has_value(trace, l, 0)
+        is_load(trace, l) && has_first_value(trace, l)
     } else {
         is_load(trace, l)
             && is_store(trace, s)

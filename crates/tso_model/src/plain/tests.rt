@@ -8,6 +8,8 @@ use std::test::Fail;
 use tso_cert::BaseRule;
 use tso_ops::{Outcome, Trace};
 
+mod settings;
+
 const BARRIER: Outcome = Outcome::Mb;
 
 fn ld(a: u16, r: u64) -> Outcome {
@@ -22,13 +24,18 @@ fn sw(a: u16, r: u64, v: u64) -> Outcome {
     Outcome::Sw { a, r, v }
 }
 
-/// The trace of processors that did this.
-fn trace_of(alloc: Global, rows: &[&[Outcome]]) -> Result<Trace, Fail> {
+/// The lists of what processors did.
+fn lists_of(alloc: Global, rows: &[&[Outcome]]) -> Result<Vec<Vec<Outcome>>, Fail> {
     let mut lists = Vec::new(alloc);
     for row in rows {
         lists.push(row.to_vec(alloc)?)?;
     }
-    Ok(Trace::new(alloc, lists)?)
+    Ok(lists)
+}
+
+/// The trace of processors that did this.
+fn trace_of(alloc: Global, rows: &[&[Outcome]]) -> Result<Trace, Fail> {
+    Ok(Trace::new(alloc, lists_of(alloc, rows)?)?)
 }
 
 fn own_store_missed(alloc: Global) -> Result<Trace, Fail> {

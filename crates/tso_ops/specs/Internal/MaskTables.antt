@@ -4,7 +4,7 @@ use Rattle.tso_ops.specs.declared.events.Event.{Event}
 use Rattle.tso_ops.specs.declared.events.Source.{Source}
 use Rattle.tso_ops.specs.declared.events.Source.TheVariants.{Init, Store, Unwritten}
 use Rattle.tso_ops.specs.declared.masks.Kind.{Kind}
-use Rattle.tso_ops.specs.declared.masks.Kind.TheVariants.{Loads, Stores, SwapLoads, Processors, Barriers, AllStores}
+use Rattle.tso_ops.specs.declared.masks.Kind.TheVariants.{Loads, Stores, SwapLoads, Processors, Barriers, Stbars, AllStores}
 use Rattle.tso_ops.specs.declared.masks.Masks.{Masks}
 use Rattle.tso_ops.specs.Values.{TraceValue, rows}
 use Rattle.tso_ops.specs.Events.{event_at, HasSource}
@@ -17,6 +17,7 @@ IsInRow Stores r e = IsFalse e.load × (e.a ≡ r)
 IsInRow SwapLoads r e = IsTrue e.load × IsTrue e.swap × (r ≡ 0)
 IsInRow Processors r e = e.proc ≡ r
 IsInRow Barriers r e = e.bars ≡ r
+IsInRow Stbars r e = e.stbars ≡ r
 IsInRow AllStores r e = IsFalse e.load × (r ≡ 0)
 
 -- the event of this number is one of row r
@@ -68,5 +69,6 @@ pub record AreMasks (t : TraceValue) (masks : Masks) : Type 0 where
   pub swap_loads : AreMaskRows (IsOfRow t SwapLoads) (rows masks.swap_loads.items)
   pub processors : AreMaskRows (IsOfRow t Processors) (rows masks.processors.items)
   pub barriers : AreMaskRows (IsOfRow t Barriers) (rows masks.barriers.items)
+  pub stbars : AreMaskRows (IsOfRow t Stbars) (rows masks.stbars.items)
   pub all_stores : AreMaskRows (IsOfRow t AllStores) (rows masks.all_stores.items)
   pub readers : AreMaskRows (IsReadFrom t) (rows masks.readers.items)

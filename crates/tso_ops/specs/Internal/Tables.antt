@@ -6,6 +6,7 @@ use Rattle.std.specs.BTreeMap.{BTreeMap, get}
 use Rattle.tso_ops.specs.declared.ops.Outcome.{Outcome}
 use Rattle.tso_ops.specs.declared.events.Event.{Event}
 use Rattle.tso_ops.specs.declared.events.Source.{Source}
+use Rattle.tso_ops.specs.Settings.{SettingValue}
 use Rattle.tso_ops.specs.Values.{TraceValue, rows, trace_of_lists}
 use Rattle.tso_ops.specs.Limits.{IsTrace}
 use Rattle.tso_ops.specs.declared.masks.Masks.{Masks}
@@ -37,8 +38,8 @@ pub record AreSources (t : TraceValue) (sources : List (Option Source)) : Type 0
   pub each : (k : ℕ) (row : Option Source) → slice_get sources k ≡ Some row → IsSourceRow t (suc k) row
 
 -- What the type `Trace` keeps.
-pub record IsTabled (lists : List (Vec Outcome)) (events : List Event) (sources : List (Option Source)) (masks : Masks) : Type 0 where
-  pub trace : IsTrace (trace_of_lists (rows lists))
-  pub events_are : events ≡ events_of (trace_of_lists (rows lists))
-  pub sources_are : AreSources (trace_of_lists (rows lists)) sources
-  pub masks_are : AreMasks (trace_of_lists (rows lists)) masks
+pub record IsTabled (setting : SettingValue) (lists : List (Vec Outcome)) (events : List Event) (sources : List (Option Source)) (masks : Masks) : Type 0 where
+  pub trace : IsTrace (trace_of_lists setting (rows lists))
+  pub events_are : events ≡ events_of (trace_of_lists setting (rows lists))
+  pub sources_are : AreSources (trace_of_lists setting (rows lists)) sources
+  pub masks_are : AreMasks (trace_of_lists setting (rows lists)) masks

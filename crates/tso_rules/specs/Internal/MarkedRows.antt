@@ -2,8 +2,9 @@
 use Rattle.std.specs.Prelude.{Bool, ◌≡◌, ◌≢◌, ◌⊎◌, ◌↔◌, ℕ, ◌/◌, ◌%◌, ◌<◌, ◌≤◌, List, false, IsTrue, slice_index_or}
 use Rattle.tso_ops.specs.Values.{TraceValue}
 use Rattle.tso_ops.specs.declared.events.Event.{Event}
-use Rattle.tso_ops.specs.Events.{HasSource, IsStore, HasBarriersBefore}
-use Rattle.tso_cert.specs.declared.rules.BaseRule.TheVariants.{LoadOp, StoreStore, Membar, Read}
+use Rattle.tso_ops.specs.declared.settings.Order.TheVariants.{Tso}
+use Rattle.tso_ops.specs.Events.{HasSource, IsStore, IsStoreTo, HasBarriersBefore, HasStbarsBefore}
+use Rattle.tso_cert.specs.declared.rules.BaseRule.TheVariants.{LoadOp, StoreStore, Stbar, Membar, Read}
 use Rattle.tso_cert.specs.declared.rules.InferredRule.{InferredRule}
 use Rattle.tso_cert.specs.declared.rules.InferredRule.TheVariants.{LoadPast}
 use Rattle.order_graph.specs.BitRows.{HasBit, HasNumber}
@@ -22,11 +23,17 @@ pub record Marks (old new : List ℕ) (To : ℕ → Type 0) : Type 0 where
 
 -- program order gives the edge
 abbrev pub IsLater : TraceValue → ℕ → ℕ → Type 0
-IsLater t u v = BasePair t LoadOp u v ⊎ BasePair t StoreStore u v ⊎ BasePair t Membar u v
+IsLater t u v = BasePair t LoadOp u v ⊎ BasePair t StoreStore u v ⊎ BasePair t Stbar u v ⊎ BasePair t Membar u v
 
--- program order puts number n after the event, if it is program-later
+-- the memory model keeps store n after the event, a store, without an STBAR, if it is program-later
+abbrev pub IsKeptStore : TraceValue → Event → ℕ → Type 0
+IsKeptStore t event n = IsStore t n × ((t.setting.order ≡ Tso) ⊎ IsStoreTo t event.a n)
+
+-- program order puts number n after the event, if it is program-later: after a load, and after a store each store that the model keeps or that
+-- has more STBARs before it, and each load that has more barriers before it
 abbrev pub IsOrdered : TraceValue → Event → ℕ → Type 0
-IsOrdered t event n = IsTrue event.load ⊎ IsStore t n ⊎ (HasBarriersBefore t event.bars n → ⊥)
+IsOrdered t event n =
+    IsTrue event.load ⊎ IsKeptStore t event n ⊎ (IsStore t n × (HasStbarsBefore t event.stbars n → ⊥)) ⊎ ((IsStore t n → ⊥) × (HasBarriersBefore t event.bars n → ⊥))
 
 -- load l gives the edge from store u: the load reads it, or reads past it what v wrote
 abbrev pub IsReadBy : TraceValue → ℕ → ℕ → ℕ → Type 0

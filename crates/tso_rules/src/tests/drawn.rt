@@ -9,7 +9,7 @@ use tso_cert::Reason;
 use tso_model::plain::{
     base_edges, first_base_rule, has_edge, is_inferred_pair, new_edges, node_count, rank_set,
 };
-use tso_ops::{Outcome, Trace};
+use tso_ops::{Order, Outcome, Trace};
 
 /// The next of a row of numbers that looks like chance.
 fn next_word(word: u64) -> u64 {
@@ -17,14 +17,52 @@ fn next_word(word: u64) -> u64 {
         .wrapping_add(1442695040888963407)
 }
 
+/// How traces are drawn: their memory model, and whether the addresses 0 and 1 have the first values 8 and 9.
+#[derive(Clone, Copy)]
+struct Drawn {
+    order: Order,
+    has_first: bool,
+}
+
+const UNDER_TSO: Drawn = Drawn {
+    order: Order::Tso,
+    has_first: false,
+};
+
+const UNDER_PSO: Drawn = Drawn {
+    order: Order::Pso,
+    has_first: false,
+};
+
+const WITH_FIRST_VALUES: Drawn = Drawn {
+    order: Order::Tso,
+    has_first: true,
+};
+
+const UNDER_PSO_WITH_FIRST_VALUES: Drawn = Drawn {
+    order: Order::Pso,
+    has_first: true,
+};
+
+/// The barrier that the word draws, of the kinds that the memory model has.
+fn drawn_barrier(drawn: Drawn, word: u64) -> Outcome {
+    match drawn.order {
+        Order::Tso => Outcome::Mb,
+        Order::Pso if (word >> 36) % 4 == 0 => Outcome::Mb,
+        Order::Pso => Outcome::Sb,
+    }
+}
+
 /// The outcome that the word draws. A value that is stored stands at address 0 if it is even, else at address 1, and a
 /// load draws among the values that can stand at its address.
-fn drawn_outcome(word: u64, value: u64) -> Outcome {
+fn drawn_outcome(drawn: Drawn, word: u64, value: u64) -> Outcome {
+    let first = if drawn.has_first { 8 } else { 0 };
+    let odd = if drawn.has_first { 1 } else { 0 };
     let stored_at = (value % 2) as u16;
     let loaded_at = (word >> 40) % 2;
     let below = (word >> 45) % 3 * 2;
     match (word >> 33) % 8 {
-        0 => Outcome::Mb,
+        0 => drawn_barrier(drawn, word),
         1 => Outcome::Sw {
             a: stored_at,
             r: below + value % 2,
@@ -32,7 +70,7 @@ fn drawn_outcome(word: u64, value: u64) -> Outcome {
         },
         2 => Outcome::Sw {
             a: stored_at,
-            r: 0,
+            r: first + odd * (value % 2),
             v: value,
         },
         3 | 4 => Outcome::St {
@@ -41,7 +79,7 @@ fn drawn_outcome(word: u64, value: u64) -> Outcome {
         },
         5 => Outcome::Ld {
             a: loaded_at as u16,
-            r: 0,
+            r: first + odd * loaded_at,
         },
         _ => Outcome::Ld {
             a: loaded_at as u16,
@@ -51,14 +89,19 @@ fn drawn_outcome(word: u64, value: u64) -> Outcome {
 }
 
 /// A trace of six operations on up to three processors.
-fn drawn_trace(alloc: Global, seed: u64) -> Result<Trace, Fail> {
+fn drawn_trace(alloc: Global, drawn: Drawn, seed: u64) -> Result<Trace, Fail> {
     let mut lists: [Vec<Outcome>; 3] = [Vec::new(alloc), Vec::new(alloc), Vec::new(alloc)];
     let mut word = next_word(seed);
     for value in 1..7 {
         word = next_word(word);
-        lists[(word >> 50) as usize % 3].push(drawn_outcome(word, value))?;
+        lists[(word >> 50) as usize % 3].push(drawn_outcome(drawn, word, value))?;
     }
-    Ok(Trace::new(alloc, Vec::from_array(alloc, lists)?)?)
+    let lists = Vec::from_array(alloc, lists)?;
+    if !drawn.has_first {
+        return Ok(Trace::with_order(alloc, drawn.order, lists)?);
+    }
+    let first = vec![in alloc; (0, 8), (1, 9)]?;
+    Ok(Trace::with_first(alloc, drawn.order, first, lists)?)
 }
 
 /// The numbers below `nodes` to which the edges lead from `u`, ascending.
@@ -171,24 +214,54 @@ fn compare(rt: &impl Abort, alloc: Global, trace: &Trace) -> Result<usize, Alloc
     Ok(rank)
 }
 
-#[test]
-fn rows_as_by_the_plain_program(rt: HostRuntime) -> Result<(), Fail> {
+/// Compares the rows of drawn traces.
+fn compare_drawn(rt: &impl Abort, alloc: Global, drawn: Drawn) -> Result<(), Fail> {
     let mut most = 0;
-    for seed in 0..300 {
-        let trace = drawn_trace(rt.alloc(), seed)?;
-        most = most.max(compare(&rt, rt.alloc(), &trace)?);
+    for seed in 0..200 {
+        let trace = drawn_trace(alloc, drawn, seed)?;
+        most = most.max(compare(rt, alloc, &trace)?);
     }
     assert!(rt; (2..99).contains(&most), "{most} rounds at most");
     Ok(())
 }
 
 #[test]
-fn reasons_as_by_the_plain_program(rt: HostRuntime) -> Result<(), Fail> {
+fn rows_as_by_the_plain_program(rt: HostRuntime) -> Result<(), Fail> {
+    compare_drawn(&rt, rt.alloc(), UNDER_TSO)
+}
+
+#[test]
+fn rows_under_pso_as_by_the_plain_program(rt: HostRuntime) -> Result<(), Fail> {
+    compare_drawn(&rt, rt.alloc(), UNDER_PSO)
+}
+
+#[test]
+fn rows_with_first_values_as_by_the_plain_program(rt: HostRuntime) -> Result<(), Fail> {
+    compare_drawn(&rt, rt.alloc(), WITH_FIRST_VALUES)
+}
+
+#[test]
+fn rows_with_both_as_by_the_plain_program(rt: HostRuntime) -> Result<(), Fail> {
+    compare_drawn(&rt, rt.alloc(), UNDER_PSO_WITH_FIRST_VALUES)
+}
+
+/// Compares the justifications of drawn traces.
+fn compare_drawn_reasons(rt: &impl Abort, alloc: Global, drawn: Drawn) -> Result<(), Fail> {
     for seed in 0..30 {
-        let trace = drawn_trace(rt.alloc(), seed)?;
+        let trace = drawn_trace(alloc, drawn, seed)?;
         for rank in 0..3 {
-            compare_reasons(&rt, rt.alloc(), &trace, rank)?;
+            compare_reasons(rt, alloc, &trace, rank)?;
         }
     }
     Ok(())
+}
+
+#[test]
+fn reasons_as_by_the_plain_program(rt: HostRuntime) -> Result<(), Fail> {
+    compare_drawn_reasons(&rt, rt.alloc(), UNDER_TSO)
+}
+
+#[test]
+fn reasons_under_pso_as_by_the_plain_program(rt: HostRuntime) -> Result<(), Fail> {
+    compare_drawn_reasons(&rt, rt.alloc(), UNDER_PSO)
 }

@@ -2,9 +2,9 @@
 use Rattle.std.specs.Prelude.{◌≡◌, ◌⊎◌, ℕ, ◌<◌, ◌≤◌, Bool, true, false, List, length, Ok}
 use Rattle.tso_ops.specs.declared.limits.Tally.{Tally}
 use Rattle.tso_ops.specs.declared.faults.ValueFault.{ValueFault}
-use Rattle.tso_ops.specs.declared.faults.ValueFault.TheVariants.{TooManyProcessors as ManyProcessors, TooManyEvents as ManyEvents, AddressRange as PastAddresses, ZeroValue as ZeroStored, RepeatedValue as Repeated, OutOfMemory as NoMemory}
+use Rattle.tso_ops.specs.declared.faults.ValueFault.TheVariants.{TooManyProcessors as ManyProcessors, TooManyEvents as ManyEvents, AddressRange as PastAddresses, ZeroValue as ZeroStored, RepeatedValue as Repeated, OutOfMemory as NoMemory, StbarInTso, InitOrder}
 use Rattle.tso_text.specs.declared.faults.Why.{Why}
-use Rattle.tso_text.specs.declared.faults.Why.TheVariants.{TooManyProcessors, TooManyEvents, AddressRange, ZeroValue, RepeatedValue, OutOfMemory}
+use Rattle.tso_text.specs.declared.faults.Why.TheVariants.{BadLine, TooManyProcessors, TooManyEvents, AddressRange, ZeroValue, RepeatedValue, OutOfMemory}
 use Rattle.tso_text.specs.declared.lines.Line.{Line}
 use Rattle.tso_text.specs.Spelling.{Grammar, said, said_fault, line_fault, with_line, is_end, items_of, text_fault_number}
 
@@ -16,6 +16,8 @@ why_of PastAddresses = AddressRange
 why_of ZeroStored = ZeroValue
 why_of Repeated = RepeatedValue
 why_of NoMemory = OutOfMemory
+why_of StbarInTso = BadLine
+why_of InitOrder = BadLine
 
 -- the fault of the least number, of those that a test finds
 pub record IsFirstTextFault (has : Why → Bool) (why : Why) : Type 0 where

@@ -321,3 +321,18 @@ fn events_at_their_limit(rt: HostRuntime) -> Result<(), Fail> {
     );
     Ok(())
 }
+
+/// pso_stbar_under_tso and first_values_in_version_1: no line of version 1 under TSO says either.
+#[test]
+fn stbars_and_first_values_are_bad_lines(rt: HostRuntime) -> Result<(), Fail> {
+    let alloc = rt.alloc();
+    assert_eq!(rt;
+        trace_fault(alloc, b"tso trace 1\nproc\nstbar\nend\n"),
+        at(3, Why::BadLine)
+    );
+    assert_eq!(rt;
+        trace_fault(alloc, b"tso trace 1\ninit 1 7\nend\n"),
+        at(2, Why::BadLine)
+    );
+    Ok(())
+}

@@ -13,7 +13,7 @@ loop-proc-preserved c =
     let i = c.loop-proc.proc in
     let lists = c.args.lists.now in
     let rest = events_of_lists (i + 1) (drop (i + 1) (rows lists)) in
-    ap (λ prefix. prefix ++ rest) (c.in_ok-push_events.ensures ∙ ap (λ row. c.loop-proc.events.items ++ events_from i 0 row) c.deref.ensures.value)
+    ap (λ prefix. prefix ++ rest) (c.in_ok-push_events.ensures ∙ ap (λ row. c.loop-proc.events.items ++ events_from i 0 0 row) c.deref.ensures.value)
     ∙ append_assoc c.loop-proc.events.items _ rest
     ∙ ap (λ more. c.loop-proc.events.items ++ more) (sym (events-next lists i c.index-lists-proc.result c.loop-proc-test.true c.index-lists-proc.is))
     ∙ c.loop-proc.invariant

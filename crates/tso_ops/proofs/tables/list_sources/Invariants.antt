@@ -6,4 +6,4 @@ use Rattle.tso_ops.proofs.TableFacts.{AreFirstRows}
 use Rattle.tso_ops.proofs.tables.list_sources.Given as goal
 
 abbrev pub invariant-loop-event : goal.invariant-loop-event
-invariant-loop-event l = (t : TraceValue) → IsTrace t → events_of t ≡ l.events → AreFirstRows t l.sources.items l.event-index
+invariant-loop-event l = (t : TraceValue) → IsTrace t → t.setting.first ≡ l.first → events_of t ≡ l.events → AreFirstRows t l.sources.items l.event-index

@@ -1,4 +1,5 @@
 use Rattle.std.proofs.Common.{◌∙◌, sym, subst}
+use Rattle.tso_ops.specs.Settings.{setting_of}
 use Rattle.tso_ops.specs.Values.{rows, trace_of_lists}
 use Rattle.tso_ops.specs.Events.{events_of}
 use Rattle.tso_ops.specs.Internal.Tables.{AreSources}
@@ -7,11 +8,11 @@ use Rattle.tso_ops.proofs.traces.tables.Goals as goal
 pub returns : goal.returns
 unfolding events_of
 returns c trace =
-    let sources_are = c.in_ok-sources.ensures (trace_of_lists (rows c.args.lists.now)) trace (sym (c.deref.ensures.value ∙ c.in_ok-events.ensures)) in
+    let t = trace_of_lists (setting_of c.args.setting.now) (rows c.args.lists.now) in
+    let sources_are = c.in_ok-sources.ensures t trace (sym c.deref.ensures.value) (sym (c.deref-2.ensures.value ∙ c.in_ok-events.ensures)) in
     record {
       trace = trace;
       events_are = c.in_ok-events.ensures;
-      masks_are = c.in_ok-masks.ensures (trace_of_lists (rows c.args.lists.now)) trace (sym (c.deref-2.ensures.value ∙ c.in_ok-events.ensures))
-          (subst (AreSources (trace_of_lists (rows c.args.lists.now))) (sym c.deref-3.ensures.value) sources_are);
+      masks_are = c.in_ok-masks.ensures t trace (sym (c.deref-3.ensures.value ∙ c.in_ok-events.ensures)) (subst (AreSources t) (sym c.deref-4.ensures.value) sources_are);
       sources_are = sources_are;
     }

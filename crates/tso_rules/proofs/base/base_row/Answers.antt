@@ -2,7 +2,7 @@ use Rattle.std.proofs.Common.{◌<◌, suc, subst, arith}
 use Rattle.std.specs.Result.{IfOk}
 use Rattle.order_graph.specs.BitRows.{HasNumber}
 use Rattle.tso_ops.specs.Events.{event_total}
-use Rattle.tso_ops.proofs.EventFacts.{event_total-bound}
+use Rattle.tso_ops.proofs.EventFacts.{event_total-most}
 use Rattle.tso_model.specs.Ranks.{RankSet}
 use Rattle.tso_model.proofs.Bounds.{RankSet-within}
 use Rattle.tso_rules.specs.Rows.{IsRow}
@@ -10,7 +10,7 @@ use Rattle.tso_rules.proofs.RowFacts.{row_listed}
 use Rattle.tso_rules.proofs.base.base_row.Goals as goal
 
 pub marked-requires-clause-small : goal.marked-requires-clause-small
-marked-requires-clause-small c = omega (arith, c.node_count.ensures, event_total-bound c.args.trace.now c.events-events.ensures.kept)
+marked-requires-clause-small c = omega (arith, c.node_count.ensures, event_total-most c.args.trace.now c.events-events.ensures.kept)
 
 pub marked-requires-clause-within : goal.marked-requires-clause-within
 marked-requires-clause-within c = λ v has.

@@ -1,4 +1,5 @@
 use Rattle.std.proofs.Common.{◌≡◌, ◌∙◌, ap}
+use Rattle.tso_ops.specs.Settings.{setting_of}
 use Rattle.tso_ops.specs.Values.{rows, program_of_lists}
 use Rattle.tso_ops.proofs.CheckFacts.{rows-next, rows-all}
 use Rattle.tso_ops.proofs.programs.Program.copy.Goals as goal
@@ -16,10 +17,12 @@ invariant_of-result c =
     let whole : rows c.loop-list.lists.items ≡ rows c.self.inside.lists.items =
     rows-all c.loop-list.lists.items c.deref-list-items.result.now c.loop-list.list-index c.loop-list-test.false c.loop-list.invariant
     ∙ ap rows c.deref-list-items.ensures.value in
-    rw whole c.self.invariant
+    let first : c.in_ok-from_slice-2.field-0.items ≡ c.self.inside.setting.first.items = c.in_ok-from_slice-2.ensures.items ∙ c.deref-2.ensures.value in
+    rw (whole, first) c.self.invariant
 
 pub returns : goal.returns
 returns c =
-    ap program_of_lists
+    let first : c.in_ok-from_slice-2.field-0.items ≡ c.self.inside.setting.first.items = c.in_ok-from_slice-2.ensures.items ∙ c.deref-2.ensures.value in
+    rw first (ap (program_of_lists (setting_of c.self.inside.setting))
     (rows-all c.loop-list.lists.items c.deref-list-items.result.now c.loop-list.list-index c.loop-list-test.false c.loop-list.invariant
-    ∙ ap rows c.deref-list-items.ensures.value) ∙ c.self.view_is
+    ∙ ap rows c.deref-list-items.ensures.value) ∙ c.self.view_is)
