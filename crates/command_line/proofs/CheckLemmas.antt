@@ -7,11 +7,11 @@ use Rattle.clap.specs.Walk.{Row, Rule, with_default}
 use Rattle.clap.specs.Words.{fault_of, subcommand_of}
 use Rattle.clap.specs.Faults.{check_fault, defaults_fault}
 use Rattle.clap.proofs.OnLiterals.{clap_on_literals}
-use Rattle.command_line.specs.Commands.{certificate_rule, check_app, checking_by, trace_rule, tsobench_app}
+use Rattle.command_line.specs.Commands.{UnitNames, certificate_rule, check_app, checking_by, trace_rule, tsobench_app}
 use Rattle.command_line.specs.Internal.Computed.{asked_by}
 use Rattle.command_line.specs.Requests.{Text, checking}
 use Rattle.command_line.specs.Spellings.{AsksToCheck}
-use Rattle.command_line.proofs.OptionLemmas.{Gives, Placed, TakesOne, gives_of, level_fault_uses, merges_right, no_option, no_other, placed, rows_after_uses, used_all, uses_fault}
+use Rattle.command_line.proofs.OptionLemmas.{Gives, Placed, TakesOne, Use, gives_of, level_fault_uses, merges_right, no_flag, no_option, no_other, placed, rows_after_uses, used_all, uses_fault}
 use Rattle.command_line.proofs.SubcommandLemmas as subcommand
 
 abbrev pub check : Shape
@@ -30,8 +30,8 @@ certificate_taken : TakesOne check.rules certificate_built
 certificate_taken = record { by_id = refl; same_id = refl; most = refl; single = refl }
 
 module _ (trace certificate : Text) where
-  abbrev uses : List (Rule × Text)
-  uses = (trace_built, trace) ∷ (certificate_built, certificate) ∷ []
+  abbrev uses : List Use
+  uses = (trace_built, trace ∷ []) ∷ (certificate_built, certificate ∷ []) ∷ []
 
   files_placed : Placed check 1 (trace ∷ certificate ∷ []) uses
   files_placed = placed 1 trace_built trace _ _ trace_taken refl refl refl
@@ -50,15 +50,15 @@ module _ (trace certificate : Text) where
   uses_ask = refl
 
   -- what is asked for by arguments that ask for checking
-  module _ (arguments : List Text) (asks : AsksToCheck arguments trace certificate) where
+  module _ (units : UnitNames) (arguments : List Text) (asks : AsksToCheck arguments trace certificate) where
     gives : Gives check 1 uses arguments
     gives =
-        let some = gives_of check 1 [] (trace ∷ certificate ∷ []) arguments [] uses asks no_option files_placed in
-        subst (λ (u : List (Rule × Text)). Gives check 1 u arguments) (merges_right _ _ _ some.merges refl) some.gives
+        let some = gives_of check 1 [] [] (trace ∷ certificate ∷ []) arguments [] [] uses asks no_option no_flag files_placed in
+        subst (λ (u : List Use). Gives check 1 u arguments) (merges_right _ _ _ _ some.merges refl refl) some.gives
 
-    pub check_taken : fault_of tsobench_app (codes "check" ∷ arguments) ≡ []
-    check_taken = subcommand.check_fault arguments ∙ ap (λ kinds. or_else kinds []) (level_fault_uses check uses arguments gives uses_pass ∙ uses_end)
+    pub check_taken : fault_of (tsobench_app units) (codes "check" ∷ arguments) ≡ []
+    check_taken = subcommand.check_fault units arguments ∙ ap (λ kinds. or_else kinds []) (level_fault_uses check uses arguments gives uses_pass ∙ uses_end)
 
-    pub check_asked : asked_by (subcommand_of tsobench_app (codes "check" ∷ arguments)) ≡ checking trace certificate
-    check_asked = ap asked_by (subcommand.check_found arguments)
+    pub check_asked : asked_by (subcommand_of (tsobench_app units) (codes "check" ∷ arguments)) ≡ checking trace certificate
+    check_asked = ap asked_by (subcommand.check_found units arguments)
         ∙ ap (λ (rows : List Row). asked_by (Some (codes "check", rows))) (rows_after_uses check uses arguments gives uses_pass) ∙ uses_ask

@@ -1,16 +1,20 @@
 -- What the values found for an argument stand for.
-use Rattle.std.proofs.Common.{◌≡◌, ◌∙◌, ◌≤◌, ◌^◌, ◌-◌, ap, refl, arith, ℕ, Bool, true, false, [], Option, Some, None, Result, Ok, Err, unwrap_or, option_map}
+use Rattle.std.proofs.Common.{◌≡◌, ◌∙◌, ◌≤◌, ◌^◌, ◌-◌, ap, refl, arith, ℕ, Bool, true, false, [], Option, Some, None, Result, Ok, Err, unwrap_or, option_map, codes}
 use Rattle.std.specs.Borrow.{Bor}
 use Rattle.std.specs.Option.{option_map_or}
-use Rattle.std.specs.Str.Parse.{ParsesUnsigned, digits_value, without_leading_plus}
+use Rattle.std.specs.Str.{bytes_eq}
+use Rattle.std.proofs.lemmas.Slice.Eq.{bytes_eq-Decides}
+use Rattle.std.specs.Str.Parse.{ParsesBool, ParsesUnsigned, digits_value, without_leading_plus}
 use Rattle.clap.specs.ValueTests.{is_unsigned_in}
-use Rattle.clap.specs.Words.{ReadsOne, first_of, first_value, rows_of}
+use Rattle.clap.specs.Words.{ReadsOne, first_of, first_value, one_text, rows_of}
 use Rattle.clap.specs.declared.parser.matches.Found.{Found}
 use Rattle.clap.specs.declared.builder.value_parser.ValueParser.TheVariants as parser
 use Rattle.clap.proofs.ValueTestLemmas.{accepts-Accepts, Accepts-accepts}
-use Rattle.clap.proofs.WalkLemmas.{first_value-rows}
-use Rattle.command_line.specs.Requests.{Text}
-use Rattle.command_line.specs.Internal.Computed.{number_in}
+use Rattle.clap.proofs.WalkLemmas.{first_value-rows, one_text-rows}
+use Rattle.command_line.specs.declared.options.RunOptions.{RunOptions}
+use Rattle.command_line.specs.declared.options.UnitOptions.{UnitOptions}
+use Rattle.command_line.specs.Requests.{Text, replaying}
+use Rattle.command_line.specs.Internal.Computed.{number_in, number_of}
 
 unwrap_or-text : (got : Option (Bor Text)) (empty : Bor Text) → empty.now ≡ [] → (unwrap_or got empty).now ≡ unwrap_or (option_map (λ s. s.now) got) []
 unwrap_or-text None empty is = is
@@ -22,24 +26,59 @@ pub value_or_empty : (f : Found) (id : Text) (got : Option (Bor Text)) (text emp
 value_or_empty f id got text empty is none found =
     ap (λ (s : Bor Text). s.now) is ∙ unwrap_or-text got empty none ∙ ap (λ o. unwrap_or o []) (found ∙ first_value-rows f id)
 
-unwrap_or-number : {E : Type 0} (gives : Text → Result ℕ E → Type 0) (t : Text) (r : Option ℕ)
-    → ((x : Result ℕ E) → gives t x → ParsesUnsigned 64 10 t x) → ReadsOne gives t r → unwrap_or r 1 ≡ number_in t
-unwrap_or-number gives t (Some v) parses read =
-    let parsed = parses (Ok v) read in
-    let most : digits_value 10 (without_leading_plus t) ≤ 2 ^ 64 - 1 = omega (arith, parsed.0.1) in
-    let passes = Accepts-accepts false (parser.Unsigned 0 (2 ^ 64 - 1)) t (parsed.0.0, parsed.0.1, omega arith, most) in
-    rw passes parsed.1
-unwrap_or-number gives t None parses read = go (is_unsigned_in 0 (2 ^ 64 - 1) t) refl
-  where
-    go : (b : Bool) → is_unsigned_in 0 (2 ^ 64 - 1) t ≡ b → 1 ≡ number_in t
-    go true e =
-        let passes = accepts-Accepts false (parser.Unsigned 0 (2 ^ 64 - 1)) t e in
-        absurd (parses (Err read.0) read.1 (passes.0, passes.1))
-    go false e = rw e refl
+module _ (other : ℕ) where
+  unwrap_or-number : {E : Type 0} (gives : Text → Result ℕ E → Type 0) (t : Text) (r : Option ℕ)
+      → ((x : Result ℕ E) → gives t x → ParsesUnsigned 64 10 t x) → ReadsOne gives t r → unwrap_or r other ≡ number_in other t
+  unwrap_or-number gives t (Some v) parses read =
+      let parsed = parses (Ok v) read in
+      let most : digits_value 10 (without_leading_plus t) ≤ 2 ^ 64 - 1 = omega (arith, parsed.0.1) in
+      let passes = Accepts-accepts false (parser.Unsigned 0 (2 ^ 64 - 1)) t (parsed.0.0, parsed.0.1, omega arith, most) in
+      rw passes parsed.1
+  unwrap_or-number gives t None parses read = go (is_unsigned_in 0 (2 ^ 64 - 1) t) refl
+    where
+      go : (b : Bool) → is_unsigned_in 0 (2 ^ 64 - 1) t ≡ b → other ≡ number_in other t
+      go true e =
+          let passes = accepts-Accepts false (parser.Unsigned 0 (2 ^ 64 - 1)) t e in
+          absurd (parses (Err read.0) read.1 (passes.0, passes.1))
+      go false e = rw e refl
 
--- the number that was asked for, 1 where there is none
-pub number_or_one : {E : Type 0} (gives : Text → Result ℕ E → Type 0) (found : Option Text) (r : Option ℕ)
-    → ((t : Text) (x : Result ℕ E) → gives t x → ParsesUnsigned 64 10 t x)
-    → (found ≡ None → r ≡ None) → ((t : Text) → found ≡ Some t → ReadsOne gives t r) → unwrap_or r 1 ≡ option_map_or number_in found 1
-number_or_one gives None r parses none some = ap (λ o. unwrap_or o 1) (none refl)
-number_or_one gives (Some t) r parses none some = unwrap_or-number gives t r (parses t) (some t refl)
+  -- the number that was asked for, `other` where there is none
+  number_or : {E : Type 0} (gives : Text → Result ℕ E → Type 0) (found : Option Text) (r : Option ℕ)
+      → ((t : Text) (x : Result ℕ E) → gives t x → ParsesUnsigned 64 10 t x)
+      → (found ≡ None → r ≡ None) → ((t : Text) → found ≡ Some t → ReadsOne gives t r) → unwrap_or r other ≡ option_map_or (number_in other) found other
+  number_or gives None r parses none some = ap (λ o. unwrap_or o other) (none refl)
+  number_or gives (Some t) r parses none some = unwrap_or-number gives t r (parses t) (some t refl)
+
+  pub number_found : {E : Type 0} (gives : Text → Result ℕ E → Type 0) (f : Found) (name : Text) (r : Option ℕ)
+      → ((t : Text) (x : Result ℕ E) → gives t x → ParsesUnsigned 64 10 t x)
+      → (one_text f name ≡ None → r ≡ None) → ((t : Text) → one_text f name ≡ Some t → ReadsOne gives t r) → unwrap_or r other ≡ number_of name other (rows_of f)
+  number_found gives f name r parses none some =
+      number_or gives (one_text f name) r parses none some ∙ ap (λ o. option_map_or (number_in other) o other) (one_text-rows f name)
+
+is_true : (t : Text) (b : Bool) → (t ≡ codes "true" → ⊥) → bytes_eq t (codes "true") ≡ b → false ≡ b
+is_true t false other e = refl
+is_true t true other e = absurd (other ((bytes_eq-Decides t (codes "true")).0 e))
+
+unwrap_or-flag : (E : Type 0) (t : Text) (r : Option Bool) → ReadsOne {E = E} ParsesBool t r → unwrap_or r false ≡ bytes_eq t (codes "true")
+unwrap_or-flag E t (Some true) read = rw read refl
+unwrap_or-flag E t (Some false) read = rw read refl
+unwrap_or-flag E t None read = is_true t (bytes_eq t (codes "true")) read.1.0 refl
+
+-- whether the flag was used
+pub flag_or_false : (E : Type 0) (found : Option Text) (r : Option Bool) → (found ≡ None → r ≡ None) → ((t : Text) → found ≡ Some t → ReadsOne {E = E} ParsesBool t r)
+    → unwrap_or r false ≡ option_map_or (λ text. bytes_eq text (codes "true")) found false
+flag_or_false E None r none some = ap (λ o. unwrap_or o false) (none refl)
+flag_or_false E (Some t) r none some = unwrap_or-flag E t r (some t refl)
+
+-- options of which each is known
+module _ (unit wanted : UnitOptions) (kind : unit.kind ≡ wanted.kind) (capacity : unit.capacity ≡ wanted.capacity) (trigger : unit.trigger ≡ wanted.trigger) where
+  pub unit_options_are : unit ≡ wanted
+  unit_options_are = rw (kind, capacity, trigger) refl
+
+module _ (options wanted : RunOptions) (unit : options.unit ≡ wanted.unit) (workers : options.workers ≡ wanted.workers) (trace : options.prints_trace ≡ wanted.prints_trace) where
+  pub run_options_are : options ≡ wanted
+  run_options_are = rw (unit, workers, trace) refl
+
+module _ (options wanted : RunOptions) (program wanted_program schedule wanted_schedule : Text) where
+  pub replaying_are : options ≡ wanted → program ≡ wanted_program → schedule ≡ wanted_schedule → replaying options program schedule ≡ replaying wanted wanted_program wanted_schedule
+  replaying_are is program_is schedule_is = rw (is, program_is, schedule_is) refl

@@ -1,5 +1,5 @@
 -- From what the matches are computed to stand for to what they ask for.
-use Rattle.std.proofs.Common.{◌≡◌, ◌∙◌, ◌^◌, ◌-◌, ap, refl, subst, sym, inl, arith, Bool, true, false, List, [], ◌∷◌, Option, Some, None, Result, IfOk, IsErr, codes}
+use Rattle.std.proofs.Common.{◌≡◌, ◌∙◌, ◌≤◌, ◌<◌, ◌^◌, ◌-◌, ℕ, ap, refl, subst, sym, inl, arith, Bool, true, false, List, [], ◌∷◌, Option, Some, None, Result, IfOk, IsErr, codes, map, option_and_then, unwrap_or}
 use Rattle.std.specs.declared.alloc.AllocError.{AllocError}
 use Rattle.std.specs.Option.{option_map_or}
 use Rattle.std.specs.Str.{bytes_eq}
@@ -12,96 +12,134 @@ use Rattle.clap.specs.declared.error.kind.ErrorKind.TheVariants.{DisplayHelp, In
 use Rattle.clap.specs.declared.error.Error.{Error}
 use Rattle.clap.proofs.ValueTestLemmas.{accepts-Accepts, Accepts-accepts}
 use Rattle.round_pool.specs.Workers.{worker_limit}
-use Rattle.command_line.specs.Requests.{Text, Asked, asked_of, showing}
+use Rattle.command_line.specs.Requests.{Text, Asked, asked_of, capacity_limit, showing}
 use Rattle.command_line.specs.declared.requests.Request.{Request}
-use Rattle.command_line.specs.Commands.{AskWorkers, IsAskedBy, IsAskedByMatches, IsAskedFor, asked_at, tsobench_app}
-use Rattle.command_line.specs.Internal.Computed.{IsFoundBy, asked_by, asked_in, number_in, parsed_as, within_workers, workers_in}
+use Rattle.command_line.specs.Commands.{AskFlag, AskNumber, AskRun, AskUnit, AskWorkers, IsAskedBy, IsAskedByMatches, IsAskedFor, UnitNames, asked_at, tsobench_app}
+use Rattle.command_line.specs.Internal.Computed.{IsFoundBy, asked_by, asked_in, flag_in, number_in, number_of, parsed_as, run_in, unit_in, within, workers_in}
+use Rattle.command_line.specs.Units.{default_capacity, default_trigger, trigger_limit, unit_kind, unit_names}
+use Rattle.command_line.specs.declared.options.UnitKind.TheVariants.{Serial}
 use Rattle.command_line.proofs.KindLemmas.{asked_by_error}
 use Rattle.command_line.proofs.ProgramLemmas as program
 use Rattle.command_line.proofs.SpellingLemmas.{IsFound, by_kind}
 
--- a text in the range spells a number of 64 bits, which needs no clamp
-number_within : (text : Text) → is_unsigned_in 1 worker_limit text ≡ true → within_workers (number_in text) ≡ digits_value 10 (without_leading_plus text)
-number_within text e =
-    let passes = accepts-Accepts false (parser.Unsigned 1 worker_limit) text e in
-    let wide = Accepts-accepts false (parser.Unsigned 0 (2 ^ 64 - 1)) text (passes.0, passes.1, omega arith, omega (arith, passes.1)) in
-    let is : number_in text ≡ digits_value 10 (without_leading_plus text) = rw wide refl in
-    ap within_workers is ∙ omega (arith, passes.2, passes.3)
+-- a text in a range of numbers of 64 bits spells one, which needs no clamp
+module _ (name : Text) (other least most : ℕ) (fits : least ≤ most) (short : most < 2 ^ 64) (inside : (least ≤ other) × (other ≤ most)) where
+  number_within : (text : Text) → is_unsigned_in least most text ≡ true → within least most (number_in other text) ≡ digits_value 10 (without_leading_plus text)
+  number_within text e =
+      let passes = accepts-Accepts false (parser.Unsigned least most) text e in
+      let wide = Accepts-accepts false (parser.Unsigned 0 (2 ^ 64 - 1)) text (passes.0, passes.1, omega arith, omega (arith, passes.1)) in
+      let is : number_in other text ≡ digits_value 10 (without_leading_plus text) = rw wide refl in
+      ap (within least most) is ∙ omega (arith, passes.2, passes.3)
 
-pub ask_workers : (rows : List Row) → AskWorkers rows (workers_in rows)
-ask_workers rows = record {
-  unnamed = λ none. ap (λ o. within_workers (option_map_or number_in o 1)) none;
-  named = λ text is e. ap (λ o. within_workers (option_map_or number_in o 1)) is ∙ number_within text e;
-  within = omega arith;
+  ask_number : (rows : List Row) → AskNumber name other least most rows (within least most (number_of name other rows))
+  ask_number rows = record {
+    unnamed = λ none. ap (λ o. within least most (option_map_or (number_in other) o other)) none ∙ omega (arith, inside.0, inside.1);
+    named = λ text is e. ap (λ o. within least most (option_map_or (number_in other) o other)) is ∙ number_within text e;
+    within = omega (arith, fits);
+  }
+
+ask_workers : (rows : List Row) → AskWorkers rows (workers_in rows)
+ask_workers = ask_number (codes "workers") 1 1 worker_limit (omega arith) (omega arith) (omega arith, omega arith)
+
+ask_flag : (name : Text) (rows : List Row) → AskFlag name rows (flag_in name rows)
+ask_flag name rows = record {
+  unnamed = λ none. ap (λ o. option_map_or (λ text. bytes_eq text (codes "true")) o false) none;
+  not_used = λ is. ap (λ o. option_map_or (λ text. bytes_eq text (codes "true")) o false) is;
+  used = λ is. ap (λ o. option_map_or (λ text. bytes_eq text (codes "true")) o false) is;
 }
+
+ask_unit : (rows : List Row) → AskUnit rows (unit_in rows)
+ask_unit rows = record {
+  kind = λ name kind is kind_is. ap (λ o. unwrap_or (option_and_then unit_kind o) Serial) is ∙ ap (λ o. unwrap_or o Serial) kind_is;
+  capacity = ask_number (codes "capacity") default_capacity 1 capacity_limit (omega arith) (omega arith) (omega arith, omega arith) rows;
+  trigger = ask_number (codes "trigger") default_trigger 1 trigger_limit (omega arith) (omega arith) (omega arith, omega arith) rows;
+}
+
+ask_run : (rows : List Row) → AskRun rows (run_in rows)
+ask_run rows = record { unit = ask_unit rows; workers = ask_workers rows; trace = ask_flag (codes "trace") rows }
 
 matched : (found : Option (Text × List Row)) (asked : Asked) → asked ≡ asked_by found → IsAskedByMatches found asked
 matched None asked is = is
 matched (Some found) asked is = record {
   judge = λ name. (workers_in found.1, ask_workers found.1, is ∙ ap (λ (t : Text). asked_in t found.1) name);
   check = λ name. is ∙ ap (λ (t : Text). asked_in t found.1) name;
+  replay = λ name. (run_in found.1, ask_run found.1, is ∙ ap (λ (t : Text). asked_in t found.1) name);
 }
 
 found_asked : (kinds : Kinds) (found : Option (Text × List Row)) (asked : Asked) → IsFoundBy kinds found asked → IsAskedBy kinds found asked
 found_asked [] found asked is = matched found asked is
 found_asked (kind ∷ others) found asked is = is
 
--- where they are parsed as they stand
-as_given : (arguments : List Text) (asked : Asked) → parsed_as arguments ≡ arguments → IsFound arguments asked → IsAskedFor arguments asked
-as_given arguments asked same is =
-    found_asked _ _ asked (subst (λ (a : List Text). IsFoundBy (fault_of tsobench_app a) (subcommand_of tsobench_app a) asked) same is)
-
--- `help` may show its text or be refused
-shown : (arguments : List Text) (asked : Asked) → fault_of tsobench_app arguments ≡ DisplayHelp ∷ InvalidSubcommand ∷ [] → asked ≡ showing → IsAskedFor arguments asked
-shown arguments asked kinds is = subst (λ (k : Kinds). IsAskedBy k (subcommand_of tsobench_app arguments) asked) (sym kinds) (inl is)
-
 text_is : (a b : Text) → bytes_eq a b ≡ true → a ≡ b
 text_is a b e = (bytes_eq-Decides a b).0 e
 
-one_asked : (first : Text) (asked : Asked) → IsFound (first ∷ []) asked → IsAskedFor (first ∷ []) asked
-one_asked first asked is = go (bytes_eq first (codes "help")) refl
-  where
-    go : (b : Bool) → bytes_eq first (codes "help") ≡ b → IsAskedFor (first ∷ []) asked
-    go false e = as_given (first ∷ []) asked (rw e refl) is
-    go true e =
-        let named = text_is first (codes "help") e in
-        let shows : asked ≡ showing = by_kind _ asked _ _ program.help_shown (subst (λ (t : Text). IsFound (t ∷ []) asked) named is) in
-        subst (λ (t : Text). IsAskedFor (t ∷ []) asked) (sym named) (shown (codes "help" ∷ []) asked program.help_called shows)
+module _ (units : UnitNames) where
+  -- what the arguments ask for where the units have these names
+  abbrev IsAskedBelow : List Text → Asked → Type 0
+  IsAskedBelow arguments asked = IsAskedBy (fault_of (tsobench_app units) arguments) (subcommand_of (tsobench_app units) arguments) asked
 
--- `help` with the name of a subcommand
-module _ (first name : Text) (asked : Asked) (is : IsFound (first ∷ name ∷ []) asked) (called : bytes_eq first (codes "help") ≡ true) where
-  help_named : (other : Text) → bytes_eq name other ≡ true → (IsFound (codes "help" ∷ other ∷ []) asked → asked ≡ showing)
-      → fault_of tsobench_app (codes "help" ∷ other ∷ []) ≡ DisplayHelp ∷ InvalidSubcommand ∷ [] → IsAskedFor (first ∷ name ∷ []) asked
-  help_named other e shows kinds =
-      let is_help = text_is first (codes "help") called in
-      let is_other = text_is name other e in
-      let found = subst (λ (t : Text). IsFound (codes "help" ∷ t ∷ []) asked) is_other (subst (λ (t : Text). IsFound (t ∷ name ∷ []) asked) is_help is) in
-      let wanted = shown (codes "help" ∷ other ∷ []) asked kinds (shows found) in
-      subst (λ (t : Text). IsAskedFor (t ∷ name ∷ []) asked) (sym is_help) (subst (λ (t : Text). IsAskedFor (codes "help" ∷ t ∷ []) asked) (sym is_other) wanted)
+  -- where they are parsed as they stand
+  as_given : (arguments : List Text) (asked : Asked) → parsed_as arguments ≡ arguments → IsFound units arguments asked → IsAskedBelow arguments asked
+  as_given arguments asked same is =
+      found_asked _ _ asked (subst (λ (a : List Text). IsFoundBy (fault_of (tsobench_app units) a) (subcommand_of (tsobench_app units) a) asked) same is)
 
-  of_judge : bytes_eq name (codes "judge") ≡ true → IsAskedFor (first ∷ name ∷ []) asked
-  of_judge e = help_named (codes "judge") e (λ found. by_kind _ asked _ _ program.judge_help_shown found) program.judge_help_called
+  -- `help` may show its text or be refused
+  shown : (arguments : List Text) (asked : Asked) → fault_of (tsobench_app units) arguments ≡ DisplayHelp ∷ InvalidSubcommand ∷ [] → asked ≡ showing → IsAskedBelow arguments asked
+  shown arguments asked kinds is = subst (λ (k : Kinds). IsAskedBy k (subcommand_of (tsobench_app units) arguments) asked) (sym kinds) (inl is)
 
-  of_check : bytes_eq name (codes "check") ≡ true → IsAskedFor (first ∷ name ∷ []) asked
-  of_check e = help_named (codes "check") e (λ found. by_kind _ asked _ _ program.check_help_shown found) program.check_help_called
+  one_asked : (first : Text) (asked : Asked) → IsFound units (first ∷ []) asked → IsAskedBelow (first ∷ []) asked
+  one_asked first asked is = go (bytes_eq first (codes "help")) refl
+    where
+      go : (b : Bool) → bytes_eq first (codes "help") ≡ b → IsAskedBelow (first ∷ []) asked
+      go false e = as_given (first ∷ []) asked (rw e refl) is
+      go true e =
+          let named = text_is first (codes "help") e in
+          let shows : asked ≡ showing = by_kind _ asked _ _ (program.help_shown units) (subst (λ (t : Text). IsFound units (t ∷ []) asked) named is) in
+          subst (λ (t : Text). IsAskedBelow (t ∷ []) asked) (sym named) (shown (codes "help" ∷ []) asked (program.help_called units) shows)
 
-two_asked : (first name : Text) (asked : Asked) → IsFound (first ∷ name ∷ []) asked → IsAskedFor (first ∷ name ∷ []) asked
-two_asked first name asked is = go (bytes_eq first (codes "help")) (bytes_eq name (codes "judge")) (bytes_eq name (codes "check")) refl refl refl
-  where
-    go : (h j c : Bool) → bytes_eq first (codes "help") ≡ h → bytes_eq name (codes "judge") ≡ j → bytes_eq name (codes "check") ≡ c → IsAskedFor (first ∷ name ∷ []) asked
-    go false j c e f g = as_given (first ∷ name ∷ []) asked (rw e refl) is
-    go true true c e f g = of_judge first name asked is e f
-    go true false true e f g = of_check first name asked is e g
-    go true false false e f g = as_given (first ∷ name ∷ []) asked (rw (e, f, g) refl) is
+  -- `help` with the name of a subcommand
+  module _ (first name : Text) (asked : Asked) (is : IsFound units (first ∷ name ∷ []) asked) (called : bytes_eq first (codes "help") ≡ true) where
+    help_named : (other : Text) → bytes_eq name other ≡ true → (IsFound units (codes "help" ∷ other ∷ []) asked → asked ≡ showing)
+        → fault_of (tsobench_app units) (codes "help" ∷ other ∷ []) ≡ DisplayHelp ∷ InvalidSubcommand ∷ [] → IsAskedBelow (first ∷ name ∷ []) asked
+    help_named other e shows kinds =
+        let is_help = text_is first (codes "help") called in
+        let is_other = text_is name other e in
+        let found = subst (λ (t : Text). IsFound units (codes "help" ∷ t ∷ []) asked) is_other (subst (λ (t : Text). IsFound units (t ∷ name ∷ []) asked) is_help is) in
+        let wanted = shown (codes "help" ∷ other ∷ []) asked kinds (shows found) in
+        subst (λ (t : Text). IsAskedBelow (t ∷ name ∷ []) asked) (sym is_help) (subst (λ (t : Text). IsAskedBelow (codes "help" ∷ t ∷ []) asked) (sym is_other) wanted)
 
--- what the arguments ask for that are parsed is asked for by those that were given
-pub asked_for : (arguments : List Text) (asked : Asked) → IsFound arguments asked → IsAskedFor arguments asked
-asked_for [] asked is = as_given [] asked refl is
-asked_for (first ∷ []) asked is = one_asked first asked is
-asked_for (first ∷ name ∷ []) asked is = two_asked first name asked is
-asked_for (first ∷ second ∷ third ∷ rest) asked is = as_given (first ∷ second ∷ third ∷ rest) asked refl is
+    of_judge : bytes_eq name (codes "judge") ≡ true → IsAskedBelow (first ∷ name ∷ []) asked
+    of_judge e = help_named (codes "judge") e (λ found. by_kind _ asked _ _ (program.judge_help_shown units) found) (program.judge_help_called units)
 
--- what a request that an error stands for asks for
-pub error_found : (r : Result Request AllocError) (texts : List Text) (e : Error) → HasKind (fault_of tsobench_app (parsed_as texts)) e
-    → (kind_of e ≡ OutOfMemory → IsErr r) → IfOk r (λ request. asked_of request ≡ asked_at (kind_of e)) → IfOk r (λ request. IsFound texts (asked_of request))
-error_found r texts e has memory asked = asked_by_error r (fault_of tsobench_app (parsed_as texts)) (subcommand_of tsobench_app (parsed_as texts)) e has memory asked
+    of_replay : bytes_eq name (codes "replay") ≡ true → IsAskedBelow (first ∷ name ∷ []) asked
+    of_replay e = help_named (codes "replay") e (λ found. by_kind _ asked _ _ (program.replay_help_shown units) found) (program.replay_help_called units)
+
+    of_check : bytes_eq name (codes "check") ≡ true → IsAskedBelow (first ∷ name ∷ []) asked
+    of_check e = help_named (codes "check") e (λ found. by_kind _ asked _ _ (program.check_help_shown units) found) (program.check_help_called units)
+
+  two_asked : (first name : Text) (asked : Asked) → IsFound units (first ∷ name ∷ []) asked → IsAskedBelow (first ∷ name ∷ []) asked
+  two_asked first name asked is =
+      go (bytes_eq first (codes "help")) (bytes_eq name (codes "judge")) (bytes_eq name (codes "check")) (bytes_eq name (codes "replay")) refl refl refl refl
+    where
+      go : (h j c r : Bool) → bytes_eq first (codes "help") ≡ h → bytes_eq name (codes "judge") ≡ j → bytes_eq name (codes "check") ≡ c → bytes_eq name (codes "replay") ≡ r
+          → IsAskedBelow (first ∷ name ∷ []) asked
+      go false j c r e f g k = as_given (first ∷ name ∷ []) asked (rw e refl) is
+      go true true c r e f g k = of_judge first name asked is e f
+      go true false true r e f g k = of_check first name asked is e g
+      go true false false true e f g k = of_replay first name asked is e k
+      go true false false false e f g k = as_given (first ∷ name ∷ []) asked (rw (e, f, g, k) refl) is
+
+  parsed_asked : (arguments : List Text) (asked : Asked) → IsFound units arguments asked → IsAskedBelow arguments asked
+  parsed_asked [] asked is = as_given [] asked refl is
+  parsed_asked (first ∷ []) asked is = one_asked first asked is
+  parsed_asked (first ∷ name ∷ []) asked is = two_asked first name asked is
+  parsed_asked (first ∷ second ∷ third ∷ rest) asked is = as_given (first ∷ second ∷ third ∷ rest) asked refl is
+
+  -- what the arguments ask for that are parsed is asked for by those that were given
+  pub asked_for : map (λ name. name.now) units.now ≡ unit_names → (arguments : List Text) (asked : Asked) → IsFound units arguments asked → IsAskedFor arguments asked
+  asked_for are arguments asked is = (units, are, parsed_asked arguments asked is)
+
+  -- what a request that an error stands for asks for
+  pub error_found : (r : Result Request AllocError) (texts : List Text) (e : Error) → HasKind (fault_of (tsobench_app units) (parsed_as texts)) e
+      → (kind_of e ≡ OutOfMemory → IsErr r) → IfOk r (λ request. asked_of request ≡ asked_at (kind_of e)) → IfOk r (λ request. IsFound units texts (asked_of request))
+  error_found r texts e has memory asked = asked_by_error r (fault_of (tsobench_app units) (parsed_as texts)) (subcommand_of (tsobench_app units) (parsed_as texts)) e has memory asked

@@ -8,57 +8,70 @@ use Rattle.clap.proofs.OnLiterals.{clap_on_literals}
 use Rattle.command_line.proofs.ValueLemmas.{IsValue}
 use Rattle.command_line.specs.Requests.{Text}
 use Rattle.command_line.specs.Refusals.{is_subcommand}
-use Rattle.command_line.specs.Commands.{tsobench_app}
+use Rattle.command_line.specs.Commands.{UnitNames, tsobench_app}
 use Rattle.command_line.specs.Internal.Computed.{parsed_as}
 
-pub nothing_taken : fault_of tsobench_app [] ≡ []
-unfolding clap_on_literals
-nothing_taken = refl
+module _ (units : UnitNames) where
+  pub nothing_taken : fault_of (tsobench_app units) [] ≡ []
+  unfolding clap_on_literals
+  nothing_taken = refl
 
-pub help_shown : fault_of tsobench_app (codes "--help" ∷ []) ≡ DisplayHelp ∷ []
-unfolding clap_on_literals
-help_shown = refl
+  pub help_shown : fault_of (tsobench_app units) (codes "--help" ∷ []) ≡ DisplayHelp ∷ []
+  unfolding clap_on_literals
+  help_shown = refl
 
-pub short_help_shown : fault_of tsobench_app (codes "-h" ∷ []) ≡ DisplayHelp ∷ []
-unfolding clap_on_literals
-short_help_shown = refl
+  pub short_help_shown : fault_of (tsobench_app units) (codes "-h" ∷ []) ≡ DisplayHelp ∷ []
+  unfolding clap_on_literals
+  short_help_shown = refl
 
-pub judge_help_shown : fault_of tsobench_app (codes "judge" ∷ codes "--help" ∷ []) ≡ DisplayHelp ∷ []
-unfolding clap_on_literals
-judge_help_shown = refl
+  pub judge_help_shown : fault_of (tsobench_app units) (codes "judge" ∷ codes "--help" ∷ []) ≡ DisplayHelp ∷ []
+  unfolding clap_on_literals
+  judge_help_shown = refl
 
-pub judge_short_shown : fault_of tsobench_app (codes "judge" ∷ codes "-h" ∷ []) ≡ DisplayHelp ∷ []
-unfolding clap_on_literals
-judge_short_shown = refl
+  pub judge_short_shown : fault_of (tsobench_app units) (codes "judge" ∷ codes "-h" ∷ []) ≡ DisplayHelp ∷ []
+  unfolding clap_on_literals
+  judge_short_shown = refl
 
-pub check_short_shown : fault_of tsobench_app (codes "check" ∷ codes "-h" ∷ []) ≡ DisplayHelp ∷ []
-unfolding clap_on_literals
-check_short_shown = refl
+  pub check_short_shown : fault_of (tsobench_app units) (codes "check" ∷ codes "-h" ∷ []) ≡ DisplayHelp ∷ []
+  unfolding clap_on_literals
+  check_short_shown = refl
 
--- what `clap` promises of `help`
-pub help_called : fault_of tsobench_app (codes "help" ∷ []) ≡ DisplayHelp ∷ InvalidSubcommand ∷ []
-unfolding clap_on_literals
-help_called = refl
+  -- what `clap` promises of `help`
+  pub help_called : fault_of (tsobench_app units) (codes "help" ∷ []) ≡ DisplayHelp ∷ InvalidSubcommand ∷ []
+  unfolding clap_on_literals
+  help_called = refl
 
-pub judge_help_called : fault_of tsobench_app (codes "help" ∷ codes "judge" ∷ []) ≡ DisplayHelp ∷ InvalidSubcommand ∷ []
-unfolding clap_on_literals
-judge_help_called = refl
+  pub judge_help_called : fault_of (tsobench_app units) (codes "help" ∷ codes "judge" ∷ []) ≡ DisplayHelp ∷ InvalidSubcommand ∷ []
+  unfolding clap_on_literals
+  judge_help_called = refl
 
-pub check_help_called : fault_of tsobench_app (codes "help" ∷ codes "check" ∷ []) ≡ DisplayHelp ∷ InvalidSubcommand ∷ []
-unfolding clap_on_literals
-check_help_called = refl
+  pub check_help_called : fault_of (tsobench_app units) (codes "help" ∷ codes "check" ∷ []) ≡ DisplayHelp ∷ InvalidSubcommand ∷ []
+  unfolding clap_on_literals
+  check_help_called = refl
 
-pub check_help_shown : fault_of tsobench_app (codes "check" ∷ codes "--help" ∷ []) ≡ DisplayHelp ∷ []
-unfolding clap_on_literals
-check_help_shown = refl
+  pub check_help_shown : fault_of (tsobench_app units) (codes "check" ∷ codes "--help" ∷ []) ≡ DisplayHelp ∷ []
+  unfolding clap_on_literals
+  check_help_shown = refl
 
-pub version_shown : fault_of tsobench_app (codes "--version" ∷ []) ≡ DisplayVersion ∷ []
-unfolding clap_on_literals
-version_shown = refl
+  pub version_shown : fault_of (tsobench_app units) (codes "--version" ∷ []) ≡ DisplayVersion ∷ []
+  unfolding clap_on_literals
+  version_shown = refl
 
-pub short_version_shown : fault_of tsobench_app (codes "-V" ∷ []) ≡ DisplayVersion ∷ []
-unfolding clap_on_literals
-short_version_shown = refl
+  pub short_version_shown : fault_of (tsobench_app units) (codes "-V" ∷ []) ≡ DisplayVersion ∷ []
+  unfolding clap_on_literals
+  short_version_shown = refl
+
+  pub replay_help_shown : fault_of (tsobench_app units) (codes "replay" ∷ codes "--help" ∷ []) ≡ DisplayHelp ∷ []
+  unfolding clap_on_literals
+  replay_help_shown = refl
+
+  pub replay_short_shown : fault_of (tsobench_app units) (codes "replay" ∷ codes "-h" ∷ []) ≡ DisplayHelp ∷ []
+  unfolding clap_on_literals
+  replay_short_shown = refl
+
+  pub replay_help_called : fault_of (tsobench_app units) (codes "help" ∷ codes "replay" ∷ []) ≡ DisplayHelp ∷ InvalidSubcommand ∷ []
+  unfolding clap_on_literals
+  replay_help_called = refl
 
 -- two tests for the same bytes, in either order
 other_order : (a b : Text) → bytes_eq a b ≡ false → bytes_eq b a ≡ false
@@ -76,18 +89,27 @@ neither true b e = absurd (true≢false e)
 
 module _ (first : Text) (is : IsValue first) (unknown : is_subcommand first ≡ false) where
   -- the argument is none of the names
+  after_judge : (bytes_eq first (codes "check") || (bytes_eq first (codes "replay") || bytes_eq first (codes "help"))) ≡ false
+  after_judge = (neither _ _ unknown).1
+
+  after_check : (bytes_eq first (codes "replay") || bytes_eq first (codes "help")) ≡ false
+  after_check = (neither _ _ after_judge).1
+
   no_judge : bytes_eq (codes "judge") first ≡ false
   no_judge = other_order first (codes "judge") (neither _ _ unknown).0
 
   no_check : bytes_eq (codes "check") first ≡ false
-  no_check = other_order first (codes "check") (neither _ _ (neither _ _ unknown).1).0
+  no_check = other_order first (codes "check") (neither _ _ after_judge).0
+
+  no_replay : bytes_eq (codes "replay") first ≡ false
+  no_replay = other_order first (codes "replay") (neither _ _ after_check).0
 
   no_help : bytes_eq first (codes "help") ≡ false
-  no_help = (neither _ _ (neither _ _ unknown).1).1
+  no_help = (neither _ _ after_check).1
 
-  pub unknown_refused : (rest : List Text) → fault_of tsobench_app (first ∷ rest) ≡ UnknownArgument ∷ InvalidSubcommand ∷ []
+  pub unknown_refused : (units : UnitNames) (rest : List Text) → fault_of (tsobench_app units) (first ∷ rest) ≡ UnknownArgument ∷ InvalidSubcommand ∷ []
   unfolding clap_on_literals
-  unknown_refused rest = rw (no_judge, no_check, other_order first (codes "help") no_help, is.no_escape, is.no_long, is.no_short) refl
+  unknown_refused units rest = rw (no_judge, no_check, no_replay, other_order first (codes "help") no_help, is.no_escape, is.no_long, is.no_short) refl
 
   pub parsed_unchanged : (rest : List Text) → parsed_as (first ∷ rest) ≡ first ∷ rest
   parsed_unchanged [] = rw no_help refl

@@ -1,5 +1,5 @@
 -- The plain spellings ask for what their definitions say.
-use Rattle.std.proofs.Common.{◌≡◌, ◌∙◌, ◌≤◌, ◌<◌, ◌^◌, subst, inl, inr, arith, ℕ, false, List, [], ◌∷◌, ◌++◌, Option, codes}
+use Rattle.std.proofs.Common.{◌≡◌, ◌∙◌, ◌≤◌, ◌<◌, ◌^◌, subst, inl, inr, arith, ℕ, false, List, [], ◌∷◌, ◌++◌, Option, codes, map}
 use Rattle.std.specs.Fmt.{decimal}
 use Rattle.clap.specs.ValueTests.{accepts}
 use Rattle.clap.specs.declared.builder.value_parser.ValueParser.TheVariants as parser
@@ -9,24 +9,23 @@ use Rattle.clap.specs.declared.error.kind.ErrorKind.TheVariants.{InvalidSubcomma
 use Rattle.command_line.specs.Requests.{Text, Asked, refusing, showing}
 use Rattle.command_line.specs.Options.{NamesOption}
 use Rattle.command_line.specs.Options as given
+use Rattle.command_line.specs.Units.{unit_names}
 use Rattle.command_line.specs.Spellings.{Asks, AsksHelp}
 use Rattle.command_line.specs.Spellings as asks
-use Rattle.command_line.specs.Refusals.{Refuses, RefusesToJudge, RefusesToCheck, IsRefusedNumber}
+use Rattle.command_line.specs.Refusals.{Refuses, RefusesToJudge, RefusesToCheck, RefusesToReplay, IsRefusedNumber}
 use Rattle.command_line.specs.Refusals as refuses
-use Rattle.command_line.specs.Commands.{asked_at, tsobench_app}
+use Rattle.command_line.specs.Commands.{UnitNames, asked_at, tsobench_app}
 use Rattle.command_line.specs.Internal.Computed.{IsFoundBy, asked_by, parsed_as}
 use Rattle.round_pool.specs.Workers.{worker_limit}
 use Rattle.command_line.proofs.ValueLemmas.{IsValue, decimal_fails, decimal_is_value, value_is}
 use Rattle.command_line.proofs.ProgramLemmas as program
 use Rattle.command_line.proofs.SubcommandLemmas as subcommand
 use Rattle.command_line.proofs.JudgeLemmas as judge
+use Rattle.command_line.proofs.ReplayLemmas as replay
+use Rattle.command_line.proofs.ReplayRefusals as not_replayed
 use Rattle.command_line.proofs.JudgeRefusals as not_judged
 use Rattle.command_line.proofs.CheckLemmas as check
 use Rattle.command_line.proofs.CheckRefusals as not_checked
-
--- what a parse of the arguments says of what is asked for
-abbrev pub IsFound : List Text → Asked → Type 0
-IsFound arguments asked = IsFoundBy (fault_of tsobench_app (parsed_as arguments)) (subcommand_of tsobench_app (parsed_as arguments)) asked
 
 -- ---- by the kinds of error
 
@@ -46,83 +45,113 @@ module _ (found : Option (Text × List Row)) (asked : Asked) where
   stray_kinds (inr (inl is)) = is
   stray_kinds (inr (inr is)) = absurd is
 
--- ---- plain requests
+module _ (units : UnitNames) where
+  -- what a parse of the arguments says of what is asked for
+  abbrev pub IsFound : List Text → Asked → Type 0
+  IsFound arguments asked = IsFoundBy (fault_of (tsobench_app units) (parsed_as arguments)) (subcommand_of (tsobench_app units) (parsed_as arguments)) asked
 
--- what is asked for by the arguments that are parsed as they stand
-unchanged : (arguments : List Text) (asked : Asked) → parsed_as arguments ≡ arguments → IsFound arguments asked
-    → IsFoundBy (fault_of tsobench_app arguments) (subcommand_of tsobench_app arguments) asked
-unchanged arguments asked same is = subst (λ (a : List Text). IsFoundBy (fault_of tsobench_app a) (subcommand_of tsobench_app a) asked) same is
+  -- ---- plain requests
 
-pub plain_is : (arguments : List Text) (wanted asked : Asked) → Asks arguments wanted → IsFound arguments asked → asked ≡ wanted
-plain_is arguments wanted asked asks.nothing is = by_matches _ asked _ program.nothing_taken is
-plain_is arguments wanted asked (asks.judge rest file n h) is =
-    by_matches _ asked _ (judge.judge_taken rest file n h) (unchanged (codes "judge" ∷ rest) asked (subcommand.judge_parsed rest) is)
-    ∙ judge.judge_asked rest file n h
-plain_is arguments wanted asked (asks.check rest trace certificate h) is =
-    by_matches _ asked _ (check.check_taken trace certificate rest h) (unchanged (codes "check" ∷ rest) asked (subcommand.check_parsed rest) is)
-    ∙ check.check_asked trace certificate rest h
+  -- what is asked for by the arguments that are parsed as they stand
+  unchanged : (arguments : List Text) (asked : Asked) → parsed_as arguments ≡ arguments → IsFound arguments asked
+      → IsFoundBy (fault_of (tsobench_app units) arguments) (subcommand_of (tsobench_app units) arguments) asked
+  unchanged arguments asked same is = subst (λ (a : List Text). IsFoundBy (fault_of (tsobench_app units) a) (subcommand_of (tsobench_app units) a) asked) same is
 
--- ---- requests for a text
+  pub plain_is : map (λ name. name.now) units.now ≡ unit_names → (arguments : List Text) (wanted asked : Asked) → Asks arguments wanted → IsFound arguments asked → asked ≡ wanted
+  plain_is are arguments wanted asked asks.nothing is = by_matches _ asked _ (program.nothing_taken units) is
+  plain_is are arguments wanted asked (asks.judge rest file n h) is =
+      by_matches _ asked _ (judge.judge_taken units rest file n h) (unchanged (codes "judge" ∷ rest) asked (subcommand.judge_parsed rest) is)
+      ∙ judge.judge_asked units rest file n h
+  plain_is are arguments wanted asked (asks.check rest trace certificate h) is =
+      by_matches _ asked _ (check.check_taken trace certificate units rest h) (unchanged (codes "check" ∷ rest) asked (subcommand.check_parsed rest) is)
+      ∙ check.check_asked trace certificate units rest h
+  plain_is are arguments wanted asked (asks.replay rest run program_file schedule h) is =
+      by_matches _ asked _ (replay.replay_taken units program_file schedule are rest run h) (unchanged (codes "replay" ∷ rest) asked (subcommand.replay_parsed rest) is)
+      ∙ replay.replay_asked units program_file schedule are rest run h
 
-pub help_is : (arguments : List Text) (asked : Asked) → AsksHelp arguments → IsFound arguments asked → asked ≡ showing
-help_is arguments asked asks.help is = by_kind _ asked _ _ program.help_shown is
-help_is arguments asked asks.help_option is = by_kind _ asked _ _ program.help_shown is
-help_is arguments asked asks.help_short is = by_kind _ asked _ _ program.short_help_shown is
-help_is arguments asked asks.judge_help is = by_kind _ asked _ _ program.judge_help_shown is
-help_is arguments asked asks.judge_short is = by_kind _ asked _ _ program.judge_short_shown is
-help_is arguments asked asks.help_judge is = by_kind _ asked _ _ program.judge_help_shown is
-help_is arguments asked asks.check_short is = by_kind _ asked _ _ program.check_short_shown is
-help_is arguments asked asks.help_check is = by_kind _ asked _ _ program.check_help_shown is
-help_is arguments asked asks.check_help is = by_kind _ asked _ _ program.check_help_shown is
-help_is arguments asked asks.version_option is = by_kind _ asked _ _ program.version_shown is
-help_is arguments asked asks.version_short is = by_kind _ asked _ _ program.short_version_shown is
+  -- ---- requests for a text
 
--- ---- refused arguments
+  pub help_is : (arguments : List Text) (asked : Asked) → AsksHelp arguments → IsFound arguments asked → asked ≡ showing
+  help_is arguments asked asks.help is = by_kind _ asked _ _ (program.help_shown units) is
+  help_is arguments asked asks.help_option is = by_kind _ asked _ _ (program.help_shown units) is
+  help_is arguments asked asks.help_short is = by_kind _ asked _ _ (program.short_help_shown units) is
+  help_is arguments asked asks.judge_help is = by_kind _ asked _ _ (program.judge_help_shown units) is
+  help_is arguments asked asks.judge_short is = by_kind _ asked _ _ (program.judge_short_shown units) is
+  help_is arguments asked asks.help_judge is = by_kind _ asked _ _ (program.judge_help_shown units) is
+  help_is arguments asked asks.check_short is = by_kind _ asked _ _ (program.check_short_shown units) is
+  help_is arguments asked asks.help_check is = by_kind _ asked _ _ (program.check_help_shown units) is
+  help_is arguments asked asks.check_help is = by_kind _ asked _ _ (program.check_help_shown units) is
+  help_is arguments asked asks.replay_short is = by_kind _ asked _ _ (program.replay_short_shown units) is
+  help_is arguments asked asks.help_replay is = by_kind _ asked _ _ (program.replay_help_shown units) is
+  help_is arguments asked asks.replay_help is = by_kind _ asked _ _ (program.replay_help_shown units) is
+  help_is arguments asked asks.version_option is = by_kind _ asked _ _ (program.version_shown units) is
+  help_is arguments asked asks.version_short is = by_kind _ asked _ _ (program.short_version_shown units) is
 
-outside : (n : ℕ) → IsRefusedNumber n → 1 ≤ n → n ≤ worker_limit → ⊥
-outside n (inl zero) least most = omega arith
-outside n (inr above) least most = omega arith
+  -- ---- refused arguments
 
-module _ (n : ℕ) (wrong : IsRefusedNumber n) (small : n < 10 ^ 64) where
-  fails : accepts false (parser.Unsigned 1 worker_limit) (decimal n) ≡ false
-  fails = decimal_fails 1 worker_limit n (outside n wrong) small
+  outside : (n : ℕ) → IsRefusedNumber n → 1 ≤ n → n ≤ worker_limit → ⊥
+  outside n (inl zero) least most = omega arith
+  outside n (inr above) least most = omega arith
 
-  number_refused : (option : List Text) (asked : Asked) → NamesOption (codes "workers") (decimal n) option → IsFound (codes "judge" ∷ option) asked → asked ≡ refusing
-  number_refused option asked (given.apart plain) is = by_kind _ asked _ _ (not_judged.apart_refused (decimal n) (decimal_is_value n small) fails) is
-  number_refused option asked given.joined is = by_kind _ asked _ _ (not_judged.joined_refused (decimal n) (decimal_is_value n small) fails) is
+  module _ (n : ℕ) (wrong : IsRefusedNumber n) (small : n < 10 ^ 64) where
+    fails : accepts false (parser.Unsigned 1 worker_limit) (decimal n) ≡ false
+    fails = decimal_fails 1 worker_limit n (outside n wrong) small
 
-  module _ (name : Text) (file : IsValue name) where
-    number_file_refused : (option : List Text) (asked : Asked) → NamesOption (codes "workers") (decimal n) option → IsFound (codes "judge" ∷ (option ++ name ∷ [])) asked → asked ≡ refusing
-    number_file_refused option asked (given.apart plain) is = by_kind _ asked _ _ (not_judged.apart_file_refused (decimal n) name (decimal_is_value n small) file fails) is
-    number_file_refused option asked given.joined is = by_kind _ asked _ _ (not_judged.joined_file_refused (decimal n) name (decimal_is_value n small) file fails) is
+    number_refused : (option : List Text) (asked : Asked) → NamesOption (codes "workers") (decimal n) option → IsFound (codes "judge" ∷ option) asked → asked ≡ refusing
+    number_refused option asked (given.apart plain) is = by_kind _ asked _ _ (not_judged.apart_refused units (decimal n) (decimal_is_value n small) fails) is
+    number_refused option asked given.joined is = by_kind _ asked _ _ (not_judged.joined_refused units (decimal n) (decimal_is_value n small) fails) is
 
-    file_number_refused : (option : List Text) (asked : Asked) → NamesOption (codes "workers") (decimal n) option → IsFound (codes "judge" ∷ name ∷ option) asked → asked ≡ refusing
-    file_number_refused option asked (given.apart plain) is = by_kind _ asked _ _ (not_judged.file_apart_refused (decimal n) name (decimal_is_value n small) file fails) is
-    file_number_refused option asked given.joined is = by_kind _ asked _ _ (not_judged.file_joined_refused (decimal n) name (decimal_is_value n small) file fails) is
+    module _ (name : Text) (file : IsValue name) where
+      number_file_refused : (option : List Text) (asked : Asked) → NamesOption (codes "workers") (decimal n) option → IsFound (codes "judge" ∷ (option ++ name ∷ [])) asked → asked ≡ refusing
+      number_file_refused option asked (given.apart plain) is = by_kind _ asked _ _ (not_judged.apart_file_refused units (decimal n) name (decimal_is_value n small) file fails) is
+      number_file_refused option asked given.joined is = by_kind _ asked _ _ (not_judged.joined_file_refused units (decimal n) name (decimal_is_value n small) file fails) is
 
-judge_refused : (rest : List Text) (asked : Asked) → RefusesToJudge rest → IsFound (codes "judge" ∷ rest) asked → asked ≡ refusing
-judge_refused rest asked (refuses.number n option names wrong small) is = number_refused n wrong small option asked names is
-judge_refused rest asked (refuses.number_file n option name names wrong small file) is =
-    number_file_refused n wrong small name (value_is name file) option asked names is
-judge_refused rest asked (refuses.file_number n option name names wrong small file) is =
-    file_number_refused n wrong small name (value_is name file) option asked names is
-judge_refused rest asked (refuses.second_file name other file other_file) is =
-    by_kind _ asked _ _ (not_judged.second_refused name other (value_is name file) (value_is other other_file)) is
+      file_number_refused : (option : List Text) (asked : Asked) → NamesOption (codes "workers") (decimal n) option → IsFound (codes "judge" ∷ name ∷ option) asked → asked ≡ refusing
+      file_number_refused option asked (given.apart plain) is = by_kind _ asked _ _ (not_judged.file_apart_refused units (decimal n) name (decimal_is_value n small) file fails) is
+      file_number_refused option asked given.joined is = by_kind _ asked _ _ (not_judged.file_joined_refused units (decimal n) name (decimal_is_value n small) file fails) is
 
-check_refused : (rest : List Text) (asked : Asked) → RefusesToCheck rest → IsFound (codes "check" ∷ rest) asked → asked ≡ refusing
-check_refused rest asked refuses.no_files is = by_kind _ asked _ _ not_checked.check_refused is
-check_refused rest asked (refuses.no_certificate trace is_trace) is = by_kind _ asked _ _ (not_checked.trace_refused trace (value_is trace is_trace)) is
-check_refused rest asked (refuses.third_file trace certificate other is_trace is_certificate is_other) is =
-    by_kind _ asked _ _ (not_checked.third_refused trace (value_is trace is_trace) certificate (value_is certificate is_certificate) other (value_is other is_other)) is
+  judge_refused : (rest : List Text) (asked : Asked) → RefusesToJudge rest → IsFound (codes "judge" ∷ rest) asked → asked ≡ refusing
+  judge_refused rest asked (refuses.number n option names wrong small) is = number_refused n wrong small option asked names is
+  judge_refused rest asked (refuses.number_file n option name names wrong small file) is =
+      number_file_refused n wrong small name (value_is name file) option asked names is
+  judge_refused rest asked (refuses.file_number n option name names wrong small file) is =
+      file_number_refused n wrong small name (value_is name file) option asked names is
+  judge_refused rest asked (refuses.second_file name other file other_file) is =
+      by_kind _ asked _ _ (not_judged.second_refused units name other (value_is name file) (value_is other other_file)) is
 
-unknown_refused : (first : Text) (rest : List Text) (asked : Asked) (value : IsValue first) → refuses.is_subcommand first ≡ false → IsFound (first ∷ rest) asked → asked ≡ refusing
-unknown_refused first rest asked value unknown is =
-    let parsed : IsFoundBy (fault_of tsobench_app (first ∷ rest)) (subcommand_of tsobench_app (first ∷ rest)) asked =
-    subst (λ (a : List Text). IsFoundBy (fault_of tsobench_app a) (subcommand_of tsobench_app a) asked) (program.parsed_unchanged first value unknown rest) is in
-    let found = subcommand_of tsobench_app (first ∷ rest) in
-    stray_kinds found asked (subst (λ (k : Kinds). IsFoundBy k found asked) (program.unknown_refused first value unknown rest) parsed)
+  check_refused : (rest : List Text) (asked : Asked) → RefusesToCheck rest → IsFound (codes "check" ∷ rest) asked → asked ≡ refusing
+  check_refused rest asked refuses.no_files is = by_kind _ asked _ _ (not_checked.check_refused units) is
+  check_refused rest asked (refuses.no_certificate trace is_trace) is = by_kind _ asked _ _ (not_checked.trace_refused units trace (value_is trace is_trace)) is
+  check_refused rest asked (refuses.third_file trace certificate other is_trace is_certificate is_other) is =
+      by_kind _ asked _ _ (not_checked.third_refused units trace (value_is trace is_trace) certificate (value_is certificate is_certificate) other (value_is other is_other)) is
 
-pub refused_is : (arguments : List Text) (asked : Asked) → Refuses arguments → IsFound arguments asked → asked ≡ refusing
-refused_is arguments asked (refuses.unknown first rest file unknown) is = unknown_refused first rest asked (value_is first file) unknown is
-refused_is arguments asked (refuses.judge rest h) is = judge_refused rest asked h is
-refused_is arguments asked (refuses.check rest h) is = check_refused rest asked h is
+  unknown_refused : (first : Text) (rest : List Text) (asked : Asked) (value : IsValue first) → refuses.is_subcommand first ≡ false → IsFound (first ∷ rest) asked → asked ≡ refusing
+  unknown_refused first rest asked value unknown is =
+      let parsed : IsFoundBy (fault_of (tsobench_app units) (first ∷ rest)) (subcommand_of (tsobench_app units) (first ∷ rest)) asked =
+      subst (λ (a : List Text). IsFoundBy (fault_of (tsobench_app units) a) (subcommand_of (tsobench_app units) a) asked) (program.parsed_unchanged first value unknown rest) is in
+      let found = subcommand_of (tsobench_app units) (first ∷ rest) in
+      stray_kinds found asked (subst (λ (k : Kinds). IsFoundBy k found asked) (program.unknown_refused first value unknown units rest) parsed)
+
+  replay_refused : map (λ name. name.now) units.now ≡ unit_names → (rest : List Text) (asked : Asked) → RefusesToReplay rest → IsFound (codes "replay" ∷ rest) asked → asked ≡ refusing
+  replay_refused are rest asked refuses.nothing is = by_kind _ asked _ _ (not_replayed.nothing_refused units) is
+  replay_refused are rest asked (refuses.no_unit program_file schedule is_program is_schedule) is =
+      by_kind _ asked _ _ (not_replayed.no_unit_refused units program_file schedule (value_is program_file is_program) (value_is schedule is_schedule)) is
+  replay_refused are rest asked (refuses.too_few_files run options flags files arguments gives named asks_run few) is =
+      by_kind _ asked _ _ (not_replayed.too_few_refused units are run options flags files arguments gives named asks_run few)
+      (unchanged (codes "replay" ∷ arguments) asked (subcommand.replay_parsed arguments) is)
+  replay_refused are rest asked (refuses.another_file name program_file schedule other option more names known is_program is_schedule is_other) is =
+      by_kind _ asked _ _ (not_replayed.another_file_refused units are name option names known program_file schedule other more
+      (value_is program_file is_program) (value_is schedule is_schedule) (value_is other is_other))
+      (unchanged _ asked (subcommand.replay_parsed (option ++ program_file ∷ schedule ∷ other ∷ more)) is)
+  replay_refused are rest asked (refuses.no_such_unit name program_file option more names other is_program) is =
+      by_kind _ asked _ _ (not_replayed.no_such_unit_refused units are name option names other program_file more (value_is program_file is_program))
+      (unchanged _ asked (subcommand.replay_parsed (option ++ program_file ∷ more)) is)
+  replay_refused are rest asked (refuses.outside name program_file number_name limit n option these more names known takes gives wrong small is_program) is =
+      by_kind _ asked _ _ (not_replayed.outside_refused units are name option names known program_file number_name limit n these more takes gives wrong small (value_is program_file is_program))
+      (unchanged _ asked (subcommand.replay_parsed (option ++ (these ++ program_file ∷ more))) is)
+
+  pub refused_is : map (λ name. name.now) units.now ≡ unit_names → (arguments : List Text) (asked : Asked) → Refuses arguments → IsFound arguments asked → asked ≡ refusing
+  refused_is are arguments asked (refuses.unknown first rest file unknown) is = unknown_refused first rest asked (value_is first file) unknown is
+  refused_is are arguments asked (refuses.judge rest h) is = judge_refused rest asked h is
+  refused_is are arguments asked (refuses.check rest h) is = check_refused rest asked h is
+  refused_is are arguments asked (refuses.replay rest h) is = replay_refused are rest asked h is

@@ -10,46 +10,59 @@ use Rattle.clap.proofs.OnLiterals.{clap_on_literals}
 use Rattle.clap.proofs.WalkLemmas.{walk_stopped}
 use Rattle.command_line.proofs.OptionLemmas.{standing}
 use Rattle.command_line.specs.Requests.{Text}
-use Rattle.command_line.specs.Commands.{check_app, judge_app, tsobench_app}
+use Rattle.command_line.specs.Commands.{UnitNames, check_app, judge_app, program_app, replay_app, tsobench_app}
 use Rattle.command_line.specs.Internal.Computed.{parsed_as}
+
+-- the program as a subcommand sees it when it is built
+abbrev program : Shape
+program = with_leaf_noted (marked_built (record program_app.top { is_leaf = false }))
 
 -- a subcommand as the program's build leaves it
 abbrev pub built_below : App → Shape
-built_below sub = built_leaf (inherited (with_leaf_noted (marked_built tsobench_app.top)) sub.top)
+built_below sub = built_leaf (inherited program sub.top)
 
-abbrev top : Shape
-top = (built tsobench_app).top
+module _ (units : UnitNames) where
+  abbrev top : Shape
+  top = (built (tsobench_app units)).top
 
-abbrev names : Names
-names = names_of (built tsobench_app)
+  abbrev subcommand_names : Names
+  subcommand_names = names_of (built (tsobench_app units))
 
-abbrev stopped_at : Text → List Text → Walk
-stopped_at name rest = record (standing [] None 1) { stopped = Some (name, rest) }
+  abbrev stopped_at : Text → List Text → Walk
+  stopped_at name rest = record (standing [] None 1) { stopped = Some (name, rest) }
 
-left_to : (name : Text) (rest : List Text) → fold (walked top.rules names) (stopped_at name []) rest ≡ stopped_at name rest
-left_to name rest = sym (walk_stopped top.rules names (standing [] None 1) name [] rest)
+  left_to : (name : Text) (rest : List Text) → fold (walked top.rules subcommand_names) (stopped_at name []) rest ≡ stopped_at name rest
+  left_to name rest = sym (walk_stopped top.rules subcommand_names (standing [] None 1) name [] rest)
 
-nothing_fails : (name : Text) (seen rest : List Text) → walk_fault top names (stopped_at name seen) rest ≡ []
-unfolding walk_fault walked
-nothing_fails name seen [] = refl
-nothing_fails name seen (x ∷ xs) = nothing_fails name (seen ++ x ∷ []) xs
+  nothing_fails : (name : Text) (seen rest : List Text) → walk_fault top subcommand_names (stopped_at name seen) rest ≡ []
+  unfolding walk_fault walked
+  nothing_fails name seen [] = refl
+  nothing_fails name seen (x ∷ xs) = nothing_fails name (seen ++ x ∷ []) xs
 
-module _ (rest : List Text) where
-  pub judge_found : subcommand_of tsobench_app (codes "judge" ∷ rest) ≡ Some (codes "judge", rows_after (built_below judge_app).rules [] rest)
-  unfolding walked
-  judge_found = ap (λ (w : Walk). entered (built tsobench_app) w.stopped) (left_to (codes "judge") rest)
+  module _ (rest : List Text) where
+    pub judge_found : subcommand_of (tsobench_app units) (codes "judge" ∷ rest) ≡ Some (codes "judge", rows_after (built_below judge_app).rules [] rest)
+    unfolding walked
+    judge_found = ap (λ (w : Walk). entered (built (tsobench_app units)) w.stopped) (left_to (codes "judge") rest)
 
-  pub judge_fault : fault_of tsobench_app (codes "judge" ∷ rest) ≡ or_else (level_fault (built_below judge_app) [] nothing_held rest false []) []
-  unfolding clap_on_literals
-  judge_fault = rw (left_to (codes "judge") rest, nothing_fails (codes "judge") [] rest) refl
+    pub judge_fault : fault_of (tsobench_app units) (codes "judge" ∷ rest) ≡ or_else (level_fault (built_below judge_app) [] nothing_held rest false []) []
+    unfolding clap_on_literals
+    judge_fault = rw (left_to (codes "judge") rest, nothing_fails (codes "judge") [] rest) refl
 
-  pub check_found : subcommand_of tsobench_app (codes "check" ∷ rest) ≡ Some (codes "check", rows_after (built_below check_app).rules [] rest)
-  unfolding walked
-  check_found = ap (λ (w : Walk). entered (built tsobench_app) w.stopped) (left_to (codes "check") rest)
+    pub check_found : subcommand_of (tsobench_app units) (codes "check" ∷ rest) ≡ Some (codes "check", rows_after (built_below check_app).rules [] rest)
+    unfolding walked
+    check_found = ap (λ (w : Walk). entered (built (tsobench_app units)) w.stopped) (left_to (codes "check") rest)
 
-  pub check_fault : fault_of tsobench_app (codes "check" ∷ rest) ≡ or_else (level_fault (built_below check_app) [] nothing_held rest false []) []
-  unfolding clap_on_literals
-  check_fault = rw (left_to (codes "check") rest, nothing_fails (codes "check") [] rest) refl
+    pub check_fault : fault_of (tsobench_app units) (codes "check" ∷ rest) ≡ or_else (level_fault (built_below check_app) [] nothing_held rest false []) []
+    unfolding clap_on_literals
+    check_fault = rw (left_to (codes "check") rest, nothing_fails (codes "check") [] rest) refl
+
+    pub replay_found : subcommand_of (tsobench_app units) (codes "replay" ∷ rest) ≡ Some (codes "replay", rows_after (built_below (replay_app units)).rules [] rest)
+    unfolding walked
+    replay_found = ap (λ (w : Walk). entered (built (tsobench_app units)) w.stopped) (left_to (codes "replay") rest)
+
+    pub replay_fault : fault_of (tsobench_app units) (codes "replay" ∷ rest) ≡ or_else (level_fault (built_below (replay_app units)) [] nothing_held rest false []) []
+    unfolding clap_on_literals
+    replay_fault = rw (left_to (codes "replay") rest, nothing_fails (codes "replay") [] rest) refl
 
 pub judge_parsed : (rest : List Text) → parsed_as (codes "judge" ∷ rest) ≡ codes "judge" ∷ rest
 judge_parsed [] = refl
@@ -60,3 +73,8 @@ pub check_parsed : (rest : List Text) → parsed_as (codes "check" ∷ rest) ≡
 check_parsed [] = refl
 check_parsed (x ∷ []) = refl
 check_parsed (x ∷ y ∷ ys) = refl
+
+pub replay_parsed : (rest : List Text) → parsed_as (codes "replay" ∷ rest) ≡ codes "replay" ∷ rest
+replay_parsed [] = refl
+replay_parsed (x ∷ []) = refl
+replay_parsed (x ∷ y ∷ ys) = refl

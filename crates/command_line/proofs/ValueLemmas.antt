@@ -63,8 +63,8 @@ decimal_passes low high n least most small =
     Accepts-accepts false (parser.Unsigned low high) (decimal n)
     (rw same is.0, rw read small, rw read least, rw read most)
 
-pub number_in-decimal : (n : ℕ) → n < 2 ^ 64 → number_in (decimal n) ≡ n
-number_in-decimal n small =
+pub number_in-decimal : (other n : ℕ) → n < 2 ^ 64 → number_in other (decimal n) ≡ n
+number_in-decimal other n small =
     let passes = decimal_passes 0 (2 ^ 64 - 1) n (omega arith) (omega arith) small in
     rw passes (decimal_read n small)
 

@@ -1,26 +1,36 @@
 -- What the arguments ask for in the terms of `clap`: the command line that is offered, and what its matches and its
 -- kinds of error stand for.
-use Rattle.std.specs.Prelude.{◌≡◌, ◌⊎◌, ◌≤◌, ℕ, true, List, [], ◌∷◌, Option, Some, None, codes, unwrap_or}
+use Rattle.std.specs.Prelude.{◌≡◌, ◌⊎◌, ◌≤◌, ℕ, Bool, true, false, List, [], ◌∷◌, ◌++◌, Option, Some, None, codes, fold, map, unwrap_or}
+use Rattle.std.specs.Borrow.{Bor}
 use Rattle.std.specs.Str.Parse.{digits_value, without_leading_plus}
 use Rattle.clap.specs.Simple.{App, on_top}
 use Rattle.clap.specs.ValueTests.{is_unsigned_in}
 use Rattle.clap.specs.Words.{Kinds, Row, Rule, fault_of, first_of, new_app, new_rule, one_of, subcommand_of, with_rule, with_subcommand}
+use Rattle.clap.specs.declared.builder.action.ArgAction.TheVariants.{SetTrue}
 use Rattle.clap.specs.declared.builder.value_parser.ValueParser.TheVariants as parser
 use Rattle.clap.specs.declared.error.kind.ErrorKind.{ErrorKind}
 use Rattle.clap.specs.declared.error.kind.ErrorKind.TheVariants.{DisplayHelp, DisplayVersion}
 use Rattle.round_pool.specs.Workers.{worker_limit}
-use Rattle.command_line.specs.Requests.{Text, Asked, judging, checking, showing, refusing}
+use Rattle.command_line.specs.declared.options.RunOptions.{RunOptions}
+use Rattle.command_line.specs.declared.options.UnitKind.{UnitKind}
+use Rattle.command_line.specs.declared.options.UnitOptions.{UnitOptions}
+use Rattle.command_line.specs.Requests.{Text, Asked, capacity_limit, judging, checking, replaying, showing, refusing}
+use Rattle.command_line.specs.Units.{default_capacity, default_trigger, trigger_limit, unit_kind, unit_names}
 
 -- ---- the command line
 
+-- an option with this name, which takes a number from 1 to a limit and has a default
+abbrev pub number_rule : Text → Text → ℕ → Rule
+number_rule name default limit = record (new_rule name) {
+  long = Some name;
+  value_names = 1;
+  defaults = default ∷ [];
+  parser = Some (parser.Unsigned 1 limit);
+}
+
 -- `--workers N`: a number from 1 to the limit of workers, and 1 where it is left out
 abbrev pub workers_rule : Rule
-workers_rule = record (new_rule (codes "workers")) {
-  long = Some (codes "workers");
-  value_names = 1;
-  defaults = codes "1" ∷ [];
-  parser = Some (parser.Unsigned 1 worker_limit);
-}
+workers_rule = number_rule (codes "workers") (codes "1") worker_limit
 
 abbrev pub file_rule : Rule
 file_rule = record (new_rule (codes "file")) { value_names = 1 }
@@ -37,31 +47,109 @@ certificate_rule = record (new_rule (codes "cert")) { value_names = 1; required 
 abbrev pub check_app : App
 check_app = with_rule (with_rule (new_app (codes "check")) trace_rule) certificate_rule
 
+-- the names of the units, as a list in memory
+abbrev pub UnitNames : Type 0
+UnitNames = Bor (List (Bor Text))
+
+-- `--unit UNIT`: one of these names
+abbrev pub unit_rule : UnitNames → Rule
+unit_rule names = record (new_rule (codes "unit")) {
+  long = Some (codes "unit");
+  value_names = 1;
+  required = true;
+  parser = Some (parser.Names names);
+}
+
+-- `--capacity C`: a number from 1 to the limit of capacities, and 8 where it is left out
+abbrev pub capacity_rule : Rule
+capacity_rule = number_rule (codes "capacity") (codes "8") capacity_limit
+
+-- `--trigger T`: a number of 64 bits from 1, and 1 where it is left out
+abbrev pub trigger_rule : Rule
+trigger_rule = number_rule (codes "trigger") (codes "1") trigger_limit
+
+-- `--trace`, a flag
+abbrev pub prints_rule : Rule
+prints_rule = record (new_rule (codes "trace")) { long = Some (codes "trace"); action = Some SetTrue }
+
+-- the options of a unit
+abbrev pub unit_rules : UnitNames → List Rule
+unit_rules names = unit_rule names ∷ capacity_rule ∷ trigger_rule ∷ []
+
+-- the options of a run
+abbrev pub run_rules : UnitNames → List Rule
+run_rules names = unit_rules names ++ workers_rule ∷ prints_rule ∷ []
+
+-- the command with these options and other arguments after its own
+abbrev pub with_rules : App → List Rule → App
+with_rules app rules = fold with_rule app rules
+
+abbrev pub program_file_rule : Rule
+program_file_rule = record (new_rule (codes "program")) { value_names = 1; required = true }
+
+abbrev pub schedule_file_rule : Rule
+schedule_file_rule = record (new_rule (codes "schedule")) { value_names = 1; required = true }
+
+abbrev pub replay_app : UnitNames → App
+replay_app names =
+    with_rules (new_app (codes "replay")) (run_rules names ++ program_file_rule ∷ schedule_file_rule ∷ [])
+
 -- the program, before its subcommands; the name of the program is none of its arguments
 abbrev pub program_app : App
 program_app = on_top (λ s. record s { no_binary_name = true; has_version = true }) (new_app (codes "tsobench"))
 
-abbrev pub tsobench_app : App
-tsobench_app = with_subcommand (with_subcommand program_app judge_app.top) check_app.top
+abbrev pub tsobench_app : UnitNames → App
+tsobench_app names = with_subcommand
+    (with_subcommand (with_subcommand program_app judge_app.top) check_app.top)
+    (replay_app names).top
 
 -- ---- what the matches stand for
 
--- The rows of `judge` ask for so many workers: one where they have no number, else the number that its text spells,
--- which lies in the range of `--workers`, since `clap` refuses any other.
-pub record AskWorkers (rows : List Row) (n : ℕ) : Type 0 where
-  pub unnamed : one_of (codes "workers") rows ≡ None → n ≡ 1
-  pub named : (text : Text) → one_of (codes "workers") rows ≡ Some text → is_unsigned_in 1 worker_limit text ≡ true
+-- The rows ask by the option of this name for the number n: for `other` where they have no number, else for the one that
+-- its text spells, which lies in the range of the option, since `clap` refuses any other.
+pub record AskNumber (name : Text) (other least most : ℕ) (rows : List Row) (n : ℕ) : Type 0 where
+  pub unnamed : one_of name rows ≡ None → n ≡ other
+  pub named : (text : Text) → one_of name rows ≡ Some text → is_unsigned_in least most text ≡ true
       → n ≡ digits_value 10 (without_leading_plus text)
-  pub within : (1 ≤ n) × (n ≤ worker_limit)
+  pub within : (least ≤ n) × (n ≤ most)
+
+-- the rows ask for so many workers, one where they have no number
+abbrev pub AskWorkers : List Row → ℕ → Type 0
+AskWorkers = AskNumber (codes "workers") 1 1 worker_limit
+
+-- the rows ask by the flag of this name for what it stands for, or don't
+pub record AskFlag (name : Text) (rows : List Row) (is_asked : Bool) : Type 0 where
+  pub unnamed : one_of name rows ≡ None → is_asked ≡ false
+  pub not_used : one_of name rows ≡ Some (codes "false") → is_asked ≡ false
+  pub used : one_of name rows ≡ Some (codes "true") → is_asked ≡ true
+
+-- the rows ask for this unit: of the kind that they name, with a capacity and a trigger
+pub record AskUnit (rows : List Row) (unit : UnitOptions) : Type 0 where
+  pub kind : (name : Text) (kind : UnitKind) → first_of (codes "unit") rows ≡ Some name → unit_kind name ≡ Some kind
+      → unit.kind ≡ kind
+  pub capacity : AskNumber (codes "capacity") default_capacity 1 capacity_limit rows unit.capacity
+  pub trigger : AskNumber (codes "trigger") default_trigger 1 trigger_limit rows unit.trigger
+
+-- the rows ask for a run with these options
+pub record AskRun (rows : List Row) (options : RunOptions) : Type 0 where
+  pub unit : AskUnit rows options.unit
+  pub workers : AskWorkers rows options.workers
+  pub trace : AskFlag (codes "trace") rows options.prints_trace
 
 abbrev pub checking_by : List Row → Asked
 checking_by rows =
     checking (unwrap_or (first_of (codes "trace") rows) []) (unwrap_or (first_of (codes "cert") rows) [])
 
+abbrev pub replaying_with : RunOptions → List Row → Asked
+replaying_with options rows =
+    replaying options (unwrap_or (first_of (codes "program") rows) []) (unwrap_or (first_of (codes "schedule") rows) [])
+
 -- the subcommand of this name, with these rows, asks for that
 pub record IsAskedIn (name : Text) (rows : List Row) (asked : Asked) : Type 0 where
   pub judge : name ≡ codes "judge" → (n : ℕ) × AskWorkers rows n × (asked ≡ judging (first_of (codes "file") rows) n)
   pub check : name ≡ codes "check" → asked ≡ checking_by rows
+  pub replay : name ≡ codes "replay"
+      → (options : RunOptions) × AskRun rows options × (asked ≡ replaying_with options rows)
 
 -- without a subcommand standard input is judged, with one worker
 abbrev pub IsAskedByMatches : Option (Text × List Row) → Asked → Type 0
@@ -84,6 +172,7 @@ abbrev pub IsAskedBy : Kinds → Option (Text × List Row) → Asked → Type 0
 IsAskedBy [] found asked = IsAskedByMatches found asked
 IsAskedBy (kind ∷ others) found asked = IsAskedAtOne (kind ∷ others) asked
 
--- what `clap` says that the arguments ask for
+-- what `clap` says that the arguments ask for, where `--unit` takes the names of the units
 abbrev pub IsAskedFor : List Text → Asked → Type 0
-IsAskedFor arguments asked = IsAskedBy (fault_of tsobench_app arguments) (subcommand_of tsobench_app arguments) asked
+IsAskedFor arguments asked = (names : UnitNames) × (map (λ name. name.now) names.now ≡ unit_names)
+    × IsAskedBy (fault_of (tsobench_app names) arguments) (subcommand_of (tsobench_app names) arguments) asked

@@ -1,19 +1,34 @@
 -- Plain arguments that are refused, in the program's own terms.
-use Rattle.std.specs.Prelude.{◌≡◌, ◌<◌, ◌^◌, ◌⊎◌, ◌||◌, ℕ, Bool, true, false, List, [], ◌∷◌, ◌++◌, codes}
+use Rattle.std.specs.Prelude.{◌≡◌, ◌<◌, ◌^◌, ◌⊎◌, ◌||◌, ℕ, Bool, true, false, List, [], ◌∷◌, ◌++◌, codes, length}
 use Rattle.std.specs.Fmt.{decimal}
 use Rattle.std.specs.Str.{bytes_eq}
 use Rattle.round_pool.specs.Workers.{worker_limit}
-use Rattle.command_line.specs.Requests.{Text}
-use Rattle.command_line.specs.Options.{NamesOption, is_value}
+use Rattle.command_line.specs.declared.options.RunOptions.{RunOptions}
+use Rattle.command_line.specs.Requests.{Text, capacity_limit}
+use Rattle.command_line.specs.Options.{AreGiven, AreNamed, NamesOption, is_value}
+use Rattle.command_line.specs.Spellings.{AsksRun, run_names}
+use Rattle.command_line.specs.Units.{is_unit, trigger_limit}
 
 -- the text is the name of a subcommand
 abbrev pub is_subcommand : Text → Bool
 is_subcommand text =
-    bytes_eq text (codes "judge") || (bytes_eq text (codes "check") || bytes_eq text (codes "help"))
+    bytes_eq text (codes "judge") || (bytes_eq text (codes "check")
+    || (bytes_eq text (codes "replay") || bytes_eq text (codes "help")))
 
--- a number of workers that is refused: 0, and one above the limit. Below, numbers have at most 64 digits.
+-- a number that an option refuses which takes 1 to a limit: 0, and one above the limit. Below, numbers have at most 64
+-- digits.
+abbrev pub IsOutside : ℕ → ℕ → Type 0
+IsOutside limit n = (n ≡ 0) ⊎ (limit < n)
+
+-- a number of workers that is refused
 abbrev pub IsRefusedNumber : ℕ → Type 0
-IsRefusedNumber n = (n ≡ 0) ⊎ (worker_limit < n)
+IsRefusedNumber = IsOutside worker_limit
+
+-- the options of a run that take a number, 1 to a limit
+pub data TakesNumber : Text → ℕ → Type 0 where
+  capacity : TakesNumber (codes "capacity") capacity_limit
+  trigger : TakesNumber (codes "trigger") trigger_limit
+  workers : TakesNumber (codes "workers") worker_limit
 
 -- the arguments after `judge` are refused
 pub data RefusesToJudge : List Text → Type 0 where
@@ -41,6 +56,30 @@ pub data RefusesToCheck : List Text → Type 0 where
       → is_value certificate ≡ true → is_value other ≡ true
       → RefusesToCheck (trace ∷ certificate ∷ other ∷ [])
 
+-- the arguments after `replay` are refused
+pub data RefusesToReplay : List Text → Type 0 where
+  -- replay
+  nothing : RefusesToReplay []
+  -- replay PROGRAM SCHEDULE
+  no_unit : (program schedule : Text) → is_value program ≡ true → is_value schedule ≡ true
+      → RefusesToReplay (program ∷ schedule ∷ [])
+  -- the options and flags of a run, in any order, with one file or none
+  too_few_files : (run : RunOptions) (options : List (Text × Text)) (flags files arguments : List Text)
+      → AreGiven options flags files arguments → AreNamed run_names options → AsksRun options flags run
+      → length files < 2 → RefusesToReplay arguments
+  -- replay --unit UNIT PROGRAM SCHEDULE FILE, with any after them
+  another_file : (name program schedule other : Text) (unit rest : List Text) → NamesOption (codes "unit") name unit
+      → is_unit name ≡ true → is_value program ≡ true → is_value schedule ≡ true → is_value other ≡ true
+      → RefusesToReplay (unit ++ program ∷ schedule ∷ other ∷ rest)
+  -- replay --unit NAME PROGRAM, where no unit has the name, with any after them
+  no_such_unit : (name program : Text) (unit rest : List Text) → NamesOption (codes "unit") name unit
+      → is_unit name ≡ false → is_value program ≡ true → RefusesToReplay (unit ++ program ∷ rest)
+  -- replay --unit UNIT --capacity N PROGRAM, or another option with a number, with any after them
+  outside : (name program option : Text) (limit n : ℕ) (unit these rest : List Text)
+      → NamesOption (codes "unit") name unit → is_unit name ≡ true
+      → TakesNumber option limit → NamesOption option (decimal n) these → IsOutside limit n → n < 10 ^ 64
+      → is_value program ≡ true → RefusesToReplay (unit ++ (these ++ program ∷ rest))
+
 -- the arguments are refused
 pub data Refuses : List Text → Type 0 where
   -- a first argument that is no subcommand and no option, with any after it
@@ -48,3 +87,4 @@ pub data Refuses : List Text → Type 0 where
       → is_subcommand first ≡ false → Refuses (first ∷ rest)
   judge : (rest : List Text) → RefusesToJudge rest → Refuses (codes "judge" ∷ rest)
   check : (rest : List Text) → RefusesToCheck rest → Refuses (codes "check" ∷ rest)
+  replay : (rest : List Text) → RefusesToReplay rest → Refuses (codes "replay" ∷ rest)

@@ -1,9 +1,12 @@
 -- The plain spellings of requests: which arguments ask for what, in the program's own terms.
-use Rattle.std.specs.Prelude.{◌≡◌, ◌≤◌, ℕ, List, [], ◌∷◌, Option, None, codes, option_to_list}
+use Rattle.std.specs.Prelude.{◌≡◌, ◌≤◌, ℕ, List, [], ◌∷◌, Option, Some, None, codes, option_and_then, option_to_list}
 use Rattle.std.specs.Fmt.{decimal}
 use Rattle.round_pool.specs.Workers.{worker_limit}
-use Rattle.command_line.specs.Options.{AreGiven}
-use Rattle.command_line.specs.Requests.{Text, Asked, judging, checking}
+use Rattle.command_line.specs.declared.options.RunOptions.{RunOptions}
+use Rattle.command_line.specs.declared.options.UnitOptions.{UnitOptions}
+use Rattle.command_line.specs.Options.{AreGiven, AreNamed, AsksFlag, AsksNumber, value_of}
+use Rattle.command_line.specs.Requests.{Text, Asked, capacity_limit, judging, checking, replaying}
+use Rattle.command_line.specs.Units.{default_capacity, default_trigger, trigger_limit, unit_kind}
 
 -- the options of `judge`: none, for one worker, or a number of workers, in digits without a leading zero
 abbrev pub AsksWorkers : List (Text × Text) → ℕ → Type 0
@@ -15,12 +18,37 @@ AsksWorkers (option ∷ second ∷ others) n = ⊥
 -- file that is a hyphen alone is a file of that name.
 pub record AsksToJudge (arguments : List Text) (file : Option Text) (n : ℕ) : Type 0 where
   pub options : List (Text × Text)
-  pub given : AreGiven options (option_to_list file) arguments
+  pub given : AreGiven options [] (option_to_list file) arguments
   pub workers : AsksWorkers options n
 
 -- the arguments after `check`, as `TRACE CERT`, ask for checking a trace's certificate
 abbrev pub AsksToCheck : List Text → Text → Text → Type 0
-AsksToCheck arguments trace certificate = AreGiven [] (trace ∷ certificate ∷ []) arguments
+AsksToCheck arguments trace certificate = AreGiven [] [] (trace ∷ certificate ∷ []) arguments
+
+-- the options of a unit ask for this one: its name, a capacity and a trigger
+pub record AsksUnit (options : List (Text × Text)) (unit : UnitOptions) : Type 0 where
+  pub kind : option_and_then unit_kind (value_of (codes "unit") options) ≡ Some unit.kind
+  pub capacity : AsksNumber default_capacity 1 capacity_limit (value_of (codes "capacity") options) unit.capacity
+  pub trigger : AsksNumber default_trigger 1 trigger_limit (value_of (codes "trigger") options) unit.trigger
+
+-- the options and flags of a run ask for this one: its unit, a number of workers, and what is printed
+pub record AsksRun (options : List (Text × Text)) (flags : List Text) (run : RunOptions) : Type 0 where
+  pub unit : AsksUnit options run.unit
+  pub workers : AsksNumber 1 1 worker_limit (value_of (codes "workers") options) run.workers
+  pub trace : AsksFlag (codes "trace") flags run.prints_trace
+
+-- the names of the options of a run
+abbrev pub run_names : List Text
+run_names = codes "unit" ∷ codes "capacity" ∷ codes "trigger" ∷ codes "workers" ∷ []
+
+-- the arguments after `replay`, as `--unit UNIT [--capacity C] [--trigger T] [--workers N] [--trace] PROGRAM SCHEDULE`
+-- with the options in any order, ask for this run of a program by a schedule
+pub record AsksToReplay (arguments : List Text) (run : RunOptions) (program schedule : Text) : Type 0 where
+  pub options : List (Text × Text)
+  pub flags : List Text
+  pub given : AreGiven options flags (program ∷ schedule ∷ []) arguments
+  pub named : AreNamed run_names options
+  pub asks : AsksRun options flags run
 
 -- the arguments ask for this
 pub data Asks : List Text → Asked → Type 0 where
@@ -30,6 +58,8 @@ pub data Asks : List Text → Asked → Type 0 where
       → Asks (codes "judge" ∷ rest) (judging named n)
   check : (rest : List Text) (trace certificate : Text) → AsksToCheck rest trace certificate
       → Asks (codes "check" ∷ rest) (checking trace certificate)
+  replay : (rest : List Text) (run : RunOptions) (program schedule : Text) → AsksToReplay rest run program schedule
+      → Asks (codes "replay" ∷ rest) (replaying run program schedule)
 
 -- the arguments ask for the help or for the version
 pub data AsksHelp : List Text → Type 0 where
@@ -42,5 +72,8 @@ pub data AsksHelp : List Text → Type 0 where
   help_check : AsksHelp (codes "help" ∷ codes "check" ∷ [])
   check_help : AsksHelp (codes "check" ∷ codes "--help" ∷ [])
   check_short : AsksHelp (codes "check" ∷ codes "-h" ∷ [])
+  help_replay : AsksHelp (codes "help" ∷ codes "replay" ∷ [])
+  replay_help : AsksHelp (codes "replay" ∷ codes "--help" ∷ [])
+  replay_short : AsksHelp (codes "replay" ∷ codes "-h" ∷ [])
   version_option : AsksHelp (codes "--version" ∷ [])
   version_short : AsksHelp (codes "-V" ∷ [])

@@ -2,19 +2,22 @@
 ghost use Rattle.std.specs.Prelude.{◌≡◌, false, IfOk};
 ghost use Rattle.clap.specs.Words.{app_of};
 ghost use Rattle.clap.specs.declared.builder.command.Command.TheViews.{out-Command as fields_of};
-ghost use Rattle.command_line.specs.Commands.{check_app, judge_app, tsobench_app};
+ghost use Rattle.command_line.specs.Commands.{check_app, judge_app, replay_app, tsobench_app};
 
+use crate::arguments::{with_run_options, workers_option};
 use crate::help;
-use clap::{Arg, Command, value_parser};
-use round_pool::MAX_WORKERS;
+use clap::{Arg, Command};
 use std::alloc::{AllocError, Global};
 
 /// The version of the program.
 const VERSION: &str = "0.1.0";
 
-/// The command line of the program.
-pub(crate) fn tsobench_command<'a>(alloc: Global) -> Result<Command<'a>, AllocError>
-    ensures app { IfOk result (λ command. app_of command ≡ tsobench_app) }
+/// The command line of the program, where the units have these names.
+pub(crate) fn tsobench_command<'a>(
+    alloc: Global,
+    names: &'a [&'a str],
+) -> Result<Command<'a>, AllocError>
+    ensures app { IfOk result (λ command. app_of command ≡ tsobench_app names.entry) }
     ensures local { IfOk result (λ command. (fields_of command).has_globals ≡ false) }
 {
     Command::new(alloc, "tsobench")
@@ -24,7 +27,8 @@ pub(crate) fn tsobench_command<'a>(alloc: Global) -> Result<Command<'a>, AllocEr
         .about(help::ABOUT)
         .after_help(help::PROGRAM)
         .subcommand(judge_command(alloc)?)?
-        .subcommand(check_command(alloc)?)
+        .subcommand(check_command(alloc)?)?
+        .subcommand(replay_command(alloc, names)?)
 }
 
 /// The subcommand `judge`.
@@ -32,19 +36,13 @@ fn judge_command<'a>(alloc: Global) -> Result<Command<'a>, AllocError>
     ensures app { IfOk result (λ command. app_of command ≡ judge_app) }
     ensures local { IfOk result (λ command. (fields_of command).has_globals ≡ false) }
 {
-    let workers = Arg::new(alloc, "workers")
-        .long("workers")
-        .value_name("N")
-        .value_parser(value_parser!(u64).range(1..=MAX_WORKERS as i64))
-        .default_value("1")
-        .help(help::WORKERS);
     let file = Arg::new(alloc, "file")
         .value_name("FILE")
         .help("The text of a trace; standard input where none is named");
     Command::new(alloc, "judge")
         .about("Judges a trace and prints its report")
         .after_help(help::JUDGE)
-        .arg(workers)?
+        .arg(workers_option(alloc))?
         .arg(file)
 }
 
@@ -66,4 +64,25 @@ fn check_command<'a>(alloc: Global) -> Result<Command<'a>, AllocError>
         .after_help(help::CHECK)
         .arg(trace)?
         .arg(certificate)
+}
+
+/// The subcommand `replay`.
+fn replay_command<'a>(alloc: Global, names: &'a [&'a str]) -> Result<Command<'a>, AllocError>
+    ensures app { IfOk result (λ command. app_of command ≡ replay_app names.entry) }
+    ensures local { IfOk result (λ command. (fields_of command).has_globals ≡ false) }
+{
+    let program = Arg::new(alloc, "program")
+        .value_name("PROGRAM")
+        .required(true)
+        .help("The text of a program");
+    let schedule = Arg::new(alloc, "schedule")
+        .value_name("SCHEDULE")
+        .required(true)
+        .help("The text of a schedule");
+    let command = Command::new(alloc, "replay")
+        .about("Replays a program by a schedule, and judges the trace")
+        .after_help(help::REPLAY);
+    with_run_options(alloc, command, names)?
+        .arg(program)?
+        .arg(schedule)
 }

@@ -1,11 +1,12 @@
 //! From the matches of the arguments to what they ask for.
-ghost use Rattle.std.specs.Prelude.{◌≡◌, ◌≤◌, unwrap_or};
+ghost use Rattle.std.specs.Prelude.{◌≡◌, ◌≤◌};
 ghost use Rattle.clap.specs.Words.{found_of, rows_of, subcommand_rows_of};
-ghost use Rattle.command_line.specs.Requests.{HasWorkers, asked_of};
+ghost use Rattle.command_line.specs.Requests.{HasUnitRanges, HasWorkers, asked_of};
 ghost use Rattle.round_pool.specs.Workers.{worker_limit};
 ghost use Rattle.command_line.specs.Commands.{checking_by};
-ghost use Rattle.command_line.specs.Internal.Computed.{asked_by, judging_by, within_workers};
+ghost use Rattle.command_line.specs.Internal.Computed.{asked_by, capacity_in, judging_by, replaying_by, run_in, trigger_in, unit_in, workers_in};
 
+use crate::options::{MAX_CAPACITY, RunOptions, UnitKind, UnitOptions, kind_named};
 use crate::requests::Request;
 use clap::ArgMatches;
 use round_pool::MAX_WORKERS;
@@ -14,12 +15,16 @@ use round_pool::MAX_WORKERS;
 pub(crate) fn request<'a>(matches: &ArgMatches<'a>) -> Request<'a>
     ensures asked { asked_of result ≡ asked_by (subcommand_rows_of matches.now) }
     ensures workers { HasWorkers (asked_of result) }
+    ensures unit { HasUnitRanges (asked_of result) }
 {
     if let Some(found) = matches.subcommand_matches("judge") {
         return judge_request(found);
     }
     if let Some(found) = matches.subcommand_matches("check") {
         return check_request(found);
+    }
+    if let Some(found) = matches.subcommand_matches("replay") {
+        return replay_request(found);
     }
     Request::Judge {
         file: None,
@@ -34,7 +39,7 @@ fn judge_request<'a>(matches: &ArgMatches<'a>) -> Request<'a>
 {
     Request::Judge {
         file: matches.get_str("file"),
-        workers: workers(matches.get_one("workers")),
+        workers: workers(matches),
     }
 }
 
@@ -48,11 +53,62 @@ fn check_request<'a>(matches: &ArgMatches<'a>) -> Request<'a>
     }
 }
 
+/// What the matches of `replay` ask for. The command has refused arguments without both files.
+fn replay_request<'a>(matches: &ArgMatches<'a>) -> Request<'a>
+    ensures { asked_of result ≡ replaying_by (rows_of (found_of matches.now)) }
+{
+    Request::Replay {
+        options: run_options(matches),
+        program: matches.get_str("program").unwrap_or(""),
+        schedule: matches.get_str("schedule").unwrap_or(""),
+    }
+}
+
+/// What the options say of a run.
+fn run_options(matches: &ArgMatches<'_>) -> RunOptions
+    ensures { result ≡ run_in (rows_of (found_of matches.now)) }
+{
+    RunOptions {
+        unit: unit_options(matches),
+        workers: workers(matches),
+        prints_trace: matches.get_one("trace").unwrap_or(false),
+    }
+}
+
+/// What the options say of a unit. The command has refused arguments without a unit.
+fn unit_options(matches: &ArgMatches<'_>) -> UnitOptions
+    ensures { result ≡ unit_in (rows_of (found_of matches.now)) }
+{
+    let kind = matches.get_str("unit").and_then(kind_named);
+    UnitOptions {
+        kind: kind.unwrap_or(UnitKind::Serial),
+        capacity: capacity(matches),
+        trigger: trigger(matches),
+    }
+}
+
 /// The number of workers, 1 where none is named. The command has refused numbers out of range; what `clap` promises of
 /// the values of a subcommand doesn't say so, hence the clamp.
-fn workers(named: Option<u64>) -> usize
-    ensures value { result ≡ within_workers (unwrap_or named 1) }
+fn workers(matches: &ArgMatches<'_>) -> usize
+    ensures value { result ≡ workers_in (rows_of (found_of matches.now)) }
     ensures range { (1 ≤ result) × (result ≤ worker_limit) }
 {
+    let named: Option<u64> = matches.get_one("workers");
     named.unwrap_or(1).clamp(1, MAX_WORKERS as u64) as usize
+}
+
+/// The capacity, 8 where none is named, clamped as the workers are.
+fn capacity(matches: &ArgMatches<'_>) -> usize
+    ensures { result ≡ capacity_in (rows_of (found_of matches.now)) }
+{
+    let named: Option<u64> = matches.get_one("capacity");
+    named.unwrap_or(8).clamp(1, MAX_CAPACITY as u64) as usize
+}
+
+/// The trigger, 1 where none is named, clamped as the workers are.
+fn trigger(matches: &ArgMatches<'_>) -> u64
+    ensures { result ≡ trigger_in (rows_of (found_of matches.now)) }
+{
+    let named: Option<u64> = matches.get_one("trigger");
+    named.unwrap_or(1).max(1)
 }

@@ -1,5 +1,6 @@
 //! The texts of `--help` after the list of arguments.
 
+use crate::options::MAX_CAPACITY;
 use round_pool::MAX_WORKERS;
 
 /// What the program is for.
@@ -32,6 +33,20 @@ Example:
 pub(crate) const WORKERS: &str = "How many workers judge, 1 to 64";
 
 const _: () = prove!(MAX_WORKERS == 64);
+
+/// Of `--unit`.
+pub(crate) const UNIT: &str = "Which memory unit runs the program";
+
+/// Of `--capacity`; it tells the limit of capacities.
+pub(crate) const CAPACITY: &str = "How many stores each store buffer of the unit holds, 1 to 64";
+
+const _: () = prove!(MAX_CAPACITY == 64);
+
+/// Of `--trigger`.
+pub(crate) const TRIGGER: &str = "From which occasion on a faulty unit deviates, from 1";
+
+/// Of `--trace`.
+pub(crate) const TRACE: &str = "Prints the recorded trace alone";
 
 /// Of `judge`.
 pub(crate) const JUDGE: &str = "\
@@ -68,3 +83,25 @@ Exit status:
 Example:
   tsobench judge TRACE | sed '1,/^VIOLATION$/d' > CERT
   tsobench check TRACE CERT";
+
+/// Of `replay`.
+pub(crate) const REPLAY: &str = "\
+It reads the text of a program and that of a schedule, and runs the program on
+the memory unit: each line of the schedule says which processor issues its next
+operation, or drains its oldest store. The trace of what the unit answered is
+recorded and judged. It prints the report of `tsobench judge`, and then a line
+`account loads .. stores .. swaps .. membars .. drains .. closed` with the
+numbers of the unit's steps; with --trace it prints the recorded trace alone. A
+text that is no program or no schedule gets one line that says why.
+
+--capacity and --trigger are ignored by units that have no use for them. The
+report is the same for each number of workers.
+
+Exit status:
+  0  no violation was found, or the trace was printed
+  2  a text or the command line was refused
+  3  the trace violates its memory model
+  4  a fault, which one line on standard error names, as FAULT Read
+
+Example:
+  tsobench replay --unit serial PROGRAM SCHEDULE";

@@ -3,11 +3,14 @@
 //! `README.md` says what is proved of it.
 #![tactic(auto)]
 
+mod arguments;
 mod commands;
 mod found;
 mod help;
+mod options;
 mod requests;
 #[cfg(test)]
 mod tests;
 
+pub use options::{MAX_CAPACITY, RunOptions, UnitKind, UnitOptions};
 pub use requests::{Request, read_arguments};

@@ -2,7 +2,7 @@
 ghost use Rattle.std.specs.Prelude.{◌≡◌, IfOk, IsErr, map, option_map, unwrap_or};
 ghost use Rattle.clap.specs.Words.{FailsBy, app_of, fault_of, kind_of, subcommand_of, subcommand_rows_of};
 ghost use Rattle.clap.specs.declared.error.kind.ErrorKind.TheVariants.{OutOfMemory};
-ghost use Rattle.command_line.specs.Requests.{Asked, HasWorkers, asked_of, refusing, showing, texts_in};
+ghost use Rattle.command_line.specs.Requests.{Asked, HasUnitRanges, HasWorkers, asked_of, refusing, showing, texts_in};
 ghost use Rattle.command_line.specs.Spellings.{Asks, AsksHelp};
 ghost use Rattle.command_line.specs.Refusals.{Refuses};
 ghost use Rattle.command_line.specs.Commands.{IsAskedFor, asked_at, tsobench_app};
@@ -10,6 +10,7 @@ ghost use Rattle.command_line.specs.Internal.Computed.{help_option_of, parsed_as
 
 use crate::commands::tsobench_command;
 use crate::found::request;
+use crate::options::{RunOptions, UNIT_NAMES};
 use clap::error::ErrorKind;
 use clap::{ArgMatches, Error};
 use std::alloc::{AllocError, Global};
@@ -27,6 +28,12 @@ pub enum Request<'a> {
     Check {
         trace: &'a str,
         certificate: &'a str,
+    },
+    /// To replay the program in one file, by the schedule in another.
+    Replay {
+        options: RunOptions,
+        program: &'a str,
+        schedule: &'a str,
     },
     /// To print this text on standard output: the help or the version that was asked for.
     Show(String),
@@ -46,20 +53,25 @@ pub fn read_arguments<'a>(alloc: Global, arguments: &'a [String]) -> Result<Requ
     ensures refused { Refuses (texts_in arguments.now)
         → IfOk result (λ request. asked_of request ≡ refusing) }
     ensures workers { IfOk result (λ request. HasWorkers (asked_of request)) }
+    ensures unit { IfOk result (λ request. HasUnitRanges (asked_of request)) }
 {
-    match matches(alloc, arguments) {
+    match matches(alloc, UNIT_NAMES.as_slice(), arguments) {
         Ok(matches) => Ok(request(&matches)),
         Err(error) => text_request(alloc, &error),
     }
 }
 
-/// What the command line of the program makes of the arguments.
-fn matches<'a>(alloc: Global, arguments: &'a [String]) -> Result<ArgMatches<'a>, Error>
+/// What the command line of the program, where the units have these names, makes of the arguments.
+fn matches<'a>(
+    alloc: Global,
+    names: &'a [&'a str],
+    arguments: &'a [String],
+) -> Result<ArgMatches<'a>, Error>
     ensures found { IfOk result (λ found. subcommand_rows_of found
-        ≡ subcommand_of tsobench_app (parsed_as (texts_in arguments.now))) }
-    ensures kinds { FailsBy (fault_of tsobench_app (parsed_as (texts_in arguments.now))) result }
+        ≡ subcommand_of (tsobench_app names.entry) (parsed_as (texts_in arguments.now))) }
+    ensures kinds { FailsBy (fault_of (tsobench_app names.entry) (parsed_as (texts_in arguments.now))) result }
 {
-    let command = tsobench_command(alloc)?;
+    let command = tsobench_command(alloc, names)?;
     match help_option(arguments) {
         Some(option) => command.try_get_matches_from(option),
         None => command.try_get_matches_from(arguments),
@@ -74,6 +86,9 @@ static JUDGE_HELP: [&str; 2] = ["judge", "--help"];
 
 /// The option that asks for the help of `check`.
 static CHECK_HELP: [&str; 2] = ["check", "--help"];
+
+/// The option that asks for the help of `replay`.
+static REPLAY_HELP: [&str; 2] = ["replay", "--help"];
 
 /// The option that asks for what `help`, alone or with the name of a subcommand, asks for: `clap` promises more of it,
 /// and it gives the same text. None of all other arguments.
@@ -96,6 +111,9 @@ fn subcommand_help_option(name: &str) -> Option<&'static [&'static str]>
     }
     if name == "check" {
         return Some(CHECK_HELP.as_slice());
+    }
+    if name == "replay" {
+        return Some(REPLAY_HELP.as_slice());
     }
     None
 }

@@ -16,6 +16,17 @@ fn described(alloc: Global, request: &Request<'_>) -> Result<String, AllocError>
         Request::Check { trace, certificate } => {
             format!(in alloc; "check {trace:?} against {certificate:?}")
         }
+        Request::Replay {
+            options,
+            program,
+            schedule,
+        } => {
+            let unit = options.unit;
+            format!(in alloc;
+                "replay {program:?} by {schedule:?} on {:?} {} {} with {} trace {}",
+                unit.kind, unit.capacity, unit.trigger, options.workers, options.prints_trace
+            )
+        }
         Request::Show(text) => format!(in alloc; "show {text}"),
         Request::Refuse(text) => format!(in alloc; "refuse {text}"),
     }
@@ -63,8 +74,92 @@ fn plain_arguments(rt: HostRuntime) -> Result<(), Fail> {
 }
 
 #[test]
+fn plain_replays(rt: HostRuntime) -> Result<(), Fail> {
+    let cases: [(&[&str], &str); 13] = [
+        (
+            &["replay", "--unit", "serial", "p", "s"],
+            "replay \"p\" by \"s\" on Serial 8 1 with 1 trace false",
+        ),
+        (
+            &["replay", "--unit=serial", "p", "s"],
+            "replay \"p\" by \"s\" on Serial 8 1 with 1 trace false",
+        ),
+        (
+            &["replay", "p", "--unit", "serial", "s"],
+            "replay \"p\" by \"s\" on Serial 8 1 with 1 trace false",
+        ),
+        (
+            &["replay", "p", "s", "--unit=serial"],
+            "replay \"p\" by \"s\" on Serial 8 1 with 1 trace false",
+        ),
+        (
+            &["replay", "--unit", "serial", "--capacity", "1", "p", "s"],
+            "replay \"p\" by \"s\" on Serial 1 1 with 1 trace false",
+        ),
+        (
+            &["replay", "--capacity=64", "--unit", "serial", "p", "s"],
+            "replay \"p\" by \"s\" on Serial 64 1 with 1 trace false",
+        ),
+        (
+            &[
+                "replay",
+                "p",
+                "--trigger",
+                "18446744073709551615",
+                "s",
+                "--unit=serial",
+            ],
+            "replay \"p\" by \"s\" on Serial 8 18446744073709551615 with 1 trace false",
+        ),
+        (
+            &["replay", "--unit=serial", "--trigger=7", "p", "s"],
+            "replay \"p\" by \"s\" on Serial 8 7 with 1 trace false",
+        ),
+        (
+            &["replay", "p", "s", "--workers", "64", "--unit", "serial"],
+            "replay \"p\" by \"s\" on Serial 8 1 with 64 trace false",
+        ),
+        (
+            &["replay", "--trace", "--unit", "serial", "-", "a b"],
+            "replay \"-\" by \"a b\" on Serial 8 1 with 1 trace true",
+        ),
+        (
+            &["replay", "--unit", "serial", "p", "s", "--trace"],
+            "replay \"p\" by \"s\" on Serial 8 1 with 1 trace true",
+        ),
+        (
+            &[
+                "replay",
+                "--workers=2",
+                "p",
+                "--trace",
+                "--trigger",
+                "3",
+                "s",
+                "--capacity=4",
+                "--unit",
+                "serial",
+            ],
+            "replay \"p\" by \"s\" on Serial 4 3 with 2 trace true",
+        ),
+        (
+            &["replay", "--unit", "serial", "--", "--trace", "-s"],
+            "replay \"--trace\" by \"-s\" on Serial 8 1 with 1 trace false",
+        ),
+    ];
+    for (arguments, request) in cases {
+        assert_eq!(rt;
+            asked(rt.alloc(), arguments)?.as_str(),
+            request,
+            "{arguments:?}"
+        );
+    }
+    Ok(())
+}
+
+#[test]
 fn help_and_version(rt: HostRuntime) -> Result<(), Fail> {
-    let cases: [(&[&str], &str); 12] = [
+    let cases: [(&[&str], &str); 16] = [
         (&["--help"], PROGRAM_HELP),
         (&["-h"], PROGRAM_HELP),
         (&["help"], PROGRAM_HELP),
@@ -74,7 +169,11 @@ fn help_and_version(rt: HostRuntime) -> Result<(), Fail> {
         (&["check", "--help"], CHECK_HELP),
         (&["check", "-h"], CHECK_HELP),
         (&["help", "check"], CHECK_HELP),
+        (&["replay", "--help"], REPLAY_HELP),
+        (&["replay", "-h"], REPLAY_HELP),
+        (&["help", "replay"], REPLAY_HELP),
         (&["judge", "a.trace", "-h"], JUDGE_HELP),
+        (&["replay", "--trace", "-h"], REPLAY_HELP),
         (&["--version"], "tsobench 0.1.0\n"),
         (&["-V"], "tsobench 0.1.0\n"),
     ];
@@ -126,6 +225,69 @@ fn refused_arguments(rt: HostRuntime) -> Result<(), Fail> {
     Ok(())
 }
 
+#[test]
+fn refused_replays(rt: HostRuntime) -> Result<(), Fail> {
+    let cases: [(&[&str], &str); 12] = [
+        (
+            &["replay"],
+            "error: the following required arguments were not provided:\n  --unit <UNIT>\n  <PROGRAM>\n  <SCHEDULE>\n\nUsage: tsobench replay --unit <UNIT> <PROGRAM> <SCHEDULE>\n\nFor more information, try '--help'.\n",
+        ),
+        (
+            &["replay", "p", "s"],
+            "error: the following required arguments were not provided:\n  --unit <UNIT>\n\nUsage: tsobench replay --unit <UNIT> <PROGRAM> <SCHEDULE>\n\nFor more information, try '--help'.\n",
+        ),
+        (
+            &["replay", "--unit", "serial", "p"],
+            "error: the following required arguments were not provided:\n  <SCHEDULE>\n\nUsage: tsobench replay --unit <UNIT> <PROGRAM> <SCHEDULE>\n\nFor more information, try '--help'.\n",
+        ),
+        (
+            &["replay", "--unit", "serial", "p", "s", "x"],
+            "error: unexpected argument 'x' found\n\nUsage: tsobench replay [OPTIONS] --unit <UNIT> <PROGRAM> <SCHEDULE>\n\nFor more information, try '--help'.\n",
+        ),
+        (
+            &["replay", "--unit", "other", "p", "s"],
+            "error: invalid value 'other' for '--unit <UNIT>'\n  [possible values: serial]\n\nFor more information, try '--help'.\n",
+        ),
+        (
+            &["replay", "--unit", "serial", "--capacity", "0", "p", "s"],
+            "error: invalid value '0' for '--capacity <C>': 0 is not in 1..=64\n\nFor more information, try '--help'.\n",
+        ),
+        (
+            &["replay", "--unit", "serial", "--capacity", "65", "p", "s"],
+            "error: invalid value '65' for '--capacity <C>': 65 is not in 1..=64\n\nFor more information, try '--help'.\n",
+        ),
+        (
+            &["replay", "--unit", "serial", "--trigger", "0", "p", "s"],
+            "error: invalid value '0' for '--trigger <T>': 0 is not in 1..18446744073709551615\n\nFor more information, try '--help'.\n",
+        ),
+        (
+            &["replay", "--unit", "serial", "--workers", "0", "p", "s"],
+            "error: invalid value '0' for '--workers <N>': 0 is not in 1..=64\n\nFor more information, try '--help'.\n",
+        ),
+        (
+            &["replay", "--unit", "serial", "--workers", "65", "p", "s"],
+            "error: invalid value '65' for '--workers <N>': 65 is not in 1..=64\n\nFor more information, try '--help'.\n",
+        ),
+        (
+            &["replay", "--unit", "serial", "--trace=yes", "p", "s"],
+            "error: unexpected value 'yes' for '--trace' found; no more were expected\n\nUsage: tsobench replay --unit <UNIT> --trace <PROGRAM> <SCHEDULE>\n\nFor more information, try '--help'.\n",
+        ),
+        (
+            &["replay", "--unit", "serial", "--unit", "serial", "p", "s"],
+            "error: the argument '--unit <UNIT>' cannot be used multiple times\n\nUsage: tsobench replay [OPTIONS] --unit <UNIT> <PROGRAM> <SCHEDULE>\n\nFor more information, try '--help'.\n",
+        ),
+    ];
+    for (arguments, text) in cases {
+        let wanted = format!(in rt.alloc(); "refuse {text}")?;
+        assert_eq!(rt;
+            asked(rt.alloc(), arguments)?.as_str(),
+            wanted.as_str(),
+            "{arguments:?}"
+        );
+    }
+    Ok(())
+}
+
 const UNKNOWN: &str =
     "error: unrecognized subcommand 'seek'\n\nUsage: tsobench [COMMAND]\n\nFor more information, try '--help'.\n";
 
@@ -135,9 +297,10 @@ Judges traces of multiprocessor memory operations against Total Store Order (TSO
 Usage: tsobench [COMMAND]
 
 Commands:
-  judge  Judges a trace and prints its report
-  check  Checks a certificate of a violation against its trace
-  help   Print this message or the help of the given subcommand(s)
+  judge   Judges a trace and prints its report
+  check   Checks a certificate of a violation against its trace
+  replay  Replays a program by a schedule, and judges the trace
+  help    Print this message or the help of the given subcommand(s)
 
 Options:
   -h, --help     Print help
@@ -220,4 +383,42 @@ Exit status:
 Example:
   tsobench judge TRACE | sed '1,/^VIOLATION$/d' > CERT
   tsobench check TRACE CERT
+";
+
+const REPLAY_HELP: &str = "\
+Replays a program by a schedule, and judges the trace
+
+Usage: tsobench replay [OPTIONS] --unit <UNIT> <PROGRAM> <SCHEDULE>
+
+Arguments:
+  <PROGRAM>   The text of a program
+  <SCHEDULE>  The text of a schedule
+
+Options:
+      --unit <UNIT>   Which memory unit runs the program [possible values: serial]
+      --capacity <C>  How many stores each store buffer of the unit holds, 1 to 64 [default: 8]
+      --trigger <T>   From which occasion on a faulty unit deviates, from 1 [default: 1]
+      --workers <N>   How many workers judge, 1 to 64 [default: 1]
+      --trace         Prints the recorded trace alone
+  -h, --help          Print help
+
+It reads the text of a program and that of a schedule, and runs the program on
+the memory unit: each line of the schedule says which processor issues its next
+operation, or drains its oldest store. The trace of what the unit answered is
+recorded and judged. It prints the report of `tsobench judge`, and then a line
+`account loads .. stores .. swaps .. membars .. drains .. closed` with the
+numbers of the unit's steps; with --trace it prints the recorded trace alone. A
+text that is no program or no schedule gets one line that says why.
+
+--capacity and --trigger are ignored by units that have no use for them. The
+report is the same for each number of workers.
+
+Exit status:
+  0  no violation was found, or the trace was printed
+  2  a text or the command line was refused
+  3  the trace violates its memory model
+  4  a fault, which one line on standard error names, as FAULT Read
+
+Example:
+  tsobench replay --unit serial PROGRAM SCHEDULE
 ";

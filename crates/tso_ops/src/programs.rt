@@ -124,6 +124,13 @@ impl Program {
         first_at(&self.setting.first, a)
     }
 
+    /// Version, memory model and first values.
+    pub(crate) fn setting(&self) -> &Setting
+        ensures { setting_of result.now ≡ self.now.setting }
+    {
+        &self.setting
+    }
+
     /// The number of processors, from 0 to 16.
     pub fn processors(&self) -> usize
         ensures count { result ≡ list_count self.now }
@@ -149,11 +156,7 @@ impl Program {
         for list in &self.lists {
             lists.push(Vec::from_slice(alloc, list)?)?;
         }
-        let setting = Setting {
-            version: self.setting.version,
-            order: self.setting.order,
-            first: Vec::from_slice(alloc, &self.setting.first)?,
-        };
+        let setting = self.setting.copy(alloc)?;
         Ok(Program { setting, lists })
     }
 }

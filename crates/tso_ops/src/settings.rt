@@ -1,9 +1,9 @@
-ghost use Rattle.std.specs.Prelude.{◌≡◌, ◌≤◌, ◌<◌, ◌^◌, ℕ, List, OnOk, IfErr};
+ghost use Rattle.std.specs.Prelude.{◌≡◌, ◌≤◌, ◌<◌, ◌^◌, ℕ, List, IfOk, OnOk, IfErr};
 ghost use Rattle.tso_ops.specs.Settings.{barrier_limit, event_limit, first_value, setting_of, setting_of_order};
 ghost use Rattle.tso_ops.specs.Limits.{has_entry_fault, is_stbar_in_tso, KeepsEntries, IsFaultOf, IsFaultless, IsFirstFault};
 ghost use Rattle.tso_ops.specs.Internal.Entries.{EndsBelow};
 
-use crate::faults::ValueFault;
+use crate::faults::{OutOfMemory, ValueFault};
 use crate::limits::MAX_ADDRESS;
 use crate::ops::Op;
 use std::alloc::Global;
@@ -78,6 +78,17 @@ impl Setting {
             order,
             first: Vec::new(alloc),
         }
+    }
+
+    /// An equal setting, or OutOfMemory where an allocation was refused.
+    pub fn copy(&self, alloc: Global) -> Result<Setting, OutOfMemory>
+        ensures { IfOk result (λ s. setting_of s ≡ setting_of self.now) }
+    {
+        Ok(Setting {
+            version: self.version,
+            order: self.order,
+            first: Vec::from_slice(alloc, &self.first)?,
+        })
     }
 }
 

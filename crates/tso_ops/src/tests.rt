@@ -346,7 +346,12 @@ fn known_lists_need_no_check(rt: HostRuntime) -> Result<(), Fail> {
     let trace = Trace::of_lists(alloc, Vec::new(alloc))?;
     assert_eq!(rt; trace.processors(), 0);
     assert_eq!(rt; trace.events(), 0);
-    assert_eq!(rt; Program::of_lists(Vec::new(alloc)).processors(), 0);
+    let program = Program::of_lists(Vec::new(alloc));
+    assert_eq!(rt; program.processors(), 0);
+    assert_eq!(rt;
+        Trace::of_program(alloc, &program, Vec::new(alloc))?.processors(),
+        0
+    );
     Ok(())
 }
 

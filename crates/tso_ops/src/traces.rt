@@ -13,6 +13,7 @@ use crate::events::{Event, Source};
 use crate::faults::{OutOfMemory, Refused, RefusedFirst, ValueFault};
 use crate::masks::{Masks, list_masks, row_at};
 use crate::ops::Outcome;
+use crate::programs::Program;
 use crate::settings::{Order, Setting, Version, first_at};
 use crate::tables::{list_events, list_sources};
 use std::alloc::Global;
@@ -112,15 +113,20 @@ impl Trace {
         requires { IsTrace (trace_of_lists plain (rows lists.items)) }
         ensures { IfOk result (λ t. t ≡ trace_of_lists plain (rows lists.items)) }
     {
-        let setting = Setting::of_order(alloc, Order::Tso);
-        let (events, sources, masks) = tables(alloc, &setting, &lists)?;
-        Ok(Trace {
-            setting,
-            lists,
-            events,
-            sources,
-            masks,
-        })
+        make_trace(alloc, Setting::of_order(alloc, Order::Tso), lists)
+    }
+
+    /// The trace of a run of the program: these lists, which are known to keep the limits, with the program's version,
+    /// memory model and first values, or OutOfMemory where an allocation was refused.
+    pub fn of_program(
+        alloc: Global,
+        program: &Program,
+        lists: Vec<Vec<Outcome>>,
+    ) -> Result<Trace, OutOfMemory>
+        requires { IsTrace (trace_of_lists program.now.setting (rows lists.items)) }
+        ensures { IfOk result (λ t. t ≡ trace_of_lists program.now.setting (rows lists.items)) }
+    {
+        make_trace(alloc, program.setting().copy(alloc)?, lists)
     }
 
     /// The memory model.
@@ -288,6 +294,25 @@ fn check_trace(
             lists,
         }),
     }
+}
+
+/// The trace of this setting and these lists, which keep the limits.
+fn make_trace(
+    alloc: Global,
+    setting: Setting,
+    lists: Vec<Vec<Outcome>>,
+) -> Result<Trace, OutOfMemory>
+    requires { IsTrace (trace_of_lists (setting_of setting) (rows lists.items)) }
+    ensures { IfOk result (λ t. t ≡ trace_of_lists (setting_of setting) (rows lists.items)) }
+{
+    let (events, sources, masks) = tables(alloc, &setting, &lists)?;
+    Ok(Trace {
+        setting,
+        lists,
+        events,
+        sources,
+        masks,
+    })
 }
 
 /// The tables that a trace of this setting and these lists answers from: its events, their sources, and rows of bits.

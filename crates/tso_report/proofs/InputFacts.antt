@@ -1,15 +1,16 @@
 -- Laws on the report of an input.
-use Rattle.std.proofs.Common.{◌≡◌, ◌↔◌, ℕ, ◌<◌, ◌≤◌, List, ◌++◌, length, take, Bool, true, false, Some, None, IfSome, refl, ap, sym, subst, ◌∙◌, arith, inl, inr, ⊎_elim}
+use Rattle.std.proofs.Common.{◌≡◌, ◌⊎◌, ◌↔◌, ℕ, ◌<◌, ◌≤◌, List, ◌++◌, length, take, Bool, true, false, Some, None, IfSome, refl, ap, sym, subst, ◌∙◌, arith, inl, inr, ⊎_elim}
 use Rattle.std.proofs.lemmas.Bool.{false≢true, cases_lt}
 use Rattle.std.proofs.lemmas.List.{take_all, length-take-le}
 use Rattle.std.specs.Prelude.{Option}
 use Rattle.std.specs.Io.KnownBytes.{Appends}
 use Rattle.tso_ops.specs.Settings.{plain}
+use Rattle.tso_ops.specs.Limits.{IsTrace}
 use Rattle.tso_ops.specs.Values.{TraceValue, trace_of_lists}
 use Rattle.tso_ops.specs.Events.{processor_count, event_total, IsUnwritten}
 use Rattle.tso_text.specs.declared.faults.Why.{Why}
 use Rattle.tso_text.specs.declared.faults.Why.TheVariants.{TooLong}
-use Rattle.tso_text.specs.Spelling.{text_byte_limit}
+use Rattle.tso_text.specs.Spelling.{Grammar, IsTextRefusal, SpellsLists, text_byte_limit}
 use Rattle.tso_text.specs.Grammars.{trace_grammar, SpellsTrace, IsRefusedTrace, IsTraceRefusal}
 use Rattle.tso_text.proofs.Reaching.{too_long}
 use Rattle.tso_text.proofs.SpelledLimits.{spelled_trace}
@@ -32,41 +33,48 @@ use Rattle.tso_report.specs.declared.faults.Fault.{Fault}
 use Rattle.tso_report.specs.declared.faults.Fault.TheVariants.{Write}
 use Rattle.tso_report.specs.Judged.{IsViolation, IsCertificateText}
 use Rattle.tso_report.specs.Limits.{trace_read_limit}
-use Rattle.tso_report.specs.Reports.{head_text, no_violation_text, refusal_text, violation_text, SaysVerdict, IsRefusalReport, IsReport, IsTraceReport, ShowsViolation, SpellsViolation}
-use Rattle.tso_report.specs.Written.{IsReportOfReader, LeavesFault}
+use Rattle.tso_report.specs.Reports.{head_text, no_violation_text, refusal_text, violation_text, SaysVerdict, IsRefusalReport, IsReport, IsTraceReport, ShowsViolation, ShowsViolationOf, SpellsViolation}
+use Rattle.tso_report.specs.Written.{IsReportOfReader, LeavesAtFault}
 use Rattle.tso_report.specs.Streams.{AppendsPrefix}
 
 -- ---- what is read of a long input
 
 -- A prefix that reaches past the limit is refused for its length alone, as all is.
-spells_past : (input : List ℕ) (t : TraceValue) → text_byte_limit < length input → SpellsTrace input t → ⊥
-spells_past input t long spells = not_both trace_grammar input t.lists 0 TooLong spells.1 (too_long trace_grammar input long)
+lists_past : {X : Type 0} (g : Grammar X) (input : List ℕ) (lists : List (List X)) → text_byte_limit < length input → SpellsLists g input lists → ⊥
+lists_past g input lists long spells = not_both g input lists 0 TooLong spells (too_long g input long)
 
 length_past : (input : List ℕ) → text_byte_limit < length input → text_byte_limit < length (take trace_read_limit input)
 length_past input long = let count = length-take-le trace_read_limit input (omega arith) in omega (arith, count)
 
--- The prefix up to one past the limit spells what all spells.
-pub spells_of_prefix : (input : List ℕ) (t : TraceValue) → SpellsTrace (take trace_read_limit input) t → SpellsTrace input t
-spells_of_prefix input t spells = ⊎_elim long short (cases_lt text_byte_limit (length input))
+-- The prefix up to one past the limit spells what all spells, by any grammar.
+pub lists_of_prefix : {X : Type 0} (g : Grammar X) (input : List ℕ) (lists : List (List X)) → SpellsLists g (take trace_read_limit input) lists → SpellsLists g input lists
+lists_of_prefix {X} g input lists spells = ⊎_elim long short (cases_lt text_byte_limit (length input))
   where
-    short : length input ≤ text_byte_limit → SpellsTrace input t
-    short fits = subst (λ prefix. SpellsTrace prefix t) (take_all trace_read_limit input (omega arith)) spells
+    short : length input ≤ text_byte_limit → SpellsLists g input lists
+    short fits = subst (λ prefix. SpellsLists g prefix lists) (take_all trace_read_limit input (omega arith)) spells
 
-    long : text_byte_limit < length input → SpellsTrace input t
-    long past = absurd (spells_past (take trace_read_limit input) t (length_past input past) spells)
+    long : text_byte_limit < length input → SpellsLists g input lists
+    long past = absurd (lists_past g (take trace_read_limit input) lists (length_past input past) spells)
 
 -- And it is refused as all is.
-pub refusal_of_prefix : (input : List ℕ) (line : ℕ) (why : Why) → IsTraceRefusal (take trace_read_limit input) line why → IsTraceRefusal input line why
-refusal_of_prefix input line why refusal = ⊎_elim long short (cases_lt text_byte_limit (length input))
+pub text_refusal_of_prefix : {X : Type 0} (g : Grammar X) (input : List ℕ) (line : ℕ) (why : Why) → IsTextRefusal g (take trace_read_limit input) line why → IsTextRefusal g input line why
+text_refusal_of_prefix {X} g input line why refusal = ⊎_elim long short (cases_lt text_byte_limit (length input))
   where
-    short : length input ≤ text_byte_limit → IsTraceRefusal input line why
-    short fits = subst (λ prefix. IsTraceRefusal prefix line why) (take_all trace_read_limit input (omega arith)) refusal
+    short : length input ≤ text_byte_limit → IsTextRefusal g input line why
+    short fits = subst (λ prefix. IsTextRefusal g prefix line why) (take_all trace_read_limit input (omega arith)) refusal
 
-    long : text_byte_limit < length input → IsTraceRefusal input line why
+    long : text_byte_limit < length input → IsTextRefusal g input line why
     long past =
         let prefix = take trace_read_limit input in
-        let same = one_refusal trace_grammar prefix line 0 why TooLong refusal (too_long trace_grammar prefix (length_past input past)) in
-        subst (λ l. IsTraceRefusal input l why) (sym same.0) (subst (IsTraceRefusal input 0) (sym same.1) (too_long trace_grammar input past))
+        let same = one_refusal g prefix line 0 why TooLong refusal (too_long g prefix (length_past input past)) in
+        subst (λ l. IsTextRefusal g input l why) (sym same.0) (subst (IsTextRefusal g input 0) (sym same.1) (too_long g input past))
+
+-- the two of traces
+pub spells_of_prefix : (input : List ℕ) (t : TraceValue) → SpellsTrace (take trace_read_limit input) t → SpellsTrace input t
+spells_of_prefix input t spells = (spells.0, lists_of_prefix trace_grammar input t.lists spells.1)
+
+pub refusal_of_prefix : (input : List ℕ) (line : ℕ) (why : Why) → IsTraceRefusal (take trace_read_limit input) line why → IsTraceRefusal input line why
+refusal_of_prefix input line why refusal = text_refusal_of_prefix trace_grammar input line why refusal
 
 -- The report of the bytes up to one past the limit is that of all.
 pub report_of_prefix : (input text : List ℕ) (v : Verdict) → IsReport (take trace_read_limit input) text v → IsReport input text v
@@ -152,6 +160,47 @@ refused_no_violation : Refused ≡ Violation → ⊥
 unfolding is_violation
 refused_no_violation e = false≢true (ap is_violation e)
 
+-- ---- what the report of a trace says
+
+-- the verdict is Violation exactly where the trace is one
+pub trace_violation : (t : TraceValue) (text : List ℕ) (v : Verdict) → IsTraceReport t text v → (v ≡ Violation) ↔ IsViolation t
+trace_violation t text v report = said_violation t report.lines v report.says
+
+-- and else NoViolation
+pub trace_verdict : (t : TraceValue) (text : List ℕ) (v : Verdict) → IsTraceReport t text v → (v ≡ Violation) ⊎ (v ≡ NoViolation)
+trace_verdict t text v report = verdict_of v report.says
+  where
+    verdict_of : (w : Verdict) → SaysVerdict t report.lines w → (w ≡ Violation) ⊎ (w ≡ NoViolation)
+    verdict_of NoViolation says = inr refl
+    verdict_of Violation says = inl refl
+    verdict_of Refused says = absurd says
+
+-- a violation leaves no order
+violation_leaves_none : (t : TraceValue) → HasOwnValues t → IsViolation t → IsConsistent t → ⊥
+violation_leaves_none t own violation consistent =
+    ⊎_elim
+    (λ (unwritten : (l : ℕ) × IsUnwritten t l). all_written t consistent.0 consistent.1 unwritten.0 unwritten.1)
+    (λ (cycle : HasDerivedCycle t). no_derived_cycle t own consistent.0 consistent.1 cycle)
+    violation
+
+pub trace_no_order : (t : TraceValue) (text : List ℕ) (v : Verdict) → IsTrace t → IsTraceReport t text v → v ≡ Violation → IsConsistent t → ⊥
+trace_no_order t text v is report e consistent = violation_leaves_none t (own_values t is) ((trace_violation t text v report).0 e) consistent
+
+-- after the line VIOLATION of a report stands the text of a certificate that holds, and nothing else
+pub shows_violation_of : (t : TraceValue) (text : List ℕ) (v : Verdict) → IsTraceReport t text v → v ≡ Violation → ShowsViolationOf t text
+shows_violation_of t text v report e =
+    let says = subst (SaysVerdict t report.lines) e report.says in
+    let found = says.1.1 in
+    let head = head_text (processor_count t) (event_total t) report.rounds in
+    record {
+      rounds = report.rounds;
+      certificate = found.0;
+      holds = certificate_holds t found.0 found.1;
+      whole = report.whole ∙ ap (λ lines. head ++ lines) (says.1.2 ∙ ap violation_text found.2);
+    }
+
+-- ---- what the report of an input says
+
 -- VIOLATION stands there exactly where the input spells a violation
 pub violation_exactly : (input text : List ℕ) (v : Verdict) → IsReport input text v → (v ≡ Violation) ↔ SpellsViolation input
 unfolding is_violation
@@ -171,27 +220,20 @@ refused_exactly input text v (inr p) = (λ _. (p.0, p.1, p.2), λ _. p.4)
 pub no_order : (input text : List ℕ) → IsReport input text Violation → (t : TraceValue) → SpellsTrace input t → IsConsistent t → ⊥
 no_order input text report t spells consistent =
     let spelled = (violation_exactly input text Violation report).0 refl in
-    let violation = subst IsViolation (one_trace input spelled.0 t spelled.1 spells) spelled.2 in
-    ⊎_elim
-    (λ (unwritten : (l : ℕ) × IsUnwritten t l). all_written t consistent.0 consistent.1 unwritten.0 unwritten.1)
-    (λ (cycle : HasDerivedCycle t). no_derived_cycle t (spelled_own input t spells) consistent.0 consistent.1 cycle)
-    violation
+    violation_leaves_none t (spelled_own input t spells) (subst IsViolation (one_trace input spelled.0 t spelled.1 spells) spelled.2) consistent
 
--- after the line VIOLATION of a report stands the text of a certificate that holds, and nothing else
+-- the text shows the violation
 pub shows_violation : (input text : List ℕ) (v : Verdict) → IsReport input text v → v ≡ Violation → ShowsViolation input text
-shows_violation input text v (inl p) e =
-    let says = subst (SaysVerdict p.0 p.2.lines) e p.2.says in
-    let found = says.1.1 in
-    let head = head_text (processor_count p.0) (event_total p.0) p.2.rounds in
-    record {
-      trace = p.0;
-      spelled = p.1;
-      rounds = p.2.rounds;
-      certificate = found.0;
-      holds = certificate_holds p.0 found.0 found.1;
-      whole = p.2.whole ∙ ap (λ lines. head ++ lines) (says.1.2 ∙ ap violation_text found.2);
-    }
+shows_violation input text v (inl p) e = (p.0, p.1, shows_violation_of p.0 text v p.2 e)
 shows_violation input text v (inr p) e = absurd (refused_no_violation (sym p.4 ∙ e))
+
+-- ---- what is left by a fault
+
+-- that of a writer leaves a prefix of the report
+pub leaves_prefix : (is_report : List ℕ → Verdict → Type 0) (old new : Option (List ℕ)) (text written : List ℕ) (v : Verdict) (fault : Fault) → is_report text v → written ≡ text →
+    AppendsPrefix old new written → fault ≡ Write → LeavesAtFault is_report old new fault
+leaves_prefix is_report old new text written v fault report same prefix e =
+    subst (LeavesAtFault is_report old new) (sym e) (v, text, report, subst (AppendsPrefix old new) same prefix)
 
 -- ---- what is judged of a reader
 
@@ -210,12 +252,6 @@ pub no_order_of_reader : (remaining : Option (List ℕ)) (text : List ℕ) (v : 
     IfSome remaining (λ all. (t : TraceValue) → SpellsTrace all t → IsConsistent t → ⊥)
 no_order_of_reader None text v report e = tt
 no_order_of_reader (Some all) text v report e = no_order all text (subst (IsReport all text) e report.of_all)
-
--- the fault of a writer leaves a prefix of the report
-pub leaves_prefix : (remaining old new : Option (List ℕ)) (text written : List ℕ) (v : Verdict) (fault : Fault) → IsReportOfReader remaining text v → written ≡ text →
-    AppendsPrefix old new written → fault ≡ Write → LeavesFault remaining old new fault
-leaves_prefix remaining old new text written v fault report same prefix e =
-    subst (LeavesFault remaining old new) (sym e) (v, text, report, subst (AppendsPrefix old new) same prefix)
 
 pub shows_violation_of_reader : (remaining old new : Option (List ℕ)) (text : List ℕ) (v : Verdict) → IsReportOfReader remaining text v → Appends old new text → v ≡ Violation →
     IfSome remaining (λ all. (text : List ℕ) × ShowsViolation all text × Appends old new text)

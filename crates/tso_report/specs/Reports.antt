@@ -64,6 +64,14 @@ pub record IsTraceReport (t : TraceValue) (text : List ℕ) (verdict : Verdict) 
   pub says : SaysVerdict t lines verdict
   pub whole : text ≡ head_text (processor_count t) (event_total t) rounds ++ lines
 
+-- The text is the two first lines of a report on the trace, then the line VIOLATION, and then, to its end, the text of a certificate that holds for
+-- the trace.
+pub record ShowsViolationOf (t : TraceValue) (text : List ℕ) : Type 0 where
+  pub rounds : ℕ
+  pub certificate : Certificate
+  pub holds : Holds t certificate
+  pub whole : text ≡ head_text (processor_count t) (event_total t) rounds ++ violation_text (cert_text certificate)
+
 -- ---- the report of an input
 
 -- the input is refused, and the text is the line of its refusal
@@ -78,12 +86,6 @@ IsReport input text verdict = ((t : TraceValue) × SpellsTrace input t × IsTrac
 abbrev pub SpellsViolation : List ℕ → Type 0
 SpellsViolation input = (t : TraceValue) × SpellsTrace input t × IsViolation t
 
--- The text is the two first lines of a report on the trace that the input spells, then the line VIOLATION, and then, to its end, the text of a
--- certificate that holds for the trace.
-pub record ShowsViolation (input text : List ℕ) : Type 0 where
-  pub trace : TraceValue
-  pub spelled : SpellsTrace input trace
-  pub rounds : ℕ
-  pub certificate : Certificate
-  pub holds : Holds trace certificate
-  pub whole : text ≡ head_text (processor_count trace) (event_total trace) rounds ++ violation_text (cert_text certificate)
+-- and the text is one that shows this violation
+abbrev pub ShowsViolation : List ℕ → List ℕ → Type 0
+ShowsViolation input text = (t : TraceValue) × SpellsTrace input t × ShowsViolationOf t text

@@ -1,5 +1,5 @@
 //! The way of a trace: read, parse, find, render, write.
-ghost use Rattle.std.specs.Prelude.{◌≡◌, ◌↔◌, ◌≤◌, ℕ, List, IfSome, IfOk, IfErr};
+ghost use Rattle.std.specs.Prelude.{◌≡◌, ◌⊎◌, ◌↔◌, ◌≤◌, ℕ, List, string_bytes, IfSome, IfOk, IfErr};
 ghost use Rattle.std.specs.Io.KnownBytes.{Appends};
 ghost use Rattle.round_pool.specs.Workers.{worker_limit};
 ghost use Rattle.tso_ops.specs.Values.{TraceValue};
@@ -8,13 +8,13 @@ ghost use Rattle.tso_model.specs.Order.{IsConsistent};
 ghost use Rattle.tso_report.specs.declared.faults.Fault.{Fault};
 ghost use Rattle.tso_report.specs.declared.verdicts.Verdict.{Verdict};
 ghost use Rattle.tso_report.specs.Limits.{trace_read_limit};
-ghost use Rattle.tso_report.specs.Reports.{ShowsViolation, SpellsViolation};
+ghost use Rattle.tso_report.specs.Reports.{IsTraceReport, ShowsViolation, SpellsViolation};
 ghost use Rattle.tso_report.specs.Streams.{LosesPrefix};
 ghost use Rattle.tso_report.specs.Written.{LeavesFault, WritesReport};
 
 use crate::faults::Fault;
 use crate::findings::find_violation;
-use crate::rendering::{render_refusal, render_trace};
+use crate::rendering::{Report, render_refusal, render_trace};
 use crate::streams::reading::read_all;
 use crate::streams::writing::write_text;
 use crate::verdicts::Verdict;
@@ -22,6 +22,7 @@ use std::alloc::Global;
 use std::io::{Read, Write};
 use std::sync::Wait;
 use std::thread::Threads;
+use tso_ops::Trace;
 use tso_text::{MAX_TEXT_BYTES, read_trace};
 
 /// Judges a trace's text: reads it, judges it on `workers` workers (1 to 64), builds its whole report, and then writes it.
@@ -49,12 +50,29 @@ pub fn judge<H: Threads + Wait + Sync, R: Read, W: Write>(
 {
     let input = read_all(alloc, reader, MAX_TEXT_BYTES)?;
     let report = match read_trace(alloc, &input) {
-        Ok(trace) => {
-            let finding = find_violation(rt, alloc, &trace, workers)?;
-            render_trace(alloc, &trace, &finding)?
-        }
+        Ok(trace) => judge_trace(rt, alloc, &trace, workers)?,
         Err(fault) => render_refusal(alloc, fault)?,
     };
     write_text(writer, report.text.as_bytes())?;
     Ok(report.verdict)
+}
+
+/// Judges a trace on `workers` workers (1 to 64): its report, and the verdict that it says.
+///
+/// The report is the same for each number of workers. Faults: OutOfMemory where an allocation was refused, NoThread
+/// where the system refused a thread.
+pub fn judge_trace<H: Threads + Wait>(
+    rt: &H,
+    alloc: Global,
+    trace: &Trace,
+    workers: usize,
+) -> Result<Report, Fault>
+    requires some { 1 ≤ workers }
+    requires most { workers ≤ worker_limit }
+    ensures report { IfOk result (λ report. IsTraceReport trace.now (string_bytes report.text) report.verdict) }
+    ensures no_order { IfOk result (λ report. report.verdict ≡ Verdict.Violation → IsConsistent trace.now → ⊥) }
+    ensures fault { IfErr result (λ fault. (fault ≡ Fault.OutOfMemory) ⊎ (fault ≡ Fault.NoThread)) }
+{
+    let finding = find_violation(rt, alloc, trace, workers)?;
+    Ok(render_trace(alloc, trace, &finding)?)
 }

@@ -5,17 +5,20 @@
 //! `README.md` says what is proved.
 #![tactic(auto)]
 
+pub use account_rendering::print_account;
 pub use certificates::build_cert;
 pub use checking::{MAX_CERTIFICATE_BYTES, check_texts};
 pub use faults::Fault;
 pub use findings::{Finding, find_violation};
-pub use judging::judge;
-pub use rendering::{Report, render_trace};
+pub use judging::{judge, judge_trace};
+pub use record_judging::judge_recorded;
+pub use rendering::{Report, render_refusal, render_trace};
 pub use round_pool::MAX_WORKERS;
 pub use streams::reading::read_all;
 pub use streams::writing::write_text;
 pub use verdicts::Verdict;
 
+mod account_rendering;
 mod cert_rendering;
 mod certificates;
 mod checking;
@@ -23,6 +26,7 @@ mod faults;
 mod findings;
 mod judging;
 pub mod laws;
+mod record_judging;
 mod rendering;
 mod streams;
 #[cfg(test)]

@@ -1,6 +1,7 @@
 //! The texts of reports on traces.
-ghost use Rattle.std.specs.Prelude.{◌≡◌, ◌≢◌, string_bytes, IfOk};
+ghost use Rattle.std.specs.Prelude.{◌≡◌, ◌≢◌, string_bytes, IfOk, IsErr};
 ghost use Rattle.tso_text.specs.declared.faults.Why.{Why};
+ghost use Rattle.tso_model.specs.Order.{IsConsistent};
 ghost use Rattle.tso_report.specs.declared.verdicts.Verdict.{Verdict};
 ghost use Rattle.tso_report.specs.Findings.{IsFinding};
 ghost use Rattle.tso_report.specs.Reports.{IsTraceReport, head_text, refusal_name, refusal_text};
@@ -22,10 +23,12 @@ pub struct Report {
     pub text: String,
 }
 
-/// The report of a trace, of which this was found. OutOfMemory where an allocation was refused.
+/// The report of a trace, of which this was found. Where it says Violation, the trace has no order of its model.
+/// OutOfMemory where an allocation was refused.
 pub fn render_trace(alloc: Global, trace: &Trace, finding: &Finding) -> Result<Report, OutOfMemory>
     requires { IsFinding trace.now finding.now }
-    ensures { IfOk result (λ report. IsTraceReport trace.now (string_bytes report.text) report.verdict) }
+    ensures report { IfOk result (λ report. IsTraceReport trace.now (string_bytes report.text) report.verdict) }
+    ensures no_order { IfOk result (λ report. report.verdict ≡ Verdict.Violation → IsConsistent trace.now → ⊥) }
 {
     let mut text = head_text(alloc, trace.processors(), trace.events(), finding.rounds)?;
     match &finding.certificate {
@@ -48,10 +51,11 @@ pub fn render_trace(alloc: Global, trace: &Trace, finding: &Finding) -> Result<R
     }
 }
 
-/// The report of an input that is no trace. OutOfMemory where an allocation was refused, also where the fault says
-/// that one of its reader was.
-pub(crate) fn render_refusal(alloc: Global, fault: TextFault) -> Result<Report, OutOfMemory>
+/// The report of a text that is no trace, or no program or schedule where it is to be one: the line of its refusal.
+/// OutOfMemory where an allocation was refused, also where the fault says that one of its reader was.
+pub fn render_refusal(alloc: Global, fault: TextFault) -> Result<Report, OutOfMemory>
     ensures refused { IfOk result (λ report. fault.why ≢ Why.OutOfMemory × (string_bytes report.text ≡ refusal_text fault.line fault.why) × (report.verdict ≡ Verdict.Refused)) }
+    ensures memory { fault.why ≡ Why.OutOfMemory → IsErr result }
 {
     if fault.why == Why::OutOfMemory {
         return Err(OutOfMemory);

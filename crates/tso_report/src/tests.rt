@@ -1,3 +1,4 @@
+mod accounts;
 mod certificates;
 mod checked;
 mod ends;
@@ -6,4 +7,5 @@ mod machine;
 mod refused_allocations;
 mod settings;
 mod streams;
+mod traces;
 mod violations;

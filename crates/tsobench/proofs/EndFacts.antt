@@ -1,17 +1,18 @@
 -- Lemmas on how the program ends.
-use Rattle.std.proofs.Common.{◌≡◌, ◌⊎◌, ℕ, List, Ok, Err, Result, IfOk, IfErr, Some, None, arith, length, ap, refl, subst, sym, inl, inr, true, true≢false}
+use Rattle.std.proofs.Common.{◌≡◌, ◌∙◌, ◌⊎◌, ℕ, List, [], ◌∷◌, ◌++◌, append_assoc, Ok, Err, Result, IfOk, IfErr, Some, None, arith, length, ap, refl, subst, sym, inl, inr, true, true≢false}
 use Rattle.std.specs.Prelude.{Option, ◌≢◌, option_map, string_bytes}
 use Rattle.std.specs.Borrow.{Bor}
 use Rattle.std.specs.Io.KnownBytes.{Keeps}
 use Rattle.command_line.specs.declared.requests.Request.{Request}
-use Rattle.command_line.specs.declared.requests.Request.TheVariants.{Judge, Check, Show, Refuse}
+use Rattle.command_line.specs.declared.requests.Request.TheVariants.{Judge, Check, Replay, Show, Refuse}
 use Rattle.command_line.specs.Requests.{asked_of, judging}
 use Rattle.std.proofs.lemmas.List.{append-nil}
 use Rattle.tso_report.specs.declared.verdicts.Verdict.{Verdict}
 use Rattle.tso_report.specs.declared.faults.Fault.{Fault}
 use Rattle.tso_report.specs.declared.faults.Fault.TheVariants.{OutOfMemory, Read, Write, NoThread, Missing}
 use Rattle.tso_report.specs.Written.{IsCheckReportOfReaders, IsReportOfReader, LeavesAtFault, LeavesCheckFault, LeavesFault, WritesCheckReport, WritesReport, WritesWhole}
-use Rattle.tsobench.specs.Endings.{EndsAs, EndsAsAsked, EndsByReport, Outputs, WritesFaultLine, status_of}
+use Rattle.tsobench.specs.Endings.{EndsAs, EndsAsAsked, EndsByReport, Outputs, WritesFaultLine}
+use Rattle.tsobench.specs.Statuses.{status_of}
 use Rattle.std.proofs.Math.Seq.{take-length}
 use Rattle.tsobench.specs.Named.{HasKnown, OpensFirst, OpensNext, reads_input}
 
@@ -82,6 +83,13 @@ files_leave trace traces cert certs has has_cert = faults_as (IsCheckReportOfRea
 pub opens_all : (old new : Option (List (List ℕ))) (names : List (List ℕ)) → OpensNext old new names → OpensFirst old new names
 opens_all old new names opens = (length names, omega arith, subst (OpensNext old new) (sym (take-length names)) opens)
 
+-- one after the other
+pub opens_both : (old mid new : Option (List (List ℕ))) (name other : List ℕ) → OpensNext old mid (name ∷ []) → OpensNext mid new (other ∷ []) → OpensNext old new (name ∷ other ∷ [])
+opens_both None mid new name other opens also = tt
+opens_both (Some before) mid new name other opens also =
+    let both : OpensNext (Some (before ++ name ∷ [])) new (other ∷ []) = subst (λ m. OpensNext m new (other ∷ [])) opens also in
+    both ∙ ap Some (append_assoc before (name ∷ []) (other ∷ []))
+
 -- ---- how a request ends
 
 pub ends_by_report : (is_report : List ℕ → Verdict → Type 0) (o : Outputs) (outcome : Result Verdict Fault) (status : ℕ) → IfOk outcome (WritesWhole is_report o.written_before o.written) →
@@ -95,6 +103,7 @@ pub does_asked : (request : Request) (input : Option (List ℕ)) (files : List �
     EndsAsAsked (asked_of request) input files o status
 does_asked (Judge file workers) input files o status ends = ends
 does_asked (Check trace certificate) input files o status ends = ends
+does_asked (Replay options program schedule) input files o status ends = ends
 does_asked (Show text) input files o status ends = (string_bytes text, ends)
 does_asked (Refuse text) input files o status ends = (string_bytes text, ends)
 

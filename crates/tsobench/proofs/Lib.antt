@@ -1,1 +1,2 @@
 pub mod EndFacts
+pub mod ReplayingFacts

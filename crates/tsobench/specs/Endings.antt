@@ -2,23 +2,20 @@
 use Rattle.std.specs.Prelude.{◌≡◌, ◌⊎◌, ℕ, List, [], ◌∷◌, ◌++◌, codes, string_bytes, Option, Some, None}
 use Rattle.std.specs.Io.KnownBytes.{Appends, Keeps}
 use Rattle.tso_report.specs.declared.verdicts.Verdict.{Verdict}
-use Rattle.tso_report.specs.declared.verdicts.Verdict.TheVariants.{NoViolation, Violation, Refused}
 use Rattle.tso_report.specs.declared.faults.Fault.{Fault}
 use Rattle.tso_report.specs.declared.faults.Fault.TheVariants.{OutOfMemory, Read, Write, NoThread, Missing}
 use Rattle.tso_report.specs.Streams.{AppendsPrefix}
 use Rattle.tso_report.specs.Written.{IsCheckReportOfReaders, IsReportOfReader, LeavesAtFault, WritesWhole}
 use Rattle.tsobench.specs.Named.{name_in}
+use Rattle.tsobench.specs.Replaying.{IsReplayText}
+use Rattle.tsobench.specs.Statuses.{status_of}
+use Rattle.command_line.specs.declared.options.RunOptions.{RunOptions}
 use Rattle.command_line.specs.declared.requests.Request.{Request}
-use Rattle.command_line.specs.declared.requests.Request.TheVariants.{Judge, Check, Show, Refuse}
+use Rattle.command_line.specs.declared.requests.Request.TheVariants.{Judge, Check, Replay, Show, Refuse}
 use Rattle.command_line.specs.Commands.{IsAskedFor}
-use Rattle.command_line.specs.Requests.{Asked, Text, judging, checking, showing, refusing}
+use Rattle.command_line.specs.Requests.{Asked, Text, judging, checking, replaying, showing, refusing}
 
--- ---- statuses and the lines of faults
-
-abbrev pub status_of : Verdict → ℕ
-status_of NoViolation = 0
-status_of Refused = 2
-status_of Violation = 3
+-- ---- the lines of faults
 
 -- the line that names a fault
 abbrev pub fault_line : List ℕ → List ℕ
@@ -63,6 +60,25 @@ EndsJudged remaining o status = EndsByReport (IsReportOfReader remaining) o stat
 abbrev pub EndsChecked : Option (List ℕ) → Option (List ℕ) → Outputs → ℕ → Type 0
 EndsChecked traces certs o status = EndsByReport (IsCheckReportOfReaders traces certs) o status
 
+-- known bytes of the output grow by a text of this kind, with this status
+abbrev pub WritesText : (List ℕ → ℕ → Type 0) → Option (List ℕ) → Option (List ℕ) → ℕ → Type 0
+WritesText is_text old new status = (text : List ℕ) × is_text text status × Appends old new text
+
+-- a text of this kind, with any status; its verdict isn't looked at
+abbrev pub IsPrintable : (List ℕ → ℕ → Type 0) → List ℕ → Verdict → Type 0
+IsPrintable is_text text verdict = (status : ℕ) × is_text text status
+
+-- The output grows by a text of this kind and the errors by nothing, and the status is the text's; or a fault left nothing or, on Write, a prefix of
+-- such a text.
+abbrev pub EndsByText : (List ℕ → ℕ → Type 0) → Outputs → ℕ → Type 0
+EndsByText is_text o status =
+    (WritesText is_text o.written_before o.written status × Keeps o.errors_before o.errors)
+    ⊎ ((fault : Fault) × LeavesAtFault (IsPrintable is_text) o.written_before o.written fault × EndsByFault fault o status)
+
+-- what is printed of a replay, where readers have these bytes of the program and of the schedule
+abbrev pub EndsReplayed : RunOptions → Option (List ℕ) → Option (List ℕ) → Outputs → ℕ → Type 0
+EndsReplayed options programs schedules o status = EndsByText (IsReplayText options programs schedules) o status
+
 -- The output grows by the text and the errors by nothing, and the status is 0; or the fault Write left a prefix of the text.
 abbrev pub EndsShowing : List ℕ → Outputs → ℕ → Type 0
 EndsShowing text o status =
@@ -88,6 +104,7 @@ judged_bytes (Some name) input files = files name
 abbrev pub EndsAs : Request → Option (List ℕ) → (List ℕ → Option (List ℕ)) → Outputs → ℕ → Type 0
 EndsAs (Judge file workers) input files o status = EndsJudged (judged_bytes (name_in file) input files) o status
 EndsAs (Check trace certificate) input files o status = EndsChecked (files trace.now) (files certificate.now) o status
+EndsAs (Replay options program schedule) input files o status = EndsReplayed options (files program.now) (files schedule.now) o status
 EndsAs (Show text) input files o status = EndsShowing (string_bytes text) o status
 EndsAs (Refuse text) input files o status = EndsRefusing (string_bytes text) o status
 
@@ -96,6 +113,7 @@ EndsAs (Refuse text) input files o status = EndsRefusing (string_bytes text) o s
 abbrev pub EndsAsAsked : Asked → Option (List ℕ) → (List ℕ → Option (List ℕ)) → Outputs → ℕ → Type 0
 EndsAsAsked (judging file workers) input files o status = EndsJudged (judged_bytes file input files) o status
 EndsAsAsked (checking trace certificate) input files o status = EndsChecked (files trace) (files certificate) o status
+EndsAsAsked (replaying options program schedule) input files o status = EndsReplayed options (files program) (files schedule) o status
 EndsAsAsked showing input files o status = (text : List ℕ) × EndsShowing text o status
 EndsAsAsked refusing input files o status = (text : List ℕ) × EndsRefusing text o status
 

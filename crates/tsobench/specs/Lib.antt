@@ -1,2 +1,4 @@
 pub mod Endings
 pub mod Named
+pub mod Replaying
+pub mod Statuses

@@ -1,7 +1,8 @@
 //! Statuses, and the lines of faults.
 ghost use Rattle.std.specs.Prelude.{◌≡◌, IfOk, IfErr};
 ghost use Rattle.std.specs.Io.KnownBytes.{Keeps};
-ghost use Rattle.tsobench.specs.Endings.{WritesFaultLine, status_of};
+ghost use Rattle.tsobench.specs.Endings.{WritesFaultLine};
+ghost use Rattle.tsobench.specs.Statuses.{status_of};
 
 use std::io::Write;
 use tso_report::{Fault, Verdict, write_text};
@@ -23,8 +24,16 @@ pub(crate) fn end<E: Write>(outcome: Result<Verdict, Fault>, errors: &mut E) -> 
     ensures verdict { IfOk outcome (λ verdict. (result ≡ status_of verdict) × Keeps (E.contents errors.old) (E.contents errors.new)) }
     ensures fault { IfErr outcome (λ fault. WritesFaultLine (E.contents errors.old) (E.contents errors.new) fault × (result ≡ 4)) }
 {
+    end_with(outcome.map(status_of), errors)
+}
+
+/// This status; or that of a fault, whose line it writes.
+pub(crate) fn end_with<E: Write>(outcome: Result<u8, Fault>, errors: &mut E) -> u8
+    ensures status { IfOk outcome (λ status. (result ≡ status) × Keeps (E.contents errors.old) (E.contents errors.new)) }
+    ensures fault { IfErr outcome (λ fault. WritesFaultLine (E.contents errors.old) (E.contents errors.new) fault × (result ≡ 4)) }
+{
     match outcome {
-        Ok(verdict) => status_of(verdict),
+        Ok(status) => status,
         Err(fault) => end_by(fault, errors),
     }
 }
@@ -45,7 +54,7 @@ pub(crate) fn end_by<E: Write>(fault: Fault, errors: &mut E) -> u8
 }
 
 /// The status of a verdict.
-fn status_of(verdict: Verdict) -> u8
+pub(crate) fn status_of(verdict: Verdict) -> u8
     ensures { result ≡ status_of verdict }
 {
     match verdict {

@@ -1,8 +1,12 @@
 //! Files that are opened by their names.
+ghost use Rattle.std.specs.Prelude.{◌≡◌, [], ◌∷◌, IfOk, IfErr};
+ghost use Rattle.tso_report.specs.declared.faults.Fault.{Fault};
+ghost use Rattle.tsobench.specs.Named.{HasKnown, OpensNext};
 
 use std::io::Read;
 use std::rt::Files;
 use std::{fs, io};
+use tso_report::Fault;
 
 /// What opens files to be read.
 ///
@@ -47,4 +51,14 @@ impl<H: Files> NamedFiles for SystemFiles<'_, H> {
     fn open(&mut self, name: &str) -> io::Result<H::File> {
         fs::open(self.rt, name)
     }
+}
+
+/// A file, to be read. One that can't be opened is the fault Read.
+pub(crate) fn open<O: NamedFiles>(files: &mut O, name: &str) -> Result<O::File, Fault>
+    ensures known { IfOk result (λ file. HasKnown (O.bytes files.old name.now) (O.File.remaining file)) }
+    ensures fault { IfErr result (λ fault. fault ≡ Fault.Read) }
+    ensures opened { OpensNext (O.opened files.old) (O.opened files.new) (name.now ∷ []) }
+    ensures same { O.bytes files.new ≡ O.bytes files.old }
+{
+    files.open(name).map_err(|_| Fault::Read)
 }

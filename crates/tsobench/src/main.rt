@@ -11,6 +11,7 @@ use std::{env, io};
 mod driving;
 mod endings;
 mod files;
+mod replaying;
 mod serving;
 #[cfg(test)]
 mod tests;

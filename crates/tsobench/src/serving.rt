@@ -4,12 +4,12 @@ ghost use Rattle.command_line.specs.Requests.{HasWorkers, asked_of};
 ghost use Rattle.tso_report.specs.Limits.{trace_read_limit, worker_limit};
 ghost use Rattle.tso_report.specs.Streams.{AppendsPrefix, LosesPrefix};
 ghost use Rattle.tso_report.specs.Written.{LeavesCheckFault, LeavesFault, WritesCheckReport, WritesReport};
-ghost use Rattle.tso_report.specs.declared.faults.Fault.{Fault};
 ghost use Rattle.tsobench.specs.Endings.{EndsAs, EndsShowing, judged_bytes, outputs};
-ghost use Rattle.tsobench.specs.Named.{HasKnown, OpensFirst, OpensNext, files_named, name_in, reads_input};
+ghost use Rattle.tsobench.specs.Named.{OpensFirst, OpensNext, files_named, name_in, reads_input};
 
-use crate::endings::{DONE, REFUSED, end, end_by};
-use crate::files::NamedFiles;
+use crate::endings::{DONE, REFUSED, end, end_by, end_with};
+use crate::files::{NamedFiles, open};
+use crate::replaying::replay_named;
 use command_line::Request;
 use std::alloc::Global;
 use std::io::{Read, Write};
@@ -48,6 +48,14 @@ pub fn serve<H: Threads + Wait + Sync + AllocGlobal, O: NamedFiles, R: Read, W: 
         Request::Check { trace, certificate } => {
             let checked = check_files(rt.alloc(), trace, certificate, files, writer);
             end(checked, errors)
+        }
+        Request::Replay {
+            options,
+            program,
+            schedule,
+        } => {
+            let replayed = replay_named(rt, options, program, schedule, files, writer);
+            end_with(replayed, errors)
         }
         Request::Show(text) => show(text, writer, errors),
         Request::Refuse(text) => refuse(text, errors),
@@ -111,16 +119,6 @@ fn check_files<O: NamedFiles, W: Write>(
     let mut trace = open(files, trace)?;
     let mut certificate = open(files, certificate)?;
     check_texts(alloc, &mut trace, &mut certificate, writer)
-}
-
-/// A file, to be read. One that can't be opened is the fault Read.
-fn open<O: NamedFiles>(files: &mut O, name: &str) -> Result<O::File, Fault>
-    ensures known { IfOk result (λ file. HasKnown (O.bytes files.old name.now) (O.File.remaining file)) }
-    ensures fault { IfErr result (λ fault. fault ≡ Fault.Read) }
-    ensures opened { OpensNext (O.opened files.old) (O.opened files.new) (name.now ∷ []) }
-    ensures same { O.bytes files.new ≡ O.bytes files.old }
-{
-    files.open(name).map_err(|_| Fault::Read)
 }
 
 /// Writes a text that was asked for.

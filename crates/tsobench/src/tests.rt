@@ -1,6 +1,9 @@
 mod certificates;
 mod commands;
 mod examples;
+mod records;
+mod refused_allocations;
+mod replays;
 mod requests;
 
 use crate::driving::{drive, end_without_arguments};

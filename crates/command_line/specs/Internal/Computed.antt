@@ -1,20 +1,25 @@
 -- For private functions: what they parse in place of the arguments, and what they make of the matches, as functions.
-use Rattle.std.specs.Prelude.{◌≡◌, ◌^◌, ◌-◌, ℕ, List, [], ◌∷◌, Option, Some, None, codes, min, max, unwrap_or, if◌then◌else◌}
+use Rattle.std.specs.Prelude.{◌≡◌, ◌^◌, ◌-◌, ℕ, Bool, false, List, [], ◌∷◌, Option, Some, None, codes, min, max, option_and_then, unwrap_or, if◌then◌else◌}
 use Rattle.std.specs.Option.{option_map_or}
 use Rattle.std.specs.Str.{bytes_eq}
 use Rattle.std.specs.Str.Parse.{digits_value, without_leading_plus}
 use Rattle.clap.specs.ValueTests.{is_unsigned_in}
 use Rattle.clap.specs.Words.{Kinds, Row, first_of, one_of}
 use Rattle.round_pool.specs.Workers.{worker_limit}
-use Rattle.command_line.specs.Requests.{Text, Asked, judging}
-use Rattle.command_line.specs.Commands.{IsAskedAtOne, checking_by}
+use Rattle.command_line.specs.declared.options.RunOptions.{RunOptions}
+use Rattle.command_line.specs.declared.options.UnitKind.TheVariants.{Serial}
+use Rattle.command_line.specs.declared.options.UnitOptions.{UnitOptions}
+use Rattle.command_line.specs.Requests.{Text, Asked, capacity_limit, judging}
+use Rattle.command_line.specs.Units.{default_capacity, default_trigger, trigger_limit, unit_kind}
+use Rattle.command_line.specs.Commands.{IsAskedAtOne, checking_by, replaying_with}
 
 -- ---- the arguments that are parsed
 
 -- the option that asks for the help of the subcommand of this name
 abbrev pub help_option_of : Text → Option (List Text)
 help_option_of name = if bytes_eq name (codes "judge") then Some (codes "judge" ∷ codes "--help" ∷ [])
-    else (if bytes_eq name (codes "check") then Some (codes "check" ∷ codes "--help" ∷ []) else None)
+    else (if bytes_eq name (codes "check") then Some (codes "check" ∷ codes "--help" ∷ [])
+    else (if bytes_eq name (codes "replay") then Some (codes "replay" ∷ codes "--help" ∷ []) else None))
 
 -- `help`, and `help` with the name of a subcommand, as the option that asks for the same
 abbrev pub parsed_as : List Text → List Text
@@ -26,17 +31,47 @@ parsed_as (first ∷ second ∷ third ∷ rest) = first ∷ second ∷ third ∷
 
 -- ---- what the matches stand for
 
--- the nearest number of workers within the limits
-abbrev pub within_workers : ℕ → ℕ
-within_workers n = max 1 (min n worker_limit)
+-- the nearest number within the limits
+abbrev pub within : ℕ → ℕ → ℕ → ℕ
+within least most n = max least (min n most)
 
--- the number of 64 bits that a text spells, and 1 where it spells none
-abbrev pub number_in : Text → ℕ
-number_in text =
-    if is_unsigned_in 0 (2 ^ 64 - 1) text then digits_value 10 (without_leading_plus text) else 1
+abbrev pub within_workers : ℕ → ℕ
+within_workers = within 1 worker_limit
+
+-- the number of 64 bits that a text spells, and `other` where it spells none
+abbrev pub number_in : ℕ → Text → ℕ
+number_in other text =
+    if is_unsigned_in 0 (2 ^ 64 - 1) text then digits_value 10 (without_leading_plus text) else other
+
+-- the number of the option of this name, and `other` where it has none
+abbrev pub number_of : Text → ℕ → List Row → ℕ
+number_of name other rows = option_map_or (number_in other) (one_of name rows) other
 
 abbrev pub workers_in : List Row → ℕ
-workers_in rows = within_workers (option_map_or number_in (one_of (codes "workers") rows) 1)
+workers_in rows = within_workers (number_of (codes "workers") 1 rows)
+
+abbrev pub capacity_in : List Row → ℕ
+capacity_in rows = within 1 capacity_limit (number_of (codes "capacity") default_capacity rows)
+
+abbrev pub trigger_in : List Row → ℕ
+trigger_in rows = within 1 trigger_limit (number_of (codes "trigger") default_trigger rows)
+
+-- whether the flag of this name is used
+abbrev pub flag_in : Text → List Row → Bool
+flag_in name rows = option_map_or (λ text. bytes_eq text (codes "true")) (one_of name rows) false
+
+abbrev pub unit_in : List Row → UnitOptions
+unit_in rows = record {
+  kind = unwrap_or (option_and_then unit_kind (first_of (codes "unit") rows)) Serial;
+  capacity = capacity_in rows;
+  trigger = trigger_in rows;
+}
+
+abbrev pub run_in : List Row → RunOptions
+run_in rows = record { unit = unit_in rows; workers = workers_in rows; prints_trace = flag_in (codes "trace") rows }
+
+abbrev pub replaying_by : List Row → Asked
+replaying_by rows = replaying_with (run_in rows) rows
 
 abbrev pub judging_by : List Row → Asked
 judging_by rows = judging (first_of (codes "file") rows) (workers_in rows)
@@ -44,7 +79,8 @@ judging_by rows = judging (first_of (codes "file") rows) (workers_in rows)
 -- by the subcommand's name and its matches
 abbrev pub asked_in : Text → List Row → Asked
 asked_in name rows = if bytes_eq name (codes "judge") then judging_by rows
-    else (if bytes_eq name (codes "check") then checking_by rows else judging None 1)
+    else (if bytes_eq name (codes "check") then checking_by rows
+    else (if bytes_eq name (codes "replay") then replaying_by rows else judging None 1))
 
 -- without a subcommand standard input is judged, with one worker
 abbrev pub asked_by : Option (Text × List Row) → Asked

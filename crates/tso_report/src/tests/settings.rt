@@ -10,16 +10,19 @@ use std::thread::Threads;
 use tso_cert::Certificate;
 use tso_ops::{Order, Outcome, Trace, ValueFault};
 
-fn ld(a: u16, r: u64) -> Outcome {
+pub(super) fn ld(a: u16, r: u64) -> Outcome {
     Outcome::Ld { a, r }
 }
 
-fn st(a: u16, v: u64) -> Outcome {
+pub(super) fn st(a: u16, v: u64) -> Outcome {
     Outcome::St { a, v }
 }
 
 /// A list for each processor.
-fn lists_of(alloc: Global, rows: &[&[Outcome]]) -> Result<Vec<Vec<Outcome>>, AllocError> {
+pub(super) fn lists_of(
+    alloc: Global,
+    rows: &[&[Outcome]],
+) -> Result<Vec<Vec<Outcome>>, AllocError> {
     let mut lists = Vec::new(alloc);
     for row in rows {
         lists.push(row.to_vec(alloc)?)?;

@@ -110,7 +110,7 @@ fn files(rt: HostRuntime) -> Result<(), Fail> {
 #[test]
 fn files_that_cannot_be_read(rt: HostRuntime) -> Result<(), Fail> {
     let folder = folder(&rt, "faults")?;
-    let cases: [&[&str]; 7] = [
+    let cases: [&[&str]; 9] = [
         &["judge"],
         &["judge", "@none"],
         &["judge", "@"],
@@ -118,6 +118,8 @@ fn files_that_cannot_be_read(rt: HostRuntime) -> Result<(), Fail> {
         &["check", "@trace", "@none"],
         &["check", "@torn", "@none"],
         &["check", "@trace", "@"],
+        &["replay", "--unit", "serial", "@none", "@torn"],
+        &["replay", "--unit", "serial", "@torn", "@none"],
     ];
     for arguments in cases {
         let ended = ended(&rt, rt.alloc(), folder.as_str(), arguments)?;
@@ -136,11 +138,19 @@ fn files_that_cannot_be_read(rt: HostRuntime) -> Result<(), Fail> {
 /// The whole texts stand in the tests of `command_line`.
 #[test]
 fn arguments_that_are_refused(rt: HostRuntime) -> Result<(), Fail> {
-    let cases: [(&[&str], &str); 4] = [
+    let cases: [(&[&str], &str); 6] = [
         (&["seek"], "error: unrecognized subcommand 'seek'\n"),
         (&["judge", "--workers", "65"], "error: invalid value '65' "),
         (&["judge", "a", "b"], "error: unexpected argument 'b' "),
         (&["check", "a"], "error: the following required arguments "),
+        (
+            &["replay", "a", "b"],
+            "error: the following required arguments ",
+        ),
+        (
+            &["replay", "--unit", "buffers", "a", "b"],
+            "error: invalid value 'buffers' ",
+        ),
     ];
     for (arguments, start) in cases {
         let ended = ended(&rt, rt.alloc(), "", arguments)?;

@@ -6,7 +6,7 @@ use super::{FailingReader, FailingWriter};
 use crate::endings::end_by;
 use crate::files::NamedFiles;
 use crate::serving::serve;
-use command_line::Request;
+use command_line::{Request, RunOptions, UnitKind, UnitOptions};
 use std::alloc::{AllocError, Global};
 use std::io;
 use std::io::{Error, ErrorKind, Read};
@@ -60,6 +60,8 @@ fn files(alloc: Global) -> Result<MemoryFiles, AllocError> {
             [
                 ("trace", "tso trace 1\nproc\nld 1 9\nend\n"),
                 ("certificate", "unwritten 1\n"),
+                ("program", "tso program 1\nproc\nst 1 1\nld 1\nend\n"),
+                ("schedule", "tso schedule 1\nend\n"),
             ],
         )?,
         opened: Vec::new(alloc),
@@ -79,6 +81,11 @@ struct Expected {
 const READ: &str = "FAULT Read\n";
 
 const JUDGED: &str = "TSO REPORT 1\nprocessors 1 events 1 rounds 0\nVIOLATION\nunwritten 1\n";
+
+const RECORDED: &str = "tso trace 1\nproc\nst 1 1\nld 1 1\nend\n";
+
+const REPLAYED: &str =
+    "TSO REPORT 1\nprocessors 1 events 2 rounds 0\nNO VIOLATION FOUND\naccount loads 1 stores 1 swaps 0 membars 0 drains 1 closed\n";
 
 /// Compares what a request comes to, where standard input fails.
 fn compare<H: Threads + Wait + Sync + AllocGlobal + Abort>(
@@ -172,6 +179,59 @@ fn checking(rt: HostRuntime) -> Result<(), Fail> {
         &rt,
         &no_certificate,
         outcome(&["certificate", "other"], 4, "", READ),
+    )
+}
+
+/// The request to replay these files on a serial unit.
+fn replay<'a>(program: &'a str, schedule: &'a str, prints_trace: bool) -> Request<'a>
+    ensures { HasWorkers (asked_of result) }
+{
+    let unit = UnitOptions {
+        kind: UnitKind::Serial,
+        capacity: 8,
+        trigger: 1,
+    };
+    let options = RunOptions {
+        unit,
+        workers: 2,
+        prints_trace,
+    };
+    Request::Replay {
+        options,
+        program,
+        schedule,
+    }
+}
+
+#[test]
+fn replaying(rt: HostRuntime) -> Result<(), Fail> {
+    let both = replay("program", "schedule", false);
+    compare(
+        &rt,
+        &both,
+        outcome(&["program", "schedule"], 0, REPLAYED, ""),
+    )?;
+    let recorded = replay("program", "schedule", true);
+    compare(
+        &rt,
+        &recorded,
+        outcome(&["program", "schedule"], 0, RECORDED, ""),
+    )?;
+    let no_program = replay("other", "schedule", false);
+    compare(&rt, &no_program, outcome(&["other"], 4, "", READ))?;
+    let no_schedule = replay("trace", "other", false);
+    compare(&rt, &no_schedule, outcome(&["trace", "other"], 4, "", READ))?;
+    let refused = replay("trace", "schedule", false);
+    compare(
+        &rt,
+        &refused,
+        outcome(&["trace", "schedule"], 2, "REFUSED BadHeader line 1\n", ""),
+    )?;
+    let refused_schedule = replay("program", "trace", true);
+    compare(
+        &rt,
+        &refused_schedule,
+        outcome(&["program", "trace"], 2, "REFUSED BadHeader line 1\n", ""),
     )
 }
 

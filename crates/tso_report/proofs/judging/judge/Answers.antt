@@ -7,7 +7,7 @@ use Rattle.tso_report.proofs.InputFacts.{leaves_prefix, no_order_of_reader, repo
 use Rattle.tso_report.proofs.StreamFacts.{loses_prefix}
 use Rattle.tso_report.proofs.judging.judge.Given as given
 use Rattle.tso_report.proofs.judging.judge.Goals as goal
-use Rattle.tso_report.proofs.judging.judge.Goals.{in-Ok+in_ok-finding-in-Ok+in_ok-report-in-Ok, in-Err+in_ok-report-in-Err}
+use Rattle.tso_report.proofs.judging.judge.Goals.{in-Ok+in_ok-report-in-Ok, in-Err+in_ok-report-in-Err}
 
 -- what was rendered is the report of what was read, and so of what the reader has
 rendered : (g : given.Over) (c : goal.After-drop-input-2 g) → IsReport c.deref.result.now (string_bytes c.match-read_trace.report.text) c.match-read_trace.report.verdict
@@ -15,7 +15,7 @@ rendered g c =
     let input = c.deref.result.now in
     let IsRendered : Report → Type 0 = λ report. IsReport input (string_bytes report.text) report.verdict in
     elim c.match-read_trace.branch [
-      | in-Ok+in_ok-finding-in-Ok+in_ok-report-in-Ok w ↦ subst IsRendered (sym w.report-is) (inl (_, w.in-Ok.ensures.found, w.in_ok-report-in-Ok.ensures))
+      | in-Ok+in_ok-report-in-Ok w ↦ subst IsRendered (sym w.report-is) (inl (_, w.in-Ok.ensures.found, w.in_ok-report-in-Ok.ensures.report))
       | in-Err+in_ok-report-in-Err w ↦
           let refused = w.in_ok-report-in-Err.ensures.refused in
           subst IsRendered (sym w.report-is) (inr (w.in-Err.fault.line, w.in-Err.fault.why, w.in-Err.ensures.refused refused.0, refused.1, refused.2))
@@ -29,13 +29,13 @@ returns-in_err-write_text-clause-fault g c =
     let input = c.deref.result.now in
     let IsRendered : Report → Type 0 = λ report. IsReport input (string_bytes report.text) report.verdict in
     let whole : IsRendered c.match-read_trace.report = elim c.match-read_trace.branch [
-      | in-Ok+in_ok-finding-in-Ok+in_ok-report-in-Ok w ↦ subst IsRendered (sym w.report-is) (inl (_, w.in-Ok.ensures.found, w.in_ok-report-in-Ok.ensures))
+      | in-Ok+in_ok-report-in-Ok w ↦ subst IsRendered (sym w.report-is) (inl (_, w.in-Ok.ensures.found, w.in_ok-report-in-Ok.ensures.report))
       | in-Err+in_ok-report-in-Err w ↦
           let refused = w.in_ok-report-in-Err.ensures.refused in
           subst IsRendered (sym w.report-is) (inr (w.in-Err.fault.line, w.in-Err.fault.why, w.in-Err.ensures.refused refused.0, refused.1, refused.2))
     ] in
     let report = report_of_reader (g.R.Read.remaining c.args.reader.now) _ input _ _ c.in_ok-input.ensures.prefix c.deref.ensures.value whole in
-    let leaves = leaves_prefix (g.R.Read.remaining c.args.reader.now) (g.W.Write.contents c.args.writer.now) (g.W.Write.contents c.write_text.new.writer) _ _ _
+    let leaves = leaves_prefix (IsReportOfReader (g.R.Read.remaining c.args.reader.now)) (g.W.Write.contents c.args.writer.now) (g.W.Write.contents c.write_text.new.writer) _ _ _
     c.in_err-write_text.field-0.0 report c.as_bytes.ensures.value c.in_err-write_text.ensures.prefix c.in_err-write_text.ensures.fault in
     search (rules, leaves)
 

@@ -2,7 +2,9 @@ use Rattle.std.specs.Prelude.{option_to_list}
 use Rattle.tso_report.specs.Written.{IsReportOfReader}
 use Rattle.tsobench.specs.Endings.{Outputs, judged_bytes, outputs}
 use Rattle.tsobench.specs.Named.{name_in}
+use Rattle.tsobench.specs.Replaying.{IsReplayText}
 use Rattle.tsobench.proofs.EndFacts.{at_verdict, ends_by_report, opens_all, unnamed_read}
+use Rattle.tsobench.proofs.ReplayingFacts.{at_text, ends_by_text}
 use Rattle.tsobench.proofs.serving.serve.Goals as goal
 
 pub returns-in-Judge-clause-ends : goal.returns-in-Judge-clause-ends
@@ -18,3 +20,16 @@ pub returns-in-Judge-clause-taken : goal.returns-in-Judge-clause-taken
 returns-in-Judge-clause-taken g c = λ reads other.
     let unnamed = unnamed_read c.in-Judge.file c.in-Judge.workers (rw c.in-Judge.is at reads) in
     at_verdict c.judge_named.result c.end.result _ _ _ c.end.ensures.fault (c.judge_named.ensures.taken unnamed) other
+
+pub returns-in-Replay-clause-ends : goal.returns-in-Replay-clause-ends
+returns-in-Replay-clause-ends g c =
+    let o : Outputs = outputs (g.W.Write.contents c.args.writer.now) (g.W.Write.contents c.replay_named-replayed.new.writer) (g.E.Write.contents c.args.errors.now) (g.E.Write.contents c.end_with.new.errors) in
+    let is_text = IsReplayText c.in-Replay.options (g.O.NamedFiles.bytes c.args.files.now c.in-Replay.program.now) (g.O.NamedFiles.bytes c.args.files.now c.in-Replay.schedule.now) in
+    rw c.in-Replay.is (ends_by_text is_text o c.replay_named-replayed.result c.end_with.result c.replay_named-replayed.ensures.text c.replay_named-replayed.ensures.fault c.end_with.ensures.status c.end_with.ensures.fault)
+
+pub returns-in-Replay-clause-first : goal.returns-in-Replay-clause-first
+returns-in-Replay-clause-first g c = rw c.in-Replay.is c.replay_named-replayed.ensures.first
+
+pub returns-in-Replay-clause-opened : goal.returns-in-Replay-clause-opened
+returns-in-Replay-clause-opened g c = λ other.
+    rw c.in-Replay.is (at_text c.replay_named-replayed.result c.end_with.result _ _ _ c.end_with.ensures.fault c.replay_named-replayed.ensures.opened other)

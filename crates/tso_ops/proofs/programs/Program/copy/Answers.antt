@@ -17,12 +17,10 @@ invariant_of-result c =
     let whole : rows c.loop-list.lists.items ≡ rows c.self.inside.lists.items =
     rows-all c.loop-list.lists.items c.deref-list-items.result.now c.loop-list.list-index c.loop-list-test.false c.loop-list.invariant
     ∙ ap rows c.deref-list-items.ensures.value in
-    let first : c.in_ok-from_slice-2.field-0.items ≡ c.self.inside.setting.first.items = c.in_ok-from_slice-2.ensures.items ∙ c.deref-2.ensures.value in
-    rw (whole, first) c.self.invariant
+    rw (whole, c.in_ok-setting.ensures) c.self.invariant
 
 pub returns : goal.returns
 returns c =
-    let first : c.in_ok-from_slice-2.field-0.items ≡ c.self.inside.setting.first.items = c.in_ok-from_slice-2.ensures.items ∙ c.deref-2.ensures.value in
-    rw first (ap (program_of_lists (setting_of c.self.inside.setting))
+    rw c.in_ok-setting.ensures (ap (program_of_lists (setting_of c.self.inside.setting))
     (rows-all c.loop-list.lists.items c.deref-list-items.result.now c.loop-list.list-index c.loop-list-test.false c.loop-list.invariant
     ∙ ap rows c.deref-list-items.ensures.value) ∙ c.self.view_is)

@@ -1,0 +1,113 @@
+//! The options that several subcommands take.
+ghost use Rattle.std.specs.Prelude.{◌≡◌, false, IfOk};
+ghost use Rattle.clap.specs.Words.{app_of, rule_of};
+ghost use Rattle.clap.specs.declared.builder.command.Command.TheViews.{out-Command as fields_of};
+ghost use Rattle.command_line.specs.Commands.{capacity_rule, prints_rule, run_rules, trigger_rule, unit_rule, unit_rules, with_rules, workers_rule};
+
+use crate::help;
+use crate::options::MAX_CAPACITY;
+use clap::builder::ValueParser;
+use clap::{Arg, ArgAction, Command, value_parser};
+use round_pool::MAX_WORKERS;
+use std::alloc::{AllocError, Global};
+
+/// The number of workers where none is named.
+const DEFAULT_WORKERS: &str = "1";
+
+/// The capacity of a unit's store buffers where none is named.
+const DEFAULT_CAPACITY: &str = "8";
+
+/// The trigger of a unit where none is named.
+const DEFAULT_TRIGGER: &str = "1";
+
+/// The option `--workers`.
+pub(crate) fn workers_option<'a>(alloc: Global) -> Arg<'a>
+    ensures rule { rule_of result ≡ workers_rule }
+    ensures local { result.global ≡ false }
+{
+    Arg::new(alloc, "workers")
+        .long("workers")
+        .value_name("N")
+        .value_parser(value_parser!(u64).range(1..=MAX_WORKERS as i64))
+        .default_value(DEFAULT_WORKERS)
+        .help(help::WORKERS)
+}
+
+/// The command with the options of a run: those of a unit, which has one of these names, `--workers` and `--trace`.
+pub(crate) fn with_run_options<'a>(
+    alloc: Global,
+    command: Command<'a>,
+    names: &'a [&'a str],
+) -> Result<Command<'a>, AllocError>
+    ensures app { IfOk result (λ offered. app_of offered ≡ with_rules (app_of command.entry) (run_rules names.entry)) }
+    ensures local { IfOk result (λ offered. (fields_of offered).has_globals ≡ (fields_of command.entry).has_globals) }
+{
+    with_unit_options(alloc, command, names)?
+        .arg(workers_option(alloc))?
+        .arg(trace_option(alloc))
+}
+
+/// The command with the options of a unit, which has one of these names.
+fn with_unit_options<'a>(
+    alloc: Global,
+    command: Command<'a>,
+    names: &'a [&'a str],
+) -> Result<Command<'a>, AllocError>
+    ensures app { IfOk result (λ offered. app_of offered ≡ with_rules (app_of command.entry) (unit_rules names.entry)) }
+    ensures local { IfOk result (λ offered. (fields_of offered).has_globals ≡ (fields_of command.entry).has_globals) }
+{
+    command
+        .arg(unit_option(alloc, names))?
+        .arg(capacity_option(alloc))?
+        .arg(trigger_option(alloc))
+}
+
+/// The option `--unit`, which takes these names.
+fn unit_option<'a>(alloc: Global, names: &'a [&'a str]) -> Arg<'a>
+    ensures rule { rule_of result ≡ unit_rule names.entry }
+    ensures local { result.global ≡ false }
+{
+    Arg::new(alloc, "unit")
+        .long("unit")
+        .value_name("UNIT")
+        .required(true)
+        .value_parser(ValueParser::Names(names))
+        .help(help::UNIT)
+}
+
+/// The option `--capacity`.
+fn capacity_option<'a>(alloc: Global) -> Arg<'a>
+    ensures rule { rule_of result ≡ capacity_rule }
+    ensures local { result.global ≡ false }
+{
+    Arg::new(alloc, "capacity")
+        .long("capacity")
+        .value_name("C")
+        .value_parser(value_parser!(u64).range(1..=MAX_CAPACITY as i64))
+        .default_value(DEFAULT_CAPACITY)
+        .help(help::CAPACITY)
+}
+
+/// The option `--trigger`.
+fn trigger_option<'a>(alloc: Global) -> Arg<'a>
+    ensures rule { rule_of result ≡ trigger_rule }
+    ensures local { result.global ≡ false }
+{
+    Arg::new(alloc, "trigger")
+        .long("trigger")
+        .value_name("T")
+        .value_parser(value_parser!(u64).range(1..))
+        .default_value(DEFAULT_TRIGGER)
+        .help(help::TRIGGER)
+}
+
+/// The flag `--trace`.
+fn trace_option<'a>(alloc: Global) -> Arg<'a>
+    ensures rule { rule_of result ≡ prints_rule }
+    ensures local { result.global ≡ false }
+{
+    Arg::new(alloc, "trace")
+        .long("trace")
+        .action(ArgAction::SetTrue)
+        .help(help::TRACE)
+}

@@ -1,0 +1,48 @@
+//! What options say of a run on a memory unit.
+ghost use Rattle.std.specs.Prelude.{◌≡◌};
+ghost use Rattle.command_line.specs.Units.{unit_kind};
+
+/// The greatest capacity of a unit's store buffers, in entries.
+pub const MAX_CAPACITY: usize = 64;
+
+/// A kind of memory unit.
+#[derive(Clone, Copy, Debug, PartialEq, Eq)]
+pub enum UnitKind {
+    /// `serial`: lawful, of TSO; each store is drained within its call.
+    Serial,
+}
+
+/// The names of the kinds, as `--unit` takes them; `kind_named` knows each.
+pub(crate) static UNIT_NAMES: [&str; 1] = ["serial"];
+
+/// The kind of this name.
+pub(crate) fn kind_named(name: &str) -> Option<UnitKind>
+    ensures { result ≡ unit_kind name.now }
+{
+    if name == "serial" {
+        return Some(UnitKind::Serial);
+    }
+    None
+}
+
+/// Which memory unit to make.
+#[derive(Clone, Copy, Debug, PartialEq, Eq)]
+pub struct UnitOptions {
+    /// Its kind.
+    pub kind: UnitKind,
+    /// How many entries each store buffer holds, 1 to 64. Kinds without buffers ignore it.
+    pub capacity: usize,
+    /// From which occasion on a faulty unit deviates, from 1. Other kinds ignore it.
+    pub trigger: u64,
+}
+
+/// How a program is run, and what is printed of it.
+#[derive(Clone, Copy, Debug, PartialEq, Eq)]
+pub struct RunOptions {
+    /// The unit on which it is run.
+    pub unit: UnitOptions,
+    /// The number of workers that judge the recorded trace, 1 to 64.
+    pub workers: usize,
+    /// Whether the recorded trace is printed, in place of its report and the account.
+    pub prints_trace: bool,
+}

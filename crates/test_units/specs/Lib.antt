@@ -1,0 +1,2 @@
+pub mod Inventing
+pub mod Issues

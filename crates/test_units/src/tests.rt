@@ -1,0 +1,119 @@
+//! Units that are driven by hand, and what their end leaves.
+ghost use Rattle.std.specs.Prelude.{◌≡◌, []};
+
+mod by_hand;
+mod ends;
+mod replayed;
+
+use crate::{CallCounts, CountingUnit, RefusingUnit, issue_program};
+use std::alloc::{AllocError, Global};
+use std::sync::Arc;
+use std::sync::atomic::Ordering;
+use tso_ops::{Op, Order, Outcome, Program, Trace, ValueFault};
+use unit_core::{Account, MemoryUnit, Recorded, conclude, conclude_over};
+use unit_kinds::SerialUnit;
+
+const STBAR: Op = Op::Sb;
+
+fn ld(a: u16) -> Op {
+    Op::Ld { a }
+}
+
+fn st(a: u16, v: u64) -> Op {
+    Op::St { a, v }
+}
+
+fn sw(a: u16, v: u64) -> Op {
+    Op::Sw { a, v }
+}
+
+/// A list of each row.
+fn lists_of<T: Copy>(alloc: Global, rows: &[&[T]]) -> Result<Vec<Vec<T>>, AllocError> {
+    let mut lists = Vec::new(alloc);
+    for row in rows {
+        lists.push(row.to_vec(alloc)?)?;
+    }
+    Ok(lists)
+}
+
+/// The program of processors that issue these operations.
+fn program_of(alloc: Global, order: Order, rows: &[&[Op]]) -> Result<Program, ValueFault> {
+    Program::with_order(alloc, order, lists_of(alloc, rows)?).map_err(|refused| refused.why)
+}
+
+/// The trace of processors that did and read this.
+fn trace_of(alloc: Global, order: Order, rows: &[&[Outcome]]) -> Result<Trace, ValueFault> {
+    Trace::with_order(alloc, order, lists_of(alloc, rows)?).map_err(|refused| refused.why)
+}
+
+/// Whether two traces are equal as values: version, memory model, first values and operations.
+fn are_equal(one: &Trace, other: &Trace) -> bool {
+    let settings = (one.version(), one.order()) == (other.version(), other.order());
+    let first = (0..256u16).all(|a| one.first(a) == other.first(a));
+    settings && first && have_equal_operations(one, other)
+}
+
+/// Whether each processor of two traces did and read the same, and both have as many.
+fn have_equal_operations(one: &Trace, other: &Trace) -> bool {
+    let processors = one.processors();
+    if processors != other.processors() {
+        return false;
+    }
+    for p in 0..processors {
+        if one.ops(p) != other.ops(p) {
+            return false;
+        }
+    }
+    true
+}
+
+/// Two processors that store, and load from the other's address; the first swaps too.
+fn store_buffering(alloc: Global, order: Order) -> Result<Program, ValueFault> {
+    program_of(
+        alloc,
+        order,
+        &[&[st(1, 1), Op::Mb, ld(2), sw(3, 3)], &[st(2, 2), ld(1)]],
+    )
+}
+
+/// How many loads, stores, swaps, membars, STBARs, drains and drops were counted.
+fn numbers_of(counts: &CallCounts) -> [u64; 7] {
+    [
+        counts.loads.load(Ordering::SeqCst),
+        counts.stores.load(Ordering::SeqCst),
+        counts.swaps.load(Ordering::SeqCst),
+        counts.membars.load(Ordering::SeqCst),
+        counts.stbars.load(Ordering::SeqCst),
+        counts.drains.load(Ordering::SeqCst),
+        counts.drops.load(Ordering::SeqCst),
+    ]
+}
+
+/// The program's run on a unit that has taken no step.
+fn run_over<U: MemoryUnit>(
+    alloc: Global,
+    program: &Program,
+    unit: U,
+    account: &mut Account,
+) -> Result<Recorded, AllocError>
+    requires { (U.value_of unit).steps ≡ [] }
+{
+    let mut unit = unit;
+    issue_program(&mut unit, program)?;
+    conclude_over(alloc, program, unit, account)
+}
+
+/// The program's run on a serial unit that refuses the call of this number and counts its calls, in a box.
+fn run_counted(
+    alloc: Global,
+    program: &Program,
+    refused: u64,
+    counts: &Arc<CallCounts, Global>,
+    account: &mut Account,
+) -> Result<Recorded, AllocError> {
+    let serial = RefusingUnit::new(SerialUnit::new(alloc)?, refused);
+    let mut unit = CountingUnit::new(serial, Arc::try_clone(counts)?);
+    issue_program(&mut unit, program)?;
+    let unit: Box<dyn MemoryUnit + Send> = Box::new(alloc, unit)?;
+    conclude(alloc, program, unit, account)
+}

@@ -1,0 +1,9 @@
+-- The statuses of verdicts.
+use Rattle.std.specs.Prelude.{ℕ}
+use Rattle.tso_report.specs.declared.verdicts.Verdict.{Verdict}
+use Rattle.tso_report.specs.declared.verdicts.Verdict.TheVariants.{NoViolation, Violation, Refused}
+
+abbrev pub status_of : Verdict → ℕ
+status_of NoViolation = 0
+status_of Refused = 2
+status_of Violation = 3

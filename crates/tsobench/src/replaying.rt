@@ -1,0 +1,166 @@
+//! The way of a replay: read the program, then the schedule, run the one by the other, judge or print, write.
+ghost use Rattle.std.specs.Prelude.{◌≡◌, ◌≢◌, ◌⊎◌, ◌≤◌, [], ◌∷◌, IfOk, IfErr, OnOk};
+ghost use Rattle.tso_report.specs.declared.faults.Fault.{Fault};
+ghost use Rattle.tso_report.specs.Limits.{worker_limit};
+ghost use Rattle.tso_report.specs.Reports.{refusal_text};
+ghost use Rattle.tso_report.specs.Written.{LeavesAtFault};
+ghost use Rattle.tso_text.specs.declared.faults.Why.{Why};
+ghost use Rattle.tsobench.specs.Endings.{IsPrintable, WritesText};
+ghost use Rattle.tsobench.specs.Named.{OpensFirst, OpensNext};
+ghost use Rattle.tsobench.specs.Replaying.{IsReplayOf, IsReplayText, IsScheduledText, PrintsRecord, unit_of};
+
+use crate::endings::{DONE, REFUSED, status_of};
+use crate::files::{NamedFiles, open};
+use command_line::{RunOptions, UnitKind};
+use std::alloc::Global;
+use std::io::{Read, Write};
+use std::sync::Wait;
+use std::thread::Threads;
+use tso_ops::{OutOfMemory, Program};
+use tso_report::{Fault, judge_trace, print_account, read_all, render_refusal, write_text};
+use tso_text::{Act, MAX_TEXT_BYTES, TextFault, print_trace, read_program, read_schedule};
+use unit_core::{Account, MemoryUnit, Recorded, replay};
+use unit_kinds::SerialUnit;
+
+/// A text to be written, and the status that the program then ends with.
+#[derive(Drop)]
+struct Printed {
+    text: Vec<u8>,
+    status: u8,
+}
+
+/// Replays the program in one file by the schedule in another, and writes what the options ask for: the status. Both
+/// are opened before one is read.
+pub(crate) fn replay_named<H: Threads + Wait + AllocGlobal, O: NamedFiles, W: Write>(
+    rt: &H,
+    options: &RunOptions,
+    program: &str,
+    schedule: &str,
+    files: &mut O,
+    writer: &mut W,
+) -> Result<u8, Fault>
+    requires some { 1 ≤ options.now.workers }
+    requires most { options.now.workers ≤ worker_limit }
+    ensures text { IfOk result (WritesText (IsReplayText options.now (O.bytes files.old program.now) (O.bytes files.old schedule.now)) (W.contents writer.old) (W.contents writer.new)) }
+    ensures fault { IfErr result (LeavesAtFault (IsPrintable (IsReplayText options.now (O.bytes files.old program.now) (O.bytes files.old schedule.now))) (W.contents writer.old) (W.contents writer.new)) }
+    ensures first { OpensFirst (O.opened files.old) (O.opened files.new) (program.now ∷ schedule.now ∷ []) }
+    ensures opened { OnOk result (OpensNext (O.opened files.old) (O.opened files.new) (program.now ∷ schedule.now ∷ [])) }
+{
+    let mut program = open(files, program)?;
+    let mut schedule = open(files, schedule)?;
+    let printed = replay_texts(rt, options, &mut program, &mut schedule)?;
+    write_text(writer, &printed.text)?;
+    Ok(printed.status)
+}
+
+/// What is printed of a replay of the program that one reader has by the schedule that another has. The schedule isn't
+/// read where the program is refused.
+fn replay_texts<H: Threads + Wait + AllocGlobal, P: Read, S: Read>(
+    rt: &H,
+    options: &RunOptions,
+    programs: &mut P,
+    schedules: &mut S,
+) -> Result<Printed, Fault>
+    requires some { 1 ≤ options.now.workers }
+    requires most { options.now.workers ≤ worker_limit }
+    ensures text { IfOk result (λ printed. IsReplayText options.now (P.remaining programs.old) (S.remaining schedules.old) printed.text.items printed.status) }
+    ensures fault { IfErr result (λ fault. (fault ≡ Fault.OutOfMemory) ⊎ ((fault ≡ Fault.Read) ⊎ (fault ≡ Fault.NoThread))) }
+{
+    let input = read_all(rt.alloc(), programs, MAX_TEXT_BYTES)?;
+    match read_program(rt.alloc(), &input) {
+        Ok(program) => replay_program(rt, options, &program, schedules),
+        Err(fault) => Ok(print_refusal(rt.alloc(), fault)?),
+    }
+}
+
+/// What is printed of a replay of the program by the schedule that a reader has.
+fn replay_program<H: Threads + Wait + AllocGlobal, S: Read>(
+    rt: &H,
+    options: &RunOptions,
+    program: &Program,
+    schedules: &mut S,
+) -> Result<Printed, Fault>
+    requires some { 1 ≤ options.now.workers }
+    requires most { options.now.workers ≤ worker_limit }
+    ensures text { IfOk result (λ printed. IsScheduledText options.now program.now (S.remaining schedules.old) printed.text.items printed.status) }
+    ensures fault { IfErr result (λ fault. (fault ≡ Fault.OutOfMemory) ⊎ ((fault ≡ Fault.Read) ⊎ (fault ≡ Fault.NoThread))) }
+{
+    let input = read_all(rt.alloc(), schedules, MAX_TEXT_BYTES)?;
+    match read_schedule(rt.alloc(), &input) {
+        Ok(schedule) => replay_by(rt, options, program, &schedule),
+        Err(fault) => Ok(print_refusal(rt.alloc(), fault)?),
+    }
+}
+
+/// What is printed of a replay of the program by the schedule.
+fn replay_by<H: Threads + Wait + AllocGlobal>(
+    rt: &H,
+    options: &RunOptions,
+    program: &Program,
+    schedule: &[Act],
+) -> Result<Printed, Fault>
+    requires some { 1 ≤ options.now.workers }
+    requires most { options.now.workers ≤ worker_limit }
+    ensures text { IfOk result (λ printed. IsReplayOf options.now program.now schedule.now printed.text.items printed.status) }
+    ensures fault { IfErr result (λ fault. (fault ≡ Fault.OutOfMemory) ⊎ (fault ≡ Fault.NoThread)) }
+{
+    let alloc = rt.alloc();
+    let unit: Box<dyn MemoryUnit + Send> = match options.unit.kind {
+        UnitKind::Serial => Box::new(alloc, SerialUnit::new(alloc)?)?,
+    };
+    replay_on(rt, unit, options, program, schedule)
+}
+
+/// What is printed of a replay on this unit, which is as the options ask for.
+fn replay_on<H: Threads + Wait + AllocGlobal>(
+    rt: &H,
+    unit: Box<dyn MemoryUnit + Send>,
+    options: &RunOptions,
+    program: &Program,
+    schedule: &[Act],
+) -> Result<Printed, Fault>
+    requires unit { value_of unit ≡ unit_of options.now.unit }
+    requires some { 1 ≤ options.now.workers }
+    requires most { options.now.workers ≤ worker_limit }
+    ensures text { IfOk result (λ printed. IsReplayOf options.now program.now schedule.now printed.text.items printed.status) }
+    ensures fault { IfErr result (λ fault. (fault ≡ Fault.OutOfMemory) ⊎ (fault ≡ Fault.NoThread)) }
+{
+    let mut account = Account::new();
+    let recorded = replay(rt.alloc(), unit, program, schedule, &mut account)?;
+    print_record(rt, options, &recorded, &account)
+}
+
+/// What is printed of a record: its trace where the options ask for it, else the report of the trace and the account.
+fn print_record<H: Threads + Wait + AllocGlobal>(
+    rt: &H,
+    options: &RunOptions,
+    recorded: &Recorded,
+    account: &Account,
+) -> Result<Printed, Fault>
+    requires some { 1 ≤ options.now.workers }
+    requires most { options.now.workers ≤ worker_limit }
+    ensures text { IfOk result (λ printed. PrintsRecord options.now.prints_trace recorded.now account.now printed.text.items printed.status) }
+    ensures fault { IfErr result (λ fault. (fault ≡ Fault.OutOfMemory) ⊎ (fault ≡ Fault.NoThread)) }
+{
+    if options.prints_trace {
+        return Ok(Printed {
+            text: print_trace(rt.alloc(), recorded.trace())?.into_bytes(),
+            status: DONE,
+        });
+    }
+    let report = judge_trace(rt, rt.alloc(), recorded.trace(), options.workers)?;
+    let status = status_of(report.verdict);
+    let mut text = report.text.into_bytes();
+    text.extend_from_slice(&print_account(rt.alloc(), account)?)?;
+    Ok(Printed { text, status })
+}
+
+/// The line of the refusal of a text.
+fn print_refusal(alloc: Global, fault: TextFault) -> Result<Printed, OutOfMemory>
+    ensures { IfOk result (λ printed. fault.why ≢ Why.OutOfMemory × (printed.text.items ≡ refusal_text fault.line fault.why) × (printed.status ≡ 2)) }
+{
+    Ok(Printed {
+        text: render_refusal(alloc, fault)?.text.into_bytes(),
+        status: REFUSED,
+    })
+}

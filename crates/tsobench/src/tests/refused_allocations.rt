@@ -1,0 +1,52 @@
+//! Allocations refused in turn: `rt try --test --fail-alloc N` refuses the Nth of each test.
+//!
+//! The call that meets it answers OutOfMemory, or NoThread where the allocation was that of a thread's start, and writes
+//! nothing, and the next call gives the ordinary answer.
+
+use super::records::{ACCOUNT, PROGRAM, REPORT, SCHEDULE};
+use std::alloc::Global;
+use std::test::Fail;
+use tso_ops::{OutOfMemory, Program};
+use tso_report::{Fault, Verdict, judge_recorded};
+use tso_text::read_program;
+use unit_core::{Account, MemoryUnit, Recorded, replay};
+use unit_kinds::SerialUnit;
+
+/// The room that a report gets.
+const ROOM: usize = 256;
+
+/// A replay on a serial unit, in a box.
+fn replayed(
+    alloc: Global,
+    program: &Program,
+    account: &mut Account,
+) -> Result<Recorded, OutOfMemory> {
+    let unit: Box<dyn MemoryUnit + Send> = Box::new(alloc, SerialUnit::new(alloc)?)?;
+    replay(alloc, unit, program, &SCHEDULE, account)
+}
+
+#[test]
+fn refused_allocations_of_a_replay(rt: HostRuntime) -> Result<(), Fail> {
+    let alloc = rt.alloc();
+    let program = match read_program(alloc, PROGRAM.as_bytes()) {
+        Ok(program) => program,
+        Err(_) => read_program(alloc, PROGRAM.as_bytes())?,
+    };
+    let mut account = Account::new();
+    let recorded = match replayed(alloc, &program, &mut account) {
+        Ok(recorded) => recorded,
+        Err(OutOfMemory) => replayed(alloc, &program, &mut account)?,
+    };
+    assert_eq!(rt; account, ACCOUNT);
+    let mut bytes = [0u8; ROOM];
+    let mut writer = bytes.as_mut_slice();
+    let mut said = judge_recorded(&rt, alloc, &recorded, &mut writer, 1);
+    if said == Err(Fault::OutOfMemory) || said == Err(Fault::NoThread) {
+        assert_eq!(rt; writer.len(), ROOM);
+        said = judge_recorded(&rt, alloc, &recorded, &mut writer, 1);
+    }
+    assert_eq!(rt; said?, Verdict::NoViolation);
+    let written = ROOM.saturating_sub(writer.len());
+    assert_eq!(rt; &bytes[..written], REPORT.as_bytes());
+    Ok(())
+}

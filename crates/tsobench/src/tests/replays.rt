@@ -1,0 +1,143 @@
+//! Replays by the arguments of the command line, with files in a folder of the test's own.
+
+use super::commands::{ended, new_folder};
+use std::fs;
+use std::test::Fail;
+
+/// replay_serial
+const PROGRAM: &str = "tso program 1\nproc\nst 1 1\nst 2 2\nproc\nld 2\nld 1\nend\n";
+
+const SCHEDULE: &str = "tso schedule 1\ni 0\ni 1\ni 0\ni 1\nend\n";
+
+const RECORDED: &str = "tso trace 1\nproc\nst 1 1\nst 2 2\nproc\nld 2 0\nld 1 1\nend\n";
+
+const REPORT: &str =
+    "TSO REPORT 1\nprocessors 2 events 4 rounds 1\nNO VIOLATION FOUND\naccount loads 2 stores 2 swaps 0 membars 0 drains 2 closed\n";
+
+/// No operation, and what its replay prints.
+const NOTHING: &str = "tso program 1\nend\n";
+
+const NOTHING_REPORT: &str =
+    "TSO REPORT 1\nprocessors 0 events 0 rounds 0\nNO VIOLATION FOUND\naccount loads 0 stores 0 swaps 0 membars 0 drains 0 closed\n";
+
+const NOTHING_RECORDED: &str = "tso trace 1\nend\n";
+
+/// The texts of the folder.
+const TEXTS: [(&str, &str); 7] = [
+    ("program", PROGRAM),
+    ("schedule", SCHEDULE),
+    ("nothing", NOTHING),
+    ("empty", "tso schedule 1\nend\n"),
+    (
+        "others",
+        "tso schedule 1\ni 2\nd 0\nd 15\ni 0\ni 1\ni 0\ni 0\ni 0\nend\n",
+    ),
+    ("torn", "tso program 1\nproc\n"),
+    ("sixteen", "tso schedule 1\ni 16\nend\n"),
+];
+
+/// The status of a replay with these arguments, and what it prints.
+type Replayed = (&'static [&'static str], u8, &'static str);
+
+const REPLAYS: [Replayed; 14] = [
+    (&["--unit", "serial", "@program", "@schedule"], 0, REPORT),
+    (&["--unit=serial", "@program", "@others"], 0, REPORT),
+    (
+        &[
+            "@program",
+            "--workers",
+            "64",
+            "@schedule",
+            "--unit",
+            "serial",
+        ],
+        0,
+        REPORT,
+    ),
+    (
+        &[
+            "--capacity",
+            "1",
+            "--unit",
+            "serial",
+            "--trigger=18446744073709551615",
+            "@program",
+            "@schedule",
+        ],
+        0,
+        REPORT,
+    ),
+    (
+        &["--unit", "serial", "--trace", "@program", "@schedule"],
+        0,
+        RECORDED,
+    ),
+    (
+        &["--unit", "serial", "@program", "@schedule", "--trace"],
+        0,
+        RECORDED,
+    ),
+    (
+        &["--unit", "serial", "@program", "@empty", "--trace"],
+        0,
+        "tso trace 1\nproc\nst 1 1\nst 2 2\nproc\nld 2 2\nld 1 1\nend\n",
+    ),
+    (
+        &["--unit", "serial", "@nothing", "@schedule"],
+        0,
+        NOTHING_REPORT,
+    ),
+    (
+        &["--unit", "serial", "@nothing", "@empty"],
+        0,
+        NOTHING_REPORT,
+    ),
+    (
+        &["--unit", "serial", "--trace", "@nothing", "@others"],
+        0,
+        NOTHING_RECORDED,
+    ),
+    (
+        &["--unit", "serial", "@torn", "@schedule"],
+        2,
+        "REFUSED MissingEnd line 3\n",
+    ),
+    (
+        &["--unit", "serial", "@torn", "@sixteen"],
+        2,
+        "REFUSED MissingEnd line 3\n",
+    ),
+    (
+        &["--unit", "serial", "@program", "@sixteen"],
+        2,
+        "REFUSED ProcessorRange line 2\n",
+    ),
+    (
+        &["--unit", "serial", "--trace", "@schedule", "@program"],
+        2,
+        "REFUSED BadHeader line 1\n",
+    ),
+];
+
+#[test]
+fn replays(rt: HostRuntime) -> Result<(), Fail> {
+    let alloc = rt.alloc();
+    let folder = new_folder(&rt, "replays")?;
+    for (file, text) in TEXTS {
+        fs::write(&rt, format!(in alloc; "{folder}/{file}")?.as_str(), text)?;
+    }
+    for (arguments, status, output) in REPLAYS {
+        let mut all = Vec::from_array(alloc, ["replay"])?;
+        all.extend_from_slice(arguments)?;
+        let ended = ended(&rt, alloc, folder.as_str(), &all)?;
+        assert_eq!(rt;
+            ended.written.as_slice(),
+            output.as_bytes(),
+            "{arguments:?}"
+        );
+        assert_eq!(rt; ended.status, status, "{arguments:?}");
+        assert_eq!(rt; ended.errors.len(), 0, "{arguments:?}");
+    }
+    fs::remove_dir_all(&rt, folder.as_str())?;
+    Ok(())
+}

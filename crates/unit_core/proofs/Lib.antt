@@ -1,0 +1,11 @@
+pub mod BelongFacts
+pub mod CountFacts
+pub mod DrainFacts
+pub mod IssueFacts
+pub mod LastDrainFacts
+pub mod OutcomeFacts
+pub mod ProgramCountFacts
+pub mod RecordFacts
+pub mod ReplayFacts
+pub mod RunFacts
+pub mod StbarFacts

@@ -1,0 +1,6 @@
+use Rattle.unit_kinds.proofs.SerialFacts.{IsSerial-stbar}
+use Rattle.unit_kinds.proofs.serial.SerialUnitMemoryUnit.stbar.Goals as goal
+
+pub invariant_of-self-2 : goal.invariant_of-self-2
+invariant_of-self-2 c =
+    rw c.in_ok-push.ensures.items (IsSerial-stbar c.self.inside.steps.items c.self.inside.first.items c.self.inside.memory.items c.args.p c.requires.processor c.self.invariant)
