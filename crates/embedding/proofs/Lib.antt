@@ -1,0 +1,9 @@
+pub mod Buffers
+pub mod Embedding
+pub mod Kept
+pub mod LoadedValues
+pub mod Moments
+pub mod Numbers
+pub mod Places
+pub mod Steps
+pub mod Walk

@@ -1,0 +1,9 @@
+use Rattle.embedding.specs.RunOrder.{order_of}
+use Rattle.embedding.proofs.Embedding.{run_order}
+use Rattle.embedding.proofs.laws.complete_runs_have_orders.Goals as goal
+
+pub returns-clause-order : goal.returns-clause-order
+returns-clause-order c = run_order
+
+pub returns-clause-consistent : goal.returns-clause-consistent
+returns-clause-consistent c setting count steps run = (order_of count run.memory steps, run_order setting count steps run)
