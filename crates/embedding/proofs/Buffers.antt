@@ -56,7 +56,8 @@ module _ (t : TraceValue) (p bars : ℕ) where
       let less : n < past = waiting.1 in
       (waiting.0, omega (arith, less), all-push n past numbers less waiting.2, waiting-push past buffer numbers e is waiting.3)
 
-  pub waiting-more : (past more : ℕ) (buffer : List Entry) (numbers : List ℕ) → past ≤ more → AreWaiting t p bars past buffer numbers → AreWaiting t p bars more buffer numbers
+  pub waiting-more : (past more : ℕ) (buffer : List Entry) (numbers : List ℕ) → past ≤ more → AreWaiting t p bars past buffer numbers →
+      AreWaiting t p bars more buffer numbers
   waiting-more past more [] [] high waiting = tt
   waiting-more past more [] (n ∷ numbers) high waiting = absurd waiting
   waiting-more past more (f ∷ buffer) [] high waiting = absurd waiting
@@ -74,8 +75,8 @@ module _ (t : TraceValue) (p bars : ℕ) where
       (waiting.0, waiting.1, all-remove n numbers k waiting.2, waiting-remove past buffer numbers k waiting.3)
 
   -- the number of an entry
-  pub number_of_entry : (past : ℕ) (buffer : List Entry) (numbers : List ℕ) (k : ℕ) (e : Entry) → AreWaiting t p bars past buffer numbers → slice_get buffer k ≡ Some e →
-      (n : ℕ) × (slice_get numbers k ≡ Some n) × (event_at t n ≡ Some (stored_event p bars e)) × (n < past)
+  pub number_of_entry : (past : ℕ) (buffer : List Entry) (numbers : List ℕ) (k : ℕ) (e : Entry) → AreWaiting t p bars past buffer numbers →
+      slice_get buffer k ≡ Some e → (n : ℕ) × (slice_get numbers k ≡ Some n) × (event_at t n ≡ Some (stored_event p bars e)) × (n < past)
   number_of_entry past [] numbers k e waiting read = absurd cc
   number_of_entry past (f ∷ buffer) [] k e waiting read = absurd waiting
   number_of_entry past (f ∷ buffer) (n ∷ numbers) zero e waiting read =

@@ -1,7 +1,6 @@
 -- The order that the memory model keeps: each event that memory takes comes after the program-earlier ones whose order it keeps.
 use Rattle.std.proofs.Common.{◌≡◌, ◌∙◌, ◌⊎◌, inl, inr, sym, ap, refl, subst, ℕ, zero, suc, ◌<◌, ◌≤◌, true, false, Some, List, [], ◌∷◌, ◌++◌, slice_get, cond, eqb, arith}
 use Rattle.std.specs.Option.{option_to_list}
-use Rattle.std.specs.List.{cons_option}
 use Rattle.std.proofs.lemmas.Bool.{cases_eq, cases_lt, eq-eqb, ne_eqb}
 use Rattle.tso_ops.specs.declared.settings.Order.{Order}
 use Rattle.tso_ops.specs.declared.settings.Order.TheVariants.{Tso, Pso}
@@ -14,10 +13,10 @@ use Rattle.tso_model.specs.Order.{occurrences, place, IsUpTo}
 use Rattle.tso_model.proofs.Events.{event_unique}
 use Rattle.unit_core.specs.declared.steps.Step.{Step}
 use Rattle.unit_core.specs.declared.steps.Step.TheVariants.{Store, Drain, DrainAt, Load, Swap, Membar, Stbar}
-use Rattle.unit_core.specs.Machine.{Entry, State, IsAllowed, buffer_of, oldest_of, outcome_of, outcomes_of, proc_of, stbars_of}
+use Rattle.unit_core.specs.Machine.{Entry, State, IsAllowed, buffer_of, oldest_of, outcomes_of, proc_of, stbars_of}
 use Rattle.embedding.specs.RunOrder.{Numbering, ordered_by}
 use Rattle.embedding.proofs.Buffers.{stored_event, number_of_entry, entry_of_number, rises}
-use Rattle.embedding.proofs.Moments.{IsListed, IsNumbered}
+use Rattle.embedding.proofs.Moments.{IsListed, IsNumbered, IsNumberedBefore}
 use Rattle.embedding.proofs.Places.{listed_at, listed_up_to, next_place, occurs-one, occurrences-cons}
 use Rattle.embedding.proofs.Steps.{own_numbered, unlisted_following, unlisted_waiting}
 use Rattle.embedding.proofs.Walk.{HoldsWhereTaken}
@@ -104,7 +103,8 @@ free_oldest order buffer a e model oldest least j f less read = (
 
 -- ---- an event that memory takes
 
-module _ (t : TraceValue) (past : ℕ) (p : ℕ) (l : Numbering) (buffer : List Entry) (stbars : ℕ) (left : List Outcome) (done : List ℕ) (numbered : IsNumbered t p l buffer stbars left past) (listed : (u : ℕ) (d : Event) → event_at t u ≡ Some d → d.proc ≡ p → IsListed done l u) where
+module _ (t : TraceValue) (past : ℕ) (p : ℕ) (l : Numbering) (buffer : List Entry) (stbars : ℕ) (left : List Outcome) (done : List ℕ)
+    (numbered : IsNumbered t p l buffer stbars left past) (listed : (u : ℕ) (d : Event) → event_at t u ≡ Some d → d.proc ≡ p → IsListed done l u) where
   -- an issued event is listed or waits
   pub listed_or_waits : (u : ℕ) (d : Event) → event_at t u ≡ Some d → d.proc ≡ p → u < l.following → (0 < occurrences u done) ⊎ (0 < occurrences u l.waiting)
   listed_or_waits u d is proc less = by_cases (listed u d is proc)
@@ -146,7 +146,8 @@ module _ (t : TraceValue) (past : ℕ) (p : ℕ) (l : Numbering) (buffer : List 
       omega (arith, first, second, bars, fewer.4)
 
   -- a store that leaves the buffer
-  free_drain : (k n : ℕ) (e : Entry) → slice_get l.waiting k ≡ Some n → event_at t n ≡ Some (stored_event p numbered.bars e) → IsFree t.setting.order buffer k e → NoneHeld n
+  free_drain : (k n : ℕ) (e : Entry) → slice_get l.waiting k ≡ Some n → event_at t n ≡ Some (stored_event p numbered.bars e) →
+      IsFree t.setting.order buffer k e → NoneHeld n
   free_drain k n e at_k at_n free u j f less at_j read at_u (after_load is_load) = not_load t u (stored_event p numbered.bars f) at_u refl is_load
   free_drain k n e at_k at_n free u j f less at_j read at_u (of_stores store is_store keeps) = by_model keeps
     where
@@ -240,7 +241,7 @@ module _ (t : TraceValue) (past : ℕ) (p : ℕ) (l : Numbering) (buffer : List 
 
 -- By the kind of the step.
 step_placed : (t : TraceValue) (past : ℕ) (s : State) (step : Step) (l : Numbering) (left : List Outcome) (done whole later : List ℕ) →
-    IsNumbered t (proc_of step) l (buffer_of s (proc_of step)) (stbars_of s (proc_of step)) (cons_option (outcome_of step) left) past →
+    IsNumberedBefore t s step l left past →
     ((u : ℕ) (d : Event) → event_at t u ≡ Some d → d.proc ≡ proc_of step → IsListed done l u) → IsAllowed t.setting.order s step →
     whole ≡ done ++ (ordered_by l s step ++ later) → (n : ℕ) → 0 < occurrences n (ordered_by l s step) → IsPlaced t whole n
 step_placed t past s (Store p a v) l left done whole later numbered listed allowed is n taken = absurd (omega (arith, taken))

@@ -1,7 +1,7 @@
 -- What a load of a run reads: the value of the greatest store that it sees in the run's order.
 use Rattle.std.proofs.Common.{◌≡◌, ◌∙◌, ◌⊎◌, inl, inr, sym, ap, refl, subst, ℕ, suc, ◌<◌, ◌≤◌, true, false, Some, List, [], ◌∷◌, ◌++◌, slice_get, slice_index, cond, eqb, arith}
 use Rattle.std.specs.Option.{option_to_list}
-use Rattle.std.specs.List.{cons_option, AllByRecursion}
+use Rattle.std.specs.List.{AllByRecursion}
 use Rattle.std.proofs.lemmas.Bool.{cases_eq, cases_lt, eq-eqb, ne_eqb}
 use Rattle.tso_ops.specs.declared.ops.Outcome.{Outcome}
 use Rattle.tso_ops.specs.declared.ops.Outcome.TheVariants.{Ld, Sw}
@@ -13,11 +13,11 @@ use Rattle.tso_model.specs.Order.{occurrences, IsUpTo, IsVisible, ReadsGreatest}
 use Rattle.tso_model.proofs.Events.{event_unique}
 use Rattle.unit_core.specs.declared.steps.Step.{Step}
 use Rattle.unit_core.specs.declared.steps.Step.TheVariants.{Store, Drain, DrainAt, Load, Swap, Membar, Stbar}
-use Rattle.unit_core.specs.Machine.{Entry, State, IsAllowed, buffer_of, newest, oldest_of, outcome_of, outcomes_of, proc_of, stbars_of}
+use Rattle.unit_core.specs.Machine.{Entry, State, IsAllowed, buffer_of, newest, oldest_of, outcomes_of, proc_of, stbars_of}
 use Rattle.embedding.specs.RunOrder.{Numbering, ordered_by}
 use Rattle.embedding.proofs.Buffers.{AreWaiting, all-at, entry_of_number, number_of_entry, stored_event}
 use Rattle.embedding.proofs.Kept.{listed_or_waits, not_load, not_store}
-use Rattle.embedding.proofs.Moments.{IsLastValue, IsListed, IsNumbered}
+use Rattle.embedding.proofs.Moments.{IsLastValue, IsListed, IsNumbered, IsNumberedBefore}
 use Rattle.embedding.proofs.Places.{listed_at, listed_up_to, occurs-one, occurrences-cons, occurrences-one, place-listed, up_to_next}
 use Rattle.embedding.proofs.Steps.{own_numbered, unlisted_following}
 use Rattle.embedding.proofs.Walk.{HoldsWhereTaken}
@@ -86,7 +86,10 @@ module _ (t : TraceValue) (p bars past : ℕ) (a : ℕ) where
 pub record KeepsAddresses (t : TraceValue) (whole : List ℕ) : Type 0 where
   pub up_to : (u v : ℕ) → IsStore t u → IsStore t v → Earlier t u v → SameAddress t u v → IsUpTo whole u v
 
-module _ (t : TraceValue) (past p : ℕ) (l : Numbering) (buffer : List Entry) (stbars : ℕ) (left : List Outcome) (done : List ℕ) (numbered : IsNumbered t p l buffer stbars left past) (listed : (u : ℕ) (d : Event) → event_at t u ≡ Some d → d.proc ≡ p → IsListed done l u) (whole later : List ℕ) (keeps : KeepsAddresses t whole) (is : whole ≡ done ++ (l.following ∷ later)) (a : ℕ) (e : Event) (at_n : event_at t l.following ≡ Some e) (proc : e.proc ≡ p) (load : e.load ≡ true) (to : e.a ≡ a) where
+module _ (t : TraceValue) (past p : ℕ) (l : Numbering) (buffer : List Entry) (stbars : ℕ) (left : List Outcome) (done : List ℕ)
+    (numbered : IsNumbered t p l buffer stbars left past) (listed : (u : ℕ) (d : Event) → event_at t u ≡ Some d → d.proc ≡ p → IsListed done l u)
+    (whole later : List ℕ) (keeps : KeepsAddresses t whole) (is : whole ≡ done ++ (l.following ∷ later)) (a : ℕ) (e : Event)
+    (at_n : event_at t l.following ≡ Some e) (proc : e.proc ≡ p) (load : e.load ≡ true) (to : e.a ≡ a) where
   unlisted : occurrences l.following done ≡ 0
   unlisted = unlisted_following done l l.following (omega arith) (listed l.following e at_n proc)
 
@@ -145,8 +148,8 @@ module _ (t : TraceValue) (past p : ℕ) (l : Numbering) (buffer : List Entry) (
       subst (λ list. IsUpTo list m n) (sym is) (listed_up_to done (l.following ∷ later) m n in_done none)
 
   -- the load reads an own store that waits
-  reads_own : (n : ℕ) → 0 < occurrences n l.waiting → IsStoreTo t a n → HasValue t n e.value → ((m : ℕ) → 0 < occurrences m l.waiting → IsStoreTo t a m → m ≤ n) →
-      ReadsGreatest t whole l.following
+  reads_own : (n : ℕ) → 0 < occurrences n l.waiting → IsStoreTo t a n → HasValue t n e.value →
+      ((m : ℕ) → 0 < occurrences m l.waiting → IsStoreTo t a m → m ≤ n) → ReadsGreatest t whole l.following
   reads_own n waits store value greatest =
       let entry = of_waiting n waits in
       inr (
@@ -219,7 +222,7 @@ drain_reads t past p l buffer stbars left whole k e numbered read n taken load =
 
 -- By the kind of the step.
 step_reads : (t : TraceValue) (past : ℕ) (s : State) (step : Step) (l : Numbering) (left : List Outcome) (done whole later : List ℕ) → KeepsAddresses t whole →
-    IsNumbered t (proc_of step) l (buffer_of s (proc_of step)) (stbars_of s (proc_of step)) (cons_option (outcome_of step) left) past →
+    IsNumberedBefore t s step l left past →
     ((u : ℕ) (d : Event) → event_at t u ≡ Some d → d.proc ≡ proc_of step → IsListed done l u) → IsAllowed t.setting.order s step →
     ((a : ℕ) → a < 256 → IsLastValue t done a (slice_index s.memory a)) →
     whole ≡ done ++ (ordered_by l s step ++ later) → (n : ℕ) → 0 < occurrences n (ordered_by l s step) → IsLoad t n → ReadsGreatest t whole n

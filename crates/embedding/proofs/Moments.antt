@@ -29,6 +29,15 @@ pub record IsNumbered (t : TraceValue) (p : ℕ) (l : Numbering) (buffer : List 
   pub waiting : AreWaiting t p bars l.following buffer l.waiting
   pub whole : l.following + length (events_from p bars stbars left) ≡ past
 
+-- the same of a step's processor before the step, whose outcome is the first that is left
+abbrev pub IsNumberedBefore : TraceValue → State → Step → Numbering → List Outcome → ℕ → Type 0
+IsNumberedBefore t s step l left past =
+    IsNumbered t (proc_of step) l (buffer_of s (proc_of step)) (stbars_of s (proc_of step)) (cons_option (outcome_of step) left) past
+
+-- and of each processor of a moment
+abbrev pub IsNumberedAt : TraceValue → (ℕ → ℕ) → (ℕ → Numbering) → State → List Step → ℕ → Type 0
+IsNumberedAt t past numberings s left p = IsNumbered t p (numberings p) (buffer_of s p) (stbars_of s p) (outcomes_of p left) (past p)
+
 -- event n, whose processor has this numbering, is listed once or waits if it was issued, and isn't listed otherwise
 abbrev pub IsListed : List ℕ → Numbering → ℕ → Type 0
 IsListed done l n =
@@ -48,7 +57,7 @@ pub record HasSizes (s : State) : Type 0 where
 -- What holds where the listed events are those that memory has taken, and these steps are left.
 pub record IsMoment (t : TraceValue) (count : ℕ) (past : ℕ → ℕ) (numberings : ℕ → Numbering) (s : State) (done : List ℕ) (left : List Step) : Type 0 where
   pub sizes : HasSizes s
-  pub numbered : (p : ℕ) → p < count → IsNumbered t p (numberings p) (buffer_of s p) (stbars_of s p) (outcomes_of p left) (past p)
+  pub numbered : (p : ℕ) → p < count → IsNumberedAt t past numberings s left p
   pub listed : (n : ℕ) (e : Event) → event_at t n ≡ Some e → IsListed done (numberings e.proc) n
   pub others : (n : ℕ) → (IsEvent t n → ⊥) → occurrences n done ≡ 0
   pub memory : (a : ℕ) → a < 256 → IsLastValue t done a (slice_index s.memory a)
@@ -62,7 +71,8 @@ pub other_numbering : (numberings : ℕ → Numbering) (p : ℕ) (l : Numbering)
 other_numbering numberings p l q other = ap (λ b. cond b l (numberings q)) (ne_eqb p q other)
 
 -- what the step answered its processor and the others
-pub outcomes-own : (step : Step) (steps : List Step) → outcomes_of (proc_of step) (step ∷ steps) ≡ cons_option (outcome_of step) (outcomes_of (proc_of step) steps)
+pub outcomes-own : (step : Step) (steps : List Step) →
+    outcomes_of (proc_of step) (step ∷ steps) ≡ cons_option (outcome_of step) (outcomes_of (proc_of step) steps)
 outcomes-own step steps =
     let p = proc_of step in
     ap (λ b. cons_option (cond b (outcome_of step) None) (outcomes_of p steps)) (eq-eqb p p refl)
@@ -121,7 +131,7 @@ module _ (t : TraceValue) (past : ℕ) where
       })
 
   pub next-numbered : (order : Order) (s : State) (step : Step) (left : List Outcome) (l : Numbering) → HasSizes s → IsAllowed order s step →
-      IsNumbered t (proc_of step) l (buffer_of s (proc_of step)) (stbars_of s (proc_of step)) (cons_option (outcome_of step) left) past →
+      IsNumberedBefore t s step l left past →
       IsNumbered t (proc_of step) (numbering_after l s step) (buffer_of (next s step) (proc_of step)) (stbars_of (next s step) (proc_of step)) left past
   next-numbered order s (Store p a v) left l sizes allowed before =
       let small : p < 16 = allowed.0 in

@@ -96,7 +96,8 @@ found p (suc count) steps q k e low high read =
     ]
 
 -- events that stand at the numbers from n on follow each other
-follow_by_number : (t : TraceValue) (n : ℕ) (events : List Event) → ((k : ℕ) (e : Event) → slice_get events k ≡ Some e → event_at t (n + k) ≡ Some e) → Follow t n events
+follow_by_number : (t : TraceValue) (n : ℕ) (events : List Event) →
+    ((k : ℕ) (e : Event) → slice_get events k ≡ Some e → event_at t (n + k) ≡ Some e) → Follow t n events
 follow_by_number t n [] stand = tt
 follow_by_number t n (e ∷ events) stand =
     let first : n + 0 ≡ n = omega arith in (

@@ -66,7 +66,8 @@ up_to_next done later u n none up_to = elim (cases_lt 0 (occurrences u done)) [
 ]
 
 -- the next number of the order, and the one after it
-pub next_place : (done later : List ℕ) (n m : ℕ) → occurrences n done ≡ 0 → occurrences m done ≡ 0 → n ≢ m → place (done ++ n ∷ (m ∷ later)) m ≡ suc (place (done ++ n ∷ (m ∷ later)) n)
+pub next_place : (done later : List ℕ) (n m : ℕ) → occurrences n done ≡ 0 → occurrences m done ≡ 0 → n ≢ m →
+    place (done ++ n ∷ (m ∷ later)) m ≡ suc (place (done ++ n ∷ (m ∷ later)) n)
 next_place done later n m none no_other other =
     omega (
       arith,

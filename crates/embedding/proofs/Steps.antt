@@ -1,6 +1,6 @@
 -- A step leads from one moment of a run to the next.
 use Rattle.std.proofs.Common.{◌≡◌, ◌∙◌, inl, inr, sym, ap, refl, subst, ℕ, suc, ◌+◌, ◌<◌, ◌≤◌, true, false, Some, List, [], ◌∷◌, ◌++◌, length, append_assoc, get_or, set, slice_get, slice_index, arith}
-use Rattle.std.specs.List.{remove, cons_option}
+use Rattle.std.specs.List.{remove}
 use Rattle.std.specs.Option.{option_to_list}
 use Rattle.std.proofs.lemmas.Bool.{cases_eq, cases_lt}
 use Rattle.std.proofs.lemmas.List.{append-nil, get_or-set_same, get_or-set_other}
@@ -13,11 +13,11 @@ use Rattle.tso_model.specs.Order.{occurrences, IsUpTo}
 use Rattle.tso_model.proofs.Events.{event_unique}
 use Rattle.unit_core.specs.declared.steps.Step.{Step}
 use Rattle.unit_core.specs.declared.steps.Step.TheVariants.{Store, Drain, DrainAt, Load, Swap, Membar, Stbar}
-use Rattle.unit_core.specs.Machine.{Entry, State, IsAllowed, buffer_of, drained, next, oldest_of, outcome_of, outcomes_of, proc_of, stbars_of}
+use Rattle.unit_core.specs.Machine.{Entry, State, IsAllowed, buffer_of, drained, next, oldest_of, outcomes_of, proc_of, stbars_of}
 use Rattle.unit_core.proofs.RunFacts.{next-other}
 use Rattle.embedding.specs.RunOrder.{Numbering, numbering_after, numberings_after, ordered_by}
 use Rattle.embedding.proofs.Buffers.{stored_event, number_of_entry}
-use Rattle.embedding.proofs.Moments.{HasSizes, IsLastValue, IsListed, IsMoment, IsNumbered, drained-is, next-numbered, next-sizes, other_numbering, outcomes-other, outcomes-own, same_numbering, stbars-other}
+use Rattle.embedding.proofs.Moments.{HasSizes, IsLastValue, IsListed, IsMoment, IsNumbered, IsNumberedAt, IsNumberedBefore, drained-is, next-numbered, next-sizes, other_numbering, outcomes-other, outcomes-own, same_numbering, stbars-other}
 use Rattle.embedding.proofs.Places.{listed_up_to, numbers_from, numbers-before, numbers-past, numbers-within, occurrences-append, occurrences-cons, occurrences-one, occurrences-other, occurrences-remove, occurs-one, place-listed}
 
 -- The step of processor p issues so many events; each number that is issued or waited before is taken by memory or waits after it, and memory takes
@@ -42,9 +42,10 @@ two_taken t p x y d e at_x proc_x at_y proc_y n taken = elim (cases_lt 0 (occurr
   | inr other ↦ one_taken t p y e at_y proc_y n (omega (arith, taken, other, occurrences-cons n x (y ∷ [])))
 ]
 
-drain-moves : (t : TraceValue) (p past bars k : ℕ) (buffer : List Entry) (e : Entry) (l : Numbering) (stbars : ℕ) (left : List Outcome) → slice_get buffer k ≡ Some e →
+drain-moves : (t : TraceValue) (p past k : ℕ) (buffer : List Entry) (e : Entry) (l : Numbering) (stbars : ℕ) (left : List Outcome) →
+    slice_get buffer k ≡ Some e →
     IsNumbered t p l buffer stbars left past → Moves t p l (record l { waiting = remove l.waiting k }) (option_to_list (slice_get l.waiting k))
-drain-moves t p past bars k buffer e l stbars left read numbered =
+drain-moves t p past k buffer e l stbars left read numbered =
     let number = number_of_entry t p numbered.bars l.following buffer l.waiting k e numbered.waiting read in
     let n = number.0 in
     rw number.1 (record {
@@ -55,8 +56,7 @@ drain-moves t p past bars k buffer e l stbars left read numbered =
     })
 
 pub step-moves : (t : TraceValue) (past : ℕ) (order : Order) (s : State) (step : Step) (left : List Outcome) (l : Numbering) → IsAllowed order s step →
-    IsNumbered t (proc_of step) l (buffer_of s (proc_of step)) (stbars_of s (proc_of step)) (cons_option (outcome_of step) left) past →
-    Moves t (proc_of step) l (numbering_after l s step) (ordered_by l s step)
+    IsNumberedBefore t s step l left past → Moves t (proc_of step) l (numbering_after l s step) (ordered_by l s step)
 step-moves t past order s (Store p a v) left l allowed numbered = record {
   issued = 1;
   following = omega arith;
@@ -64,9 +64,9 @@ step-moves t past order s (Store p a v) left l allowed numbered = record {
   own = nothing_taken t p;
 }
 step-moves t past order s (Drain p) left l allowed numbered =
-    drain-moves t p past numbered.bars 0 (buffer_of s p) allowed.1.0 l (stbars_of s p) left allowed.1.1 numbered
+    drain-moves t p past 0 (buffer_of s p) allowed.1.0 l (stbars_of s p) left allowed.1.1 numbered
 step-moves t past order s (DrainAt p a) left l allowed numbered =
-    drain-moves t p past numbered.bars (oldest_of (buffer_of s p) a) (buffer_of s p) allowed.2.0 l (stbars_of s p) left allowed.2.1 numbered
+    drain-moves t p past (oldest_of (buffer_of s p) a) (buffer_of s p) allowed.2.0 l (stbars_of s p) left allowed.2.1 numbered
 step-moves t past order s (Load p a r) left l allowed numbered = record {
   issued = 1;
   following = omega arith;
@@ -94,7 +94,8 @@ step-moves t past order s (Stbar p) left l allowed numbered = record {
 
 -- ---- the listed numbers
 
-listed-own : (t : TraceValue) (p : ℕ) (l new : Numbering) (done taken : List ℕ) (n : ℕ) → Moves t p l new taken → IsListed done l n → IsListed (done ++ taken) new n
+listed-own : (t : TraceValue) (p : ℕ) (l new : Numbering) (done taken : List ℕ) (n : ℕ) → Moves t p l new taken → IsListed done l n →
+    IsListed (done ++ taken) new n
 listed-own t p l new done taken n moves (inl before) =
     let less : n < l.following = before.0 in
     inl (
@@ -121,8 +122,8 @@ listed-other l done taken n none (inl before) = inl (before.0, omega (arith, bef
 listed-other l done taken n none (inr after) = inr (after.0, omega (arith, after.1, none, occurrences-append n done taken))
 
 -- memory takes no event of another processor, and no number that isn't an event's
-none_of_others : (t : TraceValue) (p : ℕ) (l new : Numbering) (taken : List ℕ) (n : ℕ) (e : Event) → Moves t p l new taken → event_at t n ≡ Some e → (p ≡ e.proc → ⊥) →
-    occurrences n taken ≡ 0
+none_of_others : (t : TraceValue) (p : ℕ) (l new : Numbering) (taken : List ℕ) (n : ℕ) (e : Event) → Moves t p l new taken → event_at t n ≡ Some e →
+    (p ≡ e.proc → ⊥) → occurrences n taken ≡ 0
 none_of_others t p l new taken n e moves is other = elim (cases_lt 0 (occurrences n taken)) [
   | inl listed ↦
       let own = moves.own n listed in
@@ -203,7 +204,9 @@ module _ (t : TraceValue) (done : List ℕ) (x : ℕ) (d : Event) (is : event_at
         subst (λ w. IsLastValue t (done ++ x ∷ []) a w) (sym read) (last-keep a (slice_index memory a) (λ is_store is_to. other (sym is_to ∙ to)) (last a within))
   ]
 
-module _ (t : TraceValue) (past : ℕ) (numberings : ℕ → Numbering) (s : State) (done : List ℕ) (listed : (n : ℕ) (e : Event) → event_at t n ≡ Some e → IsListed done (numberings e.proc) n) (sizes : HasSizes s) (memory : (a : ℕ) → a < 256 → IsLastValue t done a (slice_index s.memory a)) where
+module _ (t : TraceValue) (past : ℕ) (numberings : ℕ → Numbering) (s : State) (done : List ℕ)
+    (listed : (n : ℕ) (e : Event) → event_at t n ≡ Some e → IsListed done (numberings e.proc) n) (sizes : HasSizes s)
+    (memory : (a : ℕ) → a < 256 → IsLastValue t done a (slice_index s.memory a)) where
   drain-memory : (p k : ℕ) (e : Entry) (left : List Outcome) → slice_get (buffer_of s p) k ≡ Some e →
       IsNumbered t p (numberings p) (buffer_of s p) (stbars_of s p) left past → (a : ℕ) → a < 256 →
       IsLastValue t (done ++ option_to_list (slice_get (numberings p).waiting k)) a (slice_index (drained s p k).memory a)
@@ -215,7 +218,7 @@ module _ (t : TraceValue) (past : ℕ) (numberings : ℕ → Numbering) (s : Sta
       rw (number.1, drained-is s p k e read) (memory-store t done x d number.2 s.memory e.a e.v sizes.memory refl refl refl none memory a within)
 
   step-memory : (order : Order) (step : Step) (left : List Outcome) → IsAllowed order s step →
-      IsNumbered t (proc_of step) (numberings (proc_of step)) (buffer_of s (proc_of step)) (stbars_of s (proc_of step)) (cons_option (outcome_of step) left) past →
+      IsNumberedBefore t s step (numberings (proc_of step)) left past →
       (a : ℕ) → a < 256 → IsLastValue t (done ++ ordered_by (numberings (proc_of step)) s step) a (slice_index (next s step).memory a)
   step-memory order (Store p b v) left allowed numbered a within = rw (append-nil done) (memory a within)
   step-memory order (Drain p) left allowed numbered a within = drain-memory p 0 allowed.1.0 left allowed.1.1 numbered a within
@@ -241,8 +244,7 @@ module _ (t : TraceValue) (past : ℕ) (numberings : ℕ → Numbering) (s : Sta
 -- the numbering of the step's processor, with the outcome of the step as the first that is left
 pub own_numbered : (t : TraceValue) (count : ℕ) (past : ℕ → ℕ) (numberings : ℕ → Numbering) (s : State) (done : List ℕ) (step : Step) (left : List Step) →
     proc_of step < count → IsMoment t count past numberings s done (step ∷ left) →
-    IsNumbered t (proc_of step) (numberings (proc_of step)) (buffer_of s (proc_of step)) (stbars_of s (proc_of step)) (cons_option (outcome_of step) (outcomes_of (proc_of step) left))
-    (past (proc_of step))
+    IsNumberedBefore t s step (numberings (proc_of step)) (outcomes_of (proc_of step) left) (past (proc_of step))
 own_numbered t count past numberings s done step left below moment =
     let p = proc_of step in
     subst (λ o. IsNumbered t p (numberings p) (buffer_of s p) (stbars_of s p) o (past p)) (outcomes-own step left) (moment.numbered p below)
@@ -271,27 +273,30 @@ next_moment t count past order numberings s done step left allowed below moment 
     taken : List ℕ
     taken = ordered_by l s step
 
-    own : IsNumbered t p l (buffer_of s p) (stbars_of s p) (cons_option (outcome_of step) (outcomes_of p left)) (past p)
+    own : IsNumberedBefore t s step l (outcomes_of p left) (past p)
     own = own_numbered t count past numberings s done step left below moment
 
     moves : Moves t p l new taken
     moves = step-moves t (past p) order s step (outcomes_of p left) l allowed own
 
-    own_after : IsNumbered t p (numberings_after numberings s step p) (buffer_of (next s step) p) (stbars_of (next s step) p) (outcomes_of p left) (past p)
+    own_after : IsNumberedAt t past (numberings_after numberings s step) (next s step) left p
     own_after =
         subst (λ m. IsNumbered t p m (buffer_of (next s step) p) (stbars_of (next s step) p) (outcomes_of p left) (past p)) (sym (same_numbering numberings p new p refl))
         (next-numbered t (past p) order s step (outcomes_of p left) l moment.sizes allowed own)
 
-    numbered : (q : ℕ) → q < count →
-        IsNumbered t q (numberings_after numberings s step q) (buffer_of (next s step) q) (stbars_of (next s step) q) (outcomes_of q left) (past q)
+    -- a step changes nothing of another processor
+    other_after : (q : ℕ) → (p ≡ q → ⊥) → IsNumberedAt t past numberings s (step ∷ left) q → IsNumberedAt t past (numberings_after numberings s step) (next s step) left q
+    other_after q other before =
+        let buffer = next-other s step q (λ same. other (sym same)) in
+        subst (λ m. IsNumbered t q m (buffer_of (next s step) q) (stbars_of (next s step) q) (outcomes_of q left) (past q)) (sym (other_numbering numberings p new q other))
+        (subst (λ b. IsNumbered t q (numberings q) b (stbars_of (next s step) q) (outcomes_of q left) (past q)) (sym buffer)
+        (subst (λ b. IsNumbered t q (numberings q) (buffer_of s q) b (outcomes_of q left) (past q)) (sym (stbars-other s step q other))
+        (subst (λ o. IsNumbered t q (numberings q) (buffer_of s q) (stbars_of s q) o (past q)) (outcomes-other step left q other) before)))
+
+    numbered : (q : ℕ) → q < count → IsNumberedAt t past (numberings_after numberings s step) (next s step) left q
     numbered q small = elim (cases_eq p q) [
-      | inl same ↦
-          subst (λ r. IsNumbered t r (numberings_after numberings s step r) (buffer_of (next s step) r) (stbars_of (next s step) r) (outcomes_of r left) (past r)) same own_after
-      | inr other ↦
-          subst (λ m. IsNumbered t q m (buffer_of (next s step) q) (stbars_of (next s step) q) (outcomes_of q left) (past q)) (sym (other_numbering numberings p new q other))
-          (subst (λ b. IsNumbered t q (numberings q) b (stbars_of (next s step) q) (outcomes_of q left) (past q)) (sym (next-other s step q (λ same. other (sym same))))
-          (subst (λ b. IsNumbered t q (numberings q) (buffer_of s q) b (outcomes_of q left) (past q)) (sym (stbars-other s step q other))
-          (subst (λ o. IsNumbered t q (numberings q) (buffer_of s q) (stbars_of s q) o (past q)) (outcomes-other step left q other) (moment.numbered q small))))
+      | inl same ↦ subst (IsNumberedAt t past (numberings_after numberings s step) (next s step) left) same own_after
+      | inr other ↦ other_after q other (moment.numbered q small)
     ]
 
     listed : (n : ℕ) (e : Event) → event_at t n ≡ Some e → IsListed (done ++ taken) (numberings_after numberings s step e.proc) n

@@ -20,7 +20,8 @@ pub record HoldsWhereTaken (t : TraceValue) (count : ℕ) (past : ℕ → ℕ) (
 
 module _ (t : TraceValue) (count : ℕ) (past : ℕ → ℕ) (order : Order) where
   -- it holds of all events that are taken from a moment on
-  pub walk : (whole : List ℕ) (Q : ℕ → Type 0) → HoldsWhereTaken t count past order whole Q → (numberings : ℕ → Numbering) (s : State) (done : List ℕ) (left : List Step) →
+  pub walk : (whole : List ℕ) (Q : ℕ → Type 0) → HoldsWhereTaken t count past order whole Q →
+      (numberings : ℕ → Numbering) (s : State) (done : List ℕ) (left : List Step) →
       IsRunFrom order s left → HasProcessors count left → IsMoment t count past numberings s done left → whole ≡ done ++ order_from numberings s left →
       (n : ℕ) → 0 < occurrences n (order_from numberings s left) → Q n
   walk whole Q holds numberings s done [] run processors moment is n listed = absurd (omega (arith, listed))
