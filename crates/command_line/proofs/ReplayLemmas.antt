@@ -14,7 +14,7 @@ use Rattle.clap.specs.declared.error.kind.ErrorKind.TheVariants.{MissingRequired
 use Rattle.clap.proofs.OnLiterals.{clap_on_literals}
 use Rattle.command_line.specs.Commands.{UnitNames, program_file_rule, replay_app, schedule_file_rule, tsobench_app}
 use Rattle.command_line.specs.Internal.Computed.{asked_by, replaying_by}
-use Rattle.command_line.specs.Options.{AreNamed, IsOneOf, value_of}
+use Rattle.command_line.specs.Options.{AreNamed, IsOneOf, option_value}
 use Rattle.command_line.specs.Requests.{Text, replaying}
 use Rattle.command_line.specs.Spellings.{AsksRun, AsksToReplay, run_names}
 use Rattle.command_line.specs.Units.{unit_names}
@@ -65,19 +65,19 @@ module _ (names : UnitNames) where
   -- ---- options
 
   module _ (are : map (λ name. name.now) names.now ≡ unit_names) (options : List (Text × Text)) (flags : List Text) (run : RunOptions) (asks : AsksRun options flags run) where
-    use_of : (name value : Text) → IsOneOf run_names name → value_of name options ≡ Some value → OptionUse replay.rules name value
+    use_of : (name value : Text) → IsOneOf run_names name → option_value name options ≡ Some value → OptionUse replay.rules name value
     use_of name value (inl is) found =
         subst (λ (t : Text). OptionUse replay.rules t value) (sym is)
-        (asked_unit_use replay names offers_run.unit options run.unit asks.unit are value (ap (λ (t : Text). value_of t options) (sym is) ∙ found))
+        (asked_unit_use replay names offers_run.unit options run.unit asks.unit are value (ap (λ (t : Text). option_value t options) (sym is) ∙ found))
     use_of name value (inr (inl is)) found =
         subst (λ (t : Text). OptionUse replay.rules t value) (sym is)
-        (asked_capacity_use replay names offers_run.unit options run.unit asks.unit value (ap (λ (t : Text). value_of t options) (sym is) ∙ found))
+        (asked_capacity_use replay names offers_run.unit options run.unit asks.unit value (ap (λ (t : Text). option_value t options) (sym is) ∙ found))
     use_of name value (inr (inr (inl is))) found =
         subst (λ (t : Text). OptionUse replay.rules t value) (sym is)
-        (asked_trigger_use replay names offers_run.unit options run.unit asks.unit value (ap (λ (t : Text). value_of t options) (sym is) ∙ found))
+        (asked_trigger_use replay names offers_run.unit options run.unit asks.unit value (ap (λ (t : Text). option_value t options) (sym is) ∙ found))
     use_of name value (inr (inr (inr (inl is)))) found =
         subst (λ (t : Text). OptionUse replay.rules t value) (sym is)
-        (asked_workers_use replay names offers_run options flags run asks value (ap (λ (t : Text). value_of t options) (sym is) ∙ found))
+        (asked_workers_use replay names offers_run options flags run asks value (ap (λ (t : Text). option_value t options) (sym is) ∙ found))
     use_of name value (inr (inr (inr (inr is)))) found = absurd is
 
     pub run_uses : AreNamed run_names options → OptionUses replay options

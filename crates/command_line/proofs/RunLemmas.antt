@@ -17,7 +17,7 @@ use Rattle.clap.proofs.WalkLemmas.{list_any-map}
 use Rattle.round_pool.specs.Workers.{worker_limit}
 use Rattle.command_line.specs.Commands.{UnitNames, capacity_rule, number_rule, prints_rule, trigger_rule, unit_rule, workers_rule}
 use Rattle.command_line.specs.Internal.Computed.{flag_in, number_in, run_in, unit_in, within}
-use Rattle.command_line.specs.Options.{AsksFlag, AsksNumber, value_of}
+use Rattle.command_line.specs.Options.{AsksFlag, AsksNumber, option_value}
 use Rattle.command_line.specs.Requests.{Text, capacity_limit}
 use Rattle.command_line.specs.Spellings.{AsksRun, AsksUnit}
 use Rattle.command_line.specs.Units.{default_capacity, default_trigger, is_unit, trigger_limit, unit_kind, unit_names, units}
@@ -98,17 +98,17 @@ module _ (s : Shape) (name default : Text) (limit : ℕ) (is : IsLong name) (off
     makes = option_makes (number_built name default limit) (value ∷ []) refl (rw accepted refl) refl;
   }
 
-  module _ (other : ℕ) (short : limit < 2 ^ 64) (options : List (Text × Text)) (n : ℕ) (asks : AsksNumber other 1 limit (value_of name options) n) where
+  module _ (other : ℕ) (short : limit < 2 ^ 64) (options : List (Text × Text)) (n : ℕ) (asks : AsksNumber other 1 limit (option_value name options) n) where
     -- the use of the option, where it is there
-    pub asked_number_use : (value : Text) → value_of name options ≡ Some value → OptionUse s.rules name value
+    pub asked_number_use : (value : Text) → option_value name options ≡ Some value → OptionUse s.rules name value
     asked_number_use value found =
         let named = subst (λ (o : Option Text). AsksNumber other 1 limit o n) found asks in
         number_use value (ap (accepts false (parser.Unsigned 1 limit)) named.0 ∙ decimal_passes 1 limit n named.1 named.2 (omega (arith, named.2, short)))
 
     -- the number that the rows stand for
-    pub number_is : (rows : List Row) → IsOptionRow (value_of name options) (default_for name s.rules) (find (has_id name) rows)
+    pub number_is : (rows : List Row) → IsOptionRow (option_value name options) (default_for name s.rules) (find (has_id name) rows)
         → within 1 limit (number_in other default) ≡ other → within 1 limit (option_map_or (number_in other) (one_of name rows) other) ≡ n
-    number_is rows row reads = go (value_of name options) asks row
+    number_is rows row reads = go (option_value name options) asks row
       where
         go : (value : Option Text) → AsksNumber other 1 limit value n → IsOptionRow value (default_for name s.rules) (find (has_id name) rows)
             → within 1 limit (option_map_or (number_in other) (one_of name rows) other) ≡ n
@@ -165,7 +165,7 @@ module _ (s : Shape) (names : UnitNames) where
 
     module _ (options : List (Text × Text)) (unit : UnitOptions) (asks : AsksUnit options unit) where
       -- the uses of the options, where they are there
-      pub asked_unit_use : map (λ name. name.now) names.now ≡ unit_names → (value : Text) → value_of (codes "unit") options ≡ Some value → OptionUse s.rules (codes "unit") value
+      pub asked_unit_use : map (λ name. name.now) names.now ≡ unit_names → (value : Text) → option_value (codes "unit") options ≡ Some value → OptionUse s.rules (codes "unit") value
       asked_unit_use are value found =
           let known : option_and_then unit_kind (Some value) ≡ Some unit.kind = ap (option_and_then unit_kind) (sym found) ∙ asks.kind in
           let accepted = names_accept names are value ∙ ap (λ o. is_some o) known in
@@ -178,18 +178,18 @@ module _ (s : Shape) (names : UnitNames) where
             makes = option_makes (unit_built names) (value ∷ []) refl (rw accepted refl) refl;
           }
 
-      pub asked_capacity_use : (value : Text) → value_of (codes "capacity") options ≡ Some value → OptionUse s.rules (codes "capacity") value
+      pub asked_capacity_use : (value : Text) → option_value (codes "capacity") options ≡ Some value → OptionUse s.rules (codes "capacity") value
       asked_capacity_use = asked_number_use s (codes "capacity") (codes "8") capacity_limit capacity_long offers.capacity default_capacity (omega arith) options unit.capacity asks.capacity
 
-      pub asked_trigger_use : (value : Text) → value_of (codes "trigger") options ≡ Some value → OptionUse s.rules (codes "trigger") value
+      pub asked_trigger_use : (value : Text) → option_value (codes "trigger") options ≡ Some value → OptionUse s.rules (codes "trigger") value
       asked_trigger_use = asked_number_use s (codes "trigger") (codes "1") trigger_limit trigger_long offers.trigger default_trigger (omega arith) options unit.trigger asks.trigger
 
       module _ (arguments : List Text) (flags others : List Use) (leaves : LeavesRows s arguments options flags others) where
-        abbrev unit_row : IsOptionRow (value_of (codes "unit") options) (default_for (codes "unit") s.rules) (find (has_id (codes "unit")) leaves.rows)
+        abbrev unit_row : IsOptionRow (option_value (codes "unit") options) (default_for (codes "unit") s.rules) (find (has_id (codes "unit")) leaves.rows)
         unit_row = leaves.option (codes "unit") (unit_built names) offers.unit.by_id refl
 
         kind_is : unwrap_or (option_and_then unit_kind (first_of (codes "unit") leaves.rows)) Serial ≡ unit.kind
-        kind_is = go (value_of (codes "unit") options) asks.kind unit_row
+        kind_is = go (option_value (codes "unit") options) asks.kind unit_row
           where
             go : (value : Option Text) → option_and_then unit_kind value ≡ Some unit.kind → IsOptionRow value (default_for (codes "unit") s.rules) (find (has_id (codes "unit")) leaves.rows)
                 → unwrap_or (option_and_then unit_kind (first_of (codes "unit") leaves.rows)) Serial ≡ unit.kind
@@ -200,7 +200,7 @@ module _ (s : Shape) (names : UnitNames) where
 
         -- the unit is given
         pub unit_given : is_given (codes "unit") leaves.rows ≡ true
-        unit_given = go (value_of (codes "unit") options) asks.kind unit_row
+        unit_given = go (option_value (codes "unit") options) asks.kind unit_row
           where
             go : (value : Option Text) → option_and_then unit_kind value ≡ Some unit.kind → IsOptionRow value (default_for (codes "unit") s.rules) (find (has_id (codes "unit")) leaves.rows)
                 → is_given (codes "unit") leaves.rows ≡ true
@@ -250,7 +250,7 @@ module _ (s : Shape) (names : UnitNames) where
     flag_uses (used ∷ second ∷ rest) is_asked is = absurd is
 
     module _ (options : List (Text × Text)) (flags : List Text) (run : RunOptions) (asks : AsksRun options flags run) where
-      pub asked_workers_use : (value : Text) → value_of (codes "workers") options ≡ Some value → OptionUse s.rules (codes "workers") value
+      pub asked_workers_use : (value : Text) → option_value (codes "workers") options ≡ Some value → OptionUse s.rules (codes "workers") value
       asked_workers_use = asked_number_use s (codes "workers") (codes "1") worker_limit workers_long offers.workers 1 (omega arith) options run.workers asks.workers
 
       -- the run is the one that is asked for

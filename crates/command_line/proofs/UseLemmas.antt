@@ -13,7 +13,7 @@ use Rattle.clap.specs.Simple.{Shape}
 use Rattle.clap.specs.Walk.{Row, Rule, arg_by_id, nothing_held, reading_by, row_text, rows_after, takes_values, with_default}
 use Rattle.clap.specs.declared.builder.value_parser.Reading.TheVariants.{AsWritten}
 use Rattle.command_line.specs.Requests.{Text}
-use Rattle.command_line.specs.Options.{AreGiven, AreNamed, IsOneOf, value_of}
+use Rattle.command_line.specs.Options.{AreGiven, AreNamed, IsOneOf, option_value}
 use Rattle.command_line.proofs.OptionLemmas.{Flagged, GivesSome, IsOption, Merges, Offered, Placed, Use, first, gives_of, level_fault_uses, merged, no_option, offered, rows_after_uses, second, third, used_all, uses_fault}
 use Rattle.command_line.proofs.RowLemmas.{AreApart, DefaultsPass, MakesRow, default_for, defaults_pass, found_after_defaults, found_use, has_id, no_rows, rows_made, use_row, uses_id}
 
@@ -116,12 +116,12 @@ pub record OptionUses (s : Shape) (options : List (Text × Text)) : Type 0 where
   pub sorts : AllByRecursion (IsOfSort s.rules 0) uses
   pub other : (name : Text) → AllByRecursion (λ y. bytes_eq name y ≡ false) (map (λ o. o.0) options) → AllByRecursion (λ v. bytes_eq name v.0.id ≡ false) uses
   pub apart : AreApart uses
-  pub found : (id : Text) → IsUsed (value_of id options) (find (uses_id id) uses)
+  pub found : (id : Text) → IsUsed (option_value id options) (find (uses_id id) uses)
 
 found_head : (name value : Text) (options : List (Text × Text)) (a : Rule) (uses : List Use) (id : Text) → a.id ≡ name → reading_by a ≡ AsWritten
-    → IsUsed (value_of id options) (find (uses_id id) uses) → IsUsed (value_of id ((name, value) ∷ options)) (find (uses_id id) ((a, value ∷ []) ∷ uses))
+    → IsUsed (option_value id options) (find (uses_id id) uses) → IsUsed (option_value id ((name, value) ∷ options)) (find (uses_id id) ((a, value ∷ []) ∷ uses))
 found_head name value options a uses id named as_written rest =
-    subst (λ (b : Bool). IsUsed (value_of id ((name, value) ∷ options)) (cond b (Some (a, value ∷ [])) (find (uses_id id) uses))) (ap (λ (t : Text). bytes_eq t id) (sym named)) (go (bytes_eq name id))
+    subst (λ (b : Bool). IsUsed (option_value id ((name, value) ∷ options)) (cond b (Some (a, value ∷ [])) (find (uses_id id) uses))) (ap (λ (t : Text). bytes_eq t id) (sym named)) (go (bytes_eq name id))
   where
     go : (b : Bool) → IsUsed (option_map (λ o. o.1) (cond b (Some (name, value)) (find (λ o. bytes_eq o.0 id) options))) (cond b (Some (a, value ∷ [])) (find (uses_id id) uses))
     go true = (a, refl, as_written)
@@ -143,12 +143,12 @@ option_uses s ((name, value) ∷ options) each once =
     }
 
 more_found : (name value : Text) (options these : List (Text × Text)) → AllByRecursion (λ y. bytes_eq name y ≡ false) (map (λ o. o.0) these)
-    → AllByRecursion (λ o. value_of o.0 options ≡ Some o.1) these → AllByRecursion (λ o. value_of o.0 ((name, value) ∷ options) ≡ Some o.1) these
+    → AllByRecursion (λ o. option_value o.0 options ≡ Some o.1) these → AllByRecursion (λ o. option_value o.0 ((name, value) ∷ options) ≡ Some o.1) these
 more_found name value options [] other found = tt
 more_found name value options (o ∷ these) other found = (rw other.0 found.0, more_found name value options these other.1 found.1)
 
 -- each option has the value that is found by its name
-each_found : (options : List (Text × Text)) → IsDistinct bytes_eq (map (λ o. o.0) options) → AllByRecursion (λ o. value_of o.0 options ≡ Some o.1) options
+each_found : (options : List (Text × Text)) → IsDistinct bytes_eq (map (λ o. o.0) options) → AllByRecursion (λ o. option_value o.0 options ≡ Some o.1) options
 each_found [] once = tt
 each_found ((name, value) ∷ options) once =
     let same : bytes_eq name name ≡ true = (bytes_eq-Decides name name).1 refl in
@@ -164,10 +164,10 @@ each_both P Q R (x ∷ xs) both p q = (both x p.0 q.0, each_both P Q R xs both p
 
 -- the uses of options of these names, each at most once
 pub named_uses : (s : Shape) (names : List Text) (options : List (Text × Text)) → AreNamed names options
-    → ((name value : Text) → IsOneOf names name → value_of name options ≡ Some value → OptionUse s.rules name value) → OptionUses s options
+    → ((name value : Text) → IsOneOf names name → option_value name options ≡ Some value → OptionUse s.rules name value) → OptionUses s options
 named_uses s names options named use_of =
     option_uses s options
-    (each_both (λ o. IsOneOf names o.0) (λ o. value_of o.0 options ≡ Some o.1) (λ o. OptionUse s.rules o.0 o.1) options
+    (each_both (λ o. IsOneOf names o.0) (λ o. option_value o.0 options ≡ Some o.1) (λ o. OptionUse s.rules o.0 o.1) options
     (λ o known found. use_of o.0 o.1 known found) (each_of _ options named.known) (each_found options named.once))
     named.once
 
@@ -188,7 +188,7 @@ pub record LeavesRows (s : Shape) (arguments : List Text) (options : List (Text 
   pub rows : List Row
   pub after : rows_after s.rules [] arguments ≡ rows
   pub fault : level_fault s [] nothing_held arguments false [] ≡ check_fault s rows false
-  pub option : (id : Text) (a : Rule) → arg_by_id s.rules id ≡ Some a → sort_of a ≡ 0 → IsOptionRow (value_of id options) (default_for id s.rules) (find (has_id id) rows)
+  pub option : (id : Text) (a : Rule) → arg_by_id s.rules id ≡ Some a → sort_of a ≡ 0 → IsOptionRow (option_value id options) (default_for id s.rules) (find (has_id id) rows)
   pub flag : (id : Text) (a : Rule) → arg_by_id s.rules id ≡ Some a → sort_of a ≡ 1
       → find (has_id id) rows ≡ option_or (option_map use_row (find (uses_id id) flags)) (default_for id s.rules)
   pub other : (id : Text) (a : Rule) → arg_by_id s.rules id ≡ Some a → sort_of a ≡ 2
@@ -231,12 +231,12 @@ module _ (s : Shape) (single : s.args_override_self ≡ false) (pass : DefaultsP
         ∙ ap (λ (rows : List Row). check_fault s rows false) left_is
 
     module _ (id : Text) (a : Rule) (by_id : arg_by_id s.rules id ≡ Some a) where
-      option_left : sort_of a ≡ 0 → IsOptionRow (value_of id options) (default_for id s.rules) (find (has_id id) left)
+      option_left : sort_of a ≡ 0 → IsOptionRow (option_value id options) (default_for id s.rules) (find (has_id id) left)
       option_left of =
           let only = find_first (uses_id id) xs.uses flag_uses other_uses some.uses some.merges
           (all_other s.rules 1 flag_uses id a ys.sorts by_id (λ e. omega (arith, e ∙ of))) (all_other s.rules 2 other_uses id a zs.sorts by_id (λ e. omega (arith, e ∙ of))) in
           let row = found_in id ∙ ap (λ o. option_or (option_map use_row o) (default_for id s.rules)) only in
-          subst (λ (o : Option Row). IsOptionRow (value_of id options) (default_for id s.rules) o) (sym row) (option_row (value_of id options) (default_for id s.rules) _ (xs.found id))
+          subst (λ (o : Option Row). IsOptionRow (option_value id options) (default_for id s.rules) o) (sym row) (option_row (option_value id options) (default_for id s.rules) _ (xs.found id))
 
       flag_left : sort_of a ≡ 1 → find (has_id id) left ≡ option_or (option_map use_row (find (uses_id id) flag_uses)) (default_for id s.rules)
       flag_left of =

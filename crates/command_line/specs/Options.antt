@@ -43,8 +43,8 @@ pub record AreNamed (names : List Text) (options : List (Text × Text)) : Type 0
   pub once : IsDistinct bytes_eq (map (λ option. option.0) options)
 
 -- the value of the option of this name
-abbrev pub value_of : Text → List (Text × Text) → Option Text
-value_of name options = option_map (λ option. option.1) (find (λ option. bytes_eq option.0 name) options)
+abbrev pub option_value : Text → List (Text × Text) → Option Text
+option_value name options = option_map (λ option. option.1) (find (λ option. bytes_eq option.0 name) options)
 
 -- by the value of its option, a number is asked for in digits without a leading zero and within a range, or it is the
 -- default where the option isn't there

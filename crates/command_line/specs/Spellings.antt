@@ -4,7 +4,7 @@ use Rattle.std.specs.Fmt.{decimal}
 use Rattle.round_pool.specs.Workers.{worker_limit}
 use Rattle.command_line.specs.declared.options.RunOptions.{RunOptions}
 use Rattle.command_line.specs.declared.options.UnitOptions.{UnitOptions}
-use Rattle.command_line.specs.Options.{AreGiven, AreNamed, AsksFlag, AsksNumber, value_of}
+use Rattle.command_line.specs.Options.{AreGiven, AreNamed, AsksFlag, AsksNumber, option_value}
 use Rattle.command_line.specs.Requests.{Text, Asked, capacity_limit, judging, checking, replaying}
 use Rattle.command_line.specs.Units.{default_capacity, default_trigger, trigger_limit, unit_kind}
 
@@ -27,14 +27,14 @@ AsksToCheck arguments trace certificate = AreGiven [] [] (trace ∷ certificate 
 
 -- the options of a unit ask for this one: its name, a capacity and a trigger
 pub record AsksUnit (options : List (Text × Text)) (unit : UnitOptions) : Type 0 where
-  pub kind : option_and_then unit_kind (value_of (codes "unit") options) ≡ Some unit.kind
-  pub capacity : AsksNumber default_capacity 1 capacity_limit (value_of (codes "capacity") options) unit.capacity
-  pub trigger : AsksNumber default_trigger 1 trigger_limit (value_of (codes "trigger") options) unit.trigger
+  pub kind : option_and_then unit_kind (option_value (codes "unit") options) ≡ Some unit.kind
+  pub capacity : AsksNumber default_capacity 1 capacity_limit (option_value (codes "capacity") options) unit.capacity
+  pub trigger : AsksNumber default_trigger 1 trigger_limit (option_value (codes "trigger") options) unit.trigger
 
 -- the options and flags of a run ask for this one: its unit, a number of workers, and what is printed
 pub record AsksRun (options : List (Text × Text)) (flags : List Text) (run : RunOptions) : Type 0 where
   pub unit : AsksUnit options run.unit
-  pub workers : AsksNumber 1 1 worker_limit (value_of (codes "workers") options) run.workers
+  pub workers : AsksNumber 1 1 worker_limit (option_value (codes "workers") options) run.workers
   pub trace : AsksFlag (codes "trace") flags run.prints_trace
 
 -- the names of the options of a run

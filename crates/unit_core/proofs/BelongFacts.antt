@@ -3,7 +3,7 @@ use Rattle.std.proofs.Common.{◌≡◌, ◌∙◌, sym, ap, refl, subst, ℕ, i
 use Rattle.std.proofs.lemmas.Bool.{cases_lt}
 use Rattle.tso_ops.specs.Values.{ProgramValue}
 use Rattle.tso_text.specs.declared.acts.Act.{Act}
-use Rattle.unit_core.specs.Internal.Replays.{Follows, left_from}
+use Rattle.unit_core.specs.Internal.Replays.{FollowsActs, left_from}
 use Rattle.unit_core.specs.Machine.{State, IsRunFrom, after, buffer_of, first_state}
 use Rattle.unit_core.specs.Records.{AreOpsOf, EmptiesBelow}
 use Rattle.unit_core.specs.Schedule.{ArePieces, BelongsTo, issues_of}
@@ -23,7 +23,7 @@ ends_empty program u kept lawful empty ops q =
     elim (cases_lt q count) [ inl early ↦ empty lawful q early | inr past ↦ below.1 q past ]
 
 pub belongs : (program : ProgramValue) (schedule : List Act) (none first second : List ℕ) (u0 u1 u2 new : UnitValue) → none ≡ replicate 16 0 → u0.steps ≡ [] →
-    Follows program schedule none first u0 u1 → Follows program (issues_of 0 (left_from 0 first program.lists)) first second u1 u2 →
+    FollowsActs program schedule none first u0 u1 → FollowsActs program (issues_of 0 (left_from 0 first program.lists)) first second u1 u2 →
     TakesDrains u2 new 0 (length program.lists) → IsUnit new → EmptiesBelow new (length program.lists) → AreOpsOf program new.steps → new.lawful ≡ true →
     BelongsTo new.first program.lists schedule new.steps
 belongs program schedule none first second u0 u1 u2 new zero fresh scheduled rest drains kept empty ops lawful = record {

@@ -11,7 +11,7 @@ use Rattle.tso_ops.specs.Values.{ProgramValue, op_of, in_file_order}
 use Rattle.unit_core.specs.declared.steps.Step.{Step}
 use Rattle.unit_core.specs.declared.steps.Step.TheVariants.{Store, Drain, DrainAt, Load, Swap, Membar, Stbar}
 use Rattle.unit_core.specs.declared.accounts.Account.{Account}
-use Rattle.unit_core.specs.Accounts.{IsClosed}
+use Rattle.unit_core.specs.Accounts.{IsAccountOf}
 use Rattle.unit_core.specs.Replays.{CountsProgram, is_load_op, is_membar_op, is_store_op, is_swap_op}
 use Rattle.unit_core.specs.Machine.{is_load, is_membar, is_store, is_swap, lists_from, outcome_for, outcome_of, outcomes_of, proc_of}
 use Rattle.unit_core.specs.Records.{AreOpsOf}
@@ -160,7 +160,7 @@ membar_kind =
     agree is_membar (λ step. by_op is_membar_op (outcome_of step)) (λ p a v. refl) (λ p. refl) (λ p a. refl) (λ p a r. refl) (λ p a r v. refl) (λ p. refl) (λ p. refl)
 
 -- the closed account of all operations of a program
-pub counts_program : (program : ProgramValue) (steps : List Step) (account : Account) → AreOpsOf program steps → IsClosed steps account → CountsProgram program account
+pub counts_program : (program : ProgramValue) (steps : List Step) (account : Account) → AreOpsOf program steps → IsAccountOf steps account → CountsProgram program account
 counts_program program steps account ops closed = record {
   loads = closed.loads ∙ counted is_load is_load_op load_kind program steps ops;
   stores = closed.stores ∙ counted is_store is_store_op store_kind program steps ops;

@@ -13,7 +13,7 @@ use Rattle.unit_core.specs.declared.steps.Step.{Step}
 use Rattle.unit_core.specs.Machine.{Entry, IsCompleteRun, IsFirstMemory, IsRun, after, buffer_of, first_state, is_drain, is_store, lists_from, outcomes_of, trace_of}
 use Rattle.unit_core.specs.Units.{UnitValue, TakesDrains, IsUnit, waiting_of}
 use Rattle.unit_core.specs.declared.accounts.Account.{Account}
-use Rattle.unit_core.specs.Accounts.{IsClosed}
+use Rattle.unit_core.specs.Accounts.{IsAccountOf}
 use Rattle.unit_core.specs.Records.{AreOpsOf, Concludes, EmptiesBelow, IsRecordOf, IsRecorded, RecordedValue, is_within}
 use Rattle.unit_core.proofs.CountFacts.{complete-balanced}
 use Rattle.unit_core.proofs.OutcomeFacts.{length-lists_from, outcomes_past, program_lists}
@@ -115,24 +115,24 @@ is_recorded program unit r ops first empty kept is =
     let parts = both unit.lawful (is_within unit.order program.setting.order) (sym is.lawful ∙ lawful) in
     complete program unit ops first empty kept parts.0 parts.1)
 
-balanced : (program : ProgramValue) (new : UnitValue) (account : Account) (r : RecordedValue) → IsClosed new.steps account → IsRecordOf program new r → IsRecorded r →
+balanced : (program : ProgramValue) (new : UnitValue) (account : Account) (r : RecordedValue) → IsAccountOf new.steps account → IsRecordOf program new r → IsRecorded r →
     r.lawful ≡ true → account.drains ≡ account.stores
 balanced program new account r closed is kept lawful =
     let even = complete-balanced r.trace.setting (length r.trace.lists) r.steps (kept.run lawful) in
     let same : count_by is_drain new.steps ≡ count_by is_store new.steps = subst (λ steps. count_by is_drain steps ≡ count_by is_store steps) is.steps even in
     closed.drains ∙ same ∙ sym closed.stores
 
-pub balanced_ok : (program : ProgramValue) (new : UnitValue) (account : Account) (result : Result RecordedValue AllocError) → IsClosed new.steps account →
+pub balanced_ok : (program : ProgramValue) (new : UnitValue) (account : Account) (result : Result RecordedValue AllocError) → IsAccountOf new.steps account →
     IfOk result (IsRecordOf program new) → IfOk result IsRecorded → IfOk result (λ r. r.lawful ≡ true → account.drains ≡ account.stores)
 balanced_ok program new account (Ok r) closed is kept = balanced program new account r closed is kept
 balanced_ok program new account (Err e) closed is kept = is
 
 -- what a unit's end leaves
 pub concluded : (program : ProgramValue) (old new : UnitValue) (account : Account) (result : Result RecordedValue AllocError) (steps : List Step) →
-    TakesDrains old new 0 (length program.lists) → steps ≡ new.steps → IsClosed steps account → IfOk result (IsRecordOf program new) → IfOk result IsRecorded →
+    TakesDrains old new 0 (length program.lists) → steps ≡ new.steps → IsAccountOf steps account → IfOk result (IsRecordOf program new) → IfOk result IsRecorded →
     Concludes program old account result
 concluded program old new account result steps drained same closed is kept =
-    let all : IsClosed new.steps account = subst (λ xs. IsClosed xs account) same closed in
+    let all : IsAccountOf new.steps account = subst (λ xs. IsAccountOf xs account) same closed in
     record { new = new; drained = drained; closed = all; recorded = is; balanced = balanced_ok program new account result all is kept }
 
 -- what holds anyway holds where the answer is Ok

@@ -15,7 +15,7 @@ use Rattle.unit_core.specs.Issues.{step_of}
 use Rattle.unit_core.specs.Machine.{State, Entry, after, buffer_of, first_state, outcomes_of}
 use Rattle.unit_core.specs.Schedule.{issues_of, ArePieces, IsPiece, IsDrained}
 use Rattle.unit_core.specs.Units.{UnitValue, AnswersDrain, AreDrainsOf, IsUnit, KeepsMachine, Takes, TakesDrains}
-use Rattle.unit_core.specs.Internal.Replays.{Follows, HasIssued, left_from, rest_of}
+use Rattle.unit_core.specs.Internal.Replays.{FollowsActs, HasIssued, left_from, rest_of}
 use Rattle.unit_core.specs.Records.{AreOpsOf}
 use Rattle.unit_core.specs.Replays.{AreFirstOpsOf}
 use Rattle.unit_core.proofs.DrainFacts.{KeepsMachine-then, TakesDrains-one}
@@ -83,17 +83,17 @@ pieces-append s left (x ∷ xs) ys steps more between others first second =
       pieces-append (after s piece) first.2 xs ys rest more between others first.5 (subst (λ t. ArePieces t between ys more others) state second),
     )
 
-pub Follows-none : (program : ProgramValue) (issued : List ℕ) (u : UnitValue) → Follows program [] issued issued u u
-Follows-none program issued u = record {
+pub FollowsActs-none : (program : ProgramValue) (issued : List ℕ) (u : UnitValue) → FollowsActs program [] issued issued u u
+FollowsActs-none program issued u = record {
   taken = [];
   steps = sym (append-nil u.steps);
   kept = record { lawful = refl; order = refl; first = refl };
   pieces = λ lawful. (refl, refl);
 }
 
-pub Follows-then : (program : ProgramValue) (xs ys : List Act) (i j k : List ℕ) (a b c : UnitValue) → Follows program xs i j a b → Follows program ys j k b c →
-    Follows program (xs ++ ys) i k a c
-Follows-then program xs ys i j k a b c first second = record {
+pub FollowsActs-then : (program : ProgramValue) (xs ys : List Act) (i j k : List ℕ) (a b c : UnitValue) → FollowsActs program xs i j a b → FollowsActs program ys j k b c →
+    FollowsActs program (xs ++ ys) i k a c
+FollowsActs-then program xs ys i j k a b c first second = record {
   taken = first.taken ++ second.taken;
   steps = second.steps ∙ ap (λ zs. zs ++ second.taken) first.steps ∙ append_assoc a.steps first.taken second.taken;
   kept = KeepsMachine-then a b c first.kept second.kept;
@@ -107,10 +107,10 @@ Follows-then program xs ys i j k a b c first second = record {
 }
 
 -- an act for which the unit takes no step
-Follows-no_step : (program : ProgramValue) (act : Act) (issued : List ℕ) (u : UnitValue) →
+FollowsActs-no_step : (program : ProgramValue) (act : Act) (issued : List ℕ) (u : UnitValue) →
     (u.lawful ≡ true → IsPiece (after (first_state u.first) u.steps) (left_from 0 issued program.lists) act [] (left_from 0 issued program.lists)) →
-    Follows program (act ∷ []) issued issued u u
-Follows-no_step program act issued u is = record {
+    FollowsActs program (act ∷ []) issued issued u u
+FollowsActs-no_step program act issued u is = record {
   taken = [];
   steps = sym (append-nil u.steps);
   kept = record { lawful = refl; order = refl; first = refl };
@@ -121,18 +121,18 @@ Follows-no_step program act issued u is = record {
 -- ---- one operation
 
 -- none is left: nothing happens
-pub Follows-nothing_left : (program : ProgramValue) (issued : List ℕ) (p : ℕ) (u : UnitValue) → length (ops_at program p) ≤ get_or issued p 0 →
-    Follows program (Issue p ∷ []) issued issued u u
-Follows-nothing_left program issued p u past =
+pub FollowsActs-nothing_left : (program : ProgramValue) (issued : List ℕ) (p : ℕ) (u : UnitValue) → length (ops_at program p) ≤ get_or issued p 0 →
+    FollowsActs program (Issue p ∷ []) issued issued u u
+FollowsActs-nothing_left program issued p u past =
     let left = left_from 0 issued program.lists in
     let empty : get_or left p [] ≡ [] = left_here p issued program.lists ∙ drop_of_length-le (ops_at program p) past in
-    Follows-no_step program (Issue p) issued u (λ lawful. ([], rw empty (refl, refl), sym (set-get_or left p []) ∙ ap (set left p) empty))
+    FollowsActs-no_step program (Issue p) issued u (λ lawful. ([], rw empty (refl, refl), sym (set-get_or left p []) ∙ ap (set left p) empty))
 
 -- the next is issued
-pub Follows-issue : (program : ProgramValue) (issued : List ℕ) (p : ℕ) (op : Op) (outcome : Outcome) (old new : UnitValue) → p < length program.lists → length issued ≡ 16 →
+pub FollowsActs-issue : (program : ProgramValue) (issued : List ℕ) (p : ℕ) (op : Op) (outcome : Outcome) (old new : UnitValue) → p < length program.lists → length issued ≡ 16 →
     length program.lists ≤ 16 → slice_get (ops_at program p) (get_or issued p 0) ≡ Some op → op_of outcome ≡ op → Takes old new (step_of p outcome) →
-    Follows program (Issue p ∷ []) issued (set issued p (get_or issued p 0 + 1)) old new
-Follows-issue program issued p op outcome old new below counts few read answered takes = record {
+    FollowsActs program (Issue p ∷ []) issued (set issued p (get_or issued p 0 + 1)) old new
+FollowsActs-issue program issued p op outcome old new below counts few read answered takes = record {
   taken = takes.before ++ step_of p outcome ∷ takes.after;
   steps = takes.steps;
   kept = takes.kept;
@@ -215,9 +215,9 @@ drained_none p [] none = refl
 drained_none p (e ∷ rest) none = absurd (omega (arith, none))
 
 -- a drain answered by the unit
-pub Follows-drain : (program : ProgramValue) (issued : List ℕ) (p : ℕ) (some : Bool) (old new : UnitValue) → p < length program.lists → IsUnit old → AnswersDrain old new p some →
-    Follows program (Drain p ∷ []) issued issued old new
-Follows-drain program issued p true old new below kept answer = record {
+pub FollowsActs-drain : (program : ProgramValue) (issued : List ℕ) (p : ℕ) (some : Bool) (old new : UnitValue) → p < length program.lists → IsUnit old → AnswersDrain old new p some →
+    FollowsActs program (Drain p ∷ []) issued issued old new
+FollowsActs-drain program issued p true old new below kept answer = record {
   taken = answer.step ∷ [];
   steps = answer.steps;
   kept = answer.kept;
@@ -229,17 +229,17 @@ Follows-drain program issued p true old new below kept answer = record {
         refl,
       );
 }
-Follows-drain program issued p false old new below kept answer =
-    subst (Follows program (Drain p ∷ []) issued issued old) (sym answer.1) (Follows-no_step program (Drain p) issued old (λ lawful.
+FollowsActs-drain program issued p false old new below kept answer =
+    subst (FollowsActs program (Drain p ∷ []) issued issued old) (sym answer.1) (FollowsActs-no_step program (Drain p) issued old (λ lawful.
     let buffer = buffer_of (after (first_state old.first) old.steps) p in (
       inl (omega (arith, below, length-left 0 issued program.lists), drained_none p buffer (sym (kept.waiting lawful p) ∙ answer.0)),
       refl,
     )))
 
 -- a processor that the program doesn't have isn't drained
-pub Follows-no_drain : (program : ProgramValue) (issued : List ℕ) (p : ℕ) (u : UnitValue) → length program.lists ≤ p → Follows program (Drain p ∷ []) issued issued u u
-Follows-no_drain program issued p u past =
-    Follows-no_step program (Drain p) issued u (λ lawful. (inr (omega (arith, past, length-left 0 issued program.lists), refl), refl))
+pub FollowsActs-no_drain : (program : ProgramValue) (issued : List ℕ) (p : ℕ) (u : UnitValue) → length program.lists ≤ p → FollowsActs program (Drain p ∷ []) issued issued u u
+FollowsActs-no_drain program issued p u past =
+    FollowsActs-no_step program (Drain p) issued u (λ lawful. (inr (omega (arith, past, length-left 0 issued program.lists), refl), refl))
 
 pub HasIssued-drained : (program : ProgramValue) (issued : List ℕ) (least past : ℕ) (old new : UnitValue) → TakesDrains old new least past → HasIssued program issued old →
     HasIssued program issued new

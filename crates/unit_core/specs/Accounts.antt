@@ -6,7 +6,7 @@ use Rattle.unit_core.specs.declared.accounts.Account.{Account}
 use Rattle.unit_core.specs.Machine.{is_load, is_store, is_swap, is_membar, is_drain}
 
 -- The account is closed, with the numbers of these steps.
-pub record IsClosed (steps : List Step) (account : Account) : Type 0 where
+pub record IsAccountOf (steps : List Step) (account : Account) : Type 0 where
   pub loads : account.loads ≡ count_by is_load steps
   pub stores : account.stores ≡ count_by is_store steps
   pub swaps : account.swaps ≡ count_by is_swap steps

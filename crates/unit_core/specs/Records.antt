@@ -6,7 +6,7 @@ use Rattle.tso_ops.specs.declared.settings.Order.TheVariants.{Tso, Pso}
 use Rattle.tso_ops.specs.Values.{ProgramValue, TraceValue, op_of, ops_at, program_of}
 use Rattle.unit_core.specs.declared.steps.Step.{Step}
 use Rattle.unit_core.specs.declared.accounts.Account.{Account}
-use Rattle.unit_core.specs.Accounts.{IsClosed}
+use Rattle.unit_core.specs.Accounts.{IsAccountOf}
 use Rattle.unit_core.specs.Machine.{IsCompleteRun, buffer_of, after, first_state, outcomes_of, trace_of}
 use Rattle.unit_core.specs.Units.{UnitValue, TakesDrains}
 
@@ -48,6 +48,6 @@ pub record IsRecordOf (program : ProgramValue) (unit : UnitValue) (r : RecordedV
 pub record Concludes (program : ProgramValue) (old : UnitValue) (account : Account) (result : Result RecordedValue AllocError) : Type 0 where
   pub new : UnitValue
   pub drained : TakesDrains old new 0 (length program.lists)
-  pub closed : IsClosed new.steps account
+  pub closed : IsAccountOf new.steps account
   pub recorded : IfOk result (IsRecordOf program new)
   pub balanced : IfOk result (λ r. r.lawful ≡ true → account.drains ≡ account.stores)

@@ -8,7 +8,7 @@ use Rattle.tso_ops.specs.Values.{ProgramValue, in_file_order, op_of, ops_at}
 use Rattle.tso_text.specs.declared.acts.Act.{Act}
 use Rattle.unit_core.specs.declared.steps.Step.{Step}
 use Rattle.unit_core.specs.declared.accounts.Account.{Account}
-use Rattle.unit_core.specs.Accounts.{IsClosed}
+use Rattle.unit_core.specs.Accounts.{IsAccountOf}
 use Rattle.unit_core.specs.Machine.{IsFirstMemory, outcomes_of}
 use Rattle.unit_core.specs.Records.{IsRecordOf, RecordedValue}
 use Rattle.unit_core.specs.Schedule.{BelongsTo}
@@ -51,7 +51,7 @@ pub record Replays (program : ProgramValue) (schedule : List Act) (old : UnitVal
   pub first : IsFirstMemory program.setting.first new.first
   pub unit : IsUnit new
   pub begun : AreFirstOpsOf program new.steps
-  pub closed : IsClosed new.steps account
+  pub closed : IsAccountOf new.steps account
   pub recorded : IfOk result (IsRecordOf program new)
   pub counted : OnOk result (CountsProgram program account)
   pub balanced : IfOk result (λ r. r.lawful ≡ true → account.drains ≡ account.stores)

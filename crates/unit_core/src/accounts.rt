@@ -1,6 +1,6 @@
 ghost use Rattle.std.specs.Prelude.{◌≡◌, false};
 ghost use Rattle.std.specs.List.{count_by};
-ghost use Rattle.unit_core.specs.Accounts.{IsClosed};
+ghost use Rattle.unit_core.specs.Accounts.{IsAccountOf};
 ghost use Rattle.unit_core.specs.Machine.{is_drain, is_load, is_membar, is_store, is_swap};
 
 use crate::steps::Step;
@@ -41,7 +41,7 @@ impl Account {
 
     /// The closed account of these steps.
     pub(crate) fn of_steps(steps: &[Step]) -> Account
-        ensures { IsClosed steps.now result }
+        ensures { IsAccountOf steps.now result }
     {
         Account {
             loads: loads_among(steps),

@@ -1,7 +1,7 @@
 ghost use Rattle.std.specs.Prelude.{◌≡◌, ℕ, ◌+◌, ◌<◌, List, [], ◌∷◌, length, get_or, set, true, IfOk, OnOk};
 ghost use Rattle.tso_text.specs.declared.acts.Act.TheVariants.{Issue, Drain};
 ghost use Rattle.tso_ops.specs.Values.{list_count, ops_at};
-ghost use Rattle.unit_core.specs.Internal.Replays.{Follows, HasIssued, IssuesRest, left_from, rest_of};
+ghost use Rattle.unit_core.specs.Internal.Replays.{FollowsActs, HasIssued, IssuesRest, left_from, rest_of};
 ghost use Rattle.unit_core.specs.Machine.{IsFirstMemory};
 ghost use Rattle.unit_core.specs.Records.{AreOpsOf, IsRecordOf, IsRecorded};
 ghost use Rattle.unit_core.specs.Replays.{AreFirstOpsOf, Replays};
@@ -66,7 +66,7 @@ fn issue_next<U: MemoryUnit>(
     requires { HasIssued program.now issued.old (U.value_of unit.old) }
     ensures kept { KeepsMachine (U.value_of unit.old) (U.value_of unit.new) }
     ensures issued { HasIssued program.now issued.new (U.value_of unit.new) }
-    ensures follows { OnOk result (Follows program.now (Issue p ∷ []) issued.old issued.new (U.value_of unit.old) (U.value_of unit.new)) }
+    ensures follows { OnOk result (FollowsActs program.now (Issue p ∷ []) issued.old issued.new (U.value_of unit.old) (U.value_of unit.new)) }
     ensures counted { get_or issued.old p 0 < length (ops_at program.now p) → OnOk result (issued.new ≡ set issued.old p (get_or issued.old p 0 + 1)) }
 {
     if p >= program.processors() {
@@ -85,7 +85,7 @@ fn issue_next<U: MemoryUnit>(
 fn drain_next<U: MemoryUnit>(unit: &mut U, program: &Program, p: usize) -> Result<(), OutOfMemory>
     ensures kept { KeepsMachine (U.value_of unit.old) (U.value_of unit.new) }
     ensures issued { (issued : List ℕ) → HasIssued program.now issued (U.value_of unit.old) → HasIssued program.now issued (U.value_of unit.new) }
-    ensures follows { (issued : List ℕ) → OnOk result (Follows program.now (Drain p ∷ []) issued issued (U.value_of unit.old) (U.value_of unit.new)) }
+    ensures follows { (issued : List ℕ) → OnOk result (FollowsActs program.now (Drain p ∷ []) issued issued (U.value_of unit.old) (U.value_of unit.new)) }
 {
     let _steps = unit.steps();
     if p < program.processors() {
@@ -104,7 +104,7 @@ fn follow<U: MemoryUnit>(
     requires { HasIssued program.now issued.old (U.value_of unit.old) }
     ensures kept { KeepsMachine (U.value_of unit.old) (U.value_of unit.new) }
     ensures issued { HasIssued program.now issued.new (U.value_of unit.new) }
-    ensures follows { OnOk result (Follows program.now (act ∷ []) issued.old issued.new (U.value_of unit.old) (U.value_of unit.new)) }
+    ensures follows { OnOk result (FollowsActs program.now (act ∷ []) issued.old issued.new (U.value_of unit.old) (U.value_of unit.new)) }
 {
     match act {
         Act::Issue(p) => issue_next(unit, program, issued, p),
@@ -122,7 +122,7 @@ fn follow_all<U: MemoryUnit>(
     requires { HasIssued program.now issued.old (U.value_of unit.old) }
     ensures kept { KeepsMachine (U.value_of unit.old) (U.value_of unit.new) }
     ensures issued { HasIssued program.now issued.new (U.value_of unit.new) }
-    ensures follows { OnOk result (Follows program.now schedule.now issued.old issued.new (U.value_of unit.old) (U.value_of unit.new)) }
+    ensures follows { OnOk result (FollowsActs program.now schedule.now issued.old issued.new (U.value_of unit.old) (U.value_of unit.new)) }
 {
     for act in schedule {
         follow(unit, program, issued, *act)?;
@@ -142,7 +142,7 @@ fn issue_rest<U: MemoryUnit>(
     ensures kept { KeepsMachine (U.value_of unit.old) (U.value_of unit.new) }
     ensures issued { HasIssued program.now issued.new (U.value_of unit.new) }
     ensures all { OnOk result (IssuesRest program.now p issued.old issued.new) }
-    ensures follows { OnOk result (Follows program.now (rest_of program.now issued.old p) issued.old issued.new (U.value_of unit.old) (U.value_of unit.new)) }
+    ensures follows { OnOk result (FollowsActs program.now (rest_of program.now issued.old p) issued.old issued.new (U.value_of unit.old) (U.value_of unit.new)) }
 {
     let _processors = program.processors();
     for _next in issued[p]..program.ops(p).len() {
@@ -161,7 +161,7 @@ fn issue_all<U: MemoryUnit>(
     ensures kept { KeepsMachine (U.value_of unit.old) (U.value_of unit.new) }
     ensures issued { HasIssued program.now issued.new (U.value_of unit.new) }
     ensures ops { OnOk result (AreOpsOf program.now (U.value_of unit.new).steps) }
-    ensures follows { OnOk result (Follows program.now (issues_of 0 (left_from 0 issued.old program.now.lists)) issued.old issued.new (U.value_of unit.old) (U.value_of unit.new)) }
+    ensures follows { OnOk result (FollowsActs program.now (issues_of 0 (left_from 0 issued.old program.now.lists)) issued.old issued.new (U.value_of unit.old) (U.value_of unit.new)) }
 {
     for p in 0..program.processors() {
         issue_rest(unit, program, issued, p)?;

@@ -21,7 +21,7 @@ pub record HasIssued (program : ProgramValue) (issued : List ℕ) (u : UnitValue
   pub ops : (p : ℕ) → map op_of (outcomes_of p u.steps) ≡ take (get_or issued p 0) (ops_at program p)
 
 -- The unit took the pieces of these acts, before which so many operations of each processor were issued, and after which so many.
-pub record Follows (program : ProgramValue) (acts : List Act) (earlier later : List ℕ) (old new : UnitValue) : Type 0 where
+pub record FollowsActs (program : ProgramValue) (acts : List Act) (earlier later : List ℕ) (old new : UnitValue) : Type 0 where
   pub taken : List Step
   pub steps : new.steps ≡ old.steps ++ taken
   pub kept : KeepsMachine old new

@@ -2,9 +2,9 @@ use Rattle.std.proofs.Common.{◌≡◌, ◌∙◌, ap, subst, ◌-◌, ◌<◌,
 use Rattle.std.proofs.lemmas.Bool.{cases_eq}
 use Rattle.tso_ops.specs.Values.{ops_at}
 use Rattle.tso_text.specs.declared.acts.Act.TheVariants.{Issue}
-use Rattle.unit_core.specs.Internal.Replays.{Follows, left_from, rest_of}
+use Rattle.unit_core.specs.Internal.Replays.{FollowsActs, left_from, rest_of}
 use Rattle.unit_core.specs.Schedule.{issues_of}
-use Rattle.unit_core.proofs.ReplayFacts.{Follows-then, rests-next}
+use Rattle.unit_core.proofs.ReplayFacts.{FollowsActs-then, rests-next}
 use Rattle.unit_core.proofs.replays.issue_all.Goals as goal
 
 pub loop-p-preserved : goal.loop-p-preserved
@@ -24,9 +24,9 @@ loop-p-preserved g c =
       later = λ q high. done.others q (λ e. absurd (omega (arith, e))) ∙ before.later q (omega arith);
       issued = c.issue_rest.ensures.issued;
       follows = rw (rests-next program c.args.issued.now p below)
-          (Follows-then program (issues_of 0 (left_from 0 c.args.issued.now (take p program.lists))) (rest_of program c.args.issued.now p) c.args.issued.now c.loop-p.issued
+          (FollowsActs-then program (issues_of 0 (left_from 0 c.args.issued.now (take p program.lists))) (rest_of program c.args.issued.now p) c.args.issued.now c.loop-p.issued
           c.issue_rest.new.issued (g.U.MemoryUnit.value_of c.args.unit.now) (g.U.MemoryUnit.value_of c.loop-p.unit) (g.U.MemoryUnit.value_of c.issue_rest.new.unit)
           before.follows
-          (subst (λ acts. Follows program acts c.loop-p.issued c.issue_rest.new.issued (g.U.MemoryUnit.value_of c.loop-p.unit) (g.U.MemoryUnit.value_of c.issue_rest.new.unit)) same
+          (subst (λ acts. FollowsActs program acts c.loop-p.issued c.issue_rest.new.issued (g.U.MemoryUnit.value_of c.loop-p.unit) (g.U.MemoryUnit.value_of c.issue_rest.new.unit)) same
           c.in_ok-issue_rest.ensures.follows));
     }

@@ -3,12 +3,12 @@ use Rattle.std.proofs.lemmas.Option.{slice_get-get_or}
 use Rattle.tso_ops.specs.declared.ops.Op.TheVariants.{Ld}
 use Rattle.tso_ops.specs.Values.{ops_at}
 use Rattle.unit_core.proofs.IssueFacts.{ops-issuable}
-use Rattle.unit_core.proofs.ReplayFacts.{Follows-issue, Follows-nothing_left, HasIssued-next, no_ops}
+use Rattle.unit_core.proofs.ReplayFacts.{FollowsActs-issue, FollowsActs-nothing_left, HasIssued-next, no_ops}
 use Rattle.unit_core.proofs.replays.issue_next.Goals as goal
 
 pub returns-then-p-processors-clause-follows : goal.returns-then-p-processors-clause-follows
 returns-then-p-processors-clause-follows g c =
-    Follows-nothing_left c.args.program.now c.args.issued.now c.args.p (g.U.MemoryUnit.value_of c.args.unit.now)
+    FollowsActs-nothing_left c.args.program.now c.args.issued.now c.args.p (g.U.MemoryUnit.value_of c.args.unit.now)
     (let past = c.if-p-processors.true in omega (arith, no_ops c.args.program.now c.args.p (omega (arith, c.processors.ensures.count))))
 
 pub perform-requires-clause-issuable : goal.perform-requires-clause-issuable
@@ -31,9 +31,9 @@ returns-in_ok-perform-clause-issued g c =
 
 pub returns-in_ok-perform-clause-follows : goal.returns-in_ok-perform-clause-follows
 returns-in_ok-perform-clause-follows g c =
-    Follows-issue c.args.program.now c.args.issued.now c.args.p _ c.in_ok-perform.field-0 (g.U.MemoryUnit.value_of c.args.unit.now) (g.U.MemoryUnit.value_of c.perform.new.unit)
+    FollowsActs-issue c.args.program.now c.args.issued.now c.args.p _ c.in_ok-perform.field-0 (g.U.MemoryUnit.value_of c.args.unit.now) (g.U.MemoryUnit.value_of c.perform.new.unit)
     (omega (arith, c.processors.ensures.count, c.if-p-processors.false)) c.requires.counts c.processors.ensures.kept.processors (next_is g c) c.in_ok-perform.ensures.answered c.in_ok-perform.ensures.taken
 
 pub returns-else-next-ops-clause-follows : goal.returns-else-next-ops-clause-follows
 returns-else-next-ops-clause-follows g c =
-    Follows-nothing_left c.args.program.now c.args.issued.now c.args.p (g.U.MemoryUnit.value_of c.args.unit.now) (let past = c.if-next-ops.false in omega (arith, ap length c.ops-ops.ensures))
+    FollowsActs-nothing_left c.args.program.now c.args.issued.now c.args.p (g.U.MemoryUnit.value_of c.args.unit.now) (let past = c.if-next-ops.false in omega (arith, ap length c.ops-ops.ensures))

@@ -2,8 +2,8 @@ use Rattle.std.proofs.Common.{◌∙◌, ap, subst, ◌+◌, ◌-◌, ◌<◌, �
 use Rattle.std.proofs.lemmas.List.{replicate-append-replicate, get_or-set_same, get_or-set_other}
 use Rattle.tso_ops.specs.Values.{ops_at}
 use Rattle.tso_text.specs.declared.acts.Act.TheVariants.{Issue}
-use Rattle.unit_core.specs.Internal.Replays.{Follows}
-use Rattle.unit_core.proofs.ReplayFacts.{Follows-then}
+use Rattle.unit_core.specs.Internal.Replays.{FollowsActs}
+use Rattle.unit_core.proofs.ReplayFacts.{FollowsActs-then}
 use Rattle.unit_core.proofs.replays.issue_rest.Goals as goal
 
 pub loop-next-preserved : goal.loop-next-preserved
@@ -21,9 +21,9 @@ loop-next-preserved g c =
       others = λ q other. rw counted (get_or-set_other c.loop-next.issued p q (get_or c.loop-next.issued p 0 + 1) 0 other ∙ before.others q other);
       issued = c.issue_next.ensures.issued;
       follows = subst
-          (λ acts. Follows c.args.program.now acts c.args.issued.now c.issue_next.new.issued (g.U.MemoryUnit.value_of c.args.unit.now) (g.U.MemoryUnit.value_of c.issue_next.new.unit))
+          (λ acts. FollowsActs c.args.program.now acts c.args.issued.now c.issue_next.new.issued (g.U.MemoryUnit.value_of c.args.unit.now) (g.U.MemoryUnit.value_of c.issue_next.new.unit))
           (replicate-append-replicate (n - first) 1 (Issue p) ∙ ap (λ k. replicate k (Issue p)) (omega (arith, before.start)))
-          (Follows-then c.args.program.now (replicate (n - first) (Issue p)) (Issue p ∷ []) c.args.issued.now c.loop-next.issued c.issue_next.new.issued
+          (FollowsActs-then c.args.program.now (replicate (n - first) (Issue p)) (Issue p ∷ []) c.args.issued.now c.loop-next.issued c.issue_next.new.issued
           (g.U.MemoryUnit.value_of c.args.unit.now) (g.U.MemoryUnit.value_of c.loop-next.unit) (g.U.MemoryUnit.value_of c.issue_next.new.unit) before.follows
           c.in_ok-issue_next.ensures.follows);
     }

@@ -1,5 +1,5 @@
 use Rattle.std.proofs.Common.{subst}
-use Rattle.unit_core.specs.Accounts.{IsClosed}
+use Rattle.unit_core.specs.Accounts.{IsAccountOf}
 use Rattle.unit_core.specs.Records.{AreOpsOf}
 use Rattle.unit_core.specs.Replays.{CountsProgram}
 use Rattle.unit_core.proofs.ProgramCountFacts.{counts_program}
@@ -10,7 +10,7 @@ pub returns : goal.returns
 returns g c =
     let new = g.U.MemoryUnit.value_of c.issue_and_record-answer.new.unit in
     let account = c.of_steps.result in
-    let closed : IsClosed new.steps account = subst (λ xs. IsClosed xs account) c.steps.ensures.are c.of_steps.ensures in
+    let closed : IsAccountOf new.steps account = subst (λ xs. IsAccountOf xs account) c.steps.ensures.are c.of_steps.ensures in
     record {
       new = new;
       lawful = c.issue_and_record-answer.ensures.lawful;
