@@ -10,6 +10,7 @@ use crate::driving::{drive, end_without_arguments};
 use std::alloc::{AllocError, Global};
 use std::io;
 use std::io::{Error, ErrorKind, Read, Write};
+use std::process::Abort;
 use std::rt::Files;
 use std::sync::Wait;
 use std::test::Fail;
@@ -67,44 +68,40 @@ fn driven<H: Threads + Wait + Sync + Files + AllocGlobal, R: Read>(
     })
 }
 
-#[test]
-fn statuses_of_verdicts(rt: HostRuntime) -> Result<(), Fail> {
-    let alloc = rt.alloc();
-    let cases = [
-        (
-            "tso trace 1\nproc\nst 1 1\nld 1 1\nend\n",
-            0,
-            "TSO REPORT 1\nprocessors 1 events 2 rounds 0\nNO VIOLATION FOUND\n",
-        ),
-        ("tso trace 1\nproc\n", 2, "REFUSED MissingEnd line 3\n"),
-        (
-            "tso trace 1\nproc\nld 1 9\nend\n",
-            3,
-            "TSO REPORT 1\nprocessors 1 events 1 rounds 0\nVIOLATION\nunwritten 1\n",
-        ),
-    ];
-    for (input, status, report) in cases {
-        let mut reader = input.as_bytes();
-        let ended = driven(&rt, alloc, &[], &mut reader)?;
-        assert_eq!(rt; ended.status, status, "{input:?}");
-        assert_eq!(rt; ended.written.as_slice(), report.as_bytes(), "{input:?}");
-        assert_eq!(rt; ended.errors.len(), 0, "{input:?}");
+/// What a run without arguments gives where the output can't be written.
+fn driven_to_a_failing_writer<H: Threads + Wait + Sync + Files + AllocGlobal, R: Read>(
+    rt: &H,
+    alloc: Global,
+    reader: &mut R,
+) -> Ended {
+    let mut errors = Vec::new(alloc);
+    let status = drive(rt, &[], reader, &mut FailingWriter, &mut errors);
+    Ended {
+        status,
+        written: Vec::new(alloc),
+        errors,
     }
-    Ok(())
+}
+
+/// Compares how a run of these arguments or texts ended.
+fn expect<H: Abort>(rt: &H, of: &[&str], ended: &Ended, status: u8, output: &str, errors: &str) {
+    assert_eq!(rt; ended.status, status, "{of:?}");
+    assert_eq!(rt; ended.written.as_slice(), output.as_bytes(), "{of:?}");
+    assert_eq!(rt; ended.errors.as_slice(), errors.as_bytes(), "{of:?}");
 }
 
 #[test]
 fn faults_have_a_line(rt: HostRuntime) -> Result<(), Fail> {
     let alloc = rt.alloc();
-    let ended = driven(&rt, alloc, &[], &mut FailingReader)?;
-    assert_eq!(rt; ended.status, 4);
-    assert_eq!(rt; ended.written.len(), 0);
-    assert_eq!(rt; ended.errors.as_slice(), b"FAULT Read\n".as_slice());
-    let mut reader = b"tso trace 1\nend\n".as_slice();
-    let mut errors = Vec::new(alloc);
-    let status = drive(&rt, &[], &mut reader, &mut FailingWriter, &mut errors);
-    assert_eq!(rt; status, 4);
-    assert_eq!(rt; errors.as_slice(), b"FAULT Write\n".as_slice());
+    let unread = driven(&rt, alloc, &[], &mut FailingReader)?;
+    expect(&rt, &[], &unread, 4, "", "FAULT Read\n");
+    let unwritten = driven_to_a_failing_writer(&rt, alloc, &mut b"tso trace 1\nend\n".as_slice());
+    expect(&rt, &[], &unwritten, 4, "", "FAULT Write\n");
+    Ok(())
+}
+
+#[test]
+fn faults_whose_line_cannot_be_written(rt: HostRuntime) {
     let status = drive(
         &rt,
         &[],
@@ -113,19 +110,23 @@ fn faults_have_a_line(rt: HostRuntime) -> Result<(), Fail> {
         &mut FailingWriter,
     );
     assert_eq!(rt; status, 4);
-    Ok(())
+}
+
+fn ended_without_arguments(alloc: Global, kind: ErrorKind) -> Ended {
+    let mut errors = Vec::new(alloc);
+    let status = end_without_arguments(kind, &mut errors);
+    Ended {
+        status,
+        written: Vec::new(alloc),
+        errors,
+    }
 }
 
 #[test]
-fn arguments_that_cannot_be_had(rt: HostRuntime) -> Result<(), Fail> {
-    let mut errors = Vec::new(rt.alloc());
-    let status = end_without_arguments(ErrorKind::InvalidData, &mut errors);
-    assert_eq!(rt; status, 2);
-    let line = b"error: invalid UTF-8 was detected in one or more arguments\n";
-    assert_eq!(rt; errors.as_slice(), line.as_slice());
-    errors.clear();
-    let status = end_without_arguments(ErrorKind::OutOfMemory, &mut errors);
-    assert_eq!(rt; status, 4);
-    assert_eq!(rt; errors.as_slice(), b"FAULT OutOfMemory\n".as_slice());
-    Ok(())
+fn arguments_that_cannot_be_had(rt: HostRuntime) {
+    let line = "error: invalid UTF-8 was detected in one or more arguments\n";
+    let invalid = ended_without_arguments(rt.alloc(), ErrorKind::InvalidData);
+    expect(&rt, &[], &invalid, 2, "", line);
+    let refused = ended_without_arguments(rt.alloc(), ErrorKind::OutOfMemory);
+    expect(&rt, &[], &refused, 4, "", "FAULT OutOfMemory\n");
 }

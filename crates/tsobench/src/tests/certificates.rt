@@ -1,6 +1,7 @@
 //! Certificates of examples, read from files, each with its status and its bytes.
 
-use super::commands::{ended, new_folder};
+use super::commands::{ended, new_folder, write};
+use super::expect;
 use std::fs;
 use std::test::Fail;
 
@@ -159,25 +160,13 @@ const CHECKED: [Checked; 21] = [
 
 #[test]
 fn certificates_in_files(rt: HostRuntime) -> Result<(), Fail> {
-    let alloc = rt.alloc();
     let folder = new_folder(&rt, "certificates")?;
     for (trace, certificate, status, report) in CHECKED {
-        fs::write(&rt, format!(in alloc; "{folder}/trace")?.as_str(), trace)?;
-        fs::write(
-            &rt,
-            format!(in alloc; "{folder}/cert")?.as_str(),
-            certificate,
-        )?;
+        write(&rt, folder.as_str(), "trace", trace)?;
+        write(&rt, folder.as_str(), "cert", certificate)?;
         let arguments = ["check", "@trace", "@cert"];
-        let ended = ended(&rt, alloc, folder.as_str(), &arguments)?;
-        assert_eq!(rt; ended.status, status, "{certificate:?}");
-        assert_eq!(rt;
-            ended.written.as_slice(),
-            report.as_bytes(),
-            "{certificate:?}"
-        );
-        assert_eq!(rt; ended.errors.len(), 0, "{certificate:?}");
+        let ended = ended(&rt, rt.alloc(), folder.as_str(), &arguments)?;
+        expect(&rt, &[trace, certificate], &ended, status, report, "");
     }
-    fs::remove_dir_all(&rt, folder.as_str())?;
-    Ok(())
+    Ok(fs::remove_dir_all(&rt, folder.as_str())?)
 }

@@ -1,6 +1,6 @@
 //! Examples, each with its status and its bytes.
 
-use super::driven;
+use super::{driven, expect};
 use std::alloc::{AllocError, Global};
 use std::test::Fail;
 
@@ -204,14 +204,10 @@ fn trace_of_loads(alloc: Global, count: usize, back: &str) -> Result<String, All
 
 #[test]
 fn traces_at_the_limit_of_events(rt: HostRuntime) -> Result<(), Fail> {
-    let alloc = rt.alloc();
     for (count, back, status, report) in LONG {
-        let trace = trace_of_loads(alloc, count, back)?;
-        let mut reader = trace.as_bytes();
-        let ended = driven(&rt, alloc, &[], &mut reader)?;
-        assert_eq!(rt; ended.status, status, "{count}");
-        assert_eq!(rt; ended.written.as_slice(), report.as_bytes(), "{count}");
-        assert_eq!(rt; ended.errors.len(), 0, "{count}");
+        let trace = trace_of_loads(rt.alloc(), count, back)?;
+        let ended = driven(&rt, rt.alloc(), &[], &mut trace.as_bytes())?;
+        expect(&rt, &[back], &ended, status, report, "");
     }
     Ok(())
 }
@@ -219,11 +215,8 @@ fn traces_at_the_limit_of_events(rt: HostRuntime) -> Result<(), Fail> {
 #[test]
 fn traces_on_standard_input(rt: HostRuntime) -> Result<(), Fail> {
     for (trace, status, report) in JUDGED {
-        let mut reader = trace.as_bytes();
-        let ended = driven(&rt, rt.alloc(), &[], &mut reader)?;
-        assert_eq!(rt; ended.status, status, "{trace:?}");
-        assert_eq!(rt; ended.written.as_slice(), report.as_bytes(), "{trace:?}");
-        assert_eq!(rt; ended.errors.len(), 0, "{trace:?}");
+        let ended = driven(&rt, rt.alloc(), &[], &mut trace.as_bytes())?;
+        expect(&rt, &[trace], &ended, status, report, "");
     }
     Ok(())
 }

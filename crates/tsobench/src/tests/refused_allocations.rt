@@ -9,20 +9,19 @@ use std::test::Fail;
 use tso_ops::{OutOfMemory, Program};
 use tso_report::{Fault, Verdict, judge_recorded};
 use tso_text::read_program;
-use unit_core::{Account, MemoryUnit, Recorded, replay};
+use unit_core::{Account, Recorded, replay_over};
 use unit_kinds::SerialUnit;
 
 /// The room that a report gets.
 const ROOM: usize = 256;
 
-/// A replay on a serial unit, in a box.
+/// A replay on a serial unit.
 fn replayed(
     alloc: Global,
     program: &Program,
     account: &mut Account,
 ) -> Result<Recorded, OutOfMemory> {
-    let unit: Box<dyn MemoryUnit + Send> = Box::new(alloc, SerialUnit::new(alloc)?)?;
-    replay(alloc, unit, program, &SCHEDULE, account)
+    replay_over(alloc, SerialUnit::new(alloc)?, program, &SCHEDULE, account)
 }
 
 #[test]

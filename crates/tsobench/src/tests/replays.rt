@@ -1,8 +1,13 @@
 //! Replays by the arguments of the command line, with files in a folder of the test's own.
 
-use super::commands::{ended, new_folder};
+use super::commands::{ended, new_folder, write};
+use super::{Ended, expect};
+use std::alloc::Global;
 use std::fs;
+use std::rt::Files;
+use std::sync::Wait;
 use std::test::Fail;
+use std::thread::Threads;
 
 /// replay_serial
 const PROGRAM: &str = "tso program 1\nproc\nst 1 1\nst 2 2\nproc\nld 2\nld 1\nend\n";
@@ -119,25 +124,33 @@ const REPLAYS: [Replayed; 14] = [
     ),
 ];
 
+/// What the arguments of a replay lead to, of which those that begin with `@` name files of the folder.
+fn replayed<H: Threads + Wait + Sync + Files + AllocGlobal>(
+    rt: &H,
+    alloc: Global,
+    folder: &str,
+    arguments: &[&str],
+) -> Result<Ended, Fail> {
+    let mut all = Vec::from_array(alloc, ["replay"])?;
+    all.extend_from_slice(arguments)?;
+    ended(rt, alloc, folder, &all)
+}
+
+/// A folder with the texts.
+fn folder(rt: &HostRuntime) -> Result<String, Fail> {
+    let path = new_folder(rt, "replays")?;
+    for (file, text) in TEXTS {
+        write(rt, path.as_str(), file, text)?;
+    }
+    Ok(path)
+}
+
 #[test]
 fn replays(rt: HostRuntime) -> Result<(), Fail> {
-    let alloc = rt.alloc();
-    let folder = new_folder(&rt, "replays")?;
-    for (file, text) in TEXTS {
-        fs::write(&rt, format!(in alloc; "{folder}/{file}")?.as_str(), text)?;
-    }
+    let folder = folder(&rt)?;
     for (arguments, status, output) in REPLAYS {
-        let mut all = Vec::from_array(alloc, ["replay"])?;
-        all.extend_from_slice(arguments)?;
-        let ended = ended(&rt, alloc, folder.as_str(), &all)?;
-        assert_eq!(rt;
-            ended.written.as_slice(),
-            output.as_bytes(),
-            "{arguments:?}"
-        );
-        assert_eq!(rt; ended.status, status, "{arguments:?}");
-        assert_eq!(rt; ended.errors.len(), 0, "{arguments:?}");
+        let ended = replayed(&rt, rt.alloc(), folder.as_str(), arguments)?;
+        expect(&rt, arguments, &ended, status, output, "");
     }
-    fs::remove_dir_all(&rt, folder.as_str())?;
-    Ok(())
+    Ok(fs::remove_dir_all(&rt, folder.as_str())?)
 }

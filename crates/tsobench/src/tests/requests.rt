@@ -2,14 +2,14 @@
 
 ghost use Rattle.command_line.specs.Requests.{HasWorkers, asked_of};
 
-use super::{FailingReader, FailingWriter};
+use super::{Ended, FailingReader, FailingWriter, expect};
 use crate::endings::end_by;
 use crate::files::NamedFiles;
 use crate::serving::serve;
 use command_line::{Request, RunOptions, UnitKind, UnitOptions};
 use std::alloc::{AllocError, Global};
 use std::io;
-use std::io::{Error, ErrorKind, Read};
+use std::io::{Error, ErrorKind, Read, Write};
 use std::process::Abort;
 use std::sync::Wait;
 use std::test::Fail;
@@ -52,18 +52,17 @@ impl NamedFiles for MemoryFiles {
     }
 }
 
+const TEXTS: [(&str, &str); 4] = [
+    ("trace", "tso trace 1\nproc\nld 1 9\nend\n"),
+    ("certificate", "unwritten 1\n"),
+    ("program", "tso program 1\nproc\nst 1 1\nld 1\nend\n"),
+    ("schedule", "tso schedule 1\nend\n"),
+];
+
 fn files(alloc: Global) -> Result<MemoryFiles, AllocError> {
     Ok(MemoryFiles {
         alloc,
-        texts: Vec::from_array(
-            alloc,
-            [
-                ("trace", "tso trace 1\nproc\nld 1 9\nend\n"),
-                ("certificate", "unwritten 1\n"),
-                ("program", "tso program 1\nproc\nst 1 1\nld 1\nend\n"),
-                ("schedule", "tso schedule 1\nend\n"),
-            ],
-        )?,
+        texts: Vec::from_array(alloc, TEXTS)?,
         opened: Vec::new(alloc),
     })
 }
@@ -87,6 +86,40 @@ const RECORDED: &str = "tso trace 1\nproc\nst 1 1\nld 1 1\nend\n";
 const REPLAYED: &str =
     "TSO REPORT 1\nprocessors 1 events 2 rounds 0\nNO VIOLATION FOUND\naccount loads 1 stores 1 swaps 0 membars 0 drains 1 closed\n";
 
+/// What a request comes to, where standard input fails.
+fn served<H: Threads + Wait + Sync + AllocGlobal>(
+    rt: &H,
+    alloc: Global,
+    request: &Request<'_>,
+    files: &mut MemoryFiles,
+) -> Ended
+    requires { HasWorkers (asked_of request.now) }
+{
+    let mut written = Vec::new(alloc);
+    let mut errors = Vec::new(alloc);
+    let status = serve(
+        rt,
+        request,
+        files,
+        &mut FailingReader,
+        &mut written,
+        &mut errors,
+    );
+    Ended {
+        status,
+        written,
+        errors,
+    }
+}
+
+/// Compares the names of the files that were opened.
+fn expect_opened<H: Abort>(rt: &H, files: &MemoryFiles, names: &[&str]) {
+    assert_eq!(rt; files.opened.len(), names.len(), "{names:?}");
+    for (opened, name) in files.opened.iter().zip(names) {
+        assert_eq!(rt; opened.as_str(), *name);
+    }
+}
+
 /// Compares what a request comes to, where standard input fails.
 fn compare<H: Threads + Wait + Sync + AllocGlobal + Abort>(
     rt: &H,
@@ -95,33 +128,16 @@ fn compare<H: Threads + Wait + Sync + AllocGlobal + Abort>(
 ) -> Result<(), Fail>
     requires { HasWorkers (asked_of request.now) }
 {
-    let alloc = rt.alloc();
-    let mut files = files(alloc)?;
-    let mut written = Vec::new(alloc);
-    let mut errors = Vec::new(alloc);
-    let status = serve(
-        rt,
-        request,
-        &mut files,
-        &mut FailingReader,
-        &mut written,
-        &mut errors,
-    );
-    assert_eq!(rt; status, expected.status, "{request:?}");
-    assert_eq!(rt;
-        written.as_slice(),
-        expected.output.as_bytes(),
-        "{request:?}"
-    );
-    assert_eq!(rt;
-        errors.as_slice(),
-        expected.errors.as_bytes(),
-        "{request:?}"
-    );
-    assert_eq!(rt; files.opened.len(), expected.names.len(), "{request:?}");
-    for (opened, name) in files.opened.iter().zip(expected.names) {
-        assert_eq!(rt; opened.as_str(), *name, "{request:?}");
-    }
+    let Expected {
+        names,
+        status,
+        output,
+        errors,
+    } = expected;
+    let mut files = files(rt.alloc())?;
+    let ended = served(rt, rt.alloc(), request, &mut files);
+    expect(rt, names, &ended, status, output, errors);
+    expect_opened(rt, &files, names);
     Ok(())
 }
 
@@ -243,32 +259,43 @@ fn texts(rt: HostRuntime) -> Result<(), Fail> {
     compare(&rt, &refused, outcome(&[], 2, "", "refused\n"))
 }
 
-/// A text that can't be written is the fault Write; a refusal that can't be written ends with its status.
+/// What a request comes to, where no file can be opened and nothing be read or written but the errors.
+fn served_to_a_failing_writer<H: Threads + Wait + Sync + AllocGlobal, E: Write>(
+    rt: &H,
+    request: &Request<'_>,
+    files: &mut MemoryFiles,
+    errors: &mut E,
+) -> u8
+    requires { HasWorkers (asked_of request.now) }
+{
+    serve(
+        rt,
+        request,
+        files,
+        &mut FailingReader,
+        &mut FailingWriter,
+        errors,
+    )
+}
+
+/// A text that can't be written is the fault Write.
 #[test]
 fn texts_that_cannot_be_written(rt: HostRuntime) -> Result<(), Fail> {
     let alloc = rt.alloc();
     let shown = Request::Show(String::from_str(alloc, "shown\n")?);
-    let refused = Request::Refuse(String::from_str(alloc, "refused\n")?);
-    let mut files = files(alloc)?;
     let mut errors = Vec::new(alloc);
-    let status = serve(
-        &rt,
-        &shown,
-        &mut files,
-        &mut FailingReader,
-        &mut FailingWriter,
-        &mut errors,
-    );
+    let status = served_to_a_failing_writer(&rt, &shown, &mut files(alloc)?, &mut errors);
     assert_eq!(rt; status, 4);
     assert_eq!(rt; errors.as_slice(), b"FAULT Write\n".as_slice());
-    let status = serve(
-        &rt,
-        &refused,
-        &mut files,
-        &mut FailingReader,
-        &mut FailingWriter,
-        &mut FailingWriter,
-    );
+    Ok(())
+}
+
+/// A refusal that can't be written ends with its status.
+#[test]
+fn refusals_that_cannot_be_written(rt: HostRuntime) -> Result<(), Fail> {
+    let refused = Request::Refuse(String::from_str(rt.alloc(), "refused\n")?);
+    let mut files = files(rt.alloc())?;
+    let status = served_to_a_failing_writer(&rt, &refused, &mut files, &mut FailingWriter);
     assert_eq!(rt; status, 2);
     Ok(())
 }
