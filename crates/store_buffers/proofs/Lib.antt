@@ -1,0 +1,2 @@
+pub mod EntryFacts
+pub mod RingFacts
