@@ -1,1 +1,3 @@
+pub mod BufferFacts
+pub mod DrainingFacts
 pub mod SerialFacts

@@ -1,2 +1,3 @@
 -- What the private fields of units keep. No public contract uses these definitions.
+pub mod Buffer
 pub mod Serial

@@ -1,0 +1,11 @@
+use Rattle.std.proofs.Common.{◌≡◌, rules, slice_index}
+use Rattle.std.specs.Option.{unwrap_or}
+use Rattle.store_buffers.specs.Buffers.{entries_of, newest_value}
+use Rattle.unit_kinds.proofs.BufferFacts.{IsStoreBufferUnit-load}
+use Rattle.unit_kinds.proofs.buffer.StoreBufferUnitMemoryUnit.load.Goals as goal
+
+pub invariant_of-self-2 : goal.invariant_of-self-2
+invariant_of-self-2 c =
+    let u = c.self.inside in
+    let read : c.unwrap_or-r.result ≡ unwrap_or (newest_value (entries_of u.parts c.args.p) c.args.a) (slice_index u.parts.memory c.args.a) = search rules in
+    rw c.in_ok-push.ensures.items (IsStoreBufferUnit-load u.steps.items u.first.items u.parts c.args.p c.args.a _ c.requires.processor c.requires.address read c.self.invariant)

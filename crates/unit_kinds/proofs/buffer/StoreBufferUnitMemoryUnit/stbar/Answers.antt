@@ -1,0 +1,6 @@
+use Rattle.unit_kinds.proofs.BufferFacts.{IsStoreBufferUnit-stbar}
+use Rattle.unit_kinds.proofs.buffer.StoreBufferUnitMemoryUnit.stbar.Goals as goal
+
+pub invariant_of-self-2 : goal.invariant_of-self-2
+invariant_of-self-2 c =
+    rw c.in_ok-push.ensures.items (IsStoreBufferUnit-stbar c.self.inside.steps.items c.self.inside.first.items c.self.inside.parts c.args.p c.requires.processor c.self.invariant)
