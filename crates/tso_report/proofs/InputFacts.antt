@@ -33,7 +33,7 @@ use Rattle.tso_report.specs.declared.faults.Fault.{Fault}
 use Rattle.tso_report.specs.declared.faults.Fault.TheVariants.{Write}
 use Rattle.tso_report.specs.Judged.{IsViolation, IsCertificateText}
 use Rattle.tso_report.specs.Limits.{trace_read_limit}
-use Rattle.tso_report.specs.Reports.{head_text, no_violation_text, refusal_text, violation_text, SaysVerdict, IsRefusalReport, IsReport, IsTraceReport, ShowsViolation, ShowsViolationOf, SpellsViolation}
+use Rattle.tso_report.specs.Reports.{head_text, no_violation_text, refusal_text, violation_text, SaysVerdict, IsRefusalReport, IsReport, IsTraceReport, ShowsNoViolationOf, ShowsViolation, ShowsViolationOf, SpellsViolation}
 use Rattle.tso_report.specs.Written.{IsReportOfReader, LeavesAtFault}
 use Rattle.tso_report.specs.Streams.{AppendsPrefix}
 
@@ -198,6 +198,18 @@ shows_violation_of t text v report e =
       holds = certificate_holds t found.0 found.1;
       whole = report.whole ∙ ap (λ lines. head ++ lines) (says.1.2 ∙ ap violation_text found.2);
     }
+
+-- on a consistent trace the verdict is NoViolation
+pub consistent_verdict : (t : TraceValue) (text : List ℕ) (v : Verdict) → IsTraceReport t text v → (v ≡ Violation → IsConsistent t → ⊥) → IsConsistent t → v ≡ NoViolation
+consistent_verdict t text v report no_order consistent =
+    ⊎_elim (λ violation. absurd (no_order violation consistent)) (λ none. none) (trace_verdict t text v report)
+
+-- the last line of such a report is NO VIOLATION FOUND
+pub shows_no_violation_of : (t : TraceValue) (text : List ℕ) (v : Verdict) → IsTraceReport t text v → v ≡ NoViolation → ShowsNoViolationOf t text
+shows_no_violation_of t text v report e =
+    let says = subst (SaysVerdict t report.lines) e report.says in
+    let head = head_text (processor_count t) (event_total t) report.rounds in
+    record { rounds = report.rounds; whole = report.whole ∙ ap (λ lines. head ++ lines) says.1 }
 
 -- ---- what the report of an input says
 

@@ -72,6 +72,11 @@ pub record ShowsViolationOf (t : TraceValue) (text : List ℕ) : Type 0 where
   pub holds : Holds t certificate
   pub whole : text ≡ head_text (processor_count t) (event_total t) rounds ++ violation_text (cert_text certificate)
 
+-- The text is the two first lines of a report on the trace, and then, to its end, the line NO VIOLATION FOUND.
+pub record ShowsNoViolationOf (t : TraceValue) (text : List ℕ) : Type 0 where
+  pub rounds : ℕ
+  pub whole : text ≡ head_text (processor_count t) (event_total t) rounds ++ no_violation_text
+
 -- ---- the report of an input
 
 -- the input is refused, and the text is the line of its refusal

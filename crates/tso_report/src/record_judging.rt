@@ -1,12 +1,12 @@
 //! The way of a unit's record: judge its trace, write the report.
-ghost use Rattle.std.specs.Prelude.{◌≡◌, ◌≢◌, ◌⊎◌, ◌↔◌, ◌≤◌, ℕ, List, IfOk, IfErr};
+ghost use Rattle.std.specs.Prelude.{◌≡◌, ◌≢◌, ◌⊎◌, ◌↔◌, ◌≤◌, ℕ, List, true, IfOk, IfErr};
 ghost use Rattle.std.specs.Io.KnownBytes.{Appends};
 ghost use Rattle.round_pool.specs.Workers.{worker_limit};
 ghost use Rattle.tso_model.specs.Order.{IsConsistent};
 ghost use Rattle.tso_report.specs.declared.faults.Fault.{Fault};
 ghost use Rattle.tso_report.specs.declared.verdicts.Verdict.{Verdict};
 ghost use Rattle.tso_report.specs.Judged.{IsViolation};
-ghost use Rattle.tso_report.specs.Reports.{IsTraceReport, ShowsViolationOf};
+ghost use Rattle.tso_report.specs.Reports.{IsTraceReport, ShowsNoViolationOf, ShowsViolationOf};
 ghost use Rattle.tso_report.specs.Written.{LeavesAtFault, WritesWhole};
 
 use crate::faults::Fault;
@@ -22,9 +22,10 @@ use unit_core::Recorded;
 /// Judges the trace of a unit's record on `workers` workers (1 to 64), builds its whole report, and then writes it.
 ///
 /// What is written is the one report of the record's trace, for each number of workers, and the verdict is the one that
-/// it says: NoViolation or Violation. Faults: OutOfMemory where an allocation was refused; NoThread where the system
-/// refused a thread; with each nothing was written. Write where the writer failed, took no byte or was interrupted more
-/// than 1,048,576 times: then what was written is a prefix of the report.
+/// it says: NoViolation or Violation. It is NoViolation where the record is `lawful()`, of either memory model. Faults:
+/// OutOfMemory where an allocation was refused; NoThread where the system refused a thread; with each nothing was
+/// written. Write where the writer failed, took no byte or was interrupted more than 1,048,576 times: then what was
+/// written is a prefix of the report.
 pub fn judge_recorded<H: Threads + Wait, W: Write>(
     rt: &H,
     alloc: Global,
@@ -39,6 +40,7 @@ pub fn judge_recorded<H: Threads + Wait, W: Write>(
     ensures otherwise { IfOk result (λ verdict. (verdict ≡ Verdict.Violation) ⊎ (verdict ≡ Verdict.NoViolation)) }
     ensures no_order { IfOk result (λ verdict. verdict ≡ Verdict.Violation → IsConsistent recorded.now.trace → ⊥) }
     ensures holds { IfOk result (λ verdict. verdict ≡ Verdict.Violation → (text : List ℕ) × ShowsViolationOf recorded.now.trace text × Appends (W.contents writer.old) (W.contents writer.new) text) }
+    ensures no_false_alarm { IfOk result (λ verdict. recorded.now.lawful ≡ true → (verdict ≡ Verdict.NoViolation) × ((text : List ℕ) × ShowsNoViolationOf recorded.now.trace text × Appends (W.contents writer.old) (W.contents writer.new) text)) }
     ensures fault { IfErr result (LeavesAtFault (IsTraceReport recorded.now.trace) (W.contents writer.old) (W.contents writer.new)) }
     ensures no_read { IfErr result (λ fault. fault ≢ Fault.Read) }
 {
