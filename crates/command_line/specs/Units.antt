@@ -2,12 +2,12 @@
 use Rattle.std.specs.Prelude.{◌^◌, ◌-◌, ℕ, Bool, List, [], ◌∷◌, Option, codes, find, is_some, map, option_map}
 use Rattle.std.specs.Str.{bytes_eq}
 use Rattle.command_line.specs.declared.options.UnitKind.{UnitKind}
-use Rattle.command_line.specs.declared.options.UnitKind.TheVariants.{Serial}
+use Rattle.command_line.specs.declared.options.UnitKind.TheVariants.{Serial, Buffer}
 use Rattle.command_line.specs.Requests.{Text}
 
 -- the units, each with its name and its kind
 abbrev pub units : List (Text × UnitKind)
-units = (codes "serial", Serial) ∷ []
+units = (codes "serial", Serial) ∷ (codes "buffer", Buffer) ∷ []
 
 abbrev pub unit_names : List Text
 unit_names = map (λ unit. unit.0) units

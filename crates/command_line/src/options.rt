@@ -10,10 +10,12 @@ pub const MAX_CAPACITY: usize = 64;
 pub enum UnitKind {
     /// `serial`: lawful, of TSO; each store is drained within its call.
     Serial,
+    /// `buffer`: lawful, of TSO; each processor has a store buffer, where its stores wait until they are drained.
+    Buffer,
 }
 
 /// The names of the kinds, as `--unit` takes them; `kind_named` knows each.
-pub(crate) static UNIT_NAMES: [&str; 1] = ["serial"];
+pub(crate) static UNIT_NAMES: [&str; 2] = ["serial", "buffer"];
 
 /// The kind of this name.
 pub(crate) fn kind_named(name: &str) -> Option<UnitKind>
@@ -21,6 +23,9 @@ pub(crate) fn kind_named(name: &str) -> Option<UnitKind>
 {
     if name == "serial" {
         return Some(UnitKind::Serial);
+    }
+    if name == "buffer" {
+        return Some(UnitKind::Buffer);
     }
     None
 }

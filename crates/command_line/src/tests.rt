@@ -75,10 +75,18 @@ fn plain_arguments(rt: HostRuntime) -> Result<(), Fail> {
 
 #[test]
 fn plain_replays(rt: HostRuntime) -> Result<(), Fail> {
-    let cases: [(&[&str], &str); 13] = [
+    let cases: [(&[&str], &str); 15] = [
         (
             &["replay", "--unit", "serial", "p", "s"],
             "replay \"p\" by \"s\" on Serial 8 1 with 1 trace false",
+        ),
+        (
+            &["replay", "--unit", "buffer", "p", "s"],
+            "replay \"p\" by \"s\" on Buffer 8 1 with 1 trace false",
+        ),
+        (
+            &["replay", "--capacity=64", "--unit=buffer", "p", "s"],
+            "replay \"p\" by \"s\" on Buffer 64 1 with 1 trace false",
         ),
         (
             &["replay", "--unit=serial", "p", "s"],
@@ -246,7 +254,7 @@ fn refused_replays(rt: HostRuntime) -> Result<(), Fail> {
         ),
         (
             &["replay", "--unit", "other", "p", "s"],
-            "error: invalid value 'other' for '--unit <UNIT>'\n  [possible values: serial]\n\nFor more information, try '--help'.\n",
+            "error: invalid value 'other' for '--unit <UNIT>'\n  [possible values: serial, buffer]\n\nFor more information, try '--help'.\n",
         ),
         (
             &["replay", "--unit", "serial", "--capacity", "0", "p", "s"],
@@ -395,7 +403,7 @@ Arguments:
   <SCHEDULE>  The text of a schedule
 
 Options:
-      --unit <UNIT>   Which memory unit runs the program [possible values: serial]
+      --unit <UNIT>   Which memory unit runs the program [possible values: serial, buffer]
       --capacity <C>  How many stores each store buffer of the unit holds, 1 to 64 [default: 8]
       --trigger <T>   From which occasion on a faulty unit deviates, from 1 [default: 1]
       --workers <N>   How many workers judge, 1 to 64 [default: 1]
