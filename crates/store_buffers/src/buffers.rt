@@ -63,7 +63,7 @@ impl Buffers {
         ensures is { result ≡ (length (entries_of self.now p) == self.now.capacity) }
         ensures kept { IsBuffers self.now }
     {
-        self.rings[p].len() == self.capacity
+        self.waiting(p) == self.capacity
     }
 
     /// The value of the newest entry of address `a` in the buffer of processor `p`, if there is one.

@@ -12,8 +12,8 @@ use Rattle.unit_core.specs.declared.steps.Step.{Step}
 use Rattle.unit_core.specs.declared.steps.Step.TheVariants.{Store, Drain, Load, Swap, Membar, Stbar}
 use Rattle.unit_core.specs.Machine.{Entry, State, IsAllowed, IsRunFrom, Waits, after, buffer_of, first_state, newest, next, proc_of, seen_by, stbars_of, written}
 use Rattle.unit_core.proofs.RunFacts.{IsRunFrom-append, after-append}
-use Rattle.unit_core.specs.Units.{AreDrainsOf, DrainsOne, IsUnit, Takes}
-use Rattle.unit_kinds.specs.Buffer.{StoreBufferValue, after_drains_and, store_buffer_unit, waiting_after}
+use Rattle.unit_core.specs.Units.{AreDrainsOf, DrainsOne, IsUnit, Takes, new_unit}
+use Rattle.unit_kinds.specs.Buffer.{StoreBufferValue, after_drains_and, new_store_buffer, store_buffer_unit, waiting_after}
 use Rattle.unit_kinds.specs.Internal.Buffer.{HasBuffers, IsStoreBufferUnit, drained_times, entry_of}
 use Rattle.unit_kinds.proofs.DrainingFacts.{drained-buffers, drained_times-kept}
 
@@ -189,6 +189,10 @@ waiting-preset (step ∷ steps) first a v none = absurd cc
 -- a new unit
 pub IsStoreBufferUnit-new : (capacity : ℕ) → IsStoreBufferUnit [] (replicate 256 0) (new_buffers capacity)
 IsStoreBufferUnit-new capacity = record { addresses = refl; run = tt; state = record { memory = refl; buffers = refl } }
+
+pub unit-new : (capacity : ℕ) → store_buffer_unit (new_store_buffer capacity) ≡ new_unit true Tso
+unfolding waiting_after
+unit-new capacity = refl
 
 -- what its law says
 pub IsUnit-store_buffer : (u : StoreBufferValue) (parts : BuffersValue) → IsStoreBufferUnit u.steps u.first parts → IsUnit (store_buffer_unit u)

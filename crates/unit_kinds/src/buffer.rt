@@ -1,6 +1,7 @@
-ghost use Rattle.std.specs.Prelude.{◌≡◌, ◌<◌, ◌≤◌, [], ◌∷◌, ◌++◌, IfOk, IfErr, cond, replicate};
+ghost use Rattle.std.specs.Prelude.{◌≡◌, ◌<◌, ◌≤◌, [], ◌∷◌, ◌++◌, IfOk, IfErr, cond, replicate, true};
+ghost use Rattle.tso_ops.specs.declared.settings.Order.TheVariants.{Tso};
 ghost use Rattle.unit_core.specs.declared.steps.Step.TheVariants.{Store, Drain, Load, Swap, Membar, Stbar};
-ghost use Rattle.unit_core.specs.Units.{AnswersDrain, Takes, waiting_of};
+ghost use Rattle.unit_core.specs.Units.{AnswersDrain, Takes, new_unit, waiting_of};
 ghost use Rattle.unit_kinds.specs.Buffer.{after_drains_and, drains_for_store, new_store_buffer, store_buffer_unit};
 
 use crate::draining::{drain_reserved, push_reserved};
@@ -39,7 +40,8 @@ impl StoreBufferUnit {
     pub fn new(alloc: Global, capacity: usize) -> Result<StoreBufferUnit, OutOfMemory>
         requires least { 1 ≤ capacity }
         requires most { capacity ≤ 64 }
-        ensures { IfOk result (λ u. u ≡ new_store_buffer capacity) }
+        ensures is { IfOk result (λ u. u ≡ new_store_buffer capacity) }
+        ensures unit { IfOk result (λ u. store_buffer_unit u ≡ new_unit true Tso) }
     {
         Ok(StoreBufferUnit {
             parts: Buffers::new(alloc, capacity)?,
@@ -89,9 +91,9 @@ impl MemoryUnit for StoreBufferUnit {
         ensures refused { IfErr result (λ _. self.new ≡ self.old) }
         ensures exact { IfOk result (λ r. self.new ≡ after_drains_and self.old p (waiting_of (store_buffer_unit self.old) p) (Swap p a r v)) }
     {
-        let drains = self.parts.waiting(p);
-        self.steps.reserve(drains + 1)?;
-        drain_reserved(&mut self.parts, &mut self.steps, p, drains);
+        let waiting = self.parts.waiting(p);
+        self.steps.reserve(waiting + 1)?;
+        drain_reserved(&mut self.parts, &mut self.steps, p, waiting);
         let r = self.parts.word(a);
         self.parts.write(a, v);
         push_reserved(&mut self.steps, Step::Swap { p, a, r, v });
