@@ -1,5 +1,6 @@
 mod certificates;
 mod commands;
+mod drawn;
 mod examples;
 mod records;
 mod refused_allocations;

@@ -1,6 +1,6 @@
 //! Requests over files in memory, which note the names that they are asked to open.
 
-ghost use Rattle.command_line.specs.Requests.{HasWorkers, asked_of};
+ghost use Rattle.command_line.specs.Requests.{HasUnitRanges, HasWorkers, asked_of};
 
 use super::{Ended, FailingReader, FailingWriter, expect};
 use crate::endings::end_by;
@@ -93,7 +93,8 @@ fn served<H: Threads + Wait + Sync + AllocGlobal>(
     request: &Request<'_>,
     files: &mut MemoryFiles,
 ) -> Ended
-    requires { HasWorkers (asked_of request.now) }
+    requires workers { HasWorkers (asked_of request.now) }
+    requires unit { HasUnitRanges (asked_of request.now) }
 {
     let mut written = Vec::new(alloc);
     let mut errors = Vec::new(alloc);
@@ -126,7 +127,8 @@ fn compare<H: Threads + Wait + Sync + AllocGlobal + Abort>(
     request: &Request<'_>,
     expected: Expected,
 ) -> Result<(), Fail>
-    requires { HasWorkers (asked_of request.now) }
+    requires workers { HasWorkers (asked_of request.now) }
+    requires unit { HasUnitRanges (asked_of request.now) }
 {
     let Expected {
         names,
@@ -200,7 +202,8 @@ fn checking(rt: HostRuntime) -> Result<(), Fail> {
 
 /// The request to replay these files on a serial unit.
 fn replay<'a>(program: &'a str, schedule: &'a str, prints_trace: bool) -> Request<'a>
-    ensures { HasWorkers (asked_of result) }
+    ensures workers { HasWorkers (asked_of result) }
+    ensures unit { HasUnitRanges (asked_of result) }
 {
     let unit = UnitOptions {
         kind: UnitKind::Serial,
@@ -266,7 +269,8 @@ fn served_to_a_failing_writer<H: Threads + Wait + Sync + AllocGlobal, E: Write>(
     files: &mut MemoryFiles,
     errors: &mut E,
 ) -> u8
-    requires { HasWorkers (asked_of request.now) }
+    requires workers { HasWorkers (asked_of request.now) }
+    requires unit { HasUnitRanges (asked_of request.now) }
 {
     serve(
         rt,
