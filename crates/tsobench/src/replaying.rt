@@ -1,5 +1,6 @@
 //! The way of a replay: read the program, then the schedule, run the one by the other, judge or print, write.
 ghost use Rattle.std.specs.Prelude.{◌≡◌, ◌≢◌, ◌⊎◌, ◌≤◌, [], ◌∷◌, IfOk, IfErr, OnOk};
+ghost use Rattle.command_line.specs.Requests.{capacity_limit};
 ghost use Rattle.tso_report.specs.declared.faults.Fault.{Fault};
 ghost use Rattle.tso_report.specs.Limits.{worker_limit};
 ghost use Rattle.tso_report.specs.Reports.{refusal_text};
@@ -20,7 +21,7 @@ use tso_ops::{OutOfMemory, Program};
 use tso_report::{Fault, judge_trace, print_account, read_all, render_refusal, write_text};
 use tso_text::{Act, MAX_TEXT_BYTES, TextFault, print_trace, read_program, read_schedule};
 use unit_core::{Account, MemoryUnit, Recorded, replay};
-use unit_kinds::SerialUnit;
+use unit_kinds::{SerialUnit, StoreBufferUnit};
 
 /// A text to be written, and the status that the program then ends with.
 #[derive(Drop)]
@@ -41,6 +42,7 @@ pub(crate) fn replay_named<H: Threads + Wait + AllocGlobal, O: NamedFiles, W: Wr
 ) -> Result<u8, Fault>
     requires some { 1 ≤ options.now.workers }
     requires most { options.now.workers ≤ worker_limit }
+    requires capacity { (1 ≤ options.now.unit.capacity) × (options.now.unit.capacity ≤ capacity_limit) }
     ensures text { IfOk result (WritesText (IsReplayText options.now (O.bytes files.old program.now) (O.bytes files.old schedule.now)) (W.contents writer.old) (W.contents writer.new)) }
     ensures fault { IfErr result (LeavesAtFault (IsPrintable (IsReplayText options.now (O.bytes files.old program.now) (O.bytes files.old schedule.now))) (W.contents writer.old) (W.contents writer.new)) }
     ensures first { OpensFirst (O.opened files.old) (O.opened files.new) (program.now ∷ schedule.now ∷ []) }
@@ -63,6 +65,7 @@ fn replay_texts<H: Threads + Wait + AllocGlobal, P: Read, S: Read>(
 ) -> Result<Printed, Fault>
     requires some { 1 ≤ options.now.workers }
     requires most { options.now.workers ≤ worker_limit }
+    requires capacity { (1 ≤ options.now.unit.capacity) × (options.now.unit.capacity ≤ capacity_limit) }
     ensures text { IfOk result (λ printed. IsReplayText options.now (P.remaining programs.old) (S.remaining schedules.old) printed.text.items printed.status) }
     ensures fault { IfErr result (λ fault. (fault ≡ Fault.OutOfMemory) ⊎ ((fault ≡ Fault.Read) ⊎ (fault ≡ Fault.NoThread))) }
 {
@@ -82,6 +85,7 @@ fn replay_program<H: Threads + Wait + AllocGlobal, S: Read>(
 ) -> Result<Printed, Fault>
     requires some { 1 ≤ options.now.workers }
     requires most { options.now.workers ≤ worker_limit }
+    requires capacity { (1 ≤ options.now.unit.capacity) × (options.now.unit.capacity ≤ capacity_limit) }
     ensures text { IfOk result (λ printed. IsScheduledText options.now program.now (S.remaining schedules.old) printed.text.items printed.status) }
     ensures fault { IfErr result (λ fault. (fault ≡ Fault.OutOfMemory) ⊎ ((fault ≡ Fault.Read) ⊎ (fault ≡ Fault.NoThread))) }
 {
@@ -101,14 +105,21 @@ fn replay_by<H: Threads + Wait + AllocGlobal>(
 ) -> Result<Printed, Fault>
     requires some { 1 ≤ options.now.workers }
     requires most { options.now.workers ≤ worker_limit }
+    requires capacity { (1 ≤ options.now.unit.capacity) × (options.now.unit.capacity ≤ capacity_limit) }
     ensures text { IfOk result (λ printed. IsReplayOf options.now program.now schedule.now printed.text.items printed.status) }
     ensures fault { IfErr result (λ fault. (fault ≡ Fault.OutOfMemory) ⊎ (fault ≡ Fault.NoThread)) }
 {
     let alloc = rt.alloc();
-    let unit: Box<dyn MemoryUnit + Send> = match options.unit.kind {
-        UnitKind::Serial => Box::new(alloc, SerialUnit::new(alloc)?)?,
-    };
-    replay_on(rt, unit, options, program, schedule)
+    match options.unit.kind {
+        UnitKind::Serial => {
+            let unit = SerialUnit::new(alloc)?;
+            replay_on(rt, Box::new(alloc, unit)?, options, program, schedule)
+        }
+        UnitKind::Buffer => {
+            let unit = StoreBufferUnit::new(alloc, options.unit.capacity)?;
+            replay_on(rt, Box::new(alloc, unit)?, options, program, schedule)
+        }
+    }
 }
 
 /// What is printed of a replay on this unit, which is as the options ask for.

@@ -1,6 +1,6 @@
 //! What the program does for each request.
 ghost use Rattle.std.specs.Prelude.{◌≡◌, ◌≢◌, ◌≤◌, [], ◌∷◌, IfOk, IfErr, OnOk, OnSome, None, true, false, option_to_list, string_bytes};
-ghost use Rattle.command_line.specs.Requests.{HasWorkers, asked_of};
+ghost use Rattle.command_line.specs.Requests.{HasUnitRanges, HasWorkers, asked_of};
 ghost use Rattle.tso_report.specs.Limits.{trace_read_limit, worker_limit};
 ghost use Rattle.tso_report.specs.Streams.{AppendsPrefix, LosesPrefix};
 ghost use Rattle.tso_report.specs.Written.{LeavesCheckFault, LeavesFault, WritesCheckReport, WritesReport};
@@ -34,6 +34,7 @@ pub fn serve<H: Threads + Wait + Sync + AllocGlobal, O: NamedFiles, R: Read, W: 
     errors: &mut E,
 ) -> u8
     requires workers { HasWorkers (asked_of request.now) }
+    requires unit { HasUnitRanges (asked_of request.now) }
     ensures ends { EndsAs request.now (R.remaining reader.old) (O.bytes files.old) (outputs (W.contents writer.old) (W.contents writer.new) (E.contents errors.old) (E.contents errors.new)) result }
     ensures first { OpensFirst (O.opened files.old) (O.opened files.new) (files_named (asked_of request.now)) }
     ensures opened { result ≢ 4 → OpensNext (O.opened files.old) (O.opened files.new) (files_named (asked_of request.now)) }
