@@ -1,7 +1,9 @@
 //! Units that are driven by hand, and what their end leaves.
 ghost use Rattle.std.specs.Prelude.{◌≡◌, []};
 
+mod buffered;
 mod by_hand;
+mod drawn;
 mod ends;
 mod replayed;
 

@@ -43,7 +43,9 @@ impl PlainMachine {
     }
 
     fn is_empty(&self, p: usize) -> bool {
-        self.buffers.get(p).is_some_and(|entries| entries.is_empty())
+        self.buffers
+            .get(p)
+            .is_some_and(|entries| entries.is_empty())
     }
 
     fn store(&mut self, p: usize, a: u16, v: u64) -> Result<bool, AllocError> {
@@ -87,6 +89,7 @@ impl PlainMachine {
 }
 
 /// Numbers from 0 to 2^31 - 1 of a linear congruential generator.
+#[derive(Drop)]
 struct Draws(u64);
 
 impl Draws {
@@ -144,8 +147,15 @@ fn plain_machine_takes_the_steps_of_drawn_calls(rt: HostRuntime) -> Result<(), F
         let mut unit = StoreBufferUnit::new(alloc, capacity)?;
         call_and_drain(&mut unit, seed as u64)?;
         let mut machine = PlainMachine::new(alloc, capacity)?;
-        assert!(rt; are_complete_run(&mut machine, unit.steps())?, "seed {seed}");
-        assert_eq!(rt; unit.waiting(0) + unit.waiting(1) + unit.waiting(2), 0, "seed {seed}");
+        assert!(rt;
+            are_complete_run(&mut machine, unit.steps())?,
+            "seed {seed}"
+        );
+        assert_eq!(rt;
+            [unit.waiting(0), unit.waiting(1), unit.waiting(2)],
+            [0, 0, 0],
+            "seed {seed}"
+        );
     }
     Ok(())
 }
