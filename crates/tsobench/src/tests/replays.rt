@@ -124,6 +124,63 @@ const REPLAYS: [Replayed; 14] = [
     ),
 ];
 
+/// replay_store_buffering
+const BUFFERING_RECORDED: &str = "tso trace 1\nproc\nst 1 1\nld 2 0\nproc\nst 2 2\nld 1 0\nend\n";
+
+/// replay_capacity_one
+const SWAPPING_RECORDED: &str = "tso trace 1\nproc\nst 1 1\nst 2 2\nsw 1 1 3\nld 2 2\nend\n";
+
+const SWAPPING_REPORT: &str =
+    "TSO REPORT 1\nprocessors 1 events 5 rounds 1\nNO VIOLATION FOUND\naccount loads 1 stores 2 swaps 1 membars 0 drains 2 closed\n";
+
+/// replay_forwarded
+const FORWARDED_RECORDED: &str = "tso trace 1\nproc\nst 1 1\nld 1 1\nend\n";
+
+const FORWARDED_REPORT: &str =
+    "TSO REPORT 1\nprocessors 1 events 2 rounds 0\nNO VIOLATION FOUND\naccount loads 1 stores 1 swaps 0 membars 0 drains 1 closed\n";
+
+/// Two stores into buffers of one entry, of which the second drains the first, and into larger ones, which neither leaves.
+const STORES_FIRST: &str = "tso schedule 1\ni 0\ni 0\ni 1\ni 1\nend\n";
+
+const UNDRAINED_RECORDED: &str = "tso trace 1\nproc\nst 1 1\nst 2 2\nproc\nld 2 0\nld 1 0\nend\n";
+
+/// Further texts of the folder.
+const BUFFERED_TEXTS: [(&str, &str); 4] = [
+    (
+        "buffering",
+        "tso program 1\nproc\nst 1 1\nld 2\nproc\nst 2 2\nld 1\nend\n",
+    ),
+    (
+        "swapping",
+        "tso program 1\nproc\nst 1 1\nst 2 2\nsw 1 3\nld 2\nend\n",
+    ),
+    ("forwarded", "tso program 1\nproc\nst 1 1\nld 1\nend\n"),
+    ("stores_first", STORES_FIRST),
+];
+
+/// Arguments after those that name the unit `buffer`, and what the replay prints.
+type Buffered = (&'static [&'static str], &'static str);
+
+const BUFFERED: [Buffered; 8] = [
+    (&["@buffering", "@schedule"], REPORT),
+    (&["--trace", "@buffering", "@schedule"], BUFFERING_RECORDED),
+    (&["--capacity", "1", "@swapping", "@empty"], SWAPPING_REPORT),
+    (
+        &["--capacity", "1", "--trace", "@swapping", "@empty"],
+        SWAPPING_RECORDED,
+    ),
+    (&["@forwarded", "@empty"], FORWARDED_REPORT),
+    (&["--trace", "@forwarded", "@empty"], FORWARDED_RECORDED),
+    (
+        &["--capacity=1", "--trace", "@program", "@stores_first"],
+        RECORDED,
+    ),
+    (
+        &["--capacity=2", "--trace", "@program", "@stores_first"],
+        UNDRAINED_RECORDED,
+    ),
+];
+
 /// What the arguments of a replay lead to, of which those that begin with `@` name files of the folder.
 fn replayed<H: Threads + Wait + Sync + Files + AllocGlobal>(
     rt: &H,
@@ -137,9 +194,18 @@ fn replayed<H: Threads + Wait + Sync + Files + AllocGlobal>(
 }
 
 /// A folder with the texts.
-fn folder(rt: &HostRuntime) -> Result<String, Fail> {
-    let path = new_folder(rt, "replays")?;
+fn folder(rt: &HostRuntime, test: &str) -> Result<String, Fail> {
+    let path = new_folder(rt, test)?;
     for (file, text) in TEXTS {
+        write(rt, path.as_str(), file, text)?;
+    }
+    Ok(path)
+}
+
+/// A folder with these and the further ones.
+fn buffered_folder(rt: &HostRuntime) -> Result<String, Fail> {
+    let path = folder(rt, "buffered_replays")?;
+    for (file, text) in BUFFERED_TEXTS {
         write(rt, path.as_str(), file, text)?;
     }
     Ok(path)
@@ -147,10 +213,23 @@ fn folder(rt: &HostRuntime) -> Result<String, Fail> {
 
 #[test]
 fn replays(rt: HostRuntime) -> Result<(), Fail> {
-    let folder = folder(&rt)?;
+    let folder = folder(&rt, "replays")?;
     for (arguments, status, output) in REPLAYS {
         let ended = replayed(&rt, rt.alloc(), folder.as_str(), arguments)?;
         expect(&rt, arguments, &ended, status, output, "");
+    }
+    Ok(fs::remove_dir_all(&rt, folder.as_str())?)
+}
+
+#[test]
+fn replays_on_store_buffers(rt: HostRuntime) -> Result<(), Fail> {
+    let alloc = rt.alloc();
+    let folder = buffered_folder(&rt)?;
+    for (arguments, output) in BUFFERED {
+        let mut all = Vec::from_array(alloc, ["--unit", "buffer"])?;
+        all.extend_from_slice(arguments)?;
+        let ended = replayed(&rt, alloc, folder.as_str(), &all)?;
+        expect(&rt, arguments, &ended, 0, output, "");
     }
     Ok(fs::remove_dir_all(&rt, folder.as_str())?)
 }
