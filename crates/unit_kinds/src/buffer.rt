@@ -14,7 +14,7 @@ use unit_core::{MemoryUnit, Step};
 /// A lawful unit of TSO with a store buffer for each processor, all of one capacity.
 ///
 /// A store into a full buffer drains the oldest entry first, a swap and a membar drain the own buffer first. Nothing else
-/// drains unasked. Only `new` and the growth of the steps allocate.
+/// drains unasked. Only `new` and the list of the steps allocate.
 #[derive(Debug, Drop)]
 pub struct StoreBufferUnit {
     parts: Buffers,
