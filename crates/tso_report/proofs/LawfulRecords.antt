@@ -1,5 +1,5 @@
 -- The trace of a lawful record has an order of its model.
-use Rattle.std.proofs.Common.{◌≡◌, Bool, true, length, subst, sym}
+use Rattle.std.proofs.Common.{◌≡◌, true, length, subst, sym}
 use Rattle.tso_model.specs.Order.{IsConsistent}
 use Rattle.unit_core.specs.Records.{IsRecorded, RecordedValue}
 use Rattle.embedding.specs.RunOrder.{order_of}
