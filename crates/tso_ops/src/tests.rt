@@ -1,8 +1,16 @@
 use crate::{Event, Op, Outcome, Program, Refused, Source, Tally, Trace, ValueFault};
 use std::alloc::{AllocError, Global};
+use std::fmt::Debug;
+use std::process::Abort;
 use std::test::Fail;
 
 mod settings;
+
+const LOAD: Outcome = Outcome::Ld { a: 0, r: 0 };
+
+const BARRIER: Outcome = Outcome::Mb;
+
+const SWAP: Outcome = Outcome::Sw { a: 0, r: 0, v: 1 };
 
 /// A list of `count` copies of `item`.
 fn copies<T: Copy>(alloc: Global, item: T, count: usize) -> Result<Vec<T>, AllocError> {
@@ -25,6 +33,257 @@ where
     Ok(lists)
 }
 
+/// The lists, on the heap.
+fn lists_of<T: Copy>(alloc: Global, lists: &[&[T]]) -> Result<Vec<Vec<T>>, AllocError> {
+    let mut owned = Vec::new(alloc);
+    for list in lists {
+        owned.push(Vec::from_slice(alloc, list)?)?;
+    }
+    Ok(owned)
+}
+
+fn trace_of(alloc: Global, lists: &[&[Outcome]]) -> Result<Trace, Fail> {
+    Ok(Trace::new(alloc, lists_of(alloc, lists)?).map_err(|refused| refused.why)?)
+}
+
+/// Compares what a call gave with what it has to give.
+fn expect<T: Copy + Debug + PartialEq>(rt: &impl Abort, name: &str, found: T, wanted: T) {
+    assert_eq!(rt; found, wanted, "{name}");
+}
+
+/// Compares lists of operations.
+fn expect_lists<T: Copy + Debug + PartialEq>(rt: &impl Abort, found: &[Vec<T>], wanted: &[&[T]]) {
+    assert_eq!(rt; found.len(), wanted.len());
+    for (list, operations) in found.iter().zip(wanted) {
+        assert_eq!(rt; list.as_slice(), *operations);
+    }
+}
+
+/// A row of bits of a trace.
+#[derive(Clone, Copy, Debug)]
+enum Row {
+    Loads(u16),
+    Stores(u16),
+    AllStores,
+    SwapLoads,
+    Processor(usize),
+    Barriers(usize),
+    Stbars(usize),
+    Readers(usize),
+}
+
+fn words_of(trace: &Trace, row: Row) -> &[u64] {
+    match row {
+        Row::Loads(a) => trace.load_words(a),
+        Row::Stores(a) => trace.store_words(a),
+        Row::AllStores => trace.all_store_words(),
+        Row::SwapLoads => trace.swap_load_words(),
+        Row::Processor(p) => trace.processor_words(p),
+        Row::Barriers(bars) => trace.barrier_words(bars),
+        Row::Stbars(stbars) => trace.stbar_words(stbars),
+        Row::Readers(s) => trace.reader_words(s),
+    }
+}
+
+fn expect_rows(rt: &impl Abort, trace: &Trace, rows: &[(Row, &[u64])]) {
+    for (row, wanted) in rows {
+        assert_eq!(rt; words_of(trace, *row), *wanted, "{row:?}");
+    }
+}
+
+/// Compares where the loads read from.
+fn expect_sources(rt: &impl Abort, trace: &Trace, sources: &[(usize, Option<Source>)]) {
+    for (n, source) in sources {
+        assert_eq!(rt; trace.source(*n), *source, "source of {n}");
+    }
+}
+
+/// The number of processors and that of events.
+fn counts_of(trace: &Trace) -> (usize, usize) {
+    (trace.processors(), trace.events())
+}
+
+const EVENTFUL: [&[Outcome]; 3] = [
+    &[
+        Outcome::St { a: 1, v: 1 },
+        Outcome::Mb,
+        Outcome::Sw { a: 2, r: 7, v: 5 },
+    ],
+    &[],
+    &[Outcome::Mb, Outcome::Mb, Outcome::Ld { a: 1, r: 1 }],
+];
+
+/// Of each event its number, processor, whether it is a load and of a swap, its address, value and barriers before.
+const EVENTS: [(usize, usize, bool, bool, u16, u64, usize); 4] = [
+    (1, 0, false, false, 1, 1, 0),
+    (2, 0, true, true, 2, 7, 1),
+    (3, 0, false, true, 2, 5, 1),
+    (4, 2, true, false, 1, 1, 2),
+];
+
+fn expect_events(rt: &impl Abort, trace: &Trace) {
+    for (n, proc, load, swap, a, value, bars) in EVENTS {
+        let event = Event {
+            proc,
+            load,
+            swap,
+            a,
+            value,
+            bars,
+            stbars: 0,
+        };
+        expect(rt, "an event", event_of(trace, n), Some(event));
+    }
+}
+
+fn event_of(trace: &Trace, n: usize) -> Option<Event> {
+    trace.event(n)
+}
+
+#[test]
+fn events_of_a_trace(rt: HostRuntime) -> Result<(), Fail> {
+    let trace = trace_of(rt.alloc(), &EVENTFUL)?;
+    expect(&rt, "processors and events", counts_of(&trace), (3, 4));
+    expect_events(&rt, &trace);
+    expect(&rt, "event 0", event_of(&trace, 0), None);
+    expect(&rt, "event 5", event_of(&trace, 5), None);
+    Ok(())
+}
+
+const READ: [&[Outcome]; 2] = [
+    &[
+        Outcome::St { a: 1, v: 4 },
+        Outcome::Sw { a: 2, r: 8, v: 8 },
+        Outcome::Ld { a: 1, r: 0 },
+    ],
+    &[
+        Outcome::Ld { a: 1, r: 4 },
+        Outcome::Ld { a: 2, r: 4 },
+        Outcome::Ld { a: 1, r: 9 },
+        Outcome::Ld { a: 3, r: 6 },
+        Outcome::St { a: 3, v: 6 },
+    ],
+];
+
+const SOURCES: [(usize, Option<Source>); 11] = [
+    (0, None),
+    (1, None),
+    (2, Some(Source::Store(3))),
+    (3, None),
+    (4, Some(Source::Init)),
+    (5, Some(Source::Store(1))),
+    (6, Some(Source::Unwritten)),
+    (7, Some(Source::Unwritten)),
+    (8, Some(Source::Store(9))),
+    (9, None),
+    (10, None),
+];
+
+const READERS: [(Row, &[u64]); 5] = [
+    (Row::Readers(0), &[1 << 4]),
+    (Row::Readers(1), &[1 << 5]),
+    (Row::Readers(3), &[1 << 2]),
+    (Row::Readers(9), &[1 << 8]),
+    (Row::Readers(10), &[]),
+];
+
+#[test]
+fn sources_of_loads(rt: HostRuntime) -> Result<(), Fail> {
+    let trace = trace_of(rt.alloc(), &READ)?;
+    expect_sources(&rt, &trace, &SOURCES);
+    expect_rows(&rt, &trace, &READERS);
+    Ok(())
+}
+
+/// Of 66 loads on a processor, and a swap, a barrier and a store on another.
+const ROWS: [(Row, &[u64]); 15] = [
+    (Row::Loads(0), &[!1, 0b111]),
+    (Row::Loads(1), &[0, 0b1000]),
+    (Row::Loads(256), &[]),
+    (Row::Stores(0), &[]),
+    (Row::Stores(1), &[0, 0b110000]),
+    (Row::AllStores, &[0, 0b110000]),
+    (Row::SwapLoads, &[0, 0b1000]),
+    (Row::Processor(0), &[!1, 0b111]),
+    (Row::Processor(1), &[0, 0b111000]),
+    (Row::Processor(2), &[]),
+    (Row::Barriers(0), &[!1, 0b11111]),
+    (Row::Barriers(1), &[0, 0b100000]),
+    (Row::Barriers(2), &[]),
+    (Row::Readers(0), &[!1, 0b1111]),
+    (Row::Readers(68), &[]),
+];
+
+const AFTER_LOADS: [Outcome; 3] = [
+    Outcome::Sw { a: 1, r: 0, v: 7 },
+    Outcome::Mb,
+    Outcome::St { a: 1, v: 8 },
+];
+
+#[test]
+fn rows_of_bits(rt: HostRuntime) -> Result<(), Fail> {
+    let loads = [LOAD; 66];
+    let trace = trace_of(rt.alloc(), &[&loads, &AFTER_LOADS])?;
+    expect_rows(&rt, &trace, &ROWS);
+    Ok(())
+}
+
+const TWO_LISTS: [&[Op]; 2] = [
+    &[
+        Op::St {
+            a: 255,
+            v: u64::MAX,
+        },
+        Op::Mb,
+    ],
+    &[Op::Ld { a: 0 }, Op::Sw { a: 1, v: 1 }],
+];
+
+const READ_LAST: [&[Outcome]; 2] = [
+    &[],
+    &[
+        Outcome::Ld {
+            a: 255,
+            r: u64::MAX,
+        },
+        Outcome::Mb,
+    ],
+];
+
+fn program_of(alloc: Global, lists: &[&[Op]]) -> Result<Program, Fail> {
+    Ok(Program::new(alloc, lists_of(alloc, lists)?).map_err(|refused| refused.why)?)
+}
+
+fn copy_of(program: &Program) -> Result<Program, AllocError> {
+    program.copy()
+}
+
+/// Compares the operations of each processor, and how many there are.
+fn expect_program(rt: &impl Abort, program: &Program, lists: &[&[Op]]) {
+    assert_eq!(rt; program.processors(), lists.len());
+    for (p, ops) in lists.iter().enumerate() {
+        assert_eq!(rt; program.ops(p), *ops, "processor {p}");
+    }
+}
+
+/// Compares the operations of each processor, and how many there are.
+fn expect_trace(rt: &impl Abort, trace: &Trace, lists: &[&[Outcome]]) {
+    assert_eq!(rt; trace.processors(), lists.len());
+    for (p, ops) in lists.iter().enumerate() {
+        assert_eq!(rt; trace.ops(p), *ops, "processor {p}");
+    }
+}
+
+#[test]
+fn operations_come_back(rt: HostRuntime) -> Result<(), Fail> {
+    let alloc = rt.alloc();
+    let program = program_of(alloc, &TWO_LISTS)?;
+    expect_program(&rt, &copy_of(&program)?, &TWO_LISTS);
+    expect_program(&rt, &program, &TWO_LISTS);
+    expect_trace(&rt, &trace_of(alloc, &READ_LAST)?, &READ_LAST);
+    Ok(())
+}
+
 fn trace_fault(alloc: Global, lists: Vec<Vec<Outcome>>) -> Option<ValueFault> {
     match Trace::new(alloc, lists) {
         Ok(_) => None,
@@ -39,148 +298,90 @@ fn program_fault(alloc: Global, lists: Vec<Vec<Op>>) -> Option<ValueFault> {
     }
 }
 
-const LOAD: Outcome = Outcome::Ld { a: 0, r: 0 };
-
-const BARRIER: Outcome = Outcome::Mb;
-
-const SWAP: Outcome = Outcome::Sw { a: 0, r: 0, v: 1 };
-
-#[test]
-fn events_of_a_trace(rt: HostRuntime) -> Result<(), Fail> {
-    let alloc = rt.alloc();
-    let first = vec![in alloc;
-        Outcome::St { a: 1, v: 1 },
-        Outcome::Mb,
-        Outcome::Sw { a: 2, r: 7, v: 5 },
-    ]?;
-    let second = vec![in alloc; Outcome::Mb, Outcome::Mb, Outcome::Ld { a: 1, r: 1 }]?;
-    let trace = Trace::new(alloc, vec![in alloc; first, Vec::new(alloc), second]?).map_err(
-        |refused| refused.why,
-    )?;
-    assert_eq!(rt; trace.processors(), 3);
-    assert_eq!(rt; trace.events(), 4);
-    let wanted = [
-        (1, 0, false, false, 1, 1, 0),
-        (2, 0, true, true, 2, 7, 1),
-        (3, 0, false, true, 2, 5, 1),
-        (4, 2, true, false, 1, 1, 2),
-    ];
-    for (n, proc, load, swap, a, value, bars) in wanted {
-        let event = Event {
-            proc,
-            load,
-            swap,
-            a,
-            value,
-            bars,
-            stbars: 0,
-        };
-        assert_eq!(rt; trace.event(n), Some(event), "event {n}");
+/// Lists of these numbers of copies of the operation.
+fn lists_of_copies<T: Copy>(
+    alloc: Global,
+    item: T,
+    counts: &[usize],
+) -> Result<Vec<Vec<T>>, AllocError> {
+    let mut lists = Vec::new(alloc);
+    for count in counts {
+        lists.push(copies(alloc, item, *count)?)?;
     }
-    assert_eq!(rt; trace.event(0), None);
-    assert_eq!(rt; trace.event(5), None);
+    Ok(lists)
+}
+
+/// What is wrong with a trace of so many copies of the operation, on one processor and on two.
+fn faults_of_copies(
+    alloc: Global,
+    item: Outcome,
+    count: usize,
+) -> Result<[Option<ValueFault>; 2], AllocError> {
+    let half = count / 2;
+    let together = lists_of_copies(alloc, item, &[count])?;
+    let apart = lists_of_copies(alloc, item, &[half, count - half])?;
+    Ok([trace_fault(alloc, together), trace_fault(alloc, apart)])
+}
+
+fn fault_of_program(
+    alloc: Global,
+    item: Op,
+    count: usize,
+) -> Result<Option<ValueFault>, AllocError> {
+    Ok(program_fault(alloc, lists_of_copies(alloc, item, &[count])?))
+}
+
+/// What is wrong with a trace of a swap on one processor and so many loads on another.
+fn fault_of_a_swap(alloc: Global, loads: usize) -> Result<Option<ValueFault>, AllocError> {
+    let mut lists = lists_of_copies(alloc, LOAD, &[loads])?;
+    lists.push(copies(alloc, SWAP, 1)?)?;
+    Ok(trace_fault(alloc, lists))
+}
+
+const MANY: Option<ValueFault> = Some(ValueFault::TooManyEvents);
+
+fn expect_limits_of_traces(rt: &impl Abort, alloc: Global) -> Result<(), AllocError> {
+    for (item, count, fault) in [
+        (LOAD, 2_000, None),
+        (LOAD, 2_001, MANY),
+        (BARRIER, 2_000, None),
+        (BARRIER, 2_001, MANY),
+    ] {
+        let found = faults_of_copies(alloc, item, count)?;
+        assert_eq!(rt; found, [fault; 2], "{count} of {item:?}");
+    }
     Ok(())
 }
 
-#[test]
-fn sources_of_loads(rt: HostRuntime) -> Result<(), Fail> {
-    let alloc = rt.alloc();
-    let first = vec![in alloc;
-        Outcome::St { a: 1, v: 4 },
-        Outcome::Sw { a: 2, r: 8, v: 8 },
-        Outcome::Ld { a: 1, r: 0 },
-    ]?;
-    let second = vec![in alloc;
-        Outcome::Ld { a: 1, r: 4 },
-        Outcome::Ld { a: 2, r: 4 },
-        Outcome::Ld { a: 1, r: 9 },
-        Outcome::Ld { a: 3, r: 6 },
-        Outcome::St { a: 3, v: 6 },
-    ]?;
-    let trace = Trace::new(alloc, vec![in alloc; first, second]?).map_err(|refused| refused.why)?;
-    let wanted = [
-        (0, None),
-        (1, None),
-        (2, Some(Source::Store(3))),
-        (3, None),
-        (4, Some(Source::Init)),
-        (5, Some(Source::Store(1))),
-        (6, Some(Source::Unwritten)),
-        (7, Some(Source::Unwritten)),
-        (8, Some(Source::Store(9))),
-        (9, None),
-        (10, None),
-    ];
-    for (n, source) in wanted {
-        assert_eq!(rt; trace.source(n), source, "source of {n}");
+fn expect_limits_of_programs(rt: &impl Abort, alloc: Global) -> Result<(), AllocError> {
+    for (item, count, fault) in [
+        (Op::Ld { a: 0 }, 2_000, None),
+        (Op::Ld { a: 0 }, 2_001, MANY),
+        (Op::Mb, 2_000, None),
+        (Op::Mb, 2_001, MANY),
+    ] {
+        let found = fault_of_program(alloc, item, count)?;
+        assert_eq!(rt; found, fault, "{count} of {item:?}");
     }
-    assert_eq!(rt; trace.reader_words(0), [1 << 4].as_slice());
-    assert_eq!(rt; trace.reader_words(1), [1 << 5].as_slice());
-    assert_eq!(rt; trace.reader_words(3), [1 << 2].as_slice());
-    assert_eq!(rt; trace.reader_words(9), [1 << 8].as_slice());
-    assert_eq!(rt; trace.reader_words(10), [].as_slice());
     Ok(())
 }
 
-#[test]
-fn rows_of_bits(rt: HostRuntime) -> Result<(), Fail> {
-    let alloc = rt.alloc();
-    let loads = vec![in alloc; Outcome::Ld { a: 0, r: 0 }; 66]?;
-    let others = vec![in alloc;
-        Outcome::Sw { a: 1, r: 0, v: 7 },
-        Outcome::Mb,
-        Outcome::St { a: 1, v: 8 },
-    ]?;
-    let trace = Trace::new(alloc, vec![in alloc; loads, others]?).map_err(|refused| refused.why)?;
-    assert_eq!(rt; trace.load_words(0), [!1, 0b111].as_slice());
-    assert_eq!(rt; trace.load_words(1), [0, 0b1000].as_slice());
-    assert_eq!(rt; trace.load_words(256), [].as_slice());
-    assert_eq!(rt; trace.store_words(0), [].as_slice());
-    assert_eq!(rt; trace.store_words(1), [0, 0b110000].as_slice());
-    assert_eq!(rt; trace.all_store_words(), [0, 0b110000].as_slice());
-    assert_eq!(rt; trace.swap_load_words(), [0, 0b1000].as_slice());
-    assert_eq!(rt; trace.processor_words(0), [!1, 0b111].as_slice());
-    assert_eq!(rt; trace.processor_words(1), [0, 0b111000].as_slice());
-    assert_eq!(rt; trace.processor_words(2), [].as_slice());
-    assert_eq!(rt; trace.barrier_words(0), [!1, 0b11111].as_slice());
-    assert_eq!(rt; trace.barrier_words(1), [0, 0b100000].as_slice());
-    assert_eq!(rt; trace.barrier_words(2), [].as_slice());
-    assert_eq!(rt; trace.reader_words(0), [!1, 0b1111].as_slice());
-    assert_eq!(rt; trace.reader_words(68), [].as_slice());
+fn expect_limits_of_swaps(rt: &impl Abort, alloc: Global) -> Result<(), AllocError> {
+    for (loads, fault) in [(1_998, None), (1_999, MANY), (2_000, MANY)] {
+        let found = fault_of_a_swap(alloc, loads)?;
+        assert_eq!(rt; found, fault, "a swap after {loads} loads");
+    }
     Ok(())
 }
 
-#[test]
-fn operations_come_back(rt: HostRuntime) -> Result<(), Fail> {
-    let alloc = rt.alloc();
-    let first = [
-        Op::St {
-            a: 255,
-            v: u64::MAX,
-        },
-        Op::Mb,
-    ];
-    let second = [Op::Ld { a: 0 }, Op::Sw { a: 1, v: 1 }];
-    let lists = vec![in alloc; first.to_vec(alloc)?, second.to_vec(alloc)?]?;
-    let program = Program::new(alloc, lists).map_err(|refused| refused.why)?;
-    let copy = program.copy()?;
-    for p in [program, copy] {
-        assert_eq!(rt; p.processors(), 2);
-        assert_eq!(rt; p.ops(0), first.as_slice());
-        assert_eq!(rt; p.ops(1), second.as_slice());
+fn expect_limits_of_processors(rt: &impl Abort, alloc: Global) -> Result<(), AllocError> {
+    for (count, fault) in [(16, None), (17, Some(ValueFault::TooManyProcessors))] {
+        let found = [
+            trace_fault(alloc, idle(alloc, count)?),
+            program_fault(alloc, idle(alloc, count)?),
+        ];
+        assert_eq!(rt; found, [fault; 2], "{count} processors");
     }
-    let outcomes = [
-        Outcome::Ld {
-            a: 255,
-            r: u64::MAX,
-        },
-        Outcome::Mb,
-    ];
-    let lists = vec![in alloc; Vec::new(alloc), outcomes.to_vec(alloc)?]?;
-    let trace = Trace::new(alloc, lists).map_err(|refused| refused.why)?;
-    assert_eq!(rt; trace.processors(), 2);
-    assert_eq!(rt; trace.ops(0), [].as_slice());
-    assert_eq!(rt; trace.ops(1), outcomes.as_slice());
     Ok(())
 }
 
@@ -188,52 +389,63 @@ fn operations_come_back(rt: HostRuntime) -> Result<(), Fail> {
 #[test]
 fn counts_at_their_limits(rt: HostRuntime) -> Result<(), Fail> {
     let alloc = rt.alloc();
-    assert_eq!(rt; trace_fault(alloc, idle(alloc, 16)?), None);
-    assert_eq!(rt;
-        trace_fault(alloc, idle(alloc, 17)?),
-        Some(ValueFault::TooManyProcessors)
-    );
-    assert_eq!(rt; program_fault(alloc, idle(alloc, 16)?), None);
-    assert_eq!(rt;
-        program_fault(alloc, idle(alloc, 17)?),
-        Some(ValueFault::TooManyProcessors)
-    );
-    let many = Some(ValueFault::TooManyEvents);
-    for (item, count, fault) in [
-        (LOAD, 2_000, None),
-        (LOAD, 2_001, many),
-        (BARRIER, 2_000, None),
-        (BARRIER, 2_001, many),
-    ] {
-        let lists = vec![in alloc; copies(alloc, item, count)?]?;
-        assert_eq!(rt; trace_fault(alloc, lists), fault, "{count} of {item:?}");
-        let half = count / 2;
-        let lists = vec![in alloc;
-            copies(alloc, item, half)?,
-            copies(alloc, item, count - half)?,
-        ]?;
-        assert_eq!(rt;
-            trace_fault(alloc, lists),
-            fault,
-            "{count} of {item:?} on two processors"
-        );
+    expect_limits_of_processors(&rt, alloc)?;
+    expect_limits_of_traces(&rt, alloc)?;
+    expect_limits_of_programs(&rt, alloc)?;
+    expect_limits_of_swaps(&rt, alloc)?;
+    Ok(())
+}
+
+const STORE: Op = Op::St { a: 1, v: 4 };
+
+const RANGE: Option<ValueFault> = Some(ValueFault::AddressRange);
+
+const ZERO: Option<ValueFault> = Some(ValueFault::ZeroValue);
+
+const REPEATED: Option<ValueFault> = Some(ValueFault::RepeatedValue);
+
+const FAULTS_OF_PAIRS: [([Op; 2], Option<ValueFault>); 10] = [
+    ([STORE, Op::Ld { a: 256 }], RANGE),
+    ([STORE, Op::St { a: 256, v: 0 }], RANGE),
+    ([STORE, Op::St { a: 1, v: 0 }], ZERO),
+    ([STORE, Op::Sw { a: 1, v: 0 }], ZERO),
+    ([STORE, Op::St { a: 2, v: 4 }], REPEATED),
+    ([STORE, Op::Sw { a: 2, v: 4 }], REPEATED),
+    ([Op::Sw { a: 1, v: 4 }, STORE], REPEATED),
+    ([Op::Ld { a: 256 }, Op::St { a: 1, v: 0 }], RANGE),
+    ([Op::St { a: 1, v: 0 }, Op::Ld { a: 256 }], ZERO),
+    ([STORE, Op::Sw { a: 255, v: 5 }], None),
+];
+
+/// What is wrong with a program of two operations, on one processor and on two.
+fn faults_of_pair(alloc: Global, ops: [Op; 2]) -> Result<[Option<ValueFault>; 2], AllocError> {
+    let [first, second] = ops;
+    let together = lists_of(alloc, &[&ops])?;
+    let apart = lists_of(alloc, &[&[first], &[second]])?;
+    Ok([program_fault(alloc, together), program_fault(alloc, apart)])
+}
+
+fn expect_faults_of_pairs(rt: &impl Abort, alloc: Global) -> Result<(), AllocError> {
+    for (ops, fault) in FAULTS_OF_PAIRS {
+        let found = faults_of_pair(alloc, ops)?;
+        assert_eq!(rt; found, [fault; 2], "{ops:?}");
     }
-    for (item, count, fault) in [
-        (Op::Ld { a: 0 }, 2_000, None),
-        (Op::Ld { a: 0 }, 2_001, many),
-        (Op::Mb, 2_000, None),
-        (Op::Mb, 2_001, many),
-    ] {
-        let lists = vec![in alloc; copies(alloc, item, count)?]?;
-        assert_eq!(rt; program_fault(alloc, lists), fault, "{count} of {item:?}");
-    }
-    for (loads, fault) in [(1_998, None), (1_999, many), (2_000, many)] {
-        let lists = vec![in alloc; copies(alloc, LOAD, loads)?, vec![in alloc; SWAP]?]?;
-        assert_eq!(rt;
-            trace_fault(alloc, lists),
-            fault,
-            "a swap after {loads} loads"
-        );
+    Ok(())
+}
+
+const FAULTS_OF_OUTCOMES: [(&[Outcome], Option<ValueFault>); 3] = [
+    (&[Outcome::Ld { a: 256, r: 0 }], RANGE),
+    (&[Outcome::Sw { a: 1, r: 3, v: 0 }], ZERO),
+    (
+        &[Outcome::Sw { a: 1, r: 3, v: 9 }, Outcome::St { a: 2, v: 9 }],
+        REPEATED,
+    ),
+];
+
+fn expect_faults_of_outcomes(rt: &impl Abort, alloc: Global) -> Result<(), AllocError> {
+    for (list, fault) in FAULTS_OF_OUTCOMES {
+        let found = trace_fault(alloc, lists_of(alloc, &[list])?);
+        assert_eq!(rt; found, fault, "{list:?}");
     }
     Ok(())
 }
@@ -242,54 +454,8 @@ fn counts_at_their_limits(rt: HostRuntime) -> Result<(), Fail> {
 #[test]
 fn faults_of_operations(rt: HostRuntime) -> Result<(), Fail> {
     let alloc = rt.alloc();
-    let store = Op::St { a: 1, v: 4 };
-    let cases = [
-        ([store, Op::Ld { a: 256 }], Some(ValueFault::AddressRange)),
-        (
-            [store, Op::St { a: 256, v: 0 }],
-            Some(ValueFault::AddressRange),
-        ),
-        ([store, Op::St { a: 1, v: 0 }], Some(ValueFault::ZeroValue)),
-        ([store, Op::Sw { a: 1, v: 0 }], Some(ValueFault::ZeroValue)),
-        (
-            [store, Op::St { a: 2, v: 4 }],
-            Some(ValueFault::RepeatedValue),
-        ),
-        (
-            [store, Op::Sw { a: 2, v: 4 }],
-            Some(ValueFault::RepeatedValue),
-        ),
-        (
-            [Op::Sw { a: 1, v: 4 }, store],
-            Some(ValueFault::RepeatedValue),
-        ),
-        (
-            [Op::Ld { a: 256 }, Op::St { a: 1, v: 0 }],
-            Some(ValueFault::AddressRange),
-        ),
-        (
-            [Op::St { a: 1, v: 0 }, Op::Ld { a: 256 }],
-            Some(ValueFault::ZeroValue),
-        ),
-        ([store, Op::Sw { a: 255, v: 5 }], None),
-    ];
-    for (ops, fault) in cases {
-        let together = vec![in alloc; ops.to_vec(alloc)?]?;
-        assert_eq!(rt; program_fault(alloc, together), fault, "{ops:?}");
-        let apart = vec![in alloc; vec![in alloc; ops[0]]?, vec![in alloc; ops[1]]?]?;
-        assert_eq!(rt;
-            program_fault(alloc, apart),
-            fault,
-            "{ops:?} on two processors"
-        );
-    }
-    let lists = vec![in alloc; vec![in alloc; Outcome::Ld { a: 256, r: 0 }]?]?;
-    assert_eq!(rt; trace_fault(alloc, lists), Some(ValueFault::AddressRange));
-    let lists = vec![in alloc; vec![in alloc; Outcome::Sw { a: 1, r: 3, v: 0 }]?]?;
-    assert_eq!(rt; trace_fault(alloc, lists), Some(ValueFault::ZeroValue));
-    let swap = Outcome::Sw { a: 1, r: 3, v: 9 };
-    let lists = vec![in alloc; vec![in alloc; swap, Outcome::St { a: 2, v: 9 }]?]?;
-    assert_eq!(rt; trace_fault(alloc, lists), Some(ValueFault::RepeatedValue));
+    expect_faults_of_pairs(&rt, alloc)?;
+    expect_faults_of_outcomes(&rt, alloc)?;
     Ok(())
 }
 
@@ -297,46 +463,68 @@ fn faults_of_operations(rt: HostRuntime) -> Result<(), Fail> {
 #[test]
 fn events_are_counted_first(rt: HostRuntime) -> Result<(), Fail> {
     let alloc = rt.alloc();
-    let mut list = copies(alloc, Op::Ld { a: 0 }, 2_000)?;
-    list.push(Op::St { a: 256, v: 0 })?;
-    let lists = vec![in alloc; list]?;
-    assert_eq!(rt;
-        program_fault(alloc, lists),
-        Some(ValueFault::TooManyEvents)
-    );
+    let mut lists = lists_of_copies(alloc, Op::Ld { a: 0 }, &[2_000])?;
+    push_last(&mut lists, Op::St { a: 256, v: 0 })?;
+    expect(&rt, "one more", program_fault(alloc, lists), MANY);
     Ok(())
+}
+
+/// Adds an operation to the last list.
+fn push_last<T: Copy>(lists: &mut Vec<Vec<T>>, item: T) -> Result<(), Fail> {
+    lists.last_mut().ok_or("a list")?.push(item)?;
+    Ok(())
+}
+
+fn refused_program(alloc: Global, lists: &[&[Op]]) -> Result<Refused<Op>, Fail> {
+    Ok(
+        Program::new(alloc, lists_of(alloc, lists)?)
+            .err()
+            .ok_or("a refusal")?,
+    )
+}
+
+fn refused_trace(alloc: Global, lists: &[&[Outcome]]) -> Result<Refused<Outcome>, Fail> {
+    Ok(
+        Trace::new(alloc, lists_of(alloc, lists)?)
+            .err()
+            .ok_or("a refusal")?,
+    )
+}
+
+fn expect_refusal<T: Copy + Debug + PartialEq>(
+    rt: &impl Abort,
+    refused: &Refused<T>,
+    why: ValueFault,
+    lists: &[&[T]],
+) {
+    assert_eq!(rt; refused.why, why);
+    expect_lists(rt, &refused.lists, lists);
 }
 
 #[test]
 fn refused_lists_come_back(rt: HostRuntime) -> Result<(), Fail> {
     let alloc = rt.alloc();
-    let ops = [Op::Mb, Op::Ld { a: 300 }];
-    let lists = vec![in alloc; Vec::new(alloc), ops.to_vec(alloc)?]?;
-    let refused = Program::new(alloc, lists).err().ok_or("a refusal")?;
-    assert_eq!(rt; refused.why, ValueFault::AddressRange);
-    assert_eq!(rt; refused.lists.len(), 2);
-    assert_eq!(rt; refused.lists[1].as_slice(), ops.as_slice());
-    let outcomes = [Outcome::St { a: 1, v: 2 }, Outcome::St { a: 1, v: 2 }];
-    let lists = vec![in alloc; outcomes.to_vec(alloc)?]?;
-    let refused = Trace::new(alloc, lists).err().ok_or("a refusal")?;
-    assert_eq!(rt; refused.why, ValueFault::RepeatedValue);
-    assert_eq!(rt; refused.lists.len(), 1);
-    assert_eq!(rt; refused.lists[0].as_slice(), outcomes.as_slice());
+    let lists: [&[Op]; 2] = [&[], &[Op::Mb, Op::Ld { a: 300 }]];
+    let refused = refused_program(alloc, &lists)?;
+    expect_refusal(&rt, &refused, ValueFault::AddressRange, &lists);
+    let lists: [&[Outcome]; 1] = [&[Outcome::St { a: 1, v: 2 }, Outcome::St { a: 1, v: 2 }]];
+    let refused = refused_trace(alloc, &lists)?;
+    expect_refusal(&rt, &refused, ValueFault::RepeatedValue, &lists);
     Ok(())
 }
 
 #[test]
 fn a_tally_admits_after_a_refusal(rt: HostRuntime) -> Result<(), Fail> {
     let mut tally = Tally::new(rt.alloc());
-    let store = Op::St { a: 1, v: 4 };
-    assert_eq!(rt; tally.admit(store), Ok(()));
-    assert_eq!(rt; tally.admit(store), Err(ValueFault::RepeatedValue));
-    assert_eq!(rt;
-        tally.admit(Op::Sw { a: 256, v: 5 }),
-        Err(ValueFault::AddressRange)
-    );
-    assert_eq!(rt; tally.admit(Op::Sw { a: 255, v: 5 }), Ok(()));
-    assert_eq!(rt; tally.admit(Op::Mb), Ok(()));
+    for (op, answer) in [
+        (STORE, Ok(())),
+        (STORE, Err(ValueFault::RepeatedValue)),
+        (Op::Sw { a: 256, v: 5 }, Err(ValueFault::AddressRange)),
+        (Op::Sw { a: 255, v: 5 }, Ok(())),
+        (Op::Mb, Ok(())),
+    ] {
+        assert_eq!(rt; tally.admit(op), answer, "{op:?}");
+    }
     Ok(())
 }
 
@@ -355,6 +543,18 @@ fn known_lists_need_no_check(rt: HostRuntime) -> Result<(), Fail> {
     Ok(())
 }
 
+fn text_of_fault(alloc: Global, why: ValueFault) -> Result<String, Fail> {
+    Ok(format!(in alloc; "{why}")?)
+}
+
+fn text_of_refusal(alloc: Global, why: ValueFault) -> Result<String, Fail> {
+    let refused = Refused::<Op> {
+        why,
+        lists: Vec::new(alloc),
+    };
+    Ok(format!(in alloc; "{refused}")?)
+}
+
 #[test]
 fn texts_of_faults(rt: HostRuntime) -> Result<(), Fail> {
     let alloc = rt.alloc();
@@ -368,12 +568,12 @@ fn texts_of_faults(rt: HostRuntime) -> Result<(), Fail> {
         (ValueFault::StbarInTso, "StbarInTso"),
         (ValueFault::InitOrder, "InitOrder"),
     ] {
-        assert_eq!(rt; format!(in alloc; "{why}")?.as_str(), text);
-        let refused = Refused::<Op> {
-            why,
-            lists: Vec::new(alloc),
-        };
-        assert_eq!(rt; format!(in alloc; "{refused}")?.as_str(), text);
+        expect_text(&rt, &text_of_fault(alloc, why)?, text);
+        expect_text(&rt, &text_of_refusal(alloc, why)?, text);
     }
     Ok(())
+}
+
+fn expect_text(rt: &impl Abort, found: &str, wanted: &str) {
+    assert_eq!(rt; found, wanted);
 }

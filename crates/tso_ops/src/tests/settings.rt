@@ -1,20 +1,39 @@
 //! Memory models, versions and first values.
-use super::{copies, idle};
-use crate::{Op, Order, Outcome, Program, Source, Trace, ValueFault, Version};
+use super::{
+    MANY, RANGE, REPEATED, Row, ZERO, copies, counts_of, expect, expect_lists, expect_refusal,
+    expect_rows, expect_sources, expect_text, idle, lists_of, lists_of_copies, push_last,
+    refused_trace, trace_of,
+};
+use crate::{
+    Op, Order, Outcome, Program, Refused, RefusedFirst, Source, Trace, ValueFault, Version,
+};
 use std::alloc::{AllocError, Global};
+use std::fmt::Debug;
 use std::process::Abort;
 use std::test::Fail;
 
 const STBAR: Outcome = Outcome::Sb;
 
+const STBAR_IN_TSO: ValueFault = ValueFault::StbarInTso;
+
+const ORDER: Option<ValueFault> = Some(ValueFault::InitOrder);
+
 fn trace_fault(
     alloc: Global,
-    order: Order,
     first: &[(u16, u64)],
     lists: Vec<Vec<Outcome>>,
 ) -> Result<Option<ValueFault>, AllocError> {
     let first = Vec::from_slice(alloc, first)?;
-    match Trace::with_first(alloc, order, first, lists) {
+    match Trace::with_first(alloc, Order::Pso, first, lists) {
+        Ok(_) => Ok(None),
+        Err(refused) => Ok(Some(refused.why)),
+    }
+}
+
+/// What is wrong with a trace of a processor without operations under TSO.
+fn entry_fault(alloc: Global, first: &[(u16, u64)]) -> Result<Option<ValueFault>, AllocError> {
+    let first = Vec::from_slice(alloc, first)?;
+    match Trace::with_first(alloc, Order::Tso, first, idle(alloc, 1)?) {
         Ok(_) => Ok(None),
         Err(refused) => Ok(Some(refused.why)),
     }
@@ -32,199 +51,239 @@ fn program_fault(
     }
 }
 
+/// A trace of version 1.
+fn ordered_trace(alloc: Global, order: Order, lists: &[&[Outcome]]) -> Result<Trace, Fail> {
+    let lists = lists_of(alloc, lists)?;
+    Ok(Trace::with_order(alloc, order, lists).map_err(|refused| refused.why)?)
+}
+
+/// A program of version 1 whose processor has no operations.
+fn idle_program(alloc: Global, order: Order) -> Result<Program, Fail> {
+    Ok(Program::with_order(alloc, order, idle(alloc, 1)?).map_err(|refused| refused.why)?)
+}
+
+/// A trace of version 2.
+fn first_trace(
+    alloc: Global,
+    order: Order,
+    first: &[(u16, u64)],
+    lists: &[&[Outcome]],
+) -> Result<Trace, Fail> {
+    let first = Vec::from_slice(alloc, first)?;
+    let lists = lists_of(alloc, lists)?;
+    Ok(Trace::with_first(alloc, order, first, lists).map_err(|refused| refused.why)?)
+}
+
+/// A program of version 2 under TSO, with two processors that have no operations.
+fn first_program(alloc: Global, first: &[(u16, u64)]) -> Result<Program, Fail> {
+    let first = Vec::from_slice(alloc, first)?;
+    let lists = idle(alloc, 2)?;
+    Ok(Program::with_first(alloc, Order::Tso, first, lists).map_err(|refused| refused.why)?)
+}
+
+fn told_of_trace(trace: &Trace) -> (Order, Version, u64) {
+    (trace.order(), trace.version(), trace.first(1))
+}
+
+fn told_of_program(program: &Program) -> (Order, Version, usize) {
+    (program.order(), program.version(), program.processors())
+}
+
 #[test]
 fn settings_are_told(rt: HostRuntime) -> Result<(), Fail> {
     let alloc = rt.alloc();
-    let trace = Trace::new(alloc, idle(alloc, 1)?).map_err(|refused| refused.why)?;
-    assert_eq!(rt;
-        (trace.order(), trace.version(), trace.first(1)),
-        (Order::Tso, Version::One, 0)
+    let trace = trace_of(alloc, &[&[]])?;
+    expect(
+        &rt,
+        "new",
+        told_of_trace(&trace),
+        (Order::Tso, Version::One, 0),
     );
-    let trace = Trace::with_order(alloc, Order::Pso, idle(alloc, 1)?).map_err(
-        |refused| refused.why,
-    )?;
-    assert_eq!(rt;
-        (trace.order(), trace.version(), trace.first(1)),
-        (Order::Pso, Version::One, 0)
+    let trace = ordered_trace(alloc, Order::Pso, &[&[]])?;
+    expect(
+        &rt,
+        "under PSO",
+        told_of_trace(&trace),
+        (Order::Pso, Version::One, 0),
     );
-    let program = Program::with_order(alloc, Order::Pso, idle(alloc, 1)?).map_err(
-        |refused| refused.why,
-    )?;
-    assert_eq!(rt;
-        (program.order(), program.version()),
-        (Order::Pso, Version::One)
+    let program = idle_program(alloc, Order::Pso)?;
+    expect(
+        &rt,
+        "a program",
+        told_of_program(&program),
+        (Order::Pso, Version::One, 1),
     );
     Ok(())
 }
 
+fn expect_first_values(rt: &impl Abort, program: &Program) {
+    for (a, value) in [(0, 0), (1, 7), (2, 0), (3, 7), (255, u64::MAX), (256, 0)] {
+        assert_eq!(rt; program.first(a), value, "the first value of {a}");
+    }
+}
+
 #[test]
 fn first_values_are_told(rt: HostRuntime) -> Result<(), Fail> {
-    let alloc = rt.alloc();
-    let first = vec![in alloc; (1, 7), (3, 7), (255, u64::MAX)]?;
-    let program = Program::with_first(alloc, Order::Tso, first, idle(alloc, 2)?).map_err(
-        |refused| refused.why,
-    )?;
-    let copy = program.copy()?;
+    let program = first_program(rt.alloc(), &[(1, 7), (3, 7), (255, u64::MAX)])?;
+    let copy = super::copy_of(&program)?;
     for p in [program, copy] {
-        assert_eq!(rt;
-            (p.order(), p.version(), p.processors()),
-            (Order::Tso, Version::Two, 2)
+        expect(
+            &rt,
+            "settings",
+            told_of_program(&p),
+            (Order::Tso, Version::Two, 2),
         );
-        assert_eq!(rt;
-            (p.first(0), p.first(1), p.first(2), p.first(3)),
-            (0, 7, 0, 7)
-        );
-        assert_eq!(rt; (p.first(255), p.first(256)), (u64::MAX, 0));
+        expect_first_values(&rt, &p);
     }
     Ok(())
 }
 
 #[test]
 fn first_values_of_a_trace_are_told(rt: HostRuntime) -> Result<(), Fail> {
-    let alloc = rt.alloc();
-    let first = vec![in alloc; (1, 7)]?;
-    let trace = Trace::with_first(alloc, Order::Pso, first, idle(alloc, 1)?).map_err(
-        |refused| refused.why,
-    )?;
-    assert_eq!(rt;
-        (trace.order(), trace.version(), trace.first(1)),
-        (Order::Pso, Version::Two, 7)
+    let trace = first_trace(rt.alloc(), Order::Pso, &[(1, 7)], &[&[]])?;
+    expect(
+        &rt,
+        "settings",
+        told_of_trace(&trace),
+        (Order::Pso, Version::Two, 7),
     );
     Ok(())
 }
 
-/// STBARs are no events, and each event has the number of those before it on its processor.
-#[test]
-fn stbars_of_a_trace(rt: HostRuntime) -> Result<(), Fail> {
-    let alloc = rt.alloc();
-    let list = vec![in alloc;
+const BARRED: [&[Outcome]; 2] = [
+    &[
         Outcome::St { a: 1, v: 1 },
         STBAR,
         Outcome::Mb,
         STBAR,
         Outcome::Sw { a: 2, r: 0, v: 2 },
-    ]?;
-    let other = vec![in alloc; STBAR, Outcome::Ld { a: 1, r: 1 }]?;
-    let trace = Trace::with_order(alloc, Order::Pso, vec![in alloc; list, other]?).map_err(
-        |refused| refused.why,
-    )?;
-    assert_eq!(rt; trace.events(), 4);
-    for (n, bars, stbars) in [(1, 0, 0), (2, 1, 2), (3, 1, 2), (4, 0, 1)] {
-        let event = trace.event(n).ok_or("an event")?;
-        assert_eq!(rt; (event.bars, event.stbars), (bars, stbars), "event {n}");
+    ],
+    &[STBAR, Outcome::Ld { a: 1, r: 1 }],
+];
+
+const STBAR_ROWS: [(Row, &[u64]); 4] = [
+    (Row::Stbars(0), &[0b10]),
+    (Row::Stbars(1), &[0b10000]),
+    (Row::Stbars(2), &[0b1100]),
+    (Row::Stbars(3), &[]),
+];
+
+/// The numbers of barriers and of STBARs before an event.
+fn barriers_before(trace: &Trace, n: usize) -> Option<(usize, usize)> {
+    trace.event(n).map(|event| (event.bars, event.stbars))
+}
+
+/// STBARs are no events, and each event has the number of those before it on its processor.
+#[test]
+fn stbars_of_a_trace(rt: HostRuntime) -> Result<(), Fail> {
+    let trace = ordered_trace(rt.alloc(), Order::Pso, &BARRED)?;
+    expect(&rt, "processors and events", counts_of(&trace), (2, 4));
+    for (n, barriers) in [(1, (0, 0)), (2, (1, 2)), (3, (1, 2)), (4, (0, 1))] {
+        expect(&rt, "barriers", barriers_before(&trace, n), Some(barriers));
     }
-    assert_eq!(rt; trace.stbar_words(0), [0b10].as_slice());
-    assert_eq!(rt; trace.stbar_words(1), [0b10000].as_slice());
-    assert_eq!(rt; trace.stbar_words(2), [0b1100].as_slice());
-    assert_eq!(rt; trace.stbar_words(3), [].as_slice());
+    expect_rows(&rt, &trace, &STBAR_ROWS);
     Ok(())
+}
+
+fn refused_program(alloc: Global, order: Order, lists: Vec<Vec<Op>>) -> Result<Refused<Op>, Fail> {
+    Ok(
+        Program::with_order(alloc, order, lists)
+            .err()
+            .ok_or("a refusal")?,
+    )
 }
 
 #[test]
 fn an_stbar_under_tso_is_refused(rt: HostRuntime) -> Result<(), Fail> {
     let alloc = rt.alloc();
-    let lists = vec![in alloc; vec![in alloc; STBAR]?]?;
-    let refused = Trace::new(alloc, lists).err().ok_or("a refusal")?;
-    assert_eq!(rt; refused.why, ValueFault::StbarInTso);
-    assert_eq!(rt; refused.lists.len(), 1);
-    assert_eq!(rt; refused.lists[0].as_slice(), [STBAR].as_slice());
-    let lists = vec![in alloc; vec![in alloc; Op::Ld { a: 1 }, Op::Sb]?]?;
-    let refused = Program::with_order(alloc, Order::Tso, lists)
-        .err()
-        .ok_or("a refusal")?;
-    assert_eq!(rt; refused.why, ValueFault::StbarInTso);
-    assert_eq!(rt;
-        refused.lists[0].as_slice(),
-        [Op::Ld { a: 1 }, Op::Sb].as_slice()
+    let refused = refused_trace(alloc, &[&[STBAR]])?;
+    expect_refusal(&rt, &refused, STBAR_IN_TSO, &[&[STBAR]]);
+    let lists: [&[Op]; 1] = [&[Op::Ld { a: 1 }, Op::Sb]];
+    let refused = refused_program(alloc, Order::Tso, lists_of(alloc, &lists)?)?;
+    expect_refusal(&rt, &refused, STBAR_IN_TSO, &lists);
+    let mut lists = lists_of_copies(alloc, Op::Mb, &[2_000])?;
+    push_last(&mut lists, Op::Sb)?;
+    expect(
+        &rt,
+        "an STBAR too many",
+        super::program_fault(alloc, lists),
+        MANY,
     );
-    let mut list = copies(alloc, Op::Mb, 2_000)?;
-    list.push(Op::Sb)?;
-    let refused = Program::new(alloc, vec![in alloc; list]?)
-        .err()
-        .ok_or("a refusal")?;
-    assert_eq!(rt; refused.why, ValueFault::TooManyEvents);
     Ok(())
 }
+
+/// The operations of a single processor, whose loads read what memory first held or not.
+const LOADED: [&[Outcome]; 1] = [&[
+    Outcome::Ld { a: 1, r: 7 },
+    Outcome::Ld { a: 1, r: 0 },
+    Outcome::Ld { a: 2, r: 0 },
+    Outcome::Ld { a: 2, r: 7 },
+    Outcome::Ld { a: 3, r: 7 },
+    Outcome::St { a: 1, v: 8 },
+    Outcome::Sw { a: 1, r: 8, v: 9 },
+]];
+
+const SOURCES: [(usize, Option<Source>); 7] = [
+    (1, Some(Source::Init)),
+    (2, Some(Source::Unwritten)),
+    (3, Some(Source::Init)),
+    (4, Some(Source::Unwritten)),
+    (5, Some(Source::Init)),
+    (6, None),
+    (7, Some(Source::Store(6))),
+];
 
 /// Where load `n` of a single processor's trace reads from.
 #[test]
 fn sources_by_first_values(rt: HostRuntime) -> Result<(), Fail> {
-    let alloc = rt.alloc();
-    let list = vec![in alloc;
-        Outcome::Ld { a: 1, r: 7 },
-        Outcome::Ld { a: 1, r: 0 },
-        Outcome::Ld { a: 2, r: 0 },
-        Outcome::Ld { a: 2, r: 7 },
-        Outcome::Ld { a: 3, r: 7 },
-        Outcome::St { a: 1, v: 8 },
-        Outcome::Sw { a: 1, r: 8, v: 9 },
-    ]?;
-    let first = vec![in alloc; (1, 7), (3, 7)]?;
-    let trace = Trace::with_first(alloc, Order::Tso, first, vec![in alloc; list]?).map_err(
-        |refused| refused.why,
-    )?;
-    for (n, source) in [
-        (1, Some(Source::Init)),
-        (2, Some(Source::Unwritten)),
-        (3, Some(Source::Init)),
-        (4, Some(Source::Unwritten)),
-        (5, Some(Source::Init)),
-        (6, None),
-        (7, Some(Source::Store(6))),
-    ] {
-        assert_eq!(rt; trace.source(n), source, "source of {n}");
-    }
-    assert_eq!(rt; trace.reader_words(0), [0b101010].as_slice());
+    let trace = first_trace(rt.alloc(), Order::Tso, &[(1, 7), (3, 7)], &LOADED)?;
+    expect_sources(&rt, &trace, &SOURCES);
+    expect_rows(&rt, &trace, &[(Row::Readers(0), &[0b101010])]);
     Ok(())
 }
 
-/// Tries the entries alone, with a store of 0, and with too many processors.
-fn assert_entries(
-    rt: &impl Abort,
+/// What is wrong with the entries alone, with a store of 0, and with too many processors.
+fn faults_of_entries(
     alloc: Global,
     first: &[(u16, u64)],
-    fault: Option<ValueFault>,
-) -> Result<(), Fail> {
-    let found = trace_fault(alloc, Order::Tso, first, idle(alloc, 1)?)?;
-    assert_eq!(rt; found, fault, "{first:?}");
-    let wrong = vec![in alloc; vec![in alloc; Op::St { a: 1, v: 0 }]?]?;
-    let fault = fault.unwrap_or(ValueFault::ZeroValue);
-    assert_eq!(rt;
+) -> Result<[Option<ValueFault>; 3], AllocError> {
+    let wrong = lists_of(alloc, &[&[Op::St { a: 1, v: 0 }]])?;
+    Ok([
+        entry_fault(alloc, first)?,
         program_fault(alloc, first, wrong)?,
-        Some(fault),
-        "{first:?}"
-    );
-    let found = program_fault(alloc, first, idle(alloc, 17)?)?;
-    assert_eq!(rt; found, Some(ValueFault::TooManyProcessors), "{first:?}");
-    Ok(())
+        program_fault(alloc, first, idle(alloc, 17)?)?,
+    ])
 }
+
+const FAULTS_OF_ENTRIES: [([(u16, u64); 2], Option<ValueFault>); 7] = [
+    ([(1, 5), (2, 5)], None),
+    ([(0, 1), (255, 1)], None),
+    ([(2, 5), (1, 5)], ORDER),
+    ([(1, 5), (1, 6)], ORDER),
+    ([(1, 5), (1, 0)], ZERO),
+    ([(0, 0), (256, 1)], ZERO),
+    ([(256, 0), (1, 0)], RANGE),
+];
 
 /// The entries of first values, tried in their order after the number of processors and before the operations.
 #[test]
 fn faults_of_first_values(rt: HostRuntime) -> Result<(), Fail> {
     let alloc = rt.alloc();
-    let order = Some(ValueFault::InitOrder);
-    let zero = Some(ValueFault::ZeroValue);
-    let range = Some(ValueFault::AddressRange);
-    assert_entries(&rt, alloc, &[(1, 5), (2, 5)], None)?;
-    assert_entries(&rt, alloc, &[(0, 1), (255, 1)], None)?;
-    assert_entries(&rt, alloc, &[(2, 5), (1, 5)], order)?;
-    assert_entries(&rt, alloc, &[(1, 5), (1, 6)], order)?;
-    assert_entries(&rt, alloc, &[(1, 5), (1, 0)], zero)?;
-    assert_entries(&rt, alloc, &[(0, 0), (256, 1)], zero)?;
-    assert_entries(&rt, alloc, &[(256, 0), (1, 0)], range)
+    for (first, fault) in FAULTS_OF_ENTRIES {
+        let found = faults_of_entries(alloc, &first)?;
+        let wanted = [fault, fault.or(ZERO), Some(ValueFault::TooManyProcessors)];
+        assert_eq!(rt; found, wanted, "{first:?}");
+    }
+    Ok(())
 }
 
 /// An entry is tried before an operation that is refused for less.
 #[test]
 fn entries_are_tried_first(rt: HostRuntime) -> Result<(), Fail> {
     let alloc = rt.alloc();
-    let first = [(2, 5), (1, 5)];
-    let wrong = vec![in alloc; vec![in alloc; Op::Ld { a: 256 }]?]?;
-    assert_eq!(rt;
-        program_fault(alloc, &first, wrong)?,
-        Some(ValueFault::InitOrder)
-    );
+    let wrong = lists_of(alloc, &[&[Op::Ld { a: 256 }]])?;
+    let found = program_fault(alloc, &[(2, 5), (1, 5)], wrong)?;
+    expect(&rt, "an address out of range", found, ORDER);
     Ok(())
 }
 
@@ -233,82 +292,127 @@ fn entries_are_tried_first(rt: HostRuntime) -> Result<(), Fail> {
 fn first_values_stored_again(rt: HostRuntime) -> Result<(), Fail> {
     let alloc = rt.alloc();
     for (op, fault) in [
-        (Op::St { a: 1, v: 7 }, Some(ValueFault::RepeatedValue)),
-        (Op::St { a: 2, v: 7 }, Some(ValueFault::RepeatedValue)),
-        (Op::Sw { a: 9, v: 5 }, Some(ValueFault::RepeatedValue)),
+        (Op::St { a: 1, v: 7 }, REPEATED),
+        (Op::St { a: 2, v: 7 }, REPEATED),
+        (Op::Sw { a: 9, v: 5 }, REPEATED),
         (Op::St { a: 1, v: 6 }, None),
     ] {
-        let lists = vec![in alloc; vec![in alloc; op]?]?;
-        assert_eq!(rt;
-            program_fault(alloc, &[(1, 7), (2, 5)], lists)?,
-            fault,
-            "{op:?}"
-        );
+        let lists = lists_of(alloc, &[&[op]])?;
+        let found = program_fault(alloc, &[(1, 7), (2, 5)], lists)?;
+        assert_eq!(rt; found, fault, "{op:?}");
     }
     Ok(())
+}
+
+fn refused_first_trace(
+    alloc: Global,
+    first: &[(u16, u64)],
+    lists: &[&[Outcome]],
+) -> Result<RefusedFirst<Outcome>, Fail> {
+    let first = Vec::from_slice(alloc, first)?;
+    let lists = lists_of(alloc, lists)?;
+    Ok(
+        Trace::with_first(alloc, Order::Pso, first, lists)
+            .err()
+            .ok_or("a refusal")?,
+    )
+}
+
+fn refused_first_program(
+    alloc: Global,
+    first: &[(u16, u64)],
+    lists: &[&[Op]],
+) -> Result<RefusedFirst<Op>, Fail> {
+    let first = Vec::from_slice(alloc, first)?;
+    let lists = lists_of(alloc, lists)?;
+    Ok(
+        Program::with_first(alloc, Order::Tso, first, lists)
+            .err()
+            .ok_or("a refusal")?,
+    )
+}
+
+fn expect_first_refusal<T: Copy + Debug + PartialEq>(
+    rt: &impl Abort,
+    refused: &RefusedFirst<T>,
+    why: ValueFault,
+    first: &[(u16, u64)],
+    lists: &[&[T]],
+) {
+    assert_eq!(rt; refused.why, why);
+    assert_eq!(rt; refused.first.as_slice(), first);
+    expect_lists(rt, &refused.lists, lists);
+}
+
+fn text_of_refusal(alloc: Global, refused: &RefusedFirst<Op>) -> Result<String, Fail> {
+    Ok(format!(in alloc; "{refused}")?)
 }
 
 #[test]
 fn refused_first_values_come_back(rt: HostRuntime) -> Result<(), Fail> {
     let alloc = rt.alloc();
-    let first = vec![in alloc; (2, 5), (1, 5)]?;
-    let lists = vec![in alloc; vec![in alloc; Outcome::Mb]?]?;
-    let refused = Trace::with_first(alloc, Order::Pso, first, lists)
-        .err()
-        .ok_or("a refusal")?;
-    assert_eq!(rt; refused.why, ValueFault::InitOrder);
-    assert_eq!(rt; refused.first.as_slice(), [(2, 5), (1, 5)].as_slice());
-    assert_eq!(rt; refused.lists.len(), 1);
-    assert_eq!(rt; refused.lists[0].as_slice(), [Outcome::Mb].as_slice());
-    let first = vec![in alloc; (2, 5)]?;
-    let lists = vec![in alloc; vec![in alloc; Op::St { a: 2, v: 5 }]?]?;
-    let refused = Program::with_first(alloc, Order::Tso, first, lists)
-        .err()
-        .ok_or("a refusal")?;
-    assert_eq!(rt; refused.why, ValueFault::RepeatedValue);
-    assert_eq!(rt; refused.first.as_slice(), [(2, 5)].as_slice());
-    assert_eq!(rt;
-        refused.lists[0].as_slice(),
-        [Op::St { a: 2, v: 5 }].as_slice()
+    let first = [(2, 5), (1, 5)];
+    let refused = refused_first_trace(alloc, &first, &[&[Outcome::Mb]])?;
+    expect_first_refusal(
+        &rt,
+        &refused,
+        ValueFault::InitOrder,
+        &first,
+        &[&[Outcome::Mb]],
     );
-    assert_eq!(rt; format!(in alloc; "{refused}")?.as_str(), "RepeatedValue");
+    let store = Op::St { a: 2, v: 5 };
+    let refused = refused_first_program(alloc, &[(2, 5)], &[&[store]])?;
+    expect_first_refusal(
+        &rt,
+        &refused,
+        ValueFault::RepeatedValue,
+        &[(2, 5)],
+        &[&[store]],
+    );
+    expect_text(&rt, &text_of_refusal(alloc, &refused)?, "RepeatedValue");
     Ok(())
+}
+
+fn expect_limits_of_one_list(rt: &impl Abort, alloc: Global) -> Result<(), AllocError> {
+    let load = Outcome::Ld { a: 0, r: 0 };
+    for (item, count, fault) in [
+        (load, 2_001, None),
+        (load, 8_000, None),
+        (load, 8_001, MANY),
+        (Outcome::Mb, 8_000, None),
+        (Outcome::Mb, 8_001, MANY),
+        (STBAR, 8_000, None),
+        (STBAR, 8_001, MANY),
+    ] {
+        let found = trace_fault(alloc, &[], lists_of_copies(alloc, item, &[count])?)?;
+        assert_eq!(rt; found, fault, "{count} of {item:?}");
+    }
+    Ok(())
+}
+
+/// A list of so many STBARs, and another of one more barriers of the other kind.
+fn both_barriers(alloc: Global, count: usize) -> Result<Vec<Vec<Outcome>>, AllocError> {
+    let mut lists = lists_of_copies(alloc, STBAR, &[count])?;
+    lists.push(copies(alloc, Outcome::Mb, count.saturating_add(1))?)?;
+    Ok(lists)
+}
+
+/// What is wrong with a trace of version 1 under PSO.
+fn ordered_fault(alloc: Global, lists: Vec<Vec<Outcome>>) -> Option<ValueFault> {
+    match Trace::with_order(alloc, Order::Pso, lists) {
+        Ok(_) => None,
+        Err(refused) => Some(refused.why),
+    }
 }
 
 /// The limits of version 2: 8,000 events, and 8,000 barriers of both kinds together.
 #[test]
 fn counts_at_the_limits_of_version_2(rt: HostRuntime) -> Result<(), Fail> {
     let alloc = rt.alloc();
-    let load = Outcome::Ld { a: 0, r: 0 };
-    let many = Some(ValueFault::TooManyEvents);
-    for (item, count, fault) in [
-        (load, 2_001, None),
-        (load, 8_000, None),
-        (load, 8_001, many),
-        (Outcome::Mb, 8_000, None),
-        (Outcome::Mb, 8_001, many),
-        (STBAR, 8_000, None),
-        (STBAR, 8_001, many),
-    ] {
-        let lists = vec![in alloc; copies(alloc, item, count)?]?;
-        assert_eq!(rt;
-            trace_fault(alloc, Order::Pso, &[], lists)?,
-            fault,
-            "{count} of {item:?}"
-        );
-    }
-    let both = vec![in alloc;
-        copies(alloc, STBAR, 4_000)?,
-        copies(alloc, Outcome::Mb, 4_001)?,
-    ]?;
-    assert_eq!(rt; trace_fault(alloc, Order::Pso, &[], both)?, many);
-    let both = vec![in alloc;
-        copies(alloc, STBAR, 1_000)?,
-        copies(alloc, Outcome::Mb, 1_001)?,
-    ]?;
-    let refused = Trace::with_order(alloc, Order::Pso, both)
-        .err()
-        .ok_or("a refusal")?;
-    assert_eq!(rt; refused.why, ValueFault::TooManyEvents);
+    expect_limits_of_one_list(&rt, alloc)?;
+    let found = trace_fault(alloc, &[], both_barriers(alloc, 4_000)?)?;
+    expect(&rt, "8,001 barriers", found, MANY);
+    let found = ordered_fault(alloc, both_barriers(alloc, 1_000)?);
+    expect(&rt, "2,001 barriers in version 1", found, MANY);
     Ok(())
 }
