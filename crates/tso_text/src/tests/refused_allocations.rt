@@ -1,6 +1,7 @@
 //! Allocations refused in turn: `rt try --test --fail-alloc N` refuses the Nth of each test.
 //!
 //! The call that meets it answers OutOfMemory, at line 0 where it is a reader, and the next call the ordinary answer.
+use super::expect_text;
 use crate::{
     Act, TextFault, Why, print_program, print_schedule, print_trace, read_program, read_schedule,
     read_trace,
@@ -42,38 +43,47 @@ fn schedule_of(alloc: Global) -> Result<Vec<Act>, TextFault> {
     }
 }
 
+fn text_of_trace(alloc: Global, trace: &Trace) -> Result<String, AllocError> {
+    match print_trace(alloc, trace) {
+        Err(AllocError) => print_trace(alloc, trace),
+        printed => printed,
+    }
+}
+
 #[test]
 fn refused_allocations_of_a_trace(rt: HostRuntime) -> Result<(), Fail> {
     let alloc = rt.alloc();
     let trace = trace_of(alloc)?;
-    let text = match print_trace(alloc, &trace) {
-        Err(AllocError) => print_trace(alloc, &trace)?,
-        Ok(text) => text,
-    };
-    assert_eq!(rt; text.as_str(), TRACE);
+    expect_text(&rt, "trace", &text_of_trace(alloc, &trace)?, TRACE);
     Ok(())
+}
+
+fn text_of_program(alloc: Global, program: &Program) -> Result<String, AllocError> {
+    match print_program(alloc, program) {
+        Err(AllocError) => print_program(alloc, program),
+        printed => printed,
+    }
 }
 
 #[test]
 fn refused_allocations_of_a_program(rt: HostRuntime) -> Result<(), Fail> {
     let alloc = rt.alloc();
     let program = program_of(alloc)?;
-    let text = match print_program(alloc, &program) {
-        Err(AllocError) => print_program(alloc, &program)?,
-        Ok(text) => text,
-    };
-    assert_eq!(rt; text.as_str(), PROGRAM);
+    expect_text(&rt, "program", &text_of_program(alloc, &program)?, PROGRAM);
     Ok(())
+}
+
+fn text_of_schedule(alloc: Global, acts: &[Act]) -> Result<String, AllocError> {
+    match print_schedule(alloc, acts) {
+        Err(AllocError) => print_schedule(alloc, acts),
+        printed => printed,
+    }
 }
 
 #[test]
 fn refused_allocations_of_a_schedule(rt: HostRuntime) -> Result<(), Fail> {
     let alloc = rt.alloc();
     let acts = schedule_of(alloc)?;
-    let text = match print_schedule(alloc, &acts) {
-        Err(AllocError) => print_schedule(alloc, &acts)?,
-        Ok(text) => text,
-    };
-    assert_eq!(rt; text.as_str(), SCHEDULE);
+    expect_text(&rt, "schedule", &text_of_schedule(alloc, &acts)?, SCHEDULE);
     Ok(())
 }
