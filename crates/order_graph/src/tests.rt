@@ -16,12 +16,16 @@ fn join(graph: &mut Graph, u: usize, v: usize) {
     }
 }
 
+fn join_all(graph: &mut Graph, edges: &[(usize, usize)]) {
+    for (u, v) in edges.iter().copied() {
+        join(graph, u, v);
+    }
+}
+
 /// A graph with these edges.
 fn graph_of(alloc: Global, nodes: usize, edges: &[(usize, usize)]) -> Result<Graph, AllocError> {
     let mut graph = Graph::new(alloc, nodes)?;
-    for (u, v) in edges.iter().copied() {
-        join(&mut graph, u, v);
-    }
+    join_all(&mut graph, edges);
     Ok(graph)
 }
 
@@ -49,6 +53,10 @@ fn graph_of_rows(
         }
     }
     Graph::of_rows(rows)
+}
+
+fn nodes_of(graph: &Graph) -> usize {
+    graph.nodes()
 }
 
 fn has(graph: &Graph, u: usize, v: usize) -> bool {
@@ -160,6 +168,60 @@ fn plain_cycle(
     Ok(Vec::new(alloc))
 }
 
+/// Compares the least path between the two with the numbers expected, of which none means that there is no path.
+fn expect_path(
+    rt: &impl Abort,
+    graph: &Graph,
+    ends: (usize, usize),
+    expected: &[usize],
+) -> Result<(), AllocError> {
+    let found = least_path(graph, ends.0, ends.1)?;
+    assert!(rt;
+        is_list(&found, expected),
+        "{ends:?}: {found:?}, not {expected:?}"
+    );
+    Ok(())
+}
+
+/// Compares the least cycle with the numbers expected, of which none means that there is no cycle.
+fn expect_cycle(rt: &impl Abort, graph: &Graph, expected: &[usize]) -> Result<(), AllocError> {
+    let found = graph.least_cycle()?;
+    assert!(rt; is_list(&found, expected), "{found:?}, not {expected:?}");
+    Ok(())
+}
+
+/// Compares each call on the graph and the number u with the plain program.
+fn compare_from(
+    rt: &impl Abort,
+    alloc: Global,
+    graph: &Graph,
+    edges: &[(usize, usize)],
+    u: usize,
+) -> Result<(), AllocError> {
+    let nodes = nodes_of(graph);
+    let reached = reached(alloc, graph, u)?;
+    let mut some = false;
+    for v in 0..nodes {
+        let path = plain_path(alloc, edges, nodes, u, v)?;
+        let is_edge = edges.contains(&(u, v));
+        let is_path = !path.is_empty();
+        some = some || is_edge;
+        let found = (
+            reached.get(v).copied(),
+            has(graph, u, v),
+            reaches(graph, u, v),
+        );
+        assert_eq!(rt;
+            found,
+            (Some(is_path), is_edge, is_path),
+            "{u} {v} in {edges:?}"
+        );
+        expect_path(rt, graph, (u, v), &path)?;
+    }
+    assert_eq!(rt; has_from(graph, u), some, "{u} in {edges:?}");
+    Ok(())
+}
+
 /// Compares each call on the graph with the plain program.
 fn compare(
     rt: &impl Abort,
@@ -167,42 +229,68 @@ fn compare(
     graph: &Graph,
     edges: &[(usize, usize)],
 ) -> Result<(), AllocError> {
-    let nodes = graph.nodes();
+    let nodes = nodes_of(graph);
     for u in 0..nodes {
-        let reached = reached(alloc, graph, u)?;
-        let mut some = false;
-        for v in 0..nodes {
-            let path = plain_path(alloc, edges, nodes, u, v)?;
-            some = some || edges.contains(&(u, v));
-            assert_eq!(rt;
-                reached.get(v),
-                Some(&!path.is_empty()),
-                "{u} {v} in {edges:?}"
-            );
-            assert_eq!(rt;
-                has(graph, u, v),
-                edges.contains(&(u, v)),
-                "{u} {v} in {edges:?}"
-            );
-            assert_eq!(rt;
-                reaches(graph, u, v),
-                !path.is_empty(),
-                "{u} {v} in {edges:?}"
-            );
-            let found = least_path(graph, u, v)?;
-            assert!(rt;
-                is_list(&found, &path),
-                "{u} {v} in {edges:?}: {found:?}, not {path:?}"
-            );
-        }
-        assert_eq!(rt; has_from(graph, u), some, "{u} in {edges:?}");
+        compare_from(rt, alloc, graph, edges, u)?;
     }
-    let cycle = plain_cycle(alloc, edges, nodes)?;
-    let found = graph.least_cycle()?;
-    assert!(rt;
-        is_list(&found, &cycle),
-        "{edges:?}: {found:?}, not {cycle:?}"
-    );
+    expect_cycle(rt, graph, &plain_cycle(alloc, edges, nodes)?)
+}
+
+fn set_has(set: &EdgeSet, u: usize, v: usize) -> bool {
+    u < set.nodes() && v < set.nodes() && set.has(u, v)
+}
+
+fn set_reached(alloc: Global, set: &EdgeSet, u: usize) -> Result<Vec<bool>, AllocError> {
+    if u < set.nodes() {
+        set.reached(u)
+    } else {
+        Ok(Vec::new(alloc))
+    }
+}
+
+fn set_least_path(set: &EdgeSet, u: usize, v: usize) -> Result<Option<Vec<usize>>, AllocError> {
+    if u < set.nodes() && v < set.nodes() {
+        set.least_path(u, v)
+    } else {
+        Ok(None)
+    }
+}
+
+fn set_nodes(set: &EdgeSet) -> usize {
+    set.nodes()
+}
+
+fn set_of(graph: Graph) -> Result<EdgeSet, AllocError> {
+    graph.edge_set()
+}
+
+fn remove(set: &mut EdgeSet, u: usize, v: usize) {
+    if u < set.nodes() && v < set.nodes() {
+        set.remove(u, v);
+    }
+}
+
+/// Compares each call on the set of edges and the number u with the plain program.
+fn compare_set_from(
+    rt: &impl Abort,
+    alloc: Global,
+    set: &EdgeSet,
+    edges: &[(usize, usize)],
+    u: usize,
+) -> Result<(), AllocError> {
+    let nodes = set_nodes(set);
+    let reached = set_reached(alloc, set, u)?;
+    for v in 0..nodes {
+        let path = plain_path(alloc, edges, nodes, u, v)?;
+        let found = (set_has(set, u, v), reached.get(v).copied());
+        let wanted = (edges.contains(&(u, v)), Some(!path.is_empty()));
+        assert_eq!(rt; found, wanted, "{u} {v} in {edges:?}");
+        let found = set_least_path(set, u, v)?;
+        assert!(rt;
+            is_list(&found, &path),
+            "{u} {v} in {edges:?}: {found:?}, not {path:?}"
+        );
+    }
     Ok(())
 }
 
@@ -213,28 +301,25 @@ fn compare_set(
     set: &EdgeSet,
     edges: &[(usize, usize)],
 ) -> Result<(), AllocError> {
-    for u in 0..set.nodes() {
-        let reached = set.reached(u)?;
-        for v in 0..set.nodes() {
-            let path = plain_path(alloc, edges, set.nodes(), u, v)?;
-            assert_eq!(rt;
-                set.has(u, v),
-                edges.contains(&(u, v)),
-                "{u} {v} in {edges:?}"
-            );
-            assert_eq!(rt;
-                reached.get(v),
-                Some(&!path.is_empty()),
-                "{u} {v} in {edges:?}"
-            );
-            let found = set.least_path(u, v)?;
-            assert!(rt;
-                is_list(&found, &path),
-                "{u} {v} in {edges:?}: {found:?}, not {path:?}"
-            );
-        }
+    for u in 0..set_nodes(set) {
+        compare_set_from(rt, alloc, set, edges, u)?;
     }
     Ok(())
+}
+
+/// The edges without those that were removed.
+fn edges_left(
+    alloc: Global,
+    edges: &[(usize, usize)],
+    removed: &[(usize, usize)],
+) -> Result<Vec<(usize, usize)>, AllocError> {
+    let mut left = Vec::new(alloc);
+    for edge in edges.iter().copied() {
+        if !removed.contains(&edge) {
+            left.push(edge)?;
+        }
+    }
+    Ok(left)
 }
 
 /// Removes the edges from the last to the first, and compares what is left with the plain program.
@@ -244,19 +329,12 @@ fn compare_removing(
     edges: &[(usize, usize)],
     nodes: usize,
 ) -> Result<(), AllocError> {
-    let mut set = graph_of(alloc, nodes, edges)?.edge_set()?;
+    let mut set = set_of(graph_of(alloc, nodes, edges)?)?;
     compare_set(rt, alloc, &set, edges)?;
     for k in (0..edges.len()).rev() {
         let (u, v) = edges[k];
-        if u < set.nodes() && v < set.nodes() {
-            set.remove(u, v);
-        }
-        let mut left = Vec::new(alloc);
-        for edge in edges[..k].iter().copied() {
-            if !edges[k..].contains(&edge) {
-                left.push(edge)?;
-            }
-        }
+        remove(&mut set, u, v);
+        let left = edges_left(alloc, &edges[..k], &edges[k..])?;
         compare_set(rt, alloc, &set, &left)?;
     }
     Ok(())
@@ -268,26 +346,68 @@ fn next_word(word: u64) -> u64 {
         .wrapping_add(1442695040888963407)
 }
 
+/// The number below the bound that the next word draws.
+fn drawn_number(word: &mut u64, bound: usize) -> usize {
+    *word = next_word(*word);
+    ((*word >> 33) as usize).checked_rem(bound).unwrap_or(0)
+}
+
+/// So many edges of numbers below `nodes`.
+fn drawn_edges(
+    alloc: Global,
+    word: &mut u64,
+    nodes: usize,
+    count: usize,
+) -> Result<Vec<(usize, usize)>, AllocError> {
+    let mut edges = Vec::new(alloc);
+    for _ in 0..count {
+        let u = drawn_number(word, nodes);
+        let v = drawn_number(word, nodes);
+        edges.push((u, v))?;
+    }
+    Ok(edges)
+}
+
 #[test]
 fn small_graphs_as_by_lists(rt: HostRuntime) -> Result<(), Fail> {
-    let mut word = 1u64;
+    let alloc = rt.alloc();
+    let mut word = 1;
     for number in 0usize..300 {
         let nodes = number % 6 + 1;
-        let mut edges = Vec::new(rt.alloc());
-        for _ in 0..number % 11 {
-            word = next_word(word);
-            let u = (word >> 33) as usize % nodes;
-            word = next_word(word);
-            let v = (word >> 33) as usize % nodes;
-            edges.push((u, v))?;
-        }
-        let added = graph_of(rt.alloc(), nodes, &edges)?;
-        assert_eq!(rt; added.nodes(), nodes);
-        compare(&rt, rt.alloc(), &added, &edges)?;
-        let made = graph_of_rows(rt.alloc(), nodes, &edges)?;
-        assert_eq!(rt; made.nodes(), nodes);
-        compare(&rt, rt.alloc(), &made, &edges)?;
+        let edges = drawn_edges(alloc, &mut word, nodes, number % 11)?;
+        let added = graph_of(alloc, nodes, &edges)?;
+        let made = graph_of_rows(alloc, nodes, &edges)?;
+        assert_eq!(rt; [nodes_of(&added), nodes_of(&made)], [nodes; 2]);
+        compare(&rt, alloc, &added, &edges)?;
+        compare(&rt, alloc, &made, &edges)?;
     }
+    Ok(())
+}
+
+/// Compares what two graphs say of the edges and paths from u.
+fn expect_same_from(rt: &impl Abort, made: &Graph, added: &Graph, nodes: usize, u: usize) {
+    for v in 0..nodes {
+        let found = (has(made, u, v), reaches(made, u, v));
+        let wanted = (has(added, u, v), reaches(added, u, v));
+        assert_eq!(rt; found, wanted, "{u} {v} of {nodes}");
+    }
+}
+
+fn least_cycle(graph: &Graph) -> Result<Option<Vec<usize>>, AllocError> {
+    graph.least_cycle()
+}
+
+/// Compares two graphs of so many numbers.
+fn expect_same(
+    rt: &impl Abort,
+    made: &Graph,
+    added: &Graph,
+    nodes: usize,
+) -> Result<(), AllocError> {
+    for u in 0..nodes {
+        expect_same_from(rt, made, added, nodes, u);
+    }
+    assert_eq!(rt; least_cycle(made)?, least_cycle(added)?, "{nodes}");
     Ok(())
 }
 
@@ -295,69 +415,57 @@ fn small_graphs_as_by_lists(rt: HostRuntime) -> Result<(), Fail> {
 /// `add`.
 #[test]
 fn rows_as_by_add(rt: HostRuntime) -> Result<(), Fail> {
-    let mut word = 3u64;
-    for (nodes, count) in [(65usize, 40), (130, 100), (130, 300), (200, 210)] {
-        let mut edges = Vec::new(rt.alloc());
-        for _ in 0..count {
-            word = next_word(word);
-            let u = (word >> 33) as usize % nodes;
-            word = next_word(word);
-            let v = (word >> 33) as usize % nodes;
-            edges.push((u, v))?;
-        }
-        let added = graph_of(rt.alloc(), nodes, &edges)?;
-        let made = graph_of_rows(rt.alloc(), nodes, &edges)?;
-        for u in 0..nodes {
-            for v in 0..nodes {
-                assert_eq!(rt; has(&made, u, v), has(&added, u, v), "{u} {v}");
-                assert_eq!(rt;
-                    reaches(&made, u, v),
-                    reaches(&added, u, v),
-                    "{u} {v} of {nodes}"
-                );
-            }
-        }
-        assert_eq!(rt;
-            made.least_cycle()?,
-            added.least_cycle()?,
-            "{count} of {nodes}"
-        );
+    let alloc = rt.alloc();
+    let mut word = 3;
+    for (nodes, count) in [(65, 40), (130, 100), (130, 300), (200, 210)] {
+        let edges = drawn_edges(alloc, &mut word, nodes, count)?;
+        let added = graph_of(alloc, nodes, &edges)?;
+        let made = graph_of_rows(alloc, nodes, &edges)?;
+        expect_same(&rt, &made, &added, nodes)?;
     }
     Ok(())
+}
+
+/// The numbers of rows of two numbers, and a graph of these rows, of which one has five words with an edge from 0 to 1.
+fn graph_of_a_wide_row(alloc: Global) -> Result<(usize, Graph), AllocError> {
+    let mut rows = EdgeRows::new(alloc, 2)?;
+    let nodes = rows.nodes();
+    let row = row_of(alloc, 1, 5)?;
+    if nodes == 2 {
+        rows.add_row(0, &row);
+    }
+    Ok((nodes, Graph::of_rows(rows)?))
+}
+
+fn are_rows_refused(alloc: Global, nodes: usize) -> bool {
+    EdgeRows::new(alloc, nodes).is_err()
+}
+
+/// Compares the words of the row of paths from u.
+fn expect_words(rt: &impl Abort, graph: &Graph, u: usize, words: &[u64]) {
+    assert_eq!(rt; path_words(graph, u), words, "{u}");
 }
 
 /// A row may have fewer words than a row of the graph, or more.
 #[test]
 fn rows_of_any_width(rt: HostRuntime) -> Result<(), Fail> {
-    let edges = [(0, 70), (70, 1), (1, 130)];
-    let graph = graph_of_rows(rt.alloc(), 131, &edges)?;
-    assert!(rt; is_list(&least_path(&graph, 0, 130)?, &[0, 70, 1, 130]));
-    assert_eq!(rt; path_words(&graph, 0), [2, 64, 4].as_slice());
-    let mut rows = EdgeRows::new(rt.alloc(), 2)?;
-    assert_eq!(rt; rows.nodes(), 2);
-    let row = row_of(rt.alloc(), 1, 5)?;
-    if rows.nodes() == 2 {
-        rows.add_row(0, &row);
-    }
-    let graph = Graph::of_rows(rows)?;
-    assert!(rt; has(&graph, 0, 1) && !has(&graph, 1, 0) && !has(&graph, 0, 0));
-    assert!(rt; EdgeRows::new(rt.alloc(), usize::MAX).is_err());
+    let alloc = rt.alloc();
+    let graph = graph_of_rows(alloc, 131, &[(0, 70), (70, 1), (1, 130)])?;
+    expect_path(&rt, &graph, (0, 130), &[0, 70, 1, 130])?;
+    expect_words(&rt, &graph, 0, &[2, 64, 4]);
+    let (nodes, graph) = graph_of_a_wide_row(alloc)?;
+    let found = [has(&graph, 0, 1), has(&graph, 1, 0), has(&graph, 0, 0)];
+    assert_eq!(rt; (nodes, found), (2, [true, false, false]));
+    assert!(rt; are_rows_refused(alloc, usize::MAX));
     Ok(())
 }
 
 #[test]
 fn edges_removed_as_by_lists(rt: HostRuntime) -> Result<(), Fail> {
-    let mut word = 5u64;
+    let mut word = 5;
     for number in 0usize..60 {
         let nodes = number % 5 + 1;
-        let mut edges = Vec::new(rt.alloc());
-        for _ in 0..number % 9 {
-            word = next_word(word);
-            let u = (word >> 33) as usize % nodes;
-            word = next_word(word);
-            let v = (word >> 33) as usize % nodes;
-            edges.push((u, v))?;
-        }
+        let edges = drawn_edges(rt.alloc(), &mut word, nodes, number % 9)?;
         compare_removing(&rt, rt.alloc(), &edges, nodes)?;
     }
     Ok(())
@@ -367,97 +475,98 @@ fn edges_removed_as_by_lists(rt: HostRuntime) -> Result<(), Fail> {
 fn diamond_graph(rt: HostRuntime) -> Result<(), Fail> {
     let edges = [(0, 1), (0, 2), (1, 3), (2, 3), (3, 0)];
     let graph = graph_of(rt.alloc(), 4, &edges)?;
-    assert!(rt; is_list(&least_path(&graph, 0, 3)?, &[0, 1, 3]));
-    assert!(rt; is_list(&graph.least_cycle()?, &[0, 1, 3]));
+    expect_path(&rt, &graph, (0, 3), &[0, 1, 3])?;
+    expect_cycle(&rt, &graph, &[0, 1, 3])?;
     Ok(())
 }
 
 #[test]
 fn loop_edge(rt: HostRuntime) -> Result<(), Fail> {
     let graph = graph_of(rt.alloc(), 3, &[(0, 1), (1, 1), (1, 2)])?;
-    assert!(rt; reaches(&graph, 1, 1));
-    assert!(rt; !reaches(&graph, 0, 0));
-    assert!(rt; is_list(&least_path(&graph, 1, 1)?, &[1, 1]));
-    assert!(rt; is_list(&least_path(&graph, 0, 2)?, &[0, 1, 2]));
-    assert!(rt; is_list(&graph.least_cycle()?, &[1]));
+    let found = [reaches(&graph, 1, 1), reaches(&graph, 0, 0)];
+    assert_eq!(rt; found, [true, false]);
+    expect_path(&rt, &graph, (1, 1), &[1, 1])?;
+    expect_path(&rt, &graph, (0, 2), &[0, 1, 2])?;
+    expect_cycle(&rt, &graph, &[1])?;
     Ok(())
 }
 
 #[test]
 fn words_of_paths(rt: HostRuntime) -> Result<(), Fail> {
     let graph = graph_of(rt.alloc(), 66, &[(1, 2), (2, 65), (0, 1)])?;
-    assert_eq!(rt; path_words(&graph, 0), [6, 2].as_slice());
-    assert_eq!(rt; path_words(&graph, 2), [0, 2].as_slice());
-    assert_eq!(rt; path_words(&graph, 65), [0, 0].as_slice());
+    expect_words(&rt, &graph, 0, &[6, 2]);
+    expect_words(&rt, &graph, 2, &[0, 2]);
+    expect_words(&rt, &graph, 65, &[0, 0]);
     Ok(())
 }
 
 #[test]
 fn path_to_itself(rt: HostRuntime) -> Result<(), Fail> {
     let graph = graph_of(rt.alloc(), 4, &[(0, 1), (1, 2), (2, 0), (2, 3)])?;
-    assert!(rt; is_list(&least_path(&graph, 1, 1)?, &[1, 2, 0, 1]));
-    assert!(rt; is_list(&least_path(&graph, 3, 3)?, &[]));
-    assert!(rt; is_list(&graph.least_cycle()?, &[0, 1, 2]));
+    expect_path(&rt, &graph, (1, 1), &[1, 2, 0, 1])?;
+    expect_path(&rt, &graph, (3, 3), &[])?;
+    expect_cycle(&rt, &graph, &[0, 1, 2])?;
     Ok(())
 }
 
 #[test]
 fn empty_graphs(rt: HostRuntime) -> Result<(), Fail> {
     for nodes in [0, 1, 64, 65, 8001] {
-        let graph = Graph::new(rt.alloc(), nodes)?;
-        assert_eq!(rt; graph.nodes(), nodes);
-        assert!(rt; !has(&graph, 0, 0));
-        assert!(rt; !reaches(&graph, 0, 0));
-        assert!(rt; is_list(&least_path(&graph, 0, 0)?, &[]));
-        assert!(rt; is_list(&graph.least_cycle()?, &[]));
+        let graph = graph_of(rt.alloc(), nodes, &[])?;
+        let found = (nodes_of(&graph), has(&graph, 0, 0), reaches(&graph, 0, 0));
+        assert_eq!(rt; found, (nodes, false, false));
+        expect_path(&rt, &graph, (0, 0), &[])?;
+        expect_cycle(&rt, &graph, &[])?;
     }
-    assert!(rt; Graph::new(rt.alloc(), usize::MAX).is_err());
+    assert!(rt; graph_of(rt.alloc(), usize::MAX, &[]).is_err());
     Ok(())
+}
+
+/// A graph with an edge from each number to the next.
+fn open_ring(alloc: Global, nodes: usize) -> Result<Graph, AllocError> {
+    let mut graph = Graph::new(alloc, nodes)?;
+    for u in 1..nodes {
+        join(&mut graph, u - 1, u);
+    }
+    Ok(graph)
+}
+
+/// Whether each number has a path to 0 and one from it.
+fn is_round(graph: &Graph, nodes: usize) -> bool {
+    (0..nodes).all(|u| reaches(graph, u, 0) && reaches(graph, 0, u))
 }
 
 /// A ring of all numbers of a graph of each size: each reaches each, and the only cycle is the ring.
 #[test]
 fn rings(rt: HostRuntime) -> Result<(), Fail> {
-    for nodes in [1usize, 2, 63, 64, 65, 129] {
-        let mut graph = Graph::new(rt.alloc(), nodes)?;
-        for u in 1..nodes {
-            join(&mut graph, u - 1, u);
-        }
-        assert!(rt; is_list(&graph.least_cycle()?, &[]), "{nodes}");
+    for nodes in [1, 2, 63, 64, 65, 129] {
+        let mut graph = open_ring(rt.alloc(), nodes)?;
+        expect_cycle(&rt, &graph, &[])?;
         let last = nodes.saturating_sub(1);
         assert!(rt; nodes == 1 || !reaches(&graph, last, 0), "{nodes}");
         join(&mut graph, last, 0);
         let ring: Vec<usize> = (0..nodes).collect(rt.alloc())?;
-        assert!(rt; is_list(&graph.least_cycle()?, &ring), "{nodes}");
-        for u in 0..nodes {
-            assert!(rt;
-                reaches(&graph, u, 0) && reaches(&graph, 0, u),
-                "{u} of {nodes}"
-            );
-        }
+        expect_cycle(&rt, &graph, &ring)?;
+        assert!(rt; is_round(&graph, nodes), "{nodes}");
     }
     Ok(())
 }
 
 #[test]
 fn many_numbers(rt: HostRuntime) -> Result<(), Fail> {
-    let last = 8000;
-    let graph = graph_of(
-        rt.alloc(),
-        8001,
-        &[
-            (63, 64),
-            (last, 63),
-            (64, 4096),
-            (4096, 127),
-            (64, 127),
-            (127, last),
-        ],
-    )?;
-    assert!(rt; reaches(&graph, last, 127));
-    assert!(rt; !reaches(&graph, 0, 127));
-    assert!(rt; is_list(&least_path(&graph, 63, last)?, &[63, 64, 127, last]));
-    assert!(rt; is_list(&graph.least_cycle()?, &[63, 64, 127, last]));
+    let edges = [
+        (63, 64),
+        (8000, 63),
+        (64, 4096),
+        (4096, 127),
+        (64, 127),
+        (127, 8000),
+    ];
+    let graph = graph_of(rt.alloc(), 8001, &edges)?;
+    let found = [reaches(&graph, 8000, 127), reaches(&graph, 0, 127)];
+    assert_eq!(rt; found, [true, false]);
+    expect_path(&rt, &graph, (63, 8000), &[63, 64, 127, 8000])?;
+    expect_cycle(&rt, &graph, &[63, 64, 127, 8000])?;
     Ok(())
 }
 
@@ -468,51 +577,56 @@ fn short_cycle_after_a_long_one(rt: HostRuntime) -> Result<(), Fail> {
     for u in 0..99 {
         join(&mut graph, u, u + 1);
     }
-    join(&mut graph, 99, 0);
-    for (u, v) in [(160, 161), (161, 162), (162, 160)] {
-        join(&mut graph, u, v);
-    }
-    assert!(rt; is_list(&graph.least_cycle()?, &[160, 161, 162]));
-    for (u, v) in [(150, 70), (70, 199), (199, 150)] {
-        join(&mut graph, u, v);
-    }
-    assert!(rt; is_list(&graph.least_cycle()?, &[70, 199, 150]));
+    join_all(&mut graph, &[(99, 0), (160, 161), (161, 162), (162, 160)]);
+    expect_cycle(&rt, &graph, &[160, 161, 162])?;
+    join_all(&mut graph, &[(150, 70), (70, 199), (199, 150)]);
+    expect_cycle(&rt, &graph, &[70, 199, 150])?;
     join(&mut graph, 199, 199);
-    assert!(rt; is_list(&graph.least_cycle()?, &[199]));
+    expect_cycle(&rt, &graph, &[199])?;
     Ok(())
+}
+
+/// Adds edges from a place of a ring of 130 to the next three. Its numbers are `step` from place to place.
+fn join_three(graph: &mut Graph, place: usize, step: usize) {
+    for further in 1..4usize {
+        let next = place.wrapping_add(further);
+        join(
+            graph,
+            place.wrapping_mul(step) % 130,
+            next.wrapping_mul(step) % 130,
+        );
+    }
+}
+
+/// A ring of 130 numbers, with edges to the next three places.
+fn ring_of_threes(alloc: Global, step: usize) -> Result<Graph, AllocError> {
+    let mut graph = Graph::new(alloc, 130)?;
+    for place in 0..130 {
+        join_three(&mut graph, place, step);
+    }
+    Ok(graph)
+}
+
+/// Whether each two numbers that follow one another have an edge.
+fn goes_along(graph: &Graph, cycle: &[usize]) -> bool {
+    cycle
+        .iter()
+        .zip(cycle.iter().skip(1))
+        .all(|(u, v)| has(graph, *u, *v))
 }
 
 /// A ring with edges to the next three numbers: a cycle goes round it, so it has a third of the numbers at least, and
 /// one with so few begins at each number.
 #[test]
 fn ring_with_edges_to_three_places(rt: HostRuntime) -> Result<(), Fail> {
-    for step in [1usize, 37, 129] {
-        let mut graph = Graph::new(rt.alloc(), 130)?;
-        for place in 0..130 {
-            for further in 1..4 {
-                join(
-                    &mut graph,
-                    place * step % 130,
-                    (place + further) * step % 130,
-                );
-            }
-        }
-        let Some(cycle) = graph.least_cycle()? else {
-            assert!(rt; false, "no cycle at step {step}");
-            continue;
-        };
-        assert_eq!(rt; cycle.len(), 44, "{step}");
-        assert_eq!(rt; cycle.first(), Some(&0), "{step}");
-        for (u, v) in cycle.iter().zip(cycle.iter().skip(1)) {
-            assert!(rt; has(&graph, *u, *v), "{u} {v} at step {step}");
-        }
-        let found = least_path(&graph, 0, 0)?;
-        let Some(path) = found else {
-            assert!(rt; false, "no path at step {step}");
-            continue;
-        };
+    for step in [1, 37, 129] {
+        let graph = ring_of_threes(rt.alloc(), step)?;
+        let cycle = least_cycle(&graph)?.ok_or("no cycle")?;
+        let path = least_path(&graph, 0, 0)?.ok_or("no path")?;
+        let found = (cycle.len(), cycle.first().copied(), path.len());
+        assert_eq!(rt; found, (44, Some(0), 45), "{step}");
+        assert!(rt; goes_along(&graph, &cycle), "{step}");
         assert!(rt; path.starts_with(&cycle), "{step}");
-        assert_eq!(rt; path.len(), 45, "{step}");
     }
     Ok(())
 }
