@@ -2,12 +2,14 @@
 //!
 //! The call that meets it answers OutOfMemory, and the next call the ordinary answer.
 
-use super::{graph_of, is_inferred, two_swaps_both_first};
-use crate::{base_row, justify, row_edges};
-use order_graph::Graph;
+use super::{
+    edges_of, expect_inferred, expect_row, graph_of, reason_of, row_of, set_of,
+    two_swaps_both_first,
+};
+use order_graph::{EdgeSet, Graph, PathSearch};
 use std::alloc::{AllocError, Global};
 use std::test::Fail;
-use tso_cert::InferredRule;
+use tso_cert::{InferredRule, Reason};
 use tso_ops::{Trace, ValueFault};
 
 /// The base edges of two_swaps_both_first, and the two of the first round that lead to a store.
@@ -36,63 +38,66 @@ fn graph(alloc: Global) -> Result<Graph, AllocError> {
     }
 }
 
+fn base(alloc: Global, trace: &Trace) -> Result<Vec<usize>, AllocError> {
+    match row_of(alloc, trace, 0) {
+        Err(AllocError) => row_of(alloc, trace, 0),
+        first => first,
+    }
+}
+
+fn edges(alloc: Global, trace: &Trace, graph: &Graph) -> Result<Vec<usize>, AllocError> {
+    match edges_of(alloc, trace, graph, 2) {
+        Err(AllocError) => edges_of(alloc, trace, graph, 2),
+        first => first,
+    }
+}
+
+fn set(graph: &Graph) -> Result<EdgeSet, AllocError> {
+    match set_of(graph) {
+        Err(AllocError) => set_of(graph),
+        first => first,
+    }
+}
+
+fn reason<G: PathSearch>(
+    alloc: Global,
+    trace: &Trace,
+    graph: &G,
+) -> Result<Option<Reason>, AllocError> {
+    match reason_of(alloc, trace, graph, 2, 4) {
+        Err(AllocError) => reason_of(alloc, trace, graph, 2, 4),
+        first => first,
+    }
+}
+
 #[test]
 fn refused_allocations_of_a_base_row(rt: HostRuntime) -> Result<(), Fail> {
     let alloc = rt.alloc();
-    let trace = trace(alloc)?;
-    let row = match base_row(alloc, &trace, 0) {
-        Err(AllocError) => base_row(alloc, &trace, 0)?,
-        Ok(row) => row,
-    };
-    assert_eq!(rt; row.as_slice(), [1, 2, 3, 4].as_slice());
+    let row = base(alloc, &trace(alloc)?)?;
+    expect_row(&rt, "base row 0", &row, &[1, 2, 3, 4]);
     Ok(())
 }
 
 #[test]
 fn refused_allocations_of_row_edges(rt: HostRuntime) -> Result<(), Fail> {
     let alloc = rt.alloc();
-    let trace = trace(alloc)?;
-    let graph = graph(alloc)?;
-    let row = match row_edges(alloc, &trace, &graph, 2) {
-        Err(AllocError) => row_edges(alloc, &trace, &graph, 2)?,
-        Ok(row) => row,
-    };
-    assert_eq!(rt; row.as_slice(), [4].as_slice());
+    let row = edges(alloc, &trace(alloc)?, &graph(alloc)?)?;
+    expect_row(&rt, "row 2", &row, &[4]);
     Ok(())
 }
 
 #[test]
 fn refused_allocations_of_a_reason(rt: HostRuntime) -> Result<(), Fail> {
     let alloc = rt.alloc();
-    let trace = trace(alloc)?;
-    let graph = graph(alloc)?;
-    let found = match justify(alloc, &trace, &graph, 2, 4) {
-        Err(AllocError) => justify(alloc, &trace, &graph, 2, 4)?,
-        Ok(found) => found,
-    };
-    assert!(rt;
-        is_inferred(&found, InferredRule::SwapAfter, 1, &[1, 4]),
-        "{found:?}"
-    );
+    let found = reason(alloc, &trace(alloc)?, &graph(alloc)?)?;
+    expect_inferred(&rt, &found, InferredRule::SwapAfter, 1, &[1, 4]);
     Ok(())
 }
 
 #[test]
 fn refused_allocations_of_a_reason_over_a_set(rt: HostRuntime) -> Result<(), Fail> {
     let alloc = rt.alloc();
-    let trace = trace(alloc)?;
-    let graph = graph(alloc)?;
-    let set = match graph.edge_set() {
-        Err(AllocError) => graph.edge_set()?,
-        Ok(set) => set,
-    };
-    let found = match justify(alloc, &trace, &set, 2, 4) {
-        Err(AllocError) => justify(alloc, &trace, &set, 2, 4)?,
-        Ok(found) => found,
-    };
-    assert!(rt;
-        is_inferred(&found, InferredRule::SwapAfter, 1, &[1, 4]),
-        "{found:?}"
-    );
+    let found = reason(alloc, &trace(alloc)?, &set(&graph(alloc)?)?)?;
+    expect_inferred(&rt, &found, InferredRule::SwapAfter, 1, &[1, 4]);
     Ok(())
 }
