@@ -9,6 +9,7 @@ mod refused_allocations;
 use crate::{MAX_WORKERS, PoolFault, PoolGate, Ranked, rounds};
 use order_graph::Graph;
 use std::alloc::{AllocError, Global};
+use std::fmt::Debug;
 use std::process::Abort;
 use std::sync::Wait;
 use std::thread::Threads;
@@ -37,24 +38,46 @@ fn trace_of(alloc: Global, rows: &[&[Outcome]]) -> Result<Trace, ValueFault> {
     Trace::new(alloc, lists).map_err(|refused| refused.why)
 }
 
+const TWO_SWAPS_BOTH_FIRST: [&[Outcome]; 2] = [
+    &[Outcome::Sw { a: 1, r: 0, v: 1 }],
+    &[Outcome::Sw { a: 1, r: 0, v: 2 }],
+];
+
+const STORE_BUFFERING: [&[Outcome]; 2] = [
+    &[Outcome::St { a: 1, v: 1 }, Outcome::Ld { a: 2, r: 0 }],
+    &[Outcome::St { a: 2, v: 2 }, Outcome::Ld { a: 1, r: 0 }],
+];
+
+const INDEPENDENT_READS: [&[Outcome]; 4] = [
+    &[Outcome::St { a: 1, v: 1 }],
+    &[Outcome::St { a: 2, v: 2 }],
+    &[Outcome::Ld { a: 1, r: 1 }, Outcome::Ld { a: 2, r: 0 }],
+    &[Outcome::Ld { a: 2, r: 2 }, Outcome::Ld { a: 1, r: 0 }],
+];
+
 fn two_swaps_both_first(alloc: Global) -> Result<Trace, ValueFault> {
-    trace_of(alloc, &[&[sw(1, 0, 1)], &[sw(1, 0, 2)]])
+    trace_of(alloc, &TWO_SWAPS_BOTH_FIRST)
 }
 
 fn store_buffering(alloc: Global) -> Result<Trace, ValueFault> {
-    trace_of(alloc, &[&[st(1, 1), ld(2, 0)], &[st(2, 2), ld(1, 0)]])
+    trace_of(alloc, &STORE_BUFFERING)
 }
 
 fn independent_reads(alloc: Global) -> Result<Trace, ValueFault> {
-    trace_of(
-        alloc,
-        &[
-            &[st(1, 1)],
-            &[st(2, 2)],
-            &[ld(1, 1), ld(2, 0)],
-            &[ld(2, 2), ld(1, 0)],
-        ],
-    )
+    trace_of(alloc, &INDEPENDENT_READS)
+}
+
+/// Compares what a call gave with what it has to give.
+fn expect<T: Copy + Debug + PartialEq>(rt: &impl Abort, name: &str, found: T, wanted: T) {
+    assert_eq!(rt; found, wanted, "{name}");
+}
+
+fn rounds_of(ranked: &Ranked) -> u64 {
+    ranked.rounds()
+}
+
+fn rank_of(ranked: &Ranked, u: usize, v: usize) -> Option<u64> {
+    ranked.rank(u, v)
 }
 
 /// The rounds, where no load of the trace is unwritten and there are 1 to 64 workers.

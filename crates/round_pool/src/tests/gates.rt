@@ -1,10 +1,27 @@
 //! What a gate sees of the workers.
 
-use super::{independent_reads, made, store_buffering};
+use super::{expect, independent_reads, made, store_buffering, trace_of};
 use crate::PoolGate;
+use std::alloc::AllocGlobal;
+use std::sync::Wait;
 use std::sync::atomic::{AtomicU64, Ordering};
 use std::test::Fail;
-use std::thread::yield_now;
+use std::thread::{Threads, yield_now};
+use tso_ops::{Outcome, Trace};
+
+/// The rounds number of the trace, by workers with this gate.
+fn rounds_by<H: Threads + Wait + AllocGlobal, G: PoolGate + Sync>(
+    rt: &H,
+    trace: &Trace,
+    workers: usize,
+    gate: &G,
+) -> Result<u64, Fail> {
+    Ok(made(rt, rt.alloc(), trace, workers, gate)?.rounds())
+}
+
+fn seen(number: &AtomicU64) -> u64 {
+    number.load(Ordering::SeqCst)
+}
 
 /// How often the first call looks for a second.
 const TURNS: u64 = 100_000;
@@ -49,25 +66,27 @@ impl PoolGate for Rows {
 
 #[test]
 fn two_workers_compute_at_once(rt: HostRuntime) -> Result<(), Fail> {
-    let alloc = rt.alloc();
     let gate = Meeting {
         calls: AtomicU64::new(0),
         met: AtomicU64::new(0),
     };
-    let ranked = made(&rt, alloc, &independent_reads(alloc)?, 2, &gate)?;
-    assert_eq!(rt; ranked.rounds(), 1);
-    assert_eq!(rt; gate.met.load(Ordering::SeqCst), 1, "no second call came");
+    let rounds = rounds_by(&rt, &independent_reads(rt.alloc())?, 2, &gate)?;
+    expect(
+        &rt,
+        "rounds and a second call",
+        (rounds, seen(&gate.met)),
+        (1, 1),
+    );
     Ok(())
 }
 
 #[test]
 fn one_worker_has_all_rows(rt: HostRuntime) -> Result<(), Fail> {
-    let alloc = rt.alloc();
     let gate = Rows {
         seen: AtomicU64::new(0),
     };
-    made(&rt, alloc, &store_buffering(alloc)?, 1, &gate)?;
-    assert_eq!(rt; gate.seen.load(Ordering::SeqCst), 0x1234_1234);
+    rounds_by(&rt, &store_buffering(rt.alloc())?, 1, &gate)?;
+    expect(&rt, "rows", seen(&gate.seen), 0x1234_1234);
     Ok(())
 }
 
@@ -84,23 +103,25 @@ impl PoolGate for Workers {
     }
 }
 
+/// Three stores of a processor, and three loads of another.
+const SIX_ROWS: [&[Outcome]; 2] = [
+    &[
+        Outcome::St { a: 1, v: 1 },
+        Outcome::St { a: 1, v: 2 },
+        Outcome::St { a: 1, v: 3 },
+    ],
+    &[Outcome::Ld { a: 2, r: 0 }; 3],
+];
+
 /// Three workers share six rows, two each.
 #[test]
 fn rows_are_shared_out(rt: HostRuntime) -> Result<(), Fail> {
-    let alloc = rt.alloc();
-    let trace = super::trace_of(
-        alloc,
-        &[
-            &[super::st(1, 1), super::st(1, 2), super::st(1, 3)],
-            &[super::ld(2, 0), super::ld(2, 0), super::ld(2, 0)],
-        ],
-    )?;
     let gate = Workers {
         of_rows: AtomicU64::new(0),
     };
-    let ranked = made(&rt, alloc, &trace, 3, &gate)?;
-    assert_eq!(rt; ranked.rounds(), 0);
-    assert_eq!(rt; gate.of_rows.load(Ordering::SeqCst), 0b11_11_10_10_01_01_00);
+    let rounds = rounds_by(&rt, &trace_of(rt.alloc(), &SIX_ROWS)?, 3, &gate)?;
+    expect(&rt, "rounds", rounds, 0);
+    expect(&rt, "workers", seen(&gate.of_rows), 0b11_11_10_10_01_01_00);
     Ok(())
 }
 
@@ -120,18 +141,17 @@ impl PoolGate for Calls {
 /// Four rows are computed twice, in the one round that adds edges and in the next, which finds none.
 #[test]
 fn the_gate_is_called_for_each_row(rt: HostRuntime) -> Result<(), Fail> {
-    let alloc = rt.alloc();
-    let trace = store_buffering(alloc)?;
+    let trace = store_buffering(rt.alloc())?;
     for workers in [1, 2, 3, 4, 5, 64] {
         let gate = Calls {
             of_rows: AtomicU64::new(0),
         };
-        let ranked = made(&rt, alloc, &trace, workers, &gate)?;
-        assert_eq!(rt; ranked.rounds(), 1);
-        assert_eq!(rt;
-            gate.of_rows.load(Ordering::SeqCst),
-            0x2_2220,
-            "{workers} workers"
+        let rounds = rounds_by(&rt, &trace, workers, &gate)?;
+        expect(
+            &rt,
+            "rounds and calls",
+            (rounds, seen(&gate.of_rows)),
+            (1, 0x2_2220),
         );
     }
     Ok(())
@@ -153,11 +173,10 @@ impl PoolGate for RowsOfWorkers {
 /// Of five workers the first has none of four rows, and each other has one in each of two rounds.
 #[test]
 fn a_worker_without_rows_calls_no_gate(rt: HostRuntime) -> Result<(), Fail> {
-    let alloc = rt.alloc();
     let gate = RowsOfWorkers {
         counts: AtomicU64::new(0),
     };
-    made(&rt, alloc, &store_buffering(alloc)?, 5, &gate)?;
-    assert_eq!(rt; gate.counts.load(Ordering::SeqCst), 0x2_2220);
+    rounds_by(&rt, &store_buffering(rt.alloc())?, 5, &gate)?;
+    expect(&rt, "rows", seen(&gate.counts), 0x2_2220);
     Ok(())
 }
