@@ -1,17 +1,32 @@
 //! The text of an account, with the expected bytes of each.
 
+use super::expect_bytes;
 use crate::print_account;
+use std::alloc::Global;
+use std::process::Abort;
 use std::test::Fail;
 use unit_core::Account;
 
+/// Compares the text of an account.
+fn expect_text<H: Abort>(
+    rt: &H,
+    alloc: Global,
+    account: &Account,
+    expected: &str,
+) -> Result<(), Fail> {
+    let text = print_account(alloc, account)?;
+    expect_bytes(rt, expected, text.as_slice(), expected.as_bytes());
+    Ok(())
+}
+
 #[test]
 fn open_account_of_no_steps(rt: HostRuntime) -> Result<(), Fail> {
-    let text = print_account(rt.alloc(), &Account::new())?;
-    assert_eq!(rt;
-        text.as_slice(),
-        b"account loads 0 stores 0 swaps 0 membars 0 drains 0 open\n".as_slice()
-    );
-    Ok(())
+    expect_text(
+        &rt,
+        rt.alloc(),
+        &Account::new(),
+        "account loads 0 stores 0 swaps 0 membars 0 drains 0 open\n",
+    )
 }
 
 #[test]
@@ -24,12 +39,12 @@ fn closed_account(rt: HostRuntime) -> Result<(), Fail> {
         drains: 50_000,
         closed: true,
     };
-    let text = print_account(rt.alloc(), &account)?;
-    assert_eq!(rt;
-        text.as_slice(),
-        b"account loads 1 stores 20 swaps 300 membars 4000 drains 50000 closed\n".as_slice()
-    );
-    Ok(())
+    expect_text(
+        &rt,
+        rt.alloc(),
+        &account,
+        "account loads 1 stores 20 swaps 300 membars 4000 drains 50000 closed\n",
+    )
 }
 
 #[test]
@@ -42,10 +57,10 @@ fn greatest_numbers(rt: HostRuntime) -> Result<(), Fail> {
         drains: usize::MAX,
         closed: true,
     };
-    let text = print_account(rt.alloc(), &account)?;
-    assert_eq!(rt;
-        text.as_slice(),
-        b"account loads 18446744073709551615 stores 18446744073709551615 swaps 18446744073709551615 membars 18446744073709551615 drains 18446744073709551615 closed\n".as_slice()
-    );
-    Ok(())
+    expect_text(
+        &rt,
+        rt.alloc(),
+        &account,
+        "account loads 18446744073709551615 stores 18446744073709551615 swaps 18446744073709551615 membars 18446744073709551615 drains 18446744073709551615 closed\n",
+    )
 }

@@ -1,37 +1,62 @@
 //! Certificates of whole traces, with the expected text of each.
 
 use crate::findings::least_unwritten;
-use crate::{MAX_WORKERS, build_cert};
+use crate::{Fault, MAX_WORKERS, build_cert};
 use round_pool::{OpenPoolGate, rounds};
-use std::alloc::Global;
+use std::alloc::{AllocError, Global};
+use std::process::Abort;
 use std::sync::Wait;
 use std::test::Fail;
 use std::thread::Threads;
-use tso_cert::print_cert;
-use tso_text::read_trace;
+use tso_cert::{Certificate, print_cert};
+use tso_ops::Trace;
+use tso_text::{TextFault, read_trace};
 
-/// The text of the certificate of a trace in which no load is unwritten, made on this many workers; None where there is
-/// none.
-fn certificate<H: Threads + Wait>(
+/// The trace that a text spells.
+fn trace_of(alloc: Global, text: &str) -> Result<Trace, TextFault> {
+    read_trace(alloc, text.as_bytes())
+}
+
+/// The certificate of a trace in which no load is unwritten, made on this many workers; None where there is none.
+fn certificate_of<H: Threads + Wait>(
     rt: &H,
     alloc: Global,
-    trace: &str,
+    trace: &Trace,
     workers: usize,
-) -> Result<Option<String>, Fail> {
-    let trace = read_trace(alloc, trace.as_bytes())?;
+) -> Result<Option<Certificate>, Fault> {
     if workers < 1 || workers > MAX_WORKERS {
         return Ok(None);
     }
-    match least_unwritten(&trace) {
+    match least_unwritten(trace) {
         Some(_) => Ok(None),
         None => {
-            let ranked = rounds(rt, alloc, &trace, workers, &OpenPoolGate)?;
-            match build_cert(alloc, &trace, &ranked)? {
-                Some(found) => Ok(Some(print_cert(alloc, &found)?)),
-                None => Ok(None),
-            }
+            let ranked = rounds(rt, alloc, trace, workers, &OpenPoolGate)?;
+            Ok(build_cert(alloc, trace, &ranked)?)
         }
     }
+}
+
+/// The text of a certificate, if there is one.
+fn text_of(alloc: Global, certificate: Option<Certificate>) -> Result<Option<String>, AllocError> {
+    match certificate {
+        Some(found) => Ok(Some(print_cert(alloc, &found)?)),
+        None => Ok(None),
+    }
+}
+
+/// Compares the text of the certificate of a trace, None where there is none.
+fn expect_certificate<H: Threads + Wait + Abort>(
+    rt: &H,
+    alloc: Global,
+    text: &str,
+    workers: usize,
+    expected: Option<&str>,
+) -> Result<(), Fail> {
+    let trace = trace_of(alloc, text)?;
+    let found = certificate_of(rt, alloc, &trace, workers)?;
+    let printed = text_of(alloc, found)?;
+    assert_eq!(rt; printed.as_deref(), expected, "{text:?}");
+    Ok(())
 }
 
 /// Traces and their certificates.
@@ -58,27 +83,27 @@ const VIOLATIONS: [(&str, &str); 4] = [
     ),
 ];
 
+/// Traces without a certificate.
+const OTHERS: [&str; 2] = [
+    // empty_trace
+    "tso trace 1\nend\n",
+    // store_buffering
+    "tso trace 1\nproc\nst 1 1\nld 2 0\nproc\nst 2 2\nld 1 0\nend\n",
+];
+
 #[test]
 fn certificates_of_violations(rt: HostRuntime) -> Result<(), Fail> {
     for (trace, expected) in VIOLATIONS {
-        for workers in [1, 3] {
-            let found = certificate(&rt, rt.alloc(), trace, workers)?;
-            assert_eq!(rt; found.as_deref(), Some(expected), "{trace}");
-        }
+        expect_certificate(&rt, rt.alloc(), trace, 1, Some(expected))?;
+        expect_certificate(&rt, rt.alloc(), trace, 3, Some(expected))?;
     }
     Ok(())
 }
 
 #[test]
 fn no_certificate(rt: HostRuntime) -> Result<(), Fail> {
-    for trace in [
-        // empty_trace
-        "tso trace 1\nend\n",
-        // store_buffering
-        "tso trace 1\nproc\nst 1 1\nld 2 0\nproc\nst 2 2\nld 1 0\nend\n",
-    ] {
-        let found = certificate(&rt, rt.alloc(), trace, 1)?;
-        assert!(rt; found.is_none(), "{trace}");
+    for trace in OTHERS {
+        expect_certificate(&rt, rt.alloc(), trace, 1, None)?;
     }
     Ok(())
 }

@@ -1,11 +1,12 @@
 //! Reports on certificates, with the expected bytes of each.
 
 use super::ends::{EndedReader, FailingReader, Full, ShortWriter, SlowReader, SlowWriter};
+use super::{Ended, expect, expect_bytes, expect_count, expect_said};
 use crate::{Fault, Verdict, check_texts};
 use std::alloc::Global;
 use std::io;
-use std::io::{ErrorKind, Read};
-use std::test::Fail;
+use std::io::{ErrorKind, Read, Write};
+use std::process::Abort;
 
 /// store_buffering_with_barriers
 const BARRIERS: &str = "tso trace 1\nproc\nst 1 1\nmb\nld 2 0\nproc\nst 2 2\nmb\nld 1 0\nend\n";
@@ -136,16 +137,40 @@ const REFUSED: [Case; 20] = [
     ),
 ];
 
-/// Checks a certificate against a trace: the verdict and what was written.
-fn checked(alloc: Global, trace: &str, certificate: &str) -> Result<(Verdict, Vec<u8>), Fail> {
+/// A certificate that names an unwritten load, and holds.
+const UNWRITTEN_HOLDS: Case = (
+    "tso trace 1\nproc\nld 1 9\nend\n",
+    "unwritten 1\n",
+    "CERTIFICATE HOLDS\n",
+);
+
+/// Traces that are refused, and their reports.
+const REFUSED_TRACES: [(&str, &str); 2] = [
+    ("tso trace 1\nproc\n", "REFUSED MissingEnd line 3\n"),
+    ("", "REFUSED BadHeader line 1\n"),
+];
+
+/// Checks the certificate of one reader against the trace of another.
+fn checked<T: Read, C: Read>(alloc: Global, trace: &mut T, certificate: &mut C) -> Ended {
     let mut written = Vec::new(alloc);
-    let verdict = check_texts(
+    let said = check_texts(alloc, trace, certificate, &mut written);
+    Ended { said, written }
+}
+
+/// Does so with these texts.
+fn checked_texts(alloc: Global, trace: &str, certificate: &str) -> Ended {
+    checked(alloc, &mut trace.as_bytes(), &mut certificate.as_bytes())
+}
+
+/// Does so with the texts of `HOLDS`, and writes to this writer.
+fn checked_to<W: Write>(alloc: Global, writer: &mut W) -> Result<Verdict, Fault> {
+    let (trace, certificate, _) = HOLDS;
+    check_texts(
         alloc,
         &mut trace.as_bytes(),
         &mut certificate.as_bytes(),
-        &mut written,
-    )?;
-    Ok((verdict, written))
+        writer,
+    )
 }
 
 /// A reader that fails at its first call.
@@ -165,146 +190,128 @@ fn ended(text: &str) -> EndedReader<'_> {
     }
 }
 
-#[test]
-fn certificates_that_hold(rt: HostRuntime) -> Result<(), Fail> {
-    let unwritten = (
-        "tso trace 1\nproc\nld 1 9\nend\n",
-        "unwritten 1\n",
-        "CERTIFICATE HOLDS\n",
-    );
-    for (trace, certificate, report) in [HOLDS, unwritten] {
-        let (verdict, written) = checked(rt.alloc(), trace, certificate)?;
-        assert_eq!(rt; verdict, Verdict::Violation);
-        assert_eq!(rt; written.as_slice(), report.as_bytes());
+/// A reader of one byte of this text a call.
+fn slow(text: &str) -> SlowReader<&[u8]> {
+    SlowReader {
+        inner: text.as_bytes(),
+        interrupted: false,
     }
-    Ok(())
 }
 
 #[test]
-fn certificates_refused(rt: HostRuntime) -> Result<(), Fail> {
-    for (trace, certificate, report) in REFUSED {
-        let (verdict, written) = checked(rt.alloc(), trace, certificate)?;
-        assert_eq!(rt; verdict, Verdict::Refused, "{report}");
-        assert_eq!(rt; written.as_slice(), report.as_bytes(), "{report}");
+fn certificates_that_hold(rt: HostRuntime) {
+    for (trace, certificate, report) in [HOLDS, UNWRITTEN_HOLDS] {
+        let ended = checked_texts(rt.alloc(), trace, certificate);
+        expect(
+            &rt,
+            trace,
+            &ended,
+            Ok(Verdict::Violation),
+            report.as_bytes(),
+        );
     }
-    Ok(())
+}
+
+#[test]
+fn certificates_refused(rt: HostRuntime) {
+    for (trace, certificate, report) in REFUSED {
+        let ended = checked_texts(rt.alloc(), trace, certificate);
+        expect(&rt, report, &ended, Ok(Verdict::Refused), report.as_bytes());
+    }
 }
 
 /// Where the trace is refused, the certificate isn't read.
 #[test]
-fn refused_traces(rt: HostRuntime) -> Result<(), Fail> {
-    let alloc = rt.alloc();
-    let cases = [
-        ("tso trace 1\nproc\n", "REFUSED MissingEnd line 3\n"),
-        ("", "REFUSED BadHeader line 1\n"),
-    ];
-    for (trace, report) in cases {
+fn refused_traces(rt: HostRuntime) {
+    for (trace, report) in REFUSED_TRACES {
         let mut certificate = failing();
-        let mut written = Vec::new(alloc);
-        let verdict = check_texts(alloc, &mut trace.as_bytes(), &mut certificate, &mut written)?;
-        assert_eq!(rt; verdict, Verdict::Refused);
-        assert_eq!(rt; written.as_slice(), report.as_bytes());
-        assert_eq!(rt; certificate.calls, 0);
+        let ended = checked(rt.alloc(), &mut trace.as_bytes(), &mut certificate);
+        expect(&rt, trace, &ended, Ok(Verdict::Refused), report.as_bytes());
+        expect_count(&rt, trace, certificate.calls, 0);
     }
-    Ok(())
 }
 
 #[test]
-fn readers_fail(rt: HostRuntime) -> Result<(), Fail> {
-    let alloc = rt.alloc();
+fn readers_fail(rt: HostRuntime) {
     let (trace, certificate, _) = HOLDS;
-    let mut written = Vec::new(alloc);
-    let fault = check_texts(
-        alloc,
-        &mut failing(),
-        &mut certificate.as_bytes(),
-        &mut written,
-    );
-    assert_eq!(rt; fault.err(), Some(Fault::Read));
-    let fault = check_texts(alloc, &mut trace.as_bytes(), &mut failing(), &mut written);
-    assert_eq!(rt; fault.err(), Some(Fault::Read));
-    assert_eq!(rt; written.len(), 0);
-    Ok(())
+    let first = checked(rt.alloc(), &mut failing(), &mut certificate.as_bytes());
+    expect(&rt, "of the trace", &first, Err(Fault::Read), b"");
+    let second = checked(rt.alloc(), &mut trace.as_bytes(), &mut failing());
+    expect(&rt, "of the certificate", &second, Err(Fault::Read), b"");
+}
+
+/// Checks a certificate of so many bytes `x`.
+fn checked_bytes(alloc: Global, count: u64) -> Ended {
+    let mut certificate = io::repeat(b'x').take(count);
+    checked(alloc, &mut BARRIERS.as_bytes(), &mut certificate)
 }
 
 /// 67,108,864 bytes are read, and one more is a fault.
 #[test]
-fn bytes_of_a_certificate_at_their_limit(rt: HostRuntime) -> Result<(), Fail> {
-    let alloc = rt.alloc();
-    let mut written = Vec::new(alloc);
-    let mut bytes = io::repeat(b'x').take(67_108_865);
-    let fault = check_texts(alloc, &mut BARRIERS.as_bytes(), &mut bytes, &mut written);
-    assert_eq!(rt; fault.err(), Some(Fault::Read));
-    assert_eq!(rt; written.len(), 0);
-    let mut bytes = io::repeat(b'x').take(67_108_864);
-    let verdict = check_texts(alloc, &mut BARRIERS.as_bytes(), &mut bytes, &mut written)?;
-    assert_eq!(rt; verdict, Verdict::Refused);
-    let report = "CERTIFICATE REFUSED BadLine line 1\n";
-    assert_eq!(rt; written.as_slice(), report.as_bytes());
-    Ok(())
+fn bytes_of_a_certificate_at_their_limit(rt: HostRuntime) {
+    let long = checked_bytes(rt.alloc(), 67_108_865);
+    expect(&rt, "a byte too many", &long, Err(Fault::Read), b"");
+    let longest = checked_bytes(rt.alloc(), 67_108_864);
+    let report = b"CERTIFICATE REFUSED BadLine line 1\n";
+    expect(&rt, "at the limit", &longest, Ok(Verdict::Refused), report);
 }
 
 /// Readers and a writer of one byte a call, each interrupted once before it.
 #[test]
-fn slow_readers_and_writer(rt: HostRuntime) -> Result<(), Fail> {
-    let alloc = rt.alloc();
+fn slow_readers_and_writer(rt: HostRuntime) {
     let (trace, certificate, report) = HOLDS;
-    let mut trace = SlowReader {
-        inner: trace.as_bytes(),
-        interrupted: false,
-    };
-    let mut certificate = SlowReader {
-        inner: certificate.as_bytes(),
-        interrupted: false,
-    };
     let mut writer = SlowWriter {
-        taken: Vec::new(alloc),
+        taken: Vec::new(rt.alloc()),
         interrupted: false,
     };
-    let verdict = check_texts(alloc, &mut trace, &mut certificate, &mut writer)?;
-    assert_eq!(rt; verdict, Verdict::Violation);
-    assert_eq!(rt; writer.taken.as_slice(), report.as_bytes());
-    Ok(())
+    let said = check_texts(
+        rt.alloc(),
+        &mut slow(trace),
+        &mut slow(certificate),
+        &mut writer,
+    );
+    expect_said(&rt, trace, said, Ok(Verdict::Violation));
+    expect_bytes(&rt, trace, &writer.taken, report.as_bytes());
 }
 
 /// Neither text is read after its end, which is seen once.
 #[test]
-fn nothing_read_after_either_end(rt: HostRuntime) -> Result<(), Fail> {
-    let alloc = rt.alloc();
+fn nothing_read_after_either_end(rt: HostRuntime) {
     let (trace, certificate, report) = HOLDS;
-    let mut trace = ended(trace);
-    let mut certificate = ended(certificate);
-    let mut written = Vec::new(alloc);
-    let verdict = check_texts(alloc, &mut trace, &mut certificate, &mut written)?;
-    assert_eq!(rt; verdict, Verdict::Violation);
-    assert_eq!(rt; written.as_slice(), report.as_bytes());
-    assert_eq!(rt; trace.calls, 2);
-    assert_eq!(rt; certificate.calls, 2);
-    Ok(())
+    let mut trace_reader = ended(trace);
+    let mut certificate_reader = ended(certificate);
+    let ended = checked(rt.alloc(), &mut trace_reader, &mut certificate_reader);
+    expect(
+        &rt,
+        trace,
+        &ended,
+        Ok(Verdict::Violation),
+        report.as_bytes(),
+    );
+    expect_count(&rt, "trace", trace_reader.calls, 2);
+    expect_count(&rt, "certificate", certificate_reader.calls, 2);
+}
+
+/// Compares what a writer with so much room is left with.
+fn expect_short<H: Abort>(rt: &H, alloc: Global, room: usize, full: Full) {
+    let (_, _, report) = HOLDS;
+    let mut writer = ShortWriter {
+        taken: Vec::new(alloc),
+        room,
+        full,
+        calls: 0,
+    };
+    let said = checked_to(alloc, &mut writer);
+    expect_said(rt, report, said, Err(Fault::Write));
+    let prefix = report.as_bytes().get(..room).unwrap_or(b"");
+    expect_bytes(rt, report, &writer.taken, prefix);
 }
 
 #[test]
-fn writer_stops_short(rt: HostRuntime) -> Result<(), Fail> {
-    let alloc = rt.alloc();
-    let (trace, certificate, report) = HOLDS;
-    let report = report.as_bytes();
+fn writer_stops_short(rt: HostRuntime) {
+    let (_, _, report) = HOLDS;
     for room in 0..report.len() {
-        for full in [Full::Fails(ErrorKind::Other), Full::TakesNothing] {
-            let mut writer = ShortWriter {
-                taken: Vec::new(alloc),
-                room,
-                full,
-                calls: 0,
-            };
-            let fault = check_texts(
-                alloc,
-                &mut trace.as_bytes(),
-                &mut certificate.as_bytes(),
-                &mut writer,
-            );
-            assert_eq!(rt; fault.err(), Some(Fault::Write), "{room}");
-            assert_eq!(rt; writer.taken.as_slice(), &report[..room], "{room}");
-        }
+        expect_short(&rt, rt.alloc(), room, Full::Fails(ErrorKind::Other));
+        expect_short(&rt, rt.alloc(), room, Full::TakesNothing);
     }
-    Ok(())
 }

@@ -1,7 +1,9 @@
 //! Reports of whole inputs, with the expected bytes of each.
 
+use super::{Ended, expect, expect_bytes, expect_count};
 use crate::{MAX_WORKERS, Verdict, judge};
 use std::alloc::{AllocError, Global};
+use std::process::Abort;
 use std::sync::Wait;
 use std::test::Fail;
 use std::thread::Threads;
@@ -102,20 +104,50 @@ const REFUSALS: [(&str, &str); 16] = [
     ),
 ];
 
-/// Judges an input on 1 to 64 workers: the verdict and what was written.
+/// full_trace, one_event_too_many, swap_past_the_limit: how many loads, what follows them, and the report.
+const EVENTS: [(usize, &str, &str); 3] = [
+    (
+        2_000,
+        "end\n",
+        "TSO REPORT 1\nprocessors 1 events 2000 rounds 0\nNO VIOLATION FOUND\n",
+    ),
+    (2_001, "end\n", "REFUSED TooManyEvents line 2003\n"),
+    (
+        1_999,
+        "sw 0 0 1\nend\n",
+        "REFUSED TooManyEvents line 2002\n",
+    ),
+];
+
+/// Judges an input on 1 to 64 workers.
 pub(super) fn judged<H: Threads + Wait + Sync>(
     rt: &H,
     alloc: Global,
     input: &[u8],
     workers: usize,
-) -> Result<(Verdict, Vec<u8>), Fail> {
+) -> Result<Ended, Fail> {
     if workers < 1 || workers > MAX_WORKERS {
         return Err(Fail::new("not 1 to 64 workers"));
     }
     let mut reader = input;
     let mut written = Vec::new(alloc);
-    let verdict = judge(rt, alloc, &mut reader, &mut written, workers)?;
-    Ok((verdict, written))
+    let said = judge(rt, alloc, &mut reader, &mut written, workers);
+    Ok(Ended { said, written })
+}
+
+/// Compares the verdict and the report of an input on several numbers of workers.
+pub(super) fn expect_judged<H: Threads + Wait + Sync + Abort>(
+    rt: &H,
+    alloc: Global,
+    input: &str,
+    verdict: Verdict,
+    report: &str,
+) -> Result<(), Fail> {
+    for workers in [1, 2, 7, 64] {
+        let ended = judged(rt, alloc, input.as_bytes(), workers)?;
+        expect(rt, input, &ended, Ok(verdict), report.as_bytes());
+    }
+    Ok(())
 }
 
 /// A prefix, many times the same line, and an ending.
@@ -136,76 +168,66 @@ fn repeated(
 
 #[test]
 fn traces(rt: HostRuntime) -> Result<(), Fail> {
-    let alloc = rt.alloc();
     for (input, verdict, report) in TRACES {
-        for workers in [1, 2, 7, 64] {
-            let (said, written) = judged(&rt, alloc, input.as_bytes(), workers)?;
-            assert_eq!(rt; said, verdict, "{input:?}");
-            assert_eq!(rt; written.as_slice(), report.as_bytes(), "{input:?}");
-        }
+        expect_judged(&rt, rt.alloc(), input, verdict, report)?;
     }
     Ok(())
 }
 
 #[test]
 fn refusals(rt: HostRuntime) -> Result<(), Fail> {
-    let alloc = rt.alloc();
     for (input, report) in REFUSALS {
-        let (said, written) = judged(&rt, alloc, input.as_bytes(), 1)?;
-        assert_eq!(rt; said, Verdict::Refused, "{input:?}");
-        assert_eq!(rt; written.as_slice(), report.as_bytes(), "{input:?}");
+        let ended = judged(&rt, rt.alloc(), input.as_bytes(), 1)?;
+        expect(&rt, input, &ended, Ok(Verdict::Refused), report.as_bytes());
     }
     Ok(())
 }
 
-/// full_trace, one_event_too_many, swap_past_the_limit
 #[test]
 fn events_at_their_limit(rt: HostRuntime) -> Result<(), Fail> {
-    let alloc = rt.alloc();
-    let cases = [
-        (
-            2_000,
-            "end\n",
-            "TSO REPORT 1\nprocessors 1 events 2000 rounds 0\nNO VIOLATION FOUND\n",
-        ),
-        (2_001, "end\n", "REFUSED TooManyEvents line 2003\n"),
-        (
-            1_999,
-            "sw 0 0 1\nend\n",
-            "REFUSED TooManyEvents line 2002\n",
-        ),
-    ];
-    for (count, back, report) in cases {
-        let input = repeated(alloc, "tso trace 1\nproc\n", "ld 0 0\n", count, back)?;
-        let (_, written) = judged(&rt, alloc, input.as_bytes(), 1)?;
-        assert_eq!(rt; written.as_slice(), report.as_bytes(), "{count}");
+    for (count, back, report) in EVENTS {
+        let input = repeated(rt.alloc(), "tso trace 1\nproc\n", "ld 0 0\n", count, back)?;
+        let ended = judged(&rt, rt.alloc(), input.as_bytes(), 1)?;
+        expect_bytes(&rt, report, &ended.written, report.as_bytes());
     }
+    Ok(())
+}
+
+/// Compares the refusal of bytes that are no trace.
+fn expect_refused<H: Threads + Wait + Sync + Abort>(
+    rt: &H,
+    alloc: Global,
+    bytes: &[u8],
+    report: &str,
+) -> Result<(), Fail> {
+    let ended = judged(rt, alloc, bytes, 1)?;
+    expect(rt, report, &ended, Ok(Verdict::Refused), report.as_bytes());
+    Ok(())
+}
+
+/// Compares the report of a trace with so many bytes after it.
+fn expect_after_end<H: Threads + Wait + Sync + Abort>(
+    rt: &H,
+    alloc: Global,
+    count: usize,
+    report: &str,
+) -> Result<(), Fail> {
+    let text = repeated(alloc, "tso trace 1\nend\n", "x", count, "")?;
+    expect_count(rt, report, text.len(), count.saturating_add(16));
+    let ended = judged(rt, alloc, text.as_bytes(), 1)?;
+    expect_bytes(rt, report, &ended.written, report.as_bytes());
     Ok(())
 }
 
 /// oversized: whatever the bytes are, a good trace before them included
 #[test]
 fn bytes_at_their_limit(rt: HostRuntime) -> Result<(), Fail> {
-    let alloc = rt.alloc();
-    let long = "REFUSED TooLong line 0\n";
     for byte in [0, 10, b'x', 255] {
-        let bytes = vec![in alloc; byte; 1_048_577]?;
-        let (said, written) = judged(&rt, alloc, &bytes, 1)?;
-        assert_eq!(rt; said, Verdict::Refused);
-        assert_eq!(rt; written.as_slice(), long.as_bytes());
-        let (said, written) = judged(&rt, alloc, &bytes[1..], 1)?;
-        assert_eq!(rt; said, Verdict::Refused);
-        assert_eq!(rt;
-            written.as_slice(),
-            b"REFUSED BadHeader line 1\n".as_slice()
-        );
+        let bytes = vec![in rt.alloc(); byte; 1_048_577]?;
+        expect_refused(&rt, rt.alloc(), &bytes, "REFUSED TooLong line 0\n")?;
+        let rest = bytes.get(1..).unwrap_or(b"");
+        expect_refused(&rt, rt.alloc(), rest, "REFUSED BadHeader line 1\n")?;
     }
-    let spaces = repeated(alloc, "tso trace 1\nend\n", "x", 1_048_560, "")?;
-    assert_eq!(rt; spaces.len(), 1_048_576);
-    let (_, written) = judged(&rt, alloc, spaces.as_bytes(), 1)?;
-    assert_eq!(rt; written.as_slice(), b"REFUSED AfterEnd line 3\n".as_slice());
-    let more = repeated(alloc, "tso trace 1\nend\n", "x", 1_048_561, "")?;
-    let (_, written) = judged(&rt, alloc, more.as_bytes(), 1)?;
-    assert_eq!(rt; written.as_slice(), long.as_bytes());
-    Ok(())
+    expect_after_end(&rt, rt.alloc(), 1_048_560, "REFUSED AfterEnd line 3\n")?;
+    expect_after_end(&rt, rt.alloc(), 1_048_561, "REFUSED TooLong line 0\n")
 }

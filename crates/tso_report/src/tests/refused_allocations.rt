@@ -6,6 +6,7 @@ use super::checked::HOLDS;
 use super::violations::{
     Case, STORE_BUFFERING_WITH_BARRIERS, TWO_SWAPS_BOTH_FIRST, UNWRITTEN_LOAD,
 };
+use super::{expect_bytes, expect_count, expect_said};
 use crate::{Fault, MAX_WORKERS, Verdict, check_texts, judge};
 use std::alloc::Global;
 use std::process::Abort;
@@ -16,6 +17,51 @@ use std::thread::Threads;
 /// The room that a report gets.
 const ROOM: usize = 256;
 
+/// A call's answer and how much of the room it left.
+type Answer = (Result<Verdict, Fault>, usize);
+
+/// Judges an input, and writes the report into these bytes.
+fn judged_into<H: Threads + Wait + Sync>(
+    rt: &H,
+    alloc: Global,
+    input: &str,
+    bytes: &mut [u8; ROOM],
+    workers: usize,
+) -> Result<Answer, Fail> {
+    if workers < 1 || workers > MAX_WORKERS {
+        return Err(Fail::new("not 1 to 64 workers"));
+    }
+    let mut writer = bytes.as_mut_slice();
+    let said = judge(rt, alloc, &mut input.as_bytes(), &mut writer, workers);
+    Ok((said, writer.len()))
+}
+
+/// Checks the texts of `HOLDS`, and writes the report into these bytes.
+fn checked_into(alloc: Global, bytes: &mut [u8; ROOM]) -> Answer {
+    let (trace, certificate, _) = HOLDS;
+    let mut writer = bytes.as_mut_slice();
+    let said = check_texts(
+        alloc,
+        &mut trace.as_bytes(),
+        &mut certificate.as_bytes(),
+        &mut writer,
+    );
+    (said, writer.len())
+}
+
+/// Compares an answer and the bytes that were written.
+fn expect_answer<H: Abort>(
+    rt: &H,
+    (said, room): Answer,
+    bytes: &[u8; ROOM],
+    verdict: Verdict,
+    report: &str,
+) {
+    expect_said(rt, report, said, Ok(verdict));
+    let written = ROOM.saturating_sub(room);
+    expect_bytes(rt, report, &bytes[..written], report.as_bytes());
+}
+
 /// Judges an input, once more where an allocation was refused: this is the verdict, and this the report.
 fn judges<H: Abort + Threads + Wait + Sync>(
     rt: &H,
@@ -24,19 +70,13 @@ fn judges<H: Abort + Threads + Wait + Sync>(
     verdict: Verdict,
     workers: usize,
 ) -> Result<(), Fail> {
-    if workers < 1 || workers > MAX_WORKERS {
-        return Err(Fail::new("not 1 to 64 workers"));
-    }
     let mut bytes = [0u8; ROOM];
-    let mut writer = bytes.as_mut_slice();
-    let mut said = judge(rt, alloc, &mut input.as_bytes(), &mut writer, workers);
-    if said == Err(Fault::OutOfMemory) || said == Err(Fault::NoThread) {
-        assert_eq!(rt; writer.len(), ROOM);
-        said = judge(rt, alloc, &mut input.as_bytes(), &mut writer, workers);
+    let mut answer = judged_into(rt, alloc, input, &mut bytes, workers)?;
+    if answer.0 == Err(Fault::OutOfMemory) || answer.0 == Err(Fault::NoThread) {
+        expect_count(rt, report, answer.1, ROOM);
+        answer = judged_into(rt, alloc, input, &mut bytes, workers)?;
     }
-    assert_eq!(rt; said?, verdict);
-    let written = ROOM.saturating_sub(writer.len());
-    assert_eq!(rt; &bytes[..written], report.as_bytes());
+    expect_answer(rt, answer, &bytes, verdict, report);
     Ok(())
 }
 
@@ -75,28 +115,13 @@ fn refused_allocations_of_a_refusal(rt: HostRuntime) -> Result<(), Fail> {
 }
 
 #[test]
-fn refused_allocations_of_a_check(rt: HostRuntime) -> Result<(), Fail> {
-    let alloc = rt.alloc();
-    let (trace, certificate, report) = HOLDS;
+fn refused_allocations_of_a_check(rt: HostRuntime) {
+    let (_, _, report) = HOLDS;
     let mut bytes = [0u8; ROOM];
-    let mut writer = bytes.as_mut_slice();
-    let mut said = check_texts(
-        alloc,
-        &mut trace.as_bytes(),
-        &mut certificate.as_bytes(),
-        &mut writer,
-    );
-    if said == Err(Fault::OutOfMemory) {
-        assert_eq!(rt; writer.len(), ROOM);
-        said = check_texts(
-            alloc,
-            &mut trace.as_bytes(),
-            &mut certificate.as_bytes(),
-            &mut writer,
-        );
+    let mut answer = checked_into(rt.alloc(), &mut bytes);
+    if answer.0 == Err(Fault::OutOfMemory) {
+        expect_count(&rt, report, answer.1, ROOM);
+        answer = checked_into(rt.alloc(), &mut bytes);
     }
-    assert_eq!(rt; said?, Verdict::Violation);
-    let written = ROOM.saturating_sub(writer.len());
-    assert_eq!(rt; &bytes[..written], report.as_bytes());
-    Ok(())
+    expect_answer(&rt, answer, &bytes, Verdict::Violation, report);
 }

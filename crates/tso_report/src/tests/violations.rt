@@ -1,6 +1,6 @@
 //! Reports of traces that the rules decide, with the expected bytes of each.
 
-use super::judged::judged;
+use super::judged::expect_judged;
 use crate::Verdict;
 use std::test::Fail;
 
@@ -82,26 +82,16 @@ const OTHERS: [Case; 3] = [
 
 #[test]
 fn violations_on_each_number_of_workers(rt: HostRuntime) -> Result<(), Fail> {
-    let alloc = rt.alloc();
     for (input, report) in VIOLATIONS {
-        for workers in [1, 2, 7, 64] {
-            let (said, written) = judged(&rt, alloc, input.as_bytes(), workers)?;
-            assert_eq!(rt; said, Verdict::Violation, "{input:?}");
-            assert_eq!(rt; written.as_slice(), report.as_bytes(), "{input:?}");
-        }
+        expect_judged(&rt, rt.alloc(), input, Verdict::Violation, report)?;
     }
     Ok(())
 }
 
 #[test]
 fn no_violation_on_each_number_of_workers(rt: HostRuntime) -> Result<(), Fail> {
-    let alloc = rt.alloc();
     for (input, report) in OTHERS {
-        for workers in [1, 2, 7, 64] {
-            let (said, written) = judged(&rt, alloc, input.as_bytes(), workers)?;
-            assert_eq!(rt; said, Verdict::NoViolation, "{input:?}");
-            assert_eq!(rt; written.as_slice(), report.as_bytes(), "{input:?}");
-        }
+        expect_judged(&rt, rt.alloc(), input, Verdict::NoViolation, report)?;
     }
     Ok(())
 }
