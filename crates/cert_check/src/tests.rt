@@ -1,37 +1,227 @@
 use crate::{CertFault, check};
 use std::alloc::{AllocError, Global};
+use std::process::Abort;
 use std::test::Fail;
 use tso_cert::BaseRule::{Init, LoadOp, Membar, Own, Read, Stbar, StoreStore};
 use tso_cert::InferredRule::{LoadPast, StorePast, SwapAfter};
 use tso_cert::{BaseRule, CertStep, Certificate, InferredRule, NumList, Reason, StepList};
-use tso_ops::{Order, Outcome, Trace};
+use tso_ops::Outcome::{Ld, Mb, Sb, St, Sw};
+use tso_ops::{Order, Outcome, Trace, ValueFault};
 
-/// A step by a base rule.
-fn base(from: u64, to: u64, rule: BaseRule) -> CertStep {
-    CertStep {
-        from,
-        to,
-        reason: Reason::Base(rule),
+/// A step of a certificate: the two ends and the rule; for an inferred rule the load and the path too.
+#[derive(Clone, Copy)]
+enum Listed {
+    Base(u64, u64, BaseRule),
+    Inferred(u64, u64, InferredRule, u64, &'static [u64]),
+}
+
+use Listed::{Base, Inferred};
+
+/// What the processors of a trace did and read, and the steps and the cycle of a certificate.
+#[derive(Clone, Copy)]
+struct Case {
+    name: &'static str,
+    rows: &'static [&'static [Outcome]],
+    steps: &'static [Listed],
+    cycle: &'static [u64],
+}
+
+const BARRIERS: Case = Case {
+    name: "store_buffering_with_barriers",
+    rows: &[
+        &[St { a: 1, v: 1 }, Mb, Ld { a: 2, r: 0 }],
+        &[St { a: 2, v: 2 }, Mb, Ld { a: 1, r: 0 }],
+    ],
+    steps: &[
+        Base(0, 1, Init),
+        Base(0, 3, Init),
+        Base(1, 2, Membar),
+        Base(3, 4, Membar),
+        Inferred(2, 3, StorePast, 2, &[0, 3]),
+        Inferred(4, 1, StorePast, 4, &[0, 1]),
+    ],
+    cycle: &[1, 2, 3, 4],
+};
+
+const READS: Case = Case {
+    name: "independent_reads",
+    rows: &[
+        &[St { a: 1, v: 1 }],
+        &[St { a: 2, v: 2 }],
+        &[Ld { a: 1, r: 1 }, Ld { a: 2, r: 0 }],
+        &[Ld { a: 2, r: 2 }, Ld { a: 1, r: 0 }],
+    ],
+    steps: &[
+        Base(0, 1, Init),
+        Base(0, 2, Init),
+        Base(1, 3, Read),
+        Base(2, 5, Read),
+        Base(3, 4, LoadOp),
+        Base(5, 6, LoadOp),
+        Inferred(4, 2, StorePast, 4, &[0, 2]),
+        Inferred(6, 1, StorePast, 6, &[0, 1]),
+    ],
+    cycle: &[1, 3, 4, 2, 5, 6],
+};
+
+/// Message passing whose last load, event 4, reads the first value, with the two stores in order by StoreStore.
+const PASSING: Case = Case {
+    name: "message_passing_stale",
+    rows: &[
+        &[St { a: 1, v: 1 }, St { a: 2, v: 2 }],
+        &[Ld { a: 2, r: 2 }, Ld { a: 1, r: 0 }],
+    ],
+    steps: &[
+        Base(0, 1, Init),
+        Base(1, 2, StoreStore),
+        Base(2, 3, Read),
+        Base(3, 4, LoadOp),
+        Inferred(1, 0, LoadPast, 4, &[1, 2, 3, 4]),
+    ],
+    cycle: &[0, 1],
+};
+
+/// The steps of `PASSING` with the two stores in order by Stbar.
+const PASSING_BY_STBAR: [Listed; 5] = [
+    Base(0, 1, Init),
+    Base(1, 2, Stbar),
+    Base(2, 3, Read),
+    Base(3, 4, LoadOp),
+    Inferred(1, 0, LoadPast, 4, &[1, 2, 3, 4]),
+];
+
+const STALE: Case = Case {
+    name: "replay_stale_load",
+    rows: &[
+        &[St { a: 1, v: 1 }],
+        &[Ld { a: 1, r: 1 }, Ld { a: 1, r: 0 }],
+    ],
+    steps: &[
+        Base(0, 1, Init),
+        Base(1, 2, Read),
+        Base(2, 3, LoadOp),
+        Inferred(1, 0, LoadPast, 3, &[1, 2, 3]),
+    ],
+    cycle: &[0, 1],
+};
+
+/// A store read past by a later load of its address, event 4.
+const BACKWARDS: Case = Case {
+    name: "one_location_backwards",
+    rows: &[
+        &[St { a: 1, v: 1 }, St { a: 1, v: 2 }],
+        &[Ld { a: 1, r: 2 }, Ld { a: 1, r: 1 }],
+    ],
+    steps: &[
+        Base(1, 2, StoreStore),
+        Base(2, 3, Read),
+        Base(3, 4, LoadOp),
+        Inferred(2, 1, LoadPast, 4, &[2, 3, 4]),
+    ],
+    cycle: &[1, 2],
+};
+
+const MISSED: Case = Case {
+    name: "own_store_missed",
+    rows: &[&[St { a: 1, v: 1 }, Ld { a: 1, r: 0 }]],
+    steps: &[Base(0, 1, Init), Base(1, 0, Own)],
+    cycle: &[0, 1],
+};
+
+const LOST: Case = Case {
+    name: "replay_lost_drain",
+    rows: &[&[St { a: 1, v: 1 }, Mb, Ld { a: 1, r: 0 }]],
+    steps: &[Base(0, 1, Init), Base(1, 0, Own)],
+    cycle: &[0, 1],
+};
+
+const BOTH_FIRST: Case = Case {
+    name: "two_swaps_both_first",
+    rows: &[&[Sw { a: 1, r: 0, v: 1 }], &[Sw { a: 1, r: 0, v: 2 }]],
+    steps: &[
+        Base(0, 2, Init),
+        Base(0, 4, Init),
+        Inferred(1, 4, StorePast, 1, &[0, 4]),
+        Inferred(3, 2, StorePast, 3, &[0, 2]),
+        Inferred(2, 4, SwapAfter, 1, &[1, 4]),
+        Inferred(4, 2, SwapAfter, 3, &[3, 2]),
+    ],
+    cycle: &[2, 4],
+};
+
+const READS_ITSELF: Case = Case {
+    name: "swap_reads_itself",
+    rows: &[&[Sw { a: 1, r: 5, v: 5 }]],
+    steps: &[Base(1, 2, LoadOp), Base(2, 1, Read)],
+    cycle: &[1, 2],
+};
+
+const LOAD_FIRST: Case = Case {
+    name: "load_before_its_store",
+    rows: &[&[Ld { a: 1, r: 1 }, St { a: 1, v: 1 }]],
+    steps: &[Base(1, 2, LoadOp), Base(2, 1, Read)],
+    cycle: &[1, 2],
+};
+
+const AFTER_ITSELF: Case = Case {
+    name: "swap_after_itself",
+    rows: &[&[Sw { a: 1, r: 0, v: 5 }]],
+    steps: &[Base(1, 2, LoadOp), Inferred(2, 2, SwapAfter, 1, &[1, 2])],
+    cycle: &[2],
+};
+
+/// A list for each processor.
+fn lists_of(alloc: Global, rows: &[&[Outcome]]) -> Result<Vec<Vec<Outcome>>, AllocError> {
+    let mut lists = Vec::new(alloc);
+    for row in rows {
+        lists.push(row.to_vec(alloc)?)?;
+    }
+    Ok(lists)
+}
+
+/// The trace of processors that did and read this.
+fn trace_of(alloc: Global, order: Order, rows: &[&[Outcome]]) -> Result<Trace, ValueFault> {
+    Trace::with_order(alloc, order, lists_of(alloc, rows)?).map_err(|refused| refused.why)
+}
+
+/// That of version 2 under TSO, with this first value.
+fn trace_from(alloc: Global, first: (u16, u64), rows: &[&[Outcome]]) -> Result<Trace, ValueFault> {
+    let first = [first].to_vec(alloc)?;
+    Trace::with_first(alloc, Order::Tso, first, lists_of(alloc, rows)?).map_err(
+        |refused| refused.why,
+    )
+}
+
+fn step_of(alloc: Global, listed: Listed) -> Result<CertStep, AllocError> {
+    match listed {
+        Base(from, to, rule) => Ok(CertStep {
+            from,
+            to,
+            reason: Reason::Base(rule),
+        }),
+        Inferred(from, to, rule, load, path) => {
+            let path = NumList::new(path.to_vec(alloc)?);
+            Ok(CertStep {
+                from,
+                to,
+                reason: Reason::Inferred { rule, load, path },
+            })
+        }
     }
 }
 
-/// A step by an inferred rule, for this load and path.
-fn inferred(
-    alloc: Global,
-    from: u64,
-    to: u64,
-    rule: InferredRule,
-    load: u64,
-    path: &[u64],
-) -> Result<CertStep, AllocError> {
-    let path = NumList::new(path.to_vec(alloc)?);
-    Ok(CertStep {
-        from,
-        to,
-        reason: Reason::Inferred { rule, load, path },
-    })
+/// All steps but the one with this number, from 1.
+fn steps_of(alloc: Global, listed: &[Listed], less: usize) -> Result<Vec<CertStep>, AllocError> {
+    let mut steps = Vec::new(alloc);
+    for (k, step) in listed.iter().enumerate() {
+        if k.checked_add(1) != Some(less) {
+            steps.push(step_of(alloc, *step)?)?;
+        }
+    }
+    Ok(steps)
 }
 
+/// A certificate of a cycle.
 fn certificate(
     alloc: Global,
     steps: Vec<CertStep>,
@@ -43,331 +233,214 @@ fn certificate(
     })
 }
 
-/// These lists, owned.
-fn owned(alloc: Global, lists: &[&[Outcome]]) -> Result<Vec<Vec<Outcome>>, Fail> {
-    let mut owned = Vec::new(alloc);
-    for list in lists {
-        owned.push(list.to_vec(alloc)?)?;
-    }
-    Ok(owned)
+/// That of these steps, less the one with this number.
+fn certificate_of(
+    alloc: Global,
+    listed: &[Listed],
+    less: usize,
+    cycle: &[u64],
+) -> Result<Certificate, AllocError> {
+    certificate(alloc, steps_of(alloc, listed, less)?, cycle)
 }
 
-/// The trace of these lists.
-fn trace(alloc: Global, lists: &[&[Outcome]]) -> Result<Trace, Fail> {
-    Ok(Trace::new(alloc, owned(alloc, lists)?)?)
+fn checked(trace: &Trace, certificate: &Certificate) -> Result<(), CertFault> {
+    check(trace, certificate)
 }
 
-/// The trace of these lists under partial store order.
-fn pso_trace(alloc: Global, lists: &[&[Outcome]]) -> Result<Trace, Fail> {
-    Ok(Trace::with_order(alloc, Order::Pso, owned(alloc, lists)?)?)
+/// Compares what the check of a certificate against a trace says.
+fn expect<H: Abort>(
+    rt: &H,
+    name: &str,
+    trace: &Trace,
+    certificate: &Certificate,
+    expected: Result<(), CertFault>,
+) {
+    assert_eq!(rt; checked(trace, certificate), expected, "{name}");
 }
 
-fn st(a: u16, v: u64) -> Outcome {
-    Outcome::St { a, v }
+/// Compares what the check of a case says, under this memory model and less the step with this number.
+fn expect_case<H: Abort>(
+    rt: &H,
+    alloc: Global,
+    (case, order, less): (Case, Order, usize),
+    expected: Result<(), CertFault>,
+) -> Result<(), Fail> {
+    let trace = trace_of(alloc, order, case.rows)?;
+    let given = certificate_of(alloc, case.steps, less, case.cycle)?;
+    expect(rt, case.name, &trace, &given, expected);
+    Ok(())
 }
 
-fn ld(a: u16, r: u64) -> Outcome {
-    Outcome::Ld { a, r }
-}
-
-fn store_buffering_with_barriers(alloc: Global) -> Result<Trace, Fail> {
-    let first = [st(1, 1), Outcome::Mb, ld(2, 0)];
-    let second = [st(2, 2), Outcome::Mb, ld(1, 0)];
-    trace(alloc, &[&first, &second])
-}
-
-fn independent_reads(alloc: Global) -> Result<Trace, Fail> {
-    let third = [ld(1, 1), ld(2, 0)];
-    let fourth = [ld(2, 2), ld(1, 0)];
-    trace(alloc, &[&[st(1, 1)], &[st(2, 2)], &third, &fourth])
-}
-
-/// The steps of the certificate of `store_buffering_with_barriers`, less the one with this number.
-fn barrier_steps(alloc: Global, less: usize) -> Result<Vec<CertStep>, AllocError> {
-    let all = vec![in alloc;
-        base(0, 1, Init),
-        base(0, 3, Init),
-        base(1, 2, Membar),
-        base(3, 4, Membar),
-        inferred(alloc, 2, 3, StorePast, 2, &[0, 3])?,
-        inferred(alloc, 4, 1, StorePast, 4, &[0, 1])?,
-    ]?;
-    kept(alloc, all, less)
-}
-
-/// The steps of the certificate of `independent_reads`, less the one with this number.
-fn reader_steps(alloc: Global, less: usize) -> Result<Vec<CertStep>, AllocError> {
-    let all = vec![in alloc;
-        base(0, 1, Init),
-        base(0, 2, Init),
-        base(1, 3, Read),
-        base(2, 5, Read),
-        base(3, 4, LoadOp),
-        base(5, 6, LoadOp),
-        inferred(alloc, 4, 2, StorePast, 4, &[0, 2])?,
-        inferred(alloc, 6, 1, StorePast, 6, &[0, 1])?,
-    ]?;
-    kept(alloc, all, less)
-}
-
-/// All steps but the one with this number, from 1.
-fn kept(alloc: Global, all: Vec<CertStep>, less: usize) -> Result<Vec<CertStep>, AllocError> {
-    let mut steps = Vec::new(alloc);
-    for (k, step) in all.into_iter().enumerate() {
-        if k.checked_add(1) != Some(less) {
-            steps.push(step)?;
-        }
-    }
-    Ok(steps)
+/// Sees that the certificate of a case holds, under this memory model.
+fn expect_holding<H: Abort>(rt: &H, alloc: Global, case: Case, order: Order) -> Result<(), Fail> {
+    expect_case(rt, alloc, (case, order, 0), Ok(()))
 }
 
 #[test]
 fn certificates_of_litmus_tests_hold(rt: HostRuntime) -> Result<(), Fail> {
-    let alloc = rt.alloc();
-    let barriers = store_buffering_with_barriers(alloc)?;
-    let given = certificate(alloc, barrier_steps(alloc, 0)?, &[1, 2, 3, 4])?;
-    assert_eq!(rt;
-        check(&barriers, &given),
-        Ok(()),
-        "store_buffering_with_barriers"
-    );
-
-    let reads = independent_reads(alloc)?;
-    let given = certificate(alloc, reader_steps(alloc, 0)?, &[1, 3, 4, 2, 5, 6])?;
-    assert_eq!(rt; check(&reads, &given), Ok(()), "independent_reads");
-
+    for case in [BARRIERS, READS] {
+        expect_holding(&rt, rt.alloc(), case, Order::Tso)?;
+    }
     Ok(())
-}
-
-/// The certificate of message passing whose last load, event 4, reads the first value: the two stores are in order by
-/// this rule.
-fn passing_certificate(alloc: Global, rule: BaseRule) -> Result<Certificate, AllocError> {
-    let steps = vec![in alloc;
-        base(0, 1, Init),
-        base(1, 2, rule),
-        base(2, 3, Read),
-        base(3, 4, LoadOp),
-        inferred(alloc, 1, 0, LoadPast, 4, &[1, 2, 3, 4])?,
-    ]?;
-    certificate(alloc, steps, &[0, 1])
 }
 
 #[test]
 fn certificates_of_stale_reads_hold(rt: HostRuntime) -> Result<(), Fail> {
-    let alloc = rt.alloc();
-    let unwritten = trace(alloc, &[&[ld(1, 9)]])?;
-    assert_eq!(rt;
-        check(&unwritten, &Certificate::Unwritten(1)),
-        Ok(()),
-        "unwritten_load"
-    );
-
-    let stale = trace(alloc, &[&[st(1, 1), st(2, 2)], &[ld(2, 2), ld(1, 0)]])?;
-    assert_eq!(rt;
-        check(&stale, &passing_certificate(alloc, StoreStore)?),
-        Ok(()),
-        "message_passing_stale"
-    );
-
-    let past = trace(alloc, &[&[st(1, 1)], &[ld(1, 1), ld(1, 0)]])?;
-    let steps = vec![in alloc;
-        base(0, 1, Init),
-        base(1, 2, Read),
-        base(2, 3, LoadOp),
-        inferred(alloc, 1, 0, LoadPast, 3, &[1, 2, 3])?,
-    ]?;
-    assert_eq!(rt;
-        check(&past, &certificate(alloc, steps, &[0, 1])?),
-        Ok(()),
-        "replay_stale_load"
-    );
-
+    let unwritten = trace_of(rt.alloc(), Order::Tso, &[&[Ld { a: 1, r: 9 }]])?;
+    let given = Certificate::Unwritten(1);
+    expect(&rt, "unwritten_load", &unwritten, &given, Ok(()));
+    for case in [PASSING, STALE] {
+        expect_holding(&rt, rt.alloc(), case, Order::Tso)?;
+    }
     Ok(())
 }
 
-/// Message passing with these stores under partial store order: its last load reads the first value.
-fn pso_passing(alloc: Global, stores: &[Outcome]) -> Result<Trace, Fail> {
-    let reader = vec![in alloc; ld(2, 2), ld(1, 0)]?;
-    let lists = vec![in alloc; stores.to_vec(alloc)?, reader]?;
-    Ok(Trace::with_order(alloc, Order::Pso, lists)?)
-}
+const REFUSED_BASE: Result<(), CertFault> = Err(CertFault::BaseRefused(2));
+
+/// The stores of message passing under partial store order, what the check of the certificate with Stbar says, and that of
+/// the one with StoreStore.
+const PSO_STORES: [(&[Outcome], Result<(), CertFault>, Result<(), CertFault>); 3] = [
+    (
+        &[St { a: 1, v: 1 }, Sb, St { a: 2, v: 2 }],
+        Ok(()),
+        REFUSED_BASE,
+    ),
+    (
+        &[St { a: 1, v: 1 }, St { a: 2, v: 2 }],
+        REFUSED_BASE,
+        REFUSED_BASE,
+    ),
+    (
+        &[St { a: 1, v: 1 }, Mb, St { a: 2, v: 2 }],
+        REFUSED_BASE,
+        REFUSED_BASE,
+    ),
+];
+
+/// The loads of message passing, of which the last one reads the first value.
+const PSO_LOADS: [Outcome; 2] = [Ld { a: 2, r: 2 }, Ld { a: 1, r: 0 }];
 
 #[test]
 fn stores_of_partial_store_order(rt: HostRuntime) -> Result<(), Fail> {
     let alloc = rt.alloc();
-    let stbar = passing_certificate(alloc, Stbar)?;
-    let store_store = passing_certificate(alloc, StoreStore)?;
-    let refused = Err(CertFault::BaseRefused(2));
-    let cases: [(&[Outcome], Result<(), CertFault>); 3] = [
-        (&[st(1, 1), Outcome::Sb, st(2, 2)], Ok(())),
-        (&[st(1, 1), st(2, 2)], refused),
-        (&[st(1, 1), Outcome::Mb, st(2, 2)], refused),
-    ];
-    for (stores, answer) in cases {
-        let passing = pso_passing(alloc, stores)?;
-        assert_eq!(rt; check(&passing, &stbar), answer, "{stores:?}");
-        assert_eq!(rt; check(&passing, &store_store), refused, "{stores:?}");
+    let stbar = certificate_of(alloc, &PASSING_BY_STBAR, 0, &[0, 1])?;
+    let store_store = certificate_of(alloc, PASSING.steps, 0, &[0, 1])?;
+    for (stores, by_stbar, by_store_store) in PSO_STORES {
+        let passing = trace_of(alloc, Order::Pso, &[stores, &PSO_LOADS])?;
+        expect(&rt, "Stbar", &passing, &stbar, by_stbar);
+        expect(&rt, "StoreStore", &passing, &store_store, by_store_store);
     }
     Ok(())
 }
+
+/// Message passing whose last load reads the first value 7.
+const PASSING_FROM_7: [&[Outcome]; 2] = [
+    &[St { a: 1, v: 1 }, St { a: 2, v: 2 }],
+    &[Ld { a: 2, r: 2 }, Ld { a: 1, r: 7 }],
+];
+
+/// Loads of the value 0, which nothing wrote, and of the first value 7.
+const ZERO_AND_7: [&[Outcome]; 2] = [&[Ld { a: 1, r: 0 }], &[Ld { a: 1, r: 7 }]];
 
 #[test]
 fn certificates_from_first_values(rt: HostRuntime) -> Result<(), Fail> {
     let alloc = rt.alloc();
-    let lists = owned(alloc, &[&[st(1, 1), st(2, 2)], &[ld(2, 2), ld(1, 7)]])?;
-    let passing = Trace::with_first(alloc, Order::Tso, vec![in alloc; (1, 7)]?, lists)?;
-    assert_eq!(rt;
-        check(&passing, &passing_certificate(alloc, StoreStore)?),
+    let passing = trace_from(alloc, (1, 7), &PASSING_FROM_7)?;
+    let given = certificate_of(alloc, PASSING.steps, 0, &[0, 1])?;
+    expect(
+        &rt,
+        "first_values_message_passing",
+        &passing,
+        &given,
         Ok(()),
-        "first_values_message_passing"
     );
-
-    let lists = owned(alloc, &[&[ld(1, 0)], &[ld(1, 7)]])?;
-    let zero = Trace::with_first(alloc, Order::Tso, vec![in alloc; (1, 7)]?, lists)?;
-    assert_eq!(rt;
-        check(&zero, &Certificate::Unwritten(1)),
-        Ok(()),
-        "first_values_read_of_zero"
-    );
-    assert_eq!(rt;
-        check(&zero, &Certificate::Unwritten(2)),
-        Err(CertFault::NotUnwritten)
-    );
+    let zero = trace_from(alloc, (1, 7), &ZERO_AND_7)?;
+    let given = Certificate::Unwritten(1);
+    expect(&rt, "first_values_read_of_zero", &zero, &given, Ok(()));
+    let given = Certificate::Unwritten(2);
+    let refused = Err(CertFault::NotUnwritten);
+    expect(&rt, "a read of the first value", &zero, &given, refused);
     Ok(())
 }
 
-/// The certificate of a store read past by a later load of its address, event 4, under either memory model.
+/// The certificate is that of either memory model.
 #[test]
 fn stores_of_one_location_stay_in_order(rt: HostRuntime) -> Result<(), Fail> {
-    let alloc = rt.alloc();
-    let lists: [&[Outcome]; 2] = [&[st(1, 1), st(1, 2)], &[ld(1, 2), ld(1, 1)]];
-    for given in [trace(alloc, &lists)?, pso_trace(alloc, &lists)?] {
-        let steps = vec![in alloc;
-            base(1, 2, StoreStore),
-            base(2, 3, Read),
-            base(3, 4, LoadOp),
-            inferred(alloc, 2, 1, LoadPast, 4, &[2, 3, 4])?,
-        ]?;
-        assert_eq!(rt;
-            check(&given, &certificate(alloc, steps, &[1, 2])?),
-            Ok(()),
-            "one_location_backwards"
-        );
-    }
-    Ok(())
+    expect_holding(&rt, rt.alloc(), BACKWARDS, Order::Tso)?;
+    expect_holding(&rt, rt.alloc(), BACKWARDS, Order::Pso)
 }
 
 #[test]
 fn certificates_of_one_location_hold(rt: HostRuntime) -> Result<(), Fail> {
-    let alloc = rt.alloc();
-    let missed = trace(alloc, &[&[st(1, 1), ld(1, 0)]])?;
-    let lost = trace(alloc, &[&[st(1, 1), Outcome::Mb, ld(1, 0)]])?;
-    for (given, name) in [(missed, "own_store_missed"), (lost, "replay_lost_drain")] {
-        let steps = vec![in alloc; base(0, 1, Init), base(1, 0, Own)]?;
-        let given = check(&given, &certificate(alloc, steps, &[0, 1])?);
-        assert_eq!(rt; given, Ok(()), "{name}");
+    for case in [MISSED, LOST] {
+        expect_holding(&rt, rt.alloc(), case, Order::Tso)?;
     }
     Ok(())
 }
 
 #[test]
 fn certificates_of_swaps_hold(rt: HostRuntime) -> Result<(), Fail> {
-    let alloc = rt.alloc();
-    let both = trace(
-        alloc,
-        &[
-            &[Outcome::Sw { a: 1, r: 0, v: 1 }],
-            &[Outcome::Sw { a: 1, r: 0, v: 2 }],
-        ],
-    )?;
-    let steps = vec![in alloc;
-        base(0, 2, Init),
-        base(0, 4, Init),
-        inferred(alloc, 1, 4, StorePast, 1, &[0, 4])?,
-        inferred(alloc, 3, 2, StorePast, 3, &[0, 2])?,
-        inferred(alloc, 2, 4, SwapAfter, 1, &[1, 4])?,
-        inferred(alloc, 4, 2, SwapAfter, 3, &[3, 2])?,
-    ]?;
-    assert_eq!(rt;
-        check(&both, &certificate(alloc, steps, &[2, 4])?),
-        Ok(()),
-        "two_swaps_both_first"
-    );
-
-    let itself = trace(alloc, &[&[Outcome::Sw { a: 1, r: 5, v: 5 }]])?;
-    let before = trace(alloc, &[&[ld(1, 1), st(1, 1)]])?;
-    for given in [itself, before] {
-        let steps = vec![in alloc; base(1, 2, LoadOp), base(2, 1, Read)]?;
-        assert_eq!(rt; check(&given, &certificate(alloc, steps, &[1, 2])?), Ok(()));
+    for case in [BOTH_FIRST, READS_ITSELF, LOAD_FIRST] {
+        expect_holding(&rt, rt.alloc(), case, Order::Tso)?;
     }
-
-    let swap = trace(alloc, &[&[Outcome::Sw { a: 1, r: 0, v: 5 }]])?;
-    let steps = vec![in alloc;
-        base(1, 2, LoadOp),
-        inferred(alloc, 2, 2, SwapAfter, 1, &[1, 2])?,
-    ]?;
     let refused = Err(CertFault::SideRefused(2));
-    assert_eq!(rt;
-        check(&swap, &certificate(alloc, steps, &[2])?),
-        refused,
-        "swap_after_itself"
-    );
-    Ok(())
+    expect_case(&rt, rt.alloc(), (AFTER_ITSELF, Order::Tso, 0), refused)
 }
+
+/// Cases, the number of the step that is left out, and the refusal.
+const LESS_A_STEP: [(Case, usize, CertFault); 8] = [
+    (BARRIERS, 1, CertFault::PathUnlisted(5)),
+    (BARRIERS, 2, CertFault::PathUnlisted(4)),
+    (BARRIERS, 3, CertFault::CycleUnlisted),
+    (BARRIERS, 4, CertFault::CycleUnlisted),
+    (BARRIERS, 5, CertFault::CycleUnlisted),
+    (BARRIERS, 6, CertFault::CycleUnlisted),
+    (READS, 2, CertFault::PathUnlisted(6)),
+    (READS, 5, CertFault::CycleUnlisted),
+];
 
 #[test]
 fn certificates_less_a_step_are_refused(rt: HostRuntime) -> Result<(), Fail> {
-    let alloc = rt.alloc();
-    let barriers = store_buffering_with_barriers(alloc)?;
-    let wanted = [
-        (1, CertFault::PathUnlisted(5)),
-        (2, CertFault::PathUnlisted(4)),
-        (3, CertFault::CycleUnlisted),
-        (4, CertFault::CycleUnlisted),
-        (5, CertFault::CycleUnlisted),
-        (6, CertFault::CycleUnlisted),
-    ];
-    for (less, fault) in wanted {
-        let given = certificate(alloc, barrier_steps(alloc, less)?, &[1, 2, 3, 4])?;
-        assert_eq!(rt; check(&barriers, &given), Err(fault), "less step {less}");
-    }
-    let reads = independent_reads(alloc)?;
-    for (less, fault) in [
-        (2, CertFault::PathUnlisted(6)),
-        (5, CertFault::CycleUnlisted),
-    ] {
-        let given = certificate(alloc, reader_steps(alloc, less)?, &[1, 3, 4, 2, 5, 6])?;
-        assert_eq!(rt; check(&reads, &given), Err(fault), "less step {less}");
+    for (case, less, fault) in LESS_A_STEP {
+        expect_case(&rt, rt.alloc(), (case, Order::Tso, less), Err(fault))?;
     }
     Ok(())
+}
+
+/// Loads that are said to be unwritten, and the refusals.
+const NOT_UNWRITTEN: [(u64, CertFault); 3] = [
+    (0, CertFault::EventRange),
+    (2, CertFault::NotUnwritten),
+    (1, CertFault::NotUnwritten),
+];
+
+/// Steps and cycles, and the refusals.
+const OTHERS: [(&[Listed], &[u64], CertFault); 4] = [
+    (&[], &[], CertFault::EmptyCycle),
+    (&[], &[5], CertFault::EventRange),
+    (&[Base(1, 2, Read)], &[1], CertFault::BaseRefused(1)),
+    (
+        &[Inferred(2, 3, StorePast, 2, &[0, 3])],
+        &[2],
+        CertFault::PathUnlisted(1),
+    ),
+];
+
+/// Sees that these loads of a trace are not unwritten.
+fn expect_not_unwritten<H: Abort>(rt: &H, trace: &Trace) {
+    for (load, fault) in NOT_UNWRITTEN {
+        let given = Certificate::Unwritten(load);
+        expect(rt, "unwritten", trace, &given, Err(fault));
+    }
 }
 
 #[test]
 fn other_certificates_are_refused(rt: HostRuntime) -> Result<(), Fail> {
-    let alloc = rt.alloc();
-    let barriers = store_buffering_with_barriers(alloc)?;
-    let read = vec![in alloc; base(1, 2, Read)]?;
-    let unlisted = vec![in alloc; inferred(alloc, 2, 3, StorePast, 2, &[0, 3])?]?;
-    let cases = [
-        (Certificate::Unwritten(0), CertFault::EventRange),
-        (Certificate::Unwritten(2), CertFault::NotUnwritten),
-        (Certificate::Unwritten(1), CertFault::NotUnwritten),
-        (
-            certificate(alloc, Vec::new(alloc), &[])?,
-            CertFault::EmptyCycle,
-        ),
-        (
-            certificate(alloc, Vec::new(alloc), &[5])?,
-            CertFault::EventRange,
-        ),
-        (certificate(alloc, read, &[1])?, CertFault::BaseRefused(1)),
-        (
-            certificate(alloc, unlisted, &[2])?,
-            CertFault::PathUnlisted(1),
-        ),
-    ];
-    for (given, fault) in cases {
-        assert_eq!(rt; check(&barriers, &given), Err(fault), "{given:?}");
+    let barriers = trace_of(rt.alloc(), Order::Tso, BARRIERS.rows)?;
+    expect_not_unwritten(&rt, &barriers);
+    for (steps, cycle, fault) in OTHERS {
+        let given = certificate_of(rt.alloc(), steps, 0, cycle)?;
+        expect(&rt, "cycle", &barriers, &given, Err(fault));
     }
     Ok(())
 }
@@ -381,40 +454,54 @@ fn numbers_to(alloc: Global, last: u64) -> Result<Vec<u64>, AllocError> {
     Ok(numbers)
 }
 
+/// A load of what the last of 2,000 events stores, 1,998 other loads, and the store.
+fn long_list(alloc: Global) -> Result<Vec<Outcome>, AllocError> {
+    let mut list = [Ld { a: 1, r: 7 }].to_vec(alloc)?;
+    for _ in 0..1_998 {
+        list.push(Ld { a: 2, r: 0 })?;
+    }
+    list.push(St { a: 1, v: 7 })?;
+    Ok(list)
+}
+
+/// The steps from each of 2,000 events to the next, and from the last to the first.
+fn long_steps(alloc: Global) -> Result<Vec<CertStep>, AllocError> {
+    let mut steps = Vec::new(alloc);
+    for n in 1..2_000 {
+        steps.push(step_of(alloc, Base(n, n + 1, LoadOp))?)?;
+    }
+    steps.push(step_of(alloc, Base(2_000, 1, Read))?)?;
+    Ok(steps)
+}
+
 /// A load reads what the last of 2,000 events of its processor stores: each event comes before the next, and the last
 /// before the first.
 #[test]
 fn two_thousand_steps_hold(rt: HostRuntime) -> Result<(), Fail> {
     let alloc = rt.alloc();
-    let mut list = vec![in alloc; ld(1, 7)]?;
-    for _ in 0..1_998 {
-        list.push(ld(2, 0))?;
-    }
-    list.push(st(1, 7))?;
-    let given = trace(alloc, &[list.as_slice()])?;
-    let mut steps = Vec::new(alloc);
-    for n in 1..2_000 {
-        steps.push(base(n, n + 1, LoadOp))?;
-    }
-    steps.push(base(2_000, 1, Read))?;
+    let list = long_list(alloc)?;
+    let given = trace_of(alloc, Order::Tso, &[&list])?;
     let cycle = numbers_to(alloc, 2_000)?;
-    assert_eq!(rt; check(&given, &certificate(alloc, steps, &cycle)?), Ok(()));
+    let certificate = certificate(alloc, long_steps(alloc)?, &cycle)?;
+    expect(&rt, "2,000 steps", &given, &certificate, Ok(()));
     Ok(())
 }
 
+const FAULTS: [(CertFault, &str); 7] = [
+    (CertFault::EventRange, "EventRange"),
+    (CertFault::NotUnwritten, "NotUnwritten"),
+    (CertFault::BaseRefused(1), "BaseRefused step 1"),
+    (CertFault::SideRefused(20), "SideRefused step 20"),
+    (CertFault::PathUnlisted(3), "PathUnlisted step 3"),
+    (CertFault::CycleUnlisted, "CycleUnlisted"),
+    (CertFault::EmptyCycle, "EmptyCycle"),
+];
+
 #[test]
 fn texts_of_faults(rt: HostRuntime) -> Result<(), Fail> {
-    let alloc = rt.alloc();
-    for (fault, text) in [
-        (CertFault::EventRange, "EventRange"),
-        (CertFault::NotUnwritten, "NotUnwritten"),
-        (CertFault::BaseRefused(1), "BaseRefused step 1"),
-        (CertFault::SideRefused(20), "SideRefused step 20"),
-        (CertFault::PathUnlisted(3), "PathUnlisted step 3"),
-        (CertFault::CycleUnlisted, "CycleUnlisted"),
-        (CertFault::EmptyCycle, "EmptyCycle"),
-    ] {
-        assert_eq!(rt; format!(in alloc; "{fault}")?.as_str(), text);
+    for (fault, text) in FAULTS {
+        let printed = format!(in rt.alloc(); "{fault}")?;
+        assert!(rt; printed.as_str() == text, "{text}");
     }
     Ok(())
 }
