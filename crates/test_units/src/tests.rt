@@ -3,31 +3,19 @@ ghost use Rattle.std.specs.Prelude.{◌≡◌, []};
 
 mod buffered;
 mod by_hand;
+mod calls;
 mod drawn;
 mod ends;
 mod replayed;
 
 use crate::{CallCounts, CountingUnit, RefusingUnit, issue_program};
 use std::alloc::{AllocError, Global};
+use std::process::Abort;
 use std::sync::Arc;
 use std::sync::atomic::Ordering;
 use tso_ops::{Op, Order, Outcome, Program, Trace, ValueFault};
 use unit_core::{Account, MemoryUnit, Recorded, conclude, conclude_over};
 use unit_kinds::SerialUnit;
-
-const STBAR: Op = Op::Sb;
-
-fn ld(a: u16) -> Op {
-    Op::Ld { a }
-}
-
-fn st(a: u16, v: u64) -> Op {
-    Op::St { a, v }
-}
-
-fn sw(a: u16, v: u64) -> Op {
-    Op::Sw { a, v }
-}
 
 /// A list of each row.
 fn lists_of<T: Copy>(alloc: Global, rows: &[&[T]]) -> Result<Vec<Vec<T>>, AllocError> {
@@ -50,9 +38,15 @@ fn trace_of(alloc: Global, order: Order, rows: &[&[Outcome]]) -> Result<Trace, V
 
 /// Whether two traces are equal as values: version, memory model, first values and operations.
 fn are_equal(one: &Trace, other: &Trace) -> bool {
-    let settings = (one.version(), one.order()) == (other.version(), other.order());
-    let first = (0..256u16).all(|a| one.first(a) == other.first(a));
-    settings && first && have_equal_operations(one, other)
+    one.version() == other.version()
+        && one.order() == other.order()
+        && have_equal_first(one, other)
+        && have_equal_operations(one, other)
+}
+
+/// Whether each address has the same first value in two traces.
+fn have_equal_first(one: &Trace, other: &Trace) -> bool {
+    (0..256u16).all(|a| one.first(a) == other.first(a))
 }
 
 /// Whether each processor of two traces did and read the same, and both have as many.
@@ -69,13 +63,57 @@ fn have_equal_operations(one: &Trace, other: &Trace) -> bool {
     true
 }
 
+/// Whether these are the processors of a trace, each of which did and read this.
+fn has_rows(trace: &Trace, rows: &[&[Outcome]]) -> bool {
+    let processors = trace.processors();
+    if processors != rows.len() {
+        return false;
+    }
+    for p in 0..processors {
+        if trace.ops(p) != rows[p] {
+            return false;
+        }
+    }
+    true
+}
+
+/// Whether a record is lawful or not, as is said, and its processors did and read this.
+fn is_record(recorded: &Recorded, lawful: bool, rows: &[&[Outcome]]) -> bool {
+    recorded.lawful() == lawful && has_rows(recorded.trace(), rows)
+}
+
 /// Two processors that store, and load from the other's address; the first swaps too.
+const BUFFERING: [&[Op]; 2] = [
+    &[
+        Op::St { a: 1, v: 1 },
+        Op::Mb,
+        Op::Ld { a: 2 },
+        Op::Sw { a: 3, v: 3 },
+    ],
+    &[Op::St { a: 2, v: 2 }, Op::Ld { a: 1 }],
+];
+
 fn store_buffering(alloc: Global, order: Order) -> Result<Program, ValueFault> {
-    program_of(
-        alloc,
-        order,
-        &[&[st(1, 1), Op::Mb, ld(2), sw(3, 3)], &[st(2, 2), ld(1)]],
-    )
+    program_of(alloc, order, &BUFFERING)
+}
+
+/// Numbers of calls, none yet.
+fn new_counts(alloc: Global) -> Result<Arc<CallCounts, Global>, AllocError> {
+    Ok(Arc::new(alloc, CallCounts::new())?)
+}
+
+fn drops_of(counts: &CallCounts) -> u64 {
+    counts.drops.load(Ordering::SeqCst)
+}
+
+/// Compares an account.
+fn expect_account<H: Abort>(rt: &H, account: &Account, expected: &Account) {
+    assert_eq!(rt; account, expected);
+}
+
+/// Compares the numbers of calls that were counted.
+fn expect_numbers<H: Abort>(rt: &H, counts: &CallCounts, expected: [u64; 7]) {
+    assert_eq!(rt; numbers_of(counts), expected);
 }
 
 /// How many loads, stores, swaps, membars, STBARs, drains and drops were counted.

@@ -1,12 +1,16 @@
 //! The end of a unit: its record, its account and its drop.
 
-use super::{STBAR, ld, numbers_of, program_of, run_counted, run_over, st, store_buffering};
+use super::{
+    drops_of, expect_account, expect_numbers, is_record, lists_of, new_counts, program_of,
+    run_counted, run_over, store_buffering,
+};
 use crate::{CallCounts, INVENTED, InventingUnit};
+use std::alloc::{AllocError, Global};
 use std::sync::Arc;
 use std::sync::atomic::Ordering;
 use std::test::Fail;
-use tso_ops::{Order, Outcome, Program, Version};
-use unit_core::Account;
+use tso_ops::{Op, Order, Outcome, Program, Trace, ValueFault, Version};
+use unit_core::{Account, Recorded};
 use unit_kinds::SerialUnit;
 
 /// The account of `store_buffering` on a serial unit.
@@ -19,33 +23,28 @@ const ACCOUNT: Account = Account {
     closed: true,
 };
 
+/// What the processors of `store_buffering` did and read on a serial unit.
+const ROWS: [&[Outcome]; 2] = [
+    &[
+        Outcome::St { a: 1, v: 1 },
+        Outcome::Mb,
+        Outcome::Ld { a: 2, r: 0 },
+        Outcome::Sw { a: 3, r: 0, v: 3 },
+    ],
+    &[Outcome::St { a: 2, v: 2 }, Outcome::Ld { a: 1, r: 1 }],
+];
+
 #[test]
 fn lawful_unit_gives_a_lawful_record(rt: HostRuntime) -> Result<(), Fail> {
     let alloc = rt.alloc();
     let program = store_buffering(alloc, Order::Tso)?;
-    let counts = Arc::new(alloc, CallCounts::new())?;
+    let counts = new_counts(alloc)?;
     let mut account = Account::new();
     assert!(rt; !account.closed);
     let recorded = run_counted(alloc, &program, 0, &counts, &mut account)?;
-    assert!(rt; recorded.lawful());
-    let trace = recorded.trace();
-    assert!(rt; trace.processors() == 2);
-    assert_eq!(rt;
-        trace.ops(0),
-        [
-            Outcome::St { a: 1, v: 1 },
-            Outcome::Mb,
-            Outcome::Ld { a: 2, r: 0 },
-            Outcome::Sw { a: 3, r: 0, v: 3 },
-        ]
-        .as_slice()
-    );
-    assert_eq!(rt;
-        trace.ops(1),
-        [Outcome::St { a: 2, v: 2 }, Outcome::Ld { a: 1, r: 1 }].as_slice()
-    );
-    assert_eq!(rt; account, ACCOUNT);
-    assert_eq!(rt; numbers_of(&counts), [2, 2, 1, 1, 0, 2, 1]);
+    assert!(rt; is_record(&recorded, true, &ROWS));
+    expect_account(&rt, &account, &ACCOUNT);
+    expect_numbers(&rt, &counts, [2, 2, 1, 1, 0, 2, 1]);
     Ok(())
 }
 
@@ -54,94 +53,116 @@ fn refused_drains_end_the_unit(rt: HostRuntime) -> Result<(), Fail> {
     let alloc = rt.alloc();
     let program = store_buffering(alloc, Order::Tso)?;
     for refused in 7..9u64 {
-        let counts = Arc::new(alloc, CallCounts::new())?;
+        let counts = new_counts(alloc)?;
         let mut account = Account::new();
         let answer = run_counted(alloc, &program, refused, &counts, &mut account);
-        assert!(rt; answer.is_err(), "call {refused}");
-        assert_eq!(rt; account, ACCOUNT, "call {refused}");
-        assert_eq!(rt; counts.drops.load(Ordering::SeqCst), 1, "call {refused}");
+        assert!(rt; answer.is_err() && drops_of(&counts) == 1, "call {refused}");
+        expect_account(&rt, &account, &ACCOUNT);
     }
     Ok(())
 }
 
+/// The program's run on an inventing unit.
+fn run_inventing(
+    alloc: Global,
+    program: &Program,
+    account: &mut Account,
+) -> Result<Recorded, AllocError> {
+    run_over(alloc, program, InventingUnit::new(alloc)?, account)
+}
+
+const LOADED: [&[Op]; 1] = [&[Op::St { a: 1, v: 1 }, Op::Ld { a: 1 }]];
+
+const INVENTED_ROWS: [&[Outcome]; 1] = [&[
+    Outcome::St { a: 1, v: 1 },
+    Outcome::Ld { a: 1, r: INVENTED },
+]];
+
 #[test]
 fn invented_answers_are_recorded(rt: HostRuntime) -> Result<(), Fail> {
-    let alloc = rt.alloc();
-    let program = program_of(alloc, Order::Tso, &[&[st(1, 1), ld(1)]])?;
+    let program = program_of(rt.alloc(), Order::Tso, &LOADED)?;
     let mut account = Account::new();
-    let recorded = run_over(alloc, &program, InventingUnit::new(alloc)?, &mut account)?;
-    assert!(rt; !recorded.lawful());
-    let trace = recorded.trace();
-    assert!(rt; trace.processors() == 1);
-    assert_eq!(rt;
-        trace.ops(0),
-        [
-            Outcome::St { a: 1, v: 1 },
-            Outcome::Ld { a: 1, r: INVENTED },
-        ]
-        .as_slice()
-    );
-    assert_eq!(rt;
-        (account.loads, account.drains, account.closed),
-        (1, 1, true)
-    );
+    let recorded = run_inventing(rt.alloc(), &program, &mut account)?;
+    assert!(rt; is_record(&recorded, false, &INVENTED_ROWS));
+    assert!(rt; account.loads == 1 && account.drains == 1 && account.closed);
     Ok(())
 }
 
+/// The program's run on a serial unit.
+fn run_serial(
+    alloc: Global,
+    program: &Program,
+    account: &mut Account,
+) -> Result<Recorded, AllocError> {
+    run_over(alloc, program, SerialUnit::new(alloc)?, account)
+}
+
+/// The program under PSO of one processor with this first value.
+fn program_with(alloc: Global, first: (u16, u64), ops: &[Op]) -> Result<Program, ValueFault> {
+    let lists = lists_of(alloc, &[ops])?;
+    Program::with_first(alloc, Order::Pso, [first].to_vec(alloc)?, lists).map_err(
+        |refused| refused.why,
+    )
+}
+
+/// Whether a trace is of version 2 and under PSO, and has this first value at address 2 and 0 at address 1.
+fn has_setting(trace: &Trace, first: u64) -> bool {
+    let is_pso = trace.version() == Version::Two && trace.order() == Order::Pso;
+    is_pso && trace.first(2) == first && trace.first(1) == 0
+}
+
+const STBARRED: [Op; 3] = [Op::Ld { a: 2 }, Op::Sb, Op::Ld { a: 1 }];
+
+const STBARRED_ROWS: [&[Outcome]; 1] = [&[
+    Outcome::Ld { a: 2, r: 9 },
+    Outcome::Sb,
+    Outcome::Ld { a: 1, r: 0 },
+]];
+
 #[test]
 fn records_have_the_setting_of_the_program(rt: HostRuntime) -> Result<(), Fail> {
-    let alloc = rt.alloc();
-    let lists = vec![in alloc; vec![in alloc; ld(2), STBAR, ld(1)]?]?;
-    let first = vec![in alloc; (2, 9)]?;
-    let program = Program::with_first(alloc, Order::Pso, first, lists).map_err(
-        |refused| refused.why,
-    )?;
+    let program = program_with(rt.alloc(), (2, 9), &STBARRED)?;
     let mut account = Account::new();
-    let recorded = run_over(alloc, &program, SerialUnit::new(alloc)?, &mut account)?;
-    let trace = recorded.trace();
-    assert!(rt; recorded.lawful());
-    assert_eq!(rt;
-        (trace.order(), trace.version()),
-        (Order::Pso, Version::Two)
-    );
-    assert_eq!(rt; (trace.first(2), trace.first(1)), (9, 0));
-    assert!(rt; trace.processors() == 1);
-    assert_eq!(rt;
-        trace.ops(0),
-        [
-            Outcome::Ld { a: 2, r: 9 },
-            Outcome::Sb,
-            Outcome::Ld { a: 1, r: 0 },
-        ]
-        .as_slice()
-    );
+    let recorded = run_serial(rt.alloc(), &program, &mut account)?;
+    assert!(rt; is_record(&recorded, true, &STBARRED_ROWS));
+    assert!(rt; has_setting(recorded.trace(), 9));
     Ok(())
+}
+
+/// `store_buffering`, once more where an allocation was refused.
+fn program_again(alloc: Global) -> Result<Program, ValueFault> {
+    match store_buffering(alloc, Order::Tso) {
+        Ok(program) => Ok(program),
+        Err(_) => store_buffering(alloc, Order::Tso),
+    }
+}
+
+/// Numbers of calls, made once more where an allocation was refused.
+pub(super) fn counts_again(alloc: Global) -> Result<Arc<CallCounts, Global>, AllocError> {
+    match new_counts(alloc) {
+        Ok(counts) => Ok(counts),
+        Err(_) => new_counts(alloc),
+    }
 }
 
 /// Runs once more where an allocation was refused: `rt try --test --fail-alloc N` refuses the Nth.
 #[test]
 fn refused_allocations_close_the_account(rt: HostRuntime) -> Result<(), Fail> {
     let alloc = rt.alloc();
-    let program = match store_buffering(alloc, Order::Tso) {
-        Ok(program) => program,
-        Err(_) => store_buffering(alloc, Order::Tso)?,
-    };
-    let counts = match Arc::new(alloc, CallCounts::new()) {
-        Ok(counts) => counts,
-        Err(_) => Arc::new(alloc, CallCounts::new())?,
-    };
+    let program = program_again(alloc)?;
+    let counts = counts_again(alloc)?;
     let mut account = Account::new();
     let mut recorded = run_counted(alloc, &program, 0, &counts, &mut account);
     if recorded.is_err() {
         if account.closed {
-            assert_eq!(rt; account, ACCOUNT);
-            assert_eq!(rt; counts.drops.load(Ordering::SeqCst), 1);
+            expect_account(&rt, &account, &ACCOUNT);
+            assert!(rt; drops_of(&counts) == 1);
         }
         counts.drops.store(0, Ordering::SeqCst);
         recorded = run_counted(alloc, &program, 0, &counts, &mut account);
     }
     assert!(rt; recorded?.lawful());
-    assert_eq!(rt; account, ACCOUNT);
-    assert_eq!(rt; counts.drops.load(Ordering::SeqCst), 1);
+    expect_account(&rt, &account, &ACCOUNT);
+    assert!(rt; drops_of(&counts) == 1);
     Ok(())
 }

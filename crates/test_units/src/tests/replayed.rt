@@ -1,7 +1,10 @@
 //! Programs that are replayed by a schedule: the record, the account, the calls of the unit and its drop.
 
+use super::by_hand::{expect_calls, new_log};
+use super::ends::counts_again;
 use super::{
-    STBAR, are_equal, ld, lists_of, numbers_of, program_of, st, store_buffering, sw, trace_of,
+    are_equal, drops_of, expect_account, expect_numbers, lists_of, new_counts, program_of,
+    store_buffering, trace_of,
 };
 use crate::{
     Call, CallCounts, CallLog, CountingUnit, ForwardingUnit, INVENTED, InventingUnit, RefusingUnit,
@@ -37,29 +40,20 @@ fn closed(loads: usize, stores: usize, swaps: usize, membars: usize) -> Account 
     }
 }
 
-fn load_of(a: u16, r: u64) -> Outcome {
-    Outcome::Ld { a, r }
-}
-
-fn store_of(a: u16, v: u64) -> Outcome {
-    Outcome::St { a, v }
-}
-
 /// Two stores of the first processor, which the second loads in the other order.
-fn message_passing(alloc: Global) -> Result<Program, ValueFault> {
-    program_of(alloc, Order::Tso, &[&[st(1, 1), st(2, 2)], &[ld(2), ld(1)]])
-}
+const PASSING: [&[Op]; 2] = [
+    &[Op::St { a: 1, v: 1 }, Op::St { a: 2, v: 2 }],
+    &[Op::Ld { a: 2 }, Op::Ld { a: 1 }],
+];
 
-/// What the second processor of `message_passing` reads, beside what the first one stores.
+/// What the second processor of `PASSING` reads, beside what the first one stores.
 fn message_trace(alloc: Global, second: u64, first: u64) -> Result<Trace, ValueFault> {
-    trace_of(
-        alloc,
-        Order::Tso,
-        &[
-            &[store_of(1, 1), store_of(2, 2)],
-            &[load_of(2, second), load_of(1, first)],
-        ],
-    )
+    let stores = [Outcome::St { a: 1, v: 1 }, Outcome::St { a: 2, v: 2 }];
+    let loads = [
+        Outcome::Ld { a: 2, r: second },
+        Outcome::Ld { a: 1, r: first },
+    ];
+    trace_of(alloc, Order::Tso, &[&stores, &loads])
 }
 
 /// The program replayed on a serial unit in a box.
@@ -102,37 +96,29 @@ fn replays_as(
     Ok(recorded.lawful() && is_same && account == expected)
 }
 
-/// Whether `message_passing` by this schedule reads these values at addresses 2 and 1.
+/// Whether `PASSING` by this schedule reads these values at addresses 2 and 1.
 fn passes(alloc: Global, schedule: &[Act], second: u64, first: u64) -> Result<bool, ValueFault> {
-    let program = message_passing(alloc)?;
+    let program = program_of(alloc, Order::Tso, &PASSING)?;
     let trace = message_trace(alloc, second, first)?;
     Ok(replays_as(alloc, &program, schedule, &trace, closed(2, 2, 0, 0))?)
 }
 
-#[test]
-fn schedule_decides_what_is_read(rt: HostRuntime) -> Result<(), Fail> {
-    let alloc = rt.alloc();
-    let in_turn = [Issue(0), Issue(1), Issue(0), Issue(1)];
-    assert!(rt; passes(alloc, &in_turn, 0, 1)?);
-    assert!(rt; passes(alloc, &[Issue(1), Issue(1)], 0, 0)?);
-    assert!(rt; passes(alloc, &[Issue(0), Issue(0), Issue(1)], 2, 1)?);
-    let stores_between = [Issue(1), Issue(0), Issue(0), Issue(1)];
-    assert!(rt; passes(alloc, &stores_between, 0, 1)?);
-    Ok(())
-}
+/// Schedules, and what the second processor of `PASSING` reads by them.
+const PASSED: [(&[Act], u64, u64); 4] = [
+    (&[Issue(0), Issue(1), Issue(0), Issue(1)], 0, 1),
+    (&[Issue(1), Issue(1)], 0, 0),
+    (&[Issue(0), Issue(0), Issue(1)], 2, 1),
+    (&[Issue(1), Issue(0), Issue(0), Issue(1)], 0, 1),
+];
 
 #[test]
-fn program_of_pso_with_stbars(rt: HostRuntime) -> Result<(), Fail> {
-    let alloc = rt.alloc();
-    let ops: [&[Op]; 2] = [&[st(1, 1), STBAR, st(2, 2)], &[ld(2), STBAR, ld(1)]];
-    let program = program_of(alloc, Order::Pso, &ops)?;
-    let rows: [&[Outcome]; 2] = [
-        &[store_of(1, 1), Outcome::Sb, store_of(2, 2)],
-        &[load_of(2, 0), Outcome::Sb, load_of(1, 1)],
-    ];
-    let trace = trace_of(alloc, Order::Pso, &rows)?;
-    let schedule = [Issue(0), Issue(0), Issue(1), Issue(0), Issue(1)];
-    assert!(rt; replays_as(alloc, &program, &schedule, &trace, closed(2, 2, 0, 0))?);
+fn schedule_decides_what_is_read(rt: HostRuntime) -> Result<(), Fail> {
+    for (schedule, second, first) in PASSED {
+        assert!(rt;
+            passes(rt.alloc(), schedule, second, first)?,
+            "{schedule:?}"
+        );
+    }
     Ok(())
 }
 
@@ -160,67 +146,142 @@ fn trace_from(
     )
 }
 
+/// Operations under a memory model from first values, a schedule, and what is done and read by it.
+#[derive(Clone, Copy)]
+struct Replayed {
+    order: Order,
+    first: &'static [(u16, u64)],
+    ops: &'static [&'static [Op]],
+    schedule: &'static [Act],
+    rows: &'static [&'static [Outcome]],
+}
+
+/// Whether a replay on a serial unit in a box goes so from the first values, lawful, and gives this account.
+fn replays_from(alloc: Global, given: Replayed, expected: Account) -> Result<bool, ValueFault> {
+    let program = program_from(alloc, given.order, given.first, given.ops)?;
+    let trace = trace_from(alloc, given.order, given.first, given.rows)?;
+    Ok(replays_as(alloc, &program, given.schedule, &trace, expected)?)
+}
+
+/// Whether a replay goes so where nothing is said of first values.
+fn replays(alloc: Global, given: Replayed, expected: Account) -> Result<bool, ValueFault> {
+    let program = program_of(alloc, given.order, given.ops)?;
+    let trace = trace_of(alloc, given.order, given.rows)?;
+    Ok(replays_as(alloc, &program, given.schedule, &trace, expected)?)
+}
+
+const STBARS: Replayed = Replayed {
+    order: Order::Pso,
+    first: &[],
+    ops: &[
+        &[Op::St { a: 1, v: 1 }, Op::Sb, Op::St { a: 2, v: 2 }],
+        &[Op::Ld { a: 2 }, Op::Sb, Op::Ld { a: 1 }],
+    ],
+    schedule: &[Issue(0), Issue(0), Issue(1), Issue(0), Issue(1)],
+    rows: &[
+        &[
+            Outcome::St { a: 1, v: 1 },
+            Outcome::Sb,
+            Outcome::St { a: 2, v: 2 },
+        ],
+        &[
+            Outcome::Ld { a: 2, r: 0 },
+            Outcome::Sb,
+            Outcome::Ld { a: 1, r: 1 },
+        ],
+    ],
+};
+
 #[test]
-fn program_with_first_values(rt: HostRuntime) -> Result<(), Fail> {
-    let alloc = rt.alloc();
-    let first = [(2, 9), (255, 8)];
-    let ops: [&[Op]; 2] = [&[st(1, 1), ld(2)], &[sw(255, 3)]];
-    let program = program_from(alloc, Order::Tso, &first, &ops)?;
-    let swap = Outcome::Sw { a: 255, r: 8, v: 3 };
-    let rows: [&[Outcome]; 2] = [&[store_of(1, 1), load_of(2, 9)], &[swap]];
-    let trace = trace_from(alloc, Order::Tso, &first, &rows)?;
-    assert!(rt; replays_as(alloc, &program, &[Issue(0)], &trace, closed(1, 1, 1, 0))?);
+fn program_of_pso_with_stbars(rt: HostRuntime) -> Result<(), Fail> {
+    assert!(rt; replays(rt.alloc(), STBARS, closed(2, 2, 0, 0))?);
     Ok(())
 }
 
+const FIRST_VALUES: Replayed = Replayed {
+    order: Order::Tso,
+    first: &[(2, 9), (255, 8)],
+    ops: &[
+        &[Op::St { a: 1, v: 1 }, Op::Ld { a: 2 }],
+        &[Op::Sw { a: 255, v: 3 }],
+    ],
+    schedule: &[Issue(0)],
+    rows: &[
+        &[Outcome::St { a: 1, v: 1 }, Outcome::Ld { a: 2, r: 9 }],
+        &[Outcome::Sw { a: 255, r: 8, v: 3 }],
+    ],
+};
+
+#[test]
+fn program_with_first_values(rt: HostRuntime) -> Result<(), Fail> {
+    assert!(rt; replays_from(rt.alloc(), FIRST_VALUES, closed(1, 1, 1, 0))?);
+    Ok(())
+}
+
+const PSO_FIRST_VALUES: Replayed = Replayed {
+    order: Order::Pso,
+    first: &[(0, 7)],
+    ops: &[&[
+        Op::Ld { a: 0 },
+        Op::Sb,
+        Op::St { a: 0, v: 1 },
+        Op::Ld { a: 0 },
+    ]],
+    schedule: &[],
+    rows: &[&[
+        Outcome::Ld { a: 0, r: 7 },
+        Outcome::Sb,
+        Outcome::St { a: 0, v: 1 },
+        Outcome::Ld { a: 0, r: 1 },
+    ]],
+};
+
 #[test]
 fn program_of_pso_with_first_values(rt: HostRuntime) -> Result<(), Fail> {
-    let alloc = rt.alloc();
-    let first = [(0, 7)];
-    let ops: [&[Op]; 1] = [&[ld(0), STBAR, st(0, 1), ld(0)]];
-    let program = program_from(alloc, Order::Pso, &first, &ops)?;
-    let rows: [&[Outcome]; 1] = [&[load_of(0, 7), Outcome::Sb, store_of(0, 1), load_of(0, 1)]];
-    let trace = trace_from(alloc, Order::Pso, &first, &rows)?;
-    assert!(rt; replays_as(alloc, &program, &[], &trace, closed(2, 1, 0, 0))?);
+    assert!(rt; replays_from(rt.alloc(), PSO_FIRST_VALUES, closed(2, 1, 0, 0))?);
     Ok(())
 }
 
 /// Whether `st 1 1 | ld 1` by this schedule reads this value.
 fn reads(alloc: Global, schedule: &[Act], r: u64) -> Result<bool, ValueFault> {
-    let program = program_of(alloc, Order::Tso, &[&[st(1, 1)], &[ld(1)]])?;
-    let trace = trace_of(alloc, Order::Tso, &[&[store_of(1, 1)], &[load_of(1, r)]])?;
+    let store = [Outcome::St { a: 1, v: 1 }];
+    let load = [Outcome::Ld { a: 1, r }];
+    let program = program_of(alloc, Order::Tso, &STORE_AND_LOAD)?;
+    let trace = trace_of(alloc, Order::Tso, &[&store, &load])?;
     Ok(replays_as(alloc, &program, schedule, &trace, closed(1, 1, 0, 0))?)
 }
 
+const STORE_AND_LOAD: [&[Op]; 2] = [&[Op::St { a: 1, v: 1 }], &[Op::Ld { a: 1 }]];
+
+/// Schedules with processors that `STORE_AND_LOAD` doesn't have, and what it reads by them.
+const MISSING: [(&[Act], u64); 4] = [
+    (&[Issue(5), Drain(7), Issue(2), Drain(2)], 1),
+    (&[Issue(15), Drain(15), Issue(16), Drain(16)], 1),
+    (&[Issue(usize::MAX), Drain(usize::MAX)], 1),
+    (&[Issue(5), Issue(1), Drain(7)], 0),
+];
+
+/// Schedules with acts that find nothing to do, and what `STORE_AND_LOAD` reads by them.
+const NOTHING_LEFT: [(&[Act], u64); 4] = [
+    (&[], 1),
+    (&[Drain(0), Drain(1), Issue(0), Drain(0)], 1),
+    (&[Issue(0), Issue(0), Issue(0), Issue(1), Issue(1)], 1),
+    (&[Drain(1), Issue(1), Issue(1), Issue(1), Drain(0)], 0),
+];
+
 #[test]
 fn acts_on_processors_that_are_missing(rt: HostRuntime) -> Result<(), Fail> {
-    let alloc = rt.alloc();
-    assert!(rt; reads(alloc, &[Issue(5), Drain(7), Issue(2), Drain(2)], 1)?);
-    assert!(rt; reads(alloc, &[Issue(15), Drain(15), Issue(16), Drain(16)], 1)?);
-    assert!(rt; reads(alloc, &[Issue(usize::MAX), Drain(usize::MAX)], 1)?);
-    assert!(rt; reads(alloc, &[Issue(5), Issue(1), Drain(7)], 0)?);
+    for (schedule, r) in MISSING {
+        assert!(rt; reads(rt.alloc(), schedule, r)?, "{schedule:?}");
+    }
     Ok(())
 }
 
 #[test]
 fn acts_with_nothing_left(rt: HostRuntime) -> Result<(), Fail> {
-    let alloc = rt.alloc();
-    assert!(rt; reads(alloc, &[], 1)?);
-    assert!(rt; reads(alloc, &[Drain(0), Drain(1), Issue(0), Drain(0)], 1)?);
-    assert!(rt;
-        reads(
-            alloc,
-            &[Issue(0), Issue(0), Issue(0), Issue(1), Issue(1)],
-            1
-        )?
-    );
-    assert!(rt;
-        reads(
-            alloc,
-            &[Drain(1), Issue(1), Issue(1), Issue(1), Drain(0)],
-            0
-        )?
-    );
+    for (schedule, r) in NOTHING_LEFT {
+        assert!(rt; reads(rt.alloc(), schedule, r)?, "{schedule:?}");
+    }
     Ok(())
 }
 
@@ -232,35 +293,53 @@ fn does_nothing(alloc: Global, ops: &[&[Op]], rows: &[&[Outcome]]) -> Result<boo
     Ok(replays_as(alloc, &program, &schedule, &trace, closed(0, 0, 0, 0))?)
 }
 
+/// Processors without operations, and what they did.
+const IDLE: [(&[&[Op]], &[&[Outcome]]); 3] = [
+    (&[], &[]),
+    (&[&[]], &[&[]]),
+    (&[&[], &[]], &[&[], &[]]),
+];
+
 #[test]
 fn programs_without_operations(rt: HostRuntime) -> Result<(), Fail> {
-    let alloc = rt.alloc();
-    assert!(rt; does_nothing(alloc, &[], &[])?);
-    assert!(rt; does_nothing(alloc, &[&[]], &[&[]])?);
-    assert!(rt; does_nothing(alloc, &[&[], &[]], &[&[], &[]])?);
+    for (ops, rows) in IDLE {
+        assert!(rt; does_nothing(rt.alloc(), ops, rows)?, "{}", ops.len());
+    }
     Ok(())
 }
+
+const HANDED_IN: [&[Op]; 3] = [
+    &[
+        Op::St { a: 1, v: 1 },
+        Op::Sb,
+        Op::Ld { a: 2 },
+        Op::Mb,
+        Op::Sw { a: 3, v: 3 },
+    ],
+    &[
+        Op::Ld { a: 1 },
+        Op::Sb,
+        Op::Sb,
+        Op::St { a: 2, v: 2 },
+        Op::Mb,
+        Op::Mb,
+    ],
+    &[Op::St { a: 4, v: 4 }, Op::Ld { a: 1 }, Op::Ld { a: 3 }],
+];
+
+const HANDED_IN_ACTS: [Act; 5] = [Issue(2), Drain(1), Issue(3), Drain(3), Issue(0)];
 
 #[test]
 fn unit_that_is_handed_in_is_used(rt: HostRuntime) -> Result<(), Fail> {
     let alloc = rt.alloc();
-    let program = program_of(
-        alloc,
-        Order::Pso,
-        &[
-            &[st(1, 1), STBAR, ld(2), Op::Mb, sw(3, 3)],
-            &[ld(1), STBAR, STBAR, st(2, 2), Op::Mb, Op::Mb],
-            &[st(4, 4), ld(1), ld(3)],
-        ],
-    )?;
-    let schedule = [Issue(2), Drain(1), Issue(3), Drain(3), Issue(0)];
-    let counts = Arc::new(alloc, CallCounts::new())?;
+    let program = program_of(alloc, Order::Pso, &HANDED_IN)?;
+    let counts = new_counts(alloc)?;
     let mut account = OTHER;
-    let recorded = replay_counted(alloc, &program, &schedule, 0, &counts, &mut account)?;
+    let recorded = replay_counted(alloc, &program, &HANDED_IN_ACTS, 0, &counts, &mut account)?;
     assert!(rt; recorded.lawful());
-    assert_eq!(rt; account, closed(4, 3, 1, 3));
+    expect_account(&rt, &account, &closed(4, 3, 1, 3));
     // Four drains: one of the schedule, and one for each processor at the end.
-    assert_eq!(rt; numbers_of(&counts), [4, 3, 1, 3, 3, 4, 1]);
+    expect_numbers(&rt, &counts, [4, 3, 1, 3, 3, 4, 1]);
     Ok(())
 }
 
@@ -272,25 +351,32 @@ const FIRST_ACTS: [Act; 3] = [Issue(1), Issue(0), Drain(0)];
 /// one drop of the unit.
 fn refused_at(alloc: Global, refused: u64, expected: Account) -> Result<bool, ValueFault> {
     let program = store_buffering(alloc, Order::Tso)?;
-    let counts = Arc::new(alloc, CallCounts::new())?;
+    let counts = new_counts(alloc)?;
     let mut account = OTHER;
     let answer = replay_counted(alloc, &program, &FIRST_ACTS, refused, &counts, &mut account);
-    let drops = counts.drops.load(Ordering::SeqCst);
-    Ok(matches!(&answer, Err(AllocError)) && account == expected && drops == 1)
+    let is_dropped = drops_of(&counts) == 1;
+    Ok(matches!(&answer, Err(AllocError)) && account == expected && is_dropped)
 }
+
+/// For each call that is refused, from the first on, the loads, stores, swaps and membars of the account.
+const REFUSED: [(u64, [usize; 4]); 9] = [
+    (1, [0, 0, 0, 0]),
+    (2, [0, 1, 0, 0]),
+    (3, [0, 2, 0, 0]),
+    (4, [0, 2, 0, 0]),
+    (5, [0, 2, 0, 1]),
+    (6, [1, 2, 0, 1]),
+    (7, [1, 2, 1, 1]),
+    (8, [2, 2, 1, 1]),
+    (9, [2, 2, 1, 1]),
+];
 
 #[test]
 fn refused_calls_end_the_unit(rt: HostRuntime) -> Result<(), Fail> {
-    let alloc = rt.alloc();
-    assert!(rt; refused_at(alloc, 1, closed(0, 0, 0, 0))?);
-    assert!(rt; refused_at(alloc, 2, closed(0, 1, 0, 0))?);
-    assert!(rt; refused_at(alloc, 3, closed(0, 2, 0, 0))?);
-    assert!(rt; refused_at(alloc, 4, closed(0, 2, 0, 0))?);
-    assert!(rt; refused_at(alloc, 5, closed(0, 2, 0, 1))?);
-    assert!(rt; refused_at(alloc, 6, closed(1, 2, 0, 1))?);
-    assert!(rt; refused_at(alloc, 7, closed(1, 2, 1, 1))?);
-    assert!(rt; refused_at(alloc, 8, closed(2, 2, 1, 1))?);
-    assert!(rt; refused_at(alloc, 9, closed(2, 2, 1, 1))?);
+    for (refused, [loads, stores, swaps, membars]) in REFUSED {
+        let account = closed(loads, stores, swaps, membars);
+        assert!(rt; refused_at(rt.alloc(), refused, account)?, "call {refused}");
+    }
     Ok(())
 }
 
@@ -298,88 +384,118 @@ fn refused_calls_end_the_unit(rt: HostRuntime) -> Result<(), Fail> {
 fn call_past_the_last_is_not_refused(rt: HostRuntime) -> Result<(), Fail> {
     let alloc = rt.alloc();
     let program = store_buffering(alloc, Order::Tso)?;
-    let counts = Arc::new(alloc, CallCounts::new())?;
+    let counts = new_counts(alloc)?;
     let mut account = OTHER;
     let recorded = replay_counted(alloc, &program, &FIRST_ACTS, 10, &counts, &mut account)?;
     assert!(rt; recorded.lawful());
-    assert_eq!(rt; account, closed(2, 2, 1, 1));
-    assert_eq!(rt; counts.drops.load(Ordering::SeqCst), 1);
+    expect_account(&rt, &account, &closed(2, 2, 1, 1));
+    assert!(rt; drops_of(&counts) == 1);
     Ok(())
 }
+
+/// The program replayed, in a box, on a serial unit whose calls are noted in this list.
+fn replay_forwarding(
+    alloc: Global,
+    program: &Program,
+    schedule: &[Act],
+    log: &Arc<CallLog, Global>,
+) -> Result<Recorded, AllocError> {
+    let unit = ForwardingUnit::new(SerialUnit::new(alloc)?, Arc::try_clone(log)?);
+    let unit: Box<dyn MemoryUnit + Send> = Box::new(alloc, unit)?;
+    let mut account = OTHER;
+    replay(alloc, unit, program, schedule, &mut account)
+}
+
+const SCHEDULED: [&[Op]; 2] = [
+    &[Op::St { a: 1, v: 1 }, Op::Ld { a: 2 }, Op::Mb],
+    &[
+        Op::Sw { a: 3, v: 3 },
+        Op::St { a: 2, v: 2 },
+        Op::Ld { a: 1 },
+    ],
+];
+
+const SCHEDULED_ACTS: [Act; 6] = [Issue(1), Drain(1), Issue(0), Drain(5), Issue(1), Issue(7)];
+
+const SCHEDULED_CALLS: [Call; 9] = [
+    Call::Swap,
+    Call::Drain,
+    Call::Store,
+    Call::Store,
+    Call::Load,
+    Call::Membar,
+    Call::Load,
+    Call::Drain,
+    Call::Drain,
+];
 
 #[test]
 fn calls_go_by_the_schedule(rt: HostRuntime) -> Result<(), Fail> {
     let alloc = rt.alloc();
-    let program = program_of(
-        alloc,
-        Order::Tso,
-        &[&[st(1, 1), ld(2), Op::Mb], &[sw(3, 3), st(2, 2), ld(1)]],
-    )?;
-    let schedule = [Issue(1), Drain(1), Issue(0), Drain(5), Issue(1), Issue(7)];
-    let log = Arc::new(alloc, CallLog::new(alloc, 12)?)?;
-    let unit = ForwardingUnit::new(SerialUnit::new(alloc)?, Arc::try_clone(&log)?);
-    let unit: Box<dyn MemoryUnit + Send> = Box::new(alloc, unit)?;
-    let mut account = OTHER;
-    let recorded = replay(alloc, unit, &program, &schedule, &mut account)?;
+    let program = program_of(alloc, Order::Tso, &SCHEDULED)?;
+    let log = new_log(alloc, 12)?;
+    let recorded = replay_forwarding(alloc, &program, &SCHEDULED_ACTS, &log)?;
     assert!(rt; recorded.lawful());
-    assert_eq!(rt;
-        log.calls(alloc)?.as_slice(),
-        [
-            Call::Swap,
-            Call::Drain,
-            Call::Store,
-            Call::Store,
-            Call::Load,
-            Call::Membar,
-            Call::Load,
-            Call::Drain,
-            Call::Drain,
-        ]
-        .as_slice()
-    );
-    Ok(())
+    Ok(expect_calls(&rt, alloc, &log, &SCHEDULED_CALLS)?)
+}
+
+/// The program replayed on an inventing unit, in no box.
+fn replay_inventing(
+    alloc: Global,
+    program: &Program,
+    schedule: &[Act],
+    account: &mut Account,
+) -> Result<Recorded, AllocError> {
+    replay_over(
+        alloc,
+        InventingUnit::new(alloc)?,
+        program,
+        schedule,
+        account,
+    )
 }
 
 #[test]
 fn unit_of_any_type_is_replayed(rt: HostRuntime) -> Result<(), Fail> {
     let alloc = rt.alloc();
-    let program = message_passing(alloc)?;
+    let program = program_of(alloc, Order::Tso, &PASSING)?;
     let mut account = OTHER;
-    let schedule = [Issue(1), Issue(0)];
-    let unit = InventingUnit::new(alloc)?;
-    let recorded = replay_over(alloc, unit, &program, &schedule, &mut account)?;
+    let recorded = replay_inventing(alloc, &program, &[Issue(1), Issue(0)], &mut account)?;
     assert!(rt; !recorded.lawful());
     let expected = message_trace(alloc, INVENTED, INVENTED)?;
     assert!(rt; are_equal(recorded.trace(), &expected));
-    assert_eq!(rt; account, closed(2, 2, 0, 0));
+    expect_account(&rt, &account, &closed(2, 2, 0, 0));
     Ok(())
 }
+
+/// The program of `PASSING`, made once more where an allocation was refused.
+fn passing_again(alloc: Global) -> Result<Program, ValueFault> {
+    match program_of(alloc, Order::Tso, &PASSING) {
+        Ok(program) => Ok(program),
+        Err(_) => program_of(alloc, Order::Tso, &PASSING),
+    }
+}
+
+/// The schedule of the replay of which an allocation is refused.
+const REFUSED_ACTS: [Act; 3] = [Issue(0), Issue(1), Drain(0)];
 
 /// Runs once more where an allocation was refused: `rt try --test --fail-alloc N` refuses the Nth.
 #[test]
 fn refused_allocations_close_the_account_of_a_replay(rt: HostRuntime) -> Result<(), Fail> {
     let alloc = rt.alloc();
-    let program = match message_passing(alloc) {
-        Ok(program) => program,
-        Err(_) => message_passing(alloc)?,
-    };
-    let counts = match Arc::new(alloc, CallCounts::new()) {
-        Ok(counts) => counts,
-        Err(_) => Arc::new(alloc, CallCounts::new())?,
-    };
-    let schedule = [Issue(0), Issue(1), Drain(0)];
+    let program = passing_again(alloc)?;
+    let counts = counts_again(alloc)?;
     let mut account = Account::new();
-    let mut recorded = replay_counted(alloc, &program, &schedule, 0, &counts, &mut account);
+    let mut recorded = replay_counted(alloc, &program, &REFUSED_ACTS, 0, &counts, &mut account);
     if recorded.is_err() {
         if account.closed {
-            assert_eq!(rt; account.drains, account.stores);
-            assert_eq!(rt; counts.drops.load(Ordering::SeqCst), 1);
+            assert!(rt; account.drains == account.stores && drops_of(&counts) == 1);
         }
         counts.drops.store(0, Ordering::SeqCst);
-        recorded = replay_counted(alloc, &program, &schedule, 0, &counts, &mut account);
+        recorded = replay_counted(alloc, &program, &REFUSED_ACTS, 0, &counts, &mut account);
     }
     assert!(rt; recorded?.lawful());
-    assert_eq!(rt; account, closed(2, 2, 0, 0));
-    assert_eq!(rt; counts.drops.load(Ordering::SeqCst), 1);
+    expect_account(&rt, &account, &closed(2, 2, 0, 0));
+    assert!(rt; drops_of(&counts) == 1);
     Ok(())
 }
