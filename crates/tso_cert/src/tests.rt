@@ -1,66 +1,121 @@
 use crate::{BaseRule, CertStep, Certificate, InferredRule, NumList, Reason, StepList};
+use std::alloc::{AllocError, Global};
+use std::process::Abort;
 use std::test::Fail;
 
 mod faults;
 mod refused_allocations;
 mod texts;
 
+/// A step of a certificate: the two ends and the rule; for an inferred rule the load and the path too.
+#[derive(Clone, Copy)]
+enum Listed {
+    Base(u64, u64, BaseRule),
+    Inferred(u64, u64, InferredRule, u64, &'static [u64]),
+}
+
+use Listed::{Base, Inferred};
+
+fn step_of(alloc: Global, listed: Listed) -> Result<CertStep, AllocError> {
+    match listed {
+        Base(from, to, rule) => Ok(CertStep {
+            from,
+            to,
+            reason: Reason::Base(rule),
+        }),
+        Inferred(from, to, rule, load, path) => {
+            let path = NumList::new(path.to_vec(alloc)?);
+            Ok(CertStep {
+                from,
+                to,
+                reason: Reason::Inferred { rule, load, path },
+            })
+        }
+    }
+}
+
+/// The certificate of these steps and this cycle.
+fn certificate_of(
+    alloc: Global,
+    listed: &[Listed],
+    cycle: &[u64],
+) -> Result<Certificate, AllocError> {
+    let mut steps = Vec::new(alloc);
+    for step in listed {
+        steps.push(step_of(alloc, *step)?)?;
+    }
+    Ok(Certificate::Cycle {
+        steps: StepList::new(steps),
+        cycle: NumList::new(cycle.to_vec(alloc)?),
+    })
+}
+
+fn is_step(step: &CertStep, listed: Listed) -> bool {
+    match (&step.reason, listed) {
+        (Reason::Base(rule), Base(from, to, listed_rule)) => {
+            step.from == from && step.to == to && *rule == listed_rule
+        }
+        (
+            Reason::Inferred { rule, load, path },
+            Inferred(from, to, listed_rule, listed_load, listed_path),
+        ) => {
+            let is_same_rule = *rule == listed_rule && *load == listed_load;
+            let is_same_step = step.from == from && step.to == to && is_same_rule;
+            is_same_step && path.items() == listed_path
+        }
+        _ => false,
+    }
+}
+
+fn are_steps(steps: &[CertStep], listed: &[Listed]) -> bool {
+    let is_each = steps
+        .iter()
+        .zip(listed)
+        .all(|(step, listed)| is_step(step, *listed));
+    steps.len() == listed.len() && is_each
+}
+
+/// Whether a certificate is that of these steps and this cycle.
+fn is_certificate(certificate: &Certificate, listed: &[Listed], numbers: &[u64]) -> bool {
+    match certificate {
+        Certificate::Cycle { steps, cycle } => {
+            are_steps(steps.items(), listed) && cycle.items() == numbers
+        }
+        Certificate::Unwritten(_) => false,
+    }
+}
+
+/// Compares a text of this case.
+fn expect_text<H: Abort>(rt: &H, case: &str, text: &str, expected: &str) {
+    assert_eq!(rt; text, expected, "{case}");
+}
+
+/// Compares the numbers of a list.
+fn expect_items<H: Abort>(rt: &H, numbers: &NumList, expected: &[u64]) {
+    assert_eq!(rt; numbers.items(), expected);
+}
+
 #[test]
 fn lists_hold_what_they_are_made_of(rt: HostRuntime) -> Result<(), Fail> {
     let alloc = rt.alloc();
-    let numbers = NumList::new(vec![in alloc; 4, 0, u64::MAX]?);
-    assert_eq!(rt; numbers.items(), [4, 0, u64::MAX].as_slice());
-    assert_eq!(rt; NumList::new(Vec::new(alloc)).items().len(), 0);
+    let numbers = NumList::new([4, 0, u64::MAX].to_vec(alloc)?);
+    expect_items(&rt, &numbers, &[4, 0, u64::MAX]);
+    expect_items(&rt, &NumList::new(Vec::new(alloc)), &[]);
     let numbers = NumList::from_numbers(alloc, &[4, 0, 2_000])?;
-    assert_eq!(rt; numbers.items(), [4, 0, 2_000].as_slice());
+    expect_items(&rt, &numbers, &[4, 0, 2_000]);
     Ok(())
 }
 
-/// The certificate of `st 1 1; ld 1 0`: the store comes before init, by the load that read past it.
+/// The steps of `st 1 1; ld 1 0`, where the store comes before init by the load that read past it, and one more.
+const BY_HAND: [Listed; 3] = [
+    Base(0, 1, BaseRule::Init),
+    Base(1, 0, BaseRule::Own),
+    Inferred(2, 4, InferredRule::SwapAfter, 1, &[1, 4]),
+];
+
 #[test]
 fn a_certificate_is_built_by_hand(rt: HostRuntime) -> Result<(), Fail> {
-    let alloc = rt.alloc();
-    let steps = StepList::new(vec![in alloc;
-        CertStep {
-            from: 0,
-            to: 1,
-            reason: Reason::Base(BaseRule::Init)
-        },
-        CertStep {
-            from: 1,
-            to: 0,
-            reason: Reason::Base(BaseRule::Own)
-        },
-        CertStep {
-            from: 2,
-            to: 4,
-            reason: Reason::Inferred {
-                rule: InferredRule::SwapAfter,
-                load: 1,
-                path: NumList::new(vec![in alloc; 1, 4]?),
-            },
-        },
-    ]?);
-    let ends = [(0, 1), (1, 0), (2, 4)];
-    assert_eq!(rt; steps.items().len(), 3);
-    for (step, (from, to)) in steps.items().iter().zip(ends) {
-        assert_eq!(rt; (step.from, step.to), (from, to));
-    }
-    match &steps.items()[2].reason {
-        Reason::Inferred { rule, load, path } => {
-            assert_eq!(rt; *rule, InferredRule::SwapAfter);
-            assert_eq!(rt; *load, 1);
-            assert_eq!(rt; path.items(), [1, 4].as_slice());
-        }
-        Reason::Base(_) => return Err("an inferred reason")?,
-    }
-    let cycle = NumList::new(vec![in alloc; 0, 1]?);
-    match (Certificate::Cycle { steps, cycle }) {
-        Certificate::Cycle { steps, cycle } => {
-            assert_eq!(rt; steps.items().len(), 3);
-            assert_eq!(rt; cycle.items(), [0, 1].as_slice());
-        }
-        Certificate::Unwritten(_) => return Err("a cycle")?,
-    }
+    let certificate = certificate_of(rt.alloc(), &BY_HAND, &[0, 1])?;
+    assert!(rt; is_certificate(&certificate, &BY_HAND, &[0, 1]));
     Ok(())
 }

@@ -3,32 +3,36 @@
 use crate::{TextFault, Why};
 use std::test::Fail;
 
+const NAMES: [(Why, &str); 6] = [
+    (Why::BadLine, "BadLine"),
+    (Why::BadNumber, "BadNumber"),
+    (Why::BadRule, "BadRule"),
+    (Why::NoCycle, "NoCycle"),
+    (Why::AfterCycle, "AfterCycle"),
+    (Why::OutOfMemory, "OutOfMemory"),
+];
+
 #[test]
 fn texts_of_refusals(rt: HostRuntime) -> Result<(), Fail> {
-    let alloc = rt.alloc();
-    for (why, text) in [
-        (Why::BadLine, "BadLine"),
-        (Why::BadNumber, "BadNumber"),
-        (Why::BadRule, "BadRule"),
-        (Why::NoCycle, "NoCycle"),
-        (Why::AfterCycle, "AfterCycle"),
-        (Why::OutOfMemory, "OutOfMemory"),
-    ] {
-        assert_eq!(rt; format!(in alloc; "{why}")?.as_str(), text);
+    for (why, text) in NAMES {
+        let printed = format!(in rt.alloc(); "{why}")?;
+        assert!(rt; printed.as_str() == text, "{text}");
     }
     Ok(())
 }
 
+const LINES: [(usize, Why, &str); 3] = [
+    (0, Why::OutOfMemory, "OutOfMemory line 0"),
+    (7, Why::BadRule, "BadRule line 7"),
+    (12, Why::NoCycle, "NoCycle line 12"),
+];
+
 #[test]
 fn a_refusal_is_written_with_its_line(rt: HostRuntime) -> Result<(), Fail> {
-    let alloc = rt.alloc();
-    for (line, why, text) in [
-        (0, Why::OutOfMemory, "OutOfMemory line 0"),
-        (7, Why::BadRule, "BadRule line 7"),
-        (12, Why::NoCycle, "NoCycle line 12"),
-    ] {
+    for (line, why, text) in LINES {
         let fault = TextFault { line, why };
-        assert_eq!(rt; format!(in alloc; "{fault}")?.as_str(), text);
+        let printed = format!(in rt.alloc(); "{fault}")?;
+        assert!(rt; printed.as_str() == text, "{text}");
     }
     Ok(())
 }

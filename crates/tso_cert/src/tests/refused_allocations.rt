@@ -1,8 +1,11 @@
 //! Allocations refused in turn: `rt try --test --fail-alloc N` refuses the Nth of each test.
 //!
 //! The call that meets it answers OutOfMemory, at line 0 where it is the reader, and the next call the ordinary answer.
+use super::expect_text;
+use super::texts::expect_fault;
 use crate::{Certificate, TextFault, Why, print_cert, read_cert};
 use std::alloc::{AllocError, Global};
+use std::process::Abort;
 use std::test::Fail;
 
 /// The refusal of an allocation.
@@ -30,32 +33,30 @@ fn text_back(alloc: Global, text: &str) -> Result<String, Fail> {
     })
 }
 
+/// Compares a text that is read and printed back.
+fn expect_back<H: Abort>(rt: &H, alloc: Global, text: &str) -> Result<(), Fail> {
+    let back = text_back(alloc, text)?;
+    expect_text(rt, text, &back, text);
+    Ok(())
+}
+
 #[test]
 fn refused_allocations_of_a_cycle(rt: HostRuntime) -> Result<(), Fail> {
-    let alloc = rt.alloc();
-    assert_eq!(rt; text_back(alloc, TEXT)?.as_str(), TEXT);
-    Ok(())
+    expect_back(&rt, rt.alloc(), TEXT)
 }
 
 #[test]
 fn refused_allocations_of_an_unwritten_load(rt: HostRuntime) -> Result<(), Fail> {
-    let alloc = rt.alloc();
-    assert_eq!(rt;
-        text_back(alloc, "unwritten 12\n")?.as_str(),
-        "unwritten 12\n"
-    );
-    Ok(())
+    expect_back(&rt, rt.alloc(), "unwritten 12\n")
 }
 
 #[test]
-fn refused_allocations_before_a_refusal(rt: HostRuntime) -> Result<(), Fail> {
-    let alloc = rt.alloc();
+fn refused_allocations_before_a_refusal(rt: HostRuntime) {
     let text = "1 init 1 Init\n2 1 init LoadPast 4 1 2 3 4 5 6\n3 1 2 Loadop\n";
-    let fault = certificate_of(alloc, text).err();
-    let wanted = TextFault {
+    let fault = certificate_of(rt.alloc(), text).err();
+    let expected = TextFault {
         line: 3,
         why: Why::BadRule,
     };
-    assert_eq!(rt; fault, Some(wanted));
-    Ok(())
+    expect_fault(&rt, text, fault, expected);
 }
