@@ -111,9 +111,25 @@ fn expect_account<H: Abort>(rt: &H, account: &Account, expected: &Account) {
     assert_eq!(rt; account, expected);
 }
 
-/// Compares the numbers of calls that were counted.
-fn expect_numbers<H: Abort>(rt: &H, counts: &CallCounts, expected: [u64; 7]) {
-    assert_eq!(rt; numbers_of(counts), expected);
+/// How a run on a unit that counts its calls ended: its answer, the account, and the numbers of calls.
+#[derive(Drop)]
+struct Counted {
+    answer: Result<Recorded, AllocError>,
+    account: Account,
+    numbers: [u64; 7],
+}
+
+/// Compares the numbers of calls.
+fn expect_numbers<H: Abort>(rt: &H, numbers: [u64; 7], expected: [u64; 7]) {
+    assert_eq!(rt; numbers, expected);
+}
+
+/// Whether an answer is a lawful record.
+fn is_lawful(answer: &Result<Recorded, AllocError>) -> bool {
+    match answer {
+        Ok(recorded) => recorded.lawful(),
+        Err(AllocError) => false,
+    }
 }
 
 /// How many loads, stores, swaps, membars, STBARs, drains and drops were counted.

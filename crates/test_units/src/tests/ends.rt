@@ -1,11 +1,12 @@
 //! The end of a unit: its record, its account and its drop.
 
 use super::{
-    drops_of, expect_account, expect_numbers, is_record, lists_of, new_counts, program_of,
-    run_counted, run_over, store_buffering,
+    Counted, drops_of, expect_account, expect_numbers, is_record, lists_of, new_counts, numbers_of,
+    program_of, run_counted, run_over, store_buffering,
 };
 use crate::{CallCounts, INVENTED, InventingUnit};
 use std::alloc::{AllocError, Global};
+use std::process::Abort;
 use std::sync::Arc;
 use std::sync::atomic::Ordering;
 use std::test::Fail;
@@ -34,30 +35,45 @@ const ROWS: [&[Outcome]; 2] = [
     &[Outcome::St { a: 2, v: 2 }, Outcome::Ld { a: 1, r: 1 }],
 ];
 
-#[test]
-fn lawful_unit_gives_a_lawful_record(rt: HostRuntime) -> Result<(), Fail> {
-    let alloc = rt.alloc();
+/// The run of `store_buffering` of which the call of this number is refused, none where it is 0.
+fn counted(alloc: Global, refused: u64) -> Result<Counted, ValueFault> {
     let program = store_buffering(alloc, Order::Tso)?;
     let counts = new_counts(alloc)?;
     let mut account = Account::new();
-    assert!(rt; !account.closed);
-    let recorded = run_counted(alloc, &program, 0, &counts, &mut account)?;
-    assert!(rt; is_record(&recorded, true, &ROWS));
-    expect_account(&rt, &account, &ACCOUNT);
-    expect_numbers(&rt, &counts, [2, 2, 1, 1, 0, 2, 1]);
+    let answer = run_counted(alloc, &program, refused, &counts, &mut account);
+    Ok(Counted {
+        answer,
+        account,
+        numbers: numbers_of(&counts),
+    })
+}
+
+/// Whether an answer is a lawful record of `ROWS`.
+fn is_of_rows(answer: &Result<Recorded, AllocError>) -> bool {
+    match answer {
+        Ok(recorded) => is_record(recorded, true, &ROWS),
+        Err(AllocError) => false,
+    }
+}
+
+#[test]
+fn lawful_unit_gives_a_lawful_record(rt: HostRuntime) -> Result<(), Fail> {
+    assert!(rt; !Account::new().closed);
+    let ended = counted(rt.alloc(), 0)?;
+    assert!(rt; is_of_rows(&ended.answer));
+    expect_account(&rt, &ended.account, &ACCOUNT);
+    expect_numbers(&rt, ended.numbers, [2, 2, 1, 1, 0, 2, 1]);
     Ok(())
 }
 
 #[test]
 fn refused_drains_end_the_unit(rt: HostRuntime) -> Result<(), Fail> {
-    let alloc = rt.alloc();
-    let program = store_buffering(alloc, Order::Tso)?;
     for refused in 7..9u64 {
-        let counts = new_counts(alloc)?;
-        let mut account = Account::new();
-        let answer = run_counted(alloc, &program, refused, &counts, &mut account);
-        assert!(rt; answer.is_err() && drops_of(&counts) == 1, "call {refused}");
-        expect_account(&rt, &account, &ACCOUNT);
+        let ended = counted(rt.alloc(), refused)?;
+        assert!(rt; ended.answer.is_err(), "call {refused}");
+        expect_account(&rt, &ended.account, &ACCOUNT);
+        let [_, _, _, _, _, _, drops] = ended.numbers;
+        assert!(rt; drops == 1, "call {refused}");
     }
     Ok(())
 }
@@ -145,23 +161,36 @@ pub(super) fn counts_again(alloc: Global) -> Result<Arc<CallCounts, Global>, All
     }
 }
 
-/// Runs once more where an allocation was refused: `rt try --test --fail-alloc N` refuses the Nth.
+/// Runs a program, once more where an allocation was refused; a unit whose end was refused has closed the account, with one
+/// drop.
+fn run_again<H: Abort>(
+    rt: &H,
+    alloc: Global,
+    program: &Program,
+    counts: &Arc<CallCounts, Global>,
+    account: &mut Account,
+) -> Result<Recorded, AllocError> {
+    match run_counted(alloc, program, 0, counts, account) {
+        Ok(recorded) => Ok(recorded),
+        Err(AllocError) => {
+            if account.closed {
+                expect_account(rt, account, &ACCOUNT);
+                assert!(rt; drops_of(counts) == 1);
+            }
+            counts.drops.store(0, Ordering::SeqCst);
+            run_counted(alloc, program, 0, counts, account)
+        }
+    }
+}
+
+/// `rt try --test --fail-alloc N` refuses the Nth allocation.
 #[test]
 fn refused_allocations_close_the_account(rt: HostRuntime) -> Result<(), Fail> {
-    let alloc = rt.alloc();
-    let program = program_again(alloc)?;
-    let counts = counts_again(alloc)?;
+    let program = program_again(rt.alloc())?;
+    let counts = counts_again(rt.alloc())?;
     let mut account = Account::new();
-    let mut recorded = run_counted(alloc, &program, 0, &counts, &mut account);
-    if recorded.is_err() {
-        if account.closed {
-            expect_account(&rt, &account, &ACCOUNT);
-            assert!(rt; drops_of(&counts) == 1);
-        }
-        counts.drops.store(0, Ordering::SeqCst);
-        recorded = run_counted(alloc, &program, 0, &counts, &mut account);
-    }
-    assert!(rt; recorded?.lawful());
+    let recorded = run_again(&rt, rt.alloc(), &program, &counts, &mut account)?;
+    assert!(rt; recorded.lawful());
     expect_account(&rt, &account, &ACCOUNT);
     assert!(rt; drops_of(&counts) == 1);
     Ok(())

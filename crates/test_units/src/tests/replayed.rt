@@ -3,13 +3,14 @@
 use super::by_hand::{expect_calls, new_log};
 use super::ends::counts_again;
 use super::{
-    are_equal, drops_of, expect_account, expect_numbers, lists_of, new_counts, program_of,
-    store_buffering, trace_of,
+    BUFFERING, Counted, are_equal, drops_of, expect_account, expect_numbers, is_lawful, lists_of,
+    new_counts, numbers_of, program_of, trace_of,
 };
 use crate::{
     Call, CallCounts, CallLog, CountingUnit, ForwardingUnit, INVENTED, InventingUnit, RefusingUnit,
 };
 use std::alloc::{AllocError, Global};
+use std::process::Abort;
 use std::sync::Arc;
 use std::sync::atomic::Ordering;
 use std::test::Fail;
@@ -329,33 +330,44 @@ const HANDED_IN: [&[Op]; 3] = [
 
 const HANDED_IN_ACTS: [Act; 5] = [Issue(2), Drain(1), Issue(3), Drain(3), Issue(0)];
 
-#[test]
-fn unit_that_is_handed_in_is_used(rt: HostRuntime) -> Result<(), Fail> {
-    let alloc = rt.alloc();
-    let program = program_of(alloc, Order::Pso, &HANDED_IN)?;
+/// The replay of these operations by this schedule, of which the call of this number is refused, none where it is 0.
+fn counted(
+    alloc: Global,
+    (order, ops): (Order, &[&[Op]]),
+    schedule: &[Act],
+    refused: u64,
+) -> Result<Counted, ValueFault> {
+    let program = program_of(alloc, order, ops)?;
     let counts = new_counts(alloc)?;
     let mut account = OTHER;
-    let recorded = replay_counted(alloc, &program, &HANDED_IN_ACTS, 0, &counts, &mut account)?;
-    assert!(rt; recorded.lawful());
-    expect_account(&rt, &account, &closed(4, 3, 1, 3));
+    let answer = replay_counted(alloc, &program, schedule, refused, &counts, &mut account);
+    Ok(Counted {
+        answer,
+        account,
+        numbers: numbers_of(&counts),
+    })
+}
+
+#[test]
+fn unit_that_is_handed_in_is_used(rt: HostRuntime) -> Result<(), Fail> {
+    let ended = counted(rt.alloc(), (Order::Pso, &HANDED_IN), &HANDED_IN_ACTS, 0)?;
+    assert!(rt; is_lawful(&ended.answer));
+    expect_account(&rt, &ended.account, &closed(4, 3, 1, 3));
     // Four drains: one of the schedule, and one for each processor at the end.
-    expect_numbers(&rt, &counts, [4, 3, 1, 3, 3, 4, 1]);
+    expect_numbers(&rt, ended.numbers, [4, 3, 1, 3, 3, 4, 1]);
     Ok(())
 }
 
-/// By these acts `store_buffering` calls the unit nine times: st 2 2, st 1 1, a drain, membar, ld 2, sw 3 3, ld 1 and
+/// By these acts `BUFFERING` calls the unit nine times: st 2 2, st 1 1, a drain, membar, ld 2, sw 3 3, ld 1 and
 /// two drains.
 const FIRST_ACTS: [Act; 3] = [Issue(1), Issue(0), Drain(0)];
 
-/// Whether a replay of `store_buffering` whose call of this number is refused answers OutOfMemory, with this account and
-/// one drop of the unit.
+/// Whether a replay of `BUFFERING` whose call of this number is refused answers OutOfMemory, with this account and one drop
+/// of the unit.
 fn refused_at(alloc: Global, refused: u64, expected: Account) -> Result<bool, ValueFault> {
-    let program = store_buffering(alloc, Order::Tso)?;
-    let counts = new_counts(alloc)?;
-    let mut account = OTHER;
-    let answer = replay_counted(alloc, &program, &FIRST_ACTS, refused, &counts, &mut account);
-    let is_dropped = drops_of(&counts) == 1;
-    Ok(matches!(&answer, Err(AllocError)) && account == expected && is_dropped)
+    let ended = counted(alloc, (Order::Tso, &BUFFERING), &FIRST_ACTS, refused)?;
+    let [_, _, _, _, _, _, drops] = ended.numbers;
+    Ok(ended.answer.is_err() && ended.account == expected && drops == 1)
 }
 
 /// For each call that is refused, from the first on, the loads, stores, swaps and membars of the account.
@@ -382,14 +394,11 @@ fn refused_calls_end_the_unit(rt: HostRuntime) -> Result<(), Fail> {
 
 #[test]
 fn call_past_the_last_is_not_refused(rt: HostRuntime) -> Result<(), Fail> {
-    let alloc = rt.alloc();
-    let program = store_buffering(alloc, Order::Tso)?;
-    let counts = new_counts(alloc)?;
-    let mut account = OTHER;
-    let recorded = replay_counted(alloc, &program, &FIRST_ACTS, 10, &counts, &mut account)?;
-    assert!(rt; recorded.lawful());
-    expect_account(&rt, &account, &closed(2, 2, 1, 1));
-    assert!(rt; drops_of(&counts) == 1);
+    let ended = counted(rt.alloc(), (Order::Tso, &BUFFERING), &FIRST_ACTS, 10)?;
+    assert!(rt; is_lawful(&ended.answer));
+    expect_account(&rt, &ended.account, &closed(2, 2, 1, 1));
+    let [_, _, _, _, _, _, drops] = ended.numbers;
+    assert!(rt; drops == 1);
     Ok(())
 }
 
@@ -479,22 +488,35 @@ fn passing_again(alloc: Global) -> Result<Program, ValueFault> {
 /// The schedule of the replay of which an allocation is refused.
 const REFUSED_ACTS: [Act; 3] = [Issue(0), Issue(1), Drain(0)];
 
-/// Runs once more where an allocation was refused: `rt try --test --fail-alloc N` refuses the Nth.
+/// Replays a program, once more where an allocation was refused; a unit whose end was refused has closed the account, with
+/// one drop.
+fn replay_again<H: Abort>(
+    rt: &H,
+    alloc: Global,
+    program: &Program,
+    counts: &Arc<CallCounts, Global>,
+    account: &mut Account,
+) -> Result<Recorded, AllocError> {
+    match replay_counted(alloc, program, &REFUSED_ACTS, 0, counts, account) {
+        Ok(recorded) => Ok(recorded),
+        Err(AllocError) => {
+            if account.closed {
+                assert!(rt; account.drains == account.stores && drops_of(counts) == 1);
+            }
+            counts.drops.store(0, Ordering::SeqCst);
+            replay_counted(alloc, program, &REFUSED_ACTS, 0, counts, account)
+        }
+    }
+}
+
+/// `rt try --test --fail-alloc N` refuses the Nth allocation.
 #[test]
 fn refused_allocations_close_the_account_of_a_replay(rt: HostRuntime) -> Result<(), Fail> {
-    let alloc = rt.alloc();
-    let program = passing_again(alloc)?;
-    let counts = counts_again(alloc)?;
+    let program = passing_again(rt.alloc())?;
+    let counts = counts_again(rt.alloc())?;
     let mut account = Account::new();
-    let mut recorded = replay_counted(alloc, &program, &REFUSED_ACTS, 0, &counts, &mut account);
-    if recorded.is_err() {
-        if account.closed {
-            assert!(rt; account.drains == account.stores && drops_of(&counts) == 1);
-        }
-        counts.drops.store(0, Ordering::SeqCst);
-        recorded = replay_counted(alloc, &program, &REFUSED_ACTS, 0, &counts, &mut account);
-    }
-    assert!(rt; recorded?.lawful());
+    let recorded = replay_again(&rt, rt.alloc(), &program, &counts, &mut account)?;
+    assert!(rt; recorded.lawful());
     expect_account(&rt, &account, &closed(2, 2, 0, 0));
     assert!(rt; drops_of(&counts) == 1);
     Ok(())
