@@ -1,0 +1,110 @@
+-- What drains leave of a buffer, and keep.
+use Rattle.std.proofs.Common.{◌≡◌, ◌∙◌, ap, refl, ℕ, zero, suc, ◌+◌, ◌-◌, ◌<◌, ◌≤◌, Bool, true, false, cond, Option, None, Some, List, length, drop, take, slice_get, length-set, add-one, arith}
+use Rattle.std.proofs.lemmas.List.{get_or-set_same, length-drop, length-take}
+use Rattle.circular_buffer.specs.Buffer.{last_item}
+use Rattle.store_buffers.specs.declared.entries.StoreEntry.{StoreEntry}
+use Rattle.store_buffers.specs.Buffers.{IsBuffers, entries_of}
+use Rattle.unit_faulty.specs.declared.kinds.FaultKind.{FaultKind}
+use Rattle.unit_faulty.specs.declared.kinds.FaultKind.TheVariants.{NewestFirst, NoForward, StaleLoad, TornSwap, IdleMembar, LostDrain}
+use Rattle.unit_faulty.specs.declared.kinds.Occasion.{Occasion}
+use Rattle.unit_faulty.specs.declared.kinds.Occasion.TheVariants.{DrainMade}
+use Rattle.unit_faulty.specs.Faulty.{FaultyState, counted, deviates, drain_once, drain_times, drained_by, has_occasion, swap_drains, with_buffer, with_entry_written}
+
+-- So many entries left the buffer of processor p.
+pub record LosesEntries (count : ℕ) (old new : FaultyState) (p : ℕ) : Type 0 where
+  pub entries : length (entries_of new.parts p) ≡ length (entries_of old.parts p) - count
+  pub processors : length new.parts.buffers ≡ length old.parts.buffers
+  pub capacity : new.parts.capacity ≡ old.parts.capacity
+
+-- at most one is counted
+one_more : (b : Bool) (n : ℕ) → cond b (suc n) n ≤ n + 1
+one_more true n = omega arith
+one_more false n = omega arith
+
+pub counted-most : (s : FaultyState) (occasion : Occasion) → (counted s occasion).occasions ≤ s.occasions + 1
+counted-most s occasion = one_more (has_occasion s.kind occasion) s.occasions
+
+-- an entry that is written to memory changes no buffer
+record KeepsBuffers (old new : FaultyState) : Type 0 where
+  buffers : new.parts.buffers ≡ old.parts.buffers
+  capacity : new.parts.capacity ≡ old.parts.capacity
+  occasions : new.occasions ≡ old.occasions
+
+written-keeps : (s : FaultyState) (entry : Option StoreEntry) → KeepsBuffers s (with_entry_written s entry)
+written-keeps s None = record { buffers = refl; capacity = refl; occasions = refl }
+written-keeps s (Some e) = record { buffers = refl; capacity = refl; occasions = refl }
+
+-- one entry less is left, and one may be written
+leaves-one : (s : FaultyState) (p : ℕ) (left : List StoreEntry) (entry : Option StoreEntry) → p < length s.parts.buffers → length left ≡ length (entries_of s.parts p) - 1 →
+    LosesEntries 1 s (with_entry_written (with_buffer s p left) entry) p
+leaves-one s p left entry within fewer =
+    let kept = written-keeps (with_buffer s p left) entry in
+    record {
+      entries = ap length (ap (λ bs. entries_of (record s.parts { buffers = bs }) p) kept.buffers ∙ get_or-set_same s.parts.buffers p left _ within) ∙ fewer;
+      processors = ap length kept.buffers ∙ length-set s.parts.buffers p left;
+      capacity = kept.capacity;
+    }
+
+oldest-leaves : (s : FaultyState) (p : ℕ) (entry : Option StoreEntry) → p < length s.parts.buffers → LosesEntries 1 s (with_entry_written (with_buffer s p (drop 1 (entries_of s.parts p))) entry) p
+oldest-leaves s p entry within = leaves-one s p (drop 1 (entries_of s.parts p)) entry within (length-drop 1 (entries_of s.parts p))
+
+newest-leaves : (s : FaultyState) (p : ℕ) (entry : Option StoreEntry) → p < length s.parts.buffers →
+    LosesEntries 1 s (with_entry_written (with_buffer s p (take (length (entries_of s.parts p) - 1) (entries_of s.parts p))) entry) p
+newest-leaves s p entry within =
+    leaves-one s p (take (length (entries_of s.parts p) - 1) (entries_of s.parts p)) entry within (omega (arith, length-take (length (entries_of s.parts p) - 1) (entries_of s.parts p)))
+
+drained_by-loses : (kind : FaultKind) (deviates : Bool) (s : FaultyState) (p : ℕ) → p < length s.parts.buffers → LosesEntries 1 s (drained_by kind deviates s p) p
+drained_by-loses NewestFirst true s p within = newest-leaves s p (last_item (entries_of s.parts p)) within
+drained_by-loses NewestFirst false s p within = oldest-leaves s p (slice_get (entries_of s.parts p) 0) within
+drained_by-loses NoForward deviates s p within = oldest-leaves s p (slice_get (entries_of s.parts p) 0) within
+drained_by-loses StaleLoad deviates s p within = oldest-leaves s p (slice_get (entries_of s.parts p) 0) within
+drained_by-loses TornSwap deviates s p within = oldest-leaves s p (slice_get (entries_of s.parts p) 0) within
+drained_by-loses IdleMembar deviates s p within = oldest-leaves s p (slice_get (entries_of s.parts p) 0) within
+drained_by-loses LostDrain true s p within = oldest-leaves s p None within
+drained_by-loses LostDrain false s p within = oldest-leaves s p (slice_get (entries_of s.parts p) 0) within
+
+-- drained_by keeps the number of occasions
+left-occasions : (s : FaultyState) (p : ℕ) (left : List StoreEntry) (entry : Option StoreEntry) → (with_entry_written (with_buffer s p left) entry).occasions ≡ s.occasions
+left-occasions s p left entry = (written-keeps (with_buffer s p left) entry).occasions
+
+drained_by-occasions : (kind : FaultKind) (deviates : Bool) (s : FaultyState) (p : ℕ) → (drained_by kind deviates s p).occasions ≡ s.occasions
+drained_by-occasions NewestFirst true s p = left-occasions s p _ (last_item (entries_of s.parts p))
+drained_by-occasions NewestFirst false s p = left-occasions s p _ (slice_get (entries_of s.parts p) 0)
+drained_by-occasions NoForward deviates s p = left-occasions s p _ (slice_get (entries_of s.parts p) 0)
+drained_by-occasions StaleLoad deviates s p = left-occasions s p _ (slice_get (entries_of s.parts p) 0)
+drained_by-occasions TornSwap deviates s p = left-occasions s p _ (slice_get (entries_of s.parts p) 0)
+drained_by-occasions IdleMembar deviates s p = left-occasions s p _ (slice_get (entries_of s.parts p) 0)
+drained_by-occasions LostDrain true s p = refl
+drained_by-occasions LostDrain false s p = left-occasions s p _ (slice_get (entries_of s.parts p) 0)
+
+-- one drain
+pub drain_once-most : (s : FaultyState) (p : ℕ) → (drain_once s p).occasions ≤ s.occasions + 1
+drain_once-most s p = omega (arith, drained_by-occasions s.kind (deviates s DrainMade) (counted s DrainMade) p, counted-most s DrainMade)
+
+pub drain_once-loses : (s : FaultyState) (p : ℕ) → p < length s.parts.buffers → LosesEntries 1 s (drain_once s p) p
+drain_once-loses s p within =
+    let out = drained_by-loses s.kind (deviates s DrainMade) (counted s DrainMade) p within in
+    record { entries = out.entries; processors = out.processors; capacity = out.capacity }
+
+-- so many
+pub drain_times-loses : (count : ℕ) (s : FaultyState) (p : ℕ) → p < length s.parts.buffers → LosesEntries count s (drain_times count s p) p
+drain_times-loses zero s p within = record { entries = omega arith; processors = refl; capacity = refl }
+drain_times-loses (suc count) s p within =
+    let rest = drain_times-loses count s p within in
+    let one = drain_once-loses (drain_times count s p) p (omega (arith, rest.processors)) in
+    record {
+      entries = omega (arith, one.entries, rest.entries);
+      processors = one.processors ∙ rest.processors;
+      capacity = one.capacity ∙ rest.capacity;
+    }
+
+-- a buffer that was drained has room
+pub drained-room : (s : FaultyState) (p : ℕ) → p < 16 → IsBuffers s.parts →
+    length (entries_of (drain_times (swap_drains s p) s p).parts p) < (drain_times (swap_drains s p) s p).parts.capacity
+drained-room s p processor are =
+    let out = drain_times-loses (swap_drains s p) s p (omega (arith, are.processors)) in
+    omega (arith, out.entries, out.capacity, are.least)
+
+-- one more
+pub drain_times-more : (count : ℕ) (s : FaultyState) (p : ℕ) → drain_times (count + 1) s p ≡ drain_once (drain_times count s p) p
+drain_times-more count s p = rw add-one refl

@@ -1,0 +1,2 @@
+pub mod DrainFacts
+pub mod UnitFacts

@@ -1,0 +1,16 @@
+use Rattle.std.proofs.Common.{◌<◌, length, refl, subst, arith}
+use Rattle.store_buffers.specs.Buffers.{entries_of}
+use Rattle.unit_core.specs.Units.{DrainsOne}
+use Rattle.unit_faulty.specs.Faulty.{FaultyValue, faulty_unit}
+use Rattle.unit_faulty.proofs.UnitFacts.{DrainsOne-drain_once}
+use Rattle.unit_faulty.proofs.unit.FaultyUnitMemoryUnit.drain.Goals as goal
+
+pub returns-clause-drained : goal.returns-clause-drained
+returns-clause-drained c =
+    let u = c.self.inside in
+    let p = c.args.p in
+    let waits : 0 < length (entries_of u.memory.parts p) = omega (arith, c.waiting.ensures.is) in
+    let old : FaultyValue = record { steps = u.steps.items; first = u.first.items; state = u.memory } in
+    let new : FaultyValue = record { steps = c.push.new.self.items; first = u.first.items; state = c.drain_once.new.self } in
+    subst (λ w. DrainsOne (faulty_unit w) (faulty_unit new) p) c.self.view_is
+    (DrainsOne-drain_once old new p (omega (arith, c.waiting.ensures.kept.processors)) waits c.in_ok-push.ensures.items refl c.drain_once.ensures)

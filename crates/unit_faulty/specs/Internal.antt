@@ -1,0 +1,2 @@
+-- What the private fields of units keep. No public contract uses these definitions.
+pub mod Faulty

@@ -1,0 +1,2 @@
+pub mod Faulty
+pub mod Internal

@@ -1,0 +1,12 @@
+//! Memory units with one deviation each. `README.md` says what is proved.
+#![tactic(auto)]
+
+pub use kinds::{FaultKind, Occasion};
+pub use unit::FaultyUnit;
+
+mod kinds;
+mod memory;
+mod reserved;
+#[cfg(test)]
+mod tests;
+mod unit;
