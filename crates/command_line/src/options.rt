@@ -2,6 +2,8 @@
 ghost use Rattle.std.specs.Prelude.{◌≡◌};
 ghost use Rattle.command_line.specs.Units.{unit_kind};
 
+use unit_faulty::FaultKind;
+
 /// The greatest capacity of a unit's store buffers, in entries.
 pub const MAX_CAPACITY: usize = 64;
 
@@ -12,22 +14,37 @@ pub enum UnitKind {
     Serial,
     /// `buffer`: lawful, of TSO; each processor has a store buffer, where its stores wait until they are drained.
     Buffer,
+    /// Not lawful: as `buffer`, with one deviation, after whose kind it is named, as `newest-first`.
+    Faulty(FaultKind),
 }
 
 /// The names of the kinds, as `--unit` takes them; `kind_named` knows each.
-pub(crate) static UNIT_NAMES: [&str; 2] = ["serial", "buffer"];
+pub(crate) static UNIT_NAMES: [&str; 8] = [
+    "serial",
+    "buffer",
+    "newest-first",
+    "no-forward",
+    "stale-load",
+    "torn-swap",
+    "idle-membar",
+    "lost-drain",
+];
 
 /// The kind of this name.
 pub(crate) fn kind_named(name: &str) -> Option<UnitKind>
     ensures { result ≡ unit_kind name.now }
 {
-    if name == "serial" {
-        return Some(UnitKind::Serial);
+    match name {
+        "serial" => Some(UnitKind::Serial),
+        "buffer" => Some(UnitKind::Buffer),
+        "newest-first" => Some(UnitKind::Faulty(FaultKind::NewestFirst)),
+        "no-forward" => Some(UnitKind::Faulty(FaultKind::NoForward)),
+        "stale-load" => Some(UnitKind::Faulty(FaultKind::StaleLoad)),
+        "torn-swap" => Some(UnitKind::Faulty(FaultKind::TornSwap)),
+        "idle-membar" => Some(UnitKind::Faulty(FaultKind::IdleMembar)),
+        "lost-drain" => Some(UnitKind::Faulty(FaultKind::LostDrain)),
+        _ => None,
     }
-    if name == "buffer" {
-        return Some(UnitKind::Buffer);
-    }
-    None
 }
 
 /// Which memory unit to make.

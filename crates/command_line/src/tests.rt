@@ -165,6 +165,29 @@ fn plain_replays(rt: HostRuntime) -> Result<(), Fail> {
     Ok(())
 }
 
+/// Kinds of units by name, and what they print as.
+const KINDS: [(&str, &str); 8] = [
+    ("serial", "Serial"),
+    ("buffer", "Buffer"),
+    ("newest-first", "Faulty(NewestFirst)"),
+    ("no-forward", "Faulty(NoForward)"),
+    ("stale-load", "Faulty(StaleLoad)"),
+    ("torn-swap", "Faulty(TornSwap)"),
+    ("idle-membar", "Faulty(IdleMembar)"),
+    ("lost-drain", "Faulty(LostDrain)"),
+];
+
+#[test]
+fn kinds_of_units(rt: HostRuntime) -> Result<(), Fail> {
+    let alloc = rt.alloc();
+    for (name, kind) in KINDS {
+        let arguments = ["replay", "--trigger", "2", "--unit", name, "p", "s"];
+        let request = format!(in alloc; "replay \"p\" by \"s\" on {kind} 8 2 with 1 trace false")?;
+        assert_eq!(rt; asked(alloc, &arguments)?.as_str(), request.as_str());
+    }
+    Ok(())
+}
+
 #[test]
 fn help_and_version(rt: HostRuntime) -> Result<(), Fail> {
     let cases: [(&[&str], &str); 16] = [
@@ -254,7 +277,7 @@ fn refused_replays(rt: HostRuntime) -> Result<(), Fail> {
         ),
         (
             &["replay", "--unit", "other", "p", "s"],
-            "error: invalid value 'other' for '--unit <UNIT>'\n  [possible values: serial, buffer]\n\nFor more information, try '--help'.\n",
+            "error: invalid value 'other' for '--unit <UNIT>'\n  [possible values: serial, buffer, newest-first, no-forward, stale-load, torn-swap, idle-membar, lost-drain]\n\nFor more information, try '--help'.\n",
         ),
         (
             &["replay", "--unit", "serial", "--capacity", "0", "p", "s"],
@@ -403,7 +426,7 @@ Arguments:
   <SCHEDULE>  The text of a schedule
 
 Options:
-      --unit <UNIT>   Which memory unit runs the program [possible values: serial, buffer]
+      --unit <UNIT>   Which memory unit runs the program [possible values: serial, buffer, newest-first, no-forward, stale-load, torn-swap, idle-membar, lost-drain]
       --capacity <C>  How many stores each store buffer of the unit holds, 1 to 64 [default: 8]
       --trigger <T>   From which occasion on a faulty unit deviates, from 1 [default: 1]
       --workers <N>   How many workers judge, 1 to 64 [default: 1]

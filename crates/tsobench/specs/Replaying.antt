@@ -10,26 +10,29 @@ use Rattle.tso_report.specs.AccountTexts.{account_text}
 use Rattle.tso_report.specs.Reports.{IsTraceReport, refusal_text}
 use Rattle.command_line.specs.declared.options.RunOptions.{RunOptions}
 use Rattle.command_line.specs.declared.options.UnitKind.{UnitKind}
-use Rattle.command_line.specs.declared.options.UnitKind.TheVariants.{Serial, Buffer}
+use Rattle.command_line.specs.declared.options.UnitKind.TheVariants.{Serial, Buffer, Faulty}
 use Rattle.command_line.specs.declared.options.UnitOptions.{UnitOptions}
 use Rattle.unit_core.specs.declared.accounts.Account.{Account}
 use Rattle.unit_core.specs.Records.{RecordedValue}
 use Rattle.unit_core.specs.Replays.{Replays}
 use Rattle.unit_core.specs.Units.{UnitValue}
+use Rattle.unit_faulty.specs.Faulty.{faulty_unit, new_faulty}
 use Rattle.unit_kinds.specs.Buffer.{new_store_buffer, store_buffer_unit}
 use Rattle.unit_kinds.specs.Serial.{new_serial, serial_unit}
 use Rattle.tsobench.specs.Statuses.{status_of}
 
 -- ---- the unit
 
--- the unit of this kind, whose store buffers, if it has any, hold so many entries
-abbrev pub unit_of_kind : UnitKind → ℕ → UnitValue
-unit_of_kind Serial capacity = serial_unit new_serial
-unit_of_kind Buffer capacity = store_buffer_unit (new_store_buffer capacity)
+-- The unit of this kind, with this capacity and this trigger: its store buffers, if it has any, hold so many entries, and a faulty one deviates from this
+-- occasion on.
+abbrev pub unit_of_kind : UnitKind → ℕ → ℕ → UnitValue
+unit_of_kind Serial capacity trigger = serial_unit new_serial
+unit_of_kind Buffer capacity trigger = store_buffer_unit (new_store_buffer capacity)
+unit_of_kind (Faulty kind) capacity trigger = faulty_unit (new_faulty kind trigger capacity)
 
 -- the unit that the options ask for, before its first step
 abbrev pub unit_of : UnitOptions → UnitValue
-unit_of options = unit_of_kind options.kind options.capacity
+unit_of options = unit_of_kind options.kind options.capacity options.trigger
 
 -- ---- what is printed of a record
 

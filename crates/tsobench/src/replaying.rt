@@ -21,6 +21,7 @@ use tso_ops::{OutOfMemory, Program};
 use tso_report::{Fault, judge_trace, print_account, read_all, render_refusal, write_text};
 use tso_text::{Act, MAX_TEXT_BYTES, TextFault, print_trace, read_program, read_schedule};
 use unit_core::{Account, MemoryUnit, Recorded, replay};
+use unit_faulty::FaultyUnit;
 use unit_kinds::{SerialUnit, StoreBufferUnit};
 
 /// A text to be written, and the status that the program then ends with.
@@ -43,6 +44,7 @@ pub(crate) fn replay_named<H: Threads + Wait + AllocGlobal, O: NamedFiles, W: Wr
     requires some { 1 ≤ options.now.workers }
     requires most { options.now.workers ≤ worker_limit }
     requires capacity { (1 ≤ options.now.unit.capacity) × (options.now.unit.capacity ≤ capacity_limit) }
+    requires trigger { 1 ≤ options.now.unit.trigger }
     ensures text { IfOk result (WritesText (IsReplayText options.now (O.bytes files.old program.now) (O.bytes files.old schedule.now)) (W.contents writer.old) (W.contents writer.new)) }
     ensures fault { IfErr result (LeavesAtFault (IsPrintable (IsReplayText options.now (O.bytes files.old program.now) (O.bytes files.old schedule.now))) (W.contents writer.old) (W.contents writer.new)) }
     ensures first { OpensFirst (O.opened files.old) (O.opened files.new) (program.now ∷ schedule.now ∷ []) }
@@ -66,6 +68,7 @@ fn replay_texts<H: Threads + Wait + AllocGlobal, P: Read, S: Read>(
     requires some { 1 ≤ options.now.workers }
     requires most { options.now.workers ≤ worker_limit }
     requires capacity { (1 ≤ options.now.unit.capacity) × (options.now.unit.capacity ≤ capacity_limit) }
+    requires trigger { 1 ≤ options.now.unit.trigger }
     ensures text { IfOk result (λ printed. IsReplayText options.now (P.remaining programs.old) (S.remaining schedules.old) printed.text.items printed.status) }
     ensures fault { IfErr result (λ fault. (fault ≡ Fault.OutOfMemory) ⊎ ((fault ≡ Fault.Read) ⊎ (fault ≡ Fault.NoThread))) }
 {
@@ -86,6 +89,7 @@ fn replay_program<H: Threads + Wait + AllocGlobal, S: Read>(
     requires some { 1 ≤ options.now.workers }
     requires most { options.now.workers ≤ worker_limit }
     requires capacity { (1 ≤ options.now.unit.capacity) × (options.now.unit.capacity ≤ capacity_limit) }
+    requires trigger { 1 ≤ options.now.unit.trigger }
     ensures text { IfOk result (λ printed. IsScheduledText options.now program.now (S.remaining schedules.old) printed.text.items printed.status) }
     ensures fault { IfErr result (λ fault. (fault ≡ Fault.OutOfMemory) ⊎ ((fault ≡ Fault.Read) ⊎ (fault ≡ Fault.NoThread))) }
 {
@@ -106,6 +110,7 @@ fn replay_by<H: Threads + Wait + AllocGlobal>(
     requires some { 1 ≤ options.now.workers }
     requires most { options.now.workers ≤ worker_limit }
     requires capacity { (1 ≤ options.now.unit.capacity) × (options.now.unit.capacity ≤ capacity_limit) }
+    requires trigger { 1 ≤ options.now.unit.trigger }
     ensures text { IfOk result (λ printed. IsReplayOf options.now program.now schedule.now printed.text.items printed.status) }
     ensures fault { IfErr result (λ fault. (fault ≡ Fault.OutOfMemory) ⊎ (fault ≡ Fault.NoThread)) }
 {
@@ -117,6 +122,10 @@ fn replay_by<H: Threads + Wait + AllocGlobal>(
         }
         UnitKind::Buffer => {
             let unit = StoreBufferUnit::new(alloc, options.unit.capacity)?;
+            replay_on(rt, Box::new(alloc, unit)?, options, program, schedule)
+        }
+        UnitKind::Faulty(kind) => {
+            let unit = FaultyUnit::new(alloc, kind, options.unit.trigger, options.unit.capacity)?;
             replay_on(rt, Box::new(alloc, unit)?, options, program, schedule)
         }
     }

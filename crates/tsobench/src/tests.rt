@@ -2,6 +2,7 @@ mod certificates;
 mod commands;
 mod drawn;
 mod examples;
+mod faults;
 mod records;
 mod refused_allocations;
 mod replays;

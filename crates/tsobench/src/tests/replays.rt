@@ -182,7 +182,7 @@ const BUFFERED: [Buffered; 8] = [
 ];
 
 /// What the arguments of a replay lead to, of which those that begin with `@` name files of the folder.
-fn replayed<H: Threads + Wait + Sync + Files + AllocGlobal>(
+pub(super) fn replayed<H: Threads + Wait + Sync + Files + AllocGlobal>(
     rt: &H,
     alloc: Global,
     folder: &str,
