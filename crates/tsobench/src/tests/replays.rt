@@ -4,6 +4,7 @@ use super::commands::{ended, new_folder, write};
 use super::{Ended, expect};
 use std::alloc::Global;
 use std::fs;
+use std::process::Abort;
 use std::rt::Files;
 use std::sync::Wait;
 use std::test::Fail;
@@ -158,7 +159,7 @@ const BUFFERED_TEXTS: [(&str, &str); 4] = [
     ("stores_first", STORES_FIRST),
 ];
 
-/// Arguments after those that name the unit `buffer`, and what the replay prints.
+/// Arguments after those that name the unit, and what the replay prints.
 type Buffered = (&'static [&'static str], &'static str);
 
 const BUFFERED: [Buffered; 8] = [
@@ -221,15 +222,33 @@ fn replays(rt: HostRuntime) -> Result<(), Fail> {
     Ok(fs::remove_dir_all(&rt, folder.as_str())?)
 }
 
+/// Units with store buffers: the lawful one, and a faulty one before its first deviation.
+const BUFFERED_UNITS: [&[&str]; 2] = [
+    &["--unit", "buffer"],
+    &["--unit", "lost-drain", "--trigger", "18446744073709551615"],
+];
+
+/// Replays on this unit what is replayed on store buffers.
+fn expect_buffered<H: Threads + Wait + Sync + Files + AllocGlobal + Abort>(
+    rt: &H,
+    alloc: Global,
+    folder: &str,
+    unit: &[&str],
+) -> Result<(), Fail> {
+    for (arguments, output) in BUFFERED {
+        let mut all = unit.to_vec(alloc)?;
+        all.extend_from_slice(arguments)?;
+        let ended = replayed(rt, alloc, folder, &all)?;
+        expect(rt, &all, &ended, 0, output, "");
+    }
+    Ok(())
+}
+
 #[test]
 fn replays_on_store_buffers(rt: HostRuntime) -> Result<(), Fail> {
-    let alloc = rt.alloc();
     let folder = buffered_folder(&rt)?;
-    for (arguments, output) in BUFFERED {
-        let mut all = Vec::from_array(alloc, ["--unit", "buffer"])?;
-        all.extend_from_slice(arguments)?;
-        let ended = replayed(&rt, alloc, folder.as_str(), &all)?;
-        expect(&rt, arguments, &ended, 0, output, "");
+    for unit in BUFFERED_UNITS {
+        expect_buffered(&rt, rt.alloc(), folder.as_str(), unit)?;
     }
     Ok(fs::remove_dir_all(&rt, folder.as_str())?)
 }
