@@ -1,6 +1,7 @@
 pub mod BelongFacts
 pub mod CountFacts
 pub mod DrainFacts
+pub mod DrainedSteps
 pub mod IssueFacts
 pub mod LastDrainFacts
 pub mod OutcomeFacts

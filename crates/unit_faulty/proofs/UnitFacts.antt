@@ -1,37 +1,23 @@
 -- What the calls of a faulty unit are to the law of memory units.
-use Rattle.std.proofs.Common.{◌≡◌, ◌∙◌, sym, ap, refl, ℕ, zero, suc, ◌-◌, ◌<◌, List, [], ◌∷◌, ◌++◌, length, get_or, map, replicate, append_assoc, arith}
+use Rattle.std.proofs.Common.{◌≡◌, ◌∙◌, ap, refl, ℕ, ◌-◌, ◌<◌, [], ◌∷◌, ◌++◌, length, replicate, arith}
+use Rattle.std.proofs.Math.ListN.{get_or-map}
 use Rattle.store_buffers.specs.Buffers.{entries_of}
 use Rattle.unit_core.specs.declared.steps.Step.{Step}
 use Rattle.unit_core.specs.declared.steps.Step.TheVariants.{Drain}
 use Rattle.unit_core.specs.Machine.{proc_of}
-use Rattle.unit_core.specs.Units.{AreDrainsOf, DrainsOne, Takes, waiting_of}
-use Rattle.unit_faulty.specs.Faulty.{FaultyState, FaultyValue, drain_once, faulty_unit, with_step}
+use Rattle.unit_core.specs.Units.{DrainsOne, Takes, waiting_of}
+use Rattle.unit_core.proofs.DrainedSteps.{Takes-drains_and}
+use Rattle.unit_faulty.specs.Faulty.{FaultyState, FaultyValue, drain_once, faulty_unit}
 use Rattle.unit_faulty.proofs.DrainFacts.{drain_once-loses}
-
-get_or-counts : {X : Type 0} (xs : List (List X)) (p : ℕ) → get_or (map length xs) p 0 ≡ length (get_or xs p [])
-get_or-counts [] p = refl
-get_or-counts (x ∷ xs) zero = refl
-get_or-counts (x ∷ xs) (suc p) = get_or-counts xs p
 
 -- how many entries wait
 pub waiting-entries : (u : FaultyValue) (p : ℕ) → waiting_of (faulty_unit u) p ≡ length (entries_of u.state.parts p)
-waiting-entries u p = get_or-counts u.state.parts.buffers p
-
-are-drains : (count p : ℕ) → AreDrainsOf p (replicate count (Drain p))
-are-drains zero p = tt
-are-drains (suc count) p = (refl, omega arith, omega arith, are-drains count p)
+waiting-entries u p = get_or-map length u.state.parts.buffers p []
 
 -- drains of the step's processor, and then the step
 pub Takes-after_drains : (old new : FaultyValue) (count : ℕ) (step : Step) → new.steps ≡ old.steps ++ (replicate count (Drain (proc_of step)) ++ step ∷ []) → new.first ≡ old.first →
     Takes (faulty_unit old) (faulty_unit new) step
-Takes-after_drains old new count step steps first = record {
-  before = replicate count (Drain (proc_of step));
-  after = [];
-  steps = steps;
-  drains_before = are-drains count (proc_of step);
-  drains_after = tt;
-  kept = record { lawful = refl; order = refl; first = first };
-}
+Takes-after_drains old new count step steps first = Takes-drains_and (faulty_unit old) (faulty_unit new) count step steps (record { lawful = refl; order = refl; first = first })
 
 -- one drain
 pub DrainsOne-drain_once : (old new : FaultyValue) (p : ℕ) → p < length old.state.parts.buffers → 0 < length (entries_of old.state.parts p) →
@@ -46,9 +32,3 @@ DrainsOne-drain_once old new p within waits steps first state =
       one = omega (arith, waiting-entries old p, waiting-entries new p);
       kept = record { lawful = refl; order = refl; first = first };
     }
-
--- what was reserved, drained and pushed
-pub steps-pushed : (old reserved drained pushed : List Step) (p count : ℕ) (step : Step) → reserved ≡ old → drained ≡ reserved ++ replicate count (Drain p) → pushed ≡ drained ++ step ∷ [] →
-    pushed ≡ old ++ (replicate count (Drain p) ++ step ∷ [])
-steps-pushed old reserved drained pushed p count step is_old is_drained is_pushed =
-    is_pushed ∙ ap (λ (xs : List Step). xs ++ step ∷ []) (is_drained ∙ ap (λ (xs : List Step). xs ++ replicate count (Drain p)) is_old) ∙ append_assoc old (replicate count (Drain p)) (step ∷ [])

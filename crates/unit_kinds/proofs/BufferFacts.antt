@@ -1,8 +1,9 @@
 -- A store-buffer unit's steps stay a run of the TSO machine, whose buffers have the entries that wait.
-use Rattle.std.proofs.Common.{◌≡◌, ◌∙◌, sym, ap, refl, subst, ℕ, zero, suc, ◌<◌, ◌≤◌, Bool, true, false, cond, ◌==◌, Option, None, Some, List, [], ◌∷◌, ◌++◌, length, get_or, map, set, drop, replicate, slice_get, slice_index, append_assoc, length-set, arith}
+use Rattle.std.proofs.Common.{◌≡◌, ◌∙◌, sym, ap, refl, subst, ℕ, zero, suc, ◌<◌, ◌≤◌, Bool, true, false, cond, ◌==◌, Option, None, Some, List, [], ◌∷◌, ◌++◌, length, get_or, map, set, drop, replicate, slice_get, slice_index, length-set, arith}
 use Rattle.std.specs.Int.{from_bool}
 use Rattle.std.specs.List.{remove}
 use Rattle.std.specs.Option.{option_or, unwrap_or}
+use Rattle.std.proofs.Math.ListN.{get_or-map}
 use Rattle.std.proofs.lemmas.Bool.Decides.{nat_tests}
 use Rattle.std.proofs.lemmas.List.{length-map, map-set, map_push, nil_from_length}
 use Rattle.tso_ops.specs.declared.settings.Order.TheVariants.{Tso}
@@ -11,26 +12,16 @@ use Rattle.store_buffers.specs.Buffers.{BuffersValue, entries_of, new_buffers, n
 use Rattle.unit_core.specs.declared.steps.Step.{Step}
 use Rattle.unit_core.specs.declared.steps.Step.TheVariants.{Store, Drain, Load, Swap, Membar, Stbar}
 use Rattle.unit_core.specs.Machine.{Entry, State, IsAllowed, IsRunFrom, Waits, after, buffer_of, first_state, newest, next, proc_of, seen_by, stbars_of, written}
+use Rattle.unit_core.proofs.DrainedSteps.{Takes-drains_and}
 use Rattle.unit_core.proofs.RunFacts.{IsRunFrom-append, after-append}
-use Rattle.unit_core.specs.Units.{AreDrainsOf, DrainsOne, IsUnit, Takes, new_unit}
+use Rattle.unit_core.specs.Units.{DrainsOne, IsUnit, Takes, new_unit}
 use Rattle.unit_kinds.specs.Buffer.{StoreBufferValue, after_drains_and, new_store_buffer, store_buffer_unit, waiting_after}
 use Rattle.unit_kinds.specs.Internal.Buffer.{HasBuffers, IsStoreBufferUnit, drained_times, entry_of}
 use Rattle.unit_kinds.proofs.DrainingFacts.{drained-buffers, drained_times-kept}
 
--- one of several lists that are mapped
-get_or-maps : {X Y : Type 0} (f : X → Y) (xs : List (List X)) (p : ℕ) → get_or (map (map f) xs) p [] ≡ map f (get_or xs p [])
-get_or-maps f [] p = refl
-get_or-maps f (x ∷ xs) zero = refl
-get_or-maps f (x ∷ xs) (suc p) = get_or-maps f xs p
-
-get_or-lengths : {X : Type 0} (xs : List (List X)) (p : ℕ) → get_or (map length xs) p 0 ≡ length (get_or xs p [])
-get_or-lengths [] p = refl
-get_or-lengths (x ∷ xs) zero = refl
-get_or-lengths (x ∷ xs) (suc p) = get_or-lengths xs p
-
 -- the entries of processor p
 entries-machine : (s : State) (parts : BuffersValue) (p : ℕ) → HasBuffers s parts → map entry_of (buffer_of s p) ≡ entries_of parts p
-entries-machine s parts p has = sym (get_or-maps entry_of s.buffers p) ∙ ap (λ bs. get_or bs p []) has.buffers
+entries-machine s parts p has = sym (get_or-map (map entry_of) s.buffers p []) ∙ ap (λ bs. get_or bs p []) has.buffers
 
 length-machine : (s : State) (parts : BuffersValue) (p : ℕ) → HasBuffers s parts → length (buffer_of s p) ≡ length (entries_of parts p)
 length-machine s parts p has = sym (length-map (buffer_of s p) entry_of) ∙ ap length (entries-machine s parts p has)
@@ -38,7 +29,7 @@ length-machine s parts p has = sym (length-map (buffer_of s p) entry_of) ∙ ap 
 -- how many entries wait after the steps
 pub waiting-machine : (first : List ℕ) (steps : List Step) (p : ℕ) → get_or (waiting_after first steps) p 0 ≡ length (buffer_of (after (first_state first) steps) p)
 unfolding waiting_after
-waiting-machine first steps p = get_or-lengths (after (first_state first) steps).buffers p
+waiting-machine first steps p = get_or-map length (after (first_state first) steps).buffers p []
 
 pub waiting-parts : (steps : List Step) (first : List ℕ) (parts : BuffersValue) (p : ℕ) → IsStoreBufferUnit steps first parts →
     get_or (waiting_after first steps) p 0 ≡ length (entries_of parts p)
@@ -202,20 +193,10 @@ IsUnit-store_buffer u parts kept = record {
   waiting = λ lawful p. waiting-machine u.first u.steps p;
 }
 
-drains-of : (count p : ℕ) → AreDrainsOf p (replicate count (Drain p))
-drains-of zero p = tt
-drains-of (suc count) p = (refl, omega arith, omega arith, drains-of count p)
-
 -- drains of the step's processor, and then the step
 pub Takes-after_drains : (u : StoreBufferValue) (count : ℕ) (step : Step) → Takes (store_buffer_unit u) (store_buffer_unit (after_drains_and u (proc_of step) count step)) step
-Takes-after_drains u count step = record {
-  before = replicate count (Drain (proc_of step));
-  after = [];
-  steps = refl;
-  drains_before = drains-of count (proc_of step);
-  drains_after = tt;
-  kept = record { lawful = refl; order = refl; first = refl };
-}
+Takes-after_drains u count step =
+    Takes-drains_and (store_buffer_unit u) (store_buffer_unit (after_drains_and u (proc_of step) count step)) count step refl (record { lawful = refl; order = refl; first = refl })
 
 -- one drain
 pub DrainsOne-store_buffer : (old new : StoreBufferValue) (parts : BuffersValue) (p : ℕ) → p < length parts.buffers → 0 < length (entries_of parts p) →
@@ -228,12 +209,6 @@ DrainsOne-store_buffer old new parts p within waits is kept after_it = record {
   one = omega (arith, waiting-parts old.steps old.first parts p kept, waiting-parts new.steps new.first (oldest_drained parts p) p after_it, (drained-buffers parts p within).0);
   kept = record { lawful = refl; order = refl; first = ap (λ u. u.first) is };
 }
-
--- what was reserved, drained and pushed
-pub drained-pushed : (old reserved drained pushed : List Step) (p count : ℕ) (step : Step) → reserved ≡ old → drained ≡ reserved ++ replicate count (Drain p) → pushed ≡ drained ++ step ∷ [] →
-    pushed ≡ old ++ (replicate count (Drain p) ++ step ∷ [])
-drained-pushed old reserved drained pushed p count step is_old is_drained is_pushed =
-    is_pushed ∙ ap (λ (xs : List Step). xs ++ step ∷ []) (is_drained ∙ ap (λ (xs : List Step). xs ++ replicate count (Drain p)) is_old) ∙ append_assoc old (replicate count (Drain p)) (step ∷ [])
 
 pub same_value : (u : StoreBufferValue) (p count capacity : ℕ) (step : Step) (steps : List Step) → steps ≡ u.steps ++ (replicate count (Drain p) ++ step ∷ []) → capacity ≡ u.capacity →
     record { steps = steps; first = u.first; capacity = capacity } ≡ after_drains_and u p count step

@@ -231,15 +231,17 @@ fn agrees(alloc: Global, kind: FaultKind, trigger: u64, seed: u64) -> Result<boo
     let capacity = (seed % 3) as usize + 1;
     let mut unit = FaultyUnit::new(alloc, kind, trigger, capacity)?;
     let mut plain = PlainUnit::new(alloc, kind, trigger, capacity)?;
-    for a in 0..4u16 {
-        unit.preset(a, 100 + u64::from(a));
-    }
+    unit.preset(0, 100);
+    unit.preset(1, 101);
+    unit.preset(2, 102);
+    unit.preset(3, 103);
     let mut draws = Draws(seed);
     for number in 0..60u32 {
         call_both(&mut unit, &mut plain, &mut draws, number)?;
     }
-    let waiting = (0..3usize).all(|p| unit.waiting(p) == plain.waiting(p));
-    Ok(waiting && unit.steps() == plain.steps.as_slice())
+    let waiting = [unit.waiting(0), unit.waiting(1), unit.waiting(2)];
+    let expected = [plain.waiting(0), plain.waiting(1), plain.waiting(2)];
+    Ok(waiting == expected && unit.steps() == plain.steps.as_slice())
 }
 
 #[test]

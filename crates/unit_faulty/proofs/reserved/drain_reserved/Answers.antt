@@ -1,4 +1,4 @@
-use Rattle.std.proofs.Common.{◌≡◌, ◌∙◌, sym, ap, ◌≤◌, ◌+◌, [], ◌∷◌, ◌++◌, List, append_assoc, replicate, subst, arith}
+use Rattle.std.proofs.Common.{◌∙◌, sym, ap, ◌≤◌, ◌+◌, [], ◌∷◌, ◌++◌, List, append_assoc, replicate, subst, arith}
 use Rattle.std.proofs.lemmas.List.{replicate_more}
 use Rattle.unit_core.specs.declared.steps.Step.{Step}
 use Rattle.unit_core.specs.declared.steps.Step.TheVariants.{Drain}

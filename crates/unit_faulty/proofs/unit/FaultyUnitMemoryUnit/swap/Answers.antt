@@ -1,9 +1,10 @@
 use Rattle.std.proofs.Common.{refl, subst}
 use Rattle.unit_core.specs.declared.steps.Step.TheVariants.{Swap}
 use Rattle.unit_core.specs.Units.{Takes}
+use Rattle.unit_core.proofs.DrainedSteps.{drained-pushed}
 use Rattle.unit_faulty.specs.Faulty.{FaultyValue, faulty_unit}
 use Rattle.unit_faulty.proofs.DrainFacts.{drained-room}
-use Rattle.unit_faulty.proofs.UnitFacts.{Takes-after_drains, steps-pushed}
+use Rattle.unit_faulty.proofs.UnitFacts.{Takes-after_drains}
 use Rattle.unit_faulty.proofs.unit.FaultyUnitMemoryUnit.swap.Goals as goal
 
 pub swap-r-requires-clause-room : goal.swap-r-requires-clause-room
@@ -17,5 +18,5 @@ returns-clause-taken c =
     let step = Swap p c.args.a c.swap-r.result c.args.v in
     let old : FaultyValue = record { steps = u.steps.items; first = u.first.items; state = u.memory } in
     let new : FaultyValue = record { steps = c.push_reserved.new.steps.items; first = u.first.items; state = c.swap-r.new.self } in
-    let steps = steps-pushed u.steps.items _ _ _ p c.waiting-waiting.result step c.in_ok-reserve.ensures.items c.drain_reserved.ensures.items c.push_reserved.ensures.items in
+    let steps = drained-pushed u.steps.items _ _ _ p c.waiting-waiting.result step c.in_ok-reserve.ensures.items c.drain_reserved.ensures.items c.push_reserved.ensures.items in
     subst (λ w. Takes (faulty_unit w) (faulty_unit new) step) c.self.view_is (Takes-after_drains old new c.waiting-waiting.result step steps refl)

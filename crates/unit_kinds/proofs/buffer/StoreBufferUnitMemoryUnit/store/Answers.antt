@@ -3,7 +3,8 @@ use Rattle.store_buffers.specs.Buffers.{entries_of}
 use Rattle.unit_core.specs.declared.steps.Step.TheVariants.{Store}
 use Rattle.unit_core.specs.Units.{Takes}
 use Rattle.unit_kinds.specs.Buffer.{after_drains_and, drains_for_store, store_buffer_unit}
-use Rattle.unit_kinds.proofs.BufferFacts.{IsStoreBufferUnit-store, Takes-after_drains, drained-pushed, drains-enough, from_bool-cond, same_value, waiting-parts}
+use Rattle.unit_core.proofs.DrainedSteps.{drained-pushed}
+use Rattle.unit_kinds.proofs.BufferFacts.{IsStoreBufferUnit-store, Takes-after_drains, drains-enough, from_bool-cond, same_value, waiting-parts}
 use Rattle.unit_kinds.proofs.DrainingFacts.{drained_times-kept}
 use Rattle.unit_kinds.proofs.buffer.StoreBufferUnitMemoryUnit.store.Goals as goal
 

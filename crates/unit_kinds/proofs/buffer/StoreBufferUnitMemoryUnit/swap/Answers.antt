@@ -3,7 +3,8 @@ use Rattle.unit_kinds.specs.Internal.Buffer.{drained_times}
 use Rattle.unit_core.specs.declared.steps.Step.TheVariants.{Swap}
 use Rattle.unit_core.specs.Units.{Takes, waiting_of}
 use Rattle.unit_kinds.specs.Buffer.{after_drains_and, store_buffer_unit}
-use Rattle.unit_kinds.proofs.BufferFacts.{IsStoreBufferUnit-swap, Takes-after_drains, drained-pushed, same_value, waiting-parts}
+use Rattle.unit_core.proofs.DrainedSteps.{drained-pushed}
+use Rattle.unit_kinds.proofs.BufferFacts.{IsStoreBufferUnit-swap, Takes-after_drains, same_value, waiting-parts}
 use Rattle.unit_kinds.proofs.DrainingFacts.{drained_times-kept}
 use Rattle.unit_kinds.proofs.buffer.StoreBufferUnitMemoryUnit.swap.Goals as goal
 
