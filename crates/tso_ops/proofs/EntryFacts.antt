@@ -1,5 +1,5 @@
 -- Lemmas on the entries of first values: their check, one after the other, and the value of an address.
-use Rattle.std.proofs.Common.{◌≡◌, ◌∙◌, inl, inr, ⊎_elim, sym, ap, refl, ℕ, ◌+◌, ◌<◌, ◌≤◌, ◌^◌, ◌||◌, Bool, true, false, nat_eq, nat_le, nat_lt, eqb, cond, List, [], ◌∷◌, ◌++◌, All, length, get_or, take, drop, map, Some, arith}
+use Rattle.std.proofs.Common.{◌≡◌, ◌∙◌, ⊎_elim, sym, ap, refl, ℕ, ◌+◌, ◌<◌, ◌≤◌, ◌^◌, ◌||◌, Bool, true, false, nat_eq, nat_le, nat_lt, eqb, cond, List, [], ◌∷◌, ◌++◌, All, length, get_or, take, drop, Some, arith}
 use Rattle.std.specs.List.{list_any}
 use Rattle.std.specs.Ordering.{nat_cmp}
 use Rattle.std.specs.BTreeSet.{BTreeSet, contains, Updates}
@@ -14,7 +14,7 @@ use Rattle.tso_ops.specs.Settings.{first_value, values_of}
 use Rattle.tso_ops.specs.Limits.{KeepsEntries, has_entry_fault, fault_number, IsFaultless, IsFaultOf, IsFirstFault}
 use Rattle.tso_ops.specs.Internal.Entries.{EndsBelow}
 use Rattle.tso_ops.proofs.LimitFacts.{split_push, IsFaultless-nil, IsFaultless-push, IsFaultOf-next}
-use Rattle.tso_ops.proofs.TallyFacts.{TakesValue, stored-push}
+use Rattle.tso_ops.proofs.TallyFacts.{stored-push}
 
 -- the entries keep their limits and have no fault, and their addresses end below `least`
 pub record AreChecked (entries : List (ℕ × ℕ)) (least : ℕ) : Type 0 where

@@ -6,5 +6,6 @@ pub mod MaskFacts
 pub mod ProcessorFacts
 pub mod ReadFacts
 pub mod RefusalFacts
+pub mod SameFacts
 pub mod TableFacts
 pub mod TallyFacts

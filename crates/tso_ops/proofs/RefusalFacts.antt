@@ -13,8 +13,6 @@ use Rattle.tso_ops.specs.declared.ops.Op.{Op}
 use Rattle.tso_ops.specs.declared.ops.Op.TheVariants.{Ld, St, Sw, Mb, Sb}
 use Rattle.tso_ops.specs.declared.faults.ValueFault.{ValueFault}
 use Rattle.tso_ops.specs.declared.faults.ValueFault.TheVariants.{TooManyProcessors, TooManyEvents, AddressRange, ZeroValue, RepeatedValue, OutOfMemory, StbarInTso, InitOrder}
-use Rattle.tso_ops.specs.declared.settings.Order.{Order}
-use Rattle.tso_ops.specs.declared.settings.Order.TheVariants.{Tso, Pso}
 use Rattle.tso_ops.specs.Settings.{SettingValue, values_of, event_limit, barrier_limit}
 use Rattle.tso_ops.specs.Values.{ProgramValue, in_file_order}
 use Rattle.tso_ops.proofs.LimitFacts.{not_refused}

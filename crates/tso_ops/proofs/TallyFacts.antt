@@ -10,7 +10,7 @@ use Rattle.std.proofs.lemmas.List.{append-nil}
 use Rattle.tso_ops.specs.declared.ops.Op.{Op}
 use Rattle.tso_ops.specs.declared.limits.Tally.{Tally}
 use Rattle.tso_ops.specs.Settings.{SettingValue, values_of, event_limit, barrier_limit}
-use Rattle.tso_ops.specs.Limits.{event_count, barrier_count, address_of, stored_by, stored_values, is_past_addresses, is_zero, is_stbar_in_tso, has_fault, total_events, total_barriers}
+use Rattle.tso_ops.specs.Limits.{event_count, barrier_count, address_of, stored_by, stored_values, is_past_addresses, is_zero, is_stbar_in_tso, has_fault}
 use Rattle.tso_ops.specs.Tally.{Admitted}
 use Rattle.tso_ops.proofs.LimitFacts.{IsStorable, IsAdmissible, IsFaultless-nil, IsFaultless-push, KeepsLimits-nil, KeepsLimits-push, no_fault, stored_values-push, total_events-push, total_barriers-push}
 

@@ -12,6 +12,7 @@ pub use settings::{Order, Version};
 pub use traces::Trace;
 
 mod checks;
+mod comparing;
 mod events;
 mod faults;
 pub mod laws;

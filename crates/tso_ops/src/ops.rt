@@ -80,6 +80,21 @@ impl Op {
     }
 }
 
+impl Outcome {
+    /// The operation, without what it read.
+    pub fn op(self) -> Op
+        ensures { result ≡ op_of self }
+    {
+        match self {
+            Outcome::Ld { a, .. } => Op::Ld { a },
+            Outcome::St { a, v } => Op::St { a, v },
+            Outcome::Sw { a, v, .. } => Op::Sw { a, v },
+            Outcome::Mb => Op::Mb,
+            Outcome::Sb => Op::Sb,
+        }
+    }
+}
+
 /// What the lists of programs and of traces are made of.
 pub(crate) trait Operation: Copy {
     ghost op: { Self → Op };
@@ -108,12 +123,6 @@ impl Operation for Outcome {
     ghost fits = { ReadFits };
 
     fn op(self) -> Op {
-        match self {
-            Outcome::Ld { a, .. } => Op::Ld { a },
-            Outcome::St { a, v } => Op::St { a, v },
-            Outcome::Sw { a, v, .. } => Op::Sw { a, v },
-            Outcome::Mb => Op::Mb,
-            Outcome::Sb => Op::Sb,
-        }
+        self.op()
     }
 }

@@ -1,4 +1,4 @@
-ghost use Rattle.std.specs.Prelude.{◌≡◌, ◌≢◌, ◌<◌, [], IfOk, IfErr, OnOk};
+ghost use Rattle.std.specs.Prelude.{◌≡◌, ◌≢◌, ◌<◌, [], IfOk, IfErr, OnOk, Decides};
 ghost use Rattle.tso_ops.specs.declared.faults.ValueFault.{ValueFault};
 ghost use Rattle.tso_ops.specs.declared.settings.Version.TheVariants.{One};
 ghost use Rattle.tso_ops.specs.Settings.{first_value, plain, setting_of, setting_of_first, setting_of_order};
@@ -6,6 +6,7 @@ ghost use Rattle.tso_ops.specs.Values.{rows, program_of_lists, ops_at, list_coun
 ghost use Rattle.tso_ops.specs.Limits.{IsProgram, IsValueRefusal};
 
 use crate::checks::check_lists;
+use crate::comparing::{are_same_lists, is_same_setting};
 use crate::faults::{OutOfMemory, Refused, RefusedFirst, ValueFault};
 use crate::ops::Op;
 use crate::settings::{Order, Setting, Version, first_at};
@@ -158,6 +159,13 @@ impl Program {
         }
         let setting = self.setting.copy(alloc)?;
         Ok(Program { setting, lists })
+    }
+
+    /// Whether the other is an equal program, also in version, memory model and first values.
+    pub fn is_same(&self, other: &Program) -> bool
+        ensures { Decides result (self.now ≡ other.now) }
+    {
+        is_same_setting(&self.setting, &other.setting) && are_same_lists(&self.lists, &other.lists)
     }
 }
 

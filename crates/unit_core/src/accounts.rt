@@ -40,7 +40,7 @@ impl Account {
     }
 
     /// The closed account of these steps.
-    pub(crate) fn of_steps(steps: &[Step]) -> Account
+    pub fn of_steps(steps: &[Step]) -> Account
         ensures { IsAccountOf steps.now result }
     {
         Account {

@@ -5,7 +5,7 @@ pub use accounts::Account;
 pub use endings::{conclude, conclude_over};
 pub use issuing::perform;
 pub use presets::preset_all;
-pub use records::Recorded;
+pub use records::{Recorded, is_lawful_under};
 pub use replays::{replay, replay_over};
 pub use steps::Step;
 pub use units::MemoryUnit;

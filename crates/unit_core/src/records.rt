@@ -73,7 +73,7 @@ pub(crate) fn record<U: MemoryUnit>(
 }
 
 /// Whether the unit's steps are known to be a run of this memory model: those of a TSO unit are also one under PSO.
-fn is_lawful_under<U: MemoryUnit>(unit: &U, order: Order) -> bool
+pub fn is_lawful_under<U: MemoryUnit>(unit: &U, order: Order) -> bool
     ensures { result ≡ ((U.value_of unit.now).lawful && is_within (U.value_of unit.now).order order) }
 {
     match unit.order() {

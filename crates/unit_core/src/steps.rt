@@ -27,7 +27,7 @@ pub enum Step {
 
 impl Step {
     /// What the step answered processor `p`: None where it is a drain or another processor's.
-    pub(crate) fn outcome_of(self, p: usize) -> Option<Outcome>
+    pub fn outcome_of(self, p: usize) -> Option<Outcome>
         ensures is { result ≡ outcome_for p self }
         ensures fits { IfSome result ReadFits }
     {

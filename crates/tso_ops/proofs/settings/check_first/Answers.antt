@@ -1,5 +1,3 @@
-use Rattle.std.proofs.Common.{take}
-use Rattle.std.proofs.lemmas.List.{take_all}
 use Rattle.std.proofs.lemmas.Result.{err_from_is_err_and}
 use Rattle.tso_ops.proofs.EntryFacts.{AreChecked-nil, AreChecked-next, fault_at}
 use Rattle.tso_ops.proofs.settings.check_first.Goals as goal

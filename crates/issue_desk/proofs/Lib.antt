@@ -1,0 +1,4 @@
+pub mod AgreementFacts
+pub mod DeskFacts
+pub mod FinishFacts
+pub mod RunFacts

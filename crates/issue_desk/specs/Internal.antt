@@ -1,0 +1,3 @@
+-- For private functions alone.
+pub mod Issued
+pub mod Passes

@@ -1,0 +1,4 @@
+pub mod Desks
+pub mod Finishing
+pub mod Internal
+pub mod Running

@@ -1,0 +1,82 @@
+ghost use Rattle.std.specs.Prelude.{◌≡◌, []};
+ghost use Rattle.issue_desk.specs.Running.{Runs};
+
+use crate::desks::Desk;
+use crate::faults::RunFault;
+use crate::gates::Gate;
+use crate::issuers::{Issuers, issue_in_threads};
+use std::alloc::Global;
+use std::sync::{Mutex, Wait};
+use std::thread::Threads;
+use tso_ops::{OutOfMemory, Program};
+use unit_core::{Account, MemoryUnit, Recorded, is_lawful_under};
+
+/// Runs a program on a unit by a thread per processor, ends the unit, and gives the record of its run.
+///
+/// The caller hands in a unit that has taken no step. It gets the program's first values. The issuer of each processor
+/// issues its operations in order, one at a time under one lock; it passes the gate before each, outside the lock. After
+/// each operation it draws a word of its own generator, PCG64 seeded by the sum of the drain seed and its processor modulo
+/// 2^64, and drains its buffer up to that word modulo 3 times, each under a lock of its own taking, stopping where nothing
+/// waits. Once all are joined the record is made as by `Desk::finish`.
+///
+/// OutOfMemory where the unit answered it or an allocation was refused; else NoThread where the system refused a thread;
+/// else Torn or OtherProgram as by `Desk::finish`, and OtherProgram also where the record isn't as lawful as the unit that
+/// was handed in. On every return all threads are joined, the unit is ended and the account is closed. It may wait.
+pub fn run<R: Threads + Wait + Sync, G: Gate + Sync>(
+    rt: &R,
+    alloc: Global,
+    program: &Program,
+    unit: Box<dyn MemoryUnit + Send>,
+    issuers: Issuers<'_, G>,
+    account: &mut Account,
+) -> Result<Recorded, RunFault>
+    requires { (value_of unit).steps ≡ [] }
+    ensures { Runs program.now (value_of unit) account.new result }
+{
+    run_over(rt, alloc, program, unit, issuers, account)
+}
+
+/// `run` for a unit of any type.
+pub fn run_over<U: MemoryUnit + Send, R: Threads + Wait + Sync, G: Gate + Sync>(
+    rt: &R,
+    alloc: Global,
+    program: &Program,
+    unit: U,
+    issuers: Issuers<'_, G>,
+    account: &mut Account,
+) -> Result<Recorded, RunFault>
+    requires { (U.value_of unit).steps ≡ [] }
+    ensures { Runs program.now (U.value_of unit) account.new result }
+{
+    // the account of a unit that takes no step, where the desk is refused memory
+    *account = Account::of_steps(&[]);
+    let lawful = is_lawful_under(&unit, program.order());
+    let desk = Mutex::new(open_desk(alloc, program, unit)?);
+    let passes = issue_in_threads(rt, alloc, &desk, issuers, program.processors());
+    let desk = desk.into_inner();
+    let passes = match passes {
+        Ok(passes) => passes,
+        Err(fault) => {
+            desk.end(account);
+            return Err(fault);
+        }
+    };
+    let record = desk.finish(alloc, program, &passes, account)?;
+    if record.lawful() == lawful {
+        Ok(record)
+    } else {
+        Err(RunFault::OtherProgram)
+    }
+}
+
+/// The desk of an equal program and the unit.
+fn open_desk<U: MemoryUnit>(
+    alloc: Global,
+    program: &Program,
+    unit: U,
+) -> Result<Desk<U>, OutOfMemory>
+    requires { (U.value_of unit).steps ≡ [] }
+{
+    let own = program.copy()?;
+    Desk::new(alloc, own, unit)
+}
