@@ -1,5 +1,5 @@
 -- Lemmas on what is printed of a replay.
-use Rattle.std.proofs.Common.{◌≡◌, ◌⊎◌, ℕ, List, [], ◌∷◌, take, Ok, Err, Result, IfOk, IfErr, Some, None, IfSome, ◌∙◌, subst, sym, inl, inr, refl}
+use Rattle.std.proofs.Common.{◌≡◌, ◌⊎◌, ℕ, List, [], ◌∷◌, take, Ok, Err, Result, IfOk, IfErr, Some, None, IfSome, subst, sym, inl, inr}
 use Rattle.std.specs.Prelude.{◌≢◌, OnOk, Option}
 use Rattle.std.specs.Io.KnownBytes.{Keeps}
 use Rattle.command_line.specs.declared.options.RunOptions.{RunOptions}
