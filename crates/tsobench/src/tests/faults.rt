@@ -93,27 +93,14 @@ fn expect_shown<H: Threads + Wait + Sync + Files + AllocGlobal + Abort>(
     shown: &Shown,
 ) -> Result<(), Fail> {
     let (unit, trigger) = (shown.unit, shown.trigger);
-    let judged = [
-        "--unit",
-        unit,
-        "--trigger",
-        trigger,
-        "@program",
-        "@schedule",
-    ];
-    let ended = replayed(rt, alloc, folder, &judged)?;
-    expect(rt, &judged, &ended, 3, shown.report, "");
-    let traced = [
-        "--trace",
-        "--unit",
-        unit,
-        "--trigger",
-        trigger,
-        "@program",
-        "@schedule",
-    ];
-    let ended = replayed(rt, alloc, folder, &traced)?;
-    expect(rt, &traced, &ended, 0, shown.recorded, "");
+    let options = ["--unit", unit, "--trigger", trigger];
+    let mut arguments = Vec::from_array(alloc, options)?;
+    arguments.extend_from_slice(&["@program", "@schedule"])?;
+    let ended = replayed(rt, alloc, folder, &arguments)?;
+    expect(rt, &arguments, &ended, 3, shown.report, "");
+    arguments.push("--trace")?;
+    let ended = replayed(rt, alloc, folder, &arguments)?;
+    expect(rt, &arguments, &ended, 0, shown.recorded, "");
     Ok(())
 }
 
