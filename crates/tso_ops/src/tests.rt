@@ -417,35 +417,46 @@ const FAULTS_OF_PAIRS: [([Op; 2], Option<ValueFault>); 10] = [
     ([STORE, Op::Sw { a: 255, v: 5 }], None),
 ];
 
+/// What is wrong with a program of these lists.
+fn fault_of_lists(alloc: Global, lists: &[&[Op]]) -> Result<Option<ValueFault>, AllocError> {
+    Ok(program_fault(alloc, lists_of(alloc, lists)?))
+}
+
 /// What is wrong with a program of two operations, on one processor and on two.
-fn faults_of_pair(alloc: Global, ops: [Op; 2]) -> Result<[Option<ValueFault>; 2], AllocError> {
+fn faults_of_pair(alloc: Global, ops: &[Op; 2]) -> Result<[Option<ValueFault>; 2], AllocError> {
     let [first, second] = ops;
-    let together = lists_of(alloc, &[&ops])?;
-    let apart = lists_of(alloc, &[&[first], &[second]])?;
-    Ok([program_fault(alloc, together), program_fault(alloc, apart)])
+    Ok([
+        fault_of_lists(alloc, &[ops])?,
+        fault_of_lists(alloc, &[&[*first], &[*second]])?,
+    ])
 }
 
 fn expect_faults_of_pairs(rt: &impl Abort, alloc: Global) -> Result<(), AllocError> {
-    for (ops, fault) in FAULTS_OF_PAIRS {
+    for (ops, fault) in &FAULTS_OF_PAIRS {
         let found = faults_of_pair(alloc, ops)?;
-        assert_eq!(rt; found, [fault; 2], "{ops:?}");
+        assert_eq!(rt; found, [*fault; 2], "{ops:?}");
     }
     Ok(())
 }
 
-const FAULTS_OF_OUTCOMES: [(&[Outcome], Option<ValueFault>); 3] = [
-    (&[Outcome::Ld { a: 256, r: 0 }], RANGE),
-    (&[Outcome::Sw { a: 1, r: 3, v: 0 }], ZERO),
+const FAULTS_OF_OUTCOMES: [(&str, &[Outcome], Option<ValueFault>); 3] = [
+    ("an address", &[Outcome::Ld { a: 256, r: 0 }], RANGE),
+    ("a zero", &[Outcome::Sw { a: 1, r: 3, v: 0 }], ZERO),
     (
+        "a value again",
         &[Outcome::Sw { a: 1, r: 3, v: 9 }, Outcome::St { a: 2, v: 9 }],
         REPEATED,
     ),
 ];
 
+/// What is wrong with a trace of one list.
+fn fault_of_list(alloc: Global, list: &[Outcome]) -> Result<Option<ValueFault>, AllocError> {
+    Ok(trace_fault(alloc, lists_of(alloc, &[list])?))
+}
+
 fn expect_faults_of_outcomes(rt: &impl Abort, alloc: Global) -> Result<(), AllocError> {
-    for (list, fault) in FAULTS_OF_OUTCOMES {
-        let found = trace_fault(alloc, lists_of(alloc, &[list])?);
-        assert_eq!(rt; found, fault, "{list:?}");
+    for (name, list, fault) in &FAULTS_OF_OUTCOMES {
+        expect(rt, name, fault_of_list(alloc, list)?, *fault);
     }
     Ok(())
 }

@@ -81,11 +81,13 @@ fn first_program(alloc: Global, first: &[(u16, u64)]) -> Result<Program, Fail> {
     Ok(Program::with_first(alloc, Order::Tso, first, lists).map_err(|refused| refused.why)?)
 }
 
-fn told_of_trace(trace: &Trace) -> (Order, Version, u64) {
+/// The memory model, the version and the first value of address 1.
+fn trace_settings(trace: &Trace) -> (Order, Version, u64) {
     (trace.order(), trace.version(), trace.first(1))
 }
 
-fn told_of_program(program: &Program) -> (Order, Version, usize) {
+/// The memory model, the version and the number of processors.
+fn program_settings(program: &Program) -> (Order, Version, usize) {
     (program.order(), program.version(), program.processors())
 }
 
@@ -96,21 +98,21 @@ fn settings_are_told(rt: HostRuntime) -> Result<(), Fail> {
     expect(
         &rt,
         "new",
-        told_of_trace(&trace),
+        trace_settings(&trace),
         (Order::Tso, Version::One, 0),
     );
     let trace = ordered_trace(alloc, Order::Pso, &[&[]])?;
     expect(
         &rt,
         "under PSO",
-        told_of_trace(&trace),
+        trace_settings(&trace),
         (Order::Pso, Version::One, 0),
     );
     let program = idle_program(alloc, Order::Pso)?;
     expect(
         &rt,
         "a program",
-        told_of_program(&program),
+        program_settings(&program),
         (Order::Pso, Version::One, 1),
     );
     Ok(())
@@ -130,7 +132,7 @@ fn first_values_are_told(rt: HostRuntime) -> Result<(), Fail> {
         expect(
             &rt,
             "settings",
-            told_of_program(&p),
+            program_settings(&p),
             (Order::Tso, Version::Two, 2),
         );
         expect_first_values(&rt, &p);
@@ -144,7 +146,7 @@ fn first_values_of_a_trace_are_told(rt: HostRuntime) -> Result<(), Fail> {
     expect(
         &rt,
         "settings",
-        told_of_trace(&trace),
+        trace_settings(&trace),
         (Order::Pso, Version::Two, 7),
     );
     Ok(())
@@ -269,9 +271,9 @@ const FAULTS_OF_ENTRIES: [([(u16, u64); 2], Option<ValueFault>); 7] = [
 #[test]
 fn faults_of_first_values(rt: HostRuntime) -> Result<(), Fail> {
     let alloc = rt.alloc();
-    for (first, fault) in FAULTS_OF_ENTRIES {
-        let found = faults_of_entries(alloc, &first)?;
-        let wanted = [fault, fault.or(ZERO), Some(ValueFault::TooManyProcessors)];
+    for (first, fault) in &FAULTS_OF_ENTRIES {
+        let found = faults_of_entries(alloc, first)?;
+        let wanted = [*fault, fault.or(ZERO), Some(ValueFault::TooManyProcessors)];
         assert_eq!(rt; found, wanted, "{first:?}");
     }
     Ok(())
