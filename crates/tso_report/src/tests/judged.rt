@@ -1,7 +1,9 @@
 //! Reports of whole inputs, with the expected bytes of each.
+ghost use Rattle.std.specs.Prelude.{◌≤◌};
+ghost use Rattle.round_pool.specs.Workers.{worker_limit};
 
 use super::{Ended, expect, expect_bytes, expect_count};
-use crate::{MAX_WORKERS, Verdict, judge};
+use crate::{Verdict, judge};
 use std::alloc::{AllocError, Global};
 use std::process::Abort;
 use std::sync::Wait;
@@ -119,20 +121,15 @@ const EVENTS: [(usize, &str, &str); 3] = [
     ),
 ];
 
-/// Judges an input on 1 to 64 workers.
-pub(super) fn judged<H: Threads + Wait + Sync>(
-    rt: &H,
-    alloc: Global,
-    input: &[u8],
-    workers: usize,
-) -> Result<Ended, Fail> {
-    if workers < 1 || workers > MAX_WORKERS {
-        return Err(Fail::new("not 1 to 64 workers"));
-    }
+/// Judges an input.
+fn judged<H: Threads + Wait + Sync>(rt: &H, alloc: Global, input: &[u8], workers: usize) -> Ended
+    requires some { 1 ≤ workers }
+    requires most { workers ≤ worker_limit }
+{
     let mut reader = input;
     let mut written = Vec::new(alloc);
     let said = judge(rt, alloc, &mut reader, &mut written, workers);
-    Ok(Ended { said, written })
+    Ended { said, written }
 }
 
 /// Compares the verdict and the report of an input on several numbers of workers.
@@ -142,12 +139,18 @@ pub(super) fn expect_judged<H: Threads + Wait + Sync + Abort>(
     input: &str,
     verdict: Verdict,
     report: &str,
-) -> Result<(), Fail> {
-    for workers in [1, 2, 7, 64] {
-        let ended = judged(rt, alloc, input.as_bytes(), workers)?;
-        expect(rt, input, &ended, Ok(verdict), report.as_bytes());
-    }
-    Ok(())
+) {
+    let (bytes, report) = (input.as_bytes(), report.as_bytes());
+    expect(rt, input, &judged(rt, alloc, bytes, 1), Ok(verdict), report);
+    expect(rt, input, &judged(rt, alloc, bytes, 2), Ok(verdict), report);
+    expect(rt, input, &judged(rt, alloc, bytes, 7), Ok(verdict), report);
+    expect(
+        rt,
+        input,
+        &judged(rt, alloc, bytes, 64),
+        Ok(verdict),
+        report,
+    );
 }
 
 /// A prefix, many times the same line, and an ending.
@@ -167,28 +170,30 @@ fn repeated(
 }
 
 #[test]
-fn traces(rt: HostRuntime) -> Result<(), Fail> {
+fn traces(rt: HostRuntime) {
     for (input, verdict, report) in TRACES {
-        expect_judged(&rt, rt.alloc(), input, verdict, report)?;
+        expect_judged(&rt, rt.alloc(), input, verdict, report);
     }
-    Ok(())
 }
 
-#[test]
-fn refusals(rt: HostRuntime) -> Result<(), Fail> {
-    for (input, report) in REFUSALS {
-        let ended = judged(&rt, rt.alloc(), input.as_bytes(), 1)?;
-        expect(&rt, input, &ended, Ok(Verdict::Refused), report.as_bytes());
-    }
+/// Compares the report of so many loads, and what follows them.
+fn expect_loads<H: Threads + Wait + Sync + Abort>(
+    rt: &H,
+    alloc: Global,
+    count: usize,
+    back: &str,
+    report: &str,
+) -> Result<(), AllocError> {
+    let text = repeated(alloc, "tso trace 1\nproc\n", "ld 0 0\n", count, back)?;
+    let ended = judged(rt, alloc, text.as_bytes(), 1);
+    expect_bytes(rt, report, &ended.written, report.as_bytes());
     Ok(())
 }
 
 #[test]
 fn events_at_their_limit(rt: HostRuntime) -> Result<(), Fail> {
     for (count, back, report) in EVENTS {
-        let input = repeated(rt.alloc(), "tso trace 1\nproc\n", "ld 0 0\n", count, back)?;
-        let ended = judged(&rt, rt.alloc(), input.as_bytes(), 1)?;
-        expect_bytes(&rt, report, &ended.written, report.as_bytes());
+        expect_loads(&rt, rt.alloc(), count, back, report)?;
     }
     Ok(())
 }
@@ -199,9 +204,28 @@ fn expect_refused<H: Threads + Wait + Sync + Abort>(
     alloc: Global,
     bytes: &[u8],
     report: &str,
-) -> Result<(), Fail> {
-    let ended = judged(rt, alloc, bytes, 1)?;
+) {
+    let ended = judged(rt, alloc, bytes, 1);
     expect(rt, report, &ended, Ok(Verdict::Refused), report.as_bytes());
+}
+
+#[test]
+fn refusals(rt: HostRuntime) {
+    for (input, report) in REFUSALS {
+        expect_refused(&rt, rt.alloc(), input.as_bytes(), report);
+    }
+}
+
+/// Compares the refusals of so many bytes, one more than a text has at most, and of all but the first of them.
+fn expect_too_long<H: Threads + Wait + Sync + Abort>(
+    rt: &H,
+    alloc: Global,
+    byte: u8,
+) -> Result<(), AllocError> {
+    let bytes = vec![in alloc; byte; 1_048_577]?;
+    expect_refused(rt, alloc, &bytes, "REFUSED TooLong line 0\n");
+    let rest = bytes.get(1..).unwrap_or(b"");
+    expect_refused(rt, alloc, rest, "REFUSED BadHeader line 1\n");
     Ok(())
 }
 
@@ -211,10 +235,10 @@ fn expect_after_end<H: Threads + Wait + Sync + Abort>(
     alloc: Global,
     count: usize,
     report: &str,
-) -> Result<(), Fail> {
+) -> Result<(), AllocError> {
     let text = repeated(alloc, "tso trace 1\nend\n", "x", count, "")?;
     expect_count(rt, report, text.len(), count.saturating_add(16));
-    let ended = judged(rt, alloc, text.as_bytes(), 1)?;
+    let ended = judged(rt, alloc, text.as_bytes(), 1);
     expect_bytes(rt, report, &ended.written, report.as_bytes());
     Ok(())
 }
@@ -223,11 +247,9 @@ fn expect_after_end<H: Threads + Wait + Sync + Abort>(
 #[test]
 fn bytes_at_their_limit(rt: HostRuntime) -> Result<(), Fail> {
     for byte in [0, 10, b'x', 255] {
-        let bytes = vec![in rt.alloc(); byte; 1_048_577]?;
-        expect_refused(&rt, rt.alloc(), &bytes, "REFUSED TooLong line 0\n")?;
-        let rest = bytes.get(1..).unwrap_or(b"");
-        expect_refused(&rt, rt.alloc(), rest, "REFUSED BadHeader line 1\n")?;
+        expect_too_long(&rt, rt.alloc(), byte)?;
     }
     expect_after_end(&rt, rt.alloc(), 1_048_560, "REFUSED AfterEnd line 3\n")?;
-    expect_after_end(&rt, rt.alloc(), 1_048_561, "REFUSED TooLong line 0\n")
+    expect_after_end(&rt, rt.alloc(), 1_048_561, "REFUSED TooLong line 0\n")?;
+    Ok(())
 }

@@ -1,17 +1,18 @@
 //! Allocations refused in turn: `rt try --test --fail-alloc N` refuses the Nth of each test.
 //!
 //! The call that meets it answers OutOfMemory, or NoThread where the allocation was that of a thread's start, and writes nothing, and the next call writes the ordinary report.
+ghost use Rattle.std.specs.Prelude.{◌≤◌};
+ghost use Rattle.round_pool.specs.Workers.{worker_limit};
 
 use super::checked::HOLDS;
 use super::violations::{
     Case, STORE_BUFFERING_WITH_BARRIERS, TWO_SWAPS_BOTH_FIRST, UNWRITTEN_LOAD,
 };
 use super::{expect_bytes, expect_count, expect_said};
-use crate::{Fault, MAX_WORKERS, Verdict, check_texts, judge};
+use crate::{Fault, Verdict, check_texts, judge};
 use std::alloc::Global;
 use std::process::Abort;
 use std::sync::Wait;
-use std::test::Fail;
 use std::thread::Threads;
 
 /// The room that a report gets.
@@ -27,13 +28,13 @@ fn judged_into<H: Threads + Wait + Sync>(
     input: &str,
     bytes: &mut [u8; ROOM],
     workers: usize,
-) -> Result<Answer, Fail> {
-    if workers < 1 || workers > MAX_WORKERS {
-        return Err(Fail::new("not 1 to 64 workers"));
-    }
+) -> Answer
+    requires some { 1 ≤ workers }
+    requires most { workers ≤ worker_limit }
+{
     let mut writer = bytes.as_mut_slice();
     let said = judge(rt, alloc, &mut input.as_bytes(), &mut writer, workers);
-    Ok((said, writer.len()))
+    (said, writer.len())
 }
 
 /// Checks the texts of `HOLDS`, and writes the report into these bytes.
@@ -66,52 +67,55 @@ fn expect_answer<H: Abort>(
 fn judges<H: Abort + Threads + Wait + Sync>(
     rt: &H,
     alloc: Global,
-    (input, report): Case,
+    case: Case,
     verdict: Verdict,
     workers: usize,
-) -> Result<(), Fail> {
+)
+    requires some { 1 ≤ workers }
+    requires most { workers ≤ worker_limit }
+{
+    let (input, report) = case;
     let mut bytes = [0u8; ROOM];
-    let mut answer = judged_into(rt, alloc, input, &mut bytes, workers)?;
+    let mut answer = judged_into(rt, alloc, input, &mut bytes, workers);
     if answer.0 == Err(Fault::OutOfMemory) || answer.0 == Err(Fault::NoThread) {
         expect_count(rt, report, answer.1, ROOM);
-        answer = judged_into(rt, alloc, input, &mut bytes, workers)?;
+        answer = judged_into(rt, alloc, input, &mut bytes, workers);
     }
     expect_answer(rt, answer, &bytes, verdict, report);
-    Ok(())
 }
 
 #[test]
-fn refused_allocations_of_a_report(rt: HostRuntime) -> Result<(), Fail> {
+fn refused_allocations_of_a_report(rt: HostRuntime) {
     let forwarded = (
         "tso trace 1\nproc\nst 1 1\nld 1 1\nend\n",
         "TSO REPORT 1\nprocessors 1 events 2 rounds 0\nNO VIOLATION FOUND\n",
     );
-    judges(&rt, rt.alloc(), forwarded, Verdict::NoViolation, 1)
+    judges(&rt, rt.alloc(), forwarded, Verdict::NoViolation, 1);
 }
 
 #[test]
-fn refused_allocations_of_an_unwritten_load(rt: HostRuntime) -> Result<(), Fail> {
-    judges(&rt, rt.alloc(), UNWRITTEN_LOAD, Verdict::Violation, 1)
+fn refused_allocations_of_an_unwritten_load(rt: HostRuntime) {
+    judges(&rt, rt.alloc(), UNWRITTEN_LOAD, Verdict::Violation, 1);
 }
 
 #[test]
-fn refused_allocations_of_barriers(rt: HostRuntime) -> Result<(), Fail> {
+fn refused_allocations_of_barriers(rt: HostRuntime) {
     let barriers = STORE_BUFFERING_WITH_BARRIERS;
-    judges(&rt, rt.alloc(), barriers, Verdict::Violation, 1)
+    judges(&rt, rt.alloc(), barriers, Verdict::Violation, 1);
 }
 
 #[test]
-fn refused_allocations_of_two_swaps(rt: HostRuntime) -> Result<(), Fail> {
-    judges(&rt, rt.alloc(), TWO_SWAPS_BOTH_FIRST, Verdict::Violation, 2)
+fn refused_allocations_of_two_swaps(rt: HostRuntime) {
+    judges(&rt, rt.alloc(), TWO_SWAPS_BOTH_FIRST, Verdict::Violation, 2);
 }
 
 #[test]
-fn refused_allocations_of_a_refusal(rt: HostRuntime) -> Result<(), Fail> {
+fn refused_allocations_of_a_refusal(rt: HostRuntime) {
     let refused = (
         "tso trace 1\nproc\nld 01 0\nend\n",
         "REFUSED BadNumber line 3\n",
     );
-    judges(&rt, rt.alloc(), refused, Verdict::Refused, 1)
+    judges(&rt, rt.alloc(), refused, Verdict::Refused, 1);
 }
 
 #[test]

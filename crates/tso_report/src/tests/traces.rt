@@ -1,8 +1,10 @@
 //! Reports of traces that no text was read for, and lines of refusals, with the expected bytes of each.
+ghost use Rattle.std.specs.Prelude.{◌≤◌};
+ghost use Rattle.round_pool.specs.Workers.{worker_limit};
 
 use super::settings::{expect_report, under_tso};
 use super::violations::STORE_BUFFERING_WITH_BARRIERS;
-use crate::{MAX_WORKERS, Report, Verdict, judge_trace, render_refusal};
+use crate::{Fault, Report, Verdict, judge_trace, render_refusal};
 use std::alloc::{AllocError, Global};
 use std::process::Abort;
 use std::sync::Wait;
@@ -12,17 +14,17 @@ use tso_ops::Outcome::{Ld, Mb, St};
 use tso_ops::{Outcome, Trace};
 use tso_text::{TextFault, read_program, read_schedule};
 
-/// The report of a trace on 1 to 64 workers.
+/// The report of a trace.
 fn judged<H: Threads + Wait>(
     rt: &H,
     alloc: Global,
     trace: &Trace,
     workers: usize,
-) -> Result<Report, Fail> {
-    if workers < 1 || workers > MAX_WORKERS {
-        return Err(Fail::new("not 1 to 64 workers"));
-    }
-    Ok(judge_trace(rt, alloc, trace, workers)?)
+) -> Result<Report, Fault>
+    requires some { 1 ≤ workers }
+    requires most { workers ≤ worker_limit }
+{
+    judge_trace(rt, alloc, trace, workers)
 }
 
 /// Compares the report of a trace on several numbers of workers.
@@ -32,11 +34,11 @@ fn expect_reports<H: Threads + Wait + Abort>(
     trace: &Trace,
     verdict: Verdict,
     text: &str,
-) -> Result<(), Fail> {
-    for workers in [1, 2, 7, 64] {
-        let report = judged(rt, alloc, trace, workers)?;
-        expect_report(rt, &report, verdict, text);
-    }
+) -> Result<(), Fault> {
+    expect_report(rt, &judged(rt, alloc, trace, 1)?, verdict, text);
+    expect_report(rt, &judged(rt, alloc, trace, 2)?, verdict, text);
+    expect_report(rt, &judged(rt, alloc, trace, 7)?, verdict, text);
+    expect_report(rt, &judged(rt, alloc, trace, 64)?, verdict, text);
     Ok(())
 }
 
@@ -53,14 +55,14 @@ const FORWARDED: [&[Outcome]; 1] = [&[St { a: 1, v: 1 }, Ld { a: 1, r: 1 }]];
 fn violation(rt: HostRuntime) -> Result<(), Fail> {
     let trace = under_tso(rt.alloc(), &BARRIERS)?;
     let (_, text) = STORE_BUFFERING_WITH_BARRIERS;
-    expect_reports(&rt, rt.alloc(), &trace, Verdict::Violation, text)
+    Ok(expect_reports(&rt, rt.alloc(), &trace, Verdict::Violation, text)?)
 }
 
 #[test]
 fn no_violation(rt: HostRuntime) -> Result<(), Fail> {
     let trace = under_tso(rt.alloc(), &FORWARDED)?;
     let text = "TSO REPORT 1\nprocessors 1 events 2 rounds 0\nNO VIOLATION FOUND\n";
-    expect_reports(&rt, rt.alloc(), &trace, Verdict::NoViolation, text)
+    Ok(expect_reports(&rt, rt.alloc(), &trace, Verdict::NoViolation, text)?)
 }
 
 /// Why a text is no program.

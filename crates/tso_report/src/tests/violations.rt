@@ -2,7 +2,6 @@
 
 use super::judged::expect_judged;
 use crate::Verdict;
-use std::test::Fail;
 
 /// A trace and its report.
 pub(super) type Case = (&'static str, &'static str);
@@ -81,17 +80,15 @@ const OTHERS: [Case; 3] = [
 ];
 
 #[test]
-fn violations_on_each_number_of_workers(rt: HostRuntime) -> Result<(), Fail> {
+fn violations_on_each_number_of_workers(rt: HostRuntime) {
     for (input, report) in VIOLATIONS {
-        expect_judged(&rt, rt.alloc(), input, Verdict::Violation, report)?;
+        expect_judged(&rt, rt.alloc(), input, Verdict::Violation, report);
     }
-    Ok(())
 }
 
 #[test]
-fn no_violation_on_each_number_of_workers(rt: HostRuntime) -> Result<(), Fail> {
+fn no_violation_on_each_number_of_workers(rt: HostRuntime) {
     for (input, report) in OTHERS {
-        expect_judged(&rt, rt.alloc(), input, Verdict::NoViolation, report)?;
+        expect_judged(&rt, rt.alloc(), input, Verdict::NoViolation, report);
     }
-    Ok(())
 }
