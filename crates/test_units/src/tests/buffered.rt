@@ -36,7 +36,7 @@ const STEPS_OF_ONE: [Step; 6] = [
     Step::Load { p: 0, a: 2, r: 2 },
 ];
 
-/// Of that of capacity 2, whose address 1 has the first value 9.
+/// Each processor's call of the unit of capacity 2, whose address 1 has the first value 9.
 const TWO: [(usize, Answered); 16] = [
     (3, Store { a: 1, v: 1 }),
     (3, Stbar),
@@ -56,7 +56,7 @@ const TWO: [(usize, Answered); 16] = [
     (3, Steps(15)),
 ];
 
-/// Of that of capacity 64, after 64 stores of processor 15 to address 255.
+/// Each processor's call of the unit of capacity 64, after 64 stores of processor 15 to address 255.
 const SIXTY_FOUR: [(usize, Answered); 14] = [
     (15, Steps(64)),
     (15, Waiting(64)),

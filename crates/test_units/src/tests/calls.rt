@@ -23,7 +23,8 @@ pub(super) enum Answered {
     Steps(usize),
 }
 
-/// Whether the unit answers so when this processor, from 0 to 15, makes the call, whose value is none but 0.
+/// Whether the unit answers this processor so. False for a processor above 15 and for the value 0, with which no call is
+/// made.
 fn answers<U: MemoryUnit>(unit: &mut U, p: usize, call: Answered) -> Result<bool, AllocError> {
     if p > 15 {
         return Ok(false);
