@@ -13,7 +13,7 @@ use Rattle.clap.proofs.ValueTestLemmas.{accepts-Accepts, Accepts-accepts}
 use Rattle.clap.proofs.WalkLemmas.{first_value-rows, one_text-rows}
 use Rattle.command_line.specs.declared.options.RunOptions.{RunOptions}
 use Rattle.command_line.specs.declared.options.UnitOptions.{UnitOptions}
-use Rattle.command_line.specs.Requests.{Text, replaying}
+use Rattle.command_line.specs.Requests.{Text, replaying, running}
 use Rattle.command_line.specs.Internal.Computed.{number_in, number_of}
 
 unwrap_or-text : (got : Option (Bor Text)) (empty : Bor Text) → empty.now ≡ [] → (unwrap_or got empty).now ≡ unwrap_or (option_map (λ s. s.now) got) []
@@ -82,3 +82,7 @@ module _ (options wanted : RunOptions) (unit : options.unit ≡ wanted.unit) (wo
 module _ (options wanted : RunOptions) (program wanted_program schedule wanted_schedule : Text) where
   pub replaying_are : options ≡ wanted → program ≡ wanted_program → schedule ≡ wanted_schedule → replaying options program schedule ≡ replaying wanted wanted_program wanted_schedule
   replaying_are is program_is schedule_is = rw (is, program_is, schedule_is) refl
+
+module _ (options wanted : RunOptions) (seed wanted_seed : ℕ) (program wanted_program : Text) where
+  pub running_are : options ≡ wanted → seed ≡ wanted_seed → program ≡ wanted_program → running options seed program ≡ running wanted wanted_seed wanted_program
+  running_are is seed_is program_is = rw (is, seed_is, program_is) refl

@@ -12,8 +12,11 @@ pub mod JudgeLemmas
 pub mod CheckLemmas
 pub mod RunLemmas
 pub mod ReplayLemmas
+pub mod RunningLemmas
 pub mod RefusalLemmas
+pub mod RunRefusals
 pub mod ReplayRefusals
+pub mod RunningRefusals
 pub mod JudgeRefusals
 pub mod CheckRefusals
 pub mod SpellingLemmas

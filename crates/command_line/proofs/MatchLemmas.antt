@@ -7,15 +7,15 @@ use Rattle.std.specs.Str.Parse.{digits_value, without_leading_plus}
 use Rattle.std.proofs.lemmas.Slice.Eq.{bytes_eq-Decides}
 use Rattle.clap.specs.ValueTests.{is_unsigned_in}
 use Rattle.clap.specs.declared.builder.value_parser.ValueParser.TheVariants as parser
-use Rattle.clap.specs.Words.{HasKind, Kinds, Row, fault_of, kind_of, subcommand_of}
+use Rattle.clap.specs.Words.{HasKind, Kinds, Row, fault_of, kind_of, one_of, subcommand_of}
 use Rattle.clap.specs.declared.error.kind.ErrorKind.TheVariants.{DisplayHelp, InvalidSubcommand, OutOfMemory}
 use Rattle.clap.specs.declared.error.Error.{Error}
 use Rattle.clap.proofs.ValueTestLemmas.{accepts-Accepts, Accepts-accepts}
 use Rattle.round_pool.specs.Workers.{worker_limit}
-use Rattle.command_line.specs.Requests.{Text, Asked, asked_of, capacity_limit, showing}
+use Rattle.command_line.specs.Requests.{Text, Asked, asked_of, capacity_limit, seed_limit, showing}
 use Rattle.command_line.specs.declared.requests.Request.{Request}
-use Rattle.command_line.specs.Commands.{AskFlag, AskNumber, AskRun, AskUnit, AskWorkers, IsAskedBy, IsAskedByMatches, IsAskedFor, UnitNames, asked_at, tsobench_app}
-use Rattle.command_line.specs.Internal.Computed.{IsFoundBy, asked_by, asked_in, flag_in, number_in, number_of, parsed_as, run_in, unit_in, within, workers_in}
+use Rattle.command_line.specs.Commands.{AskFlag, AskNumber, AskRun, AskSeed, AskUnit, AskWorkers, IsAskedBy, IsAskedByMatches, IsAskedFor, UnitNames, asked_at, tsobench_app}
+use Rattle.command_line.specs.Internal.Computed.{IsFoundBy, asked_by, asked_in, flag_in, number_in, number_of, parsed_as, run_in, seed_in, unit_in, within, workers_in}
 use Rattle.command_line.specs.Units.{default_capacity, default_trigger, trigger_limit, unit_kind, unit_names}
 use Rattle.command_line.specs.declared.options.UnitKind.TheVariants.{Serial}
 use Rattle.command_line.proofs.KindLemmas.{asked_by_error}
@@ -58,12 +58,31 @@ ask_unit rows = record {
 ask_run : (rows : List Row) → AskRun rows (run_in rows)
 ask_run rows = record { unit = ask_unit rows; workers = ask_workers rows; trace = ask_flag (codes "trace") rows }
 
+ask_seed : (rows : List Row) → AskSeed rows (seed_in rows)
+ask_seed rows = record {
+  named = λ text is e.
+      let read : number_in 0 text ≡ digits_value 10 (without_leading_plus text) = rw e refl in
+      ap (λ o. option_map_or (number_in 0) o 0) is ∙ read;
+  within = go (one_of (codes "seed") rows);
+}
+  where
+    spelled : (text : Text) (b : Bool) → is_unsigned_in 0 seed_limit text ≡ b → number_in 0 text ≤ seed_limit
+    spelled text true e =
+        let passes = accepts-Accepts false (parser.Unsigned 0 seed_limit) text e in
+        rw e passes.3
+    spelled text false e = rw e (omega arith)
+
+    go : (text : Option Text) → option_map_or (number_in 0) text 0 ≤ seed_limit
+    go None = omega arith
+    go (Some text) = spelled text (is_unsigned_in 0 seed_limit text) refl
+
 matched : (found : Option (Text × List Row)) (asked : Asked) → asked ≡ asked_by found → IsAskedByMatches found asked
 matched None asked is = is
 matched (Some found) asked is = record {
   judge = λ name. (workers_in found.1, ask_workers found.1, is ∙ ap (λ (t : Text). asked_in t found.1) name);
   check = λ name. is ∙ ap (λ (t : Text). asked_in t found.1) name;
   replay = λ name. (run_in found.1, ask_run found.1, is ∙ ap (λ (t : Text). asked_in t found.1) name);
+  run = λ name. (run_in found.1, seed_in found.1, ask_run found.1, ask_seed found.1, is ∙ ap (λ (t : Text). asked_in t found.1) name);
 }
 
 found_asked : (kinds : Kinds) (found : Option (Text × List Row)) (asked : Asked) → IsFoundBy kinds found asked → IsAskedBy kinds found asked
@@ -114,20 +133,24 @@ module _ (units : UnitNames) where
     of_replay : bytes_eq name (codes "replay") ≡ true → IsAskedBelow (first ∷ name ∷ []) asked
     of_replay e = help_named (codes "replay") e (λ found. by_kind _ asked _ _ (program.replay_help_shown units) found) (program.replay_help_called units)
 
+    of_run : bytes_eq name (codes "run") ≡ true → IsAskedBelow (first ∷ name ∷ []) asked
+    of_run e = help_named (codes "run") e (λ found. by_kind _ asked _ _ (program.run_help_shown units) found) (program.run_help_called units)
+
     of_check : bytes_eq name (codes "check") ≡ true → IsAskedBelow (first ∷ name ∷ []) asked
     of_check e = help_named (codes "check") e (λ found. by_kind _ asked _ _ (program.check_help_shown units) found) (program.check_help_called units)
 
   two_asked : (first name : Text) (asked : Asked) → IsFound units (first ∷ name ∷ []) asked → IsAskedBelow (first ∷ name ∷ []) asked
   two_asked first name asked is =
-      go (bytes_eq first (codes "help")) (bytes_eq name (codes "judge")) (bytes_eq name (codes "check")) (bytes_eq name (codes "replay")) refl refl refl refl
+      go (bytes_eq first (codes "help")) (bytes_eq name (codes "judge")) (bytes_eq name (codes "check")) (bytes_eq name (codes "replay")) (bytes_eq name (codes "run")) refl refl refl refl refl
     where
-      go : (h j c r : Bool) → bytes_eq first (codes "help") ≡ h → bytes_eq name (codes "judge") ≡ j → bytes_eq name (codes "check") ≡ c → bytes_eq name (codes "replay") ≡ r
-          → IsAskedBelow (first ∷ name ∷ []) asked
-      go false j c r e f g k = as_given (first ∷ name ∷ []) asked (rw e refl) is
-      go true true c r e f g k = of_judge first name asked is e f
-      go true false true r e f g k = of_check first name asked is e g
-      go true false false true e f g k = of_replay first name asked is e k
-      go true false false false e f g k = as_given (first ∷ name ∷ []) asked (rw (e, f, g, k) refl) is
+      go : (h j c r u : Bool) → bytes_eq first (codes "help") ≡ h → bytes_eq name (codes "judge") ≡ j → bytes_eq name (codes "check") ≡ c → bytes_eq name (codes "replay") ≡ r
+          → bytes_eq name (codes "run") ≡ u → IsAskedBelow (first ∷ name ∷ []) asked
+      go false j c r u e f g k l = as_given (first ∷ name ∷ []) asked (rw e refl) is
+      go true true c r u e f g k l = of_judge first name asked is e f
+      go true false true r u e f g k l = of_check first name asked is e g
+      go true false false true u e f g k l = of_replay first name asked is e k
+      go true false false false true e f g k l = of_run first name asked is e l
+      go true false false false false e f g k l = as_given (first ∷ name ∷ []) asked (rw (e, f, g, k, l) refl) is
 
   parsed_asked : (arguments : List Text) (asked : Asked) → IsFound units arguments asked → IsAskedBelow arguments asked
   parsed_asked [] asked is = as_given [] asked refl is

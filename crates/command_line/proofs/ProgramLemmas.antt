@@ -73,6 +73,18 @@ module _ (units : UnitNames) where
   unfolding clap_on_literals
   replay_help_called = refl
 
+  pub run_help_shown : fault_of (tsobench_app units) (codes "run" ∷ codes "--help" ∷ []) ≡ DisplayHelp ∷ []
+  unfolding clap_on_literals
+  run_help_shown = refl
+
+  pub run_short_shown : fault_of (tsobench_app units) (codes "run" ∷ codes "-h" ∷ []) ≡ DisplayHelp ∷ []
+  unfolding clap_on_literals
+  run_short_shown = refl
+
+  pub run_help_called : fault_of (tsobench_app units) (codes "help" ∷ codes "run" ∷ []) ≡ DisplayHelp ∷ InvalidSubcommand ∷ []
+  unfolding clap_on_literals
+  run_help_called = refl
+
 -- two tests for the same bytes, in either order
 other_order : (a b : Text) → bytes_eq a b ≡ false → bytes_eq b a ≡ false
 other_order a b e = go (bytes_eq b a) refl
@@ -89,11 +101,14 @@ neither true b e = absurd (true≢false e)
 
 module _ (first : Text) (is : IsValue first) (unknown : is_subcommand first ≡ false) where
   -- the argument is none of the names
-  after_judge : (bytes_eq first (codes "check") || (bytes_eq first (codes "replay") || bytes_eq first (codes "help"))) ≡ false
+  after_judge : (bytes_eq first (codes "check") || (bytes_eq first (codes "replay") || (bytes_eq first (codes "run") || bytes_eq first (codes "help")))) ≡ false
   after_judge = (neither _ _ unknown).1
 
-  after_check : (bytes_eq first (codes "replay") || bytes_eq first (codes "help")) ≡ false
+  after_check : (bytes_eq first (codes "replay") || (bytes_eq first (codes "run") || bytes_eq first (codes "help"))) ≡ false
   after_check = (neither _ _ after_judge).1
+
+  after_replay : (bytes_eq first (codes "run") || bytes_eq first (codes "help")) ≡ false
+  after_replay = (neither _ _ after_check).1
 
   no_judge : bytes_eq (codes "judge") first ≡ false
   no_judge = other_order first (codes "judge") (neither _ _ unknown).0
@@ -104,12 +119,15 @@ module _ (first : Text) (is : IsValue first) (unknown : is_subcommand first ≡ 
   no_replay : bytes_eq (codes "replay") first ≡ false
   no_replay = other_order first (codes "replay") (neither _ _ after_check).0
 
+  no_run : bytes_eq (codes "run") first ≡ false
+  no_run = other_order first (codes "run") (neither _ _ after_replay).0
+
   no_help : bytes_eq first (codes "help") ≡ false
-  no_help = (neither _ _ after_check).1
+  no_help = (neither _ _ after_replay).1
 
   pub unknown_refused : (units : UnitNames) (rest : List Text) → fault_of (tsobench_app units) (first ∷ rest) ≡ UnknownArgument ∷ InvalidSubcommand ∷ []
   unfolding clap_on_literals
-  unknown_refused units rest = rw (no_judge, no_check, no_replay, other_order first (codes "help") no_help, is.no_escape, is.no_long, is.no_short) refl
+  unknown_refused units rest = rw (no_judge, no_check, no_replay, no_run, other_order first (codes "help") no_help, is.no_escape, is.no_long, is.no_short) refl
 
   pub parsed_unchanged : (rest : List Text) → parsed_as (first ∷ rest) ≡ first ∷ rest
   parsed_unchanged [] = rw no_help refl

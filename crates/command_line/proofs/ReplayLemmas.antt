@@ -1,5 +1,5 @@
 -- What a parse makes of the arguments after `replay`.
-use Rattle.std.proofs.Common.{◌≡◌, ◌∙◌, ap, refl, subst, sym, inl, inr, Bool, true, false, List, [], ◌∷◌, Some, codes, map}
+use Rattle.std.proofs.Common.{◌≡◌, ◌∙◌, ap, refl, Bool, true, false, List, [], ◌∷◌, Some, codes, map}
 use Rattle.std.specs.Prelude.{option_and_then, slice_get}
 use Rattle.std.specs.List.{find}
 use Rattle.std.specs.Option.{option_map_or, unwrap_or}
@@ -14,7 +14,7 @@ use Rattle.clap.specs.declared.error.kind.ErrorKind.TheVariants.{MissingRequired
 use Rattle.clap.proofs.OnLiterals.{clap_on_literals}
 use Rattle.command_line.specs.Commands.{UnitNames, program_file_rule, replay_app, schedule_file_rule, tsobench_app}
 use Rattle.command_line.specs.Internal.Computed.{asked_by, replaying_by}
-use Rattle.command_line.specs.Options.{AreNamed, IsOneOf, option_value}
+use Rattle.command_line.specs.Options.{AreNamed}
 use Rattle.command_line.specs.Requests.{Text, replaying}
 use Rattle.command_line.specs.Spellings.{AsksRun, AsksToReplay, run_names}
 use Rattle.command_line.specs.Units.{unit_names}
@@ -22,9 +22,9 @@ use Rattle.command_line.specs.declared.options.RunOptions.{RunOptions}
 use Rattle.command_line.proofs.FoundLemmas.{replaying_are}
 use Rattle.command_line.proofs.OptionLemmas.{Placed, TakesOne, Use, no_other, placed}
 use Rattle.command_line.proofs.RowLemmas.{DefaultsPass, has_id, option_makes, use_row}
-use Rattle.command_line.proofs.RunLemmas.{FlagUses, OffersRun, asked_capacity_use, asked_trigger_use, asked_unit_use, asked_workers_use, flag_uses, run_is, unit_given}
+use Rattle.command_line.proofs.RunLemmas.{FlagUses, OffersRun, asked_run_use, flag_uses, run_is, unit_given}
 use Rattle.command_line.proofs.SubcommandLemmas.{built_below, replay_fault, replay_found}
-use Rattle.command_line.proofs.UseLemmas.{AreUses, LeavesRows, OptionUse, OptionUses, leaves_rows, named_uses}
+use Rattle.command_line.proofs.UseLemmas.{AreUses, LeavesRows, OptionUses, leaves_rows, named_uses}
 
 module _ (names : UnitNames) where
   abbrev pub replay : Shape
@@ -65,23 +65,8 @@ module _ (names : UnitNames) where
   -- ---- options
 
   module _ (are : map (λ name. name.now) names.now ≡ unit_names) (options : List (Text × Text)) (flags : List Text) (run : RunOptions) (asks : AsksRun options flags run) where
-    use_of : (name value : Text) → IsOneOf run_names name → option_value name options ≡ Some value → OptionUse replay.rules name value
-    use_of name value (inl is) found =
-        subst (λ (t : Text). OptionUse replay.rules t value) (sym is)
-        (asked_unit_use replay names offers_run.unit options run.unit asks.unit are value (ap (λ (t : Text). option_value t options) (sym is) ∙ found))
-    use_of name value (inr (inl is)) found =
-        subst (λ (t : Text). OptionUse replay.rules t value) (sym is)
-        (asked_capacity_use replay names offers_run.unit options run.unit asks.unit value (ap (λ (t : Text). option_value t options) (sym is) ∙ found))
-    use_of name value (inr (inr (inl is))) found =
-        subst (λ (t : Text). OptionUse replay.rules t value) (sym is)
-        (asked_trigger_use replay names offers_run.unit options run.unit asks.unit value (ap (λ (t : Text). option_value t options) (sym is) ∙ found))
-    use_of name value (inr (inr (inr (inl is)))) found =
-        subst (λ (t : Text). OptionUse replay.rules t value) (sym is)
-        (asked_workers_use replay names offers_run options flags run asks value (ap (λ (t : Text). option_value t options) (sym is) ∙ found))
-    use_of name value (inr (inr (inr (inr is)))) found = absurd is
-
     pub run_uses : AreNamed run_names options → OptionUses replay options
-    run_uses named = named_uses replay run_names options named use_of
+    run_uses named = named_uses replay run_names options named (asked_run_use replay names offers_run options flags run asks are)
 
   -- ---- the files
 

@@ -1,7 +1,8 @@
 -- The options of a unit and of a run, in any subcommand that offers them.
-use Rattle.std.proofs.Common.{◌≡◌, ◌∙◌, ◌<◌, ◌^◌, ap, refl, subst, sym, arith, true≢false, ℕ, Bool, true, false, cond, ◌||◌, List, [], ◌∷◌, ◌++◌, Option, Some, None, codes, map, is_some}
+use Rattle.std.proofs.Common.{◌≡◌, ◌∙◌, ◌<◌, ◌^◌, ap, refl, subst, sym, inl, inr, arith, true≢false, ℕ, Bool, true, false, cond, ◌||◌, List, [], ◌∷◌, ◌++◌, Option, Some, None, codes, map, is_some}
 use Rattle.std.specs.Prelude.{if◌then◌else◌, option_and_then, slice_get}
-use Rattle.std.specs.List.{find, list_any}
+use Rattle.std.specs.Fmt.{decimal}
+use Rattle.std.specs.List.{AllByRecursion, find, list_any}
 use Rattle.std.specs.Option.{option_map, option_map_or, option_or, unwrap_or}
 use Rattle.std.specs.Str.{bytes_eq}
 use Rattle.std.proofs.lemmas.Slice.Eq.{bytes_eq-Decides}
@@ -15,11 +16,11 @@ use Rattle.clap.specs.declared.builder.value_parser.ValueParser.TheVariants as p
 use Rattle.clap.proofs.OnLiterals.{clap_on_literals}
 use Rattle.clap.proofs.WalkLemmas.{list_any-map}
 use Rattle.round_pool.specs.Workers.{worker_limit}
-use Rattle.command_line.specs.Commands.{UnitNames, capacity_rule, number_rule, prints_rule, trigger_rule, unit_rule, workers_rule}
-use Rattle.command_line.specs.Internal.Computed.{flag_in, number_in, run_in, unit_in, within}
-use Rattle.command_line.specs.Options.{AsksFlag, AsksNumber, option_value}
-use Rattle.command_line.specs.Requests.{Text, capacity_limit}
-use Rattle.command_line.specs.Spellings.{AsksRun, AsksUnit}
+use Rattle.command_line.specs.Commands.{UnitNames, capacity_rule, number_rule, prints_rule, seed_rule, trigger_rule, unit_rule, workers_rule}
+use Rattle.command_line.specs.Internal.Computed.{flag_in, number_in, run_in, seed_in, unit_in, within}
+use Rattle.command_line.specs.Options.{AsksFlag, AsksNumber, IsOneOf, option_value}
+use Rattle.command_line.specs.Requests.{Text, capacity_limit, seed_limit}
+use Rattle.command_line.specs.Spellings.{AsksRun, AsksSeed, AsksUnit, run_names}
 use Rattle.command_line.specs.Units.{default_capacity, default_trigger, is_unit, trigger_limit, unit_kind, unit_names, units}
 use Rattle.command_line.specs.declared.options.RunOptions.{RunOptions}
 use Rattle.command_line.specs.declared.options.UnitKind.TheVariants.{Serial}
@@ -253,6 +254,22 @@ module _ (s : Shape) (names : UnitNames) where
       pub asked_workers_use : (value : Text) → option_value (codes "workers") options ≡ Some value → OptionUse s.rules (codes "workers") value
       asked_workers_use = asked_number_use s (codes "workers") (codes "1") worker_limit workers_long offers.workers 1 (omega arith) options run.workers asks.workers
 
+      -- the uses of the options, where they are there
+      pub asked_run_use : map (λ name. name.now) names.now ≡ unit_names → (name value : Text) → IsOneOf run_names name → option_value name options ≡ Some value
+          → OptionUse s.rules name value
+      asked_run_use are name value (inl is) found =
+          subst (λ (t : Text). OptionUse s.rules t value) (sym is)
+          (asked_unit_use offers.unit options run.unit asks.unit are value (ap (λ (t : Text). option_value t options) (sym is) ∙ found))
+      asked_run_use are name value (inr (inl is)) found =
+          subst (λ (t : Text). OptionUse s.rules t value) (sym is)
+          (asked_capacity_use offers.unit options run.unit asks.unit value (ap (λ (t : Text). option_value t options) (sym is) ∙ found))
+      asked_run_use are name value (inr (inr (inl is))) found =
+          subst (λ (t : Text). OptionUse s.rules t value) (sym is)
+          (asked_trigger_use offers.unit options run.unit asks.unit value (ap (λ (t : Text). option_value t options) (sym is) ∙ found))
+      asked_run_use are name value (inr (inr (inr (inl is)))) found =
+          subst (λ (t : Text). OptionUse s.rules t value) (sym is) (asked_workers_use value (ap (λ (t : Text). option_value t options) (sym is) ∙ found))
+      asked_run_use are name value (inr (inr (inr (inr is)))) found = absurd is
+
       -- the run is the one that is asked for
       module _ (arguments : List Text) (used : FlagUses flags run.prints_trace) (others : List Use) (leaves : LeavesRows s arguments options used.uses others) where
         pub run_is : run_in leaves.rows ≡ run
@@ -261,3 +278,70 @@ module _ (s : Shape) (names : UnitNames) where
             (number_is s (codes "workers") (codes "1") worker_limit workers_long offers.workers 1 (omega arith) options run.workers asks.workers leaves.rows
             (leaves.option (codes "workers") (filled workers_rule) offers.workers.by_id refl) refl)
             (used.asks leaves.rows (leaves.flag (codes "trace") prints_built offers.trace.by_id refl))
+
+-- ---- the seed
+
+abbrev pub seed_built : Rule
+seed_built = filled seed_rule
+
+no_seed_name : (name : Text) → IsOneOf run_names name → bytes_eq name (codes "seed") ≡ false
+no_seed_name name (inl is) = rw is refl
+no_seed_name name (inr (inl is)) = rw is refl
+no_seed_name name (inr (inr (inl is))) = rw is refl
+no_seed_name name (inr (inr (inr (inl is)))) = rw is refl
+no_seed_name name (inr (inr (inr (inr is)))) = absurd is
+
+-- the options of a run alone have no seed
+pub no_seed_value : (options : List (Text × Text)) → AllByRecursion (λ option. IsOneOf run_names option.0) options → option_value (codes "seed") options ≡ None
+no_seed_value [] known = refl
+no_seed_value (o ∷ options) known = rw (no_seed_name o.0 known.0) (no_seed_value options known.1)
+
+module _ (s : Shape) (offers : Offers s seed_built (codes "seed")) where
+  pub seed_offered : IsOption s.rules seed_built (codes "seed")
+  seed_offered = record {
+    takes = record { by_id = offers.by_id; same_id = refl; most = refl; single = refl };
+    by_long = offers.by_long;
+    no_escape = refl;
+    long = refl;
+    no_escape_joined = λ v. refl;
+    long_joined = λ v. refl;
+  }
+
+  module _ (options : List (Text × Text)) where
+    -- the use of the option, where it is there
+    pub asked_seed_use : (seed : ℕ) → AsksSeed options seed → (value : Text) → option_value (codes "seed") options ≡ Some value → OptionUse s.rules (codes "seed") value
+    asked_seed_use seed asks value found =
+        let is : value ≡ decimal seed = ap (λ o. unwrap_or o []) (sym found ∙ asks.0) in
+        let accepted : accepts false (parser.Unsigned 0 seed_limit) value ≡ true =
+        ap (accepts false (parser.Unsigned 0 seed_limit)) is ∙ decimal_passes 0 seed_limit seed (omega arith) asks.1 (omega (arith, asks.1)) in
+        record {
+          rule = seed_built;
+          is = seed_offered;
+          named = refl;
+          as_written = refl;
+          of = refl;
+          makes = option_makes seed_built (value ∷ []) refl (rw accepted refl) refl;
+        }
+
+    module _ (arguments : List Text) (flags others : List Use) (leaves : LeavesRows s arguments options flags others) where
+      seed_row : (value : Option Text) → option_value (codes "seed") options ≡ value → IsOptionRow value (default_for (codes "seed") s.rules) (find (has_id (codes "seed")) leaves.rows)
+      seed_row value is =
+          subst (λ (o : Option Text). IsOptionRow o (default_for (codes "seed") s.rules) (find (has_id (codes "seed")) leaves.rows)) is
+          (leaves.option (codes "seed") seed_built offers.by_id refl)
+
+      -- no seed is given where the option isn't there
+      pub seed_missing : option_value (codes "seed") options ≡ None → is_given (codes "seed") leaves.rows ≡ false
+      seed_missing none = ap (λ o. option_map_or (λ r. explicit_source r.source) o false) (seed_row None none ∙ offers.otherwise)
+
+      module _ (seed : ℕ) (asks : AsksSeed options seed) where
+        pub seed_given : is_given (codes "seed") leaves.rows ≡ true
+        seed_given =
+            let row = seed_row (Some (decimal seed)) asks.0 in
+            ap (λ o. option_map_or (λ r. explicit_source r.source) o false) row.1 ∙ row.4
+
+        -- and it is the one that is asked for
+        pub seed_is : seed_in leaves.rows ≡ seed
+        seed_is =
+            let row = seed_row (Some (decimal seed)) asks.0 in
+            ap (λ o. option_map_or (number_in 0) (option_and_then row_text o) 0) row.1
+            ∙ ap (λ o. option_map_or (number_in 0) o 0) row.2 ∙ number_in-decimal 0 seed (omega (arith, asks.1))

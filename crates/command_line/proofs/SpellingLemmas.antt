@@ -12,7 +12,7 @@ use Rattle.command_line.specs.Options as given
 use Rattle.command_line.specs.Units.{unit_names}
 use Rattle.command_line.specs.Spellings.{Asks, AsksHelp}
 use Rattle.command_line.specs.Spellings as asks
-use Rattle.command_line.specs.Refusals.{Refuses, RefusesToJudge, RefusesToCheck, RefusesToReplay, IsRefusedNumber}
+use Rattle.command_line.specs.Refusals.{Refuses, RefusesToJudge, RefusesToCheck, RefusesToReplay, RefusesToRun, IsRefusedNumber}
 use Rattle.command_line.specs.Refusals as refuses
 use Rattle.command_line.specs.Commands.{UnitNames, asked_at, tsobench_app}
 use Rattle.command_line.specs.Internal.Computed.{IsFoundBy, asked_by, parsed_as}
@@ -23,6 +23,8 @@ use Rattle.command_line.proofs.SubcommandLemmas as subcommand
 use Rattle.command_line.proofs.JudgeLemmas as judge
 use Rattle.command_line.proofs.ReplayLemmas as replay
 use Rattle.command_line.proofs.ReplayRefusals as not_replayed
+use Rattle.command_line.proofs.RunningLemmas as run
+use Rattle.command_line.proofs.RunningRefusals as not_run
 use Rattle.command_line.proofs.JudgeRefusals as not_judged
 use Rattle.command_line.proofs.CheckLemmas as check
 use Rattle.command_line.proofs.CheckRefusals as not_checked
@@ -68,6 +70,9 @@ module _ (units : UnitNames) where
   plain_is are arguments wanted asked (asks.replay rest run program_file schedule h) is =
       by_matches _ asked _ (replay.replay_taken units program_file schedule are rest run h) (unchanged (codes "replay" ∷ rest) asked (subcommand.replay_parsed rest) is)
       ∙ replay.replay_asked units program_file schedule are rest run h
+  plain_is are arguments wanted asked (asks.run rest options seed program_file h) is =
+      by_matches _ asked _ (run.run_taken units program_file are rest options seed h) (unchanged (codes "run" ∷ rest) asked (subcommand.run_parsed rest) is)
+      ∙ run.run_asked units program_file are rest options seed h
 
   -- ---- requests for a text
 
@@ -84,6 +89,9 @@ module _ (units : UnitNames) where
   help_is arguments asked asks.replay_short is = by_kind _ asked _ _ (program.replay_short_shown units) is
   help_is arguments asked asks.help_replay is = by_kind _ asked _ _ (program.replay_help_shown units) is
   help_is arguments asked asks.replay_help is = by_kind _ asked _ _ (program.replay_help_shown units) is
+  help_is arguments asked asks.run_short is = by_kind _ asked _ _ (program.run_short_shown units) is
+  help_is arguments asked asks.help_run is = by_kind _ asked _ _ (program.run_help_shown units) is
+  help_is arguments asked asks.run_help is = by_kind _ asked _ _ (program.run_help_shown units) is
   help_is arguments asked asks.version_option is = by_kind _ asked _ _ (program.version_shown units) is
   help_is arguments asked asks.version_short is = by_kind _ asked _ _ (program.short_version_shown units) is
 
@@ -150,8 +158,31 @@ module _ (units : UnitNames) where
       by_kind _ asked _ _ (not_replayed.outside_refused units are name option names known program_file number_name limit n these more takes gives wrong small (value_is program_file is_program))
       (unchanged _ asked (subcommand.replay_parsed (option ++ (these ++ program_file ∷ more))) is)
 
+  run_refused : map (λ name. name.now) units.now ≡ unit_names → (rest : List Text) (asked : Asked) → RefusesToRun rest → IsFound (codes "run" ∷ rest) asked → asked ≡ refusing
+  run_refused are rest asked refuses.nothing is = by_kind _ asked _ _ (not_run.nothing_refused units) is
+  run_refused are rest asked (refuses.no_unit program_file is_program) is = by_kind _ asked _ _ (not_run.no_unit_refused units program_file (value_is program_file is_program)) is
+  run_refused are rest asked (refuses.no_file run_options seed options flags arguments gives named asks_run asks_seed) is =
+      by_kind _ asked _ _ (not_run.no_file_refused units are run_options seed options flags arguments gives named asks_run asks_seed)
+      (unchanged (codes "run" ∷ arguments) asked (subcommand.run_parsed arguments) is)
+  run_refused are rest asked (refuses.no_seed run_options options flags files arguments gives named asks_run few) is =
+      by_kind _ asked _ _ (not_run.no_seed_refused units are run_options options flags files arguments gives named asks_run few)
+      (unchanged (codes "run" ∷ arguments) asked (subcommand.run_parsed arguments) is)
+  run_refused are rest asked (refuses.another_file name program_file other option more names known is_program is_other) is =
+      by_kind _ asked _ _ (not_run.another_file_refused units are name option names known program_file other more (value_is program_file is_program) (value_is other is_other))
+      (unchanged _ asked (subcommand.run_parsed (option ++ program_file ∷ other ∷ more)) is)
+  run_refused are rest asked (refuses.no_such_unit name program_file option more names other is_program) is =
+      by_kind _ asked _ _ (not_run.no_such_unit_refused units are name option names other program_file more (value_is program_file is_program))
+      (unchanged _ asked (subcommand.run_parsed (option ++ program_file ∷ more)) is)
+  run_refused are rest asked (refuses.outside name program_file number_name limit n option these more names known takes gives wrong small is_program) is =
+      by_kind _ asked _ _ (not_run.outside_refused units are name option names known program_file number_name limit n these more takes gives wrong small (value_is program_file is_program))
+      (unchanged _ asked (subcommand.run_parsed (option ++ (these ++ program_file ∷ more))) is)
+  run_refused are rest asked (refuses.seed_outside name program_file n option these more names known gives above small is_program) is =
+      by_kind _ asked _ _ (not_run.seed_refused units are name option names known program_file n these more gives above small (value_is program_file is_program))
+      (unchanged _ asked (subcommand.run_parsed (option ++ (these ++ program_file ∷ more))) is)
+
   pub refused_is : map (λ name. name.now) units.now ≡ unit_names → (arguments : List Text) (asked : Asked) → Refuses arguments → IsFound arguments asked → asked ≡ refusing
   refused_is are arguments asked (refuses.unknown first rest file unknown) is = unknown_refused first rest asked (value_is first file) unknown is
   refused_is are arguments asked (refuses.judge rest h) is = judge_refused rest asked h is
   refused_is are arguments asked (refuses.check rest h) is = check_refused rest asked h is
   refused_is are arguments asked (refuses.replay rest h) is = replay_refused are rest asked h is
+  refused_is are arguments asked (refuses.run rest h) is = run_refused are rest asked h is

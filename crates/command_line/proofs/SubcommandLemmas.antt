@@ -10,7 +10,7 @@ use Rattle.clap.proofs.OnLiterals.{clap_on_literals}
 use Rattle.clap.proofs.WalkLemmas.{walk_stopped}
 use Rattle.command_line.proofs.OptionLemmas.{standing}
 use Rattle.command_line.specs.Requests.{Text}
-use Rattle.command_line.specs.Commands.{UnitNames, check_app, judge_app, program_app, replay_app, tsobench_app}
+use Rattle.command_line.specs.Commands.{UnitNames, check_app, judge_app, program_app, replay_app, run_app, tsobench_app}
 use Rattle.command_line.specs.Internal.Computed.{parsed_as}
 
 -- the program as a subcommand sees it when it is built
@@ -64,6 +64,14 @@ module _ (units : UnitNames) where
     unfolding clap_on_literals
     replay_fault = rw (left_to (codes "replay") rest, nothing_fails (codes "replay") [] rest) refl
 
+    pub run_found : subcommand_of (tsobench_app units) (codes "run" ∷ rest) ≡ Some (codes "run", rows_after (built_below (run_app units)).rules [] rest)
+    unfolding walked
+    run_found = ap (λ (w : Walk). entered (built (tsobench_app units)) w.stopped) (left_to (codes "run") rest)
+
+    pub run_fault : fault_of (tsobench_app units) (codes "run" ∷ rest) ≡ or_else (level_fault (built_below (run_app units)) [] nothing_held rest false []) []
+    unfolding clap_on_literals
+    run_fault = rw (left_to (codes "run") rest, nothing_fails (codes "run") [] rest) refl
+
 pub judge_parsed : (rest : List Text) → parsed_as (codes "judge" ∷ rest) ≡ codes "judge" ∷ rest
 judge_parsed [] = refl
 judge_parsed (x ∷ []) = refl
@@ -78,3 +86,8 @@ pub replay_parsed : (rest : List Text) → parsed_as (codes "replay" ∷ rest) �
 replay_parsed [] = refl
 replay_parsed (x ∷ []) = refl
 replay_parsed (x ∷ y ∷ ys) = refl
+
+pub run_parsed : (rest : List Text) → parsed_as (codes "run" ∷ rest) ≡ codes "run" ∷ rest
+run_parsed [] = refl
+run_parsed (x ∷ []) = refl
+run_parsed (x ∷ y ∷ ys) = refl

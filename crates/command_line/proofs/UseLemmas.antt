@@ -154,7 +154,7 @@ each_found ((name, value) ∷ options) once =
     let same : bytes_eq name name ≡ true = (bytes_eq-Decides name name).1 refl in
     (rw same refl, more_found name value options options (IsDistinct-head bytes_eq name (map (λ o. o.0) options) once) (each_found options (IsDistinct-tail bytes_eq name (map (λ o. o.0) options) once)))
 
-each_of : {X : Type 0} (P : X → Type 0) (xs : List X) → All P xs → AllByRecursion P xs
+pub each_of : {X : Type 0} (P : X → Type 0) (xs : List X) → All P xs → AllByRecursion P xs
 each_of P [] all = tt
 each_of P (x ∷ xs) all = (all 0 x (omega arith), each_of P xs (λ k d below. all (suc k) d (omega (arith, below))))
 

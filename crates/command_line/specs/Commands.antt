@@ -14,7 +14,7 @@ use Rattle.round_pool.specs.Workers.{worker_limit}
 use Rattle.command_line.specs.declared.options.RunOptions.{RunOptions}
 use Rattle.command_line.specs.declared.options.UnitKind.{UnitKind}
 use Rattle.command_line.specs.declared.options.UnitOptions.{UnitOptions}
-use Rattle.command_line.specs.Requests.{Text, Asked, capacity_limit, judging, checking, replaying, showing, refusing}
+use Rattle.command_line.specs.Requests.{Text, Asked, capacity_limit, seed_limit, judging, checking, replaying, running, showing, refusing}
 use Rattle.command_line.specs.Units.{default_capacity, default_trigger, trigger_limit, unit_kind, unit_names}
 
 -- ---- the command line
@@ -94,14 +94,27 @@ abbrev pub replay_app : UnitNames → App
 replay_app names =
     with_rules (new_app (codes "replay")) (run_rules names ++ program_file_rule ∷ schedule_file_rule ∷ [])
 
+-- `--seed N`: a number of 64 bits
+abbrev pub seed_rule : Rule
+seed_rule = record (new_rule (codes "seed")) {
+  long = Some (codes "seed");
+  value_names = 1;
+  required = true;
+  parser = Some (parser.Unsigned 0 seed_limit);
+}
+
+abbrev pub run_app : UnitNames → App
+run_app names =
+    with_rules (new_app (codes "run")) (run_rules names ++ seed_rule ∷ program_file_rule ∷ [])
+
 -- the program, before its subcommands; the name of the program is none of its arguments
 abbrev pub program_app : App
 program_app = on_top (λ s. record s { no_binary_name = true; has_version = true }) (new_app (codes "tsobench"))
 
 abbrev pub tsobench_app : UnitNames → App
 tsobench_app names = with_subcommand
-    (with_subcommand (with_subcommand program_app judge_app.top) check_app.top)
-    (replay_app names).top
+    (with_subcommand (with_subcommand (with_subcommand program_app judge_app.top) check_app.top) (replay_app names).top)
+    (run_app names).top
 
 -- ---- what the matches stand for
 
@@ -136,6 +149,12 @@ pub record AskRun (rows : List Row) (options : RunOptions) : Type 0 where
   pub workers : AskWorkers rows options.workers
   pub trace : AskFlag (codes "trace") rows options.prints_trace
 
+-- the rows ask for this seed: the number that its text spells, since `clap` refuses any other
+pub record AskSeed (rows : List Row) (n : ℕ) : Type 0 where
+  pub named : (text : Text) → one_of (codes "seed") rows ≡ Some text → is_unsigned_in 0 seed_limit text ≡ true
+      → n ≡ digits_value 10 (without_leading_plus text)
+  pub within : n ≤ seed_limit
+
 abbrev pub checking_by : List Row → Asked
 checking_by rows =
     checking (unwrap_or (first_of (codes "trace") rows) []) (unwrap_or (first_of (codes "cert") rows) [])
@@ -144,12 +163,17 @@ abbrev pub replaying_with : RunOptions → List Row → Asked
 replaying_with options rows =
     replaying options (unwrap_or (first_of (codes "program") rows) []) (unwrap_or (first_of (codes "schedule") rows) [])
 
+abbrev pub running_with : RunOptions → ℕ → List Row → Asked
+running_with options seed rows = running options seed (unwrap_or (first_of (codes "program") rows) [])
+
 -- the subcommand of this name, with these rows, asks for that
 pub record IsAskedIn (name : Text) (rows : List Row) (asked : Asked) : Type 0 where
   pub judge : name ≡ codes "judge" → (n : ℕ) × AskWorkers rows n × (asked ≡ judging (first_of (codes "file") rows) n)
   pub check : name ≡ codes "check" → asked ≡ checking_by rows
   pub replay : name ≡ codes "replay"
       → (options : RunOptions) × AskRun rows options × (asked ≡ replaying_with options rows)
+  pub run : name ≡ codes "run"
+      → (options : RunOptions) × (seed : ℕ) × AskRun rows options × AskSeed rows seed × (asked ≡ running_with options seed rows)
 
 -- without a subcommand standard input is judged, with one worker
 abbrev pub IsAskedByMatches : Option (Text × List Row) → Asked → Type 0

@@ -4,16 +4,16 @@ use Rattle.std.specs.Fmt.{decimal}
 use Rattle.std.specs.Str.{bytes_eq}
 use Rattle.round_pool.specs.Workers.{worker_limit}
 use Rattle.command_line.specs.declared.options.RunOptions.{RunOptions}
-use Rattle.command_line.specs.Requests.{Text, capacity_limit}
+use Rattle.command_line.specs.Requests.{Text, capacity_limit, seed_limit}
 use Rattle.command_line.specs.Options.{AreGiven, AreNamed, NamesOption, is_value}
-use Rattle.command_line.specs.Spellings.{AsksRun, run_names}
+use Rattle.command_line.specs.Spellings.{AsksRun, AsksSeed, run_names, seeded_names}
 use Rattle.command_line.specs.Units.{is_unit, trigger_limit}
 
 -- the text is the name of a subcommand
 abbrev pub is_subcommand : Text → Bool
 is_subcommand text =
     bytes_eq text (codes "judge") || (bytes_eq text (codes "check")
-    || (bytes_eq text (codes "replay") || bytes_eq text (codes "help")))
+    || (bytes_eq text (codes "replay") || (bytes_eq text (codes "run") || bytes_eq text (codes "help"))))
 
 -- a number that an option refuses which takes 1 to a limit: 0, and one above the limit. Below, numbers have at most 64
 -- digits.
@@ -80,6 +80,38 @@ pub data RefusesToReplay : List Text → Type 0 where
       → TakesNumber option limit → NamesOption option (decimal n) these → IsOutside limit n → n < 10 ^ 64
       → is_value program ≡ true → RefusesToReplay (unit ++ (these ++ program ∷ rest))
 
+-- the arguments after `run` are refused
+pub data RefusesToRun : List Text → Type 0 where
+  -- run
+  nothing : RefusesToRun []
+  -- run PROGRAM
+  no_unit : (program : Text) → is_value program ≡ true → RefusesToRun (program ∷ [])
+  -- the options and flags of a run, in any order, with a seed and no file
+  no_file : (run : RunOptions) (seed : ℕ) (options : List (Text × Text)) (flags arguments : List Text)
+      → AreGiven options flags [] arguments → AreNamed seeded_names options → AsksRun options flags run
+      → AsksSeed options seed → RefusesToRun arguments
+  -- the options and flags of a run, in any order, with one file or none and no seed
+  no_seed : (run : RunOptions) (options : List (Text × Text)) (flags files arguments : List Text)
+      → AreGiven options flags files arguments → AreNamed run_names options → AsksRun options flags run
+      → length files < 2 → RefusesToRun arguments
+  -- run --unit UNIT PROGRAM FILE, with any after them
+  another_file : (name program other : Text) (unit rest : List Text) → NamesOption (codes "unit") name unit
+      → is_unit name ≡ true → is_value program ≡ true → is_value other ≡ true
+      → RefusesToRun (unit ++ program ∷ other ∷ rest)
+  -- run --unit NAME PROGRAM, where no unit has the name, with any after them
+  no_such_unit : (name program : Text) (unit rest : List Text) → NamesOption (codes "unit") name unit
+      → is_unit name ≡ false → is_value program ≡ true → RefusesToRun (unit ++ program ∷ rest)
+  -- run --unit UNIT --capacity N PROGRAM, or another option with a number, with any after them
+  outside : (name program option : Text) (limit n : ℕ) (unit these rest : List Text)
+      → NamesOption (codes "unit") name unit → is_unit name ≡ true
+      → TakesNumber option limit → NamesOption option (decimal n) these → IsOutside limit n → n < 10 ^ 64
+      → is_value program ≡ true → RefusesToRun (unit ++ (these ++ program ∷ rest))
+  -- run --unit UNIT --seed N PROGRAM, where N is above 64 bits, with any after them
+  seed_outside : (name program : Text) (n : ℕ) (unit these rest : List Text)
+      → NamesOption (codes "unit") name unit → is_unit name ≡ true
+      → NamesOption (codes "seed") (decimal n) these → seed_limit < n → n < 10 ^ 64
+      → is_value program ≡ true → RefusesToRun (unit ++ (these ++ program ∷ rest))
+
 -- the arguments are refused
 pub data Refuses : List Text → Type 0 where
   -- a first argument that is no subcommand and no option, with any after it
@@ -88,3 +120,4 @@ pub data Refuses : List Text → Type 0 where
   judge : (rest : List Text) → RefusesToJudge rest → Refuses (codes "judge" ∷ rest)
   check : (rest : List Text) → RefusesToCheck rest → Refuses (codes "check" ∷ rest)
   replay : (rest : List Text) → RefusesToReplay rest → Refuses (codes "replay" ∷ rest)
+  run : (rest : List Text) → RefusesToRun rest → Refuses (codes "run" ∷ rest)

@@ -5,7 +5,7 @@ use Rattle.round_pool.specs.Workers.{worker_limit}
 use Rattle.command_line.specs.declared.options.RunOptions.{RunOptions}
 use Rattle.command_line.specs.declared.options.UnitOptions.{UnitOptions}
 use Rattle.command_line.specs.Options.{AreGiven, AreNamed, AsksFlag, AsksNumber, option_value}
-use Rattle.command_line.specs.Requests.{Text, Asked, capacity_limit, judging, checking, replaying}
+use Rattle.command_line.specs.Requests.{Text, Asked, capacity_limit, seed_limit, judging, checking, replaying, running}
 use Rattle.command_line.specs.Units.{default_capacity, default_trigger, trigger_limit, unit_kind}
 
 -- the options of `judge`: none, for one worker, or a number of workers, in digits without a leading zero
@@ -50,6 +50,24 @@ pub record AsksToReplay (arguments : List Text) (run : RunOptions) (program sche
   pub named : AreNamed run_names options
   pub asks : AsksRun options flags run
 
+-- the options ask for this seed, in digits without a leading zero; none is the default
+abbrev pub AsksSeed : List (Text × Text) → ℕ → Type 0
+AsksSeed options n = (option_value (codes "seed") options ≡ Some (decimal n)) × (n ≤ seed_limit)
+
+-- the names of the options of a run with threads
+abbrev pub seeded_names : List Text
+seeded_names = codes "seed" ∷ run_names
+
+-- the arguments after `run`, as `--unit UNIT [--capacity C] [--trigger T] [--workers N] [--trace] --seed N PROGRAM` with
+-- the options in any order, ask for this run of a program with this seed of the drains
+pub record AsksToRun (arguments : List Text) (run : RunOptions) (seed : ℕ) (program : Text) : Type 0 where
+  pub options : List (Text × Text)
+  pub flags : List Text
+  pub given : AreGiven options flags (program ∷ []) arguments
+  pub named : AreNamed seeded_names options
+  pub asks : AsksRun options flags run
+  pub seeds : AsksSeed options seed
+
 -- the arguments ask for this
 pub data Asks : List Text → Asked → Type 0 where
   -- no arguments: standard input, with one worker
@@ -60,6 +78,8 @@ pub data Asks : List Text → Asked → Type 0 where
       → Asks (codes "check" ∷ rest) (checking trace certificate)
   replay : (rest : List Text) (run : RunOptions) (program schedule : Text) → AsksToReplay rest run program schedule
       → Asks (codes "replay" ∷ rest) (replaying run program schedule)
+  run : (rest : List Text) (options : RunOptions) (seed : ℕ) (program : Text) → AsksToRun rest options seed program
+      → Asks (codes "run" ∷ rest) (running options seed program)
 
 -- the arguments ask for the help or for the version
 pub data AsksHelp : List Text → Type 0 where
@@ -75,5 +95,8 @@ pub data AsksHelp : List Text → Type 0 where
   help_replay : AsksHelp (codes "help" ∷ codes "replay" ∷ [])
   replay_help : AsksHelp (codes "replay" ∷ codes "--help" ∷ [])
   replay_short : AsksHelp (codes "replay" ∷ codes "-h" ∷ [])
+  help_run : AsksHelp (codes "help" ∷ codes "run" ∷ [])
+  run_help : AsksHelp (codes "run" ∷ codes "--help" ∷ [])
+  run_short : AsksHelp (codes "run" ∷ codes "-h" ∷ [])
   version_option : AsksHelp (codes "--version" ∷ [])
   version_short : AsksHelp (codes "-V" ∷ [])

@@ -2,7 +2,7 @@
 ghost use Rattle.std.specs.Prelude.{◌≡◌, false, IfOk};
 ghost use Rattle.clap.specs.Words.{app_of, rule_of};
 ghost use Rattle.clap.specs.declared.builder.command.Command.TheViews.{out-Command as fields_of};
-ghost use Rattle.command_line.specs.Commands.{capacity_rule, prints_rule, run_rules, trigger_rule, unit_rule, unit_rules, with_rules, workers_rule};
+ghost use Rattle.command_line.specs.Commands.{capacity_rule, prints_rule, run_rules, seed_rule, trigger_rule, unit_rule, unit_rules, with_rules, workers_rule};
 
 use crate::help;
 use crate::options::MAX_CAPACITY;
@@ -31,6 +31,19 @@ pub(crate) fn workers_option<'a>(alloc: Global) -> Arg<'a>
         .value_parser(value_parser!(u64).range(1..=MAX_WORKERS as i64))
         .default_value(DEFAULT_WORKERS)
         .help(help::WORKERS)
+}
+
+/// The option `--seed`.
+pub(crate) fn seed_option<'a>(alloc: Global) -> Arg<'a>
+    ensures rule { rule_of result ≡ seed_rule }
+    ensures local { result.global ≡ false }
+{
+    Arg::new(alloc, "seed")
+        .long("seed")
+        .value_name("N")
+        .required(true)
+        .value_parser(value_parser!(u64))
+        .help(help::SEED)
 }
 
 /// The command with the options of a run: those of a unit, which has one of these names, `--workers` and `--trace`.

@@ -2,9 +2,9 @@
 ghost use Rattle.std.specs.Prelude.{◌≡◌, false, IfOk};
 ghost use Rattle.clap.specs.Words.{app_of};
 ghost use Rattle.clap.specs.declared.builder.command.Command.TheViews.{out-Command as fields_of};
-ghost use Rattle.command_line.specs.Commands.{check_app, judge_app, replay_app, tsobench_app};
+ghost use Rattle.command_line.specs.Commands.{check_app, judge_app, replay_app, run_app, tsobench_app};
 
-use crate::arguments::{with_run_options, workers_option};
+use crate::arguments::{seed_option, with_run_options, workers_option};
 use crate::help;
 use clap::{Arg, Command};
 use std::alloc::{AllocError, Global};
@@ -28,7 +28,8 @@ pub(crate) fn tsobench_command<'a>(
         .after_help(help::PROGRAM)
         .subcommand(judge_command(alloc)?)?
         .subcommand(check_command(alloc)?)?
-        .subcommand(replay_command(alloc, names)?)
+        .subcommand(replay_command(alloc, names)?)?
+        .subcommand(run_command(alloc, names)?)
 }
 
 /// The subcommand `judge`.
@@ -85,4 +86,21 @@ fn replay_command<'a>(alloc: Global, names: &'a [&'a str]) -> Result<Command<'a>
     with_run_options(alloc, command, names)?
         .arg(program)?
         .arg(schedule)
+}
+
+/// The subcommand `run`.
+fn run_command<'a>(alloc: Global, names: &'a [&'a str]) -> Result<Command<'a>, AllocError>
+    ensures app { IfOk result (λ command. app_of command ≡ run_app names.entry) }
+    ensures local { IfOk result (λ command. (fields_of command).has_globals ≡ false) }
+{
+    let program = Arg::new(alloc, "program")
+        .value_name("PROGRAM")
+        .required(true)
+        .help("The text of a program");
+    let command = Command::new(alloc, "run")
+        .about("Runs a program with a thread per processor, and judges the trace")
+        .after_help(help::RUN);
+    with_run_options(alloc, command, names)?
+        .arg(seed_option(alloc))?
+        .arg(program)
 }

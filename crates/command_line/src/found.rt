@@ -4,7 +4,7 @@ ghost use Rattle.clap.specs.Words.{found_of, rows_of, subcommand_rows_of};
 ghost use Rattle.command_line.specs.Requests.{HasUnitRanges, HasWorkers, asked_of};
 ghost use Rattle.round_pool.specs.Workers.{worker_limit};
 ghost use Rattle.command_line.specs.Commands.{checking_by};
-ghost use Rattle.command_line.specs.Internal.Computed.{asked_by, capacity_in, judging_by, replaying_by, run_in, trigger_in, unit_in, workers_in};
+ghost use Rattle.command_line.specs.Internal.Computed.{asked_by, capacity_in, judging_by, replaying_by, run_in, running_by, seed_in, trigger_in, unit_in, workers_in};
 
 use crate::options::{MAX_CAPACITY, RunOptions, UnitKind, UnitOptions, kind_named};
 use crate::requests::Request;
@@ -25,6 +25,9 @@ pub(crate) fn request<'a>(matches: &ArgMatches<'a>) -> Request<'a>
     }
     if let Some(found) = matches.subcommand_matches("replay") {
         return replay_request(found);
+    }
+    if let Some(found) = matches.subcommand_matches("run") {
+        return run_request(found);
     }
     Request::Judge {
         file: None,
@@ -62,6 +65,26 @@ fn replay_request<'a>(matches: &ArgMatches<'a>) -> Request<'a>
         program: matches.get_str("program").unwrap_or(""),
         schedule: matches.get_str("schedule").unwrap_or(""),
     }
+}
+
+/// What the matches of `run` ask for. The command has refused arguments without a seed or a file.
+fn run_request<'a>(matches: &ArgMatches<'a>) -> Request<'a>
+    ensures { asked_of result ≡ running_by (rows_of (found_of matches.now)) }
+{
+    let program = matches.get_str("program").unwrap_or("");
+    Request::Run {
+        options: run_options(matches),
+        drain_seed: seed(matches),
+        program,
+    }
+}
+
+/// The seed. The command has refused arguments without one.
+fn seed(matches: &ArgMatches<'_>) -> u64
+    ensures { result ≡ seed_in (rows_of (found_of matches.now)) }
+{
+    let named: Option<u64> = matches.get_one("seed");
+    named.unwrap_or(0)
 }
 
 /// What the options say of a run.

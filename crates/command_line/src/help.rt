@@ -45,6 +45,9 @@ const _: () = prove!(MAX_CAPACITY == 64);
 /// Of `--trigger`.
 pub(crate) const TRIGGER: &str = "From which occasion on a faulty unit deviates, from 1";
 
+/// Of `--seed`.
+pub(crate) const SEED: &str = "The seed of the drains, 0 to 18446744073709551615";
+
 /// Of `--trace`.
 pub(crate) const TRACE: &str = "Prints the recorded trace alone";
 
@@ -105,3 +108,31 @@ Exit status:
 
 Example:
   tsobench replay --unit serial PROGRAM SCHEDULE";
+
+/// Of `run`.
+pub(crate) const RUN: &str = "\
+It reads the text of a program, and runs the program on the memory unit: each
+processor has a thread of its own, which issues its operations in program order,
+and the unit serves one call at a time. After each operation the thread drains
+its processor's oldest store up to twice: numbers drawn from the seed say how
+often. The trace of what the unit answered is recorded and judged. It prints the
+report of `tsobench judge`, and then a line
+`account loads .. stores .. swaps .. membars .. drains .. closed` with the
+numbers of the unit's steps; with --trace it prints the recorded trace alone. A
+text that is no program gets one line that says why.
+
+The system, and not the seed, says in which order the threads come to the unit:
+two runs of the same arguments may record different traces. To run a program in
+an order that is the same each time, use `tsobench replay`.
+
+--capacity and --trigger are ignored by units that have no use for them. The
+report of a recorded trace is the same for each number of workers.
+
+Exit status:
+  0  no violation was found, or the trace was printed
+  2  the text or the command line was refused
+  3  the trace violates its memory model
+  4  a fault, which one line on standard error names, as FAULT Read
+
+Example:
+  tsobench run --unit buffer --seed 1 PROGRAM";

@@ -35,6 +35,12 @@ pub enum Request<'a> {
         program: &'a str,
         schedule: &'a str,
     },
+    /// To run the program in this file with a thread per processor, whose drains follow this seed.
+    Run {
+        options: RunOptions,
+        drain_seed: u64,
+        program: &'a str,
+    },
     /// To print this text on standard output: the help or the version that was asked for.
     Show(String),
     /// To refuse the arguments, with this text for standard error.
@@ -90,6 +96,9 @@ static CHECK_HELP: [&str; 2] = ["check", "--help"];
 /// The option that asks for the help of `replay`.
 static REPLAY_HELP: [&str; 2] = ["replay", "--help"];
 
+/// The option that asks for the help of `run`.
+static RUN_HELP: [&str; 2] = ["run", "--help"];
+
 /// The option that asks for what `help`, alone or with the name of a subcommand, asks for: `clap` promises more of it,
 /// and it gives the same text. None of all other arguments.
 fn help_option(arguments: &[String]) -> Option<&'static [&'static str]>
@@ -114,6 +123,9 @@ fn subcommand_help_option(name: &str) -> Option<&'static [&'static str]>
     }
     if name == "replay" {
         return Some(REPLAY_HELP.as_slice());
+    }
+    if name == "run" {
+        return Some(RUN_HELP.as_slice());
     }
     None
 }

@@ -1,6 +1,15 @@
-use crate::{Request, read_arguments};
+use crate::{Request, RunOptions, read_arguments};
 use std::alloc::{AllocError, Global};
 use std::test::Fail;
+
+/// The options of a run, as text.
+fn described_options(alloc: Global, options: &RunOptions) -> Result<String, AllocError> {
+    let unit = options.unit;
+    format!(in alloc;
+        "on {:?} {} {} with {} trace {}",
+        unit.kind, unit.capacity, unit.trigger, options.workers, options.prints_trace
+    )
+}
 
 /// What a request is, as one line of text with the texts that it shows.
 fn described(alloc: Global, request: &Request<'_>) -> Result<String, AllocError> {
@@ -21,11 +30,16 @@ fn described(alloc: Global, request: &Request<'_>) -> Result<String, AllocError>
             program,
             schedule,
         } => {
-            let unit = options.unit;
-            format!(in alloc;
-                "replay {program:?} by {schedule:?} on {:?} {} {} with {} trace {}",
-                unit.kind, unit.capacity, unit.trigger, options.workers, options.prints_trace
-            )
+            let options = described_options(alloc, options)?;
+            format!(in alloc; "replay {program:?} by {schedule:?} {options}")
+        }
+        Request::Run {
+            options,
+            drain_seed,
+            program,
+        } => {
+            let options = described_options(alloc, options)?;
+            format!(in alloc; "run {program:?} seeded {drain_seed} {options}")
         }
         Request::Show(text) => format!(in alloc; "show {text}"),
         Request::Refuse(text) => format!(in alloc; "refuse {text}"),
@@ -165,6 +179,90 @@ fn plain_replays(rt: HostRuntime) -> Result<(), Fail> {
     Ok(())
 }
 
+#[test]
+fn plain_runs(rt: HostRuntime) -> Result<(), Fail> {
+    let cases: [(&[&str], &str); 13] = [
+        (
+            &["run", "--unit", "serial", "--seed", "1", "p"],
+            "run \"p\" seeded 1 on Serial 8 1 with 1 trace false",
+        ),
+        (
+            &["run", "--unit", "buffer", "--seed", "1", "p"],
+            "run \"p\" seeded 1 on Buffer 8 1 with 1 trace false",
+        ),
+        (
+            &["run", "--seed=0", "--unit=lost-drain", "p"],
+            "run \"p\" seeded 0 on Faulty(LostDrain) 8 1 with 1 trace false",
+        ),
+        (
+            &[
+                "run",
+                "--seed",
+                "18446744073709551615",
+                "--unit=serial",
+                "p",
+            ],
+            "run \"p\" seeded 18446744073709551615 on Serial 8 1 with 1 trace false",
+        ),
+        (
+            &["run", "--seed", "9223372036854775808", "p", "--unit=serial"],
+            "run \"p\" seeded 9223372036854775808 on Serial 8 1 with 1 trace false",
+        ),
+        (
+            &["run", "p", "--seed", "7", "--unit", "serial"],
+            "run \"p\" seeded 7 on Serial 8 1 with 1 trace false",
+        ),
+        (
+            &["run", "p", "--unit=serial", "--seed=7"],
+            "run \"p\" seeded 7 on Serial 8 1 with 1 trace false",
+        ),
+        (
+            &["run", "--capacity=64", "--seed=7", "p", "--unit=buffer"],
+            "run \"p\" seeded 7 on Buffer 64 1 with 1 trace false",
+        ),
+        (
+            &["run", "--trace", "--unit", "serial", "--seed=7", "-"],
+            "run \"-\" seeded 7 on Serial 8 1 with 1 trace true",
+        ),
+        (
+            &["run", "--unit", "serial", "a b", "--trace", "--seed=7"],
+            "run \"a b\" seeded 7 on Serial 8 1 with 1 trace true",
+        ),
+        (
+            &[
+                "run",
+                "--workers=2",
+                "--trace",
+                "--trigger",
+                "3",
+                "p",
+                "--seed",
+                "5",
+                "--capacity=4",
+                "--unit",
+                "serial",
+            ],
+            "run \"p\" seeded 5 on Serial 4 3 with 2 trace true",
+        ),
+        (
+            &["run", "--unit", "serial", "--seed=+007", "p"],
+            "run \"p\" seeded 7 on Serial 8 1 with 1 trace false",
+        ),
+        (
+            &["run", "--unit", "serial", "--seed=7", "--", "--trace"],
+            "run \"--trace\" seeded 7 on Serial 8 1 with 1 trace false",
+        ),
+    ];
+    for (arguments, request) in cases {
+        assert_eq!(rt;
+            asked(rt.alloc(), arguments)?.as_str(),
+            request,
+            "{arguments:?}"
+        );
+    }
+    Ok(())
+}
+
 /// Kinds of units by name, and what they print as.
 const KINDS: [(&str, &str); 8] = [
     ("serial", "Serial"),
@@ -190,7 +288,7 @@ fn kinds_of_units(rt: HostRuntime) -> Result<(), Fail> {
 
 #[test]
 fn help_and_version(rt: HostRuntime) -> Result<(), Fail> {
-    let cases: [(&[&str], &str); 16] = [
+    let cases: [(&[&str], &str); 20] = [
         (&["--help"], PROGRAM_HELP),
         (&["-h"], PROGRAM_HELP),
         (&["help"], PROGRAM_HELP),
@@ -203,6 +301,10 @@ fn help_and_version(rt: HostRuntime) -> Result<(), Fail> {
         (&["replay", "--help"], REPLAY_HELP),
         (&["replay", "-h"], REPLAY_HELP),
         (&["help", "replay"], REPLAY_HELP),
+        (&["run", "--help"], RUN_HELP),
+        (&["run", "-h"], RUN_HELP),
+        (&["help", "run"], RUN_HELP),
+        (&["run", "p", "-h"], RUN_HELP),
         (&["judge", "a.trace", "-h"], JUDGE_HELP),
         (&["replay", "--trace", "-h"], REPLAY_HELP),
         (&["--version"], "tsobench 0.1.0\n"),
@@ -319,6 +421,76 @@ fn refused_replays(rt: HostRuntime) -> Result<(), Fail> {
     Ok(())
 }
 
+#[test]
+fn refused_runs(rt: HostRuntime) -> Result<(), Fail> {
+    let cases: [(&[&str], &str); 12] = [
+        (
+            &["run"],
+            "error: the following required arguments were not provided:\n  --unit <UNIT>\n  --seed <N>\n  <PROGRAM>\n\nUsage: tsobench run --unit <UNIT> --seed <N> <PROGRAM>\n\nFor more information, try '--help'.\n",
+        ),
+        (
+            &["run", "p"],
+            "error: the following required arguments were not provided:\n  --unit <UNIT>\n  --seed <N>\n\nUsage: tsobench run --unit <UNIT> --seed <N> <PROGRAM>\n\nFor more information, try '--help'.\n",
+        ),
+        (
+            &["run", "--seed", "1", "p"],
+            "error: the following required arguments were not provided:\n  --unit <UNIT>\n\nUsage: tsobench run --unit <UNIT> --seed <N> <PROGRAM>\n\nFor more information, try '--help'.\n",
+        ),
+        (
+            &["run", "--unit", "serial", "p"],
+            "error: the following required arguments were not provided:\n  --seed <N>\n\nUsage: tsobench run --unit <UNIT> --seed <N> <PROGRAM>\n\nFor more information, try '--help'.\n",
+        ),
+        (
+            &["run", "--unit", "serial", "--seed", "1"],
+            "error: the following required arguments were not provided:\n  <PROGRAM>\n\nUsage: tsobench run --unit <UNIT> --seed <N> <PROGRAM>\n\nFor more information, try '--help'.\n",
+        ),
+        (
+            &["run", "--unit", "serial", "--seed", "1", "p", "s"],
+            "error: unexpected argument 's' found\n\nUsage: tsobench run [OPTIONS] --unit <UNIT> --seed <N> <PROGRAM>\n\nFor more information, try '--help'.\n",
+        ),
+        (
+            &["run", "--unit", "other", "--seed", "1", "p"],
+            "error: invalid value 'other' for '--unit <UNIT>'\n  [possible values: serial, buffer, newest-first, no-forward, stale-load, torn-swap, idle-membar, lost-drain]\n\nFor more information, try '--help'.\n",
+        ),
+        (
+            &["run", "--unit", "serial", "--capacity", "0", "p"],
+            "error: invalid value '0' for '--capacity <C>': 0 is not in 1..=64\n\nFor more information, try '--help'.\n",
+        ),
+        (
+            &[
+                "run",
+                "--unit",
+                "serial",
+                "--seed",
+                "18446744073709551616",
+                "p",
+            ],
+            "error: invalid value '18446744073709551616' for '--seed <N>': number too large to fit in target type\n\nFor more information, try '--help'.\n",
+        ),
+        (
+            &["run", "--unit", "serial", "--seed=-1", "p"],
+            "error: invalid value '-1' for '--seed <N>': invalid digit found in string\n\nFor more information, try '--help'.\n",
+        ),
+        (
+            &["run", "--unit", "serial", "--seed", "1", "--seed", "1", "p"],
+            "error: the argument '--seed <N>' cannot be used multiple times\n\nUsage: tsobench run [OPTIONS] --unit <UNIT> --seed <N> <PROGRAM>\n\nFor more information, try '--help'.\n",
+        ),
+        (
+            &["replay", "--seed", "1", "--unit", "serial", "p", "s"],
+            "error: unexpected argument '--seed' found\n\n  tip: to pass '--seed' as a value, use '-- --seed'\n\nUsage: tsobench replay [OPTIONS] --unit <UNIT> <PROGRAM> <SCHEDULE>\n\nFor more information, try '--help'.\n",
+        ),
+    ];
+    for (arguments, text) in cases {
+        let wanted = format!(in rt.alloc(); "refuse {text}")?;
+        assert_eq!(rt;
+            asked(rt.alloc(), arguments)?.as_str(),
+            wanted.as_str(),
+            "{arguments:?}"
+        );
+    }
+    Ok(())
+}
+
 const UNKNOWN: &str =
     "error: unrecognized subcommand 'seek'\n\nUsage: tsobench [COMMAND]\n\nFor more information, try '--help'.\n";
 
@@ -331,6 +503,7 @@ Commands:
   judge   Judges a trace and prints its report
   check   Checks a certificate of a violation against its trace
   replay  Replays a program by a schedule, and judges the trace
+  run     Runs a program with a thread per processor, and judges the trace
   help    Print this message or the help of the given subcommand(s)
 
 Options:
@@ -452,4 +625,48 @@ Exit status:
 
 Example:
   tsobench replay --unit serial PROGRAM SCHEDULE
+";
+
+const RUN_HELP: &str = "\
+Runs a program with a thread per processor, and judges the trace
+
+Usage: tsobench run [OPTIONS] --unit <UNIT> --seed <N> <PROGRAM>
+
+Arguments:
+  <PROGRAM>  The text of a program
+
+Options:
+      --unit <UNIT>   Which memory unit runs the program [possible values: serial, buffer, newest-first, no-forward, stale-load, torn-swap, idle-membar, lost-drain]
+      --capacity <C>  How many stores each store buffer of the unit holds, 1 to 64 [default: 8]
+      --trigger <T>   From which occasion on a faulty unit deviates, from 1 [default: 1]
+      --workers <N>   How many workers judge, 1 to 64 [default: 1]
+      --trace         Prints the recorded trace alone
+      --seed <N>      The seed of the drains, 0 to 18446744073709551615
+  -h, --help          Print help
+
+It reads the text of a program, and runs the program on the memory unit: each
+processor has a thread of its own, which issues its operations in program order,
+and the unit serves one call at a time. After each operation the thread drains
+its processor's oldest store up to twice: numbers drawn from the seed say how
+often. The trace of what the unit answered is recorded and judged. It prints the
+report of `tsobench judge`, and then a line
+`account loads .. stores .. swaps .. membars .. drains .. closed` with the
+numbers of the unit's steps; with --trace it prints the recorded trace alone. A
+text that is no program gets one line that says why.
+
+The system, and not the seed, says in which order the threads come to the unit:
+two runs of the same arguments may record different traces. To run a program in
+an order that is the same each time, use `tsobench replay`.
+
+--capacity and --trigger are ignored by units that have no use for them. The
+report of a recorded trace is the same for each number of workers.
+
+Exit status:
+  0  no violation was found, or the trace was printed
+  2  the text or the command line was refused
+  3  the trace violates its memory model
+  4  a fault, which one line on standard error names, as FAULT Read
+
+Example:
+  tsobench run --unit buffer --seed 1 PROGRAM
 ";

@@ -1,2 +1,3 @@
 pub mod EndFacts
 pub mod ReplayingFacts
+pub mod RunningFacts

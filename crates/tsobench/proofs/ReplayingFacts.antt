@@ -17,7 +17,9 @@ use Rattle.tso_report.specs.Written.{LeavesAtFault}
 use Rattle.tso_report.proofs.InputFacts.{lists_of_prefix, text_refusal_of_prefix}
 use Rattle.tsobench.specs.Endings.{EndsByText, IsPrintable, Outputs, WritesFaultLine, WritesText}
 use Rattle.tsobench.specs.Named.{HasKnown}
-use Rattle.tsobench.specs.Replaying.{IsRefusalOf, IsReplayText, IsScheduledText, ReadsAs}
+use Rattle.tsobench.specs.Printing.{IsRefusalOf, ReadsAs}
+use Rattle.tsobench.specs.Replaying.{IsReplayText, IsScheduledText}
+use Rattle.tsobench.specs.Running.{IsRunText}
 
 -- ---- what was read of a text
 
@@ -81,6 +83,12 @@ known_replay options program programs schedule schedules has also text status (i
   spelled = known_reads program programs has (λ bytes. SpellsProgram bytes replay.program) replay.spelled;
   scheduled = known_schedule options replay.program schedule schedules also text status replay.scheduled;
 })
+
+pub known_run : (options : RunOptions) (program programs : Option (List ℕ)) → HasKnown program programs → (text : List ℕ) (status : ℕ) → IsRunText options programs text status →
+    IsRunText options program text status
+known_run options program programs has text status (inl refusal) = inl (known_refusal IsProgramRefusal program programs has text status refusal)
+known_run options program programs has text status (inr run) =
+    inr (record { program = run.program; spelled = known_reads program programs has (λ bytes. SpellsProgram bytes run.program) run.spelled; run = run.run })
 
 -- ---- what a fault leaves
 

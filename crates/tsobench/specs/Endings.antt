@@ -1,5 +1,6 @@
 -- How the program ends: what it has written to its output and to its errors, and its status.
 use Rattle.std.specs.Prelude.{◌≡◌, ◌⊎◌, ℕ, List, [], ◌∷◌, ◌++◌, codes, string_bytes, Option, Some, None}
+use Rattle.std.specs.Fmt.{decimal}
 use Rattle.std.specs.Io.KnownBytes.{Appends, Keeps}
 use Rattle.tso_report.specs.declared.verdicts.Verdict.{Verdict}
 use Rattle.tso_report.specs.declared.faults.Fault.{Fault}
@@ -8,12 +9,13 @@ use Rattle.tso_report.specs.Streams.{AppendsPrefix}
 use Rattle.tso_report.specs.Written.{IsCheckReportOfReaders, IsReportOfReader, LeavesAtFault, WritesWhole}
 use Rattle.tsobench.specs.Named.{name_in}
 use Rattle.tsobench.specs.Replaying.{IsReplayText}
+use Rattle.tsobench.specs.Running.{IsRunText}
 use Rattle.tsobench.specs.Statuses.{status_of}
 use Rattle.command_line.specs.declared.options.RunOptions.{RunOptions}
 use Rattle.command_line.specs.declared.requests.Request.{Request}
-use Rattle.command_line.specs.declared.requests.Request.TheVariants.{Judge, Check, Replay, Show, Refuse}
+use Rattle.command_line.specs.declared.requests.Request.TheVariants.{Judge, Check, Replay, Run, Show, Refuse}
 use Rattle.command_line.specs.Commands.{IsAskedFor}
-use Rattle.command_line.specs.Requests.{Asked, Text, judging, checking, replaying, showing, refusing}
+use Rattle.command_line.specs.Requests.{Asked, Text, judging, checking, replaying, running, showing, refusing}
 
 -- ---- the lines of faults
 
@@ -79,6 +81,16 @@ EndsByText is_text o status =
 abbrev pub EndsReplayed : RunOptions → Option (List ℕ) → Option (List ℕ) → Outputs → ℕ → Type 0
 EndsReplayed options programs schedules o status = EndsByText (IsReplayText options programs schedules) o status
 
+-- A run gave no record: the output is as it was, the line of the fault was written to the errors, and the status is 4.
+abbrev pub EndsUnrecorded : Outputs → ℕ → Type 0
+EndsUnrecorded o status =
+    Keeps o.written_before o.written × (status ≡ 4)
+    × (((p : ℕ) × AppendsPrefix o.errors_before o.errors (fault_line (codes "Torn " ++ decimal p))) ⊎ AppendsPrefix o.errors_before o.errors (fault_line (codes "OtherProgram")))
+
+-- what is printed of a run, where a reader has these bytes of the program, or that it gave no record
+abbrev pub EndsRun : RunOptions → Option (List ℕ) → Outputs → ℕ → Type 0
+EndsRun options programs o status = EndsByText (IsRunText options programs) o status ⊎ EndsUnrecorded o status
+
 -- The output grows by the text and the errors by nothing, and the status is 0; or the fault Write left a prefix of the text.
 abbrev pub EndsShowing : List ℕ → Outputs → ℕ → Type 0
 EndsShowing text o status =
@@ -105,6 +117,7 @@ abbrev pub EndsAs : Request → Option (List ℕ) → (List ℕ → Option (List
 EndsAs (Judge file workers) input files o status = EndsJudged (judged_bytes (name_in file) input files) o status
 EndsAs (Check trace certificate) input files o status = EndsChecked (files trace.now) (files certificate.now) o status
 EndsAs (Replay options program schedule) input files o status = EndsReplayed options (files program.now) (files schedule.now) o status
+EndsAs (Run options drain_seed program) input files o status = EndsRun options (files program.now) o status
 EndsAs (Show text) input files o status = EndsShowing (string_bytes text) o status
 EndsAs (Refuse text) input files o status = EndsRefusing (string_bytes text) o status
 
@@ -114,6 +127,7 @@ abbrev pub EndsAsAsked : Asked → Option (List ℕ) → (List ℕ → Option (L
 EndsAsAsked (judging file workers) input files o status = EndsJudged (judged_bytes file input files) o status
 EndsAsAsked (checking trace certificate) input files o status = EndsChecked (files trace) (files certificate) o status
 EndsAsAsked (replaying options program schedule) input files o status = EndsReplayed options (files program) (files schedule) o status
+EndsAsAsked (running options drain_seed program) input files o status = EndsRun options (files program) o status
 EndsAsAsked showing input files o status = (text : List ℕ) × EndsShowing text o status
 EndsAsAsked refusing input files o status = (text : List ℕ) × EndsRefusing text o status
 

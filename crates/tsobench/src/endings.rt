@@ -2,8 +2,11 @@
 ghost use Rattle.std.specs.Prelude.{◌≡◌, IfOk, IfErr};
 ghost use Rattle.std.specs.Io.KnownBytes.{Keeps};
 ghost use Rattle.tsobench.specs.Endings.{WritesFaultLine};
+ghost use Rattle.tsobench.specs.Internal.Runs.{EndsSo, WritesTornLine};
 ghost use Rattle.tsobench.specs.Statuses.{status_of};
 
+use crate::running::RunEnd;
+use std::alloc::Global;
 use std::io::Write;
 use tso_report::{Fault, Verdict, write_text};
 
@@ -35,6 +38,39 @@ pub(crate) fn end_with<E: Write>(outcome: Result<u8, Fault>, errors: &mut E) -> 
     match outcome {
         Ok(status) => status,
         Err(fault) => end_by(fault, errors),
+    }
+}
+
+/// The status of what a run printed; or that of a fault, or of a run without a record, whose line it writes.
+pub(crate) fn end_run<E: Write>(
+    alloc: Global,
+    outcome: Result<RunEnd<u8>, Fault>,
+    errors: &mut E,
+) -> u8
+    ensures { EndsSo outcome (E.contents errors.old) (E.contents errors.new) result }
+{
+    match outcome {
+        Ok(RunEnd::Printed(status)) => status,
+        Ok(RunEnd::Torn { p }) => end_torn(alloc, p, errors),
+        Ok(RunEnd::OtherProgram) => {
+            let _ = write_text(errors, b"FAULT OtherProgram\n");
+            FAULT
+        }
+        Err(fault) => end_by(fault, errors),
+    }
+}
+
+/// The status of a run that is torn at processor `p`, whose line it writes, or that of memory that ran out.
+fn end_torn<E: Write>(alloc: Global, p: usize, errors: &mut E) -> u8
+    ensures line { WritesTornLine (E.contents errors.old) (E.contents errors.new) p }
+    ensures status { result ≡ 4 }
+{
+    match format!(in alloc; "FAULT Torn {p}\n") {
+        Ok(line) => {
+            let _ = write_text(errors, line.as_bytes());
+            FAULT
+        }
+        Err(_) => end_by(Fault::OutOfMemory, errors),
     }
 }
 

@@ -11,7 +11,9 @@ use std::{env, io};
 mod driving;
 mod endings;
 mod files;
+mod printing;
 mod replaying;
+mod running;
 mod serving;
 #[cfg(test)]
 mod tests;

@@ -1,35 +1,26 @@
 //! The way of a replay: read the program, then the schedule, run the one by the other, judge or print, write.
-ghost use Rattle.std.specs.Prelude.{◌≡◌, ◌≢◌, ◌⊎◌, ◌≤◌, [], ◌∷◌, IfOk, IfErr, OnOk};
+ghost use Rattle.std.specs.Prelude.{◌≡◌, ◌⊎◌, ◌≤◌, [], ◌∷◌, IfOk, IfErr, OnOk};
 ghost use Rattle.command_line.specs.Requests.{capacity_limit};
 ghost use Rattle.tso_report.specs.declared.faults.Fault.{Fault};
 ghost use Rattle.tso_report.specs.Limits.{worker_limit};
-ghost use Rattle.tso_report.specs.Reports.{refusal_text};
 ghost use Rattle.tso_report.specs.Written.{LeavesAtFault};
-ghost use Rattle.tso_text.specs.declared.faults.Why.{Why};
 ghost use Rattle.tsobench.specs.Endings.{IsPrintable, WritesText};
 ghost use Rattle.tsobench.specs.Named.{OpensFirst, OpensNext};
-ghost use Rattle.tsobench.specs.Replaying.{IsReplayOf, IsReplayText, IsScheduledText, PrintsRecord, unit_of};
+ghost use Rattle.tsobench.specs.Printing.{unit_of};
+ghost use Rattle.tsobench.specs.Replaying.{IsReplayOf, IsReplayText, IsScheduledText};
 
-use crate::endings::{DONE, REFUSED, status_of};
 use crate::files::{NamedFiles, open};
+use crate::printing::{Printed, print_record, print_refusal};
 use command_line::{RunOptions, UnitKind};
-use std::alloc::Global;
 use std::io::{Read, Write};
 use std::sync::Wait;
 use std::thread::Threads;
-use tso_ops::{OutOfMemory, Program};
-use tso_report::{Fault, judge_trace, print_account, read_all, render_refusal, write_text};
-use tso_text::{Act, MAX_TEXT_BYTES, TextFault, print_trace, read_program, read_schedule};
-use unit_core::{Account, MemoryUnit, Recorded, replay};
+use tso_ops::Program;
+use tso_report::{Fault, read_all, write_text};
+use tso_text::{Act, MAX_TEXT_BYTES, read_program, read_schedule};
+use unit_core::{Account, MemoryUnit, replay};
 use unit_faulty::FaultyUnit;
 use unit_kinds::{SerialUnit, StoreBufferUnit};
-
-/// A text to be written, and the status that the program then ends with.
-#[derive(Drop)]
-struct Printed {
-    text: Vec<u8>,
-    status: u8,
-}
 
 /// Replays the program in one file by the schedule in another, and writes what the options ask for: the status. Both
 /// are opened before one is read.
@@ -148,39 +139,4 @@ fn replay_on<H: Threads + Wait + AllocGlobal>(
     let mut account = Account::new();
     let recorded = replay(rt.alloc(), unit, program, schedule, &mut account)?;
     print_record(rt, options, &recorded, &account)
-}
-
-/// What is printed of a record: its trace where the options ask for it, else the report of the trace and the account.
-fn print_record<H: Threads + Wait + AllocGlobal>(
-    rt: &H,
-    options: &RunOptions,
-    recorded: &Recorded,
-    account: &Account,
-) -> Result<Printed, Fault>
-    requires some { 1 ≤ options.now.workers }
-    requires most { options.now.workers ≤ worker_limit }
-    ensures text { IfOk result (λ printed. PrintsRecord options.now.prints_trace recorded.now account.now printed.text.items printed.status) }
-    ensures fault { IfErr result (λ fault. (fault ≡ Fault.OutOfMemory) ⊎ (fault ≡ Fault.NoThread)) }
-{
-    if options.prints_trace {
-        return Ok(Printed {
-            text: print_trace(rt.alloc(), recorded.trace())?.into_bytes(),
-            status: DONE,
-        });
-    }
-    let report = judge_trace(rt, rt.alloc(), recorded.trace(), options.workers)?;
-    let status = status_of(report.verdict);
-    let mut text = report.text.into_bytes();
-    text.extend_from_slice(&print_account(rt.alloc(), account)?)?;
-    Ok(Printed { text, status })
-}
-
-/// The line of the refusal of a text.
-fn print_refusal(alloc: Global, fault: TextFault) -> Result<Printed, OutOfMemory>
-    ensures { IfOk result (λ printed. fault.why ≢ Why.OutOfMemory × (printed.text.items ≡ refusal_text fault.line fault.why) × (printed.status ≡ 2)) }
-{
-    Ok(Printed {
-        text: render_refusal(alloc, fault)?.text.into_bytes(),
-        status: REFUSED,
-    })
 }

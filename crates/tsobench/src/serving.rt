@@ -7,9 +7,10 @@ ghost use Rattle.tso_report.specs.Written.{LeavesCheckFault, LeavesFault, Writes
 ghost use Rattle.tsobench.specs.Endings.{EndsAs, EndsShowing, judged_bytes, outputs};
 ghost use Rattle.tsobench.specs.Named.{OpensFirst, OpensNext, files_named, name_in, reads_input};
 
-use crate::endings::{DONE, REFUSED, end, end_by, end_with};
+use crate::endings::{DONE, REFUSED, end, end_by, end_run, end_with};
 use crate::files::{NamedFiles, open};
 use crate::replaying::replay_named;
+use crate::running::{RunPlan, run_named};
 use command_line::Request;
 use std::alloc::Global;
 use std::io::{Read, Write};
@@ -57,6 +58,18 @@ pub fn serve<H: Threads + Wait + Sync + AllocGlobal, O: NamedFiles, R: Read, W: 
         } => {
             let replayed = replay_named(rt, options, program, schedule, files, writer);
             end_with(replayed, errors)
+        }
+        Request::Run {
+            options,
+            drain_seed,
+            program,
+        } => {
+            let plan = RunPlan {
+                options,
+                drain_seed: *drain_seed,
+            };
+            let ran = run_named(rt, plan, program, files, writer);
+            end_run(rt.alloc(), ran, errors)
         }
         Request::Show(text) => show(text, writer, errors),
         Request::Refuse(text) => refuse(text, errors),

@@ -7,6 +7,7 @@ mod records;
 mod refused_allocations;
 mod replays;
 mod requests;
+mod runs;
 
 use crate::driving::{drive, end_without_arguments};
 use std::alloc::{AllocError, Global};

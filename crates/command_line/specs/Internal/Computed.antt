@@ -11,7 +11,7 @@ use Rattle.command_line.specs.declared.options.UnitKind.TheVariants.{Serial}
 use Rattle.command_line.specs.declared.options.UnitOptions.{UnitOptions}
 use Rattle.command_line.specs.Requests.{Text, Asked, capacity_limit, judging}
 use Rattle.command_line.specs.Units.{default_capacity, default_trigger, trigger_limit, unit_kind}
-use Rattle.command_line.specs.Commands.{IsAskedAtOne, checking_by, replaying_with}
+use Rattle.command_line.specs.Commands.{IsAskedAtOne, checking_by, replaying_with, running_with}
 
 -- ---- the arguments that are parsed
 
@@ -19,7 +19,8 @@ use Rattle.command_line.specs.Commands.{IsAskedAtOne, checking_by, replaying_wit
 abbrev pub help_option_of : Text → Option (List Text)
 help_option_of name = if bytes_eq name (codes "judge") then Some (codes "judge" ∷ codes "--help" ∷ [])
     else (if bytes_eq name (codes "check") then Some (codes "check" ∷ codes "--help" ∷ [])
-    else (if bytes_eq name (codes "replay") then Some (codes "replay" ∷ codes "--help" ∷ []) else None))
+    else (if bytes_eq name (codes "replay") then Some (codes "replay" ∷ codes "--help" ∷ [])
+    else (if bytes_eq name (codes "run") then Some (codes "run" ∷ codes "--help" ∷ []) else None)))
 
 -- `help`, and `help` with the name of a subcommand, as the option that asks for the same
 abbrev pub parsed_as : List Text → List Text
@@ -56,6 +57,9 @@ capacity_in rows = within 1 capacity_limit (number_of (codes "capacity") default
 abbrev pub trigger_in : List Row → ℕ
 trigger_in rows = within 1 trigger_limit (number_of (codes "trigger") default_trigger rows)
 
+abbrev pub seed_in : List Row → ℕ
+seed_in rows = number_of (codes "seed") 0 rows
+
 -- whether the flag of this name is used
 abbrev pub flag_in : Text → List Row → Bool
 flag_in name rows = option_map_or (λ text. bytes_eq text (codes "true")) (one_of name rows) false
@@ -73,6 +77,9 @@ run_in rows = record { unit = unit_in rows; workers = workers_in rows; prints_tr
 abbrev pub replaying_by : List Row → Asked
 replaying_by rows = replaying_with (run_in rows) rows
 
+abbrev pub running_by : List Row → Asked
+running_by rows = running_with (run_in rows) (seed_in rows) rows
+
 abbrev pub judging_by : List Row → Asked
 judging_by rows = judging (first_of (codes "file") rows) (workers_in rows)
 
@@ -80,7 +87,8 @@ judging_by rows = judging (first_of (codes "file") rows) (workers_in rows)
 abbrev pub asked_in : Text → List Row → Asked
 asked_in name rows = if bytes_eq name (codes "judge") then judging_by rows
     else (if bytes_eq name (codes "check") then checking_by rows
-    else (if bytes_eq name (codes "replay") then replaying_by rows else judging None 1))
+    else (if bytes_eq name (codes "replay") then replaying_by rows
+    else (if bytes_eq name (codes "run") then running_by rows else judging None 1)))
 
 -- without a subcommand standard input is judged, with one worker
 abbrev pub asked_by : Option (Text × List Row) → Asked

@@ -11,9 +11,11 @@ returns-clause-app c =
     let check_is = ap (λ (a : App). a.top) c.in_ok-check_command.ensures.app in
     let replay_is = ap (λ (a : App). a.top) c.in_ok-replay_command.ensures.app in
     let first = c.in_ok-subcommand.ensures.shape c.in_ok-judge_command.ensures.local ∙ ap₂ with_subcommand program_is judge_is in
+    let run_is = ap (λ (a : App). a.top) c.in_ok-run_command.ensures.app in
     let second = c.in_ok-subcommand-2.ensures.shape c.in_ok-check_command.ensures.local ∙ ap₂ with_subcommand first check_is in
-    IfOk-weaker c.subcommand-3.result _ _ (λ command adds. adds.shape c.in_ok-replay_command.ensures.local ∙ ap₂ with_subcommand second replay_is) c.subcommand-3.ensures
+    let third = c.in_ok-subcommand-3.ensures.shape c.in_ok-replay_command.ensures.local ∙ ap₂ with_subcommand second replay_is in
+    IfOk-weaker c.subcommand-4.result _ _ (λ command adds. adds.shape c.in_ok-run_command.ensures.local ∙ ap₂ with_subcommand third run_is) c.subcommand-4.ensures
 
 pub returns-clause-local : goal.returns-clause-local
 returns-clause-local c =
-    IfOk-weaker c.subcommand-3.result _ _ (λ command adds. adds.globals ∙ search rules) c.subcommand-3.ensures
+    IfOk-weaker c.subcommand-4.result _ _ (λ command adds. adds.globals ∙ search rules) c.subcommand-4.ensures

@@ -5,6 +5,8 @@ use Rattle.tsobench.specs.Named.{name_in}
 use Rattle.tsobench.specs.Replaying.{IsReplayText}
 use Rattle.tsobench.proofs.EndFacts.{at_verdict, ends_by_report, opens_all, unnamed_read}
 use Rattle.tsobench.proofs.ReplayingFacts.{at_text, ends_by_text}
+use Rattle.tsobench.proofs.RunningFacts.{ends_run}
+use Rattle.tsobench.specs.Running.{IsRunText}
 use Rattle.tsobench.proofs.serving.serve.Goals as goal
 
 pub returns-in-Judge-clause-ends : goal.returns-in-Judge-clause-ends
@@ -33,3 +35,12 @@ returns-in-Replay-clause-first g c = rw c.in-Replay.is c.replay_named-replayed.e
 pub returns-in-Replay-clause-opened : goal.returns-in-Replay-clause-opened
 returns-in-Replay-clause-opened g c = λ other.
     rw c.in-Replay.is (at_text c.replay_named-replayed.result c.end_with.result _ _ _ c.end_with.ensures.fault c.replay_named-replayed.ensures.opened other)
+
+pub returns-in-Run-clause-ends : goal.returns-in-Run-clause-ends
+returns-in-Run-clause-ends g c =
+    let o : Outputs = outputs (g.W.Write.contents c.args.writer.now) (g.W.Write.contents c.run_named-ran.new.writer) (g.E.Write.contents c.args.errors.now) (g.E.Write.contents c.end_run.new.errors) in
+    let is_text = IsRunText c.in-Run.options (g.O.NamedFiles.bytes c.args.files.now c.in-Run.program.now) in
+    rw c.in-Run.is (ends_run is_text o c.run_named-ran.result c.end_run.result c.run_named-ran.ensures.text c.run_named-ran.ensures.fault c.end_run.ensures)
+
+pub returns-in-Run-clause-first : goal.returns-in-Run-clause-first
+returns-in-Run-clause-first g c = rw c.in-Run.is (opens_all _ _ _ c.run_named-ran.ensures.opened)

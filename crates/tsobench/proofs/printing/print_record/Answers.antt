@@ -1,7 +1,7 @@
 use Rattle.std.proofs.Common.{◌≡◌, ◌++◌, rules, string_bytes, subst}
 use Rattle.tso_report.specs.AccountTexts.{account_text}
 use Rattle.tso_report.specs.Reports.{IsTraceReport}
-use Rattle.tsobench.proofs.replaying.print_record.Goals as goal
+use Rattle.tsobench.proofs.printing.print_record.Goals as goal
 
 pub returns-clause-text : goal.returns-clause-text
 returns-clause-text g c =

@@ -1,0 +1,235 @@
+//! Runs with a thread per processor, by the arguments of the command line, with files in a folder of the test's own.
+
+use super::commands::{ended, new_folder, write};
+use super::{Ended, expect};
+use std::alloc::Global;
+use std::fs;
+use std::process::Abort;
+use std::rt::Files;
+use std::sync::Wait;
+use std::test::Fail;
+use std::thread::Threads;
+
+/// The texts of the folder.
+const TEXTS: [(&str, &str); 9] = [
+    ("nothing", "tso program 1\nend\n"),
+    ("torn", "tso program 1\nproc\n"),
+    ("forwarded", "tso program 1\nproc\nst 1 1\nld 1\nend\n"),
+    (
+        "swapping",
+        "tso program 1\nproc\nst 1 1\nst 2 2\nsw 1 3\nld 2\nend\n",
+    ),
+    (
+        "overwritten",
+        "tso program 1\nproc\nst 1 1\nst 1 2\nmb\nld 1\nend\n",
+    ),
+    ("drained", "tso program 1\nproc\nst 1 1\nmb\nld 1\nend\n"),
+    ("swaps", "tso program 1\nproc\nsw 1 1\nproc\nsw 1 2\nend\n"),
+    (
+        "barriers",
+        "tso program 1\nproc\nst 1 1\nmb\nld 2\nproc\nst 2 2\nmb\nld 1\nend\n",
+    ),
+    (
+        "independent_reads",
+        "tso program 1\nproc\nst 1 1\nproc\nst 2 2\nproc\nld 1\nld 2\nproc\nld 2\nld 1\nend\n",
+    ),
+];
+
+/// replay_forwarded: the only run of its program on a lawful unit.
+const FORWARDED: &str =
+    "TSO REPORT 1\nprocessors 1 events 2 rounds 0\nNO VIOLATION FOUND\naccount loads 1 stores 1 swaps 0 membars 0 drains 1 closed\n";
+
+const FORWARDED_RECORDED: &str = "tso trace 1\nproc\nst 1 1\nld 1 1\nend\n";
+
+/// replay_capacity_one: the only run of its program on a lawful unit.
+const SWAPPING: &str =
+    "TSO REPORT 1\nprocessors 1 events 5 rounds 1\nNO VIOLATION FOUND\naccount loads 1 stores 2 swaps 1 membars 0 drains 2 closed\n";
+
+const NOTHING: &str =
+    "TSO REPORT 1\nprocessors 0 events 0 rounds 0\nNO VIOLATION FOUND\naccount loads 0 stores 0 swaps 0 membars 0 drains 0 closed\n";
+
+/// replay_lost_drain: the only run of its program on that unit.
+const LOST: &str =
+    "TSO REPORT 1\nprocessors 1 events 2 rounds 0\nVIOLATION\n1 init 1 Init\n2 1 init Own\ncycle init 1\naccount loads 1 stores 1 swaps 0 membars 1 drains 1 closed\n";
+
+/// Arguments of a run, the status that they lead to, what is printed, and the errors.
+type Run = (&'static [&'static str], u8, &'static str, &'static str);
+
+const RUNS: [Run; 10] = [
+    (
+        &["--unit", "buffer", "--seed", "0", "@forwarded"],
+        0,
+        FORWARDED,
+        "",
+    ),
+    (
+        &["--unit", "serial", "--seed=7", "@forwarded"],
+        0,
+        FORWARDED,
+        "",
+    ),
+    (
+        &[
+            "@forwarded",
+            "--seed",
+            "18446744073709551615",
+            "--unit=buffer",
+            "--workers",
+            "64",
+        ],
+        0,
+        FORWARDED,
+        "",
+    ),
+    (
+        &["--trace", "--unit", "buffer", "--seed", "1", "@forwarded"],
+        0,
+        FORWARDED_RECORDED,
+        "",
+    ),
+    (
+        &[
+            "--capacity",
+            "1",
+            "--unit",
+            "buffer",
+            "--seed",
+            "2",
+            "@swapping",
+        ],
+        0,
+        SWAPPING,
+        "",
+    ),
+    (
+        &["--unit", "buffer", "--seed", "3", "@nothing"],
+        0,
+        NOTHING,
+        "",
+    ),
+    (
+        &["--unit", "serial", "--seed", "3", "--trace", "@nothing"],
+        0,
+        "tso trace 1\nend\n",
+        "",
+    ),
+    (
+        &["--unit", "lost-drain", "--seed", "4", "@drained"],
+        3,
+        LOST,
+        "",
+    ),
+    (
+        &["--unit", "buffer", "--seed", "5", "@torn"],
+        2,
+        "REFUSED MissingEnd line 3\n",
+        "",
+    ),
+    (
+        &["--unit", "buffer", "--seed", "6", "@missing"],
+        4,
+        "",
+        "FAULT Read\n",
+    ),
+];
+
+/// A folder with the texts.
+fn folder(rt: &HostRuntime, test: &str) -> Result<String, Fail> {
+    let path = new_folder(rt, test)?;
+    for (file, text) in TEXTS {
+        write(rt, path.as_str(), file, text)?;
+    }
+    Ok(path)
+}
+
+/// What the arguments of a run lead to, of which those that begin with `@` name files of the folder.
+fn ran<H: Threads + Wait + Sync + Files + AllocGlobal>(
+    rt: &H,
+    alloc: Global,
+    folder: &str,
+    arguments: &[&str],
+) -> Result<Ended, Fail> {
+    let mut all = Vec::from_array(alloc, ["run"])?;
+    all.extend_from_slice(arguments)?;
+    ended(rt, alloc, folder, &all)
+}
+
+#[test]
+fn runs_of_one_outcome(rt: HostRuntime) -> Result<(), Fail> {
+    let folder = folder(&rt, "runs")?;
+    for (arguments, status, output, errors) in RUNS {
+        let ended = ran(&rt, rt.alloc(), folder.as_str(), arguments)?;
+        expect(&rt, arguments, &ended, status, output, errors);
+    }
+    Ok(fs::remove_dir_all(&rt, folder.as_str())?)
+}
+
+/// The status of a run of the program in this file on this unit with this seed.
+fn status_of_run<H: Threads + Wait + Sync + Files + AllocGlobal>(
+    rt: &H,
+    alloc: Global,
+    folder: &str,
+    unit: &str,
+    file: &str,
+    seed: u64,
+) -> Result<u8, Fail> {
+    let seed = format!(in alloc; "{seed}")?;
+    let arguments = ["--unit", unit, "--seed", seed.as_str(), file];
+    Ok(ran(rt, alloc, folder, &arguments)?.status)
+}
+
+/// How many of the runs with these many seeds end with this status.
+fn count_status<H: Threads + Wait + Sync + Files + AllocGlobal>(
+    rt: &H,
+    alloc: Global,
+    folder: &str,
+    of: (&str, &str, u64),
+    status: u8,
+) -> Result<u64, Fail> {
+    let (unit, file, seeds) = of;
+    let mut count: u64 = 0;
+    for seed in 0..seeds {
+        if status_of_run(rt, alloc, folder, unit, file, seed)? == status {
+            count = count.saturating_add(1);
+        }
+    }
+    Ok(count)
+}
+
+/// A lawful unit, a program that shows what a faulty memory does, and a number of seeds.
+const LAWFUL: [(&str, &str, u64); 4] = [
+    ("serial", "@independent_reads", 20),
+    ("buffer", "@independent_reads", 20),
+    ("buffer", "@barriers", 50),
+    ("buffer", "@swaps", 50),
+];
+
+#[test]
+fn runs_on_lawful_units(rt: HostRuntime) -> Result<(), Fail> {
+    let folder = folder(&rt, "lawful_runs")?;
+    for (unit, file, seeds) in LAWFUL {
+        let found = count_status(&rt, rt.alloc(), folder.as_str(), (unit, file, seeds), 0)?;
+        assert!(rt; found == seeds, "{unit} {file}");
+    }
+    Ok(fs::remove_dir_all(&rt, folder.as_str())?)
+}
+
+/// A faulty unit, a program that can show its deviation, and a number of seeds.
+const FAULTY: [(&str, &str, u64); 6] = [
+    ("newest-first", "@overwritten", 50),
+    ("no-forward", "@forwarded", 50),
+    ("stale-load", "@drained", 50),
+    ("torn-swap", "@swaps", 50),
+    ("idle-membar", "@barriers", 200),
+    ("lost-drain", "@drained", 50),
+];
+
+#[test]
+fn runs_on_faulty_units(rt: HostRuntime) -> Result<(), Fail> {
+    let folder = folder(&rt, "faulty_runs")?;
+    for of in FAULTY {
+        let caught = count_status(&rt, rt.alloc(), folder.as_str(), of, 3)?;
+        assert!(rt; caught > 0, "{of:?}");
+    }
+    Ok(fs::remove_dir_all(&rt, folder.as_str())?)
+}
