@@ -4,9 +4,11 @@ ghost use Rattle.std.specs.Prelude.{◌≡◌, []};
 mod buffered;
 mod by_hand;
 mod calls;
+mod desks;
 mod drawn;
 mod ends;
 mod replayed;
+mod runs;
 
 use crate::{CallCounts, CountingUnit, RefusingUnit, issue_program};
 use std::alloc::{AllocError, Global};
@@ -16,6 +18,34 @@ use std::sync::atomic::Ordering;
 use tso_ops::{Op, Order, Outcome, Program, Trace, ValueFault};
 use unit_core::{Account, MemoryUnit, Recorded, conclude, conclude_over};
 use unit_kinds::SerialUnit;
+
+/// The account of another unit, of which nothing may stay.
+const OTHER: Account = Account {
+    loads: 90,
+    stores: 91,
+    swaps: 92,
+    membars: 93,
+    drains: 94,
+    closed: false,
+};
+
+/// The closed account of so many loads, stores, swaps and membars, with a drain for each store.
+fn closed(loads: usize, stores: usize, swaps: usize, membars: usize) -> Account {
+    Account {
+        loads,
+        stores,
+        swaps,
+        membars,
+        drains: stores,
+        closed: true,
+    }
+}
+
+/// Two processors that store and then load, each from the other's address.
+const STORES_THEN_LOADS: [&[Op]; 2] = [
+    &[Op::St { a: 1, v: 1 }, Op::Ld { a: 2 }],
+    &[Op::St { a: 2, v: 2 }, Op::Ld { a: 1 }],
+];
 
 /// A list of each row.
 fn lists_of<T: Copy>(alloc: Global, rows: &[&[T]]) -> Result<Vec<Vec<T>>, AllocError> {

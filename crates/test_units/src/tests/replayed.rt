@@ -3,8 +3,8 @@
 use super::by_hand::{expect_calls, new_log};
 use super::ends::counts_again;
 use super::{
-    BUFFERING, Counted, are_equal, drops_of, expect_account, expect_numbers, is_lawful, lists_of,
-    new_counts, numbers_of, program_of, trace_of,
+    BUFFERING, Counted, OTHER, are_equal, closed, drops_of, expect_account, expect_numbers,
+    is_lawful, lists_of, new_counts, numbers_of, program_of, trace_of,
 };
 use crate::{
     Call, CallCounts, CallLog, CountingUnit, ForwardingUnit, INVENTED, InventingUnit, RefusingUnit,
@@ -18,28 +18,6 @@ use tso_ops::{Op, Order, Outcome, Program, Trace, ValueFault};
 use tso_text::Act::{self, Drain, Issue};
 use unit_core::{Account, MemoryUnit, Recorded, replay, replay_over};
 use unit_kinds::SerialUnit;
-
-/// The account of another unit, of which nothing may stay.
-const OTHER: Account = Account {
-    loads: 90,
-    stores: 91,
-    swaps: 92,
-    membars: 93,
-    drains: 94,
-    closed: false,
-};
-
-/// The closed account of so many loads, stores, swaps and membars, with a drain for each store.
-fn closed(loads: usize, stores: usize, swaps: usize, membars: usize) -> Account {
-    Account {
-        loads,
-        stores,
-        swaps,
-        membars,
-        drains: stores,
-        closed: true,
-    }
-}
 
 /// Two stores of the first processor, which the second loads in the other order.
 const PASSING: [&[Op]; 2] = [
