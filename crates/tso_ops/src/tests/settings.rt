@@ -418,3 +418,86 @@ fn counts_at_the_limits_of_version_2(rt: HostRuntime) -> Result<(), Fail> {
     expect(&rt, "2,001 barriers in version 1", found, MANY);
     Ok(())
 }
+
+/// A program as a table writes it: its memory model, its first values and its lists.
+type Written = (Order, &'static [(u16, u64)], &'static [&'static [Op]]);
+
+const LISTS: [&[Op]; 2] = [&[Op::St { a: 1, v: 1 }, Op::Ld { a: 2 }], &[Op::Mb]];
+
+const COMPARED: Written = (Order::Tso, &[(1, 7)], &LISTS);
+
+/// Programs, and whether each is the same as `COMPARED`.
+const SAME: [(Written, bool); 9] = [
+    ((Order::Tso, &[(1, 7)], &LISTS), true),
+    ((Order::Pso, &[(1, 7)], &LISTS), false),
+    ((Order::Tso, &[], &LISTS), false),
+    ((Order::Tso, &[(1, 8)], &LISTS), false),
+    ((Order::Tso, &[(2, 7)], &LISTS), false),
+    ((Order::Tso, &[(1, 7), (2, 9)], &LISTS), false),
+    (
+        (
+            Order::Tso,
+            &[(1, 7)],
+            &[&[Op::St { a: 1, v: 2 }, Op::Ld { a: 2 }], &[Op::Mb]],
+        ),
+        false,
+    ),
+    (
+        (
+            Order::Tso,
+            &[(1, 7)],
+            &[&[Op::Ld { a: 2 }, Op::St { a: 1, v: 1 }], &[Op::Mb]],
+        ),
+        false,
+    ),
+    (
+        (
+            Order::Tso,
+            &[(1, 7)],
+            &[&[Op::St { a: 1, v: 1 }, Op::Ld { a: 2 }]],
+        ),
+        false,
+    ),
+];
+
+fn written_program(alloc: Global, written: Written) -> Result<Program, Fail> {
+    let (order, first, lists) = written;
+    let first = Vec::from_slice(alloc, first)?;
+    let lists = lists_of(alloc, lists)?;
+    Ok(Program::with_first(alloc, order, first, lists).map_err(|refused| refused.why)?)
+}
+
+/// Whether two programs are the same, whichever of them is asked.
+fn are_same(one: &Program, other: &Program) -> (bool, bool) {
+    (one.is_same(other), other.is_same(one))
+}
+
+#[test]
+fn programs_are_compared(rt: HostRuntime) -> Result<(), Fail> {
+    let compared = written_program(rt.alloc(), COMPARED)?;
+    for (written, same) in SAME {
+        let program = written_program(rt.alloc(), written)?;
+        expect(&rt, "same", are_same(&compared, &program), (same, same));
+    }
+    Ok(())
+}
+
+#[test]
+fn copies_and_programs_of_version_1_are_compared(rt: HostRuntime) -> Result<(), Fail> {
+    let compared = written_program(rt.alloc(), COMPARED)?;
+    expect(
+        &rt,
+        "a copy",
+        are_same(&compared, &compared.copy()?),
+        (true, true),
+    );
+    let ordered = idle_program(rt.alloc(), Order::Tso)?;
+    let first = written_program(rt.alloc(), (Order::Tso, &[], &[&[]]))?;
+    expect(
+        &rt,
+        "another version",
+        are_same(&ordered, &first),
+        (false, false),
+    );
+    Ok(())
+}
