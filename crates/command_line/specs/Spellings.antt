@@ -50,11 +50,11 @@ pub record AsksToReplay (arguments : List Text) (run : RunOptions) (program sche
   pub named : AreNamed run_names options
   pub asks : AsksRun options flags run
 
--- the options ask for this seed, in digits without a leading zero; none is the default
+-- the options ask for this seed, in digits without a leading zero; there is no default
 abbrev pub AsksSeed : List (Text × Text) → ℕ → Type 0
 AsksSeed options n = (option_value (codes "seed") options ≡ Some (decimal n)) × (n ≤ seed_limit)
 
--- the names of the options of a run with threads
+-- the names of the options of `run`
 abbrev pub seeded_names : List Text
 seeded_names = codes "seed" ∷ run_names
 

@@ -1,4 +1,4 @@
-//! The options that several subcommands take.
+//! The options of subcommands: those of a unit, those of a run, the seed.
 ghost use Rattle.std.specs.Prelude.{◌≡◌, false, IfOk};
 ghost use Rattle.clap.specs.Words.{app_of, rule_of};
 ghost use Rattle.clap.specs.declared.builder.command.Command.TheViews.{out-Command as fields_of};
