@@ -1,10 +1,13 @@
-//! Records of replays, judged.
+//! Records of replays and of runs, judged.
 
 ghost use Rattle.std.specs.Prelude.{◌≡◌, []};
 
 use super::FailingWriter;
+use issue_desk::{Issuers, OpenGate, run_over};
 use std::alloc::Global;
+use std::sync::Wait;
 use std::test::Fail;
+use std::thread::Threads;
 use test_units::InventingUnit;
 use tso_report::{Fault, Verdict, judge_recorded};
 use tso_text::{Act, read_program};
@@ -73,6 +76,48 @@ fn record_of_invented_answers(rt: HostRuntime) -> Result<(), Fail> {
     let verdict = judge_recorded(&rt, alloc, &recorded, &mut written, 1)?;
     assert_eq!(rt; verdict, Verdict::Violation);
     assert_eq!(rt; written.as_slice(), report.as_bytes());
+    Ok(())
+}
+
+/// A run of the text of a program on a unit that has taken no step.
+fn ran<H: Threads + Wait + Sync, U: MemoryUnit + Send>(
+    rt: &H,
+    alloc: Global,
+    unit: U,
+    text: &str,
+) -> Result<Recorded, Fail>
+    requires { (U.value_of unit).steps ≡ [] }
+{
+    let program = read_program(alloc, text.as_bytes())?;
+    let issuers = Issuers {
+        gate: &OpenGate,
+        drain_seed: 1,
+    };
+    let mut account = Account::new();
+    Ok(run_over(rt, alloc, &program, unit, issuers, &mut account)?)
+}
+
+/// The verdict of a record, and its report.
+fn judged<H: Threads + Wait + Sync>(
+    rt: &H,
+    alloc: Global,
+    recorded: &Recorded,
+) -> Result<(Verdict, Vec<u8>), Fault> {
+    let mut written = Vec::new(alloc);
+    let verdict = judge_recorded(rt, alloc, recorded, &mut written, 1)?;
+    Ok((verdict, written))
+}
+
+#[test]
+fn run_of_invented_answers(rt: HostRuntime) -> Result<(), Fail> {
+    let alloc = rt.alloc();
+    let text = "tso program 1\nproc\nst 1 1\nld 1\nend\n";
+    let report = "TSO REPORT 1\nprocessors 1 events 2 rounds 0\nVIOLATION\nunwritten 2\n";
+    let recorded = ran(&rt, alloc, InventingUnit::new(alloc)?, text)?;
+    assert!(rt; !recorded.lawful());
+    let (verdict, written) = judged(&rt, alloc, &recorded)?;
+    assert!(rt; verdict == Verdict::Violation);
+    assert!(rt; written.as_slice() == report.as_bytes());
     Ok(())
 }
 
