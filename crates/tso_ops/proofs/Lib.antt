@@ -1,4 +1,5 @@
 pub mod CheckFacts
+pub mod DrawFacts
 pub mod EntryFacts
 pub mod EventFacts
 pub mod LimitFacts
@@ -9,3 +10,4 @@ pub mod RefusalFacts
 pub mod SameFacts
 pub mod TableFacts
 pub mod TallyFacts
+pub mod WordFacts

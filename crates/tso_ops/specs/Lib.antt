@@ -1,3 +1,4 @@
+pub mod Drawing
 pub mod Events
 pub mod Internal
 pub mod Limits

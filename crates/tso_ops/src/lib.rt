@@ -3,16 +3,19 @@
 //! A program or a trace keeps its limits: whoever holds one needs no check of its own. `README.md` says what is proved.
 #![tactic(auto)]
 
+pub use drawing::make_program;
 pub use events::{Event, Source};
 pub use faults::{OutOfMemory, Refused, RefusedFirst, ValueFault};
 pub use limits::Tally;
 pub use ops::{Op, Outcome};
 pub use programs::Program;
 pub use settings::{Order, Version};
+pub use shapes::Shape;
 pub use traces::Trace;
 
 mod checks;
 mod comparing;
+mod drawing;
 mod events;
 mod faults;
 pub mod laws;
@@ -21,6 +24,7 @@ mod masks;
 mod ops;
 mod programs;
 mod settings;
+mod shapes;
 mod tables;
 #[cfg(test)]
 mod tests;

@@ -1,0 +1,121 @@
+-- Lemmas on drawn operations: a program of a shape keeps the limits.
+use Rattle.std.proofs.Common.{◌≡◌, ◌∙◌, sym, ap, refl, ℕ, zero, suc, ◌+◌, ◌*◌, ◌<◌, ◌≤◌, ◌^◌, ◌&&◌, Bool, true, false, not, cond, nat_eq, List, [], ◌∷◌, ◌++◌, length, map, Option, Some, None, All, arith, add-one}
+use Rattle.std.specs.Prelude.{nat_lt}
+use Rattle.std.specs.List.{list_any, range_with_len}
+use Rattle.std.specs.Option.{option_to_list}
+use Rattle.std.proofs.lemmas.Bool.{false≢true}
+use Rattle.std.proofs.lemmas.Bool.Decides.{nat_tests}
+use Rattle.std.proofs.lemmas.List.{append-nil}
+use Rattle.std.proofs.lemmas.List.Elements.{All-nil, All-push}
+use Rattle.std.proofs.lemmas.List.Folds.{list_any_none}
+use Rattle.std.proofs.lemmas.List.FromFn.{length-map-range_with_len}
+use Rattle.rand_core.specs.Stream.{Stream, next_u64}
+use Rattle.tso_ops.specs.declared.ops.Op.{Op}
+use Rattle.tso_ops.specs.declared.ops.Op.TheVariants.{Ld, St, Sw, Mb}
+use Rattle.tso_ops.specs.declared.settings.Order.TheVariants.{Tso}
+use Rattle.tso_ops.specs.Settings.{plain}
+use Rattle.tso_ops.specs.Values.{program_of_lists}
+use Rattle.tso_ops.specs.Limits.{event_count, barrier_count, address_of, stored_by, total_events, total_barriers, stored_values, is_past_addresses, is_stbar_in_tso, KeepsLimits, IsProgram}
+use Rattle.tso_ops.specs.Drawing.{ShapeValue, IsShape, size_of, after_words, draws_write, op_of_kind}
+use Rattle.tso_ops.specs.Internal.Draws.{writes_of, next_op, next_ops, ops_of_processor}
+use Rattle.tso_ops.proofs.EntryFacts.{KeepsEntries-nil}
+use Rattle.tso_ops.proofs.LimitFacts.{IsStorable, IsAdmissible, KeepsLimits-nil, KeepsLimits-push, stored_values-push, total_events-push, total_barriers-push}
+use Rattle.tso_ops.proofs.WordFacts.{writes_of-none, writes_of-more, writes_of-le, next_ops-more, ops_of_processors}
+
+-- what is known of a drawn operation
+pub record IsDrawn (value : ℕ) (writes : Bool) (op : Op) : Type 0 where
+  pub events : event_count op ≤ 2
+  pub barriers : barrier_count op ≤ 1
+  pub in_range : is_past_addresses (address_of op) ≡ false
+  pub no_stbar : is_stbar_in_tso Tso op ≡ false
+  pub stored : stored_by op ≡ cond writes (Some value) None
+
+-- by the answers of the three tests
+by_tests : (load store swap : Bool) (a v : ℕ) → a < 256 → (store ≡ true → swap ≡ true) →
+    IsDrawn v (not load && swap) (cond load (Ld a) (cond store (St a v) (cond swap (Sw a v) Mb)))
+by_tests true store swap a v within implies =
+    record { events = omega arith; barriers = omega arith; in_range = grind (arith, nat_tests); no_stbar = refl; stored = refl }
+by_tests false true true a v within implies =
+    record { events = omega arith; barriers = omega arith; in_range = grind (arith, nat_tests); no_stbar = refl; stored = refl }
+by_tests false true false a v within implies = absurd (false≢true (implies refl))
+by_tests false false true a v within implies =
+    record { events = omega arith; barriers = omega arith; in_range = grind (arith, nat_tests); no_stbar = refl; stored = refl }
+by_tests false false false a v within implies = record { events = omega arith; barriers = omega arith; in_range = refl; no_stbar = refl; stored = refl }
+
+is_store-is_write : (kind : ℕ) → nat_lt kind 13 ≡ true → nat_lt kind 15 ≡ true
+is_store-is_write kind store = grind (arith, nat_tests)
+
+op_of_kind-IsDrawn : (kind a v : ℕ) → a < 256 → IsDrawn v (not (nat_lt kind 7) && nat_lt kind 15) (op_of_kind kind a v)
+op_of_kind-IsDrawn kind a v within = by_tests (nat_lt kind 7) (nat_lt kind 13) (nat_lt kind 15) a v within (is_store-is_write kind)
+
+next_op-IsDrawn : (addresses last : ℕ) (s : Stream) (k : ℕ) → 1 ≤ addresses → addresses ≤ 256 →
+    IsDrawn (last + writes_of k s + 1) (draws_write (next_u64 (after_words k s)).0) (next_op addresses last s k)
+next_op-IsDrawn addresses last s k some most = op_of_kind-IsDrawn _ _ _ (omega arith)
+
+-- a value above all that were stored may be stored
+above_all : (values : List ℕ) (last v : ℕ) → All (λ x. x ≤ last) values → last < v → list_any (nat_eq v) values ≡ false
+above_all values last v below above = list_any_none (nat_eq v) values (λ k d within. let x = below k d within in grind (arith, nat_tests))
+
+storable : (values : List ℕ) (last : ℕ) (writes : Bool) (stored : Option ℕ) → stored ≡ cond writes (Some (last + 1)) None → last + 1 < 2 ^ 64 →
+    All (λ x. x ≤ last) values → IsStorable [] values stored
+storable values last true stored is fits below = rw is record {
+  non_zero = grind (arith, nat_tests);
+  new = above_all values last (last + 1) below (omega arith);
+  fits = λ w same. let v_w : last + 1 ≡ w = cc in omega (arith, v_w, fits);
+}
+storable values last false stored is fits below = rw is record { non_zero = refl; new = refl; fits = λ w same. absurd cc }
+
+values-next : (values : List ℕ) (last : ℕ) (writes : Bool) (stored : Option ℕ) → stored ≡ cond writes (Some (last + 1)) None →
+    All (λ x. x ≤ last) values → All (λ x. x ≤ last + cond writes 1 0) (values ++ option_to_list stored)
+values-next values last true stored is below =
+    rw is (All-push (λ x. x ≤ last + 1) values (last + 1) (λ k d within. let x = below k d within in omega arith) (omega arith))
+values-next values last false stored is below = rw (is, append-nil) (λ k d within. let x = below k d within in omega arith)
+
+-- what the operations of the first n words keep
+record KeepsDrawn (addresses : ℕ) (s : Stream) (n : ℕ) : Type 0 where
+  limits : KeepsLimits plain (next_ops addresses 0 s n)
+  events : total_events (next_ops addresses 0 s n) ≤ 2 * n
+  barriers : total_barriers (next_ops addresses 0 s n) ≤ n
+  values : All (λ v. v ≤ writes_of n s) (stored_values (next_ops addresses 0 s n))
+
+KeepsDrawn-none : (addresses : ℕ) (s : Stream) → KeepsDrawn addresses s 0
+KeepsDrawn-none addresses s = record { limits = KeepsLimits-nil plain; events = omega arith; barriers = omega arith; values = All-nil _ }
+
+KeepsDrawn-more : (addresses : ℕ) (s : Stream) (n : ℕ) → 1 ≤ addresses → addresses ≤ 256 → n < 1000 → KeepsDrawn addresses s n → KeepsDrawn addresses s (n + 1)
+KeepsDrawn-more addresses s n some most few kept =
+    let ops = next_ops addresses 0 s n in
+    let op = next_op addresses 0 s n in
+    let last = writes_of n s in
+    let drawn = next_op-IsDrawn addresses 0 s n some most in
+    let writes = draws_write (next_u64 (after_words n s)).0 in
+    let start : 0 + last + 1 ≡ last + 1 = omega arith in
+    let stored : stored_by op ≡ cond writes (Some (last + 1)) None = drawn.stored ∙ ap (λ v. cond writes (Some v) None) start in
+    let low = writes_of-le n s in
+    let may : IsAdmissible plain ops op = record {
+      few_events = omega (arith, kept.events, drawn.events);
+      few_barriers = omega (arith, kept.barriers, drawn.barriers);
+      in_range = drawn.in_range;
+      storable = storable (stored_values ops) last writes (stored_by op) stored (omega (arith, low)) kept.values;
+      no_stbar = drawn.no_stbar;
+    } in
+    rw (next_ops-more addresses 0 s n) record {
+      limits = KeepsLimits-push plain ops op kept.limits may;
+      events = rw total_events-push (omega (arith, kept.events, drawn.events));
+      barriers = rw total_barriers-push (omega (arith, kept.barriers, drawn.barriers));
+      values = rw (stored_values-push, writes_of-more n s) (values-next (stored_values ops) last writes (stored_by op) stored kept.values);
+    }
+
+KeepsDrawn-all : (addresses : ℕ) (s : Stream) (n : ℕ) → 1 ≤ addresses → addresses ≤ 256 → n ≤ 1000 → KeepsDrawn addresses s n
+KeepsDrawn-all addresses s zero some most few = KeepsDrawn-none addresses s
+KeepsDrawn-all addresses s (suc n) some most few =
+    rw (add-one n) (KeepsDrawn-more addresses s n some most (omega arith) (KeepsDrawn-all addresses s n some most (omega arith)))
+
+-- the operations of a shape within its limits are those of a program
+pub IsProgram-drawn : (shape : ShapeValue) (s : Stream) → IsShape shape →
+    IsProgram (program_of_lists plain (map (ops_of_processor shape s) (range_with_len 0 shape.processors)))
+IsProgram-drawn shape s is = record {
+  processors = omega (arith, length-map-range_with_len (ops_of_processor shape s) 0 shape.processors, is.most_processors);
+  version_one = λ _. refl;
+  entries = KeepsEntries-nil;
+  limits = rw (ops_of_processors shape s shape.processors) (KeepsDrawn-all shape.addresses s (size_of shape) is.some_addresses is.most_addresses is.most_operations).limits;
+}
