@@ -1,5 +1,5 @@
 -- Lemmas on drawn operations: a program of a shape keeps the limits.
-use Rattle.std.proofs.Common.{◌≡◌, ◌∙◌, sym, ap, refl, ℕ, zero, suc, ◌+◌, ◌*◌, ◌<◌, ◌≤◌, ◌^◌, ◌&&◌, Bool, true, false, not, cond, nat_eq, List, [], ◌∷◌, ◌++◌, length, map, Option, Some, None, All, arith, add-one}
+use Rattle.std.proofs.Common.{◌≡◌, ◌∙◌, sym, ap, refl, subst, ℕ, zero, suc, ◌+◌, ◌*◌, ◌/◌, ◌%◌, ◌<◌, ◌≤◌, ◌^◌, ◌&&◌, Bool, true, false, not, cond, nat_eq, List, [], ◌∷◌, ◌++◌, length, map, Option, Some, None, All, arith, add-one, zero-add}
 use Rattle.std.specs.Prelude.{nat_lt}
 use Rattle.std.specs.List.{list_any, range_with_len}
 use Rattle.std.specs.Option.{option_to_list}
@@ -48,9 +48,11 @@ is_store-is_write kind store = grind (arith, nat_tests)
 op_of_kind-IsDrawn : (kind a v : ℕ) → a < 256 → IsDrawn v (not (nat_lt kind 7) && nat_lt kind 15) (op_of_kind kind a v)
 op_of_kind-IsDrawn kind a v within = by_tests (nat_lt kind 7) (nat_lt kind 13) (nat_lt kind 15) a v within (is_store-is_write kind)
 
-next_op-IsDrawn : (addresses last : ℕ) (s : Stream) (k : ℕ) → 1 ≤ addresses → addresses ≤ 256 →
-    IsDrawn (last + writes_of k s + 1) (draws_write (next_u64 (after_words k s)).0) (next_op addresses last s k)
-next_op-IsDrawn addresses last s k some most = op_of_kind-IsDrawn _ _ _ (omega arith)
+next_op-IsDrawn : (addresses : ℕ) (s : Stream) (k : ℕ) → 1 ≤ addresses → addresses ≤ 256 →
+    IsDrawn (writes_of k s + 1) (draws_write (next_u64 (after_words k s)).0) (next_op addresses 0 s k)
+next_op-IsDrawn addresses s k some most =
+    let word = (next_u64 (after_words k s)).0 in
+    rw (zero-add (writes_of k s)) (op_of_kind-IsDrawn (word % 16) (word / 16 % addresses) (writes_of k s + 1) (omega arith))
 
 -- a value above all that were stored may be stored
 above_all : (values : List ℕ) (last v : ℕ) → All (λ x. x ≤ last) values → last < v → list_any (nat_eq v) values ≡ false
@@ -71,44 +73,43 @@ values-next values last true stored is below =
     rw is (All-push (λ x. x ≤ last + 1) values (last + 1) (λ k d within. let x = below k d within in omega arith) (omega arith))
 values-next values last false stored is below = rw (is, append-nil) (λ k d within. let x = below k d within in omega arith)
 
--- what the operations of the first n words keep
-record KeepsDrawn (addresses : ℕ) (s : Stream) (n : ℕ) : Type 0 where
-  limits : KeepsLimits plain (next_ops addresses 0 s n)
-  events : total_events (next_ops addresses 0 s n) ≤ 2 * n
-  barriers : total_barriers (next_ops addresses 0 s n) ≤ n
-  values : All (λ v. v ≤ writes_of n s) (stored_values (next_ops addresses 0 s n))
+-- n drawn operations keep the limits, and stored no value above the last
+record KeepsDrawn (n last : ℕ) (ops : List Op) : Type 0 where
+  limits : KeepsLimits plain ops
+  events : total_events ops ≤ 2 * n
+  barriers : total_barriers ops ≤ n
+  values : All (λ v. v ≤ last) (stored_values ops)
 
-KeepsDrawn-none : (addresses : ℕ) (s : Stream) → KeepsDrawn addresses s 0
-KeepsDrawn-none addresses s = record { limits = KeepsLimits-nil plain; events = omega arith; barriers = omega arith; values = All-nil _ }
-
-KeepsDrawn-more : (addresses : ℕ) (s : Stream) (n : ℕ) → 1 ≤ addresses → addresses ≤ 256 → n < 1000 → KeepsDrawn addresses s n → KeepsDrawn addresses s (n + 1)
-KeepsDrawn-more addresses s n some most few kept =
-    let ops = next_ops addresses 0 s n in
-    let op = next_op addresses 0 s n in
-    let last = writes_of n s in
-    let drawn = next_op-IsDrawn addresses 0 s n some most in
-    let writes = draws_write (next_u64 (after_words n s)).0 in
-    let start : 0 + last + 1 ≡ last + 1 = omega arith in
-    let stored : stored_by op ≡ cond writes (Some (last + 1)) None = drawn.stored ∙ ap (λ v. cond writes (Some v) None) start in
-    let low = writes_of-le n s in
+KeepsDrawn-push : (n last : ℕ) (ops : List Op) (writes : Bool) (op : Op) → n < 1000 → last ≤ n → IsDrawn (last + 1) writes op → KeepsDrawn n last ops →
+    KeepsDrawn (n + 1) (last + cond writes 1 0) (ops ++ op ∷ [])
+KeepsDrawn-push n last ops writes op few low drawn kept =
     let may : IsAdmissible plain ops op = record {
       few_events = omega (arith, kept.events, drawn.events);
       few_barriers = omega (arith, kept.barriers, drawn.barriers);
       in_range = drawn.in_range;
-      storable = storable (stored_values ops) last writes (stored_by op) stored (omega (arith, low)) kept.values;
+      storable = storable (stored_values ops) last writes (stored_by op) drawn.stored (omega arith) kept.values;
       no_stbar = drawn.no_stbar;
     } in
-    rw (next_ops-more addresses 0 s n) record {
+    record {
       limits = KeepsLimits-push plain ops op kept.limits may;
       events = rw total_events-push (omega (arith, kept.events, drawn.events));
       barriers = rw total_barriers-push (omega (arith, kept.barriers, drawn.barriers));
-      values = rw (stored_values-push, writes_of-more n s) (values-next (stored_values ops) last writes (stored_by op) stored kept.values);
+      values = rw stored_values-push (values-next (stored_values ops) last writes (stored_by op) drawn.stored kept.values);
     }
 
-KeepsDrawn-all : (addresses : ℕ) (s : Stream) (n : ℕ) → 1 ≤ addresses → addresses ≤ 256 → n ≤ 1000 → KeepsDrawn addresses s n
-KeepsDrawn-all addresses s zero some most few = KeepsDrawn-none addresses s
-KeepsDrawn-all addresses s (suc n) some most few =
-    rw (add-one n) (KeepsDrawn-more addresses s n some most (omega arith) (KeepsDrawn-all addresses s n some most (omega arith)))
+next_ops-KeepsDrawn-more : (addresses : ℕ) (s : Stream) (n : ℕ) → 1 ≤ addresses → addresses ≤ 256 → n < 1000 → KeepsDrawn n (writes_of n s) (next_ops addresses 0 s n) →
+    KeepsDrawn (n + 1) (writes_of (n + 1) s) (next_ops addresses 0 s (n + 1))
+next_ops-KeepsDrawn-more addresses s n some most few kept =
+    rw (writes_of-more n s, next_ops-more addresses 0 s n)
+    (KeepsDrawn-push n (writes_of n s) (next_ops addresses 0 s n) (draws_write (next_u64 (after_words n s)).0) (next_op addresses 0 s n) few (writes_of-le n s)
+    (next_op-IsDrawn addresses s n some most) kept)
+
+next_ops-KeepsDrawn : (addresses : ℕ) (s : Stream) (n : ℕ) → 1 ≤ addresses → addresses ≤ 256 → n ≤ 1000 → KeepsDrawn n (writes_of n s) (next_ops addresses 0 s n)
+next_ops-KeepsDrawn addresses s zero some most few =
+    record { limits = KeepsLimits-nil plain; events = omega arith; barriers = omega arith; values = All-nil _ }
+next_ops-KeepsDrawn addresses s (suc n) some most few =
+    subst (λ m. KeepsDrawn m (writes_of m s) (next_ops addresses 0 s m)) (add-one n)
+    (next_ops-KeepsDrawn-more addresses s n some most (omega arith) (next_ops-KeepsDrawn addresses s n some most (omega arith)))
 
 -- the operations of a shape within its limits are those of a program
 pub IsProgram-drawn : (shape : ShapeValue) (s : Stream) → IsShape shape →
@@ -117,5 +118,5 @@ IsProgram-drawn shape s is = record {
   processors = omega (arith, length-map-range_with_len (ops_of_processor shape s) 0 shape.processors, is.most_processors);
   version_one = λ _. refl;
   entries = KeepsEntries-nil;
-  limits = rw (ops_of_processors shape s shape.processors) (KeepsDrawn-all shape.addresses s (size_of shape) is.some_addresses is.most_addresses is.most_operations).limits;
+  limits = rw (ops_of_processors shape s shape.processors) (next_ops-KeepsDrawn shape.addresses s (size_of shape) is.some_addresses is.most_addresses is.most_operations).limits;
 }

@@ -1,5 +1,5 @@
 -- Lemmas on the words of a stream and on the operations that they draw.
-use Rattle.std.proofs.Common.{◌≡◌, ◌∙◌, sym, ap, refl, ℕ, zero, suc, ◌+◌, ◌*◌, ◌<◌, ◌≤◌, cond, List, [], ◌∷◌, ◌++◌, length, map, take, get_or, arith, append_assoc, zero-add, suc-add, add-one}
+use Rattle.std.proofs.Common.{◌≡◌, ◌∙◌, sym, ap, refl, ℕ, zero, suc, ◌+◌, ◌*◌, ◌<◌, ◌≤◌, ◌^◌, cond, List, [], ◌∷◌, ◌++◌, length, map, take, get_or, arith, append_assoc, zero-add, suc-add, add-one}
 use Rattle.std.specs.List.{count_by, flat_map, range_with_len}
 use Rattle.std.proofs.Math.Nat.{mul-le-mul_left, zero-mul, suc-mul}
 use Rattle.std.proofs.lemmas.List.{append-nil}
@@ -10,7 +10,7 @@ use Rattle.rand_core.specs.Stream.{Stream, next_u64}
 use Rattle.tso_ops.specs.declared.ops.Op.{Op}
 use Rattle.tso_ops.specs.Settings.{plain}
 use Rattle.tso_ops.specs.Values.{program_of_lists}
-use Rattle.tso_ops.specs.Drawing.{ShapeValue, size_of, words_of, after_words, draws_write, drawn_op, op_at_word, drawn_program}
+use Rattle.tso_ops.specs.Drawing.{ShapeValue, IsShape, size_of, words_of, after_words, draws_write, drawn_op, op_at_word, drawn_program}
 use Rattle.tso_ops.specs.Internal.Draws.{writes_of, next_op, next_ops, ops_of_processor}
 
 -- ---- words
@@ -74,6 +74,16 @@ writes_of-le n s = omega (arith, count_by-le-length draws_write (words_of n s), 
 pub next_ops-more : (addresses last : ℕ) (s : Stream) (n : ℕ) → next_ops addresses last s (n + 1) ≡ next_ops addresses last s n ++ next_op addresses last s n ∷ []
 next_ops-more addresses last s n = map-range_with_len_more (next_op addresses last s) 0 n n (omega arith)
 
+-- one more operation, drawn from the word that comes next
+pub next_ops-next : (addresses last now : ℕ) (s rest : Stream) (n : ℕ) (ops : List Op) (op : Op) → ops ≡ next_ops addresses last s n → rest ≡ after_words n s →
+    now ≡ last + writes_of n s → op ≡ drawn_op addresses (now + 1) (next_u64 rest).0 → ops ++ op ∷ [] ≡ next_ops addresses last s (n + 1)
+next_ops-next addresses last now s rest n ops op ops_are before same op_is =
+    let first = next_ops addresses last s n in
+    ap (λ more. more ++ op ∷ []) ops_are
+    ∙ ap (λ o. first ++ o ∷ [])
+    (op_is ∙ ap (λ v. drawn_op addresses (v + 1) (next_u64 rest).0) same ∙ ap (λ t. drawn_op addresses (last + writes_of n s + 1) (next_u64 t).0) before)
+    ∙ sym (next_ops-more addresses last s n)
+
 -- word n + k is word k of those after the first n
 next_op-add : (addresses last : ℕ) (s : Stream) (n k : ℕ) → next_op addresses last s (n + k) ≡ next_op addresses (last + writes_of n s) (after_words n s) k
 next_op-add addresses last s n k =
@@ -94,7 +104,7 @@ next_ops-add addresses last s n (suc k) =
     ∙ ap (λ ops. ops ++ next_op addresses last s (n + k) ∷ []) (next_ops-add addresses last s n k)
     ∙ append_assoc first (next_ops addresses from rest k) (next_op addresses last s (n + k) ∷ [])
     ∙ ap (λ op. first ++ (next_ops addresses from rest k ++ op ∷ [])) (next_op-add addresses last s n k)
-    ∙ ap (λ ops. first ++ ops) (sym (next_ops-more addresses from rest k) ∙ ap (next_ops addresses from rest) (sym (add-one k)))
+    ∙ ap (λ ops. first ++ ops) (sym (next_ops-more addresses from rest k) ∙ ap (next_ops addresses from rest) (add-one k))
 
 -- the processors' operations, one list after another
 pub ops_of_processors : (shape : ShapeValue) (s : Stream) (n : ℕ) →
@@ -106,7 +116,7 @@ ops_of_processors shape s (suc n) =
     let before = map (ops_of_processor shape s) (range_with_len 0 n) in
     let last = ops_of_processor shape s n in
     let from : writes_of i s ≡ 0 + writes_of i s = omega arith in
-    ap (λ m. flat_map (λ ops. ops) (map (ops_of_processor shape s) (range_with_len 0 m))) (add-one n)
+    ap (λ m. flat_map (λ ops. ops) (map (ops_of_processor shape s) (range_with_len 0 m))) (sym (add-one n))
     ∙ ap (flat_map (λ ops. ops)) (map-range_with_len_more (ops_of_processor shape s) 0 n n (omega arith))
     ∙ flat_map-append (λ ops. ops) before (last ∷ [])
     ∙ ap (λ ops. flat_map (λ ops. ops) before ++ ops) (append-nil last)
@@ -114,6 +124,39 @@ ops_of_processors shape s (suc n) =
     ∙ ap (λ v. next_ops addresses 0 s i ++ next_ops addresses v (after_words i s) shape.operations) from
     ∙ sym (next_ops-add addresses 0 s i shape.operations)
     ∙ ap (next_ops addresses 0 s) (sym (suc-mul n shape.operations))
+
+-- ---- the processors that were drawn
+
+-- the number of words of one processor more
+words_of_processors : (shape : ShapeValue) (n : ℕ) → (n + 1) * shape.operations ≡ n * shape.operations + shape.operations
+words_of_processors shape n = omega arith
+
+pub after_processors-more : (shape : ShapeValue) (s rest : Stream) (n : ℕ) → rest ≡ after_words (n * shape.operations) s →
+    after_words shape.operations rest ≡ after_words ((n + 1) * shape.operations) s
+after_processors-more shape s rest n before =
+    ap (after_words shape.operations) before ∙ sym (after_words-add (n * shape.operations) shape.operations s) ∙ ap (λ i. after_words i s) (sym (words_of_processors shape n))
+
+pub writes_of_processors-more : (shape : ShapeValue) (s rest : Stream) (n last : ℕ) → rest ≡ after_words (n * shape.operations) s → last ≡ writes_of (n * shape.operations) s →
+    last + writes_of shape.operations rest ≡ writes_of ((n + 1) * shape.operations) s
+writes_of_processors-more shape s rest n last before same =
+    ap (λ v. v + writes_of shape.operations rest) same ∙ ap (λ t. writes_of (n * shape.operations) s + writes_of shape.operations t) before
+    ∙ sym (writes_of-add (n * shape.operations) shape.operations s) ∙ ap (λ i. writes_of i s) (sym (words_of_processors shape n))
+
+pub processors-more : (shape : ShapeValue) (s rest : Stream) (n last : ℕ) (lists : List (List Op)) (ops : List Op) → rest ≡ after_words (n * shape.operations) s →
+    last ≡ writes_of (n * shape.operations) s → lists ≡ map (ops_of_processor shape s) (range_with_len 0 n) → ops ≡ next_ops shape.addresses last rest shape.operations →
+    lists ++ ops ∷ [] ≡ map (ops_of_processor shape s) (range_with_len 0 (n + 1))
+processors-more shape s rest n last lists ops before same lists_are ops_are =
+    ap (λ more. more ++ ops ∷ []) lists_are
+    ∙ ap (λ row. map (ops_of_processor shape s) (range_with_len 0 n) ++ row ∷ [])
+    (ops_are ∙ ap (λ v. next_ops shape.addresses v rest shape.operations) same ∙ ap (λ t. next_ops shape.addresses (writes_of (n * shape.operations) s) t shape.operations) before)
+    ∙ sym (map-range_with_len_more (ops_of_processor shape s) 0 n n (omega arith))
+
+-- no value that is drawn is past 64 bits
+pub last_value_fits : (shape : ShapeValue) (s : Stream) (n last : ℕ) → IsShape shape → n < shape.processors → last ≡ writes_of (n * shape.operations) s →
+    last + shape.operations < 2 ^ 64
+last_value_fits shape s n last is within same =
+    let room : shape.operations * suc n ≤ shape.operations * shape.processors = mul-le-mul_left shape.operations (omega arith) in
+    omega (arith, same, writes_of-le (n * shape.operations) s, room, is.most_operations)
 
 -- ---- the program of the words
 

@@ -4,6 +4,7 @@ use std::fmt::Debug;
 use std::process::Abort;
 use std::test::Fail;
 
+mod drawing;
 mod settings;
 
 const LOAD: Outcome = Outcome::Ld { a: 0, r: 0 };
@@ -72,7 +73,7 @@ enum Row {
     Readers(usize),
 }
 
-fn words_of(trace: &Trace, row: Row) -> &[u64] {
+fn row_words(trace: &Trace, row: Row) -> &[u64] {
     match row {
         Row::Loads(a) => trace.load_words(a),
         Row::Stores(a) => trace.store_words(a),
@@ -87,7 +88,7 @@ fn words_of(trace: &Trace, row: Row) -> &[u64] {
 
 fn expect_rows(rt: &impl Abort, trace: &Trace, rows: &[(Row, &[u64])]) {
     for (row, wanted) in rows {
-        assert_eq!(rt; words_of(trace, *row), *wanted, "{row:?}");
+        assert_eq!(rt; row_words(trace, *row), *wanted, "{row:?}");
     }
 }
 
