@@ -1,5 +1,5 @@
 -- Lemmas on drawn operations: a program of a shape keeps the limits.
-use Rattle.std.proofs.Common.{◌≡◌, ◌∙◌, sym, ap, refl, subst, ℕ, zero, suc, ◌+◌, ◌*◌, ◌/◌, ◌%◌, ◌<◌, ◌≤◌, ◌^◌, ◌&&◌, Bool, true, false, not, cond, nat_eq, List, [], ◌∷◌, ◌++◌, length, map, Option, Some, None, All, arith, add-one, zero-add}
+use Rattle.std.proofs.Common.{◌≡◌, refl, subst, ℕ, zero, suc, ◌+◌, ◌*◌, ◌/◌, ◌%◌, ◌<◌, ◌≤◌, ◌^◌, ◌&&◌, Bool, true, false, not, cond, nat_eq, List, [], ◌∷◌, ◌++◌, map, Option, Some, None, All, arith, add-one, zero-add}
 use Rattle.std.specs.Prelude.{nat_lt}
 use Rattle.std.specs.List.{list_any, range_with_len}
 use Rattle.std.specs.Option.{option_to_list}
@@ -20,7 +20,7 @@ use Rattle.tso_ops.specs.Drawing.{ShapeValue, IsShape, size_of, after_words, dra
 use Rattle.tso_ops.specs.Internal.Draws.{writes_of, next_op, next_ops, ops_of_processor}
 use Rattle.tso_ops.proofs.EntryFacts.{KeepsEntries-nil}
 use Rattle.tso_ops.proofs.LimitFacts.{IsStorable, IsAdmissible, KeepsLimits-nil, KeepsLimits-push, stored_values-push, total_events-push, total_barriers-push}
-use Rattle.tso_ops.proofs.WordFacts.{writes_of-none, writes_of-more, writes_of-le, next_ops-more, ops_of_processors}
+use Rattle.tso_ops.proofs.WordFacts.{writes_of-more, writes_of-le, next_ops-more, ops_of_processors}
 
 -- what is known of a drawn operation
 pub record IsDrawn (value : ℕ) (writes : Bool) (op : Op) : Type 0 where

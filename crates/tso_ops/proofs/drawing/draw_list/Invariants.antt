@@ -1,5 +1,5 @@
-use Rattle.std.proofs.Common.{◌≡◌, ◌+◌, ◌<◌, ◌≤◌, ◌^◌}
-use Rattle.tso_ops.specs.Drawing.{IsShape, after_words}
+use Rattle.std.proofs.Common.{◌≡◌, ◌+◌}
+use Rattle.tso_ops.specs.Drawing.{after_words}
 use Rattle.tso_ops.specs.Internal.Draws.{next_ops, writes_of}
 use Rattle.tso_ops.proofs.drawing.draw_list.Given as goal
 

@@ -1,4 +1,4 @@
-use Rattle.std.proofs.Common.{◌≡◌, ◌∙◌, ◌*◌, [], ◌∷◌, ap, sym, subst, map, arith, refl}
+use Rattle.std.proofs.Common.{◌≡◌, ◌∙◌, [], ◌∷◌, ap, sym, subst, map, arith, refl}
 use Rattle.std.specs.Global.{Vec}
 use Rattle.std.specs.List.{range_with_len}
 use Rattle.std.proofs.Math.Nat.{zero-mul}
@@ -7,8 +7,7 @@ use Rattle.tso_ops.specs.declared.ops.Op.{Op}
 use Rattle.tso_ops.specs.Settings.{plain}
 use Rattle.tso_ops.specs.Values.{rows, program_of_lists}
 use Rattle.tso_ops.specs.Limits.{IsProgram}
-use Rattle.tso_ops.specs.Drawing.{after_words}
-use Rattle.tso_ops.specs.Internal.Draws.{ops_of_processor, writes_of}
+use Rattle.tso_ops.specs.Internal.Draws.{ops_of_processor}
 use Rattle.tso_ops.proofs.WordFacts.{after_words-none, writes_of-none, after_processors-more, writes_of_processors-more, processors-more, last_value_fits, drawn_program-is}
 use Rattle.tso_ops.proofs.DrawFacts.{IsProgram-drawn}
 use Rattle.tso_ops.proofs.drawing.make_program.Goals as goal

@@ -1,7 +1,7 @@
 use Rattle.std.proofs.Common.{◌≡◌, ◌*◌, map}
 use Rattle.std.specs.List.{range_with_len}
 use Rattle.tso_ops.specs.Values.{rows}
-use Rattle.tso_ops.specs.Drawing.{IsShape, after_words}
+use Rattle.tso_ops.specs.Drawing.{after_words}
 use Rattle.tso_ops.specs.Internal.Draws.{ops_of_processor, writes_of}
 use Rattle.tso_ops.proofs.drawing.make_program.Given as goal
 
