@@ -118,5 +118,5 @@ IsProgram-drawn shape s is = record {
   processors = omega (arith, length-map-range_with_len (ops_of_processor shape s) 0 shape.processors, is.most_processors);
   version_one = λ _. refl;
   entries = KeepsEntries-nil;
-  limits = rw (ops_of_processors shape s shape.processors) (next_ops-KeepsDrawn shape.addresses s (size_of shape) is.some_addresses is.most_addresses is.most_operations).limits;
+  limits = rw (ops_of_processors shape s shape.processors) (next_ops-KeepsDrawn shape.addresses s (size_of shape) is.some_addresses is.most_addresses is.operations).limits;
 }

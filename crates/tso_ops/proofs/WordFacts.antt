@@ -156,7 +156,7 @@ pub last_value_fits : (shape : ShapeValue) (s : Stream) (n last : ℕ) → IsSha
     last + shape.operations < 2 ^ 64
 last_value_fits shape s n last is within same =
     let room : shape.operations * suc n ≤ shape.operations * shape.processors = mul-le-mul_left shape.operations (omega arith) in
-    omega (arith, same, writes_of-le (n * shape.operations) s, room, is.most_operations)
+    omega (arith, same, writes_of-le (n * shape.operations) s, room, is.operations)
 
 -- ---- the program of the words
 

@@ -27,7 +27,7 @@ pub record IsShape (shape : ShapeValue) : Type 0 where
   pub most_processors : shape.processors ≤ 16
   pub some_addresses : 1 ≤ shape.addresses
   pub most_addresses : shape.addresses ≤ 256
-  pub most_operations : size_of shape ≤ 1000
+  pub operations : size_of shape ≤ 1000
 
 -- the first n words of 64 bits that a generator gives
 unfoldable pub words_of : ℕ → Stream → List ℕ
