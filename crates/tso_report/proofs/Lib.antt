@@ -1,3 +1,4 @@
+pub mod CampaignFacts
 pub mod CheckFacts
 pub mod CollectFacts
 pub mod InputFacts

@@ -18,3 +18,7 @@ certificate_byte_limit = 67108864
 -- how many bytes of it are read at most
 abbrev pub certificate_read_limit : ℕ
 certificate_read_limit = suc certificate_byte_limit
+
+-- the greatest number of seeds of a campaign
+abbrev pub seed_count_limit : ℕ
+seed_count_limit = 1000

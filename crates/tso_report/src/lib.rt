@@ -6,6 +6,8 @@
 #![tactic(auto)]
 
 pub use account_rendering::print_account;
+pub use campaigns::seeds::seeded_program;
+pub use campaigns::{Drawn, MAX_SEEDS, campaign, campaign_over};
 pub use certificates::build_cert;
 pub use checking::{MAX_CERTIFICATE_BYTES, check_texts};
 pub use faults::Fault;
@@ -19,6 +21,7 @@ pub use streams::writing::write_text;
 pub use verdicts::Verdict;
 
 mod account_rendering;
+mod campaigns;
 mod cert_rendering;
 mod certificates;
 mod checking;

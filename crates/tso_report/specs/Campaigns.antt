@@ -1,0 +1,93 @@
+-- Campaigns: the program that a seed draws, what is said of a seed, and the text of a campaign.
+use Rattle.std.specs.Prelude.{◌≡◌, ℕ, suc, ◌+◌, ◌<◌, ◌≤◌, Bool, true, false, ◌&&◌, List, [], ◌∷◌, ◌++◌, length, map, get_or, codes, Option}
+use Rattle.std.specs.List.{count_by, list_any}
+use Rattle.std.specs.Fmt.{decimal}
+use Rattle.std.specs.Io.KnownBytes.{Keeps}
+use Rattle.rand_core.specs.Stream.{Stream}
+use Rattle.rand_core.specs.Steps.{stream_of, steps_u64_low}
+use Rattle.rand_core.specs.Pcg32Seed.{pcg32_seed}
+use Rattle.rand_pcg.specs.Pcg.{pcg64, pcg64_of_seed}
+use Rattle.tso_ops.specs.declared.settings.Order.TheVariants.{Tso}
+use Rattle.tso_ops.specs.Drawing.{ShapeValue, drawn_program, size_of, words_of}
+use Rattle.tso_ops.specs.Values.{ProgramValue, TraceValue, program_of}
+use Rattle.unit_core.specs.Records.{is_within}
+use Rattle.unit_core.specs.Units.{UnitValue}
+use Rattle.tso_report.specs.declared.faults.Fault.{Fault}
+use Rattle.tso_report.specs.declared.faults.Fault.TheVariants.{OutOfMemory, Read, Write, NoThread, Missing}
+use Rattle.tso_report.specs.declared.verdicts.Verdict.{Verdict}
+use Rattle.tso_report.specs.declared.verdicts.Verdict.TheVariants.{NoViolation, Violation}
+use Rattle.tso_report.specs.Reports.{IsTraceReport, no_violation_text}
+use Rattle.tso_report.specs.Written.{WritesPrefix}
+
+-- ---- the program of a seed
+
+-- what PCG64 gives from the seed
+abbrev pub stream_from : ℕ → Stream
+stream_from seed = stream_of (steps_u64_low pcg64) (pcg64_of_seed (pcg32_seed 32 seed))
+
+-- the program of the shape that its words draw
+abbrev pub program_of_seed : ShapeValue → ℕ → ProgramValue
+program_of_seed shape seed = drawn_program shape (words_of (size_of shape) (stream_from seed))
+
+-- ---- what is said of a seed
+
+-- the verdict on a trace, which is a violation or not
+abbrev pub verdict_of : Bool → Verdict
+verdict_of true = Violation
+verdict_of false = NoViolation
+
+-- It is the verdict of the report of a trace over the seed's program, and no violation where the unit is lawful.
+pub record IsVerdictOfSeed (shape : ShapeValue) (seed : ℕ) (lawful violation : Bool) : Type 0 where
+  pub trace : TraceValue
+  pub ops : program_of trace ≡ program_of_seed shape seed
+  pub text : List ℕ
+  pub report : IsTraceReport trace text (verdict_of violation)
+  pub no_false_alarm : lawful ≡ true → violation ≡ false
+
+-- whether a unit is lawful for programs under TSO, as those of seeds are
+abbrev pub is_lawful_unit : UnitValue → Bool
+is_lawful_unit unit = unit.lawful && is_within unit.order Tso
+
+-- ---- the text
+
+abbrev pub verdict_line : Bool → List ℕ
+verdict_line true = codes "VIOLATION" ++ 10 ∷ []
+verdict_line false = no_violation_text
+
+-- the line of a seed
+abbrev pub seed_line : ℕ → Bool → List ℕ
+seed_line seed violation = codes "seed " ++ decimal seed ++ codes " " ++ verdict_line violation
+
+-- the lines of the seeds from this one on
+abbrev pub seed_lines : ℕ → List Bool → List ℕ
+seed_lines seed [] = []
+seed_lines seed (violation ∷ violations) = seed_line seed violation ++ seed_lines (suc seed) violations
+
+-- the last line: how many seeds, and how many of them are violations
+abbrev pub total_line : List Bool → List ℕ
+total_line violations = codes "seeds " ++ decimal (length violations) ++ codes " violations " ++ decimal (count_by (λ violation. violation) violations) ++ 10 ∷ []
+
+-- the text of a campaign
+abbrev pub campaign_text : ℕ → List Bool → List ℕ
+campaign_text first violations = seed_lines first violations ++ total_line violations
+
+-- These are the verdicts of the seeds from this one on, a seed for each unit, of which it is known whether it is lawful.
+pub record AreVerdicts (shape : ShapeValue) (first : ℕ) (lawful violations : List Bool) : Type 0 where
+  pub one_each : length violations ≡ length lawful
+  pub each : (i : ℕ) → i < length lawful → IsVerdictOfSeed shape (first + i) (get_or lawful i false) (get_or violations i false)
+
+-- The text is that of a campaign from this seed on over units of which it is known whether they are lawful: a line for each seed in the order of the
+-- seeds, and the last line. The verdict is Violation where a line says so, else NoViolation.
+pub record IsCampaign (shape : ShapeValue) (first : ℕ) (lawful : List Bool) (text : List ℕ) (verdict : Verdict) : Type 0 where
+  pub violations : List Bool
+  pub verdicts : AreVerdicts shape first lawful violations
+  pub whole : text ≡ campaign_text first violations
+  pub says : verdict ≡ verdict_of (list_any (λ violation. violation) violations)
+
+-- What a fault leaves: on Write a prefix of the text, else nothing was written. A missing seed is one of the campaign. Nothing is read.
+abbrev pub LeavesCampaign : ShapeValue → ℕ → List Bool → Option (List ℕ) → Option (List ℕ) → Fault → Type 0
+LeavesCampaign shape first lawful old new OutOfMemory = Keeps old new
+LeavesCampaign shape first lawful old new Read = ⊥
+LeavesCampaign shape first lawful old new Write = WritesPrefix (IsCampaign shape first lawful) old new
+LeavesCampaign shape first lawful old new NoThread = Keeps old new
+LeavesCampaign shape first lawful old new (Missing seed) = (first ≤ seed) × (seed < first + length lawful) × Keeps old new

@@ -1,0 +1,121 @@
+//! Campaigns: a program drawn from each of many seeds, run on a unit of its own, and judged.
+ghost use Rattle.std.specs.Prelude.{◌≡◌, ◌≤◌, ◌+◌, ◌^◌, [], All, IfOk, IfErr, length, map};
+ghost use Rattle.std.specs.List.{list_any};
+ghost use Rattle.round_pool.specs.Workers.{worker_limit};
+ghost use Rattle.tso_report.specs.Campaigns.{IsCampaign, LeavesCampaign, is_lawful_unit, verdict_of};
+ghost use Rattle.tso_report.specs.Limits.{seed_count_limit};
+ghost use Rattle.tso_report.specs.Written.{WritesWhole};
+
+use crate::faults::Fault;
+use crate::streams::writing::write_text;
+use crate::verdicts::Verdict;
+use gathering::Gathered;
+use std::alloc::Global;
+use std::io::Write;
+use std::sync::Wait;
+use std::thread::Threads;
+use tso_ops::{Order, OutOfMemory, Shape};
+use unit_core::{MemoryUnit, is_lawful_under};
+use workers::gather;
+
+mod gathering;
+mod lines;
+pub(crate) mod seeds;
+mod workers;
+
+/// The greatest number of seeds of a campaign.
+pub const MAX_SEEDS: usize = 1000;
+
+/// Which programs a campaign runs: those of the seeds from `first` on, in one shape.
+#[derive(Clone, Copy, Debug)]
+pub struct Drawn {
+    pub first: u64,
+    pub shape: Shape,
+}
+
+/// Runs a campaign and writes its text: unit `i` serves seed `first + i`, whose program is that of `seeded_program`. It is
+/// run on the unit by a thread per processor, with drains by the same seed, and the record's trace is judged with one
+/// worker. `workers` threads (1 to 64) share the seeds.
+///
+/// The text has a line for each seed, in the order of the seeds, and a last line with their numbers; it is written after all
+/// results are in. The verdict is Violation where a line says so, else NoViolation. At most 1,000 units, none of which has
+/// taken a step, and the last seed is at most 2^64 - 1.
+///
+/// Faults, of several the first: OutOfMemory where a unit answered it or an allocation was refused; NoThread where the
+/// system refused a thread; Missing with the least seed of which no record was judged; with each nothing was written. Write
+/// where the writer failed, took no byte or was interrupted more than 1,048,576 times: then what was written is a prefix of
+/// the text. It may wait.
+pub fn campaign<R: Threads + Wait + Sync, W: Write>(
+    rt: &R,
+    alloc: Global,
+    drawn: Drawn,
+    units: Vec<Box<dyn MemoryUnit + Send>>,
+    workers: usize,
+    writer: &mut W,
+) -> Result<Verdict, Fault>
+    requires some { 1 ≤ workers }
+    requires most { workers ≤ worker_limit }
+    requires seeds { length units.items ≤ seed_count_limit }
+    requires last { drawn.first + length units.items ≤ 2 ^ 64 }
+    requires untouched { All (λ unit. (value_of unit).steps ≡ []) units.items }
+    ensures whole { IfOk result (WritesWhole (IsCampaign drawn.shape drawn.first (map (λ unit. is_lawful_unit (value_of unit)) units.items)) (W.contents writer.old) (W.contents writer.new)) }
+    ensures fault { IfErr result (LeavesCampaign drawn.shape drawn.first (map (λ unit. is_lawful_unit (value_of unit)) units.items) (W.contents writer.old) (W.contents writer.new)) }
+{
+    campaign_over(rt, alloc, drawn, units, workers, writer)
+}
+
+/// `campaign` over units of any one type.
+pub fn campaign_over<U: MemoryUnit + Send, R: Threads + Wait + Sync, W: Write>(
+    rt: &R,
+    alloc: Global,
+    drawn: Drawn,
+    units: Vec<U>,
+    workers: usize,
+    writer: &mut W,
+) -> Result<Verdict, Fault>
+    requires some { 1 ≤ workers }
+    requires most { workers ≤ worker_limit }
+    requires seeds { length units.items ≤ seed_count_limit }
+    requires last { drawn.first + length units.items ≤ 2 ^ 64 }
+    requires untouched { All (λ unit. (U.value_of unit).steps ≡ []) units.items }
+    ensures whole { IfOk result (WritesWhole (IsCampaign drawn.shape drawn.first (map (λ unit. is_lawful_unit (U.value_of unit)) units.items)) (W.contents writer.old) (W.contents writer.new)) }
+    ensures fault { IfErr result (LeavesCampaign drawn.shape drawn.first (map (λ unit. is_lawful_unit (U.value_of unit)) units.items) (W.contents writer.old) (W.contents writer.new)) }
+{
+    let lawful = lawful_units(alloc, &units)?;
+    let first = drawn.first;
+    let gathered = Gathered::new(alloc, drawn, lawful)?;
+    let gathered = gather(rt, alloc, gathered, units, workers)?;
+    let violations = gathered.violations(alloc)?;
+    let text = lines::campaign_text(alloc, first, &violations)?;
+    write_text(writer, text.as_bytes())?;
+    Ok(verdict_of(says_violation(&violations)))
+}
+
+/// Whether each unit is lawful for programs under TSO.
+fn lawful_units<U: MemoryUnit>(alloc: Global, units: &[U]) -> Result<Vec<bool>, OutOfMemory>
+    ensures { IfOk result (λ lawful. lawful.items ≡ map (λ unit. is_lawful_unit (U.value_of unit)) units.now) }
+{
+    let mut lawful = Vec::with_capacity(alloc, units.len())?;
+    for unit in units {
+        lawful.push(is_lawful_under(unit, Order::Tso))?;
+    }
+    Ok(lawful)
+}
+
+/// Whether a line of the seeds says VIOLATION.
+fn says_violation(violations: &[bool]) -> bool
+    ensures { result ≡ list_any (λ violation. violation) violations.now }
+{
+    violations.iter().any(|violation| *violation)
+}
+
+/// The verdict on a trace, which is a violation or not.
+fn verdict_of(violation: bool) -> Verdict
+    ensures { result ≡ verdict_of violation }
+{
+    if violation {
+        Verdict::Violation
+    } else {
+        Verdict::NoViolation
+    }
+}

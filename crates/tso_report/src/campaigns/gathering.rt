@@ -1,0 +1,154 @@
+//! What is known of a campaign's seeds while their results come in.
+ghost use Rattle.std.specs.Prelude.{◌≡◌, ◌≢◌, ◌⊎◌, ◌+◌, ◌<◌, ◌≤◌, ◌^◌, ℕ, false, None, IfOk, IfErr, IfSome, MatchOption, length, get_or, map, unwrap_or};
+ghost use Rattle.tso_report.specs.Campaigns.{AreVerdicts};
+ghost use Rattle.tso_report.specs.Internal.Gathering.{IsGathered, IsLeastMissing, KeepsSeeds};
+ghost use Rattle.tso_report.specs.declared.faults.Fault.{Fault};
+
+use super::Drawn;
+use super::seeds::{JobResult, Judged};
+use crate::faults::Fault;
+use std::alloc::Global;
+use std::marker::Model;
+use tso_ops::OutOfMemory;
+
+/// The verdicts of a campaign's seeds, as far as they came, and which faults came.
+#[derive(Drop)]
+pub(crate) struct Gathered {
+    drawn: Drawn,
+    /// Whether the unit of each seed is lawful.
+    lawful: Vec<bool>,
+    /// Whether the trace of each seed is a violation.
+    violations: Vec<Option<bool>>,
+    lacked_memory: bool,
+    lacked_thread: bool,
+}
+
+impl Model for Gathered {
+    ghost use Rattle.tso_report.specs.Internal.Gathering.{GatheredValue, IsGathered};
+
+    ghost Value = { GatheredValue };
+
+    ghost view = { λ g. record { shape = g.drawn.shape; first = g.drawn.first; lawful = g.lawful.items; violations = g.violations.items } };
+
+    ghost invariant = { λ g. IsGathered (record { shape = g.drawn.shape; first = g.drawn.first; lawful = g.lawful.items; violations = g.violations.items }) };
+}
+
+impl Gathered {
+    /// Nothing is known of these seeds; it is known of the unit of each whether it is lawful.
+    pub(crate) fn new(
+        alloc: Global,
+        drawn: Drawn,
+        lawful: Vec<bool>,
+    ) -> Result<Gathered, OutOfMemory>
+        requires { drawn.first + length lawful.items ≤ 2 ^ 64 }
+        ensures { IfOk result (λ g. (g.shape ≡ drawn.shape) × (g.first ≡ drawn.first) × (g.lawful ≡ lawful.items)) }
+    {
+        let violations = vec![in alloc; None; lawful.len()]?;
+        Ok(Gathered {
+            drawn,
+            lawful,
+            violations,
+            lacked_memory: false,
+            lacked_thread: false,
+        })
+    }
+
+    /// Which programs the campaign runs.
+    pub(crate) fn drawn(&self) -> Drawn
+        ensures { (result.shape ≡ self.now.shape) × (result.first ≡ self.now.first) }
+    {
+        self.drawn
+    }
+
+    /// Takes a result in. One of a strange seed is dropped, and so is a second one of a seed.
+    pub(crate) fn accept(&mut self, came: JobResult)
+        ensures { KeepsSeeds self.old self.new }
+    {
+        match came {
+            JobResult::Judged(judged) => self.accept_verdict(judged),
+            JobResult::Failed { seed, fault } => self.accept_fault(seed, fault),
+        }
+    }
+
+    /// Takes the verdict on a record in. That of a record that isn't lawful though the unit was is dropped.
+    fn accept_verdict(&mut self, judged: Judged)
+        ensures { KeepsSeeds self.old self.new }
+    {
+        let Some(i) = self.place_of(judged.seed()) else {
+            return;
+        };
+        if !judged.is_of_shape(&self.drawn.shape) || (self.lawful[i] && !judged.lawful()) {
+            return;
+        }
+        if self.violations[i].is_none() {
+            self.violations[i] = Some(judged.violation());
+        }
+    }
+
+    /// Takes the fault of a seed in. A run without a record leaves the seed missing.
+    fn accept_fault(&mut self, seed: u64, fault: Fault)
+        ensures { KeepsSeeds self.old self.new }
+    {
+        if self.place_of(seed).is_none() {
+            return;
+        }
+        match fault {
+            Fault::OutOfMemory => self.lacked_memory = true,
+            Fault::NoThread => self.lacked_thread = true,
+            Fault::Read | Fault::Write | Fault::Missing(_) => {}
+        }
+    }
+
+    /// The place of a seed, or None where it is a strange one.
+    fn place_of(&self, seed: u64) -> Option<usize>
+        ensures { IfSome result (λ i. (self.now.first + i ≡ seed) × (i < length self.now.lawful)) }
+    {
+        let after = seed.checked_sub(self.drawn.first)?;
+        if after < self.lawful.len() as u64 {
+            Some(after as usize)
+        } else {
+            None
+        }
+    }
+
+    /// The verdicts, in the order of the seeds. OutOfMemory where a result said so or an allocation was refused, NoThread
+    /// where a result said so; else Missing with the least seed that has no verdict.
+    pub(crate) fn violations(self, alloc: Global) -> Result<Vec<bool>, Fault>
+        ensures verdicts { IfOk result (λ violations. AreVerdicts self.shape self.first self.lawful violations.items) }
+        ensures fault { IfErr result (λ fault. (fault ≡ Fault.OutOfMemory) ⊎ (fault ≡ Fault.NoThread) ⊎ ((i : ℕ) × IsLeastMissing self.violations i × (fault ≡ Fault.Missing (self.first + i)))) }
+    {
+        if self.lacked_memory {
+            return Err(Fault::OutOfMemory);
+        }
+        if self.lacked_thread {
+            return Err(Fault::NoThread);
+        }
+        match least_missing(&self.violations) {
+            Some(i) => Err(Fault::Missing(self.drawn.first + i as u64)),
+            None => Ok(known(alloc, &self.violations)?),
+        }
+    }
+}
+
+/// The least place without a verdict.
+fn least_missing(violations: &[Option<bool>]) -> Option<usize>
+    ensures { MatchOption result ((i : ℕ) → i < length violations.now → get_or violations.now i None ≡ None → ⊥) (IsLeastMissing violations.now) }
+{
+    for i in 0..violations.len() {
+        if violations[i].is_none() {
+            return Some(i);
+        }
+    }
+    None
+}
+
+/// The verdicts, where all are known, or OutOfMemory where an allocation was refused.
+fn known(alloc: Global, violations: &[Option<bool>]) -> Result<Vec<bool>, OutOfMemory>
+    ensures { IfOk result (λ known. known.items ≡ map (λ violation. unwrap_or violation false) violations.now) }
+{
+    let mut known = Vec::with_capacity(alloc, violations.len())?;
+    for violation in violations {
+        known.push(violation.unwrap_or(false))?;
+    }
+    Ok(known)
+}

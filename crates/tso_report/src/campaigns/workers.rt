@@ -1,0 +1,154 @@
+//! The threads that do a campaign's jobs, and the channels between them and the caller's thread.
+ghost use Rattle.std.specs.Prelude.{◌≡◌, ◌⊎◌, ◌+◌, ◌≤◌, ◌^◌, [], All, IfOk, IfErr, length};
+ghost use Rattle.tso_report.specs.Limits.{seed_count_limit};
+ghost use Rattle.tso_report.specs.Internal.Gathering.{KeepsSeeds};
+ghost use Rattle.tso_report.specs.declared.faults.Fault.{Fault};
+
+use super::gathering::Gathered;
+use super::seeds::{Job, JobResult, job_of, result_of};
+use crate::faults::Fault;
+use crossbeam_channel::{Receiver, Sender, bounded};
+use std::alloc::Global;
+use std::sync::Wait;
+use std::thread;
+use std::thread::{Scope, Threads};
+use tso_ops::Shape;
+use unit_core::MemoryUnit;
+
+/// The ends of the channels that a worker has: jobs come in by one, their results go out by the other.
+#[derive(Drop)]
+struct Ends<U: MemoryUnit> {
+    jobs: Receiver<Job<U>>,
+    results: Sender<JobResult>,
+}
+
+/// Has the jobs of all seeds done by `workers` threads, and takes their results in. With no seed no thread is started.
+///
+/// Faults: OutOfMemory where an allocation was refused; NoThread where the system refused a thread, and then no job was
+/// sent. On every return all threads are joined.
+pub(super) fn gather<U: MemoryUnit + Send, R: Threads + Wait + Sync>(
+    rt: &R,
+    alloc: Global,
+    gathered: Gathered,
+    units: Vec<U>,
+    workers: usize,
+) -> Result<Gathered, Fault>
+    requires most { length units.items ≤ seed_count_limit }
+    requires one_each { length units.items ≡ length gathered.lawful }
+    requires untouched { All (λ unit. (U.value_of unit).steps ≡ []) units.items }
+    ensures seeds { IfOk result (KeepsSeeds gathered) }
+    ensures fault { IfErr result (λ fault. (fault ≡ Fault.OutOfMemory) ⊎ (fault ≡ Fault.NoThread)) }
+{
+    if units.is_empty() {
+        return Ok(gathered);
+    }
+    thread::scope(
+        thread::scope_env(),
+        rt,
+        |scope| -> Result<Gathered, Fault>
+            requires most { length units.items ≤ seed_count_limit }
+            requires one_each { length units.items ≡ length gathered.lawful }
+            requires untouched { All (λ unit. (U.value_of unit).steps ≡ []) units.items }
+            ensures seeds { IfOk result (KeepsSeeds gathered) }
+            ensures fault { IfErr result (λ fault. (fault ≡ Fault.OutOfMemory) ⊎ (fault ≡ Fault.NoThread)) }
+        { gather_in(scope, rt, alloc, gathered, units, workers) },
+    )
+}
+
+fn gather_in<'s, E, U: MemoryUnit + Send + 's, R: Threads + Wait + Sync>(
+    scope: &'s Scope<'s, E>,
+    rt: &'s R,
+    alloc: Global,
+    gathered: Gathered,
+    units: Vec<U>,
+    workers: usize,
+) -> Result<Gathered, Fault>
+    requires most { length units.items ≤ seed_count_limit }
+    requires one_each { length units.items ≡ length gathered.lawful }
+    requires untouched { All (λ unit. (U.value_of unit).steps ≡ []) units.items }
+    ensures seeds { IfOk result (KeepsSeeds gathered) }
+    ensures fault { IfErr result (λ fault. (fault ≡ Fault.OutOfMemory) ⊎ (fault ≡ Fault.NoThread)) }
+{
+    let drawn = gathered.drawn();
+    let (to_workers, jobs) = bounded(alloc, workers)?;
+    let (results, from_workers) = bounded(alloc, units.len())?;
+    start_workers(
+        scope,
+        rt,
+        alloc,
+        drawn.shape,
+        Ends { jobs, results },
+        workers,
+    )?;
+    send_jobs(rt, to_workers, drawn.first, units);
+    Ok(receive_results(rt, from_workers, gathered))
+}
+
+/// Starts the workers, each with ends of its own. NoThread where the system refused a thread.
+fn start_workers<'s, E, U: MemoryUnit + Send + 's, R: Threads + Wait + Sync>(
+    scope: &'s Scope<'s, E>,
+    rt: &'s R,
+    alloc: Global,
+    shape: Shape,
+    ends: Ends<U>,
+    workers: usize,
+) -> Result<(), Fault>
+    ensures { IfErr result (λ fault. (fault ≡ Fault.OutOfMemory) ⊎ (fault ≡ Fault.NoThread)) }
+{
+    for _ in 0..workers {
+        let own = Ends {
+            jobs: ends.jobs.clone()?,
+            results: ends.results.clone()?,
+        };
+        let Ok(_) = scope.spawn(move || work(rt, alloc, shape, own)) else {
+            return Err(Fault::NoThread);
+        };
+    }
+    Ok(())
+}
+
+/// Does jobs as long as some come.
+fn work<U: MemoryUnit + Send, R: Threads + Wait + Sync>(
+    rt: &R,
+    alloc: Global,
+    shape: Shape,
+    ends: Ends<U>,
+) {
+    for _ in rt.forever() {
+        let Ok(job) = ends.jobs.recv(rt) else {
+            return;
+        };
+        let _ = ends.results.send(rt, result_of(rt, alloc, shape, job));
+    }
+}
+
+/// Sends the jobs of the seeds from `first` on.
+fn send_jobs<U: MemoryUnit, R: Wait>(rt: &R, to_workers: Sender<Job<U>>, first: u64, units: Vec<U>)
+    requires most { length units.items ≤ seed_count_limit }
+    requires last { first + length units.items ≤ 2 ^ 64 }
+    requires untouched { All (λ unit. (U.value_of unit).steps ≡ []) units.items }
+{
+    let mut after: u64 = 0;
+    for unit in units {
+        let _ = to_workers.send(rt, job_of(first + after, unit));
+        after += 1;
+    }
+}
+
+/// Takes results in until they end.
+fn receive_results<R: Wait>(
+    rt: &R,
+    from_workers: Receiver<JobResult>,
+    gathered: Gathered,
+) -> Gathered
+    ensures { KeepsSeeds gathered result }
+{
+    let mut gathered = gathered;
+    for _ in rt.forever() {
+        let Ok(result) = from_workers.recv(rt) else {
+            break;
+        };
+        gathered.accept(result);
+    }
+    gathered
+}
