@@ -11,7 +11,9 @@ use Rattle.clap.specs.declared.parser.matches.Found.{Found}
 use Rattle.clap.specs.declared.builder.value_parser.ValueParser.TheVariants as parser
 use Rattle.clap.proofs.ValueTestLemmas.{accepts-Accepts, Accepts-accepts}
 use Rattle.clap.proofs.WalkLemmas.{first_value-rows, one_text-rows}
+use Rattle.command_line.specs.declared.options.CampaignOptions.{CampaignOptions}
 use Rattle.command_line.specs.declared.options.RunOptions.{RunOptions}
+use Rattle.command_line.specs.declared.options.ShapeNumbers.{ShapeNumbers}
 use Rattle.command_line.specs.declared.options.UnitOptions.{UnitOptions}
 use Rattle.command_line.specs.Requests.{Text, replaying, running}
 use Rattle.command_line.specs.Internal.Computed.{number_in, number_of}
@@ -78,6 +80,15 @@ module _ (unit wanted : UnitOptions) (kind : unit.kind ≡ wanted.kind) (capacit
 module _ (options wanted : RunOptions) (unit : options.unit ≡ wanted.unit) (workers : options.workers ≡ wanted.workers) (trace : options.prints_trace ≡ wanted.prints_trace) where
   pub run_options_are : options ≡ wanted
   run_options_are = rw (unit, workers, trace) refl
+
+module _ (shape wanted : ShapeNumbers) (processors : shape.processors ≡ wanted.processors) (operations : shape.operations ≡ wanted.operations) (addresses : shape.addresses ≡ wanted.addresses) where
+  pub shape_numbers_are : shape ≡ wanted
+  shape_numbers_are = rw (processors, operations, addresses) refl
+
+module _ (options wanted : CampaignOptions) (unit : options.unit ≡ wanted.unit) (workers : options.workers ≡ wanted.workers)
+    (first : options.first ≡ wanted.first) (count : options.count ≡ wanted.count) (shape : options.shape ≡ wanted.shape) where
+  pub campaign_options_are : options ≡ wanted
+  campaign_options_are = rw (unit, workers, first, count, shape) refl
 
 module _ (options wanted : RunOptions) (program wanted_program schedule wanted_schedule : Text) where
   pub replaying_are : options ≡ wanted → program ≡ wanted_program → schedule ≡ wanted_schedule → replaying options program schedule ≡ replaying wanted wanted_program wanted_schedule

@@ -12,10 +12,10 @@ use Rattle.clap.specs.declared.error.kind.ErrorKind.TheVariants.{DisplayHelp, In
 use Rattle.clap.specs.declared.error.Error.{Error}
 use Rattle.clap.proofs.ValueTestLemmas.{accepts-Accepts, Accepts-accepts}
 use Rattle.round_pool.specs.Workers.{worker_limit}
-use Rattle.command_line.specs.Requests.{Text, Asked, asked_of, capacity_limit, seed_limit, showing}
+use Rattle.command_line.specs.Requests.{Text, Asked, asked_of, capacity_limit, number_limit, showing}
 use Rattle.command_line.specs.declared.requests.Request.{Request}
-use Rattle.command_line.specs.Commands.{AskFlag, AskNumber, AskRun, AskSeed, AskUnit, AskWorkers, IsAskedBy, IsAskedByMatches, IsAskedFor, UnitNames, asked_at, tsobench_app}
-use Rattle.command_line.specs.Internal.Computed.{IsFoundBy, asked_by, asked_in, flag_in, number_in, number_of, parsed_as, run_in, seed_in, unit_in, within, workers_in}
+use Rattle.command_line.specs.Commands.{AskCampaign, AskFlag, AskNumber, AskRequired, AskRun, AskShape, AskUnit, AskWorkers, IsAskedBy, IsAskedByMatches, IsAskedFor, UnitNames, asked_at, tsobench_app}
+use Rattle.command_line.specs.Internal.Computed.{IsFoundBy, asked_by, asked_in, campaign_in, flag_in, number_in, number_of, parsed_as, required_in, run_in, shape_in, unit_in, within, workers_in}
 use Rattle.command_line.specs.Units.{default_capacity, default_trigger, trigger_limit, unit_kind, unit_names}
 use Rattle.command_line.specs.declared.options.UnitKind.TheVariants.{Serial}
 use Rattle.command_line.proofs.KindLemmas.{asked_by_error}
@@ -58,23 +58,39 @@ ask_unit rows = record {
 ask_run : (rows : List Row) → AskRun rows (run_in rows)
 ask_run rows = record { unit = ask_unit rows; workers = ask_workers rows; trace = ask_flag (codes "trace") rows }
 
-ask_seed : (rows : List Row) → AskSeed rows (seed_in rows)
-ask_seed rows = record {
+ask_required : (name : Text) (rows : List Row) → AskRequired name rows (required_in name rows)
+ask_required name rows = record {
   named = λ text is e.
       let read : number_in 0 text ≡ digits_value 10 (without_leading_plus text) = rw e refl in
       ap (λ o. option_map_or (number_in 0) o 0) is ∙ read;
-  within = go (one_of (codes "seed") rows);
+  within = go (one_of name rows);
 }
   where
-    spelled : (text : Text) (b : Bool) → is_unsigned_in 0 seed_limit text ≡ b → number_in 0 text ≤ seed_limit
+    spelled : (text : Text) (b : Bool) → is_unsigned_in 0 number_limit text ≡ b → number_in 0 text ≤ number_limit
     spelled text true e =
-        let passes = accepts-Accepts false (parser.Unsigned 0 seed_limit) text e in
+        let passes = accepts-Accepts false (parser.Unsigned 0 number_limit) text e in
         rw e passes.3
     spelled text false e = rw e (omega arith)
 
-    go : (text : Option Text) → option_map_or (number_in 0) text 0 ≤ seed_limit
+    go : (text : Option Text) → option_map_or (number_in 0) text 0 ≤ number_limit
     go None = omega arith
-    go (Some text) = spelled text (is_unsigned_in 0 seed_limit text) refl
+    go (Some text) = spelled text (is_unsigned_in 0 number_limit text) refl
+
+ask_shape : (rows : List Row) → AskShape rows (shape_in rows)
+ask_shape rows = record {
+  processors = ask_required (codes "procs") rows;
+  operations = ask_required (codes "ops") rows;
+  addresses = ask_required (codes "addrs") rows;
+}
+
+ask_campaign : (rows : List Row) → AskCampaign rows (campaign_in rows)
+ask_campaign rows = record {
+  unit = ask_unit rows;
+  workers = ask_workers rows;
+  first = ask_required (codes "first") rows;
+  count = ask_required (codes "count") rows;
+  shape = ask_shape rows;
+}
 
 matched : (found : Option (Text × List Row)) (asked : Asked) → asked ≡ asked_by found → IsAskedByMatches found asked
 matched None asked is = is
@@ -82,7 +98,9 @@ matched (Some found) asked is = record {
   judge = λ name. (workers_in found.1, ask_workers found.1, is ∙ ap (λ (t : Text). asked_in t found.1) name);
   check = λ name. is ∙ ap (λ (t : Text). asked_in t found.1) name;
   replay = λ name. (run_in found.1, ask_run found.1, is ∙ ap (λ (t : Text). asked_in t found.1) name);
-  run = λ name. (run_in found.1, seed_in found.1, ask_run found.1, ask_seed found.1, is ∙ ap (λ (t : Text). asked_in t found.1) name);
+  run = λ name. (run_in found.1, required_in (codes "seed") found.1, ask_run found.1, ask_required (codes "seed") found.1, is ∙ ap (λ (t : Text). asked_in t found.1) name);
+  make = λ name. (required_in (codes "seed") found.1, shape_in found.1, ask_required (codes "seed") found.1, ask_shape found.1, is ∙ ap (λ (t : Text). asked_in t found.1) name);
+  campaign = λ name. (campaign_in found.1, ask_campaign found.1, is ∙ ap (λ (t : Text). asked_in t found.1) name);
 }
 
 found_asked : (kinds : Kinds) (found : Option (Text × List Row)) (asked : Asked) → IsFoundBy kinds found asked → IsAskedBy kinds found asked
@@ -136,21 +154,30 @@ module _ (units : UnitNames) where
     of_run : bytes_eq name (codes "run") ≡ true → IsAskedBelow (first ∷ name ∷ []) asked
     of_run e = help_named (codes "run") e (λ found. by_kind _ asked _ _ (program.run_help_shown units) found) (program.run_help_called units)
 
+    of_make : bytes_eq name (codes "make") ≡ true → IsAskedBelow (first ∷ name ∷ []) asked
+    of_make e = help_named (codes "make") e (λ found. by_kind _ asked _ _ (program.make_help_shown units) found) (program.make_help_called units)
+
+    of_campaign : bytes_eq name (codes "campaign") ≡ true → IsAskedBelow (first ∷ name ∷ []) asked
+    of_campaign e = help_named (codes "campaign") e (λ found. by_kind _ asked _ _ (program.campaign_help_shown units) found) (program.campaign_help_called units)
+
     of_check : bytes_eq name (codes "check") ≡ true → IsAskedBelow (first ∷ name ∷ []) asked
     of_check e = help_named (codes "check") e (λ found. by_kind _ asked _ _ (program.check_help_shown units) found) (program.check_help_called units)
 
   two_asked : (first name : Text) (asked : Asked) → IsFound units (first ∷ name ∷ []) asked → IsAskedBelow (first ∷ name ∷ []) asked
   two_asked first name asked is =
-      go (bytes_eq first (codes "help")) (bytes_eq name (codes "judge")) (bytes_eq name (codes "check")) (bytes_eq name (codes "replay")) (bytes_eq name (codes "run")) refl refl refl refl refl
+      go (bytes_eq first (codes "help")) (bytes_eq name (codes "judge")) (bytes_eq name (codes "check")) (bytes_eq name (codes "replay")) (bytes_eq name (codes "run"))
+      (bytes_eq name (codes "make")) (bytes_eq name (codes "campaign")) refl refl refl refl refl refl refl
     where
-      go : (h j c r u : Bool) → bytes_eq first (codes "help") ≡ h → bytes_eq name (codes "judge") ≡ j → bytes_eq name (codes "check") ≡ c → bytes_eq name (codes "replay") ≡ r
-          → bytes_eq name (codes "run") ≡ u → IsAskedBelow (first ∷ name ∷ []) asked
-      go false j c r u e f g k l = as_given (first ∷ name ∷ []) asked (rw e refl) is
-      go true true c r u e f g k l = of_judge first name asked is e f
-      go true false true r u e f g k l = of_check first name asked is e g
-      go true false false true u e f g k l = of_replay first name asked is e k
-      go true false false false true e f g k l = of_run first name asked is e l
-      go true false false false false e f g k l = as_given (first ∷ name ∷ []) asked (rw (e, f, g, k, l) refl) is
+      go : (h j c r u m p : Bool) → bytes_eq first (codes "help") ≡ h → bytes_eq name (codes "judge") ≡ j → bytes_eq name (codes "check") ≡ c → bytes_eq name (codes "replay") ≡ r
+          → bytes_eq name (codes "run") ≡ u → bytes_eq name (codes "make") ≡ m → bytes_eq name (codes "campaign") ≡ p → IsAskedBelow (first ∷ name ∷ []) asked
+      go false j c r u m p e f g k l n o = as_given (first ∷ name ∷ []) asked (rw e refl) is
+      go true true c r u m p e f g k l n o = of_judge first name asked is e f
+      go true false true r u m p e f g k l n o = of_check first name asked is e g
+      go true false false true u m p e f g k l n o = of_replay first name asked is e k
+      go true false false false true m p e f g k l n o = of_run first name asked is e l
+      go true false false false false true p e f g k l n o = of_make first name asked is e n
+      go true false false false false false true e f g k l n o = of_campaign first name asked is e o
+      go true false false false false false false e f g k l n o = as_given (first ∷ name ∷ []) asked (rw (e, f, g, k, l, n, o) refl) is
 
   parsed_asked : (arguments : List Text) (asked : Asked) → IsFound units arguments asked → IsAskedBelow arguments asked
   parsed_asked [] asked is = as_given [] asked refl is

@@ -52,7 +52,7 @@ standing rows pending position = record {
 pub takes_a_value : {rules : List Rule} {a : Rule} → TakesOne rules a → takes_values a ≡ true
 takes_a_value takes = rw takes.most refl
 
-takes_no_value : {rules : List Rule} {a : Rule} {name : Text} → IsFlag rules a name → takes_values a ≡ false
+pub takes_no_value : {rules : List Rule} {a : Rule} {name : Text} → IsFlag rules a name → takes_values a ≡ false
 takes_no_value is = rw is.most refl
 
 pub and_false : (b : Bool) → (b && false) ≡ false
@@ -88,7 +88,7 @@ module _ (s : Shape) where
     unfolding walked
     joined_walked name value is = rw (is.no_escape_joined value, is.long_joined value, is.by_long, is.takes.most) refl
 
-    flag_walked : (name : Text) → IsFlag s.rules a name → walked s.rules [] (standing rows pending position) (codes "--" ++ name) ≡ standing (used a [] (settled_in pending rows)) None position
+    pub flag_walked : (name : Text) → IsFlag s.rules a name → walked s.rules [] (standing rows pending position) (codes "--" ++ name) ≡ standing (used a [] (settled_in pending rows)) None position
     unfolding walked
     flag_walked name is = rw (is.no_escape, is.long, is.by_long, is.most) refl
 
@@ -110,7 +110,7 @@ module _ (s : Shape) where
           → turn_fault s [] (standing rows pending position) (codes "--" ++ name ++ codes "=" ++ value) ≡ []
       joined_fault name value is passes = rw (is.no_escape_joined value, is.long_joined value, is.by_long, takes_a_value is.takes, settles, passes) refl
 
-      flag_fault : (name : Text) → IsFlag s.rules a name → use_fault s.args_override_self a [] (settled_in pending rows) ≡ []
+      pub flag_fault : (name : Text) → IsFlag s.rules a name → use_fault s.args_override_self a [] (settled_in pending rows) ≡ []
           → turn_fault s [] (standing rows pending position) (codes "--" ++ name) ≡ []
       flag_fault name is passes = rw (is.no_escape, is.long, is.by_long, takes_no_value is, settles, passes) refl
 
@@ -144,7 +144,7 @@ pub record EndsWith (s : Shape) (rows : List Row) (from : Walk) (arguments : Lis
   pub settles : settle_fault s.rules s.args_override_self (fold (walked s.rules []) from arguments).held ≡ []
   pub rows_are : (settled s.rules (fold (walked s.rules []) from arguments).held).rows ≡ rows
 
-both_empty : (first second : Kinds) → or_else first second ≡ [] → (first ≡ []) × (second ≡ [])
+pub both_empty : (first second : Kinds) → or_else first second ≡ [] → (first ≡ []) × (second ≡ [])
 both_empty [] second is = (refl, is)
 both_empty (k ∷ ks) second is =
     let bad : ⊥ = cc in

@@ -85,8 +85,32 @@ module _ (units : UnitNames) where
   unfolding clap_on_literals
   run_help_called = refl
 
+  pub make_help_shown : fault_of (tsobench_app units) (codes "make" ∷ codes "--help" ∷ []) ≡ DisplayHelp ∷ []
+  unfolding clap_on_literals
+  make_help_shown = refl
+
+  pub make_short_shown : fault_of (tsobench_app units) (codes "make" ∷ codes "-h" ∷ []) ≡ DisplayHelp ∷ []
+  unfolding clap_on_literals
+  make_short_shown = refl
+
+  pub make_help_called : fault_of (tsobench_app units) (codes "help" ∷ codes "make" ∷ []) ≡ DisplayHelp ∷ InvalidSubcommand ∷ []
+  unfolding clap_on_literals
+  make_help_called = refl
+
+  pub campaign_help_shown : fault_of (tsobench_app units) (codes "campaign" ∷ codes "--help" ∷ []) ≡ DisplayHelp ∷ []
+  unfolding clap_on_literals
+  campaign_help_shown = refl
+
+  pub campaign_short_shown : fault_of (tsobench_app units) (codes "campaign" ∷ codes "-h" ∷ []) ≡ DisplayHelp ∷ []
+  unfolding clap_on_literals
+  campaign_short_shown = refl
+
+  pub campaign_help_called : fault_of (tsobench_app units) (codes "help" ∷ codes "campaign" ∷ []) ≡ DisplayHelp ∷ InvalidSubcommand ∷ []
+  unfolding clap_on_literals
+  campaign_help_called = refl
+
 -- two tests for the same bytes, in either order
-other_order : (a b : Text) → bytes_eq a b ≡ false → bytes_eq b a ≡ false
+pub other_order : (a b : Text) → bytes_eq a b ≡ false → bytes_eq b a ≡ false
 other_order a b e = go (bytes_eq b a) refl
   where
     go : (x : Bool) → bytes_eq b a ≡ x → x ≡ false
@@ -101,14 +125,20 @@ neither true b e = absurd (true≢false e)
 
 module _ (first : Text) (is : IsValue first) (unknown : is_subcommand first ≡ false) where
   -- the argument is none of the names
-  after_judge : (bytes_eq first (codes "check") || (bytes_eq first (codes "replay") || (bytes_eq first (codes "run") || bytes_eq first (codes "help")))) ≡ false
+  after_judge : (bytes_eq first (codes "check") || (bytes_eq first (codes "replay") || (bytes_eq first (codes "run") || (bytes_eq first (codes "make") || (bytes_eq first (codes "campaign") || bytes_eq first (codes "help")))))) ≡ false
   after_judge = (neither _ _ unknown).1
 
-  after_check : (bytes_eq first (codes "replay") || (bytes_eq first (codes "run") || bytes_eq first (codes "help"))) ≡ false
+  after_check : (bytes_eq first (codes "replay") || (bytes_eq first (codes "run") || (bytes_eq first (codes "make") || (bytes_eq first (codes "campaign") || bytes_eq first (codes "help"))))) ≡ false
   after_check = (neither _ _ after_judge).1
 
-  after_replay : (bytes_eq first (codes "run") || bytes_eq first (codes "help")) ≡ false
+  after_replay : (bytes_eq first (codes "run") || (bytes_eq first (codes "make") || (bytes_eq first (codes "campaign") || bytes_eq first (codes "help")))) ≡ false
   after_replay = (neither _ _ after_check).1
+
+  after_run : (bytes_eq first (codes "make") || (bytes_eq first (codes "campaign") || bytes_eq first (codes "help"))) ≡ false
+  after_run = (neither _ _ after_replay).1
+
+  after_make : (bytes_eq first (codes "campaign") || bytes_eq first (codes "help")) ≡ false
+  after_make = (neither _ _ after_run).1
 
   no_judge : bytes_eq (codes "judge") first ≡ false
   no_judge = other_order first (codes "judge") (neither _ _ unknown).0
@@ -122,12 +152,18 @@ module _ (first : Text) (is : IsValue first) (unknown : is_subcommand first ≡ 
   no_run : bytes_eq (codes "run") first ≡ false
   no_run = other_order first (codes "run") (neither _ _ after_replay).0
 
+  no_make : bytes_eq (codes "make") first ≡ false
+  no_make = other_order first (codes "make") (neither _ _ after_run).0
+
+  no_campaign : bytes_eq (codes "campaign") first ≡ false
+  no_campaign = other_order first (codes "campaign") (neither _ _ after_make).0
+
   no_help : bytes_eq first (codes "help") ≡ false
-  no_help = (neither _ _ after_replay).1
+  no_help = (neither _ _ after_make).1
 
   pub unknown_refused : (units : UnitNames) (rest : List Text) → fault_of (tsobench_app units) (first ∷ rest) ≡ UnknownArgument ∷ InvalidSubcommand ∷ []
   unfolding clap_on_literals
-  unknown_refused units rest = rw (no_judge, no_check, no_replay, no_run, other_order first (codes "help") no_help, is.no_escape, is.no_long, is.no_short) refl
+  unknown_refused units rest = rw (no_judge, no_check, no_replay, no_run, no_make, no_campaign, other_order first (codes "help") no_help, is.no_escape, is.no_long, is.no_short) refl
 
   pub parsed_unchanged : (rest : List Text) → parsed_as (first ∷ rest) ≡ first ∷ rest
   parsed_unchanged [] = rw no_help refl

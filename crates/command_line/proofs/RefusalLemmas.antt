@@ -13,13 +13,13 @@ use Rattle.command_line.proofs.ValueLemmas.{IsValue, value_is}
 
 module _ (s : Shape) where
   -- an argument at which nothing fails
-  step_passed : (kinds : Kinds) (from next : Walk) (argument : Text) (rest : List Text)
+  pub step_passed : (kinds : Kinds) (from next : Walk) (argument : Text) (rest : List Text)
       → walked s.rules [] from argument ≡ next → turn_fault s [] from argument ≡ [] → walk_fault s [] next rest ≡ kinds → walk_fault s [] from (argument ∷ rest) ≡ kinds
   unfolding walk_fault
   step_passed kinds from next argument rest is none fails = rw (none, is) fails
 
   -- an argument that is refused
-  step_refused : (kind : ErrorKind) (from : Walk) (argument : Text) (rest : List Text) → turn_fault s [] from argument ≡ kind ∷ [] → walk_fault s [] from (argument ∷ rest) ≡ kind ∷ []
+  pub step_refused : (kind : ErrorKind) (from : Walk) (argument : Text) (rest : List Text) → turn_fault s [] from argument ≡ kind ∷ [] → walk_fault s [] from (argument ∷ rest) ≡ kind ∷ []
   unfolding walk_fault
   step_refused kind from argument rest fails = rw fails refl
 
@@ -53,7 +53,7 @@ module _ (s : Shape) where
         step_passed kinds _ _ _ _ (positional_walked s rows pending position a value takes at once trailing is) (positional_fault s rows pending position a settles value takes at is) after
 
     module _ (kind : ErrorKind) where
-      joined_refused : (a : Rule) (name value : Text) → IsOption s.rules a name → use_fault s.args_override_self a (value ∷ []) before ≡ kind ∷ []
+      pub joined_refused : (a : Rule) (name value : Text) → IsOption s.rules a name → use_fault s.args_override_self a (value ∷ []) before ≡ kind ∷ []
           → turn_fault s [] (standing rows pending position) (codes "--" ++ name ++ codes "=" ++ value) ≡ kind ∷ []
       joined_refused a name value is fails = rw (is.no_escape_joined value, is.long_joined value, is.by_long, takes_a_value is.takes, settles, fails) refl
 

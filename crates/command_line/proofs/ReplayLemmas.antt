@@ -42,12 +42,14 @@ module _ (names : UnitNames) where
 
   pub offers_run : OffersRun replay names
   offers_run = record {
-    unit = record {
-      unit = record { by_id = refl; by_long = refl; otherwise = refl };
-      capacity = record { by_id = refl; by_long = refl; otherwise = refl };
-      trigger = record { by_id = refl; by_long = refl; otherwise = refl };
+    judged = record {
+      unit = record {
+        unit = record { by_id = refl; by_long = refl; otherwise = refl };
+        capacity = record { by_id = refl; by_long = refl; otherwise = refl };
+        trigger = record { by_id = refl; by_long = refl; otherwise = refl };
+      };
+      workers = record { by_id = refl; by_long = refl; otherwise = refl };
     };
-    workers = record { by_id = refl; by_long = refl; otherwise = refl };
     trace = record { by_id = refl; by_long = refl; otherwise = refl };
   }
 
@@ -111,7 +113,7 @@ module _ (names : UnitNames) where
       schedule_row = leaves.other (codes "schedule") schedule_built refl refl
 
       passes : check_fault replay rows false ≡ []
-      passes = all_given rows (unit_given replay names offers_run.unit asks.options run.unit asks.asks.unit arguments used_flags.uses file_uses leaves)
+      passes = all_given rows (unit_given replay names offers_run.judged.unit asks.options run.unit asks.asks.unit arguments used_flags.uses file_uses leaves)
           (ap (λ o. option_map_or (λ r. explicit_source r.source) o false) program_row)
           (ap (λ o. option_map_or (λ r. explicit_source r.source) o false) schedule_row)
 

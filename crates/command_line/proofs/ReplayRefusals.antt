@@ -48,14 +48,14 @@ module _ (names : UnitNames) (are : map (λ name. name.now) names.now ≡ unit_n
         → fault_of (tsobench_app names) (codes "replay" ∷ (unit ++ program ∷ rest)) ≡ InvalidValue ∷ []
     no_such_unit_refused unknown program rest is =
         refused_at names InvalidValue _
-        (refusals.no_such_unit (replay names) names are (offers_run names) refl (program_built names) (program_taken names) refl name unit option unknown program rest is)
+        (refusals.no_such_unit (replay names) names are (offers_run names).judged refl (program_built names) (program_taken names) refl name unit option unknown program rest is)
 
     module _ (known : is_unit name ≡ true) where
       pub outside_refused : (program option_name : Text) (limit n : ℕ) (these rest : List Text) → TakesNumber option_name limit → NamesOption option_name (decimal n) these → IsOutside limit n → n < 10 ^ 64 → IsValue program
           → fault_of (tsobench_app names) (codes "replay" ∷ (unit ++ (these ++ program ∷ rest))) ≡ ValueValidation ∷ []
       outside_refused program option_name limit n these rest takes gives wrong small is =
           refused_at names ValueValidation _
-          (refusals.outside (replay names) names are (offers_run names) refl (program_built names) (program_taken names) refl name unit option known
+          (refusals.outside (replay names) names are (offers_run names).judged refl (program_built names) (program_taken names) refl name unit option known
           program option_name limit n these rest takes gives wrong small is)
 
       -- the program passes where only the unit was used
@@ -70,7 +70,7 @@ module _ (names : UnitNames) (are : map (λ name. name.now) names.now ≡ unit_n
           → fault_of (tsobench_app names) (codes "replay" ∷ (unit ++ program ∷ schedule ∷ other ∷ rest)) ≡ UnknownArgument ∷ []
       another_file_refused program schedule other rest is is_schedule is_other =
           refused_at names UnknownArgument _
-          (refusals.unit_before (replay names) names are (offers_run names) refl (program_built names) (program_taken names) refl name unit option known
+          (refusals.unit_before (replay names) names are (offers_run names).judged refl (program_built names) (program_taken names) refl name unit option known
           (UnknownArgument ∷ []) (program ∷ schedule ∷ other ∷ rest) (λ rows pending settled settles.
           positional_before (replay names) rows pending 1 settles (UnknownArgument ∷ []) (program_built names) program (schedule ∷ other ∷ rest) (program_taken names) refl refl refl is
           (positional_before (replay names) _ (Some (codes "program", program ∷ [])) 2 (program_settles program rows pending settled)
@@ -114,5 +114,5 @@ module _ (names : UnitNames) (are : map (λ name. name.now) names.now ≡ unit_n
     pub too_few_refused : fault_of (tsobench_app names) (codes "replay" ∷ arguments) ≡ MissingRequiredArgument ∷ []
     too_few_refused = replay_fault names arguments ∙ ap (λ kinds. or_else kinds []) (leaves.fault
         ∙ some_missing names leaves.rows (is_given (codes "program") leaves.rows)
-        (unit_given (replay names) names (offers_run names).unit options run.unit asks.unit arguments used_flags.uses used_files.uses leaves) refl
+        (unit_given (replay names) names (offers_run names).judged.unit options run.unit asks.unit arguments used_flags.uses used_files.uses leaves) refl
         (ap (λ o. option_map_or (λ r. explicit_source r.source) o false) no_schedule_row))

@@ -1,8 +1,7 @@
 -- The options of a unit and of a run, in any subcommand that offers them.
 use Rattle.std.proofs.Common.{◌≡◌, ◌∙◌, ◌<◌, ◌^◌, ap, refl, subst, sym, inl, inr, arith, true≢false, ℕ, Bool, true, false, cond, ◌||◌, List, [], ◌∷◌, ◌++◌, Option, Some, None, codes, map, is_some}
 use Rattle.std.specs.Prelude.{if◌then◌else◌, option_and_then, slice_get}
-use Rattle.std.specs.Fmt.{decimal}
-use Rattle.std.specs.List.{AllByRecursion, find, list_any}
+use Rattle.std.specs.List.{find, list_any}
 use Rattle.std.specs.Option.{option_map, option_map_or, option_or, unwrap_or}
 use Rattle.std.specs.Str.{bytes_eq}
 use Rattle.std.proofs.lemmas.Slice.Eq.{bytes_eq-Decides}
@@ -16,11 +15,11 @@ use Rattle.clap.specs.declared.builder.value_parser.ValueParser.TheVariants as p
 use Rattle.clap.proofs.OnLiterals.{clap_on_literals}
 use Rattle.clap.proofs.WalkLemmas.{list_any-map}
 use Rattle.round_pool.specs.Workers.{worker_limit}
-use Rattle.command_line.specs.Commands.{UnitNames, capacity_rule, number_rule, prints_rule, seed_rule, trigger_rule, unit_rule, workers_rule}
-use Rattle.command_line.specs.Internal.Computed.{flag_in, number_in, run_in, seed_in, unit_in, within}
+use Rattle.command_line.specs.Commands.{UnitNames, capacity_rule, number_rule, prints_rule, trigger_rule, unit_rule, workers_rule}
+use Rattle.command_line.specs.Internal.Computed.{flag_in, number_in, run_in, unit_in, within, workers_in}
 use Rattle.command_line.specs.Options.{AsksFlag, AsksNumber, IsOneOf, option_value}
-use Rattle.command_line.specs.Requests.{Text, capacity_limit, seed_limit}
-use Rattle.command_line.specs.Spellings.{AsksRun, AsksSeed, AsksUnit, run_names}
+use Rattle.command_line.specs.Requests.{Text, capacity_limit}
+use Rattle.command_line.specs.Spellings.{AsksRun, AsksUnit, run_names}
 use Rattle.command_line.specs.Units.{default_capacity, default_trigger, is_unit, trigger_limit, unit_kind, unit_names, units}
 use Rattle.command_line.specs.declared.options.RunOptions.{RunOptions}
 use Rattle.command_line.specs.declared.options.UnitKind.TheVariants.{Serial}
@@ -89,7 +88,7 @@ module _ (s : Shape) (name default : Text) (limit : ℕ) (is : IsLong name) (off
     long_joined = is.long_joined;
   }
 
-  number_use : (value : Text) → accepts false (parser.Unsigned 1 limit) value ≡ true → OptionUse s.rules name value
+  pub number_use : (value : Text) → accepts false (parser.Unsigned 1 limit) value ≡ true → OptionUse s.rules name value
   number_use value accepted = record {
     rule = number_built name default limit;
     is = number_offered;
@@ -125,13 +124,13 @@ module _ (s : Shape) (name default : Text) (limit : ℕ) (is : IsLong name) (off
 none≢some : {X : Type 0} (x : X) → None ≡ Some x → ⊥
 none≢some x e = true≢false (ap (λ o. is_some o) (sym e))
 
-capacity_long : IsLong (codes "capacity")
+pub capacity_long : IsLong (codes "capacity")
 capacity_long = record { no_escape = refl; long = refl; no_escape_joined = λ v. refl; long_joined = λ v. refl }
 
-trigger_long : IsLong (codes "trigger")
+pub trigger_long : IsLong (codes "trigger")
 trigger_long = record { no_escape = refl; long = refl; no_escape_joined = λ v. refl; long_joined = λ v. refl }
 
-workers_long : IsLong (codes "workers")
+pub workers_long : IsLong (codes "workers")
 workers_long = record { no_escape = refl; long = refl; no_escape_joined = λ v. refl; long_joined = λ v. refl }
 
 -- the subcommand offers the options of a unit
@@ -140,10 +139,14 @@ pub record OffersUnit (s : Shape) (names : UnitNames) : Type 0 where
   pub capacity : Offers s (filled capacity_rule) (codes "capacity")
   pub trigger : Offers s (filled trigger_rule) (codes "trigger")
 
--- and those of a run
-pub record OffersRun (s : Shape) (names : UnitNames) : Type 0 where
+-- and the number of workers
+pub record OffersWorkers (s : Shape) (names : UnitNames) : Type 0 where
   pub unit : OffersUnit s names
   pub workers : Offers s (filled workers_rule) (codes "workers")
+
+-- and what is printed: the options of a run
+pub record OffersRun (s : Shape) (names : UnitNames) : Type 0 where
+  pub judged : OffersWorkers s names
   pub trace : Offers s prints_built (codes "trace")
 
 module _ (s : Shape) (names : UnitNames) where
@@ -164,20 +167,34 @@ module _ (s : Shape) (names : UnitNames) where
     pub trigger_offered : IsOption s.rules (filled trigger_rule) (codes "trigger")
     trigger_offered = number_offered s (codes "trigger") (codes "1") trigger_limit trigger_long offers.trigger
 
+    -- the use of `--unit` with the name of a unit
+    pub unit_use : map (λ name. name.now) names.now ≡ unit_names → (value : Text) → is_unit value ≡ true → OptionUse s.rules (codes "unit") value
+    unit_use are value known =
+        let accepted = names_accept names are value ∙ known in
+        record {
+          rule = unit_built names;
+          is = unit_offered;
+          named = refl;
+          as_written = refl;
+          of = refl;
+          makes = option_makes (unit_built names) (value ∷ []) refl (rw accepted refl) refl;
+        }
+
+    -- no unit is given where the option isn't there
+    pub unit_missing : (options : List (Text × Text)) (arguments : List Text) (flags others : List Use) (leaves : LeavesRows s arguments options flags others)
+        → option_value (codes "unit") options ≡ None → is_given (codes "unit") leaves.rows ≡ false
+    unit_missing options arguments flags others leaves none =
+        let row : IsOptionRow None (default_for (codes "unit") s.rules) (find (has_id (codes "unit")) leaves.rows) =
+        subst (λ (o : Option Text). IsOptionRow o (default_for (codes "unit") s.rules) (find (has_id (codes "unit")) leaves.rows)) none
+        (leaves.option (codes "unit") (unit_built names) offers.unit.by_id refl) in
+        ap (λ o. option_map_or (λ r. explicit_source r.source) o false) (row ∙ offers.unit.otherwise)
+
     module _ (options : List (Text × Text)) (unit : UnitOptions) (asks : AsksUnit options unit) where
       -- the uses of the options, where they are there
       pub asked_unit_use : map (λ name. name.now) names.now ≡ unit_names → (value : Text) → option_value (codes "unit") options ≡ Some value → OptionUse s.rules (codes "unit") value
       asked_unit_use are value found =
           let known : option_and_then unit_kind (Some value) ≡ Some unit.kind = ap (option_and_then unit_kind) (sym found) ∙ asks.kind in
-          let accepted = names_accept names are value ∙ ap (λ o. is_some o) known in
-          record {
-            rule = unit_built names;
-            is = unit_offered;
-            named = refl;
-            as_written = refl;
-            of = refl;
-            makes = option_makes (unit_built names) (value ∷ []) refl (rw accepted refl) refl;
-          }
+          unit_use are value (ap (λ o. is_some o) known)
 
       pub asked_capacity_use : (value : Text) → option_value (codes "capacity") options ≡ Some value → OptionUse s.rules (codes "capacity") value
       asked_capacity_use = asked_number_use s (codes "capacity") (codes "8") capacity_limit capacity_long offers.capacity default_capacity (omega arith) options unit.capacity asks.capacity
@@ -217,12 +234,43 @@ module _ (s : Shape) (names : UnitNames) where
             (number_is s (codes "trigger") (codes "1") trigger_limit trigger_long offers.trigger default_trigger (omega arith) options unit.trigger asks.trigger leaves.rows
             (leaves.option (codes "trigger") (filled trigger_rule) offers.trigger.by_id refl) refl)
 
-  -- ---- the options of a run
+  -- ---- the number of workers
 
-  module _ (offers : OffersRun s names) where
+  module _ (offers : OffersWorkers s names) where
     pub workers_offered : IsOption s.rules (filled workers_rule) (codes "workers")
     workers_offered = number_offered s (codes "workers") (codes "1") worker_limit workers_long offers.workers
 
+    module _ (options : List (Text × Text)) (unit : UnitOptions) (workers : ℕ) (asks_unit : AsksUnit options unit)
+        (asks_workers : AsksNumber 1 1 worker_limit (option_value (codes "workers") options) workers) where
+      asked_workers_use : (value : Text) → option_value (codes "workers") options ≡ Some value → OptionUse s.rules (codes "workers") value
+      asked_workers_use = asked_number_use s (codes "workers") (codes "1") worker_limit workers_long offers.workers 1 (omega arith) options workers asks_workers
+
+      -- the uses of the options, where they are there
+      pub asked_judged_use : map (λ name. name.now) names.now ≡ unit_names → (name value : Text) → IsOneOf run_names name → option_value name options ≡ Some value
+          → OptionUse s.rules name value
+      asked_judged_use are name value (inl is) found =
+          subst (λ (t : Text). OptionUse s.rules t value) (sym is)
+          (asked_unit_use offers.unit options unit asks_unit are value (ap (λ (t : Text). option_value t options) (sym is) ∙ found))
+      asked_judged_use are name value (inr (inl is)) found =
+          subst (λ (t : Text). OptionUse s.rules t value) (sym is)
+          (asked_capacity_use offers.unit options unit asks_unit value (ap (λ (t : Text). option_value t options) (sym is) ∙ found))
+      asked_judged_use are name value (inr (inr (inl is))) found =
+          subst (λ (t : Text). OptionUse s.rules t value) (sym is)
+          (asked_trigger_use offers.unit options unit asks_unit value (ap (λ (t : Text). option_value t options) (sym is) ∙ found))
+      asked_judged_use are name value (inr (inr (inr (inl is)))) found =
+          subst (λ (t : Text). OptionUse s.rules t value) (sym is) (asked_workers_use value (ap (λ (t : Text). option_value t options) (sym is) ∙ found))
+      asked_judged_use are name value (inr (inr (inr (inr is)))) found = absurd is
+
+      -- the number is the one that is asked for
+      pub workers_are : (arguments : List Text) (flags others : List Use) (leaves : LeavesRows s arguments options flags others) → workers_in leaves.rows ≡ workers
+      unfolding clap_on_literals
+      workers_are arguments flags others leaves =
+          number_is s (codes "workers") (codes "1") worker_limit workers_long offers.workers 1 (omega arith) options workers asks_workers leaves.rows
+          (leaves.option (codes "workers") (filled workers_rule) offers.workers.by_id refl) refl
+
+  -- ---- the options of a run
+
+  module _ (offers : OffersRun s names) where
     -- the uses of the flags, after which the trace is asked for or not
     pub record FlagUses (flags : List Text) (is_asked : Bool) : Type 0 where
       pub uses : List Use
@@ -251,97 +299,15 @@ module _ (s : Shape) (names : UnitNames) where
     flag_uses (used ∷ second ∷ rest) is_asked is = absurd is
 
     module _ (options : List (Text × Text)) (flags : List Text) (run : RunOptions) (asks : AsksRun options flags run) where
-      pub asked_workers_use : (value : Text) → option_value (codes "workers") options ≡ Some value → OptionUse s.rules (codes "workers") value
-      asked_workers_use = asked_number_use s (codes "workers") (codes "1") worker_limit workers_long offers.workers 1 (omega arith) options run.workers asks.workers
-
       -- the uses of the options, where they are there
       pub asked_run_use : map (λ name. name.now) names.now ≡ unit_names → (name value : Text) → IsOneOf run_names name → option_value name options ≡ Some value
           → OptionUse s.rules name value
-      asked_run_use are name value (inl is) found =
-          subst (λ (t : Text). OptionUse s.rules t value) (sym is)
-          (asked_unit_use offers.unit options run.unit asks.unit are value (ap (λ (t : Text). option_value t options) (sym is) ∙ found))
-      asked_run_use are name value (inr (inl is)) found =
-          subst (λ (t : Text). OptionUse s.rules t value) (sym is)
-          (asked_capacity_use offers.unit options run.unit asks.unit value (ap (λ (t : Text). option_value t options) (sym is) ∙ found))
-      asked_run_use are name value (inr (inr (inl is))) found =
-          subst (λ (t : Text). OptionUse s.rules t value) (sym is)
-          (asked_trigger_use offers.unit options run.unit asks.unit value (ap (λ (t : Text). option_value t options) (sym is) ∙ found))
-      asked_run_use are name value (inr (inr (inr (inl is)))) found =
-          subst (λ (t : Text). OptionUse s.rules t value) (sym is) (asked_workers_use value (ap (λ (t : Text). option_value t options) (sym is) ∙ found))
-      asked_run_use are name value (inr (inr (inr (inr is)))) found = absurd is
+      asked_run_use = asked_judged_use offers.judged options run.unit run.workers asks.unit asks.workers
 
       -- the run is the one that is asked for
       module _ (arguments : List Text) (used : FlagUses flags run.prints_trace) (others : List Use) (leaves : LeavesRows s arguments options used.uses others) where
         pub run_is : run_in leaves.rows ≡ run
         unfolding clap_on_literals
-        run_is = run_options_are _ _ (unit_is offers.unit options run.unit asks.unit arguments used.uses others leaves)
-            (number_is s (codes "workers") (codes "1") worker_limit workers_long offers.workers 1 (omega arith) options run.workers asks.workers leaves.rows
-            (leaves.option (codes "workers") (filled workers_rule) offers.workers.by_id refl) refl)
+        run_is = run_options_are _ _ (unit_is offers.judged.unit options run.unit asks.unit arguments used.uses others leaves)
+            (workers_are offers.judged options run.unit run.workers asks.unit asks.workers arguments used.uses others leaves)
             (used.asks leaves.rows (leaves.flag (codes "trace") prints_built offers.trace.by_id refl))
-
--- ---- the seed
-
-abbrev pub seed_built : Rule
-seed_built = filled seed_rule
-
-no_seed_name : (name : Text) → IsOneOf run_names name → bytes_eq name (codes "seed") ≡ false
-no_seed_name name (inl is) = rw is refl
-no_seed_name name (inr (inl is)) = rw is refl
-no_seed_name name (inr (inr (inl is))) = rw is refl
-no_seed_name name (inr (inr (inr (inl is)))) = rw is refl
-no_seed_name name (inr (inr (inr (inr is)))) = absurd is
-
--- the options of a run alone have no seed
-pub no_seed_value : (options : List (Text × Text)) → AllByRecursion (λ option. IsOneOf run_names option.0) options → option_value (codes "seed") options ≡ None
-no_seed_value [] known = refl
-no_seed_value (o ∷ options) known = rw (no_seed_name o.0 known.0) (no_seed_value options known.1)
-
-module _ (s : Shape) (offers : Offers s seed_built (codes "seed")) where
-  pub seed_offered : IsOption s.rules seed_built (codes "seed")
-  seed_offered = record {
-    takes = record { by_id = offers.by_id; same_id = refl; most = refl; single = refl };
-    by_long = offers.by_long;
-    no_escape = refl;
-    long = refl;
-    no_escape_joined = λ v. refl;
-    long_joined = λ v. refl;
-  }
-
-  module _ (options : List (Text × Text)) where
-    -- the use of the option, where it is there
-    pub asked_seed_use : (seed : ℕ) → AsksSeed options seed → (value : Text) → option_value (codes "seed") options ≡ Some value → OptionUse s.rules (codes "seed") value
-    asked_seed_use seed asks value found =
-        let is : value ≡ decimal seed = ap (λ o. unwrap_or o []) (sym found ∙ asks.0) in
-        let accepted : accepts false (parser.Unsigned 0 seed_limit) value ≡ true =
-        ap (accepts false (parser.Unsigned 0 seed_limit)) is ∙ decimal_passes 0 seed_limit seed (omega arith) asks.1 (omega (arith, asks.1)) in
-        record {
-          rule = seed_built;
-          is = seed_offered;
-          named = refl;
-          as_written = refl;
-          of = refl;
-          makes = option_makes seed_built (value ∷ []) refl (rw accepted refl) refl;
-        }
-
-    module _ (arguments : List Text) (flags others : List Use) (leaves : LeavesRows s arguments options flags others) where
-      seed_row : (value : Option Text) → option_value (codes "seed") options ≡ value → IsOptionRow value (default_for (codes "seed") s.rules) (find (has_id (codes "seed")) leaves.rows)
-      seed_row value is =
-          subst (λ (o : Option Text). IsOptionRow o (default_for (codes "seed") s.rules) (find (has_id (codes "seed")) leaves.rows)) is
-          (leaves.option (codes "seed") seed_built offers.by_id refl)
-
-      -- no seed is given where the option isn't there
-      pub seed_missing : option_value (codes "seed") options ≡ None → is_given (codes "seed") leaves.rows ≡ false
-      seed_missing none = ap (λ o. option_map_or (λ r. explicit_source r.source) o false) (seed_row None none ∙ offers.otherwise)
-
-      module _ (seed : ℕ) (asks : AsksSeed options seed) where
-        pub seed_given : is_given (codes "seed") leaves.rows ≡ true
-        seed_given =
-            let row = seed_row (Some (decimal seed)) asks.0 in
-            ap (λ o. option_map_or (λ r. explicit_source r.source) o false) row.1 ∙ row.4
-
-        -- and it is the one that is asked for
-        pub seed_is : seed_in leaves.rows ≡ seed
-        seed_is =
-            let row = seed_row (Some (decimal seed)) asks.0 in
-            ap (λ o. option_map_or (number_in 0) (option_and_then row_text o) 0) row.1
-            ∙ ap (λ o. option_map_or (number_in 0) o 0) row.2 ∙ number_in-decimal 0 seed (omega (arith, asks.1))

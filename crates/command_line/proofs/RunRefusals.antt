@@ -19,15 +19,15 @@ use Rattle.command_line.specs.Requests.{Text, capacity_limit}
 use Rattle.command_line.specs.Units.{is_unit, trigger_limit, unit_names}
 use Rattle.command_line.proofs.OptionLemmas.{IsOption, TakesOne, settled_in, standing}
 use Rattle.command_line.proofs.RefusalLemmas.{option_before, option_refused}
-use Rattle.command_line.proofs.RunLemmas.{OffersRun, capacity_offered, names_accept, trigger_offered, unit_built, unit_offered, workers_offered}
+use Rattle.command_line.proofs.RunLemmas.{OffersWorkers, capacity_offered, names_accept, trigger_offered, unit_built, unit_offered, workers_offered}
 use Rattle.command_line.proofs.RowLemmas.{MakesRow, option_fails, option_makes, use_row}
 use Rattle.command_line.proofs.ValueLemmas.{IsValue, decimal_fails}
 
-not_within : (limit n : ℕ) → IsOutside limit n → 1 ≤ n → n ≤ limit → ⊥
+pub not_within : (limit n : ℕ) → IsOutside limit n → 1 ≤ n → n ≤ limit → ⊥
 not_within limit n (inl zero) least most = omega (arith, zero, least)
 not_within limit n (inr above) least most = omega (arith, above, most)
 
-module _ (s : Shape) (names : UnitNames) (are : map (λ name. name.now) names.now ≡ unit_names) (offers : OffersRun s names) (single : s.args_override_self ≡ false) where
+module _ (s : Shape) (names : UnitNames) (are : map (λ name. name.now) names.now ≡ unit_names) (offers : OffersWorkers s names) (single : s.args_override_self ≡ false) where
   -- a use of an argument that may not be used again
   single_use : (kinds : Kinds) (a : Rule) (values : List Text) (rows : List Row) → use_fault false a values rows ≡ kinds → use_fault s.args_override_self a values rows ≡ kinds
   single_use kinds a values rows is = subst (λ (b : Bool). use_fault b a values rows ≡ kinds) (sym single) is

@@ -16,13 +16,14 @@ use Rattle.command_line.specs.Commands.{UnitNames, program_file_rule, run_app, t
 use Rattle.command_line.specs.Internal.Computed.{asked_by, running_by}
 use Rattle.command_line.specs.Options.{AreNamed, IsOneOf, option_value}
 use Rattle.command_line.specs.Requests.{Text, running}
-use Rattle.command_line.specs.Spellings.{AsksRun, AsksSeed, AsksToRun, run_names, seeded_names}
+use Rattle.command_line.specs.Spellings.{AsksRequired, AsksRun, AsksToRun, run_names, seeded_names}
 use Rattle.command_line.specs.Units.{unit_names}
 use Rattle.command_line.specs.declared.options.RunOptions.{RunOptions}
 use Rattle.command_line.proofs.FoundLemmas.{running_are}
 use Rattle.command_line.proofs.OptionLemmas.{Placed, TakesOne, Use, no_other, placed}
 use Rattle.command_line.proofs.RowLemmas.{DefaultsPass, has_id, option_makes, use_row}
-use Rattle.command_line.proofs.RunLemmas.{FlagUses, Offers, OffersRun, asked_run_use, asked_seed_use, flag_uses, run_is, seed_built, seed_given, seed_is, unit_given}
+use Rattle.command_line.proofs.RequiredLemmas.{number_asked, required_built, required_given, required_is, required_use, seed_long}
+use Rattle.command_line.proofs.RunLemmas.{FlagUses, Offers, OffersRun, asked_run_use, flag_uses, run_is, unit_given}
 use Rattle.command_line.proofs.SubcommandLemmas.{built_below, run_fault, run_found}
 use Rattle.command_line.proofs.UseLemmas.{AreUses, LeavesRows, OptionUse, OptionUses, leaves_rows, named_uses}
 
@@ -39,16 +40,18 @@ module _ (names : UnitNames) where
 
   pub offers_run : OffersRun run names
   offers_run = record {
-    unit = record {
-      unit = record { by_id = refl; by_long = refl; otherwise = refl };
-      capacity = record { by_id = refl; by_long = refl; otherwise = refl };
-      trigger = record { by_id = refl; by_long = refl; otherwise = refl };
+    judged = record {
+      unit = record {
+        unit = record { by_id = refl; by_long = refl; otherwise = refl };
+        capacity = record { by_id = refl; by_long = refl; otherwise = refl };
+        trigger = record { by_id = refl; by_long = refl; otherwise = refl };
+      };
+      workers = record { by_id = refl; by_long = refl; otherwise = refl };
     };
-    workers = record { by_id = refl; by_long = refl; otherwise = refl };
     trace = record { by_id = refl; by_long = refl; otherwise = refl };
   }
 
-  pub offers_seed : Offers run seed_built (codes "seed")
+  pub offers_seed : Offers run (required_built (codes "seed")) (codes "seed")
   offers_seed = record { by_id = refl; by_long = refl; otherwise = refl }
 
   -- a seed is left out
@@ -74,11 +77,11 @@ module _ (names : UnitNames) where
     run_uses named = named_uses run run_names options named (asked_run_use run names offers_run options flags asked asks are)
 
     -- and of those with a seed
-    module _ (seed : ℕ) (seeds : AsksSeed options seed) where
+    module _ (seed : ℕ) (seeds : AsksRequired (codes "seed") options seed) where
       use_of : (name value : Text) → IsOneOf seeded_names name → option_value name options ≡ Some value → OptionUse run.rules name value
       use_of name value (inl is) found =
           subst (λ (t : Text). OptionUse run.rules t value) (sym is)
-          (asked_seed_use run offers_seed options seed seeds value (ap (λ (t : Text). option_value t options) (sym is) ∙ found))
+          (required_use run (codes "seed") seed_long offers_seed value (number_asked (codes "seed") options seed value seeds (ap (λ (t : Text). option_value t options) (sym is) ∙ found)))
       use_of name value (inr is) found = asked_run_use run names offers_run options flags asked asks are name value is found
 
       pub seeded_uses : AreNamed seeded_names options → OptionUses run options
@@ -120,13 +123,13 @@ module _ (names : UnitNames) where
       program_row = leaves.other (codes "program") program_built refl refl
 
       passes : check_fault run rows false ≡ []
-      passes = all_given rows (unit_given run names offers_run.unit asks.options asked.unit asks.asks.unit arguments used_flags.uses file_uses leaves)
-          (seed_given run offers_seed asks.options arguments used_flags.uses file_uses leaves seed asks.seeds)
+      passes = all_given rows (unit_given run names offers_run.judged.unit asks.options asked.unit asks.asks.unit arguments used_flags.uses file_uses leaves)
+          (required_given run (codes "seed") seed_long offers_seed asks.options arguments used_flags.uses file_uses leaves seed asks.seeds)
           (ap (λ o. option_map_or (λ r. explicit_source r.source) o false) program_row)
 
       rows_ask : running_by rows ≡ running asked seed program
       rows_ask = running_are _ _ _ _ _ _ (run_is run names offers_run asks.options asks.flags asked asks.asks arguments used_flags file_uses leaves)
-          (seed_is run offers_seed asks.options arguments used_flags.uses file_uses leaves seed asks.seeds)
+          (required_is run (codes "seed") seed_long offers_seed asks.options arguments used_flags.uses file_uses leaves seed asks.seeds)
           (ap (λ o. unwrap_or (option_and_then (λ r. slice_get r.values 0) o) []) program_row)
 
       pub run_taken : fault_of (tsobench_app names) (codes "run" ∷ arguments) ≡ []

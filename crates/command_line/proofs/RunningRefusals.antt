@@ -1,8 +1,9 @@
 -- Arguments after `run` that are refused.
-use Rattle.std.proofs.Common.{◌≡◌, ◌∙◌, ◌<◌, ◌^◌, ap, refl, arith, ℕ, true, false, List, [], ◌∷◌, ◌++◌, None, codes, map, length}
+use Rattle.std.proofs.Common.{◌≡◌, ◌∙◌, ◌<◌, ◌^◌, ap, refl, inl, inr, arith, ℕ, true, false, List, [], ◌∷◌, ◌++◌, None, codes, map, length}
 use Rattle.std.specs.Fmt.{decimal}
-use Rattle.std.specs.List.{find}
+use Rattle.std.specs.List.{AllByRecursion, find}
 use Rattle.std.specs.Option.{option_map_or}
+use Rattle.std.specs.Str.{bytes_eq}
 use Rattle.clap.specs.Facts.{explicit_source}
 use Rattle.clap.specs.Faults.{walk_fault}
 use Rattle.clap.specs.Kinds.{or_else}
@@ -11,21 +12,34 @@ use Rattle.clap.specs.declared.error.kind.ErrorKind.{ErrorKind}
 use Rattle.clap.specs.declared.error.kind.ErrorKind.TheVariants.{InvalidValue, MissingRequiredArgument, UnknownArgument, ValueValidation}
 use Rattle.clap.proofs.OnLiterals.{clap_on_literals}
 use Rattle.command_line.specs.Commands.{UnitNames, tsobench_app}
-use Rattle.command_line.specs.Options.{AreGiven, AreNamed, IsOneOf, NamesOption}
+use Rattle.command_line.specs.Options.{AreGiven, AreNamed, IsOneOf, NamesOption, option_value}
 use Rattle.command_line.specs.Refusals.{IsOutside, TakesNumber}
-use Rattle.command_line.specs.Requests.{Text, seed_limit}
-use Rattle.command_line.specs.Spellings.{AsksRun, AsksSeed, run_names, seeded_names}
+use Rattle.command_line.specs.Requests.{Text, number_limit}
+use Rattle.command_line.specs.Spellings.{AsksRequired, AsksRun, run_names, seeded_names}
 use Rattle.command_line.specs.Units.{is_unit, unit_names}
 use Rattle.command_line.specs.declared.options.RunOptions.{RunOptions}
 use Rattle.command_line.proofs.OptionLemmas.{Placed, Use, no_other, standing}
 use Rattle.command_line.proofs.RefusalLemmas.{level_refused, positional_before, stray_refused}
 use Rattle.command_line.proofs.RowLemmas.{has_id}
-use Rattle.command_line.proofs.RunLemmas.{FlagUses, flag_uses, no_seed_value, seed_built, seed_given, seed_missing, seed_offered, unit_given}
+use Rattle.command_line.proofs.RequiredLemmas.{required_built, required_given, required_missing, required_offered, seed_long}
+use Rattle.command_line.proofs.RunLemmas.{FlagUses, flag_uses, unit_given}
 use Rattle.command_line.proofs.RunRefusals as refusals
 use Rattle.command_line.proofs.RunningLemmas.{defaults, file_is, file_placed, file_uses, no_program_given, no_seed_given, offers_run, offers_seed, program_built, program_taken, run, run_uses, seeded_uses}
 use Rattle.command_line.proofs.SubcommandLemmas.{run_fault}
 use Rattle.command_line.proofs.UseLemmas.{AreUses, LeavesRows, each_of, leaves_rows}
 use Rattle.command_line.proofs.ValueLemmas.{IsValue, decimal_fails}
+
+no_seed_name : (name : Text) → IsOneOf run_names name → bytes_eq name (codes "seed") ≡ false
+no_seed_name name (inl is) = rw is refl
+no_seed_name name (inr (inl is)) = rw is refl
+no_seed_name name (inr (inr (inl is))) = rw is refl
+no_seed_name name (inr (inr (inr (inl is)))) = rw is refl
+no_seed_name name (inr (inr (inr (inr is)))) = absurd is
+
+-- the options of a run alone have no seed
+pub no_seed_value : (options : List (Text × Text)) → AllByRecursion (λ option. IsOneOf run_names option.0) options → option_value (codes "seed") options ≡ None
+no_seed_value [] known = refl
+no_seed_value (o ∷ options) known = rw (no_seed_name o.0 known.0) (no_seed_value options known.1)
 
 module _ (names : UnitNames) where
   pub nothing_refused : fault_of (tsobench_app names) (codes "run" ∷ []) ≡ MissingRequiredArgument ∷ []
@@ -46,29 +60,29 @@ module _ (names : UnitNames) (are : map (λ name. name.now) names.now ≡ unit_n
         → fault_of (tsobench_app names) (codes "run" ∷ (unit ++ program ∷ rest)) ≡ InvalidValue ∷ []
     no_such_unit_refused unknown program rest is =
         refused_at names InvalidValue _
-        (refusals.no_such_unit (run names) names are (offers_run names) refl (program_built names) (program_taken names) refl name unit option unknown program rest is)
+        (refusals.no_such_unit (run names) names are (offers_run names).judged refl (program_built names) (program_taken names) refl name unit option unknown program rest is)
 
     module _ (known : is_unit name ≡ true) where
       pub outside_refused : (program option_name : Text) (limit n : ℕ) (these rest : List Text) → TakesNumber option_name limit → NamesOption option_name (decimal n) these → IsOutside limit n → n < 10 ^ 64 → IsValue program
           → fault_of (tsobench_app names) (codes "run" ∷ (unit ++ (these ++ program ∷ rest))) ≡ ValueValidation ∷ []
       outside_refused program option_name limit n these rest takes gives wrong small is =
           refused_at names ValueValidation _
-          (refusals.outside (run names) names are (offers_run names) refl (program_built names) (program_taken names) refl name unit option known
+          (refusals.outside (run names) names are (offers_run names).judged refl (program_built names) (program_taken names) refl name unit option known
           program option_name limit n these rest takes gives wrong small is)
 
-      pub seed_refused : (program : Text) (n : ℕ) (these rest : List Text) → NamesOption (codes "seed") (decimal n) these → seed_limit < n → n < 10 ^ 64 → IsValue program
+      pub seed_refused : (program : Text) (n : ℕ) (these rest : List Text) → NamesOption (codes "seed") (decimal n) these → number_limit < n → n < 10 ^ 64 → IsValue program
           → fault_of (tsobench_app names) (codes "run" ∷ (unit ++ (these ++ program ∷ rest))) ≡ ValueValidation ∷ []
       seed_refused program n these rest gives above small is =
-          let fails = decimal_fails 0 seed_limit n (λ least most. omega (arith, above, most)) small in
+          let fails = decimal_fails 0 number_limit n (λ least most. omega (arith, above, most)) small in
           refused_at names ValueValidation _
-          (refusals.after_unit (run names) names are (offers_run names) refl (program_built names) (program_taken names) refl name unit option known
-          seed_built (codes "seed") (decimal n) program these rest (seed_offered (run names) (offers_seed names)) gives refl (rw fails refl) refl refl is)
+          (refusals.after_unit (run names) names are (offers_run names).judged refl (program_built names) (program_taken names) refl name unit option known
+          (required_built (codes "seed")) (codes "seed") (decimal n) program these rest (required_offered (run names) (codes "seed") seed_long (offers_seed names)) gives refl (rw fails refl) refl refl is)
 
       pub another_file_refused : (program other : Text) (rest : List Text) → IsValue program → IsValue other
           → fault_of (tsobench_app names) (codes "run" ∷ (unit ++ program ∷ other ∷ rest)) ≡ UnknownArgument ∷ []
       another_file_refused program other rest is is_other =
           refused_at names UnknownArgument _
-          (refusals.unit_before (run names) names are (offers_run names) refl (program_built names) (program_taken names) refl name unit option known
+          (refusals.unit_before (run names) names are (offers_run names).judged refl (program_built names) (program_taken names) refl name unit option known
           (UnknownArgument ∷ []) (program ∷ other ∷ rest) (λ rows pending settled settles.
           positional_before (run names) rows pending 1 settles (UnknownArgument ∷ []) (program_built names) program (other ∷ rest) (program_taken names) refl refl refl is
           (stray_refused (run names) _ _ 2 UnknownArgument other rest refl refl is_other)))
@@ -104,14 +118,14 @@ module _ (names : UnitNames) (are : map (λ name. name.now) names.now ≡ unit_n
     pub no_seed_refused : fault_of (tsobench_app names) (codes "run" ∷ arguments) ≡ MissingRequiredArgument ∷ []
     no_seed_refused = run_fault names arguments ∙ ap (λ kinds. or_else kinds []) (leaves.fault
         ∙ no_seed_given names leaves.rows
-        (unit_given (run names) names (offers_run names).unit options asked.unit asks.unit arguments used_flags.uses used_files.uses leaves)
-        (seed_missing (run names) (offers_seed names) options arguments used_flags.uses used_files.uses leaves
+        (unit_given (run names) names (offers_run names).judged.unit options asked.unit asks.unit arguments used_flags.uses used_files.uses leaves)
+        (required_missing (run names) (codes "seed") seed_long (offers_seed names) options arguments used_flags.uses used_files.uses leaves
         (no_seed_value options (each_of (λ o. IsOneOf run_names o.0) options named.known))))
 
   -- ---- no file
 
   module _ (asked : RunOptions) (seed : ℕ) (options : List (Text × Text)) (flags arguments : List Text) (given : AreGiven options flags [] arguments)
-      (named : AreNamed seeded_names options) (asks : AsksRun options flags asked) (seeds : AsksSeed options seed) where
+      (named : AreNamed seeded_names options) (asks : AsksRun options flags asked) (seeds : AsksRequired (codes "seed") options seed) where
     seeded_flags : FlagUses (run names) names (offers_run names) flags asked.prints_trace
     seeded_flags = flag_uses (run names) names (offers_run names) flags asked.prints_trace asks.trace
 
@@ -125,6 +139,6 @@ module _ (names : UnitNames) (are : map (λ name. name.now) names.now ≡ unit_n
     pub no_file_refused : fault_of (tsobench_app names) (codes "run" ∷ arguments) ≡ MissingRequiredArgument ∷ []
     no_file_refused = run_fault names arguments ∙ ap (λ kinds. or_else kinds []) (seeded_leaves.fault
         ∙ no_program_given names seeded_leaves.rows
-        (unit_given (run names) names (offers_run names).unit options asked.unit asks.unit arguments seeded_flags.uses [] seeded_leaves)
-        (seed_given (run names) (offers_seed names) options arguments seeded_flags.uses [] seeded_leaves seed seeds)
+        (unit_given (run names) names (offers_run names).judged.unit options asked.unit asks.unit arguments seeded_flags.uses [] seeded_leaves)
+        (required_given (run names) (codes "seed") seed_long (offers_seed names) options arguments seeded_flags.uses [] seeded_leaves seed seeds)
         (ap (λ o. option_map_or (λ r. explicit_source r.source) o false) no_program_row))

@@ -12,7 +12,7 @@ use Rattle.command_line.specs.Options as given
 use Rattle.command_line.specs.Units.{unit_names}
 use Rattle.command_line.specs.Spellings.{Asks, AsksHelp}
 use Rattle.command_line.specs.Spellings as asks
-use Rattle.command_line.specs.Refusals.{Refuses, RefusesToJudge, RefusesToCheck, RefusesToReplay, RefusesToRun, IsRefusedNumber}
+use Rattle.command_line.specs.Refusals.{Refuses, RefusesToJudge, RefusesToCheck, RefusesToReplay, RefusesToRun, RefusesToMake, RefusesToCampaign, IsRefusedNumber}
 use Rattle.command_line.specs.Refusals as refuses
 use Rattle.command_line.specs.Commands.{UnitNames, asked_at, tsobench_app}
 use Rattle.command_line.specs.Internal.Computed.{IsFoundBy, asked_by, parsed_as}
@@ -24,6 +24,10 @@ use Rattle.command_line.proofs.JudgeLemmas as judge
 use Rattle.command_line.proofs.ReplayLemmas as replay
 use Rattle.command_line.proofs.ReplayRefusals as not_replayed
 use Rattle.command_line.proofs.RunningLemmas as run
+use Rattle.command_line.proofs.MakeLemmas as make
+use Rattle.command_line.proofs.CampaignLemmas as campaign
+use Rattle.command_line.proofs.MakeRefusals as not_made
+use Rattle.command_line.proofs.CampaignRefusals as not_campaigned
 use Rattle.command_line.proofs.RunningRefusals as not_run
 use Rattle.command_line.proofs.JudgeRefusals as not_judged
 use Rattle.command_line.proofs.CheckLemmas as check
@@ -73,6 +77,12 @@ module _ (units : UnitNames) where
   plain_is are arguments wanted asked (asks.run rest options seed program_file h) is =
       by_matches _ asked _ (run.run_taken units program_file are rest options seed h) (unchanged (codes "run" ∷ rest) asked (subcommand.run_parsed rest) is)
       ∙ run.run_asked units program_file are rest options seed h
+  plain_is are arguments wanted asked (asks.make rest seed shape h) is =
+      by_matches _ asked _ (make.make_taken units rest seed shape h) (unchanged (codes "make" ∷ rest) asked (subcommand.make_parsed rest) is)
+      ∙ make.make_asked units rest seed shape h
+  plain_is are arguments wanted asked (asks.campaign rest options h) is =
+      by_matches _ asked _ (campaign.campaign_taken units are rest options h) (unchanged (codes "campaign" ∷ rest) asked (subcommand.campaign_parsed rest) is)
+      ∙ campaign.campaign_asked units are rest options h
 
   -- ---- requests for a text
 
@@ -92,6 +102,12 @@ module _ (units : UnitNames) where
   help_is arguments asked asks.run_short is = by_kind _ asked _ _ (program.run_short_shown units) is
   help_is arguments asked asks.help_run is = by_kind _ asked _ _ (program.run_help_shown units) is
   help_is arguments asked asks.run_help is = by_kind _ asked _ _ (program.run_help_shown units) is
+  help_is arguments asked asks.make_short is = by_kind _ asked _ _ (program.make_short_shown units) is
+  help_is arguments asked asks.help_make is = by_kind _ asked _ _ (program.make_help_shown units) is
+  help_is arguments asked asks.make_help is = by_kind _ asked _ _ (program.make_help_shown units) is
+  help_is arguments asked asks.campaign_short is = by_kind _ asked _ _ (program.campaign_short_shown units) is
+  help_is arguments asked asks.help_campaign is = by_kind _ asked _ _ (program.campaign_help_shown units) is
+  help_is arguments asked asks.campaign_help is = by_kind _ asked _ _ (program.campaign_help_shown units) is
   help_is arguments asked asks.version_option is = by_kind _ asked _ _ (program.version_shown units) is
   help_is arguments asked asks.version_short is = by_kind _ asked _ _ (program.short_version_shown units) is
 
@@ -180,9 +196,28 @@ module _ (units : UnitNames) where
       by_kind _ asked _ _ (not_run.seed_refused units are name option names known program_file n these more gives above small (value_is program_file is_program))
       (unchanged _ asked (subcommand.run_parsed (option ++ (these ++ program_file ∷ more))) is)
 
+  make_refused : (rest : List Text) (asked : Asked) → RefusesToMake rest → IsFound (codes "make" ∷ rest) asked → asked ≡ refusing
+  make_refused rest asked (refuses.left_out name options arguments gives named numbers is_name none) is =
+      by_kind _ asked _ _ (not_made.left_out_refused units options arguments gives named numbers name is_name none)
+      (unchanged (codes "make" ∷ arguments) asked (subcommand.make_parsed arguments) is)
+  make_refused rest asked (refuses.above name value before after arguments gives named numbers wrong) is =
+      by_kind _ asked _ _ (not_made.above_refused units name value before after arguments gives named numbers wrong)
+      (unchanged (codes "make" ∷ arguments) asked (subcommand.make_parsed arguments) is)
+
+  campaign_refused : map (λ name. name.now) units.now ≡ unit_names → (rest : List Text) (asked : Asked) → RefusesToCampaign rest → IsFound (codes "campaign" ∷ rest) asked → asked ≡ refusing
+  campaign_refused are rest asked (refuses.left_out name options arguments gives named taken is_name none) is =
+      by_kind _ asked _ _ (not_campaigned.left_out_refused units are options arguments gives named taken name is_name none)
+      (unchanged (codes "campaign" ∷ arguments) asked (subcommand.campaign_parsed arguments) is)
+  campaign_refused are rest asked (refuses.wrong_value name value before after arguments gives named taken wrong) is =
+      by_kind _ asked _ _ (not_campaigned.value_refused units are name value before after arguments gives named taken wrong)
+      (unchanged (codes "campaign" ∷ arguments) asked (subcommand.campaign_parsed arguments) is)
+      ∙ (not_campaigned.wrong units are name value before after arguments gives named taken wrong).asks
+
   pub refused_is : map (λ name. name.now) units.now ≡ unit_names → (arguments : List Text) (asked : Asked) → Refuses arguments → IsFound arguments asked → asked ≡ refusing
   refused_is are arguments asked (refuses.unknown first rest file unknown) is = unknown_refused first rest asked (value_is first file) unknown is
   refused_is are arguments asked (refuses.judge rest h) is = judge_refused rest asked h is
   refused_is are arguments asked (refuses.check rest h) is = check_refused rest asked h is
   refused_is are arguments asked (refuses.replay rest h) is = replay_refused are rest asked h is
   refused_is are arguments asked (refuses.run rest h) is = run_refused are rest asked h is
+  refused_is are arguments asked (refuses.make rest h) is = make_refused rest asked h is
+  refused_is are arguments asked (refuses.campaign rest h) is = campaign_refused are rest asked h is

@@ -10,7 +10,7 @@ use Rattle.clap.proofs.OnLiterals.{clap_on_literals}
 use Rattle.clap.proofs.WalkLemmas.{walk_stopped}
 use Rattle.command_line.proofs.OptionLemmas.{standing}
 use Rattle.command_line.specs.Requests.{Text}
-use Rattle.command_line.specs.Commands.{UnitNames, check_app, judge_app, program_app, replay_app, run_app, tsobench_app}
+use Rattle.command_line.specs.Commands.{UnitNames, campaign_app, check_app, judge_app, make_app, program_app, replay_app, run_app, tsobench_app}
 use Rattle.command_line.specs.Internal.Computed.{parsed_as}
 
 -- the program as a subcommand sees it when it is built
@@ -72,6 +72,22 @@ module _ (units : UnitNames) where
     unfolding clap_on_literals
     run_fault = rw (left_to (codes "run") rest, nothing_fails (codes "run") [] rest) refl
 
+    pub make_found : subcommand_of (tsobench_app units) (codes "make" ∷ rest) ≡ Some (codes "make", rows_after (built_below make_app).rules [] rest)
+    unfolding walked
+    make_found = ap (λ (w : Walk). entered (built (tsobench_app units)) w.stopped) (left_to (codes "make") rest)
+
+    pub make_fault : fault_of (tsobench_app units) (codes "make" ∷ rest) ≡ or_else (level_fault (built_below make_app) [] nothing_held rest false []) []
+    unfolding clap_on_literals
+    make_fault = rw (left_to (codes "make") rest, nothing_fails (codes "make") [] rest) refl
+
+    pub campaign_found : subcommand_of (tsobench_app units) (codes "campaign" ∷ rest) ≡ Some (codes "campaign", rows_after (built_below (campaign_app units)).rules [] rest)
+    unfolding walked
+    campaign_found = ap (λ (w : Walk). entered (built (tsobench_app units)) w.stopped) (left_to (codes "campaign") rest)
+
+    pub campaign_fault : fault_of (tsobench_app units) (codes "campaign" ∷ rest) ≡ or_else (level_fault (built_below (campaign_app units)) [] nothing_held rest false []) []
+    unfolding clap_on_literals
+    campaign_fault = rw (left_to (codes "campaign") rest, nothing_fails (codes "campaign") [] rest) refl
+
 pub judge_parsed : (rest : List Text) → parsed_as (codes "judge" ∷ rest) ≡ codes "judge" ∷ rest
 judge_parsed [] = refl
 judge_parsed (x ∷ []) = refl
@@ -91,3 +107,13 @@ pub run_parsed : (rest : List Text) → parsed_as (codes "run" ∷ rest) ≡ cod
 run_parsed [] = refl
 run_parsed (x ∷ []) = refl
 run_parsed (x ∷ y ∷ ys) = refl
+
+pub make_parsed : (rest : List Text) → parsed_as (codes "make" ∷ rest) ≡ codes "make" ∷ rest
+make_parsed [] = refl
+make_parsed (x ∷ []) = refl
+make_parsed (x ∷ y ∷ ys) = refl
+
+pub campaign_parsed : (rest : List Text) → parsed_as (codes "campaign" ∷ rest) ≡ codes "campaign" ∷ rest
+campaign_parsed [] = refl
+campaign_parsed (x ∷ []) = refl
+campaign_parsed (x ∷ y ∷ ys) = refl

@@ -127,7 +127,7 @@ found_head name value options a uses id named as_written rest =
     go true = (a, refl, as_written)
     go false = rest
 
-option_uses : (s : Shape) (options : List (Text × Text)) → AllByRecursion (λ o. OptionUse s.rules o.0 o.1) options → IsDistinct bytes_eq (map (λ o. o.0) options) → OptionUses s options
+pub option_uses : (s : Shape) (options : List (Text × Text)) → AllByRecursion (λ o. OptionUse s.rules o.0 o.1) options → IsDistinct bytes_eq (map (λ o. o.0) options) → OptionUses s options
 option_uses s [] each once = record { uses = []; offered = no_option; make = tt; sorts = tt; other = λ name h. tt; apart = tt; found = λ id. refl }
 option_uses s ((name, value) ∷ options) each once =
     let rest = option_uses s options each.1 (IsDistinct-tail bytes_eq name (map (λ o. o.0) options) once) in
@@ -158,7 +158,7 @@ pub each_of : {X : Type 0} (P : X → Type 0) (xs : List X) → All P xs → All
 each_of P [] all = tt
 each_of P (x ∷ xs) all = (all 0 x (omega arith), each_of P xs (λ k d below. all (suc k) d (omega (arith, below))))
 
-each_both : {X : Type 0} (P Q R : X → Type 0) (xs : List X) → ((x : X) → P x → Q x → R x) → AllByRecursion P xs → AllByRecursion Q xs → AllByRecursion R xs
+pub each_both : {X : Type 0} (P Q R : X → Type 0) (xs : List X) → ((x : X) → P x → Q x → R x) → AllByRecursion P xs → AllByRecursion Q xs → AllByRecursion R xs
 each_both P Q R [] both p q = tt
 each_both P Q R (x ∷ xs) both p q = (both x p.0 q.0, each_both P Q R xs both p.1 q.1)
 
@@ -199,6 +199,9 @@ pub record AreUses (s : Shape) (sort : ℕ) (us : List Use) : Type 0 where
   pub make : AllByRecursion MakesRow us
   pub sorts : AllByRecursion (IsOfSort s.rules sort) us
   pub apart : AreApart us
+
+pub no_uses : (s : Shape) (sort : ℕ) → AreUses s sort []
+no_uses s sort = record { make = tt; sorts = tt; apart = tt }
 
 module _ (s : Shape) (single : s.args_override_self ≡ false) (pass : DefaultsPass s.rules)
     (options : List (Text × Text)) (flags others arguments : List Text) (flag_uses other_uses : List Use) where

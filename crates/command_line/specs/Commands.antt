@@ -11,10 +11,12 @@ use Rattle.clap.specs.declared.builder.value_parser.ValueParser.TheVariants as p
 use Rattle.clap.specs.declared.error.kind.ErrorKind.{ErrorKind}
 use Rattle.clap.specs.declared.error.kind.ErrorKind.TheVariants.{DisplayHelp, DisplayVersion}
 use Rattle.round_pool.specs.Workers.{worker_limit}
+use Rattle.command_line.specs.declared.options.CampaignOptions.{CampaignOptions}
 use Rattle.command_line.specs.declared.options.RunOptions.{RunOptions}
+use Rattle.command_line.specs.declared.options.ShapeNumbers.{ShapeNumbers}
 use Rattle.command_line.specs.declared.options.UnitKind.{UnitKind}
 use Rattle.command_line.specs.declared.options.UnitOptions.{UnitOptions}
-use Rattle.command_line.specs.Requests.{Text, Asked, capacity_limit, seed_limit, judging, checking, replaying, running, showing, refusing}
+use Rattle.command_line.specs.Requests.{Text, Asked, campaigning, capacity_limit, making, number_limit, judging, checking, replaying, running, showing, refusing}
 use Rattle.command_line.specs.Units.{default_capacity, default_trigger, trigger_limit, unit_kind, unit_names}
 
 -- ---- the command line
@@ -94,27 +96,39 @@ abbrev pub replay_app : UnitNames → App
 replay_app names =
     with_rules (new_app (codes "replay")) (run_rules names ++ program_file_rule ∷ schedule_file_rule ∷ [])
 
--- `--seed N`: a number of 64 bits
-abbrev pub seed_rule : Rule
-seed_rule = record (new_rule (codes "seed")) {
-  long = Some (codes "seed");
+-- `--name N`: a number of 64 bits, which may not be left out
+abbrev pub required_rule : Text → Rule
+required_rule name = record (new_rule name) {
+  long = Some name;
   value_names = 1;
   required = true;
-  parser = Some (parser.Unsigned 0 seed_limit);
+  parser = Some (parser.Unsigned 0 number_limit);
 }
 
 abbrev pub run_app : UnitNames → App
 run_app names =
-    with_rules (new_app (codes "run")) (run_rules names ++ seed_rule ∷ program_file_rule ∷ [])
+    with_rules (new_app (codes "run")) (run_rules names ++ required_rule (codes "seed") ∷ program_file_rule ∷ [])
+
+-- the options of a shape
+abbrev pub shape_rules : List Rule
+shape_rules = required_rule (codes "procs") ∷ required_rule (codes "ops") ∷ required_rule (codes "addrs") ∷ []
+
+abbrev pub make_app : App
+make_app = with_rules (new_app (codes "make")) (required_rule (codes "seed") ∷ shape_rules)
+
+abbrev pub campaign_app : UnitNames → App
+campaign_app names =
+    with_rules (new_app (codes "campaign"))
+    (unit_rules names ++ workers_rule ∷ required_rule (codes "first") ∷ required_rule (codes "count") ∷ shape_rules)
 
 -- the program, before its subcommands; the name of the program is none of its arguments
 abbrev pub program_app : App
 program_app = on_top (λ s. record s { no_binary_name = true; has_version = true }) (new_app (codes "tsobench"))
 
 abbrev pub tsobench_app : UnitNames → App
-tsobench_app names = with_subcommand
-    (with_subcommand (with_subcommand (with_subcommand program_app judge_app.top) check_app.top) (replay_app names).top)
-    (run_app names).top
+tsobench_app names =
+    fold (λ app command. with_subcommand app command.top) program_app
+    (judge_app ∷ check_app ∷ replay_app names ∷ run_app names ∷ make_app ∷ campaign_app names ∷ [])
 
 -- ---- what the matches stand for
 
@@ -149,11 +163,26 @@ pub record AskRun (rows : List Row) (options : RunOptions) : Type 0 where
   pub workers : AskWorkers rows options.workers
   pub trace : AskFlag (codes "trace") rows options.prints_trace
 
--- the rows ask for this seed: the number that its text spells, since `clap` refuses any other
-pub record AskSeed (rows : List Row) (n : ℕ) : Type 0 where
-  pub named : (text : Text) → one_of (codes "seed") rows ≡ Some text → is_unsigned_in 0 seed_limit text ≡ true
+-- the rows ask by the option of this name, which has no default, for the number that its text spells, since `clap`
+-- refuses any other
+pub record AskRequired (name : Text) (rows : List Row) (n : ℕ) : Type 0 where
+  pub named : (text : Text) → one_of name rows ≡ Some text → is_unsigned_in 0 number_limit text ≡ true
       → n ≡ digits_value 10 (without_leading_plus text)
-  pub within : n ≤ seed_limit
+  pub within : n ≤ number_limit
+
+-- the rows ask for a shape of these numbers
+pub record AskShape (rows : List Row) (shape : ShapeNumbers) : Type 0 where
+  pub processors : AskRequired (codes "procs") rows shape.processors
+  pub operations : AskRequired (codes "ops") rows shape.operations
+  pub addresses : AskRequired (codes "addrs") rows shape.addresses
+
+-- the rows ask for a campaign with these options
+pub record AskCampaign (rows : List Row) (options : CampaignOptions) : Type 0 where
+  pub unit : AskUnit rows options.unit
+  pub workers : AskWorkers rows options.workers
+  pub first : AskRequired (codes "first") rows options.first
+  pub count : AskRequired (codes "count") rows options.count
+  pub shape : AskShape rows options.shape
 
 abbrev pub checking_by : List Row → Asked
 checking_by rows =
@@ -173,7 +202,12 @@ pub record IsAskedIn (name : Text) (rows : List Row) (asked : Asked) : Type 0 wh
   pub replay : name ≡ codes "replay"
       → (options : RunOptions) × AskRun rows options × (asked ≡ replaying_with options rows)
   pub run : name ≡ codes "run"
-      → (options : RunOptions) × (seed : ℕ) × AskRun rows options × AskSeed rows seed × (asked ≡ running_with options seed rows)
+      → (options : RunOptions) × (seed : ℕ) × AskRun rows options × AskRequired (codes "seed") rows seed
+      × (asked ≡ running_with options seed rows)
+  pub make : name ≡ codes "make"
+      → (seed : ℕ) × (shape : ShapeNumbers) × AskRequired (codes "seed") rows seed × AskShape rows shape × (asked ≡ making seed shape)
+  pub campaign : name ≡ codes "campaign"
+      → (options : CampaignOptions) × AskCampaign rows options × (asked ≡ campaigning options)
 
 -- without a subcommand standard input is judged, with one worker
 abbrev pub IsAskedByMatches : Option (Text × List Row) → Asked → Type 0

@@ -1,19 +1,21 @@
 -- Plain arguments that are refused, in the program's own terms.
-use Rattle.std.specs.Prelude.{◌≡◌, ◌<◌, ◌^◌, ◌⊎◌, ◌||◌, ℕ, Bool, true, false, List, [], ◌∷◌, ◌++◌, codes, length}
+use Rattle.std.specs.Prelude.{◌≡◌, ◌≤◌, ◌<◌, ◌^◌, ◌⊎◌, ◌||◌, ℕ, Bool, true, false, List, [], ◌∷◌, ◌++◌, None, codes, length}
 use Rattle.std.specs.Fmt.{decimal}
+use Rattle.std.specs.List.{All}
 use Rattle.std.specs.Str.{bytes_eq}
 use Rattle.round_pool.specs.Workers.{worker_limit}
 use Rattle.command_line.specs.declared.options.RunOptions.{RunOptions}
-use Rattle.command_line.specs.Requests.{Text, capacity_limit, seed_limit}
-use Rattle.command_line.specs.Options.{AreGiven, AreNamed, NamesOption, is_value}
-use Rattle.command_line.specs.Spellings.{AsksRun, AsksSeed, run_names, seeded_names}
+use Rattle.command_line.specs.Requests.{Text, capacity_limit, number_limit}
+use Rattle.command_line.specs.Options.{AreGiven, AreNamed, IsOneOf, NamesOption, is_value, option_value}
+use Rattle.command_line.specs.Spellings.{AsksRequired, AsksRun, campaign_names, drawing_names, make_names, run_names, seeded_names}
 use Rattle.command_line.specs.Units.{is_unit, trigger_limit}
 
 -- the text is the name of a subcommand
 abbrev pub is_subcommand : Text → Bool
 is_subcommand text =
     bytes_eq text (codes "judge") || (bytes_eq text (codes "check")
-    || (bytes_eq text (codes "replay") || (bytes_eq text (codes "run") || bytes_eq text (codes "help"))))
+    || (bytes_eq text (codes "replay") || (bytes_eq text (codes "run")
+    || (bytes_eq text (codes "make") || (bytes_eq text (codes "campaign") || bytes_eq text (codes "help"))))))
 
 -- a number that an option refuses which takes 1 to a limit: 0, and one above the limit. Below, numbers have at most 64
 -- digits.
@@ -89,7 +91,7 @@ pub data RefusesToRun : List Text → Type 0 where
   -- the options and flags of a run, in any order, with a seed and no file
   no_file : (run : RunOptions) (seed : ℕ) (options : List (Text × Text)) (flags arguments : List Text)
       → AreGiven options flags [] arguments → AreNamed seeded_names options → AsksRun options flags run
-      → AsksSeed options seed → RefusesToRun arguments
+      → AsksRequired (codes "seed") options seed → RefusesToRun arguments
   -- the options and flags of a run, in any order, with one file or none and no seed
   no_seed : (run : RunOptions) (options : List (Text × Text)) (flags files arguments : List Text)
       → AreGiven options flags files arguments → AreNamed run_names options → AsksRun options flags run
@@ -109,8 +111,56 @@ pub data RefusesToRun : List Text → Type 0 where
   -- run --unit UNIT --seed N PROGRAM, where N is above 64 bits, with any after them
   seed_outside : (name program : Text) (n : ℕ) (unit these rest : List Text)
       → NamesOption (codes "unit") name unit → is_unit name ≡ true
-      → NamesOption (codes "seed") (decimal n) these → seed_limit < n → n < 10 ^ 64
+      → NamesOption (codes "seed") (decimal n) these → number_limit < n → n < 10 ^ 64
       → is_value program ≡ true → RefusesToRun (unit ++ (these ++ program ∷ rest))
+
+-- the text is a number of 64 bits, in digits without a leading zero
+pub record IsNumber (text : Text) : Type 0 where
+  pub n : ℕ
+  pub spelled : text ≡ decimal n
+  pub small : n ≤ number_limit
+
+-- and one above them
+pub record IsAbove (text : Text) : Type 0 where
+  pub n : ℕ
+  pub spelled : text ≡ decimal n
+  pub above : number_limit < n
+  pub short : n < 10 ^ 64
+
+-- the arguments after `make` are refused
+pub data RefusesToMake : List Text → Type 0 where
+  -- the options in any order, of which one is left out
+  left_out : (name : Text) (options : List (Text × Text)) (arguments : List Text)
+      → AreGiven options [] [] arguments → AreNamed make_names options → All (λ option. IsNumber option.1) options
+      → IsOneOf make_names name → option_value name options ≡ None → RefusesToMake arguments
+  -- the options in any order, of which one has a number above 64 bits, after others that have numbers of 64 bits
+  above : (name value : Text) (before after : List (Text × Text)) (arguments : List Text)
+      → AreGiven (before ++ (name, value) ∷ after) [] [] arguments → AreNamed make_names (before ++ (name, value) ∷ after)
+      → All (λ option. IsNumber option.1) before → IsAbove value → RefusesToMake arguments
+
+-- the option of `campaign` of this name takes this value
+pub data TakesValue : Text → Text → Type 0 where
+  unit : (name : Text) → is_unit name ≡ true → TakesValue (codes "unit") name
+  number : (option : Text) (limit n : ℕ) → TakesNumber option limit → 1 ≤ n → n ≤ limit → TakesValue option (decimal n)
+  required : (option value : Text) → IsOneOf drawing_names option → IsNumber value → TakesValue option value
+
+-- and it refuses this one
+pub data RefusesValue : Text → Text → Type 0 where
+  unit : (name : Text) → is_unit name ≡ false → RefusesValue (codes "unit") name
+  number : (option : Text) (limit n : ℕ) → TakesNumber option limit → IsOutside limit n → n < 10 ^ 64
+      → RefusesValue option (decimal n)
+  required : (option value : Text) → IsOneOf drawing_names option → IsAbove value → RefusesValue option value
+
+-- the arguments after `campaign` are refused
+pub data RefusesToCampaign : List Text → Type 0 where
+  -- the options in any order, of which the unit is left out, or a number that has no default
+  left_out : (name : Text) (options : List (Text × Text)) (arguments : List Text)
+      → AreGiven options [] [] arguments → AreNamed campaign_names options → All (λ option. TakesValue option.0 option.1) options
+      → IsOneOf (codes "unit" ∷ drawing_names) name → option_value name options ≡ None → RefusesToCampaign arguments
+  -- the options in any order, of which one has a value that it refuses, after others that take theirs
+  wrong_value : (name value : Text) (before after : List (Text × Text)) (arguments : List Text)
+      → AreGiven (before ++ (name, value) ∷ after) [] [] arguments → AreNamed campaign_names (before ++ (name, value) ∷ after)
+      → All (λ option. TakesValue option.0 option.1) before → RefusesValue name value → RefusesToCampaign arguments
 
 -- the arguments are refused
 pub data Refuses : List Text → Type 0 where
@@ -121,3 +171,5 @@ pub data Refuses : List Text → Type 0 where
   check : (rest : List Text) → RefusesToCheck rest → Refuses (codes "check" ∷ rest)
   replay : (rest : List Text) → RefusesToReplay rest → Refuses (codes "replay" ∷ rest)
   run : (rest : List Text) → RefusesToRun rest → Refuses (codes "run" ∷ rest)
+  make : (rest : List Text) → RefusesToMake rest → Refuses (codes "make" ∷ rest)
+  campaign : (rest : List Text) → RefusesToCampaign rest → Refuses (codes "campaign" ∷ rest)

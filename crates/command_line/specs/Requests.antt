@@ -2,8 +2,10 @@
 use Rattle.std.specs.Prelude.{◌≤◌, ◌^◌, ◌-◌, ℕ, List, map, Option, option_map, String, string_bytes}
 use Rattle.round_pool.specs.Workers.{worker_limit}
 use Rattle.command_line.specs.declared.requests.Request.{Request}
+use Rattle.command_line.specs.declared.options.CampaignOptions.{CampaignOptions}
 use Rattle.command_line.specs.declared.options.RunOptions.{RunOptions}
-use Rattle.command_line.specs.declared.requests.Request.TheVariants.{Judge, Check, Replay, Run, Show, Refuse}
+use Rattle.command_line.specs.declared.options.ShapeNumbers.{ShapeNumbers}
+use Rattle.command_line.specs.declared.requests.Request.TheVariants.{Judge, Check, Replay, Run, Make, Campaign, Show, Refuse}
 
 -- the bytes of a text
 abbrev pub Text : Type 0
@@ -24,6 +26,10 @@ pub data Asked : Type 0 where
   replaying : RunOptions → Text → Text → Asked
   -- to run the program in a file with a thread per processor, with these options and this seed of the drains
   running : RunOptions → ℕ → Text → Asked
+  -- to print the program drawn from this seed in this shape
+  making : ℕ → ShapeNumbers → Asked
+  -- to run the programs drawn from the seeds of a campaign, and to judge the trace of each
+  campaigning : CampaignOptions → Asked
   -- to print the help or the version
   showing : Asked
   -- nothing that the program does: the arguments are refused
@@ -35,6 +41,8 @@ asked_of (Judge file workers) = judging (option_map (λ f. f.now) file) workers
 asked_of (Check trace certificate) = checking trace.now certificate.now
 asked_of (Replay options program schedule) = replaying options program.now schedule.now
 asked_of (Run options drain_seed program) = running options drain_seed program.now
+asked_of (Make seed shape) = making seed shape
+asked_of (Campaign options) = campaigning options
 asked_of (Show text) = showing
 asked_of (Refuse text) = refusing
 
@@ -42,16 +50,18 @@ asked_of (Refuse text) = refusing
 abbrev pub capacity_limit : ℕ
 capacity_limit = 64
 
--- the greatest seed
-abbrev pub seed_limit : ℕ
-seed_limit = 2 ^ 64 - 1
+-- the greatest number of 64 bits
+abbrev pub number_limit : ℕ
+number_limit = 2 ^ 64 - 1
 
--- judging is done by a number of workers within the limits
+-- judging is done, and a campaign is run, by a number of workers within the limits
 abbrev pub HasWorkers : Asked → Type 0
 HasWorkers (judging file workers) = (1 ≤ workers) × (workers ≤ worker_limit)
 HasWorkers (checking trace certificate) = Unit {0}
 HasWorkers (replaying options program schedule) = (1 ≤ options.workers) × (options.workers ≤ worker_limit)
 HasWorkers (running options drain_seed program) = (1 ≤ options.workers) × (options.workers ≤ worker_limit)
+HasWorkers (making seed shape) = Unit {0}
+HasWorkers (campaigning options) = (1 ≤ options.workers) × (options.workers ≤ worker_limit)
 HasWorkers showing = Unit {0}
 HasWorkers refusing = Unit {0}
 
@@ -61,5 +71,7 @@ HasUnitRanges (judging file workers) = Unit {0}
 HasUnitRanges (checking trace certificate) = Unit {0}
 HasUnitRanges (replaying options program schedule) = (1 ≤ options.unit.capacity) × (options.unit.capacity ≤ capacity_limit) × (1 ≤ options.unit.trigger)
 HasUnitRanges (running options drain_seed program) = (1 ≤ options.unit.capacity) × (options.unit.capacity ≤ capacity_limit) × (1 ≤ options.unit.trigger)
+HasUnitRanges (making seed shape) = Unit {0}
+HasUnitRanges (campaigning options) = (1 ≤ options.unit.capacity) × (options.unit.capacity ≤ capacity_limit) × (1 ≤ options.unit.trigger)
 HasUnitRanges showing = Unit {0}
 HasUnitRanges refusing = Unit {0}

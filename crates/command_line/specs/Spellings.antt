@@ -1,11 +1,13 @@
 -- The plain spellings of requests: which arguments ask for what, in the program's own terms.
-use Rattle.std.specs.Prelude.{◌≡◌, ◌≤◌, ℕ, List, [], ◌∷◌, Option, Some, None, codes, option_and_then, option_to_list}
+use Rattle.std.specs.Prelude.{◌≡◌, ◌≤◌, ℕ, List, [], ◌∷◌, ◌++◌, Option, Some, None, codes, option_and_then, option_to_list}
 use Rattle.std.specs.Fmt.{decimal}
 use Rattle.round_pool.specs.Workers.{worker_limit}
+use Rattle.command_line.specs.declared.options.CampaignOptions.{CampaignOptions}
 use Rattle.command_line.specs.declared.options.RunOptions.{RunOptions}
+use Rattle.command_line.specs.declared.options.ShapeNumbers.{ShapeNumbers}
 use Rattle.command_line.specs.declared.options.UnitOptions.{UnitOptions}
 use Rattle.command_line.specs.Options.{AreGiven, AreNamed, AsksFlag, AsksNumber, option_value}
-use Rattle.command_line.specs.Requests.{Text, Asked, capacity_limit, seed_limit, judging, checking, replaying, running}
+use Rattle.command_line.specs.Requests.{Text, Asked, campaigning, capacity_limit, making, number_limit, judging, checking, replaying, running}
 use Rattle.command_line.specs.Units.{default_capacity, default_trigger, trigger_limit, unit_kind}
 
 -- the options of `judge`: none, for one worker, or a number of workers, in digits without a leading zero
@@ -50,9 +52,9 @@ pub record AsksToReplay (arguments : List Text) (run : RunOptions) (program sche
   pub named : AreNamed run_names options
   pub asks : AsksRun options flags run
 
--- the options ask for this seed, in digits without a leading zero; there is no default
-abbrev pub AsksSeed : List (Text × Text) → ℕ → Type 0
-AsksSeed options n = (option_value (codes "seed") options ≡ Some (decimal n)) × (n ≤ seed_limit)
+-- by the option of this name, which has no default, the options ask for this number, in digits without a leading zero
+abbrev pub AsksRequired : Text → List (Text × Text) → ℕ → Type 0
+AsksRequired name options n = (option_value name options ≡ Some (decimal n)) × (n ≤ number_limit)
 
 -- the names of the options of `run`
 abbrev pub seeded_names : List Text
@@ -66,7 +68,50 @@ pub record AsksToRun (arguments : List Text) (run : RunOptions) (seed : ℕ) (pr
   pub given : AreGiven options flags (program ∷ []) arguments
   pub named : AreNamed seeded_names options
   pub asks : AsksRun options flags run
-  pub seeds : AsksSeed options seed
+  pub seeds : AsksRequired (codes "seed") options seed
+
+-- the options ask for a shape of these numbers
+pub record AsksShape (options : List (Text × Text)) (shape : ShapeNumbers) : Type 0 where
+  pub processors : AsksRequired (codes "procs") options shape.processors
+  pub operations : AsksRequired (codes "ops") options shape.operations
+  pub addresses : AsksRequired (codes "addrs") options shape.addresses
+
+-- the names of the options of a shape
+abbrev pub shape_names : List Text
+shape_names = codes "procs" ∷ codes "ops" ∷ codes "addrs" ∷ []
+
+-- the names of the options of `make`
+abbrev pub make_names : List Text
+make_names = codes "seed" ∷ shape_names
+
+-- the arguments after `make`, as `--seed N --procs P --ops O --addrs A` in any order, ask for the program that is drawn
+-- from this seed in this shape
+pub record AsksToMake (arguments : List Text) (seed : ℕ) (shape : ShapeNumbers) : Type 0 where
+  pub options : List (Text × Text)
+  pub given : AreGiven options [] [] arguments
+  pub named : AreNamed make_names options
+  pub seeds : AsksRequired (codes "seed") options seed
+  pub shapes : AsksShape options shape
+
+-- the names of the options of `campaign` with a number that may not be left out
+abbrev pub drawing_names : List Text
+drawing_names = codes "first" ∷ codes "count" ∷ shape_names
+
+-- the names of the options of `campaign`
+abbrev pub campaign_names : List Text
+campaign_names = run_names ++ drawing_names
+
+-- the arguments after `campaign`, as `--unit UNIT [--capacity C] [--trigger T] [--workers N] --first S --count K
+-- --procs P --ops O --addrs A` in any order, ask for this campaign
+pub record AsksToCampaign (arguments : List Text) (campaign : CampaignOptions) : Type 0 where
+  pub options : List (Text × Text)
+  pub given : AreGiven options [] [] arguments
+  pub named : AreNamed campaign_names options
+  pub unit : AsksUnit options campaign.unit
+  pub workers : AsksNumber 1 1 worker_limit (option_value (codes "workers") options) campaign.workers
+  pub first : AsksRequired (codes "first") options campaign.first
+  pub count : AsksRequired (codes "count") options campaign.count
+  pub shape : AsksShape options campaign.shape
 
 -- the arguments ask for this
 pub data Asks : List Text → Asked → Type 0 where
@@ -80,6 +125,10 @@ pub data Asks : List Text → Asked → Type 0 where
       → Asks (codes "replay" ∷ rest) (replaying run program schedule)
   run : (rest : List Text) (options : RunOptions) (seed : ℕ) (program : Text) → AsksToRun rest options seed program
       → Asks (codes "run" ∷ rest) (running options seed program)
+  make : (rest : List Text) (seed : ℕ) (shape : ShapeNumbers) → AsksToMake rest seed shape
+      → Asks (codes "make" ∷ rest) (making seed shape)
+  campaign : (rest : List Text) (options : CampaignOptions) → AsksToCampaign rest options
+      → Asks (codes "campaign" ∷ rest) (campaigning options)
 
 -- the arguments ask for the help or for the version
 pub data AsksHelp : List Text → Type 0 where
@@ -98,5 +147,11 @@ pub data AsksHelp : List Text → Type 0 where
   help_run : AsksHelp (codes "help" ∷ codes "run" ∷ [])
   run_help : AsksHelp (codes "run" ∷ codes "--help" ∷ [])
   run_short : AsksHelp (codes "run" ∷ codes "-h" ∷ [])
+  help_make : AsksHelp (codes "help" ∷ codes "make" ∷ [])
+  make_help : AsksHelp (codes "make" ∷ codes "--help" ∷ [])
+  make_short : AsksHelp (codes "make" ∷ codes "-h" ∷ [])
+  help_campaign : AsksHelp (codes "help" ∷ codes "campaign" ∷ [])
+  campaign_help : AsksHelp (codes "campaign" ∷ codes "--help" ∷ [])
+  campaign_short : AsksHelp (codes "campaign" ∷ codes "-h" ∷ [])
   version_option : AsksHelp (codes "--version" ∷ [])
   version_short : AsksHelp (codes "-V" ∷ [])

@@ -1,8 +1,8 @@
-//! The options of subcommands: those of a unit, those of a run, the seed.
+//! The options of subcommands: those of a unit, those of a run, those of a shape, and numbers that are required.
 ghost use Rattle.std.specs.Prelude.{◌≡◌, false, IfOk};
 ghost use Rattle.clap.specs.Words.{app_of, rule_of};
 ghost use Rattle.clap.specs.declared.builder.command.Command.TheViews.{out-Command as fields_of};
-ghost use Rattle.command_line.specs.Commands.{capacity_rule, prints_rule, run_rules, seed_rule, trigger_rule, unit_rule, unit_rules, with_rules, workers_rule};
+ghost use Rattle.command_line.specs.Commands.{capacity_rule, prints_rule, required_rule, run_rules, shape_rules, trigger_rule, unit_rule, unit_rules, with_rules, workers_rule};
 
 use crate::help;
 use crate::options::MAX_CAPACITY;
@@ -20,8 +20,8 @@ const DEFAULT_CAPACITY: &str = "8";
 /// The trigger of a unit where none is named.
 const DEFAULT_TRIGGER: &str = "1";
 
-/// The option `--workers`.
-pub(crate) fn workers_option<'a>(alloc: Global) -> Arg<'a>
+/// The option `--workers`, with this help.
+pub(crate) fn workers_option<'a>(alloc: Global, help: &'a str) -> Arg<'a>
     ensures rule { rule_of result ≡ workers_rule }
     ensures local { result.global ≡ false }
 {
@@ -30,20 +30,39 @@ pub(crate) fn workers_option<'a>(alloc: Global) -> Arg<'a>
         .value_name("N")
         .value_parser(value_parser!(u64).range(1..=MAX_WORKERS as i64))
         .default_value(DEFAULT_WORKERS)
-        .help(help::WORKERS)
+        .help(help)
 }
 
-/// The option `--seed`.
-pub(crate) fn seed_option<'a>(alloc: Global) -> Arg<'a>
-    ensures rule { rule_of result ≡ seed_rule }
+/// The option of this name, which takes a number of 64 bits and may not be left out.
+pub(crate) fn required_option<'a>(
+    alloc: Global,
+    name: &'a str,
+    value_name: &'a str,
+    help: &'a str,
+) -> Arg<'a>
+    ensures rule { rule_of result ≡ required_rule name.now }
     ensures local { result.global ≡ false }
 {
-    Arg::new(alloc, "seed")
-        .long("seed")
-        .value_name("N")
+    Arg::new(alloc, name)
+        .long(name)
+        .value_name(value_name)
         .required(true)
         .value_parser(value_parser!(u64))
-        .help(help::SEED)
+        .help(help)
+}
+
+/// The command with the options of a shape.
+pub(crate) fn with_shape_options<'a>(
+    alloc: Global,
+    command: Command<'a>,
+) -> Result<Command<'a>, AllocError>
+    ensures app { IfOk result (λ offered. app_of offered ≡ with_rules (app_of command.entry) shape_rules) }
+    ensures local { IfOk result (λ offered. (fields_of offered).has_globals ≡ (fields_of command.entry).has_globals) }
+{
+    command
+        .arg(required_option(alloc, "procs", "P", help::PROCESSORS))?
+        .arg(required_option(alloc, "ops", "O", help::OPERATIONS))?
+        .arg(required_option(alloc, "addrs", "A", help::ADDRESSES))
 }
 
 /// The command with the options of a run: those of a unit, which has one of these names, `--workers` and `--trace`.
@@ -56,12 +75,12 @@ pub(crate) fn with_run_options<'a>(
     ensures local { IfOk result (λ offered. (fields_of offered).has_globals ≡ (fields_of command.entry).has_globals) }
 {
     with_unit_options(alloc, command, names)?
-        .arg(workers_option(alloc))?
+        .arg(workers_option(alloc, help::WORKERS))?
         .arg(trace_option(alloc))
 }
 
 /// The command with the options of a unit, which has one of these names.
-fn with_unit_options<'a>(
+pub(crate) fn with_unit_options<'a>(
     alloc: Global,
     command: Command<'a>,
     names: &'a [&'a str],

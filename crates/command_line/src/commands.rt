@@ -2,9 +2,11 @@
 ghost use Rattle.std.specs.Prelude.{◌≡◌, false, IfOk};
 ghost use Rattle.clap.specs.Words.{app_of};
 ghost use Rattle.clap.specs.declared.builder.command.Command.TheViews.{out-Command as fields_of};
-ghost use Rattle.command_line.specs.Commands.{check_app, judge_app, replay_app, run_app, tsobench_app};
+ghost use Rattle.command_line.specs.Commands.{campaign_app, check_app, judge_app, make_app, program_app, replay_app, run_app, tsobench_app};
 
-use crate::arguments::{seed_option, with_run_options, workers_option};
+use crate::arguments::{
+    required_option, with_run_options, with_shape_options, with_unit_options, workers_option,
+};
 use crate::help;
 use clap::{Arg, Command};
 use std::alloc::{AllocError, Global};
@@ -20,16 +22,27 @@ pub(crate) fn tsobench_command<'a>(
     ensures app { IfOk result (λ command. app_of command ≡ tsobench_app names.entry) }
     ensures local { IfOk result (λ command. (fields_of command).has_globals ≡ false) }
 {
-    Command::new(alloc, "tsobench")
+    program_command(alloc)?
+        .subcommand(judge_command(alloc)?)?
+        .subcommand(check_command(alloc)?)?
+        .subcommand(replay_command(alloc, names)?)?
+        .subcommand(run_command(alloc, names)?)?
+        .subcommand(make_command(alloc)?)?
+        .subcommand(campaign_command(alloc, names)?)
+}
+
+/// The command line before its subcommands.
+fn program_command<'a>(alloc: Global) -> Result<Command<'a>, AllocError>
+    ensures app { IfOk result (λ command. app_of command ≡ program_app) }
+    ensures local { IfOk result (λ command. (fields_of command).has_globals ≡ false) }
+{
+    let command = Command::new(alloc, "tsobench")
         .bin_name("tsobench")?
         .no_binary_name(true)
         .version(VERSION)
         .about(help::ABOUT)
-        .after_help(help::PROGRAM)
-        .subcommand(judge_command(alloc)?)?
-        .subcommand(check_command(alloc)?)?
-        .subcommand(replay_command(alloc, names)?)?
-        .subcommand(run_command(alloc, names)?)
+        .after_help(help::PROGRAM);
+    Ok(command)
 }
 
 /// The subcommand `judge`.
@@ -43,7 +56,7 @@ fn judge_command<'a>(alloc: Global) -> Result<Command<'a>, AllocError>
     Command::new(alloc, "judge")
         .about("Judges a trace and prints its report")
         .after_help(help::JUDGE)
-        .arg(workers_option(alloc))?
+        .arg(workers_option(alloc, help::WORKERS))?
         .arg(file)
 }
 
@@ -101,6 +114,33 @@ fn run_command<'a>(alloc: Global, names: &'a [&'a str]) -> Result<Command<'a>, A
         .about("Runs a program with a thread per processor, and judges the trace")
         .after_help(help::RUN);
     with_run_options(alloc, command, names)?
-        .arg(seed_option(alloc))?
+        .arg(required_option(alloc, "seed", "N", help::DRAIN_SEED))?
         .arg(program)
+}
+
+/// The subcommand `make`.
+fn make_command<'a>(alloc: Global) -> Result<Command<'a>, AllocError>
+    ensures app { IfOk result (λ command. app_of command ≡ make_app) }
+    ensures local { IfOk result (λ command. (fields_of command).has_globals ≡ false) }
+{
+    let command = Command::new(alloc, "make")
+        .about("Prints the program that is drawn from a seed")
+        .after_help(help::MAKE)
+        .arg(required_option(alloc, "seed", "N", help::SEED))?;
+    with_shape_options(alloc, command)
+}
+
+/// The subcommand `campaign`.
+fn campaign_command<'a>(alloc: Global, names: &'a [&'a str]) -> Result<Command<'a>, AllocError>
+    ensures app { IfOk result (λ command. app_of command ≡ campaign_app names.entry) }
+    ensures local { IfOk result (λ command. (fields_of command).has_globals ≡ false) }
+{
+    let command = Command::new(alloc, "campaign")
+        .about("Runs the programs drawn from many seeds, and judges their traces")
+        .after_help(help::CAMPAIGN);
+    let command = with_unit_options(alloc, command, names)?
+        .arg(workers_option(alloc, help::CAMPAIGN_WORKERS))?
+        .arg(required_option(alloc, "first", "S", help::FIRST))?
+        .arg(required_option(alloc, "count", "K", help::COUNT))?;
+    with_shape_options(alloc, command)
 }

@@ -4,9 +4,11 @@ ghost use Rattle.clap.specs.Words.{found_of, rows_of, subcommand_rows_of};
 ghost use Rattle.command_line.specs.Requests.{HasUnitRanges, HasWorkers, asked_of};
 ghost use Rattle.round_pool.specs.Workers.{worker_limit};
 ghost use Rattle.command_line.specs.Commands.{checking_by};
-ghost use Rattle.command_line.specs.Internal.Computed.{asked_by, capacity_in, judging_by, replaying_by, run_in, running_by, seed_in, trigger_in, unit_in, workers_in};
+ghost use Rattle.command_line.specs.Internal.Computed.{asked_by, campaigning_by, capacity_in, judging_by, making_by, replaying_by, required_in, run_in, running_by, shape_in, trigger_in, unit_in, workers_in};
 
-use crate::options::{MAX_CAPACITY, RunOptions, UnitKind, UnitOptions, kind_named};
+use crate::options::{
+    CampaignOptions, MAX_CAPACITY, RunOptions, ShapeNumbers, UnitKind, UnitOptions, kind_named,
+};
 use crate::requests::Request;
 use clap::ArgMatches;
 use round_pool::MAX_WORKERS;
@@ -28,6 +30,12 @@ pub(crate) fn request<'a>(matches: &ArgMatches<'a>) -> Request<'a>
     }
     if let Some(found) = matches.subcommand_matches("run") {
         return run_request(found);
+    }
+    if let Some(found) = matches.subcommand_matches("make") {
+        return make_request(found);
+    }
+    if let Some(found) = matches.subcommand_matches("campaign") {
+        return campaign_request(found);
     }
     Request::Judge {
         file: None,
@@ -74,16 +82,50 @@ fn run_request<'a>(matches: &ArgMatches<'a>) -> Request<'a>
     let program = matches.get_str("program").unwrap_or("");
     Request::Run {
         options: run_options(matches),
-        drain_seed: seed(matches),
+        drain_seed: required_number(matches, "seed"),
         program,
     }
 }
 
-/// The seed. The command has refused arguments without one.
-fn seed(matches: &ArgMatches<'_>) -> u64
-    ensures { result ≡ seed_in (rows_of (found_of matches.now)) }
+/// What the matches of `make` ask for. The command has refused arguments without a seed or a shape.
+fn make_request<'a>(matches: &ArgMatches<'a>) -> Request<'a>
+    ensures { asked_of result ≡ making_by (rows_of (found_of matches.now)) }
 {
-    let named: Option<u64> = matches.get_one("seed");
+    Request::Make {
+        seed: required_number(matches, "seed"),
+        shape: shape_numbers(matches),
+    }
+}
+
+/// What the matches of `campaign` ask for. The command has refused arguments without seeds or a shape.
+fn campaign_request<'a>(matches: &ArgMatches<'a>) -> Request<'a>
+    ensures { asked_of result ≡ campaigning_by (rows_of (found_of matches.now)) }
+{
+    Request::Campaign(CampaignOptions {
+        unit: unit_options(matches),
+        workers: workers(matches),
+        first: required_number(matches, "first"),
+        count: required_number(matches, "count"),
+        shape: shape_numbers(matches),
+    })
+}
+
+/// What the options say of a shape.
+fn shape_numbers(matches: &ArgMatches<'_>) -> ShapeNumbers
+    ensures { result ≡ shape_in (rows_of (found_of matches.now)) }
+{
+    ShapeNumbers {
+        processors: required_number(matches, "procs"),
+        operations: required_number(matches, "ops"),
+        addresses: required_number(matches, "addrs"),
+    }
+}
+
+/// The number of the option of this name. The command has refused arguments without one.
+fn required_number(matches: &ArgMatches<'_>, name: &str) -> u64
+    ensures { result ≡ required_in name.now (rows_of (found_of matches.now)) }
+{
+    let named: Option<u64> = matches.get_one(name);
     named.unwrap_or(0)
 }
 

@@ -32,6 +32,9 @@ Example:
 /// Of `--workers`; it tells the limit of workers.
 pub(crate) const WORKERS: &str = "How many workers judge, 1 to 64";
 
+/// Of `--workers` in `campaign`; it tells the limit too.
+pub(crate) const CAMPAIGN_WORKERS: &str = "How many workers share the seeds, 1 to 64";
+
 const _: () = prove!(MAX_WORKERS == 64);
 
 /// Of `--unit`.
@@ -45,8 +48,27 @@ const _: () = prove!(MAX_CAPACITY == 64);
 /// Of `--trigger`.
 pub(crate) const TRIGGER: &str = "From which occasion on a faulty unit deviates, from 1";
 
-/// Of `--seed`.
-pub(crate) const SEED: &str = "The seed of the drains, 0 to 18446744073709551615";
+/// Of `--seed` in `run`.
+pub(crate) const DRAIN_SEED: &str = "The seed of the drains, 0 to 18446744073709551615";
+
+/// Of `--seed` in `make`.
+pub(crate) const SEED: &str = "The seed of the program, 0 to 18446744073709551615";
+
+/// Of `--first`.
+pub(crate) const FIRST: &str = "The first seed, 0 to 18446744073709551615";
+
+/// Of `--count`.
+pub(crate) const COUNT: &str =
+    "How many seeds there are, each one more than the last, at most 1000";
+
+/// Of `--procs`.
+pub(crate) const PROCESSORS: &str = "How many processors the program has, 1 to 16";
+
+/// Of `--ops`.
+pub(crate) const OPERATIONS: &str = "How many operations each processor has, at most 1000 over all";
+
+/// Of `--addrs`.
+pub(crate) const ADDRESSES: &str = "How many addresses are drawn from, 1 to 256";
 
 /// Of `--trace`.
 pub(crate) const TRACE: &str = "Prints the recorded trace alone";
@@ -136,3 +158,51 @@ Exit status:
 
 Example:
   tsobench run --unit buffer --seed 1 PROGRAM";
+
+/// Of `make`.
+pub(crate) const MAKE: &str = "\
+It draws a program from a seed and prints its text, which `tsobench run` and
+`tsobench replay` read. The same arguments give the same program each time.
+
+P, O and A are the shape of the program: each of its P processors has O
+operations, which are loads, stores, swaps and barriers at the addresses 0 to
+A - 1. P times O is at most 1,000. Each store and swap writes a value of its
+own: 1, 2, 3 and so on. A shape outside the limits gets one line, REFUSED Shape.
+
+Exit status:
+  0  the program was printed
+  2  the shape or the command line was refused
+  4  a fault, which one line on standard error names, as FAULT OutOfMemory
+
+Example:
+  tsobench make --seed 1 --procs 2 --ops 4 --addrs 2 > PROGRAM
+  tsobench run --unit buffer --seed 1 PROGRAM";
+
+/// Of `campaign`.
+pub(crate) const CAMPAIGN: &str = "\
+It takes the seeds S, S + 1 and so on, K of them. From each it draws a program,
+as `tsobench make` does, and runs it on a memory unit of its own, as
+`tsobench run` does with the same seed; the trace of what the unit answered is
+recorded and judged. It prints a line for each seed, in their order,
+`seed S NO VIOLATION FOUND` or `seed S VIOLATION`, and then a line
+`seeds K violations M`, where M is the number of seeds with a violation.
+
+P, O and A are the shape of each program, as for `tsobench make`. A shape
+outside the limits gets one line, REFUSED Shape; more than 1,000 seeds, or a
+last seed above 18446744073709551615, get one line, REFUSED Seeds.
+
+The system, and not the seed, says in which order the threads come to the unit:
+two campaigns of the same arguments may find different violations. Each worker
+runs one seed at a time; the order of the lines is the same for each number of
+workers. --capacity and --trigger are ignored by units that have no use for
+them.
+
+Exit status:
+  0  no violation was found
+  2  the shape, the seeds or the command line were refused
+  3  the trace of a seed violates its memory model
+  4  a fault, which one line on standard error names, as FAULT NoThread
+
+Example:
+  tsobench campaign --unit buffer --first 1 --count 20 \\
+    --procs 2 --ops 4 --addrs 2";

@@ -12,5 +12,5 @@ mod requests;
 #[cfg(test)]
 mod tests;
 
-pub use options::{MAX_CAPACITY, RunOptions, UnitKind, UnitOptions};
+pub use options::{CampaignOptions, MAX_CAPACITY, RunOptions, ShapeNumbers, UnitKind, UnitOptions};
 pub use requests::{Request, read_arguments};

@@ -1,4 +1,4 @@
-//! What options say of a run on a memory unit.
+//! What options say of a run on a memory unit, and of drawn programs.
 ghost use Rattle.std.specs.Prelude.{◌≡◌};
 ghost use Rattle.command_line.specs.Units.{unit_kind};
 
@@ -67,4 +67,30 @@ pub struct RunOptions {
     pub workers: usize,
     /// Whether the recorded trace is printed, in place of its report and the account.
     pub prints_trace: bool,
+}
+
+/// The shape of a drawn program, as numbers that no limit was compared with.
+#[derive(Clone, Copy, Debug, PartialEq, Eq)]
+pub struct ShapeNumbers {
+    /// The number of processors.
+    pub processors: u64,
+    /// The number of operations of each processor.
+    pub operations: u64,
+    /// The number of addresses.
+    pub addresses: u64,
+}
+
+/// Which programs a campaign draws, and how each is run.
+#[derive(Clone, Copy, Debug, PartialEq, Eq)]
+pub struct CampaignOptions {
+    /// The unit on which each is run.
+    pub unit: UnitOptions,
+    /// The number of workers that share the seeds, 1 to 64.
+    pub workers: usize,
+    /// The seed of the first program; each further program has the next seed.
+    pub first: u64,
+    /// The number of seeds.
+    pub count: u64,
+    /// The shape of each program.
+    pub shape: ShapeNumbers,
 }

@@ -10,7 +10,7 @@ ghost use Rattle.command_line.specs.Internal.Computed.{help_option_of, parsed_as
 
 use crate::commands::tsobench_command;
 use crate::found::request;
-use crate::options::{RunOptions, UNIT_NAMES};
+use crate::options::{CampaignOptions, RunOptions, ShapeNumbers, UNIT_NAMES};
 use clap::error::ErrorKind;
 use clap::{ArgMatches, Error};
 use std::alloc::{AllocError, Global};
@@ -41,6 +41,13 @@ pub enum Request<'a> {
         drain_seed: u64,
         program: &'a str,
     },
+    /// To print the program that is drawn from this seed in this shape.
+    Make {
+        seed: u64,
+        shape: ShapeNumbers,
+    },
+    /// To run the programs that are drawn from many seeds, and to judge the trace of each.
+    Campaign(CampaignOptions),
     /// To print this text on standard output: the help or the version that was asked for.
     Show(String),
     /// To refuse the arguments, with this text for standard error.
@@ -99,6 +106,12 @@ static REPLAY_HELP: [&str; 2] = ["replay", "--help"];
 /// The option that asks for the help of `run`.
 static RUN_HELP: [&str; 2] = ["run", "--help"];
 
+/// The option that asks for the help of `make`.
+static MAKE_HELP: [&str; 2] = ["make", "--help"];
+
+/// The option that asks for the help of `campaign`.
+static CAMPAIGN_HELP: [&str; 2] = ["campaign", "--help"];
+
 /// The option that asks for what `help`, alone or with the name of a subcommand, asks for: `clap` promises more of it,
 /// and it gives the same text. None of all other arguments.
 fn help_option(arguments: &[String]) -> Option<&'static [&'static str]>
@@ -126,6 +139,12 @@ fn subcommand_help_option(name: &str) -> Option<&'static [&'static str]>
     }
     if name == "run" {
         return Some(RUN_HELP.as_slice());
+    }
+    if name == "make" {
+        return Some(MAKE_HELP.as_slice());
+    }
+    if name == "campaign" {
+        return Some(CAMPAIGN_HELP.as_slice());
     }
     None
 }

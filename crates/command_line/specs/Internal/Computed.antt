@@ -6,10 +6,12 @@ use Rattle.std.specs.Str.Parse.{digits_value, without_leading_plus}
 use Rattle.clap.specs.ValueTests.{is_unsigned_in}
 use Rattle.clap.specs.Words.{Kinds, Row, first_of, one_of}
 use Rattle.round_pool.specs.Workers.{worker_limit}
+use Rattle.command_line.specs.declared.options.CampaignOptions.{CampaignOptions}
 use Rattle.command_line.specs.declared.options.RunOptions.{RunOptions}
+use Rattle.command_line.specs.declared.options.ShapeNumbers.{ShapeNumbers}
 use Rattle.command_line.specs.declared.options.UnitKind.TheVariants.{Serial}
 use Rattle.command_line.specs.declared.options.UnitOptions.{UnitOptions}
-use Rattle.command_line.specs.Requests.{Text, Asked, capacity_limit, judging}
+use Rattle.command_line.specs.Requests.{Text, Asked, campaigning, capacity_limit, judging, making}
 use Rattle.command_line.specs.Units.{default_capacity, default_trigger, trigger_limit, unit_kind}
 use Rattle.command_line.specs.Commands.{IsAskedAtOne, checking_by, replaying_with, running_with}
 
@@ -20,7 +22,9 @@ abbrev pub help_option_of : Text → Option (List Text)
 help_option_of name = if bytes_eq name (codes "judge") then Some (codes "judge" ∷ codes "--help" ∷ [])
     else (if bytes_eq name (codes "check") then Some (codes "check" ∷ codes "--help" ∷ [])
     else (if bytes_eq name (codes "replay") then Some (codes "replay" ∷ codes "--help" ∷ [])
-    else (if bytes_eq name (codes "run") then Some (codes "run" ∷ codes "--help" ∷ []) else None)))
+    else (if bytes_eq name (codes "run") then Some (codes "run" ∷ codes "--help" ∷ [])
+    else (if bytes_eq name (codes "make") then Some (codes "make" ∷ codes "--help" ∷ [])
+    else (if bytes_eq name (codes "campaign") then Some (codes "campaign" ∷ codes "--help" ∷ []) else None)))))
 
 -- `help`, and `help` with the name of a subcommand, as the option that asks for the same
 abbrev pub parsed_as : List Text → List Text
@@ -57,8 +61,9 @@ capacity_in rows = within 1 capacity_limit (number_of (codes "capacity") default
 abbrev pub trigger_in : List Row → ℕ
 trigger_in rows = within 1 trigger_limit (number_of (codes "trigger") default_trigger rows)
 
-abbrev pub seed_in : List Row → ℕ
-seed_in rows = number_of (codes "seed") 0 rows
+-- the number of the option of this name, which has no default
+abbrev pub required_in : Text → List Row → ℕ
+required_in name rows = number_of name 0 rows
 
 -- whether the flag of this name is used
 abbrev pub flag_in : Text → List Row → Bool
@@ -74,11 +79,33 @@ unit_in rows = record {
 abbrev pub run_in : List Row → RunOptions
 run_in rows = record { unit = unit_in rows; workers = workers_in rows; prints_trace = flag_in (codes "trace") rows }
 
+abbrev pub shape_in : List Row → ShapeNumbers
+shape_in rows = record {
+  processors = required_in (codes "procs") rows;
+  operations = required_in (codes "ops") rows;
+  addresses = required_in (codes "addrs") rows;
+}
+
+abbrev pub campaign_in : List Row → CampaignOptions
+campaign_in rows = record {
+  unit = unit_in rows;
+  workers = workers_in rows;
+  first = required_in (codes "first") rows;
+  count = required_in (codes "count") rows;
+  shape = shape_in rows;
+}
+
 abbrev pub replaying_by : List Row → Asked
 replaying_by rows = replaying_with (run_in rows) rows
 
 abbrev pub running_by : List Row → Asked
-running_by rows = running_with (run_in rows) (seed_in rows) rows
+running_by rows = running_with (run_in rows) (required_in (codes "seed") rows) rows
+
+abbrev pub making_by : List Row → Asked
+making_by rows = making (required_in (codes "seed") rows) (shape_in rows)
+
+abbrev pub campaigning_by : List Row → Asked
+campaigning_by rows = campaigning (campaign_in rows)
 
 abbrev pub judging_by : List Row → Asked
 judging_by rows = judging (first_of (codes "file") rows) (workers_in rows)
@@ -88,7 +115,9 @@ abbrev pub asked_in : Text → List Row → Asked
 asked_in name rows = if bytes_eq name (codes "judge") then judging_by rows
     else (if bytes_eq name (codes "check") then checking_by rows
     else (if bytes_eq name (codes "replay") then replaying_by rows
-    else (if bytes_eq name (codes "run") then running_by rows else judging None 1)))
+    else (if bytes_eq name (codes "run") then running_by rows
+    else (if bytes_eq name (codes "make") then making_by rows
+    else (if bytes_eq name (codes "campaign") then campaigning_by rows else judging None 1)))))
 
 -- without a subcommand standard input is judged, with one worker
 abbrev pub asked_by : Option (Text × List Row) → Asked

@@ -1,0 +1,232 @@
+//! Arguments that are refused.
+
+use super::expect_each;
+use std::test::Fail;
+
+/// Arguments, and the text of their refusal.
+const REFUSED: [(&[&str], &str); 7] = [
+    (&["seek", "judge"], UNKNOWN),
+    (&["help", "seek"], UNKNOWN),
+    (
+        &["judge", "--workers", "65"],
+        "error: invalid value '65' for '--workers <N>': 65 is not in 1..=64\n\nFor more information, try '--help'.\n",
+    ),
+    (
+        &["judge", "--workers", "0"],
+        "error: invalid value '0' for '--workers <N>': 0 is not in 1..=64\n\nFor more information, try '--help'.\n",
+    ),
+    (
+        &["judge", "a", "b"],
+        "error: unexpected argument 'b' found\n\nUsage: tsobench judge [OPTIONS] [FILE]\n\nFor more information, try '--help'.\n",
+    ),
+    (
+        &["check", "a"],
+        "error: the following required arguments were not provided:\n  <CERT>\n\nUsage: tsobench check <TRACE> <CERT>\n\nFor more information, try '--help'.\n",
+    ),
+    (
+        &["check"],
+        "error: the following required arguments were not provided:\n  <TRACE>\n  <CERT>\n\nUsage: tsobench check <TRACE> <CERT>\n\nFor more information, try '--help'.\n",
+    ),
+];
+
+#[test]
+fn refused_arguments(rt: HostRuntime) -> Result<(), Fail> {
+    expect_each(&rt, rt.alloc(), "refuse ", &REFUSED)
+}
+
+/// Arguments of `replay`, and the text of their refusal.
+const REPLAYS: [(&[&str], &str); 12] = [
+    (
+        &["replay"],
+        "error: the following required arguments were not provided:\n  --unit <UNIT>\n  <PROGRAM>\n  <SCHEDULE>\n\nUsage: tsobench replay --unit <UNIT> <PROGRAM> <SCHEDULE>\n\nFor more information, try '--help'.\n",
+    ),
+    (
+        &["replay", "p", "s"],
+        "error: the following required arguments were not provided:\n  --unit <UNIT>\n\nUsage: tsobench replay --unit <UNIT> <PROGRAM> <SCHEDULE>\n\nFor more information, try '--help'.\n",
+    ),
+    (
+        &["replay", "--unit", "serial", "p"],
+        "error: the following required arguments were not provided:\n  <SCHEDULE>\n\nUsage: tsobench replay --unit <UNIT> <PROGRAM> <SCHEDULE>\n\nFor more information, try '--help'.\n",
+    ),
+    (
+        &["replay", "--unit", "serial", "p", "s", "x"],
+        "error: unexpected argument 'x' found\n\nUsage: tsobench replay [OPTIONS] --unit <UNIT> <PROGRAM> <SCHEDULE>\n\nFor more information, try '--help'.\n",
+    ),
+    (
+        &["replay", "--unit", "other", "p", "s"],
+        "error: invalid value 'other' for '--unit <UNIT>'\n  [possible values: serial, buffer, newest-first, no-forward, stale-load, torn-swap, idle-membar, lost-drain]\n\nFor more information, try '--help'.\n",
+    ),
+    (
+        &["replay", "--unit", "serial", "--capacity", "0", "p", "s"],
+        "error: invalid value '0' for '--capacity <C>': 0 is not in 1..=64\n\nFor more information, try '--help'.\n",
+    ),
+    (
+        &["replay", "--unit", "serial", "--capacity", "65", "p", "s"],
+        "error: invalid value '65' for '--capacity <C>': 65 is not in 1..=64\n\nFor more information, try '--help'.\n",
+    ),
+    (
+        &["replay", "--unit", "serial", "--trigger", "0", "p", "s"],
+        "error: invalid value '0' for '--trigger <T>': 0 is not in 1..18446744073709551615\n\nFor more information, try '--help'.\n",
+    ),
+    (
+        &["replay", "--unit", "serial", "--workers", "0", "p", "s"],
+        "error: invalid value '0' for '--workers <N>': 0 is not in 1..=64\n\nFor more information, try '--help'.\n",
+    ),
+    (
+        &["replay", "--unit", "serial", "--workers", "65", "p", "s"],
+        "error: invalid value '65' for '--workers <N>': 65 is not in 1..=64\n\nFor more information, try '--help'.\n",
+    ),
+    (
+        &["replay", "--unit", "serial", "--trace=yes", "p", "s"],
+        "error: unexpected value 'yes' for '--trace' found; no more were expected\n\nUsage: tsobench replay --unit <UNIT> --trace <PROGRAM> <SCHEDULE>\n\nFor more information, try '--help'.\n",
+    ),
+    (
+        &["replay", "--unit", "serial", "--unit", "serial", "p", "s"],
+        "error: the argument '--unit <UNIT>' cannot be used multiple times\n\nUsage: tsobench replay [OPTIONS] --unit <UNIT> <PROGRAM> <SCHEDULE>\n\nFor more information, try '--help'.\n",
+    ),
+];
+
+#[test]
+fn refused_replays(rt: HostRuntime) -> Result<(), Fail> {
+    expect_each(&rt, rt.alloc(), "refuse ", &REPLAYS)
+}
+
+/// Arguments of `run`, and the text of their refusal.
+const RUNS: [(&[&str], &str); 12] = [
+    (
+        &["run"],
+        "error: the following required arguments were not provided:\n  --unit <UNIT>\n  --seed <N>\n  <PROGRAM>\n\nUsage: tsobench run --unit <UNIT> --seed <N> <PROGRAM>\n\nFor more information, try '--help'.\n",
+    ),
+    (
+        &["run", "p"],
+        "error: the following required arguments were not provided:\n  --unit <UNIT>\n  --seed <N>\n\nUsage: tsobench run --unit <UNIT> --seed <N> <PROGRAM>\n\nFor more information, try '--help'.\n",
+    ),
+    (
+        &["run", "--seed", "1", "p"],
+        "error: the following required arguments were not provided:\n  --unit <UNIT>\n\nUsage: tsobench run --unit <UNIT> --seed <N> <PROGRAM>\n\nFor more information, try '--help'.\n",
+    ),
+    (
+        &["run", "--unit", "serial", "p"],
+        "error: the following required arguments were not provided:\n  --seed <N>\n\nUsage: tsobench run --unit <UNIT> --seed <N> <PROGRAM>\n\nFor more information, try '--help'.\n",
+    ),
+    (
+        &["run", "--unit", "serial", "--seed", "1"],
+        "error: the following required arguments were not provided:\n  <PROGRAM>\n\nUsage: tsobench run --unit <UNIT> --seed <N> <PROGRAM>\n\nFor more information, try '--help'.\n",
+    ),
+    (
+        &["run", "--unit", "serial", "--seed", "1", "p", "s"],
+        "error: unexpected argument 's' found\n\nUsage: tsobench run [OPTIONS] --unit <UNIT> --seed <N> <PROGRAM>\n\nFor more information, try '--help'.\n",
+    ),
+    (
+        &["run", "--unit", "other", "--seed", "1", "p"],
+        "error: invalid value 'other' for '--unit <UNIT>'\n  [possible values: serial, buffer, newest-first, no-forward, stale-load, torn-swap, idle-membar, lost-drain]\n\nFor more information, try '--help'.\n",
+    ),
+    (
+        &["run", "--unit", "serial", "--capacity", "0", "p"],
+        "error: invalid value '0' for '--capacity <C>': 0 is not in 1..=64\n\nFor more information, try '--help'.\n",
+    ),
+    (
+        &[
+            "run",
+            "--unit",
+            "serial",
+            "--seed",
+            "18446744073709551616",
+            "p",
+        ],
+        "error: invalid value '18446744073709551616' for '--seed <N>': number too large to fit in target type\n\nFor more information, try '--help'.\n",
+    ),
+    (
+        &["run", "--unit", "serial", "--seed=-1", "p"],
+        "error: invalid value '-1' for '--seed <N>': invalid digit found in string\n\nFor more information, try '--help'.\n",
+    ),
+    (
+        &["run", "--unit", "serial", "--seed", "1", "--seed", "1", "p"],
+        "error: the argument '--seed <N>' cannot be used multiple times\n\nUsage: tsobench run [OPTIONS] --unit <UNIT> --seed <N> <PROGRAM>\n\nFor more information, try '--help'.\n",
+    ),
+    (
+        &["replay", "--seed", "1", "--unit", "serial", "p", "s"],
+        "error: unexpected argument '--seed' found\n\n  tip: to pass '--seed' as a value, use '-- --seed'\n\nUsage: tsobench replay [OPTIONS] --unit <UNIT> <PROGRAM> <SCHEDULE>\n\nFor more information, try '--help'.\n",
+    ),
+];
+
+#[test]
+fn refused_runs(rt: HostRuntime) -> Result<(), Fail> {
+    expect_each(&rt, rt.alloc(), "refuse ", &RUNS)
+}
+
+/// Arguments of `make`, and the text of their refusal.
+const DRAWN: [(&[&str], &str); 6] = [
+    (&["make"], NO_NUMBERS),
+    (
+        &["make", "--procs=2", "--ops=4", "--addrs=3"],
+        "error: the following required arguments were not provided:\n  --seed <N>\n\nUsage: tsobench make --seed <N> --procs <P> --ops <O> --addrs <A>\n\nFor more information, try '--help'.\n",
+    ),
+    (
+        &["make", "--seed=7", "--procs=2", "--ops=4"],
+        "error: the following required arguments were not provided:\n  --addrs <A>\n\nUsage: tsobench make --seed <N> --procs <P> --ops <O> --addrs <A>\n\nFor more information, try '--help'.\n",
+    ),
+    (
+        &["make", "--ops", "18446744073709551616", "--seed=7"],
+        "error: invalid value '18446744073709551616' for '--ops <O>': number too large to fit in target type\n\nFor more information, try '--help'.\n",
+    ),
+    (
+        &["make", "--seed=7", "--procs=2", "--ops=4", "--addrs=3", "x"],
+        "error: unexpected argument 'x' found\n\nUsage: tsobench make --seed <N> --procs <P> --ops <O> --addrs <A>\n\nFor more information, try '--help'.\n",
+    ),
+    (
+        &["make", "--unit=serial"],
+        "error: unexpected argument '--unit' found\n\nUsage: tsobench make --seed <N> --procs <P> --ops <O> --addrs <A>\n\nFor more information, try '--help'.\n",
+    ),
+];
+
+#[test]
+fn refused_drawings(rt: HostRuntime) -> Result<(), Fail> {
+    expect_each(&rt, rt.alloc(), "refuse ", &DRAWN)
+}
+
+/// Arguments of `campaign`, and the text of their refusal.
+const CAMPAIGNS: [(&[&str], &str); 6] = [
+    (
+        &["campaign"],
+        "error: the following required arguments were not provided:\n  --unit <UNIT>\n  --first <S>\n  --count <K>\n  --procs <P>\n  --ops <O>\n  --addrs <A>\n\nUsage: tsobench campaign --unit <UNIT> --first <S> --count <K> --procs <P> --ops <O> --addrs <A>\n\nFor more information, try '--help'.\n",
+    ),
+    (
+        &[
+            "campaign",
+            "--unit=serial",
+            "--first=7",
+            "--procs=2",
+            "--ops=4",
+            "--addrs=3",
+        ],
+        "error: the following required arguments were not provided:\n  --count <K>\n\nUsage: tsobench campaign --unit <UNIT> --first <S> --count <K> --procs <P> --ops <O> --addrs <A>\n\nFor more information, try '--help'.\n",
+    ),
+    (
+        &["campaign", "--unit=serial", "--workers", "0", "--first=7"],
+        "error: invalid value '0' for '--workers <N>': 0 is not in 1..=64\n\nFor more information, try '--help'.\n",
+    ),
+    (
+        &["campaign", "--workers=65"],
+        "error: invalid value '65' for '--workers <N>': 65 is not in 1..=64\n\nFor more information, try '--help'.\n",
+    ),
+    (
+        &["campaign", "--first=7", "--unit", "other", "--count=20"],
+        "error: invalid value 'other' for '--unit <UNIT>'\n  [possible values: serial, buffer, newest-first, no-forward, stale-load, torn-swap, idle-membar, lost-drain]\n\nFor more information, try '--help'.\n",
+    ),
+    (
+        &["campaign", "--trace"],
+        "error: unexpected argument '--trace' found\n\nUsage: tsobench campaign [OPTIONS] --unit <UNIT> --first <S> --count <K> --procs <P> --ops <O> --addrs <A>\n\nFor more information, try '--help'.\n",
+    ),
+];
+
+#[test]
+fn refused_campaigns(rt: HostRuntime) -> Result<(), Fail> {
+    expect_each(&rt, rt.alloc(), "refuse ", &CAMPAIGNS)
+}
+
+const UNKNOWN: &str =
+    "error: unrecognized subcommand 'seek'\n\nUsage: tsobench [COMMAND]\n\nFor more information, try '--help'.\n";
+
+const NO_NUMBERS: &str =
+    "error: the following required arguments were not provided:\n  --seed <N>\n  --procs <P>\n  --ops <O>\n  --addrs <A>\n\nUsage: tsobench make --seed <N> --procs <P> --ops <O> --addrs <A>\n\nFor more information, try '--help'.\n";

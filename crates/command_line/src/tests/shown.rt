@@ -1,0 +1,293 @@
+//! Arguments that ask for a help or the version.
+
+use super::expect_each;
+use std::test::Fail;
+
+/// Arguments, and the text that they ask for.
+const SHOWN: [(&[&str], &str); 26] = [
+    (&["--help"], PROGRAM_HELP),
+    (&["-h"], PROGRAM_HELP),
+    (&["help"], PROGRAM_HELP),
+    (&["judge", "--help"], JUDGE_HELP),
+    (&["judge", "-h"], JUDGE_HELP),
+    (&["help", "judge"], JUDGE_HELP),
+    (&["check", "--help"], CHECK_HELP),
+    (&["check", "-h"], CHECK_HELP),
+    (&["help", "check"], CHECK_HELP),
+    (&["replay", "--help"], REPLAY_HELP),
+    (&["replay", "-h"], REPLAY_HELP),
+    (&["help", "replay"], REPLAY_HELP),
+    (&["run", "--help"], RUN_HELP),
+    (&["run", "-h"], RUN_HELP),
+    (&["help", "run"], RUN_HELP),
+    (&["run", "p", "-h"], RUN_HELP),
+    (&["judge", "a.trace", "-h"], JUDGE_HELP),
+    (&["replay", "--trace", "-h"], REPLAY_HELP),
+    (&["make", "--help"], MAKE_HELP),
+    (&["make", "-h"], MAKE_HELP),
+    (&["help", "make"], MAKE_HELP),
+    (&["campaign", "--help"], CAMPAIGN_HELP),
+    (&["campaign", "-h"], CAMPAIGN_HELP),
+    (&["help", "campaign"], CAMPAIGN_HELP),
+    (&["--version"], "tsobench 0.1.0\n"),
+    (&["-V"], "tsobench 0.1.0\n"),
+];
+
+#[test]
+fn help_and_version(rt: HostRuntime) -> Result<(), Fail> {
+    expect_each(&rt, rt.alloc(), "show ", &SHOWN)
+}
+
+const PROGRAM_HELP: &str = "\
+Judges traces of multiprocessor memory operations against Total Store Order (TSO)
+
+Usage: tsobench [COMMAND]
+
+Commands:
+  judge     Judges a trace and prints its report
+  check     Checks a certificate of a violation against its trace
+  replay    Replays a program by a schedule, and judges the trace
+  run       Runs a program with a thread per processor, and judges the trace
+  make      Prints the program that is drawn from a seed
+  campaign  Runs the programs drawn from many seeds, and judges their traces
+  help      Print this message or the help of the given subcommand(s)
+
+Options:
+  -h, --help     Print help
+  -V, --version  Print version
+
+Without arguments it judges the trace on standard input, with one worker.
+
+A trace says what each processor loaded, stored and swapped, and the values
+that it read:
+
+  tso trace 1
+  proc
+  st 1 1
+  ld 1 1
+  end
+
+Exit status:
+  0  no violation was found, which proves nothing about the trace
+  2  a text or the command line was refused
+  3  the trace violates TSO, or the certificate holds
+  4  a fault, which one line on standard error names
+
+Example:
+  tsobench < TRACE
+";
+
+const JUDGE_HELP: &str = "\
+Judges a trace and prints its report
+
+Usage: tsobench judge [OPTIONS] [FILE]
+
+Arguments:
+  [FILE]  The text of a trace; standard input where none is named
+
+Options:
+      --workers <N>  How many workers judge, 1 to 64 [default: 1]
+  -h, --help         Print help
+
+It reads the text of a trace, at most 1,048,576 bytes, and prints its report:
+two lines with the numbers of processors, events and rounds, and then
+NO VIOLATION FOUND, or VIOLATION and the certificate, which `tsobench check`
+can check. A text that is no trace gets one line, as REFUSED BadLine line 3.
+The report is the same for each number of workers. A FILE that is a hyphen
+alone is a file of that name.
+
+Exit status:
+  0  no violation was found, which proves nothing about the trace
+  2  the text is no trace, or the command line was refused
+  3  the trace violates TSO
+  4  a fault, which one line on standard error names, as FAULT Read
+
+Example:
+  tsobench judge --workers 4 TRACE
+";
+
+const CHECK_HELP: &str = "\
+Checks a certificate of a violation against its trace
+
+Usage: tsobench check <TRACE> <CERT>
+
+Arguments:
+  <TRACE>  The text of a trace
+  <CERT>   The text of a certificate
+
+Options:
+  -h, --help  Print help
+
+It reads the text of a trace and that of a certificate, at most 67,108,864
+bytes, as it stands in a report after the line VIOLATION. It prints one line:
+CERTIFICATE HOLDS, which proves that no order of the trace meets TSO, or
+CERTIFICATE REFUSED and why. A text that is no trace gets a line as
+REFUSED BadLine line 3, and the certificate isn't read. Both files are opened
+before one is read.
+
+Exit status:
+  2  the trace, the certificate or the command line was refused
+  3  the certificate holds: the trace violates TSO
+  4  a fault, which one line on standard error names, as FAULT Read
+
+Example:
+  tsobench judge TRACE | sed '1,/^VIOLATION$/d' > CERT
+  tsobench check TRACE CERT
+";
+
+const REPLAY_HELP: &str = "\
+Replays a program by a schedule, and judges the trace
+
+Usage: tsobench replay [OPTIONS] --unit <UNIT> <PROGRAM> <SCHEDULE>
+
+Arguments:
+  <PROGRAM>   The text of a program
+  <SCHEDULE>  The text of a schedule
+
+Options:
+      --unit <UNIT>   Which memory unit runs the program [possible values: serial, buffer, newest-first, no-forward, stale-load, torn-swap, idle-membar, lost-drain]
+      --capacity <C>  How many stores each store buffer of the unit holds, 1 to 64 [default: 8]
+      --trigger <T>   From which occasion on a faulty unit deviates, from 1 [default: 1]
+      --workers <N>   How many workers judge, 1 to 64 [default: 1]
+      --trace         Prints the recorded trace alone
+  -h, --help          Print help
+
+It reads the text of a program and that of a schedule, and runs the program on
+the memory unit: each line of the schedule says which processor issues its next
+operation, or drains its oldest store. The trace of what the unit answered is
+recorded and judged. It prints the report of `tsobench judge`, and then a line
+`account loads .. stores .. swaps .. membars .. drains .. closed` with the
+numbers of the unit's steps; with --trace it prints the recorded trace alone. A
+text that is no program or no schedule gets one line that says why.
+
+--capacity and --trigger are ignored by units that have no use for them. The
+report is the same for each number of workers.
+
+Exit status:
+  0  no violation was found, or the trace was printed
+  2  a text or the command line was refused
+  3  the trace violates its memory model
+  4  a fault, which one line on standard error names, as FAULT Read
+
+Example:
+  tsobench replay --unit serial PROGRAM SCHEDULE
+";
+
+const RUN_HELP: &str = "\
+Runs a program with a thread per processor, and judges the trace
+
+Usage: tsobench run [OPTIONS] --unit <UNIT> --seed <N> <PROGRAM>
+
+Arguments:
+  <PROGRAM>  The text of a program
+
+Options:
+      --unit <UNIT>   Which memory unit runs the program [possible values: serial, buffer, newest-first, no-forward, stale-load, torn-swap, idle-membar, lost-drain]
+      --capacity <C>  How many stores each store buffer of the unit holds, 1 to 64 [default: 8]
+      --trigger <T>   From which occasion on a faulty unit deviates, from 1 [default: 1]
+      --workers <N>   How many workers judge, 1 to 64 [default: 1]
+      --trace         Prints the recorded trace alone
+      --seed <N>      The seed of the drains, 0 to 18446744073709551615
+  -h, --help          Print help
+
+It reads the text of a program, and runs the program on the memory unit: each
+processor has a thread of its own, which issues its operations in program order,
+and the unit serves one call at a time. After each operation the thread drains
+its processor's oldest store up to twice: numbers drawn from the seed say how
+often. The trace of what the unit answered is recorded and judged. It prints the
+report of `tsobench judge`, and then a line
+`account loads .. stores .. swaps .. membars .. drains .. closed` with the
+numbers of the unit's steps; with --trace it prints the recorded trace alone. A
+text that is no program gets one line that says why.
+
+The system, and not the seed, says in which order the threads come to the unit:
+two runs of the same arguments may record different traces. To run a program in
+an order that is the same each time, use `tsobench replay`.
+
+--capacity and --trigger are ignored by units that have no use for them. The
+report of a recorded trace is the same for each number of workers.
+
+Exit status:
+  0  no violation was found, or the trace was printed
+  2  the text or the command line was refused
+  3  the trace violates its memory model
+  4  a fault, which one line on standard error names, as FAULT Read
+
+Example:
+  tsobench run --unit buffer --seed 1 PROGRAM
+";
+
+const MAKE_HELP: &str = "\
+Prints the program that is drawn from a seed
+
+Usage: tsobench make --seed <N> --procs <P> --ops <O> --addrs <A>
+
+Options:
+      --seed <N>   The seed of the program, 0 to 18446744073709551615
+      --procs <P>  How many processors the program has, 1 to 16
+      --ops <O>    How many operations each processor has, at most 1000 over all
+      --addrs <A>  How many addresses are drawn from, 1 to 256
+  -h, --help       Print help
+
+It draws a program from a seed and prints its text, which `tsobench run` and
+`tsobench replay` read. The same arguments give the same program each time.
+
+P, O and A are the shape of the program: each of its P processors has O
+operations, which are loads, stores, swaps and barriers at the addresses 0 to
+A - 1. P times O is at most 1,000. Each store and swap writes a value of its
+own: 1, 2, 3 and so on. A shape outside the limits gets one line, REFUSED Shape.
+
+Exit status:
+  0  the program was printed
+  2  the shape or the command line was refused
+  4  a fault, which one line on standard error names, as FAULT OutOfMemory
+
+Example:
+  tsobench make --seed 1 --procs 2 --ops 4 --addrs 2 > PROGRAM
+  tsobench run --unit buffer --seed 1 PROGRAM
+";
+
+const CAMPAIGN_HELP: &str = "\
+Runs the programs drawn from many seeds, and judges their traces
+
+Usage: tsobench campaign [OPTIONS] --unit <UNIT> --first <S> --count <K> --procs <P> --ops <O> --addrs <A>
+
+Options:
+      --unit <UNIT>   Which memory unit runs the program [possible values: serial, buffer, newest-first, no-forward, stale-load, torn-swap, idle-membar, lost-drain]
+      --capacity <C>  How many stores each store buffer of the unit holds, 1 to 64 [default: 8]
+      --trigger <T>   From which occasion on a faulty unit deviates, from 1 [default: 1]
+      --workers <N>   How many workers share the seeds, 1 to 64 [default: 1]
+      --first <S>     The first seed, 0 to 18446744073709551615
+      --count <K>     How many seeds there are, each one more than the last, at most 1000
+      --procs <P>     How many processors the program has, 1 to 16
+      --ops <O>       How many operations each processor has, at most 1000 over all
+      --addrs <A>     How many addresses are drawn from, 1 to 256
+  -h, --help          Print help
+
+It takes the seeds S, S + 1 and so on, K of them. From each it draws a program,
+as `tsobench make` does, and runs it on a memory unit of its own, as
+`tsobench run` does with the same seed; the trace of what the unit answered is
+recorded and judged. It prints a line for each seed, in their order,
+`seed S NO VIOLATION FOUND` or `seed S VIOLATION`, and then a line
+`seeds K violations M`, where M is the number of seeds with a violation.
+
+P, O and A are the shape of each program, as for `tsobench make`. A shape
+outside the limits gets one line, REFUSED Shape; more than 1,000 seeds, or a
+last seed above 18446744073709551615, get one line, REFUSED Seeds.
+
+The system, and not the seed, says in which order the threads come to the unit:
+two campaigns of the same arguments may find different violations. Each worker
+runs one seed at a time; the order of the lines is the same for each number of
+workers. --capacity and --trigger are ignored by units that have no use for
+them.
+
+Exit status:
+  0  no violation was found
+  2  the shape, the seeds or the command line were refused
+  3  the trace of a seed violates its memory model
+  4  a fault, which one line on standard error names, as FAULT NoThread
+
+Example:
+  tsobench campaign --unit buffer --first 1 --count 20 \\
+    --procs 2 --ops 4 --addrs 2
+";
