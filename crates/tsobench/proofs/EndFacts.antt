@@ -4,7 +4,7 @@ use Rattle.std.specs.Prelude.{Option, ◌≢◌, option_map, string_bytes}
 use Rattle.std.specs.Borrow.{Bor}
 use Rattle.std.specs.Io.KnownBytes.{Keeps}
 use Rattle.command_line.specs.declared.requests.Request.{Request}
-use Rattle.command_line.specs.declared.requests.Request.TheVariants.{Judge, Check, Replay, Run, Show, Refuse}
+use Rattle.command_line.specs.declared.requests.Request.TheVariants.{Judge, Check, Replay, Run, Make, Campaign, Show, Refuse}
 use Rattle.command_line.specs.Requests.{asked_of, judging}
 use Rattle.std.proofs.lemmas.List.{append-nil}
 use Rattle.tso_report.specs.declared.verdicts.Verdict.{Verdict}
@@ -105,6 +105,8 @@ does_asked (Judge file workers) input files o status ends = ends
 does_asked (Check trace certificate) input files o status ends = ends
 does_asked (Replay options program schedule) input files o status ends = ends
 does_asked (Run options drain_seed program) input files o status ends = ends
+does_asked (Make seed shape) input files o status ends = ends
+does_asked (Campaign options) input files o status ends = ends
 does_asked (Show text) input files o status ends = (string_bytes text, ends)
 does_asked (Refuse text) input files o status ends = (string_bytes text, ends)
 

@@ -1,3 +1,4 @@
+pub mod DrawnFacts
 pub mod EndFacts
 pub mod ReplayingFacts
 pub mod RunningFacts

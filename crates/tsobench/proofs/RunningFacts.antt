@@ -16,7 +16,6 @@ gives-weaker P Q implied OtherProgram gives = gives
 pub ends_run : (is_text : List ℕ → ℕ → Type 0) (o : Outputs) (outcome : Result (RunEnd ℕ) Fault) (status : ℕ) → IfOk outcome (EndsWith is_text o.written_before o.written) →
     IfErr outcome (LeavesAtFault (IsPrintable is_text) o.written_before o.written) → EndsSo outcome o.errors_before o.errors status → EndsByText is_text o status ⊎ EndsUnrecorded o status
 ends_run is_text o (Ok (Printed told)) status writes leaves ends = inl (inl (subst (WritesText is_text o.written_before o.written) (sym ends.0) writes, ends.1))
-ends_run is_text o (Ok (Torn p)) status writes leaves (inl line, is) = inr (writes, is, inl (p, line))
-ends_run is_text o (Ok (Torn p)) status writes leaves (inr memory, is) = inl (inr (OutOfMemory, writes, (memory, is)))
+ends_run is_text o (Ok (Torn p)) status writes leaves (line, is) = inr (writes, is, inl (p, line))
 ends_run is_text o (Ok OtherProgram) status writes leaves ends = inr (writes, ends.1, inr ends.0)
 ends_run is_text o (Err fault) status writes leaves ends = inl (inr (fault, leaves, ends))

@@ -7,15 +7,18 @@ use Rattle.tso_report.specs.declared.faults.Fault.{Fault}
 use Rattle.tso_report.specs.declared.faults.Fault.TheVariants.{OutOfMemory, Read, Write, NoThread, Missing}
 use Rattle.tso_report.specs.Streams.{AppendsPrefix}
 use Rattle.tso_report.specs.Written.{IsCheckReportOfReaders, IsReportOfReader, LeavesAtFault, WritesWhole}
+use Rattle.tsobench.specs.Drawn.{IsCampaignText, IsMadeText, LeavesCampaignText}
 use Rattle.tsobench.specs.Named.{name_in}
 use Rattle.tsobench.specs.Replaying.{IsReplayText}
 use Rattle.tsobench.specs.Running.{IsRunText}
 use Rattle.tsobench.specs.Statuses.{status_of}
+use Rattle.command_line.specs.declared.options.CampaignOptions.{CampaignOptions}
 use Rattle.command_line.specs.declared.options.RunOptions.{RunOptions}
+use Rattle.command_line.specs.declared.options.ShapeNumbers.{ShapeNumbers}
 use Rattle.command_line.specs.declared.requests.Request.{Request}
-use Rattle.command_line.specs.declared.requests.Request.TheVariants.{Judge, Check, Replay, Run, Show, Refuse}
+use Rattle.command_line.specs.declared.requests.Request.TheVariants.{Judge, Check, Replay, Run, Make, Campaign, Show, Refuse}
 use Rattle.command_line.specs.Commands.{IsAskedFor}
-use Rattle.command_line.specs.Requests.{Asked, Text, judging, checking, replaying, running, showing, refusing}
+use Rattle.command_line.specs.Requests.{Asked, Text, judging, checking, replaying, running, making, campaigning, showing, refusing}
 
 -- ---- the lines of faults
 
@@ -23,13 +26,13 @@ use Rattle.command_line.specs.Requests.{Asked, Text, judging, checking, replayin
 abbrev pub fault_line : List ℕ → List ℕ
 fault_line name = codes "FAULT " ++ name ++ 10 ∷ []
 
--- Known errors grow by the fault's line or a prefix of it, since their writer may fail. No request ends by a missing seed.
+-- Known errors grow by the fault's line or a prefix of it, since their writer may fail.
 abbrev pub WritesFaultLine : Option (List ℕ) → Option (List ℕ) → Fault → Type 0
 WritesFaultLine before errors OutOfMemory = AppendsPrefix before errors (fault_line (codes "OutOfMemory"))
 WritesFaultLine before errors Read = AppendsPrefix before errors (fault_line (codes "Read"))
 WritesFaultLine before errors Write = AppendsPrefix before errors (fault_line (codes "Write"))
 WritesFaultLine before errors NoThread = AppendsPrefix before errors (fault_line (codes "NoThread"))
-WritesFaultLine before errors (Missing seed) = Unit {0}
+WritesFaultLine before errors (Missing seed) = AppendsPrefix before errors (fault_line (codes "Missing " ++ decimal seed))
 
 -- ---- what was written, and the status
 
@@ -91,6 +94,17 @@ EndsUnrecorded o status =
 abbrev pub EndsRun : RunOptions → Option (List ℕ) → Outputs → ℕ → Type 0
 EndsRun options programs o status = EndsByText (IsRunText options programs) o status ⊎ EndsUnrecorded o status
 
+-- what is printed of the program that a seed draws
+abbrev pub EndsMade : ℕ → ShapeNumbers → Outputs → ℕ → Type 0
+EndsMade seed numbers o status = EndsByText (IsMadeText seed numbers) o status
+
+-- The output grows by the text of a campaign, or that of a refusal, and the errors by nothing, and the status is the text's; or a fault left nothing or,
+-- on Write, a prefix of such a text.
+abbrev pub EndsCampaign : CampaignOptions → Outputs → ℕ → Type 0
+EndsCampaign options o status =
+    (WritesText (IsCampaignText options) o.written_before o.written status × Keeps o.errors_before o.errors)
+    ⊎ ((fault : Fault) × LeavesCampaignText options o.written_before o.written fault × EndsByFault fault o status)
+
 -- The output grows by the text and the errors by nothing, and the status is 0; or the fault Write left a prefix of the text.
 abbrev pub EndsShowing : List ℕ → Outputs → ℕ → Type 0
 EndsShowing text o status =
@@ -118,6 +132,8 @@ EndsAs (Judge file workers) input files o status = EndsJudged (judged_bytes (nam
 EndsAs (Check trace certificate) input files o status = EndsChecked (files trace.now) (files certificate.now) o status
 EndsAs (Replay options program schedule) input files o status = EndsReplayed options (files program.now) (files schedule.now) o status
 EndsAs (Run options drain_seed program) input files o status = EndsRun options (files program.now) o status
+EndsAs (Make seed shape) input files o status = EndsMade seed shape o status
+EndsAs (Campaign options) input files o status = EndsCampaign options o status
 EndsAs (Show text) input files o status = EndsShowing (string_bytes text) o status
 EndsAs (Refuse text) input files o status = EndsRefusing (string_bytes text) o status
 
@@ -128,6 +144,8 @@ EndsAsAsked (judging file workers) input files o status = EndsJudged (judged_byt
 EndsAsAsked (checking trace certificate) input files o status = EndsChecked (files trace) (files certificate) o status
 EndsAsAsked (replaying options program schedule) input files o status = EndsReplayed options (files program) (files schedule) o status
 EndsAsAsked (running options drain_seed program) input files o status = EndsRun options (files program) o status
+EndsAsAsked (making seed shape) input files o status = EndsMade seed shape o status
+EndsAsAsked (campaigning options) input files o status = EndsCampaign options o status
 EndsAsAsked showing input files o status = (text : List ℕ) × EndsShowing text o status
 EndsAsAsked refusing input files o status = (text : List ℕ) × EndsRefusing text o status
 

@@ -1,3 +1,4 @@
+pub mod Drawn
 pub mod Endings
 pub mod Internal
 pub mod Named

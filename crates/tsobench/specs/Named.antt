@@ -1,7 +1,7 @@
 -- Files that are opened by their names, as far as they are known.
 use Rattle.std.specs.Prelude.{◌≡◌, ℕ, Bool, true, false, ◌≤◌, List, [], ◌∷◌, ◌++◌, length, take, option_map, option_to_list, Option, Some, None, IfSome}
 use Rattle.std.specs.Borrow.{Bor}
-use Rattle.command_line.specs.Requests.{Asked, judging, checking, replaying, running, showing, refusing}
+use Rattle.command_line.specs.Requests.{Asked, judging, checking, replaying, running, making, campaigning, showing, refusing}
 
 -- an opened file has the bytes that are known of its name
 abbrev pub HasKnown : Option (List ℕ) → Option (List ℕ) → Type 0
@@ -14,6 +14,8 @@ reads_input (judging (Some name) workers) = false
 reads_input (checking trace certificate) = false
 reads_input (replaying options program schedule) = false
 reads_input (running options drain_seed program) = false
+reads_input (making seed shape) = false
+reads_input (campaigning options) = false
 reads_input showing = false
 reads_input refusing = false
 
@@ -31,6 +33,8 @@ files_named (judging file workers) = option_to_list file
 files_named (checking trace certificate) = trace ∷ certificate ∷ []
 files_named (replaying options program schedule) = program ∷ schedule ∷ []
 files_named (running options drain_seed program) = program ∷ []
+files_named (making seed shape) = []
+files_named (campaigning options) = []
 files_named showing = []
 files_named refusing = []
 

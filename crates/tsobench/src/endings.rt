@@ -1,12 +1,14 @@
 //! Statuses, and the lines of faults.
-ghost use Rattle.std.specs.Prelude.{◌≡◌, IfOk, IfErr};
+ghost use Rattle.std.specs.Prelude.{◌≡◌, ◌++◌, ◌∷◌, [], IfOk, IfErr};
+ghost use Rattle.std.specs.Fmt.{decimal};
 ghost use Rattle.std.specs.Io.KnownBytes.{Keeps};
+ghost use Rattle.tso_report.specs.Streams.{AppendsPrefix};
 ghost use Rattle.tsobench.specs.Endings.{WritesFaultLine};
-ghost use Rattle.tsobench.specs.Internal.Runs.{EndsSo, WritesTornLine};
+ghost use Rattle.tsobench.specs.Internal.Runs.{EndsSo};
 ghost use Rattle.tsobench.specs.Statuses.{status_of};
 
 use crate::running::RunEnd;
-use std::alloc::Global;
+use itoa::Buffer;
 use std::io::Write;
 use tso_report::{Fault, Verdict, write_text};
 
@@ -42,35 +44,20 @@ pub(crate) fn end_with<E: Write>(outcome: Result<u8, Fault>, errors: &mut E) -> 
 }
 
 /// The status of what a run printed; or that of a fault, or of a run without a record, whose line it writes.
-pub(crate) fn end_run<E: Write>(
-    alloc: Global,
-    outcome: Result<RunEnd<u8>, Fault>,
-    errors: &mut E,
-) -> u8
+pub(crate) fn end_run<E: Write>(outcome: Result<RunEnd<u8>, Fault>, errors: &mut E) -> u8
     ensures { EndsSo outcome (E.contents errors.old) (E.contents errors.new) result }
 {
     match outcome {
         Ok(RunEnd::Printed(status)) => status,
-        Ok(RunEnd::Torn { p }) => end_torn(alloc, p, errors),
+        Ok(RunEnd::Torn { p }) => {
+            let _ = write_numbered(errors, b"FAULT Torn ", p as u64);
+            FAULT
+        }
         Ok(RunEnd::OtherProgram) => {
             let _ = write_text(errors, b"FAULT OtherProgram\n");
             FAULT
         }
         Err(fault) => end_by(fault, errors),
-    }
-}
-
-/// The status of a run that is torn at processor `p`, whose line it writes, or that of memory that ran out.
-fn end_torn<E: Write>(alloc: Global, p: usize, errors: &mut E) -> u8
-    ensures line { WritesTornLine (E.contents errors.old) (E.contents errors.new) p }
-    ensures status { result ≡ 4 }
-{
-    match format!(in alloc; "FAULT Torn {p}\n") {
-        Ok(line) => {
-            let _ = write_text(errors, line.as_bytes());
-            FAULT
-        }
-        Err(_) => end_by(Fault::OutOfMemory, errors),
     }
 }
 
@@ -84,9 +71,19 @@ pub(crate) fn end_by<E: Write>(fault: Fault, errors: &mut E) -> u8
         Fault::Read => write_text(errors, b"FAULT Read\n"),
         Fault::Write => write_text(errors, b"FAULT Write\n"),
         Fault::NoThread => write_text(errors, b"FAULT NoThread\n"),
-        Fault::Missing(seed) => writeln!(errors, "FAULT Missing {seed}").map_err(|_| Fault::Write),
+        Fault::Missing(seed) => write_numbered(errors, b"FAULT Missing ", seed),
     };
     FAULT
+}
+
+/// Writes a line of this name and a number.
+fn write_numbered<E: Write>(errors: &mut E, name: &[u8], number: u64) -> Result<(), Fault>
+    ensures { AppendsPrefix (E.contents errors.old) (E.contents errors.new) (name.now ++ decimal number ++ 10 ∷ []) }
+{
+    let mut digits = Buffer::new();
+    write_text(errors, name)?;
+    write_text(errors, digits.format(number).as_bytes())?;
+    write_text(errors, b"\n")
 }
 
 /// The status of a verdict.

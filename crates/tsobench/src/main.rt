@@ -8,6 +8,7 @@ use std::process::ExitCode;
 use std::rt::Env;
 use std::{env, io};
 
+mod drawing;
 mod driving;
 mod endings;
 mod files;

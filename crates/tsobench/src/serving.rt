@@ -7,6 +7,7 @@ ghost use Rattle.tso_report.specs.Written.{LeavesCheckFault, LeavesFault, Writes
 ghost use Rattle.tsobench.specs.Endings.{EndsAs, EndsShowing, judged_bytes, outputs};
 ghost use Rattle.tsobench.specs.Named.{OpensFirst, OpensNext, files_named, name_in, reads_input};
 
+use crate::drawing::{campaign_by, make};
 use crate::endings::{DONE, REFUSED, end, end_by, end_run, end_with};
 use crate::files::{NamedFiles, open};
 use crate::replaying::replay_named;
@@ -69,7 +70,12 @@ pub fn serve<H: Threads + Wait + Sync + AllocGlobal, O: NamedFiles, R: Read, W: 
                 drain_seed: *drain_seed,
             };
             let ran = run_named(rt, plan, program, files, writer);
-            end_run(rt.alloc(), ran, errors)
+            end_run(ran, errors)
+        }
+        Request::Make { seed, shape } => end_with(make(rt.alloc(), *seed, *shape, writer), errors),
+        Request::Campaign(options) => {
+            let ran = campaign_by(rt, options, writer);
+            end_with(ran, errors)
         }
         Request::Show(text) => show(text, writer, errors),
         Request::Refuse(text) => refuse(text, errors),

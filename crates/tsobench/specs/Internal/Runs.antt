@@ -1,11 +1,10 @@
 -- How a run ends before its end is told.
-use Rattle.std.specs.Prelude.{◌≡◌, ◌⊎◌, ℕ, List, ◌++◌, codes, Option, Result, Ok, Err}
+use Rattle.std.specs.Prelude.{◌≡◌, ℕ, List, ◌++◌, codes, Option, Result, Ok, Err}
 use Rattle.std.specs.Fmt.{decimal}
 use Rattle.std.specs.Io.KnownBytes.{Keeps}
 use Rattle.tsobench.specs.declared.running.RunEnd.{RunEnd}
 use Rattle.tsobench.specs.declared.running.RunEnd.TheVariants.{Printed, Torn, OtherProgram}
 use Rattle.tso_report.specs.declared.faults.Fault.{Fault}
-use Rattle.tso_report.specs.declared.faults.Fault.TheVariants.{OutOfMemory}
 use Rattle.tso_report.specs.Streams.{AppendsPrefix}
 use Rattle.tsobench.specs.Endings.{WritesFaultLine, WritesText, fault_line}
 
@@ -21,13 +20,9 @@ EndsWith is_text old new (Printed status) = WritesText is_text old new status
 EndsWith is_text old new (Torn p) = Keeps old new
 EndsWith is_text old new OtherProgram = Keeps old new
 
--- the line of a torn run, or that of memory that ran out
-abbrev pub WritesTornLine : Option (List ℕ) → Option (List ℕ) → ℕ → Type 0
-WritesTornLine old new p = AppendsPrefix old new (fault_line (codes "Torn " ++ decimal p)) ⊎ WritesFaultLine old new OutOfMemory
-
 -- what the errors grow by, and the status
 abbrev pub EndsSo : Result (RunEnd ℕ) Fault → Option (List ℕ) → Option (List ℕ) → ℕ → Type 0
 EndsSo (Ok (Printed told)) old new status = (status ≡ told) × Keeps old new
-EndsSo (Ok (Torn p)) old new status = WritesTornLine old new p × (status ≡ 4)
+EndsSo (Ok (Torn p)) old new status = AppendsPrefix old new (fault_line (codes "Torn " ++ decimal p)) × (status ≡ 4)
 EndsSo (Ok OtherProgram) old new status = AppendsPrefix old new (fault_line (codes "OtherProgram")) × (status ≡ 4)
 EndsSo (Err fault) old new status = WritesFaultLine old new fault × (status ≡ 4)

@@ -1,0 +1,81 @@
+-- What the program prints of drawn programs and of campaigns.
+use Rattle.std.specs.Prelude.{◌≡◌, ◌⊎◌, ℕ, ◌+◌, ◌<◌, ◌≤◌, ◌^◌, Bool, List, [], ◌∷◌, ◌++◌, codes, replicate, Option}
+use Rattle.std.specs.Io.KnownBytes.{Keeps}
+use Rattle.tso_ops.specs.Drawing.{IsShape, ShapeValue, shape_of as shape_of_numbers}
+use Rattle.tso_text.specs.Printed.{program_text}
+use Rattle.command_line.specs.declared.options.ShapeNumbers.{ShapeNumbers}
+use Rattle.command_line.specs.declared.options.CampaignOptions.{CampaignOptions}
+use Rattle.tso_report.specs.Campaigns.{IsCampaign, is_lawful_unit, program_of_seed}
+use Rattle.tso_report.specs.declared.faults.Fault.{Fault}
+use Rattle.tso_report.specs.declared.faults.Fault.TheVariants.{OutOfMemory, Read, Write, NoThread, Missing}
+use Rattle.tso_report.specs.Streams.{AppendsPrefix}
+use Rattle.tso_report.specs.Limits.{seed_count_limit}
+use Rattle.tso_report.specs.declared.verdicts.Verdict.{Verdict}
+use Rattle.tsobench.specs.Printing.{unit_of}
+use Rattle.tsobench.specs.Statuses.{status_of}
+
+-- the shape of these numbers
+abbrev pub shape_of : ShapeNumbers → ShapeValue
+shape_of numbers = shape_of_numbers numbers.processors numbers.operations numbers.addresses
+
+-- the lines of refusals
+abbrev pub shape_refusal : List ℕ
+shape_refusal = codes "REFUSED Shape" ++ 10 ∷ []
+
+abbrev pub seeds_refusal : List ℕ
+seeds_refusal = codes "REFUSED Seeds" ++ 10 ∷ []
+
+-- the numbers are no shape
+abbrev pub IsShapeRefusal : ShapeNumbers → List ℕ → ℕ → Type 0
+IsShapeRefusal numbers text status = (IsShape (shape_of numbers) → ⊥) × (text ≡ shape_refusal) × (status ≡ 2)
+
+-- ---- a drawn program
+
+-- The text is that of the program that the seed draws in this shape, or the numbers are no shape.
+abbrev pub IsMadeText : ℕ → ShapeNumbers → List ℕ → ℕ → Type 0
+IsMadeText seed numbers text status =
+    IsShapeRefusal numbers text status
+    ⊎ (IsShape (shape_of numbers) × (text ≡ program_text (program_of_seed (shape_of numbers) seed)) × (status ≡ 0))
+
+-- ---- a campaign
+
+-- The seeds from the first on, so many, are not too many, and numbers of 64 bits.
+pub record AreSeeds (first count : ℕ) : Type 0 where
+  pub most : count ≤ seed_count_limit
+  pub last : first + count ≤ 2 ^ 64
+
+-- The campaign's programs are those of these seeds in this shape, within the limits.
+pub record IsDrawnOf (options : CampaignOptions) (shape : ShapeValue) (first : ℕ) : Type 0 where
+  pub is : shape ≡ shape_of options.shape
+  pub shape_kept : IsShape (shape_of options.shape)
+  pub first_is : first ≡ options.first
+  pub seeds : AreSeeds options.first options.count
+
+-- whether the units, one of the kind for each seed, are lawful
+abbrev pub lawful_units : CampaignOptions → List Bool
+lawful_units options = replicate options.count (is_lawful_unit (unit_of options.unit))
+
+-- The numbers are a shape, but the seeds aren't within their limits.
+abbrev pub IsSeedsRefusal : CampaignOptions → List ℕ → ℕ → Type 0
+IsSeedsRefusal options text status = IsShape (shape_of options.shape) × (AreSeeds options.first options.count → ⊥) × (text ≡ seeds_refusal) × (status ≡ 2)
+
+-- The text is that of a campaign over these seeds.
+pub record IsCampaignOf (options : CampaignOptions) (text : List ℕ) (status : ℕ) : Type 0 where
+  pub shape : IsShape (shape_of options.shape)
+  pub seeds : AreSeeds options.first options.count
+  pub verdict : Verdict
+  pub campaign : IsCampaign (shape_of options.shape) options.first (lawful_units options) text verdict
+  pub ends : status ≡ status_of verdict
+
+-- What is printed of a campaign, and the status then.
+abbrev pub IsCampaignText : CampaignOptions → List ℕ → ℕ → Type 0
+IsCampaignText options text status =
+    IsShapeRefusal options.shape text status ⊎ (IsSeedsRefusal options text status ⊎ IsCampaignOf options text status)
+
+-- What a fault leaves of it: on Write a prefix of the text, else nothing was written. A missing seed is one of the campaign.
+abbrev pub LeavesCampaignText : CampaignOptions → Option (List ℕ) → Option (List ℕ) → Fault → Type 0
+LeavesCampaignText options old new OutOfMemory = Keeps old new
+LeavesCampaignText options old new Read = ⊥
+LeavesCampaignText options old new Write = (status : ℕ) × (text : List ℕ) × IsCampaignText options text status × AppendsPrefix old new text
+LeavesCampaignText options old new NoThread = Keeps old new
+LeavesCampaignText options old new (Missing seed) = (options.first ≤ seed) × (seed < options.first + options.count) × Keeps old new
