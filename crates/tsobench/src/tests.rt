@@ -1,8 +1,12 @@
+mod campaign_units;
+mod campaigns;
 mod certificates;
 mod commands;
 mod drawn;
 mod examples;
 mod faults;
+mod made;
+mod meeting;
 mod records;
 mod refused_allocations;
 mod replays;
