@@ -61,7 +61,7 @@ fn expect_lists<T: Copy + Debug + PartialEq>(rt: &impl Abort, found: &[Vec<T>], 
 }
 
 /// A row of bits of a trace.
-#[derive(Clone, Copy, Debug)]
+#[derive(Clone, Copy)]
 enum Row {
     Loads(u16),
     Stores(u16),
@@ -87,8 +87,8 @@ fn row_words(trace: &Trace, row: Row) -> &[u64] {
 }
 
 fn expect_rows(rt: &impl Abort, trace: &Trace, rows: &[(Row, &[u64])]) {
-    for (row, wanted) in rows {
-        assert_eq!(rt; row_words(trace, *row), *wanted, "{row:?}");
+    for (n, (row, wanted)) in rows.iter().enumerate() {
+        assert_eq!(rt; row_words(trace, *row), *wanted, "row {n} of the table");
     }
 }
 
@@ -341,59 +341,76 @@ fn fault_of_a_swap(alloc: Global, loads: usize) -> Result<Option<ValueFault>, Al
 
 const MANY: Option<ValueFault> = Some(ValueFault::TooManyEvents);
 
-fn expect_limits_of_traces(rt: &impl Abort, alloc: Global) -> Result<(), AllocError> {
-    for (item, count, fault) in [
-        (LOAD, 2_000, None),
-        (LOAD, 2_001, MANY),
-        (BARRIER, 2_000, None),
-        (BARRIER, 2_001, MANY),
-    ] {
-        let found = faults_of_copies(alloc, item, count)?;
-        assert_eq!(rt; found, [fault; 2], "{count} of {item:?}");
-    }
-    Ok(())
-}
+const LIMITS_OF_TRACES: [(&str, Outcome, usize, Option<ValueFault>); 4] = [
+    ("as many loads", LOAD, 2_000, None),
+    ("a load too many", LOAD, 2_001, MANY),
+    ("as many barriers", BARRIER, 2_000, None),
+    ("a barrier too many", BARRIER, 2_001, MANY),
+];
 
-fn expect_limits_of_programs(rt: &impl Abort, alloc: Global) -> Result<(), AllocError> {
-    for (item, count, fault) in [
-        (Op::Ld { a: 0 }, 2_000, None),
-        (Op::Ld { a: 0 }, 2_001, MANY),
-        (Op::Mb, 2_000, None),
-        (Op::Mb, 2_001, MANY),
-    ] {
-        let found = fault_of_program(alloc, item, count)?;
-        assert_eq!(rt; found, fault, "{count} of {item:?}");
-    }
-    Ok(())
-}
-
-fn expect_limits_of_swaps(rt: &impl Abort, alloc: Global) -> Result<(), AllocError> {
-    for (loads, fault) in [(1_998, None), (1_999, MANY), (2_000, MANY)] {
-        let found = fault_of_a_swap(alloc, loads)?;
-        assert_eq!(rt; found, fault, "a swap after {loads} loads");
-    }
-    Ok(())
-}
-
-fn expect_limits_of_processors(rt: &impl Abort, alloc: Global) -> Result<(), AllocError> {
-    for (count, fault) in [(16, None), (17, Some(ValueFault::TooManyProcessors))] {
-        let found = [
-            trace_fault(alloc, idle(alloc, count)?),
-            program_fault(alloc, idle(alloc, count)?),
-        ];
-        assert_eq!(rt; found, [fault; 2], "{count} processors");
-    }
-    Ok(())
-}
-
-/// The limits of the numbers of processors, events and barriers, and the first value beyond each.
 #[test]
-fn counts_at_their_limits(rt: HostRuntime) -> Result<(), Fail> {
-    let alloc = rt.alloc();
-    expect_limits_of_processors(&rt, alloc)?;
-    expect_limits_of_traces(&rt, alloc)?;
-    expect_limits_of_programs(&rt, alloc)?;
-    expect_limits_of_swaps(&rt, alloc)?;
+fn limits_of_traces(rt: HostRuntime) -> Result<(), Fail> {
+    for (name, item, count, fault) in &LIMITS_OF_TRACES {
+        let found = faults_of_copies(rt.alloc(), *item, *count)?;
+        expect(&rt, name, found, [*fault; 2]);
+    }
+    Ok(())
+}
+
+const LIMITS_OF_PROGRAMS: [(&str, Op, usize, Option<ValueFault>); 4] = [
+    ("as many loads", Op::Ld { a: 0 }, 2_000, None),
+    ("a load too many", Op::Ld { a: 0 }, 2_001, MANY),
+    ("as many barriers", Op::Mb, 2_000, None),
+    ("a barrier too many", Op::Mb, 2_001, MANY),
+];
+
+#[test]
+fn limits_of_programs(rt: HostRuntime) -> Result<(), Fail> {
+    for (name, item, count, fault) in &LIMITS_OF_PROGRAMS {
+        let found = fault_of_program(rt.alloc(), *item, *count)?;
+        expect(&rt, name, found, *fault);
+    }
+    Ok(())
+}
+
+/// Numbers of loads beside a swap, which is two events.
+const LIMITS_OF_SWAPS: [(&str, usize, Option<ValueFault>); 3] = [
+    ("as many events", 1_998, None),
+    ("an event too many", 1_999, MANY),
+    ("two events too many", 2_000, MANY),
+];
+
+#[test]
+fn limits_of_swaps(rt: HostRuntime) -> Result<(), Fail> {
+    for (name, loads, fault) in &LIMITS_OF_SWAPS {
+        expect(&rt, name, fault_of_a_swap(rt.alloc(), *loads)?, *fault);
+    }
+    Ok(())
+}
+
+/// What is wrong with a trace and with a program of so many processors.
+fn faults_of_processors(
+    alloc: Global,
+    count: usize,
+) -> Result<[Option<ValueFault>; 2], AllocError> {
+    let lists = idle(alloc, count)?;
+    Ok([
+        trace_fault(alloc, lists),
+        program_fault(alloc, idle(alloc, count)?),
+    ])
+}
+
+#[test]
+fn limits_of_processors(rt: HostRuntime) -> Result<(), Fail> {
+    let most = faults_of_processors(rt.alloc(), 16)?;
+    expect(&rt, "16 processors", most, [None; 2]);
+    let more = faults_of_processors(rt.alloc(), 17)?;
+    expect(
+        &rt,
+        "17 processors",
+        more,
+        [Some(ValueFault::TooManyProcessors); 2],
+    );
     Ok(())
 }
 

@@ -2,10 +2,11 @@
 ghost use Rattle.std.specs.Prelude.{ℕ, ◌%◌, ◌/◌};
 ghost use Rattle.rand_core.specs.Steps.{steps_u64_low, stream_of};
 
-use super::lists_of;
+use super::{expect, program_of};
 use crate::{Op, Program, Shape, make_program};
 use rand_core::utils::NextWord;
 use rand_core::{Rng, utils};
+use std::alloc::Global;
 use std::marker::Model;
 use std::test::Fail;
 
@@ -100,14 +101,26 @@ const DRAWN: [&[Op]; 2] = [
     &[Op::Sw { a: 3, v: 2 }, Op::Mb],
 ];
 
+/// The program that four words draw in a shape of two processors, two operations and four addresses.
+fn drawn_program(alloc: Global, words: &mut ByteWords) -> Result<Program, Fail> {
+    let shape = Shape::new(2, 2, 4).ok_or("a shape")?;
+    Ok(make_program(alloc, words, shape)?)
+}
+
+fn is_same(drawn: &Program, wanted: &Program) -> bool {
+    drawn.is_same(wanted)
+}
+
+fn next_word(words: &mut ByteWords) -> u64 {
+    words.next_u64()
+}
+
 #[test]
 fn program_of_four_words(rt: HostRuntime) -> Result<(), Fail> {
-    let alloc = rt.alloc();
     let mut words = ByteWords(WORDS);
-    let shape = Shape::new(2, 2, 4).ok_or("a shape")?;
-    let drawn = make_program(alloc, &mut words, shape)?;
-    let wanted = Program::new(alloc, lists_of(alloc, &DRAWN)?).map_err(|refused| refused.why)?;
-    assert!(rt; drawn.is_same(&wanted), "{drawn:?}");
-    assert!(rt; words.next_u64() == 9);
+    let drawn = drawn_program(rt.alloc(), &mut words)?;
+    let wanted = program_of(rt.alloc(), &DRAWN)?;
+    expect(&rt, "the program", is_same(&drawn, &wanted), true);
+    expect(&rt, "the next word", next_word(&mut words), 9);
     Ok(())
 }

@@ -1,8 +1,8 @@
 //! Memory models, versions and first values.
 use super::{
-    MANY, RANGE, REPEATED, Row, ZERO, copies, counts_of, expect, expect_lists, expect_refusal,
-    expect_rows, expect_sources, expect_text, idle, lists_of, lists_of_copies, push_last,
-    refused_trace, trace_of,
+    LOAD, MANY, RANGE, REPEATED, Row, ZERO, copies, counts_of, expect, expect_lists,
+    expect_refusal, expect_rows, expect_sources, expect_text, idle, lists_of, lists_of_copies,
+    push_last, refused_trace, trace_of,
 };
 use crate::{
     Op, Order, Outcome, Program, Refused, RefusedFirst, Source, Trace, ValueFault, Version,
@@ -91,30 +91,29 @@ fn program_settings(program: &Program) -> (Order, Version, usize) {
     (program.order(), program.version(), program.processors())
 }
 
+/// The settings of a trace without operations.
+fn settings_of_order(alloc: Global, order: Order) -> Result<(Order, Version, u64), Fail> {
+    Ok(trace_settings(&ordered_trace(alloc, order, &[&[]])?))
+}
+
+/// The settings of a trace without operations that no memory model was given for.
+fn settings_of_new(alloc: Global) -> Result<(Order, Version, u64), Fail> {
+    Ok(trace_settings(&trace_of(alloc, &[&[]])?))
+}
+
+/// The settings of a program without operations under PSO.
+fn settings_of_program(alloc: Global) -> Result<(Order, Version, usize), Fail> {
+    Ok(program_settings(&idle_program(alloc, Order::Pso)?))
+}
+
 #[test]
 fn settings_are_told(rt: HostRuntime) -> Result<(), Fail> {
-    let alloc = rt.alloc();
-    let trace = trace_of(alloc, &[&[]])?;
-    expect(
-        &rt,
-        "new",
-        trace_settings(&trace),
-        (Order::Tso, Version::One, 0),
-    );
-    let trace = ordered_trace(alloc, Order::Pso, &[&[]])?;
-    expect(
-        &rt,
-        "under PSO",
-        trace_settings(&trace),
-        (Order::Pso, Version::One, 0),
-    );
-    let program = idle_program(alloc, Order::Pso)?;
-    expect(
-        &rt,
-        "a program",
-        program_settings(&program),
-        (Order::Pso, Version::One, 1),
-    );
+    let new = settings_of_new(rt.alloc())?;
+    expect(&rt, "new", new, (Order::Tso, Version::One, 0));
+    let ordered = settings_of_order(rt.alloc(), Order::Pso)?;
+    expect(&rt, "under PSO", ordered, (Order::Pso, Version::One, 0));
+    let program = settings_of_program(rt.alloc())?;
+    expect(&rt, "a program", program, (Order::Pso, Version::One, 1));
     Ok(())
 }
 
@@ -375,19 +374,31 @@ fn refused_first_values_come_back(rt: HostRuntime) -> Result<(), Fail> {
     Ok(())
 }
 
-fn expect_limits_of_one_list(rt: &impl Abort, alloc: Global) -> Result<(), AllocError> {
-    let load = Outcome::Ld { a: 0, r: 0 };
-    for (item, count, fault) in [
-        (load, 2_001, None),
-        (load, 8_000, None),
-        (load, 8_001, MANY),
-        (Outcome::Mb, 8_000, None),
-        (Outcome::Mb, 8_001, MANY),
-        (STBAR, 8_000, None),
-        (STBAR, 8_001, MANY),
-    ] {
-        let found = trace_fault(alloc, &[], lists_of_copies(alloc, item, &[count])?)?;
-        assert_eq!(rt; found, fault, "{count} of {item:?}");
+const LIMITS_OF_LISTS: [(&str, Outcome, usize, Option<ValueFault>); 7] = [
+    ("more loads than in version 1", LOAD, 2_001, None),
+    ("as many loads", LOAD, 8_000, None),
+    ("a load too many", LOAD, 8_001, MANY),
+    ("as many barriers", Outcome::Mb, 8_000, None),
+    ("a barrier too many", Outcome::Mb, 8_001, MANY),
+    ("as many STBARs", STBAR, 8_000, None),
+    ("an STBAR too many", STBAR, 8_001, MANY),
+];
+
+/// What is wrong with a trace of so many copies of the operation on one processor.
+fn fault_of_copies(
+    alloc: Global,
+    item: Outcome,
+    count: usize,
+) -> Result<Option<ValueFault>, AllocError> {
+    trace_fault(alloc, &[], lists_of_copies(alloc, item, &[count])?)
+}
+
+/// The limits of version 2 on one processor.
+#[test]
+fn limits_of_one_list(rt: HostRuntime) -> Result<(), Fail> {
+    for (name, item, count, fault) in &LIMITS_OF_LISTS {
+        let found = fault_of_copies(rt.alloc(), *item, *count)?;
+        expect(&rt, name, found, *fault);
     }
     Ok(())
 }
@@ -407,11 +418,10 @@ fn ordered_fault(alloc: Global, lists: Vec<Vec<Outcome>>) -> Option<ValueFault> 
     }
 }
 
-/// The limits of version 2: 8,000 events, and 8,000 barriers of both kinds together.
+/// Barriers of both kinds count together.
 #[test]
-fn counts_at_the_limits_of_version_2(rt: HostRuntime) -> Result<(), Fail> {
+fn limits_of_both_barriers(rt: HostRuntime) -> Result<(), Fail> {
     let alloc = rt.alloc();
-    expect_limits_of_one_list(&rt, alloc)?;
     let found = trace_fault(alloc, &[], both_barriers(alloc, 4_000)?)?;
     expect(&rt, "8,001 barriers", found, MANY);
     let found = ordered_fault(alloc, both_barriers(alloc, 1_000)?);
@@ -472,32 +482,39 @@ fn are_same(one: &Program, other: &Program) -> (bool, bool) {
     (one.is_same(other), other.is_same(one))
 }
 
+/// Whether this program and `COMPARED` are the same, whichever of them is asked.
+fn compared_with(alloc: Global, written: Written) -> Result<(bool, bool), Fail> {
+    let compared = written_program(alloc, COMPARED)?;
+    Ok(are_same(&compared, &written_program(alloc, written)?))
+}
+
 #[test]
 fn programs_are_compared(rt: HostRuntime) -> Result<(), Fail> {
-    let compared = written_program(rt.alloc(), COMPARED)?;
     for (written, same) in SAME {
-        let program = written_program(rt.alloc(), written)?;
-        expect(&rt, "same", are_same(&compared, &program), (same, same));
+        let found = compared_with(rt.alloc(), written)?;
+        expect(&rt, "same", found, (same, same));
     }
     Ok(())
 }
 
+/// Whether `COMPARED` and its copy are the same.
+fn compared_with_its_copy(alloc: Global) -> Result<(bool, bool), Fail> {
+    let compared = written_program(alloc, COMPARED)?;
+    Ok(are_same(&compared, &super::copy_of(&compared)?))
+}
+
+/// Whether programs of the two versions without operations are the same.
+fn compared_over_versions(alloc: Global) -> Result<(bool, bool), Fail> {
+    let ordered = idle_program(alloc, Order::Tso)?;
+    let first = written_program(alloc, (Order::Tso, &[], &[&[]]))?;
+    Ok(are_same(&ordered, &first))
+}
+
 #[test]
 fn copies_and_programs_of_version_1_are_compared(rt: HostRuntime) -> Result<(), Fail> {
-    let compared = written_program(rt.alloc(), COMPARED)?;
-    expect(
-        &rt,
-        "a copy",
-        are_same(&compared, &compared.copy()?),
-        (true, true),
-    );
-    let ordered = idle_program(rt.alloc(), Order::Tso)?;
-    let first = written_program(rt.alloc(), (Order::Tso, &[], &[&[]]))?;
-    expect(
-        &rt,
-        "another version",
-        are_same(&ordered, &first),
-        (false, false),
-    );
+    let copy = compared_with_its_copy(rt.alloc())?;
+    expect(&rt, "a copy", copy, (true, true));
+    let versions = compared_over_versions(rt.alloc())?;
+    expect(&rt, "another version", versions, (false, false));
     Ok(())
 }
