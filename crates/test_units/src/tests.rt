@@ -15,7 +15,7 @@ use std::alloc::{AllocError, Global};
 use std::process::Abort;
 use std::sync::Arc;
 use std::sync::atomic::Ordering;
-use tso_ops::{Op, Order, Outcome, Program, Trace, ValueFault};
+use tso_ops::{Op, Order, Outcome, Program, Trace, ValueFault, Version};
 use unit_core::{Account, MemoryUnit, Recorded, conclude, conclude_over};
 use unit_kinds::SerialUnit;
 
@@ -68,10 +68,14 @@ fn trace_of(alloc: Global, order: Order, rows: &[&[Outcome]]) -> Result<Trace, V
 
 /// Whether two traces are equal as values: version, memory model, first values and operations.
 fn are_equal(one: &Trace, other: &Trace) -> bool {
-    one.version() == other.version()
-        && one.order() == other.order()
+    setting_of(one) == setting_of(other)
         && have_equal_first(one, other)
         && have_equal_operations(one, other)
+}
+
+/// The version and the memory model.
+fn setting_of(trace: &Trace) -> (Version, Order) {
+    (trace.version(), trace.order())
 }
 
 /// Whether each address has the same first value in two traces.

@@ -6,7 +6,7 @@ use tso_ops::Order;
 use unit_core::{MemoryUnit, Step};
 
 /// A call of a unit, and its answer.
-#[derive(Clone, Copy, Debug)]
+#[derive(Clone, Copy)]
 pub(super) enum Answered {
     /// A load, and what it reads.
     Load { a: u8, r: u64 },
@@ -48,9 +48,9 @@ pub(super) fn expect_answers<H: Abort, U: MemoryUnit>(
     unit: &mut U,
     calls: &[(usize, Answered)],
 ) -> Result<(), AllocError> {
-    for (p, call) in calls {
+    for (n, (p, call)) in calls.iter().enumerate() {
         let is_answered = answers(unit, *p, *call)?;
-        assert!(rt; is_answered, "processor {p}: {call:?}");
+        assert!(rt; is_answered, "call {n} of the table, by processor {p}");
     }
     Ok(())
 }
