@@ -5,12 +5,12 @@ use Rattle.std.specs.Prelude.{bit_and}
 use Rattle.std.proofs.lemmas.List.{length-replicate}
 use Rattle.order_paths.specs.Paths.{Reaches}
 use Rattle.order_paths.proofs.Reach.{Reaches-edge, Reaches-join, Reaches-into, Reaches-below}
-use Rattle.order_graph.specs.BitRows.{HasBit}
-use Rattle.order_graph.specs.Internal.Tables.{IsSet, Adds, IsSelfOrSet, AreTransposed, Joined, IsTable}
+use Rattle.bitsets.specs.Rows.{HasBit}
+use Rattle.bitsets.specs.Tables.{IsSet, Adds}
+use Rattle.order_graph.specs.Internal.Tables.{IsSelfOrSet, AreTransposed, Joined, IsTable}
 use Rattle.order_graph.specs.Internal.KeptPaths.{KeepsAllPaths, KeepsSomePaths, KeepsPathsToDone}
-use Rattle.order_graph.proofs.Words.{HasBit-zero, HasBit-and, HasBit-not, HasBit-lowest, IsSet-decided, IsSet-at, without_less}
-use Rattle.order_graph.proofs.AddedBits.{Adds-kept, column_within}
-use Rattle.order_graph.proofs.Keeping.{no_bit}
+use Rattle.bitsets.proofs.WordFacts.{HasBit-zero, HasBit-and, HasBit-not, HasBit-lowest, without_less}
+use Rattle.bitsets.proofs.TableFacts.{IsSet-decided, IsSet-at, Adds-kept, column_within, no_bit}
 
 -- some paths of which each edge is one: all paths
 pub KeepsAllPaths-all : (nodes width : ℕ) (edges paths transposed : List ℕ) → IsTable nodes width edges → KeepsSomePaths nodes width edges paths → AreTransposed paths transposed width nodes →

@@ -2,10 +2,10 @@
 use Rattle.std.proofs.Common.{◌≡◌, ◌↔◌, inl, inr, ℕ, ◌+◌, ◌/◌, ◌<◌, ◌≤◌, List, length, replicate, refl, ap, subst, ◌∙◌, arith}
 use Rattle.std.proofs.lemmas.Bool.{cases_eq}
 use Rattle.std.proofs.lemmas.List.{length-replicate}
-use Rattle.order_graph.specs.Internal.Tables.{IsSet, Adds}
+use Rattle.bitsets.specs.Tables.{IsSet, Adds}
 use Rattle.order_graph.specs.Internal.KeptPaths.{KeepsAllPaths}
 use Rattle.order_graph.specs.Internal.Tracks.{IsClosedNumber}
-use Rattle.order_graph.proofs.Keeping.{no_bit}
+use Rattle.bitsets.proofs.TableFacts.{no_bit}
 use Rattle.order_graph.proofs.ShortCycles.{IsClosedNumber-from}
 
 -- likewise by an edge from a number below x

@@ -5,9 +5,9 @@ use Rattle.std.proofs.lemmas.List.{length-append}
 use Rattle.order_paths.specs.Paths.{Linked, last_of, HasEnds, IsPath, Reaches, IsCycle, HasCycle, IsAtMost, IsNoGreater, IsLeastPath, IsLeastCycle}
 use Rattle.order_paths.proofs.Reach.{IsPath-mono, IsCycle-mono, IsCycle-Reaches}
 use Rattle.order_graph.specs.Digraphs.{Digraph, IsEdge}
-use Rattle.order_graph.specs.Internal.Tables.{IsSet}
-use Rattle.order_graph.specs.Internal.Tracks.{NoneShared, IsFirstShared, Track, IsLeastTrack, NoCycleBefore, IsLeastCycleBefore}
-use Rattle.order_graph.proofs.AddedBits.{column_within}
+use Rattle.bitsets.specs.Tables.{IsSet, NoneShared, IsFirstShared}
+use Rattle.order_graph.specs.Internal.Tracks.{Track, IsLeastTrack, NoCycleBefore, IsLeastCycleBefore}
+use Rattle.bitsets.proofs.TableFacts.{column_within}
 use Rattle.order_graph.proofs.Keeping.{Sees, sees_edge}
 use Rattle.order_graph.proofs.Searching.{IsPath-track}
 

@@ -8,12 +8,13 @@ use Rattle.std.proofs.lemmas.List.FromFn.{get_or-map-range_with_len, length-map-
 use Rattle.order_paths.specs.Paths.{Reaches}
 use Rattle.order_paths.proofs.Decisions.{Decision, Decision-IsTrue}
 use Rattle.order_paths.proofs.Reach.{Reaches-join, Reaches-mono, Reaches-decided, Reaches-below}
-use Rattle.order_graph.specs.BitRows.{HasBit, HasNumber}
-use Rattle.order_graph.specs.Internal.Tables.{IsSet, Adds, IsSelfOrSet, AreTransposed, IsTransitive, Joined}
+use Rattle.bitsets.specs.Rows.{HasBit, HasNumber}
+use Rattle.bitsets.specs.Tables.{IsSet, Adds}
+use Rattle.order_graph.specs.Internal.Tables.{IsSelfOrSet, AreTransposed, IsTransitive, Joined}
 use Rattle.order_graph.specs.Digraphs.{Digraph, IsEdge, EdgesWithin, tests_of, graph_of}
 use Rattle.order_graph.specs.Internal.KeptPaths.{KeepsAllPaths}
-use Rattle.order_graph.proofs.Words.{HasBit-zero}
-use Rattle.order_graph.proofs.AddedBits.{column_within}
+use Rattle.bitsets.proofs.WordFacts.{HasBit-zero}
+use Rattle.bitsets.proofs.TableFacts.{column_within, no_bit, HasNumber-row}
 use Rattle.order_graph.proofs.Reaching.{WithEdge, ReachesThrough, reach_split, reach_through, reach_same}
 
 -- a test of a row that a table keeps
@@ -171,14 +172,6 @@ KeepsAllPaths-join nodes width edges more new paths wider new_paths transposed o
           (λ s. r.1 (reach_through (Joined edges width nodes) u v x y ((tells x y hx hy).0 s)), λ p. (tells x y hx hy).1 (reach_split (Joined edges width nodes) u v x y (r.0 p)));
     }
 
--- a table of words that are 0 has no bit
-pub no_bit : (count width x y : ℕ) → IsSet (replicate count 0) width x y → ⊥
-unfolding IsSet
-no_bit count width x y s = elim (cases_lt (x * width + y / 64) count) [
-  | inl h ↦ HasBit-zero (y % 64) (subst (λ n. HasBit n (y % 64)) (get_or-replicate count (x * width + y / 64) 0 0 h) s)
-  | inr past ↦ HasBit-zero (y % 64) (subst (λ n. HasBit n (y % 64)) (get_or_past (replicate count 0) (x * width + y / 64) 0 (omega (arith, length-replicate {A = ℕ} count 0))) s)
-]
-
 -- Tables of zeros keep the graph without edges.
 pub KeepsAllPaths-empty : (nodes width : ℕ) (edges paths transposed : List ℕ) → nodes < 2 ^ 32 → width ≡ (nodes + 63) / 64 →
     edges ≡ replicate (nodes * width) 0 → paths ≡ replicate (nodes * width) 0 → transposed ≡ replicate (nodes * width) 0 → KeepsAllPaths nodes width edges paths transposed
@@ -206,24 +199,6 @@ KeepsAllPaths-empty nodes width edges paths transposed small fits e p t = record
 -- the graph of a table of zeros has no edge
 pub sees_empty : (g : Digraph) (nodes width : ℕ) (table : List ℕ) → Sees g nodes width table → table ≡ replicate (nodes * width) 0 → (x y : ℕ) → IsEdge g x y → ⊥
 sees_empty g nodes width table sees same x y e = no_bit (nodes * width) width x y (subst (λ l. IsSet l width x y) same ((sees_edge g nodes width table sees x y).0 e).2)
-
--- a row that is cut out of a table has the numbers whose bits are set in the table's row
-pub HasNumber-row : (table : List ℕ) (width count x v : ℕ) → count ≡ width → HasNumber (take count (drop (x * width) table)) v ↔ ((v / 64 < width) × IsSet table width x v)
-unfolding IsSet
-HasNumber-row table width count x v e = (to, back)
-  where
-    word : v / 64 < count → get_or (take count (drop (x * width) table)) (v / 64) 0 ≡ get_or table (x * width + v / 64) 0
-    word h = get_or-take count (drop (x * width) table) (v / 64) 0 h ∙ get_or-drop (x * width) table (v / 64) 0
-
-    to : HasBit (get_or (take count (drop (x * width) table)) (v / 64) 0) (v % 64) → (v / 64 < width) × HasBit (get_or table (x * width + v / 64) 0) (v % 64)
-    to b = elim (cases_lt (v / 64) count) [
-      | inl h ↦ (subst (λ n. v / 64 < n) e h, subst (λ n. HasBit n (v % 64)) (word h) b)
-      | inr past ↦ absurd (HasBit-zero (v % 64) (subst (λ n. HasBit n (v % 64))
-          (get_or_past (take count (drop (x * width) table)) (v / 64) 0 (omega (arith, length-take count (drop (x * width) table)))) b))
-    ]
-
-    back : (v / 64 < width) × HasBit (get_or table (x * width + v / 64) 0) (v % 64) → HasBit (get_or (take count (drop (x * width) table)) (v / 64) 0) (v % 64)
-    back p = subst (λ n. HasBit n (v % 64)) (sym (word (subst (λ n. v / 64 < n) (sym e) p.0))) p.1
 
 -- the numbers of a row of the table of paths are those that the row's number has a path to
 pub row_paths : (nodes width : ℕ) (edges paths transposed : List ℕ) → KeepsAllPaths nodes width edges paths transposed → (count x v : ℕ) → count ≡ width → x < nodes →

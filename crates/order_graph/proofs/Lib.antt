@@ -11,4 +11,3 @@ pub mod Searching
 pub mod ShortCycles
 pub mod Spreading
 pub mod TransposedBlocks
-pub mod Words

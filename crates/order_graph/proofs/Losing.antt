@@ -4,44 +4,14 @@ use Rattle.std.specs.Int.{bit_not, w64}
 use Rattle.std.specs.Prelude.{bit_and}
 use Rattle.std.proofs.lemmas.Bool.{cases_eq}
 use Rattle.order_paths.proofs.Reach.{Reaches-mono}
-use Rattle.order_graph.specs.BitRows.{HasBit}
-use Rattle.order_graph.specs.Internal.Tables.{IsSet, Loses, Joined}
+use Rattle.bitsets.specs.Rows.{HasBit}
+use Rattle.bitsets.specs.Tables.{IsSet, Loses}
+use Rattle.order_graph.specs.Internal.Tables.{Joined}
 use Rattle.order_graph.specs.Digraphs.{Digraph, IsEdge}
 use Rattle.order_graph.specs.Internal.KeptPaths.{Covers}
-use Rattle.order_graph.proofs.Words.{HasBit-clear, IsSet-written, IsSet-elsewhere, IsSet-word}
-use Rattle.order_graph.proofs.AddedBits.{column_within}
+use Rattle.bitsets.proofs.WordFacts.{HasBit-clear}
+use Rattle.bitsets.proofs.TableFacts.{IsSet-written, IsSet-elsewhere, IsSet-word, column_within}
 use Rattle.order_graph.proofs.Keeping.{Sees, sees_edge}
-
--- To write a word of row u without the bit of column v clears that bit.
-pub Loses-written : (table : List ℕ) (width u v : ℕ) → v / 64 < width → u * width + v / 64 < length table →
-    Loses table (set table (u * width + v / 64) (bit_and (get_or table (u * width + v / 64) 0) (bit_not w64 (1 * 2 ^ (v % 64) % 2 ^ 64)))) width u v
-Loses-written table width u v hv h = record { bits = at }
-  where
-    word : ℕ
-    word = get_or table (u * width + v / 64) 0
-
-    new : List ℕ
-    new = set table (u * width + v / 64) (bit_and word (bit_not w64 (1 * 2 ^ (v % 64) % 2 ^ 64)))
-
-    here : (x y : ℕ) → x ≡ u → y / 64 ≡ v / 64 → IsSet new width x y ↔ (IsSet table width x y × ((x ≡ u) × (y ≡ v) → ⊥))
-    here x y ex ey =
-        let w = IsSet-written table width u (v / 64) (bit_and word (bit_not w64 (1 * 2 ^ (v % 64) % 2 ^ 64))) x y h ex ey in
-        let c = HasBit-clear word (v % 64) (y % 64) (omega arith) (omega arith) in
-        let o = subst (λ n. IsSet table width n y ↔ HasBit word (y % 64)) (sym ex) (IsSet-word table width u (v / 64) y ey) in (
-          λ s. let b = c.0 (w.0 s) in (o.1 b.1, λ p. b.0 (omega (arith, p.1))),
-          λ p. w.1 (c.1 (λ e. p.1 (ex, omega (arith, e, ey)), o.0 p.0)),
-        )
-
-    away : (x y : ℕ) → y / 64 < width → ((x ≡ u) × (y / 64 ≡ v / 64) → ⊥) → IsSet new width x y ↔ (IsSet table width x y × ((x ≡ u) × (y ≡ v) → ⊥))
-    away x y hy apart =
-        let e = IsSet-elsewhere table width u (v / 64) (bit_and word (bit_not w64 (1 * 2 ^ (v % 64) % 2 ^ 64))) x y hv hy apart in
-        (λ s. (e.0 s, λ p. apart (p.0, omega (arith, p.1))), λ p. e.1 p.0)
-
-    at : (x y : ℕ) → y / 64 < width → IsSet new width x y ↔ (IsSet table width x y × ((x ≡ u) × (y ≡ v) → ⊥))
-    at x y hy = elim (cases_eq x u) [
-      | inl ex ↦ elim (cases_eq (y / 64) (v / 64)) [ inl ey ↦ here x y ex ey | inr ne ↦ away x y hy (λ p. ne p.1) ]
-      | inr ne ↦ away x y hy (λ p. ne p.0)
-    ]
 
 -- The edges of a table that lost a bit.
 Joined-less : (table less : List ℕ) (nodes width u v : ℕ) → width ≡ (nodes + 63) / 64 → Loses table less width u v →

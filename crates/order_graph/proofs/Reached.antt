@@ -6,12 +6,12 @@ use Rattle.std.proofs.lemmas.List.{length-replicate, length-append, get_or_appen
 use Rattle.order_paths.specs.Paths.{Reaches}
 use Rattle.order_paths.proofs.Decisions.{Decision, Decision-both, Decision-not, test_of, test_of-holds, test_of-true}
 use Rattle.order_paths.proofs.Reach.{Reaches-edge, Reaches-into, Reaches-join, Reaches-below}
-use Rattle.order_graph.specs.BitRows.{HasBit}
-use Rattle.order_graph.specs.Internal.Tables.{IsSet, Adds, Loses, Joined}
-use Rattle.order_graph.proofs.Words.{IsSet-decided, IsSet-word}
-use Rattle.order_graph.proofs.AddedBits.{Leaves, Leaves-start, Leaves-step, Leaves-end, Adds-kept, column_within}
+use Rattle.bitsets.specs.Rows.{HasBit}
+use Rattle.bitsets.specs.Tables.{IsSet, Adds, Loses}
+use Rattle.order_graph.specs.Internal.Tables.{Joined}
+use Rattle.bitsets.proofs.TableFacts.{IsSet-decided, IsSet-word, Leaves, Leaves-start, Leaves-step, Leaves-end, Adds-kept, column_within, no_bit}
 use Rattle.order_graph.specs.Digraphs.{Digraph, IsEdge}
-use Rattle.order_graph.proofs.Keeping.{Sees, no_bit, sees_path}
+use Rattle.order_graph.proofs.Keeping.{Sees, sees_path}
 
 -- the numbers that x has an edge to, and of these those that weren't reached, from word j on
 abbrev pub EdgeFrom : List ℕ → ℕ → ℕ → ℕ → ℕ → ℕ → Type 0

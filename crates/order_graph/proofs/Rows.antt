@@ -2,37 +2,13 @@
 use Rattle.std.proofs.Common.{◌≡◌, ◌⊎◌, ◌↔◌, inl, inr, ℕ, ◌+◌, ◌*◌, ◌/◌, ◌%◌, ◌^◌, ◌<◌, ◌≤◌, List, length, get_or, replicate, sym, ap, subst, ◌∙◌, arith}
 use Rattle.std.proofs.lemmas.Bool.{cases_eq}
 use Rattle.std.proofs.lemmas.List.{get_or_past, length-replicate}
-use Rattle.order_graph.specs.BitRows.{HasBit, HasNumber}
-use Rattle.order_graph.specs.Internal.Tables.{IsSet, Adds, IsTable}
+use Rattle.bitsets.specs.Rows.{HasBit, HasNumber}
+use Rattle.bitsets.specs.Tables.{IsSet, Adds}
+use Rattle.order_graph.specs.Internal.Tables.{IsTable}
 use Rattle.order_graph.specs.Digraphs.{Digraph, IsEdge}
-use Rattle.order_graph.proofs.Words.{HasBit-zero}
-use Rattle.order_graph.proofs.AddedBits.{Leaves, Leaves-start, Leaves-step, Leaves-end, column_within}
-use Rattle.order_graph.proofs.Keeping.{Sees, sees_edge, no_bit}
-
--- Row x gains the numbers of a row of words, from word j on.
-abbrev pub WordsFrom : List ℕ → ℕ → ℕ → ℕ → ℕ → Type 0
-WordsFrom words x j i y = (i ≡ x) × (j ≤ y / 64) × HasNumber words y
-
-pub WordsFrom-start : (old words : List ℕ) (width x : ℕ) → Leaves old old width (λ i y. (i ≡ x) × HasNumber words y) (WordsFrom words x 0)
-WordsFrom-start old words width x = Leaves-start old width _ _ (λ i y h. (λ p. (p.0, omega arith, p.1), λ p. (p.0, p.2)))
-
-pub WordsFrom-step : (old now new words : List ℕ) (width x j : ℕ) → Leaves old now width (λ i y. (i ≡ x) × HasNumber words y) (WordsFrom words x j) →
-    Adds now new width (λ i y. (i ≡ x) × (y / 64 ≡ j) × HasBit (get_or words j 0) (y % 64)) → Leaves old new width (λ i y. (i ≡ x) × HasNumber words y) (WordsFrom words x (j + 1))
-WordsFrom-step old now new words width x j leaves adds = Leaves-step old now new width _ _ _ _ leaves adds
-    (λ i y h p. elim (cases_eq (y / 64) j) [
-      | inl e ↦ inr (inl (p.0, e, subst (λ n. HasBit (get_or words n 0) (y % 64)) e p.2))
-      | inr ne ↦ inr (inr (p.0, omega (arith, p.1, ne), p.2))
-    ])
-    (λ i y h p. (p.0, omega (arith, p.1), subst (λ n. HasBit (get_or words n 0) (y % 64)) (sym p.1) p.2))
-    (λ i y h p. (p.0, omega (arith, p.1), p.2))
-
--- past the end of the row of words or of the table's row nothing is left
-pub WordsFrom-end : (old now words : List ℕ) (width x j : ℕ) → (width ≤ j) ⊎ (length words ≤ j) → Leaves old now width (λ i y. (i ≡ x) × HasNumber words y) (WordsFrom words x j) →
-    Adds old now width (λ i y. (i ≡ x) × HasNumber words y)
-WordsFrom-end old now words width x j past leaves = Leaves-end old now width _ _ leaves (λ i y h p. elim past [
-  | inl wide ↦ omega (arith, p.1, h, wide)
-  | inr long ↦ HasBit-zero (y % 64) (subst (λ n. HasBit n (y % 64)) (get_or_past words (y / 64) 0 (omega (arith, p.1, long))) p.2)
-])
+use Rattle.bitsets.proofs.WordFacts.{HasBit-zero}
+use Rattle.bitsets.proofs.TableFacts.{Leaves, Leaves-start, Leaves-step, Leaves-end, column_within, no_bit}
+use Rattle.order_graph.proofs.Keeping.{Sees, sees_edge}
 
 -- A table of zeros has no edges.
 pub IsTable-empty : (nodes width : ℕ) (edges : List ℕ) → nodes < 2 ^ 32 → width ≡ (nodes + 63) / 64 → edges ≡ replicate (nodes * width) 0 → IsTable nodes width edges

@@ -7,13 +7,13 @@ use Rattle.std.proofs.lemmas.List.{append_assoc, append-nil, length-append, leng
 use Rattle.order_paths.specs.Paths.{IsPath, Reaches, IsAtMost, IsNoGreater}
 use Rattle.order_paths.proofs.Decisions.{Decision, Decision-lt, Decision-three}
 use Rattle.order_paths.proofs.Reach.{Reaches-edge, Reaches-prefix, Reaches-join, Reaches-decided}
-use Rattle.order_graph.specs.BitRows.{HasBit}
-use Rattle.order_graph.specs.Internal.Tables.{IsSet, Adds, Joined}
+use Rattle.bitsets.specs.Rows.{HasBit}
+use Rattle.bitsets.specs.Tables.{IsSet, Adds, IsFirstShared, NoneShared}
+use Rattle.order_graph.specs.Internal.Tables.{Joined}
 use Rattle.order_graph.specs.Internal.KeptPaths.{KeepsAllPaths, Covers}
-use Rattle.order_graph.specs.Internal.Tracks.{Track, Walks, IsLeastTrack, IsFirstShared, IsLevel, IsAboveLevel, NoneShared, NoShorter}
-use Rattle.order_graph.proofs.Words.{HasBit-zero, HasBit-and, HasBit-lowest, IsSet-decided, IsSet-word}
-use Rattle.order_graph.proofs.AddedBits.{column_within, row_within}
-use Rattle.order_graph.proofs.Keeping.{no_bit}
+use Rattle.order_graph.specs.Internal.Tracks.{Track, Walks, IsLeastTrack, IsLevel, IsAboveLevel, NoShorter}
+use Rattle.bitsets.proofs.WordFacts.{HasBit-zero, HasBit-and, HasBit-lowest}
+use Rattle.bitsets.proofs.TableFacts.{IsSet-decided, IsSet-word, column_within, row_within, no_bit}
 
 -- a track has an edge to where a walk of as many edges as it has numbers begins
 pub Track-walks : (Edge : ℕ → ℕ → Type 0) (x v : ℕ) (rest : List ℕ) → Track Edge x rest v → (y : ℕ) × Edge x y × Walks Edge (length rest) y v
@@ -137,40 +137,6 @@ Descends-end edges paths width nodes u v count at list descends none =
     let e : Joined edges width nodes at v = subst (λ n. Joined edges width nodes at n) descends.onward.2 descends.onward.1 in
     IsLeastTrack-from_list edges width nodes u v count list
     (subst (λ l. IsLeastList (Joined edges width nodes) u v count l) (append-nil list) (descends.continues [] (IsLeastRest-end (Joined edges width nodes) at v e))) none
-
--- The first bit that two words share is the first column that their rows share, if none before the words is.
-pub IsFirstShared-word : (table : List ℕ) (x : ℕ) (other : List ℕ) (row width j : ℕ) → j < width →
-    ((y : ℕ) → y / 64 < j → IsSet table width x y → IsSet other width row y → ⊥) →
-    0 < bit_and (get_or table (x * width + j) 0) (get_or other (row * width + j) 0) → bit_and (get_or table (x * width + j) 0) (get_or other (row * width + j) 0) < 2 ^ 64 →
-    IsFirstShared table x other row width (64 * j + trailing_zeros w64 (bit_and (get_or table (x * width + j) 0) (get_or other (row * width + j) 0)))
-IsFirstShared-word table x other row width j hj before some fits =
-    let a : ℕ = get_or table (x * width + j) 0 in
-    let b : ℕ = get_or other (row * width + j) 0 in
-    let low = HasBit-lowest (bit_and a b) some fits in
-    let bound : trailing_zeros w64 (bit_and a b) < 64 = low.0 in
-    let at : (64 * j + trailing_zeros w64 (bit_and a b)) / 64 ≡ j = omega arith in
-    let m : (64 * j + trailing_zeros w64 (bit_and a b)) % 64 ≡ trailing_zeros w64 (bit_and a b) = omega arith in
-    let both = (HasBit-and a b (trailing_zeros w64 (bit_and a b))).0 low.1 in
-    record {
-      column = omega arith;
-      first = (IsSet-word table width x j (64 * j + trailing_zeros w64 (bit_and a b)) at).1 (subst (λ n. HasBit a n) (sym m) both.0);
-      second = (IsSet-word other width row j (64 * j + trailing_zeros w64 (bit_and a b)) at).1 (subst (λ n. HasBit b n) (sym m) both.1);
-      least = λ z less s t. elim (cases_lt (z / 64) j) [
-        | inl earlier ↦ before z earlier s t
-        | inr late ↦ (let here : z / 64 ≡ j = omega arith in
-            low.2 (z % 64) (omega arith) ((HasBit-and a b (z % 64)).1 ((IsSet-word table width x j z here).0 s, (IsSet-word other width row j z here).0 t)))
-      ];
-    }
-
--- words that share no bit are passed
-pub none_shared_more : (table : List ℕ) (x : ℕ) (other : List ℕ) (row width j : ℕ) → ((y : ℕ) → y / 64 < j → IsSet table width x y → IsSet other width row y → ⊥) →
-    bit_and (get_or table (x * width + j) 0) (get_or other (row * width + j) 0) ≡ 0 → (y : ℕ) → y / 64 < j + 1 → IsSet table width x y → IsSet other width row y → ⊥
-none_shared_more table x other row width j before none y h s t = elim (cases_lt (y / 64) j) [
-  | inl earlier ↦ before y earlier s t
-  | inr late ↦ (let here : y / 64 ≡ j = omega arith in
-      HasBit-zero (y % 64) (subst (λ n. HasBit n (y % 64)) none
-      ((HasBit-and (get_or table (x * width + j) 0) (get_or other (row * width + j) 0) (y % 64)).1 ((IsSet-word table width x j y here).0 s, (IsSet-word other width row j y here).0 t))))
-]
 
 -- the test of a number above a level, in three parts
 pub IsAboveLevel-parts : (edges paths transposed levels : List ℕ) (width u v count x y : ℕ) → IsSet paths width u x → IsSet transposed width v x → IsFirstShared edges x levels count width y →
@@ -393,11 +359,3 @@ none_from_match (Some x) P Q h e = absurd (true≢false e)
 pub some_from_match : (r : Option ℕ) (P : Type 0) (Q : ℕ → Type 0) → MatchOption r P Q → is_some r ≡ true → (x : ℕ) × Q x
 some_from_match None P Q h e = absurd (false≢true e)
 some_from_match (Some x) P Q h e = (x, h)
-
--- a word that is 0 has no bit of its row
-pub used_more : (table : List ℕ) (row width j low high : ℕ) → ((y : ℕ) → y / 64 < j → IsSet table width row y → (low ≤ y / 64) × (y / 64 < high)) →
-    get_or table (row * width + j) 0 ≡ 0 → (y : ℕ) → y / 64 < j + 1 → IsSet table width row y → (low ≤ y / 64) × (y / 64 < high)
-used_more table row width j low high before none y h s = elim (cases_lt (y / 64) j) [
-  | inl earlier ↦ before y earlier s
-  | inr late ↦ absurd (HasBit-zero (y % 64) (subst (λ n. HasBit n (y % 64)) none ((IsSet-word table width row j y (omega (arith, h, late))).0 s)))
-]

@@ -4,12 +4,11 @@ use Rattle.std.proofs.lemmas.Bool.{cases_eq, cases_lt}
 use Rattle.std.proofs.lemmas.List.{length-append, length-replicate}
 use Rattle.order_paths.specs.Paths.{Reaches, IsCycle}
 use Rattle.order_paths.proofs.Reach.{Reaches-edge, Reaches-prefix, Reaches-join}
-use Rattle.order_graph.specs.Internal.Tables.{IsSet, Adds, Joined}
+use Rattle.bitsets.specs.Tables.{IsSet, Adds}
+use Rattle.order_graph.specs.Internal.Tables.{Joined}
 use Rattle.order_graph.specs.Internal.KeptPaths.{KeepsAllPaths}
 use Rattle.order_graph.specs.Internal.Tracks.{Track, NoCycleBefore, IsLeastCycleBefore, IsOpen, OpenEdge, NoShorterOpen, IsClosedNumber, IsNext, IsFresh}
-use Rattle.order_graph.proofs.Words.{IsSet-decided}
-use Rattle.order_graph.proofs.AddedBits.{column_within, Adds-kept}
-use Rattle.order_graph.proofs.Keeping.{no_bit}
+use Rattle.bitsets.proofs.TableFacts.{IsSet-decided, column_within, Adds-kept, no_bit}
 use Rattle.order_graph.proofs.Searching.{row_of_zeros}
 use Rattle.order_graph.proofs.Cycling.{IsCycle-track, before_more_longer}
 

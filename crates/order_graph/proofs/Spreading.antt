@@ -3,71 +3,12 @@ use Rattle.std.proofs.Common.{◌≡◌, ◌↔◌, inl, inr, ℕ, ◌+◌, ◌*
 use Rattle.std.specs.Int.{bit_not, trailing_zeros, w64}
 use Rattle.std.specs.Prelude.{bit_and, bit_or}
 use Rattle.std.proofs.lemmas.Bool.{cases_eq}
-use Rattle.order_graph.specs.BitRows.{HasBit}
-use Rattle.order_graph.specs.Internal.Tables.{IsSet, Adds}
+use Rattle.bitsets.specs.Rows.{HasBit}
+use Rattle.bitsets.specs.Tables.{IsSet, Adds}
+use Rattle.bitsets.proofs.FillFacts.{RowsFrom}
 use Rattle.order_graph.specs.Internal.Tracks.{IsNext, IsFresh}
-use Rattle.order_graph.proofs.Words.{HasBit-zero, HasBit-or, HasBit-and, HasBit-clear, HasBit-lowest, IsSet-word}
-use Rattle.order_graph.proofs.AddedBits.{Leaves, Leaves-start, Leaves-step, Leaves-end}
-
--- a row's columns from word j on, given to a row
-abbrev pub RowFrom : List ℕ → ℕ → ℕ → ℕ → ℕ → ℕ → ℕ → Type 0
-RowFrom other width row x j i y = (i ≡ row) × (j ≤ y / 64) × IsSet other width x y
-
-pub RowFrom-start : (old other : List ℕ) (width row x first : ℕ) → Leaves old old width (RowFrom other width row x first) (RowFrom other width row x first)
-RowFrom-start old other width row x first = Leaves-start old width _ _ (λ i y h. (λ p. p, λ p. p))
-
-pub RowFrom-step : (old now new other : List ℕ) (width row x first j : ℕ) → Leaves old now width (RowFrom other width row x first) (RowFrom other width row x j) →
-    Adds now new width (λ i y. (i ≡ row) × (y / 64 ≡ j) × HasBit (get_or other (x * width + j) 0) (y % 64)) →
-    Leaves old new width (RowFrom other width row x first) (RowFrom other width row x (j + 1))
-RowFrom-step old now new other width row x first j leaves adds = Leaves-step old now new width _ _ _ _ leaves adds
-    (λ i y h p. elim (cases_eq (y / 64) j) [
-      | inl e ↦ inr (inl (p.0, e, (IsSet-word other width x j y e).0 p.2))
-      | inr ne ↦ inr (inr (p.0, omega (arith, p.1, ne), p.2))
-    ])
-    (λ i y h p. (p.0, omega (arith, p.1), (IsSet-word other width x j y p.1).1 p.2))
-    (λ i y h p. (p.0, omega (arith, p.1), p.2))
-
-pub RowFrom-end : (old now other : List ℕ) (width row x first j : ℕ) → width ≤ j → Leaves old now width (RowFrom other width row x first) (RowFrom other width row x j) → Adds old now width (RowFrom other width row x first)
-RowFrom-end old now other width row x first j past leaves = Leaves-end old now width _ _ leaves (λ i y h p. omega (arith, p.1, h))
-
--- the columns, from word `first` on, of the rows whose numbers are bits of word i
-abbrev pub RowsFrom : List ℕ → ℕ → ℕ → ℕ → ℕ → ℕ → ℕ → ℕ → Type 0
-RowsFrom other width row i first rows r y = (r ≡ row) × (first ≤ y / 64) × ((x : ℕ) × (x / 64 ≡ i) × HasBit rows (x % 64) × IsSet other width x y)
-
--- All but the rows of the bits left were given.
-pub record Gathers (old now other : List ℕ) (width row i first rows left : ℕ) : Type 0 where
-  pub some : (k : ℕ) → k < 64 → HasBit left k → HasBit rows k
-  pub leaves : Leaves old now width (RowsFrom other width row i first rows) (RowsFrom other width row i first left)
-
-pub Gathers-start : (old other : List ℕ) (width row i first rows : ℕ) → Gathers old old other width row i first rows rows
-Gathers-start old other width row i first rows = record {
-  some = λ k h b. b;
-  leaves = Leaves-start old width _ _ (λ r y h. (λ p. p, λ p. p));
-}
-
-pub Gathers-step : (old now new other : List ℕ) (width row i first rows left : ℕ) → Gathers old now other width row i first rows left → 0 < left → left < 2 ^ 64 →
-    Adds now new width (RowFrom other width row (64 * i + trailing_zeros w64 left) first) →
-    Gathers old new other width row i first rows (bit_and left (bit_not w64 (1 * 2 ^ trailing_zeros w64 left % 2 ^ 64)))
-Gathers-step old now new other width row i first rows left gathers some fits adds =
-    let low = HasBit-lowest left some fits in
-    let bound : trailing_zeros w64 left < 64 = low.0 in
-    let clear = λ (k : ℕ) (h : k < 64). HasBit-clear left (trailing_zeros w64 left) k bound h in
-    let at : (64 * i + trailing_zeros w64 left) / 64 ≡ i = omega arith in
-    let m : (64 * i + trailing_zeros w64 left) % 64 ≡ trailing_zeros w64 left = omega arith in
-    record {
-      some = λ k h b. gathers.some k h ((clear k h).0 b).1;
-      leaves = Leaves-step old now new width _ _ _ _ gathers.leaves adds
-          (λ r y h p. let x : ℕ = p.2.0 in
-          elim (cases_eq (x % 64) (trailing_zeros w64 left)) [
-            | inl e ↦ (let here : x ≡ 64 * i + trailing_zeros w64 left = omega (arith, e, p.2.1) in inr (inl (p.0, p.1, subst (λ n. IsSet other width n y) here p.2.3)))
-            | inr ne ↦ inr (inr (p.0, p.1, (x, p.2.1, (clear (x % 64) (omega arith)).1 (ne, p.2.2), p.2.3)))
-          ])
-          (λ r y h p. (p.0, p.1, (64 * i + trailing_zeros w64 left, at, subst (λ n. HasBit left n) (sym m) low.1, p.2)))
-          (λ r y h p. (p.0, p.1, (p.2.0, p.2.1, ((clear (p.2.0 % 64) (omega arith)).0 p.2.2).1, p.2.3)));
-    }
-
-pub Gathers-end : (old now other : List ℕ) (width row i first rows : ℕ) → Gathers old now other width row i first rows 0 → Adds old now width (RowsFrom other width row i first rows)
-Gathers-end old now other width row i first rows gathers = Leaves-end old now width _ _ gathers.leaves (λ r y h p. HasBit-zero (p.2.0 % 64) p.2.2)
+use Rattle.bitsets.proofs.WordFacts.{HasBit-zero, HasBit-or, HasBit-and, HasBit-clear, HasBit-lowest}
+use Rattle.bitsets.proofs.TableFacts.{IsSet-word, Leaves, Leaves-start, Leaves-step, Leaves-end}
 
 -- what edges lead to from the numbers of a level from word i on
 abbrev pub NextFrom : List ℕ → List ℕ → ℕ → ℕ → ℕ → ℕ → ℕ → ℕ → Type 0

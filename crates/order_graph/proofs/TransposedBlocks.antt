@@ -2,12 +2,12 @@
 use Rattle.std.proofs.Common.{◌≡◌, ◌⊎◌, ◌↔◌, inl, inr, ℕ, ◌+◌, ◌*◌, ◌/◌, ◌%◌, ◌^◌, ◌<◌, ◌≤◌, List, length, get_or, replicate, sym, ap, subst, ◌∙◌, arith}
 use Rattle.std.specs.Prelude.{bit_or}
 use Rattle.std.proofs.lemmas.Bool.{cases_eq}
-use Rattle.order_graph.specs.BitRows.{HasBit}
-use Rattle.order_graph.specs.Internal.Tables.{IsSet, IsTable, Adds, AreTransposed}
-use Rattle.order_graph.proofs.Words.{HasBit-zero, HasBit-set, IsSet-word}
+use Rattle.bitsets.specs.Rows.{HasBit}
+use Rattle.bitsets.specs.Tables.{IsSet, Adds}
+use Rattle.order_graph.specs.Internal.Tables.{IsTable, AreTransposed}
+use Rattle.bitsets.proofs.WordFacts.{HasBit-zero, HasBit-set}
+use Rattle.bitsets.proofs.TableFacts.{IsSet-word, column_within, no_bit}
 use Rattle.std.proofs.lemmas.List.{length-replicate}
-use Rattle.order_graph.proofs.AddedBits.{column_within}
-use Rattle.order_graph.proofs.Keeping.{no_bit}
 
 -- the block's bits of the rows before `upto`, transposed
 abbrev pub BlockBefore : List ℕ → ℕ → ℕ → ℕ → ℕ → ℕ → ℕ → Type 0

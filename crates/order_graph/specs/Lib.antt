@@ -1,3 +1,2 @@
-pub mod BitRows
 pub mod Digraphs
 pub mod Internal

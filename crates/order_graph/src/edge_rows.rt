@@ -1,11 +1,11 @@
 //! Rows of edges, from which a graph is made at once.
 
 ghost use Rattle.std.specs.Prelude.{◌≡◌, ◌⊎◌, ◌↔◌, ◌<◌, ◌^◌, ℕ, IfOk};
-ghost use Rattle.order_graph.specs.BitRows.{HasNumber};
+ghost use Rattle.bitsets.specs.Rows.{HasNumber};
 ghost use Rattle.order_graph.specs.Internal.Tables.{IsTable};
 ghost use Rattle.order_graph.specs.Digraphs.{IsEdge, EdgesWithin, graph_of};
 
-use crate::tables::add_words;
+use bitsets::add_words;
 use std::alloc::{AllocError, Global};
 use std::marker::Model;
 

@@ -6,8 +6,8 @@ ghost use Rattle.order_graph.specs.Digraphs.{IsEdge, EdgesWithin, graph_of};
 ghost use Rattle.order_graph.specs.Internal.KeptPaths.{Covers};
 
 use crate::forward::{reached_row, tests_of_row};
-use crate::searches::least_path_of;
-use crate::tables::{bit, clear_bit};
+use crate::kept_tables::{KeptTables, Tables};
+use bitsets::{BitTable, bit, clear_bit};
 use std::alloc::{AllocError, Global};
 use std::marker::Model;
 
@@ -17,11 +17,7 @@ use std::marker::Model;
 /// that it was made from. They have the paths of all edges that are left and maybe more, so a search keeps to them.
 #[derive(Debug, Drop)]
 pub struct EdgeSet {
-    nodes: usize,
-    width: usize,
-    edges: Vec<u64>,
-    paths: Vec<u64>,
-    transposed: Vec<u64>,
+    tables: KeptTables,
 }
 
 impl Model for EdgeSet {
@@ -30,31 +26,25 @@ impl Model for EdgeSet {
 
     ghost Value = { Digraph };
 
-    ghost view = { λ g. graph_of g.nodes g.width g.edges.items };
+    ghost view = { λ g. graph_of g.tables.nodes g.tables.width g.tables.edges.items };
 
-    ghost invariant = { λ g. Covers g.nodes g.width g.edges.items g.paths.items g.transposed.items };
+    ghost invariant = { λ g. Covers g.tables.nodes g.tables.width g.tables.edges.items g.tables.paths.items g.tables.transposed.items };
 }
 
 impl EdgeSet {
     /// The edges of a table, with tables that cover their paths.
-    pub(crate) fn of_tables(
-        alloc: Global,
-        edges: &[u64],
-        paths: &[u64],
-        transposed: &[u64],
-        width: usize,
-        nodes: usize,
-    ) -> Result<EdgeSet, AllocError>
-        requires { Covers nodes width edges.now paths.now transposed.now }
-        ensures { IfOk result (λ set. graph_of nodes width edges.now ≡ set) }
+    pub(crate) fn of_tables(alloc: Global, tables: Tables) -> Result<EdgeSet, AllocError>
+        requires { Covers tables.nodes tables.width tables.edges.now tables.paths.now tables.transposed.now }
+        ensures { IfOk result (λ set. graph_of tables.entry.nodes tables.entry.width tables.entry.edges.now ≡ set) }
     {
-        Ok(EdgeSet {
-            nodes,
-            width,
-            edges: edges.to_vec(alloc)?,
-            paths: paths.to_vec(alloc)?,
-            transposed: transposed.to_vec(alloc)?,
-        })
+        let tables = KeptTables {
+            nodes: tables.nodes,
+            width: tables.width,
+            edges: tables.edges.to_vec(alloc)?,
+            paths: tables.paths.to_vec(alloc)?,
+            transposed: tables.transposed.to_vec(alloc)?,
+        };
+        Ok(EdgeSet { tables })
     }
 
     /// The number of numbers: each is below it.
@@ -64,8 +54,7 @@ impl EdgeSet {
         ensures small { result < 2 ^ 32 }
         ensures within { EdgesWithin self.now }
     {
-        let EdgeSet { nodes, .. } = self;
-        *nodes
+        self.tables.nodes
     }
 
     /// Removes the edge from u to v, if it is there.
@@ -76,7 +65,7 @@ impl EdgeSet {
         ensures edges { (x y : ℕ) → IsEdge self.new x y ↔ (IsEdge self.old x y × ((x ≡ u) × (y ≡ v) → ⊥)) }
         ensures nodes { self.new.nodes ≡ self.old.nodes }
     {
-        clear_bit(&mut self.edges, self.width, u, v);
+        clear_bit(&mut self.tables.edges, self.tables.width, u, v);
     }
 
     /// Whether there is an edge from u to v.
@@ -86,7 +75,7 @@ impl EdgeSet {
         requires to { v < self.now.nodes }
         ensures { IsTrue result ↔ IsEdge self.now u v }
     {
-        bit(&self.edges, self.width, u, v)
+        self.tables.has_edge(u, v)
     }
 
     /// For each number whether a path of one or more edges leads from u to it. OutOfMemory where an allocation was refused.
@@ -95,9 +84,11 @@ impl EdgeSet {
         ensures sized { IfOk result (λ row. length row.items ≡ self.now.nodes) }
         ensures path { IfOk result (λ row. (y : ℕ) → IsTrue (slice_index_or row.items y false) ↔ Reaches (IsEdge self.now) u y) }
     {
-        let alloc = *self.edges.allocator();
-        let row = reached_row(alloc, &self.edges, self.width, self.nodes, u)?;
-        let tests = tests_of_row(alloc, &row, 0, self.width, self.nodes)?;
+        let alloc = *self.tables.edges.allocator();
+        let width = self.tables.width;
+        let row = reached_row(alloc, self.tables.edge_table(), self.tables.nodes, u)?;
+        let reached = BitTable { words: &row, width };
+        let tests = tests_of_row(alloc, reached, 0, self.tables.nodes)?;
         Ok(tests)
     }
 
@@ -109,21 +100,13 @@ impl EdgeSet {
         ensures { IfOk result (λ found. MatchOption found (Reaches (IsEdge self.now) u v → ⊥)
             (λ path. IsLeastPath (IsEdge self.now) u v path.items)) }
     {
-        let alloc = *self.edges.allocator();
-        let row = reached_row(alloc, &self.edges, self.width, self.nodes, u)?;
-        if !bit(&row, self.width, 0, v) {
+        let alloc = *self.tables.edges.allocator();
+        let width = self.tables.width;
+        let row = reached_row(alloc, self.tables.edge_table(), self.tables.nodes, u)?;
+        if !bit(BitTable { words: &row, width }, 0, v) {
             return Ok(None);
         }
-        let path = least_path_of(
-            alloc,
-            &self.edges,
-            &self.paths,
-            &self.transposed,
-            self.width,
-            self.nodes,
-            u,
-            v,
-        )?;
+        let path = self.tables.least_path(u, v)?;
         Ok(Some(path))
     }
 }

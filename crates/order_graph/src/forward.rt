@@ -1,27 +1,37 @@
 //! The numbers that paths lead to from one number, by words.
 
-ghost use Rattle.std.specs.Prelude.{◌≡◌, ◌↔◌, ◌<◌, ◌≤◌, ◌+◌, ◌*◌, ◌/◌, ◌^◌, ℕ, false, IsTrue, IfOk, length, slice_index_or};
+ghost use Rattle.std.specs.Prelude.{◌≡◌, ◌↔◌, ◌<◌, ◌≤◌, ◌+◌, ◌*◌, ◌/◌, ◌^◌, ℕ, false, IsTrue, IfOk, MatchOption, length, slice_index_or};
 ghost use Rattle.order_paths.specs.Paths.{Reaches};
-ghost use Rattle.order_graph.specs.Internal.Tables.{IsSet, Adds, Joined};
+ghost use Rattle.bitsets.specs.Tables.{IsSet, Adds, NoneShared, IsFirstShared};
+ghost use Rattle.order_graph.specs.Internal.Tables.{Joined};
 
-use crate::searches::first_shared;
-use crate::tables::{bit, clear_bit, set_word};
+use bitsets::{BitTable, bit, clear_bit, first_shared, set_word};
 use std::alloc::{AllocError, Global};
 
 /// Adds the numbers that number x has an edge to to the row of numbers reached, and those that were not in it to the row
 /// of numbers left.
 #[inline]
-pub fn expand(reached: &mut [u64], left: &mut [u64], edges: &[u64], x: usize, width: usize)
-    requires reached_row { width ≤ length reached.old }
-    requires left_row { width ≤ length left.old }
-    requires edges_row { x * width + width ≤ length edges.now }
-    ensures reached { Adds reached.old reached.new width (λ i y. (i ≡ 0) × IsSet edges.now width x y) }
-    ensures left { Adds left.old left.new width (λ i y. (i ≡ 0) × IsSet edges.now width x y × (IsSet reached.old width 0 y → ⊥)) }
+pub fn expand(reached: &mut [u64], left: &mut [u64], edges: BitTable, x: usize)
+    requires reached_row { edges.width ≤ length reached.old }
+    requires left_row { edges.width ≤ length left.old }
+    requires edges_row { x * edges.width + edges.width ≤ length edges.words.now }
+    ensures reached { Adds reached.old reached.new edges.entry.width (λ i y. (i ≡ 0) × IsSet edges.entry.words.now edges.entry.width x y) }
+    ensures left { Adds left.old left.new edges.entry.width (λ i y. (i ≡ 0) × IsSet edges.entry.words.now edges.entry.width x y × (IsSet reached.old edges.entry.width 0 y → ⊥)) }
 {
-    for j in 0..width {
-        let fresh = set_word(reached, width, 0, j, edges[x * width + j]);
-        set_word(left, width, 0, j, fresh);
+    for j in 0..edges.width {
+        let fresh = set_word(reached, edges.width, 0, j, edges.words[x * edges.width + j]);
+        set_word(left, edges.width, 0, j, fresh);
     }
+}
+
+/// The first number of a row.
+#[inline]
+pub fn first_of(row: &[u64], width: usize) -> Option<usize>
+    requires fits { 64 * width < 2 ^ 64 }
+    requires row { length row.now ≡ width }
+    ensures { MatchOption result (NoneShared row.now 0 row.now 0 width) (IsFirstShared row.now 0 row.now 0 width) }
+{
+    first_shared(BitTable { words: row, width }, 0, row, 0, 0, width)
 }
 
 /// A row of the numbers that a path of one or more edges leads to from u.
@@ -29,24 +39,23 @@ pub fn expand(reached: &mut [u64], left: &mut [u64], edges: &[u64], x: usize, wi
 /// Each number reached is expanded once.
 pub fn reached_row(
     alloc: Global,
-    edges: &[u64],
-    width: usize,
+    edges: BitTable,
     nodes: usize,
     u: usize,
 ) -> Result<Vec<u64>, AllocError>
     requires small { nodes < 2 ^ 32 }
-    requires fits { width ≡ (nodes + 63) / 64 }
-    requires sized { length edges.now ≡ nodes * width }
-    requires within { (x y : ℕ) → x < nodes → y / 64 < width → IsSet edges.now width x y → y < nodes }
+    requires fits { edges.width ≡ (nodes + 63) / 64 }
+    requires sized { length edges.words.now ≡ nodes * edges.width }
+    requires within { (x y : ℕ) → x < nodes → y / 64 < edges.width → IsSet edges.words.now edges.width x y → y < nodes }
     requires from { u < nodes }
-    ensures { IfOk result (λ row. (length row.items ≡ width) × ((y : ℕ) → y / 64 < width → IsSet row.items width 0 y ↔ Reaches (Joined edges.now width nodes) u y)) }
+    ensures { IfOk result (λ row. (length row.items ≡ edges.entry.width) × ((y : ℕ) → y / 64 < edges.entry.width → IsSet row.items edges.entry.width 0 y ↔ Reaches (Joined edges.entry.words.now edges.entry.width nodes) u y)) }
 {
-    let mut reached = vec![in alloc; 0; width]?;
-    let mut left = vec![in alloc; 0; width]?;
-    expand(&mut reached, &mut left, edges, u, width);
-    'numbers: while let Some(x) = first_shared(&left, 0, &left, 0, width, 0, width) {
-        clear_bit(&mut left, width, 0, x);
-        expand(&mut reached, &mut left, edges, x, width);
+    let mut reached = vec![in alloc; 0; edges.width]?;
+    let mut left = vec![in alloc; 0; edges.width]?;
+    expand(&mut reached, &mut left, edges, u);
+    'numbers: while let Some(x) = first_of(&left, edges.width) {
+        clear_bit(&mut left, edges.width, 0, x);
+        expand(&mut reached, &mut left, edges, x);
     }
     Ok(reached)
 }
@@ -54,19 +63,18 @@ pub fn reached_row(
 /// For each number below `nodes` whether its bit is set in row x of the table.
 pub fn tests_of_row(
     alloc: Global,
-    table: &[u64],
+    table: BitTable,
     x: usize,
-    width: usize,
     nodes: usize,
 ) -> Result<Vec<bool>, AllocError>
-    requires fits { width ≡ (nodes + 63) / 64 }
-    requires row { x * width + width ≤ length table.now }
+    requires fits { table.width ≡ (nodes + 63) / 64 }
+    requires row { x * table.width + table.width ≤ length table.words.now }
     ensures sized { IfOk result (λ tests. length tests.items ≡ nodes) }
-    ensures tests { IfOk result (λ tests. (y : ℕ) → IsTrue (slice_index_or tests.items y false) ↔ ((y < nodes) × IsSet table.now width x y)) }
+    ensures tests { IfOk result (λ tests. (y : ℕ) → IsTrue (slice_index_or tests.items y false) ↔ ((y < nodes) × IsSet table.entry.words.now table.entry.width x y)) }
 {
     let mut tests = Vec::new(alloc);
     for y in 0..nodes {
-        tests.push(bit(table, width, x, y))?;
+        tests.push(bit(table, x, y))?;
     }
     Ok(tests)
 }

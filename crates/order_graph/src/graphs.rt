@@ -3,7 +3,7 @@
 ghost use Rattle.std.specs.Prelude.{◌≡◌, ◌⊎◌, ◌↔◌, ◌<◌, ◌+◌, ◌/◌, ◌^◌, ℕ, false, IsTrue, IfOk, MatchOption, length, slice_index_or};
 ghost use Rattle.order_paths.specs.Paths.{Reaches, HasCycle, IsLeastPath, IsLeastCycle};
 ghost use Rattle.order_graph.specs.Digraphs.{IsEdge, EdgesWithin};
-ghost use Rattle.order_graph.specs.BitRows.{HasNumber};
+ghost use Rattle.bitsets.specs.Rows.{HasNumber};
 
 use crate::all_paths::{join_rest, paths_in_order};
 use crate::closing::closed_numbers;
@@ -11,9 +11,10 @@ use crate::cycles::better;
 use crate::edge_rows::EdgeRows;
 use crate::edge_sets::EdgeSet;
 use crate::forward::tests_of_row;
-use crate::searches::{first_shared, least_path_of};
-use crate::tables::{bit, join, set_bit};
+use crate::joining::{Size, join};
+use crate::kept_tables::KeptTables;
 use crate::transposing::transposed_table;
+use bitsets::{BitTable, first_shared, set_bit};
 use std::alloc::{AllocError, Global};
 use std::marker::Model;
 
@@ -23,11 +24,7 @@ use std::marker::Model;
 /// a path to it.
 #[derive(Debug, Drop)]
 pub struct Graph {
-    nodes: usize,
-    width: usize,
-    edges: Vec<u64>,
-    paths: Vec<u64>,
-    transposed: Vec<u64>,
+    tables: KeptTables,
 }
 
 impl Model for Graph {
@@ -36,9 +33,9 @@ impl Model for Graph {
 
     ghost Value = { Digraph };
 
-    ghost view = { λ g. graph_of g.nodes g.width g.edges.items };
+    ghost view = { λ g. graph_of g.tables.nodes g.tables.width g.tables.edges.items };
 
-    ghost invariant = { λ g. KeepsAllPaths g.nodes g.width g.edges.items g.paths.items g.transposed.items };
+    ghost invariant = { λ g. KeepsAllPaths g.tables.nodes g.tables.width g.tables.edges.items g.tables.paths.items g.tables.transposed.items };
 }
 
 impl Graph {
@@ -51,13 +48,14 @@ impl Graph {
         }
         let width = nodes.div_ceil(64);
         let size = nodes * width;
-        Ok(Graph {
+        let tables = KeptTables {
             nodes,
             width,
             edges: vec![in alloc; 0; size]?,
             paths: vec![in alloc; 0; size]?,
             transposed: vec![in alloc; 0; size]?,
-        })
+        };
+        Ok(Graph { tables })
     }
 
     /// The graph of the edges of these rows, as `new` and `add` make it, but faster where there are many edges.
@@ -67,16 +65,25 @@ impl Graph {
     {
         let (nodes, width, edges) = rows.into_table();
         let alloc = *edges.allocator();
-        let mut paths = paths_in_order(alloc, &edges, width, nodes)?;
-        let mut transposed = transposed_table(alloc, &paths, width, nodes)?;
-        join_rest(&edges, &mut paths, &mut transposed, width, nodes);
-        Ok(Graph {
+        let table = BitTable {
+            words: &edges,
+            width,
+        };
+        let mut paths = paths_in_order(alloc, table, nodes)?;
+        let made = BitTable {
+            words: &paths,
+            width,
+        };
+        let mut transposed = transposed_table(alloc, made, nodes)?;
+        join_rest(table, &mut paths, &mut transposed, nodes);
+        let tables = KeptTables {
             nodes,
             width,
             edges,
             paths,
             transposed,
-        })
+        };
+        Ok(Graph { tables })
     }
 
     /// The number of numbers: each is below it.
@@ -86,8 +93,7 @@ impl Graph {
         ensures small { result < 2 ^ 32 }
         ensures within { EdgesWithin self.now }
     {
-        let Graph { nodes, .. } = self;
-        *nodes
+        self.tables.nodes
     }
 
     /// Adds the edge from u to v.
@@ -100,18 +106,16 @@ impl Graph {
         ensures within { EdgesWithin self.new }
         ensures decided { (x y : ℕ) → Reaches (IsEdge self.new) x y ⊎ (Reaches (IsEdge self.new) x y → ⊥) }
     {
-        set_bit(&mut self.edges, self.width, u, v);
-        if bit(&self.paths, self.width, u, v) {
+        let tables = &mut self.tables;
+        set_bit(&mut tables.edges, tables.width, u, v);
+        if tables.has_path(u, v) {
             return;
         }
-        join(
-            &mut self.paths,
-            &mut self.transposed,
-            self.width,
-            self.nodes,
-            u,
-            v,
-        );
+        let size = Size {
+            nodes: tables.nodes,
+            width: tables.width,
+        };
+        join(&mut tables.paths, &mut tables.transposed, size, u, v);
     }
 
     /// Whether there is an edge from u to v.
@@ -121,7 +125,7 @@ impl Graph {
         requires to { v < self.now.nodes }
         ensures { IsTrue result ↔ IsEdge self.now u v }
     {
-        bit(&self.edges, self.width, u, v)
+        self.tables.has_edge(u, v)
     }
 
     /// Whether there is an edge from u.
@@ -130,8 +134,8 @@ impl Graph {
         requires { u < self.now.nodes }
         ensures { IsTrue result ↔ ((v : ℕ) × IsEdge self.now u v) }
     {
-        let edges = &self.edges;
-        first_shared(edges, u, edges, u, self.width, 0, self.width).is_some()
+        let edges = self.tables.edge_table();
+        first_shared(edges, u, edges.words, u, 0, edges.width).is_some()
     }
 
     /// Whether there is a path from u to v, of one or more edges.
@@ -142,7 +146,7 @@ impl Graph {
         ensures path { IsTrue result ↔ Reaches (IsEdge self.now) u v }
         ensures decided { (x y : ℕ) → Reaches (IsEdge self.now) x y ⊎ (Reaches (IsEdge self.now) x y → ⊥) }
     {
-        bit(&self.paths, self.width, u, v)
+        self.tables.has_path(u, v)
     }
 
     /// For each number whether a path of one or more edges leads from u to it. OutOfMemory where an allocation was refused.
@@ -151,8 +155,8 @@ impl Graph {
         ensures sized { IfOk result (λ row. length row.items ≡ self.now.nodes) }
         ensures path { IfOk result (λ row. (y : ℕ) → IsTrue (slice_index_or row.items y false) ↔ Reaches (IsEdge self.now) u y) }
     {
-        let alloc = *self.edges.allocator();
-        let tests = tests_of_row(alloc, &self.paths, u, self.width, self.nodes)?;
+        let alloc = *self.tables.edges.allocator();
+        let tests = tests_of_row(alloc, self.tables.path_table(), u, self.tables.nodes)?;
         Ok(tests)
     }
 
@@ -165,8 +169,8 @@ impl Graph {
         ensures paths { (v : ℕ) → HasNumber result.now v ↔ Reaches (IsEdge self.now) u v }
         ensures size { length result.now ≡ (self.now.nodes + 63) / 64 }
     {
-        let start = u * self.width;
-        &self.paths[start..start + self.width]
+        let start = u * self.tables.width;
+        &self.tables.paths[start..start + self.tables.width]
     }
 
     /// The path from u to v with the fewest edges, and of these the least list of numbers; None where there is none.
@@ -176,19 +180,10 @@ impl Graph {
         ensures { IfOk result (λ found. MatchOption found (Reaches (IsEdge self.now) u v → ⊥)
             (λ path. IsLeastPath (IsEdge self.now) u v path.items)) }
     {
-        if !bit(&self.paths, self.width, u, v) {
+        if !self.tables.has_path(u, v) {
             return Ok(None);
         }
-        let path = least_path_of(
-            *self.edges.allocator(),
-            &self.edges,
-            &self.paths,
-            &self.transposed,
-            self.width,
-            self.nodes,
-            u,
-            v,
-        )?;
+        let path = self.tables.least_path(u, v)?;
         Ok(Some(path))
     }
 
@@ -196,14 +191,7 @@ impl Graph {
     pub fn edge_set(&self) -> Result<EdgeSet, AllocError>
         ensures { IfOk result (λ set. (set.nodes ≡ self.now.nodes) × ((x y : ℕ) → IsEdge set x y ↔ IsEdge self.now x y)) }
     {
-        EdgeSet::of_tables(
-            *self.edges.allocator(),
-            &self.edges,
-            &self.paths,
-            &self.transposed,
-            self.width,
-            self.nodes,
-        )
+        EdgeSet::of_tables(*self.tables.edges.allocator(), self.tables.read())
     }
 
     /// The cycle with the fewest numbers, and of these the least list, which begins with its least number; None where
@@ -212,31 +200,14 @@ impl Graph {
         ensures { IfOk result (λ found. MatchOption found (HasCycle (IsEdge self.now) → ⊥)
             (λ cycle. IsLeastCycle (IsEdge self.now) cycle.items)) }
     {
-        let alloc = *self.edges.allocator();
-        let closed = closed_numbers(
-            alloc,
-            &self.edges,
-            &self.paths,
-            &self.transposed,
-            self.width,
-            self.nodes,
-        )?;
+        let alloc = *self.tables.edges.allocator();
+        let tables = self.tables.read();
+        let closed = closed_numbers(alloc, tables)?;
         let mut best: Option<Vec<usize>> = None;
-        let mut passed = vec![in alloc; 0; self.width]?;
-        for start in 0..self.nodes {
-            best = better(
-                alloc,
-                &self.edges,
-                &self.paths,
-                &self.transposed,
-                &closed,
-                &passed,
-                self.width,
-                self.nodes,
-                start,
-                best,
-            )?;
-            set_bit(&mut passed, self.width, 0, start);
+        let mut passed = vec![in alloc; 0; tables.width]?;
+        for start in 0..tables.nodes {
+            best = better(alloc, tables, &closed, &passed, start, best)?;
+            set_bit(&mut passed, tables.width, 0, start);
         }
         Ok(best)
     }

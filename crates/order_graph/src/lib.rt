@@ -13,10 +13,11 @@ mod edge_rows;
 mod edge_sets;
 mod forward;
 mod graphs;
+mod joining;
+mod kept_tables;
 mod path_search;
 mod postorder;
 mod searches;
-mod tables;
 #[cfg(test)]
 mod tests;
 mod transposing;

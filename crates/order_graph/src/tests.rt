@@ -1,10 +1,10 @@
 //! Graphs by hand, and small graphs beside a plain program over lists of edges.
 
 ghost use Rattle.std.specs.Prelude.{◌≡◌, ◌<◌, ◌/◌, ℕ, IfOk};
-ghost use Rattle.order_graph.specs.BitRows.{HasNumber};
+ghost use Rattle.bitsets.specs.Rows.{HasNumber};
 
-use crate::tables::set_bit;
 use crate::{EdgeRows, EdgeSet, Graph};
+use bitsets::set_bit;
 use std::alloc::{AllocError, Global};
 use std::process::Abort;
 use std::test::Fail;

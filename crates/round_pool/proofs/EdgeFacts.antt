@@ -9,7 +9,7 @@ use Rattle.tso_ops.specs.Values.{TraceValue}
 use Rattle.tso_ops.specs.Events.{event_total}
 use Rattle.tso_model.specs.EdgeLists.{IsNew}
 use Rattle.tso_model.proofs.RankFacts.{new_within}
-use Rattle.tso_rules.specs.Rows.{IsAscending as IsAscendingRow}
+use Rattle.bitsets.specs.Rows.{IsAscending as IsAscendingRow}
 use Rattle.round_pool.specs.declared.ranked.Edge.{Edge}
 use Rattle.round_pool.specs.Internal.SharedRows.{AreRoundRows}
 use Rattle.round_pool.specs.Internal.EdgeLists.{edges_of_rows, AreNewEdges}

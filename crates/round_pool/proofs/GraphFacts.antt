@@ -4,7 +4,7 @@ use Rattle.std.specs.Prelude.{Contains}
 use Rattle.std.proofs.lemmas.Bool.{cases_lt}
 use Rattle.std.proofs.lemmas.List.{take_more, get_or_past, get_or_at, get_or_append_left, get_or-append_right}
 use Rattle.std.proofs.lemmas.List.Elements.{Contains-append_left, Contains-push, Contains-push_cases}
-use Rattle.order_graph.specs.BitRows.{HasNumber}
+use Rattle.bitsets.specs.Rows.{HasNumber, IsListOf}
 use Rattle.order_graph.specs.Digraphs.{Digraph, IsEdge}
 use Rattle.std.specs.Global.{Vec}
 use Rattle.tso_ops.specs.Values.{TraceValue, rows}
@@ -17,7 +17,6 @@ use Rattle.tso_model.specs.EdgeLists.{IsNew}
 use Rattle.tso_model.proofs.Bounds.{RankSet-within}
 use Rattle.tso_model.proofs.Events.{event_above_zero, store_event, load_event, source_load}
 use Rattle.tso_model.proofs.RankFacts.{new_within}
-use Rattle.tso_rules.specs.Rows.{IsRow}
 use Rattle.round_pool.specs.declared.ranked.Edge.{Edge}
 use Rattle.round_pool.specs.Internal.SharedRows.{AreRoundRows, AreRowsBelow}
 use Rattle.round_pool.specs.RankGraphs.{IsRankGraph, AddsEdges}
@@ -61,14 +60,14 @@ empty_list y has = let low : has.0 < 0 = has.1 in omega arith
 pub rows_none : (t : TraceValue) (g : Digraph) (first : ℕ) → AreRoundRows t g first 0 []
 rows_none t g first = record { count_is = refl; row = λ i low. absurd (omega arith) }
 
-pub rows_pushed : (t : TraceValue) (g : Digraph) (first n : ℕ) (rows : List (List ℕ)) (row : List ℕ) → AreRoundRows t g first n rows → IsRow row (IsNew t (IsEdge g) (first + n)) →
+pub rows_pushed : (t : TraceValue) (g : Digraph) (first n : ℕ) (rows : List (List ℕ)) (row : List ℕ) → AreRoundRows t g first n rows → IsListOf row (IsNew t (IsEdge g) (first + n)) →
     AreRoundRows t g first (n + 1) (rows ++ row ∷ [])
 rows_pushed t g first n rows row are is = record {
   count_is = omega (arith, are.count_is, length-append rows (row ∷ []));
   row = λ i low. ⊎_elim
-      (λ (before : i < n). let size = are.count_is in subst (λ r. IsRow r (IsNew t (IsEdge g) (first + i))) (sym (get_or_append_left rows (row ∷ []) [] i (omega (arith, before, size)))) (are.row i before))
+      (λ (before : i < n). let size = are.count_is in subst (λ r. IsListOf r (IsNew t (IsEdge g) (first + i))) (sym (get_or_append_left rows (row ∷ []) [] i (omega (arith, before, size)))) (are.row i before))
       (λ (at : n ≤ i). let same : i ≡ n = omega (arith, at, low) in
-      subst (λ k. IsRow (get_or (rows ++ row ∷ []) k []) (IsNew t (IsEdge g) (first + k))) (sym same) (subst (λ r. IsRow r (IsNew t (IsEdge g) (first + n))) (sym (get_or_at rows row [] [] n are.count_is)) is))
+      subst (λ k. IsListOf (get_or (rows ++ row ∷ []) k []) (IsNew t (IsEdge g) (first + k))) (sym same) (subst (λ r. IsListOf r (IsNew t (IsEdge g) (first + n))) (sym (get_or_at rows row [] [] n are.count_is)) is))
       (cases_lt i n);
 }
 
@@ -106,11 +105,11 @@ pub rows_joined : (t : TraceValue) (g : Digraph) (first m n : ℕ) (rows more : 
 rows_joined t g first m n rows more are next = record {
   count_is = omega (arith, are.count_is, next.count_is, length-append rows more);
   row = λ i low. ⊎_elim
-      (λ (before : i < m). let size = are.count_is in subst (λ r. IsRow r (IsNew t (IsEdge g) (first + i))) (sym (get_or_append_left rows more [] i (omega (arith, before, size)))) (are.row i before))
+      (λ (before : i < m). let size = are.count_is in subst (λ r. IsListOf r (IsNew t (IsEdge g) (first + i))) (sym (get_or_append_left rows more [] i (omega (arith, before, size)))) (are.row i before))
       (λ (past : m ≤ i).
       let place : first + m + (i - m) ≡ first + i = omega (arith, past) in
       let here : get_or (rows ++ more) i [] ≡ get_or more (i - m) [] = get_or-append_right rows more m i [] are.count_is past in
-      subst (λ r. IsRow r (IsNew t (IsEdge g) (first + i))) (sym here) (subst (λ n. IsRow (get_or more (i - m) []) (IsNew t (IsEdge g) n)) place (next.row (i - m) (omega (arith, past, low)))))
+      subst (λ r. IsListOf r (IsNew t (IsEdge g) (first + i))) (sym here) (subst (λ n. IsListOf (get_or more (i - m) []) (IsNew t (IsEdge g) n)) place (next.row (i - m) (omega (arith, past, low)))))
       (cases_lt i m);
 }
 

@@ -18,96 +18,16 @@ use Rattle.tso_ops.specs.declared.events.Source.TheVariants.{Init, Store, Unwrit
 use Rattle.tso_ops.specs.Limits.{IsTrace}
 use Rattle.tso_ops.specs.Events.{events_of, event_at, HasSource, SourceIs}
 use Rattle.tso_ops.specs.Internal.Tables.{IsSourceRow, AreSources}
-use Rattle.tso_ops.specs.Masks.{IsMarked}
-use Rattle.tso_ops.specs.Internal.MaskTables.{IsInRow, IsOfRow, IsReadFrom, HasEventRow, HasSourceRow, source_number, AreMaskRowsAmong, AreMaskRows, MarksNumber, MarksInRow}
+use Rattle.bitsets.specs.Rows.{HasNumber, Marks}
+use Rattle.bitsets.proofs.RowFacts.{HasNumber-none}
+use Rattle.tso_ops.specs.Internal.MaskTables.{IsInRow, IsOfRow, IsReadFrom, HasEventRow, HasSourceRow, source_number, AreMaskRowsAmong, AreMaskRows, MarksInRow}
 use Rattle.tso_ops.proofs.TableFacts.{event_at-suc, same_event, source_load, one_source}
-
--- ---- one row
-
--- an empty row has no bit
-pub none_marked : (n : ℕ) → IsMarked [] n → ⊥
-unfolding IsMarked
-none_marked n is = let none : bit_at 0 (n % 64) ≡ 0 = bit_at-zero (n % 64) in omega arith
-
--- a word of zeros after a row changes no word of it
-pub same_word : (words : List ℕ) (j : ℕ) → get_or (words ++ 0 ∷ []) j 0 ≡ get_or words j 0
-same_word [] zero = refl
-same_word [] (suc j) = refl
-same_word (w ∷ words) zero = refl
-same_word (w ∷ words) (suc j) = same_word words j
-
--- a word without bits adds none
-pub marked_extended : (words : List ℕ) (n : ℕ) → IsMarked (words ++ 0 ∷ []) n ↔ IsMarked words n
-unfolding IsMarked
-marked_extended words n =
-    (λ is. subst (λ w. bit_at w (n % 64) ≡ 1) (same_word words (n / 64)) is, λ is. subst (λ w. bit_at w (n % 64) ≡ 1) (sym (same_word words (n / 64))) is)
-
-pub marked_pushed : (first old new : List ℕ) → new ≡ old ++ 0 ∷ [] → ((n : ℕ) → IsMarked old n ↔ IsMarked first n) → (n : ℕ) → IsMarked new n ↔ IsMarked first n
-marked_pushed first old new pushed same n = (
-  λ is. (same n).0 ((marked_extended old n).0 (subst (λ xs. IsMarked xs n) pushed is)),
-  λ is. subst (λ xs. IsMarked xs n) (sym pushed) ((marked_extended old n).1 ((same n).1 is)),
-)
-
--- a bit that is set in its word
-pub marks_set : (words : List ℕ) (number word : ℕ) → number / 64 < length words → word ≡ get_or words (number / 64) word →
-    MarksNumber words (set words (number / 64) (bit_or word (1 * 2 ^ (number % 64) % 2 ^ 64))) number
-unfolding IsMarked
-marks_set words number word within is = record { bits = at }
-  where
-    j : ℕ
-    j = number / 64
-
-    new : ℕ
-    new = bit_or word (1 * 2 ^ (number % 64) % 2 ^ 64)
-
-    place : number % 64 < 64
-    place = omega arith
-
-    old_word : word ≡ get_or words j 0
-    old_word = is ∙ get_or_default_zero words j word within
-
-    here : (n : ℕ) → n / 64 ≡ j → (bit_at (get_or (set words j new) (n / 64) 0) (n % 64) ≡ 1) ↔ ((bit_at (get_or words (n / 64) 0) (n % 64) ≡ 1) ⊎ (n ≡ number))
-    here n same =
-        let read : get_or (set words j new) (n / 64) 0 ≡ new = ap (λ i. get_or (set words j new) i 0) same ∙ get_or-set_same words j new 0 within in
-        let before : get_or words (n / 64) 0 ≡ word = ap (λ i. get_or words i 0) same ∙ sym old_word in
-        elim (cases_eq (n % 64) (number % 64)) [
-          | inl e ↦ (
-            λ bit. inr (omega (arith, e, same)),
-            λ either. ap (λ w. bit_at w (n % 64)) read ∙ ap (bit_at new) e ∙ bit_at_set_same w64 word (number % 64) place,
-          )
-          | inr other ↦ (
-            λ bit. inl (ap (λ w. bit_at w (n % 64)) before ∙ sym (bit_at_set_other w64 word (number % 64) place (n % 64) other) ∙ sym (ap (λ w. bit_at w (n % 64)) read) ∙ bit),
-            λ either. elim either [
-              | inl bit ↦ ap (λ w. bit_at w (n % 64)) read ∙ bit_at_set_other w64 word (number % 64) place (n % 64) other ∙ sym (ap (λ w. bit_at w (n % 64)) before) ∙ bit
-              | inr e ↦ absurd (other (ap (λ m. m % 64) e))
-            ],
-          )
-        ]
-
-    away : (n : ℕ) → (n / 64) ≢ j → (bit_at (get_or (set words j new) (n / 64) 0) (n % 64) ≡ 1) ↔ ((bit_at (get_or words (n / 64) 0) (n % 64) ≡ 1) ⊎ (n ≡ number))
-    away n other =
-        let kept : get_or (set words j new) (n / 64) 0 ≡ get_or words (n / 64) 0 = get_or-set_other words j (n / 64) new 0 other in (
-          λ bit. inl (ap (λ w. bit_at w (n % 64)) (sym kept) ∙ bit),
-          λ either. elim either [ inl bit ↦ ap (λ w. bit_at w (n % 64)) kept ∙ bit | inr e ↦ absurd (other (ap (λ m. m / 64) e)) ],
-        )
-
-    at : (n : ℕ) → (bit_at (get_or (set words j new) (n / 64) 0) (n % 64) ≡ 1) ↔ ((bit_at (get_or words (n / 64) 0) (n % 64) ≡ 1) ⊎ (n ≡ number))
-    at n = elim (cases_eq (n / 64) j) [ inl same ↦ here n same | inr other ↦ away n other ]
-
--- the same in a row that has the bits of another
-pub marks_as : (first old new : List ℕ) (number : ℕ) → ((n : ℕ) → IsMarked old n ↔ IsMarked first n) → MarksNumber old new number → MarksNumber first new number
-marks_as first old new number same marks = record {
-  bits = λ n. (
-    λ is. elim ((marks.bits n).0 is) [ inl was ↦ inl ((same n).0 was) | inr e ↦ inr e ],
-    λ either. (marks.bits n).1 (elim either [ inl was ↦ inl ((same n).1 was) | inr e ↦ inr e ]),
-  );
-}
 
 -- ---- tables
 
 -- a number is marked in a row of a table that has the rows of another
 pub marks_row : (first table : List (Vec ℕ)) (row number : ℕ) (new d : Vec ℕ) → ((r : ℕ) → get_or (rows table) r [] ≡ get_or (rows first) r []) → row < length table →
-    MarksNumber (get_or table row d).items new.items number → MarksInRow (rows first) (rows (set table row new)) (Some row) number
+    Marks (get_or table row d).items new.items (λ n. n ≡ number) → MarksInRow (rows first) (rows (set table row new)) (Some row) number
 marks_row first table row number new d same within marks = record { bits = at }
   where
     replaced : rows (set table row new) ≡ set (rows table) row new.items
@@ -123,45 +43,44 @@ marks_row first table row number new d same within marks = record { bits = at }
     first_row : get_or (rows first) row [] ≡ (get_or table row d).items
     first_row = sym (same row) ∙ before
 
-    at_row : (n : ℕ) → IsMarked (get_or (rows (set table row new)) row []) n ↔ (IsMarked (get_or (rows first) row []) n ⊎ ((Some row ≡ Some row) × (n ≡ number)))
+    at_row : (n : ℕ) → HasNumber (get_or (rows (set table row new)) row []) n ↔ (HasNumber (get_or (rows first) row []) n ⊎ ((Some row ≡ Some row) × (n ≡ number)))
     at_row n = (
-      λ is. elim ((marks.bits n).0 (subst (λ xs. IsMarked xs n) here is)) [
-        | inl was ↦ inl (subst (λ xs. IsMarked xs n) (sym first_row) was)
+      λ is. elim ((marks.marked n).0 (subst (λ xs. HasNumber xs n) here is)) [
+        | inl was ↦ inl (subst (λ xs. HasNumber xs n) (sym first_row) was)
         | inr e ↦ inr (refl, e)
       ],
-      λ either. subst (λ xs. IsMarked xs n) (sym here) ((marks.bits n).1 (elim either [
-        | inl was ↦ inl (subst (λ xs. IsMarked xs n) first_row was)
+      λ either. subst (λ xs. HasNumber xs n) (sym here) ((marks.marked n).1 (elim either [
+        | inl was ↦ inl (subst (λ xs. HasNumber xs n) first_row was)
         | inr e ↦ inr e.1
       ])),
     )
 
-    at : (r n : ℕ) → IsMarked (get_or (rows (set table row new)) r []) n ↔ (IsMarked (get_or (rows first) r []) n ⊎ ((Some row ≡ Some r) × (n ≡ number)))
+    at : (r n : ℕ) → HasNumber (get_or (rows (set table row new)) r []) n ↔ (HasNumber (get_or (rows first) r []) n ⊎ ((Some row ≡ Some r) × (n ≡ number)))
     at r n = elim (cases_eq r row) [
-      | inl e ↦ subst (λ i. IsMarked (get_or (rows (set table row new)) i []) n ↔ (IsMarked (get_or (rows first) i []) n ⊎ ((Some row ≡ Some i) × (n ≡ number)))) (sym e) (at_row n)
+      | inl e ↦ subst (λ i. HasNumber (get_or (rows (set table row new)) i []) n ↔ (HasNumber (get_or (rows first) i []) n ⊎ ((Some row ≡ Some i) × (n ≡ number)))) (sym e) (at_row n)
       | inr other ↦ (let kept : get_or (rows (set table row new)) r [] ≡ get_or (rows first) r [] =
           ap (λ rs. get_or rs r []) replaced ∙ get_or-set_other (rows table) row r new.items [] other ∙ same r in (
-            λ is. inl (subst (λ xs. IsMarked xs n) kept is),
+            λ is. inl (subst (λ xs. HasNumber xs n) kept is),
             λ either. elim either [
-              | inl was ↦ subst (λ xs. IsMarked xs n) (sym kept) was
+              | inl was ↦ subst (λ xs. HasNumber xs n) (sym kept) was
               | inr e ↦ absurd (let one : row ≡ r = (let some = e.0 in cc) in other (sym one))
             ],
           ))
     ]
 
--- the same of a row that is lent out, where memory wasn't refused
-pub marks_row_if : {E : Type 0} (result : Result Unit E) (first table : List (Vec ℕ)) (option : Option ℕ) (row number : ℕ) (new now : Vec ℕ) → option ≡ Some row →
-    ((r : ℕ) → get_or (rows table) r [] ≡ get_or (rows first) r []) → row < length table → now ≡ get_or table row now → OnOk result (MarksNumber now.items new.items number) →
-    OnOk result (MarksInRow (rows first) (rows (set table row new)) option number)
-marks_row_if (Ok x) first table option row number new now is same within read marks =
+-- the same of a row that is lent out
+pub marks_row_lent : (first table : List (Vec ℕ)) (option : Option ℕ) (row number : ℕ) (new now : Vec ℕ) → option ≡ Some row →
+    ((r : ℕ) → get_or (rows table) r [] ≡ get_or (rows first) r []) → row < length table → now ≡ get_or table row now → Marks now.items new.items (λ n. n ≡ number) →
+    MarksInRow (rows first) (rows (set table row new)) option number
+marks_row_lent first table option row number new now is same within read marks =
     subst (λ o. MarksInRow (rows first) (rows (set table row new)) o number) (sym is)
-    (marks_row first table row number new now same within (subst (λ (v : Vec ℕ). MarksNumber v.items new.items number) read marks))
-marks_row_if (Err e) first table option row number new now is same within read marks = tt
+    (marks_row first table row number new now same within (subst (λ (v : Vec ℕ). Marks v.items new.items (λ n. n ≡ number)) read marks))
 
 -- ---- the rows of a trace
 
 pub AreMaskRowsAmong-none : (HasRow : ℕ → ℕ → Type 0) (table : List (List ℕ)) → table ≡ [] → AreMaskRowsAmong HasRow 0 table
 AreMaskRowsAmong-none HasRow table empty = rw empty record {
-  each = λ r. record { bits = λ n. (λ is. absurd (none_marked n is), λ among. absurd (let none : among.0 < 0 = among.1 in omega arith)) };
+  each = λ r. record { bits = λ n. (λ is. absurd (HasNumber-none n is), λ among. absurd (let none : among.0 < 0 = among.1 in omega arith)) };
 }
 
 -- with one number more
@@ -216,13 +135,13 @@ pub AreMaskRows-all : (t : TraceValue) (events : List Event) (kind : Kind) (tabl
     AreMaskRows (IsOfRow t kind) table
 AreMaskRows-all t events kind table is are = record { each = λ r. record { bits = λ n. (to r n, from r n) } }
   where
-    to : (r n : ℕ) → IsMarked (get_or table r []) n → IsOfRow t kind r n
+    to : (r n : ℕ) → HasNumber (get_or table r []) n → IsOfRow t kind r n
     to r n marked =
         let among = ((are.each r).bits n).0 marked in
         let has = among.3 in
         (has.0, subst (λ m. event_at t m ≡ Some has.0) (sym among.2) (event_at-suc t events is among.0 ∙ has.1), has.2)
 
-    from : (r n : ℕ) → IsOfRow t kind r n → IsMarked (get_or table r []) n
+    from : (r n : ℕ) → IsOfRow t kind r n → HasNumber (get_or table r []) n
     from r zero of = absurd (no_event_zero t of.0 of.1)
     from r (suc k) of =
         let at : slice_get events k ≡ Some of.0 = sym (event_at-suc t events is k) ∙ of.1 in
@@ -239,7 +158,7 @@ AreMaskRows-readers t sources table trace are among_are = record { each = λ r. 
     numbered l s (Store m) is number = let same : m ≡ s = cc in subst (λ k. HasSource t l k) same is.0
     numbered l s Unwritten is number = absurd cc
 
-    to : (r n : ℕ) → IsMarked (get_or table r []) n → HasSource t n r
+    to : (r n : ℕ) → HasNumber (get_or table r []) n → HasSource t n r
     to r n marked =
         let among = ((among_are.each r).bits n).0 marked in
         let has = among.3 in
@@ -254,7 +173,7 @@ AreMaskRows-readers t sources table trace are among_are = record { each = λ r. 
     row_is k s None at none has = absurd (none (source_load t (suc k) s has))
     row_is k s (Some source) at is has = (source, at, number_is (suc k) s source has is.1)
 
-    from : (r n : ℕ) → HasSource t n r → IsMarked (get_or table r []) n
+    from : (r n : ℕ) → HasSource t n r → HasNumber (get_or table r []) n
     from r zero has = absurd (let load = source_load t zero r has in no_event_zero t load.0 load.1)
     from r (suc k) has =
         let load = source_load t (suc k) r has in

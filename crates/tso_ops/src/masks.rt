@@ -5,11 +5,11 @@ ghost use Rattle.tso_ops.specs.Limits.{IsTrace};
 ghost use Rattle.tso_ops.specs.declared.events.Source.{Source};
 ghost use Rattle.tso_ops.specs.Internal.Tables.{AreSources};
 ghost use Rattle.tso_ops.specs.Events.{events_of};
-ghost use Rattle.tso_ops.specs.Internal.MaskTables.{AreMasks, AreMaskRowsAmong, HasEventRow, HasSourceRow, source_number, IsInRow, MarksInRow, MarksNumber};
-ghost use Rattle.tso_ops.specs.Masks.{IsMarked};
+ghost use Rattle.tso_ops.specs.Internal.MaskTables.{AreMasks, AreMaskRowsAmong, HasEventRow, HasSourceRow, source_number, IsInRow, MarksInRow};
 
 use crate::events::{Event, Source};
 use crate::faults::OutOfMemory;
+use bitsets::mark;
 use std::alloc::Global;
 
 /// What the rows of a table are of.
@@ -127,7 +127,8 @@ fn mark_in_row(
         return Ok(());
     };
     add_rows(alloc, table, row)?;
-    mark(&mut table[row], number)
+    mark(&mut table[row], number)?;
+    Ok(())
 }
 
 /// Adds empty rows until the table has this one.
@@ -137,26 +138,6 @@ fn add_rows(alloc: Global, table: &mut Vec<Vec<u64>>, row: usize) -> Result<(), 
 {
     for _ in table.len()..=row {
         table.push(Vec::new(alloc))?;
-    }
-    Ok(())
-}
-
-/// Marks the number.
-fn mark(words: &mut Vec<u64>, number: usize) -> Result<(), OutOfMemory>
-    ensures { OnOk result (MarksNumber words.old.items words.new.items number) }
-{
-    add_words(words, number / 64)?;
-    words[number / 64] |= 1 << (number % 64);
-    Ok(())
-}
-
-/// Adds words without bits until the row has word `j`.
-fn add_words(words: &mut Vec<u64>, j: usize) -> Result<(), OutOfMemory>
-    ensures long { OnOk result (j < length words.new.items) }
-    ensures same { OnOk result ((n : ℕ) → IsMarked words.new.items n ↔ IsMarked words.old.items n) }
-{
-    for _ in words.len()..=j {
-        words.push(0)?;
     }
     Ok(())
 }

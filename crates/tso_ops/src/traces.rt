@@ -6,7 +6,7 @@ ghost use Rattle.tso_ops.specs.Values.{rows, trace_of_lists, program_of};
 ghost use Rattle.tso_ops.specs.Limits.{IsTrace, IsValueRefusal};
 ghost use Rattle.tso_ops.specs.Events.{processor_count, outcomes_at, event_total, event_at, IsLoad, IsLoadAt, IsStore, IsStoreTo, IsSwapLoad, IsEventOf, HasBarriersBefore, HasStbarsBefore, HasSource, SourceIs};
 ghost use Rattle.tso_ops.specs.Internal.Tables.{IsTabled};
-ghost use Rattle.tso_ops.specs.Masks.{IsMask};
+ghost use Rattle.bitsets.specs.Rows.{IsMask};
 
 use crate::checks::check_lists;
 use crate::events::{Event, Source};

@@ -6,19 +6,19 @@ use Rattle.tso_ops.specs.Values.{TraceValue}
 use Rattle.tso_ops.specs.Events.{event_at, IsLoad, IsStore, IsLoadAt, IsStoreTo, IsEventOf, HasBarriersBefore, HasStbarsBefore, HasSource, KeepsStores, SameAddress, Earlier}
 use Rattle.tso_ops.proofs.ProcessorFacts.{bars_ascend, stbars_ascend}
 use Rattle.tso_ops.proofs.TableFacts.{source_load}
-use Rattle.tso_ops.specs.Masks.{IsMask}
-use Rattle.order_graph.specs.BitRows.{HasBit, HasNumber}
-use Rattle.order_graph.proofs.Words.{HasBit-or, HasBit-and, HasBit-not}
+use Rattle.bitsets.specs.Rows.{IsMask, HasBit, HasNumber, Marks}
+use Rattle.bitsets.proofs.WordFacts.{HasBit-or, HasBit-and, HasBit-not}
 use Rattle.std.specs.Prelude.{bit_and, bit_or}
 use Rattle.std.specs.Int.{bit_not, w64}
 use Rattle.std.proofs.lemmas.Bool.{false≢true, cases_lt}
-use Rattle.tso_rules.proofs.RowFacts.{marks_as, marks_both, earlier_words_more, IsInEarlierWord, OnWord, words_more, ByWords, word_number, mask_number}
+use Rattle.bitsets.proofs.MarkFacts.{marks_as, marks_both, earlier_words_more, IsInEarlierWord, OnWord, words_more, ByWords}
+use Rattle.bitsets.proofs.RowFacts.{word_number}
 use Rattle.tso_cert.specs.declared.rules.BaseRule.{BaseRule}
 use Rattle.tso_cert.specs.declared.rules.BaseRule.TheVariants.{Init, LoadOp, StoreStore, Stbar, Membar, Read, Own}
 use Rattle.tso_model.specs.Rules.{BasePair}
 use Rattle.tso_model.specs.Ranks.{RankSet}
 use Rattle.tso_model.proofs.Events.{event_unique}
-use Rattle.tso_rules.specs.Internal.MarkedRows.{Marks, IsKeptStore, IsLater, IsOrdered, IsReadBy, IsSourceIn}
+use Rattle.tso_rules.specs.Internal.MarkedRows.{IsKeptStore, IsLater, IsOrdered, IsReadBy, IsSourceIn}
 
 -- a base pair is one of the rule Init, of program order, or by a load
 pub base_by : (t : TraceValue) (u v : ℕ) → ((BasePair t Init u v ⊎ IsLater t u v) ⊎ ((l : ℕ) × IsReadBy t u l v)) ↔ RankSet t 0 u v
@@ -146,7 +146,7 @@ word_bit row Of j word k low mask is =
     let at : n / 64 ≡ j = omega arith in
     let place : n % 64 ≡ k = omega arith in
     let bit = subst (λ i. HasBit word i ↔ HasNumber row n) place (word_number row j word n at is) in
-    let of = mask_number row Of mask n in
+    let of = mask.bits n in
     (λ set. of.0 (bit.0 set), λ holds. bit.1 (of.1 holds))
 
 -- the bits of what program order puts after a store
@@ -208,7 +208,7 @@ later_word : (processor : List ℕ) (Of : ℕ → Type 0) (u j a above v : ℕ) 
 later_word processor Of u j a above v at mask a_is above_is =
     let both = HasBit-and a above (v % 64) in
     let first = word_number processor j a v at a_is in
-    let of = mask_number processor Of mask v in
+    let of = mask.bits v in
     let second = above_is (v % 64) (omega arith) in
     let place : 64 * j + v % 64 ≡ v = omega arith in (
       λ bit. (of.0 (first.0 (both.0 bit).0), subst (λ m. u < m) place (second.0 (both.0 bit).1)),
@@ -274,13 +274,13 @@ reads_more t u event first old middle new loads readers processor j w r a above 
     of_load : (l : ℕ) → l / 64 ≡ j → HasBit w (l % 64) ↔ IsLoadAt t event.a l
     of_load l in_word =
         let word = word_number loads j w l in_word w_is in
-        let mask = mask_number loads (IsLoadAt t event.a) loads_are l in
+        let mask = loads_are.bits l in
         (λ bit. mask.0 (word.0 bit), λ is. word.1 (mask.1 is))
 
     of_reader : (l : ℕ) → l / 64 ≡ j → HasBit r (l % 64) ↔ HasSource t l u
     of_reader l in_word =
         let word = word_number readers j r l in_word r_is in
-        let mask = mask_number readers (λ n. HasSource t n u) readers_are l in
+        let mask = readers_are.bits l in
         (λ bit. mask.0 (word.0 bit), λ is. word.1 (mask.1 is))
 
     to : (v : ℕ) → (((v / 64 ≡ j) × HasBit (bit_and r (bit_not w64 (bit_and a above))) (v % 64)) ⊎ IsSourceIn t u j (bit_and w (bit_and a above)) v) →

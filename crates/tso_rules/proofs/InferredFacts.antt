@@ -4,24 +4,24 @@ use Rattle.std.specs.Prelude.{bit_and}
 use Rattle.std.proofs.lemmas.Option.{same_Some}
 use Rattle.std.proofs.lemmas.Bool.{cases_lt}
 use Rattle.order_graph.specs.Digraphs.{Digraph, IsEdge, EdgesWithin}
-use Rattle.order_graph.specs.BitRows.{HasNumber}
+use Rattle.bitsets.specs.Rows.{HasNumber, IsMask, Marks}
 use Rattle.order_paths.specs.Paths.{Reaches}
 use Rattle.order_paths.proofs.Reach.{Reaches-below}
 use Rattle.tso_ops.specs.Values.{TraceValue}
 use Rattle.tso_ops.specs.declared.events.Event.{Event}
 use Rattle.tso_ops.specs.Events.{event_total, event_at, HasSource, IsStore, IsLoadAt, IsStoreTo, IsSwapLoad, SameAddress}
-use Rattle.tso_ops.specs.Masks.{IsMask}
 use Rattle.tso_cert.specs.declared.rules.InferredRule.{InferredRule}
 use Rattle.tso_cert.specs.declared.rules.InferredRule.TheVariants.{LoadPast, StorePast, SwapBefore, SwapAfter}
 use Rattle.tso_model.specs.Certs.{inferred_index}
 use Rattle.tso_model.specs.EdgeLists.{IsNew, IsGivenBy}
 use Rattle.tso_model.proofs.Events.{event_above_zero, store_event}
 use Rattle.tso_model.proofs.RankFacts.{new_within}
-use Rattle.tso_rules.specs.Internal.MarkedRows.{Marks, IsNewRow, IsOtherSource, IsSourceIn, IsSourceOf, GivesBy}
+use Rattle.tso_rules.specs.Internal.MarkedRows.{IsNewRow, IsOtherSource, IsSourceIn, IsSourceOf, GivesBy}
 use Rattle.tso_rules.specs.Rows.{IsFirstGiven}
 use Rattle.tso_rules.proofs.BaseFacts.{load_at, at_load, store_to}
 use Rattle.tso_ops.proofs.TableFacts.{source_load}
-use Rattle.tso_rules.proofs.RowFacts.{marks_both, marks_as, mask_number, both_number, words_more, ByWords, HasNumber-none, words_by, HasNumber-within, marked_is}
+use Rattle.bitsets.proofs.MarkFacts.{marks_both, marks_as, words_more, ByWords, words_by, marked_is}
+use Rattle.bitsets.proofs.RowFacts.{both_number, HasNumber-none, HasNumber-within}
 
 -- a new edge of a rule is a new edge
 pub row_new : (t : TraceValue) (rule : InferredRule) (Edge : ℕ → ℕ → Type 0) (u v : ℕ) → IsNewRow t rule Edge u v → IsNew t Edge u v
@@ -37,7 +37,7 @@ pub load_past_is : (t : TraceValue) (Edge : ℕ → ℕ → Type 0) (u v : ℕ) 
 load_past_is t Edge u v event loads reached at store loads_are paths = (
   λ is. let source = is.0 in
       let l = source.0 in
-      let of = (mask_number loads (IsLoadAt t event.a) loads_are l).0 source.2 in
+      let of = (loads_are.bits l).0 source.2 in
       (l, ((u, l, ((event, at, store), at_load t u l event at of, source.3.0, source.3.1, refl, refl), (paths l).0 source.1), λ path. is.1 ((paths v).1 path))),
   λ new. let l = new.0 in
       let given = new.1.0 in
@@ -45,7 +45,7 @@ load_past_is t Edge u v event loads reached at store loads_are paths = (
         (
           l,
           (paths l).1 (subst (λ x. Reaches Edge x l) by.4 (subst (λ y. Reaches Edge given.0 y) by.5 given.3)),
-          (mask_number loads (IsLoadAt t event.a) loads_are l).1 (load_at t u l event at (source_load t l v by.2) by.1),
+          (loads_are.bits l).1 (load_at t u l event at (source_load t l v by.2) by.1),
           (by.2, by.3),
         ),
         λ has. new.1.1 ((paths v).0 has),
@@ -79,14 +79,14 @@ pub store_past_is : (t : TraceValue) (Edge : ℕ → ℕ → Type 0) (u s v : �
     ((x : ℕ) → HasSource t u x → Some s ≡ Some x) → ((n : ℕ) → HasNumber from n ↔ Reaches Edge s n) → IsMask stores (IsStoreTo t event.a) →
     ((n : ℕ) → HasNumber reached n ↔ Reaches Edge u n) → ((HasNumber from v × HasNumber stores v × (HasNumber reached v → ⊥)) × (v ≢ s)) ↔ IsNewRow t StorePast Edge u v
 store_past_is t Edge u s v event from stores reached at source all from_paths stores_are paths = (
-  λ is. let to = (mask_number stores (IsStoreTo t event.a) stores_are v).0 is.0.1 in
+  λ is. let to = (stores_are.bits v).0 is.0.1 in
       (u, ((s, v, (refl, (to.0, to.1, to.2), (to.0, event, to.1, at, to.3), source, is.1, refl), (from_paths v).0 is.0.0), λ path. is.0.2 ((paths v).1 path))),
   λ new. let given = new.1.0 in
       let by = given.2 in
       let one : given.0 ≡ s = sym (same_Some s given.0 (all given.0 (subst (λ l. HasSource t l given.0) (sym by.0) by.3))) in
       let path = subst (λ x. Reaches Edge x v) one (subst (λ y. Reaches Edge given.0 y) by.5 given.3) in
       let same = subst (λ l. SameAddress t v l) (sym by.0) by.2 in (
-        ((from_paths v).1 path, (mask_number stores (IsStoreTo t event.a) stores_are v).1 (store_to t u v event at by.1 same), λ has. new.1.1 ((paths v).0 has)),
+        ((from_paths v).1 path, (stores_are.bits v).1 (store_to t u v event at by.1 same), λ has. new.1.1 ((paths v).0 has)),
         λ e. by.4 (e ∙ sym one),
       ),
 )
@@ -98,7 +98,7 @@ swap_before_is t Edge u v loads reached store loads_are paths = (
   λ is. (
     v,
     (
-      (u, suc v, ((mask_number loads (IsSwapLoad t) loads_are v).0 is.0.1, refl, store, λ e. is.1 (omega (arith, e)), refl, refl), (paths (suc v)).0 is.0.0),
+      (u, suc v, ((loads_are.bits v).0 is.0.1, refl, store, λ e. is.1 (omega (arith, e)), refl, refl), (paths (suc v)).0 is.0.0),
       λ path. is.0.2 ((paths v).1 path),
     ),
   ),
@@ -108,7 +108,7 @@ swap_before_is t Edge u v loads reached store loads_are paths = (
       let path = subst (λ k. Reaches Edge u (suc k)) one (subst (λ y. Reaches Edge u y) by.5 (subst (λ x. Reaches Edge x given.1) by.4 given.3)) in (
         (
           (paths (suc v)).1 path,
-          (mask_number loads (IsSwapLoad t) loads_are v).1 (subst (λ k. IsSwapLoad t k) one by.0),
+          (loads_are.bits v).1 (subst (λ k. IsSwapLoad t k) one by.0),
           λ has. new.1.1 ((paths v).0 has),
         ),
         λ e. by.3 (let above = event_above_zero t u (store_event t u store) in omega (arith, e, one)),
@@ -123,7 +123,7 @@ swap_after_is t Edge u l v from stores reached swap next from_paths stores_are p
   λ is. (
     l,
     (
-      (l, v, (swap, next, (mask_number stores (IsStore t) stores_are v).0 is.0.1, λ e. is.1 (e ∙ sym next), refl, refl), (from_paths v).0 is.0.0),
+      (l, v, (swap, next, (stores_are.bits v).0 is.0.1, λ e. is.1 (e ∙ sym next), refl, refl), (from_paths v).0 is.0.0),
       λ path. is.0.2 ((paths v).1 path),
     ),
   ),
@@ -131,7 +131,7 @@ swap_after_is t Edge u l v from stores reached swap next from_paths stores_are p
       let by = given.2 in
       let one : given.0 ≡ l = (let store = by.1 in let from_load = by.4 in omega arith) in
       let path = subst (λ x. Reaches Edge x v) one (subst (λ y. Reaches Edge given.0 y) by.5 given.3) in (
-        ((from_paths v).1 path, (mask_number stores (IsStore t) stores_are v).1 by.2, λ has. new.1.1 ((paths v).0 has)),
+        ((from_paths v).1 path, (stores_are.bits v).1 by.2, λ has. new.1.1 ((paths v).0 has)),
         λ e. by.3 (e ∙ by.1),
       ),
 )

@@ -10,16 +10,17 @@ use Rattle.tso_model.specs.Ranks.{RankSet, HasRank}
 use Rattle.tso_model.specs.EdgeLists.{IsNew}
 use Rattle.tso_model.specs.Certs.{IsJustified}
 use Rattle.tso_model.proofs.RankFacts.{new_same}
-use Rattle.tso_rules.specs.Rows.{IsRow, IsJustifiedOver}
-use Rattle.tso_rules.proofs.RowFacts.{row_as}
+use Rattle.bitsets.specs.Rows.{IsListOf}
+use Rattle.tso_rules.specs.Rows.{IsJustifiedOver}
+use Rattle.bitsets.proofs.ListFacts.{list_as}
 
 -- the graph has the edges of a rank set
 abbrev pub HasRankSet : TraceValue → ℕ → Digraph → Type 0
 HasRankSet t k g = (x y : ℕ) → IsEdge g x y ↔ RankSet t k x y
 
-pub next_row : (t : TraceValue) (k u : ℕ) (g : Digraph) (row : List ℕ) → HasRankSet t k g → IsRow row (IsNew t (IsEdge g) u) → IsRow row (λ v. RankSet t (suc k) u v × (RankSet t k u v → ⊥))
+pub next_row : (t : TraceValue) (k u : ℕ) (g : Digraph) (row : List ℕ) → HasRankSet t k g → IsListOf row (IsNew t (IsEdge g) u) → IsListOf row (λ v. RankSet t (suc k) u v × (RankSet t k u v → ⊥))
 next_row t k u g row same is =
-    row_as row (IsNew t (IsEdge g) u) (λ v. RankSet t (suc k) u v × (RankSet t k u v → ⊥)) is
+    list_as row (IsNew t (IsEdge g) u) (λ v. RankSet t (suc k) u v × (RankSet t k u v → ⊥)) is
     (λ v new. (
       inr (new_same t (IsEdge g) (λ x y. RankSet t k x y) (λ x y. (same x y).0) (λ x y. (same x y).1) u v new),
       λ edge. new.1 (Reaches-edge (IsEdge g) u v ((same u v).1 edge)),

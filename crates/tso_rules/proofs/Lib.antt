@@ -2,4 +2,4 @@ pub mod BaseFacts
 pub mod InferredFacts
 pub mod LawFacts
 pub mod ReasonFacts
-pub mod RowFacts
+pub mod OptionFacts

@@ -10,17 +10,6 @@ use Rattle.tso_model.specs.Rules.{BasePair, InferredBy}
 use Rattle.tso_model.specs.EdgeLists.{IsGivenBy}
 use Rattle.tso_model.specs.Certs.{IsFirstBase, inferred_index}
 
--- each number is less than all that stand after it
-abbrev pub IsAscending : List ℕ → Type 0
-IsAscending [] = Unit {0}
-IsAscending (x ∷ xs) = ((y : ℕ) → Contains xs y → x < y) × IsAscending xs
-
--- The list has just the numbers that an edge leads to, ascending.
-pub record IsRow (row : List ℕ) (To : ℕ → Type 0) : Type 0 where
-  pub all : (v : ℕ) → To v → Contains row v
-  pub only : (v : ℕ) → Contains row v → To v
-  pub ascending : IsAscending row
-
 -- Rule and load come first among those that give the edge by a path over these edges: the first rule, then the least load.
 abbrev pub IsFirstGiven : TraceValue → (ℕ → ℕ → Type 0) → ℕ → ℕ → InferredRule → ℕ → Type 0
 IsFirstGiven t Edge u v rule load = (other : InferredRule) (l x y : ℕ) → InferredBy t other l u v x y → Reaches Edge x y →

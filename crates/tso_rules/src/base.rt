@@ -1,15 +1,14 @@
 //! The base rules.
 ghost use Rattle.std.specs.Prelude.{◌≡◌, ◌↔◌, ◌<◌, ◌+◌, ◌*◌, ◌/◌, ◌^◌, ℕ, suc, Some, IsTrue, IfOk, OnOk, IfSome, MatchOption};
-ghost use Rattle.order_graph.specs.BitRows.{HasBit, HasNumber};
+ghost use Rattle.bitsets.specs.Rows.{HasBit, HasNumber, IsListOf, Marks};
 ghost use Rattle.tso_ops.specs.Events.{event_total, IsEvent};
 ghost use Rattle.tso_model.specs.Rules.{IsOwnBy, BasePair};
 ghost use Rattle.tso_model.specs.Ranks.{RankSet};
 ghost use Rattle.tso_model.specs.Certs.{IsFirstBase};
-ghost use Rattle.tso_rules.specs.Rows.{IsRow};
-ghost use Rattle.tso_rules.specs.Internal.MarkedRows.{Marks, IsKeptStore, IsLater, IsOrdered, IsReadBy};
+ghost use Rattle.tso_rules.specs.Internal.MarkedRows.{IsKeptStore, IsLater, IsOrdered, IsReadBy};
 
-use crate::marks::{mark_end, mark_word, marked, word_above, word_at};
 use crate::sources::{mark_sources, source_of};
+use bitsets::{mark_if_some, mark_word, marked, word_above, word_at};
 use std::alloc::Global;
 use tso_cert::BaseRule;
 use tso_model::plain::events::{is_earlier, is_event, is_store, node_count, same_address};
@@ -70,7 +69,7 @@ fn own_target(trace: &Trace, u: usize, l: usize) -> Option<usize>
 ///
 /// It lists the numbers of `base_words`.
 pub fn base_row(alloc: Global, trace: &Trace, u: usize) -> Result<Vec<usize>, OutOfMemory>
-    ensures { IfOk result (λ row. IsRow row.items (RankSet trace.now 0 u)) }
+    ensures { IfOk result (λ row. IsListOf row.items (RankSet trace.now 0 u)) }
 {
     // The call is for the proof: the contract of `events` says that the trace keeps its limits, so no number is above
     // 8,000. Elsewhere too, a call whose answer isn't used brings what its contract says into the proof.
@@ -117,7 +116,7 @@ fn mark_events(trace: &Trace, marks: &mut Vec<u64>, u: usize) -> Result<(), OutO
         return Ok(());
     }
     for n in 0..node_count(trace) {
-        mark_end(marks, event_end(trace, n))?;
+        mark_if_some(marks, event_end(trace, n))?;
     }
     Ok(())
 }

@@ -3,12 +3,12 @@ ghost use Rattle.std.specs.Prelude.{◌≡◌, ℕ, suc, Some, IfOk, OnOk, IfSom
 ghost use Rattle.order_graph.specs.Digraphs.{IsEdge};
 ghost use Rattle.tso_ops.specs.Events.{IsSwapLoad};
 ghost use Rattle.tso_model.specs.EdgeLists.{IsNew};
-ghost use Rattle.tso_rules.specs.Rows.{IsRow};
-ghost use Rattle.tso_rules.specs.Internal.MarkedRows.{Marks, IsNewRow};
+ghost use Rattle.bitsets.specs.Rows.{IsListOf, Marks};
+ghost use Rattle.tso_rules.specs.Internal.MarkedRows.{IsNewRow};
 
-use crate::marks::{mark_word, marked, word_at, word_below, word_without};
 use crate::paths::path_row;
 use crate::sources::{source_of, sources_of};
+use bitsets::{mark_word, marked, word_at, word_below, word_without};
 use order_graph::Graph;
 use std::alloc::Global;
 use tso_cert::InferredRule;
@@ -27,7 +27,7 @@ pub fn row_edges(
     graph: &Graph,
     u: usize,
 ) -> Result<Vec<usize>, OutOfMemory>
-    ensures { IfOk result (λ row. IsRow row.items (IsNew trace.now (IsEdge graph.now) u)) }
+    ensures { IfOk result (λ row. IsListOf row.items (IsNew trace.now (IsEdge graph.now) u)) }
 {
     let _events = trace.events();
     let mut marks = Vec::new(alloc);

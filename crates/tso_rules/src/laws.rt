@@ -6,13 +6,14 @@ ghost use Rattle.tso_cert.specs.declared.steps.Reason.{Reason};
 ghost use Rattle.tso_model.specs.Ranks.{RankSet, HasRank};
 ghost use Rattle.tso_model.specs.EdgeLists.{IsNew};
 ghost use Rattle.tso_model.specs.Certs.{IsJustified};
-ghost use Rattle.tso_rules.specs.Rows.{IsRow, IsJustifiedOver};
+ghost use Rattle.bitsets.specs.Rows.{IsListOf};
+ghost use Rattle.tso_rules.specs.Rows.{IsJustifiedOver};
 
 /// Over a graph that has the edges of a rank set, the rows of new edges are those that the next rank set has and this one
 /// lacks, and a justification of an edge of the next rank is the one that its certificate cites.
 pub fn rank_sets()
-    ensures rows { (t : TraceValue) (k u : ℕ) (g : Digraph) (row : List ℕ) → ((x y : ℕ) → IsEdge g x y ↔ RankSet t k x y) → IsRow row (IsNew t (IsEdge g) u) →
-        IsRow row (λ v. RankSet t (suc k) u v × (RankSet t k u v → ⊥)) }
+    ensures rows { (t : TraceValue) (k u : ℕ) (g : Digraph) (row : List ℕ) → ((x y : ℕ) → IsEdge g x y ↔ RankSet t k x y) → IsListOf row (IsNew t (IsEdge g) u) →
+        IsListOf row (λ v. RankSet t (suc k) u v × (RankSet t k u v → ⊥)) }
     ensures base { (t : TraceValue) (u v : ℕ) (g : Digraph) (reason : Reason) → RankSet t 0 u v → IsJustifiedOver t (IsEdge g) u v reason → IsJustified t 0 u v reason }
     ensures next { (t : TraceValue) (k u v : ℕ) (g : Digraph) (reason : Reason) → ((x y : ℕ) → IsEdge g x y ↔ RankSet t k x y) → HasRank t u v (suc k) →
         IsJustifiedOver t (IsEdge g) u v reason → IsJustified t (suc k) u v reason }

@@ -8,7 +8,6 @@ pub use reasons::justify;
 mod base;
 mod inferred;
 pub mod laws;
-mod marks;
 mod paths;
 mod reasons;
 mod sources;

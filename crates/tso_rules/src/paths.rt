@@ -1,7 +1,7 @@
 //! The paths of a graph from any number.
 ghost use Rattle.std.specs.Prelude.{◌↔◌, ◌≤◌, ◌^◌, ℕ, length};
 ghost use Rattle.order_graph.specs.Digraphs.{IsEdge};
-ghost use Rattle.order_graph.specs.BitRows.{HasNumber};
+ghost use Rattle.bitsets.specs.Rows.{HasNumber};
 ghost use Rattle.order_paths.specs.Paths.{Reaches};
 
 use order_graph::Graph;

@@ -1,10 +1,10 @@
 //! The sources of loads as numbers.
 ghost use Rattle.std.specs.Prelude.{◌≡◌, ◌↔◌, ◌<◌, ◌^◌, ℕ, Some, length, IfSome, IfOk, OnOk};
 ghost use Rattle.tso_ops.specs.Events.{HasSource};
-ghost use Rattle.order_graph.specs.BitRows.{HasNumber};
-ghost use Rattle.tso_rules.specs.Internal.MarkedRows.{Marks, IsOtherSource, IsSourceIn, IsSourceOf};
+ghost use Rattle.bitsets.specs.Rows.{HasNumber, Marks};
+ghost use Rattle.tso_rules.specs.Internal.MarkedRows.{IsOtherSource, IsSourceIn, IsSourceOf};
 
-use crate::marks::{mark_end, word_at};
+use bitsets::{mark_if_some, word_at};
 use std::alloc::Global;
 use tso_ops::{OutOfMemory, Source, Trace};
 
@@ -37,7 +37,7 @@ pub(crate) fn mark_sources(
     let mut left = word;
     while left != 0 {
         let k = left.trailing_zeros() as usize;
-        mark_end(marks, other_source(trace, u, 64 * j + k))?;
+        mark_if_some(marks, other_source(trace, u, 64 * j + k))?;
         left &= left - 1;
     }
     Ok(())

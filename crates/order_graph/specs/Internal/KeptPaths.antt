@@ -1,7 +1,8 @@
 -- The tables of edges and paths that a graph and a set of edges keep.
 use Rattle.std.specs.Prelude.{◌≡◌, ◌⊎◌, ◌↔◌, ℕ, ◌+◌, ◌*◌, ◌/◌, ◌^◌, ◌<◌, List, length}
 use Rattle.order_paths.specs.Paths.{Reaches}
-use Rattle.order_graph.specs.Internal.Tables.{IsSet, AreTransposed, IsTransitive, Joined}
+use Rattle.bitsets.specs.Tables.{IsSet}
+use Rattle.order_graph.specs.Internal.Tables.{AreTransposed, IsTransitive, Joined}
 
 -- A table of some of the paths of the edges, and of all paths that these join to.
 pub record KeepsSomePaths (nodes width : ℕ) (edges paths : List ℕ) : Type 0 where

@@ -1,18 +1,6 @@
--- Flat tables of bits: rows of 64-bit words, one after another.
-use Rattle.std.specs.Prelude.{◌≡◌, ◌⊎◌, ◌↔◌, ℕ, ◌+◌, ◌*◌, ◌/◌, ◌%◌, ◌^◌, ◌<◌, List, length, slice_index}
-use Rattle.order_graph.specs.BitRows.{HasBit}
-
--- the bit of row x and column y is set, where a row has this many words
-unfoldable pub IsSet : List ℕ → ℕ → ℕ → ℕ → Type 0
-IsSet table width x y = HasBit (slice_index table (x * width + y / 64)) (y % 64)
-
--- the new table has the bits of the old one and the bits given
-pub record Adds (old new : List ℕ) (width : ℕ) (Given : ℕ → ℕ → Type 0) : Type 0 where
-  pub bits : (x y : ℕ) → y / 64 < width → IsSet new width x y ↔ (IsSet old width x y ⊎ Given x y)
-
--- the new table has the bits of the old one, without this one
-pub record Loses (old new : List ℕ) (width u v : ℕ) : Type 0 where
-  pub bits : (x y : ℕ) → y / 64 < width → IsSet new width x y ↔ (IsSet old width x y × ((x ≡ u) × (y ≡ v) → ⊥))
+-- Tables of edges and of paths, with a row for each number.
+use Rattle.std.specs.Prelude.{◌≡◌, ◌⊎◌, ◌↔◌, ℕ, ◌+◌, ◌*◌, ◌/◌, ◌^◌, ◌<◌, List, length}
+use Rattle.bitsets.specs.Tables.{IsSet}
 
 -- y is the number itself, or its bit is set in the number's row
 abbrev pub IsSelfOrSet : List ℕ → ℕ → ℕ → ℕ → Type 0

@@ -1,7 +1,8 @@
 -- Walks over the edges of a table: what a search finds level by level.
 use Rattle.std.specs.Prelude.{◌≡◌, ℕ, zero, suc, ◌/◌, ◌<◌, ◌≤◌, List, [], ◌∷◌, ◌++◌, length}
 use Rattle.order_paths.specs.Paths.{Linked, IsCycle, IsNoGreater}
-use Rattle.order_graph.specs.Internal.Tables.{IsSet, Joined}
+use Rattle.bitsets.specs.Tables.{IsSet}
+use Rattle.order_graph.specs.Internal.Tables.{Joined}
 
 -- edges lead from x over the numbers listed to v
 abbrev pub Track : (ℕ → ℕ → Type 0) → ℕ → List ℕ → ℕ → Type 0
@@ -16,17 +17,6 @@ Walks Edge (suc count) x v = (y : ℕ) × Edge x y × Walks Edge count y v
 abbrev pub IsLeastTrack : (ℕ → ℕ → Type 0) → ℕ → ℕ → List ℕ → Type 0
 IsLeastTrack Edge u v [] = ⊥
 IsLeastTrack Edge u v (x ∷ rest) = (x ≡ u) × Track Edge u rest v × ((other : List ℕ) → Track Edge u other v → IsNoGreater rest other)
-
--- no column is set in both rows
-abbrev pub NoneShared : List ℕ → ℕ → List ℕ → ℕ → ℕ → Type 0
-NoneShared table x other row width = (y : ℕ) → y / 64 < width → IsSet table width x y → IsSet other width row y → ⊥
-
--- y is the first column that is set in both rows
-pub record IsFirstShared (table : List ℕ) (x : ℕ) (other : List ℕ) (row width y : ℕ) : Type 0 where
-  pub column : y / 64 < width
-  pub first : IsSet table width x y
-  pub second : IsSet other width row y
-  pub least : (z : ℕ) → z < y → IsSet table width x z → IsSet other width row z → ⊥
 
 -- Row `count` has the numbers from which a walk of this many edges leads to v: of those that u reaches, all.
 pub record IsLevel (edges paths levels : List ℕ) (width nodes u v count : ℕ) : Type 0 where

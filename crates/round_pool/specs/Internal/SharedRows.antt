@@ -4,12 +4,12 @@ use Rattle.order_graph.specs.Digraphs.{Digraph, IsEdge}
 use Rattle.tso_ops.specs.Values.{TraceValue}
 use Rattle.tso_ops.specs.Events.{event_total}
 use Rattle.tso_model.specs.EdgeLists.{IsNew}
-use Rattle.tso_rules.specs.Rows.{IsRow}
+use Rattle.bitsets.specs.Rows.{IsListOf}
 
 -- There are so many rows, and each has the edges that a round adds to the graph's from its number.
 pub record AreRoundRows (t : TraceValue) (g : Digraph) (first count : ℕ) (rows : List (List ℕ)) : Type 0 where
   pub count_is : length rows ≡ count
-  pub row : (i : ℕ) → i < count → IsRow (get_or rows i []) (IsNew t (IsEdge g) (first + i))
+  pub row : (i : ℕ) → i < count → IsListOf (get_or rows i []) (IsNew t (IsEdge g) (first + i))
 
 -- the numbers of the rows lie below this one
 pub record AreRowsBelow (bound : ℕ) (rows : List (List ℕ)) : Type 0 where

@@ -8,7 +8,7 @@ use Rattle.tso_ops.specs.declared.masks.Kind.TheVariants.{Loads, Stores, SwapLoa
 use Rattle.tso_ops.specs.declared.masks.Masks.{Masks}
 use Rattle.tso_ops.specs.Values.{TraceValue, rows}
 use Rattle.tso_ops.specs.Events.{event_at, HasSource}
-use Rattle.tso_ops.specs.Masks.{IsMarked, IsMask}
+use Rattle.bitsets.specs.Rows.{HasNumber, IsMask}
 
 -- row r of the table of this kind has the event's number
 abbrev pub IsInRow : Kind → ℕ → Event → Type 0
@@ -54,13 +54,9 @@ pub record AreMaskRows (IsOf : ℕ → ℕ → Type 0) (table : List (List ℕ))
 abbrev pub IsReadFrom : TraceValue → ℕ → ℕ → Type 0
 IsReadFrom t s l = HasSource t l s
 
--- The new row has one bit more, that of the number.
-pub record MarksNumber (old new : List ℕ) (number : ℕ) : Type 0 where
-  pub bits : (n : ℕ) → IsMarked new n ↔ (IsMarked old n ⊎ (n ≡ number))
-
 -- The new table has one bit more, that of the number in this row, if there is a row.
 pub record MarksInRow (old new : List (List ℕ)) (row : Option ℕ) (number : ℕ) : Type 0 where
-  pub bits : (r n : ℕ) → IsMarked (slice_index_or new r []) n ↔ (IsMarked (slice_index_or old r []) n ⊎ ((row ≡ Some r) × (n ≡ number)))
+  pub bits : (r n : ℕ) → HasNumber (slice_index_or new r []) n ↔ (HasNumber (slice_index_or old r []) n ⊎ ((row ≡ Some r) × (n ≡ number)))
 
 -- The tables of a trace.
 pub record AreMasks (t : TraceValue) (masks : Masks) : Type 0 where

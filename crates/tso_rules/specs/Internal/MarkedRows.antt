@@ -7,19 +7,10 @@ use Rattle.tso_ops.specs.Events.{HasSource, IsStore, IsStoreTo, HasBarriersBefor
 use Rattle.tso_cert.specs.declared.rules.BaseRule.TheVariants.{LoadOp, StoreStore, Stbar, Membar, Read}
 use Rattle.tso_cert.specs.declared.rules.InferredRule.{InferredRule}
 use Rattle.tso_cert.specs.declared.rules.InferredRule.TheVariants.{LoadPast}
-use Rattle.order_graph.specs.BitRows.{HasBit, HasNumber}
+use Rattle.bitsets.specs.Rows.{HasBit, HasNumber, IsListOf}
 use Rattle.order_paths.specs.Paths.{Reaches}
 use Rattle.tso_model.specs.Rules.{BasePair, IsOwnBy, InferredBy}
 use Rattle.tso_model.specs.EdgeLists.{IsGivenBy}
-use Rattle.tso_rules.specs.Rows.{IsRow}
-
--- the list has just the numbers below n that an edge leads to, ascending
-abbrev pub IsRowBelow : List ℕ → (ℕ → Type 0) → ℕ → Type 0
-IsRowBelow row To n = IsRow row (λ v. (v < n) × To v)
-
--- Numbers were marked in a row of bits: these, and no others.
-pub record Marks (old new : List ℕ) (To : ℕ → Type 0) : Type 0 where
-  pub marked : (v : ℕ) → HasNumber new v ↔ (HasNumber old v ⊎ To v)
 
 -- program order gives the edge
 abbrev pub IsLater : TraceValue → ℕ → ℕ → Type 0

@@ -1,9 +1,10 @@
 use Rattle.std.proofs.Common.{ℕ, ◌/◌, ◌<◌}
-use Rattle.order_graph.specs.Internal.Tables.{IsSet, AreTransposed}
+use Rattle.bitsets.specs.Tables.{IsSet}
+use Rattle.order_graph.specs.Internal.Tables.{AreTransposed}
 use Rattle.order_graph.specs.Internal.KeptPaths.{KeepsSomePaths}
 use Rattle.order_graph.proofs.all_paths.join_rest.Given as goal
 
 abbrev pub invariant-loop-x : goal.invariant-loop-x
 invariant-loop-x l =
-    KeepsSomePaths l.nodes l.width l.edges l.paths × AreTransposed l.paths l.transposed l.width l.nodes ×
-    ((a y : ℕ) → a < l.x → y / 64 < l.width → IsSet l.edges l.width a y → IsSet l.paths l.width a y)
+    KeepsSomePaths l.nodes l.edges.width l.edges.words.now l.paths × AreTransposed l.paths l.transposed l.edges.width l.nodes ×
+    ((a y : ℕ) → a < l.x → y / 64 < l.edges.width → IsSet l.edges.words.now l.edges.width a y → IsSet l.paths l.edges.width a y)

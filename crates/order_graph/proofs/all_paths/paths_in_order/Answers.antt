@@ -6,5 +6,5 @@ pub loop-x-init : goal.loop-x-init
 loop-x-init c =
     let a = c.args in (
       omega (arith, c.in_ok-done.ensures.len),
-      KeepsPathsToDone-empty a.nodes a.width a.edges.now c.in_ok-paths.paths.items c.in_ok-done.done.items (c.in_ok-paths.ensures.items_if_clones_equal (λ y e. e)),
+      KeepsPathsToDone-empty a.nodes a.edges.width a.edges.words.now c.in_ok-paths.paths.items c.in_ok-done.done.items (c.in_ok-paths.ensures.items_if_clones_equal (λ y e. e)),
     )

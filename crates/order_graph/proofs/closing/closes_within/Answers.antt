@@ -11,7 +11,7 @@ loop-count-init c =
     let adds = rw c.deref_mut.ensures.value at c.set_bit.ensures in
     let seen : c.in_ok-seen.seen.items ≡ a.passed.now = c.in_ok-seen.ensures.items_if_clones_equal (λ x y e. e) in
     rw (take_at c.set_bit.new.table _ c.in_ok-levels.levels.len (omega arith))
-    (Closing-start a.edges.now a.transposed.now c.in_ok-levels.levels.items c.set_bit.new.table c.in_ok-reached.reached.items c.in_ok-seen.seen.items a.width a.nodes a.start c.requires.keeps.fits c.requires.within
+    (Closing-start a.tables.edges.now a.tables.transposed.now c.in_ok-levels.levels.items c.set_bit.new.table c.in_ok-reached.reached.items c.in_ok-seen.seen.items a.tables.width a.tables.nodes a.start c.requires.keeps.fits c.requires.within
     (c.in_ok-levels.ensures.items_if_clones_equal (λ y e. e)) (c.in_ok-reached.ensures.items_if_clones_equal (λ y e. e)) (omega arith) (rw seen c.requires.sized) (rw seen c.requires.passed) adds)
 
 pub returns-then-not-advance : goal.returns-then-not-advance
@@ -23,9 +23,9 @@ returns-then-not-advance c =
     let fills = rw (c.deref_mut-in-loop-count-2.ensures.value, c.deref_mut-in-loop-count-3.ensures.value, c.deref-in-loop-count-2.ensures.value, wider) at c.advance.ensures.level in
     let sees = rw (c.deref_mut-in-loop-count-3.ensures.value, c.deref-in-loop-count-2.ensures.value, wider) at c.advance.ensures.seen in
     let some = rw (c.deref_mut-in-loop-count-3.ensures.value, c.deref-in-loop-count-2.ensures.value, wider) at c.advance.ensures.some in
-    let same : c.resize.new.self.items ≡ c.loop-count.levels.items ++ replicate a.width 0 = grind (arith, common_steps, c.in_ok-resize.ensures.items, c.len.ensures) in
-    inr (Closing-last a.edges.now a.paths.now a.transposed.now c.loop-count.levels.items c.resize.new.self.items c.advance.new.levels c.loop-count.reached.items c.spread.new.reached c.loop-count.seen.items c.advance.new.seen
-    a.width a.nodes a.start c.loop-count.count _ a.limit c.requires.keeps c.requires.within refl c.loop-count.invariant spreads (λ s. both_ways c.bit.result c.if-bit.false (bit.1 s)) same (omega arith) (omega arith) (omega arith) fills sees
+    let same : c.resize.new.self.items ≡ c.loop-count.levels.items ++ replicate a.tables.width 0 = grind (arith, common_steps, c.in_ok-resize.ensures.items, c.len.ensures) in
+    inr (Closing-last a.tables.edges.now a.tables.paths.now a.tables.transposed.now c.loop-count.levels.items c.resize.new.self.items c.advance.new.levels c.loop-count.reached.items c.spread.new.reached c.loop-count.seen.items c.advance.new.seen
+    a.tables.width a.tables.nodes a.start c.loop-count.count _ a.limit c.requires.keeps c.requires.within refl c.loop-count.invariant spreads (λ s. both_ways c.bit.result c.if-bit.false (bit.1 s)) same (omega arith) (omega arith) (omega arith) fills sees
     (λ y h l p. both_ways c.advance.result c.if-not-advance.true (some y h l p)))
 
 pub loop-count-preserved : goal.loop-count-preserved
@@ -36,12 +36,12 @@ loop-count-preserved c =
     let bit = rw (c.deref-in-loop-count.ensures.value, wider) at c.bit.ensures in
     let fills = rw (c.deref_mut-in-loop-count-2.ensures.value, c.deref_mut-in-loop-count-3.ensures.value, c.deref-in-loop-count-2.ensures.value, wider) at c.advance.ensures.level in
     let sees = rw (c.deref_mut-in-loop-count-3.ensures.value, c.deref-in-loop-count-2.ensures.value, wider) at c.advance.ensures.seen in
-    let same : c.resize.new.self.items ≡ c.loop-count.levels.items ++ replicate a.width 0 = grind (arith, common_steps, c.in_ok-resize.ensures.items, c.len.ensures) in
+    let same : c.resize.new.self.items ≡ c.loop-count.levels.items ++ replicate a.tables.width 0 = grind (arith, common_steps, c.in_ok-resize.ensures.items, c.len.ensures) in
     rw (take_at c.advance.new.levels _ c.resize.new.self.len (omega arith), wider, take_at c.advance.new.seen _ c.loop-count.seen.len (omega arith))
-    (Closing-step a.edges.now a.paths.now a.transposed.now c.loop-count.levels.items c.resize.new.self.items c.advance.new.levels c.loop-count.reached.items c.spread.new.reached c.loop-count.seen.items c.advance.new.seen
-    a.width a.nodes a.start c.loop-count.count _ c.requires.keeps c.requires.within refl c.loop-count.invariant spreads (λ s. both_ways c.bit.result c.if-bit.false (bit.1 s)) same (omega arith) (omega arith) (omega arith) fills sees)
+    (Closing-step a.tables.edges.now a.tables.paths.now a.tables.transposed.now c.loop-count.levels.items c.resize.new.self.items c.advance.new.levels c.loop-count.reached.items c.spread.new.reached c.loop-count.seen.items c.advance.new.seen
+    a.tables.width a.tables.nodes a.start c.loop-count.count _ c.requires.keeps c.requires.within refl c.loop-count.invariant spreads (λ s. both_ways c.bit.result c.if-bit.false (bit.1 s)) same (omega arith) (omega arith) (omega arith) fills sees)
 
 pub returns : goal.returns
 returns c =
     let a = c.args in
-    inr (Closing-limit a.edges.now a.transposed.now c.loop-count.levels.items c.loop-count.reached.items c.loop-count.seen.items a.width a.nodes a.start c.loop-count.count a.limit c.loop-count.invariant (omega arith))
+    inr (Closing-limit a.tables.edges.now a.tables.transposed.now c.loop-count.levels.items c.loop-count.reached.items c.loop-count.seen.items a.tables.width a.tables.nodes a.start c.loop-count.count a.limit c.loop-count.invariant (omega arith))

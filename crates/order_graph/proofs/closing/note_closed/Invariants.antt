@@ -1,9 +1,9 @@
 use Rattle.std.proofs.Common.{◌≡◌}
-use Rattle.order_graph.specs.Internal.Tables.{IsSet}
-use Rattle.order_graph.proofs.AddedBits.{Leaves}
+use Rattle.bitsets.specs.Tables.{IsSet}
+use Rattle.bitsets.proofs.TableFacts.{Leaves}
 use Rattle.order_graph.proofs.Spreading.{ClosedFrom}
 use Rattle.order_graph.proofs.closing.note_closed.Given as goal
 
 abbrev pub invariant-loop-j : goal.invariant-loop-j
 invariant-loop-j l =
-    Leaves l.initial.row l.row l.width (λ i y. (i ≡ 0) × IsSet l.edges l.width l.x y × IsSet l.transposed l.width l.x y × IsSet l.upto l.width 0 y) (ClosedFrom l.edges l.transposed l.upto l.width l.x l.j)
+    Leaves l.initial.row l.row l.tables.width (λ i y. (i ≡ 0) × IsSet l.tables.edges.now l.tables.width l.x y × IsSet l.tables.transposed.now l.tables.width l.x y × IsSet l.upto l.tables.width 0 y) (ClosedFrom l.tables.edges.now l.tables.transposed.now l.upto l.tables.width l.x l.j)

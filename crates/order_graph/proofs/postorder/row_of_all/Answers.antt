@@ -1,7 +1,7 @@
 use Rattle.std.proofs.Common.{◌≡◌, ℕ, length, replicate, ap, subst, ◌∙◌, arith}
 use Rattle.std.proofs.lemmas.List.{length-replicate}
-use Rattle.order_graph.specs.Internal.Tables.{IsSet}
-use Rattle.order_graph.proofs.Keeping.{no_bit}
+use Rattle.bitsets.specs.Tables.{IsSet}
+use Rattle.bitsets.proofs.TableFacts.{no_bit}
 use Rattle.order_graph.proofs.postorder.row_of_all.Goals as goal
 
 pub loop-y-init : goal.loop-y-init

@@ -1,5 +1,5 @@
 use Rattle.std.proofs.Common.{◌≡◌, ◌↔◌, ℕ, ◌/◌, ◌<◌, length}
-use Rattle.order_graph.specs.Internal.Tables.{IsSet}
+use Rattle.bitsets.specs.Tables.{IsSet}
 use Rattle.order_graph.proofs.postorder.row_of_all.Given as goal
 
 abbrev pub invariant-loop-y : goal.invariant-loop-y

@@ -9,4 +9,4 @@ returns c =
     let a = c.args in
     let found = rw c.in-Some.is at c.in_ok-list.ensures in
     let items : c.push.new.self.items ≡ c.in-Some.list.items ++ a.v ∷ [] = grind (arith, common_steps, c.in_ok-push-in-Some.ensures.items) in
-    IsLeastPath-track (Joined a.edges.now a.width a.nodes) (Joined a.edges.now a.width a.nodes) a.u a.v c.in-Some.list.items c.push.new.self.items (λ x y. (λ e. e, λ e. e)) found.0 items
+    IsLeastPath-track (Joined a.tables.edges.now a.tables.width a.tables.nodes) (Joined a.tables.edges.now a.tables.width a.tables.nodes) a.u a.v c.in-Some.list.items c.push.new.self.items (λ x y. (λ e. e, λ e. e)) found.0 items

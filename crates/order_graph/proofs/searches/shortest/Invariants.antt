@@ -3,7 +3,7 @@ use Rattle.order_graph.proofs.Searching.{Levels, path_size}
 use Rattle.order_graph.proofs.searches.shortest.Given as goal
 
 abbrev pub invariant-levels : goal.invariant-levels
-invariant-levels l = Levels l.edges l.paths l.levels.items l.width l.nodes l.u l.v l.count
+invariant-levels l = Levels l.tables.edges.now l.tables.paths.now l.levels.items l.tables.width l.tables.nodes l.u l.v l.count
 
 abbrev pub decreases-levels : goal.decreases-levels
-decreases-levels l = path_size l.edges l.width l.nodes l.u l.v - l.count
+decreases-levels l = path_size l.tables.edges.now l.tables.width l.tables.nodes l.u l.v - l.count

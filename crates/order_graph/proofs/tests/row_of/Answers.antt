@@ -1,9 +1,9 @@
 use Rattle.std.proofs.Common.{◌≡◌, ◌+◌, ◌*◌, ◌/◌, ◌%◌, inl, inr, length, slice_index_or, drop, subst, arith}
 use Rattle.std.proofs.lemmas.Bool.{cases_lt}
 use Rattle.std.proofs.lemmas.List.{get_or_past, take_at}
-use Rattle.order_graph.specs.BitRows.{HasBit}
-use Rattle.order_graph.proofs.Words.{HasBit-zero, IsSet-word}
-use Rattle.order_graph.proofs.Keeping.{no_bit}
+use Rattle.bitsets.specs.Rows.{HasBit}
+use Rattle.bitsets.proofs.WordFacts.{HasBit-zero}
+use Rattle.bitsets.proofs.TableFacts.{IsSet-word, no_bit}
 use Rattle.order_graph.proofs.tests.row_of.Goals as goal
 
 pub returns : goal.returns

@@ -1,5 +1,5 @@
 use Rattle.std.proofs.Common.{◌<◌, sym, subst, arith}
-use Rattle.order_graph.specs.BitRows.{HasNumber}
+use Rattle.bitsets.specs.Rows.{HasNumber}
 use Rattle.tso_model.proofs.Bounds.{RankSet-within}
 use Rattle.round_pool.specs.RankGraphs.{IsRankGraph}
 use Rattle.round_pool.proofs.GraphFacts.{rows_more, rows_whole}

@@ -1,12 +1,11 @@
 use Rattle.std.proofs.Common.{◌<◌, suc, subst, arith}
 use Rattle.std.specs.Result.{IfOk}
-use Rattle.order_graph.specs.BitRows.{HasNumber}
+use Rattle.bitsets.specs.Rows.{HasNumber, IsListOf}
 use Rattle.tso_ops.specs.Events.{event_total}
 use Rattle.tso_ops.proofs.EventFacts.{event_total-most}
 use Rattle.tso_model.specs.Ranks.{RankSet}
 use Rattle.tso_model.proofs.Bounds.{RankSet-within}
-use Rattle.tso_rules.specs.Rows.{IsRow}
-use Rattle.tso_rules.proofs.RowFacts.{row_listed}
+use Rattle.bitsets.proofs.ListFacts.{listed_as}
 use Rattle.tso_rules.proofs.base.base_row.Goals as goal
 
 pub marked-requires-clause-small : goal.marked-requires-clause-small
@@ -20,5 +19,5 @@ marked-requires-clause-within c = λ v has.
 
 pub returns : goal.returns
 returns c =
-    row_listed c.marked.result c.in_ok-base_words.field-0.items (RankSet c.args.trace.now 0 c.args.u) c.in_ok-base_words.ensures
-    (subst (λ m. IfOk c.marked.result (λ row. IsRow row.items (HasNumber m))) c.deref.ensures.value c.marked.ensures)
+    listed_as c.marked.result c.in_ok-base_words.field-0.items (RankSet c.args.trace.now 0 c.args.u) c.in_ok-base_words.ensures
+    (subst (λ m. IfOk c.marked.result (λ row. IsListOf row.items (HasNumber m))) c.deref.ensures.value c.marked.ensures)

@@ -1,5 +1,5 @@
 use Rattle.tso_model.specs.Ranks.{RankSet}
-use Rattle.tso_rules.proofs.RowFacts.{marks_from_none}
+use Rattle.bitsets.proofs.MarkFacts.{marks_from_none}
 use Rattle.tso_rules.proofs.base.base_words.Goals as goal
 
 pub returns : goal.returns

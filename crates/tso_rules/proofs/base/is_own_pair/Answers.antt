@@ -3,7 +3,7 @@ use Rattle.std.proofs.lemmas.Bool.{false≢true, cases_lt}
 use Rattle.tso_ops.specs.Events.{event_total}
 use Rattle.tso_model.specs.Rules.{IsOwnBy}
 use Rattle.tso_model.proofs.Events.{HasSource-within}
-use Rattle.tso_rules.proofs.RowFacts.{not_equal}
+use Rattle.tso_rules.proofs.OptionFacts.{not_equal}
 use Rattle.tso_rules.proofs.base.is_own_pair.Goals as goal
 
 pub loop-l-preserved : goal.loop-l-preserved

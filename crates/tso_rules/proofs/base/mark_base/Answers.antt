@@ -1,5 +1,5 @@
 use Rattle.tso_rules.proofs.BaseFacts.{base_by}
-use Rattle.tso_rules.proofs.RowFacts.{marks_both, marks_as, on_ok}
+use Rattle.bitsets.proofs.MarkFacts.{marks_both, marks_as, on_ok}
 use Rattle.tso_rules.proofs.base.mark_base.Goals as goal
 
 pub returns : goal.returns

@@ -1,13 +1,14 @@
 use Rattle.std.proofs.Common.{◌≡◌, ◌<◌, suc, arith}
 use Rattle.tso_ops.specs.Events.{event_total, IsEvent}
 use Rattle.tso_model.proofs.Events.{IsEvent-within}
-use Rattle.tso_rules.proofs.RowFacts.{steps_more, steps_all, marks_as, some_as_one}
+use Rattle.bitsets.proofs.MarkFacts.{steps_more, steps_all, marks_as}
+use Rattle.tso_rules.proofs.OptionFacts.{some_as_one}
 use Rattle.tso_rules.proofs.base.mark_events.Goals as goal
 
 pub loop-n-preserved : goal.loop-n-preserved
 loop-n-preserved c =
-    steps_more c.args.marks.now.items c.loop-n.marks.items c.mark_end.new.marks.items c.loop-n.n (λ n v. (v ≡ n) × IsEvent c.args.trace.now n) c.loop-n.invariant
-    (marks_as c.loop-n.marks.items c.mark_end.new.marks.items _ _ c.in_ok-mark_end.ensures
+    steps_more c.args.marks.now.items c.loop-n.marks.items c.mark_if_some.new.marks.items c.loop-n.n (λ n v. (v ≡ n) × IsEvent c.args.trace.now n) c.loop-n.invariant
+    (marks_as c.loop-n.marks.items c.mark_if_some.new.marks.items _ _ c.in_ok-mark_if_some.ensures
     (some_as_one c.event_end.result c.loop-n.n (IsEvent c.args.trace.now) c.event_end.ensures.is c.event_end.ensures.all))
 
 pub returns : goal.returns

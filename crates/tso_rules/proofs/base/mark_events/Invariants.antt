@@ -1,7 +1,7 @@
 use Rattle.std.proofs.Common.{◌≡◌}
 use Rattle.tso_ops.specs.Events.{IsEvent}
-use Rattle.tso_rules.specs.Internal.MarkedRows.{Marks}
-use Rattle.tso_rules.proofs.RowFacts.{BySteps}
+use Rattle.bitsets.specs.Rows.{Marks}
+use Rattle.bitsets.proofs.MarkFacts.{BySteps}
 use Rattle.tso_rules.proofs.base.mark_events.Given as goal
 
 -- the events passed are marked

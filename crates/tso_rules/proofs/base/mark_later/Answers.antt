@@ -2,7 +2,8 @@ use Rattle.std.proofs.Common.{◌∙◌, sym, arith}
 use Rattle.tso_ops.specs.Events.{IsEventOf}
 use Rattle.tso_rules.specs.Internal.MarkedRows.{IsLater}
 use Rattle.tso_rules.proofs.BaseFacts.{later_is, later_more}
-use Rattle.tso_rules.proofs.RowFacts.{earlier_words_all, mask_number, HasNumber-within}
+use Rattle.bitsets.proofs.MarkFacts.{earlier_words_all}
+use Rattle.bitsets.proofs.RowFacts.{HasNumber-within}
 use Rattle.tso_rules.proofs.base.mark_later.Goals as goal
 
 pub loop-j-preserved : goal.loop-j-preserved
@@ -17,4 +18,4 @@ returns c =
     let processor = c.processor_words-processor.result.now in
     earlier_words_all c.args.marks.now.items c.loop-j.marks.items c.loop-j.j (IsLater t c.args.u) c.loop-j.invariant
     (λ v later. let of = ((later_is t c.args.u v c.in-Some.event (sym c.event.ensures ∙ c.in-Some.is)).1 later).0.0 in
-    let low = HasNumber-within processor v ((mask_number processor (IsEventOf t c.in-Some.event.proc) c.processor_words-processor.ensures v).1 of) in omega (arith, low, c.loop-j-test.false))
+    let low = HasNumber-within processor v ((c.processor_words-processor.ensures.bits v).1 of) in omega (arith, low, c.loop-j-test.false))

@@ -1,5 +1,6 @@
-use Rattle.tso_rules.specs.Internal.MarkedRows.{Marks, IsLater}
-use Rattle.tso_rules.proofs.RowFacts.{IsInEarlierWord}
+use Rattle.bitsets.specs.Rows.{Marks}
+use Rattle.tso_rules.specs.Internal.MarkedRows.{IsLater}
+use Rattle.bitsets.proofs.MarkFacts.{IsInEarlierWord}
 use Rattle.tso_rules.proofs.base.mark_later.Given as goal
 
 -- the ends in the passed words are marked

@@ -4,7 +4,7 @@ use Rattle.tso_ops.specs.Events.{event_total}
 use Rattle.tso_model.proofs.Events.{IsLoad-within}
 use Rattle.tso_rules.specs.Internal.MarkedRows.{IsReadBy}
 use Rattle.tso_rules.proofs.BaseFacts.{read_load, reads_more}
-use Rattle.tso_rules.proofs.RowFacts.{words_by}
+use Rattle.bitsets.proofs.MarkFacts.{words_by}
 use Rattle.tso_rules.proofs.base.mark_reads.Goals as goal
 
 pub loop-j-preserved : goal.loop-j-preserved

@@ -1,5 +1,6 @@
-use Rattle.tso_rules.specs.Internal.MarkedRows.{Marks, IsReadBy}
-use Rattle.tso_rules.proofs.RowFacts.{ByWords}
+use Rattle.bitsets.specs.Rows.{Marks}
+use Rattle.tso_rules.specs.Internal.MarkedRows.{IsReadBy}
+use Rattle.bitsets.proofs.MarkFacts.{ByWords}
 use Rattle.tso_rules.proofs.base.mark_reads.Given as goal
 
 -- the ends that the loads of the passed words give are marked

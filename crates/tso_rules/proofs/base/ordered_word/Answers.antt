@@ -1,6 +1,6 @@
 use Rattle.std.proofs.Common.{inl, arith}
 use Rattle.tso_rules.proofs.BaseFacts.{ordered_bit}
-use Rattle.tso_rules.proofs.RowFacts.{full_bit}
+use Rattle.bitsets.proofs.WordFacts.{full_bit}
 use Rattle.tso_rules.proofs.base.ordered_word.Goals as goal
 
 pub returns-then-event : goal.returns-then-event

@@ -1,10 +1,11 @@
 use Rattle.std.proofs.Common.{◌↔◌, ◌∙◌, get_or, subst, sym, refl, arith}
 use Rattle.order_graph.specs.Digraphs.{IsEdge}
-use Rattle.order_graph.specs.BitRows.{HasNumber}
+use Rattle.bitsets.specs.Rows.{HasNumber}
 use Rattle.tso_cert.specs.declared.rules.InferredRule.TheVariants.{LoadPast}
 use Rattle.tso_rules.specs.Internal.MarkedRows.{IsNewRow, IsSourceOf}
 use Rattle.tso_rules.proofs.InferredFacts.{load_past_is}
-use Rattle.tso_rules.proofs.RowFacts.{earlier_words_all, earlier_words_more, left_number, HasNumber-within}
+use Rattle.bitsets.proofs.MarkFacts.{earlier_words_all, earlier_words_more}
+use Rattle.bitsets.proofs.RowFacts.{left_number, HasNumber-within}
 use Rattle.tso_rules.proofs.inferred.mark_load_past.Goals as goal
 
 pub loop-j-preserved : goal.loop-j-preserved

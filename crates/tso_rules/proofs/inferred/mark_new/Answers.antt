@@ -1,6 +1,6 @@
 use Rattle.order_graph.specs.Digraphs.{IsEdge}
 use Rattle.tso_rules.proofs.InferredFacts.{marks_rules}
-use Rattle.tso_rules.proofs.RowFacts.{on_ok}
+use Rattle.bitsets.proofs.MarkFacts.{on_ok}
 use Rattle.tso_rules.proofs.inferred.mark_new.Goals as goal
 
 pub returns : goal.returns

@@ -1,10 +1,11 @@
 use Rattle.std.proofs.Common.{◌∙◌, get_or, sym, refl, arith}
 use Rattle.order_graph.specs.Digraphs.{IsEdge}
-use Rattle.order_graph.specs.BitRows.{HasNumber}
+use Rattle.bitsets.specs.Rows.{HasNumber}
 use Rattle.tso_cert.specs.declared.rules.InferredRule.TheVariants.{StorePast}
 use Rattle.tso_rules.specs.Internal.MarkedRows.{IsNewRow}
 use Rattle.tso_rules.proofs.InferredFacts.{store_past_is}
-use Rattle.tso_rules.proofs.RowFacts.{earlier_words_all, earlier_words_kept, word_number, HasNumber-within}
+use Rattle.bitsets.proofs.MarkFacts.{earlier_words_all, earlier_words_kept}
+use Rattle.bitsets.proofs.RowFacts.{word_number, HasNumber-within}
 use Rattle.tso_rules.proofs.inferred.mark_store_past.Goals as goal
 
 pub loop-j-preserved : goal.loop-j-preserved

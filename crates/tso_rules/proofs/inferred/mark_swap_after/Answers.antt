@@ -1,11 +1,12 @@
 use Rattle.std.proofs.Common.{get_or, refl, arith}
 use Rattle.std.proofs.lemmas.Option.{none-some}
 use Rattle.order_graph.specs.Digraphs.{IsEdge}
-use Rattle.order_graph.specs.BitRows.{HasNumber}
+use Rattle.bitsets.specs.Rows.{HasNumber}
 use Rattle.tso_cert.specs.declared.rules.InferredRule.TheVariants.{SwapAfter}
 use Rattle.tso_rules.specs.Internal.MarkedRows.{IsNewRow}
 use Rattle.tso_rules.proofs.InferredFacts.{swap_after_is}
-use Rattle.tso_rules.proofs.RowFacts.{earlier_words_all, earlier_words_kept, word_number, HasNumber-within, marks_none}
+use Rattle.bitsets.proofs.MarkFacts.{earlier_words_all, earlier_words_kept, marks_none}
+use Rattle.bitsets.proofs.RowFacts.{word_number, HasNumber-within}
 use Rattle.tso_rules.proofs.inferred.mark_swap_after.Goals as goal
 
 pub returns-in_default : goal.returns-in_default

@@ -1,7 +1,8 @@
 use Rattle.order_graph.specs.Digraphs.{IsEdge}
 use Rattle.tso_cert.specs.declared.rules.InferredRule.TheVariants.{SwapAfter}
-use Rattle.tso_rules.specs.Internal.MarkedRows.{Marks, IsNewRow}
-use Rattle.tso_rules.proofs.RowFacts.{IsInEarlierWord}
+use Rattle.bitsets.specs.Rows.{Marks}
+use Rattle.tso_rules.specs.Internal.MarkedRows.{IsNewRow}
+use Rattle.bitsets.proofs.MarkFacts.{IsInEarlierWord}
 use Rattle.tso_rules.proofs.inferred.mark_swap_after.Given as goal
 
 -- the ends in the passed words are marked

@@ -1,11 +1,12 @@
 use Rattle.std.proofs.Common.{◌-◌, suc, get_or, refl, arith}
 use Rattle.order_graph.specs.Digraphs.{IsEdge}
-use Rattle.order_graph.specs.BitRows.{HasNumber}
+use Rattle.bitsets.specs.Rows.{HasNumber}
 use Rattle.tso_cert.specs.declared.rules.InferredRule.TheVariants.{SwapBefore}
 use Rattle.tso_model.proofs.Events.{event_above_zero, store_event}
 use Rattle.tso_rules.specs.Internal.MarkedRows.{IsNewRow}
 use Rattle.tso_rules.proofs.InferredFacts.{swap_before_is}
-use Rattle.tso_rules.proofs.RowFacts.{earlier_words_all, earlier_words_kept, below_number, HasNumber-within}
+use Rattle.bitsets.proofs.MarkFacts.{earlier_words_all, earlier_words_kept}
+use Rattle.bitsets.proofs.RowFacts.{below_number, HasNumber-within}
 use Rattle.tso_rules.proofs.inferred.mark_swap_before.Goals as goal
 
 pub overflow_sub-u : goal.overflow_sub-u

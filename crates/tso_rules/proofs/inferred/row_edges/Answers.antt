@@ -1,13 +1,13 @@
 use Rattle.std.proofs.Common.{◌<◌, suc, subst, arith}
 use Rattle.std.specs.Result.{IfOk}
-use Rattle.order_graph.specs.BitRows.{HasNumber}
+use Rattle.bitsets.specs.Rows.{HasNumber, IsListOf}
 use Rattle.tso_ops.specs.Events.{event_total}
 use Rattle.tso_ops.proofs.EventFacts.{event_total-most}
 use Rattle.order_graph.specs.Digraphs.{IsEdge}
 use Rattle.tso_model.specs.EdgeLists.{IsNew}
 use Rattle.tso_model.proofs.RankFacts.{new_within}
-use Rattle.tso_rules.specs.Rows.{IsRow}
-use Rattle.tso_rules.proofs.RowFacts.{marked_is, row_marked}
+use Rattle.bitsets.proofs.MarkFacts.{marked_is}
+use Rattle.bitsets.proofs.ListFacts.{list_marked}
 use Rattle.tso_rules.proofs.inferred.row_edges.Goals as goal
 
 pub marked-requires-clause-small : goal.marked-requires-clause-small
@@ -21,5 +21,5 @@ marked-requires-clause-within c = λ v has.
 
 pub returns : goal.returns
 returns c =
-    row_marked c.marked.result c.new-marks.result.items c.mark_new.new.marks.items (IsNew c.args.trace.now (IsEdge c.args.graph.now) c.args.u) c.new-marks.ensures.items c.in_ok-mark_new.ensures
-    (subst (λ m. IfOk c.marked.result (λ row. IsRow row.items (HasNumber m))) c.deref.ensures.value c.marked.ensures)
+    list_marked c.marked.result c.new-marks.result.items c.mark_new.new.marks.items (IsNew c.args.trace.now (IsEdge c.args.graph.now) c.args.u) c.new-marks.ensures.items c.in_ok-mark_new.ensures
+    (subst (λ m. IfOk c.marked.result (λ row. IsListOf row.items (HasNumber m))) c.deref.ensures.value c.marked.ensures)

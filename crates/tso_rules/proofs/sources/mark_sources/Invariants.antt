@@ -1,5 +1,5 @@
 use Rattle.tso_rules.specs.Internal.MarkedRows.{IsOtherSource}
-use Rattle.tso_rules.proofs.RowFacts.{Passed}
+use Rattle.bitsets.proofs.MarkFacts.{Passed}
 use Rattle.tso_rules.proofs.sources.mark_sources.Given as goal
 
 abbrev pub invariant-loop-left : goal.invariant-loop-left

@@ -1,5 +1,5 @@
 use Rattle.std.proofs.Common.{[]}
-use Rattle.tso_rules.specs.Internal.MarkedRows.{Marks}
+use Rattle.bitsets.specs.Rows.{Marks}
 use Rattle.tso_rules.proofs.InferredFacts.{SourcesBefore}
 use Rattle.tso_rules.proofs.sources.sources_of.Given as goal
 

@@ -7,12 +7,12 @@ pub invariant_of-self : goal.invariant_of-self
 invariant_of-self c =
     let g = c.self.inside in
     let loses = rw c.deref_mut.ensures.value at c.clear_bit.ensures in
-    Covers-less g.nodes g.width g.edges.items c.clear_bit.new.table _ g.paths.items g.transposed.items c.args.u c.args.v c.self.invariant
+    Covers-less g.tables.nodes g.tables.width g.tables.edges.items c.clear_bit.new.table _ g.tables.paths.items g.tables.transposed.items c.args.u c.args.v c.self.invariant
     (take_at _ _ _ (omega arith)) (omega arith) loses
 
 pub returns-clause-edges : goal.returns-clause-edges
 returns-clause-edges c = λ x y.
     let g = c.self.inside in
     let loses = rw c.deref_mut.ensures.value at c.clear_bit.ensures in
-    rw (take_at c.clear_bit.new.table _ g.edges.len (omega arith)) (sees_less c.args.self.now _ g.nodes g.width g.edges.items c.clear_bit.new.table c.args.u c.args.v
+    rw (take_at c.clear_bit.new.table _ g.tables.edges.len (omega arith)) (sees_less c.args.self.now _ g.tables.nodes g.tables.width g.tables.edges.items c.clear_bit.new.table c.args.u c.args.v
     (record { is = c.self.view_is }) (record { is = refl }) c.self.invariant.fits loses x y)

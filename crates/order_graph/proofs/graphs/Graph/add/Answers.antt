@@ -6,49 +6,49 @@ use Rattle.order_graph.proofs.graphs.Graph.add.Goals as goal
 pub invariant_of-self : goal.invariant_of-self
 invariant_of-self c =
     let g = c.self.inside in
-    let n = sees_nodes c.args.self.now g.nodes g.width g.edges.items (record { is = c.self.view_is }) in
+    let n = sees_nodes c.args.self.now g.tables.nodes g.tables.width g.tables.edges.items (record { is = c.self.view_is }) in
     let adds = rw c.deref_mut.ensures.value at c.set_bit.ensures in
-    let bit = rw c.deref.ensures.value at c.bit.ensures in
-    KeepsAllPaths-edge g.nodes g.width g.edges.items c.set_bit.new.table _ g.paths.items g.transposed.items c.args.u c.args.v c.self.invariant
-    (take_at _ _ _ (omega arith)) (omega arith) (omega arith) (omega arith) adds (bit.0 c.if-bit.true)
+    let bit = c.has_path.ensures in
+    KeepsAllPaths-edge g.tables.nodes g.tables.width g.tables.edges.items c.set_bit.new.table _ g.tables.paths.items g.tables.transposed.items c.args.u c.args.v c.self.invariant
+    (take_at _ _ _ (omega arith)) (omega arith) (omega arith) (omega arith) adds (bit.0 c.if-has_path.true)
 
-pub returns-then-bit-clause-edges : goal.returns-then-bit-clause-edges
-returns-then-bit-clause-edges c = λ x y.
+pub returns-then-has_path-clause-edges : goal.returns-then-has_path-clause-edges
+returns-then-has_path-clause-edges c = λ x y.
     let g = c.self.inside in
-    let n = sees_nodes c.args.self.now g.nodes g.width g.edges.items (record { is = c.self.view_is }) in
+    let n = sees_nodes c.args.self.now g.tables.nodes g.tables.width g.tables.edges.items (record { is = c.self.view_is }) in
     let adds = rw c.deref_mut.ensures.value at c.set_bit.ensures in
-    rw (take_at c.set_bit.new.table _ g.edges.len (omega arith)) (sees_more c.args.self.now _ g.nodes g.width g.edges.items c.set_bit.new.table c.args.u c.args.v
+    rw (take_at c.set_bit.new.table _ g.tables.edges.len (omega arith)) (sees_more c.args.self.now _ g.tables.nodes g.tables.width g.tables.edges.items c.set_bit.new.table c.args.u c.args.v
     (record { is = c.self.view_is }) (record { is = refl }) c.self.invariant.fits (omega arith) (omega arith) adds x y)
 
 pub join-requires-clause-transitive : goal.join-requires-clause-transitive
 join-requires-clause-transitive c =
-    rw c.deref_mut-2.ensures.value (KeepsAllPaths-transitive c.self.inside.nodes c.self.inside.width _ c.self.inside.paths.items c.self.inside.transposed.items c.self.invariant)
+    rw c.deref_mut-2.ensures.value (KeepsAllPaths-transitive c.self.inside.tables.nodes c.self.inside.tables.width _ c.self.inside.tables.paths.items c.self.inside.tables.transposed.items c.self.invariant)
 
 pub invariant_of-self-2 : goal.invariant_of-self-2
 invariant_of-self-2 c =
     let g = c.self.inside in
-    let n = sees_nodes c.args.self.now g.nodes g.width g.edges.items (record { is = c.self.view_is }) in
+    let n = sees_nodes c.args.self.now g.tables.nodes g.tables.width g.tables.edges.items (record { is = c.self.view_is }) in
     let adds = rw c.deref_mut.ensures.value at c.set_bit.ensures in
     let joins = rw c.deref_mut-2.ensures.value at c.join.ensures.added in
-    KeepsAllPaths-join g.nodes g.width g.edges.items c.set_bit.new.table _ g.paths.items c.join.new.table _ g.transposed.items c.join.new.transposed _ c.args.u c.args.v c.self.invariant
+    KeepsAllPaths-join g.tables.nodes g.tables.width g.tables.edges.items c.set_bit.new.table _ g.tables.paths.items c.join.new.table _ g.tables.transposed.items c.join.new.transposed _ c.args.u c.args.v c.self.invariant
     (take_at _ _ _ (omega arith)) (take_at _ _ _ (omega arith)) (take_at _ _ _ (omega arith)) (omega arith) (omega arith) (omega arith) adds joins c.join.ensures.transposed
 
 pub returns-clause-edges : goal.returns-clause-edges
 returns-clause-edges c = λ x y.
     let g = c.self.inside in
-    let n = sees_nodes c.args.self.now g.nodes g.width g.edges.items (record { is = c.self.view_is }) in
+    let n = sees_nodes c.args.self.now g.tables.nodes g.tables.width g.tables.edges.items (record { is = c.self.view_is }) in
     let adds = rw c.deref_mut.ensures.value at c.set_bit.ensures in
-    rw (take_at c.set_bit.new.table _ g.edges.len (omega arith)) (sees_more c.args.self.now _ g.nodes g.width g.edges.items c.set_bit.new.table c.args.u c.args.v
+    rw (take_at c.set_bit.new.table _ g.tables.edges.len (omega arith)) (sees_more c.args.self.now _ g.tables.nodes g.tables.width g.tables.edges.items c.set_bit.new.table c.args.u c.args.v
     (record { is = c.self.view_is }) (record { is = refl }) c.self.invariant.fits (omega arith) (omega arith) adds x y)
 
-pub returns-then-bit-clause-within : goal.returns-then-bit-clause-within
-returns-then-bit-clause-within c = sees_within _ c.self.inside.nodes c.self.inside.width _ (record { is = refl })
+pub returns-then-has_path-clause-within : goal.returns-then-has_path-clause-within
+returns-then-has_path-clause-within c = sees_within _ c.self.inside.tables.nodes c.self.inside.tables.width _ (record { is = refl })
 
-pub returns-then-bit-clause-decided : goal.returns-then-bit-clause-decided
-returns-then-bit-clause-decided c = λ x y. sees_decided _ c.self.inside.nodes c.self.inside.width _ (record { is = refl }) x y
+pub returns-then-has_path-clause-decided : goal.returns-then-has_path-clause-decided
+returns-then-has_path-clause-decided c = λ x y. sees_decided _ c.self.inside.tables.nodes c.self.inside.tables.width _ (record { is = refl }) x y
 
 pub returns-clause-within : goal.returns-clause-within
-returns-clause-within c = sees_within _ c.self.inside.nodes c.self.inside.width _ (record { is = refl })
+returns-clause-within c = sees_within _ c.self.inside.tables.nodes c.self.inside.tables.width _ (record { is = refl })
 
 pub returns-clause-decided : goal.returns-clause-decided
-returns-clause-decided c = λ x y. sees_decided _ c.self.inside.nodes c.self.inside.width _ (record { is = refl }) x y
+returns-clause-decided c = λ x y. sees_decided _ c.self.inside.tables.nodes c.self.inside.tables.width _ (record { is = refl }) x y

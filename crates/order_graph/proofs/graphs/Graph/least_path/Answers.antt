@@ -7,22 +7,20 @@ use Rattle.order_graph.proofs.Cycling.{IsLeastPath-same}
 use Rattle.order_graph.proofs.Searching.{KeepsAllPaths-covers}
 use Rattle.order_graph.proofs.graphs.Graph.least_path.Goals as goal
 
-pub returns-then-not-bit : goal.returns-then-not-bit
-returns-then-not-bit c =
+pub returns-then-not-has_path : goal.returns-then-not-has_path
+returns-then-not-has_path c =
     let g = c.self.inside in
-    let n = sees_nodes c.args.self.now g.nodes g.width g.edges.items (record { is = c.self.view_is }) in
-    let path = sees_path c.args.self.now g.nodes g.width g.edges.items (record { is = c.self.view_is }) c.args.u c.args.v in
-    let bit = rw c.deref.ensures.value at c.bit.ensures in
-    λ p. both_ways c.bit.result c.if-not-bit.true (bit.1 ((c.self.invariant.tells c.args.u c.args.v (omega arith) (omega arith)).1 (path.0 p)))
+    let n = sees_nodes c.args.self.now g.tables.nodes g.tables.width g.tables.edges.items (record { is = c.self.view_is }) in
+    let path = sees_path c.args.self.now g.tables.nodes g.tables.width g.tables.edges.items (record { is = c.self.view_is }) c.args.u c.args.v in
+    λ p. both_ways c.has_path.result c.if-not-has_path.true (c.has_path.ensures.1 ((c.self.invariant.tells c.args.u c.args.v (omega arith) (omega arith)).1 (path.0 p)))
 
-pub least_path_of-requires-clause-covers : goal.least_path_of-requires-clause-covers
-least_path_of-requires-clause-covers c =
+pub least_path-requires-clause-covers : goal.least_path-requires-clause-covers
+least_path-requires-clause-covers c =
     let g = c.self.inside in
-    rw (c.deref-2.ensures.value, c.deref-3.ensures.value, c.deref-4.ensures.value) (KeepsAllPaths-covers g.nodes g.width g.edges.items g.paths.items g.transposed.items c.self.invariant)
+    KeepsAllPaths-covers g.tables.nodes g.tables.width g.tables.edges.items g.tables.paths.items g.tables.transposed.items c.self.invariant
 
 pub returns : goal.returns
 returns c =
     let g = c.self.inside in
-    let least = rw c.deref-2.ensures.value at c.in_ok-path.ensures in
-    IsLeastPath-same (Joined g.edges.items g.width g.nodes) (IsEdge c.args.self.now) c.args.u c.args.v c.in_ok-path.path.items
-    (sees_edge c.args.self.now g.nodes g.width g.edges.items (record { is = c.self.view_is })) least
+    IsLeastPath-same (Joined g.tables.edges.items g.tables.width g.tables.nodes) (IsEdge c.args.self.now) c.args.u c.args.v c.in_ok-path.path.items
+    (sees_edge c.args.self.now g.tables.nodes g.tables.width g.tables.edges.items (record { is = c.self.view_is })) c.in_ok-path.ensures

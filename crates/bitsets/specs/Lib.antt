@@ -1,0 +1,3 @@
+pub mod Internal
+pub mod Rows
+pub mod Tables

@@ -1,5 +1,0 @@
-use Rattle.order_graph.proofs.AddedBits.{Joins}
-use Rattle.order_graph.proofs.tables.join.Given as goal
-
-abbrev pub invariant-loop-i : goal.invariant-loop-i
-invariant-loop-i l = Joins l.initial.table l.table l.transposed l.width l.nodes l.u l.v l.i

@@ -1,5 +1,0 @@
-use Rattle.order_graph.proofs.AddedBits.{Widens}
-use Rattle.order_graph.proofs.tables.join_rows.Given as goal
-
-abbrev pub invariant-loop-j : goal.invariant-loop-j
-invariant-loop-j l = Widens l.initial.table l.table l.transposed l.width l.nodes l.i l.rows l.v l.j

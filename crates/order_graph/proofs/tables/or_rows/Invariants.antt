@@ -1,8 +1,0 @@
-use Rattle.order_graph.proofs.Spreading.{Gathers}
-use Rattle.order_graph.proofs.tables.or_rows.Given as goal
-
-abbrev pub invariant-loop-left : goal.invariant-loop-left
-invariant-loop-left l = Gathers l.initial.table l.table l.other l.width l.row l.i l.first l.rows l.left
-
-abbrev pub decreases-loop-left : goal.decreases-loop-left
-decreases-loop-left l = l.left

@@ -1,9 +1,0 @@
-use Rattle.std.proofs.Common.{◌≡◌, length, arith}
-use Rattle.std.proofs.lemmas.Bool.Decides.{nat_tests}
-use Rattle.tso_rules.proofs.RowFacts.{row_empty}
-use Rattle.tso_rules.proofs.marks.marked.Goals as goal
-
-pub returns-then-is_empty : goal.returns-then-is_empty
-returns-then-is_empty c =
-    let empty : length c.args.marks.now ≡ 0 = grind (arith, nat_tests, c.is_empty.ensures, c.if-is_empty.true) in
-    row_empty c.args.marks.now c.new.result.items c.new.ensures.items empty

@@ -1,8 +1,0 @@
-use Rattle.tso_rules.proofs.RowFacts.{Listed}
-use Rattle.tso_rules.proofs.marks.push_marked.Given as goal
-
-abbrev pub invariant-loop-left : goal.invariant-loop-left
-invariant-loop-left l = Listed l.marks l.row.items l.j l.left
-
-abbrev pub decreases-loop-left : goal.decreases-loop-left
-decreases-loop-left l = l.left
