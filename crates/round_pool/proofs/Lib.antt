@@ -1,4 +1,5 @@
 pub mod AnswerFacts
+pub mod ClaimFacts
 pub mod EdgeFacts
 pub mod GraphFacts
 pub mod RankedFacts

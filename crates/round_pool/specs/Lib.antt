@@ -1,3 +1,4 @@
+pub mod Claims
 pub mod Internal
 pub mod RankGraphs
 pub mod Rankings

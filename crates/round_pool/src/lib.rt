@@ -2,12 +2,14 @@
 #![tactic(auto)]
 
 pub use answers::both_answers;
+pub use claims::{Claimant, Claims};
 pub use faults::PoolFault;
 pub use gates::{OpenPoolGate, PoolGate};
 pub use ranked::{Edge, Ranked};
 pub use round_loop::{MAX_WORKERS, rounds};
 
 mod answers;
+mod claims;
 mod edges;
 mod faults;
 mod gates;
