@@ -1,6 +1,7 @@
 //! Traces made by hand, and what the tests share.
 
 mod by_hand;
+mod claims;
 mod drawn;
 mod faults;
 mod gates;
