@@ -1,5 +1,5 @@
 -- Lemmas on the table of claims: each step keeps its rule.
-use Rattle.std.proofs.Common.{◌≡◌, ◌≢◌, ◌∙◌, ◌⊎◌, ℕ, zero, suc, ◌+◌, ◌-◌, ◌<◌, ◌≤◌, eqb, cond, List, [], ◌∷◌, ◌++◌, length, map, get_or, set, refl, sym, ap, subst, ⊎_elim, arith, length-set, eq-eqb, ne_eqb}
+use Rattle.std.proofs.Common.{◌≡◌, ◌≢◌, ◌∙◌, ℕ, zero, suc, ◌+◌, ◌<◌, ◌≤◌, eqb, cond, List, [], ◌∷◌, ◌++◌, length, map, get_or, set, refl, sym, ap, subst, ⊎_elim, arith, length-set, eq-eqb, ne_eqb}
 use Rattle.std.specs.Prelude.{sum_by, All, AllPairs}
 use Rattle.std.proofs.lemmas.List.{get_or-set_same, get_or-set_other, set-get_or, get_or-replicate, length-replicate, get_or-map, length-map}
 use Rattle.std.proofs.lemmas.List.Sums.{sum_by-cons, sum_by-append, sum_by_push, sum_by-set, get_or-le-sum_by}
@@ -8,13 +8,13 @@ use mathlib.Core.Logic.{dite}
 use mathlib.Core.Option.{none, some, some-injective, some-ne-none}
 use native.Mathlib.Decide.{ℕ_discrete}
 use lib.ListN.{get_elem?, replicate}
-use Rattle.atomic_table.specs.Table.{State, Me, step, keeps, stepped, opening, Allows, Splits, Joins}
-use Rattle.atomic_table.proofs.Lists.{at_set, at_snoc, set_again, set_here, set_else}
+use Rattle.atomic_table.specs.Table.{State, Me, step, keeps, opening, Allows, Splits, Joins}
+use Rattle.atomic_table.proofs.Lists.{at_set, at_snoc, set_again, set_here}
 use Rattle.round_pool.specs.declared.claims.seat_view.SeatView.{SeatView}
 use Rattle.round_pool.specs.declared.claims.types.Claims.{Claims}
 use Rattle.round_pool.specs.declared.claims.types.Claimant.{Claimant}
 use Rattle.round_pool.specs.Claims.{rows_of, places_of, held, IsOf, NoneTwice, HasAll}
-use Rattle.round_pool.specs.Internal.ClaimTable.{times, standing, seat_view, all_parts, first_view, KeepsClaims, IsKnown, after_try, tries, looks, kept_view, new_view, joined_view, spent_view}
+use Rattle.round_pool.specs.Internal.ClaimTable.{times, standing, seat_view, first_view, KeepsClaims, IsKnown, tries, looks, kept_view, new_view, joined_view, spent_view}
 
 -- ---- how often a place stands in a list
 

@@ -1,4 +1,4 @@
-use Rattle.std.proofs.Common.{◌≡◌, ◌+◌, ◌≤◌, length, sum_by, All}
+use Rattle.std.proofs.Common.{◌≡◌, ◌+◌, length, sum_by, All}
 use Rattle.round_pool.specs.Claims.{parts_of, IsFresh}
 use Rattle.round_pool.specs.Internal.ClaimTable.{all_parts}
 use Rattle.round_pool.proofs.claims.types.Claims.claimants.Given as goal

@@ -1,9 +1,8 @@
-use Rattle.std.proofs.Common.{◌≡◌, ◌<◌, ◌++◌, ◌∙◌, ℕ, List, length, All, ap, sym, subst, arith}
+use Rattle.std.proofs.Common.{◌≡◌, ◌<◌, ◌++◌, ◌∙◌, ℕ, length, All, ap, sym, subst, arith}
 use Rattle.std.proofs.lemmas.List.Elements.{All-append}
-use Rattle.atomic_table.specs.Table.{Me, step, Allows, Joins}
+use Rattle.atomic_table.specs.Table.{Me}
 use Rattle.round_pool.specs.declared.claims.seat_view.SeatView.{SeatView}
 use Rattle.round_pool.specs.Claims.{rows_of, places_of}
-use Rattle.round_pool.specs.Internal.ClaimTable.{KeepsClaims, looks, joined_view, spent_view}
 use Rattle.round_pool.proofs.ClaimFacts.{joins, looks_at, distinct_rows}
 use Rattle.round_pool.proofs.claims.types.Claims.join.Goals as goal
 
