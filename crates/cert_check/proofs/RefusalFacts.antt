@@ -12,7 +12,7 @@ use Rattle.tso_cert.specs.declared.steps.CertStep.{CertStep}
 use Rattle.tso_cert.specs.declared.steps.Certificate.{Certificate}
 use Rattle.tso_cert.specs.declared.steps.Certificate.TheVariants.{Unwritten, Cycle}
 use Rattle.order_paths.specs.Paths.{Linked, HasEnds, IsCycle, last_of}
-use Rattle.tso_model.proofs.Events.{event_at-within, own_values}
+use Rattle.tso_ops.proofs.NumberFacts.{event_at-within, own_values}
 use Rattle.tso_model.proofs.Bounds.{BasePair-within, InferredBy-within}
 use Rattle.tso_ops.specs.Limits.{IsTrace}
 use Rattle.tso_model.specs.Order.{IsConsistent}

@@ -13,8 +13,7 @@ use crate::listed::{is_cycle, is_linked};
 use crate::ranges::is_in_range;
 use crate::sides::has_sides;
 use tso_cert::{CertStep, Certificate, Reason};
-use tso_model::plain::events::is_unwritten;
-use tso_model::plain::is_base_pair;
+use tso_model::conditions::is_base_pair;
 use tso_ops::Trace;
 
 /// Checks a certificate: Ok exactly where it holds for the trace, which then has no order of its memory model.
@@ -48,7 +47,7 @@ fn judge(trace: &Trace, certificate: &Certificate) -> Result<(), CertFault>
 fn judge_load(trace: &Trace, n: usize) -> Result<(), CertFault>
     ensures { MatchResult result (λ _. IsUnwritten trace.now n) (λ fault. (fault ≡ CertFault.NotUnwritten) × (IsUnwritten trace.now n → ⊥)) }
 {
-    if is_unwritten(trace, n) {
+    if trace.is_unwritten(n) {
         Ok(())
     } else {
         Err(CertFault::NotUnwritten)

@@ -8,7 +8,7 @@ use Rattle.tso_ops.specs.Events.{IsEvent, IsLoad, IsSwapLoad, IsUnwritten}
 use Rattle.tso_model.specs.Order.{occurrences, place, IsModelOrder, ReadsGreatest}
 use Rattle.tso_model.specs.Rules.{HasDerivedCycle}
 use Rattle.tso_model.proofs.EdgesForward.{all_written, no_derived_cycle}
-use Rattle.tso_model.proofs.Events.{load_event, own_values, store_event}
+use Rattle.tso_ops.proofs.NumberFacts.{load_event, own_values, store_event}
 use Rattle.unit_core.specs.declared.steps.Step.{Step}
 use Rattle.unit_core.specs.Machine.{IsCompleteRun, IsFirstMemory, after, buffer_of, first_state, outcomes_of, stbars_of, trace_of}
 use Rattle.unit_core.proofs.RunFacts.{first-empty}

@@ -10,7 +10,7 @@ use Rattle.tso_ops.specs.declared.events.Event.{Event}
 use Rattle.tso_ops.specs.Values.{TraceValue}
 use Rattle.tso_ops.specs.Events.{event_at, IsLoad, IsStore, IsSwapLoad, Earlier, HasFewerBarriersBefore, HasFewerStbarsBefore, KeepsStores}
 use Rattle.tso_model.specs.Order.{occurrences, place, IsUpTo}
-use Rattle.tso_model.proofs.Events.{event_unique}
+use Rattle.tso_ops.proofs.NumberFacts.{event_unique}
 use Rattle.unit_core.specs.declared.steps.Step.{Step}
 use Rattle.unit_core.specs.declared.steps.Step.TheVariants.{Store, Drain, DrainAt, Load, Swap, Membar, Stbar}
 use Rattle.unit_core.specs.Machine.{Entry, State, IsAllowed, buffer_of, oldest_of, outcomes_of, proc_of, stbars_of}

@@ -7,8 +7,8 @@ use Rattle.std.proofs.lemmas.List.Elements.{Contains-append_left, Contains-appen
 use Rattle.order_graph.specs.Digraphs.{Digraph, IsEdge}
 use Rattle.tso_ops.specs.Values.{TraceValue}
 use Rattle.tso_ops.specs.Events.{event_total}
-use Rattle.tso_model.specs.EdgeLists.{IsNew}
-use Rattle.tso_model.proofs.RankFacts.{new_within}
+use Rattle.tso_model.specs.NewEdges.{IsNew}
+use Rattle.tso_model.proofs.NewEdgeFacts.{new_within}
 use Rattle.bitsets.specs.Rows.{IsAscending as IsAscendingRow}
 use Rattle.round_pool.specs.declared.ranked.Edge.{Edge}
 use Rattle.round_pool.specs.Internal.SharedRows.{AreRoundRows}

@@ -13,10 +13,11 @@ use Rattle.tso_model.specs.Ranks.{RankSet}
 use Rattle.tso_cert.specs.declared.rules.InferredRule.{InferredRule}
 use Rattle.tso_cert.specs.declared.rules.InferredRule.TheVariants.{LoadPast, StorePast, SwapBefore, SwapAfter}
 use Rattle.tso_model.specs.Rules.{InferredBy}
-use Rattle.tso_model.specs.EdgeLists.{IsNew}
+use Rattle.tso_model.specs.NewEdges.{IsNew}
 use Rattle.tso_model.proofs.Bounds.{RankSet-within}
-use Rattle.tso_model.proofs.Events.{event_above_zero, store_event, load_event, source_load}
-use Rattle.tso_model.proofs.RankFacts.{new_within}
+use Rattle.tso_ops.proofs.NumberFacts.{event_above_zero, store_event, load_event}
+use Rattle.tso_ops.proofs.TableFacts.{source_load}
+use Rattle.tso_model.proofs.NewEdgeFacts.{new_within}
 use Rattle.round_pool.specs.declared.ranked.Edge.{Edge}
 use Rattle.round_pool.specs.Internal.SharedRows.{AreRoundRows, AreRowsBelow}
 use Rattle.round_pool.specs.RankGraphs.{IsRankGraph, AddsEdges}

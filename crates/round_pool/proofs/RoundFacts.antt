@@ -9,8 +9,8 @@ use Rattle.tso_ops.specs.Values.{TraceValue}
 use Rattle.tso_ops.specs.Events.{IsUnwritten}
 use Rattle.tso_model.specs.Ranks.{RankSet, IsLast}
 use Rattle.tso_model.proofs.LastRankSet.{IsLast-all, last_exists}
-use Rattle.tso_model.proofs.RankFacts.{new_same}
-use Rattle.tso_model.proofs.RoundFacts.{before_last}
+use Rattle.tso_model.proofs.NewEdgeFacts.{new_same}
+use Rattle.tso_model.proofs.LastRankSet.{before_last}
 use Rattle.round_pool.specs.declared.ranked.Edge.{Edge}
 use Rattle.round_pool.specs.RankGraphs.{IsRankGraph, AddsEdges}
 use Rattle.round_pool.specs.Internal.EdgeLists.{AreNewEdges}

@@ -6,7 +6,6 @@ ghost use Rattle.round_pool.specs.Rankings.{ListsEdge, AreWithin};
 use crate::ranked::Edge;
 use order_graph::{EdgeRows, Graph};
 use std::alloc::Global;
-use tso_model::plain::node_count;
 use tso_ops::{OutOfMemory, Trace};
 use tso_rules::base_words;
 
@@ -14,7 +13,7 @@ use tso_rules::base_words;
 pub fn base_graph(alloc: Global, trace: &Trace) -> Result<Graph, OutOfMemory>
     ensures { IfOk result (IsRankGraph trace.now 0) }
 {
-    let nodes = node_count(trace);
+    let nodes = trace.node_count();
     let mut rows = EdgeRows::new(alloc, nodes)?;
     for u in 0..nodes {
         let row = base_words(alloc, trace, u)?;

@@ -9,13 +9,12 @@ mod refused_allocations;
 
 use crate::{MAX_WORKERS, PoolFault, PoolGate, Ranked, rounds};
 use order_graph::Graph;
+use plain_rounds::{has_edge, has_unwritten_load, rank_set, rounds_number};
 use std::alloc::{AllocError, Global};
 use std::fmt::Debug;
 use std::process::Abort;
 use std::sync::Wait;
 use std::thread::Threads;
-use tso_model::plain::events::has_unwritten_load;
-use tso_model::plain::{has_edge, node_count, rank_set, rounds_number};
 use tso_ops::{Outcome, Trace, ValueFault};
 
 fn ld(a: u16, r: u64) -> Outcome {
@@ -127,7 +126,7 @@ impl Plain {
                 compare_graph(rt, trace, &ranked.up_to(k as u64)?, edges);
             }
         }
-        for u in 0..node_count(trace).saturating_add(1) {
+        for u in 0..trace.node_count().saturating_add(1) {
             self.compare_ranks(rt, trace, ranked, u);
         }
         Ok(())
@@ -135,7 +134,7 @@ impl Plain {
 
     /// Fails unless the ranks of the edges from `u` are these.
     fn compare_ranks(&self, rt: &impl Abort, trace: &Trace, ranked: &Ranked, u: usize) {
-        for v in 0..node_count(trace).saturating_add(1) {
+        for v in 0..trace.node_count().saturating_add(1) {
             let first = self.ranks.iter().position(|edges| has_edge(edges, u, v));
             assert_eq!(rt;
                 ranked.rank(u, v),
@@ -158,7 +157,7 @@ fn compare(
 
 /// Fails unless the graph has just these edges.
 fn compare_graph(rt: &impl Abort, trace: &Trace, graph: &Graph, edges: &[(usize, usize)]) {
-    assert_eq!(rt; graph.nodes(), node_count(trace));
+    assert_eq!(rt; graph.nodes()(trace));
     for u in 0..graph.nodes() {
         for v in 0..graph.nodes() {
             assert_eq!(rt;

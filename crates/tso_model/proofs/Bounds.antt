@@ -1,19 +1,15 @@
 -- The numbers of base pairs, of inferred pairs and of the edges of rank sets lie between 0 and the number of events.
 use Rattle.std.proofs.Common.{◌≡◌, ℕ, zero, suc, ◌<◌, inl, inr, arith}
 use Rattle.tso_ops.specs.Values.{TraceValue}
-use Rattle.tso_ops.specs.Events.{event_total, IsSwapLoad}
+use Rattle.tso_ops.specs.Events.{event_total}
 use Rattle.tso_cert.specs.declared.rules.BaseRule.{BaseRule}
 use Rattle.tso_cert.specs.declared.rules.BaseRule.TheVariants.{Init, LoadOp, StoreStore, Stbar, Membar, Read, Own}
 use Rattle.tso_cert.specs.declared.rules.InferredRule.{InferredRule}
 use Rattle.tso_cert.specs.declared.rules.InferredRule.TheVariants.{LoadPast, StorePast, SwapBefore, SwapAfter}
 use Rattle.tso_model.specs.Rules.{BasePair, InferredBy}
 use Rattle.tso_model.specs.Ranks.{RankSet}
-use Rattle.tso_model.proofs.Events.{IsEvent-within, IsLoad-within, IsStore-within, HasSource-within}
-use Rattle.tso_model.proofs.Swaps.{IsSwapLoad-store}
-
--- the numbers of a swap's load and of its store lie within the numbers of events
-pub IsSwapLoad-within : (t : TraceValue) (l : ℕ) → IsSwapLoad t l → (l < suc (event_total t)) × (suc l < suc (event_total t))
-IsSwapLoad-within t l h = (IsEvent-within t l (h.0, h.1), IsStore-within t (suc l) (IsSwapLoad-store t l h))
+use Rattle.tso_ops.proofs.NumberFacts.{IsEvent-within, IsLoad-within, IsStore-within, HasSource-within}
+use Rattle.tso_ops.proofs.SwapFacts.{IsSwapLoad-within}
 
 -- the numbers of a base pair lie within the numbers of events
 pub BasePair-within : (t : TraceValue) (rule : BaseRule) (u v : ℕ) → BasePair t rule u v → (u < suc (event_total t)) × (v < suc (event_total t))

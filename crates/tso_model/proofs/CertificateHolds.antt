@@ -12,7 +12,7 @@ use Rattle.order_paths.proofs.Rising.{Rises, rises_on_path, rises_without_cycle}
 use Rattle.tso_model.specs.Order.{place, IsBefore, IsModelOrder, IsConsistent}
 use Rattle.tso_model.specs.Ranks.{RankSet, HasRank}
 use Rattle.tso_model.specs.Certs.{IsStep, MeetsRule, IsPathIn, StepsHold, Holds, IsJustified, IsListedBefore, AreStepsOf, IsCertificateOf}
-use Rattle.tso_model.proofs.Events.{HasOwnValues}
+use Rattle.tso_ops.proofs.NumberFacts.{HasOwnValues}
 use Rattle.tso_model.proofs.Places.{before_of_same}
 use Rattle.tso_model.proofs.EdgesForward.{base_before, inferred_before, all_written}
 use Rattle.tso_model.proofs.OrderedLists.{slice_get-take, slice_get-take_below}

@@ -16,7 +16,7 @@ use Rattle.order_paths.proofs.Reach.{Linked-mono, IsCycle-mono}
 use Rattle.tso_model.specs.Rules.{InferredBy}
 use Rattle.tso_model.specs.Ranks.{RankSet, HasRank}
 use Rattle.tso_model.specs.Certs.{IsStep, IsPathIn, inferred_index, IsJustified, IsListedBefore, AreUsed, AreStepsOf, IsCertificateOf}
-use Rattle.tso_model.proofs.Events.{HasOwnValues, source_unique}
+use Rattle.tso_ops.proofs.NumberFacts.{HasOwnValues, source_unique}
 use Rattle.tso_model.proofs.Justifications.{rank_unique, base_index_injective, inferred_index_injective}
 use Rattle.tso_model.proofs.RoundsNumber.{rounds_unique}
 use Rattle.tso_model.proofs.OrderedLists.{AreAmong, AreInOrder, in_order_unique}

@@ -17,7 +17,7 @@ use Rattle.tso_cert.specs.declared.rules.InferredRule.{InferredRule}
 use Rattle.tso_cert.specs.declared.rules.InferredRule.TheVariants.{LoadPast, StorePast, SwapBefore, SwapAfter}
 use Rattle.tso_model.specs.Rules.{IsOwnBy, BasePair, InferredBy}
 use Rattle.tso_model.specs.Ranks.{IsInferred, RankSet}
-use Rattle.tso_model.proofs.Events.{IsLoad-within, HasSource-within}
+use Rattle.tso_ops.proofs.NumberFacts.{IsLoad-within, HasSource-within}
 use Rattle.tso_model.proofs.Bounds.{InferredBy-within, RankSet-within}
 
 -- whether there is an event, and it has a decided property, is decided

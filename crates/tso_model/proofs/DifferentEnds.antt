@@ -7,7 +7,8 @@ use Rattle.tso_cert.specs.declared.rules.BaseRule.TheVariants.{Init, LoadOp, Sto
 use Rattle.tso_cert.specs.declared.rules.InferredRule.{InferredRule}
 use Rattle.tso_cert.specs.declared.rules.InferredRule.TheVariants.{LoadPast, StorePast, SwapBefore, SwapAfter}
 use Rattle.tso_model.specs.Rules.{BasePair, InferredBy}
-use Rattle.tso_model.proofs.Events.{event_above_zero, load_is_no_store, source_load}
+use Rattle.tso_ops.proofs.NumberFacts.{event_above_zero, load_is_no_store}
+use Rattle.tso_ops.proofs.TableFacts.{source_load}
 
 -- no event is program-earlier than itself
 Earlier-irreflexive : (t : TraceValue) (u : ℕ) → Earlier t u u → ⊥

@@ -11,7 +11,8 @@ use Rattle.order_paths.proofs.Rising.{Rises, rises_on_path, rises_without_cycle}
 use Rattle.tso_model.specs.Order.{place, IsUpTo, IsBefore, IsVisible, ReadsGreatest, IsModelOrder}
 use Rattle.tso_model.specs.Rules.{BasePair, InferredBy, IsDerived, HasDerivedCycle}
 use Rattle.tso_model.specs.Ranks.{RankSet}
-use Rattle.tso_model.proofs.Events.{HasOwnValues, event_above_zero, load_is_no_store, store_event, load_event, source_load, store_source, source_unique}
+use Rattle.tso_ops.proofs.NumberFacts.{HasOwnValues, event_above_zero, load_is_no_store, store_event, load_event, store_source, source_unique}
+use Rattle.tso_ops.proofs.TableFacts.{source_load}
 use Rattle.tso_model.proofs.DerivedPaths.{derived_exactly}
 use Rattle.tso_model.proofs.Places.{zero_before, nothing_before_zero, before_from_up_to, before_or_up_to, up_to_from_before, before_not_up_to, before_of_same}
 

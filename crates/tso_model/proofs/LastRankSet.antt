@@ -140,3 +140,10 @@ last_from t (suc d) k h = elim (round_cases t k) [
 -- There is a last rank set.
 pub last_exists : (t : TraceValue) → (m : ℕ) × IsLast t m
 last_exists t = last_from t (lacking t 0) 0 (omega arith)
+
+-- a rank set that isn't last stands before the last one that is known to exist
+pub before_last : (t : TraceValue) (k : ℕ) → (IsLast t k → ⊥) → k < (last_exists t).0
+before_last t k other = elim (cases_lt k (last_exists t).0) [
+  | inl below ↦ below
+  | inr above ↦ absurd (other (λ u v e. RankSet-mono t (last_exists t).0 k above u v (IsLast-all t (last_exists t).0 (last_exists t).1 (suc k) u v e)))
+]

@@ -1,6 +1,5 @@
 pub mod Certs
-pub mod EdgeLists
-pub mod Internal
+pub mod NewEdges
 pub mod Order
 pub mod Ranks
 pub mod Rules

@@ -2,8 +2,10 @@
 #![tactic(auto)]
 
 pub mod certificates;
+pub mod conditions;
 pub mod exactness;
-pub mod plain;
 pub mod rounds;
 pub mod rules;
 pub mod soundness;
+#[cfg(test)]
+mod tests;

@@ -4,10 +4,12 @@ pub mod EntryFacts
 pub mod EventFacts
 pub mod LimitFacts
 pub mod MaskFacts
+pub mod NumberFacts
 pub mod ProcessorFacts
 pub mod ReadFacts
 pub mod RefusalFacts
 pub mod SameFacts
+pub mod SwapFacts
 pub mod TableFacts
 pub mod TallyFacts
 pub mod WordFacts

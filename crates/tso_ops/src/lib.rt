@@ -22,6 +22,7 @@ pub mod laws;
 mod limits;
 mod masks;
 mod ops;
+mod predicates;
 mod programs;
 mod settings;
 mod shapes;

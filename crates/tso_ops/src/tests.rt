@@ -5,6 +5,7 @@ use std::process::Abort;
 use std::test::Fail;
 
 mod drawing;
+mod predicates;
 mod settings;
 
 const LOAD: Outcome = Outcome::Ld { a: 0, r: 0 };

@@ -14,7 +14,7 @@ use Rattle.tso_cert.proofs.PrintedFacts.{one_value}
 use Rattle.tso_model.specs.Certs.{Holds}
 use Rattle.tso_model.specs.Order.{IsConsistent}
 use Rattle.tso_model.proofs.CertificateHolds.{not_consistent}
-use Rattle.tso_model.proofs.Events.{own_values}
+use Rattle.tso_ops.proofs.NumberFacts.{own_values}
 use Rattle.cert_check.specs.Refusals.{IsCertRefusal}
 use Rattle.cert_check.proofs.RefusalExists.{holds_or_refused}
 use Rattle.cert_check.proofs.RefusalFacts.{not_refused, one_refusal}

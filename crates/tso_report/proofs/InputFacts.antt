@@ -22,7 +22,7 @@ use Rattle.tso_model.proofs.CertificateExists.{certificate_exists}
 use Rattle.tso_model.proofs.CertificateHolds.{certificate_holds}
 use Rattle.tso_model.proofs.CertificateUnique.{certificate_unique}
 use Rattle.tso_model.proofs.DerivedPaths.{derived_cycle_decided}
-use Rattle.tso_model.proofs.Events.{HasOwnValues, own_values}
+use Rattle.tso_ops.proofs.NumberFacts.{HasOwnValues, own_values}
 use Rattle.tso_model.proofs.RoundsNumber.{rounds_exist, rounds_unique}
 use Rattle.order_paths.proofs.Decisions.{Decision-either}
 use Rattle.tso_model.proofs.Decided.{unwritten_decided}

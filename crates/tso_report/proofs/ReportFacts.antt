@@ -13,7 +13,7 @@ use Rattle.tso_model.specs.Certs.{IsCertificateOf}
 use Rattle.tso_model.specs.Rules.{HasDerivedCycle}
 use Rattle.tso_model.specs.Ranks.{IsRounds}
 use Rattle.tso_model.proofs.CertificateCause.{certificate_cause}
-use Rattle.tso_model.proofs.Events.{event_at-within}
+use Rattle.tso_ops.proofs.NumberFacts.{event_at-within}
 use Rattle.tso_report.specs.declared.verdicts.Verdict.TheVariants.{NoViolation, Violation}
 use Rattle.tso_report.specs.Judged.{IsViolation}
 use Rattle.tso_report.specs.Reports.{head_text, no_violation_text, violation_text, IsTraceReport}
@@ -27,10 +27,6 @@ unwritten-within t l unwritten = event_at-within t l unwritten.0.0 unwritten.0.1
 -- no event stands before the first
 pub none_below_first : (t : TraceValue) (k : ℕ) → k < 1 → IsUnwritten t k → ⊥
 none_below_first t k below unwritten = let above = (unwritten-within t k unwritten).0 in omega arith
-
--- a load that init is the source of isn't unwritten
-pub not_from_init : (t : TraceValue) (l : ℕ) (source : Source) → source ≡ Init → SourceIs t l source → IsUnwritten t l → ⊥
-not_from_init t l source is from unwritten = unwritten.1 0 (subst (SourceIs t l) is from)
 
 -- a number below which none has the property is at most each that has it
 pub least_of : (P : ℕ → Type 0) (n : ℕ) → ((k : ℕ) → k < n → P k → ⊥) → (k : ℕ) → P k → n ≤ k

@@ -1,5 +1,5 @@
 //! What is found of a trace.
-ghost use Rattle.std.specs.Prelude.{◌≡◌, ◌⊎◌, ◌↔◌, ◌≤◌, ℕ, IsTrue, MatchOption, IfOk, IfErr};
+ghost use Rattle.std.specs.Prelude.{◌≡◌, ◌⊎◌, ◌≤◌, ℕ, MatchOption, IfOk, IfErr};
 ghost use Rattle.round_pool.specs.Workers.{worker_limit};
 ghost use Rattle.tso_ops.specs.Events.{IsUnwritten};
 ghost use Rattle.tso_cert.specs.declared.steps.Certificate.TheVariants.{Unwritten};
@@ -14,7 +14,7 @@ use std::alloc::Global;
 use std::sync::Wait;
 use std::thread::Threads;
 use tso_cert::Certificate;
-use tso_ops::{Source, Trace};
+use tso_ops::Trace;
 
 /// What is found of a trace.
 #[derive(Drop)]
@@ -59,21 +59,9 @@ pub(crate) fn least_unwritten(trace: &Trace) -> Option<usize>
     ensures { MatchOption result ((l : ℕ) → IsUnwritten trace.now l → ⊥) (λ n. IsCertificateOf trace.now (Unwritten n)) }
 {
     for n in 0..trace.events() {
-        if is_unwritten(trace, n + 1) {
+        if trace.is_unwritten(n + 1) {
             return Some(n + 1);
         }
     }
     None
-}
-
-/// Whether event `n` is a load whose value nothing wrote.
-fn is_unwritten(trace: &Trace, n: usize) -> bool
-    ensures { IsTrue result ↔ IsUnwritten trace.now n }
-{
-    match trace.source(n) {
-        Some(Source::Unwritten) => true,
-        Some(Source::Init) => false,
-        Some(Source::Store(_)) => false,
-        None => false,
-    }
 }

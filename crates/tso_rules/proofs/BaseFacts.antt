@@ -17,7 +17,7 @@ use Rattle.tso_cert.specs.declared.rules.BaseRule.{BaseRule}
 use Rattle.tso_cert.specs.declared.rules.BaseRule.TheVariants.{Init, LoadOp, StoreStore, Stbar, Membar, Read, Own}
 use Rattle.tso_model.specs.Rules.{BasePair}
 use Rattle.tso_model.specs.Ranks.{RankSet}
-use Rattle.tso_model.proofs.Events.{event_unique}
+use Rattle.tso_ops.proofs.NumberFacts.{event_unique}
 use Rattle.tso_rules.specs.Internal.MarkedRows.{IsKeptStore, IsLater, IsOrdered, IsReadBy, IsSourceIn}
 
 -- a base pair is one of the rule Init, of program order, or by a load

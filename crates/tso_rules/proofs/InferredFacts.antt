@@ -13,9 +13,9 @@ use Rattle.tso_ops.specs.Events.{event_total, event_at, HasSource, IsStore, IsLo
 use Rattle.tso_cert.specs.declared.rules.InferredRule.{InferredRule}
 use Rattle.tso_cert.specs.declared.rules.InferredRule.TheVariants.{LoadPast, StorePast, SwapBefore, SwapAfter}
 use Rattle.tso_model.specs.Certs.{inferred_index}
-use Rattle.tso_model.specs.EdgeLists.{IsNew, IsGivenBy}
-use Rattle.tso_model.proofs.Events.{event_above_zero, store_event}
-use Rattle.tso_model.proofs.RankFacts.{new_within}
+use Rattle.tso_model.specs.NewEdges.{IsNew, IsGivenBy}
+use Rattle.tso_ops.proofs.NumberFacts.{event_above_zero, store_event}
+use Rattle.tso_model.proofs.NewEdgeFacts.{new_within}
 use Rattle.tso_rules.specs.Internal.MarkedRows.{IsNewRow, IsOtherSource, IsSourceIn, IsSourceOf, GivesBy}
 use Rattle.tso_rules.specs.Rows.{IsFirstGiven}
 use Rattle.tso_rules.proofs.BaseFacts.{load_at, at_load, store_to}

@@ -7,9 +7,9 @@ use Rattle.tso_cert.specs.declared.rules.BaseRule.{BaseRule}
 use Rattle.tso_cert.specs.declared.steps.Reason.{Reason}
 use Rattle.tso_cert.specs.declared.steps.Reason.TheVariants.{Base, Inferred}
 use Rattle.tso_model.specs.Ranks.{RankSet, HasRank}
-use Rattle.tso_model.specs.EdgeLists.{IsNew}
+use Rattle.tso_model.specs.NewEdges.{IsNew}
 use Rattle.tso_model.specs.Certs.{IsJustified}
-use Rattle.tso_model.proofs.RankFacts.{new_same}
+use Rattle.tso_model.proofs.NewEdgeFacts.{new_same}
 use Rattle.bitsets.specs.Rows.{IsListOf}
 use Rattle.tso_rules.specs.Rows.{IsJustifiedOver}
 use Rattle.bitsets.proofs.ListFacts.{list_as}

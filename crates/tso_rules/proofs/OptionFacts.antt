@@ -1,14 +1,7 @@
--- Options of numbers: what holds of the number, and when it is another.
-use Rattle.std.proofs.Common.{◌≡◌, ◌∙◌, ◌↔◌, Option, Some, None, eqb, eq-eqb, ℕ, Bool, true, false, refl, sym, ap, subst}
-use Rattle.std.specs.Option.{option_eq, IfSome}
-use Rattle.std.proofs.lemmas.Bool.{false≢true}
+-- Options of numbers: what holds of the number.
+use Rattle.std.proofs.Common.{◌≡◌, ◌∙◌, ◌↔◌, Option, Some, None, ℕ, sym, ap}
+use Rattle.std.specs.Option.{IfSome}
 use Rattle.tso_ops.proofs.MaskFacts.{some_is}
-
--- an option that isn't found equal to a number isn't that number
-pub not_equal : (o : Option ℕ) (v : ℕ) (b : Bool) → b ≡ option_eq eqb o (Some v) → b ≡ false → o ≡ Some v → ⊥
-not_equal o v b is off same =
-    let on : option_eq eqb o (Some v) ≡ true = rw same (eq-eqb v v refl) in
-    false≢true (sym off ∙ is ∙ on)
 
 pub if_some : {X : Type 0} (P Q : X → Type 0) (o : Option X) → ((x : X) → P x → Q x) → IfSome o P → IfSome o Q
 if_some P Q None f h = tt

@@ -7,9 +7,9 @@ use Rattle.order_paths.specs.Paths.{Reaches}
 use Rattle.tso_ops.specs.Values.{TraceValue}
 use Rattle.tso_cert.specs.declared.rules.InferredRule.TheVariants.{LoadPast}
 use Rattle.tso_model.specs.Rules.{InferredBy}
-use Rattle.tso_model.specs.EdgeLists.{IsGivenBy}
+use Rattle.tso_model.specs.NewEdges.{IsGivenBy}
 use Rattle.tso_rules.specs.Internal.MarkedRows.{IsPastBy, GivesBy}
-use Rattle.tso_rules.specs.declared.reasons.Ends.{Ends}
+use Rattle.tso_model.specs.declared.conditions.inferred.Ends.{Ends}
 
 -- the ends that LoadPast asks for are the store and the load
 past_by : (t : TraceValue) (l u v x y : ℕ) → InferredBy t LoadPast l u v x y → InferredBy t LoadPast l u v u l

@@ -7,7 +7,7 @@ use Rattle.tso_cert.specs.declared.steps.Reason.{Reason}
 use Rattle.tso_cert.specs.declared.steps.Reason.TheVariants.{Base, Inferred}
 use Rattle.order_paths.specs.Paths.{Reaches, IsLeastPath}
 use Rattle.tso_model.specs.Rules.{BasePair, InferredBy}
-use Rattle.tso_model.specs.EdgeLists.{IsGivenBy}
+use Rattle.tso_model.specs.NewEdges.{IsGivenBy}
 use Rattle.tso_model.specs.Certs.{IsFirstBase, inferred_index}
 
 -- Rule and load come first among those that give the edge by a path over these edges: the first rule, then the least load.

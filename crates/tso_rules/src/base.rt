@@ -2,17 +2,16 @@
 ghost use Rattle.std.specs.Prelude.{◌≡◌, ◌↔◌, ◌<◌, ◌+◌, ◌*◌, ◌/◌, ◌^◌, ℕ, suc, Some, IsTrue, IfOk, OnOk, IfSome, MatchOption};
 ghost use Rattle.bitsets.specs.Rows.{HasBit, HasNumber, IsListOf, Marks};
 ghost use Rattle.tso_ops.specs.Events.{event_total, IsEvent};
-ghost use Rattle.tso_model.specs.Rules.{IsOwnBy, BasePair};
+ghost use Rattle.tso_model.specs.Rules.{BasePair};
 ghost use Rattle.tso_model.specs.Ranks.{RankSet};
 ghost use Rattle.tso_model.specs.Certs.{IsFirstBase};
 ghost use Rattle.tso_rules.specs.Internal.MarkedRows.{IsKeptStore, IsLater, IsOrdered, IsReadBy};
 
-use crate::sources::{mark_sources, source_of};
+use crate::sources::mark_sources;
 use bitsets::{mark_if_some, mark_word, marked, word_above, word_at};
 use std::alloc::Global;
 use tso_cert::BaseRule;
-use tso_model::plain::events::{is_earlier, is_event, is_store, node_count, same_address};
-use tso_model::plain::is_base_pair;
+use tso_model::conditions::first_base_rule;
 use tso_ops::{Event, Order, OutOfMemory, Trace};
 
 /// The first base rule that gives the edge from `u` to `v`, or None where no rule does.
@@ -21,48 +20,7 @@ use tso_ops::{Event, Order, OutOfMemory, Trace};
 pub fn base_edge(trace: &Trace, u: usize, v: usize) -> Option<BaseRule>
     ensures { MatchOption result ((rule : BaseRule) → BasePair trace.now rule u v → ⊥) (IsFirstBase trace.now u v) }
 {
-    if is_base_pair(trace, BaseRule::Init, u, v) {
-        Some(BaseRule::Init)
-    } else if is_base_pair(trace, BaseRule::LoadOp, u, v) {
-        Some(BaseRule::LoadOp)
-    } else if is_base_pair(trace, BaseRule::StoreStore, u, v) {
-        Some(BaseRule::StoreStore)
-    } else if is_base_pair(trace, BaseRule::Stbar, u, v) {
-        Some(BaseRule::Stbar)
-    } else if is_base_pair(trace, BaseRule::Membar, u, v) {
-        Some(BaseRule::Membar)
-    } else if is_base_pair(trace, BaseRule::Read, u, v) {
-        Some(BaseRule::Read)
-    } else if is_own_pair(trace, u, v) {
-        Some(BaseRule::Own)
-    } else {
-        None
-    }
-}
-
-/// Whether some load reads past its own store `u` what `v` wrote.
-fn is_own_pair(trace: &Trace, u: usize, v: usize) -> bool
-    ensures { IsTrue result ↔ BasePair trace.now BaseRule.Own u v }
-{
-    for l in u..node_count(trace) {
-        if own_target(trace, u, l) == Some(v) {
-            return true;
-        }
-    }
-    false
-}
-
-/// The source of load `l`, where it sees the program-earlier store `u` to its address and reads another.
-fn own_target(trace: &Trace, u: usize, l: usize) -> Option<usize>
-    ensures is { IfSome result (λ v. IsOwnBy trace.now l u v) }
-    ensures all { (v : ℕ) → IsOwnBy trace.now l u v → result ≡ Some v }
-{
-    let s = source_of(trace, l)?;
-    if is_store(trace, u) && same_address(trace, u, l) && is_earlier(trace, u, l) && u != s {
-        Some(s)
-    } else {
-        None
-    }
+    first_base_rule(trace, u, v)
 }
 
 /// The numbers to which the base rules give an edge from `u`, ascending; OutOfMemory where an allocation was refused.
@@ -74,7 +32,7 @@ pub fn base_row(alloc: Global, trace: &Trace, u: usize) -> Result<Vec<usize>, Ou
     // The call is for the proof: the contract of `events` says that the trace keeps its limits, so no number is above
     // 8,000. Elsewhere too, a call whose answer isn't used brings what its contract says into the proof.
     let _events = trace.events();
-    marked(alloc, &base_words(alloc, trace, u)?, node_count(trace))
+    marked(alloc, &base_words(alloc, trace, u)?, trace.node_count())
 }
 
 /// The numbers to which the base rules give an edge from `u`, as a row of bits: that of the number v is bit `v % 64` of
@@ -96,7 +54,7 @@ fn word_count(trace: &Trace) -> usize
     ensures small { result < 2 ^ 32 }
 {
     let _events = trace.events();
-    node_count(trace).div_ceil(64)
+    trace.node_count().div_ceil(64)
 }
 
 /// Marks the numbers to which the base rules give an edge from `u`.
@@ -115,7 +73,7 @@ fn mark_events(trace: &Trace, marks: &mut Vec<u64>, u: usize) -> Result<(), OutO
     if u != 0 {
         return Ok(());
     }
-    for n in 0..node_count(trace) {
+    for n in 0..trace.node_count() {
         mark_if_some(marks, event_end(trace, n))?;
     }
     Ok(())
@@ -127,7 +85,7 @@ fn event_end(trace: &Trace, n: usize) -> Option<usize>
     ensures is { IfSome result (λ v. (v ≡ n) × IsEvent trace.now n) }
     ensures all { IsEvent trace.now n → result ≡ Some n }
 {
-    is_event(trace, n).then_some(n)
+    trace.is_event(n).then_some(n)
 }
 
 /// Marks the numbers to which program order gives an edge from `u`.

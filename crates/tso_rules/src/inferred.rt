@@ -2,17 +2,16 @@
 ghost use Rattle.std.specs.Prelude.{◌≡◌, ℕ, suc, Some, IfOk, OnOk, IfSome};
 ghost use Rattle.order_graph.specs.Digraphs.{IsEdge};
 ghost use Rattle.tso_ops.specs.Events.{IsSwapLoad};
-ghost use Rattle.tso_model.specs.EdgeLists.{IsNew};
+ghost use Rattle.tso_model.specs.NewEdges.{IsNew};
 ghost use Rattle.bitsets.specs.Rows.{IsListOf, Marks};
 ghost use Rattle.tso_rules.specs.Internal.MarkedRows.{IsNewRow};
 
 use crate::paths::path_row;
-use crate::sources::{source_of, sources_of};
+use crate::sources::sources_of;
 use bitsets::{mark_word, marked, word_at, word_below, word_without};
 use order_graph::Graph;
 use std::alloc::Global;
 use tso_cert::InferredRule;
-use tso_model::plain::events::{is_store, node_count, swap_store};
 use tso_ops::{OutOfMemory, Trace};
 
 /// The numbers to which an inferred rule gives an edge from `u` by a path in the graph, and to which the graph has no
@@ -32,7 +31,7 @@ pub fn row_edges(
     let _events = trace.events();
     let mut marks = Vec::new(alloc);
     mark_new(alloc, trace, graph, &mut marks, u)?;
-    marked(alloc, &marks, node_count(trace))
+    marked(alloc, &marks, trace.node_count())
 }
 
 /// Marks the numbers to which an inferred rule gives an edge from `u` by a path in the graph, and to which the graph has
@@ -90,7 +89,7 @@ fn mark_store_past(
     let Some(event) = trace.event(u) else {
         return Ok(());
     };
-    let Some(s) = source_of(trace, u) else {
+    let Some(s) = trace.source_number(u) else {
         return Ok(());
     };
     let stores = trace.store_words(event.a);
@@ -112,7 +111,7 @@ fn mark_swap_before(
 ) -> Result<(), OutOfMemory>
     ensures { OnOk result (Marks marks.old.items marks.new.items (IsNewRow trace.now InferredRule.SwapBefore (IsEdge graph.now) u)) }
 {
-    if !is_store(trace, u) {
+    if !trace.is_store(u) {
         return Ok(());
     }
     let loads = trace.swap_load_words();
@@ -153,6 +152,6 @@ fn swap_load(trace: &Trace, u: usize) -> Option<usize>
     ensures all { (l : ℕ) → IsSwapLoad trace.now l → u ≡ suc l → result ≡ Some l }
 {
     let l = u.checked_sub(1)?;
-    swap_store(trace, l)?;
+    trace.swap_store(l)?;
     Some(l)
 }

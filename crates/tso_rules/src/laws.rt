@@ -4,7 +4,7 @@ ghost use Rattle.order_graph.specs.Digraphs.{Digraph, IsEdge};
 ghost use Rattle.tso_ops.specs.Values.{TraceValue};
 ghost use Rattle.tso_cert.specs.declared.steps.Reason.{Reason};
 ghost use Rattle.tso_model.specs.Ranks.{RankSet, HasRank};
-ghost use Rattle.tso_model.specs.EdgeLists.{IsNew};
+ghost use Rattle.tso_model.specs.NewEdges.{IsNew};
 ghost use Rattle.tso_model.specs.Certs.{IsJustified};
 ghost use Rattle.bitsets.specs.Rows.{IsListOf};
 ghost use Rattle.tso_rules.specs.Rows.{IsJustifiedOver};

@@ -4,18 +4,17 @@ ghost use Rattle.order_graph.specs.Digraphs.{IsEdge};
 ghost use Rattle.order_paths.specs.Paths.{Reaches};
 ghost use Rattle.tso_model.specs.Rules.{BasePair, InferredBy};
 ghost use Rattle.tso_cert.specs.declared.rules.BaseRule.{BaseRule};
-ghost use Rattle.tso_model.specs.EdgeLists.{IsGivenBy};
+ghost use Rattle.tso_model.specs.NewEdges.{IsGivenBy};
 ghost use Rattle.tso_cert.specs.declared.rules.InferredRule.{InferredRule};
 ghost use Rattle.tso_rules.specs.Rows.{IsJustifiedOver, IsUngiven, IsFirstGiven};
 ghost use Rattle.tso_rules.specs.Internal.MarkedRows.{IsPastBy, GivesBy};
 ghost use Rattle.tso_rules.specs.declared.reasons.Given.{Given};
 
 use crate::base::base_edge;
-use crate::sources::source_of;
 use order_graph::PathSearch;
 use std::alloc::Global;
 use tso_cert::{InferredRule, NumList, Reason};
-use tso_model::plain::events::{is_store, same_address, swap_store};
+use tso_model::conditions::{Ends, inferred_ends};
 use tso_ops::{OutOfMemory, Trace};
 
 /// How an inferred rule gives an edge.
@@ -25,55 +24,6 @@ struct Given {
     load: usize,
     from: usize,
     to: usize,
-}
-
-/// The two ends of a path.
-#[derive(Clone, Copy)]
-struct Ends {
-    from: usize,
-    to: usize,
-}
-
-/// The ends of the path that the rule asks for to give the edge from `u` to `v` for load `l`; None where it gives none.
-fn ends_of(trace: &Trace, rule: InferredRule, l: usize, u: usize, v: usize) -> Option<Ends>
-    ensures is { IfSome result (λ e. InferredBy trace.now rule l u v e.from e.to) }
-    ensures all { (x y : ℕ) → InferredBy trace.now rule l u v x y → IfSome result (λ e. (e.from ≡ x) × (e.to ≡ y)) }
-    ensures none { result ≡ None → (x y : ℕ) → InferredBy trace.now rule l u v x y → ⊥ }
-{
-    match rule {
-        InferredRule::LoadPast => {
-            let s = source_of(trace, l)?;
-            if is_store(trace, u) && same_address(trace, u, l) && s == v && u != v {
-                Some(Ends { from: u, to: l })
-            } else {
-                None
-            }
-        }
-        InferredRule::StorePast => {
-            let s = source_of(trace, l)?;
-            if u == l && is_store(trace, v) && same_address(trace, v, l) && v != s {
-                Some(Ends { from: s, to: v })
-            } else {
-                None
-            }
-        }
-        InferredRule::SwapBefore => {
-            let s = swap_store(trace, l)?;
-            if v == l && is_store(trace, u) && u != s {
-                Some(Ends { from: u, to: s })
-            } else {
-                None
-            }
-        }
-        InferredRule::SwapAfter => {
-            let s = swap_store(trace, l)?;
-            if u == s && is_store(trace, v) && v != s {
-                Some(Ends { from: l, to: v })
-            } else {
-                None
-            }
-        }
-    }
 }
 
 /// Whether the test of the number answered true.
@@ -107,7 +57,7 @@ fn given_for<G: PathSearch>(
     ensures { IfOk result (λ found. MatchOption found (IsGivenBy trace.now rule l (Reaches (IsEdge (G.digraph graph.now))) u v → ⊥)
         (λ g. (g.rule ≡ rule) × (g.load ≡ l) × InferredBy trace.now rule l u v g.from g.to × Reaches (IsEdge (G.digraph graph.now)) g.from g.to)) }
 {
-    let Some(Ends { from, to }) = ends_of(trace, rule, l, u, v) else {
+    let Some(Ends { from, to }) = inferred_ends(trace, rule, l, u, v) else {
         return Ok(None);
     };
     if !leads(graph, from, to)? {
@@ -128,7 +78,7 @@ fn least_load_past(trace: &Trace, reached: &[bool], u: usize, v: usize) -> Optio
         (λ load. IsPastBy trace.now reached.now u v load × ((l : ℕ) → l < load → IsPastBy trace.now reached.now u v l → ⊥)) }
 {
     for load in 0..reached.len() {
-        if reached[load] && ends_of(trace, InferredRule::LoadPast, load, u, v).is_some() {
+        if reached[load] && inferred_ends(trace, InferredRule::LoadPast, load, u, v).is_some() {
             return Some(load);
         }
     }
@@ -145,7 +95,7 @@ fn load_past_given<G: PathSearch>(
     ensures { IfOk result (λ found. MatchOption found ((l : ℕ) → IsGivenBy trace.now InferredRule.LoadPast l (Reaches (IsEdge (G.digraph graph.now))) u v → ⊥)
         (λ g. (g.rule ≡ InferredRule.LoadPast) × GivesBy trace.now (IsEdge (G.digraph graph.now)) u v InferredRule.LoadPast g.load g.from g.to)) }
 {
-    if u >= graph.nodes() || !is_store(trace, u) {
+    if u >= graph.nodes() || !trace.is_store(u) {
         return Ok(None);
     }
     let reached = graph.reached(u)?;

@@ -6,21 +6,7 @@ ghost use Rattle.tso_rules.specs.Internal.MarkedRows.{IsOtherSource, IsSourceIn,
 
 use bitsets::{mark_if_some, word_at};
 use std::alloc::Global;
-use tso_ops::{OutOfMemory, Source, Trace};
-
-/// The number of the source of load `l`: 0 for `init`. None where `l` is no load or nothing wrote its value.
-#[inline]
-pub(crate) fn source_of(trace: &Trace, l: usize) -> Option<usize>
-    ensures is { IfSome result (λ s. HasSource trace.now l s) }
-    ensures all { (s : ℕ) → HasSource trace.now l s → result ≡ Some s }
-{
-    let _events = trace.events();
-    match trace.source(l)? {
-        Source::Init => Some(0),
-        Source::Store(s) => Some(s),
-        Source::Unwritten => None,
-    }
-}
+use tso_ops::{OutOfMemory, Trace};
 
 /// Marks the sources of the loads of word `j` whose bits are set, but not `u`.
 #[inline]
@@ -49,7 +35,7 @@ fn other_source(trace: &Trace, u: usize, l: usize) -> Option<usize>
     ensures is { IfSome result (IsOtherSource trace.now u l) }
     ensures all { (v : ℕ) → IsOtherSource trace.now u l v → result ≡ Some v }
 {
-    let s = source_of(trace, l)?;
+    let s = trace.source_number(l)?;
     (u != s).then_some(s)
 }
 

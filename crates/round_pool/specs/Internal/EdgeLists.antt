@@ -2,7 +2,7 @@
 use Rattle.std.specs.Prelude.{◌≡◌, ◌↔◌, ℕ, suc, ◌<◌, ◌≤◌, List, [], ◌∷◌, ◌++◌, length, map, get_or}
 use Rattle.order_graph.specs.Digraphs.{Digraph, IsEdge}
 use Rattle.tso_ops.specs.Values.{TraceValue}
-use Rattle.tso_model.specs.EdgeLists.{IsNew}
+use Rattle.tso_model.specs.NewEdges.{IsNew}
 use Rattle.round_pool.specs.declared.ranked.Edge.{Edge}
 use Rattle.round_pool.specs.Rankings.{ListsEdge, AreEdgesAscending, AreWithin, edge_from}
 

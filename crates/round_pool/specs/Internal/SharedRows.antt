@@ -3,7 +3,7 @@ use Rattle.std.specs.Prelude.{◌≡◌, ℕ, ◌+◌, ◌-◌, ◌*◌, ◌/◌
 use Rattle.order_graph.specs.Digraphs.{Digraph, IsEdge}
 use Rattle.tso_ops.specs.Values.{TraceValue}
 use Rattle.tso_ops.specs.Events.{event_total}
-use Rattle.tso_model.specs.EdgeLists.{IsNew}
+use Rattle.tso_model.specs.NewEdges.{IsNew}
 use Rattle.bitsets.specs.Rows.{IsListOf}
 
 -- There are so many rows, and each has the edges that a round adds to the graph's from its number.

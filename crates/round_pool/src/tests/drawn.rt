@@ -2,12 +2,12 @@
 
 use super::{Plain, made};
 use crate::OpenPoolGate;
+use plain_rounds::has_unwritten_load;
 use std::alloc::{AllocGlobal, Global};
 use std::process::Abort;
 use std::sync::Wait;
 use std::test::Fail;
 use std::thread::Threads;
-use tso_model::plain::events::has_unwritten_load;
 use tso_ops::{Order, Outcome, Trace};
 
 /// The next number of a linear congruential generator.

@@ -10,7 +10,7 @@ use Rattle.tso_cert.specs.declared.rules.InferredRule.TheVariants.{LoadPast}
 use Rattle.bitsets.specs.Rows.{HasBit, HasNumber, IsListOf}
 use Rattle.order_paths.specs.Paths.{Reaches}
 use Rattle.tso_model.specs.Rules.{BasePair, IsOwnBy, InferredBy}
-use Rattle.tso_model.specs.EdgeLists.{IsGivenBy}
+use Rattle.tso_model.specs.NewEdges.{IsGivenBy}
 
 -- program order gives the edge
 abbrev pub IsLater : TraceValue → ℕ → ℕ → Type 0

@@ -1,12 +1,11 @@
 //! Drawn programs by drawn schedules on the store-buffer unit: no violation is found, as by the plain program of the model.
 
+use plain_rounds::{has_cycle, has_unwritten_load, new_edges, rank_set};
 use std::alloc::{AllocError, AllocGlobal, Global};
 use std::process::Abort;
 use std::sync::Wait;
 use std::test::Fail;
 use std::thread::Threads;
-use tso_model::plain::events::has_unwritten_load;
-use tso_model::plain::{has_cycle, new_edges, node_count, rank_set};
 use tso_ops::{Op, OutOfMemory, Program, Trace};
 use tso_report::{Verdict, find_violation, judge_recorded};
 use tso_text::Act;
@@ -72,7 +71,7 @@ fn drawn_record(alloc: Global, seed: u64) -> Result<Recorded, Fail> {
 fn has_no_violation(alloc: Global, trace: &Trace, rounds: usize) -> Result<bool, OutOfMemory> {
     let edges = rank_set(alloc, trace, rounds)?;
     let is_whole = new_edges(alloc, trace, &edges)?.is_empty();
-    let has_cycle = has_cycle(alloc, &edges, node_count(trace))?;
+    let has_cycle = has_cycle(alloc, &edges(trace))?;
     Ok(is_whole && !has_cycle && !has_unwritten_load(trace))
 }
 

@@ -5,7 +5,7 @@ use Rattle.std.proofs.lemmas.List.{length-append, length-map, map-append}
 use Rattle.order_paths.specs.Paths.{HasCycle}
 use Rattle.order_graph.specs.Digraphs.{IsEdge}
 use Rattle.tso_model.proofs.Decided.{RankSet-decided}
-use Rattle.tso_model.proofs.RankFacts.{new_within}
+use Rattle.tso_model.proofs.NewEdgeFacts.{new_within}
 use Rattle.tso_model.proofs.Searches.{refused}
 use Rattle.round_pool.specs.declared.ranked.Edge.{Edge}
 use Rattle.round_pool.specs.RankGraphs.{AddsEdges}

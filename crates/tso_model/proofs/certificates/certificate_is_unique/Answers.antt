@@ -1,4 +1,4 @@
-use Rattle.tso_model.proofs.Events.{own_values}
+use Rattle.tso_ops.proofs.NumberFacts.{own_values}
 use Rattle.tso_model.proofs.CertificateUnique.{certificate_unique}
 use Rattle.tso_model.proofs.certificates.certificate_is_unique.Goals as goal
 

@@ -1,4 +1,4 @@
-use Rattle.tso_model.proofs.Events.{own_values}
+use Rattle.tso_ops.proofs.NumberFacts.{own_values}
 use Rattle.tso_model.proofs.CertificateHolds.{not_consistent}
 use Rattle.tso_model.proofs.certificates.holding_certificate_leaves_no_order.Goals as goal
 

@@ -1,4 +1,4 @@
-use Rattle.tso_model.proofs.Events.{own_values}
+use Rattle.tso_ops.proofs.NumberFacts.{own_values}
 use Rattle.tso_model.proofs.EdgesForward.{no_cycle}
 use Rattle.tso_model.proofs.soundness.cycle_leaves_no_order.Goals as goal
 

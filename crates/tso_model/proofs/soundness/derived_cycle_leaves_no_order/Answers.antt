@@ -1,4 +1,4 @@
-use Rattle.tso_model.proofs.Events.{own_values}
+use Rattle.tso_ops.proofs.NumberFacts.{own_values}
 use Rattle.tso_model.proofs.EdgesForward.{no_derived_cycle}
 use Rattle.tso_model.proofs.soundness.derived_cycle_leaves_no_order.Goals as goal
 

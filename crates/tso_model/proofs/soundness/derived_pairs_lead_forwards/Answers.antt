@@ -1,4 +1,4 @@
-use Rattle.tso_model.proofs.Events.{own_values}
+use Rattle.tso_ops.proofs.NumberFacts.{own_values}
 use Rattle.tso_model.proofs.EdgesForward.{derived_before}
 use Rattle.tso_model.proofs.soundness.derived_pairs_lead_forwards.Goals as goal
 

@@ -1,4 +1,4 @@
-use Rattle.tso_model.proofs.Events.{own_values}
+use Rattle.tso_ops.proofs.NumberFacts.{own_values}
 use Rattle.tso_model.proofs.EdgesForward.{no_edge_to_zero}
 use Rattle.tso_model.proofs.soundness.edge_to_init_leaves_no_order.Goals as goal
 

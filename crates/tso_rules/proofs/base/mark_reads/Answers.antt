@@ -1,7 +1,7 @@
 use Rattle.std.proofs.Common.{◌∙◌, sym, suc, ◌<◌, arith}
 use Rattle.std.proofs.lemmas.Nat.{and_le_l}
 use Rattle.tso_ops.specs.Events.{event_total}
-use Rattle.tso_model.proofs.Events.{IsLoad-within}
+use Rattle.tso_ops.proofs.NumberFacts.{IsLoad-within}
 use Rattle.tso_rules.specs.Internal.MarkedRows.{IsReadBy}
 use Rattle.tso_rules.proofs.BaseFacts.{read_load, reads_more}
 use Rattle.bitsets.proofs.MarkFacts.{words_by}

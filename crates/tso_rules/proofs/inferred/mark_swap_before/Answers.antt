@@ -2,7 +2,7 @@ use Rattle.std.proofs.Common.{◌-◌, suc, get_or, refl, arith}
 use Rattle.order_graph.specs.Digraphs.{IsEdge}
 use Rattle.bitsets.specs.Rows.{HasNumber}
 use Rattle.tso_cert.specs.declared.rules.InferredRule.TheVariants.{SwapBefore}
-use Rattle.tso_model.proofs.Events.{event_above_zero, store_event}
+use Rattle.tso_ops.proofs.NumberFacts.{event_above_zero, store_event}
 use Rattle.tso_rules.specs.Internal.MarkedRows.{IsNewRow}
 use Rattle.tso_rules.proofs.InferredFacts.{swap_before_is}
 use Rattle.bitsets.proofs.MarkFacts.{earlier_words_all, earlier_words_kept}

@@ -5,13 +5,13 @@ use Rattle.tso_rules.proofs.reasons.least_load_past.Goals.{else-reached-load-via
 
 pub returns-then-is_some : goal.returns-then-is_some
 returns-then-is_some c =
-    (past_ends c.args.trace.now c.args.reached.now c.loop-load.load c.args.u c.args.v c.ends_of.result c.ends_of.ensures.is (sym c.is_some.ensures ∙ c.if-is_some.true) c.if-reached-load.true, c.loop-load.invariant)
+    (past_ends c.args.trace.now c.args.reached.now c.loop-load.load c.args.u c.args.v c.inferred_ends.result c.inferred_ends.ensures.is (sym c.is_some.ensures ∙ c.if-is_some.true) c.if-reached-load.true, c.loop-load.invariant)
 
 pub loop-load-preserved : goal.loop-load-preserved
 loop-load-preserved c =
     past_more c.args.trace.now c.args.reached.now c.loop-load.load c.args.u c.args.v c.loop-load.invariant (elim c.else-reached-load.branch [
       | else-reached-load-via-then-reached-load+else-is_some w ↦
-          past_no_ends c.args.trace.now c.args.reached.now c.loop-load.load c.args.u c.args.v w.ends_of.result w.ends_of.ensures.none (sym w.is_some.ensures ∙ w.if-is_some.false)
+          past_no_ends c.args.trace.now c.args.reached.now c.loop-load.load c.args.u c.args.v w.inferred_ends.result w.inferred_ends.ensures.none (sym w.is_some.ensures ∙ w.if-is_some.false)
       | else-reached-load-via-else-reached-load w ↦ past_unmarked c.args.trace.now c.args.reached.now c.loop-load.load c.args.u c.args.v w.if-reached-load.false
     ])
 

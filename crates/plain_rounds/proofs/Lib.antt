@@ -1,0 +1,4 @@
+pub mod EdgeFacts
+pub mod PathFacts
+pub mod RankFacts
+pub mod RoundFacts

@@ -1,0 +1,2 @@
+pub mod EdgeLists
+pub mod Internal

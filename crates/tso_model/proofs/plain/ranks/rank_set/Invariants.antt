@@ -1,7 +1,0 @@
-use Rattle.tso_model.specs.Ranks.{RankSet}
-use Rattle.tso_model.specs.EdgeLists.{AreEdges}
-use Rattle.tso_model.proofs.plain.ranks.rank_set.Given as goal
-
--- the edges of the rank so far
-abbrev pub invariant-loop-round : goal.invariant-loop-round
-invariant-loop-round l = AreEdges l.edges.items (RankSet l.trace l._round)
