@@ -4,7 +4,7 @@
 #![tactic(auto)]
 
 pub use lists::marked;
-pub use marks::{mark, mark_if_some, mark_word};
+pub use marks::{mark, mark_if_some, mark_row, mark_word};
 pub use rows::{has_number, word_at, word_below};
 pub use shared::{first_shared, used_words};
 pub use tables::{

@@ -31,6 +31,16 @@ pub fn mark_word(marks: &mut Vec<u64>, j: usize, word: u64) -> Result<(), AllocE
     Ok(())
 }
 
+/// Marks the numbers of a row. OutOfMemory where an allocation was refused.
+pub fn mark_row(marks: &mut Vec<u64>, row: &[u64]) -> Result<(), AllocError>
+    ensures { OnOk result (Marks marks.old.items marks.new.items (HasNumber row.now)) }
+{
+    for j in 0..row.len() {
+        mark_word(marks, j, row[j])?;
+    }
+    Ok(())
+}
+
 /// Marks the number. OutOfMemory where an allocation was refused.
 #[inline]
 pub fn mark(marks: &mut Vec<u64>, number: usize) -> Result<(), AllocError>

@@ -3,9 +3,9 @@ ghost use Rattle.std.specs.Prelude.{◌≡◌, ◌<◌, ℕ, IfOk};
 ghost use Rattle.bitsets.specs.Rows.{HasNumber};
 
 use crate::{
-    BitTable, add_words, bit, clear_bit, first_shared, has_number, mark, mark_if_some, mark_word,
-    marked, or_row, or_rows, set_bit, set_word, set_words, used_words, with_bit, word_above,
-    word_at, word_below, word_without,
+    BitTable, add_words, bit, clear_bit, first_shared, has_number, mark, mark_if_some, mark_row,
+    mark_word, marked, or_row, or_rows, set_bit, set_word, set_words, used_words, with_bit,
+    word_above, word_at, word_below, word_without,
 };
 use std::alloc::{AllocError, Global};
 use std::test::Fail;
@@ -44,6 +44,8 @@ fn rows_that_grow(rt: HostRuntime) -> Result<(), Fail> {
     mark_word(&mut row, 1, 1)?;
     mark_word(&mut row, 5, 0)?;
     assert_eq!(rt; row.as_slice(), [8, 5].as_slice());
+    mark_row(&mut row, [1, 0, 2].as_slice())?;
+    assert_eq!(rt; row.as_slice(), [9, 5, 2].as_slice());
     Ok(())
 }
 

@@ -1,3 +1,4 @@
+pub mod AffectedFacts
 pub mod BaseFacts
 pub mod InferredFacts
 pub mod LawFacts

@@ -81,7 +81,7 @@ fn mark_events(trace: &Trace, marks: &mut Vec<u64>, u: usize) -> Result<(), OutO
 
 /// Number `n`, where it is an event.
 #[inline]
-fn event_end(trace: &Trace, n: usize) -> Option<usize>
+pub(crate) fn event_end(trace: &Trace, n: usize) -> Option<usize>
     ensures is { IfSome result (λ v. (v ≡ n) × IsEvent trace.now n) }
     ensures all { IsEvent trace.now n → result ≡ Some n }
 {

@@ -8,6 +8,7 @@ use std::test::Fail;
 use tso_cert::{BaseRule, InferredRule, Reason};
 use tso_ops::{Outcome, Trace, ValueFault};
 
+mod affected;
 mod drawn;
 mod refused_allocations;
 
