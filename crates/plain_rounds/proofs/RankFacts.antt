@@ -1,5 +1,5 @@
 -- Lists of the edges of rank sets, and what a round adds to them.
-use Rattle.std.proofs.Common.{◌≡◌, ◌⊎◌, ◌↔◌, inl, inr, ℕ, suc, ◌+◌, ◌<◌, Bool, IsTrue, List, ◌++◌}
+use Rattle.std.proofs.Common.{◌≡◌, ◌⊎◌, ◌↔◌, inl, inr, ℕ, suc, ◌+◌, ◌<◌, ◌≤◌, List, ◌++◌, get_or, arith}
 use Rattle.std.proofs.Math.Numerals.{add-one}
 use Rattle.std.proofs.lemmas.List.Elements.{Contains-append_left, Contains-append_right, Contains-append_cases}
 use Rattle.order_paths.specs.Paths.{Reaches}
@@ -7,6 +7,7 @@ use Rattle.tso_ops.specs.Values.{TraceValue}
 use Rattle.tso_ops.specs.Events.{event_total}
 use Rattle.tso_cert.specs.declared.rules.InferredRule.{InferredRule}
 use Rattle.tso_cert.specs.declared.rules.InferredRule.TheVariants.{LoadPast, StorePast, SwapBefore, SwapAfter}
+use Rattle.tso_cert.specs.Spelling.{inferred_rules}
 use Rattle.tso_model.specs.Ranks.{RankSet, IsInferred}
 use Rattle.tso_model.specs.NewEdges.{IsGivenBy, IsNew}
 use Rattle.tso_model.proofs.Bounds.{RankSet-within}
@@ -14,17 +15,13 @@ use Rattle.tso_model.proofs.NewEdgeFacts.{new_same}
 use Rattle.plain_rounds.specs.EdgeLists.{HasPair, AreEdges, AreEdgesBelow}
 use Rattle.plain_rounds.specs.Internal.PlainLists.{IsGiven}
 
--- where the three other rules don't give the edge, some rule does exactly if SwapAfter does
-pub last_rule : (t : TraceValue) (l : ℕ) (Path : ℕ → ℕ → Type 0) (u v : ℕ) (answer : Bool) →
-    (IsGivenBy t LoadPast l Path u v → ⊥) → (IsGivenBy t StorePast l Path u v → ⊥) → (IsGivenBy t SwapBefore l Path u v → ⊥) →
-    IsTrue answer ↔ IsGivenBy t SwapAfter l Path u v → IsTrue answer ↔ ((rule : InferredRule) × IsGivenBy t rule l Path u v)
-last_rule t l Path u v answer no_load no_store no_before after = (λ e. (SwapAfter, after.0 e), λ given. by_rule given.0 given.1)
-  where
-    by_rule : (rule : InferredRule) → IsGivenBy t rule l Path u v → IsTrue answer
-    by_rule LoadPast given = absurd (no_load given)
-    by_rule StorePast given = absurd (no_store given)
-    by_rule SwapBefore given = absurd (no_before given)
-    by_rule SwapAfter given = after.1 given
+-- a rule that gives the edge stands at one of the places before which none does
+pub none_given : (t : TraceValue) (l : ℕ) (Path : ℕ → ℕ → Type 0) (u v k : ℕ) → 4 ≤ k →
+    ((j : ℕ) → j < k → IsGivenBy t (get_or inferred_rules j LoadPast) l Path u v → ⊥) → (rule : InferredRule) → IsGivenBy t rule l Path u v → ⊥
+none_given t l Path u v k past none LoadPast given = none 0 (omega (arith, past)) given
+none_given t l Path u v k past none StorePast given = none 1 (omega (arith, past)) given
+none_given t l Path u v k past none SwapBefore given = none 2 (omega (arith, past)) given
+none_given t l Path u v k past none SwapAfter given = none 3 (omega (arith, past)) given
 
 -- Where the pairs are the ends of the paths over these edges, what the rules give by the pairs is what they give by the edges.
 pub given_inferred : (t : TraceValue) (paths : List (ℕ × ℕ)) (Edge : ℕ → ℕ → Type 0) → AreEdges paths (Reaches Edge) → (u v : ℕ) →

@@ -44,16 +44,12 @@ pub(super) fn is_given(trace: &Trace, paths: &[(usize, usize)], u: usize, v: usi
 fn is_given_for(trace: &Trace, paths: &[(usize, usize)], l: usize, u: usize, v: usize) -> bool
     ensures { IsTrue result ↔ ((rule : InferredRule) × IsGivenBy trace.now rule l (HasPair paths.now) u v) }
 {
-    if is_given_by(trace, paths, InferredRule::LoadPast, l, u, v) {
-        return true;
+    for k in 0..InferredRule::ALL.len() {
+        if is_given_by(trace, paths, InferredRule::ALL[k], l, u, v) {
+            return true;
+        }
     }
-    if is_given_by(trace, paths, InferredRule::StorePast, l, u, v) {
-        return true;
-    }
-    if is_given_by(trace, paths, InferredRule::SwapBefore, l, u, v) {
-        return true;
-    }
-    is_given_by(trace, paths, InferredRule::SwapAfter, l, u, v)
+    false
 }
 
 /// Whether the rule gives the edge from `u` to `v` for load `l`.

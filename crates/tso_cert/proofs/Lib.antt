@@ -1,3 +1,4 @@
+pub mod NamedFacts
 pub mod LineFacts
 pub mod PieceFacts
 pub mod PrintFacts

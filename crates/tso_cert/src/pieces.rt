@@ -65,43 +65,27 @@ pub(crate) fn events(alloc: Global, pieces: Option<&[u8]>) -> Result<Vec<u64>, W
 }
 
 /// The base rule of this name, or BadRule.
-#[tactic(auto, unfolding(crate::specs::Internal::LineValues::base_rule))]
 pub(crate) fn base_rule(name: &[u8]) -> Result<BaseRule, Why>
     ensures { result ≡ base_rule name.now }
 {
-    if name == b"Init".as_slice() {
-        Ok(BaseRule::Init)
-    } else if name == b"LoadOp".as_slice() {
-        Ok(BaseRule::LoadOp)
-    } else if name == b"StoreStore".as_slice() {
-        Ok(BaseRule::StoreStore)
-    } else if name == b"Stbar".as_slice() {
-        Ok(BaseRule::Stbar)
-    } else if name == b"Membar".as_slice() {
-        Ok(BaseRule::Membar)
-    } else if name == b"Read".as_slice() {
-        Ok(BaseRule::Read)
-    } else if name == b"Own".as_slice() {
-        Ok(BaseRule::Own)
-    } else {
-        Err(Why::BadRule)
+    for k in 0..BaseRule::ALL.len() {
+        let rule = BaseRule::ALL[k];
+        if name == rule.name().as_bytes() {
+            return Ok(rule);
+        }
     }
+    Err(Why::BadRule)
 }
 
 /// The inferred rule of this name, or BadRule.
-#[tactic(auto, unfolding(crate::specs::Internal::LineValues::inferred_rule))]
 pub(crate) fn inferred_rule(name: &[u8]) -> Result<InferredRule, Why>
     ensures { result ≡ inferred_rule name.now }
 {
-    if name == b"LoadPast".as_slice() {
-        Ok(InferredRule::LoadPast)
-    } else if name == b"StorePast".as_slice() {
-        Ok(InferredRule::StorePast)
-    } else if name == b"SwapBefore".as_slice() {
-        Ok(InferredRule::SwapBefore)
-    } else if name == b"SwapAfter".as_slice() {
-        Ok(InferredRule::SwapAfter)
-    } else {
-        Err(Why::BadRule)
+    for k in 0..InferredRule::ALL.len() {
+        let rule = InferredRule::ALL[k];
+        if name == rule.name().as_bytes() {
+            return Ok(rule);
+        }
     }
+    Err(Why::BadRule)
 }

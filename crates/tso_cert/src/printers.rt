@@ -5,7 +5,6 @@ ghost use Rattle.tso_cert.specs.Printed.{base_name, inferred_name, event_text, r
 ghost use Rattle.tso_cert.specs.Spelling.{SpellsCertificate};
 
 use crate::faults::OutOfMemory;
-use crate::rules::{BaseRule, InferredRule};
 use crate::steps::{CertStep, Certificate, Reason};
 use std::alloc::Global;
 use std::fmt::Write;
@@ -72,9 +71,9 @@ fn print_reason(text: &mut String, reason: &Reason) -> Result<(), OutOfMemory>
     ensures fits { OnOk result (ReasonFits reason.now) }
 {
     match reason {
-        Reason::Base(rule) => write!(text, " {}", base_name(*rule)),
+        Reason::Base(rule) => write!(text, " {}", rule.name()),
         Reason::Inferred { rule, load, path } => {
-            write!(text, " {}", inferred_name(*rule))?;
+            write!(text, " {}", rule.name())?;
             print_event(text, *load)?;
             print_events(text, path.items())
         }
@@ -100,32 +99,5 @@ fn print_event(text: &mut String, number: u64) -> Result<(), OutOfMemory>
     match number {
         0 => text.push_str(" init"),
         _ => write!(text, " {number}"),
-    }
-}
-
-/// The name of a base rule.
-fn base_name(rule: BaseRule) -> &'static str
-    ensures { result.now ≡ base_name rule }
-{
-    match rule {
-        BaseRule::Init => "Init",
-        BaseRule::LoadOp => "LoadOp",
-        BaseRule::StoreStore => "StoreStore",
-        BaseRule::Stbar => "Stbar",
-        BaseRule::Membar => "Membar",
-        BaseRule::Read => "Read",
-        BaseRule::Own => "Own",
-    }
-}
-
-/// The name of an inferred rule.
-fn inferred_name(rule: InferredRule) -> &'static str
-    ensures { result.now ≡ inferred_name rule }
-{
-    match rule {
-        InferredRule::LoadPast => "LoadPast",
-        InferredRule::StorePast => "StorePast",
-        InferredRule::SwapBefore => "SwapBefore",
-        InferredRule::SwapAfter => "SwapAfter",
     }
 }

@@ -1,3 +1,6 @@
+ghost use Rattle.std.specs.Prelude.{◌≡◌};
+ghost use Rattle.tso_cert.specs.Printed.{base_name, inferred_name};
+
 /// A rule that gives edges of rank 0, in the order in which a justification tries them.
 #[derive(Clone, Copy, Debug, PartialEq, Eq)]
 pub enum BaseRule {
@@ -18,6 +21,34 @@ pub enum BaseRule {
     Own,
 }
 
+impl BaseRule {
+    /// All base rules, in the order in which a justification tries them.
+    pub const ALL: [BaseRule; 7] = [
+        BaseRule::Init,
+        BaseRule::LoadOp,
+        BaseRule::StoreStore,
+        BaseRule::Stbar,
+        BaseRule::Membar,
+        BaseRule::Read,
+        BaseRule::Own,
+    ];
+
+    /// The name in the text of a certificate.
+    pub fn name(self) -> &'static str
+        ensures { result.now ≡ base_name self }
+    {
+        match self {
+            BaseRule::Init => "Init",
+            BaseRule::LoadOp => "LoadOp",
+            BaseRule::StoreStore => "StoreStore",
+            BaseRule::Stbar => "Stbar",
+            BaseRule::Membar => "Membar",
+            BaseRule::Read => "Read",
+            BaseRule::Own => "Own",
+        }
+    }
+}
+
 /// A rule that gives edges by a path over the edges of lesser rank, in the order in which a justification tries them.
 #[derive(Clone, Copy, Debug, PartialEq, Eq)]
 pub enum InferredRule {
@@ -29,4 +60,26 @@ pub enum InferredRule {
     SwapBefore,
     /// From the store of a swap to another store, which comes after the load of the swap.
     SwapAfter,
+}
+
+impl InferredRule {
+    /// All inferred rules, in the order in which a justification tries them.
+    pub const ALL: [InferredRule; 4] = [
+        InferredRule::LoadPast,
+        InferredRule::StorePast,
+        InferredRule::SwapBefore,
+        InferredRule::SwapAfter,
+    ];
+
+    /// The name in the text of a certificate.
+    pub fn name(self) -> &'static str
+        ensures { result.now ≡ inferred_name self }
+    {
+        match self {
+            InferredRule::LoadPast => "LoadPast",
+            InferredRule::StorePast => "StorePast",
+            InferredRule::SwapBefore => "SwapBefore",
+            InferredRule::SwapAfter => "SwapAfter",
+        }
+    }
 }

@@ -14,5 +14,6 @@ pub mod NewEdgeFacts
 pub mod OrderedLists
 pub mod Places
 pub mod RoundsNumber
+pub mod RuleOrder
 pub mod Searches
 pub mod UsedEdges

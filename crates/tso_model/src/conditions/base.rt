@@ -25,23 +25,13 @@ pub fn is_base_pair(trace: &Trace, rule: BaseRule, u: usize, v: usize) -> bool
 pub fn first_base_rule(trace: &Trace, u: usize, v: usize) -> Option<BaseRule>
     ensures { MatchOption result ((rule : BaseRule) → BasePair trace.now rule u v → ⊥) (IsFirstBase trace.now u v) }
 {
-    if is_init_pair(trace, u, v) {
-        Some(BaseRule::Init)
-    } else if is_load_op_pair(trace, u, v) {
-        Some(BaseRule::LoadOp)
-    } else if is_store_store_pair(trace, u, v) {
-        Some(BaseRule::StoreStore)
-    } else if is_stbar_pair(trace, u, v) {
-        Some(BaseRule::Stbar)
-    } else if is_membar_pair(trace, u, v) {
-        Some(BaseRule::Membar)
-    } else if is_read_pair(trace, u, v) {
-        Some(BaseRule::Read)
-    } else if is_own_pair(trace, u, v) {
-        Some(BaseRule::Own)
-    } else {
-        None
+    for k in 0..BaseRule::ALL.len() {
+        let rule = BaseRule::ALL[k];
+        if is_base_pair(trace, rule, u, v) {
+            return Some(rule);
+        }
     }
+    None
 }
 
 /// Whether `u` is `init` and `v` an event.

@@ -1,17 +1,23 @@
-use Rattle.tso_cert.specs.declared.rules.InferredRule.TheVariants.{LoadPast, StorePast, SwapBefore}
+use Rattle.std.proofs.Common.{get_or, refl, arith}
+use Rattle.std.proofs.lemmas.Bool.{false≢true}
+use Rattle.tso_cert.specs.declared.rules.InferredRule.TheVariants.{LoadPast}
+use Rattle.tso_cert.specs.Spelling.{inferred_rules}
 use Rattle.tso_model.specs.NewEdges.{IsGivenBy}
+use Rattle.tso_model.proofs.Searches.{none_more}
 use Rattle.plain_rounds.specs.EdgeLists.{HasPair}
-use Rattle.plain_rounds.proofs.RankFacts.{last_rule}
-use Rattle.tso_model.proofs.Searches.{refused}
+use Rattle.plain_rounds.proofs.RankFacts.{none_given}
 use Rattle.plain_rounds.proofs.inferred.is_given_for.Goals as goal
 
--- the tests of the first three rules all answered false
+pub returns-then-is_given_by : goal.returns-then-is_given_by
+returns-then-is_given_by c = (λ e. (get_or inferred_rules c.loop-k.k LoadPast, c.is_given_by.ensures.0 c.if-is_given_by.true), λ given. refl)
+
+pub loop-k-preserved : goal.loop-k-preserved
+loop-k-preserved c =
+    none_more (λ j. IsGivenBy c.args.trace.now (get_or inferred_rules j LoadPast) c.args.l (HasPair c.args.paths.now) c.args.u c.args.v) c.loop-k.k c.loop-k.invariant
+    c.if-is_given_by.ensures
+
 pub returns : goal.returns
-returns c =
-    let t = c.args.trace.now in
-    let Path = HasPair c.args.paths.now in
-    last_rule t c.args.l Path c.args.u c.args.v c.is_given_by-4.result
-    (refused (IsGivenBy t LoadPast c.args.l Path c.args.u c.args.v) c.if-is_given_by.ensures)
-    (refused (IsGivenBy t StorePast c.args.l Path c.args.u c.args.v) c.if-is_given_by-2.ensures)
-    (refused (IsGivenBy t SwapBefore c.args.l Path c.args.u c.args.v) c.if-is_given_by-3.ensures)
-    c.is_given_by-4.ensures
+returns c = (
+  λ e. absurd (false≢true e),
+  λ given. absurd (none_given c.args.trace.now c.args.l (HasPair c.args.paths.now) c.args.u c.args.v c.loop-k.k (omega (arith, c.loop-k-test.false)) c.loop-k.invariant given.0 given.1),
+)
