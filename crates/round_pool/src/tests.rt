@@ -157,7 +157,7 @@ fn compare(
 
 /// Fails unless the graph has just these edges.
 fn compare_graph(rt: &impl Abort, trace: &Trace, graph: &Graph, edges: &[(usize, usize)]) {
-    assert_eq!(rt; graph.nodes()(trace));
+    assert_eq!(rt; graph.nodes(), trace.node_count());
     for u in 0..graph.nodes() {
         for v in 0..graph.nodes() {
             assert_eq!(rt;

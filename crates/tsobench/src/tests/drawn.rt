@@ -71,7 +71,7 @@ fn drawn_record(alloc: Global, seed: u64) -> Result<Recorded, Fail> {
 fn has_no_violation(alloc: Global, trace: &Trace, rounds: usize) -> Result<bool, OutOfMemory> {
     let edges = rank_set(alloc, trace, rounds)?;
     let is_whole = new_edges(alloc, trace, &edges)?.is_empty();
-    let has_cycle = has_cycle(alloc, &edges(trace))?;
+    let has_cycle = has_cycle(alloc, &edges, trace.node_count())?;
     Ok(is_whole && !has_cycle && !has_unwritten_load(trace))
 }
 
