@@ -11,28 +11,28 @@ use Rattle.order_paths.proofs.Reach.{Reaches-join, Reaches-mono, Reaches-decided
 use Rattle.bitsets.specs.Rows.{HasBit, HasNumber}
 use Rattle.bitsets.specs.Tables.{IsSet, Adds}
 use Rattle.order_graph.specs.Internal.Tables.{IsSelfOrSet, AreTransposed, IsTransitive, Joined}
-use Rattle.order_graph.specs.Digraphs.{Digraph, IsEdge, EdgesWithin, tests_of, graph_of}
+use Rattle.order_graph.specs.Digraphs.{Digraph, IsEdge, EdgesWithin, tests_of, grown_graph_of}
 use Rattle.order_graph.specs.Internal.KeptPaths.{KeepsAllPaths}
 use Rattle.bitsets.proofs.WordFacts.{HasBit-zero}
 use Rattle.bitsets.proofs.TableFacts.{column_within, no_bit, HasNumber-row}
 use Rattle.order_graph.proofs.Reaching.{WithEdge, ReachesThrough, reach_split, reach_through, reach_same}
 
 -- a test of a row that a table keeps
-test_is : (nodes width : ℕ) (table : List ℕ) (x y : ℕ) → y < nodes → IsTrue (get_or (tests_of table width nodes x) y false) ↔ IsSet table width x y
+pub test_is : (nodes width : ℕ) (table : List ℕ) (x y : ℕ) → y < nodes → IsTrue (get_or (tests_of table width nodes x) y false) ↔ IsSet table width x y
 unfolding IsSet HasBit
 test_is nodes width table x y h =
     let e = get_or-map-range_with_len (λ z. bit_at (get_or table (x * width + z / 64) 0) (z % 64) == 1) 0 nodes y y false h (omega arith) in
     (λ t. eqb-true _ 1 (sym e ∙ t), λ s. e ∙ eq-eqb _ 1 s)
 
 -- the tests of a row past the end, and past a row's end, answer false
-no_test : (nodes width : ℕ) (table : List ℕ) (x y : ℕ) → nodes ≤ y → IsTrue (get_or (tests_of table width nodes x) y false) → ⊥
+pub no_test : (nodes width : ℕ) (table : List ℕ) (x y : ℕ) → nodes ≤ y → IsTrue (get_or (tests_of table width nodes x) y false) → ⊥
 no_test nodes width table x y h t =
     false≢true (sym (get_or_past (tests_of table width nodes x) y false (omega (arith, length-map-range_with_len (λ z. bit_at (get_or table (x * width + z / 64) 0) (z % 64) == 1) 0 nodes))) ∙ t)
 
 -- The edges of the graph that a table keeps are the table's edges.
-pub IsEdge_of : (nodes width : ℕ) (table : List ℕ) (x y : ℕ) → IsEdge (graph_of nodes width table) x y ↔ Joined table width nodes x y
+pub IsEdge_of : (nodes width : ℕ) (table grown : List ℕ) (x y : ℕ) → IsEdge (grown_graph_of nodes width table grown) x y ↔ Joined table width nodes x y
 unfolding IsEdge
-IsEdge_of nodes width table x y = (to, back)
+IsEdge_of nodes width table grown x y = (to, back)
   where
     row : x < nodes → get_or (map (tests_of table width nodes) (range_with_len 0 nodes)) x [] ≡ tests_of table width nodes x
     row h = get_or-map-range_with_len (tests_of table width nodes) 0 nodes x x [] h (omega arith)
@@ -52,13 +52,14 @@ IsEdge_of nodes width table x y = (to, back)
 
 -- A graph is the one that the table keeps.
 pub record Sees (g : Digraph) (size width : ℕ) (table : List ℕ) : Type 0 where
-  pub is : graph_of size width table ≡ g
+  pub grown : List ℕ
+  pub is : grown_graph_of size width table grown ≡ g
 
 pub sees_nodes : (g : Digraph) (nodes width : ℕ) (table : List ℕ) → Sees g nodes width table → g.nodes ≡ nodes
 sees_nodes g nodes width table sees = ap (λ (d : Digraph). d.nodes) (sym sees.is)
 
 pub sees_edge : (g : Digraph) (nodes width : ℕ) (table : List ℕ) → Sees g nodes width table → (x y : ℕ) → IsEdge g x y ↔ Joined table width nodes x y
-sees_edge g nodes width table sees x y = subst (λ d. IsEdge d x y ↔ Joined table width nodes x y) sees.is (IsEdge_of nodes width table x y)
+sees_edge g nodes width table sees x y = subst (λ d. IsEdge d x y ↔ Joined table width nodes x y) sees.is (IsEdge_of nodes width table sees.grown x y)
 
 pub sees_path : (g : Digraph) (nodes width : ℕ) (table : List ℕ) → Sees g nodes width table → (x y : ℕ) → Reaches (IsEdge g) x y ↔ Reaches (Joined table width nodes) x y
 sees_path g nodes width table sees x y = (
@@ -104,7 +105,7 @@ Joined-more table more nodes width u v fits hu hv adds x y = (
   ],
 )
 
-Reaches-more : (table more : List ℕ) (nodes width u v : ℕ) → width ≡ (nodes + 63) / 64 → u < nodes → v < nodes → Adds table more width (λ x y. (x ≡ u) × (y ≡ v)) →
+pub Reaches-more : (table more : List ℕ) (nodes width u v : ℕ) → width ≡ (nodes + 63) / 64 → u < nodes → v < nodes → Adds table more width (λ x y. (x ≡ u) × (y ≡ v)) →
     (x y : ℕ) → Reaches (Joined more width nodes) x y ↔ Reaches (WithEdge (Joined table width nodes) u v) x y
 Reaches-more table more nodes width u v fits hu hv adds x y = (
   Reaches-mono (Joined more width nodes) (WithEdge (Joined table width nodes) u v) (λ a b. (Joined-more table more nodes width u v fits hu hv adds a b).0) x y,

@@ -2,6 +2,7 @@ pub mod AllPaths
 pub mod ClosedNumbers
 pub mod Cycling
 pub mod AddedBits
+pub mod GrownFacts
 pub mod Keeping
 pub mod Losing
 pub mod Reached

@@ -20,14 +20,14 @@ IsTable-empty nodes width edges small fits e = record {
 }
 
 -- A table of edges that gains edges to numbers below `nodes` is one still.
-pub IsTable-more : (nodes width : ℕ) (edges more new words : List ℕ) (u : ℕ) → IsTable nodes width edges → new ≡ more → length more ≡ length edges →
-    ((v : ℕ) → HasNumber words v → v < nodes) → Adds edges more width (λ i y. (i ≡ u) × HasNumber words y) → IsTable nodes width new
-IsTable-more nodes width edges more new words u keeps same sized below adds =
+pub IsTable-more : (nodes width : ℕ) (edges more new : List ℕ) (Given : ℕ → ℕ → Type 0) → IsTable nodes width edges → new ≡ more → length more ≡ length edges →
+    ((u v : ℕ) → Given u v → v < nodes) → Adds edges more width Given → IsTable nodes width new
+IsTable-more nodes width edges more new Given keeps same sized below adds =
     subst (λ t. IsTable nodes width t) (sym same) record {
       small = keeps.small;
       fits = keeps.fits;
       sized = sized ∙ keeps.sized;
-      within = λ x y hx hy s. elim ((adds.bits x y hy).0 s) [ inl o ↦ keeps.within x y hx hy o | inr g ↦ below y g.1 ];
+      within = λ x y hx hy s. elim ((adds.bits x y hy).0 s) [ inl o ↦ keeps.within x y hx hy o | inr g ↦ below x y g ];
     }
 
 -- The edges of the table with more are those of the graph with more.

@@ -1,15 +1,15 @@
 //! Rows of edges, from which a graph is made at once.
 
-ghost use Rattle.std.specs.Prelude.{◌≡◌, ◌⊎◌, ◌↔◌, ◌<◌, ◌^◌, ℕ, IfOk};
+ghost use Rattle.std.specs.Prelude.{◌≡◌, ◌⊎◌, ◌↔◌, ◌<◌, ◌^◌, ℕ, IsTrue, IfOk};
 ghost use Rattle.bitsets.specs.Rows.{HasNumber};
 ghost use Rattle.order_graph.specs.Internal.Tables.{IsTable};
 ghost use Rattle.order_graph.specs.Digraphs.{IsEdge, EdgesWithin, graph_of};
 
-use bitsets::add_words;
+use bitsets::{BitTable, add_words, bit, first_shared, set_bit};
 use std::alloc::{AllocError, Global};
 use std::marker::Model;
 
-/// Edges between the numbers below `nodes()`, given a row at a time, from which `Graph::of_rows` makes a graph.
+/// Edges between the numbers below `nodes()`, which knows nothing of paths. `Graph::of_rows` makes a graph of them.
 #[derive(Debug, Drop)]
 pub struct EdgeRows {
     nodes: usize,
@@ -65,6 +65,44 @@ impl EdgeRows {
         ensures nodes { self.new.nodes ≡ self.old.nodes }
     {
         add_words(&mut self.words, self.width, u, row);
+    }
+
+    /// Adds the edge from u to v.
+    #[inline]
+    pub fn add(&mut self, u: usize, v: usize)
+        requires from { u < self.old.nodes }
+        requires to { v < self.old.nodes }
+        ensures edges { (x y : ℕ) → IsEdge self.new x y ↔ (IsEdge self.old x y ⊎ ((x ≡ u) × (y ≡ v))) }
+        ensures nodes { self.new.nodes ≡ self.old.nodes }
+    {
+        set_bit(&mut self.words, self.width, u, v);
+    }
+
+    /// Whether there is an edge from u to v.
+    #[inline]
+    pub fn has(&self, u: usize, v: usize) -> bool
+        requires from { u < self.now.nodes }
+        requires to { v < self.now.nodes }
+        ensures { IsTrue result ↔ IsEdge self.now u v }
+    {
+        let edges = BitTable {
+            words: &self.words,
+            width: self.width,
+        };
+        bit(edges, u, v)
+    }
+
+    /// Whether there is an edge from u.
+    #[inline]
+    pub fn has_from(&self, u: usize) -> bool
+        requires { u < self.now.nodes }
+        ensures { IsTrue result ↔ ((v : ℕ) × IsEdge self.now u v) }
+    {
+        let edges = BitTable {
+            words: &self.words,
+            width: self.width,
+        };
+        first_shared(edges, u, edges.words, u, 0, edges.width).is_some()
     }
 
     /// The number of numbers, how many words a row has, and the table of the rows.

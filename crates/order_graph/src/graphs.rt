@@ -2,8 +2,8 @@
 
 ghost use Rattle.std.specs.Prelude.{◌≡◌, ◌⊎◌, ◌↔◌, ◌<◌, ◌+◌, ◌/◌, ◌^◌, ℕ, false, IsTrue, IfOk, MatchOption, length, slice_index_or};
 ghost use Rattle.order_paths.specs.Paths.{Reaches, HasCycle, IsLeastPath, IsLeastCycle};
-ghost use Rattle.order_graph.specs.Digraphs.{IsEdge, EdgesWithin};
-ghost use Rattle.bitsets.specs.Rows.{HasNumber};
+ghost use Rattle.order_graph.specs.Digraphs.{IsEdge, EdgesWithin, HasGrown, ReachesMore};
+ghost use Rattle.bitsets.specs.Rows.{HasNumber, IsListOf};
 
 use crate::all_paths::{join_rest, paths_in_order};
 use crate::closing::closed_numbers;
@@ -11,10 +11,11 @@ use crate::cycles::better;
 use crate::edge_rows::EdgeRows;
 use crate::edge_sets::EdgeSet;
 use crate::forward::tests_of_row;
+use crate::grown::mark_grown;
 use crate::joining::{Size, join};
 use crate::kept_tables::KeptTables;
 use crate::transposing::transposed_table;
-use bitsets::{BitTable, first_shared, set_bit};
+use bitsets::{BitTable, bit, marked, set_bit};
 use std::alloc::{AllocError, Global};
 use std::marker::Model;
 
@@ -25,23 +26,24 @@ use std::marker::Model;
 #[derive(Debug, Drop)]
 pub struct Graph {
     tables: KeptTables,
+    grown: Vec<u64>,
 }
 
 impl Model for Graph {
-    ghost use Rattle.order_graph.specs.Digraphs.{Digraph, graph_of};
-    ghost use Rattle.order_graph.specs.Internal.KeptPaths.{KeepsAllPaths};
+    ghost use Rattle.order_graph.specs.Digraphs.{Digraph, grown_graph_of};
+    ghost use Rattle.order_graph.specs.Internal.KeptPaths.{KeepsAllPaths, IsNodeRow};
 
     ghost Value = { Digraph };
 
-    ghost view = { λ g. graph_of g.tables.nodes g.tables.width g.tables.edges.items };
+    ghost view = { λ g. grown_graph_of g.tables.nodes g.tables.width g.tables.edges.items g.grown.items };
 
-    ghost invariant = { λ g. KeepsAllPaths g.tables.nodes g.tables.width g.tables.edges.items g.tables.paths.items g.tables.transposed.items };
+    ghost invariant = { λ g. KeepsAllPaths g.tables.nodes g.tables.width g.tables.edges.items g.tables.paths.items g.tables.transposed.items × IsNodeRow g.tables.nodes g.tables.width g.grown.items };
 }
 
 impl Graph {
-    /// The graph of the numbers below `nodes` without edges, or OutOfMemory where its tables don't fit.
+    /// The graph of the numbers below `nodes` without edges, settled, or OutOfMemory where its tables don't fit.
     pub fn new(alloc: Global, nodes: usize) -> Result<Graph, AllocError>
-        ensures { IfOk result (λ g. (g.nodes ≡ nodes) × ((x y : ℕ) → IsEdge g x y → ⊥)) }
+        ensures { IfOk result (λ g. (g.nodes ≡ nodes) × ((x y : ℕ) → IsEdge g x y → ⊥) × ((x : ℕ) → HasGrown g x → ⊥)) }
     {
         if nodes > u32::MAX as usize {
             return Err(AllocError);
@@ -55,13 +57,17 @@ impl Graph {
             paths: vec![in alloc; 0; size]?,
             transposed: vec![in alloc; 0; size]?,
         };
-        Ok(Graph { tables })
+        Ok(Graph {
+            tables,
+            grown: vec![in alloc; 0; width]?,
+        })
     }
 
-    /// The graph of the edges of these rows, as `new` and `add` make it, but faster where there are many edges.
+    /// The graph of the edges of these rows, settled. It is made faster than by `new` and `add` where there are many edges.
     /// OutOfMemory where an allocation was refused.
     pub fn of_rows(rows: EdgeRows) -> Result<Graph, AllocError>
-        ensures { IfOk result (λ g. g ≡ rows) }
+        ensures same { IfOk result (λ g. g ≡ rows) }
+        ensures settled { IfOk result (λ g. (x : ℕ) → HasGrown g x → ⊥) }
     {
         let (nodes, width, edges) = rows.into_table();
         let alloc = *edges.allocator();
@@ -83,7 +89,10 @@ impl Graph {
             paths,
             transposed,
         };
-        Ok(Graph { tables })
+        Ok(Graph {
+            tables,
+            grown: vec![in alloc; 0; width]?,
+        })
     }
 
     /// The number of numbers: each is below it.
@@ -105,17 +114,54 @@ impl Graph {
         ensures nodes { self.new.nodes ≡ self.old.nodes }
         ensures within { EdgesWithin self.new }
         ensures decided { (x y : ℕ) → Reaches (IsEdge self.new) x y ⊎ (Reaches (IsEdge self.new) x y → ⊥) }
+        ensures grown { (x : ℕ) → HasGrown self.new x ↔ (HasGrown self.old x ⊎ ReachesMore (IsEdge self.old) (IsEdge self.new) x) }
     {
         let tables = &mut self.tables;
         set_bit(&mut tables.edges, tables.width, u, v);
         if tables.has_path(u, v) {
             return;
         }
+        let transposed = BitTable {
+            words: &tables.transposed,
+            width: tables.width,
+        };
+        mark_grown(&mut self.grown, transposed, u, v);
         let size = Size {
             nodes: tables.nodes,
             width: tables.width,
         };
         join(&mut tables.paths, &mut tables.transposed, size, u, v);
+    }
+
+    /// Whether u has come to reach more numbers since the graph was made by `new` or `of_rows`, or last settled.
+    #[inline]
+    pub fn grew(&self, u: usize) -> bool
+        requires { u < self.now.nodes }
+        ensures { IsTrue result ↔ HasGrown self.now u }
+    {
+        let grown = BitTable {
+            words: &self.grown,
+            width: self.tables.width,
+        };
+        bit(grown, 0, u)
+    }
+
+    /// The numbers that have come to reach more since the graph was made or last settled, ascending. OutOfMemory where an
+    /// allocation was refused. It looks at one bit for each number, in words.
+    pub fn grown(&self) -> Result<Vec<usize>, AllocError>
+        ensures { IfOk result (λ list. IsListOf list.items (HasGrown self.now)) }
+    {
+        let list = marked(*self.grown.allocator(), &self.grown, self.tables.nodes)?;
+        Ok(list)
+    }
+
+    /// Settles the graph: from now on `grew` and `grown` tell of what is added after this call.
+    pub fn settle(&mut self)
+        ensures nodes { self.new.nodes ≡ self.old.nodes }
+        ensures edges { (x y : ℕ) → IsEdge self.new x y ↔ IsEdge self.old x y }
+        ensures settled { (x : ℕ) → HasGrown self.new x → ⊥ }
+    {
+        self.grown.fill(0);
     }
 
     /// Whether there is an edge from u to v.
@@ -126,16 +172,6 @@ impl Graph {
         ensures { IsTrue result ↔ IsEdge self.now u v }
     {
         self.tables.has_edge(u, v)
-    }
-
-    /// Whether there is an edge from u.
-    #[inline]
-    pub fn has_from(&self, u: usize) -> bool
-        requires { u < self.now.nodes }
-        ensures { IsTrue result ↔ ((v : ℕ) × IsEdge self.now u v) }
-    {
-        let edges = self.tables.edge_table();
-        first_shared(edges, u, edges.words, u, 0, edges.width).is_some()
     }
 
     /// Whether there is a path from u to v, of one or more edges.
@@ -191,7 +227,8 @@ impl Graph {
     pub fn edge_set(&self) -> Result<EdgeSet, AllocError>
         ensures { IfOk result (λ set. (set.nodes ≡ self.now.nodes) × ((x y : ℕ) → IsEdge set x y ↔ IsEdge self.now x y)) }
     {
-        EdgeSet::of_tables(*self.tables.edges.allocator(), self.tables.read())
+        let set = EdgeSet::of_tables(*self.tables.edges.allocator(), self.tables.read())?;
+        Ok(set)
     }
 
     /// The cycle with the fewest numbers, and of these the least list, which begins with its least number; None where

@@ -13,6 +13,7 @@ mod edge_rows;
 mod edge_sets;
 mod forward;
 mod graphs;
+mod grown;
 mod joining;
 mod kept_tables;
 mod path_search;

@@ -13,7 +13,7 @@ ghost use Rattle.round_pool.specs.RankGraphs.{IsRankGraph, AddsEdges};
 ghost use Rattle.round_pool.specs.Rankings.{IsRankingOf, rounds_of, ListsEdge, AreWithin};
 ghost use Rattle.tso_report.specs.Internal.Collecting.{AreNumbersBelow, IsReasonBelow, CollectsEdge, Collects, IsAboveRank, IsAboveOrBase};
 
-use order_graph::{EdgeSet, Graph};
+use order_graph::{EdgeRows, EdgeSet};
 use round_pool::{Edge, Ranked};
 use std::alloc::Global;
 use tso_cert::{CertStep, Certificate, NumList, Reason, StepList};
@@ -58,7 +58,7 @@ fn steps_of(
     ensures { IfOk result (λ steps. AreStepsOf trace.now (reverse steps.items) cycle.now) }
 {
     let mut set = ranked.last().edge_set()?;
-    let mut marks = Graph::new(alloc, set.nodes())?;
+    let mut marks = EdgeRows::new(alloc, set.nodes())?;
     mark_cycle(&mut marks, cycle.items());
     let mut steps = Vec::new(alloc);
     for r in (0..ranked.rounds() as usize).rev() {
@@ -70,7 +70,7 @@ fn steps_of(
 }
 
 /// Marks the neighbours in the path.
-fn mark_path(marks: &mut Graph, path: &[u64])
+fn mark_path(marks: &mut EdgeRows, path: &[u64])
     requires { AreNumbersBelow marks.old.nodes path.now }
     ensures { AddsEdges marks.old marks.new (AreNeighbours path.now) }
 {
@@ -80,7 +80,7 @@ fn mark_path(marks: &mut Graph, path: &[u64])
 }
 
 /// Marks the edges of the cycle.
-fn mark_cycle(marks: &mut Graph, cycle: &[u64])
+fn mark_cycle(marks: &mut EdgeRows, cycle: &[u64])
     requires { AreNumbersBelow marks.old.nodes cycle.now }
     ensures { AddsEdges marks.old marks.new (AreOnCycle cycle.now) }
 {
@@ -92,7 +92,7 @@ fn mark_cycle(marks: &mut Graph, cycle: &[u64])
 }
 
 /// Marks the edges that the justification uses.
-fn mark_used(marks: &mut Graph, reason: &Reason)
+fn mark_used(marks: &mut EdgeRows, reason: &Reason)
     requires { IsReasonBelow marks.old.nodes reason.now }
     ensures { AddsEdges marks.old marks.new (AreUsedBy reason.now) }
 {
@@ -118,7 +118,7 @@ fn collect_edge(
     alloc: Global,
     trace: &Trace,
     set: &EdgeSet,
-    marks: &mut Graph,
+    marks: &mut EdgeRows,
     steps: &mut Vec<CertStep>,
     u: usize,
     v: usize,
@@ -153,7 +153,7 @@ fn collect_round(
     ranked: &Ranked,
     r: usize,
     set: &EdgeSet,
-    marks: &mut Graph,
+    marks: &mut EdgeRows,
     steps: &mut Vec<CertStep>,
 ) -> Result<(), OutOfMemory>
     requires ranked { IsRankingOf trace.now ranked.now }
@@ -183,7 +183,7 @@ fn collect_round(
 }
 
 /// Adds the steps of the marked base edges, from the last to the first.
-fn collect_base(trace: &Trace, marks: &Graph, steps: &mut Vec<CertStep>) -> Result<(), OutOfMemory>
+fn collect_base(trace: &Trace, marks: &EdgeRows, steps: &mut Vec<CertStep>) -> Result<(), OutOfMemory>
     requires nodes { marks.now.nodes ≡ suc (event_total trace.now) }
     ensures steps { OnOk result ((k : ℕ) (cycle : List ℕ) →
         Collects trace.now k cycle (IsEdge marks.now) (IsAboveRank trace.now 0) (reverse steps.old.items) →
@@ -201,7 +201,7 @@ fn collect_base(trace: &Trace, marks: &Graph, steps: &mut Vec<CertStep>) -> Resu
 /// Adds the steps of the marked base edges from `u`, from the last to the first.
 fn collect_base_row(
     trace: &Trace,
-    marks: &Graph,
+    marks: &EdgeRows,
     steps: &mut Vec<CertStep>,
     u: usize,
 ) -> Result<(), OutOfMemory>

@@ -24,6 +24,11 @@ pub record KeepsAllPaths (nodes width : ℕ) (edges paths transposed : List ℕ)
   pub paths_transposed : AreTransposed paths transposed width nodes
   pub tells : (x y : ℕ) → x < nodes → y < nodes → IsSet paths width x y ↔ Reaches (Joined edges width nodes) x y
 
+-- A row of bits has a bit for some of the numbers below `nodes`, and for no other.
+pub record IsNodeRow (nodes width : ℕ) (row : List ℕ) : Type 0 where
+  pub sized : length row ≡ width
+  pub within : (x : ℕ) → x / 64 < width → IsSet row width 0 x → x < nodes
+
 -- A table of edges, and two that have at least its paths: row x of the first has what edges lead to from x and from the numbers of that row, and
 -- row y of the second has the numbers with a path to y.
 pub record Covers (nodes width : ℕ) (edges paths transposed : List ℕ) : Type 0 where

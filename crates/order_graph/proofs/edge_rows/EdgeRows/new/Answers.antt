@@ -9,4 +9,4 @@ invariant_of-result c =
 
 pub returns : goal.returns
 returns c =
-    (refl, sees_empty _ c.args.nodes c.div_ceil-width.result c.in_ok-vec.field-0.items (record { is = refl }) (c.in_ok-vec.ensures.items_if_clones_equal (λ y e. e)))
+    (refl, sees_empty _ c.args.nodes c.div_ceil-width.result c.in_ok-vec.field-0.items (record { grown = _; is = refl }) (c.in_ok-vec.ensures.items_if_clones_equal (λ y e. e)))

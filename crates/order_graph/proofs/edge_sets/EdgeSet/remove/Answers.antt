@@ -15,4 +15,4 @@ returns-clause-edges c = λ x y.
     let g = c.self.inside in
     let loses = rw c.deref_mut.ensures.value at c.clear_bit.ensures in
     rw (take_at c.clear_bit.new.table _ g.tables.edges.len (omega arith)) (sees_less c.args.self.now _ g.tables.nodes g.tables.width g.tables.edges.items c.clear_bit.new.table c.args.u c.args.v
-    (record { is = c.self.view_is }) (record { is = refl }) c.self.invariant.fits loses x y)
+    (record { grown = _; is = c.self.view_is }) (record { grown = _; is = refl }) c.self.invariant.fits loses x y)

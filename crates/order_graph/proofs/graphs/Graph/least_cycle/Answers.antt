@@ -23,6 +23,6 @@ returns c =
     let t = c.read-tables.result in
     let same : (x y : ℕ) → IsEdge c.args.self.now x y ↔ Joined t.edges.now t.width t.nodes x y =
     rw (c.read-tables.ensures.nodes, c.read-tables.ensures.width, c.read-tables.ensures.edges)
-    (sees_edge c.args.self.now g.tables.nodes g.tables.width g.tables.edges.items (record { is = c.self.view_is })) in
+    (sees_edge c.args.self.now g.tables.nodes g.tables.width g.tables.edges.items (record { grown = _; is = c.self.view_is })) in
     last_start (λ v. v.items) (Joined t.edges.now t.width t.nodes) (IsEdge c.args.self.now) t.nodes c.loop-start.start c.loop-start.best
     same (λ x y e. e.1) (omega arith) c.loop-start.invariant.0
