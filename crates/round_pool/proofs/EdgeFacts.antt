@@ -1,9 +1,9 @@
 -- Lemmas on the edges of rows.
 use Rattle.std.proofs.Common.{◌≡◌, inl, inr, ⊎_elim, ℕ, suc, ◌+◌, ◌-◌, ◌<◌, ◌≤◌, List, [], ◌∷◌, ◌++◌, length, map, get_or, take, refl, sym, ap, ◌∙◌, subst, arith}
-use Rattle.std.specs.Prelude.{Contains}
+use Rattle.std.specs.Prelude.{Contains, All, AllPairs}
 use Rattle.std.proofs.lemmas.Bool.{cases_lt}
-use Rattle.std.proofs.lemmas.List.{append_assoc, append-nil, length-take, take_more, get_or-map, get_or_past, length-map}
-use Rattle.std.proofs.lemmas.List.Elements.{Contains-append_left, Contains-append_right, Contains-append_cases}
+use Rattle.std.proofs.lemmas.List.{append_assoc, append-nil, length-take, take_more, get_or-map, get_or_past, get_or_default, length-map}
+use Rattle.std.proofs.lemmas.List.Elements.{Contains-append_left, Contains-append_right, Contains-append_cases, Contains-get_or}
 use Rattle.order_graph.specs.Digraphs.{Digraph, IsEdge}
 use Rattle.tso_ops.specs.Values.{TraceValue}
 use Rattle.tso_ops.specs.Events.{event_total}
@@ -11,10 +11,11 @@ use Rattle.tso_model.specs.NewEdges.{IsNew}
 use Rattle.tso_model.proofs.NewEdgeFacts.{new_within}
 use Rattle.bitsets.specs.Rows.{IsAscending as IsAscendingRow}
 use Rattle.round_pool.specs.declared.ranked.Edge.{Edge}
-use Rattle.round_pool.specs.Internal.SharedRows.{AreRoundRows}
-use Rattle.round_pool.specs.Internal.EdgeLists.{edges_of_rows, AreNewEdges}
+use Rattle.round_pool.specs.Internal.ClaimedRows.{AreRowsOf}
+use Rattle.round_pool.specs.Internal.EdgeLists.{AreEdgesOf, AreNewEdges, AreAscendingBelow}
+use Rattle.round_pool.specs.Internal.Worksets.{IsWorkset}
 use Rattle.round_pool.specs.Rankings.{ListsEdge, IsEdgeBefore, AreEdgesAscending, edge_from}
-use Rattle.round_pool.proofs.GraphFacts.{no_new_from_init, empty_list}
+use Rattle.round_pool.proofs.GraphFacts.{empty_list}
 
 -- ---- the edges of one row
 
@@ -36,55 +37,6 @@ row_ascends u (v ∷ row) ascends = (λ other has. inr (sym (row_edge u row othe
 
 -- ---- the edges of rows
 
--- the edges of one list of rows and then of another
-pub edges_of_rows-append : (first : ℕ) (rows more : List (List ℕ)) → edges_of_rows first (rows ++ more) ≡ edges_of_rows first rows ++ edges_of_rows (first + length rows) more
-edges_of_rows-append first [] more = let same : first ≡ first + 0 = omega arith in ap (λ n. edges_of_rows n more) same
-edges_of_rows-append first (row ∷ rows) more =
-    let same : suc first + length rows ≡ first + suc (length rows) = omega arith in
-    ap (λ edges. map (edge_from first) row ++ edges) (edges_of_rows-append (suc first) rows more ∙ ap (λ n. edges_of_rows (suc first) rows ++ edges_of_rows n more) same)
-    ∙ sym (append_assoc (map (edge_from first) row) (edges_of_rows (suc first) rows) (edges_of_rows (first + suc (length rows)) more))
-
--- the edges of one row more
-pub edges_of_rows-more : (first i : ℕ) (rows : List (List ℕ)) (row : List ℕ) → i < length rows → row ≡ get_or rows i [] →
-    edges_of_rows first (take (i + 1) rows) ≡ edges_of_rows first (take i rows) ++ map (edge_from (first + i)) row
-edges_of_rows-more first i rows row inside is =
-    ap (edges_of_rows first) (take_more rows i [] inside) ∙ edges_of_rows-append first (take i rows) (get_or rows i [] ∷ [])
-    ∙ ap (λ n. edges_of_rows first (take i rows) ++ edges_of_rows (first + n) (get_or rows i [] ∷ [])) size
-    ∙ ap (λ l. edges_of_rows first (take i rows) ++ l) (append-nil (map (edge_from (first + i)) (get_or rows i [])) ∙ ap (map (edge_from (first + i))) (sym is))
-  where
-    size : length (take i rows) ≡ i
-    size = let taken = length-take i rows in omega (arith, taken, inside)
-
--- an edge of rows stands in the row of its first number
-pub edge_in_rows : (first : ℕ) (rows : List (List ℕ)) (e : Edge) → Contains (edges_of_rows first rows) e → (first ≤ e.from) × Contains (get_or rows (e.from - first) []) e.to
-edge_in_rows first [] e has = absurd (let low : has.0 < 0 = has.1 in omega arith)
-edge_in_rows first (row ∷ rows) e has = ⊎_elim
-    (λ (here : Contains (map (edge_from first) row) e).
-    let found = row_edge first row e here in
-    let at : e.from ≡ first = found.0 in
-    let none : 0 ≡ e.from - first = omega (arith, at) in
-    (omega (arith, at), subst (λ n. Contains (get_or (row ∷ rows) n []) e.to) none found.1))
-    (λ (later : Contains (edges_of_rows (suc first) rows) e).
-    let found = edge_in_rows (suc first) rows e later in
-    let from : suc first ≤ e.from = found.0 in
-    let place : suc (e.from - suc first) ≡ e.from - first = omega (arith, from) in
-    (omega (arith, from), subst (λ n. Contains (get_or (row ∷ rows) n []) e.to) place found.1))
-    (Contains-append_cases (map (edge_from first) row) (edges_of_rows (suc first) rows) e has)
-
-pub row_in_edges : (first : ℕ) (rows : List (List ℕ)) (u v : ℕ) → first ≤ u → Contains (get_or rows (u - first) []) v → ListsEdge (edges_of_rows first rows) u v
-row_in_edges first [] u v from has = absurd (empty_list v has)
-row_in_edges first (row ∷ rows) u v from has = ⊎_elim
-    (λ (past : first < u).
-    let place : u - first ≡ suc (u - suc first) = omega (arith, past) in
-    Contains-append_right (map (edge_from first) row) (edges_of_rows (suc first) rows) (edge_from u v)
-    (row_in_edges (suc first) rows u v (omega (arith, past)) (subst (λ n. Contains (get_or (row ∷ rows) n []) v) place has)))
-    (λ (low : u ≤ first).
-    let none : u - first ≡ 0 = omega (arith, low) in
-    let at : first ≡ u = omega (arith, low, from) in
-    Contains-append_left (map (edge_from first) row) (edges_of_rows (suc first) rows) (edge_from u v)
-    (subst (λ n. ListsEdge (map (edge_from n) row) u v) (sym at) (edge_row u v row (subst (λ n. Contains (get_or (row ∷ rows) n []) v) none has))))
-    (cases_lt first u)
-
 -- two ascending lists, of which each edge of the first stands before those of the second
 ascending_join : (edges more : List Edge) → AreEdgesAscending edges → AreEdgesAscending more → ((d e : Edge) → Contains edges d → Contains more e → IsEdgeBefore d e) → AreEdgesAscending (edges ++ more)
 ascending_join [] more first second before = second
@@ -96,32 +48,66 @@ ascending_join (d ∷ edges) more first second before = (
   ascending_join edges more first.1 second (λ c e has there. before c e (Contains-append_right (d ∷ []) edges c has) there),
 )
 
--- the edges of rows that ascend are ascending
-pub edges_ascend : (first : ℕ) (rows : List (List ℕ)) → ((i : ℕ) → i < length rows → IsAscendingRow (get_or rows i [])) → AreEdgesAscending (edges_of_rows first rows)
-edges_ascend first [] each = tt
-edges_ascend first (row ∷ rows) each =
-    ascending_join (map (edge_from first) row) (edges_of_rows (suc first) rows) (row_ascends first row (each 0 (omega arith))) (edges_ascend (suc first) rows (λ i low. each (suc i) (omega (arith, low))))
-    (λ d e here there. (let at = (row_edge first row d here).0 in let past = (edge_in_rows (suc first) rows e there).0 in inl (omega (arith, at, past))))
+-- no row is passed at first
+pub edges_none : (numbers : List ℕ) (rows : List (List ℕ)) (edges : List Edge) → edges ≡ [] → AreEdgesOf numbers rows 0 edges
+edges_none numbers rows edges none = subst (AreEdgesOf numbers rows 0) (sym none) record {
+  all = λ k v low has. absurd (omega arith);
+  only = λ u v has. absurd (empty_list (edge_from u v) has);
+  ascending = tt;
+}
+
+-- the edges of one row more
+pub edges_row : (numbers : List ℕ) (rows : List (List ℕ)) (i : ℕ) (edges new : List Edge) (row : List ℕ) → AreEdgesOf numbers rows i edges → AllPairs (λ x y. x < y) numbers → i < length numbers →
+    row ≡ get_or rows i [] → IsAscendingRow row → new ≡ edges ++ map (edge_from (get_or numbers i 0)) row → AreEdgesOf numbers rows (i + 1) new
+edges_row numbers rows i edges new row are ascending inside is ascends same = subst (AreEdgesOf numbers rows (i + 1)) (sym same) record {
+  all = λ k v low has. elim (cases_lt k i) [
+    | inl before ↦ Contains-append_left edges more (edge_from (get_or numbers k 0) v) (are.all k v before has)
+    | inr past ↦ (let at : k ≡ i = omega (arith, low, past) in
+        Contains-append_right edges more (edge_from (get_or numbers k 0) v)
+        (subst (λ n. ListsEdge more (get_or numbers n 0) v) (sym at) (edge_row (get_or numbers i 0) v row (subst (λ r. Contains r v) (sym is) (subst (λ n. Contains (get_or rows n []) v) at has)))))
+  ];
+  only = λ u v has. elim (Contains-append_cases edges more (edge_from u v) has) [
+    | inl before ↦ (let found = are.only u v before in (found.0, omega (arith, found.1), found.2, found.3))
+    | inr here ↦ (let found = row_edge (get_or numbers i 0) row (edge_from u v) here in (i, omega arith, sym found.0, subst (λ r. Contains r v) is found.1))
+  ];
+  ascending = ascending_join edges more are.ascending (row_ascends (get_or numbers i 0) row ascends) (λ d e here there.
+      let found = are.only d.from d.to here in
+      let at = row_edge (get_or numbers i 0) row e there in
+      let less = ascending found.0 i 0 found.1 inside in
+      inl (omega (arith, less, found.2, at.0)));
+}
+  where
+    more : List Edge
+    more = map (edge_from (get_or numbers i 0)) row
 
 -- ---- the edges of a round
 
--- the edges of the rows that a round adds are those that it adds
-pub round_rows : (t : TraceValue) (g : Digraph) (rows : List (List ℕ)) → AreRoundRows t g 1 (event_total t) rows → AreNewEdges t g (edges_of_rows 1 rows)
-round_rows t g rows are = record {
-  all = λ u v new. (let some = above u v new in let within = (new_within t (IsEdge g) u v new).0 in let at : u ≡ 1 + (u - 1) = omega (arith, some) in
-      row_in_edges 1 rows u v some ((are.row (u - 1) (omega (arith, some, within))).all v (subst (λ n. IsNew t (IsEdge g) n v) at new)));
-  only = λ u v has. (let found = edge_in_rows 1 rows (edge_from u v) has in row_new u v found.0 found.1);
-  ascending = edges_ascend 1 rows (λ i low. (are.row i (let size = are.count_is in omega (arith, low, size))).ascending);
+-- the edges of the rows of a workset are those that a round adds
+pub workset_edges : (t : TraceValue) (g : Digraph) (numbers : List ℕ) (rows : List (List ℕ)) (edges : List Edge) → IsWorkset t g numbers → AreRowsOf t g numbers rows →
+    AreEdgesOf numbers rows (length numbers) edges → AreNewEdges t g edges
+workset_edges t g numbers rows edges workset are lists = record {
+  all = λ u v new. (let at = workset.whole u v new in
+      let low : at.0 < length numbers = at.1 in
+      let same : get_or numbers at.0 0 ≡ u = get_or_default numbers at.0 0 u low ∙ at.2 in
+      subst (λ n. ListsEdge edges n v) same (lists.all at.0 v low ((are.row at.0 low).all v (subst (λ n. IsNew t (IsEdge g) n v) (sym same) new))));
+  only = λ u v has. (let found = lists.only u v has in subst (λ n. IsNew t (IsEdge g) n v) found.2 ((are.row found.0 found.1).only v found.3));
+  ascending = lists.ascending;
+}
+
+-- the rows of numbers ascend, and lie within the graph
+pub rows_ascend : (t : TraceValue) (g : Digraph) (numbers : List ℕ) (rows : List (List ℕ)) (bound : ℕ) → AreRowsOf t g numbers rows → event_total t < bound → AreAscendingBelow bound rows
+rows_ascend t g numbers rows bound are most = record {
+  ascending = λ k. elim (cases_lt k (length numbers)) [ inl low ↦ (are.row k low).ascending | inr past ↦ subst IsAscendingRow (sym (none k past)) tt ];
+  below = λ k v has. elim (cases_lt k (length numbers)) [
+    | inl low ↦ (let within = (new_within t (IsEdge g) (get_or numbers k 0) v ((are.row k low).only v has)).1 in omega (arith, within, most))
+    | inr past ↦ absurd (empty_list v (subst (λ r. Contains r v) (none k past) has))
+  ];
 }
   where
-    above : (u v : ℕ) → IsNew t (IsEdge g) u v → 1 ≤ u
-    above u v new = ⊎_elim
-        (λ (none : u < 1). absurd (let at : u ≡ 0 = omega (arith, none) in no_new_from_init t (IsEdge g) v (subst (λ n. IsNew t (IsEdge g) n v) at new)))
-        (λ (some : 1 ≤ u). some)
-        (cases_lt u 1)
+    none : (k : ℕ) → length numbers ≤ k → get_or rows k [] ≡ []
+    none k past = get_or_past rows k [] (omega (arith, are.count_is, past))
 
-    row_new : (u v : ℕ) → 1 ≤ u → Contains (get_or rows (u - 1) []) v → IsNew t (IsEdge g) u v
-    row_new u v some has = ⊎_elim
-        (λ (low : u - 1 < event_total t). let at : 1 + (u - 1) ≡ u = omega (arith, some) in subst (λ n. IsNew t (IsEdge g) n v) at ((are.row (u - 1) low).only v has))
-        (λ (past : event_total t ≤ u - 1). let size = are.count_is in absurd (empty_list v (subst (λ r. Contains r v) (get_or_past rows (u - 1) [] (omega (arith, size, past))) has)))
-        (cases_lt (u - 1) (event_total t))
+-- the numbers of a workset lie below what is above the number of events
+pub numbers_below : (t : TraceValue) (g : Digraph) (numbers : List ℕ) (bound : ℕ) → IsWorkset t g numbers → event_total t < bound → All (λ u. u < bound) numbers
+numbers_below t g numbers bound workset most = λ k d low.
+    let most_k = workset.within (get_or numbers k d) (Contains-get_or numbers k d low) in omega (arith, most_k, most)

@@ -19,7 +19,6 @@ use Rattle.tso_ops.proofs.NumberFacts.{event_above_zero, store_event, load_event
 use Rattle.tso_ops.proofs.TableFacts.{source_load}
 use Rattle.tso_model.proofs.NewEdgeFacts.{new_within}
 use Rattle.round_pool.specs.declared.ranked.Edge.{Edge}
-use Rattle.round_pool.specs.Internal.SharedRows.{AreRoundRows, AreRowsBelow}
 use Rattle.round_pool.specs.RankGraphs.{IsRankGraph, AddsEdges}
 use Rattle.round_pool.specs.Rankings.{ListsEdge, edge_from}
 
@@ -57,30 +56,6 @@ rows_whole t g n rows all = record {
 pub empty_list : {X : Type 0} (y : X) → Contains [] y → ⊥
 empty_list y has = let low : has.0 < 0 = has.1 in omega arith
 
--- the rows computed so far, and one more
-pub rows_none : (t : TraceValue) (g : Digraph) (first : ℕ) → AreRoundRows t g first 0 []
-rows_none t g first = record { count_is = refl; row = λ i low. absurd (omega arith) }
-
-pub rows_pushed : (t : TraceValue) (g : Digraph) (first n : ℕ) (rows : List (List ℕ)) (row : List ℕ) → AreRoundRows t g first n rows → IsListOf row (IsNew t (IsEdge g) (first + n)) →
-    AreRoundRows t g first (n + 1) (rows ++ row ∷ [])
-rows_pushed t g first n rows row are is = record {
-  count_is = omega (arith, are.count_is, length-append rows (row ∷ []));
-  row = λ i low. ⊎_elim
-      (λ (before : i < n). let size = are.count_is in subst (λ r. IsListOf r (IsNew t (IsEdge g) (first + i))) (sym (get_or_append_left rows (row ∷ []) [] i (omega (arith, before, size)))) (are.row i before))
-      (λ (at : n ≤ i). let same : i ≡ n = omega (arith, at, low) in
-      subst (λ k. IsListOf (get_or (rows ++ row ∷ []) k []) (IsNew t (IsEdge g) (first + k))) (sym same) (subst (λ r. IsListOf r (IsNew t (IsEdge g) (first + n))) (sym (get_or_at rows row [] [] n are.count_is)) is))
-      (cases_lt i n);
-}
-
--- the numbers of the rows lie within the graph
-pub rows_below : (t : TraceValue) (g : Digraph) (first n : ℕ) (rows : List (List ℕ)) → AreRoundRows t g first n rows → AreRowsBelow (suc (event_total t)) rows
-rows_below t g first n rows are = record {
-  below = λ i v has. ⊎_elim
-      (λ (low : i < n). (new_within t (IsEdge g) (first + i) v ((are.row i low).only v has)).1)
-      (λ (past : n ≤ i). absurd (empty_list v (subst (λ r. Contains r v) (get_or_past rows i [] (omega (arith, are.count_is, past))) has)))
-      (cases_lt i n);
-}
-
 -- no rule gives an edge from `init`
 pub no_new_from_init : (t : TraceValue) (Edge : ℕ → ℕ → Type 0) (v : ℕ) → IsNew t Edge 0 v → ⊥
 no_new_from_init t Edge v new = from_init t new.0.0 new.0.1 v new.0.2 new.0.3 new.0.4
@@ -91,28 +66,11 @@ no_new_from_init t Edge v new = from_init t new.0.0 new.0.1 v new.0.2 new.0.3 ne
     from_init t SwapBefore l v x y by = let low = event_above_zero t 0 (store_event t 0 by.2) in omega (arith, low)
     from_init t SwapAfter l v x y by = let at = by.1 in omega (arith, at)
 
--- numbers below one number are below a greater
-pub rows_narrow : (m n : ℕ) (rows : List (List ℕ)) → m ≤ n → AreRowsBelow m rows → AreRowsBelow n rows
-rows_narrow m n rows most below = record { below = λ i v has. (let low = below.below i v has in omega (arith, low, most)) }
-
 -- the list that a vector of a list holds
 pub row_at : {X : Type 0} (vectors : List (Vec X)) (i : ℕ) (v : Vec X) → i < length vectors → v ≡ get_or vectors i v → v.items ≡ get_or (rows vectors) i []
 row_at [] i v low is = absurd (omega arith)
 row_at {X} (w ∷ vectors) zero v low is = ap (λ (u : Vec X). u.items) is
 row_at (w ∷ vectors) (suc i) v low is = row_at vectors i v (omega arith) is
-
--- the rows of two runs, of which the second begins where the first ends
-pub rows_joined : (t : TraceValue) (g : Digraph) (first m n : ℕ) (rows more : List (List ℕ)) → AreRoundRows t g first m rows → AreRoundRows t g (first + m) n more → AreRoundRows t g first (m + n) (rows ++ more)
-rows_joined t g first m n rows more are next = record {
-  count_is = omega (arith, are.count_is, next.count_is, length-append rows more);
-  row = λ i low. ⊎_elim
-      (λ (before : i < m). let size = are.count_is in subst (λ r. IsListOf r (IsNew t (IsEdge g) (first + i))) (sym (get_or_append_left rows more [] i (omega (arith, before, size)))) (are.row i before))
-      (λ (past : m ≤ i).
-      let place : first + m + (i - m) ≡ first + i = omega (arith, past) in
-      let here : get_or (rows ++ more) i [] ≡ get_or more (i - m) [] = get_or-append_right rows more m i [] are.count_is past in
-      subst (λ r. IsListOf r (IsNew t (IsEdge g) (first + i))) (sym here) (subst (λ n. IsListOf (get_or more (i - m) []) (IsNew t (IsEdge g) n)) place (next.row (i - m) (omega (arith, past, low)))))
-      (cases_lt i m);
-}
 
 -- ---- edges that are added
 

@@ -1,9 +1,9 @@
 -- Lemmas on rounds: what each adds, and when they end.
-use Rattle.std.proofs.Common.{◌≡◌, ◌⊎◌, inl, inr, ⊎_elim, ℕ, suc, ◌+◌, ◌<◌, List, [], ◌∷◌, ◌++◌, length, get_or, refl, sym, ◌∙◌, subst, arith}
+use Rattle.std.proofs.Common.{◌≡◌, ◌⊎◌, ◌↔◌, inl, inr, ⊎_elim, ℕ, suc, ◌+◌, ◌<◌, List, [], ◌∷◌, ◌++◌, length, get_or, refl, sym, ◌∙◌, subst, arith}
 use Rattle.std.proofs.lemmas.List.{length-append, get_or_append_left, get_or_at}
 use borrow.Author.Count.{below_more}
 use Rattle.order_paths.specs.Paths.{Reaches, HasCycle}
-use Rattle.order_paths.proofs.Reach.{Reaches-edge, HasCycle-mono, HasCycle-iff, Reaches-below}
+use Rattle.order_paths.proofs.Reach.{Reaches-edge, Reaches-mono, HasCycle-mono, HasCycle-iff, Reaches-below}
 use Rattle.order_graph.specs.Digraphs.{Digraph, IsEdge}
 use Rattle.tso_ops.specs.Values.{TraceValue}
 use Rattle.tso_ops.specs.Events.{IsUnwritten}
@@ -14,6 +14,8 @@ use Rattle.tso_model.proofs.LastRankSet.{before_last}
 use Rattle.round_pool.specs.declared.ranked.Edge.{Edge}
 use Rattle.round_pool.specs.RankGraphs.{IsRankGraph, AddsEdges}
 use Rattle.round_pool.specs.Internal.EdgeLists.{AreNewEdges}
+use Rattle.round_pool.specs.Internal.Worksets.{OnlyGrown, FollowsRound, ClosesCycle}
+use Rattle.round_pool.proofs.WorksetFacts.{cycle_closed, closed_cycle}
 use Rattle.round_pool.specs.Rankings.{ListsEdge, IsRound, IsRankingOf}
 
 -- What is known before each round: the graph is that of a rank set, each round before added what the next rank set has more, and no rank set
@@ -23,6 +25,10 @@ pub record AreRoundsMade (t : TraceValue) (g : Digraph) (added : List (List Edge
   pub each : (k : ℕ) → k < length added → IsRound t k (get_or added k [])
   pub acyclic : (j : ℕ) → j < length added → HasCycle (RankSet t j) → ⊥
   pub unfinished : (j : ℕ) → j < length added → IsLast t j → ⊥
+
+-- the graph has no cycle
+pub record IsAcyclic (g : Digraph) : Type 0 where
+  pub none : HasCycle (IsEdge g) → ⊥
 
 -- before the first round
 pub made_none : (t : TraceValue) (g : Digraph) → IsRankGraph t 0 g → AreRoundsMade t g []
@@ -93,6 +99,40 @@ made_more t g new added edges made no_cycle fresh some decided adds = record {
     size : length (added ++ edges ∷ []) ≡ length added + 1
     size = omega (arith, length-append added (edges ∷ []))
 
+-- What a round makes of the graph: the rounds made with it, the graph that follows, and the edges added.
+pub record RoundStep (t : TraceValue) (g new : Digraph) (added : List (List Edge)) (edges : List Edge) : Type 0 where
+  pub made : AreRoundsMade t new (added ++ edges ∷ [])
+  pub follows : FollowsRound t (length added) g new
+  pub adds : AddsEdges g new (ListsEdge edges)
+
+-- a round that adds an edge to the graph, which is settled before
+pub round_step : (t : TraceValue) (g settled new : Digraph) (added : List (List Edge)) (edges : List Edge) → AreRoundsMade t g added → IsAcyclic g → AreNewEdges t g edges → 0 < length edges →
+    ((u v : ℕ) → RankSet t (length added) u v ⊎ (RankSet t (length added) u v → ⊥)) → settled.nodes ≡ g.nodes → ((x y : ℕ) → IsEdge settled x y ↔ IsEdge g x y) →
+    AddsEdges settled new (ListsEdge edges) → OnlyGrown (IsEdge settled) new → RoundStep t g new added edges
+round_step t g settled new added edges made acyclic fresh some decided same_nodes same adds_settled only = record {
+  made = made_more t g new added edges made acyclic.none fresh some decided adds;
+  follows = record {
+    ranked = made.graph;
+    kept = λ x y e. (adds.edges x y).1 (inl e);
+    added = λ u v more. (adds.edges u v).1 (inr (fresh.all u v more));
+    grown = λ x more none. only x (more.0, more.1, λ path. more.2 (Reaches-mono (IsEdge settled) (IsEdge g) (λ a b e. (same a b).0 e) x more.0 path)) none;
+  };
+  adds = adds;
+}
+  where
+    adds : AddsEdges g new (ListsEdge edges)
+    adds = record {
+      nodes = adds_settled.nodes ∙ same_nodes;
+      edges = λ x y. (
+        λ e. elim ((adds_settled.edges x y).0 e) [ inl before ↦ inl ((same x y).0 before) | inr now ↦ inr now ],
+        λ e. (adds_settled.edges x y).1 (elim e [ inl before ↦ inl ((same x y).1 before) | inr now ↦ inr now ]),
+      );
+    }
+
+-- the graph has no cycle after a round whose edges close none
+pub still_acyclic : (t : TraceValue) (g new : Digraph) (added : List (List Edge)) (edges : List Edge) → RoundStep t g new added edges → IsAcyclic g → (ClosesCycle new (ListsEdge edges) → ⊥) → IsAcyclic new
+still_acyclic t g new added edges step acyclic unclosed = record { none = λ cycle. unclosed (cycle_closed g new (ListsEdge edges) step.adds acyclic.none cycle) }
+
 -- the rounds end with a cycle
 pub made_with_cycle : (t : TraceValue) (g : Digraph) (added : List (List Edge)) → AreRoundsMade t g added → ((l : ℕ) → IsUnwritten t l → ⊥) → HasCycle (IsEdge g) →
     IsRankingOf t (record { last = g; added = added })
@@ -101,6 +141,12 @@ made_with_cycle t g added made written cycle = record {
   last = made.graph;
   each = made.each;
 }
+
+-- as after a round of which an edge closes one
+pub made_then_cycle : (t : TraceValue) (g new : Digraph) (added more : List (List Edge)) (edges : List Edge) → RoundStep t g new added edges → ((l : ℕ) → IsUnwritten t l → ⊥) →
+    ClosesCycle new (ListsEdge edges) → more ≡ added ++ edges ∷ [] → IsRankingOf t (record { last = new; added = more })
+made_then_cycle t g new added more edges step written closes is =
+    made_with_cycle t new more (subst (λ l. AreRoundsMade t new l) (sym is) step.made) written (closed_cycle g new (ListsEdge edges) step.adds closes)
 
 -- or with a round that adds nothing
 pub made_without_cycle : (t : TraceValue) (g : Digraph) (added : List (List Edge)) (edges : List Edge) → AreRoundsMade t g added → ((l : ℕ) → IsUnwritten t l → ⊥) →

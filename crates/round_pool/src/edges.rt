@@ -1,20 +1,20 @@
 //! The edges that a round adds.
-ghost use Rattle.std.specs.Prelude.{◌≡◌, ◌+◌, ◌<◌, ◌≤◌, ◌++◌, ℕ, length, map, All, IfOk, OnOk};
+ghost use Rattle.std.specs.Prelude.{◌≡◌, ◌+◌, ◌*◌, ◌<◌, ◌≤◌, ◌++◌, ℕ, length, map, All, AllPairs, IfOk, OnOk};
 ghost use Rattle.tso_ops.specs.Values.{rows};
-ghost use Rattle.round_pool.specs.Internal.SharedRows.{AreRowsBelow};
-ghost use Rattle.round_pool.specs.Internal.EdgeLists.{AreNewEdges, edges_of_rows};
+ghost use Rattle.bitsets.specs.Rows.{IsAscending as IsAscendingRow};
+ghost use Rattle.round_pool.specs.Internal.EdgeLists.{AreNewEdges, AreEdgesOf, AreAscendingBelow};
+ghost use Rattle.round_pool.specs.Internal.Worksets.{IsWorkset};
 ghost use Rattle.round_pool.specs.Rankings.{edge_from};
 ghost use Rattle.round_pool.specs.Workers.{worker_limit};
 
+use crate::claimed_rows::{RowInput, rows_by_claims};
 use crate::faults::PoolFault;
 use crate::gates::PoolGate;
 use crate::ranked::Edge;
-use crate::workers::shared_rows;
-use order_graph::Graph;
 use std::alloc::Global;
 use std::sync::Wait;
 use std::thread::Threads;
-use tso_ops::{OutOfMemory, Trace};
+use tso_ops::OutOfMemory;
 
 /// The edge from `u` to `v`.
 fn edge_of(u: usize, v: usize) -> Edge
@@ -40,34 +40,38 @@ fn push_row(edges: &mut Vec<Edge>, u: usize, row: &[usize]) -> Result<(), OutOfM
     Ok(())
 }
 
-/// The edges of rows, of which row `i` is that of number `i + 1`.
-fn edges_of(alloc: Global, made: &[Vec<usize>]) -> Result<Vec<Edge>, OutOfMemory>
-    requires few { length made.now < 65535 }
-    requires below { AreRowsBelow 65536 (rows made.now) }
-    ensures { IfOk result (λ edges. edges.items ≡ edges_of_rows 1 (rows made.now)) }
+/// The edges from these numbers, each to the numbers of its row.
+fn edges_of(alloc: Global, numbers: &[usize], made: &[Vec<usize>]) -> Result<Vec<Edge>, OutOfMemory>
+    requires count { length made.now ≡ length numbers.now }
+    requires ascending { AllPairs (λ x y. x < y) numbers.now }
+    requires below { All (λ u. u < 65536) numbers.now }
+    requires rows { AreAscendingBelow 65536 (rows made.now) }
+    ensures { IfOk result (λ edges. AreEdgesOf numbers.now (rows made.now) (length numbers.now) edges.items) }
 {
     let mut edges = Vec::new(alloc);
     for (i, row) in made.iter().enumerate() {
-        push_row(&mut edges, i + 1, row)?;
+        push_row(&mut edges, numbers[i], row)?;
     }
     Ok(edges)
 }
 
-/// The edges that a round adds to the graph of a rank set, in ascending order; its rows are shared among `workers`
-/// threads, 1 to 64.
+/// The edges that a round adds to the graph of a rank set, in ascending order, where all of them lead from these numbers.
+/// The rows of the numbers are shared among `workers` threads, 1 to 64, of which the caller's is one.
 pub fn round_edges<H: Threads + Wait, G: PoolGate + Sync>(
     rt: &H,
     alloc: Global,
-    trace: &Trace,
-    graph: &Graph,
-    workers: usize,
+    input: RowInput<'_>,
     gate: &G,
+    workers: usize,
+    numbers: &[usize],
 ) -> Result<Vec<Edge>, PoolFault>
+    requires workset { IsWorkset input.trace.now input.graph.now numbers.now }
     requires some { 1 ≤ workers }
     requires most { workers ≤ worker_limit }
-    ensures { IfOk result (λ edges. AreNewEdges trace.now graph.now edges.items) }
+    ensures { IfOk result (λ edges. AreNewEdges input.entry.trace.now input.entry.graph.now edges.items) }
 {
-    let _events = trace.events();
-    let made = shared_rows(rt, alloc, trace, graph, gate, workers)?;
-    Ok(edges_of(alloc, &made)?)
+    let _events = input.trace.events();
+    let made = rows_by_claims(rt, alloc, input, gate, workers, numbers)?;
+    let edges = edges_of(alloc, numbers, &made)?;
+    Ok(edges)
 }

@@ -1,5 +1,7 @@
 //! Graphs of rank sets.
 ghost use Rattle.std.specs.Prelude.{◌≡◌, ◌<◌, ℕ, Contains, IfOk};
+ghost use Rattle.order_graph.specs.Digraphs.{IsEdge};
+ghost use Rattle.round_pool.specs.Internal.Worksets.{OnlyGrown};
 ghost use Rattle.round_pool.specs.RankGraphs.{IsRankGraph, AddsEdges};
 ghost use Rattle.round_pool.specs.Rankings.{ListsEdge, AreWithin};
 
@@ -22,10 +24,11 @@ pub fn base_graph(alloc: Global, trace: &Trace) -> Result<Graph, OutOfMemory>
     Ok(Graph::of_rows(rows)?)
 }
 
-/// Adds these edges.
+/// Adds these edges. What reaches more by them has grown in the graph then.
 pub fn add_edges(graph: &mut Graph, edges: &[Edge])
     requires { AreWithin graph.old.nodes edges.now }
-    ensures { AddsEdges graph.old graph.new (ListsEdge edges.now) }
+    ensures edges { AddsEdges graph.old graph.new (ListsEdge edges.now) }
+    ensures grown { OnlyGrown (IsEdge graph.old) graph.new }
 {
     for edge in edges {
         graph.add(edge.from as usize, edge.to as usize);

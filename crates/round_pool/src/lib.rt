@@ -9,6 +9,7 @@ pub use ranked::{Edge, Ranked};
 pub use round_loop::{MAX_WORKERS, rounds};
 
 mod answers;
+mod claimed_rows;
 mod claims;
 mod edges;
 mod faults;
@@ -18,4 +19,4 @@ mod ranked;
 mod round_loop;
 #[cfg(test)]
 mod tests;
-mod workers;
+mod worksets;

@@ -3,14 +3,17 @@ ghost use Rattle.std.specs.Prelude.{◌≡◌, ◌↔◌, ◌≤◌, ℕ, IsTrue
 ghost use Rattle.order_paths.specs.Paths.{HasCycle};
 ghost use Rattle.order_graph.specs.Digraphs.{IsEdge};
 ghost use Rattle.tso_ops.specs.Events.{IsUnwritten};
-ghost use Rattle.round_pool.specs.Rankings.{IsRankingOf};
+ghost use Rattle.round_pool.specs.Internal.Worksets.{ClosesCycle};
+ghost use Rattle.round_pool.specs.Rankings.{IsRankingOf, ListsEdge, AreWithin};
 ghost use Rattle.round_pool.specs.Workers.{worker_limit};
 
+use crate::claimed_rows::RowInput;
 use crate::edges::round_edges;
 use crate::faults::PoolFault;
 use crate::gates::PoolGate;
 use crate::graphs::{add_edges, base_graph};
-use crate::ranked::Ranked;
+use crate::ranked::{Edge, Ranked};
+use crate::worksets::{all_rows, changed_rows, first_workers, later_workers};
 use order_graph::Graph;
 use std::alloc::Global;
 use std::sync::Wait;
@@ -24,9 +27,13 @@ pub const MAX_WORKERS: usize = 64;
 /// rule gives by a path over the edges before it and that have no path yet. They end with the first rank set that has a
 /// cycle, or that the next round would add nothing to.
 ///
-/// The rows of a round, 1 to `events()`, are shared among `workers` threads, 1 to 64: worker `w`, from 0, has those above
-/// `events() * w / workers` and up to `events() * (w + 1) / workers`. A worker without rows isn't started. Each calls the
-/// gate before it computes a row. The answer is the same for each number of workers and each gate.
+/// The rows of the first round are those of all events, 1 to `events()`; a later round looks at the rows that the round
+/// before changed: u, ascending, where u, its source if it is a load, or the load of its swap reaches more than before.
+/// No other row has an edge to give.
+///
+/// The rows of a round are claimed, one after the other, by `workers` threads, 1 to 64: the caller's is worker 0. The
+/// others are started for the first round as far as there are rows, for a later one as far as there are 64 rows for each.
+/// Each worker calls the gate before it computes a row. The answer is the same for each number of workers and each gate.
 ///
 /// OutOfMemory where an allocation was refused, the caller's or a worker's; else NoThread where the system refused a thread. All
 /// threads are joined on each.
@@ -44,17 +51,43 @@ pub fn rounds<H: Threads + Wait, G: PoolGate + Sync>(
 {
     let mut last = base_graph(alloc, trace)?;
     let mut added = Vec::new(alloc);
+    if has_cycle(&last) {
+        return Ok(Ranked { last, added });
+    }
+    let mut numbers = all_rows(alloc, trace)?;
+    let mut sharing = first_workers(workers, numbers.len());
     loop {
-        if has_cycle(&last) {
-            return Ok(Ranked { last, added });
-        }
-        let edges = round_edges(rt, alloc, trace, &last, workers, gate)?;
+        let input = RowInput {
+            trace,
+            graph: &last,
+        };
+        let edges = round_edges(rt, alloc, input, gate, sharing, &numbers)?;
         if edges.is_empty() {
             return Ok(Ranked { last, added });
         }
+        last.settle();
         add_edges(&mut last, &edges);
+        let is_cyclic = closes_cycle(&last, &edges);
         added.push(edges)?;
+        if is_cyclic {
+            return Ok(Ranked { last, added });
+        }
+        numbers = changed_rows(alloc, trace, &last)?;
+        sharing = later_workers(workers, numbers.len());
     }
+}
+
+/// Whether one of these edges leads from a number that its end reaches.
+fn closes_cycle(graph: &Graph, edges: &[Edge]) -> bool
+    requires { AreWithin graph.now.nodes edges.now }
+    ensures { IsTrue result ↔ ClosesCycle graph.now (ListsEdge edges.now) }
+{
+    for edge in edges {
+        if graph.reaches(edge.to as usize, edge.from as usize) {
+            return true;
+        }
+    }
+    false
 }
 
 /// Whether a number of the graph reaches itself.

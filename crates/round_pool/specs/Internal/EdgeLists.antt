@@ -1,15 +1,22 @@
 -- Lists of edges that the steps of a round make, and the graphs that are made of them.
-use Rattle.std.specs.Prelude.{◌≡◌, ◌↔◌, ℕ, suc, ◌<◌, ◌≤◌, List, [], ◌∷◌, ◌++◌, length, map, get_or}
+use Rattle.std.specs.Prelude.{◌≡◌, ◌↔◌, ℕ, ◌<◌, ◌≤◌, List, [], length, get_or, Contains}
 use Rattle.order_graph.specs.Digraphs.{Digraph, IsEdge}
+use Rattle.bitsets.specs.Rows.{IsAscending as IsAscendingRow}
 use Rattle.tso_ops.specs.Values.{TraceValue}
 use Rattle.tso_model.specs.NewEdges.{IsNew}
 use Rattle.round_pool.specs.declared.ranked.Edge.{Edge}
-use Rattle.round_pool.specs.Rankings.{ListsEdge, AreEdgesAscending, AreWithin, edge_from}
+use Rattle.round_pool.specs.Rankings.{ListsEdge, AreEdgesAscending, AreWithin}
 
--- the edges of these rows, of which the first is that of this number
-abbrev pub edges_of_rows : ℕ → List (List ℕ) → List Edge
-edges_of_rows first [] = []
-edges_of_rows first (row ∷ rows) = map (edge_from first) row ++ edges_of_rows (suc first) rows
+-- each row is ascending, and its numbers lie below this one
+pub record AreAscendingBelow (bound : ℕ) (rows : List (List ℕ)) : Type 0 where
+  pub ascending : (k : ℕ) → IsAscendingRow (get_or rows k [])
+  pub below : (k v : ℕ) → Contains (get_or rows k []) v → v < bound
+
+-- The edges are those from each of the first `count` numbers to the numbers of its row, in ascending order.
+pub record AreEdgesOf (numbers : List ℕ) (rows : List (List ℕ)) (count : ℕ) (edges : List Edge) : Type 0 where
+  pub all : (k v : ℕ) → k < count → Contains (get_or rows k []) v → ListsEdge edges (get_or numbers k 0) v
+  pub only : (u v : ℕ) → ListsEdge edges u v → (k : ℕ) × (k < count) × (get_or numbers k 0 ≡ u) × Contains (get_or rows k []) v
+  pub ascending : AreEdgesAscending edges
 
 -- the edges of each list lie between numbers below this one
 abbrev pub AreAllWithin : ℕ → List (List Edge) → Type 0

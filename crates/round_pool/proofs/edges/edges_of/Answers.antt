@@ -1,25 +1,33 @@
-use Rattle.std.proofs.Common.{◌≡◌, ◌+◌, ◌∙◌, ◌++◌, ℕ, List, map, get_or, take, ap, sym, subst, arith}
+use Rattle.std.proofs.Common.{◌≡◌, ◌<◌, ◌∙◌, ℕ, List, [], length, get_or, ap, refl, sym, subst, arith}
 use Rattle.std.specs.Prelude.{Contains}
 use Rattle.std.specs.Global.{Vec}
-use Rattle.std.proofs.lemmas.List.{length-map}
 use Rattle.std.proofs.lemmas.List.Elements.{Contains-get_or}
+use Rattle.bitsets.specs.Rows.{IsAscending as IsAscendingRow}
 use Rattle.tso_ops.specs.Values.{rows}
-use Rattle.round_pool.specs.Internal.EdgeLists.{edges_of_rows}
-use Rattle.round_pool.specs.Rankings.{edge_from}
-use Rattle.round_pool.proofs.EdgeFacts.{edges_of_rows-more}
+use Rattle.round_pool.specs.Internal.EdgeLists.{AreEdgesOf}
+use Rattle.round_pool.proofs.EdgeFacts.{edges_none, edges_row}
 use Rattle.round_pool.proofs.GraphFacts.{row_at}
 use Rattle.round_pool.proofs.edges.edges_of.Goals as goal
 
+pub push_row-requires-clause-from : goal.push_row-requires-clause-from
+push_row-requires-clause-from c = c.requires.below c.loop-i.i 0 (omega (arith, c.loop-i-test.true, c.requires.count))
+
 pub push_row-requires-clause-to : goal.push_row-requires-clause-to
 push_row-requires-clause-to c = λ k d low.
-    c.requires.below.below c.loop-i.i (get_or c.deref.result.now k d)
+    c.requires.rows.below c.loop-i.i (get_or c.deref.result.now k d)
     (subst (λ (r : List ℕ). Contains r (get_or c.deref.result.now k d)) (c.deref.ensures.value ∙ row_at c.args.made.now c.loop-i.i c.index-made-i.result c.loop-i-test.true c.index-made-i.is)
     (Contains-get_or c.deref.result.now k d low))
 
+pub loop-i-init : goal.loop-i-init
+loop-i-init c = edges_none c.args.numbers.now (rows c.args.made.now) c.new-edges.result.items c.new-edges.ensures.items
+
 pub loop-i-preserved : goal.loop-i-preserved
 loop-i-preserved c =
-    let number : c.loop-i.i + 1 ≡ 1 + c.loop-i.i = omega arith in
-    c.in_ok-push_row.ensures
-    ∙ ap (λ l. l ++ map (edge_from (c.loop-i.i + 1)) c.deref.result.now) c.loop-i.invariant
-    ∙ ap (λ n. edges_of_rows 1 (take c.loop-i.i (rows c.args.made.now)) ++ map (edge_from n) c.deref.result.now) number
-    ∙ sym (edges_of_rows-more 1 c.loop-i.i (rows c.args.made.now) c.deref.result.now (let size = length-map c.args.made.now (λ (v : Vec ℕ). v.items) in let low = c.loop-i-test.true in omega (arith, size, low)) (c.deref.ensures.value ∙ row_at c.args.made.now c.loop-i.i c.index-made-i.result c.loop-i-test.true c.index-made-i.is))
+    let row = c.deref.ensures.value ∙ row_at c.args.made.now c.loop-i.i c.index-made-i.result c.loop-i-test.true c.index-made-i.is in
+    edges_row c.args.numbers.now (rows c.args.made.now) c.loop-i.i c.loop-i.edges.items c.push_row.new.edges.items c.deref.result.now c.loop-i.invariant c.requires.ascending
+    (omega (arith, c.loop-i-test.true, c.requires.count)) row (subst IsAscendingRow (sym row) (c.requires.rows.ascending c.loop-i.i)) c.in_ok-push_row.ensures
+
+pub returns : goal.returns
+returns c =
+    let all : c.loop-i.i ≡ length c.args.numbers.now = omega (arith, c.loop-i.auto.i-end, c.loop-i-test.false, c.requires.count) in
+    subst (λ n. AreEdgesOf c.args.numbers.now (rows c.args.made.now) n c.loop-i.edges.items) all c.loop-i.invariant

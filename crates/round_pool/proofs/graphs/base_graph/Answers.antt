@@ -17,5 +17,5 @@ loop-u-preserved c =
 
 pub returns : goal.returns
 returns c =
-    subst (IsRankGraph c.args.trace.now 0) (sym c.in_ok-of_rows.ensures)
+    subst (IsRankGraph c.args.trace.now 0) (sym c.in_ok-of_rows.ensures.same)
     (rows_whole c.args.trace.now c.loop-u.rows c.loop-u.u c.loop-u.invariant (omega (arith, c.loop-u-test.false, c.node_count-nodes.ensures.count)))

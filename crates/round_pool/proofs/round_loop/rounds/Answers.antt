@@ -1,4 +1,4 @@
-use Rattle.std.proofs.Common.{◌≡◌, ◌<◌, ◌∙◌, ◌∷◌, [], List, length, map, ap, sym, subst, arith}
+use Rattle.std.proofs.Common.{◌≡◌, ◌<◌, ◌≤◌, ◌∙◌, ◌++◌, ◌∷◌, [], List, length, map, ap, sym, subst, arith}
 use Rattle.std.specs.Global.{Vec}
 use Rattle.std.proofs.lemmas.Bool.Decides.{nat_tests}
 use Rattle.std.proofs.lemmas.List.{length-append, length-map, map-append}
@@ -9,60 +9,108 @@ use Rattle.tso_model.proofs.NewEdgeFacts.{new_within}
 use Rattle.tso_model.proofs.Searches.{refused}
 use Rattle.round_pool.specs.declared.ranked.Edge.{Edge}
 use Rattle.round_pool.specs.RankGraphs.{AddsEdges}
+use Rattle.round_pool.specs.Internal.Worksets.{ClosesCycle}
 use Rattle.round_pool.specs.Rankings.{ListsEdge}
-use Rattle.round_pool.proofs.RoundFacts.{AreRoundsMade, made_with_cycle, made_without_cycle, made_more, made_before_last}
+use Rattle.round_pool.proofs.RoundFacts.{AreRoundsMade, RoundStep, made_none, made_with_cycle, made_without_cycle, made_before_last, round_step, still_acyclic, made_then_cycle}
 use Rattle.round_pool.proofs.RankedFacts.{added_within}
 use Rattle.round_pool.proofs.round_loop.rounds.Goals as goal
 
 pub returns-then-has_cycle : goal.returns-then-has_cycle
 returns-then-has_cycle g c =
-    made_with_cycle c.args.trace.now c.loop-alloc.last (map (λ (v : Vec Edge). v.items) c.loop-alloc.added.items) c.loop-alloc.invariant c.requires.written (c.has_cycle.ensures.0 c.if-has_cycle.true)
+    let none = ap (λ (l : List (Vec Edge)). map (λ (v : Vec Edge). v.items) l) c.new-added.ensures.items in
+    made_with_cycle c.args.trace.now c.in_ok-last.last (map (λ (v : Vec Edge). v.items) c.new-added.result.items)
+    (subst (λ l. AreRoundsMade c.args.trace.now c.in_ok-last.last l) (sym none) (made_none c.args.trace.now c.in_ok-last.last c.in_ok-last.ensures)) c.requires.written (c.has_cycle.ensures.0 c.if-has_cycle.true)
+
+pub loop-numbers-init : goal.loop-numbers-init
+loop-numbers-init g c =
+    let none = ap (λ (l : List (Vec Edge)). map (λ (v : Vec Edge). v.items) l) c.new-added.ensures.items in (
+      subst (λ l. AreRoundsMade c.args.trace.now c.in_ok-last.last l) (sym none) (made_none c.args.trace.now c.in_ok-last.last c.in_ok-last.ensures),
+      record { none = refused (HasCycle (IsEdge c.in_ok-last.last)) (rw c.if-has_cycle.false at c.has_cycle.ensures) },
+      c.in_ok-numbers.ensures c.in_ok-last.last,
+      c.first_workers-sharing.ensures.some,
+      omega (arith, c.first_workers-sharing.ensures.most, c.requires.most),
+    )
 
 pub returns-then-is_empty : goal.returns-then-is_empty
 returns-then-is_empty g c =
     let edges = c.in_ok-edges.edges in
     let empty : length edges.items ≡ 0 = grind (arith, nat_tests, c.is_empty.ensures, edges.ok.0) in
-    let no_cycle = refused (HasCycle (IsEdge c.loop-alloc.last)) (rw c.if-has_cycle.false at c.has_cycle.ensures) in
-    made_without_cycle c.args.trace.now c.loop-alloc.last (map (λ (v : Vec Edge). v.items) c.loop-alloc.added.items) edges.items c.loop-alloc.invariant c.requires.written no_cycle c.in_ok-edges.ensures empty
-
-pub add_edges-requires : goal.add_edges-requires
-add_edges-requires g c = λ u v has.
-    let edges = subst (λ (l : List Edge). ListsEdge l u v) c.deref.ensures.value has in
-    let within = new_within c.args.trace.now (IsEdge c.loop-alloc.last) u v (c.in_ok-edges.ensures.only u v edges) in
-    rw c.loop-alloc.invariant.graph.nodes within
-
-pub loop-alloc-smaller : goal.loop-alloc-smaller
-loop-alloc-smaller g c =
-    let edges = c.in_ok-edges.edges in
-    let some : 0 < length edges.items = grind (arith, nat_tests, c.is_empty.ensures, edges.ok.0) in
-    let before = made_before_last c.args.trace.now c.loop-alloc.last (map (λ (v : Vec Edge). v.items) c.loop-alloc.added.items) edges.items c.loop-alloc.invariant c.in_ok-edges.ensures some in
-    let size = length-map c.loop-alloc.added.items (λ (v : Vec Edge). v.items) in
-    let pushed = ap (λ (l : List (Vec Edge)). length l) c.in_ok-push.ensures.items in
-    let longer = length-append c.loop-alloc.added.items (edges ∷ []) in
-    omega (arith, before, size, pushed, longer)
-
-pub loop-alloc-preserved : goal.loop-alloc-preserved
-loop-alloc-preserved g c =
-    let edges = c.in_ok-edges.edges in
-    let some : 0 < length edges.items = grind (arith, nat_tests, c.is_empty.ensures, edges.ok.0) in
-    let no_cycle = refused (HasCycle (IsEdge c.loop-alloc.last)) (rw c.if-has_cycle.false at c.has_cycle.ensures) in
-    let added = map (λ (v : Vec Edge). v.items) c.loop-alloc.added.items in
-    let made = made_more c.args.trace.now c.loop-alloc.last c.add_edges.new.graph added edges.items c.loop-alloc.invariant no_cycle c.in_ok-edges.ensures some (RankSet-decided c.args.trace.now (length added))
-    (subst (λ (l : List Edge). AddsEdges c.loop-alloc.last c.add_edges.new.graph (ListsEdge l)) c.deref.ensures.value c.add_edges.ensures) in
-    subst (λ l. AreRoundsMade c.args.trace.now c.add_edges.new.graph l)
-    (sym (ap (λ (l : List (Vec Edge)). map (λ (v : Vec Edge). v.items) l) c.in_ok-push.ensures.items ∙ map-append (λ (v : Vec Edge). v.items) c.loop-alloc.added.items (edges ∷ [])))
-    made
-
-pub invariant_of-result : goal.invariant_of-result
-invariant_of-result g c =
-    added_within c.args.trace.now (record { last = c.loop-alloc.last; added = map (λ (v : Vec Edge). v.items) c.loop-alloc.added.items })
-    (made_with_cycle c.args.trace.now c.loop-alloc.last (map (λ (v : Vec Edge). v.items) c.loop-alloc.added.items) c.loop-alloc.invariant c.requires.written (c.has_cycle.ensures.0 c.if-has_cycle.true))
+    made_without_cycle c.args.trace.now c.loop-numbers.last (map (λ (v : Vec Edge). v.items) c.loop-numbers.added.items) edges.items c.loop-numbers.invariant.0 c.requires.written c.loop-numbers.invariant.1.none
+    c.in_ok-edges.ensures empty
 
 pub invariant_of-result-then-is_empty : goal.invariant_of-result-then-is_empty
 invariant_of-result-then-is_empty g c =
     let edges = c.in_ok-edges.edges in
     let empty : length edges.items ≡ 0 = grind (arith, nat_tests, c.is_empty.ensures, edges.ok.0) in
-    let no_cycle = refused (HasCycle (IsEdge c.loop-alloc.last)) (rw c.if-has_cycle.false at c.has_cycle.ensures) in
-    let added = map (λ (v : Vec Edge). v.items) c.loop-alloc.added.items in
-    added_within c.args.trace.now (record { last = c.loop-alloc.last; added = added })
-    (made_without_cycle c.args.trace.now c.loop-alloc.last added edges.items c.loop-alloc.invariant c.requires.written no_cycle c.in_ok-edges.ensures empty)
+    let added = map (λ (v : Vec Edge). v.items) c.loop-numbers.added.items in
+    added_within c.args.trace.now (record { last = c.loop-numbers.last; added = added })
+    (made_without_cycle c.args.trace.now c.loop-numbers.last added edges.items c.loop-numbers.invariant.0 c.requires.written c.loop-numbers.invariant.1.none c.in_ok-edges.ensures empty)
+
+pub add_edges-requires : goal.add_edges-requires
+add_edges-requires g c = λ u v has.
+    let edges = subst (λ (l : List Edge). ListsEdge l u v) c.deref-in-loop-numbers.ensures.value has in
+    let within = new_within c.args.trace.now (IsEdge c.loop-numbers.last) u v (c.in_ok-edges.ensures.only u v edges) in
+    let nodes = c.settle.ensures.nodes ∙ c.loop-numbers.invariant.0.graph.nodes in
+    (omega (arith, within.0, nodes), omega (arith, within.1, nodes))
+
+pub closes_cycle-is_cyclic-requires : goal.closes_cycle-is_cyclic-requires
+closes_cycle-is_cyclic-requires g c = λ u v has.
+    let edges = subst (λ (l : List Edge). ListsEdge l u v) c.deref-in-loop-numbers-2.ensures.value has in
+    let within = new_within c.args.trace.now (IsEdge c.loop-numbers.last) u v (c.in_ok-edges.ensures.only u v edges) in
+    let nodes = c.add_edges.ensures.edges.nodes ∙ c.settle.ensures.nodes ∙ c.loop-numbers.invariant.0.graph.nodes in
+    (omega (arith, within.0, nodes), omega (arith, within.1, nodes))
+
+pub returns-then-is_cyclic : goal.returns-then-is_cyclic
+returns-then-is_cyclic g c =
+    let edges = c.in_ok-edges.edges in
+    let t = c.args.trace.now in
+    let some : 0 < length edges.items = grind (arith, nat_tests, c.is_empty.ensures, edges.ok.0) in
+    let added = map (λ (v : Vec Edge). v.items) c.loop-numbers.added.items in
+    let step = round_step t c.loop-numbers.last c.settle.new.self c.add_edges.new.graph added edges.items c.loop-numbers.invariant.0 c.loop-numbers.invariant.1 c.in_ok-edges.ensures some (RankSet-decided t (length added))
+    c.settle.ensures.nodes c.settle.ensures.edges (subst (λ (l : List Edge). AddsEdges c.settle.new.self c.add_edges.new.graph (ListsEdge l)) c.deref-in-loop-numbers.ensures.value c.add_edges.ensures.edges)
+    c.add_edges.ensures.grown in
+    let closes = subst (λ (l : List Edge). ClosesCycle c.add_edges.new.graph (ListsEdge l)) c.deref-in-loop-numbers-2.ensures.value (c.closes_cycle-is_cyclic.ensures.0 c.if-is_cyclic.true) in
+    let pushed = ap (λ (l : List (Vec Edge)). map (λ (v : Vec Edge). v.items) l) c.in_ok-push.ensures.items ∙ map-append (λ (v : Vec Edge). v.items) c.loop-numbers.added.items (edges ∷ []) in
+    made_then_cycle t c.loop-numbers.last c.add_edges.new.graph added (map (λ (v : Vec Edge). v.items) c.push.new.self.items) edges.items step c.requires.written closes pushed
+
+pub invariant_of-result-then-is_cyclic : goal.invariant_of-result-then-is_cyclic
+invariant_of-result-then-is_cyclic g c =
+    let edges = c.in_ok-edges.edges in
+    let t = c.args.trace.now in
+    let some : 0 < length edges.items = grind (arith, nat_tests, c.is_empty.ensures, edges.ok.0) in
+    let added = map (λ (v : Vec Edge). v.items) c.loop-numbers.added.items in
+    let step = round_step t c.loop-numbers.last c.settle.new.self c.add_edges.new.graph added edges.items c.loop-numbers.invariant.0 c.loop-numbers.invariant.1 c.in_ok-edges.ensures some (RankSet-decided t (length added))
+    c.settle.ensures.nodes c.settle.ensures.edges (subst (λ (l : List Edge). AddsEdges c.settle.new.self c.add_edges.new.graph (ListsEdge l)) c.deref-in-loop-numbers.ensures.value c.add_edges.ensures.edges)
+    c.add_edges.ensures.grown in
+    let closes = subst (λ (l : List Edge). ClosesCycle c.add_edges.new.graph (ListsEdge l)) c.deref-in-loop-numbers-2.ensures.value (c.closes_cycle-is_cyclic.ensures.0 c.if-is_cyclic.true) in
+    let pushed = ap (λ (l : List (Vec Edge)). map (λ (v : Vec Edge). v.items) l) c.in_ok-push.ensures.items ∙ map-append (λ (v : Vec Edge). v.items) c.loop-numbers.added.items (edges ∷ []) in
+    added_within t (record { last = c.add_edges.new.graph; added = map (λ (v : Vec Edge). v.items) c.push.new.self.items }) (made_then_cycle t c.loop-numbers.last c.add_edges.new.graph added (map (λ (v : Vec Edge). v.items) c.push.new.self.items) edges.items step c.requires.written closes pushed)
+
+pub loop-numbers-smaller : goal.loop-numbers-smaller
+loop-numbers-smaller g c =
+    let edges = c.in_ok-edges.edges in
+    let some : 0 < length edges.items = grind (arith, nat_tests, c.is_empty.ensures, edges.ok.0) in
+    let before = made_before_last c.args.trace.now c.loop-numbers.last (map (λ (v : Vec Edge). v.items) c.loop-numbers.added.items) edges.items c.loop-numbers.invariant.0 c.in_ok-edges.ensures some in
+    let size = length-map c.loop-numbers.added.items (λ (v : Vec Edge). v.items) in
+    let pushed = ap (λ (l : List (Vec Edge)). length l) c.in_ok-push.ensures.items in
+    let longer = length-append c.loop-numbers.added.items (edges ∷ []) in
+    omega (arith, before, size, pushed, longer)
+
+pub loop-numbers-preserved : goal.loop-numbers-preserved
+loop-numbers-preserved g c =
+    let edges = c.in_ok-edges.edges in
+    let t = c.args.trace.now in
+    let some : 0 < length edges.items = grind (arith, nat_tests, c.is_empty.ensures, edges.ok.0) in
+    let added = map (λ (v : Vec Edge). v.items) c.loop-numbers.added.items in
+    let step = round_step t c.loop-numbers.last c.settle.new.self c.add_edges.new.graph added edges.items c.loop-numbers.invariant.0 c.loop-numbers.invariant.1 c.in_ok-edges.ensures some (RankSet-decided t (length added))
+    c.settle.ensures.nodes c.settle.ensures.edges (subst (λ (l : List Edge). AddsEdges c.settle.new.self c.add_edges.new.graph (ListsEdge l)) c.deref-in-loop-numbers.ensures.value c.add_edges.ensures.edges)
+    c.add_edges.ensures.grown in
+    let unclosed = refused (ClosesCycle c.add_edges.new.graph (ListsEdge c.deref-in-loop-numbers-2.result.now)) (rw c.if-is_cyclic.false at c.closes_cycle-is_cyclic.ensures) in
+    let pushed = ap (λ (l : List (Vec Edge)). map (λ (v : Vec Edge). v.items) l) c.in_ok-push.ensures.items ∙ map-append (λ (v : Vec Edge). v.items) c.loop-numbers.added.items (edges ∷ []) in (
+      subst (λ l. AreRoundsMade t c.add_edges.new.graph l) (sym pushed) step.made,
+      still_acyclic t c.loop-numbers.last c.add_edges.new.graph added edges.items step c.loop-numbers.invariant.1
+          (subst (λ (l : List Edge). ClosesCycle c.add_edges.new.graph (ListsEdge l) → ⊥) c.deref-in-loop-numbers-2.ensures.value unclosed),
+      c.in_ok-numbers-2.ensures (length added) c.loop-numbers.last step.follows,
+      c.later_workers-sharing.ensures.some,
+      omega (arith, c.later_workers-sharing.ensures.most, c.requires.most),
+    )

@@ -1,11 +1,14 @@
-use Rattle.std.proofs.Common.{◌-◌, length, map}
+use Rattle.std.proofs.Common.{◌-◌, ◌≤◌, length, map}
 use Rattle.tso_model.proofs.LastRankSet.{last_exists}
-use Rattle.round_pool.proofs.RoundFacts.{AreRoundsMade}
+use Rattle.round_pool.specs.Internal.Worksets.{IsWorkset}
+use Rattle.round_pool.specs.Workers.{worker_limit}
+use Rattle.round_pool.proofs.RoundFacts.{AreRoundsMade, IsAcyclic}
 use Rattle.round_pool.proofs.round_loop.rounds.Given as goal
 
-abbrev pub invariant-loop-alloc : goal.invariant-loop-alloc
-invariant-loop-alloc g l = AreRoundsMade l.trace l.last (map (λ edges. edges.items) l.added.items)
+abbrev pub invariant-loop-numbers : goal.invariant-loop-numbers
+invariant-loop-numbers g l =
+    AreRoundsMade l.trace l.last (map (λ edges. edges.items) l.added.items) × IsAcyclic l.last × IsWorkset l.trace l.last l.numbers.items × (1 ≤ l.sharing) × (l.sharing ≤ worker_limit)
 
 -- each round comes nearer to a last rank set
-abbrev pub decreases-loop-alloc : goal.decreases-loop-alloc
-decreases-loop-alloc g l = (last_exists l.trace).0 - length l.added.items
+abbrev pub decreases-loop-numbers : goal.decreases-loop-numbers
+decreases-loop-numbers g l = (last_exists l.trace).0 - length l.added.items

@@ -1,0 +1,29 @@
+-- The rows that workers claimed and computed, and the rows of given numbers.
+use Rattle.std.specs.Prelude.{◌≡◌, ℕ, ◌<◌, List, [], length, map, get_or, All}
+use Rattle.order_graph.specs.Digraphs.{Digraph, IsEdge}
+use Rattle.tso_ops.specs.Values.{TraceValue}
+use Rattle.tso_model.specs.NewEdges.{IsNew}
+use Rattle.bitsets.specs.Rows.{IsListOf}
+use Rattle.round_pool.specs.declared.claims.types.Claims.{Claims}
+use Rattle.round_pool.specs.declared.claimed_rows.ClaimedRow.{ClaimedRow}
+use Rattle.round_pool.specs.declared.claimed_rows.Claimed.{Claimed}
+use Rattle.round_pool.specs.Claims.{held, IsOf}
+
+-- the row has the edges that a round adds to the graph's from its number
+abbrev pub IsRow : TraceValue → Digraph → ClaimedRow → Type 0
+IsRow t g claimed = IsListOf claimed.row.items (IsNew t (IsEdge g) claimed.number)
+
+-- the numbers of the rows
+abbrev pub numbers_of : List ClaimedRow → List ℕ
+numbers_of claimed = map (λ (c : ClaimedRow). c.number) claimed
+
+-- The claimant is one of these claims, its rows are those that it claimed, in that order, and each is the row of its number.
+pub record AreClaimed (t : TraceValue) (g : Digraph) (claims : Claims) (claimed : Claimed) : Type 0 where
+  pub own : IsOf claims claimed.claimant
+  pub numbers : numbers_of claimed.rows.items ≡ held claims claimed.claimant
+  pub each : All (IsRow t g) claimed.rows.items
+
+-- There is a row for each number, in the order of the numbers, and it has the edges that a round adds to the graph's from there.
+pub record AreRowsOf (t : TraceValue) (g : Digraph) (numbers : List ℕ) (rows : List (List ℕ)) : Type 0 where
+  pub count_is : length rows ≡ length numbers
+  pub row : (i : ℕ) → i < length numbers → IsListOf (get_or rows i []) (IsNew t (IsEdge g) (get_or numbers i 0))
