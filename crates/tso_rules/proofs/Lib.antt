@@ -3,4 +3,7 @@ pub mod BaseFacts
 pub mod InferredFacts
 pub mod LawFacts
 pub mod ReasonFacts
+pub mod AboveFacts
+pub mod SourceMaskFacts
+pub mod PassedFacts
 pub mod OptionFacts

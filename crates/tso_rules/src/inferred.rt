@@ -78,7 +78,7 @@ fn mark_load_past(
 
 /// Marks the ends of the new edges from `u` that the rule StorePast gives: the stores to its address that come after its
 /// source `s`, if it is a load.
-fn mark_store_past(
+pub(crate) fn mark_store_past(
     trace: &Trace,
     graph: &Graph,
     marks: &mut Vec<u64>,
@@ -103,7 +103,7 @@ fn mark_store_past(
 
 /// Marks the ends of the new edges from `u` that the rule SwapBefore gives: the loads of other swaps whose stores, the
 /// numbers above, come after `u`, if it is a store.
-fn mark_swap_before(
+pub(crate) fn mark_swap_before(
     trace: &Trace,
     graph: &Graph,
     marks: &mut Vec<u64>,
@@ -125,7 +125,7 @@ fn mark_swap_before(
 
 /// Marks the ends of the new edges from `u` that the rule SwapAfter gives: the other stores that come after the load of
 /// the swap whose store is `u`.
-fn mark_swap_after(
+pub(crate) fn mark_swap_after(
     trace: &Trace,
     graph: &Graph,
     marks: &mut Vec<u64>,

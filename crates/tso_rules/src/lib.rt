@@ -4,12 +4,17 @@
 pub use affected::affected_rows;
 pub use base::{base_edge, base_row, base_words};
 pub use inferred::row_edges;
+pub use masks::SourceMasks;
+pub use over_base::row_edges_over_base;
 pub use reasons::justify;
 
+mod above;
 mod affected;
 mod base;
 mod inferred;
 pub mod laws;
+mod masks;
+mod over_base;
 mod paths;
 mod reasons;
 mod sources;
