@@ -10,6 +10,7 @@ use tso_ops::{Outcome, Trace, ValueFault};
 
 mod affected;
 mod drawn;
+mod over_base;
 mod refused_allocations;
 
 /// The trace of processors that did this.

@@ -1,7 +1,12 @@
 //! Drawn traces: every row is what the model's plain program finds.
+ghost use Rattle.std.specs.Prelude.{ℕ};
+ghost use Rattle.order_graph.specs.Digraphs.{IsEdge};
+ghost use Rattle.tso_model.specs.Ranks.{RankSet};
 
 use super::graph_of;
-use crate::{base_edge, base_row, justify, row_edges};
+use super::over_base::rank_graph;
+use crate::{SourceMasks, base_edge, base_row, justify, row_edges, row_edges_over_base};
+use order_graph::Graph;
 use plain_rounds::{base_edges, has_edge, is_inferred_pair, new_edges, rank_set};
 use std::alloc::{AllocError, Global};
 use std::process::Abort;
@@ -132,6 +137,28 @@ fn compare_base(rt: &impl Abort, alloc: Global, trace: &Trace) -> Result<(), All
     Ok(())
 }
 
+/// Compares the rows over a graph that has the base edges with the plain new edges, without masks and with them.
+fn compare_rows(
+    rt: &impl Abort,
+    alloc: Global,
+    trace: &Trace,
+    graph: &Graph,
+    new: &[(usize, usize)],
+) -> Result<(), AllocError>
+    requires { (x y : ℕ) → RankSet trace.now 0 x y → IsEdge graph.now x y }
+{
+    let nodes = trace.node_count();
+    let masks = SourceMasks::new(alloc, trace)?;
+    for u in 0..nodes {
+        let plain = plain_row(alloc, new, nodes, u)?;
+        let found = row_edges(alloc, trace, graph, u)?;
+        assert_eq!(rt; found, plain, "row {u} of {trace:?}");
+        let found = row_edges_over_base(alloc, trace, &masks, graph, u)?;
+        assert_eq!(rt; found, plain, "row {u} of {trace:?}, with masks");
+    }
+    Ok(())
+}
+
 /// Compares the rows over a graph of the rank set with the plain new edges; whether there are any.
 fn compare_round(
     rt: &impl Abort,
@@ -139,17 +166,10 @@ fn compare_round(
     trace: &Trace,
     rank: usize,
 ) -> Result<bool, AllocError> {
-    let nodes = trace.node_count();
     let edges = rank_set(alloc, trace, rank)?;
     let new = new_edges(alloc, trace, &edges)?;
-    let graph = graph_of(alloc, nodes, &edges)?;
-    for u in 0..nodes {
-        assert_eq!(rt;
-            row_edges(alloc, trace, &graph, u)?,
-            plain_row(alloc, &new, nodes, u)?,
-            "row {u} of {trace:?}, rank {rank}"
-        );
-    }
+    let graph = rank_graph(alloc, trace, &edges)?;
+    compare_rows(rt, alloc, trace, &graph, &new)?;
     Ok(!new.is_empty())
 }
 

@@ -2,8 +2,9 @@
 //!
 //! The call that meets it answers OutOfMemory, and the next call the ordinary answer.
 
+use super::over_base::{LOADED_IN_TURN, row_over_base};
 use super::{
-    edges_of, expect_inferred, expect_row, graph_of, reason_of, row_of, set_of,
+    edges_of, expect_inferred, expect_row, graph_of, reason_of, row_of, set_of, trace_of,
     two_swaps_both_first,
 };
 use order_graph::{EdgeSet, Graph, PathSearch};
@@ -52,6 +53,20 @@ fn edges(alloc: Global, trace: &Trace, graph: &Graph) -> Result<Vec<usize>, Allo
     }
 }
 
+fn loaded_in_turn(alloc: Global) -> Result<Trace, ValueFault> {
+    match trace_of(alloc, &LOADED_IN_TURN) {
+        Err(ValueFault::OutOfMemory) => trace_of(alloc, &LOADED_IN_TURN),
+        first => first,
+    }
+}
+
+fn edges_over_base(alloc: Global, trace: &Trace) -> Result<Vec<usize>, AllocError> {
+    match row_over_base(alloc, trace, 1) {
+        Err(AllocError) => row_over_base(alloc, trace, 1),
+        first => first,
+    }
+}
+
 fn set(graph: &Graph) -> Result<EdgeSet, AllocError> {
     match set_of(graph) {
         Err(AllocError) => set_of(graph),
@@ -83,6 +98,14 @@ fn refused_allocations_of_row_edges(rt: HostRuntime) -> Result<(), Fail> {
     let alloc = rt.alloc();
     let row = edges(alloc, &trace(alloc)?, &graph(alloc)?)?;
     expect_row(&rt, "row 2", &row, &[4]);
+    Ok(())
+}
+
+#[test]
+fn refused_allocations_of_row_edges_over_base(rt: HostRuntime) -> Result<(), Fail> {
+    let alloc = rt.alloc();
+    let row = edges_over_base(alloc, &loaded_in_turn(alloc)?)?;
+    expect_row(&rt, "row 1", &row, &[7, 8]);
     Ok(())
 }
 
