@@ -10,7 +10,10 @@ use Rattle.tso_ops.specs.Events.{IsUnwritten}
 use Rattle.tso_model.specs.Ranks.{RankSet, IsLast}
 use Rattle.tso_model.proofs.LastRankSet.{IsLast-all, last_exists}
 use Rattle.tso_model.proofs.NewEdgeFacts.{new_same}
-use Rattle.tso_model.proofs.LastRankSet.{before_last}
+use Rattle.tso_model.proofs.LastRankSet.{before_last, RankSet-mono}
+use Rattle.tso_rules.specs.declared.masks.SourceMasks.{SourceMasks}
+use Rattle.tso_rules.specs.SourceMasks.{AreSourceMasks}
+use Rattle.round_pool.specs.Internal.ClaimedRows.{AreOverBase}
 use Rattle.round_pool.specs.declared.ranked.Edge.{Edge}
 use Rattle.round_pool.specs.RankGraphs.{IsRankGraph, AddsEdges}
 use Rattle.round_pool.specs.Internal.EdgeLists.{AreNewEdges}
@@ -45,6 +48,10 @@ graph_cycle t k g graph = HasCycle-mono (RankSet t k) (IsEdge g) (λ x y. (graph
 
 set_cycle : (t : TraceValue) (k : ℕ) (g : Digraph) → IsRankGraph t k g → HasCycle (IsEdge g) → HasCycle (RankSet t k)
 set_cycle t k g graph = HasCycle-mono (IsEdge g) (RankSet t k) (λ x y. (graph.edges x y).0)
+
+-- the graph of a rank set has the base edges
+pub over_base : (t : TraceValue) (k : ℕ) (g : Digraph) (masks : SourceMasks) → IsRankGraph t k g → AreSourceMasks t masks → AreOverBase t g masks
+over_base t k g masks graph are = record { base = λ x y e. (graph.edges x y).1 (RankSet-mono t 0 k (omega arith) x y e); masks_are = are }
 
 -- new edges over the graph of a rank set are those of the round after it
 pub new_round : (t : TraceValue) (k : ℕ) (g : Digraph) (edges : List Edge) → IsRankGraph t k g → AreNewEdges t g edges → IsRound t k edges

@@ -6,7 +6,7 @@ ghost use Rattle.tso_ops.specs.Values.{TraceValue, rows};
 ghost use Rattle.tso_model.specs.NewEdges.{IsNew};
 ghost use Rattle.bitsets.specs.Rows.{IsListOf};
 ghost use Rattle.round_pool.specs.Claims.{IsOf, IsFresh, NoneTwice};
-ghost use Rattle.round_pool.specs.Internal.ClaimedRows.{IsRow, numbers_of, AreClaimed, AreRowsOf};
+ghost use Rattle.round_pool.specs.Internal.ClaimedRows.{IsRow, numbers_of, AreClaimed, AreOverBase, AreRowsOf};
 ghost use Rattle.round_pool.specs.Workers.{worker_limit};
 
 use crate::answers::both_answers;
@@ -19,13 +19,14 @@ use std::sync::Wait;
 use std::thread;
 use std::thread::{Promise, PromisedHandle, Scope, Threads};
 use tso_ops::{OutOfMemory, Trace};
-use tso_rules::row_edges;
+use tso_rules::{SourceMasks, row_edges_over_base};
 
 /// What the rows of a round are computed from.
 #[derive(Clone, Copy)]
 pub struct RowInput<'a> {
     pub trace: &'a Trace,
     pub graph: &'a Graph,
+    pub masks: &'a SourceMasks,
 }
 
 /// A row that a worker claimed and computed: the numbers to which a round adds edges from `number`.
@@ -47,6 +48,7 @@ struct Claimed {
 struct Work<'a> {
     trace: &'a Trace,
     graph: &'a Graph,
+    masks: &'a SourceMasks,
     claims: &'a Claims,
 }
 
@@ -66,13 +68,14 @@ fn claimed_rows<'a, G: PoolGate>(
     gate: &G,
     worker: usize,
 ) -> Result<Claimed, OutOfMemory>
-    requires { IsFresh work.claims.now claimant }
+    requires fresh { IsFresh work.claims.now claimant }
+    requires base { AreOverBase work.trace.now work.graph.now work.masks.now }
     ensures { IfOk result (AreClaimed work.entry.trace.now work.entry.graph.now work.entry.claims.now) }
 {
     let mut rows = Vec::new(alloc);
     while let Some(number) = work.claims.claim(&mut claimant) {
         gate.row(worker, number);
-        let row = row_edges(alloc, work.trace, work.graph, number)?;
+        let row = row_edges_over_base(alloc, work.trace, work.masks, work.graph, number)?;
         rows.push(ClaimedRow { number, row })?;
     }
     Ok(Claimed { rows, claimant })
@@ -87,22 +90,26 @@ fn start_claiming<'s, E, G: PoolGate + Sync>(
     gate: &'s G,
     worker: usize,
 ) -> Result<PromisedHandle<Result<Claimed, OutOfMemory>, Work<'s>>, PoolFault>
-    requires { IsFresh work.claims.now claimant }
+    requires fresh { IsFresh work.claims.now claimant }
+    requires base { AreOverBase work.trace.now work.graph.now work.masks.now }
     ensures started { IfOk result (λ child. child.promise ≡ work.entry) }
     ensures refused { IfErr result (λ fault. fault ≡ PoolFault.NoThread) }
 {
     let Work {
         trace,
         graph,
+        masks,
         claims,
     } = work;
     let job = move || -> Result<Claimed, OutOfMemory>
-        requires { IsFresh claims.now claimant }
+        requires fresh { IsFresh claims.now claimant }
+        requires base { AreOverBase trace.now graph.now masks.now }
         ensures { IfOk result (AreClaimed trace.entry.now graph.entry.now claims.entry.now) }
     {
         let work = Work {
             trace,
             graph,
+            masks,
             claims,
         };
         claimed_rows(alloc, work, claimant, gate, worker)
@@ -145,6 +152,7 @@ fn rows_of_claimants<'s, E, H: Threads, G: PoolGate + Sync>(
 ) -> Result<Claimed, PoolFault>
     requires some { 1 ≤ length claimants.items }
     requires fresh { All (IsFresh work.claims.now) claimants.items }
+    requires base { AreOverBase work.trace.now work.graph.now work.masks.now }
     ensures { IfOk result (AreClaimed work.entry.trace.now work.entry.graph.now work.entry.claims.now) }
 {
     let claimant = claimants.pop().unwrap();
@@ -167,12 +175,14 @@ fn rows_claimed<'a, H: Threads + Wait, G: PoolGate + Sync>(
 ) -> Result<Vec<ClaimedRow>, PoolFault>
     requires some { 1 ≤ length claimants.items }
     requires fresh { All (IsFresh work.claims.now) claimants.items }
+    requires base { AreOverBase work.trace.now work.graph.now work.masks.now }
     ensures each { IfOk result (λ made. All (IsRow work.entry.trace.now work.entry.graph.now) made.items) }
     ensures once { IfOk result (λ made. NoneTwice (numbers_of made.items)) }
 {
     let Work {
         trace,
         graph,
+        masks,
         claims,
     } = work;
     let claimed = thread::scope(
@@ -181,11 +191,13 @@ fn rows_claimed<'a, H: Threads + Wait, G: PoolGate + Sync>(
         move |scope| -> Result<Claimed, PoolFault>
             requires some { 1 ≤ length claimants.items }
             requires fresh { All (IsFresh claims.now) claimants.items }
+            requires base { AreOverBase trace.now graph.now masks.now }
             ensures { IfOk result (AreClaimed trace.entry.now graph.entry.now claims.entry.now) }
         {
             let work = Work {
                 trace,
                 graph,
+                masks,
                 claims,
             };
             rows_of_claimants(scope, rt, alloc, work, gate, claimants)
@@ -202,6 +214,7 @@ fn row_of(
     number: usize,
 ) -> Result<Vec<usize>, OutOfMemory>
     requires each { All (IsRow input.trace.now input.graph.now) claimed.old.items }
+    requires base { AreOverBase input.trace.now input.graph.now input.masks.now }
     ensures each { All (IsRow input.entry.trace.now input.entry.graph.now) claimed.new.items }
     ensures row { IfOk result (λ row. IsListOf row.items (IsNew input.entry.trace.now (IsEdge input.entry.graph.now) number)) }
 {
@@ -210,7 +223,7 @@ fn row_of(
             let found = claimed.pop().unwrap();
             Ok(found.row)
         }
-        _ => row_edges(alloc, input.trace, input.graph, number),
+        _ => row_edges_over_base(alloc, input.trace, input.masks, input.graph, number),
     }
 }
 
@@ -222,7 +235,8 @@ fn rows_in_order(
     numbers: &[usize],
     mut claimed: Vec<ClaimedRow>,
 ) -> Result<Vec<Vec<usize>>, OutOfMemory>
-    requires { All (IsRow input.trace.now input.graph.now) claimed.items }
+    requires each { All (IsRow input.trace.now input.graph.now) claimed.items }
+    requires base { AreOverBase input.trace.now input.graph.now input.masks.now }
     ensures { IfOk result (λ made. AreRowsOf input.entry.trace.now input.entry.graph.now numbers.now (rows made.items)) }
 {
     claimed.sort_by(|one, other| other.number.cmp(&one.number))?;
@@ -248,6 +262,7 @@ pub fn rows_by_claims<H: Threads + Wait, G: PoolGate + Sync>(
     workers: usize,
     numbers: &[usize],
 ) -> Result<Vec<Vec<usize>>, PoolFault>
+    requires base { AreOverBase input.trace.now input.graph.now input.masks.now }
     requires ascending { AllPairs (λ x y. x < y) numbers.now }
     requires some { 1 ≤ workers }
     requires most { workers ≤ worker_limit }
@@ -257,6 +272,7 @@ pub fn rows_by_claims<H: Threads + Wait, G: PoolGate + Sync>(
     let work = Work {
         trace: input.trace,
         graph: input.graph,
+        masks: input.masks,
         claims: &claims,
     };
     let claimed = rows_claimed(rt, alloc, work, gate, claimants)?;

@@ -2,6 +2,7 @@
 ghost use Rattle.std.specs.Prelude.{◌≡◌, ◌+◌, ◌*◌, ◌<◌, ◌≤◌, ◌++◌, ℕ, length, map, All, AllPairs, IfOk, OnOk};
 ghost use Rattle.tso_ops.specs.Values.{rows};
 ghost use Rattle.bitsets.specs.Rows.{IsAscending as IsAscendingRow};
+ghost use Rattle.round_pool.specs.Internal.ClaimedRows.{AreOverBase};
 ghost use Rattle.round_pool.specs.Internal.EdgeLists.{AreNewEdges, AreEdgesOf, AreAscendingBelow};
 ghost use Rattle.round_pool.specs.Internal.Worksets.{IsWorkset};
 ghost use Rattle.round_pool.specs.Rankings.{edge_from};
@@ -65,6 +66,7 @@ pub fn round_edges<H: Threads + Wait, G: PoolGate + Sync>(
     workers: usize,
     numbers: &[usize],
 ) -> Result<Vec<Edge>, PoolFault>
+    requires base { AreOverBase input.trace.now input.graph.now input.masks.now }
     requires workset { IsWorkset input.trace.now input.graph.now numbers.now }
     requires some { 1 ≤ workers }
     requires most { workers ≤ worker_limit }

@@ -19,6 +19,7 @@ use std::alloc::Global;
 use std::sync::Wait;
 use std::thread::Threads;
 use tso_ops::Trace;
+use tso_rules::SourceMasks;
 
 /// The greatest number of workers.
 pub const MAX_WORKERS: usize = 64;
@@ -54,12 +55,14 @@ pub fn rounds<H: Threads + Wait, G: PoolGate + Sync>(
     if has_cycle(&last) {
         return Ok(Ranked { last, added });
     }
+    let masks = SourceMasks::new(alloc, trace)?;
     let mut numbers = all_rows(alloc, trace)?;
     let mut sharing = first_workers(workers, numbers.len());
     loop {
         let input = RowInput {
             trace,
             graph: &last,
+            masks: &masks,
         };
         let edges = round_edges(rt, alloc, input, gate, sharing, &numbers)?;
         if edges.is_empty() {

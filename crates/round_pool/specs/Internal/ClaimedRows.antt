@@ -3,11 +3,19 @@ use Rattle.std.specs.Prelude.{◌≡◌, ℕ, ◌<◌, List, [], length, map, ge
 use Rattle.order_graph.specs.Digraphs.{Digraph, IsEdge}
 use Rattle.tso_ops.specs.Values.{TraceValue}
 use Rattle.tso_model.specs.NewEdges.{IsNew}
+use Rattle.tso_model.specs.Ranks.{RankSet}
+use Rattle.tso_rules.specs.declared.masks.SourceMasks.{SourceMasks}
+use Rattle.tso_rules.specs.SourceMasks.{AreSourceMasks}
 use Rattle.bitsets.specs.Rows.{IsListOf}
 use Rattle.round_pool.specs.declared.claims.types.Claims.{Claims}
 use Rattle.round_pool.specs.declared.claimed_rows.ClaimedRow.{ClaimedRow}
 use Rattle.round_pool.specs.declared.claimed_rows.Claimed.{Claimed}
 use Rattle.round_pool.specs.Claims.{held, IsOf}
+
+-- The graph has the trace's base edges, and the masks are the trace's.
+pub record AreOverBase (t : TraceValue) (g : Digraph) (masks : SourceMasks) : Type 0 where
+  pub base : (x y : ℕ) → RankSet t 0 x y → IsEdge g x y
+  pub masks_are : AreSourceMasks t masks
 
 -- the row has the edges that a round adds to the graph's from its number
 abbrev pub IsRow : TraceValue → Digraph → ClaimedRow → Type 0

@@ -16,4 +16,4 @@ add_edges-requires c = λ u v has.
 pub loop-k-preserved : goal.loop-k-preserved
 loop-k-preserved c =
     let here = c.deref.ensures.value ∙ edges_at c.args.added.now c.loop-k.k c.index-added-k.result c.index-added-k.result c.loop-k-test.true c.index-added-k.is in
-    graph_of_more c.args.nodes (map (λ (v : Vec Edge). v.items) c.args.added.now) c.args.first c.loop-k.k c.loop-k.graph c.add_edges.new.graph c.deref.result.now c.loop-k.auto.k here c.loop-k.invariant c.add_edges.ensures
+    graph_of_more c.args.nodes (map (λ (v : Vec Edge). v.items) c.args.added.now) c.args.first c.loop-k.k c.loop-k.graph c.add_edges.new.graph c.deref.result.now c.loop-k.auto.k here c.loop-k.invariant c.add_edges.ensures.edges

@@ -11,7 +11,7 @@ use Rattle.round_pool.specs.declared.ranked.Edge.{Edge}
 use Rattle.round_pool.specs.RankGraphs.{AddsEdges}
 use Rattle.round_pool.specs.Internal.Worksets.{ClosesCycle}
 use Rattle.round_pool.specs.Rankings.{ListsEdge}
-use Rattle.round_pool.proofs.RoundFacts.{AreRoundsMade, RoundStep, made_none, made_with_cycle, made_without_cycle, made_before_last, round_step, still_acyclic, made_then_cycle}
+use Rattle.round_pool.proofs.RoundFacts.{AreRoundsMade, RoundStep, over_base, made_none, made_with_cycle, made_without_cycle, made_before_last, round_step, still_acyclic, made_then_cycle}
 use Rattle.round_pool.proofs.RankedFacts.{added_within}
 use Rattle.round_pool.proofs.round_loop.rounds.Goals as goal
 
@@ -30,6 +30,9 @@ loop-numbers-init g c =
       c.first_workers-sharing.ensures.some,
       omega (arith, c.first_workers-sharing.ensures.most, c.requires.most),
     )
+
+pub round_edges-requires-clause-base : goal.round_edges-requires-clause-base
+round_edges-requires-clause-base g c = λ κs lives. over_base c.args.trace.now (length (map (λ (v : Vec Edge). v.items) c.loop-numbers.added.items)) c.loop-numbers.last c.in_ok-masks.masks c.loop-numbers.invariant.0.graph c.in_ok-masks.ensures
 
 pub returns-then-is_empty : goal.returns-then-is_empty
 returns-then-is_empty g c =
