@@ -3,11 +3,12 @@
 mod by_hand;
 mod claims;
 mod drawn;
+mod families;
 mod faults;
 mod gates;
 mod refused_allocations;
 
-use crate::{MAX_WORKERS, PoolFault, PoolGate, Ranked, rounds};
+use crate::{Edge, MAX_WORKERS, PoolFault, PoolGate, Ranked, rounds};
 use order_graph::Graph;
 use plain_rounds::{has_edge, has_unwritten_load, rank_set, rounds_number};
 use std::alloc::{AllocError, Global};
@@ -78,6 +79,15 @@ fn rounds_of(ranked: &Ranked) -> u64 {
 
 fn rank_of(ranked: &Ranked, u: usize, v: usize) -> Option<u64> {
     ranked.rank(u, v)
+}
+
+/// The edges that round `k` added, or none past the last round.
+fn added(ranked: &Ranked, k: usize) -> &[Edge] {
+    if 1 <= k && k as u64 <= ranked.rounds() {
+        ranked.added(k)
+    } else {
+        &[]
+    }
 }
 
 /// The rounds, where no load of the trace is unwritten and there are 1 to 64 workers.

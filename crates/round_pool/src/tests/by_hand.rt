@@ -1,7 +1,7 @@
 //! Traces made by hand, on several numbers of workers.
 
 use super::{
-    compare, expect, independent_reads, made, rank_of, rounds_of, st, store_buffering, sw,
+    added, compare, expect, independent_reads, made, rank_of, rounds_of, st, store_buffering, sw,
     trace_of, two_swaps_both_first,
 };
 use crate::{Edge, OpenPoolGate, Ranked};
@@ -59,15 +59,6 @@ fn two_swaps_on_each_number_of_workers(rt: HostRuntime) -> Result<(), Fail> {
         compare(&rt, alloc, &trace, &ranked)?;
     }
     Ok(())
-}
-
-/// The edges that round `k` added, or none past the last round.
-fn added(ranked: &Ranked, k: usize) -> &[Edge] {
-    if 1 <= k && k as u64 <= ranked.rounds() {
-        ranked.added(k)
-    } else {
-        &[]
-    }
 }
 
 fn expect_added(rt: &impl Abort, ranked: &Ranked, k: usize, edges: &[Edge]) {

@@ -1,13 +1,13 @@
 //! What a gate sees of the workers.
 
-use super::{expect, independent_reads, made, store_buffering, trace_of};
+use super::{TWO_SWAPS_BOTH_FIRST, expect, independent_reads, made, st, store_buffering, trace_of};
 use crate::PoolGate;
-use std::alloc::AllocGlobal;
+use std::alloc::{AllocGlobal, Global};
 use std::sync::Wait;
 use std::sync::atomic::{AtomicU64, Ordering};
 use std::test::Fail;
 use std::thread::{Threads, yield_now};
-use tso_ops::{Outcome, Trace};
+use tso_ops::{Trace, ValueFault};
 
 /// The rounds number of the trace, by workers with this gate.
 fn rounds_by<H: Threads + Wait + AllocGlobal, G: PoolGate + Sync>(
@@ -64,119 +64,111 @@ impl PoolGate for Rows {
     }
 }
 
+/// The rows that one worker computes, in their order, as the digits of a number.
+fn rows_of<H: Threads + Wait + AllocGlobal>(rt: &H, trace: &Trace) -> Result<u64, Fail> {
+    let gate = Rows {
+        seen: AtomicU64::new(0),
+    };
+    rounds_by(rt, trace, 1, &gate)?;
+    Ok(seen(&gate.seen))
+}
+
+/// The first round adds edges from the loads 2 and 4. The next looks at their rows alone, and finds none.
 #[test]
-fn two_workers_compute_at_once(rt: HostRuntime) -> Result<(), Fail> {
+fn workset_of_store_buffering(rt: HostRuntime) -> Result<(), Fail> {
+    let rows = rows_of(&rt, &store_buffering(rt.alloc())?)?;
+    expect(&rt, "rows", rows, 0x1234_24);
+    Ok(())
+}
+
+/// Two swaps that both read the first value, 1 and 2, 3 and 4, and a store to another address, 5.
+fn two_swaps_and_a_store(alloc: Global) -> Result<Trace, ValueFault> {
+    let [one, other] = TWO_SWAPS_BOTH_FIRST;
+    trace_of(alloc, &[one, other, &[st(2, 3)]])
+}
+
+/// The first round adds edges from load 1 to store 4 and from load 3 to store 2. The stores 2 and 4 reach nothing more by
+/// them. Their rows are looked at again since the loads of their swaps reach more, and get an edge each. Row 5 isn't.
+#[test]
+fn rows_of_two_swaps(rt: HostRuntime) -> Result<(), Fail> {
+    let rows = rows_of(&rt, &two_swaps_and_a_store(rt.alloc())?)?;
+    expect(&rt, "rows", rows, 0x12345_1234);
+    Ok(())
+}
+
+/// A gate that counts the calls of the first round by row and those of later rounds by worker, four bits for each row or
+/// worker below 16.
+#[derive(Drop)]
+struct Calls {
+    /// The rows of the first round.
+    rows: u64,
+    calls: AtomicU64,
+    of_rows: AtomicU64,
+    of_workers: AtomicU64,
+}
+
+impl PoolGate for Calls {
+    fn row(&self, worker: usize, row: usize) {
+        if self.calls.fetch_add(1, Ordering::SeqCst) < self.rows {
+            self.of_rows
+                .fetch_add(1 << (4 * (row % 16)), Ordering::SeqCst);
+        } else {
+            self.of_workers
+                .fetch_add(1 << (4 * (worker % 16)), Ordering::SeqCst);
+        }
+    }
+}
+
+/// The calls of the first round, which has so many rows, and of later rounds.
+fn calls_by<H: Threads + Wait + AllocGlobal>(
+    rt: &H,
+    trace: &Trace,
+    workers: usize,
+    rows: u64,
+) -> Result<(u64, u64), Fail> {
+    let gate = Calls {
+        rows,
+        calls: AtomicU64::new(0),
+        of_rows: AtomicU64::new(0),
+        of_workers: AtomicU64::new(0),
+    };
+    rounds_by(rt, trace, workers, &gate)?;
+    Ok((seen(&gate.of_rows), seen(&gate.of_workers)))
+}
+
+/// Whether a second call came while the first waited: 1 or 0.
+fn met_by<H: Threads + Wait + AllocGlobal>(
+    rt: &H,
+    trace: &Trace,
+    workers: usize,
+) -> Result<u64, Fail> {
     let gate = Meeting {
         calls: AtomicU64::new(0),
         met: AtomicU64::new(0),
     };
-    let rounds = rounds_by(&rt, &independent_reads(rt.alloc())?, 2, &gate)?;
-    expect(
-        &rt,
-        "rounds and a second call",
-        (rounds, seen(&gate.met)),
-        (1, 1),
-    );
-    Ok(())
+    rounds_by(rt, trace, workers, &gate)?;
+    Ok(seen(&gate.met))
 }
 
+/// Each of six rows is computed once, by workers that run at the same time. The one round ends with a cycle.
 #[test]
-fn one_worker_has_all_rows(rt: HostRuntime) -> Result<(), Fail> {
-    let gate = Rows {
-        seen: AtomicU64::new(0),
-    };
-    rounds_by(&rt, &store_buffering(rt.alloc())?, 1, &gate)?;
-    expect(&rt, "rows", seen(&gate.seen), 0x1234_1234);
-    Ok(())
-}
-
-/// Two bits for each row that was computed, of the worker that did it: worker 0 is written as 1, worker 1 as 2.
-#[derive(Drop)]
-struct Workers {
-    of_rows: AtomicU64,
-}
-
-impl PoolGate for Workers {
-    fn row(&self, worker: usize, row: usize) {
-        let mark = (worker as u64).wrapping_add(1) << (2 * (row % 32));
-        self.of_rows.fetch_add(mark, Ordering::SeqCst);
+fn workers_meet(rt: HostRuntime) -> Result<(), Fail> {
+    let trace = independent_reads(rt.alloc())?;
+    for workers in [2, 3, 64] {
+        expect(&rt, "a second call", met_by(&rt, &trace, workers)?, 1);
+        let calls = calls_by(&rt, &trace, workers, 6)?;
+        expect(&rt, "calls", calls, (0x111_1110, 0));
     }
-}
-
-/// Three stores of a processor, and three loads of another.
-const SIX_ROWS: [&[Outcome]; 2] = [
-    &[
-        Outcome::St { a: 1, v: 1 },
-        Outcome::St { a: 1, v: 2 },
-        Outcome::St { a: 1, v: 3 },
-    ],
-    &[Outcome::Ld { a: 2, r: 0 }; 3],
-];
-
-/// Three workers share six rows, two each.
-#[test]
-fn rows_are_shared_out(rt: HostRuntime) -> Result<(), Fail> {
-    let gate = Workers {
-        of_rows: AtomicU64::new(0),
-    };
-    let rounds = rounds_by(&rt, &trace_of(rt.alloc(), &SIX_ROWS)?, 3, &gate)?;
-    expect(&rt, "rounds", rounds, 0);
-    expect(&rt, "workers", seen(&gate.of_rows), 0b11_11_10_10_01_01_00);
     Ok(())
 }
 
-/// Four bits for each row below 16: how often the gate was called before it.
-#[derive(Drop)]
-struct Calls {
-    of_rows: AtomicU64,
-}
-
-impl PoolGate for Calls {
-    fn row(&self, _worker: usize, row: usize) {
-        self.of_rows
-            .fetch_add(1 << (4 * (row % 16)), Ordering::SeqCst);
-    }
-}
-
-/// Four rows are computed twice, in the one round that adds edges and in the next, which finds none.
+/// The two rows of the later round are all computed by worker 0.
 #[test]
-fn the_gate_is_called_for_each_row(rt: HostRuntime) -> Result<(), Fail> {
+fn later_rounds_of_few_rows_start_no_thread(rt: HostRuntime) -> Result<(), Fail> {
     let trace = store_buffering(rt.alloc())?;
     for workers in [1, 2, 3, 4, 5, 64] {
-        let gate = Calls {
-            of_rows: AtomicU64::new(0),
-        };
-        let rounds = rounds_by(&rt, &trace, workers, &gate)?;
-        expect(
-            &rt,
-            "rounds and calls",
-            (rounds, seen(&gate.of_rows)),
-            (1, 0x2_2220),
-        );
+        let calls = calls_by(&rt, &trace, workers, 4)?;
+        expect(&rt, "calls", calls, (0x1_1110, 2));
     }
-    Ok(())
-}
-
-/// Four bits for each worker below 16: how many rows it computed.
-#[derive(Drop)]
-struct RowsOfWorkers {
-    counts: AtomicU64,
-}
-
-impl PoolGate for RowsOfWorkers {
-    fn row(&self, worker: usize, _row: usize) {
-        self.counts
-            .fetch_add(1 << (4 * (worker % 16)), Ordering::SeqCst);
-    }
-}
-
-/// Of five workers the first has none of four rows, and each other has one in each of two rounds.
-#[test]
-fn a_worker_without_rows_calls_no_gate(rt: HostRuntime) -> Result<(), Fail> {
-    let gate = RowsOfWorkers {
-        counts: AtomicU64::new(0),
-    };
-    rounds_by(&rt, &store_buffering(rt.alloc())?, 5, &gate)?;
-    expect(&rt, "rows", seen(&gate.counts), 0x2_2220);
     Ok(())
 }
