@@ -183,7 +183,11 @@ fn collect_round(
 }
 
 /// Adds the steps of the marked base edges, from the last to the first.
-fn collect_base(trace: &Trace, marks: &EdgeRows, steps: &mut Vec<CertStep>) -> Result<(), OutOfMemory>
+fn collect_base(
+    trace: &Trace,
+    marks: &EdgeRows,
+    steps: &mut Vec<CertStep>,
+) -> Result<(), OutOfMemory>
     requires nodes { marks.now.nodes ≡ suc (event_total trace.now) }
     ensures steps { OnOk result ((k : ℕ) (cycle : List ℕ) →
         Collects trace.now k cycle (IsEdge marks.now) (IsAboveRank trace.now 0) (reverse steps.old.items) →
