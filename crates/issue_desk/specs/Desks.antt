@@ -28,29 +28,29 @@ pub record IsDesk (desk : DeskValue) : Type 0 where
   pub begun : AreFirstOpsOf desk.program desk.unit.steps
 
 -- the next operation of processor p; none where all were issued, or the program doesn't have the processor
-abbrev pub next_op : DeskValue → ℕ → Option Op
-next_op desk p = slice_get (ops_at desk.program p) (length (outcomes_of p desk.unit.steps))
+abbrev pub issued_next : DeskValue → ℕ → Option Op
+issued_next desk p = slice_get (ops_at desk.program p) (length (outcomes_of p desk.unit.steps))
 
 -- The unit took the step of the next operation of the pass's processor, and otherwise only drains of it. The pass has the step's outcome, and all else
 -- is as it was.
 pub record IssuesNext (old new : DeskValue) (before after : PassValue) : Type 0 where
   pub outcome : Outcome
-  pub next : next_op old before.processor ≡ Some (op_of outcome)
+  pub next : issued_next old before.processor ≡ Some (op_of outcome)
   pub taken : Takes old.unit new.unit (step_of before.processor outcome)
   pub pass : after ≡ record { processor = before.processor; outcomes = before.outcomes ++ outcome ∷ [] }
   pub program : new.program ≡ old.program
-  pub others : (q : ℕ) → q ≢ before.processor → next_op new q ≡ next_op old q
+  pub others : (q : ℕ) → q ≢ before.processor → issued_next new q ≡ issued_next old q
 
 -- What an issue answers: false where no operation is left, with nothing changed.
 abbrev pub AnswersIssue : DeskValue → DeskValue → PassValue → PassValue → Bool → Type 0
 AnswersIssue old new before after true = IssuesNext old new before after
-AnswersIssue old new before after false = (next_op old before.processor ≡ None) × (new ≡ old) × (after ≡ before)
+AnswersIssue old new before after false = (issued_next old before.processor ≡ None) × (new ≡ old) × (after ≡ before)
 
 -- The unit's drain of processor p, by what it answers. The program and the next operation of each processor are as they were.
 pub record DrainsUnit (old new : DeskValue) (p : ℕ) (some : Bool) : Type 0 where
   pub drained : AnswersDrain old.unit new.unit p some
   pub program : new.program ≡ old.program
-  pub next : (q : ℕ) → next_op new q ≡ next_op old q
+  pub next : (q : ℕ) → issued_next new q ≡ issued_next old q
 
 -- The desk has this program and the unit handed in, which has no step yet, with the program's first values.
 pub record IsNewDesk (handed : ProgramValue) (given : UnitValue) (desk : DeskValue) : Type 0 where

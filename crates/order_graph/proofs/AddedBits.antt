@@ -1,13 +1,12 @@
 -- Tables to which bits are added one after another: which of the bits given are left, and how a table and its transposed table stay in agreement.
 use Rattle.std.proofs.Common.{◌≡◌, ◌⊎◌, ◌↔◌, inl, inr, ℕ, ◌+◌, ◌*◌, ◌/◌, ◌%◌, ◌^◌, ◌<◌, ◌≤◌, List, length, get_or, sym, subst, ◌∙◌, arith}
-use Rattle.std.specs.Int.{bit_not, trailing_zeros, w64}
-use Rattle.std.specs.Prelude.{bit_and, bit_or}
+use Rattle.std.specs.Int.{bit_not, w64}
+use Rattle.std.specs.Prelude.{bit_and}
 use Rattle.std.proofs.lemmas.Bool.{cases_eq}
-use Rattle.std.proofs.lemmas.Nat.{row_fits}
 use Rattle.bitsets.specs.Rows.{HasBit}
 use Rattle.bitsets.specs.Tables.{IsSet, Adds}
 use Rattle.order_graph.specs.Internal.Tables.{IsSelfOrSet, AreTransposed, IsTransitive}
-use Rattle.bitsets.proofs.WordFacts.{HasBit-zero, HasBit-or, HasBit-clear, HasBit-lowest, HasBit-and, HasBit-not}
+use Rattle.bitsets.proofs.WordFacts.{HasBit-zero, HasBit-and, HasBit-not}
 use Rattle.bitsets.proofs.TableFacts.{IsSet-decided, IsSet-word, Leaves, Leaves-start, Leaves-step, Leaves-end, column_within}
 
 -- Two transposed tables stay so, where rows of word i gain bits of word j in the one, and in the other those bits gain these rows that some

@@ -1,21 +1,22 @@
 -- The numbers that have come to reach more since a graph was settled.
-use Rattle.std.proofs.Common.{refl, ◌≡◌, ◌==◌, ◌⊎◌, ◌↔◌, inl, inr, ℕ, ◌+◌, ◌*◌, ◌/◌, ◌%◌, ◌^◌, ◌<◌, ◌≤◌, false, IsTrue, List, length, get_or, replicate, sym, ap, subst, ◌∙◌, arith}
-use Rattle.std.specs.Prelude.{bit_and, Contains}
+use Rattle.std.proofs.Common.{refl, ◌≡◌, ◌⊎◌, ◌↔◌, inl, inr, ℕ, ◌+◌, ◌*◌, ◌/◌, ◌%◌, ◌^◌, ◌<◌, ◌≤◌, false, IsTrue, List, length, get_or, replicate, sym, ap, subst, ◌∙◌, arith}
+use Rattle.std.specs.Prelude.{bit_and}
 use Rattle.std.specs.Int.{bit_not, w64}
 use Rattle.std.proofs.lemmas.Bool.{cases_eq, cases_lt}
 use Rattle.std.proofs.lemmas.List.{length-replicate, get_or_past}
 use Rattle.order_paths.specs.Paths.{Reaches}
-use Rattle.order_paths.proofs.Reach.{Reaches-join, Reaches-mono, Reaches-below}
+use Rattle.order_paths.proofs.Reach.{Reaches-join, Reaches-below}
 use Rattle.bitsets.specs.Rows.{HasBit, HasNumber, IsListOf}
 use Rattle.bitsets.specs.Tables.{IsSet, Adds}
 use Rattle.bitsets.proofs.WordFacts.{HasBit-and, HasBit-not, HasBit-zero}
 use Rattle.bitsets.proofs.TableFacts.{IsSet-word, Leaves, Leaves-start, Leaves-step, Leaves-end, column_within, no_bit}
-use Rattle.order_graph.specs.Internal.Tables.{IsSelfOrSet, AreTransposed, Joined}
+use Rattle.order_graph.specs.Internal.Tables.{IsSelfOrSet, Joined}
 use Rattle.order_graph.specs.Internal.KeptPaths.{KeepsAllPaths, IsNodeRow}
-use Rattle.order_graph.specs.Digraphs.{Digraph, IsEdge, HasGrown, ReachesMore, grown_graph_of, tests_of}
+use Rattle.order_graph.specs.Digraphs.{Digraph, IsEdge, HasGrown, ReachesMore}
+use Rattle.order_graph.specs.Internal.Views.{grown_graph_of}
 use Rattle.order_graph.proofs.AddedBits.{given_is}
 use Rattle.order_graph.proofs.Reaching.{WithEdge, reach_split, reach_through, reach_same}
-use Rattle.order_graph.proofs.Keeping.{Sees, sees_path, Reaches-more, test_is, no_test}
+use Rattle.order_graph.proofs.Keeping.{sees_path, Reaches-more, test_is, no_test}
 
 -- The numbers that gain something by an edge from u to v are u and those that reach u, but for those that reach v.
 gains : (Edge : ℕ → ℕ → Type 0) (u v x : ℕ) → (((x ≡ u) ⊎ Reaches Edge x u) × (Reaches Edge x v → ⊥)) ↔ ReachesMore Edge (WithEdge Edge u v) x

@@ -3,7 +3,7 @@ use Rattle.std.proofs.Common.{◌≡◌, ◌==◌, ◌⊎◌, ◌↔◌, inl, in
 use Rattle.std.specs.Int.{bit_at}
 use Rattle.std.specs.List.{range_with_len}
 use Rattle.std.proofs.lemmas.Bool.{eqb-true, eq-eqb, cases_lt, false≢true}
-use Rattle.std.proofs.lemmas.List.{get_or_past, get_or-drop, get_or-replicate, get_or-take, length-replicate, length-take}
+use Rattle.std.proofs.lemmas.List.{get_or_past, length-replicate}
 use Rattle.std.proofs.lemmas.List.FromFn.{get_or-map-range_with_len, length-map-range_with_len}
 use Rattle.order_paths.specs.Paths.{Reaches}
 use Rattle.order_paths.proofs.Decisions.{Decision, Decision-IsTrue}
@@ -11,9 +11,9 @@ use Rattle.order_paths.proofs.Reach.{Reaches-join, Reaches-mono, Reaches-decided
 use Rattle.bitsets.specs.Rows.{HasBit, HasNumber}
 use Rattle.bitsets.specs.Tables.{IsSet, Adds}
 use Rattle.order_graph.specs.Internal.Tables.{IsSelfOrSet, AreTransposed, IsTransitive, Joined}
-use Rattle.order_graph.specs.Digraphs.{Digraph, IsEdge, EdgesWithin, tests_of, grown_graph_of}
+use Rattle.order_graph.specs.Digraphs.{Digraph, IsEdge, EdgesWithin}
+use Rattle.order_graph.specs.Internal.Views.{tests_of, grown_graph_of}
 use Rattle.order_graph.specs.Internal.KeptPaths.{KeepsAllPaths}
-use Rattle.bitsets.proofs.WordFacts.{HasBit-zero}
 use Rattle.bitsets.proofs.TableFacts.{column_within, no_bit, HasNumber-row}
 use Rattle.order_graph.proofs.Reaching.{WithEdge, ReachesThrough, reach_split, reach_through, reach_same}
 

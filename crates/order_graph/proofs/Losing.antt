@@ -1,16 +1,11 @@
 -- Tables that lose a bit.
-use Rattle.std.proofs.Common.{◌≡◌, ◌↔◌, inl, inr, ℕ, ◌+◌, ◌*◌, ◌/◌, ◌%◌, ◌^◌, ◌<◌, List, length, get_or, set, sym, subst, ◌∙◌, arith}
-use Rattle.std.specs.Int.{bit_not, w64}
-use Rattle.std.specs.Prelude.{bit_and}
-use Rattle.std.proofs.lemmas.Bool.{cases_eq}
+use Rattle.std.proofs.Common.{◌≡◌, ◌↔◌, ℕ, ◌+◌, ◌/◌, List, length, sym, subst, ◌∙◌}
 use Rattle.order_paths.proofs.Reach.{Reaches-mono}
-use Rattle.bitsets.specs.Rows.{HasBit}
-use Rattle.bitsets.specs.Tables.{IsSet, Loses}
+use Rattle.bitsets.specs.Tables.{Loses}
 use Rattle.order_graph.specs.Internal.Tables.{Joined}
 use Rattle.order_graph.specs.Digraphs.{Digraph, IsEdge}
 use Rattle.order_graph.specs.Internal.KeptPaths.{Covers}
-use Rattle.bitsets.proofs.WordFacts.{HasBit-clear}
-use Rattle.bitsets.proofs.TableFacts.{IsSet-written, IsSet-elsewhere, IsSet-word, column_within}
+use Rattle.bitsets.proofs.TableFacts.{column_within}
 use Rattle.order_graph.proofs.Keeping.{Sees, sees_edge}
 
 -- The edges of a table that lost a bit.

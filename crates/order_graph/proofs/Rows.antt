@@ -1,13 +1,11 @@
 -- Rows of words that are given to a table, and the graph of a table that gains them.
-use Rattle.std.proofs.Common.{◌≡◌, ◌⊎◌, ◌↔◌, inl, inr, ℕ, ◌+◌, ◌*◌, ◌/◌, ◌%◌, ◌^◌, ◌<◌, ◌≤◌, List, length, get_or, replicate, sym, ap, subst, ◌∙◌, arith}
-use Rattle.std.proofs.lemmas.Bool.{cases_eq}
-use Rattle.std.proofs.lemmas.List.{get_or_past, length-replicate}
-use Rattle.bitsets.specs.Rows.{HasBit, HasNumber}
+use Rattle.std.proofs.Common.{◌≡◌, ◌⊎◌, ◌↔◌, inl, inr, ℕ, ◌+◌, ◌*◌, ◌/◌, ◌^◌, ◌<◌, List, length, replicate, sym, ap, subst, ◌∙◌, arith}
+use Rattle.std.proofs.lemmas.List.{length-replicate}
+use Rattle.bitsets.specs.Rows.{HasNumber}
 use Rattle.bitsets.specs.Tables.{IsSet, Adds}
 use Rattle.order_graph.specs.Internal.Tables.{IsTable}
 use Rattle.order_graph.specs.Digraphs.{Digraph, IsEdge}
-use Rattle.bitsets.proofs.WordFacts.{HasBit-zero}
-use Rattle.bitsets.proofs.TableFacts.{Leaves, Leaves-start, Leaves-step, Leaves-end, column_within, no_bit}
+use Rattle.bitsets.proofs.TableFacts.{column_within, no_bit}
 use Rattle.order_graph.proofs.Keeping.{Sees, sees_edge}
 
 -- A table of zeros has no edges.

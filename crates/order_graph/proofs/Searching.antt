@@ -1,7 +1,5 @@
 -- How a search goes down from the first level that the start's edges meet, always to the least number.
-use Rattle.std.proofs.Common.{◌≡◌, ◌↔◌, inl, inr, ℕ, zero, suc, ◌+◌, ◌-◌, ◌*◌, ◌/◌, ◌%◌, ◌<◌, ◌≤◌, ◌^◌, List, [], ◌∷◌, ◌++◌, length, get_or, replicate, Option, Some, None, MatchOption, is_some, true, false, refl, sym, ap, subst, ◌∙◌, arith}
-use Rattle.std.specs.Int.{trailing_zeros, w64}
-use Rattle.std.specs.Prelude.{bit_and}
+use Rattle.std.proofs.Common.{◌≡◌, ◌↔◌, inl, inr, ℕ, zero, suc, ◌+◌, ◌-◌, ◌*◌, ◌/◌, ◌%◌, ◌<◌, ◌≤◌, List, [], ◌∷◌, ◌++◌, length, get_or, replicate, Option, Some, None, MatchOption, is_some, true, false, refl, sym, ap, subst, ◌∙◌, arith}
 use Rattle.std.proofs.lemmas.Bool.{cases_order, cases_lt, true≢false, false≢true}
 use Rattle.std.proofs.lemmas.List.{append_assoc, append-nil, length-append, length-replicate, get_or_append_left, get_or-append_right, get_or-replicate, get_or_past}
 use Rattle.order_paths.specs.Paths.{IsPath, Reaches, IsAtMost, IsNoGreater}
@@ -12,8 +10,8 @@ use Rattle.bitsets.specs.Tables.{IsSet, Adds, IsFirstShared, NoneShared}
 use Rattle.order_graph.specs.Internal.Tables.{Joined}
 use Rattle.order_graph.specs.Internal.KeptPaths.{KeepsAllPaths, Covers}
 use Rattle.order_graph.specs.Internal.Tracks.{Track, Walks, IsLeastTrack, IsLevel, IsAboveLevel, NoShorter}
-use Rattle.bitsets.proofs.WordFacts.{HasBit-zero, HasBit-and, HasBit-lowest}
-use Rattle.bitsets.proofs.TableFacts.{IsSet-decided, IsSet-word, column_within, row_within, no_bit}
+use Rattle.bitsets.proofs.WordFacts.{HasBit-zero}
+use Rattle.bitsets.proofs.TableFacts.{IsSet-decided, column_within, row_within, no_bit}
 
 -- a track has an edge to where a walk of as many edges as it has numbers begins
 pub Track-walks : (Edge : ℕ → ℕ → Type 0) (x v : ℕ) (rest : List ℕ) → Track Edge x rest v → (y : ℕ) × Edge x y × Walks Edge (length rest) y v

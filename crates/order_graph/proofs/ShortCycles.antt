@@ -7,7 +7,7 @@ use Rattle.order_paths.proofs.Reach.{Reaches-edge, Reaches-prefix, Reaches-join}
 use Rattle.bitsets.specs.Tables.{IsSet, Adds}
 use Rattle.order_graph.specs.Internal.Tables.{Joined}
 use Rattle.order_graph.specs.Internal.KeptPaths.{KeepsAllPaths}
-use Rattle.order_graph.specs.Internal.Tracks.{Track, NoCycleBefore, IsLeastCycleBefore, IsOpen, OpenEdge, NoShorterOpen, IsClosedNumber, IsNext, IsFresh}
+use Rattle.order_graph.specs.Internal.Tracks.{Track, NoCycleBefore, IsLeastCycleBefore, IsOpen, OpenEdge, NoShorterOpen, IsClosedNumber, IsNext, IsUnseen}
 use Rattle.bitsets.proofs.TableFacts.{IsSet-decided, column_within, Adds-kept, no_bit}
 use Rattle.order_graph.proofs.Searching.{row_of_zeros}
 use Rattle.order_graph.proofs.Cycling.{IsCycle-track, before_more_longer}
@@ -65,7 +65,7 @@ pub Closing-step : (edges paths transposed levels more new reached wider seen ne
     Closing edges transposed levels reached seen width nodes start count →
     Adds reached wider width (λ r y. (r ≡ 0) × (first ≤ y / 64) × IsNext edges levels width count first y) → (IsSet wider width 0 start → ⊥) →
     more ≡ levels ++ replicate width 0 → length new ≡ length more → length wider ≡ length reached → length new_seen ≡ length seen →
-    Adds more new width (λ i y. (i ≡ count + 1) × (first ≤ y / 64) × IsFresh wider transposed seen width start y) →
+    Adds more new width (λ i y. (i ≡ count + 1) × (first ≤ y / 64) × IsUnseen wider transposed seen width start y) →
     Adds seen new_seen width (λ i y. (i ≡ 0) × (first ≤ y / 64) × IsSet wider width 0 y × IsSet transposed width start y) →
     Closing edges transposed new wider new_seen width nodes start (count + 1)
 Closing-step edges paths transposed levels more new reached wider seen new_seen width nodes start count first keeps hs first_is closing spreads unmet same sized wider_sized seen_sized fills sees = record {
@@ -145,9 +145,9 @@ pub Closing-last : (edges paths transposed levels more new reached wider seen ne
     Closing edges transposed levels reached seen width nodes start count →
     Adds reached wider width (λ r y. (r ≡ 0) × (first ≤ y / 64) × IsNext edges levels width count first y) → (IsSet wider width 0 start → ⊥) →
     more ≡ levels ++ replicate width 0 → length new ≡ length more → length wider ≡ length reached → length new_seen ≡ length seen →
-    Adds more new width (λ i y. (i ≡ count + 1) × (first ≤ y / 64) × IsFresh wider transposed seen width start y) →
+    Adds more new width (λ i y. (i ≡ count + 1) × (first ≤ y / 64) × IsUnseen wider transposed seen width start y) →
     Adds seen new_seen width (λ i y. (i ≡ 0) × (first ≤ y / 64) × IsSet wider width 0 y × IsSet transposed width start y) →
-    ((y : ℕ) → y / 64 < width → first ≤ y / 64 → IsFresh wider transposed seen width start y → ⊥) → NoShorterOpen edges transposed width nodes start limit
+    ((y : ℕ) → y / 64 < width → first ≤ y / 64 → IsUnseen wider transposed seen width start y → ⊥) → NoShorterOpen edges transposed width nodes start limit
 Closing-last edges paths transposed levels more new reached wider seen new_seen width nodes start count first limit keeps hs first_is closing spreads unmet same sized wider_sized seen_sized fills sees none =
     Closing-empty edges transposed new wider new_seen width nodes start (count + 1) limit
     (Closing-step edges paths transposed levels more new reached wider seen new_seen width nodes start count first keeps hs first_is closing spreads unmet same sized wider_sized seen_sized fills sees)

@@ -1,13 +1,12 @@
 -- Rows that gain the columns of other rows, word by word.
-use Rattle.std.proofs.Common.{◌≡◌, ◌↔◌, inl, inr, ℕ, ◌+◌, ◌*◌, ◌/◌, ◌%◌, ◌^◌, ◌<◌, ◌≤◌, List, get_or, sym, subst, arith}
-use Rattle.std.specs.Int.{bit_not, trailing_zeros, w64}
+use Rattle.std.proofs.Common.{◌≡◌, ◌↔◌, inl, inr, ℕ, ◌+◌, ◌*◌, ◌/◌, ◌%◌, ◌<◌, ◌≤◌, List, get_or, sym, subst, arith}
 use Rattle.std.specs.Prelude.{bit_and, bit_or}
 use Rattle.std.proofs.lemmas.Bool.{cases_eq}
 use Rattle.bitsets.specs.Rows.{HasBit}
 use Rattle.bitsets.specs.Tables.{IsSet, Adds}
 use Rattle.bitsets.proofs.FillFacts.{RowsFrom}
-use Rattle.order_graph.specs.Internal.Tracks.{IsNext, IsFresh}
-use Rattle.bitsets.proofs.WordFacts.{HasBit-zero, HasBit-or, HasBit-and, HasBit-clear, HasBit-lowest}
+use Rattle.order_graph.specs.Internal.Tracks.{IsNext, IsUnseen}
+use Rattle.bitsets.proofs.WordFacts.{HasBit-zero, HasBit-or, HasBit-and}
 use Rattle.bitsets.proofs.TableFacts.{IsSet-word, Leaves, Leaves-start, Leaves-step, Leaves-end}
 
 -- what edges lead to from the numbers of a level from word i on
@@ -40,7 +39,7 @@ abbrev pub SeenFrom : List ℕ → List ℕ → ℕ → ℕ → ℕ → ℕ → 
 SeenFrom reached transposed width start j i y = (i ≡ 0) × (j ≤ y / 64) × IsSet reached width 0 y × IsSet transposed width start y
 
 abbrev pub FreshFrom : List ℕ → List ℕ → List ℕ → ℕ → ℕ → ℕ → ℕ → ℕ → ℕ → Type 0
-FreshFrom reached transposed seen width start row j i y = (i ≡ row) × (j ≤ y / 64) × IsFresh reached transposed seen width start y
+FreshFrom reached transposed seen width start row j i y = (i ≡ row) × (j ≤ y / 64) × IsUnseen reached transposed seen width start y
 
 -- The words before word j are filled; `all` has the bits of the fresh numbers in them.
 pub record Advances (reached transposed old_seen seen old_levels levels : List ℕ) (width start row first j all : ℕ) : Type 0 where
@@ -48,7 +47,7 @@ pub record Advances (reached transposed old_seen seen old_levels levels : List �
   pub seen_leaves : Leaves old_seen seen width (SeenFrom reached transposed width start first) (SeenFrom reached transposed width start j)
   pub level_leaves : Leaves old_levels levels width (FreshFrom reached transposed old_seen width start row first) (FreshFrom reached transposed old_seen width start row j)
   pub later : (y : ℕ) → y / 64 < width → j ≤ y / 64 → IsSet seen width 0 y → IsSet old_seen width 0 y
-  pub some : (y : ℕ) → y / 64 < j → first ≤ y / 64 → IsFresh reached transposed old_seen width start y → HasBit all (y % 64)
+  pub some : (y : ℕ) → y / 64 < j → first ≤ y / 64 → IsUnseen reached transposed old_seen width start y → HasBit all (y % 64)
 
 pub Advances-start : (reached transposed seen levels : List ℕ) (width start row first : ℕ) → Advances reached transposed seen seen levels levels width start row first first 0
 Advances-start reached transposed seen levels width start row first = record {
@@ -102,7 +101,7 @@ Advances-step reached transposed old_seen seen new_seen old_levels levels new_le
           λ p. subst (λ n. HasBit n (y % 64)) (sym same) (both.1 (r.0 p.0, t.0 p.1)),
         )
 
-    fresh_is : (y : ℕ) → y / 64 < width → y / 64 ≡ j → HasBit fresh (y % 64) ↔ IsFresh reached transposed old_seen width start y
+    fresh_is : (y : ℕ) → y / 64 < width → y / 64 ≡ j → HasBit fresh (y % 64) ↔ IsUnseen reached transposed old_seen width start y
     fresh_is y h e = (
       λ b. let p = (news y e).0 b in let g = (given_is y e).0 p.0 in (g.0, g.1, λ s. p.1 (advances.seen_leaves.kept 0 y h s)),
       λ p. (news y e).1 ((given_is y e).1 (p.0, p.1), λ s. p.2 (advances.later y h (omega (arith, e)) s)),
@@ -120,7 +119,7 @@ Advances-seen reached transposed old_seen seen old_levels levels width start row
 
 -- where no bit of a fresh number was met, no number is fresh
 pub Advances-some : (reached transposed old_seen seen old_levels levels : List ℕ) (width start row first j : ℕ) → width ≤ j → Advances reached transposed old_seen seen old_levels levels width start row first j 0 →
-    (y : ℕ) → y / 64 < width → first ≤ y / 64 → IsFresh reached transposed old_seen width start y → ⊥
+    (y : ℕ) → y / 64 < width → first ≤ y / 64 → IsUnseen reached transposed old_seen width start y → ⊥
 Advances-some reached transposed old_seen seen old_levels levels width start row first j past advances y h l p = HasBit-zero (y % 64) (advances.some y (omega (arith, h, past)) l p)
 
 -- the numbers from word j on that x has an edge to, that reach x, and that a row has

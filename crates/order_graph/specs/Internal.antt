@@ -2,3 +2,4 @@
 pub mod KeptPaths
 pub mod Tables
 pub mod Tracks
+pub mod Views

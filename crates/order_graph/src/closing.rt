@@ -3,7 +3,7 @@
 ghost use Rattle.std.specs.Prelude.{◌≡◌, ◌⊎◌, ◌↔◌, ◌<◌, ◌≤◌, ◌+◌, ◌*◌, ◌/◌, ◌^◌, ℕ, IsTrue, IfOk, length};
 ghost use Rattle.bitsets.specs.Tables.{IsSet, Adds};
 ghost use Rattle.order_graph.specs.Internal.KeptPaths.{KeepsAllPaths};
-ghost use Rattle.order_graph.specs.Internal.Tracks.{IsClosedNumber, IsNext, IsFresh, NoShorterOpen};
+ghost use Rattle.order_graph.specs.Internal.Tracks.{IsClosedNumber, IsNext, IsUnseen, NoShorterOpen};
 
 use crate::kept_tables::Tables;
 use bitsets::{BitTable, bit, or_rows, set_bit, set_word};
@@ -83,9 +83,9 @@ pub fn advance(
     requires seen_row { transposed.width ≤ length seen.old }
     requires reached_row { transposed.width ≤ length reached.now }
     requires start_row { start * transposed.width + transposed.width ≤ length transposed.words.now }
-    ensures level { Adds levels.old levels.new transposed.entry.width (λ i y. (i ≡ row) × (start / 64 ≤ y / 64) × IsFresh reached.now transposed.entry.words.now seen.old transposed.entry.width start y) }
+    ensures level { Adds levels.old levels.new transposed.entry.width (λ i y. (i ≡ row) × (start / 64 ≤ y / 64) × IsUnseen reached.now transposed.entry.words.now seen.old transposed.entry.width start y) }
     ensures seen { Adds seen.old seen.new transposed.entry.width (λ i y. (i ≡ 0) × (start / 64 ≤ y / 64) × IsSet reached.now transposed.entry.width 0 y × IsSet transposed.entry.words.now transposed.entry.width start y) }
-    ensures some { (y : ℕ) → y / 64 < transposed.entry.width → start / 64 ≤ y / 64 → IsFresh reached.now transposed.entry.words.now seen.old transposed.entry.width start y → IsTrue result }
+    ensures some { (y : ℕ) → y / 64 < transposed.entry.width → start / 64 ≤ y / 64 → IsUnseen reached.now transposed.entry.words.now seen.old transposed.entry.width start y → IsTrue result }
 {
     let mut all = 0;
     for j in start / 64..transposed.width {

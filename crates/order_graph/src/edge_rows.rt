@@ -3,7 +3,8 @@
 ghost use Rattle.std.specs.Prelude.{◌≡◌, ◌⊎◌, ◌↔◌, ◌<◌, ◌^◌, ℕ, IsTrue, IfOk};
 ghost use Rattle.bitsets.specs.Rows.{HasNumber};
 ghost use Rattle.order_graph.specs.Internal.Tables.{IsTable};
-ghost use Rattle.order_graph.specs.Digraphs.{IsEdge, EdgesWithin, graph_of};
+ghost use Rattle.order_graph.specs.Digraphs.{IsEdge, EdgesWithin};
+ghost use Rattle.order_graph.specs.Internal.Views.{graph_of};
 
 use bitsets::{BitTable, add_words, bit, first_shared, set_bit};
 use std::alloc::{AllocError, Global};
@@ -19,7 +20,8 @@ pub struct EdgeRows {
 
 impl Model for EdgeRows {
     ghost use Rattle.order_graph.specs.Internal.Tables.{IsTable};
-    ghost use Rattle.order_graph.specs.Digraphs.{Digraph, graph_of};
+    ghost use Rattle.order_graph.specs.Digraphs.{Digraph};
+    ghost use Rattle.order_graph.specs.Internal.Views.{graph_of};
 
     ghost Value = { Digraph };
 

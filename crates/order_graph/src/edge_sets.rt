@@ -2,12 +2,13 @@
 
 ghost use Rattle.std.specs.Prelude.{◌≡◌, ◌↔◌, ◌<◌, ◌^◌, ℕ, false, IsTrue, IfOk, MatchOption, length, slice_index_or};
 ghost use Rattle.order_paths.specs.Paths.{Reaches, IsLeastPath};
-ghost use Rattle.order_graph.specs.Digraphs.{IsEdge, EdgesWithin, graph_of};
+ghost use Rattle.order_graph.specs.Digraphs.{IsEdge, EdgesWithin};
+ghost use Rattle.order_graph.specs.Internal.Views.{graph_of};
 ghost use Rattle.order_graph.specs.Internal.KeptPaths.{Covers};
 
-use crate::forward::{reached_row, tests_of_row};
+use crate::forward::{copied_row, reached_row, tests_of_row};
 use crate::kept_tables::{KeptTables, Tables};
-use bitsets::{BitTable, bit, clear_bit};
+use bitsets::{BitTable, bit, clear_bit, set_bit};
 use std::alloc::{AllocError, Global};
 use std::marker::Model;
 
@@ -21,7 +22,8 @@ pub struct EdgeSet {
 }
 
 impl Model for EdgeSet {
-    ghost use Rattle.order_graph.specs.Digraphs.{Digraph, graph_of};
+    ghost use Rattle.order_graph.specs.Digraphs.{Digraph};
+    ghost use Rattle.order_graph.specs.Internal.Views.{graph_of};
     ghost use Rattle.order_graph.specs.Internal.KeptPaths.{Covers};
 
     ghost Value = { Digraph };
@@ -86,10 +88,43 @@ impl EdgeSet {
     {
         let alloc = *self.tables.edges.allocator();
         let width = self.tables.width;
-        let row = reached_row(alloc, self.tables.edge_table(), self.tables.nodes, u)?;
+        let mask = copied_row(alloc, self.tables.path_table(), u)?;
+        let row = reached_row(alloc, self.tables.edge_table(), &mask, self.tables.nodes, u)?;
         let reached = BitTable { words: &row, width };
         let tests = tests_of_row(alloc, reached, 0, self.tables.nodes)?;
         Ok(tests)
+    }
+
+    /// Whether a path of one or more edges leads from u to v. OutOfMemory where an allocation was refused.
+    ///
+    /// It searches only where u has no edge to v and the graph that the set was made from had a path, and looks at no
+    /// number but those from which that graph had one to v.
+    pub fn reaches(&self, u: usize, v: usize) -> Result<bool, AllocError>
+        requires from { u < self.now.nodes }
+        requires to { v < self.now.nodes }
+        ensures { IfOk result (λ leads. IsTrue leads ↔ Reaches (IsEdge self.now) u v) }
+    {
+        if self.tables.has_edge(u, v) {
+            return Ok(true);
+        }
+        if !self.tables.has_path_back(v, u) {
+            return Ok(false);
+        }
+        self.leads(u, v)
+    }
+
+    /// Whether a path of one or more edges leads from u to v, by a search over the numbers that may lead to v.
+    fn leads(&self, u: usize, v: usize) -> Result<bool, AllocError>
+        requires from { u < self.now.nodes }
+        requires to { v < self.now.nodes }
+        ensures { IfOk result (λ leads. IsTrue leads ↔ Reaches (IsEdge self.now) u v) }
+    {
+        let alloc = *self.tables.edges.allocator();
+        let width = self.tables.width;
+        let mut mask = copied_row(alloc, self.tables.transposed_table(), v)?;
+        set_bit(&mut mask, width, 0, v);
+        let row = reached_row(alloc, self.tables.edge_table(), &mask, self.tables.nodes, u)?;
+        Ok(bit(BitTable { words: &row, width }, 0, v))
     }
 
     /// The path from u to v with the fewest edges, and of these the least list of numbers; None where there is none.
@@ -100,10 +135,7 @@ impl EdgeSet {
         ensures { IfOk result (λ found. MatchOption found (Reaches (IsEdge self.now) u v → ⊥)
             (λ path. IsLeastPath (IsEdge self.now) u v path.items)) }
     {
-        let alloc = *self.tables.edges.allocator();
-        let width = self.tables.width;
-        let row = reached_row(alloc, self.tables.edge_table(), self.tables.nodes, u)?;
-        if !bit(BitTable { words: &row, width }, 0, v) {
+        if !self.reaches(u, v)? {
             return Ok(None);
         }
         let path = self.tables.least_path(u, v)?;

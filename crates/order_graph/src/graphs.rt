@@ -30,7 +30,8 @@ pub struct Graph {
 }
 
 impl Model for Graph {
-    ghost use Rattle.order_graph.specs.Digraphs.{Digraph, grown_graph_of};
+    ghost use Rattle.order_graph.specs.Digraphs.{Digraph};
+    ghost use Rattle.order_graph.specs.Internal.Views.{grown_graph_of};
     ghost use Rattle.order_graph.specs.Internal.KeptPaths.{KeepsAllPaths, IsNodeRow};
 
     ghost Value = { Digraph };

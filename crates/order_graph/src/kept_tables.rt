@@ -74,6 +74,18 @@ impl KeptTables {
         }
     }
 
+    /// The table of the paths, transposed.
+    #[inline]
+    pub fn transposed_table(&self) -> BitTable<'_>
+        ensures words { result.words.now ≡ self.now.transposed.items }
+        ensures width { result.width ≡ self.now.width }
+    {
+        BitTable {
+            words: &self.transposed,
+            width: self.width,
+        }
+    }
+
     /// Whether there is an edge from u to v.
     #[inline]
     pub fn has_edge(&self, u: usize, v: usize) -> bool
@@ -92,6 +104,16 @@ impl KeptTables {
         ensures { IsTrue result ↔ IsSet self.now.paths.items self.now.width u v }
     {
         bit(self.path_table(), u, v)
+    }
+
+    /// Whether the transposed table's bit of a path from u to v is set.
+    #[inline]
+    pub fn has_path_back(&self, v: usize, u: usize) -> bool
+        requires column { u / 64 < self.now.width }
+        requires row { v * self.now.width + self.now.width ≤ length self.now.transposed.items }
+        ensures { IsTrue result ↔ IsSet self.now.transposed.items self.now.width v u }
+    {
+        bit(self.transposed_table(), v, u)
     }
 
     /// The path from u to v with the fewest edges, and of these the least list.

@@ -23,6 +23,12 @@ pub trait PathSearch {
         ensures sized { IfOk result (λ row. length row.items ≡ (digraph self.now).nodes) }
         ensures path { IfOk result (λ row. (y : ℕ) → IsTrue (slice_index_or row.items y false) ↔ Reaches (IsEdge (digraph self.now)) u y) };
 
+    /// Whether a path of one or more edges leads from u to v. OutOfMemory where an allocation was refused.
+    fn reaches(&self, u: usize, v: usize) -> Result<bool, AllocError>
+        requires from { u < (digraph self.now).nodes }
+        requires to { v < (digraph self.now).nodes }
+        ensures { IfOk result (λ leads. IsTrue leads ↔ Reaches (IsEdge (digraph self.now)) u v) };
+
     /// The path from u to v with the fewest edges, and of these the least list of numbers; None where there is none.
     /// OutOfMemory where an allocation was refused.
     fn least_path(&self, u: usize, v: usize) -> Result<Option<Vec<usize>>, AllocError>
@@ -43,6 +49,10 @@ impl PathSearch for Graph {
         self.reached(u)
     }
 
+    fn reaches(&self, u: usize, v: usize) -> Result<bool, AllocError> {
+        Ok(self.reaches(u, v))
+    }
+
     fn least_path(&self, u: usize, v: usize) -> Result<Option<Vec<usize>>, AllocError> {
         self.least_path(u, v)
     }
@@ -57,6 +67,10 @@ impl PathSearch for EdgeSet {
 
     fn reached(&self, u: usize) -> Result<Vec<bool>, AllocError> {
         self.reached(u)
+    }
+
+    fn reaches(&self, u: usize, v: usize) -> Result<bool, AllocError> {
+        self.reaches(u, v)
     }
 
     fn least_path(&self, u: usize, v: usize) -> Result<Option<Vec<usize>>, AllocError> {

@@ -244,6 +244,14 @@ fn set_reached(alloc: Global, set: &EdgeSet, u: usize) -> Result<Vec<bool>, Allo
     }
 }
 
+fn set_reaches(set: &EdgeSet, u: usize, v: usize) -> Result<bool, AllocError> {
+    if u < set.nodes() && v < set.nodes() {
+        set.reaches(u, v)
+    } else {
+        Ok(false)
+    }
+}
+
 fn set_least_path(set: &EdgeSet, u: usize, v: usize) -> Result<Option<Vec<usize>>, AllocError> {
     if u < set.nodes() && v < set.nodes() {
         set.least_path(u, v)
@@ -278,8 +286,16 @@ fn compare_set_from(
     let reached = set_reached(alloc, set, u)?;
     for v in 0..nodes {
         let path = plain_path(alloc, edges, nodes, u, v)?;
-        let found = (set_has(set, u, v), reached.get(v).copied());
-        let wanted = (edges.contains(&(u, v)), Some(!path.is_empty()));
+        let found = (
+            set_has(set, u, v),
+            reached.get(v).copied(),
+            set_reaches(set, u, v)?,
+        );
+        let wanted = (
+            edges.contains(&(u, v)),
+            Some(!path.is_empty()),
+            !path.is_empty(),
+        );
         assert_eq!(rt; found, wanted, "{u} {v} in {edges:?}");
         let found = set_least_path(set, u, v)?;
         assert!(rt;

@@ -14,7 +14,8 @@ use Rattle.round_pool.specs.declared.claims.seat_view.SeatView.{SeatView}
 use Rattle.round_pool.specs.declared.claims.types.Claims.{Claims}
 use Rattle.round_pool.specs.declared.claims.types.Claimant.{Claimant}
 use Rattle.round_pool.specs.Claims.{rows_of, places_of, held, IsOf, NoneTwice, HasAll}
-use Rattle.round_pool.specs.Internal.ClaimTable.{times, standing, seat_view, first_view, KeepsClaims, IsKnown, tries, looks, kept_view, new_view, joined_view, spent_view}
+use Rattle.round_pool.specs.ClaimCounts.{times}
+use Rattle.round_pool.specs.Internal.ClaimTable.{standing, seat_view, first_view, KeepsClaims, IsKnown, tries, looks, kept_view, new_view, joined_view, spent_view}
 
 -- ---- how often a place stands in a list
 

@@ -3,7 +3,7 @@
 use Rattle.std.specs.Prelude.{◌≡◌, ◌≢◌, ℕ, ◌<◌, ◌≤◌, List, [], length, map, get_or, All, AllPairs}
 use Rattle.round_pool.specs.declared.claims.types.Claims.{Claims}
 use Rattle.round_pool.specs.declared.claims.types.Claimant.{Claimant}
-use Rattle.round_pool.specs.Internal.ClaimTable.{times, all_parts}
+use Rattle.round_pool.specs.ClaimCounts.{times, all_parts}
 
 -- the rows, in the order in which they are tried
 abbrev pub rows_of : Claims → List ℕ
@@ -17,9 +17,9 @@ places_of claimant = claimant.seat.me.0.places
 abbrev pub tried_by : Claimant → ℕ
 tried_by claimant = claimant.tried
 
--- the claimant's part of the right to all rows, in 64ths
-abbrev pub parts_of : Claimant → ℕ
-parts_of claimant = claimant.seat.me.0.parts
+-- the claimant's parts of the right to all rows
+abbrev pub claimant_parts : Claimant → ℕ
+claimant_parts claimant = claimant.seat.me.0.parts
 
 -- the rows that the claimant has claimed, in the order in which it did
 abbrev pub held : Claims → Claimant → List ℕ
@@ -28,7 +28,7 @@ held claims claimant = map (λ place. get_or (rows_of claims) place 0) (places_o
 -- The claimant claims these rows: it has a part, and what it tried and claimed are places of them.
 pub record IsOf (claims : Claims) (claimant : Claimant) : Type 0 where
   pub table : claimant.seat.table_id ≡ claims.table.shared.table_id
-  pub some : 0 < parts_of claimant
+  pub some : 0 < claimant_parts claimant
   pub tried : tried_by claimant ≤ length (rows_of claims)
   pub places : All (λ place. place < length (rows_of claims)) (places_of claimant)
 
@@ -44,5 +44,5 @@ NoneTwice rows = AllPairs (λ x y. x ≢ y) rows
 
 -- Where the claimant has all parts and has tried all rows, it has claimed each row, just once.
 abbrev pub HasAll : Claims → Claimant → Type 0
-HasAll claims claimant = parts_of claimant ≡ all_parts → tried_by claimant ≡ length (rows_of claims) →
+HasAll claims claimant = claimant_parts claimant ≡ all_parts → tried_by claimant ≡ length (rows_of claims) →
     (place : ℕ) → place < length (rows_of claims) → times place (places_of claimant) ≡ 1

@@ -1,3 +1,4 @@
+pub mod ClaimCounts
 pub mod Claims
 pub mod Internal
 pub mod RankGraphs

@@ -5,10 +5,10 @@ ghost use Rattle.round_pool.specs.declared.faults.PoolFault.TheVariants.{OutOfMe
 use crate::faults::PoolFault;
 use tso_ops::OutOfMemory;
 
-/// What a worker and those after it answered, or the one fault to report of both: OutOfMemory of the worker, else the fault
-/// of those after it as it is.
+/// What a worker and those before it answered, or the one fault to report of both: OutOfMemory of the worker, else the
+/// fault of those before it as it is.
 ///
-/// `rounds` calls it for each worker of a round, the last one first: so OutOfMemory of a worker comes before NoThread.
+/// `rounds` calls it for each worker of a round, from worker 1 up: so OutOfMemory of a worker comes before NoThread.
 pub fn both_answers<T: Drop, U: Drop>(
     own: Result<T, OutOfMemory>,
     rest: Result<U, PoolFault>,

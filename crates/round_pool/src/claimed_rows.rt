@@ -33,7 +33,7 @@ pub struct RowInput<'a> {
 #[derive(Drop)]
 struct ClaimedRow {
     number: usize,
-    row: Vec<usize>,
+    row: Vec<u16>,
 }
 
 /// The rows of one worker or of several, and the claimant that claimed them.
@@ -59,6 +59,28 @@ impl<'a> Promise<Result<Claimed, OutOfMemory>> for Work<'a> {
     ghost kept_by = { λ p r. IfOk r (AreClaimed p.trace.now p.graph.now p.claims.now) };
 }
 
+/// A row in 16 bits for each number.
+fn narrowed(alloc: Global, row: &[usize]) -> Result<Vec<u16>, OutOfMemory>
+    requires { All (λ v. v < 65536) row.now }
+    ensures { IfOk result (λ narrow. narrow.items ≡ row.now) }
+{
+    let mut narrow = Vec::with_capacity(alloc, row.len())?;
+    for v in row {
+        narrow.push(*v as u16)?;
+    }
+    Ok(narrow)
+}
+
+/// The numbers to which a round adds edges from `number`. They are kept in 16 bits, since a round can add a million edges.
+fn computed_row(alloc: Global, input: RowInput<'_>, number: usize) -> Result<Vec<u16>, OutOfMemory>
+    requires base { AreOverBase input.trace.now input.graph.now input.masks.now }
+    ensures { IfOk result (λ row. IsListOf row.items (IsNew input.entry.trace.now (IsEdge input.entry.graph.now) number)) }
+{
+    let _events = input.trace.events();
+    let row = row_edges_over_base(alloc, input.trace, input.masks, input.graph, number)?;
+    narrowed(alloc, &row)
+}
+
 /// Claims rows until none is left, and computes each; the gate is called before each. OutOfMemory where an allocation was
 /// refused.
 fn claimed_rows<'a, G: PoolGate>(
@@ -75,7 +97,12 @@ fn claimed_rows<'a, G: PoolGate>(
     let mut rows = Vec::new(alloc);
     while let Some(number) = work.claims.claim(&mut claimant) {
         gate.row(worker, number);
-        let row = row_edges_over_base(alloc, work.trace, work.masks, work.graph, number)?;
+        let input = RowInput {
+            trace: work.trace,
+            graph: work.graph,
+            masks: work.masks,
+        };
+        let row = computed_row(alloc, input, number)?;
         rows.push(ClaimedRow { number, row })?;
     }
     Ok(Claimed { rows, claimant })
@@ -120,7 +147,7 @@ fn start_claiming<'s, E, G: PoolGate + Sync>(
     }
 }
 
-/// The rows of a worker and of those after it, or the fault that is reported of both; OutOfMemory also where the list of
+/// The rows of a worker and of those before it, or the fault that is reported of both; OutOfMemory also where the list of
 /// them found no memory.
 fn with_more(
     work: Work<'_>,
@@ -165,19 +192,18 @@ fn rows_of_claimants<'s, E, H: Threads, G: PoolGate + Sync>(
     with_more(work, child.join(rt), rest)
 }
 
-/// The rows that these claimants claim, of which each but the first is a thread. No row is computed twice.
-fn rows_claimed<'a, H: Threads + Wait, G: PoolGate + Sync>(
+/// What these claimants claim, each in a thread of a scope but the first, which is the caller's.
+fn claimed_in_scope<'a, H: Threads + Wait, G: PoolGate + Sync>(
     rt: &H,
     alloc: Global,
     work: Work<'a>,
     gate: &G,
     claimants: Vec<Claimant>,
-) -> Result<Vec<ClaimedRow>, PoolFault>
+) -> Result<Claimed, PoolFault>
     requires some { 1 ≤ length claimants.items }
     requires fresh { All (IsFresh work.claims.now) claimants.items }
     requires base { AreOverBase work.trace.now work.graph.now work.masks.now }
-    ensures each { IfOk result (λ made. All (IsRow work.entry.trace.now work.entry.graph.now) made.items) }
-    ensures once { IfOk result (λ made. NoneTwice (numbers_of made.items)) }
+    ensures { IfOk result (AreClaimed work.entry.trace.now work.entry.graph.now work.entry.claims.now) }
 {
     let Work {
         trace,
@@ -185,7 +211,7 @@ fn rows_claimed<'a, H: Threads + Wait, G: PoolGate + Sync>(
         masks,
         claims,
     } = work;
-    let claimed = thread::scope(
+    thread::scope(
         thread::scope_env(),
         rt,
         move |scope| -> Result<Claimed, PoolFault>
@@ -202,7 +228,45 @@ fn rows_claimed<'a, H: Threads + Wait, G: PoolGate + Sync>(
             };
             rows_of_claimants(scope, rt, alloc, work, gate, claimants)
         },
-    )?;
+    )
+}
+
+/// What these claimants claim. One of them works on the caller's thread alone, without a scope: most rounds have few rows,
+/// and a scope takes longer than they do.
+fn claimed_by_all<'a, H: Threads + Wait, G: PoolGate + Sync>(
+    rt: &H,
+    alloc: Global,
+    work: Work<'a>,
+    gate: &G,
+    mut claimants: Vec<Claimant>,
+) -> Result<Claimed, PoolFault>
+    requires some { 1 ≤ length claimants.items }
+    requires fresh { All (IsFresh work.claims.now) claimants.items }
+    requires base { AreOverBase work.trace.now work.graph.now work.masks.now }
+    ensures { IfOk result (AreClaimed work.entry.trace.now work.entry.graph.now work.entry.claims.now) }
+{
+    if claimants.len() > 1 {
+        return claimed_in_scope(rt, alloc, work, gate, claimants);
+    }
+    let claimant = claimants.pop().unwrap();
+    Ok(claimed_rows(alloc, work, claimant, gate, 0)?)
+}
+
+/// The rows that these claimants claim. No row is computed twice.
+fn rows_claimed<'a, H: Threads + Wait, G: PoolGate + Sync>(
+    rt: &H,
+    alloc: Global,
+    work: Work<'a>,
+    gate: &G,
+    claimants: Vec<Claimant>,
+) -> Result<Vec<ClaimedRow>, PoolFault>
+    requires some { 1 ≤ length claimants.items }
+    requires fresh { All (IsFresh work.claims.now) claimants.items }
+    requires base { AreOverBase work.trace.now work.graph.now work.masks.now }
+    ensures each { IfOk result (λ made. All (IsRow work.entry.trace.now work.entry.graph.now) made.items) }
+    ensures once { IfOk result (λ made. NoneTwice (numbers_of made.items)) }
+{
+    let claimed = claimed_by_all(rt, alloc, work, gate, claimants)?;
     Ok(claimed.rows)
 }
 
@@ -212,7 +276,7 @@ fn row_of(
     input: RowInput<'_>,
     claimed: &mut Vec<ClaimedRow>,
     number: usize,
-) -> Result<Vec<usize>, OutOfMemory>
+) -> Result<Vec<u16>, OutOfMemory>
     requires each { All (IsRow input.trace.now input.graph.now) claimed.old.items }
     requires base { AreOverBase input.trace.now input.graph.now input.masks.now }
     ensures each { All (IsRow input.entry.trace.now input.entry.graph.now) claimed.new.items }
@@ -223,7 +287,7 @@ fn row_of(
             let found = claimed.pop().unwrap();
             Ok(found.row)
         }
-        _ => row_edges_over_base(alloc, input.trace, input.masks, input.graph, number),
+        _ => computed_row(alloc, input, number),
     }
 }
 
@@ -234,7 +298,7 @@ fn rows_in_order(
     input: RowInput<'_>,
     numbers: &[usize],
     mut claimed: Vec<ClaimedRow>,
-) -> Result<Vec<Vec<usize>>, OutOfMemory>
+) -> Result<Vec<Vec<u16>>, OutOfMemory>
     requires each { All (IsRow input.trace.now input.graph.now) claimed.items }
     requires base { AreOverBase input.trace.now input.graph.now input.masks.now }
     ensures { IfOk result (λ made. AreRowsOf input.entry.trace.now input.entry.graph.now numbers.now (rows made.items)) }
@@ -261,7 +325,7 @@ pub fn rows_by_claims<H: Threads + Wait, G: PoolGate + Sync>(
     gate: &G,
     workers: usize,
     numbers: &[usize],
-) -> Result<Vec<Vec<usize>>, PoolFault>
+) -> Result<Vec<Vec<u16>>, PoolFault>
     requires base { AreOverBase input.trace.now input.graph.now input.masks.now }
     requires ascending { AllPairs (λ x y. x < y) numbers.now }
     requires some { 1 ≤ workers }

@@ -1,7 +1,7 @@
 //! Rows that workers claim, each at most once.
 ghost use Rattle.std.specs.Prelude.{◌≡◌, ℕ, ◌+◌, ◌-◌, ◌<◌, ◌≤◌, ◌++◌, [], ◌∷◌, true, false, length, get_or, sum_by, All, AllPairs, IfOk, IfSome, IfNone};
-ghost use Rattle.round_pool.specs.Claims.{rows_of, places_of, tried_by, parts_of, held, IsOf, IsFresh, NoneTwice, HasAll};
-ghost use Rattle.round_pool.specs.Internal.ClaimTable.{all_parts};
+ghost use Rattle.round_pool.specs.ClaimCounts.{all_parts};
+ghost use Rattle.round_pool.specs.Claims.{rows_of, places_of, tried_by, claimant_parts, held, IsOf, IsFresh, NoneTwice, HasAll};
 
 use atomic_table::Table;
 use std::alloc::Global;
@@ -28,7 +28,7 @@ impl Claims {
         ensures rows { IfOk result (λ made. rows_of made.0 ≡ rows.items) }
         ensures seats { IfOk result (λ made. length made.1.items ≡ seats) }
         ensures fresh { IfOk result (λ made. All (IsFresh made.0) made.1.items) }
-        ensures parts { IfOk result (λ made. sum_by parts_of made.1.items ≡ all_parts) }
+        ensures parts { IfOk result (λ made. sum_by claimant_parts made.1.items ≡ all_parts) }
     {
         let words = vec![in alloc; 0; rows.len() + 1]?;
         let (table, seat) = Table::of_words(alloc, words.as_slice(), &rows.len())?;
@@ -45,12 +45,12 @@ impl Claims {
         seats: usize,
     ) -> Result<Vec<Claimant>, OutOfMemory>
         requires fresh { IsFresh self.now last }
-        requires parts { parts_of last ≡ all_parts }
+        requires parts { claimant_parts last ≡ all_parts }
         requires some { 1 ≤ seats }
         requires most { seats ≤ all_parts }
         ensures seats { IfOk result (λ made. length made.items ≡ seats) }
         ensures fresh { IfOk result (λ made. All (IsFresh self.now) made.items) }
-        ensures parts { IfOk result (λ made. sum_by parts_of made.items ≡ all_parts) }
+        ensures parts { IfOk result (λ made. sum_by claimant_parts made.items ≡ all_parts) }
     {
         let mut claimants = Vec::new(alloc);
         for _ in 1..seats {
@@ -63,11 +63,11 @@ impl Claims {
     /// Gives a part of the claimant's to a new one.
     fn split(&self, claimant: &mut Claimant) -> Claimant
         requires fresh { IsFresh self.now claimant.old }
-        requires some { 1 < parts_of claimant.old }
+        requires some { 1 < claimant_parts claimant.old }
         ensures kept { IsFresh self.now claimant.new }
-        ensures parts { parts_of claimant.new + 1 ≡ parts_of claimant.old }
+        ensures parts { claimant_parts claimant.new + 1 ≡ claimant_parts claimant.old }
         ensures fresh { IsFresh self.now result }
-        ensures part { parts_of result ≡ 1 }
+        ensures part { claimant_parts result ≡ 1 }
     {
         let seat = self.table.shared.split_seat::<Part>(&mut claimant.seat);
         Claimant { seat, tried: 0 }
@@ -80,7 +80,7 @@ impl Claims {
     pub fn claim(&self, claimant: &mut Claimant) -> Option<usize>
         requires own { IsOf self.now claimant.old }
         ensures own { IsOf self.now claimant.new }
-        ensures parts { parts_of claimant.new ≡ parts_of claimant.old }
+        ensures parts { claimant_parts claimant.new ≡ claimant_parts claimant.old }
         ensures held { IfSome result (λ row. held self.now claimant.new ≡ held self.now claimant.old ++ row ∷ []) }
         ensures some { IfSome result (λ row. (tried_by claimant.old < tried_by claimant.new) × (places_of claimant.new ≡ places_of claimant.old ++ (tried_by claimant.new - 1) ∷ []) × (row ≡ get_or (rows_of self.now) (tried_by claimant.new - 1) 0)) }
         ensures none { IfNone result ((tried_by claimant.new ≡ length (rows_of self.now)) × (places_of claimant.new ≡ places_of claimant.old)) }
@@ -101,7 +101,7 @@ impl Claims {
         requires own { IsOf self.now claimant.old }
         requires some { tried_by claimant.old < length (rows_of self.now) }
         ensures own { IsOf self.now claimant.new }
-        ensures parts { parts_of claimant.new ≡ parts_of claimant.old }
+        ensures parts { claimant_parts claimant.new ≡ claimant_parts claimant.old }
         ensures tried { tried_by claimant.new ≡ tried_by claimant.old + 1 }
         ensures free { result ≡ true → places_of claimant.new ≡ places_of claimant.old ++ tried_by claimant.old ∷ [] }
         ensures taken { result ≡ false → places_of claimant.new ≡ places_of claimant.old }
@@ -121,7 +121,7 @@ impl Claims {
         requires into { IsOf self.now into.old }
         requires from { IsOf self.now from }
         ensures own { IsOf self.now into.new }
-        ensures parts { parts_of into.new ≡ parts_of into.old + parts_of from }
+        ensures parts { claimant_parts into.new ≡ claimant_parts into.old + claimant_parts from }
         ensures tried { tried_by into.new ≡ tried_by into.old }
         ensures held { held self.now into.new ≡ held self.now into.old ++ held self.now from }
         ensures once { NoneTwice (held self.now into.new) }

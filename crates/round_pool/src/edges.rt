@@ -18,21 +18,19 @@ use std::thread::Threads;
 use tso_ops::OutOfMemory;
 
 /// The edge from `u` to `v`.
-fn edge_of(u: usize, v: usize) -> Edge
-    requires from { u < 65536 }
-    requires to { v < 65536 }
+fn edge_of(u: usize, v: u16) -> Edge
+    requires { u < 65536 }
     ensures { result ≡ edge_from u v }
 {
     Edge {
         from: u as u16,
-        to: v as u16,
+        to: v,
     }
 }
 
 /// Pushes the edges from `u` to the numbers of a row.
-fn push_row(edges: &mut Vec<Edge>, u: usize, row: &[usize]) -> Result<(), OutOfMemory>
-    requires from { u < 65536 }
-    requires to { All (λ v. v < 65536) row.now }
+fn push_row(edges: &mut Vec<Edge>, u: usize, row: &[u16]) -> Result<(), OutOfMemory>
+    requires { u < 65536 }
     ensures { OnOk result (edges.new.items ≡ edges.old.items ++ map (edge_from u) row.now) }
 {
     for v in row {
@@ -42,7 +40,7 @@ fn push_row(edges: &mut Vec<Edge>, u: usize, row: &[usize]) -> Result<(), OutOfM
 }
 
 /// The edges from these numbers, each to the numbers of its row.
-fn edges_of(alloc: Global, numbers: &[usize], made: &[Vec<usize>]) -> Result<Vec<Edge>, OutOfMemory>
+fn edges_of(alloc: Global, numbers: &[usize], made: &[Vec<u16>]) -> Result<Vec<Edge>, OutOfMemory>
     requires count { length made.now ≡ length numbers.now }
     requires ascending { AllPairs (λ x y. x < y) numbers.now }
     requires below { All (λ u. u < 65536) numbers.now }

@@ -63,7 +63,7 @@ fn steps_of(
     let mut steps = Vec::new(alloc);
     for r in (0..ranked.rounds() as usize).rev() {
         remove_edges(&mut set, ranked.added(r + 1));
-        collect_round(alloc, trace, ranked, r, &set, &mut marks, &mut steps)?;
+        collect_round(trace, ranked, r, &set, &mut marks, &mut steps)?;
     }
     collect_base(trace, &marks, &mut steps)?;
     Ok(steps)
@@ -102,7 +102,7 @@ fn mark_used(marks: &mut EdgeRows, reason: &Reason)
     }
 }
 
-/// Takes the edges away from the set.
+/// Removes the edges from the set.
 fn remove_edges(set: &mut EdgeSet, edges: &[Edge])
     requires { AreWithin set.old.nodes edges.now }
     ensures nodes { set.new.nodes ≡ set.old.nodes }
@@ -115,7 +115,6 @@ fn remove_edges(set: &mut EdgeSet, edges: &[Edge])
 
 /// Adds the step of the edge from `u` to `v`, where it is marked, and marks what its justification over the set uses.
 fn collect_edge(
-    alloc: Global,
     trace: &Trace,
     set: &EdgeSet,
     marks: &mut EdgeRows,
@@ -133,6 +132,7 @@ fn collect_edge(
         return Ok(());
     }
     let _nodes = set.nodes();
+    let alloc = *steps.allocator();
     let Some(reason) = justify(alloc, trace, set, u, v)? else {
         unreachable!()
     };
@@ -148,7 +148,6 @@ fn collect_edge(
 /// Adds the steps of the marked edges of rank `r + 1`, from the last to the first, over the set, which has the edges of
 /// lesser rank.
 fn collect_round(
-    alloc: Global,
     trace: &Trace,
     ranked: &Ranked,
     r: usize,
@@ -170,7 +169,6 @@ fn collect_round(
     for i in (0..edges.len()).rev() {
         let edge = edges[i];
         collect_edge(
-            alloc,
             trace,
             set,
             marks,

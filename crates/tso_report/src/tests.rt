@@ -6,6 +6,7 @@ mod judged;
 mod machine;
 mod refused_allocations;
 mod settings;
+mod shared;
 mod streams;
 mod traces;
 mod violations;

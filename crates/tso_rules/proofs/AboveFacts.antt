@@ -14,7 +14,7 @@ use Rattle.tso_ops.specs.Events.{event_at, event_total, IsLoadAt}
 use Rattle.tso_ops.specs.Limits.{IsTrace}
 use Rattle.tso_ops.proofs.EventFacts.{event_total-most}
 use Rattle.tso_ops.proofs.NumberFacts.{IsLoad-within}
-use Rattle.tso_rules.specs.Internal.MaskTables.{IsAbove, IsFirstAbove, AreOfOneProcessor, IsLaterLoad, IsNextLoad}
+use Rattle.tso_rules.specs.Internal.MaskTables.{IsCommonAbove, IsFirstAbove, AreOfOneProcessor, IsLaterLoad, IsNextLoad}
 use Rattle.tso_rules.proofs.BaseFacts.{load_at, at_load}
 
 -- the word that a search looks at
@@ -31,7 +31,7 @@ pub record AreWordsAt (one two other : List ℕ) (n j a b c d : ℕ) : Type 0 wh
   pub above : (k : ℕ) → k < 64 → HasBit d k ↔ (n < 64 * j + k)
 
 -- the bits of that word
-word_above_is : (one two other : List ℕ) (n j a b c d k : ℕ) → AreWordsAt one two other n j a b c d → k / 64 ≡ j → HasBit (above_word a b c d) (k % 64) ↔ IsAbove one two other n k
+word_above_is : (one two other : List ℕ) (n j a b c d k : ℕ) → AreWordsAt one two other n j a b c d → k / 64 ≡ j → HasBit (above_word a b c d) (k % 64) ↔ IsCommonAbove one two other n k
 word_above_is one two other n j a b c d k words at =
     let rest = HasBit-and (bit_and (bit_and a b) (bit_not w64 c)) d (k % 64) in
     let kept = kept_bit (HasNumber one k) (HasNumber two k) (HasNumber other k) a b c (k % 64) words.fits (omega arith)
@@ -43,7 +43,7 @@ word_above_is one two other n j a b c d k words at =
     )
 
 -- the least bit of the first word with a bit is the first such number
-pub first_above_is : (one two other : List ℕ) (n j a b c d : ℕ) → AreWordsAt one two other n j a b c d → ((k : ℕ) → k / 64 < j → IsAbove one two other n k → ⊥) →
+pub first_above_is : (one two other : List ℕ) (n j a b c d : ℕ) → AreWordsAt one two other n j a b c d → ((k : ℕ) → k / 64 < j → IsCommonAbove one two other n k → ⊥) →
     0 < above_word a b c d → IsFirstAbove one two other n (64 * j + trailing_zeros w64 (above_word a b c d))
 first_above_is one two other n j a b c d words before some =
     let less : above_word a b c d ≤ d = and_le_r (bit_and (bit_and a b) (bit_not w64 c)) d in
@@ -61,8 +61,8 @@ first_above_is one two other n j a b c d words before some =
     )
 
 -- a word without bits is passed
-pub none_above_more : (one two other : List ℕ) (n j a b c d : ℕ) → AreWordsAt one two other n j a b c d → ((k : ℕ) → k / 64 < j → IsAbove one two other n k → ⊥) →
-    above_word a b c d ≡ 0 → (k : ℕ) → k / 64 < j + 1 → IsAbove one two other n k → ⊥
+pub none_above_more : (one two other : List ℕ) (n j a b c d : ℕ) → AreWordsAt one two other n j a b c d → ((k : ℕ) → k / 64 < j → IsCommonAbove one two other n k → ⊥) →
+    above_word a b c d ≡ 0 → (k : ℕ) → k / 64 < j + 1 → IsCommonAbove one two other n k → ⊥
 none_above_more one two other n j a b c d words before none k low is = elim (cases_lt (k / 64) j) [
   | inl earlier ↦ before k earlier is
   | inr late ↦ (let here : k / 64 ≡ j = omega arith in
@@ -70,7 +70,7 @@ none_above_more one two other n j a b c d words before none k low is = elim (cas
 ]
 
 -- all words
-pub none_above : (one two other : List ℕ) (n j : ℕ) → length one ≤ j → ((k : ℕ) → k / 64 < j → IsAbove one two other n k → ⊥) → (k : ℕ) → IsAbove one two other n k → ⊥
+pub none_above : (one two other : List ℕ) (n j : ℕ) → length one ≤ j → ((k : ℕ) → k / 64 < j → IsCommonAbove one two other n k → ⊥) → (k : ℕ) → IsCommonAbove one two other n k → ⊥
 none_above one two other n j whole before k is = before k (let within = HasNumber-within one k is.1 in omega (arith, within, whole)) is
 
 -- the numbers of loads are small
@@ -86,7 +86,7 @@ no_processor t n m none = (λ has. absurd (HasNumber-none m has), λ is. absurd 
 
 -- the numbers above an event's in the rows of the loads of its address and of its processor
 later_load_is : (t : TraceValue) (n m : ℕ) (event : Event) (loads processor : List ℕ) → event_at t n ≡ Some event → IsMask loads (IsLoadAt t event.a) →
-    ((k : ℕ) → HasNumber processor k ↔ AreOfOneProcessor t n k) → IsAbove loads processor [] n m ↔ IsLaterLoad t n m
+    ((k : ℕ) → HasNumber processor k ↔ AreOfOneProcessor t n k) → IsCommonAbove loads processor [] n m ↔ IsLaterLoad t n m
 later_load_is t n m event loads processor at loads_are processor_are = (
   λ is. (let of = (loads_are.bits m).0 is.1 in
       let both = (processor_are m).0 is.2 in
@@ -101,7 +101,7 @@ later_load_is t n m event loads processor at loads_are processor_are = (
 
 -- the first of them is the next load
 pub next_load_is : (t : TraceValue) (n : ℕ) (event : Event) (loads processor : List ℕ) (found : Option ℕ) → event_at t n ≡ Some event → IsMask loads (IsLoadAt t event.a) →
-    ((k : ℕ) → HasNumber processor k ↔ AreOfOneProcessor t n k) → MatchOption found ((k : ℕ) → IsAbove loads processor [] n k → ⊥) (IsFirstAbove loads processor [] n) →
+    ((k : ℕ) → HasNumber processor k ↔ AreOfOneProcessor t n k) → MatchOption found ((k : ℕ) → IsCommonAbove loads processor [] n k → ⊥) (IsFirstAbove loads processor [] n) →
     MatchOption found ((m : ℕ) → IsLaterLoad t n m → ⊥) (IsNextLoad t n)
 next_load_is t n event loads processor None at loads_are processor_are none = λ m later. none m ((later_load_is t n m event loads processor at loads_are processor_are).1 later)
 next_load_is t n event loads processor (Some k) at loads_are processor_are first = (

@@ -1,5 +1,5 @@
 -- Lemmas on the numbers that a row of new edges rests on.
-use Rattle.std.proofs.Common.{◌≡◌, ◌↔◌, ◌⊎◌, inl, inr, ℕ, suc, ◌<◌, ◌≤◌, Option, Some, None, List, length, get_or, sym, ap, subst, ◌∙◌, arith}
+use Rattle.std.proofs.Common.{◌≡◌, ◌↔◌, inl, inr, ℕ, suc, ◌<◌, ◌≤◌, Option, Some, None, List, length, get_or, sym, ap, subst, ◌∙◌, arith}
 use Rattle.std.specs.Prelude.{Contains, MatchOption}
 use Rattle.std.proofs.lemmas.Option.{same_Some}
 use Rattle.std.proofs.lemmas.List.{get_or_default}

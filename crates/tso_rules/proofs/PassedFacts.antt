@@ -15,7 +15,7 @@ use Rattle.tso_cert.specs.declared.rules.InferredRule.TheVariants.{LoadPast}
 use Rattle.tso_model.specs.Ranks.{RankSet}
 use Rattle.tso_rules.specs.SourceMasks.{IsSourceFrom}
 use Rattle.tso_rules.specs.Internal.MarkedRows.{IsNewBy, IsNewRow}
-use Rattle.tso_rules.specs.Internal.MaskTables.{IsAbove, IsFirstAbove, AreOfOneProcessor}
+use Rattle.tso_rules.specs.Internal.MaskTables.{IsCommonAbove, IsFirstAbove, AreOfOneProcessor}
 use Rattle.tso_rules.proofs.BaseFacts.{load_at, at_load}
 use Rattle.tso_rules.proofs.SourceMaskFacts.{same_address_of, same_address_on}
 
@@ -54,7 +54,7 @@ passed_start t Edge u first = record { only = λ v has. inl has; kept = λ v has
 
 -- a load above the last is of its processor, or one that the search finds
 passed_or_above : (t : TraceValue) (Edge : ℕ → ℕ → Type 0) (u : ℕ) (event : Event) (loads reached other : List ℕ) (last l v : ℕ) → AreStoreRows t Edge u event loads reached →
-    ((m : ℕ) → HasNumber other m ↔ AreOfOneProcessor t last m) → IsNewBy t LoadPast l Edge u v → ((l ≤ last) ⊎ Earlier t last l) ⊎ IsAbove loads reached other last l
+    ((m : ℕ) → HasNumber other m ↔ AreOfOneProcessor t last m) → IsNewBy t LoadPast l Edge u v → ((l ≤ last) ⊎ Earlier t last l) ⊎ IsCommonAbove loads reached other last l
 passed_or_above t Edge u event loads reached other last l v rows others new = elim (cases_lt last l) [
   | inl above ↦ elim (HasNumber-decided other l) [
     | inl has ↦ (let same = (others l).0 has in inl (inr (same.0, same.1, same.2, same.3, same.4, above)))
@@ -123,7 +123,7 @@ passed_more t Edge u event loads reached other row first now new last load rows 
 
 -- all loads
 pub passed_all : (t : TraceValue) (Edge : ℕ → ℕ → Type 0) (u : ℕ) (event : Event) (loads reached other first now : List ℕ) (last : ℕ) → AreStoreRows t Edge u event loads reached →
-    ((m : ℕ) → HasNumber other m ↔ AreOfOneProcessor t last m) → PassedLoads t Edge u first now last → ((k : ℕ) → IsAbove loads reached other last k → ⊥) →
+    ((m : ℕ) → HasNumber other m ↔ AreOfOneProcessor t last m) → PassedLoads t Edge u first now last → ((k : ℕ) → IsCommonAbove loads reached other last k → ⊥) →
     Marks first now (IsNewRow t LoadPast Edge u)
 passed_all t Edge u event loads reached other first now last rows others before none = record {
   marked = λ v. (

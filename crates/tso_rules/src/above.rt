@@ -1,7 +1,7 @@
 //! The first number of two rows of bits above another number.
 ghost use Rattle.std.specs.Prelude.{◌<◌, ◌↔◌, ◌^◌, ℕ, MatchOption};
 ghost use Rattle.bitsets.specs.Rows.{HasNumber};
-ghost use Rattle.tso_rules.specs.Internal.MaskTables.{IsAbove, IsFirstAbove, AreOfOneProcessor};
+ghost use Rattle.tso_rules.specs.Internal.MaskTables.{IsCommonAbove, IsFirstAbove, AreOfOneProcessor};
 
 use bitsets::{word_above, word_at};
 use tso_ops::Trace;
@@ -9,7 +9,7 @@ use tso_ops::Trace;
 /// The first number above `n` that is in the first two rows and not in the third.
 pub(crate) fn first_above(one: &[u64], two: &[u64], other: &[u64], n: usize) -> Option<usize>
     requires { (k : ℕ) → HasNumber one.now k → k < 2 ^ 32 }
-    ensures { MatchOption result ((k : ℕ) → IsAbove one.now two.now other.now n k → ⊥) (IsFirstAbove one.now two.now other.now n) }
+    ensures { MatchOption result ((k : ℕ) → IsCommonAbove one.now two.now other.now n k → ⊥) (IsFirstAbove one.now two.now other.now n) }
 {
     for j in n / 64..one.len() {
         let word = one[j] & word_at(two, j) & !word_at(other, j) & word_above(n, j);

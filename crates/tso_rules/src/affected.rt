@@ -21,7 +21,7 @@ pub fn affected_rows(
 ) -> Result<Vec<usize>, OutOfMemory>
     ensures { IfOk result (λ rows. IsListOf rows.items (IsAffected trace.now grown.now)) }
 {
-    let mut marks = Vec::new(alloc);
+    let mut marks = Vec::with_capacity(alloc, trace.node_count().div_ceil(64))?;
     for k in 0..grown.len() {
         mark_affected(trace, &mut marks, grown[k])?;
     }

@@ -1,5 +1,5 @@
 //! Why an edge holds.
-ghost use Rattle.std.specs.Prelude.{◌≡◌, ◌↔◌, ◌<◌, ℕ, None, false, IsTrue, IfOk, IfSome, MatchOption, slice_index_or};
+ghost use Rattle.std.specs.Prelude.{◌≡◌, ◌↔◌, ◌<◌, ℕ, None, IsTrue, IfOk, IfSome, MatchOption};
 ghost use Rattle.order_graph.specs.Digraphs.{IsEdge};
 ghost use Rattle.order_paths.specs.Paths.{Reaches};
 ghost use Rattle.tso_model.specs.Rules.{BasePair, InferredBy};
@@ -7,9 +7,10 @@ ghost use Rattle.tso_cert.specs.declared.rules.BaseRule.{BaseRule};
 ghost use Rattle.tso_model.specs.NewEdges.{IsGivenBy};
 ghost use Rattle.tso_cert.specs.declared.rules.InferredRule.{InferredRule};
 ghost use Rattle.tso_rules.specs.Rows.{IsJustifiedOver, IsUngiven, IsFirstGiven};
-ghost use Rattle.tso_rules.specs.Internal.MarkedRows.{IsPastBy, GivesBy};
+ghost use Rattle.tso_rules.specs.Internal.MarkedRows.{IsPast, IsNextPast, IsPastBy, GivesBy};
 ghost use Rattle.tso_rules.specs.declared.reasons.Given.{Given};
 
+use crate::above::first_above;
 use crate::base::base_edge;
 use order_graph::PathSearch;
 use std::alloc::Global;
@@ -26,23 +27,15 @@ struct Given {
     to: usize,
 }
 
-/// Whether the test of the number answered true.
-#[inline]
-fn is_marked(row: &[bool], n: usize) -> bool
-    ensures { IsTrue result ↔ IsTrue (slice_index_or row.now n false) }
-{
-    n < row.len() && row[n]
-}
-
 /// Whether a path leads from one number to the other: none begins or ends past the numbers of the edges.
 fn leads<G: PathSearch>(graph: &G, from: usize, to: usize) -> Result<bool, OutOfMemory>
     ensures { IfOk result (λ leads. IsTrue leads ↔ Reaches (IsEdge (G.digraph graph.now)) from to) }
 {
-    if from >= graph.nodes() {
+    let nodes = graph.nodes();
+    if from >= nodes || to >= nodes {
         return Ok(false);
     }
-    let reached = graph.reached(from)?;
-    Ok(is_marked(&reached, to))
+    Ok(graph.reaches(from, to)?)
 }
 
 /// How the rule gives the edge from `u` to `v` for load `l` by a path; None where it doesn't.
@@ -85,8 +78,54 @@ fn least_load_past(trace: &Trace, reached: &[bool], u: usize, v: usize) -> Optio
     None
 }
 
+/// The first load above `n` for which the rule LoadPast gives the edge from `u` to `v` if a path leads to it from `u`: a
+/// load of u's address whose source is `v`.
+fn next_past(trace: &Trace, u: usize, v: usize, n: usize) -> Option<usize>
+    ensures { MatchOption result ((l : ℕ) → n < l → IsPast trace.now u v l → ⊥) (IsNextPast trace.now u v n) }
+{
+    let _events = trace.events();
+    if u == v {
+        return None;
+    }
+    match trace.event(u) {
+        Some(event) if !event.load => {
+            first_above(trace.load_words(event.a), trace.reader_words(v), &[], n)
+        }
+        _ => None,
+    }
+}
+
 /// How the rule LoadPast gives the edge from `u` to `v` for the least load by a path; None where it gives none.
+///
+/// It searches for more than one path only where several loads read `v` and none leads to the first of them.
 fn load_past_given<G: PathSearch>(
+    trace: &Trace,
+    graph: &G,
+    u: usize,
+    v: usize,
+) -> Result<Option<Given>, OutOfMemory>
+    ensures { IfOk result (λ found. MatchOption found ((l : ℕ) → IsGivenBy trace.now InferredRule.LoadPast l (Reaches (IsEdge (G.digraph graph.now))) u v → ⊥)
+        (λ g. (g.rule ≡ InferredRule.LoadPast) × GivesBy trace.now (IsEdge (G.digraph graph.now)) u v InferredRule.LoadPast g.load g.from g.to)) }
+{
+    let Some(first) = next_past(trace, u, v, 0) else {
+        return Ok(None);
+    };
+    if leads(graph, u, first)? {
+        return Ok(Some(Given {
+            rule: InferredRule::LoadPast,
+            load: first,
+            from: u,
+            to: first,
+        }));
+    }
+    if next_past(trace, u, v, first).is_none() {
+        return Ok(None);
+    }
+    load_past_searched(trace, graph, u, v)
+}
+
+/// The same, by a search for all numbers that paths lead to from `u`.
+fn load_past_searched<G: PathSearch>(
     trace: &Trace,
     graph: &G,
     u: usize,
@@ -188,7 +227,8 @@ fn inferred_reason<G: PathSearch>(
 /// first base rule that gives it; else the first inferred rule that does by a path over these edges, then the least load,
 /// then the least path. None where no rule gives it. OutOfMemory where an allocation was refused.
 ///
-/// It takes a search for each inferred rule at most, one walk over the loads, and the least path.
+/// It takes a search for each inferred rule at most, and one more where several loads read `v`; one walk over the loads
+/// then; and the least path. Over an `EdgeSet` a search is left out where an edge or the tables of paths answer.
 pub fn justify<G: PathSearch>(
     alloc: Global,
     trace: &Trace,

@@ -14,7 +14,7 @@ use Rattle.tso_report.specs.declared.faults.Fault.{Fault}
 use Rattle.tso_report.specs.declared.faults.Fault.TheVariants.{OutOfMemory, Read, Write, NoThread, Missing}
 use Rattle.tso_report.specs.declared.verdicts.Verdict.{Verdict}
 use Rattle.unit_core.specs.Units.{UnitValue}
-use Rattle.tsobench.specs.Drawn.{IsCampaignOf, IsDrawnOf, LeavesCampaignText, lawful_units, shape_of}
+use Rattle.tsobench.specs.Drawn.{IsCampaignOf, IsDrawnOf, LeavesCampaignText, lawful_units, asked_shape}
 use Rattle.tsobench.specs.Printing.{unit_of, unit_of_kind}
 use Rattle.tsobench.specs.Statuses.{status_of}
 

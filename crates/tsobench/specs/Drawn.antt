@@ -1,7 +1,7 @@
 -- What the program prints of drawn programs and of campaigns.
 use Rattle.std.specs.Prelude.{◌≡◌, ◌⊎◌, ℕ, ◌+◌, ◌<◌, ◌≤◌, ◌^◌, Bool, List, [], ◌∷◌, ◌++◌, codes, replicate, Option}
 use Rattle.std.specs.Io.KnownBytes.{Keeps}
-use Rattle.tso_ops.specs.Drawing.{IsShape, ShapeValue, shape_of as shape_of_numbers}
+use Rattle.tso_ops.specs.Drawing.{IsShape, ShapeValue, shape_of}
 use Rattle.tso_text.specs.Printed.{program_text}
 use Rattle.command_line.specs.declared.options.ShapeNumbers.{ShapeNumbers}
 use Rattle.command_line.specs.declared.options.CampaignOptions.{CampaignOptions}
@@ -15,8 +15,8 @@ use Rattle.tsobench.specs.Printing.{unit_of}
 use Rattle.tsobench.specs.Statuses.{status_of}
 
 -- the shape of these numbers
-abbrev pub shape_of : ShapeNumbers → ShapeValue
-shape_of numbers = shape_of_numbers numbers.processors numbers.operations numbers.addresses
+abbrev pub asked_shape : ShapeNumbers → ShapeValue
+asked_shape numbers = shape_of numbers.processors numbers.operations numbers.addresses
 
 -- the lines of refusals
 abbrev pub shape_refusal : List ℕ
@@ -27,7 +27,7 @@ seeds_refusal = codes "REFUSED Seeds" ++ 10 ∷ []
 
 -- the numbers are no shape
 abbrev pub IsShapeRefusal : ShapeNumbers → List ℕ → ℕ → Type 0
-IsShapeRefusal numbers text status = (IsShape (shape_of numbers) → ⊥) × (text ≡ shape_refusal) × (status ≡ 2)
+IsShapeRefusal numbers text status = (IsShape (asked_shape numbers) → ⊥) × (text ≡ shape_refusal) × (status ≡ 2)
 
 -- ---- a drawn program
 
@@ -35,7 +35,7 @@ IsShapeRefusal numbers text status = (IsShape (shape_of numbers) → ⊥) × (te
 abbrev pub IsMadeText : ℕ → ShapeNumbers → List ℕ → ℕ → Type 0
 IsMadeText seed numbers text status =
     IsShapeRefusal numbers text status
-    ⊎ (IsShape (shape_of numbers) × (text ≡ program_text (program_of_seed (shape_of numbers) seed)) × (status ≡ 0))
+    ⊎ (IsShape (asked_shape numbers) × (text ≡ program_text (program_of_seed (asked_shape numbers) seed)) × (status ≡ 0))
 
 -- ---- a campaign
 
@@ -46,8 +46,8 @@ pub record AreSeeds (first count : ℕ) : Type 0 where
 
 -- The campaign's programs are those of these seeds in this shape, within the limits.
 pub record IsDrawnOf (options : CampaignOptions) (shape : ShapeValue) (first : ℕ) : Type 0 where
-  pub is : shape ≡ shape_of options.shape
-  pub shape_kept : IsShape (shape_of options.shape)
+  pub is : shape ≡ asked_shape options.shape
+  pub shape_kept : IsShape (asked_shape options.shape)
   pub first_is : first ≡ options.first
   pub seeds : AreSeeds options.first options.count
 
@@ -57,14 +57,14 @@ lawful_units options = replicate options.count (is_lawful_unit (unit_of options.
 
 -- The numbers are a shape, but the seeds aren't within their limits.
 abbrev pub IsSeedsRefusal : CampaignOptions → List ℕ → ℕ → Type 0
-IsSeedsRefusal options text status = IsShape (shape_of options.shape) × (AreSeeds options.first options.count → ⊥) × (text ≡ seeds_refusal) × (status ≡ 2)
+IsSeedsRefusal options text status = IsShape (asked_shape options.shape) × (AreSeeds options.first options.count → ⊥) × (text ≡ seeds_refusal) × (status ≡ 2)
 
 -- The text is that of a campaign over these seeds.
 pub record IsCampaignOf (options : CampaignOptions) (text : List ℕ) (status : ℕ) : Type 0 where
-  pub shape : IsShape (shape_of options.shape)
+  pub shape : IsShape (asked_shape options.shape)
   pub seeds : AreSeeds options.first options.count
   pub verdict : Verdict
-  pub campaign : IsCampaign (shape_of options.shape) options.first (lawful_units options) text verdict
+  pub campaign : IsCampaign (asked_shape options.shape) options.first (lawful_units options) text verdict
   pub ends : status ≡ status_of verdict
 
 -- What is printed of a campaign, and the status then.

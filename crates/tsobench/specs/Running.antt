@@ -9,7 +9,7 @@ use Rattle.unit_core.specs.Records.{RecordedValue}
 use Rattle.tsobench.specs.Printing.{IsRefusalOf, PrintsRecord, ReadsAs, unit_of}
 
 -- The text and the status are those of a run of this program, on a unit as the options say.
-pub record IsRunOf (options : RunOptions) (program : ProgramValue) (text : List ℕ) (status : ℕ) : Type 0 where
+pub record IsRunPrinted (options : RunOptions) (program : ProgramValue) (text : List ℕ) (status : ℕ) : Type 0 where
   pub recorded : RecordedValue
   pub account : Account
   pub runs : Runs program (unit_of options.unit) account (Ok recorded)
@@ -19,7 +19,7 @@ pub record IsRunOf (options : RunOptions) (program : ProgramValue) (text : List 
 pub record IsRunIn (options : RunOptions) (programs : Option (List ℕ)) (text : List ℕ) (status : ℕ) : Type 0 where
   pub program : ProgramValue
   pub spelled : ReadsAs programs (λ bytes. SpellsProgram bytes program)
-  pub run : IsRunOf options program text status
+  pub run : IsRunPrinted options program text status
 
 -- What is printed for the text of a program, and the status then.
 abbrev pub IsRunText : RunOptions → Option (List ℕ) → List ℕ → ℕ → Type 0

@@ -4,7 +4,7 @@ ghost use Rattle.command_line.specs.Requests.{capacity_limit};
 ghost use Rattle.tso_ops.specs.Drawing.{IsShape};
 ghost use Rattle.tso_report.specs.Limits.{worker_limit};
 ghost use Rattle.tso_report.specs.Written.{LeavesAtFault};
-ghost use Rattle.tsobench.specs.Drawn.{AreSeeds, IsCampaignText, IsDrawnOf, IsMadeText, LeavesCampaignText, shape_of};
+ghost use Rattle.tsobench.specs.Drawn.{AreSeeds, IsCampaignText, IsDrawnOf, IsMadeText, LeavesCampaignText, asked_shape};
 ghost use Rattle.unit_faulty.specs.Faulty.{new_faulty};
 ghost use Rattle.unit_kinds.specs.Buffer.{new_store_buffer};
 ghost use Rattle.unit_kinds.specs.Serial.{new_serial};
@@ -44,7 +44,7 @@ pub(crate) fn make<W: Write>(
 fn made_text(alloc: Global, seed: u64, numbers: ShapeNumbers) -> Result<Printed, OutOfMemory>
     ensures { IfOk result (λ made. IsMadeText seed numbers made.text.items made.status) }
 {
-    let Some(shape) = shape_of(numbers) else {
+    let Some(shape) = asked_shape(numbers) else {
         return Ok(Printed {
             text: Vec::from_slice(alloc, SHAPE_REFUSAL)?,
             status: REFUSED,
@@ -64,8 +64,8 @@ const SHAPE_REFUSAL: &[u8] = b"REFUSED Shape\n";
 const SEEDS_REFUSAL: &[u8] = b"REFUSED Seeds\n";
 
 /// The shape of these numbers, if they are one.
-fn shape_of(numbers: ShapeNumbers) -> Option<Shape>
-    ensures { MatchOption result (IsShape (shape_of numbers) → ⊥) (λ shape. (shape ≡ shape_of numbers) × IsShape (shape_of numbers)) }
+fn asked_shape(numbers: ShapeNumbers) -> Option<Shape>
+    ensures { MatchOption result (IsShape (asked_shape numbers) → ⊥) (λ shape. (shape ≡ asked_shape numbers) × IsShape (asked_shape numbers)) }
 {
     Shape::new(numbers.processors, numbers.operations, numbers.addresses)
 }
@@ -75,7 +75,7 @@ fn drawn_of(options: &CampaignOptions) -> Result<Drawn, &'static [u8]>
     ensures drawn { IfOk result (λ drawn. IsDrawnOf options.now drawn.shape drawn.first) }
     ensures refused { IfErr result (λ line. IsCampaignText options.now line.now 2) }
 {
-    let Some(shape) = shape_of(options.shape) else {
+    let Some(shape) = asked_shape(options.shape) else {
         return Err(SHAPE_REFUSAL);
     };
     if !are_seeds(options.first, options.count) {

@@ -8,7 +8,7 @@ ghost use Rattle.tsobench.specs.Endings.{IsPrintable};
 ghost use Rattle.tsobench.specs.Internal.Runs.{EndsWith, Gives};
 ghost use Rattle.tsobench.specs.Named.{OpensNext};
 ghost use Rattle.tsobench.specs.Printing.{unit_of};
-ghost use Rattle.tsobench.specs.Running.{IsRunOf, IsRunText};
+ghost use Rattle.tsobench.specs.Running.{IsRunPrinted, IsRunText};
 
 use crate::files::{NamedFiles, open};
 use crate::printing::{Printed, print_record, print_refusal};
@@ -99,7 +99,7 @@ fn run_program<H: Threads + Wait + Sync + AllocGlobal>(
     requires most { plan.options.now.workers ≤ worker_limit }
     requires capacity { (1 ≤ plan.options.now.unit.capacity) × (plan.options.now.unit.capacity ≤ capacity_limit) }
     requires trigger { 1 ≤ plan.options.now.unit.trigger }
-    ensures text { IfOk result (Gives (λ printed. IsRunOf plan.entry.options.now program.now printed.text.items printed.status)) }
+    ensures text { IfOk result (Gives (λ printed. IsRunPrinted plan.entry.options.now program.now printed.text.items printed.status)) }
     ensures fault { IfErr result (λ fault. (fault ≡ Fault.OutOfMemory) ⊎ (fault ≡ Fault.NoThread)) }
 {
     let alloc = rt.alloc();
@@ -130,7 +130,7 @@ fn run_on<H: Threads + Wait + Sync + AllocGlobal>(
     requires unit { value_of unit ≡ unit_of plan.options.now.unit }
     requires some { 1 ≤ plan.options.now.workers }
     requires most { plan.options.now.workers ≤ worker_limit }
-    ensures text { IfOk result (Gives (λ printed. IsRunOf plan.entry.options.now program.now printed.text.items printed.status)) }
+    ensures text { IfOk result (Gives (λ printed. IsRunPrinted plan.entry.options.now program.now printed.text.items printed.status)) }
     ensures fault { IfErr result (λ fault. (fault ≡ Fault.OutOfMemory) ⊎ (fault ≡ Fault.NoThread)) }
 {
     let issuers = Issuers {

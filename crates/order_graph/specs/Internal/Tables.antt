@@ -25,6 +25,15 @@ pub record AreTransposed (table transposed : List ℕ) (width nodes : ℕ) : Typ
 pub record IsTransitive (table : List ℕ) (width nodes : ℕ) : Type 0 where
   pub joins : (x y z : ℕ) → x < nodes → y < nodes → z < nodes → IsSet table width x y → IsSet table width y z → IsSet table width x z
 
+-- an edge of the table that leads to a number of the mask, a row of bits
+pub record IsMaskedEdge (edges mask : List ℕ) (width x y : ℕ) : Type 0 where
+  pub edge : IsSet edges width x y
+  pub within : IsSet mask width 0 y
+
+-- such an edge between numbers below `nodes`
+abbrev pub JoinedWithin : List ℕ → List ℕ → ℕ → ℕ → ℕ → ℕ → Type 0
+JoinedWithin edges mask width nodes x y = (x < nodes) × (y < nodes) × IsMaskedEdge edges mask width x y
+
 -- an edge of the table between numbers below `nodes`
 abbrev pub Joined : List ℕ → ℕ → ℕ → ℕ → ℕ → Type 0
 Joined edges width nodes x y = (x < nodes) × (y < nodes) × IsSet edges width x y

@@ -64,5 +64,5 @@ abbrev pub IsNext : List ℕ → List ℕ → ℕ → ℕ → ℕ → ℕ → Ty
 IsNext edges levels width count first y = (x : ℕ) × (first ≤ x / 64) × (x / 64 < width) × IsSet levels width count x × IsSet edges width x y
 
 -- y is reached, leads to the start, and wasn't seen
-abbrev pub IsFresh : List ℕ → List ℕ → List ℕ → ℕ → ℕ → ℕ → Type 0
-IsFresh reached transposed seen width start y = IsSet reached width 0 y × IsSet transposed width start y × (IsSet seen width 0 y → ⊥)
+abbrev pub IsUnseen : List ℕ → List ℕ → List ℕ → ℕ → ℕ → ℕ → Type 0
+IsUnseen reached transposed seen width start y = IsSet reached width 0 y × IsSet transposed width start y × (IsSet seen width 0 y → ⊥)

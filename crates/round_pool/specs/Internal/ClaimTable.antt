@@ -1,13 +1,10 @@
 -- The table on which rows are claimed, which speaks of their places, from 0: its rule, and what each kind of step tells.
-use Rattle.std.specs.Prelude.{◌≡◌, ℕ, suc, ◌+◌, ◌-◌, ◌<◌, ◌≤◌, ◌==◌, cond, List, [], ◌∷◌, ◌++◌, length, sum_by, count_by, slice_index}
+use Rattle.std.specs.Prelude.{◌≡◌, ℕ, suc, ◌+◌, ◌-◌, ◌<◌, ◌≤◌, ◌==◌, cond, List, [], ◌∷◌, ◌++◌, length, sum_by, slice_index}
 use mathlib.Core.Option.{some}
 use lib.ListN.{get_elem?}
 use Rattle.atomic_table.specs.Table.{State, Me, Step}
 use Rattle.round_pool.specs.declared.claims.seat_view.SeatView.{SeatView}
-
--- how often the place stands in the list
-abbrev pub times : ℕ → List ℕ → ℕ
-times p places = count_by (λ q. q == p) places
+use Rattle.round_pool.specs.ClaimCounts.{times, all_parts}
 
 -- how often the place stands in the views
 abbrev pub standing : ℕ → List SeatView → ℕ
@@ -15,10 +12,6 @@ standing p views = sum_by (λ v. times p v.places) views
 
 abbrev pub seat_view : List ℕ → ℕ → ℕ → SeatView
 seat_view places tried parts = record { places = places; tried = tried; parts = parts }
-
--- the parts of all seats together
-abbrev pub all_parts : ℕ
-all_parts = 64
 
 -- the view of the first seat
 abbrev pub first_view : SeatView

@@ -42,7 +42,7 @@ fn claim_at(claims: &Claims, claimants: &mut [Claimant], k: usize) -> Option<usi
 }
 
 #[test]
-fn two_claimants_in_turn(rt: HostRuntime) -> Result<(), Fail> {
+fn claims_by_turns(rt: HostRuntime) -> Result<(), Fail> {
     let (claims, mut claimants) = claims_of(rt.alloc(), 2, 2)?;
     let turns = claimants.as_mut_slice();
     let found = [

@@ -1,4 +1,5 @@
-//! Families of traces with many rounds, of 40 to 300 events: each number of workers finds the same edges in each round.
+//! Families of traces, most with many rounds, of 40 to 300 events: each number of workers finds the same edges in each
+//! round.
 
 use super::{added, expect, ld, made, rounds_of, st, sw};
 use crate::{OpenPoolGate, Ranked};
@@ -254,7 +255,7 @@ fn compared<H: Threads + Wait + AllocGlobal + Abort>(rt: &H, trace: &Trace) -> R
 
 #[test]
 fn lone_stores_on_each_number_of_workers(rt: HostRuntime) -> Result<(), Fail> {
-    for swaps in [19, 60, 148] {
+    for swaps in [19, 60, 147] {
         let rounds = compared(&rt, &lone(rt.alloc(), swaps)?)?;
         expect(&rt, "rounds", rounds, 2 * swaps as u64 + 2);
         compared(&rt, &lone_cycle(rt.alloc(), swaps)?)?;
@@ -267,6 +268,58 @@ fn ladders_on_each_number_of_workers(rt: HostRuntime) -> Result<(), Fail> {
     for rungs in [11, 33, 75] {
         let rounds = compared(&rt, &ladder(rt.alloc(), rungs)?)?;
         expect(&rt, "rounds", rounds, rungs as u64);
+    }
+    Ok(())
+}
+
+/// So many loads of the first value of an address.
+fn loads(alloc: Global, count: u16) -> Result<Vec<Outcome>, AllocError> {
+    let mut list = Vec::new(alloc);
+    for _ in 0..count {
+        list.push(ld(0, 0))?;
+    }
+    Ok(list)
+}
+
+/// So many stores of this kind to the same address.
+fn stores(alloc: Global, kind: u16, count: u16) -> Result<Vec<Outcome>, AllocError> {
+    let mut list = Vec::new(alloc);
+    for i in 0..count {
+        list.push(st(0, value(kind, i)))?;
+    }
+    Ok(list)
+}
+
+/// Loads of the first value on two processors, and as many stores to their address on two others.
+fn first_loads(alloc: Global, count: u16) -> Result<Trace, Fail> {
+    let one = stores(alloc, LEFT.kind, count)?;
+    let other = stores(alloc, RIGHT.kind, count)?;
+    let lists = vec![in alloc; loads(alloc, count)?, loads(alloc, count)?, one, other]?;
+    Ok(Trace::new(alloc, lists)?)
+}
+
+/// Swaps of one address on three processors in turn, of which each reads what the one before wrote.
+fn swaps_in_turn(alloc: Global, count: u16) -> Result<Trace, Fail> {
+    let mut lists: [Vec<Outcome>; 3] = [Vec::new(alloc), Vec::new(alloc), Vec::new(alloc)];
+    let mut before = 0;
+    for i in 0..count {
+        let next = value(LEFT.kind, i);
+        lists[i as usize % 3].push(sw(0, before, next))?;
+        before = next;
+    }
+    Ok(Trace::new(alloc, Vec::from_array(alloc, lists)?)?)
+}
+
+#[test]
+fn loads_and_swaps_on_each_number_of_workers(rt: HostRuntime) -> Result<(), Fail> {
+    let alloc = rt.alloc();
+    for count in [20, 75] {
+        compared(&rt, &first_loads(alloc, count)?)?;
+        compared(&rt, &swaps_in_turn(alloc, count + count)?)?;
+    }
+    for count in [40, 300] {
+        let lists = vec![in alloc; loads(alloc, count)?]?;
+        compared(&rt, &Trace::new(alloc, lists)?)?;
     }
     Ok(())
 }
@@ -289,7 +342,7 @@ fn compare_bounces<H: Threads + Wait + AllocGlobal + Abort>(
 
 #[test]
 fn bounces_on_each_number_of_workers(rt: HostRuntime) -> Result<(), Fail> {
-    for (swaps, stores) in [(3, 3), (18, 18), (35, 36)] {
+    for (swaps, stores) in [(4, 4), (18, 18), (35, 36)] {
         compare_bounces(&rt, BounceSize { swaps, stores })?;
     }
     Ok(())

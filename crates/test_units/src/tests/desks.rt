@@ -210,3 +210,24 @@ fn desk_of_another_program(rt: HostRuntime) -> Result<(), Fail> {
     expect_end(&rt, &finished, &closed_account(1, 1, 0));
     Ok(())
 }
+
+fn text_of(alloc: Global, fault: RunFault) -> Result<String, Fail> {
+    Ok(format!(in alloc; "{fault}")?)
+}
+
+fn expect_text(rt: &impl Abort, found: &str, wanted: &str) {
+    assert_eq!(rt; found, wanted);
+}
+
+#[test]
+fn texts_of_run_faults(rt: HostRuntime) -> Result<(), Fail> {
+    for (fault, text) in [
+        (RunFault::OutOfMemory, "OutOfMemory"),
+        (RunFault::NoThread, "NoThread"),
+        (RunFault::Torn { p: 15 }, "Torn 15"),
+        (RunFault::OtherProgram, "OtherProgram"),
+    ] {
+        expect_text(&rt, &text_of(rt.alloc(), fault)?, text);
+    }
+    Ok(())
+}

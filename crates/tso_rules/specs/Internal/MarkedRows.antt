@@ -1,5 +1,5 @@
 -- The rows of bits in which the rules mark numbers, and which load gives an edge.
-use Rattle.std.specs.Prelude.{Bool, ◌≡◌, ◌≢◌, ◌⊎◌, ◌↔◌, ℕ, ◌/◌, ◌%◌, ◌<◌, ◌≤◌, List, false, IsTrue, slice_index_or}
+use Rattle.std.specs.Prelude.{Bool, ◌≡◌, ◌≢◌, ◌⊎◌, ℕ, ◌/◌, ◌%◌, ◌<◌, ◌≤◌, List, false, IsTrue, slice_index_or}
 use Rattle.tso_ops.specs.Values.{TraceValue}
 use Rattle.tso_ops.specs.declared.events.Event.{Event}
 use Rattle.tso_ops.specs.declared.settings.Order.TheVariants.{Tso}
@@ -7,7 +7,7 @@ use Rattle.tso_ops.specs.Events.{HasSource, IsStore, IsStoreTo, HasBarriersBefor
 use Rattle.tso_cert.specs.declared.rules.BaseRule.TheVariants.{LoadOp, StoreStore, Stbar, Membar, Read}
 use Rattle.tso_cert.specs.declared.rules.InferredRule.{InferredRule}
 use Rattle.tso_cert.specs.declared.rules.InferredRule.TheVariants.{LoadPast}
-use Rattle.bitsets.specs.Rows.{HasBit, HasNumber, IsListOf}
+use Rattle.bitsets.specs.Rows.{HasBit, HasNumber}
 use Rattle.order_paths.specs.Paths.{Reaches}
 use Rattle.tso_model.specs.Rules.{BasePair, IsOwnBy, InferredBy}
 use Rattle.tso_model.specs.NewEdges.{IsGivenBy}
@@ -49,6 +49,14 @@ IsSourceIn t u j word v = (l : ℕ) × (l / 64 ≡ j) × HasBit word (l % 64) ×
 -- a load in both rows has such a source
 abbrev pub IsSourceOf : TraceValue → List ℕ → List ℕ → ℕ → ℕ → Type 0
 IsSourceOf t one two u v = (l : ℕ) × HasNumber one l × HasNumber two l × IsOtherSource t u l v
+
+-- the rule LoadPast gives the edge for load l, if a path leads to it from u
+abbrev pub IsPast : TraceValue → ℕ → ℕ → ℕ → Type 0
+IsPast t u v l = InferredBy t LoadPast l u v u l
+
+-- the first such load above n
+abbrev pub IsNextPast : TraceValue → ℕ → ℕ → ℕ → ℕ → Type 0
+IsNextPast t u v n l = (n < l) × IsPast t u v l × ((k : ℕ) → n < k → k < l → IsPast t u v k → ⊥)
 
 -- the rule LoadPast gives the edge for load l, whose test answered true
 abbrev pub IsPastBy : TraceValue → List Bool → ℕ → ℕ → ℕ → Type 0

@@ -8,12 +8,12 @@ use Rattle.bitsets.specs.Tables.{IsSet}
 use Rattle.tso_rules.specs.SourceMasks.{IsSourceFrom}
 
 -- number k is above n, in the first two rows and not in the third
-abbrev pub IsAbove : List ℕ → List ℕ → List ℕ → ℕ → ℕ → Type 0
-IsAbove one two other n k = (n < k) × HasNumber one k × HasNumber two k × (HasNumber other k → ⊥)
+abbrev pub IsCommonAbove : List ℕ → List ℕ → List ℕ → ℕ → ℕ → Type 0
+IsCommonAbove one two other n k = (n < k) × HasNumber one k × HasNumber two k × (HasNumber other k → ⊥)
 
 -- k is the first such number
 abbrev pub IsFirstAbove : List ℕ → List ℕ → List ℕ → ℕ → ℕ → Type 0
-IsFirstAbove one two other n k = IsAbove one two other n k × ((j : ℕ) → j < k → IsAbove one two other n j → ⊥)
+IsFirstAbove one two other n k = IsCommonAbove one two other n k × ((j : ℕ) → j < k → IsCommonAbove one two other n j → ⊥)
 
 -- the events are of one processor
 abbrev pub AreOfOneProcessor : TraceValue → ℕ → ℕ → Type 0

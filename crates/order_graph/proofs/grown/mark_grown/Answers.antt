@@ -1,4 +1,4 @@
-use Rattle.std.proofs.Common.{refl, arith, rules}
+use Rattle.std.proofs.Common.{refl, rules}
 use Rattle.order_graph.proofs.GrownFacts.{missing_start, missing_step, missing_end}
 use Rattle.order_graph.proofs.grown.mark_grown.Goals as goal
 

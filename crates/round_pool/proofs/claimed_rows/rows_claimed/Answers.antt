@@ -5,4 +5,4 @@ use Rattle.round_pool.proofs.claimed_rows.rows_claimed.Goals as goal
 
 pub returns-clause-once : goal.returns-clause-once
 returns-clause-once g c =
-    subst NoneTwice (sym c.in_ok-claimed.ensures.1.numbers) (none_twice c.args.work.claims.now c.in_ok-claimed.claimed.claimant c.in_ok-claimed.ensures.1.own)
+    subst NoneTwice (sym c.in_ok-claimed.ensures.numbers) (none_twice c.args.work.claims.now c.in_ok-claimed.claimed.claimant c.in_ok-claimed.ensures.own)

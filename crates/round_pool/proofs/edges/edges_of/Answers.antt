@@ -9,14 +9,8 @@ use Rattle.round_pool.proofs.EdgeFacts.{edges_none, edges_row}
 use Rattle.round_pool.proofs.GraphFacts.{row_at}
 use Rattle.round_pool.proofs.edges.edges_of.Goals as goal
 
-pub push_row-requires-clause-from : goal.push_row-requires-clause-from
-push_row-requires-clause-from c = c.requires.below c.loop-i.i 0 (omega (arith, c.loop-i-test.true, c.requires.count))
-
-pub push_row-requires-clause-to : goal.push_row-requires-clause-to
-push_row-requires-clause-to c = λ k d low.
-    c.requires.rows.below c.loop-i.i (get_or c.deref.result.now k d)
-    (subst (λ (r : List ℕ). Contains r (get_or c.deref.result.now k d)) (c.deref.ensures.value ∙ row_at c.args.made.now c.loop-i.i c.index-made-i.result c.loop-i-test.true c.index-made-i.is)
-    (Contains-get_or c.deref.result.now k d low))
+pub push_row-requires : goal.push_row-requires
+push_row-requires c = c.requires.below c.loop-i.i 0 (omega (arith, c.loop-i-test.true, c.requires.count))
 
 pub loop-i-init : goal.loop-i-init
 loop-i-init c = edges_none c.args.numbers.now (rows c.args.made.now) c.new-edges.result.items c.new-edges.ensures.items

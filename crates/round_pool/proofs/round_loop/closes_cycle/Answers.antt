@@ -1,12 +1,9 @@
-use Rattle.std.proofs.Common.{◌<◌, ◌++◌, ◌∷◌, [], get_or, take, refl, sym, subst, ap, arith}
-use Rattle.std.specs.Prelude.{Contains}
+use Rattle.std.proofs.Common.{◌<◌, get_or, refl, sym, subst, arith}
 use Rattle.std.proofs.lemmas.Bool.{false≢true}
-use Rattle.std.proofs.lemmas.List.{take_all, take_more}
-use Rattle.std.proofs.lemmas.List.Elements.{Contains-get_or, Contains-push_cases}
-use Rattle.order_paths.specs.Paths.{Reaches}
-use Rattle.order_graph.specs.Digraphs.{IsEdge}
+use Rattle.std.proofs.lemmas.List.{take_all}
+use Rattle.std.proofs.lemmas.List.Elements.{Contains-get_or}
 use Rattle.round_pool.specs.declared.ranked.Edge.{Edge}
-use Rattle.round_pool.specs.Rankings.{ListsEdge, edge_from}
+use Rattle.round_pool.specs.Rankings.{ListsEdge}
 use Rattle.round_pool.proofs.WorksetFacts.{none_closes}
 use Rattle.round_pool.proofs.round_loop.closes_cycle.Goals as goal
 

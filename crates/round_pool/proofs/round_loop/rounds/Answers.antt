@@ -1,4 +1,4 @@
-use Rattle.std.proofs.Common.{◌≡◌, ◌<◌, ◌≤◌, ◌∙◌, ◌++◌, ◌∷◌, [], List, length, map, ap, sym, subst, arith}
+use Rattle.std.proofs.Common.{◌≡◌, ◌<◌, ◌∙◌, ◌∷◌, [], List, length, map, ap, sym, subst, arith}
 use Rattle.std.specs.Global.{Vec}
 use Rattle.std.proofs.lemmas.Bool.Decides.{nat_tests}
 use Rattle.std.proofs.lemmas.List.{length-append, length-map, map-append}
@@ -11,7 +11,7 @@ use Rattle.round_pool.specs.declared.ranked.Edge.{Edge}
 use Rattle.round_pool.specs.RankGraphs.{AddsEdges}
 use Rattle.round_pool.specs.Internal.Worksets.{ClosesCycle}
 use Rattle.round_pool.specs.Rankings.{ListsEdge}
-use Rattle.round_pool.proofs.RoundFacts.{AreRoundsMade, RoundStep, over_base, made_none, made_with_cycle, made_without_cycle, made_before_last, round_step, still_acyclic, made_then_cycle}
+use Rattle.round_pool.proofs.RoundFacts.{AreRoundsMade, over_base, made_none, made_with_cycle, made_without_cycle, made_before_last, round_step, still_acyclic, made_then_cycle}
 use Rattle.round_pool.proofs.RankedFacts.{added_within}
 use Rattle.round_pool.proofs.round_loop.rounds.Goals as goal
 

@@ -1,4 +1,4 @@
-use Rattle.std.proofs.Common.{◌≡◌, ◌+◌, ◌<◌, ℕ, [], ◌∷◌, ◌∙◌, length, get_or, ap, subst, sym, arith}
+use Rattle.std.proofs.Common.{◌≡◌, ◌∙◌, length, ap, arith}
 use Rattle.tso_ops.specs.Events.{event_total}
 use Rattle.round_pool.proofs.WorksetFacts.{all_workset, numbers_more}
 use Rattle.round_pool.proofs.worksets.all_rows.Goals as goal

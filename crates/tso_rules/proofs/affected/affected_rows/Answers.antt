@@ -1,6 +1,6 @@
-use Rattle.std.proofs.Common.{◌≡◌, ◌<◌, [], suc, refl, get_or, length, subst, arith}
+use Rattle.std.proofs.Common.{◌<◌, [], suc, refl, get_or, subst, arith}
 use Rattle.std.specs.Result.{IfOk}
-use Rattle.bitsets.specs.Rows.{HasNumber, IsListOf, Marks}
+use Rattle.bitsets.specs.Rows.{HasNumber, IsListOf}
 use Rattle.bitsets.proofs.MarkFacts.{steps_more, marks_as, marked_is}
 use Rattle.bitsets.proofs.ListFacts.{list_marked}
 use Rattle.tso_ops.specs.Events.{event_total}

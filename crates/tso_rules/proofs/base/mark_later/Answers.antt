@@ -1,5 +1,4 @@
 use Rattle.std.proofs.Common.{◌∙◌, sym, arith}
-use Rattle.tso_ops.specs.Events.{IsEventOf}
 use Rattle.tso_rules.specs.Internal.MarkedRows.{IsLater}
 use Rattle.tso_rules.proofs.BaseFacts.{later_is, later_more}
 use Rattle.bitsets.proofs.MarkFacts.{earlier_words_all}

@@ -1,7 +1,16 @@
+use Rattle.std.proofs.Common.{arith}
+use Rattle.std.proofs.lemmas.Bool.{false≢true}
+use Rattle.tso_rules.proofs.InferredFacts.{path_within}
 use Rattle.tso_rules.proofs.reasons.leads.Goals as goal
+use Rattle.tso_rules.proofs.reasons.leads.Goals.{then-from-nodes-via-then-from-nodes, then-from-nodes-via-else-from-nodes+then-to-nodes}
 
-pub returns : goal.returns
-returns g c =
-    let marked = rw c.deref.ensures.value at c.is_marked.ensures in
-    let path = c.in_ok-reached.ensures.path c.args.to in
-    (λ t. path.0 (marked.0 t), λ p. marked.1 (path.1 p))
+pub returns-then-from-nodes : goal.returns-then-from-nodes
+returns-then-from-nodes g c = (
+  λ t. absurd (false≢true t),
+  λ path.
+      let within = path_within (g.G.PathSearch.digraph c.args.graph.now) c.args.from c.args.to c.nodes-nodes.ensures.within path in
+      elim c.then-from-nodes.branch [
+        | then-from-nodes-via-then-from-nodes w ↦ absurd (omega (arith, within.0))
+        | then-from-nodes-via-else-from-nodes+then-to-nodes w ↦ absurd (omega (arith, within.1))
+      ],
+)

@@ -1,4 +1,3 @@
-use Rattle.std.proofs.Common.{arith}
 use Rattle.order_graph.proofs.GrownFacts.{grown_list, numbers_within}
 use Rattle.order_graph.proofs.graphs.Graph.grown.Goals as goal
 

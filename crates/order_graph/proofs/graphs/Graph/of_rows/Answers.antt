@@ -1,4 +1,4 @@
-use Rattle.std.proofs.Common.{refl, arith, rules}
+use Rattle.std.proofs.Common.{refl, arith}
 use Rattle.std.proofs.lemmas.List.{take_at}
 use Rattle.order_graph.proofs.AllPaths.{KeepsSomePaths-table}
 use Rattle.order_graph.proofs.GrownFacts.{IsNodeRow-empty, sees_settled}
