@@ -1,7 +1,7 @@
 -- A table that is transposed, block by block.
 use Rattle.std.proofs.Common.{◌≡◌, ◌⊎◌, ◌↔◌, inl, inr, ℕ, ◌+◌, ◌*◌, ◌/◌, ◌%◌, ◌^◌, ◌<◌, ◌≤◌, List, length, get_or, replicate, sym, ap, subst, ◌∙◌, arith}
 use Rattle.std.specs.Prelude.{bit_or}
-use Rattle.std.proofs.lemmas.Bool.{cases_eq}
+use Rattle.std.proofs.lemmas.Bool.{cases_eq, cases_lt}
 use Rattle.bitsets.specs.Rows.{HasBit}
 use Rattle.bitsets.specs.Tables.{IsSet, Adds}
 use Rattle.order_graph.specs.Internal.Tables.{IsTable, AreTransposed}
@@ -94,37 +94,62 @@ TransposesBlock-end old now new table width nodes i j upto word rows transposes 
     before : (x : ℕ) → x / 64 ≡ i → x < nodes → x < upto
     before x at h = elim past [ inl all ↦ omega (arith, all, h) | inr block ↦ omega (arith, block, at) ]
 
--- the bits of word j of the rows before word i, transposed
-abbrev pub ColumnsBefore : List ℕ → ℕ → ℕ → ℕ → ℕ → ℕ → ℕ → Type 0
-ColumnsBefore table width nodes j i y x = (y / 64 ≡ j) × (x / 64 < i) × (x < nodes) × IsSet table width x y
+-- the bits of the words from `first` on and before j, of the rows of word i, transposed
+abbrev pub BlocksBefore : List ℕ → ℕ → ℕ → ℕ → ℕ → ℕ → ℕ → ℕ → Type 0
+BlocksBefore table width nodes i first j y x = (first ≤ y / 64) × (y / 64 < j) × (x / 64 ≡ i) × (x < nodes) × IsSet table width x y
 
-pub ColumnsBefore-start : (old table : List ℕ) (width nodes j : ℕ) → Adds old old width (ColumnsBefore table width nodes j 0)
-ColumnsBefore-start old table width nodes j = record { bits = λ y x h. (λ s. inl s, λ s. elim s [ inl o ↦ o | inr p ↦ absurd (omega (arith, p.1)) ]) }
+pub BlocksBefore-none : (old table : List ℕ) (width nodes i first j : ℕ) → j ≤ first → Adds old old width (BlocksBefore table width nodes i first j)
+BlocksBefore-none old table width nodes i first j none = record { bits = λ y x h. (λ s. inl s, λ s. elim s [ inl o ↦ o | inr p ↦ absurd (omega (arith, none, p.0, p.1)) ]) }
 
-pub ColumnsBefore-step : (old now new table : List ℕ) (width nodes j i : ℕ) → Adds old now width (ColumnsBefore table width nodes j i) →
-    Adds now new width (λ y x. (y / 64 ≡ j) × (x / 64 ≡ i) × (x < nodes) × IsSet table width x y) → Adds old new width (ColumnsBefore table width nodes j (i + 1))
-ColumnsBefore-step old now new table width nodes j i before adds = record {
+pub BlocksBefore-step : (old now new table : List ℕ) (width nodes i first j : ℕ) → first ≤ j → Adds old now width (BlocksBefore table width nodes i first j) →
+    Adds now new width (λ y x. (y / 64 ≡ j) × (x / 64 ≡ i) × (x < nodes) × IsSet table width x y) → Adds old new width (BlocksBefore table width nodes i first (j + 1))
+BlocksBefore-step old now new table width nodes i first j from before adds = record {
   bits = λ y x h. (
     λ s. elim ((adds.bits y x h).0 s) [
-      | inl n ↦ elim ((before.bits y x h).0 n) [ inl o ↦ inl o | inr p ↦ inr (p.0, omega (arith, p.1), p.2, p.3) ]
-      | inr p ↦ inr (p.0, omega (arith, p.1), p.2, p.3)
+      | inl n ↦ elim ((before.bits y x h).0 n) [ inl o ↦ inl o | inr p ↦ inr (p.0, omega (arith, p.1), p.2, p.3, p.4) ]
+      | inr p ↦ inr (omega (arith, p.0, from), omega (arith, p.0), p.1, p.2, p.3)
     ],
     λ s. (adds.bits y x h).1 (elim s [
       | inl o ↦ inl ((before.bits y x h).1 (inl o))
-      | inr p ↦ elim (cases_eq (x / 64) i) [
-        | inl at ↦ inr (p.0, at, p.2, p.3)
-        | inr ne ↦ inl ((before.bits y x h).1 (inr (p.0, omega (arith, p.1, ne), p.2, p.3)))
+      | inr p ↦ elim (cases_eq (y / 64) j) [
+        | inl at ↦ inr (at, p.2, p.3, p.4)
+        | inr ne ↦ inl ((before.bits y x h).1 (inr (p.0, omega (arith, p.1, ne), p.2, p.3, p.4)))
       ]
     ]),
   );
 }
 
-pub ColumnsBefore-end : (old now table : List ℕ) (width nodes j i : ℕ) → width ≤ i → Adds old now width (ColumnsBefore table width nodes j i) →
-    Adds old now width (λ y x. (y / 64 ≡ j) × (x < nodes) × IsSet table width x y)
-ColumnsBefore-end old now table width nodes j i past before = record {
+-- the bits of the words from `first` on and before `end`, of the rows before word i, transposed
+abbrev pub ColumnsBefore : List ℕ → ℕ → ℕ → ℕ → ℕ → ℕ → ℕ → ℕ → Type 0
+ColumnsBefore table width nodes first end i y x = (first ≤ y / 64) × (y / 64 < end) × (x / 64 < i) × (x < nodes) × IsSet table width x y
+
+pub ColumnsBefore-start : (old table : List ℕ) (width nodes first end : ℕ) → Adds old old width (ColumnsBefore table width nodes first end 0)
+ColumnsBefore-start old table width nodes first end = record { bits = λ y x h. (λ s. inl s, λ s. elim s [ inl o ↦ o | inr p ↦ absurd (omega (arith, p.2)) ]) }
+
+pub ColumnsBefore-step : (old now new table : List ℕ) (width nodes first end i : ℕ) → Adds old now width (ColumnsBefore table width nodes first end i) →
+    Adds now new width (BlocksBefore table width nodes i first end) → Adds old new width (ColumnsBefore table width nodes first end (i + 1))
+ColumnsBefore-step old now new table width nodes first end i before adds = record {
   bits = λ y x h. (
-    λ s. elim ((before.bits y x h).0 s) [ inl o ↦ inl o | inr p ↦ inr (p.0, p.2, p.3) ],
-    λ s. (before.bits y x h).1 (elim s [ inl o ↦ inl o | inr p ↦ inr (p.0, omega (arith, past, h), p.1, p.2) ]),
+    λ s. elim ((adds.bits y x h).0 s) [
+      | inl n ↦ elim ((before.bits y x h).0 n) [ inl o ↦ inl o | inr p ↦ inr (p.0, p.1, omega (arith, p.2), p.3, p.4) ]
+      | inr p ↦ inr (p.0, p.1, omega (arith, p.2), p.3, p.4)
+    ],
+    λ s. (adds.bits y x h).1 (elim s [
+      | inl o ↦ inl ((before.bits y x h).1 (inl o))
+      | inr p ↦ elim (cases_eq (x / 64) i) [
+        | inl at ↦ inr (p.0, p.1, at, p.3, p.4)
+        | inr ne ↦ inl ((before.bits y x h).1 (inr (p.0, p.1, omega (arith, p.2, ne), p.3, p.4)))
+      ]
+    ]),
+  );
+}
+
+pub ColumnsBefore-end : (old now table : List ℕ) (width nodes first end i : ℕ) → width ≤ i → Adds old now width (ColumnsBefore table width nodes first end i) →
+    Adds old now width (λ y x. (first ≤ y / 64) × (y / 64 < end) × (x < nodes) × IsSet table width x y)
+ColumnsBefore-end old now table width nodes first end i past before = record {
+  bits = λ y x h. (
+    λ s. elim ((before.bits y x h).0 s) [ inl o ↦ inl o | inr p ↦ inr (p.0, p.1, p.3, p.4) ],
+    λ s. (before.bits y x h).1 (elim s [ inl o ↦ inl o | inr p ↦ inr (p.0, p.1, omega (arith, past, h), p.2, p.3) ]),
   );
 }
 
@@ -139,18 +164,19 @@ TransposesBefore-start table zeros width nodes same = record {
   bits = λ y x h. (λ s. absurd (no_bit (nodes * width) width y x (subst (λ l. IsSet l width y x) same s)), λ p. absurd (omega (arith, p.0)));
 }
 
-pub TransposesBefore-step : (table transposed new : List ℕ) (width nodes j : ℕ) → TransposesBefore table transposed width nodes j → length new ≡ length transposed →
-    Adds transposed new width (λ y x. (y / 64 ≡ j) × (x < nodes) × IsSet table width x y) → TransposesBefore table new width nodes (j + 1)
-TransposesBefore-step table transposed new width nodes j before sized adds = record {
+-- those from `first` on and before `end` are too
+pub TransposesBefore-step : (table transposed new : List ℕ) (width nodes first end : ℕ) → first ≤ end → TransposesBefore table transposed width nodes first → length new ≡ length transposed →
+    Adds transposed new width (λ y x. (first ≤ y / 64) × (y / 64 < end) × (x < nodes) × IsSet table width x y) → TransposesBefore table new width nodes end
+TransposesBefore-step table transposed new width nodes first end order before sized adds = record {
   sized = sized ∙ before.sized;
   bits = λ y x h. (
     λ s. elim ((adds.bits y x h).0 s) [
-      | inl o ↦ (let p = (before.bits y x h).0 o in (omega (arith, p.0), p.1, p.2))
-      | inr p ↦ (omega (arith, p.0), p.1, p.2)
+      | inl o ↦ (let p = (before.bits y x h).0 o in (omega (arith, p.0, order), p.1, p.2))
+      | inr p ↦ (p.1, p.2, p.3)
     ],
-    λ p. (adds.bits y x h).1 (elim (cases_eq (y / 64) j) [
-      | inl at ↦ inr (at, p.1, p.2)
-      | inr ne ↦ inl ((before.bits y x h).1 (omega (arith, p.0, ne), p.1, p.2))
+    λ p. (adds.bits y x h).1 (elim (cases_lt (y / 64) first) [
+      | inl done ↦ inl ((before.bits y x h).1 (done, p.1, p.2))
+      | inr from ↦ inr (omega (arith, from), p.0, p.1, p.2)
     ]),
   );
 }

@@ -12,6 +12,7 @@ mod above;
 mod affected;
 mod base;
 mod inferred;
+mod lacking;
 pub mod laws;
 mod masks;
 mod over_base;

@@ -9,6 +9,7 @@ ghost use Rattle.tso_rules.specs.Internal.MarkedRows.{IsNewRow};
 
 use crate::above::{first_above, processor_row};
 use crate::inferred::{mark_store_past, mark_swap_after, mark_swap_before};
+use crate::lacking::may_lack;
 use crate::masks::SourceMasks;
 use crate::paths::path_row;
 use bitsets::{mark_word, marked, word_at, word_without};
@@ -89,7 +90,7 @@ fn mark_load_past_over_base(
     Ok(())
 }
 
-/// Marks the numbers of a row that aren't reached and aren't `u`.
+/// Marks the numbers of a row that aren't reached and aren't `u`. In most rows all are reached, which takes one look.
 fn mark_unreached(
     marks: &mut Vec<u64>,
     row: &[u64],
@@ -98,6 +99,9 @@ fn mark_unreached(
 ) -> Result<(), OutOfMemory>
     ensures { OnOk result (Marks marks.old.items marks.new.items (λ v. (HasNumber row.now v × (HasNumber reached.now v → ⊥)) × (v ≢ u))) }
 {
+    if !may_lack(row, reached) {
+        return Ok(());
+    }
     for (j, word) in row.iter().enumerate() {
         let numbers = *word & !word_at(reached, j);
         mark_word(marks, j, word_without(numbers, j, u))?;

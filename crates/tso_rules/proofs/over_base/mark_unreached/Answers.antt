@@ -1,8 +1,12 @@
-use Rattle.std.proofs.Common.{◌≢◌, get_or, refl, arith}
+use Rattle.std.proofs.Common.{◌≢◌, ◌∙◌, get_or, refl, sym, arith}
+use Rattle.std.proofs.lemmas.Bool.{false≢true}
 use Rattle.bitsets.specs.Rows.{HasNumber}
-use Rattle.bitsets.proofs.MarkFacts.{earlier_words_all, earlier_words_more}
+use Rattle.bitsets.proofs.MarkFacts.{earlier_words_all, earlier_words_more, marks_none}
 use Rattle.bitsets.proofs.RowFacts.{left_number, bit_without, HasNumber-within}
 use Rattle.tso_rules.proofs.over_base.mark_unreached.Goals as goal
+
+pub returns-then-not-may_lack : goal.returns-then-not-may_lack
+returns-then-not-may_lack c = marks_none c.args.marks.now.items _ (λ v is. false≢true (sym c.if-not-may_lack.true ∙ c.may_lack.ensures v is.0.0 is.0.1))
 
 pub loop-j-preserved : goal.loop-j-preserved
 loop-j-preserved c =
