@@ -128,14 +128,11 @@ pub fn closes_within(
     set_bit(&mut levels, tables.width, 0, start);
     for count in 0..limit {
         spread(&mut reached, edges, &levels, count, tables.nodes, first);
-        if bit(
-            BitTable {
-                words: &reached,
-                width,
-            },
-            0,
-            start,
-        ) {
+        let row = BitTable {
+            words: &reached,
+            width,
+        };
+        if bit(row, 0, start) {
             return Ok(true);
         }
         let size = levels.len() + tables.width;

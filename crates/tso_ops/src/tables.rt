@@ -22,6 +22,18 @@ pub(crate) fn list_events(alloc: Global, lists: &[Vec<Outcome>]) -> Result<Vec<E
     Ok(events)
 }
 
+/// The event of this place that is a load or a store, of this address and with this value.
+fn event_of(place: Event, load: bool, a: u16, value: u64) -> Event
+    ensures { result ≡ record { proc = place.proc; load = load; swap = place.swap; a = a; value = value; bars = place.bars; stbars = place.stbars } }
+{
+    Event {
+        load,
+        a,
+        value,
+        ..place
+    }
+}
+
 /// Pushes the events of one processor.
 fn push_events(events: &mut Vec<Event>, proc: usize, list: &[Outcome]) -> Result<(), OutOfMemory>
     ensures { OnOk result (events.new.items ≡ events.old.items ++ events_from proc 0 0 list.now) }
@@ -29,40 +41,21 @@ fn push_events(events: &mut Vec<Event>, proc: usize, list: &[Outcome]) -> Result
     let mut bars = 0;
     let mut stbars = 0;
     for outcome in list {
+        let place = Event {
+            proc,
+            load: true,
+            swap: matches!(outcome, Outcome::Sw { .. }),
+            a: 0,
+            value: 0,
+            bars,
+            stbars,
+        };
         match *outcome {
-            Outcome::Ld { a, r } => events.push(Event {
-                proc,
-                load: true,
-                swap: false,
-                a,
-                value: r,
-                bars,
-                stbars,
-            })?,
-            Outcome::St { a, v } => events.push(Event {
-                proc,
-                load: false,
-                swap: false,
-                a,
-                value: v,
-                bars,
-                stbars,
-            })?,
+            Outcome::Ld { a, r } => events.push(event_of(place, true, a, r))?,
+            Outcome::St { a, v } => events.push(event_of(place, false, a, v))?,
             Outcome::Sw { a, r, v } => {
-                let load = Event {
-                    proc,
-                    load: true,
-                    swap: true,
-                    a,
-                    value: r,
-                    bars,
-                    stbars,
-                };
-                let store = Event {
-                    load: false,
-                    value: v,
-                    ..load
-                };
+                let load = event_of(place, true, a, r);
+                let store = event_of(place, false, a, v);
                 events.push(load)?;
                 events.push(store)?;
             }
