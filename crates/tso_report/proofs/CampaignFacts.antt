@@ -1,5 +1,5 @@
 -- Lemmas on campaigns: verdicts as they come in, and the lines of seeds.
-use Rattle.std.proofs.Common.{◌≡◌, ◌≢◌, ℕ, suc, ◌+◌, ◌<◌, ◌≤◌, ◌^◌, inl, inr, Bool, true, false, List, [], ◌∷◌, ◌++◌, length, map, take, set, get_or, replicate, Option, None, Some, unwrap_or, is_some, true≢false, refl, ap, sym, subst, ◌∙◌, arith, append_assoc, codes, length-set}
+use Rattle.std.proofs.Common.{◌≡◌, ℕ, suc, ◌+◌, ◌<◌, ◌≤◌, ◌^◌, inl, inr, Bool, false, List, [], ◌∷◌, ◌++◌, length, map, take, set, get_or, replicate, Option, None, Some, unwrap_or, is_some, true≢false, refl, ap, sym, subst, ◌∙◌, arith, append_assoc, codes, length-set}
 use Rattle.std.specs.Fmt.{decimal}
 use Rattle.std.proofs.lemmas.Bool.{cases_eq}
 use Rattle.std.proofs.lemmas.List.{append-nil, length-take-le, take_more, get_or-map, get_or-replicate, get_or-set_other, get_or-set_same, length-map, length-replicate}

@@ -1,12 +1,10 @@
 -- Lemmas on the report of a trace.
-use Rattle.std.proofs.Common.{◌≡◌, ℕ, ◌<◌, ◌≤◌, List, [], ◌∷◌, ◌++◌, refl, ap, subst, ◌∙◌, arith, ⊎_elim}
+use Rattle.std.proofs.Common.{◌≡◌, ℕ, ◌<◌, ◌≤◌, List, [], ◌∷◌, ◌++◌, refl, ap, ◌∙◌, arith, ⊎_elim}
 use Rattle.std.specs.Prelude.{codes, Option, None, Some, MatchOption}
 use Rattle.std.proofs.lemmas.List.{append_assoc}
 use Rattle.std.proofs.lemmas.Bool.{cases_lt}
 use Rattle.tso_ops.specs.Values.{TraceValue}
-use Rattle.tso_ops.specs.Events.{processor_count, event_total, IsUnwritten, SourceIs}
-use Rattle.tso_ops.specs.declared.events.Source.{Source}
-use Rattle.tso_ops.specs.declared.events.Source.TheVariants.{Init}
+use Rattle.tso_ops.specs.Events.{processor_count, event_total, IsUnwritten}
 use Rattle.tso_cert.specs.declared.steps.Certificate.{Certificate}
 use Rattle.tso_cert.specs.Printed.{cert_text}
 use Rattle.tso_model.specs.Certs.{IsCertificateOf}

@@ -13,7 +13,7 @@ pub use checking::{MAX_CERTIFICATE_BYTES, check_texts};
 pub use faults::Fault;
 pub use findings::{Finding, find_violation};
 pub use judging::{judge, judge_trace};
-pub use record_judging::judge_recorded;
+pub use record_judging::{judge_recorded, report_of_record};
 pub use rendering::{Report, render_refusal, render_trace};
 pub use round_pool::MAX_WORKERS;
 pub use streams::reading::read_all;

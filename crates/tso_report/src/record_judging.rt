@@ -1,5 +1,5 @@
 //! The way of a unit's record: judge its trace, write the report.
-ghost use Rattle.std.specs.Prelude.{◌≡◌, ◌≢◌, ◌⊎◌, ◌↔◌, ◌≤◌, ℕ, List, true, IfOk, IfErr};
+ghost use Rattle.std.specs.Prelude.{◌≡◌, ◌≢◌, ◌⊎◌, ◌↔◌, ◌≤◌, ℕ, List, true, string_bytes, IfOk, IfErr};
 ghost use Rattle.std.specs.Io.KnownBytes.{Appends};
 ghost use Rattle.round_pool.specs.Workers.{worker_limit};
 ghost use Rattle.tso_model.specs.Order.{IsConsistent};
@@ -11,6 +11,7 @@ ghost use Rattle.tso_report.specs.Written.{LeavesAtFault, WritesWhole};
 
 use crate::faults::Fault;
 use crate::judging::judge_trace;
+use crate::rendering::Report;
 use crate::streams::writing::write_text;
 use crate::verdicts::Verdict;
 use std::alloc::Global;
@@ -44,7 +45,28 @@ pub fn judge_recorded<H: Threads + Wait, W: Write>(
     ensures fault { IfErr result (LeavesAtFault (IsTraceReport recorded.now.trace) (W.contents writer.old) (W.contents writer.new)) }
     ensures no_read { IfErr result (λ fault. fault ≢ Fault.Read) }
 {
-    let report = judge_trace(rt, alloc, recorded.trace(), workers)?;
+    let report = report_of_record(rt, alloc, recorded, workers)?;
     write_text(writer, report.text.as_bytes())?;
     Ok(report.verdict)
+}
+
+/// Judges the trace of a unit's record on `workers` workers (1 to 64): its report, and the verdict that it says.
+///
+/// The report is the same for each number of workers. The verdict is NoViolation where the record is `lawful()`, of
+/// either memory model. Faults: OutOfMemory where an allocation was refused, NoThread where the system refused a thread.
+pub fn report_of_record<H: Threads + Wait>(
+    rt: &H,
+    alloc: Global,
+    recorded: &Recorded,
+    workers: usize,
+) -> Result<Report, Fault>
+    requires some { 1 ≤ workers }
+    requires most { workers ≤ worker_limit }
+    ensures report { IfOk result (λ report. IsTraceReport recorded.now.trace (string_bytes report.text) report.verdict) }
+    ensures no_order { IfOk result (λ report. report.verdict ≡ Verdict.Violation → IsConsistent recorded.now.trace → ⊥) }
+    ensures no_false_alarm { IfOk result (λ report. recorded.now.lawful ≡ true → report.verdict ≡ Verdict.NoViolation) }
+    ensures fault { IfErr result (λ fault. (fault ≡ Fault.OutOfMemory) ⊎ (fault ≡ Fault.NoThread)) }
+{
+    let report = judge_trace(rt, alloc, recorded.trace(), workers)?;
+    Ok(report)
 }

@@ -3,6 +3,7 @@ use Rattle.std.specs.Prelude.{◌≡◌, ℕ, List, ◌++◌, Bool, true, false,
 use Rattle.tso_text.specs.declared.faults.Why.{Why}
 use Rattle.tso_text.specs.Printed.{trace_text}
 use Rattle.tso_report.specs.declared.verdicts.Verdict.{Verdict}
+use Rattle.tso_report.specs.declared.verdicts.Verdict.TheVariants.{NoViolation}
 use Rattle.tso_report.specs.AccountTexts.{account_text}
 use Rattle.tso_report.specs.Reports.{IsTraceReport, refusal_text}
 use Rattle.command_line.specs.declared.options.UnitKind.{UnitKind}
@@ -31,11 +32,12 @@ unit_of options = unit_of_kind options.kind options.capacity options.trigger
 
 -- ---- what is printed of a record
 
--- its trace, with the status of a text that was asked for, or else the report of its trace and the account
+-- its trace, with the status of a text that was asked for, or else the report of its trace, which is no violation where the record is lawful, and the account
 abbrev pub PrintsRecord : Bool → RecordedValue → Account → List ℕ → ℕ → Type 0
 PrintsRecord true recorded account text status = (text ≡ trace_text recorded.trace) × (status ≡ 0)
 PrintsRecord false recorded account text status =
-    (report : List ℕ) × (verdict : Verdict) × IsTraceReport recorded.trace report verdict × (text ≡ report ++ account_text account) × (status ≡ status_of verdict)
+    (report : List ℕ) × (verdict : Verdict) × IsTraceReport recorded.trace report verdict × (recorded.lawful ≡ true → verdict ≡ NoViolation) × (text ≡ report ++ account_text account)
+    × (status ≡ status_of verdict)
 
 -- ---- what is printed of texts
 

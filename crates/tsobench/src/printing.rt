@@ -12,7 +12,7 @@ use std::alloc::Global;
 use std::sync::Wait;
 use std::thread::Threads;
 use tso_ops::OutOfMemory;
-use tso_report::{Fault, judge_trace, print_account, render_refusal};
+use tso_report::{Fault, print_account, render_refusal, report_of_record};
 use tso_text::{TextFault, print_trace};
 use unit_core::{Account, Recorded};
 
@@ -23,7 +23,8 @@ pub(crate) struct Printed {
     pub status: u8,
 }
 
-/// What is printed of a record: its trace where the options ask for it, else the report of the trace and the account.
+/// What is printed of a record: its trace where the options ask for it, else the report of the trace and the account. The
+/// report of a lawful record's trace is never a violation.
 pub(crate) fn print_record<H: Threads + Wait + AllocGlobal>(
     rt: &H,
     options: &RunOptions,
@@ -41,7 +42,7 @@ pub(crate) fn print_record<H: Threads + Wait + AllocGlobal>(
             status: DONE,
         });
     }
-    let report = judge_trace(rt, rt.alloc(), recorded.trace(), options.workers)?;
+    let report = report_of_record(rt, rt.alloc(), recorded, options.workers)?;
     let status = status_of(report.verdict);
     let mut text = report.text.into_bytes();
     text.extend_from_slice(&print_account(rt.alloc(), account)?)?;
