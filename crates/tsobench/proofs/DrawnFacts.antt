@@ -1,5 +1,5 @@
 -- Lemmas on what is printed of drawn programs, and on lines that are written in parts.
-use Rattle.std.proofs.Common.{◌≡◌, ◌∙◌, ◌⊎◌, ℕ, zero, suc, ◌+◌, ◌<◌, ◌≤◌, All, List, [], ◌∷◌, ◌++◌, Bool, Option, None, Some, append_assoc, arith, length, get_or, map, replicate, take, ap, refl, subst, sym, inl, inr}
+use Rattle.std.proofs.Common.{◌≡◌, ◌∙◌, ℕ, zero, suc, ◌+◌, All, List, [], ◌∷◌, ◌++◌, Bool, Option, None, Some, append_assoc, arith, length, get_or, map, replicate, take, ap, refl, subst, sym, inr}
 use Rattle.std.proofs.lemmas.List.{get_or-map, get_or-replicate, length-append, length-map, length-replicate, take-append-le}
 use Rattle.std.proofs.lemmas.Simd.{map-map}
 use Rattle.std.proofs.Math.Seq.{take-append-add}
@@ -14,7 +14,7 @@ use Rattle.tso_report.specs.declared.faults.Fault.{Fault}
 use Rattle.tso_report.specs.declared.faults.Fault.TheVariants.{OutOfMemory, Read, Write, NoThread, Missing}
 use Rattle.tso_report.specs.declared.verdicts.Verdict.{Verdict}
 use Rattle.unit_core.specs.Units.{UnitValue}
-use Rattle.tsobench.specs.Drawn.{IsCampaignOf, IsDrawnOf, LeavesCampaignText, lawful_units, asked_shape}
+use Rattle.tsobench.specs.Drawn.{IsCampaignOf, IsDrawnOf, LeavesCampaignText, lawful_units}
 use Rattle.tsobench.specs.Printing.{unit_of, unit_of_kind}
 use Rattle.tsobench.specs.Statuses.{status_of}
 

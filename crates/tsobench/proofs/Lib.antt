@@ -1,4 +1,5 @@
 pub mod DrawnFacts
 pub mod EndFacts
+pub mod LawfulFacts
 pub mod ReplayingFacts
 pub mod RunningFacts

@@ -1,7 +1,6 @@
 -- Lemmas on how a run ends.
 use Rattle.std.proofs.Common.{◌⊎◌, ℕ, List, Ok, Err, Result, IfOk, IfErr, subst, sym, inl, inr}
 use Rattle.tso_report.specs.declared.faults.Fault.{Fault}
-use Rattle.tso_report.specs.declared.faults.Fault.TheVariants.{OutOfMemory}
 use Rattle.tso_report.specs.Written.{LeavesAtFault}
 use Rattle.tsobench.specs.declared.running.RunEnd.{RunEnd}
 use Rattle.tsobench.specs.declared.running.RunEnd.TheVariants.{Printed, Torn, OtherProgram}

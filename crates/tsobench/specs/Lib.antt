@@ -1,6 +1,7 @@
 pub mod Drawn
 pub mod Endings
 pub mod Internal
+pub mod Lawful
 pub mod Named
 pub mod Printing
 pub mod Replaying

@@ -8,6 +8,7 @@ ghost use Rattle.tso_report.specs.Limits.{trace_read_limit};
 ghost use Rattle.tso_report.specs.Streams.{AppendsPrefix, LosesPrefix};
 ghost use Rattle.tso_report.specs.declared.faults.Fault.TheVariants.{OutOfMemory};
 ghost use Rattle.tsobench.specs.Endings.{Does, DoesWhatClapSays, WritesFaultLine, invalid_utf8_line, outputs};
+ghost use Rattle.tsobench.specs.Lawful.{runs_on_lawful_unit};
 ghost use Rattle.tsobench.specs.Named.{OpensFirst, files_named, reads_input};
 
 use crate::endings::end_by;
@@ -40,6 +41,7 @@ pub fn drive<H: Threads + Wait + Sync + Files + AllocGlobal, R: Read, W: Write, 
     ensures asked { (asked : Asked) → Asks (texts_in arguments.now) asked → Does asked (R.remaining reader.old) (λ _. None) (outputs (W.contents writer.old) (W.contents writer.new) (E.contents errors.old) (E.contents errors.new)) result }
     ensures helped { AsksHelp (texts_in arguments.now) → Does showing (R.remaining reader.old) (λ _. None) (outputs (W.contents writer.old) (W.contents writer.new) (E.contents errors.old) (E.contents errors.new)) result }
     ensures refused { Refuses (texts_in arguments.now) → Does refusing (R.remaining reader.old) (λ _. None) (outputs (W.contents writer.old) (W.contents writer.new) (E.contents errors.old) (E.contents errors.new)) result }
+    ensures no_false_alarm { (asked : Asked) → Asks (texts_in arguments.now) asked → runs_on_lawful_unit asked ≡ true → result ≢ 3 }
     ensures ends { DoesWhatClapSays (texts_in arguments.now) (R.remaining reader.old) (λ _. None) (outputs (W.contents writer.old) (W.contents writer.new) (E.contents errors.old) (E.contents errors.new)) result }
     ensures unread { (asked : Asked) → Asks (texts_in arguments.now) asked → reads_input asked ≡ false → reader.new ≡ reader.old }
     ensures unread_help { AsksHelp (texts_in arguments.now) → reader.new ≡ reader.old }
@@ -61,6 +63,7 @@ pub fn drive_over<
     ensures asked { (asked : Asked) → Asks (texts_in arguments.now) asked → Does asked (R.remaining reader.old) (O.bytes files.old) (outputs (W.contents writer.old) (W.contents writer.new) (E.contents errors.old) (E.contents errors.new)) result }
     ensures helped { AsksHelp (texts_in arguments.now) → Does showing (R.remaining reader.old) (O.bytes files.old) (outputs (W.contents writer.old) (W.contents writer.new) (E.contents errors.old) (E.contents errors.new)) result }
     ensures refused { Refuses (texts_in arguments.now) → Does refusing (R.remaining reader.old) (O.bytes files.old) (outputs (W.contents writer.old) (W.contents writer.new) (E.contents errors.old) (E.contents errors.new)) result }
+    ensures no_false_alarm { (asked : Asked) → Asks (texts_in arguments.now) asked → runs_on_lawful_unit asked ≡ true → result ≢ 3 }
     ensures ends { DoesWhatClapSays (texts_in arguments.now) (R.remaining reader.old) (O.bytes files.old) (outputs (W.contents writer.old) (W.contents writer.new) (E.contents errors.old) (E.contents errors.new)) result }
     ensures opened { (asked : Asked) → Asks (texts_in arguments.now) asked → OpensFirst (O.opened files.old) (O.opened files.new) (files_named asked) }
     ensures unread { (asked : Asked) → Asks (texts_in arguments.now) asked → reads_input asked ≡ false → reader.new ≡ reader.old }

@@ -5,6 +5,7 @@ ghost use Rattle.tso_report.specs.Limits.{trace_read_limit, worker_limit};
 ghost use Rattle.tso_report.specs.Streams.{AppendsPrefix, LosesPrefix};
 ghost use Rattle.tso_report.specs.Written.{LeavesCheckFault, LeavesFault, WritesCheckReport, WritesReport};
 ghost use Rattle.tsobench.specs.Endings.{EndsAs, EndsShowing, judged_bytes, outputs};
+ghost use Rattle.tsobench.specs.Lawful.{runs_on_lawful_unit};
 ghost use Rattle.tsobench.specs.Named.{OpensFirst, OpensNext, files_named, name_in, reads_input};
 
 use crate::drawing::{campaign_by, make};
@@ -23,7 +24,8 @@ use tso_report::{Fault, Verdict, check_texts, judge, write_text};
 ///
 /// `Judge` judges the trace in a file, or else what `reader` has, and writes its report to `writer`; `Check` checks a
 /// certificate against a trace and writes the report of both. Their status is that of the verdict: 0 where no violation
-/// was found, 2 where a text or the certificate was refused, 3 at a violation or a certificate that holds. `Show` writes
+/// was found, 2 where a text or the certificate was refused, 3 at a violation or a certificate that holds. `Replay` and
+/// `Run` print what a record gives: on a lawful unit never a violation, so their status isn't 3 there. `Show` writes
 /// its text to `writer`, with status 0, and `Refuse` to `errors`, with status 2. At a fault the status is 4 and one
 /// line, as `FAULT Read`, is written to `errors`; a file that can't be opened is the fault Read. All files that the
 /// request names are opened, in their order, before one is read.
@@ -38,6 +40,7 @@ pub fn serve<H: Threads + Wait + Sync + AllocGlobal, O: NamedFiles, R: Read, W: 
     requires workers { HasWorkers (asked_of request.now) }
     requires unit { HasUnitRanges (asked_of request.now) }
     ensures ends { EndsAs request.now (R.remaining reader.old) (O.bytes files.old) (outputs (W.contents writer.old) (W.contents writer.new) (E.contents errors.old) (E.contents errors.new)) result }
+    ensures no_false_alarm { runs_on_lawful_unit (asked_of request.now) ≡ true → result ≢ 3 }
     ensures first { OpensFirst (O.opened files.old) (O.opened files.new) (files_named (asked_of request.now)) }
     ensures opened { result ≢ 4 → OpensNext (O.opened files.old) (O.opened files.new) (files_named (asked_of request.now)) }
     ensures unread { reads_input (asked_of request.now) ≡ false → reader.new ≡ reader.old }

@@ -1,6 +1,7 @@
-use Rattle.std.proofs.Common.{◌∙◌, ap, inl, inr, rules, subst}
+use Rattle.std.proofs.Common.{◌∙◌, ap, inl, inr, rules, subst, arith}
 use Rattle.command_line.specs.Requests.{asked_of}
 use Rattle.tsobench.specs.Endings.{Does, Outputs, outputs}
+use Rattle.tsobench.specs.Lawful.{runs_on_lawful_unit}
 use Rattle.tsobench.specs.Named.{OpensFirst, files_named, reads_input}
 use Rattle.tsobench.proofs.EndFacts.{does_asked}
 use Rattle.tsobench.proofs.driving.drive_over.Goals as goal
@@ -45,3 +46,10 @@ returns-in-Ok-clause-taken g c = λ asked asks reads other.
 
 pub returns-in-Err-clause-taken : goal.returns-in-Err-clause-taken
 returns-in-Err-clause-taken g c = λ asked asks reads other. absurd (other c.end_by.ensures.status)
+
+pub returns-in-Ok-clause-no_false_alarm : goal.returns-in-Ok-clause-no_false_alarm
+returns-in-Ok-clause-no_false_alarm g c = λ asked asks lawful.
+    c.serve.ensures.no_false_alarm (ap runs_on_lawful_unit (c.in-Ok.ensures.plain asked asks) ∙ lawful)
+
+pub returns-in-Err-clause-no_false_alarm : goal.returns-in-Err-clause-no_false_alarm
+returns-in-Err-clause-no_false_alarm g c = λ asked asks lawful three. omega (arith, c.end_by.ensures.status, three)

@@ -7,6 +7,7 @@ use Rattle.tsobench.proofs.EndFacts.{at_verdict, ends_by_report, opens_all, unna
 use Rattle.tsobench.proofs.ReplayingFacts.{at_text, ends_by_text}
 use Rattle.tsobench.proofs.RunningFacts.{ends_run}
 use Rattle.tsobench.specs.Running.{IsRunText}
+use Rattle.tsobench.proofs.LawfulFacts.{lawful_status}
 use Rattle.tsobench.proofs.serving.serve.Goals as goal
 
 pub returns-in-Judge-clause-ends : goal.returns-in-Judge-clause-ends
@@ -44,3 +45,9 @@ returns-in-Run-clause-ends g c =
 
 pub returns-in-Run-clause-first : goal.returns-in-Run-clause-first
 returns-in-Run-clause-first g c = rw c.in-Run.is (opens_all _ _ _ c.run_named-ran.ensures.opened)
+
+pub returns-in-Replay-clause-no_false_alarm : goal.returns-in-Replay-clause-no_false_alarm
+returns-in-Replay-clause-no_false_alarm g c = λ lawful. lawful_status c.args.request.now _ _ _ _ (returns-in-Replay-clause-ends g c) lawful
+
+pub returns-in-Run-clause-no_false_alarm : goal.returns-in-Run-clause-no_false_alarm
+returns-in-Run-clause-no_false_alarm g c = λ lawful. lawful_status c.args.request.now _ _ _ _ (returns-in-Run-clause-ends g c) lawful
