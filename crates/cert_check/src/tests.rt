@@ -339,6 +339,9 @@ const PASSING_FROM_7: [&[Outcome]; 2] = [
     &[Ld { a: 2, r: 2 }, Ld { a: 1, r: 7 }],
 ];
 
+/// A load that misses the processor's own store and reads the first value 7.
+const OWN_MISSED_FROM_7: [&[Outcome]; 1] = [&[St { a: 1, v: 1 }, Ld { a: 1, r: 7 }]];
+
 /// Loads of the value 0, which nothing wrote, and of the first value 7.
 const ZERO_AND_7: [&[Outcome]; 2] = [&[Ld { a: 1, r: 0 }], &[Ld { a: 1, r: 7 }]];
 
@@ -351,6 +354,15 @@ fn certificates_from_first_values(rt: HostRuntime) -> Result<(), Fail> {
         &rt,
         "first_values_message_passing",
         &passing,
+        &given,
+        Ok(()),
+    );
+    let missed = trace_from(alloc, (1, 7), &OWN_MISSED_FROM_7)?;
+    let given = certificate_of(alloc, MISSED.steps, 0, MISSED.cycle)?;
+    expect(
+        &rt,
+        "first_values_own_store_missed",
+        &missed,
         &given,
         Ok(()),
     );

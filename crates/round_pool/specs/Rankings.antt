@@ -24,8 +24,8 @@ abbrev pub ListsEdge : List Edge → ℕ → ℕ → Type 0
 ListsEdge edges u v = Contains edges (edge_from u v)
 
 -- the edges lie between numbers below this one
-abbrev pub AreWithin : ℕ → List Edge → Type 0
-AreWithin nodes edges = (u v : ℕ) → ListsEdge edges u v → (u < nodes) × (v < nodes)
+abbrev pub AreEdgesWithin : ℕ → List Edge → Type 0
+AreEdgesWithin nodes edges = (u v : ℕ) → ListsEdge edges u v → (u < nodes) × (v < nodes)
 
 -- the first edge stands before the second: by its first number, then by its second
 abbrev pub IsEdgeBefore : Edge → Edge → Type 0

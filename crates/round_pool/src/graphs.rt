@@ -3,7 +3,7 @@ ghost use Rattle.std.specs.Prelude.{◌≡◌, ◌<◌, ℕ, Contains, IfOk};
 ghost use Rattle.order_graph.specs.Digraphs.{IsEdge};
 ghost use Rattle.round_pool.specs.Internal.Worksets.{OnlyGrown};
 ghost use Rattle.round_pool.specs.RankGraphs.{IsRankGraph, AddsEdges};
-ghost use Rattle.round_pool.specs.Rankings.{ListsEdge, AreWithin};
+ghost use Rattle.round_pool.specs.Rankings.{ListsEdge, AreEdgesWithin};
 
 use crate::ranked::Edge;
 use order_graph::{EdgeRows, Graph};
@@ -26,7 +26,7 @@ pub fn base_graph(alloc: Global, trace: &Trace) -> Result<Graph, OutOfMemory>
 
 /// Adds these edges. What reaches more by them has grown in the graph then.
 pub fn add_edges(graph: &mut Graph, edges: &[Edge])
-    requires { AreWithin graph.old.nodes edges.now }
+    requires { AreEdgesWithin graph.old.nodes edges.now }
     ensures edges { AddsEdges graph.old graph.new (ListsEdge edges.now) }
     ensures grown { OnlyGrown (IsEdge graph.old) graph.new }
 {

@@ -4,7 +4,7 @@ ghost use Rattle.order_paths.specs.Paths.{HasCycle};
 ghost use Rattle.order_graph.specs.Digraphs.{IsEdge};
 ghost use Rattle.tso_ops.specs.Events.{IsUnwritten};
 ghost use Rattle.round_pool.specs.Internal.Worksets.{ClosesCycle};
-ghost use Rattle.round_pool.specs.Rankings.{IsRankingOf, ListsEdge, AreWithin};
+ghost use Rattle.round_pool.specs.Rankings.{IsRankingOf, ListsEdge, AreEdgesWithin};
 ghost use Rattle.round_pool.specs.Workers.{worker_limit};
 
 use crate::claimed_rows::RowInput;
@@ -82,7 +82,7 @@ pub fn rounds<H: Threads + Wait, G: PoolGate + Sync>(
 
 /// Whether one of these edges leads from a number that its end reaches.
 fn closes_cycle(graph: &Graph, edges: &[Edge]) -> bool
-    requires { AreWithin graph.now.nodes edges.now }
+    requires { AreEdgesWithin graph.now.nodes edges.now }
     ensures { IsTrue result ↔ ClosesCycle graph.now (ListsEdge edges.now) }
 {
     for edge in edges {

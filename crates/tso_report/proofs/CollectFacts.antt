@@ -15,7 +15,7 @@ use Rattle.tso_model.proofs.CertificateUnique.{IsPathIn-mono}
 use Rattle.tso_model.proofs.Justifications.{rank_exists, rank_unique}
 use Rattle.tso_model.proofs.LastRankSet.{RankSet-mono}
 use Rattle.tso_model.proofs.UsedEdges.{IsPathIn-used, used_lesser, used_path}
-use Rattle.tso_report.specs.Internal.Collecting.{IsListed, Collects}
+use Rattle.tso_report.specs.Internal.Collecting.{IsCollected, Collects}
 
 -- At first the cycle's edges are marked, and nothing is done.
 pub Collects-start : (t : TraceValue) (k : ℕ) (cycle : List ℕ) (Marked Done : ℕ → ℕ → Type 0) → IsCycle (RankSet t k) cycle →
@@ -100,7 +100,7 @@ Collects-step t k cycle Marked More Done Other steps r s collects marked rank ju
       | inr used ↦ (let lesser = used_lesser t r s.from s.to s.reason just u v used in absurd (omega (arith, lesser.1, late u v lesser.0 o lesser.2)))
     ]
 
-    new_step : IsListed t More Other s
+    new_step : IsCollected t More Other s
     new_step = record {
       marked = kept s.from s.to marked;
       done = (other s.from s.to).1 (inr (refl, refl));
@@ -108,8 +108,8 @@ Collects-step t k cycle Marked More Done Other steps r s collects marked rank ju
       path = IsPathIn-mono (AreUsedBy s.reason) More (λ u v used. (more u v).1 (inr used)) s.reason (used_path s.reason);
     }
 
-    each : (i : ℕ) (d : CertStep) → slice_get (s ∷ steps) i ≡ Some d → IsListed t More Other d
-    each zero d at = subst (λ c. IsListed t More Other c) (same_Some s d at) new_step
+    each : (i : ℕ) (d : CertStep) → slice_get (s ∷ steps) i ≡ Some d → IsCollected t More Other d
+    each zero d at = subst (λ c. IsCollected t More Other c) (same_Some s d at) new_step
     each (suc i) d at = let listed = collects.each i d at in record {
       marked = kept d.from d.to listed.marked;
       done = (other d.from d.to).1 (inl listed.done);

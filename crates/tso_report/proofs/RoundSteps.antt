@@ -29,7 +29,7 @@ use Rattle.tso_report.proofs.CollectFacts.{Collects-start, Collects-as, Collects
 edge_is : (e : Edge) (u v : ℕ) → e ≡ edge_from u v ↔ ((u ≡ e.from) × (v ≡ e.to))
 edge_is e u v = (λ same. (sym (ap (λ (d : Edge). d.from) same), sym (ap (λ (d : Edge). d.to) same)), λ p. subst (λ n. e ≡ edge_from n v) (sym p.0) (subst (λ n. e ≡ edge_from e.from n) (sym p.1) refl))
 
--- ---- taking away
+-- ---- removing edges
 
 -- the edge stands before this place
 abbrev pub IsListedBefore_place : List Edge → ℕ → ℕ → ℕ → Type 0

@@ -80,7 +80,7 @@ IsCheckReport trace cert text verdict = ((t : TraceValue) × SpellsTrace trace t
 abbrev pub SpellHolding : List ℕ → List ℕ → Type 0
 SpellHolding trace cert = (t : TraceValue) × SpellsTrace trace t × SpellsHolding t cert
 
--- The text is the report on the trace of what a reader had: of all its bytes where these are known.
+-- The text is the report on the trace of some bytes, and of all bytes of the reader where these are known.
 pub record IsCertReportOfReader (t : TraceValue) (remaining : Option (List ℕ)) (text : List ℕ) (verdict : Verdict) : Type 0 where
   pub cert : List ℕ
   pub whole : IfSome remaining (λ all. cert ≡ all)

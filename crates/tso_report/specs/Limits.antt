@@ -1,4 +1,4 @@
--- The limits on what is read, and on the number of workers.
+-- The limits on what is read, on the number of workers, and on a campaign's seeds.
 pub use Rattle.round_pool.specs.Workers.{worker_limit}
 use Rattle.std.specs.Prelude.{ℕ, suc}
 use Rattle.tso_text.specs.Spelling.{text_byte_limit}

@@ -44,7 +44,7 @@ LeavesFault remaining old new fault = LeavesAtFault (IsReportOfReader remaining)
 
 -- ---- the report of two texts
 
--- The text is the report of what two readers had: of all their bytes where these are known.
+-- The text is the report of some bytes of two readers, and of all their bytes where these are known.
 pub record IsCheckReportOfReaders (traces certs : Option (List ℕ)) (text : List ℕ) (verdict : Verdict) : Type 0 where
   pub trace : List ℕ
   pub cert : List ℕ

@@ -10,7 +10,7 @@ ghost use Rattle.tso_model.specs.Certs.{AreStepsOf, IsCertificateOf};
 ghost use Rattle.tso_model.specs.Used.{AreUsedBy};
 ghost use Rattle.tso_rules.specs.Rows.{IsUngiven};
 ghost use Rattle.round_pool.specs.RankGraphs.{IsRankGraph, AddsEdges};
-ghost use Rattle.round_pool.specs.Rankings.{IsRankingOf, rounds_of, ListsEdge, AreWithin};
+ghost use Rattle.round_pool.specs.Rankings.{IsRankingOf, rounds_of, ListsEdge, AreEdgesWithin};
 ghost use Rattle.tso_report.specs.Internal.Collecting.{AreNumbersBelow, IsReasonBelow, CollectsEdge, Collects, IsAboveRank, IsAboveOrBase};
 
 use order_graph::{EdgeRows, EdgeSet};
@@ -104,7 +104,7 @@ fn mark_used(marks: &mut EdgeRows, reason: &Reason)
 
 /// Removes the edges from the set.
 fn remove_edges(set: &mut EdgeSet, edges: &[Edge])
-    requires { AreWithin set.old.nodes edges.now }
+    requires { AreEdgesWithin set.old.nodes edges.now }
     ensures nodes { set.new.nodes ≡ set.old.nodes }
     ensures edges { (x y : ℕ) → IsEdge set.new x y ↔ (IsEdge set.old x y × (ListsEdge edges.now x y → ⊥)) }
 {

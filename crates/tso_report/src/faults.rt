@@ -6,13 +6,14 @@ use round_pool::PoolFault;
 use std::alloc::{AllocError, AllocFailed};
 use thiserror::Error;
 
-/// Why a call gave no verdict, in the order in which the faults are tried.
+/// Why a call gave no verdict.
 #[derive(Clone, Copy, Debug, PartialEq, Eq, Error)]
 pub enum Fault {
     /// An allocation was refused.
     #[error("OutOfMemory")]
     OutOfMemory,
-    /// A reader failed, or gave neither its end nor the byte after the limit within 2,097,152 calls.
+    /// A reader failed, gave neither its end nor the byte after the limit within 2,097,152 calls, or had a certificate of
+    /// more than 67,108,864 bytes.
     #[error("Read")]
     Read,
     /// A writer failed, took no byte, or was interrupted more than 1,048,576 times.

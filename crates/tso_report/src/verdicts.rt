@@ -5,6 +5,6 @@ pub enum Verdict {
     NoViolation,
     /// The trace has no order that meets the axioms, as its certificate shows.
     Violation,
-    /// The input is no trace.
+    /// The input is no trace, or the certificate doesn't hold or is none.
     Refused,
 }

@@ -41,13 +41,13 @@ PrintsRecord false recorded account text status =
 
 -- ---- what is printed of texts
 
--- It holds of what was read, and of all bytes of the reader where these are known.
+-- It holds of some bytes, and of all bytes of the reader where these are known.
 pub record ReadsAs (remaining : Option (List ℕ)) (Is : List ℕ → Type 0) : Type 0 where
   pub bytes : List ℕ
   pub of_read : Is bytes
   pub of_all : IfSome remaining Is
 
--- What was read is refused, and the text is the line of its refusal.
+-- Such bytes are refused, and the text is the line of their refusal.
 pub record IsRefusalOf (is_refusal : List ℕ → ℕ → Why → Type 0) (remaining : Option (List ℕ)) (text : List ℕ) (status : ℕ) : Type 0 where
   pub line : ℕ
   pub why : Why

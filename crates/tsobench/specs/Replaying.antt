@@ -16,7 +16,7 @@ pub record IsReplayOf (options : RunOptions) (program : ProgramValue) (schedule 
   pub replays : Replays program schedule (unit_of options.unit) account (Ok recorded)
   pub prints : PrintsRecord options.prints_trace recorded account text status
 
--- The schedule was read, and the program was replayed by it.
+-- Such bytes spell a schedule, and the program was replayed by it.
 pub record IsReplayBy (options : RunOptions) (program : ProgramValue) (schedules : Option (List ℕ)) (text : List ℕ) (status : ℕ) : Type 0 where
   pub schedule : List Act
   pub spelled : ReadsAs schedules (λ bytes. SpellsSchedule bytes schedule)
@@ -27,7 +27,7 @@ abbrev pub IsScheduledText : RunOptions → ProgramValue → Option (List ℕ) �
 IsScheduledText options program schedules text status =
     IsRefusalOf IsScheduleRefusal schedules text status ⊎ IsReplayBy options program schedules text status
 
--- The program was read, and then the schedule.
+-- Such bytes spell a program, and then others a schedule.
 pub record IsReplayIn (options : RunOptions) (programs schedules : Option (List ℕ)) (text : List ℕ) (status : ℕ) : Type 0 where
   pub program : ProgramValue
   pub spelled : ReadsAs programs (λ bytes. SpellsProgram bytes program)

@@ -15,7 +15,7 @@ pub record IsRunPrinted (options : RunOptions) (program : ProgramValue) (text : 
   pub runs : Runs program (unit_of options.unit) account (Ok recorded)
   pub prints : PrintsRecord options.prints_trace recorded account text status
 
--- The program was read, and then it was run.
+-- Such bytes spell a program, and it was run.
 pub record IsRunIn (options : RunOptions) (programs : Option (List ℕ)) (text : List ℕ) (status : ℕ) : Type 0 where
   pub program : ProgramValue
   pub spelled : ReadsAs programs (λ bytes. SpellsProgram bytes program)

@@ -5,7 +5,7 @@ ghost use Rattle.tso_report.specs.declared.faults.Fault.{Fault};
 ghost use Rattle.tso_report.specs.Limits.{worker_limit};
 ghost use Rattle.tso_report.specs.Written.{LeavesAtFault};
 ghost use Rattle.tsobench.specs.Endings.{IsPrintable};
-ghost use Rattle.tsobench.specs.Internal.Runs.{EndsWith, Gives};
+ghost use Rattle.tsobench.specs.Internal.Runs.{WritesRunEnd, OnPrinted};
 ghost use Rattle.tsobench.specs.Named.{OpensNext};
 ghost use Rattle.tsobench.specs.Printing.{unit_of};
 ghost use Rattle.tsobench.specs.Running.{IsRunPrinted, IsRunText};
@@ -54,7 +54,7 @@ pub(crate) fn run_named<H: Threads + Wait + Sync + AllocGlobal, O: NamedFiles, W
     requires most { plan.options.now.workers ≤ worker_limit }
     requires capacity { (1 ≤ plan.options.now.unit.capacity) × (plan.options.now.unit.capacity ≤ capacity_limit) }
     requires trigger { 1 ≤ plan.options.now.unit.trigger }
-    ensures text { IfOk result (EndsWith (IsRunText plan.entry.options.now (O.bytes files.old program.now)) (W.contents writer.old) (W.contents writer.new)) }
+    ensures text { IfOk result (WritesRunEnd (IsRunText plan.entry.options.now (O.bytes files.old program.now)) (W.contents writer.old) (W.contents writer.new)) }
     ensures fault { IfErr result (LeavesAtFault (IsPrintable (IsRunText plan.entry.options.now (O.bytes files.old program.now))) (W.contents writer.old) (W.contents writer.new)) }
     ensures opened { OpensNext (O.opened files.old) (O.opened files.new) (program.now ∷ []) }
 {
@@ -79,7 +79,7 @@ fn run_text<H: Threads + Wait + Sync + AllocGlobal, P: Read>(
     requires most { plan.options.now.workers ≤ worker_limit }
     requires capacity { (1 ≤ plan.options.now.unit.capacity) × (plan.options.now.unit.capacity ≤ capacity_limit) }
     requires trigger { 1 ≤ plan.options.now.unit.trigger }
-    ensures text { IfOk result (Gives (λ printed. IsRunText plan.entry.options.now (P.remaining programs.old) printed.text.items printed.status)) }
+    ensures text { IfOk result (OnPrinted (λ printed. IsRunText plan.entry.options.now (P.remaining programs.old) printed.text.items printed.status)) }
     ensures fault { IfErr result (λ fault. (fault ≡ Fault.OutOfMemory) ⊎ ((fault ≡ Fault.Read) ⊎ (fault ≡ Fault.NoThread))) }
 {
     let input = read_all(rt.alloc(), programs, MAX_TEXT_BYTES)?;
@@ -99,7 +99,7 @@ fn run_program<H: Threads + Wait + Sync + AllocGlobal>(
     requires most { plan.options.now.workers ≤ worker_limit }
     requires capacity { (1 ≤ plan.options.now.unit.capacity) × (plan.options.now.unit.capacity ≤ capacity_limit) }
     requires trigger { 1 ≤ plan.options.now.unit.trigger }
-    ensures text { IfOk result (Gives (λ printed. IsRunPrinted plan.entry.options.now program.now printed.text.items printed.status)) }
+    ensures text { IfOk result (OnPrinted (λ printed. IsRunPrinted plan.entry.options.now program.now printed.text.items printed.status)) }
     ensures fault { IfErr result (λ fault. (fault ≡ Fault.OutOfMemory) ⊎ (fault ≡ Fault.NoThread)) }
 {
     let alloc = rt.alloc();
@@ -130,7 +130,7 @@ fn run_on<H: Threads + Wait + Sync + AllocGlobal>(
     requires unit { value_of unit ≡ unit_of plan.options.now.unit }
     requires some { 1 ≤ plan.options.now.workers }
     requires most { plan.options.now.workers ≤ worker_limit }
-    ensures text { IfOk result (Gives (λ printed. IsRunPrinted plan.entry.options.now program.now printed.text.items printed.status)) }
+    ensures text { IfOk result (OnPrinted (λ printed. IsRunPrinted plan.entry.options.now program.now printed.text.items printed.status)) }
     ensures fault { IfErr result (λ fault. (fault ≡ Fault.OutOfMemory) ⊎ (fault ≡ Fault.NoThread)) }
 {
     let issuers = Issuers {

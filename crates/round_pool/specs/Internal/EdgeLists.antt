@@ -5,7 +5,7 @@ use Rattle.bitsets.specs.Rows.{IsAscending as IsAscendingRow}
 use Rattle.tso_ops.specs.Values.{TraceValue}
 use Rattle.tso_model.specs.NewEdges.{IsNew}
 use Rattle.round_pool.specs.declared.ranked.Edge.{Edge}
-use Rattle.round_pool.specs.Rankings.{ListsEdge, AreEdgesAscending, AreWithin}
+use Rattle.round_pool.specs.Rankings.{ListsEdge, AreEdgesAscending, AreEdgesWithin}
 
 -- each row is ascending, and its numbers lie below this one
 pub record AreAscendingBelow (bound : ℕ) (rows : List (List ℕ)) : Type 0 where
@@ -20,7 +20,7 @@ pub record AreEdgesOf (numbers : List ℕ) (rows : List (List ℕ)) (count : ℕ
 
 -- the edges of each list lie between numbers below this one
 abbrev pub AreAllWithin : ℕ → List (List Edge) → Type 0
-AreAllWithin nodes added = (k : ℕ) → k < length added → AreWithin nodes (get_or added k [])
+AreAllWithin nodes added = (k : ℕ) → k < length added → AreEdgesWithin nodes (get_or added k [])
 
 -- The graph has the edges of the lists from the one place on and before the other, and no others.
 pub record IsGraphOf (nodes : ℕ) (added : List (List Edge)) (first end : ℕ) (g : Digraph) : Type 0 where

@@ -23,6 +23,26 @@ struct Drawn {
     has_first: bool,
 }
 
+const UNDER_TSO: Drawn = Drawn {
+    order: Order::Tso,
+    has_first: false,
+};
+
+const UNDER_PSO: Drawn = Drawn {
+    order: Order::Pso,
+    has_first: false,
+};
+
+const WITH_FIRST_VALUES: Drawn = Drawn {
+    order: Order::Tso,
+    has_first: true,
+};
+
+const UNDER_PSO_WITH_FIRST_VALUES: Drawn = Drawn {
+    order: Order::Pso,
+    has_first: true,
+};
+
 /// The barrier that the word draws, of the kinds that the memory model has.
 fn drawn_barrier(drawn: Drawn, word: u64) -> Outcome {
     match drawn.order {
@@ -96,33 +116,20 @@ fn compare_drawn<H: Threads + Wait + AllocGlobal + Abort>(
 
 #[test]
 fn rounds_as_by_the_plain_program(rt: HostRuntime) -> Result<(), Fail> {
-    compare_drawn(
-        &rt,
-        Drawn {
-            order: Order::Tso,
-            has_first: false,
-        },
-    )
+    compare_drawn(&rt, UNDER_TSO)
 }
 
 #[test]
 fn rounds_under_pso_as_by_the_plain_program(rt: HostRuntime) -> Result<(), Fail> {
-    compare_drawn(
-        &rt,
-        Drawn {
-            order: Order::Pso,
-            has_first: false,
-        },
-    )
+    compare_drawn(&rt, UNDER_PSO)
 }
 
 #[test]
 fn rounds_with_first_values_as_by_the_plain_program(rt: HostRuntime) -> Result<(), Fail> {
-    compare_drawn(
-        &rt,
-        Drawn {
-            order: Order::Pso,
-            has_first: true,
-        },
-    )
+    compare_drawn(&rt, WITH_FIRST_VALUES)
+}
+
+#[test]
+fn rounds_with_both_as_by_the_plain_program(rt: HostRuntime) -> Result<(), Fail> {
+    compare_drawn(&rt, UNDER_PSO_WITH_FIRST_VALUES)
 }

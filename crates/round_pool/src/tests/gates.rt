@@ -23,23 +23,25 @@ fn seen(number: &AtomicU64) -> u64 {
     number.load(Ordering::SeqCst)
 }
 
-/// How often the first call looks for a second.
+/// How often a call looks for the next.
 const TURNS: u64 = 100_000;
 
-/// A gate whose first call waits for a second.
+/// A gate of which one call, after `before` others, waits for the next.
 #[derive(Drop)]
 struct Meeting {
+    before: u64,
     calls: AtomicU64,
     met: AtomicU64,
 }
 
 impl PoolGate for Meeting {
     fn row(&self, _worker: usize, _row: usize) {
-        if self.calls.fetch_add(1, Ordering::SeqCst) > 0 {
+        let before = self.calls.fetch_add(1, Ordering::SeqCst);
+        if before != self.before {
             return;
         }
         for _ in 0..TURNS {
-            if self.calls.load(Ordering::SeqCst) > 1 {
+            if self.calls.load(Ordering::SeqCst) > before.wrapping_add(1) {
                 self.met.store(1, Ordering::SeqCst);
                 return;
             }
@@ -88,7 +90,7 @@ fn two_swaps_and_a_store(alloc: Global) -> Result<Trace, ValueFault> {
 }
 
 /// The first round adds edges from load 1 to store 4 and from load 3 to store 2. The stores 2 and 4 reach nothing more by
-/// them. Their rows are looked at again since the loads of their swaps reach more, and get an edge each. Row 5 isn't.
+/// them. Their rows are looked at again since the loads of their swaps reach more, and get an edge each. That of 5 isn't.
 #[test]
 fn rows_of_two_swaps(rt: HostRuntime) -> Result<(), Fail> {
     let rows = rows_of(&rt, &two_swaps_and_a_store(rt.alloc())?)?;
@@ -136,13 +138,15 @@ fn calls_by<H: Threads + Wait + AllocGlobal>(
     Ok((seen(&gate.of_rows), seen(&gate.of_workers)))
 }
 
-/// Whether a second call came while the first waited: 1 or 0.
+/// Whether the next call came while one, after `before` others, waited: 1 or 0.
 fn met_by<H: Threads + Wait + AllocGlobal>(
     rt: &H,
     trace: &Trace,
     workers: usize,
+    before: u64,
 ) -> Result<u64, Fail> {
     let gate = Meeting {
+        before,
         calls: AtomicU64::new(0),
         met: AtomicU64::new(0),
     };
@@ -155,7 +159,7 @@ fn met_by<H: Threads + Wait + AllocGlobal>(
 fn workers_meet(rt: HostRuntime) -> Result<(), Fail> {
     let trace = independent_reads(rt.alloc())?;
     for workers in [2, 3, 64] {
-        expect(&rt, "a second call", met_by(&rt, &trace, workers)?, 1);
+        expect(&rt, "a second call", met_by(&rt, &trace, workers, 0)?, 1);
         let calls = calls_by(&rt, &trace, workers, 6)?;
         expect(&rt, "calls", calls, (0x111_1110, 0));
     }
@@ -170,5 +174,36 @@ fn later_rounds_of_few_rows_start_no_thread(rt: HostRuntime) -> Result<(), Fail>
         let calls = calls_by(&rt, &trace, workers, 4)?;
         expect(&rt, "calls", calls, (0x1_1110, 2));
     }
+    Ok(())
+}
+
+/// How often each of two processors stores and then loads.
+const TURNS_OF_A_PROCESSOR: u16 = 40;
+
+/// Two processors store and load in turn, each at its own addresses and at those of the other. Each load reads the first
+/// value.
+fn loads_past_stores(alloc: Global) -> Result<Trace, ValueFault> {
+    let mut one = Vec::new(alloc);
+    let mut other = Vec::new(alloc);
+    for a in 0..TURNS_OF_A_PROCESSOR {
+        let b = a.wrapping_add(TURNS_OF_A_PROCESSOR);
+        one.push(st(a, u64::from(a).wrapping_add(1)))?;
+        one.push(ld(b, 0))?;
+        other.push(st(b, u64::from(b).wrapping_add(1)))?;
+        other.push(ld(a, 0))?;
+    }
+    let lists = Vec::from_array(alloc, [one, other])?;
+    Trace::new(alloc, lists).map_err(|refused| refused.why)
+}
+
+/// The first round, of 160 rows, puts each load before a store of the other processor. So the later round looks at the
+/// rows of the 80 loads, which two workers share.
+#[test]
+fn workers_meet_in_a_later_round(rt: HostRuntime) -> Result<(), Fail> {
+    let trace = loads_past_stores(rt.alloc())?;
+    for workers in [2, 3] {
+        expect(&rt, "the next call", met_by(&rt, &trace, workers, 160)?, 1);
+    }
+    expect(&rt, "one worker", met_by(&rt, &trace, 1, 160)?, 0);
     Ok(())
 }

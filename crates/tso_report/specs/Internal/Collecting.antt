@@ -36,7 +36,7 @@ CollectsEdge t Edge u v marks more old new =
     ((IsEdge marks u v → ⊥) × (more ≡ marks) × (new ≡ old)) ⊎ (IsEdge marks u v × AddsStep t Edge u v marks more old new)
 
 -- A step listed: its edge is marked and done, its reason is the justification of its rank, and its path's edges are marked.
-pub record IsListed (t : TraceValue) (Marked Done : ℕ → ℕ → Type 0) (s : CertStep) : Type 0 where
+pub record IsCollected (t : TraceValue) (Marked Done : ℕ → ℕ → Type 0) (s : CertStep) : Type 0 where
   pub marked : Marked s.from s.to
   pub done : Done s.from s.to
   pub justified : (r : ℕ) × HasRank t s.from s.to r × IsJustified t r s.from s.to s.reason
@@ -48,7 +48,7 @@ pub record Collects (t : TraceValue) (k : ℕ) (cycle : List ℕ) (Marked Done :
   pub cycle_marked : IsCycle Marked cycle
   pub edges : (u v : ℕ) → Marked u v → RankSet t k u v
   pub all : (u v : ℕ) → Marked u v → Done u v → IsStep steps u v
-  pub each : (i : ℕ) (s : CertStep) → slice_get steps i ≡ Some s → IsListed t Marked Done s
+  pub each : (i : ℕ) (s : CertStep) → slice_get steps i ≡ Some s → IsCollected t Marked Done s
   pub order : (i j : ℕ) (s d : CertStep) (r q : ℕ) → i < j → slice_get steps i ≡ Some s → slice_get steps j ≡ Some d →
       HasRank t s.from s.to r → HasRank t d.from d.to q → IsListedBefore r s q d
   pub needed : (u v : ℕ) → Marked u v → (pairs : ℕ → ℕ → Bool) → AreUsed steps cycle pairs → IsTrue (pairs u v)

@@ -19,8 +19,8 @@ pub(crate) struct Gathered {
     lawful: Vec<bool>,
     /// Whether the trace of each seed is a violation.
     violations: Vec<Option<bool>>,
-    lacked_memory: bool,
-    lacked_thread: bool,
+    met_out_of_memory: bool,
+    met_no_thread: bool,
 }
 
 impl Model for Gathered {
@@ -48,8 +48,8 @@ impl Gathered {
             drawn,
             lawful,
             violations,
-            lacked_memory: false,
-            lacked_thread: false,
+            met_out_of_memory: false,
+            met_no_thread: false,
         })
     }
 
@@ -93,8 +93,8 @@ impl Gathered {
             return;
         }
         match fault {
-            Fault::OutOfMemory => self.lacked_memory = true,
-            Fault::NoThread => self.lacked_thread = true,
+            Fault::OutOfMemory => self.met_out_of_memory = true,
+            Fault::NoThread => self.met_no_thread = true,
             Fault::Read | Fault::Write | Fault::Missing(_) => {}
         }
     }
@@ -117,10 +117,10 @@ impl Gathered {
         ensures verdicts { IfOk result (λ violations. AreVerdicts self.shape self.first self.lawful violations.items) }
         ensures fault { IfErr result (λ fault. (fault ≡ Fault.OutOfMemory) ⊎ (fault ≡ Fault.NoThread) ⊎ ((i : ℕ) × IsLeastMissing self.violations i × (fault ≡ Fault.Missing (self.first + i)))) }
     {
-        if self.lacked_memory {
+        if self.met_out_of_memory {
             return Err(Fault::OutOfMemory);
         }
-        if self.lacked_thread {
+        if self.met_no_thread {
             return Err(Fault::NoThread);
         }
         match least_missing(&self.violations) {

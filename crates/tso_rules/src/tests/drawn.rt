@@ -256,9 +256,12 @@ fn rows_with_both_as_by_the_plain_program(rt: HostRuntime) -> Result<(), Fail> {
     compare_drawn(&rt, rt.alloc(), UNDER_PSO_WITH_FIRST_VALUES)
 }
 
+/// How many traces have their justifications compared: each pair of numbers asks the plain program for all paths.
+const REASONED: u64 = 60;
+
 /// Compares the justifications of drawn traces.
 fn compare_drawn_reasons(rt: &impl Abort, alloc: Global, drawn: Drawn) -> Result<(), Fail> {
-    for seed in 0..30 {
+    for seed in 0..REASONED {
         let trace = drawn_trace(alloc, drawn, seed)?;
         for rank in 0..3 {
             compare_reasons(rt, alloc, &trace, rank)?;
@@ -275,4 +278,14 @@ fn reasons_as_by_the_plain_program(rt: HostRuntime) -> Result<(), Fail> {
 #[test]
 fn reasons_under_pso_as_by_the_plain_program(rt: HostRuntime) -> Result<(), Fail> {
     compare_drawn_reasons(&rt, rt.alloc(), UNDER_PSO)
+}
+
+#[test]
+fn reasons_with_first_values_as_by_the_plain_program(rt: HostRuntime) -> Result<(), Fail> {
+    compare_drawn_reasons(&rt, rt.alloc(), WITH_FIRST_VALUES)
+}
+
+#[test]
+fn reasons_with_both_as_by_the_plain_program(rt: HostRuntime) -> Result<(), Fail> {
+    compare_drawn_reasons(&rt, rt.alloc(), UNDER_PSO_WITH_FIRST_VALUES)
 }

@@ -89,7 +89,7 @@ fn reason<G: PathSearch>(
 fn refused_allocations_of_a_base_row(rt: HostRuntime) -> Result<(), Fail> {
     let alloc = rt.alloc();
     let row = base(alloc, &trace(alloc)?)?;
-    expect_row(&rt, "base row 0", &row, &[1, 2, 3, 4]);
+    expect_row(&rt, "base edges from 0", &row, &[1, 2, 3, 4]);
     Ok(())
 }
 
@@ -97,7 +97,7 @@ fn refused_allocations_of_a_base_row(rt: HostRuntime) -> Result<(), Fail> {
 fn refused_allocations_of_row_edges(rt: HostRuntime) -> Result<(), Fail> {
     let alloc = rt.alloc();
     let row = edges(alloc, &trace(alloc)?, &graph(alloc)?)?;
-    expect_row(&rt, "row 2", &row, &[4]);
+    expect_row(&rt, "edges from 2", &row, &[4]);
     Ok(())
 }
 
@@ -105,7 +105,7 @@ fn refused_allocations_of_row_edges(rt: HostRuntime) -> Result<(), Fail> {
 fn refused_allocations_of_row_edges_over_base(rt: HostRuntime) -> Result<(), Fail> {
     let alloc = rt.alloc();
     let row = edges_over_base(alloc, &loaded_in_turn(alloc)?)?;
-    expect_row(&rt, "row 1", &row, &[7, 8]);
+    expect_row(&rt, "edges from 1", &row, &[7, 8]);
     Ok(())
 }
 

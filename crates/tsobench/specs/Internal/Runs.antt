@@ -9,16 +9,16 @@ use Rattle.tso_report.specs.Streams.{AppendsPrefix}
 use Rattle.tsobench.specs.Endings.{WritesFaultLine, WritesText, fault_line}
 
 -- what there is to print is such
-abbrev pub Gives : {T : Type 0} → (T → Type 0) → RunEnd T → Type 0
-Gives Is (Printed printed) = Is printed
-Gives Is (Torn p) = Unit {0}
-Gives Is OtherProgram = Unit {0}
+abbrev pub OnPrinted : {T : Type 0} → (T → Type 0) → RunEnd T → Type 0
+OnPrinted Is (Printed printed) = Is printed
+OnPrinted Is (Torn p) = Unit {0}
+OnPrinted Is OtherProgram = Unit {0}
 
 -- the output grows by such a text, with this status, or by nothing where there is no record
-abbrev pub EndsWith : (List ℕ → ℕ → Type 0) → Option (List ℕ) → Option (List ℕ) → RunEnd ℕ → Type 0
-EndsWith is_text old new (Printed status) = WritesText is_text old new status
-EndsWith is_text old new (Torn p) = Keeps old new
-EndsWith is_text old new OtherProgram = Keeps old new
+abbrev pub WritesRunEnd : (List ℕ → ℕ → Type 0) → Option (List ℕ) → Option (List ℕ) → RunEnd ℕ → Type 0
+WritesRunEnd is_text old new (Printed status) = WritesText is_text old new status
+WritesRunEnd is_text old new (Torn p) = Keeps old new
+WritesRunEnd is_text old new OtherProgram = Keeps old new
 
 -- what the errors grow by, and the status
 abbrev pub EndsSo : Result (RunEnd ℕ) Fault → Option (List ℕ) → Option (List ℕ) → ℕ → Type 0
