@@ -9,8 +9,6 @@ mod found;
 mod help;
 mod options;
 mod requests;
-#[cfg(test)]
-mod tests;
 
 pub use options::{CampaignOptions, MAX_CAPACITY, RunOptions, ShapeNumbers, UnitKind, UnitOptions};
 pub use requests::{Request, read_arguments};

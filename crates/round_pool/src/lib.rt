@@ -17,6 +17,4 @@ mod gates;
 mod graphs;
 mod ranked;
 mod round_loop;
-#[cfg(test)]
-mod tests;
 mod worksets;

@@ -32,6 +32,4 @@ pub mod laws;
 mod record_judging;
 mod rendering;
 mod streams;
-#[cfg(test)]
-mod tests;
 mod verdicts;

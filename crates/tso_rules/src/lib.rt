@@ -19,5 +19,3 @@ mod over_base;
 mod paths;
 mod reasons;
 mod sources;
-#[cfg(test)]
-mod tests;

@@ -133,7 +133,7 @@ fn files_that_cannot_be_read(rt: HostRuntime) -> Result<(), Fail> {
     Ok(fs::remove_dir_all(&rt, folder.as_str())?)
 }
 
-/// Arguments that are refused, and how the refusal begins, whose whole text stands in the tests of `command_line`.
+/// Arguments that are refused, and how the refusal begins, whose whole text stands in `test_arguments`.
 const REFUSED: [(&[&str], &str); 6] = [
     (&["seek"], "error: unrecognized subcommand 'seek'\n"),
     (&["judge", "--workers", "65"], "error: invalid value '65' "),
