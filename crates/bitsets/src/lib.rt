@@ -17,6 +17,4 @@ mod marks;
 mod rows;
 mod shared;
 mod tables;
-#[cfg(test)]
-mod tests;
 mod words;

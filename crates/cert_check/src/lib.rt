@@ -10,5 +10,3 @@ pub mod laws;
 mod listed;
 mod ranges;
 mod sides;
-#[cfg(test)]
-mod tests;

@@ -22,15 +22,15 @@ use Rattle.embedding.proofs.Steps.{own_numbered, unlisted_following, unlisted_wa
 use Rattle.embedding.proofs.Walk.{HoldsWhereTaken}
 
 -- an axiom of the trace's model orders u before the later event n of its processor
-pub data IsKept (t : TraceValue) (u n : ℕ) : Type 0 where
-  after_load : IsLoad t u → IsKept t u n
-  of_stores : IsStore t u → IsStore t n → KeepsStores t u n → IsKept t u n
-  past_stbar : IsStore t u → IsStore t n → HasFewerStbarsBefore t u n → IsKept t u n
-  past_membar : IsStore t u → IsLoad t n → HasFewerBarriersBefore t u n → IsKept t u n
+pub data IsOrderKept (t : TraceValue) (u n : ℕ) : Type 0 where
+  after_load : IsLoad t u → IsOrderKept t u n
+  of_stores : IsStore t u → IsStore t n → KeepsStores t u n → IsOrderKept t u n
+  past_stbar : IsStore t u → IsStore t n → HasFewerStbarsBefore t u n → IsOrderKept t u n
+  past_membar : IsStore t u → IsLoad t n → HasFewerBarriersBefore t u n → IsOrderKept t u n
 
 -- the order has the event after all program-earlier ones whose order is kept, and a swap's store right after its load
 pub record IsPlaced (t : TraceValue) (whole : List ℕ) (n : ℕ) : Type 0 where
-  pub after_kept : (u : ℕ) → Earlier t u n → IsKept t u n → IsUpTo whole u n
+  pub after_kept : (u : ℕ) → Earlier t u n → IsOrderKept t u n → IsUpTo whole u n
   pub swap : IsSwapLoad t n → place whole (suc n) ≡ suc (place whole n)
 
 pub not_load : (t : TraceValue) (n : ℕ) (e : Event) → event_at t n ≡ Some e → e.load ≡ false → IsLoad t n → ⊥
@@ -115,10 +115,10 @@ module _ (t : TraceValue) (past : ℕ) (p : ℕ) (l : Numbering) (buffer : List 
 
   -- no program-earlier event that waits is one whose order is kept
   abbrev NoneHeld : ℕ → Type 0
-  NoneHeld n = (u j : ℕ) (f : Entry) → u < n → slice_get l.waiting j ≡ Some u → slice_get buffer j ≡ Some f → event_at t u ≡ Some (stored_event p numbered.bars f) → IsKept t u n → ⊥
+  NoneHeld n = (u j : ℕ) (f : Entry) → u < n → slice_get l.waiting j ≡ Some u → slice_get buffer j ≡ Some f → event_at t u ≡ Some (stored_event p numbered.bars f) → IsOrderKept t u n → ⊥
 
   after_kept_by : (whole later : List ℕ) (n : ℕ) (e : Event) → whole ≡ done ++ later → event_at t n ≡ Some e → e.proc ≡ p → occurrences n done ≡ 0 →
-      ((u : ℕ) → u < n → (u < l.following) ⊎ IsUpTo whole u n) → NoneHeld n → (u : ℕ) → Earlier t u n → IsKept t u n → IsUpTo whole u n
+      ((u : ℕ) → u < n → (u < l.following) ⊎ IsUpTo whole u n) → NoneHeld n → (u : ℕ) → Earlier t u n → IsOrderKept t u n → IsUpTo whole u n
   after_kept_by whole later n e is at_n proc none below free u earlier kept = by_number (below u earlier.5)
     where
       of_p : earlier.0.proc ≡ p

@@ -8,5 +8,3 @@ pub use numbers::number_of;
 
 mod cuts;
 mod numbers;
-#[cfg(test)]
-mod tests;

@@ -19,6 +19,4 @@ mod kept_tables;
 mod path_search;
 mod postorder;
 mod searches;
-#[cfg(test)]
-mod tests;
 mod transposing;

@@ -14,5 +14,3 @@ mod inferred;
 mod paths;
 mod ranks;
 mod rounds;
-#[cfg(test)]
-mod tests;

@@ -16,57 +16,7 @@ use std::fmt::Debug;
 use std::process::Abort;
 use std::sync::Wait;
 use std::thread::Threads;
-use tso_ops::{Outcome, Trace, ValueFault};
-
-fn ld(a: u16, r: u64) -> Outcome {
-    Outcome::Ld { a, r }
-}
-
-fn st(a: u16, v: u64) -> Outcome {
-    Outcome::St { a, v }
-}
-
-fn sw(a: u16, r: u64, v: u64) -> Outcome {
-    Outcome::Sw { a, r, v }
-}
-
-/// The trace of processors that did this.
-fn trace_of(alloc: Global, rows: &[&[Outcome]]) -> Result<Trace, ValueFault> {
-    let mut lists = Vec::new(alloc);
-    for row in rows {
-        lists.push(row.to_vec(alloc)?)?;
-    }
-    Trace::new(alloc, lists).map_err(|refused| refused.why)
-}
-
-const TWO_SWAPS_BOTH_FIRST: [&[Outcome]; 2] = [
-    &[Outcome::Sw { a: 1, r: 0, v: 1 }],
-    &[Outcome::Sw { a: 1, r: 0, v: 2 }],
-];
-
-const STORE_BUFFERING: [&[Outcome]; 2] = [
-    &[Outcome::St { a: 1, v: 1 }, Outcome::Ld { a: 2, r: 0 }],
-    &[Outcome::St { a: 2, v: 2 }, Outcome::Ld { a: 1, r: 0 }],
-];
-
-const INDEPENDENT_READS: [&[Outcome]; 4] = [
-    &[Outcome::St { a: 1, v: 1 }],
-    &[Outcome::St { a: 2, v: 2 }],
-    &[Outcome::Ld { a: 1, r: 1 }, Outcome::Ld { a: 2, r: 0 }],
-    &[Outcome::Ld { a: 2, r: 2 }, Outcome::Ld { a: 1, r: 0 }],
-];
-
-fn two_swaps_both_first(alloc: Global) -> Result<Trace, ValueFault> {
-    trace_of(alloc, &TWO_SWAPS_BOTH_FIRST)
-}
-
-fn store_buffering(alloc: Global) -> Result<Trace, ValueFault> {
-    trace_of(alloc, &STORE_BUFFERING)
-}
-
-fn independent_reads(alloc: Global) -> Result<Trace, ValueFault> {
-    trace_of(alloc, &INDEPENDENT_READS)
-}
+use tso_ops::Trace;
 
 /// Compares what a call gave with what it has to give.
 fn expect<T: Copy + Debug + PartialEq>(rt: &impl Abort, name: &str, found: T, wanted: T) {

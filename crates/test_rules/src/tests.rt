@@ -4,32 +4,15 @@ use order_graph::{EdgeSet, Graph, PathSearch};
 use std::alloc::{AllocError, Global};
 use std::process::Abort;
 use std::test::Fail;
+use test_traces::{STORE_BUFFERING, trace_of, two_swaps_both_first};
 use tso_cert::{BaseRule, InferredRule, Reason};
-use tso_ops::{Outcome, Trace, ValueFault};
+use tso_ops::{Order, Outcome, Trace};
 use tso_rules::{base_edge, base_row, base_words, justify, row_edges};
 
 mod affected;
 mod drawn;
 mod over_base;
 mod refused_allocations;
-
-/// The trace of processors that did this.
-fn trace_of(alloc: Global, rows: &[&[Outcome]]) -> Result<Trace, ValueFault> {
-    let mut lists = Vec::new(alloc);
-    for row in rows {
-        lists.push(row.to_vec(alloc)?)?;
-    }
-    Trace::new(alloc, lists).map_err(|refused| refused.why)
-}
-
-const TWO_SWAPS_BOTH_FIRST: [&[Outcome]; 2] = [
-    &[Outcome::Sw { a: 1, r: 0, v: 1 }],
-    &[Outcome::Sw { a: 1, r: 0, v: 2 }],
-];
-
-fn two_swaps_both_first(alloc: Global) -> Result<Trace, ValueFault> {
-    trace_of(alloc, &TWO_SWAPS_BOTH_FIRST)
-}
 
 /// The edge from u to v, for numbers of the graph.
 fn join(graph: &mut Graph, u: usize, v: usize) {
@@ -156,7 +139,7 @@ fn expect_rule(
     edge: (usize, usize),
     rule: Option<BaseRule>,
 ) -> Result<(), Fail> {
-    let trace = trace_of(alloc, rows)?;
+    let trace = trace_of(alloc, Order::Tso, rows)?;
     let found = rule_of(&trace, edge.0, edge.1);
     assert_eq!(rt; found, rule, "{edge:?} of {rows:?}");
     Ok(())
@@ -173,11 +156,6 @@ const LOAD_BEFORE_ITS_STORE: [&[Outcome]; 1] = [&[
     Outcome::Ld { a: 1, r: 1 },
     Outcome::St { a: 1, v: 1 },
 ]];
-
-const STORE_BUFFERING: [&[Outcome]; 2] = [
-    &[Outcome::St { a: 1, v: 1 }, Outcome::Ld { a: 2, r: 0 }],
-    &[Outcome::St { a: 2, v: 2 }, Outcome::Ld { a: 1, r: 0 }],
-];
 
 const STORE_FORWARDED: [&[Outcome]; 1] = [&[
     Outcome::St { a: 1, v: 1 },

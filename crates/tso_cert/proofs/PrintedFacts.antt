@@ -24,7 +24,7 @@ use Rattle.tso_cert.specs.Spelling.{SpellsCertificate, IsCertTextRefusal}
 use Rattle.tso_cert.specs.Internal.LineValues.{cert_line_said, step_said, events}
 use Rattle.tso_cert.proofs.LineFacts.{told, line_pieces, ends, LineFits, step_said-pieces, cert_line_said-pieces}
 use Rattle.tso_cert.proofs.SayingFacts.{all_first, all_after, events-text}
-use Rattle.tso_cert.proofs.Reaching.{Reached, AcceptsLine, Reached-start, Reached-next, Reached-end}
+use Rattle.tso_cert.proofs.Reaching.{Reached, AcceptsCertLine, Reached-start, Reached-next, Reached-end}
 use Rattle.tso_cert.proofs.SpellingFacts.{not_both}
 use Rattle.tso_cert.proofs.StepFacts.{accepts}
 
@@ -100,7 +100,7 @@ line_parts k l rest low fits =
     ap (slice_split (λ b. eqb b 10)) (append_assoc (join_with_byte 32 (line_pieces k l)) (10 ∷ []) rest) ∙ split_part 10 (join_with_byte 32 (line_pieces k l)) rest none
 
 -- a printed line is accepted
-line_accepted : (k : ℕ) (l : Line) → Fits k → LineFits k l → AcceptsLine k (join_with_byte 32 (line_pieces k l)) (ends l) (line_pieces k l)
+line_accepted : (k : ℕ) (l : Line) → Fits k → LineFits k l → AcceptsCertLine k (join_with_byte 32 (line_pieces k l)) (ends l) (line_pieces k l)
 line_accepted k l low fits = accepts k (join_with_byte 32 (line_pieces k l)) l (told k _ l (ap (cert_line_said k) (line_cut k l low fits) ∙ cert_line_said-pieces k l low fits))
 
 -- ---- the printed text

@@ -73,7 +73,7 @@ pub record Reached (text : List ℕ) (i : ℕ) (rest : List ℕ) (pieces : List 
   pub says : map pieces_of prefix ≡ pieces
 
 -- the line of this number is accepted: it has no fault, and its first piece says whether it is the last
-pub record AcceptsLine (number : ℕ) (line : List ℕ) (ended : Bool) (pieces : List (List ℕ)) : Type 0 where
+pub record AcceptsCertLine (number : ℕ) (line : List ℕ) (ended : Bool) (pieces : List (List ℕ)) : Type 0 where
   pub faultless : (w : Why) → cert_line_fault number (pieces_of line) w ≡ false
   pub ends : is_last_line (pieces_of line) ≡ ended
   pub says : pieces_of line ≡ pieces
@@ -168,22 +168,22 @@ unended_refused text i rest pieces why r parts is =
 
 -- a line that is accepted has no fault
 line_clean : (text : List ℕ) (i : ℕ) (rest : List ℕ) (pieces : List (List (List ℕ))) (line : List ℕ) (ended : Bool) (said : List (List ℕ)) →
-    (r : Reached text i rest pieces) → AcceptsLine (suc i) line ended said → (w : Why) → cert_part_fault r.prefix line false w ≡ false
+    (r : Reached text i rest pieces) → AcceptsCertLine (suc i) line ended said → (w : Why) → cert_part_fault r.prefix line false w ≡ false
 line_clean text i rest pieces line ended said r accepts w =
     cert_part_fault-open r.prefix line w r.running ∙ ap (λ n. cert_line_fault (suc n) (pieces_of line) w) r.count ∙ accepts.faultless w
 
 line_says : (text : List ℕ) (i : ℕ) (rest : List ℕ) (pieces : List (List (List ℕ))) (line : List ℕ) (ended : Bool) (said : List (List ℕ)) →
-    (r : Reached text i rest pieces) → AcceptsLine (suc i) line ended said → map pieces_of (r.prefix ++ line ∷ []) ≡ pieces ++ said ∷ []
+    (r : Reached text i rest pieces) → AcceptsCertLine (suc i) line ended said → map pieces_of (r.prefix ++ line ∷ []) ≡ pieces ++ said ∷ []
 line_says text i rest pieces line ended said r accepts =
     map-append pieces_of r.prefix (line ∷ []) ∙ ap (λ p. p ++ pieces_of line ∷ []) r.says ∙ ap (λ l. pieces ++ l ∷ []) accepts.says
 
 line_ends : (text : List ℕ) (i : ℕ) (rest : List ℕ) (pieces : List (List (List ℕ))) (line : List ℕ) (ended : Bool) (said : List (List ℕ)) →
-    (r : Reached text i rest pieces) → AcceptsLine (suc i) line ended said → has_last_line (r.prefix ++ line ∷ []) ≡ ended
+    (r : Reached text i rest pieces) → AcceptsCertLine (suc i) line ended said → has_last_line (r.prefix ++ line ∷ []) ≡ ended
 line_ends text i rest pieces line ended said r accepts = has_last_line-push r.prefix line r.running ∙ accepts.ends
 
 -- the reader continues after a line
 pub Reached-next : (text : List ℕ) (i : ℕ) (rest : List ℕ) (pieces : List (List (List ℕ))) (line after : List ℕ) (said : List (List ℕ)) →
-    Reached text i rest pieces → parts_of rest ≡ line ∷ parts_of after → AcceptsLine (suc i) line false said → Reached text (suc i) after (pieces ++ said ∷ [])
+    Reached text i rest pieces → parts_of rest ≡ line ∷ parts_of after → AcceptsCertLine (suc i) line false said → Reached text (suc i) after (pieces ++ said ∷ [])
 Reached-next text i rest pieces line after said r parts accepts = record {
   prefix = r.prefix ++ line ∷ [];
   body = r.body ∙ ap (λ x. r.prefix ++ x) parts ∙ sym (append_assoc r.prefix (line ∷ []) (parts_of after));
@@ -195,7 +195,7 @@ Reached-next text i rest pieces line after said r parts accepts = record {
 
 -- a byte after the last line
 pub ended_refused : (text : List ℕ) (i : ℕ) (rest : List ℕ) (pieces : List (List (List ℕ))) (line after : List ℕ) (said : List (List ℕ)) →
-    Reached text i rest pieces → parts_of rest ≡ line ∷ parts_of after → AcceptsLine (suc i) line true said → (length after ≡ 0 → ⊥) → IsCertTextRefusal text (suc (suc i)) AfterCycle
+    Reached text i rest pieces → parts_of rest ≡ line ∷ parts_of after → AcceptsCertLine (suc i) line true said → (length after ≡ 0 → ⊥) → IsCertTextRefusal text (suc (suc i)) AfterCycle
 unfolding parts_of
 ended_refused text i rest pieces line after said r parts accepts some =
     let p = split_parts (λ b. eqb b 10) after in
@@ -237,7 +237,7 @@ spelled text lines c clean ended says fits body = record {
 
 -- nothing after the last line: the text spells the certificate of the lines
 pub Reached-end : (text : List ℕ) (i : ℕ) (rest : List ℕ) (pieces : List (List (List ℕ))) (line after : List ℕ) (said : List (List ℕ)) (c : Certificate) →
-    Reached text i rest pieces → parts_of rest ≡ line ∷ parts_of after → AcceptsLine (suc i) line true said → pieces ++ said ∷ [] ≡ cert_pieces c → CertFits c →
+    Reached text i rest pieces → parts_of rest ≡ line ∷ parts_of after → AcceptsCertLine (suc i) line true said → pieces ++ said ∷ [] ≡ cert_pieces c → CertFits c →
     length after ≡ 0 → SpellsCertificate text c
 unfolding parts_of
 Reached-end text i rest pieces line [] said c r parts accepts whole fits none =

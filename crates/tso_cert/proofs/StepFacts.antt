@@ -16,10 +16,10 @@ use Rattle.tso_cert.specs.Spelling.{SpellsCertificate, IsCertTextRefusal}
 use Rattle.tso_cert.specs.Internal.LineValues.{cert_line_said}
 use Rattle.tso_cert.proofs.LineFacts.{Told, told, refused, line_pieces, ends}
 use Rattle.tso_cert.proofs.PrintFacts.{steps_pieces-push}
-use Rattle.tso_cert.proofs.Reaching.{Reached, AcceptsLine, Reached-start, Reached-next, Reached-end, line_refused, ended_refused}
+use Rattle.tso_cert.proofs.Reaching.{Reached, AcceptsCertLine, Reached-start, Reached-next, Reached-end, line_refused, ended_refused}
 
 -- a line that says something is accepted
-pub accepts : (number : ℕ) (line : List ℕ) (l : Line) → Told number (pieces_of line) l → AcceptsLine number line (ends l) (line_pieces number l)
+pub accepts : (number : ℕ) (line : List ℕ) (l : Line) → Told number (pieces_of line) l → AcceptsCertLine number line (ends l) (line_pieces number l)
 accepts number line l t = record { faultless = t.faultless; ends = t.last; says = t.says }
 
 pub steps_pieces-next : (steps : List CertStep) (s : CertStep) → steps_pieces 1 (steps ++ s ∷ []) ≡ steps_pieces 1 steps ++ step_pieces (suc (length steps)) s ∷ []
@@ -48,7 +48,7 @@ pub read_refused : (text rest : List ℕ) (steps : List CertStep) (line remainin
 read_refused text rest steps line remaining why r parts is =
     line_refused text (length steps) rest (steps_pieces 1 steps) line remaining why r.reached parts (refused (suc (length steps)) (pieces_of line) why is)
 
-last_accepted : (number : ℕ) (line : List ℕ) (l : Line) → cert_line_said number (pieces_of line) ≡ Ok l → ends l ≡ true → AcceptsLine number line true (line_pieces number l)
+last_accepted : (number : ℕ) (line : List ℕ) (l : Line) → cert_line_said number (pieces_of line) ≡ Ok l → ends l ≡ true → AcceptsCertLine number line true (line_pieces number l)
 last_accepted number line l is last = rw (← last) (accepts number line l (told number (pieces_of line) l is))
 
 -- bytes stand after the last line

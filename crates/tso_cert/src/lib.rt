@@ -19,5 +19,3 @@ mod printers;
 mod readers;
 mod rules;
 mod steps;
-#[cfg(test)]
-mod tests;

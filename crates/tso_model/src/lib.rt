@@ -7,5 +7,3 @@ pub mod exactness;
 pub mod rounds;
 pub mod rules;
 pub mod soundness;
-#[cfg(test)]
-mod tests;

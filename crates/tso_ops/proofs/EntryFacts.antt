@@ -45,16 +45,16 @@ none_above (entry ∷ entries) a none =
     neither false b e = (refl, e)
 
 -- an entry that may come next
-pub record IsNext (least : ℕ) (entry : ℕ × ℕ) : Type 0 where
+pub record IsNextEntry (least : ℕ) (entry : ℕ × ℕ) : Type 0 where
   pub within : entry.0 < 256
   pub non_zero : 0 < entry.1
   pub fits : entry.1 < 2 ^ 64
   pub after : least ≤ entry.0
 
-next_above : (entries : List (ℕ × ℕ)) (least : ℕ) (entry : ℕ × ℕ) → EndsBelow entries least → IsNext least entry → list_any (λ (other : ℕ × ℕ). nat_le entry.0 other.0) entries ≡ false
+next_above : (entries : List (ℕ × ℕ)) (least : ℕ) (entry : ℕ × ℕ) → EndsBelow entries least → IsNextEntry least entry → list_any (λ (other : ℕ × ℕ). nat_le entry.0 other.0) entries ≡ false
 next_above entries least entry below next = below entry.0 ∙ (let low = next.after in grind (arith, nat_tests))
 
-next_faultless : (entries : List (ℕ × ℕ)) (least : ℕ) (entry : ℕ × ℕ) → EndsBelow entries least → IsNext least entry → (why : ValueFault) → has_entry_fault entries entry why ≡ false
+next_faultless : (entries : List (ℕ × ℕ)) (least : ℕ) (entry : ℕ × ℕ) → EndsBelow entries least → IsNextEntry least entry → (why : ValueFault) → has_entry_fault entries entry why ≡ false
 next_faultless entries least entry below next TooManyProcessors = refl
 next_faultless entries least entry below next TooManyEvents = refl
 next_faultless entries least entry below next AddressRange = let within = next.within in grind (arith, nat_tests)
@@ -65,7 +65,7 @@ next_faultless entries least entry below next StbarInTso = refl
 next_faultless entries least entry below next InitOrder = next_above entries least entry below next
 
 -- one more entry
-AreChecked-push : (entries : List (ℕ × ℕ)) (least : ℕ) (entry : ℕ × ℕ) → AreChecked entries least → IsNext least entry → AreChecked (entries ++ entry ∷ []) (entry.0 + 1)
+AreChecked-push : (entries : List (ℕ × ℕ)) (least : ℕ) (entry : ℕ × ℕ) → AreChecked entries least → IsNextEntry least entry → AreChecked (entries ++ entry ∷ []) (entry.0 + 1)
 AreChecked-push entries least entry checked next = record {
   keeps = record {
     addresses = All-push (λ (e : ℕ × ℕ). e.0 < 256) entries entry checked.keeps.addresses next.within;
@@ -91,7 +91,7 @@ AreChecked-push entries least entry checked next = record {
         (λ (more : least ≤ a). let none : nat_lt a least ≡ false = grind (arith, nat_tests) in rw none (grind (arith, nat_tests)))
         (cases_lt a least))
 
-pub AreChecked-next : (first : List (ℕ × ℕ)) (i least : ℕ) (d : ℕ × ℕ) → i < length first → AreChecked (take i first) least → IsNext least (get_or first i d) →
+pub AreChecked-next : (first : List (ℕ × ℕ)) (i least : ℕ) (d : ℕ × ℕ) → i < length first → AreChecked (take i first) least → IsNextEntry least (get_or first i d) →
     AreChecked (take (i + 1) first) ((get_or first i d).0 + 1)
 AreChecked-next first i least d within checked next = rw (take_more first i d within) (AreChecked-push (take i first) least (get_or first i d) checked next)
 

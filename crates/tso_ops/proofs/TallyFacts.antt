@@ -32,9 +32,9 @@ pub stored-none : (stored : BTreeSet ℕ) → IsEmpty stored → (v : ℕ) → c
 stored-none stored empty v = ap (list_any _) empty
 
 -- the set has the value that is stored, if there is one, and what it had before
-abbrev pub TakesValue : BTreeSet ℕ → BTreeSet ℕ → Option ℕ → Type 0
-TakesValue old new None = new ≡ old
-TakesValue old new (Some v) = Updates nat_cmp old new v true
+abbrev pub AddsStored : BTreeSet ℕ → BTreeSet ℕ → Option ℕ → Type 0
+AddsStored old new None = new ≡ old
+AddsStored old new (Some v) = Updates nat_cmp old new v true
 
 -- a number is found by its order where it is found by equality
 pub is_at-nat_eq : (s v : ℕ) → is_at (nat_cmp s) v ≡ nat_eq v s
@@ -48,7 +48,7 @@ list_any-push v (x ∷ values) s =
     [ true ↦ elim (nat_eq v s) as (λ b. true ≡ cond b true true) [ true ↦ refl | false ↦ refl ] | false ↦ refl ])
 
 pub stored-push : (old new : BTreeSet ℕ) (values : List ℕ) (stored : Option ℕ) → ((v : ℕ) → contains nat_cmp old v ≡ list_any (nat_eq v) values) →
-    TakesValue old new stored → (v : ℕ) → contains nat_cmp new v ≡ list_any (nat_eq v) (values ++ option_to_list stored)
+    AddsStored old new stored → (v : ℕ) → contains nat_cmp new v ≡ list_any (nat_eq v) (values ++ option_to_list stored)
 stored-push old new values None had takes v = rw (append-nil, takes) (had v)
 stored-push old new values (Some s) had takes v =
     takes.0 v ∙ ap (λ b. cond b true (contains nat_cmp old v)) (is_at-nat_eq s v) ∙ ap (cond (nat_eq v s) true) (had v) ∙ sym (list_any-push v values s)
@@ -59,7 +59,7 @@ not_true false e = refl
 
 -- what the operation stores, if it stores a value, goes into the set and was not there
 pub record StoresNew (old new : BTreeSet ℕ) (stored : Option ℕ) : Type 0 where
-  pub takes : TakesValue old new stored
+  pub takes : AddsStored old new stored
   pub non_zero : is_zero stored ≡ false
   pub absent : (v : ℕ) → stored ≡ Some v → contains nat_cmp old v ≡ false
   pub fits : (v : ℕ) → stored ≡ Some v → v < 2 ^ 64

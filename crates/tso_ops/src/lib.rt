@@ -27,6 +27,4 @@ mod programs;
 mod settings;
 mod shapes;
 mod tables;
-#[cfg(test)]
-mod tests;
 mod traces;

@@ -17,5 +17,3 @@ mod numbers;
 mod printers;
 mod readers;
 mod readings;
-#[cfg(test)]
-mod tests;

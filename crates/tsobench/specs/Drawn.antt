@@ -37,6 +37,14 @@ IsMadeText seed numbers text status =
     IsShapeRefusal numbers text status
     ⊎ (IsShape (asked_shape numbers) × (text ≡ program_text (program_of_seed (asked_shape numbers) seed)) × (status ≡ 0))
 
+-- What a fault leaves of it: on Write a prefix of the text, else nothing was written. No text is read, and no thread started.
+abbrev pub LeavesMadeText : ℕ → ShapeNumbers → Option (List ℕ) → Option (List ℕ) → Fault → Type 0
+LeavesMadeText seed numbers old new OutOfMemory = Keeps old new
+LeavesMadeText seed numbers old new Read = ⊥
+LeavesMadeText seed numbers old new Write = (status : ℕ) × (text : List ℕ) × IsMadeText seed numbers text status × AppendsPrefix old new text
+LeavesMadeText seed numbers old new NoThread = ⊥
+LeavesMadeText seed numbers old new (Missing missing) = ⊥
+
 -- ---- a campaign
 
 -- The seeds from the first on, so many, are not too many, and numbers of 64 bits.

@@ -1,13 +1,13 @@
 -- How the program ends: what it has written to its output and to its errors, and its status.
-use Rattle.std.specs.Prelude.{◌≡◌, ◌⊎◌, ℕ, List, [], ◌∷◌, ◌++◌, codes, string_bytes, Option, Some, None}
+use Rattle.std.specs.Prelude.{◌≡◌, ◌≢◌, ◌⊎◌, ℕ, List, [], ◌∷◌, ◌++◌, codes, string_bytes, Option, Some, None}
 use Rattle.std.specs.Fmt.{decimal}
 use Rattle.std.specs.Io.KnownBytes.{Appends, Keeps}
 use Rattle.tso_report.specs.declared.verdicts.Verdict.{Verdict}
 use Rattle.tso_report.specs.declared.faults.Fault.{Fault}
 use Rattle.tso_report.specs.declared.faults.Fault.TheVariants.{OutOfMemory, Read, Write, NoThread, Missing}
 use Rattle.tso_report.specs.Streams.{AppendsPrefix}
-use Rattle.tso_report.specs.Written.{IsCheckReportOfReaders, IsReportOfReader, LeavesAtFault, WritesWhole}
-use Rattle.tsobench.specs.Drawn.{IsCampaignText, IsMadeText, LeavesCampaignText}
+use Rattle.tso_report.specs.Written.{IsReportOfReader, LeavesAtFault, LeavesCheckFault, WritesCheckReport, WritesWhole}
+use Rattle.tsobench.specs.Drawn.{IsCampaignText, IsMadeText, LeavesCampaignText, LeavesMadeText}
 use Rattle.tsobench.specs.Named.{name_in}
 use Rattle.tsobench.specs.Replaying.{IsReplayText}
 use Rattle.tsobench.specs.Running.{IsRunText}
@@ -61,9 +61,11 @@ EndsByReport is_report o status =
 abbrev pub EndsJudged : Option (List ℕ) → Outputs → ℕ → Type 0
 EndsJudged remaining o status = EndsByReport (IsReportOfReader remaining) o status
 
--- the report of a certificate, of which and of whose trace readers have these bytes
+-- The report of a certificate, of which and of whose trace readers have these bytes. No thread is started for it, so none is refused.
 abbrev pub EndsChecked : Option (List ℕ) → Option (List ℕ) → Outputs → ℕ → Type 0
-EndsChecked traces certs o status = EndsByReport (IsCheckReportOfReaders traces certs) o status
+EndsChecked traces certs o status =
+    ((verdict : Verdict) × WritesCheckReport traces certs o.written_before o.written verdict × Keeps o.errors_before o.errors × (status ≡ status_of verdict))
+    ⊎ ((fault : Fault) × (fault ≢ NoThread) × LeavesCheckFault traces certs o.written_before o.written fault × EndsByFault fault o status)
 
 -- known bytes of the output grow by a text of this kind, with this status
 abbrev pub WritesText : (List ℕ → ℕ → Type 0) → Option (List ℕ) → Option (List ℕ) → ℕ → Type 0
@@ -94,9 +96,12 @@ EndsUnrecorded o status =
 abbrev pub EndsRun : RunOptions → Option (List ℕ) → Outputs → ℕ → Type 0
 EndsRun options programs o status = EndsByText (IsRunText options programs) o status ⊎ EndsUnrecorded o status
 
--- what is printed of the program that a seed draws
+-- The output grows by the text of the program that a seed draws, or that of a refusal, and the errors by nothing, and the status is the text's; or a
+-- fault, OutOfMemory or Write, left nothing or, on Write, a prefix of such a text.
 abbrev pub EndsMade : ℕ → ShapeNumbers → Outputs → ℕ → Type 0
-EndsMade seed numbers o status = EndsByText (IsMadeText seed numbers) o status
+EndsMade seed numbers o status =
+    (WritesText (IsMadeText seed numbers) o.written_before o.written status × Keeps o.errors_before o.errors)
+    ⊎ ((fault : Fault) × LeavesMadeText seed numbers o.written_before o.written fault × EndsByFault fault o status)
 
 -- The output grows by the text of a campaign, or that of a refusal, and the errors by nothing, and the status is the text's; or a fault left nothing or,
 -- on Write, a prefix of such a text.

@@ -3,12 +3,11 @@ ghost use Rattle.std.specs.Prelude.{◌≡◌, ◌⊎◌, ◌≤◌, Decides, If
 ghost use Rattle.command_line.specs.Requests.{capacity_limit};
 ghost use Rattle.tso_ops.specs.Drawing.{IsShape};
 ghost use Rattle.tso_report.specs.Limits.{worker_limit};
-ghost use Rattle.tso_report.specs.Written.{LeavesAtFault};
-ghost use Rattle.tsobench.specs.Drawn.{AreSeeds, IsCampaignText, IsDrawnOf, IsMadeText, LeavesCampaignText, asked_shape};
+ghost use Rattle.tsobench.specs.Drawn.{AreSeeds, IsCampaignText, IsDrawnOf, IsMadeText, LeavesCampaignText, LeavesMadeText, asked_shape};
 ghost use Rattle.unit_faulty.specs.Faulty.{new_faulty};
 ghost use Rattle.unit_kinds.specs.Buffer.{new_store_buffer};
 ghost use Rattle.unit_kinds.specs.Serial.{new_serial};
-ghost use Rattle.tsobench.specs.Endings.{IsPrintable, WritesText};
+ghost use Rattle.tsobench.specs.Endings.{WritesText};
 ghost use Rattle.tsobench.specs.Printing.{unit_of};
 
 use crate::endings::{DONE, REFUSED, status_of};
@@ -33,7 +32,7 @@ pub(crate) fn make<W: Write>(
     writer: &mut W,
 ) -> Result<u8, Fault>
     ensures text { IfOk result (WritesText (IsMadeText seed numbers) (W.contents writer.old) (W.contents writer.new)) }
-    ensures fault { IfErr result (LeavesAtFault (IsPrintable (IsMadeText seed numbers)) (W.contents writer.old) (W.contents writer.new)) }
+    ensures fault { IfErr result (LeavesMadeText seed numbers (W.contents writer.old) (W.contents writer.new)) }
 {
     let made = made_text(alloc, seed, numbers)?;
     write_text(writer, &made.text)?;

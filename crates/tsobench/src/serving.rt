@@ -3,6 +3,7 @@ ghost use Rattle.std.specs.Prelude.{◌≡◌, ◌≢◌, ◌≤◌, [], ◌∷�
 ghost use Rattle.command_line.specs.Requests.{HasUnitRanges, HasWorkers, asked_of};
 ghost use Rattle.tso_report.specs.Limits.{trace_read_limit, worker_limit};
 ghost use Rattle.tso_report.specs.Streams.{AppendsPrefix, LosesPrefix};
+ghost use Rattle.tso_report.specs.declared.faults.Fault.TheVariants.{NoThread};
 ghost use Rattle.tso_report.specs.Written.{LeavesCheckFault, LeavesFault, WritesCheckReport, WritesReport};
 ghost use Rattle.tsobench.specs.Endings.{EndsAs, EndsShowing, judged_bytes, outputs};
 ghost use Rattle.tsobench.specs.Lawful.{runs_on_lawful_unit};
@@ -136,6 +137,7 @@ fn check_files<O: NamedFiles, W: Write>(
 ) -> Result<Verdict, Fault>
     ensures report { IfOk result (WritesCheckReport (O.bytes files.old trace.now) (O.bytes files.old certificate.now) (W.contents writer.old) (W.contents writer.new)) }
     ensures fault { IfErr result (LeavesCheckFault (O.bytes files.old trace.now) (O.bytes files.old certificate.now) (W.contents writer.old) (W.contents writer.new)) }
+    ensures no_thread { IfErr result (λ fault. fault ≢ NoThread) }
     ensures first { OpensFirst (O.opened files.old) (O.opened files.new) (trace.now ∷ certificate.now ∷ []) }
     ensures opened { OnOk result (OpensNext (O.opened files.old) (O.opened files.new) (trace.now ∷ certificate.now ∷ [])) }
 {

@@ -15,6 +15,7 @@ mod runs;
 
 use crate::driving::{drive, end_without_arguments};
 use std::alloc::{AllocError, Global};
+use std::fmt::Debug;
 use std::io;
 use std::io::{Error, ErrorKind, Read, Write};
 use std::process::Abort;
@@ -90,8 +91,15 @@ fn driven_to_a_failing_writer<H: Threads + Wait + Sync + Files + AllocGlobal, R:
     }
 }
 
-/// Compares how a run of these arguments or texts ended.
-fn expect<H: Abort>(rt: &H, of: &[&str], ended: &Ended, status: u8, output: &str, errors: &str) {
+/// Compares how a run of these arguments or of this text ended.
+fn expect<H: Abort, T: Copy + Debug>(
+    rt: &H,
+    of: T,
+    ended: &Ended,
+    status: u8,
+    output: &str,
+    errors: &str,
+) {
     assert_eq!(rt; ended.status, status, "{of:?}");
     assert_eq!(rt; ended.written.as_slice(), output.as_bytes(), "{of:?}");
     assert_eq!(rt; ended.errors.as_slice(), errors.as_bytes(), "{of:?}");
@@ -101,9 +109,9 @@ fn expect<H: Abort>(rt: &H, of: &[&str], ended: &Ended, status: u8, output: &str
 fn faults_have_a_line(rt: HostRuntime) -> Result<(), Fail> {
     let alloc = rt.alloc();
     let unread = driven(&rt, alloc, &[], &mut FailingReader)?;
-    expect(&rt, &[], &unread, 4, "", "FAULT Read\n");
+    expect(&rt, "no arguments", &unread, 4, "", "FAULT Read\n");
     let unwritten = driven_to_a_failing_writer(&rt, alloc, &mut b"tso trace 1\nend\n".as_slice());
-    expect(&rt, &[], &unwritten, 4, "", "FAULT Write\n");
+    expect(&rt, "no arguments", &unwritten, 4, "", "FAULT Write\n");
     Ok(())
 }
 
@@ -133,7 +141,7 @@ fn ended_without_arguments(alloc: Global, kind: ErrorKind) -> Ended {
 fn arguments_that_cannot_be_had(rt: HostRuntime) {
     let line = "error: invalid UTF-8 was detected in one or more arguments\n";
     let invalid = ended_without_arguments(rt.alloc(), ErrorKind::InvalidData);
-    expect(&rt, &[], &invalid, 2, "", line);
+    expect(&rt, "not UTF-8", &invalid, 2, "", line);
     let refused = ended_without_arguments(rt.alloc(), ErrorKind::OutOfMemory);
-    expect(&rt, &[], &refused, 4, "", "FAULT OutOfMemory\n");
+    expect(&rt, "out of memory", &refused, 4, "", "FAULT OutOfMemory\n");
 }

@@ -7,6 +7,4 @@ pub use unit::FaultyUnit;
 mod kinds;
 mod memory;
 mod reserved;
-#[cfg(test)]
-mod tests;
 mod unit;

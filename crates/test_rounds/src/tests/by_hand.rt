@@ -1,16 +1,14 @@
 //! Traces made by hand, on several numbers of workers.
 
-use super::{
-    added, compare, expect, independent_reads, made, rank_of, rounds_of, st, store_buffering, sw,
-    trace_of, two_swaps_both_first,
-};
+use super::{added, compare, expect, made, rank_of, rounds_of};
 use round_pool::{Edge, OpenPoolGate, Ranked};
 use std::alloc::{AllocGlobal, Global};
 use std::process::Abort;
 use std::sync::Wait;
 use std::test::Fail;
 use std::thread::Threads;
-use tso_ops::Trace;
+use test_traces::{independent_reads, st, store_buffering, sw, trace_of, two_swaps_both_first};
+use tso_ops::{Order, Trace};
 
 fn ranked_by<H: Threads + Wait + AllocGlobal>(
     rt: &H,
@@ -124,7 +122,7 @@ fn chain_of_swaps(alloc: Global) -> Result<Trace, Fail> {
     for value in 2..41 {
         swaps.push(sw(0, value, value + 1))?;
     }
-    Ok(trace_of(alloc, &[&[st(0, 1)], &swaps])?)
+    Ok(trace_of(alloc, Order::Tso, &[&[st(0, 1)], &swaps])?)
 }
 
 fn event_count(trace: &Trace) -> usize {

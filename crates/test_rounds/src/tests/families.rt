@@ -1,13 +1,14 @@
 //! Families of traces, most with many rounds, of 40 to 300 events: each number of workers finds the same edges in each
 //! round.
 
-use super::{added, expect, ld, made, rounds_of, st, sw};
+use super::{added, expect, made, rounds_of};
 use round_pool::{OpenPoolGate, Ranked};
 use std::alloc::{AllocError, AllocGlobal, Global};
 use std::process::Abort;
 use std::sync::Wait;
 use std::test::Fail;
 use std::thread::Threads;
+use test_traces::{ld, st, sw};
 use tso_ops::{Outcome, Trace};
 
 /// A value that is stored, of a kind that begins at `kind`; kinds begin 1000 apart.

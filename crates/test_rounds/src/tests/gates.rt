@@ -1,15 +1,14 @@
 //! What a gate sees of the workers.
 
-use super::{
-    TWO_SWAPS_BOTH_FIRST, expect, independent_reads, ld, made, st, store_buffering, trace_of,
-};
+use super::{expect, made};
 use round_pool::PoolGate;
 use std::alloc::{AllocGlobal, Global};
 use std::sync::Wait;
 use std::sync::atomic::{AtomicU64, Ordering};
 use std::test::Fail;
 use std::thread::{Threads, yield_now};
-use tso_ops::{Trace, ValueFault};
+use test_traces::{TWO_SWAPS_BOTH_FIRST, independent_reads, ld, st, store_buffering, trace_of};
+use tso_ops::{Order, Trace, ValueFault};
 
 /// The rounds number of the trace, by workers with this gate.
 fn rounds_by<H: Threads + Wait + AllocGlobal, G: PoolGate + Sync>(
@@ -88,7 +87,7 @@ fn workset_of_store_buffering(rt: HostRuntime) -> Result<(), Fail> {
 /// Two swaps that both read the first value, 1 and 2, 3 and 4, and a store to another address, 5.
 fn two_swaps_and_a_store(alloc: Global) -> Result<Trace, ValueFault> {
     let [one, other] = TWO_SWAPS_BOTH_FIRST;
-    trace_of(alloc, &[one, other, &[st(2, 3)]])
+    trace_of(alloc, Order::Tso, &[one, other, &[st(2, 3)]])
 }
 
 /// The first round adds edges from load 1 to store 4 and from load 3 to store 2. The stores 2 and 4 reach nothing more by

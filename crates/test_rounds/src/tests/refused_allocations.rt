@@ -3,12 +3,13 @@
 //! The call that meets it answers OutOfMemory, or NoThread where the allocation was that of a thread's start, and the next
 //! call the ordinary answer.
 
-use super::{compare, expect, made, rank_of, rounds_of, two_swaps_both_first};
+use super::{compare, expect, made, rank_of, rounds_of};
 use round_pool::{OpenPoolGate, PoolFault, Ranked};
 use std::alloc::{AllocGlobal, Global};
 use std::sync::Wait;
 use std::test::Fail;
 use std::thread::Threads;
+use test_traces::two_swaps_both_first;
 use tso_ops::{Trace, ValueFault};
 
 fn trace(alloc: Global) -> Result<Trace, ValueFault> {

@@ -1,9 +1,9 @@
 //! Which rows have to be computed again.
 
-use super::{TWO_SWAPS_BOTH_FIRST, trace_of};
 use std::alloc::Global;
 use std::test::Fail;
-use tso_ops::Outcome;
+use test_traces::{TWO_SWAPS_BOTH_FIRST, trace_of};
+use tso_ops::{Order, Outcome};
 use tso_rules::affected_rows;
 
 /// Numbers that reach more than before, and the rows that rest on them.
@@ -28,7 +28,7 @@ const MESSAGE: [&[Outcome]; 2] = [
 const OF_MESSAGE: [Affected; 3] = [(&[1], &[1, 4]), (&[2, 1], &[1, 2, 3, 4]), (&[4], &[4])];
 
 fn rows_of(alloc: Global, rows: &[&[Outcome]], grown: &[usize]) -> Result<Vec<usize>, Fail> {
-    let trace = trace_of(alloc, rows)?;
+    let trace = trace_of(alloc, Order::Tso, rows)?;
     Ok(affected_rows(alloc, &trace, grown)?)
 }
 

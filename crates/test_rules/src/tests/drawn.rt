@@ -10,102 +10,12 @@ use plain_rounds::{base_edges, has_edge, is_inferred_pair, new_edges, rank_set};
 use std::alloc::{AllocError, Global};
 use std::process::Abort;
 use std::test::Fail;
+use test_traces::{
+    Drawn, UNDER_PSO, UNDER_PSO_WITH_FIRST_VALUES, UNDER_TSO, WITH_FIRST_VALUES, drawn_trace,
+};
 use tso_cert::Reason;
-use tso_ops::{Order, Outcome, Trace};
+use tso_ops::Trace;
 use tso_rules::{SourceMasks, base_edge, base_row, justify, row_edges, row_edges_over_base};
-
-/// The next of a row of numbers that looks like chance.
-fn next_word(word: u64) -> u64 {
-    word.wrapping_mul(6364136223846793005)
-        .wrapping_add(1442695040888963407)
-}
-
-/// How traces are drawn: their memory model, and whether the addresses 0 and 1 have the first values 8 and 9.
-#[derive(Clone, Copy)]
-struct Drawn {
-    order: Order,
-    has_first: bool,
-}
-
-const UNDER_TSO: Drawn = Drawn {
-    order: Order::Tso,
-    has_first: false,
-};
-
-const UNDER_PSO: Drawn = Drawn {
-    order: Order::Pso,
-    has_first: false,
-};
-
-const WITH_FIRST_VALUES: Drawn = Drawn {
-    order: Order::Tso,
-    has_first: true,
-};
-
-const UNDER_PSO_WITH_FIRST_VALUES: Drawn = Drawn {
-    order: Order::Pso,
-    has_first: true,
-};
-
-/// The barrier that the word draws, of the kinds that the memory model has.
-fn drawn_barrier(drawn: Drawn, word: u64) -> Outcome {
-    match drawn.order {
-        Order::Tso => Outcome::Mb,
-        Order::Pso if (word >> 36) % 4 == 0 => Outcome::Mb,
-        Order::Pso => Outcome::Sb,
-    }
-}
-
-/// The outcome that the word draws. A value that is stored stands at address 0 if it is even, else at address 1, and a
-/// load draws among the values that can stand at its address.
-fn drawn_outcome(drawn: Drawn, word: u64, value: u64) -> Outcome {
-    let first = if drawn.has_first { 8 } else { 0 };
-    let odd = if drawn.has_first { 1 } else { 0 };
-    let stored_at = (value % 2) as u16;
-    let loaded_at = (word >> 40) % 2;
-    let below = (word >> 45) % 3 * 2;
-    match (word >> 33) % 8 {
-        0 => drawn_barrier(drawn, word),
-        1 => Outcome::Sw {
-            a: stored_at,
-            r: below + value % 2,
-            v: value,
-        },
-        2 => Outcome::Sw {
-            a: stored_at,
-            r: first + odd * (value % 2),
-            v: value,
-        },
-        3 | 4 => Outcome::St {
-            a: stored_at,
-            v: value,
-        },
-        5 => Outcome::Ld {
-            a: loaded_at as u16,
-            r: first + odd * loaded_at,
-        },
-        _ => Outcome::Ld {
-            a: loaded_at as u16,
-            r: below + loaded_at,
-        },
-    }
-}
-
-/// A trace of six operations on up to three processors.
-fn drawn_trace(alloc: Global, drawn: Drawn, seed: u64) -> Result<Trace, Fail> {
-    let mut lists: [Vec<Outcome>; 3] = [Vec::new(alloc), Vec::new(alloc), Vec::new(alloc)];
-    let mut word = next_word(seed);
-    for value in 1..7 {
-        word = next_word(word);
-        lists[(word >> 50) as usize % 3].push(drawn_outcome(drawn, word, value))?;
-    }
-    let lists = Vec::from_array(alloc, lists)?;
-    if !drawn.has_first {
-        return Ok(Trace::with_order(alloc, drawn.order, lists)?);
-    }
-    let first = vec![in alloc; (0, 8), (1, 9)]?;
-    Ok(Trace::with_first(alloc, drawn.order, first, lists)?)
-}
 
 /// The numbers below `nodes` to which the edges lead from `u`, ascending.
 fn plain_row(

@@ -5,12 +5,13 @@ ghost use Rattle.tso_ops.specs.Events.{event_total};
 ghost use Rattle.tso_model.specs.Ranks.{RankSet};
 ghost use Rattle.plain_rounds.specs.EdgeLists.{HasPair, AreEdgesBelow};
 
-use super::{expect_row, trace_of};
+use super::expect_row;
 use order_graph::Graph;
 use plain_rounds::base_edges;
 use std::alloc::{AllocError, Global};
 use std::test::Fail;
-use tso_ops::{Outcome, Trace};
+use test_traces::trace_of;
+use tso_ops::{Order, Outcome, Trace};
 use tso_rules::{SourceMasks, row_edges_over_base};
 
 /// The graph of these edges, among them the base edges.
@@ -55,7 +56,7 @@ pub const LOADED_IN_TURN: [&[Outcome]; 5] = [
 #[test]
 fn rows_of_stores_loaded_in_turn(rt: HostRuntime) -> Result<(), Fail> {
     let alloc = rt.alloc();
-    let trace = trace_of(alloc, &LOADED_IN_TURN)?;
+    let trace = trace_of(alloc, Order::Tso, &LOADED_IN_TURN)?;
     expect_row(&rt, "1", &row_over_base(alloc, &trace, 1)?, &[7, 8]);
     expect_row(&rt, "2", &row_over_base(alloc, &trace, 2)?, &[]);
     expect_row(&rt, "7", &row_over_base(alloc, &trace, 7)?, &[]);

@@ -3,15 +3,13 @@
 //! The call that meets it answers OutOfMemory, and the next call the ordinary answer.
 
 use super::over_base::{LOADED_IN_TURN, row_over_base};
-use super::{
-    edges_of, expect_inferred, expect_row, graph_of, reason_of, row_of, set_of, trace_of,
-    two_swaps_both_first,
-};
+use super::{edges_of, expect_inferred, expect_row, graph_of, reason_of, row_of, set_of};
 use order_graph::{EdgeSet, Graph, PathSearch};
 use std::alloc::{AllocError, Global};
 use std::test::Fail;
+use test_traces::{trace_of, two_swaps_both_first};
 use tso_cert::{InferredRule, Reason};
-use tso_ops::{Trace, ValueFault};
+use tso_ops::{Order, Trace, ValueFault};
 
 /// The base edges of two_swaps_both_first, and the two of the first round that lead to a store.
 const EDGES: [(usize, usize); 8] = [
@@ -54,8 +52,8 @@ fn edges(alloc: Global, trace: &Trace, graph: &Graph) -> Result<Vec<usize>, Allo
 }
 
 fn loaded_in_turn(alloc: Global) -> Result<Trace, ValueFault> {
-    match trace_of(alloc, &LOADED_IN_TURN) {
-        Err(ValueFault::OutOfMemory) => trace_of(alloc, &LOADED_IN_TURN),
+    match trace_of(alloc, Order::Tso, &LOADED_IN_TURN) {
+        Err(ValueFault::OutOfMemory) => trace_of(alloc, Order::Tso, &LOADED_IN_TURN),
         first => first,
     }
 }

@@ -2,6 +2,7 @@
 ghost use Rattle.std.specs.Prelude.{◌≡◌, ◌≤◌, [], All, length};
 ghost use Rattle.tso_report.specs.Limits.{worker_limit};
 
+use super::campaigns::THREE_SEEDS;
 use super::meeting::{Meeting, MeetingUnit};
 use std::alloc::Global;
 use std::sync::{Arc, Wait};
@@ -44,10 +45,6 @@ fn campaign_of<H: Threads + Wait + Sync, U: MemoryUnit + Send>(
     Ran { answer, written }
 }
 
-/// The text of three seeds without a violation.
-const THREE: &str =
-    "seed 1 NO VIOLATION FOUND\nseed 2 NO VIOLATION FOUND\nseed 3 NO VIOLATION FOUND\nseeds 3 violations 0\n";
-
 /// A campaign of three seeds on serial units, each in a box.
 fn campaign_of_boxes<H: Threads + Wait + Sync>(
     rt: &H,
@@ -73,7 +70,7 @@ fn campaign_without_a_violation(rt: HostRuntime) -> Result<(), Fail> {
     for workers in [1usize, 2, 64] {
         let ran = campaign_of_boxes(&rt, rt.alloc(), workers)?;
         assert!(rt;
-            is_ran(&ran, Ok(Verdict::NoViolation), THREE),
+            is_ran(&ran, Ok(Verdict::NoViolation), THREE_SEEDS),
             "{workers} workers"
         );
     }

@@ -9,293 +9,107 @@ use std::sync::Wait;
 use std::test::Fail;
 use std::thread::Threads;
 
+/// The text of three seeds without a violation.
+pub(super) const THREE_SEEDS: &str =
+    "seed 1 NO VIOLATION FOUND\nseed 2 NO VIOLATION FOUND\nseed 3 NO VIOLATION FOUND\nseeds 3 violations 0\n";
+
 /// Arguments of `campaign`, the status that they lead to, and what is written.
-type Run = (&'static [&'static str], u8, &'static str);
+type Run = (&'static str, u8, &'static str);
 
 const RUNS: [Run; 16] = [
     // three seeds
     (
-        &[
-            "campaign",
-            "--unit",
-            "serial",
-            "--first",
-            "1",
-            "--count",
-            "3",
-            "--procs",
-            "2",
-            "--ops",
-            "20",
-            "--addrs",
-            "4",
-            "--workers",
-            "1",
-        ],
+        "campaign --unit serial --first 1 --count 3 --procs 2 --ops 20 --addrs 4 --workers 1",
         0,
-        "seed 1 NO VIOLATION FOUND\nseed 2 NO VIOLATION FOUND\nseed 3 NO VIOLATION FOUND\nseeds 3 violations 0\n",
+        THREE_SEEDS,
     ),
     // three seeds
     (
-        &[
-            "campaign",
-            "--unit",
-            "serial",
-            "--first",
-            "1",
-            "--count",
-            "3",
-            "--procs",
-            "2",
-            "--ops",
-            "20",
-            "--addrs",
-            "4",
-            "--workers",
-            "2",
-        ],
+        "campaign --unit serial --first 1 --count 3 --procs 2 --ops 20 --addrs 4 --workers 2",
         0,
-        "seed 1 NO VIOLATION FOUND\nseed 2 NO VIOLATION FOUND\nseed 3 NO VIOLATION FOUND\nseeds 3 violations 0\n",
+        THREE_SEEDS,
     ),
     // three seeds
     (
-        &[
-            "campaign",
-            "--unit",
-            "serial",
-            "--first",
-            "1",
-            "--count",
-            "3",
-            "--procs",
-            "2",
-            "--ops",
-            "20",
-            "--addrs",
-            "4",
-            "--workers",
-            "64",
-        ],
+        "campaign --unit serial --first 1 --count 3 --procs 2 --ops 20 --addrs 4 --workers 64",
         0,
-        "seed 1 NO VIOLATION FOUND\nseed 2 NO VIOLATION FOUND\nseed 3 NO VIOLATION FOUND\nseeds 3 violations 0\n",
+        THREE_SEEDS,
     ),
     // in another order
     (
-        &[
-            "campaign",
-            "--workers",
-            "3",
-            "--addrs=4",
-            "--ops",
-            "20",
-            "--procs=2",
-            "--capacity",
-            "1",
-            "--count=3",
-            "--unit=buffer",
-            "--first",
-            "1",
-        ],
+        "campaign --workers 3 --addrs=4 --ops 20 --procs=2 --capacity 1 --count=3 --unit=buffer --first 1",
         0,
-        "seed 1 NO VIOLATION FOUND\nseed 2 NO VIOLATION FOUND\nseed 3 NO VIOLATION FOUND\nseeds 3 violations 0\n",
+        THREE_SEEDS,
     ),
     // no seed
     (
-        &[
-            "campaign",
-            "--unit",
-            "serial",
-            "--first",
-            "18446744073709551615",
-            "--count",
-            "0",
-            "--procs",
-            "2",
-            "--ops",
-            "20",
-            "--addrs",
-            "4",
-        ],
+        "campaign --unit serial --first 18446744073709551615 --count 0 --procs 2 --ops 20 --addrs 4",
         0,
         "seeds 0 violations 0\n",
     ),
     // no seed from 0 on
     (
-        &[
-            "campaign",
-            "--unit",
-            "lost-drain",
-            "--first",
-            "0",
-            "--count",
-            "0",
-            "--procs",
-            "2",
-            "--ops",
-            "20",
-            "--addrs",
-            "4",
-            "--workers",
-            "64",
-        ],
+        "campaign --unit lost-drain --first 0 --count 0 --procs 2 --ops 20 --addrs 4 --workers 64",
         0,
         "seeds 0 violations 0\n",
     ),
     // the last seed
     (
-        &[
-            "campaign",
-            "--unit",
-            "serial",
-            "--first",
-            "18446744073709551615",
-            "--count",
-            "1",
-            "--procs",
-            "1",
-            "--ops",
-            "0",
-            "--addrs",
-            "1",
-        ],
+        "campaign --unit serial --first 18446744073709551615 --count 1 --procs 1 --ops 0 --addrs 1",
         0,
         "seed 18446744073709551615 NO VIOLATION FOUND\nseeds 1 violations 0\n",
     ),
     // no operation
     (
-        &[
-            "campaign",
-            "--unit",
-            "lost-drain",
-            "--first",
-            "0",
-            "--count",
-            "1",
-            "--procs",
-            "16",
-            "--ops",
-            "0",
-            "--addrs",
-            "1",
-        ],
+        "campaign --unit lost-drain --first 0 --count 1 --procs 16 --ops 0 --addrs 1",
         0,
         "seed 0 NO VIOLATION FOUND\nseeds 1 violations 0\n",
     ),
     // too many seeds
     (
-        &[
-            "campaign", "--unit", "serial", "--first", "1", "--count", "1001", "--procs", "1",
-            "--ops", "1", "--addrs", "1",
-        ],
+        "campaign --unit serial --first 1 --count 1001 --procs 1 --ops 1 --addrs 1",
         2,
         "REFUSED Seeds\n",
     ),
     // a seed past the last
     (
-        &[
-            "campaign",
-            "--unit",
-            "serial",
-            "--first",
-            "18446744073709551615",
-            "--count",
-            "2",
-            "--procs",
-            "1",
-            "--ops",
-            "1",
-            "--addrs",
-            "1",
-        ],
+        "campaign --unit serial --first 18446744073709551615 --count 2 --procs 1 --ops 1 --addrs 1",
         2,
         "REFUSED Seeds\n",
     ),
     // the most seeds, of which the last is past the last
     (
-        &[
-            "campaign",
-            "--unit",
-            "serial",
-            "--first",
-            "18446744073709550617",
-            "--count",
-            "1000",
-            "--procs",
-            "1",
-            "--ops",
-            "1",
-            "--addrs",
-            "1",
-            "--workers",
-            "2",
-        ],
+        "campaign --unit serial --first 18446744073709550617 --count 1000 --procs 1 --ops 1 --addrs 1 --workers 2",
         2,
         "REFUSED Seeds\n",
     ),
     // the largest numbers
     (
-        &[
-            "campaign",
-            "--unit",
-            "serial",
-            "--first",
-            "18446744073709551615",
-            "--count",
-            "18446744073709551615",
-            "--procs",
-            "1",
-            "--ops",
-            "1",
-            "--addrs",
-            "1",
-        ],
+        "campaign --unit serial --first 18446744073709551615 --count 18446744073709551615 --procs 1 --ops 1 --addrs 1",
         2,
         "REFUSED Seeds\n",
     ),
     // no shape
     (
-        &[
-            "campaign", "--unit", "serial", "--first", "1", "--count", "3", "--procs", "0",
-            "--ops", "1", "--addrs", "1",
-        ],
+        "campaign --unit serial --first 1 --count 3 --procs 0 --ops 1 --addrs 1",
         2,
         "REFUSED Shape\n",
     ),
     // no shape, and too many seeds
     (
-        &[
-            "campaign", "--unit", "serial", "--first", "1", "--count", "1001", "--procs", "17",
-            "--ops", "1", "--addrs", "1",
-        ],
+        "campaign --unit serial --first 1 --count 1001 --procs 17 --ops 1 --addrs 1",
         2,
         "REFUSED Shape\n",
     ),
     // no shape, and a seed past the last
     (
-        &[
-            "campaign",
-            "--unit",
-            "serial",
-            "--first",
-            "18446744073709551615",
-            "--count",
-            "2",
-            "--procs",
-            "1",
-            "--ops",
-            "1",
-            "--addrs",
-            "257",
-        ],
+        "campaign --unit serial --first 18446744073709551615 --count 2 --procs 1 --ops 1 --addrs 257",
         2,
         "REFUSED Shape\n",
     ),
     // no shape, and no seed
     (
-        &[
-            "campaign", "--unit", "serial", "--first", "1", "--count", "0", "--procs", "4",
-            "--ops", "251", "--addrs", "1",
-        ],
+        "campaign --unit serial --first 1 --count 0 --procs 4 --ops 251 --addrs 1",
         2,
         "REFUSED Shape\n",
     ),
@@ -324,17 +138,9 @@ fn count_lines(text: &[u8]) -> usize {
 
 #[test]
 fn campaign_of_the_most_seeds(rt: HostRuntime) -> Result<(), Fail> {
-    let arguments = [
-        "campaign",
-        "--unit=serial",
-        "--first=7",
-        "--count=1000",
-        "--procs=1",
-        "--ops=2",
-        "--addrs=1",
-        "--workers=4",
-    ];
-    let ended = ended(&rt, rt.alloc(), "", &arguments)?;
+    let arguments =
+        "campaign --unit=serial --first=7 --count=1000 --procs=1 --ops=2 --addrs=1 --workers=4";
+    let ended = ended(&rt, rt.alloc(), "", arguments)?;
     let text = ended.written.as_slice();
     assert!(rt; ended.status == 0);
     assert!(rt; count_lines(text) == 1001);
@@ -352,24 +158,17 @@ const FAULTY: [(&str, bool); 6] = [
     ("lost-drain", true),
 ];
 
+/// The arguments of a campaign of a hundred seeds, after the unit.
+const HUNDRED_SEEDS: &str = "--first=1 --count=100 --procs=2 --ops=8 --addrs=1 --workers=4";
+
 /// A campaign of a hundred seeds on a unit of this kind.
 fn campaign_on<H: Threads + Wait + Sync + Files + AllocGlobal>(
     rt: &H,
     alloc: Global,
     unit: &str,
 ) -> Result<Ended, Fail> {
-    let arguments = [
-        "campaign",
-        "--unit",
-        unit,
-        "--first=1",
-        "--count=100",
-        "--procs=2",
-        "--ops=8",
-        "--addrs=1",
-        "--workers=4",
-    ];
-    ended(rt, alloc, "", &arguments)
+    let arguments = format!(in alloc; "campaign --unit {unit} {HUNDRED_SEEDS}")?;
+    ended(rt, alloc, "", arguments.as_str())
 }
 
 /// The last line of a campaign of a hundred seeds with so many violations.

@@ -164,9 +164,8 @@ fn certificates_in_files(rt: HostRuntime) -> Result<(), Fail> {
     for (trace, certificate, status, report) in CHECKED {
         write(&rt, folder.as_str(), "trace", trace)?;
         write(&rt, folder.as_str(), "cert", certificate)?;
-        let arguments = ["check", "@trace", "@cert"];
-        let ended = ended(&rt, rt.alloc(), folder.as_str(), &arguments)?;
-        expect(&rt, &[trace, certificate], &ended, status, report, "");
+        let ended = ended(&rt, rt.alloc(), folder.as_str(), "check @trace @cert")?;
+        expect(&rt, certificate, &ended, status, report, "");
     }
     Ok(fs::remove_dir_all(&rt, folder.as_str())?)
 }

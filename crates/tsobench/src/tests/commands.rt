@@ -27,6 +27,19 @@ pub(super) fn write(rt: &HostRuntime, folder: &str, file: &str, text: &str) -> R
     Ok(fs::write(rt, path.as_str(), text)?)
 }
 
+/// A new folder of the test's own with these files.
+pub(super) fn folder_of(
+    rt: &HostRuntime,
+    test: &str,
+    texts: &[(&str, &str)],
+) -> Result<String, Fail> {
+    let path = new_folder(rt, test)?;
+    for (file, text) in texts {
+        write(rt, path.as_str(), file, text)?;
+    }
+    Ok(path)
+}
+
 /// The texts of two traces and of two certificates.
 const TEXTS: [(&str, &str); 4] = [
     ("trace", "tso trace 1\nproc\nld 1 9\nend\n"),
@@ -34,15 +47,6 @@ const TEXTS: [(&str, &str); 4] = [
     ("holds", "unwritten 1\n"),
     ("fails", "cycle 1\n"),
 ];
-
-/// A folder with these texts.
-fn folder(rt: &HostRuntime, test: &str) -> Result<String, Fail> {
-    let path = new_folder(rt, test)?;
-    for (file, text) in TEXTS {
-        write(rt, path.as_str(), file, text)?;
-    }
-    Ok(path)
-}
 
 /// The argument, or where it begins with `@` the file of the folder that it names.
 fn named(alloc: Global, folder: &str, argument: &str) -> Result<String, Fail> {
@@ -52,15 +56,16 @@ fn named(alloc: Global, folder: &str, argument: &str) -> Result<String, Fail> {
     })
 }
 
-/// What these arguments lead to, of which one that begins with `@` names a file of the folder. Standard input fails.
+/// What these arguments lead to, between which stand spaces, and of which one that begins with `@` names a file of the
+/// folder. Standard input fails.
 pub(super) fn ended<H: Threads + Wait + Sync + Files + AllocGlobal>(
     rt: &H,
     alloc: Global,
     folder: &str,
-    arguments: &[&str],
+    arguments: &str,
 ) -> Result<Ended, Fail> {
     let mut all = Vec::new(alloc);
-    for argument in arguments {
+    for argument in arguments.split(' ') {
         all.push(named(alloc, folder, argument)?)?;
     }
     let arguments: Vec<&str> = all.iter().map(|argument| argument.as_str()).collect(alloc)?;
@@ -68,41 +73,33 @@ pub(super) fn ended<H: Threads + Wait + Sync + Files + AllocGlobal>(
 }
 
 /// Arguments, the status that they lead to, and what is written.
-type Run = (&'static [&'static str], u8, &'static str);
+type Run = (&'static str, u8, &'static str);
 
 const RUNS: [Run; 7] = [
-    (&["judge", "@trace", "--workers", "1"], 3, REPORT),
-    (&["judge", "@trace", "--workers", "64"], 3, REPORT),
+    ("judge @trace --workers 1", 3, REPORT),
+    ("judge @trace --workers 64", 3, REPORT),
     (
-        &["judge", "--workers=+007", "--", "@torn"],
+        "judge --workers=+007 -- @torn",
         2,
         "REFUSED MissingEnd line 3\n",
     ),
+    ("check -- @trace @holds", 3, "CERTIFICATE HOLDS\n"),
     (
-        &["check", "--", "@trace", "@holds"],
-        3,
-        "CERTIFICATE HOLDS\n",
-    ),
-    (
-        &["check", "--", "@trace", "@fails"],
+        "check -- @trace @fails",
         2,
         "CERTIFICATE REFUSED CycleUnlisted\n",
     ),
     (
-        &["check", "--", "@trace", "@torn"],
+        "check -- @trace @torn",
         2,
         "CERTIFICATE REFUSED BadLine line 1\n",
     ),
-    (
-        &["check", "--", "@torn", "@holds"],
-        2,
-        "REFUSED MissingEnd line 3\n",
-    ),
+    ("check -- @torn @holds", 2, "REFUSED MissingEnd line 3\n"),
 ];
 
 #[test]
 fn files(rt: HostRuntime) -> Result<(), Fail> {
-    let folder = folder(&rt, "files")?;
+    let folder = folder_of(&rt, "files", &TEXTS)?;
     for (arguments, status, report) in RUNS {
         let ended = ended(&rt, rt.alloc(), folder.as_str(), arguments)?;
         expect(&rt, arguments, &ended, status, report, "");
@@ -111,21 +108,21 @@ fn files(rt: HostRuntime) -> Result<(), Fail> {
 }
 
 /// A file that isn't there, a folder, and standard input that fails. Of two files both are opened before one is read.
-const UNREADABLE: [&[&str]; 9] = [
-    &["judge"],
-    &["judge", "@none"],
-    &["judge", "@"],
-    &["check", "@none", "@holds"],
-    &["check", "@trace", "@none"],
-    &["check", "@torn", "@none"],
-    &["check", "@trace", "@"],
-    &["replay", "--unit", "serial", "@none", "@torn"],
-    &["replay", "--unit", "serial", "@torn", "@none"],
+const UNREADABLE: [&str; 9] = [
+    "judge",
+    "judge @none",
+    "judge @",
+    "check @none @holds",
+    "check @trace @none",
+    "check @torn @none",
+    "check @trace @",
+    "replay --unit serial @none @torn",
+    "replay --unit serial @torn @none",
 ];
 
 #[test]
 fn files_that_cannot_be_read(rt: HostRuntime) -> Result<(), Fail> {
-    let folder = folder(&rt, "faults")?;
+    let folder = folder_of(&rt, "faults", &TEXTS)?;
     for arguments in UNREADABLE {
         let ended = ended(&rt, rt.alloc(), folder.as_str(), arguments)?;
         expect(&rt, arguments, &ended, 4, "", "FAULT Read\n");
@@ -134,23 +131,20 @@ fn files_that_cannot_be_read(rt: HostRuntime) -> Result<(), Fail> {
 }
 
 /// Arguments that are refused, and how the refusal begins, whose whole text stands in `test_arguments`.
-const REFUSED: [(&[&str], &str); 6] = [
-    (&["seek"], "error: unrecognized subcommand 'seek'\n"),
-    (&["judge", "--workers", "65"], "error: invalid value '65' "),
-    (&["judge", "a", "b"], "error: unexpected argument 'b' "),
-    (&["check", "a"], "error: the following required arguments "),
+const REFUSED: [(&str, &str); 6] = [
+    ("seek", "error: unrecognized subcommand 'seek'\n"),
+    ("judge --workers 65", "error: invalid value '65' "),
+    ("judge a b", "error: unexpected argument 'b' "),
+    ("check a", "error: the following required arguments "),
+    ("replay a b", "error: the following required arguments "),
     (
-        &["replay", "a", "b"],
-        "error: the following required arguments ",
-    ),
-    (
-        &["replay", "--unit", "buffers", "a", "b"],
+        "replay --unit buffers a b",
         "error: invalid value 'buffers' ",
     ),
 ];
 
 /// Compares how a refusal of these arguments ended.
-fn expect_refusal<H: Abort>(rt: &H, arguments: &[&str], ended: &Ended, start: &str) {
+fn expect_refusal<H: Abort>(rt: &H, arguments: &str, ended: &Ended, start: &str) {
     assert_eq!(rt; ended.status, 2, "{arguments:?}");
     assert_eq!(rt; ended.written.len(), 0, "{arguments:?}");
     assert!(rt; ended.errors.starts_with(start.as_bytes()), "{arguments:?}");
@@ -167,20 +161,20 @@ fn arguments_that_are_refused(rt: HostRuntime) -> Result<(), Fail> {
 
 #[test]
 fn version_is_printed(rt: HostRuntime) -> Result<(), Fail> {
-    let version = ended(&rt, rt.alloc(), "", &["--version"])?;
-    expect(&rt, &["--version"], &version, 0, "tsobench 0.1.0\n", "");
+    let version = ended(&rt, rt.alloc(), "", "--version")?;
+    expect(&rt, "--version", &version, 0, "tsobench 0.1.0\n", "");
     Ok(())
 }
 
 /// Compares how help of judging that these arguments ask for ended.
-fn expect_help<H: Abort>(rt: &H, arguments: &[&str], ended: &Ended) {
+fn expect_help<H: Abort>(rt: &H, arguments: &str, ended: &Ended) {
     let start = b"Judges a trace and prints its report\n\nUsage: ";
     assert_eq!(rt; ended.status, 0, "{arguments:?}");
     assert!(rt; ended.written.starts_with(start), "{arguments:?}");
     assert_eq!(rt; ended.errors.len(), 0, "{arguments:?}");
 }
 
-const HELP: [&[&str]; 3] = [&["judge", "--help"], &["judge", "-h"], &["help", "judge"]];
+const HELP: [&str; 3] = ["judge --help", "judge -h", "help judge"];
 
 #[test]
 fn help_is_printed(rt: HostRuntime) -> Result<(), Fail> {

@@ -207,7 +207,7 @@ fn traces_at_the_limit_of_events(rt: HostRuntime) -> Result<(), Fail> {
     for (count, back, status, report) in LONG {
         let trace = trace_of_loads(rt.alloc(), count, back)?;
         let ended = driven(&rt, rt.alloc(), &[], &mut trace.as_bytes())?;
-        expect(&rt, &[back], &ended, status, report, "");
+        expect(&rt, back, &ended, status, report, "");
     }
     Ok(())
 }
@@ -216,7 +216,7 @@ fn traces_at_the_limit_of_events(rt: HostRuntime) -> Result<(), Fail> {
 fn traces_on_standard_input(rt: HostRuntime) -> Result<(), Fail> {
     for (trace, status, report) in JUDGED {
         let ended = driven(&rt, rt.alloc(), &[], &mut trace.as_bytes())?;
-        expect(&rt, &[trace], &ended, status, report, "");
+        expect(&rt, trace, &ended, status, report, "");
     }
     Ok(())
 }

@@ -93,14 +93,12 @@ fn expect_shown<H: Threads + Wait + Sync + Files + AllocGlobal + Abort>(
     shown: &Shown,
 ) -> Result<(), Fail> {
     let (unit, trigger) = (shown.unit, shown.trigger);
-    let options = ["--unit", unit, "--trigger", trigger];
-    let mut arguments = Vec::from_array(alloc, options)?;
-    arguments.extend_from_slice(&["@program", "@schedule"])?;
-    let ended = replayed(rt, alloc, folder, &arguments)?;
-    expect(rt, &arguments, &ended, 3, shown.report, "");
-    arguments.push("--trace")?;
-    let ended = replayed(rt, alloc, folder, &arguments)?;
-    expect(rt, &arguments, &ended, 0, shown.recorded, "");
+    let arguments = format!(in alloc; "--unit {unit} --trigger {trigger} @program @schedule")?;
+    let ended = replayed(rt, alloc, folder, arguments.as_str())?;
+    expect(rt, unit, &ended, 3, shown.report, "");
+    let arguments = format!(in alloc; "{arguments} --trace")?;
+    let ended = replayed(rt, alloc, folder, arguments.as_str())?;
+    expect(rt, unit, &ended, 0, shown.recorded, "");
     Ok(())
 }
 

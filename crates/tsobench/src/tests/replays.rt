@@ -1,6 +1,6 @@
 //! Replays by the arguments of the command line, with files in a folder of the test's own.
 
-use super::commands::{ended, new_folder, write};
+use super::commands::{ended, folder_of, write};
 use super::{Ended, expect};
 use std::alloc::Global;
 use std::fs;
@@ -23,10 +23,10 @@ const REPORT: &str =
 /// No operation, and what its replay prints.
 const NOTHING: &str = "tso program 1\nend\n";
 
-const NOTHING_REPORT: &str =
+pub(super) const NOTHING_REPORT: &str =
     "TSO REPORT 1\nprocessors 0 events 0 rounds 0\nNO VIOLATION FOUND\naccount loads 0 stores 0 swaps 0 membars 0 drains 0 closed\n";
 
-const NOTHING_RECORDED: &str = "tso trace 1\nend\n";
+pub(super) const NOTHING_RECORDED: &str = "tso trace 1\nend\n";
 
 /// The texts of the folder.
 const TEXTS: [(&str, &str); 7] = [
@@ -43,83 +43,48 @@ const TEXTS: [(&str, &str); 7] = [
 ];
 
 /// The status of a replay with these arguments, and what it prints.
-type Replayed = (&'static [&'static str], u8, &'static str);
+type Replayed = (&'static str, u8, &'static str);
 
 const REPLAYS: [Replayed; 14] = [
-    (&["--unit", "serial", "@program", "@schedule"], 0, REPORT),
-    (&["--unit=serial", "@program", "@others"], 0, REPORT),
+    ("--unit serial @program @schedule", 0, REPORT),
+    ("--unit=serial @program @others", 0, REPORT),
+    ("@program --workers 64 @schedule --unit serial", 0, REPORT),
     (
-        &[
-            "@program",
-            "--workers",
-            "64",
-            "@schedule",
-            "--unit",
-            "serial",
-        ],
+        "--capacity 1 --unit serial --trigger=18446744073709551615 @program @schedule",
         0,
         REPORT,
     ),
+    ("--unit serial --trace @program @schedule", 0, RECORDED),
+    ("--unit serial @program @schedule --trace", 0, RECORDED),
     (
-        &[
-            "--capacity",
-            "1",
-            "--unit",
-            "serial",
-            "--trigger=18446744073709551615",
-            "@program",
-            "@schedule",
-        ],
-        0,
-        REPORT,
-    ),
-    (
-        &["--unit", "serial", "--trace", "@program", "@schedule"],
-        0,
-        RECORDED,
-    ),
-    (
-        &["--unit", "serial", "@program", "@schedule", "--trace"],
-        0,
-        RECORDED,
-    ),
-    (
-        &["--unit", "serial", "@program", "@empty", "--trace"],
+        "--unit serial @program @empty --trace",
         0,
         "tso trace 1\nproc\nst 1 1\nst 2 2\nproc\nld 2 2\nld 1 1\nend\n",
     ),
+    ("--unit serial @nothing @schedule", 0, NOTHING_REPORT),
+    ("--unit serial @nothing @empty", 0, NOTHING_REPORT),
     (
-        &["--unit", "serial", "@nothing", "@schedule"],
-        0,
-        NOTHING_REPORT,
-    ),
-    (
-        &["--unit", "serial", "@nothing", "@empty"],
-        0,
-        NOTHING_REPORT,
-    ),
-    (
-        &["--unit", "serial", "--trace", "@nothing", "@others"],
+        "--unit serial --trace @nothing @others",
         0,
         NOTHING_RECORDED,
     ),
     (
-        &["--unit", "serial", "@torn", "@schedule"],
+        "--unit serial @torn @schedule",
         2,
         "REFUSED MissingEnd line 3\n",
     ),
     (
-        &["--unit", "serial", "@torn", "@sixteen"],
+        "--unit serial @torn @sixteen",
         2,
         "REFUSED MissingEnd line 3\n",
     ),
     (
-        &["--unit", "serial", "@program", "@sixteen"],
+        "--unit serial @program @sixteen",
         2,
         "REFUSED ProcessorRange line 2\n",
     ),
     (
-        &["--unit", "serial", "--trace", "@schedule", "@program"],
+        "--unit serial --trace @schedule @program",
         2,
         "REFUSED BadHeader line 1\n",
     ),
@@ -131,13 +96,13 @@ const BUFFERING_RECORDED: &str = "tso trace 1\nproc\nst 1 1\nld 2 0\nproc\nst 2 
 /// replay_capacity_one
 const SWAPPING_RECORDED: &str = "tso trace 1\nproc\nst 1 1\nst 2 2\nsw 1 1 3\nld 2 2\nend\n";
 
-const SWAPPING_REPORT: &str =
+pub(super) const SWAPPING_REPORT: &str =
     "TSO REPORT 1\nprocessors 1 events 5 rounds 1\nNO VIOLATION FOUND\naccount loads 1 stores 2 swaps 1 membars 0 drains 2 closed\n";
 
 /// replay_forwarded
-const FORWARDED_RECORDED: &str = "tso trace 1\nproc\nst 1 1\nld 1 1\nend\n";
+pub(super) const FORWARDED_RECORDED: &str = "tso trace 1\nproc\nst 1 1\nld 1 1\nend\n";
 
-const FORWARDED_REPORT: &str =
+pub(super) const FORWARDED_REPORT: &str =
     "TSO REPORT 1\nprocessors 1 events 2 rounds 0\nNO VIOLATION FOUND\naccount loads 1 stores 1 swaps 0 membars 0 drains 1 closed\n";
 
 /// Two stores into buffers of one entry, of which the second drains the first, and into larger ones, which neither leaves.
@@ -160,24 +125,18 @@ const BUFFERED_TEXTS: [(&str, &str); 4] = [
 ];
 
 /// Arguments after those that name the unit, and what the replay prints.
-type Buffered = (&'static [&'static str], &'static str);
+type Buffered = (&'static str, &'static str);
 
 const BUFFERED: [Buffered; 8] = [
-    (&["@buffering", "@schedule"], REPORT),
-    (&["--trace", "@buffering", "@schedule"], BUFFERING_RECORDED),
-    (&["--capacity", "1", "@swapping", "@empty"], SWAPPING_REPORT),
+    ("@buffering @schedule", REPORT),
+    ("--trace @buffering @schedule", BUFFERING_RECORDED),
+    ("--capacity 1 @swapping @empty", SWAPPING_REPORT),
+    ("--capacity 1 --trace @swapping @empty", SWAPPING_RECORDED),
+    ("@forwarded @empty", FORWARDED_REPORT),
+    ("--trace @forwarded @empty", FORWARDED_RECORDED),
+    ("--capacity=1 --trace @program @stores_first", RECORDED),
     (
-        &["--capacity", "1", "--trace", "@swapping", "@empty"],
-        SWAPPING_RECORDED,
-    ),
-    (&["@forwarded", "@empty"], FORWARDED_REPORT),
-    (&["--trace", "@forwarded", "@empty"], FORWARDED_RECORDED),
-    (
-        &["--capacity=1", "--trace", "@program", "@stores_first"],
-        RECORDED,
-    ),
-    (
-        &["--capacity=2", "--trace", "@program", "@stores_first"],
+        "--capacity=2 --trace @program @stores_first",
         UNDRAINED_RECORDED,
     ),
 ];
@@ -187,25 +146,15 @@ pub(super) fn replayed<H: Threads + Wait + Sync + Files + AllocGlobal>(
     rt: &H,
     alloc: Global,
     folder: &str,
-    arguments: &[&str],
+    arguments: &str,
 ) -> Result<Ended, Fail> {
-    let mut all = Vec::from_array(alloc, ["replay"])?;
-    all.extend_from_slice(arguments)?;
-    ended(rt, alloc, folder, &all)
+    let all = format!(in alloc; "replay {arguments}")?;
+    ended(rt, alloc, folder, all.as_str())
 }
 
-/// A folder with the texts.
-fn folder(rt: &HostRuntime, test: &str) -> Result<String, Fail> {
-    let path = new_folder(rt, test)?;
-    for (file, text) in TEXTS {
-        write(rt, path.as_str(), file, text)?;
-    }
-    Ok(path)
-}
-
-/// A folder with these and the further ones.
+/// A folder with all texts.
 fn buffered_folder(rt: &HostRuntime) -> Result<String, Fail> {
-    let path = folder(rt, "buffered_replays")?;
+    let path = folder_of(rt, "buffered_replays", &TEXTS)?;
     for (file, text) in BUFFERED_TEXTS {
         write(rt, path.as_str(), file, text)?;
     }
@@ -214,7 +163,7 @@ fn buffered_folder(rt: &HostRuntime) -> Result<String, Fail> {
 
 #[test]
 fn replays(rt: HostRuntime) -> Result<(), Fail> {
-    let folder = folder(&rt, "replays")?;
+    let folder = folder_of(&rt, "replays", &TEXTS)?;
     for (arguments, status, output) in REPLAYS {
         let ended = replayed(&rt, rt.alloc(), folder.as_str(), arguments)?;
         expect(&rt, arguments, &ended, status, output, "");
@@ -223,9 +172,9 @@ fn replays(rt: HostRuntime) -> Result<(), Fail> {
 }
 
 /// Units with store buffers: the lawful one, and a faulty one before its first deviation.
-const BUFFERED_UNITS: [&[&str]; 2] = [
-    &["--unit", "buffer"],
-    &["--unit", "lost-drain", "--trigger", "18446744073709551615"],
+const BUFFERED_UNITS: [&str; 2] = [
+    "--unit buffer",
+    "--unit lost-drain --trigger 18446744073709551615",
 ];
 
 /// Replays on this unit what is replayed on store buffers.
@@ -233,13 +182,12 @@ fn expect_buffered<H: Threads + Wait + Sync + Files + AllocGlobal + Abort>(
     rt: &H,
     alloc: Global,
     folder: &str,
-    unit: &[&str],
+    unit: &str,
 ) -> Result<(), Fail> {
     for (arguments, output) in BUFFERED {
-        let mut all = unit.to_vec(alloc)?;
-        all.extend_from_slice(arguments)?;
-        let ended = replayed(rt, alloc, folder, &all)?;
-        expect(rt, &all, &ended, 0, output, "");
+        let all = format!(in alloc; "{unit} {arguments}")?;
+        let ended = replayed(rt, alloc, folder, all.as_str())?;
+        expect(rt, all.as_str(), &ended, 0, output, "");
     }
     Ok(())
 }

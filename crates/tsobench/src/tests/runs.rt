@@ -1,6 +1,9 @@
 //! Runs with a thread per processor, by the arguments of the command line, with files in a folder of the test's own.
 
-use super::commands::{ended, new_folder, write};
+use super::commands::{ended, folder_of};
+use super::replays::{
+    FORWARDED_RECORDED, FORWARDED_REPORT, NOTHING_RECORDED, NOTHING_REPORT, SWAPPING_REPORT,
+};
 use super::{Ended, expect};
 use std::alloc::Global;
 use std::fs;
@@ -35,128 +38,66 @@ const TEXTS: [(&str, &str); 9] = [
     ),
 ];
 
-/// replay_forwarded: the only run of its program on a lawful unit.
-const FORWARDED: &str =
-    "TSO REPORT 1\nprocessors 1 events 2 rounds 0\nNO VIOLATION FOUND\naccount loads 1 stores 1 swaps 0 membars 0 drains 1 closed\n";
-
-const FORWARDED_RECORDED: &str = "tso trace 1\nproc\nst 1 1\nld 1 1\nend\n";
-
-/// replay_capacity_one: the only run of its program on a lawful unit.
-const SWAPPING: &str =
-    "TSO REPORT 1\nprocessors 1 events 5 rounds 1\nNO VIOLATION FOUND\naccount loads 1 stores 2 swaps 1 membars 0 drains 2 closed\n";
-
-const NOTHING: &str =
-    "TSO REPORT 1\nprocessors 0 events 0 rounds 0\nNO VIOLATION FOUND\naccount loads 0 stores 0 swaps 0 membars 0 drains 0 closed\n";
-
 /// replay_lost_drain: the only run of its program on that unit.
 const LOST: &str =
     "TSO REPORT 1\nprocessors 1 events 2 rounds 0\nVIOLATION\n1 init 1 Init\n2 1 init Own\ncycle init 1\naccount loads 1 stores 1 swaps 0 membars 1 drains 1 closed\n";
 
 /// Arguments of a run, the status that they lead to, what is printed, and the errors.
-type Run = (&'static [&'static str], u8, &'static str, &'static str);
+type Run = (&'static str, u8, &'static str, &'static str);
 
+/// The programs of `replay_forwarded` and `replay_capacity_one` have one run on a lawful unit.
 const RUNS: [Run; 10] = [
+    ("--unit buffer --seed 0 @forwarded", 0, FORWARDED_REPORT, ""),
+    ("--unit serial --seed=7 @forwarded", 0, FORWARDED_REPORT, ""),
     (
-        &["--unit", "buffer", "--seed", "0", "@forwarded"],
+        "@forwarded --seed 18446744073709551615 --unit=buffer --workers 64",
         0,
-        FORWARDED,
+        FORWARDED_REPORT,
         "",
     ),
     (
-        &["--unit", "serial", "--seed=7", "@forwarded"],
-        0,
-        FORWARDED,
-        "",
-    ),
-    (
-        &[
-            "@forwarded",
-            "--seed",
-            "18446744073709551615",
-            "--unit=buffer",
-            "--workers",
-            "64",
-        ],
-        0,
-        FORWARDED,
-        "",
-    ),
-    (
-        &["--trace", "--unit", "buffer", "--seed", "1", "@forwarded"],
+        "--trace --unit buffer --seed 1 @forwarded",
         0,
         FORWARDED_RECORDED,
         "",
     ),
     (
-        &[
-            "--capacity",
-            "1",
-            "--unit",
-            "buffer",
-            "--seed",
-            "2",
-            "@swapping",
-        ],
+        "--capacity 1 --unit buffer --seed 2 @swapping",
         0,
-        SWAPPING,
+        SWAPPING_REPORT,
         "",
     ),
+    ("--unit buffer --seed 3 @nothing", 0, NOTHING_REPORT, ""),
     (
-        &["--unit", "buffer", "--seed", "3", "@nothing"],
+        "--unit serial --seed 3 --trace @nothing",
         0,
-        NOTHING,
+        NOTHING_RECORDED,
         "",
     ),
+    ("--unit lost-drain --seed 4 @drained", 3, LOST, ""),
     (
-        &["--unit", "serial", "--seed", "3", "--trace", "@nothing"],
-        0,
-        "tso trace 1\nend\n",
-        "",
-    ),
-    (
-        &["--unit", "lost-drain", "--seed", "4", "@drained"],
-        3,
-        LOST,
-        "",
-    ),
-    (
-        &["--unit", "buffer", "--seed", "5", "@torn"],
+        "--unit buffer --seed 5 @torn",
         2,
         "REFUSED MissingEnd line 3\n",
         "",
     ),
-    (
-        &["--unit", "buffer", "--seed", "6", "@missing"],
-        4,
-        "",
-        "FAULT Read\n",
-    ),
+    ("--unit buffer --seed 6 @missing", 4, "", "FAULT Read\n"),
 ];
-
-/// A folder with the texts.
-fn folder(rt: &HostRuntime, test: &str) -> Result<String, Fail> {
-    let path = new_folder(rt, test)?;
-    for (file, text) in TEXTS {
-        write(rt, path.as_str(), file, text)?;
-    }
-    Ok(path)
-}
 
 /// What the arguments of a run lead to, of which those that begin with `@` name files of the folder.
 fn ran<H: Threads + Wait + Sync + Files + AllocGlobal>(
     rt: &H,
     alloc: Global,
     folder: &str,
-    arguments: &[&str],
+    arguments: &str,
 ) -> Result<Ended, Fail> {
-    let mut all = Vec::from_array(alloc, ["run"])?;
-    all.extend_from_slice(arguments)?;
-    ended(rt, alloc, folder, &all)
+    let all = format!(in alloc; "run {arguments}")?;
+    ended(rt, alloc, folder, all.as_str())
 }
 
 #[test]
 fn runs_of_one_outcome(rt: HostRuntime) -> Result<(), Fail> {
-    let folder = folder(&rt, "runs")?;
+    let folder = folder_of(&rt, "runs", &TEXTS)?;
     for (arguments, status, output, errors) in RUNS {
         let ended = ran(&rt, rt.alloc(), folder.as_str(), arguments)?;
         expect(&rt, arguments, &ended, status, output, errors);
@@ -173,9 +114,8 @@ fn status_of_run<H: Threads + Wait + Sync + Files + AllocGlobal>(
     file: &str,
     seed: u64,
 ) -> Result<u8, Fail> {
-    let seed = format!(in alloc; "{seed}")?;
-    let arguments = ["--unit", unit, "--seed", seed.as_str(), file];
-    Ok(ran(rt, alloc, folder, &arguments)?.status)
+    let arguments = format!(in alloc; "--unit {unit} --seed {seed} {file}")?;
+    Ok(ran(rt, alloc, folder, arguments.as_str())?.status)
 }
 
 /// How many of the runs with these many seeds end with this status.
@@ -206,7 +146,7 @@ const LAWFUL: [(&str, &str, u64); 4] = [
 
 #[test]
 fn runs_on_lawful_units(rt: HostRuntime) -> Result<(), Fail> {
-    let folder = folder(&rt, "lawful_runs")?;
+    let folder = folder_of(&rt, "lawful_runs", &TEXTS)?;
     for (unit, file, seeds) in LAWFUL {
         let found = count_status(&rt, rt.alloc(), folder.as_str(), (unit, file, seeds), 0)?;
         assert!(rt; found == seeds, "{unit} {file}");
@@ -226,7 +166,7 @@ const FAULTY: [(&str, &str, u64); 6] = [
 
 #[test]
 fn runs_on_faulty_units(rt: HostRuntime) -> Result<(), Fail> {
-    let folder = folder(&rt, "faulty_runs")?;
+    let folder = folder_of(&rt, "faulty_runs", &TEXTS)?;
     for of in FAULTY {
         let caught = count_status(&rt, rt.alloc(), folder.as_str(), of, 3)?;
         assert!(rt; caught > 0, "{of:?}");

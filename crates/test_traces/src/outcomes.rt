@@ -1,0 +1,81 @@
+//! What processors did, a row for each.
+
+use std::alloc::{AllocError, Global};
+use tso_ops::{Order, Outcome, Trace, ValueFault};
+
+/// A load from address `a` that read `r`.
+pub fn ld(a: u16, r: u64) -> Outcome {
+    Outcome::Ld { a, r }
+}
+
+/// A store of `v` to address `a`.
+pub fn st(a: u16, v: u64) -> Outcome {
+    Outcome::St { a, v }
+}
+
+/// A swap at address `a` that read `r` and stored `v`.
+pub fn sw(a: u16, r: u64, v: u64) -> Outcome {
+    Outcome::Sw { a, r, v }
+}
+
+/// A list for each row. The error is that memory ran out.
+pub fn lists_of(alloc: Global, rows: &[&[Outcome]]) -> Result<Vec<Vec<Outcome>>, AllocError> {
+    let mut lists = Vec::new(alloc);
+    for row in rows {
+        lists.push(row.to_vec(alloc)?)?;
+    }
+    Ok(lists)
+}
+
+/// The trace, under this memory model, of processors that did this. The error is that of `Trace::with_order`.
+pub fn trace_of(alloc: Global, order: Order, rows: &[&[Outcome]]) -> Result<Trace, ValueFault> {
+    Trace::with_order(alloc, order, lists_of(alloc, rows)?).map_err(|refused| refused.why)
+}
+
+/// The trace, under TSO and from these first values, of processors that did this. The error is that of
+/// `Trace::with_first`.
+pub fn trace_from(
+    alloc: Global,
+    first: &[(u16, u64)],
+    rows: &[&[Outcome]],
+) -> Result<Trace, ValueFault> {
+    let first = first.to_vec(alloc)?;
+    Trace::with_first(alloc, Order::Tso, first, lists_of(alloc, rows)?).map_err(
+        |refused| refused.why,
+    )
+}
+
+/// Two swaps of one address, of which each read the first value.
+pub const TWO_SWAPS_BOTH_FIRST: [&[Outcome]; 2] = [
+    &[Outcome::Sw { a: 1, r: 0, v: 1 }],
+    &[Outcome::Sw { a: 1, r: 0, v: 2 }],
+];
+
+/// Two processors, each of which stores and then loads what was at the other's address before.
+pub const STORE_BUFFERING: [&[Outcome]; 2] = [
+    &[Outcome::St { a: 1, v: 1 }, Outcome::Ld { a: 2, r: 0 }],
+    &[Outcome::St { a: 2, v: 2 }, Outcome::Ld { a: 1, r: 0 }],
+];
+
+/// Two processors that store, and two that see the stores in different orders.
+pub const INDEPENDENT_READS: [&[Outcome]; 4] = [
+    &[Outcome::St { a: 1, v: 1 }],
+    &[Outcome::St { a: 2, v: 2 }],
+    &[Outcome::Ld { a: 1, r: 1 }, Outcome::Ld { a: 2, r: 0 }],
+    &[Outcome::Ld { a: 2, r: 2 }, Outcome::Ld { a: 1, r: 0 }],
+];
+
+/// The trace of these swaps.
+pub fn two_swaps_both_first(alloc: Global) -> Result<Trace, ValueFault> {
+    trace_of(alloc, Order::Tso, &TWO_SWAPS_BOTH_FIRST)
+}
+
+/// The trace of these stores and loads.
+pub fn store_buffering(alloc: Global) -> Result<Trace, ValueFault> {
+    trace_of(alloc, Order::Tso, &STORE_BUFFERING)
+}
+
+/// The trace of these stores and reads.
+pub fn independent_reads(alloc: Global) -> Result<Trace, ValueFault> {
+    trace_of(alloc, Order::Tso, &INDEPENDENT_READS)
+}
