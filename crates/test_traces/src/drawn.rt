@@ -12,25 +12,31 @@ pub fn next_word(word: u64) -> u64 {
 /// How traces are drawn: their memory model, and whether the addresses 0 and 1 have the first values 8 and 9.
 #[derive(Clone, Copy)]
 pub struct Drawn {
+    /// The memory model.
     pub order: Order,
+    /// Whether there are these first values, or zeros.
     pub has_first: bool,
 }
 
+/// Under total store order, in a memory of zeros.
 pub const UNDER_TSO: Drawn = Drawn {
     order: Order::Tso,
     has_first: false,
 };
 
+/// Under partial store order, in a memory of zeros.
 pub const UNDER_PSO: Drawn = Drawn {
     order: Order::Pso,
     has_first: false,
 };
 
+/// Under total store order, from first values.
 pub const WITH_FIRST_VALUES: Drawn = Drawn {
     order: Order::Tso,
     has_first: true,
 };
 
+/// Under partial store order, from first values.
 pub const UNDER_PSO_WITH_FIRST_VALUES: Drawn = Drawn {
     order: Order::Pso,
     has_first: true,

@@ -6,7 +6,9 @@ use tso_cert::{BaseRule, CertStep, Certificate, InferredRule, NumList, Reason, S
 /// A step of a certificate: the two ends and the rule; for an inferred rule the load and the path too.
 #[derive(Clone, Copy)]
 pub enum Listed {
+    /// By a base rule.
     Base(u64, u64, BaseRule),
+    /// By an inferred rule.
     Inferred(u64, u64, InferredRule, u64, &'static [u64]),
 }
 

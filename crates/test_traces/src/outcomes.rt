@@ -19,7 +19,7 @@ pub fn sw(a: u16, r: u64, v: u64) -> Outcome {
 }
 
 /// A list for each row. The error is that memory ran out.
-pub fn lists_of(alloc: Global, rows: &[&[Outcome]]) -> Result<Vec<Vec<Outcome>>, AllocError> {
+pub fn lists_of<T: Copy>(alloc: Global, rows: &[&[T]]) -> Result<Vec<Vec<T>>, AllocError> {
     let mut lists = Vec::new(alloc);
     for row in rows {
         lists.push(row.to_vec(alloc)?)?;

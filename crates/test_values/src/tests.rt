@@ -4,6 +4,7 @@ use std::alloc::{AllocError, Global};
 use std::fmt::Debug;
 use std::process::Abort;
 use std::test::Fail;
+use test_traces::lists_of;
 use tso_ops::{Event, Op, Outcome, Program, Refused, Source, Tally, Trace, ValueFault};
 
 mod bit_rows;
@@ -36,15 +37,6 @@ where
         lists.push(Vec::new(alloc))?;
     }
     Ok(lists)
-}
-
-/// The lists, on the heap.
-fn lists_of<T: Copy>(alloc: Global, lists: &[&[T]]) -> Result<Vec<Vec<T>>, AllocError> {
-    let mut owned = Vec::new(alloc);
-    for list in lists {
-        owned.push(Vec::from_slice(alloc, list)?)?;
-    }
-    Ok(owned)
 }
 
 fn trace_of(alloc: Global, lists: &[&[Outcome]]) -> Result<Trace, Fail> {

@@ -7,6 +7,7 @@ use std::process::Abort;
 use std::sync::Wait;
 use std::test::Fail;
 use std::thread::Threads;
+use test_traces::lists_of;
 use tso_cert::Certificate;
 use tso_ops::Outcome::{Ld, Sb, St};
 use tso_ops::{Order, Outcome, Trace, ValueFault};
@@ -78,15 +79,6 @@ const WITH_FIRST: [(&[(u16, u64)], Case); 4] = [
         ),
     ),
 ];
-
-/// A list for each processor.
-fn lists_of(alloc: Global, rows: &[&[Outcome]]) -> Result<Vec<Vec<Outcome>>, AllocError> {
-    let mut lists = Vec::new(alloc);
-    for row in rows {
-        lists.push(row.to_vec(alloc)?)?;
-    }
-    Ok(lists)
-}
 
 /// A trace without first values.
 fn made_under(alloc: Global, order: Order, lists: Vec<Vec<Outcome>>) -> Result<Trace, ValueFault> {

@@ -1,9 +1,7 @@
 //! What events are, and how two of them stand to each other.
 
-use super::lists_of;
-use std::alloc::Global;
-use std::process::Abort;
 use std::test::Fail;
+use test_traces::trace_of;
 use tso_ops::Outcome::{Ld, Mb, Sb, St, Sw};
 use tso_ops::{Order, Outcome, Trace};
 
@@ -21,10 +19,6 @@ const DONE: [&[Outcome]; 2] = [
 
 /// Under partial store order: a store, and after an STBAR two stores to another address.
 const STORED: [&[Outcome]; 1] = [&[St { a: 1, v: 1 }, Sb, St { a: 2, v: 2 }, St { a: 2, v: 3 }]];
-
-fn trace_of(alloc: Global, order: Order, lists: &[&[Outcome]]) -> Result<Trace, Fail> {
-    Ok(Trace::with_order(alloc, order, lists_of(alloc, lists)?).map_err(|refused| refused.why)?)
-}
 
 /// What the numbers from 0 on are: an event, a load, a store, an unwritten load.
 const KINDS: [(bool, bool, bool, bool); 8] = [

@@ -1,13 +1,14 @@
 //! Memory models, versions and first values.
 use super::{
     LOAD, MANY, RANGE, REPEATED, Row, ZERO, copies, counts_of, expect, expect_lists,
-    expect_refusal, expect_rows, expect_sources, expect_text, idle, lists_of, lists_of_copies,
-    push_last, refused_trace, trace_of,
+    expect_refusal, expect_rows, expect_sources, expect_text, idle, lists_of_copies, push_last,
+    refused_trace, trace_of,
 };
 use std::alloc::{AllocError, Global};
 use std::fmt::Debug;
 use std::process::Abort;
 use std::test::Fail;
+use test_traces::lists_of;
 use tso_ops::{
     Op, Order, Outcome, Program, Refused, RefusedFirst, Source, Trace, ValueFault, Version,
 };
