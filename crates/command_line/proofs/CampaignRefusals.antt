@@ -9,7 +9,7 @@ use Rattle.clap.specs.Words.{fault_of}
 use Rattle.clap.specs.declared.builder.value_parser.ValueParser.TheVariants as parser
 use Rattle.clap.specs.declared.error.kind.ErrorKind.{ErrorKind}
 use Rattle.clap.specs.declared.error.kind.ErrorKind.TheVariants.{InvalidValue, MissingRequiredArgument, ValueValidation}
-use Rattle.round_pool.specs.Workers.{worker_limit}
+use Rattle.command_line.specs.Workers.{worker_limit}
 use Rattle.command_line.specs.Commands.{UnitNames, asked_at, capacity_rule, trigger_rule, tsobench_app, workers_rule}
 use Rattle.command_line.specs.Options.{AreGiven, AreNamed, IsOneOf, option_value}
 use Rattle.command_line.specs.Refusals.{IsAbove, IsOutside, RefusesValue, TakesNumber, TakesValue}

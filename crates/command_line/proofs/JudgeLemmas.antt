@@ -11,7 +11,7 @@ use Rattle.clap.specs.Walk.{Row, Rule, with_default}
 use Rattle.clap.specs.Words.{fault_of, subcommand_of}
 use Rattle.clap.specs.declared.builder.value_parser.ValueParser.TheVariants as parser
 use Rattle.clap.proofs.OnLiterals.{clap_on_literals}
-use Rattle.round_pool.specs.Workers.{worker_limit}
+use Rattle.command_line.specs.Workers.{worker_limit}
 use Rattle.command_line.specs.Commands.{UnitNames, file_rule, judge_app, tsobench_app, workers_rule}
 use Rattle.command_line.specs.Internal.Computed.{asked_by, judging_by, number_in, within_workers}
 use Rattle.command_line.specs.Options.{AreGiven}

@@ -6,7 +6,7 @@ use Rattle.clap.specs.declared.error.kind.ErrorKind.TheVariants.{UnknownArgument
 use Rattle.clap.specs.Words.{fault_of}
 use Rattle.clap.proofs.OnLiterals.{clap_on_literals}
 use Rattle.command_line.proofs.ValueLemmas.{IsValue}
-use Rattle.round_pool.specs.Workers.{worker_limit}
+use Rattle.command_line.specs.Workers.{worker_limit}
 use Rattle.command_line.specs.Requests.{Text}
 use Rattle.command_line.specs.Commands.{UnitNames, tsobench_app}
 

@@ -11,7 +11,7 @@ use Rattle.clap.specs.Words.{HasKind, Kinds, Row, fault_of, kind_of, one_of, sub
 use Rattle.clap.specs.declared.error.kind.ErrorKind.TheVariants.{DisplayHelp, InvalidSubcommand, OutOfMemory}
 use Rattle.clap.specs.declared.error.Error.{Error}
 use Rattle.clap.proofs.ValueTestLemmas.{accepts-Accepts, Accepts-accepts}
-use Rattle.round_pool.specs.Workers.{worker_limit}
+use Rattle.command_line.specs.Workers.{worker_limit}
 use Rattle.command_line.specs.Requests.{Text, Asked, asked_of, capacity_limit, number_limit, showing}
 use Rattle.command_line.specs.declared.requests.Request.{Request}
 use Rattle.command_line.specs.Commands.{AskCampaign, AskFlag, AskNumber, AskRequired, AskRun, AskShape, AskUnit, AskWorkers, IsAskedBy, IsAskedByMatches, IsAskedFor, UnitNames, asked_at, tsobench_app}

@@ -14,7 +14,7 @@ use Rattle.clap.specs.Walk.{Row, Rule, arg_by_id, arg_by_long, first_of, is_empt
 use Rattle.clap.specs.declared.builder.value_parser.ValueParser.TheVariants as parser
 use Rattle.clap.proofs.OnLiterals.{clap_on_literals}
 use Rattle.clap.proofs.WalkLemmas.{list_any-map}
-use Rattle.round_pool.specs.Workers.{worker_limit}
+use Rattle.command_line.specs.Workers.{worker_limit}
 use Rattle.command_line.specs.Commands.{UnitNames, capacity_rule, number_rule, prints_rule, trigger_rule, unit_rule, workers_rule}
 use Rattle.command_line.specs.Internal.Computed.{flag_in, number_in, run_in, unit_in, within, workers_in}
 use Rattle.command_line.specs.Options.{AsksFlag, AsksNumber, IsOneOf, option_value}

@@ -10,7 +10,7 @@ use Rattle.clap.specs.Walk.{Row, Rule, action_of, arg_by_index, has_row, most_va
 use Rattle.clap.specs.declared.builder.action.ArgAction.TheVariants.{Set}
 use Rattle.clap.specs.declared.builder.value_parser.ValueParser.TheVariants as parser
 use Rattle.clap.specs.declared.error.kind.ErrorKind.TheVariants.{InvalidValue, ValueValidation}
-use Rattle.round_pool.specs.Workers.{worker_limit}
+use Rattle.command_line.specs.Workers.{worker_limit}
 use Rattle.command_line.specs.Commands.{UnitNames, capacity_rule, trigger_rule, workers_rule}
 use Rattle.command_line.specs.Options.{NamesOption}
 use Rattle.command_line.specs.Refusals.{IsOutside, TakesNumber}

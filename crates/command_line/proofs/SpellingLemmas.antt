@@ -16,7 +16,7 @@ use Rattle.command_line.specs.Refusals.{Refuses, RefusesToJudge, RefusesToCheck,
 use Rattle.command_line.specs.Refusals as refuses
 use Rattle.command_line.specs.Commands.{UnitNames, asked_at, tsobench_app}
 use Rattle.command_line.specs.Internal.Computed.{IsFoundBy, asked_by, parsed_as}
-use Rattle.round_pool.specs.Workers.{worker_limit}
+use Rattle.command_line.specs.Workers.{worker_limit}
 use Rattle.command_line.proofs.ValueLemmas.{IsValue, decimal_fails, decimal_is_value, value_is}
 use Rattle.command_line.proofs.ProgramLemmas as program
 use Rattle.command_line.proofs.SubcommandLemmas as subcommand

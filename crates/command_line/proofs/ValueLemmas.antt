@@ -12,7 +12,7 @@ use Rattle.clap.specs.declared.builder.value_parser.ValueParser.TheVariants as p
 use Rattle.clap.proofs.ValueTestLemmas.{accepts-Accepts, Accepts-accepts}
 use Rattle.command_line.specs.Requests.{Text}
 use Rattle.command_line.specs.Options.{is_value}
-use Rattle.round_pool.specs.Workers.{worker_limit}
+use Rattle.command_line.specs.Workers.{worker_limit}
 use Rattle.command_line.specs.Internal.Computed.{number_in, within_workers}
 
 -- an argument that is no option, as a parse sees it

@@ -1,4 +1,5 @@
 pub mod Requests
+pub mod Workers
 pub mod Units
 pub mod Options
 pub mod Spellings

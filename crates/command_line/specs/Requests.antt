@@ -1,6 +1,6 @@
 -- What the arguments of a command line may ask for.
 use Rattle.std.specs.Prelude.{◌≤◌, ◌^◌, ◌-◌, ℕ, List, map, Option, option_map, String, string_bytes}
-use Rattle.round_pool.specs.Workers.{worker_limit}
+use Rattle.command_line.specs.Workers.{worker_limit}
 use Rattle.command_line.specs.declared.requests.Request.{Request}
 use Rattle.command_line.specs.declared.options.CampaignOptions.{CampaignOptions}
 use Rattle.command_line.specs.declared.options.RunOptions.{RunOptions}

@@ -5,10 +5,9 @@ ghost use Rattle.clap.specs.declared.builder.command.Command.TheViews.{out-Comma
 ghost use Rattle.command_line.specs.Commands.{capacity_rule, prints_rule, required_rule, run_rules, shape_rules, trigger_rule, unit_rule, unit_rules, with_rules, workers_rule};
 
 use crate::help;
-use crate::options::MAX_CAPACITY;
+use crate::options::{MAX_CAPACITY, MAX_WORKERS};
 use clap::builder::ValueParser;
 use clap::{Arg, ArgAction, Command, value_parser};
-use round_pool::MAX_WORKERS;
 use std::alloc::{AllocError, Global};
 
 /// The number of workers where none is named.

@@ -2,16 +2,16 @@
 ghost use Rattle.std.specs.Prelude.{◌≡◌, ◌≤◌};
 ghost use Rattle.clap.specs.Words.{found_of, rows_of, subcommand_rows_of};
 ghost use Rattle.command_line.specs.Requests.{HasUnitRanges, HasWorkers, asked_of};
-ghost use Rattle.round_pool.specs.Workers.{worker_limit};
+ghost use Rattle.command_line.specs.Workers.{worker_limit};
 ghost use Rattle.command_line.specs.Commands.{checking_by};
 ghost use Rattle.command_line.specs.Internal.Computed.{asked_by, campaigning_by, capacity_in, judging_by, making_by, replaying_by, required_in, run_in, running_by, shape_in, trigger_in, unit_in, workers_in};
 
 use crate::options::{
-    CampaignOptions, MAX_CAPACITY, RunOptions, ShapeNumbers, UnitKind, UnitOptions, kind_named,
+    CampaignOptions, MAX_CAPACITY, MAX_WORKERS, RunOptions, ShapeNumbers, UnitKind, UnitOptions,
+    kind_named,
 };
 use crate::requests::Request;
 use clap::ArgMatches;
-use round_pool::MAX_WORKERS;
 
 /// What the matches ask for: without a subcommand, to judge standard input with one worker.
 pub(crate) fn request<'a>(matches: &ArgMatches<'a>) -> Request<'a>

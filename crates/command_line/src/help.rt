@@ -1,7 +1,6 @@
 //! The texts of `--help` after the list of arguments.
 
-use crate::options::MAX_CAPACITY;
-use round_pool::MAX_WORKERS;
+use crate::options::{MAX_CAPACITY, MAX_WORKERS};
 
 /// What the program is for.
 pub(crate) const ABOUT: &str =

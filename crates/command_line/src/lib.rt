@@ -10,5 +10,7 @@ mod help;
 mod options;
 mod requests;
 
-pub use options::{CampaignOptions, MAX_CAPACITY, RunOptions, ShapeNumbers, UnitKind, UnitOptions};
+pub use options::{
+    CampaignOptions, MAX_CAPACITY, MAX_WORKERS, RunOptions, ShapeNumbers, UnitKind, UnitOptions,
+};
 pub use requests::{Request, read_arguments};

@@ -4,6 +4,9 @@ ghost use Rattle.command_line.specs.Units.{unit_kind};
 
 use unit_faulty::FaultKind;
 
+/// The greatest number of workers.
+pub const MAX_WORKERS: usize = 64;
+
 /// The greatest capacity of a unit's store buffers, in entries.
 pub const MAX_CAPACITY: usize = 64;
 

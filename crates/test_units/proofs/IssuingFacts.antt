@@ -18,7 +18,7 @@ pub Issues-none : (u : UnitValue) (p : ℕ) → Issues u u p []
 Issues-none u p = record {
   own = sym (append-nil (map op_of (outcomes_of p u.steps)));
   others = λ q other. refl;
-  kept = record { lawful = refl; order = refl; first = refl };
+  kept = record { design = refl; lawful = refl; order = refl; first = refl };
 }
 
 -- one operation more

@@ -1,7 +1,7 @@
 ghost use Rattle.std.specs.Prelude.{◌≡◌, [], ◌∷◌, false, IfOk, length, replicate};
 ghost use Rattle.tso_ops.specs.declared.settings.Order.TheVariants.{Tso};
 ghost use Rattle.unit_core.specs.Units.{new_unit};
-ghost use Rattle.test_units.specs.Inventing.{inventing_unit};
+ghost use Rattle.test_units.specs.Inventing.{inventing_design, inventing_unit};
 
 use std::alloc::Global;
 use std::marker::Model;
@@ -34,7 +34,7 @@ impl Model for InventingUnit {
 impl InventingUnit {
     /// A unit that has taken no step, or OutOfMemory where an allocation was refused.
     pub fn new(alloc: Global) -> Result<InventingUnit, OutOfMemory>
-        ensures { IfOk result (λ u. inventing_unit u ≡ new_unit false Tso) }
+        ensures { IfOk result (λ u. inventing_unit u ≡ new_unit inventing_design false Tso) }
     {
         Ok(InventingUnit {
             first: vec![in alloc; 0; 256]?,

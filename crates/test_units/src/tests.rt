@@ -5,8 +5,11 @@ mod buffered;
 mod by_hand;
 mod calls;
 mod desks;
+mod drains;
 mod drawn;
 mod ends;
+mod gates;
+mod held;
 mod replayed;
 mod runs;
 

@@ -3,6 +3,7 @@
 //! A program or a trace keeps its limits: whoever holds one needs no check of its own. `README.md` says what is proved.
 #![tactic(auto)]
 
+pub use acts::Act;
 pub use drawing::make_program;
 pub use events::{Event, Source};
 pub use faults::{OutOfMemory, Refused, RefusedFirst, ValueFault};
@@ -13,6 +14,7 @@ pub use settings::{Order, Version};
 pub use shapes::Shape;
 pub use traces::Trace;
 
+mod acts;
 mod checks;
 mod comparing;
 mod drawing;

@@ -12,7 +12,7 @@ use Rattle.tso_ops.specs.Settings.{plain}
 use Rattle.tso_ops.specs.Limits.{has_fault, is_stbar_in_tso, fault_number, IsFaultless, IsFirstFault as IsFirstOfOp}
 use Rattle.tso_ops.specs.Tally.{IsAdmitRefusal as IsOpRefusedFor}
 use Rattle.tso_ops.specs.Values.{op_of}
-use Rattle.tso_text.specs.declared.acts.Act.{Act}
+use Rattle.tso_ops.specs.declared.acts.Act.{Act}
 use Rattle.tso_text.specs.declared.faults.Why.{Why}
 use Rattle.tso_text.specs.declared.faults.Why.TheVariants.{BadHeader, BadLine, BadNumber, BeforeProc, TooManyProcessors, TooManyEvents, AddressRange, ZeroValue, RepeatedValue, MissingEnd, AfterEnd, TooLong, ProcessorRange, OutOfMemory}
 use Rattle.tso_text.specs.Grammars.{op_fault, outcome_fault, plain_fault, act_fault, processor_of}

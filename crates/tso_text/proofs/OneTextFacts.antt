@@ -12,8 +12,8 @@ use Rattle.tso_ops.specs.declared.ops.Outcome.{Outcome}
 use Rattle.tso_ops.specs.declared.ops.Outcome.TheVariants.{Ld, St, Sw, Mb}
 use Rattle.tso_ops.specs.Limits.{address_of}
 use Rattle.tso_ops.specs.Values.{TraceValue, ProgramValue, op_of}
-use Rattle.tso_text.specs.declared.acts.Act.{Act}
-use Rattle.tso_text.specs.declared.acts.Act.TheVariants.{Issue, Drain}
+use Rattle.tso_ops.specs.declared.acts.Act.{Act}
+use Rattle.tso_ops.specs.declared.acts.Act.TheVariants.{Issue, Drain}
 use Rattle.tso_text.specs.declared.faults.Why.{Why}
 use Rattle.tso_text.specs.declared.faults.Why.TheVariants.{AddressRange}
 use Rattle.tso_text.specs.declared.lines.Line.{Line}

@@ -1,7 +1,7 @@
 -- Lemmas on printing: one more line, and one more processor.
 use Rattle.std.proofs.Common.{◌≡◌, ℕ, ◌+◌, ◌<◌, ◌≤◌, List, [], ◌∷◌, ◌++◌, length, get_or, take, Result, Ok, Err, refl, ap, sym, ◌∙◌, arith, append_assoc}
 use Rattle.tso_ops.specs.Values.{TraceValue, ProgramValue}
-use Rattle.tso_text.specs.declared.acts.Act.{Act}
+use Rattle.tso_ops.specs.declared.acts.Act.{Act}
 use Rattle.std.specs.List.{flat_map}
 use Rattle.std.specs.Result.{OnOk}
 use Rattle.std.proofs.lemmas.List.{append-nil, take_all}

@@ -17,8 +17,8 @@ use Rattle.tso_ops.specs.Settings.{plain}
 use Rattle.tso_ops.specs.Limits.{KeepsLimits, IsProgram, IsTrace, address_of, stored_by, is_stbar_in_tso}
 use Rattle.tso_ops.specs.Values.{TraceValue, ProgramValue, ReadFits, op_of}
 use Rattle.tso_ops.proofs.RefusalFacts.{each-middle, kept_faultless, kept_address, kept_value, kept_few}
-use Rattle.tso_text.specs.declared.acts.Act.{Act}
-use Rattle.tso_text.specs.declared.acts.Act.TheVariants.{Issue, Drain}
+use Rattle.tso_ops.specs.declared.acts.Act.{Act}
+use Rattle.tso_ops.specs.declared.acts.Act.TheVariants.{Issue, Drain}
 use Rattle.tso_text.specs.declared.lines.Line.{Line}
 use Rattle.tso_text.specs.declared.lines.Line.TheVariants.{Proc, Item, End}
 use Rattle.tso_text.specs.Grammars.{trace_grammar, program_grammar, schedule_grammar, trace_line, program_line, schedule_line, trace_header, program_header, outcome_fault, plain_fault, processor_of, address, SpellsTrace, SpellsProgram, SpellsSchedule}

@@ -10,8 +10,8 @@ use Rattle.tso_ops.specs.declared.faults.ValueFault.TheVariants.{TooManyEvents a
 use Rattle.tso_ops.specs.Settings.{plain}
 use Rattle.tso_ops.specs.Values.{TraceValue, ProgramValue, op_of}
 use Rattle.tso_ops.specs.Limits.{has_fault}
-use Rattle.tso_text.specs.declared.acts.Act.{Act}
-use Rattle.tso_text.specs.declared.acts.Act.TheVariants.{Issue, Drain}
+use Rattle.tso_ops.specs.declared.acts.Act.{Act}
+use Rattle.tso_ops.specs.declared.acts.Act.TheVariants.{Issue, Drain}
 use Rattle.tso_text.specs.declared.faults.Why.{Why}
 use Rattle.tso_text.specs.declared.faults.Why.TheVariants.{BadLine, TooManyEvents, AddressRange, ZeroValue, RepeatedValue, ProcessorRange}
 use Rattle.tso_text.specs.declared.lines.Line.{Line}

@@ -8,8 +8,8 @@ use Rattle.tso_ops.specs.declared.ops.Op.TheVariants.{Ld as OpLd, St as OpSt, Sw
 use Rattle.tso_ops.specs.declared.ops.Outcome.{Outcome}
 use Rattle.tso_ops.specs.declared.ops.Outcome.TheVariants.{Ld, St, Sw, Mb, Sb}
 use Rattle.tso_ops.specs.Values.{TraceValue, ProgramValue}
-use Rattle.tso_text.specs.declared.acts.Act.{Act}
-use Rattle.tso_text.specs.declared.acts.Act.TheVariants.{Issue, Drain}
+use Rattle.tso_ops.specs.declared.acts.Act.{Act}
+use Rattle.tso_ops.specs.declared.acts.Act.TheVariants.{Issue, Drain}
 use Rattle.tso_text.specs.Grammars.{trace_header, program_header, schedule_header}
 
 abbrev pub outcome_pieces : Outcome → List (List ℕ)

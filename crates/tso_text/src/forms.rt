@@ -13,13 +13,12 @@ ghost use Rattle.tso_text.specs.Spelling.{Grammar, said, items_of};
 ghost use Rattle.tso_text.specs.Internal.Accepted.{IsItemRefusedFor, why_of};
 ghost use Rattle.tso_text.specs.declared.faults.Why.{Why};
 
-use crate::acts::Act;
 use crate::faults::Why;
 use crate::lines::Line;
 use crate::numbers::{address, no_number, one_number, three_numbers, two_numbers};
 use line_text::next_piece;
 use std::alloc::{AllocError, Global};
-use tso_ops::{Op, Outcome, Tally, ValueFault};
+use tso_ops::{Act, Op, Outcome, Tally, ValueFault};
 
 /// The greatest processor that a schedule may name.
 const MAX_PROCESSOR: usize = 15;

@@ -7,7 +7,7 @@ ghost use Rattle.tso_ops.specs.Values.{TraceValue, ProgramValue};
 ghost use Rattle.tso_text.specs.Grammars.{processor_of, SpellsTrace, SpellsProgram, SpellsSchedule, IsTraceRefusal, IsProgramRefusal, IsScheduleRefusal, IsSpelledTrace, IsRefusedTrace, IsSpelledProgram, IsRefusedProgram, IsSpelledSchedule, IsRefusedSchedule};
 ghost use Rattle.tso_text.specs.Printed.{trace_text, program_text, schedule_text};
 ghost use Rattle.tso_text.specs.Spelling.{text_byte_limit};
-ghost use Rattle.tso_text.specs.declared.acts.Act.{Act};
+ghost use Rattle.tso_ops.specs.declared.acts.Act.{Act};
 ghost use Rattle.tso_text.specs.declared.faults.Why.{Why};
 
 /// Each text spells a trace or is refused, never both; it spells one trace, and gets one refusal;

@@ -4,11 +4,10 @@ ghost use Rattle.tso_text.specs.Grammars.{processor_of, SpellsTrace, SpellsProgr
 ghost use Rattle.tso_text.specs.Printed.{items_text, processor_text, trace_text, program_text, schedule_text};
 ghost use Rattle.tso_text.specs.Spelling.{text_byte_limit};
 
-use crate::acts::Act;
 use crate::forms::Form;
 use std::alloc::Global;
 use std::fmt::Write;
-use tso_ops::{OutOfMemory, Program, Trace};
+use tso_ops::{Act, OutOfMemory, Program, Trace};
 
 /// The text of a trace. It spells a trace of version 1 under TSO: there are no texts of others yet. OutOfMemory where an
 /// allocation was refused.

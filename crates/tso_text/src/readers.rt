@@ -4,16 +4,15 @@ ghost use Rattle.tso_ops.specs.Values.{TraceValue, ProgramValue, rows};
 ghost use Rattle.tso_text.specs.Grammars.{SpellsTrace, SpellsProgram, SpellsSchedule, IsTraceRefusal, IsProgramRefusal, IsScheduleRefusal};
 ghost use Rattle.tso_text.specs.Spelling.{text_byte_limit, SpellsLists, IsTextRefusal};
 ghost use Rattle.tso_text.specs.Internal.Accepted.{IsKept};
-ghost use Rattle.tso_text.specs.declared.acts.Act.{Act};
+ghost use Rattle.tso_ops.specs.declared.acts.Act.{Act};
 ghost use Rattle.tso_text.specs.declared.faults.Why.{Why};
 
-use crate::acts::Act;
 use crate::faults::{TextFault, Why};
 use crate::forms::Form;
 use crate::lines::next_line;
 use crate::readings::Reading;
 use std::alloc::Global;
-use tso_ops::{Program, Trace};
+use tso_ops::{Act, Program, Trace};
 
 /// The greatest number of bytes of the text of a trace, a program or a schedule.
 pub const MAX_TEXT_BYTES: usize = 1_048_576;

@@ -49,10 +49,6 @@ pub map_replicate : {X Y : Type 0} (f : X → Y) (n : ℕ) (x : X) → map f (re
 map_replicate f zero x = refl
 map_replicate f (suc n) x = ap (λ rest. f x ∷ rest) (map_replicate f n x)
 
--- so many of one unit
-pub made : {X : Type 0} (f : X → UnitValue) (xs : List X) (n : ℕ) (x : X) (u : UnitValue) → xs ≡ replicate n x → f x ≡ u → map f xs ≡ replicate n u
-made f xs n x u are is = ap (map f) are ∙ map_replicate f n x ∙ ap (replicate n) is
-
 untouched_unit : (kind : UnitKind) (capacity trigger : ℕ) → (unit_of_kind kind capacity trigger).steps ≡ []
 untouched_unit Serial capacity trigger = refl
 untouched_unit Buffer capacity trigger = refl

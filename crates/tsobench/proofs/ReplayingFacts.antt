@@ -4,7 +4,7 @@ use Rattle.std.specs.Prelude.{◌≢◌, OnOk, Option}
 use Rattle.std.specs.Io.KnownBytes.{Keeps}
 use Rattle.command_line.specs.declared.options.RunOptions.{RunOptions}
 use Rattle.tso_ops.specs.Values.{ProgramValue}
-use Rattle.tso_text.specs.declared.acts.Act.{Act}
+use Rattle.tso_ops.specs.declared.acts.Act.{Act}
 use Rattle.tso_text.specs.declared.faults.Why.{Why}
 use Rattle.tso_text.specs.Grammars.{IsProgramRefusal, IsScheduleRefusal, SpellsProgram, SpellsSchedule, program_grammar, schedule_grammar}
 use Rattle.tso_report.specs.declared.verdicts.Verdict.{Verdict}

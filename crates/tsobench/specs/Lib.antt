@@ -1,3 +1,4 @@
+pub mod BenchUnits
 pub mod Drawn
 pub mod Endings
 pub mod Internal

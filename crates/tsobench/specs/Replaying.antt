@@ -1,7 +1,7 @@
 -- What the program prints of a replay.
 use Rattle.std.specs.Prelude.{◌⊎◌, ℕ, List, Option, Ok}
 use Rattle.tso_ops.specs.Values.{ProgramValue}
-use Rattle.tso_text.specs.declared.acts.Act.{Act}
+use Rattle.tso_ops.specs.declared.acts.Act.{Act}
 use Rattle.tso_text.specs.Grammars.{IsProgramRefusal, IsScheduleRefusal, SpellsProgram, SpellsSchedule}
 use Rattle.command_line.specs.declared.options.RunOptions.{RunOptions}
 use Rattle.unit_core.specs.declared.accounts.Account.{Account}

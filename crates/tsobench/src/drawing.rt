@@ -4,15 +4,13 @@ ghost use Rattle.command_line.specs.Requests.{capacity_limit};
 ghost use Rattle.tso_ops.specs.Drawing.{IsShape};
 ghost use Rattle.tso_report.specs.Limits.{worker_limit};
 ghost use Rattle.tsobench.specs.Drawn.{AreSeeds, IsCampaignText, IsDrawnOf, IsMadeText, LeavesCampaignText, LeavesMadeText, asked_shape};
-ghost use Rattle.unit_faulty.specs.Faulty.{new_faulty};
-ghost use Rattle.unit_kinds.specs.Buffer.{new_store_buffer};
-ghost use Rattle.unit_kinds.specs.Serial.{new_serial};
 ghost use Rattle.tsobench.specs.Endings.{WritesText};
 ghost use Rattle.tsobench.specs.Printing.{unit_of};
 
 use crate::endings::{DONE, REFUSED, status_of};
 use crate::printing::Printed;
-use command_line::{CampaignOptions, ShapeNumbers, UnitKind, UnitOptions};
+use crate::units::make_units;
+use command_line::{CampaignOptions, ShapeNumbers};
 use std::alloc::Global;
 use std::io::Write;
 use std::sync::Wait;
@@ -21,8 +19,6 @@ use tso_ops::{OutOfMemory, Shape};
 use tso_report::{Drawn, Fault, MAX_SEEDS, campaign_over, seeded_program, write_text};
 use tso_text::print_program;
 use unit_core::MemoryUnit;
-use unit_faulty::{FaultKind, FaultyUnit};
-use unit_kinds::{SerialUnit, StoreBufferUnit};
 
 /// Writes the program that a seed draws in this shape: the status.
 pub(crate) fn make<W: Write>(
@@ -130,67 +126,8 @@ fn campaign_over_drawn<H: Threads + Wait + Sync + AllocGlobal, W: Write>(
     ensures text { IfOk result (WritesText (IsCampaignText options.now) (W.contents writer.old) (W.contents writer.new)) }
     ensures fault { IfErr result (LeavesCampaignText options.now (W.contents writer.old) (W.contents writer.new)) }
 {
-    let alloc = rt.alloc();
-    let count = options.count;
-    match options.unit.kind {
-        UnitKind::Serial => {
-            let units = serial_units(alloc, count)?;
-            campaign_on(rt, options, drawn, units, writer)
-        }
-        UnitKind::Buffer => {
-            let units = buffer_units(alloc, count, options.unit.capacity)?;
-            campaign_on(rt, options, drawn, units, writer)
-        }
-        UnitKind::Faulty(kind) => {
-            let units = faulty_units(alloc, count, kind, options.unit)?;
-            campaign_on(rt, options, drawn, units, writer)
-        }
-    }
-}
-
-/// So many serial units.
-fn serial_units(alloc: Global, count: u64) -> Result<Vec<SerialUnit>, OutOfMemory>
-    ensures { IfOk result (λ units. units.items ≡ replicate count new_serial) }
-{
-    let mut units = Vec::new(alloc);
-    for _ in 0..count {
-        units.push(SerialUnit::new(alloc)?)?;
-    }
-    Ok(units)
-}
-
-/// So many store-buffer units of this capacity.
-fn buffer_units(
-    alloc: Global,
-    count: u64,
-    capacity: usize,
-) -> Result<Vec<StoreBufferUnit>, OutOfMemory>
-    requires { (1 ≤ capacity) × (capacity ≤ capacity_limit) }
-    ensures { IfOk result (λ units. units.items ≡ replicate count (new_store_buffer capacity)) }
-{
-    let mut units = Vec::new(alloc);
-    for _ in 0..count {
-        units.push(StoreBufferUnit::new(alloc, capacity)?)?;
-    }
-    Ok(units)
-}
-
-/// So many faulty units of this kind, with the trigger and the capacity of these options.
-fn faulty_units(
-    alloc: Global,
-    count: u64,
-    kind: FaultKind,
-    options: UnitOptions,
-) -> Result<Vec<FaultyUnit>, OutOfMemory>
-    requires capacity { (1 ≤ options.capacity) × (options.capacity ≤ capacity_limit) }
-    requires trigger { 1 ≤ options.trigger }
-    ensures { IfOk result (λ units. units.items ≡ replicate count (new_faulty kind options.trigger options.capacity)) }
-{
-    let mut units = Vec::new(alloc);
-    for _ in 0..count {
-        units.push(FaultyUnit::new(alloc, kind, options.trigger, options.capacity)?)?;
-    }
-    Ok(units)
+    let units = make_units(rt.alloc(), options.unit, options.count)?;
+    campaign_on(rt, options, drawn, units, writer)
 }
 
 /// Runs the campaign over units, each of which is as the options ask for, and writes its text: the status.

@@ -4,10 +4,10 @@ ghost use Rattle.std.specs.Fmt.{decimal};
 ghost use Rattle.std.specs.Io.KnownBytes.{Keeps};
 ghost use Rattle.tso_report.specs.Streams.{AppendsPrefix};
 ghost use Rattle.tsobench.specs.Endings.{WritesFaultLine};
-ghost use Rattle.tsobench.specs.Internal.Runs.{EndsSo};
+ghost use Rattle.tsobench.specs.Internal.Runs.{WritesFailureLine};
 ghost use Rattle.tsobench.specs.Statuses.{status_of};
 
-use crate::running::RunEnd;
+use crate::failures::RunFailure;
 use itoa::Buffer;
 use std::io::Write;
 use tso_report::{Fault, Verdict, write_text};
@@ -43,21 +43,22 @@ pub(crate) fn end_with<E: Write>(outcome: Result<u8, Fault>, errors: &mut E) -> 
     }
 }
 
-/// The status of what a run printed; or that of a fault, or of a run without a record, whose line it writes.
-pub(crate) fn end_run<E: Write>(outcome: Result<RunEnd<u8>, Fault>, errors: &mut E) -> u8
-    ensures { EndsSo outcome (E.contents errors.old) (E.contents errors.new) result }
+/// This status; or that of a run that failed, whose line it writes.
+pub(crate) fn end_run<E: Write>(outcome: Result<u8, RunFailure>, errors: &mut E) -> u8
+    ensures status { IfOk outcome (λ status. (result ≡ status) × Keeps (E.contents errors.old) (E.contents errors.new)) }
+    ensures failure { IfErr outcome (λ failure. WritesFailureLine (E.contents errors.old) (E.contents errors.new) failure × (result ≡ 4)) }
 {
     match outcome {
-        Ok(RunEnd::Printed(status)) => status,
-        Ok(RunEnd::Torn { p }) => {
+        Ok(status) => status,
+        Err(RunFailure::Fault(fault)) => end_by(fault, errors),
+        Err(RunFailure::Torn { p }) => {
             let _ = write_numbered(errors, b"FAULT Torn ", p as u64);
             FAULT
         }
-        Ok(RunEnd::OtherProgram) => {
+        Err(RunFailure::OtherProgram) => {
             let _ = write_text(errors, b"FAULT OtherProgram\n");
             FAULT
         }
-        Err(fault) => end_by(fault, errors),
     }
 }
 

@@ -11,6 +11,7 @@ use std::{env, io};
 mod drawing;
 mod driving;
 mod endings;
+mod failures;
 mod files;
 mod printing;
 mod replaying;
@@ -18,6 +19,7 @@ mod running;
 mod serving;
 #[cfg(test)]
 mod tests;
+mod units;
 
 fn main(rt: HostRuntime) -> ExitCode {
     let mut errors = rt.stderr();

@@ -11,7 +11,8 @@ ghost use Rattle.tsobench.specs.Replaying.{IsReplayOf, IsReplayText, IsScheduled
 
 use crate::files::{NamedFiles, open};
 use crate::printing::{Printed, print_record, print_refusal};
-use command_line::{RunOptions, UnitKind};
+use crate::units::make_unit;
+use command_line::RunOptions;
 use std::io::{Read, Write};
 use std::sync::Wait;
 use std::thread::Threads;
@@ -19,8 +20,6 @@ use tso_ops::Program;
 use tso_report::{Fault, read_all, write_text};
 use tso_text::{Act, MAX_TEXT_BYTES, read_program, read_schedule};
 use unit_core::{Account, MemoryUnit, replay};
-use unit_faulty::FaultyUnit;
-use unit_kinds::{SerialUnit, StoreBufferUnit};
 
 /// Replays the program in one file by the schedule in another, and writes what the options ask for: the status. Both
 /// are opened before one is read.
@@ -106,20 +105,8 @@ fn replay_by<H: Threads + Wait + AllocGlobal>(
     ensures fault { IfErr result (λ fault. (fault ≡ Fault.OutOfMemory) ⊎ (fault ≡ Fault.NoThread)) }
 {
     let alloc = rt.alloc();
-    match options.unit.kind {
-        UnitKind::Serial => {
-            let unit = SerialUnit::new(alloc)?;
-            replay_on(rt, Box::new(alloc, unit)?, options, program, schedule)
-        }
-        UnitKind::Buffer => {
-            let unit = StoreBufferUnit::new(alloc, options.unit.capacity)?;
-            replay_on(rt, Box::new(alloc, unit)?, options, program, schedule)
-        }
-        UnitKind::Faulty(kind) => {
-            let unit = FaultyUnit::new(alloc, kind, options.unit.trigger, options.unit.capacity)?;
-            replay_on(rt, Box::new(alloc, unit)?, options, program, schedule)
-        }
-    }
+    let unit = make_unit(alloc, options.unit)?;
+    replay_on(rt, Box::new(alloc, unit)?, options, program, schedule)
 }
 
 /// What is printed of a replay on this unit, which is as the options ask for.

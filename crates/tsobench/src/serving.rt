@@ -19,7 +19,10 @@ use std::alloc::Global;
 use std::io::{Read, Write};
 use std::sync::Wait;
 use std::thread::Threads;
-use tso_report::{Fault, Verdict, check_texts, judge, write_text};
+use tso_report::{Fault, MAX_WORKERS, Verdict, check_texts, judge, write_text};
+
+/// The command line lets just those numbers of workers through that a trace is judged with.
+const _: () = prove!(command_line::MAX_WORKERS == MAX_WORKERS);
 
 /// Does what a request asks for, and answers the status that the program ends with.
 ///

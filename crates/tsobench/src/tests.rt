@@ -1,9 +1,11 @@
+mod boxed_campaigns;
 mod campaign_units;
 mod campaigns;
 mod certificates;
 mod commands;
 mod drawn;
 mod examples;
+mod failures;
 mod faults;
 mod made;
 mod meeting;

@@ -2,7 +2,7 @@
 use Rattle.std.proofs.Common.{◌≡◌, ◌∙◌, sym, ap, refl, subst, ℕ, inl, inr, true, List, [], ◌++◌, length, append_assoc, replicate, arith}
 use Rattle.std.proofs.lemmas.Bool.{cases_lt}
 use Rattle.tso_ops.specs.Values.{ProgramValue}
-use Rattle.tso_text.specs.declared.acts.Act.{Act}
+use Rattle.tso_ops.specs.declared.acts.Act.{Act}
 use Rattle.unit_core.specs.Internal.Replays.{FollowsActs, left_from}
 use Rattle.unit_core.specs.Machine.{State, IsRunFrom, after, buffer_of, first_state}
 use Rattle.unit_core.specs.Records.{AreOpsOf, EmptiesBelow}

@@ -26,6 +26,7 @@ AreDrains-append least p past (x ∷ xs) ys low high first second = (
 
 pub KeepsMachine-then : (a b c : UnitValue) → KeepsMachine a b → KeepsMachine b c → KeepsMachine a c
 KeepsMachine-then a b c first second = record {
+  design = second.design ∙ first.design;
   lawful = second.lawful ∙ first.lawful;
   order = second.order ∙ first.order;
   first = second.first ∙ first.first;
@@ -36,7 +37,7 @@ TakesDrains-none u least past = record {
   drained = [];
   steps = sym (append-nil u.steps);
   drains = tt;
-  kept = record { lawful = refl; order = refl; first = refl };
+  kept = record { design = refl; lawful = refl; order = refl; first = refl };
 }
 
 pub TakesDrains-wider : (old new : UnitValue) (past more : ℕ) → past ≤ more → TakesDrains old new 0 past → TakesDrains old new 0 more

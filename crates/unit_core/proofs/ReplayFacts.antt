@@ -8,8 +8,8 @@ use Rattle.std.proofs.lemmas.Option.{slice_get_within, slice_get-get_or}
 use Rattle.tso_ops.specs.declared.ops.Op.{Op}
 use Rattle.tso_ops.specs.declared.ops.Outcome.{Outcome}
 use Rattle.tso_ops.specs.Values.{ProgramValue, op_of, ops_at}
-use Rattle.tso_text.specs.declared.acts.Act.{Act}
-use Rattle.tso_text.specs.declared.acts.Act.TheVariants.{Issue, Drain}
+use Rattle.tso_ops.specs.declared.acts.Act.{Act}
+use Rattle.tso_ops.specs.declared.acts.Act.TheVariants.{Issue, Drain}
 use Rattle.unit_core.specs.declared.steps.Step.{Step}
 use Rattle.unit_core.specs.Issues.{step_of}
 use Rattle.unit_core.specs.Machine.{State, Entry, after, buffer_of, first_state, outcomes_of}
@@ -87,7 +87,7 @@ pub FollowsActs-none : (program : ProgramValue) (issued : List ℕ) (u : UnitVal
 FollowsActs-none program issued u = record {
   taken = [];
   steps = sym (append-nil u.steps);
-  kept = record { lawful = refl; order = refl; first = refl };
+  kept = record { design = refl; lawful = refl; order = refl; first = refl };
   pieces = λ lawful. (refl, refl);
 }
 
@@ -113,7 +113,7 @@ FollowsActs-no_step : (program : ProgramValue) (act : Act) (issued : List ℕ) (
 FollowsActs-no_step program act issued u is = record {
   taken = [];
   steps = sym (append-nil u.steps);
-  kept = record { lawful = refl; order = refl; first = refl };
+  kept = record { design = refl; lawful = refl; order = refl; first = refl };
   pieces = λ lawful.
       let left = left_from 0 issued program.lists in pieces-one (after (first_state u.first) u.steps) left act [] left (is lawful);
 }
@@ -257,7 +257,7 @@ HasIssued-drain program issued p false old new answer so_far = subst (HasIssued 
 
 pub KeepsMachine-drain : (p : ℕ) (some : Bool) (old new : UnitValue) → AnswersDrain old new p some → KeepsMachine old new
 KeepsMachine-drain p true old new answer = answer.kept
-KeepsMachine-drain p false old new answer = record { lawful = ap (λ (u : UnitValue). u.lawful) answer.1; order = ap (λ (u : UnitValue). u.order) answer.1; first = ap (λ (u : UnitValue). u.first) answer.1 }
+KeepsMachine-drain p false old new answer = record { design = ap (λ (u : UnitValue). u.design) answer.1; lawful = ap (λ (u : UnitValue). u.lawful) answer.1; order = ap (λ (u : UnitValue). u.order) answer.1; first = ap (λ (u : UnitValue). u.first) answer.1 }
 
 -- ---- the operations that are left, all
 

@@ -5,7 +5,7 @@ use Rattle.std.specs.declared.alloc.AllocError.{AllocError}
 use Rattle.tso_ops.specs.declared.ops.Op.{Op}
 use Rattle.tso_ops.specs.declared.ops.Op.TheVariants.{Ld, St, Sw, Mb}
 use Rattle.tso_ops.specs.Values.{ProgramValue, in_file_order, op_of, ops_at}
-use Rattle.tso_text.specs.declared.acts.Act.{Act}
+use Rattle.tso_ops.specs.declared.acts.Act.{Act}
 use Rattle.unit_core.specs.declared.steps.Step.{Step}
 use Rattle.unit_core.specs.declared.accounts.Account.{Account}
 use Rattle.unit_core.specs.Accounts.{IsAccountOf}
@@ -46,6 +46,7 @@ pub record CountsProgram (program : ProgramValue) (account : Account) : Type 0 w
 -- Where the unit is lawful and none was refused, they belong to the schedule.
 pub record Replays (program : ProgramValue) (schedule : List Act) (old : UnitValue) (account : Account) (result : Result RecordedValue AllocError) : Type 0 where
   pub new : UnitValue
+  pub design : new.design ≡ old.design
   pub lawful : new.lawful ≡ old.lawful
   pub order : new.order ≡ old.order
   pub first : IsFirstMemory program.setting.first new.first

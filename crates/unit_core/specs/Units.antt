@@ -4,9 +4,15 @@ use Rattle.tso_ops.specs.declared.settings.Order.{Order}
 use Rattle.unit_core.specs.declared.steps.Step.{Step}
 use Rattle.unit_core.specs.Machine.{first_state, after, buffer_of, IsRun, proc_of, is_drain}
 
--- The steps that a unit has taken, whether it is lawful, its memory model, the first values of its 256 addresses, and how many entries wait for each
--- processor.
+-- Which unit was made: the name of its kind, and the numbers with which it was made, as a capacity.
+pub record Design : Type 0 where
+  pub kind : List ℕ
+  pub numbers : List ℕ
+
+-- Which unit it is, the steps that it has taken, whether it is lawful, its memory model, the first values of its 256 addresses, and how many entries wait
+-- for each processor.
 pub record UnitValue : Type 0 where
+  pub design : Design
   pub steps : List Step
   pub lawful : Bool
   pub order : Order
@@ -14,21 +20,23 @@ pub record UnitValue : Type 0 where
   pub waiting : List ℕ
 
 -- a unit that has taken no step
-abbrev pub new_unit : Bool → Order → UnitValue
-new_unit lawful order = record { steps = []; lawful = lawful; order = order; first = replicate 256 0; waiting = replicate 16 0 }
+abbrev pub new_unit : Design → Bool → Order → UnitValue
+new_unit design lawful order = record { design = design; steps = []; lawful = lawful; order = order; first = replicate 256 0; waiting = replicate 16 0 }
 
 -- how many entries wait for processor p
 abbrev pub waiting_of : UnitValue → ℕ → ℕ
 waiting_of u p = get_or u.waiting p 0
 
--- lawfulness, memory model and first values are as they were
+-- the unit is of the same design, and lawfulness, memory model and first values are as they were
 pub record KeepsMachine (old new : UnitValue) : Type 0 where
+  pub design : new.design ≡ old.design
   pub lawful : new.lawful ≡ old.lawful
   pub order : new.order ≡ old.order
   pub first : new.first ≡ old.first
 
 -- all but the first values is as it was
 pub record KeepsAllButFirst (old new : UnitValue) : Type 0 where
+  pub design : new.design ≡ old.design
   pub steps : new.steps ≡ old.steps
   pub lawful : new.lawful ≡ old.lawful
   pub order : new.order ≡ old.order

@@ -1,5 +1,5 @@
 ghost use Rattle.std.specs.Prelude.{◌≡◌, ℕ, ◌+◌, ◌<◌, List, [], ◌∷◌, length, get_or, set, true, IfOk, OnOk};
-ghost use Rattle.tso_text.specs.declared.acts.Act.TheVariants.{Issue, Drain};
+ghost use Rattle.tso_ops.specs.declared.acts.Act.TheVariants.{Issue, Drain};
 ghost use Rattle.tso_ops.specs.Values.{list_count, ops_at};
 ghost use Rattle.unit_core.specs.Internal.Replays.{FollowsActs, HasIssued, IssuesRest, left_from, rest_of};
 ghost use Rattle.unit_core.specs.Machine.{IsFirstMemory};
@@ -15,8 +15,7 @@ use crate::presets::preset_all;
 use crate::records::Recorded;
 use crate::units::MemoryUnit;
 use std::alloc::Global;
-use tso_ops::{OutOfMemory, Program};
-use tso_text::Act;
+use tso_ops::{Act, OutOfMemory, Program};
 
 /// Runs a program on a unit by a schedule, on the caller's thread, ends the unit, and gives the record of its run.
 ///
@@ -177,6 +176,7 @@ fn issue_and_record<U: MemoryUnit>(
     unit: &mut U,
 ) -> Result<Recorded, OutOfMemory>
     requires { (U.value_of unit.old).steps ≡ [] }
+    ensures design { (U.value_of unit.new).design ≡ (U.value_of unit.old).design }
     ensures lawful { (U.value_of unit.new).lawful ≡ (U.value_of unit.old).lawful }
     ensures order { (U.value_of unit.new).order ≡ (U.value_of unit.old).order }
     ensures first { IsFirstMemory program.now.setting.first (U.value_of unit.new).first }

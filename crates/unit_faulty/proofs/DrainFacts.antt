@@ -7,8 +7,8 @@ use Rattle.store_buffers.specs.Buffers.{IsBuffers, entries_of}
 use Rattle.unit_faulty.specs.declared.kinds.FaultKind.{FaultKind}
 use Rattle.unit_faulty.specs.declared.kinds.FaultKind.TheVariants.{NewestFirst, NoForward, StaleLoad, TornSwap, IdleMembar, LostDrain}
 use Rattle.unit_faulty.specs.declared.kinds.Occasion.{Occasion}
-use Rattle.unit_faulty.specs.declared.kinds.Occasion.TheVariants.{DrainMade}
-use Rattle.unit_faulty.specs.Faulty.{FaultyState, counted, deviates, drain_once, drain_times, drained_by, has_occasion, swap_drains, with_buffer, with_entry_written}
+use Rattle.unit_faulty.specs.declared.kinds.Occasion.TheVariants.{DrainMade, SwapMade}
+use Rattle.unit_faulty.specs.Faulty.{FaultyState, counted, deviates, drain_once, drain_times, drained_by, faulty_design, has_occasion, swap_drains, swapped, with_buffer, with_entered, with_entry_written, with_write}
 
 -- So many entries left the buffer of processor p.
 pub record LosesEntries (count : ℕ) (old new : FaultyState) (p : ℕ) : Type 0 where
@@ -97,6 +97,36 @@ drain_times-loses (suc count) s p within =
       processors = one.processors ∙ rest.processors;
       capacity = one.capacity ∙ rest.capacity;
     }
+
+-- drains keep the unit's design
+left-design : (s : FaultyState) (p : ℕ) (left : List StoreEntry) (entry : Option StoreEntry) → faulty_design (with_entry_written (with_buffer s p left) entry) ≡ faulty_design s
+left-design s p left None = refl
+left-design s p left (Some e) = refl
+
+drained_by-design : (kind : FaultKind) (deviates : Bool) (s : FaultyState) (p : ℕ) → faulty_design (drained_by kind deviates s p) ≡ faulty_design s
+drained_by-design NewestFirst true s p = left-design s p _ (last_item (entries_of s.parts p))
+drained_by-design NewestFirst false s p = left-design s p _ (slice_get (entries_of s.parts p) 0)
+drained_by-design NoForward deviates s p = left-design s p _ (slice_get (entries_of s.parts p) 0)
+drained_by-design StaleLoad deviates s p = left-design s p _ (slice_get (entries_of s.parts p) 0)
+drained_by-design TornSwap deviates s p = left-design s p _ (slice_get (entries_of s.parts p) 0)
+drained_by-design IdleMembar deviates s p = left-design s p _ (slice_get (entries_of s.parts p) 0)
+drained_by-design LostDrain true s p = refl
+drained_by-design LostDrain false s p = left-design s p _ (slice_get (entries_of s.parts p) 0)
+
+pub drain_once-design : (s : FaultyState) (p : ℕ) → faulty_design (drain_once s p) ≡ faulty_design s
+drain_once-design s p = drained_by-design s.kind (deviates s DrainMade) (counted s DrainMade) p
+
+pub drain_times-design : (count : ℕ) (s : FaultyState) (p : ℕ) → faulty_design (drain_times count s p) ≡ faulty_design s
+drain_times-design zero s p = refl
+drain_times-design (suc count) s p = drain_once-design (drain_times count s p) p ∙ drain_times-design count s p
+
+-- and so does a swap, torn or not
+either-design : (b : Bool) (s x y : FaultyState) → faulty_design x ≡ faulty_design s → faulty_design y ≡ faulty_design s → faulty_design (cond b x y) ≡ faulty_design s
+either-design true s x y first second = first
+either-design false s x y first second = second
+
+pub swapped-design : (s : FaultyState) (p a v : ℕ) → faulty_design (swapped s p a v) ≡ faulty_design s
+swapped-design s p a v = either-design (deviates s SwapMade) s (with_entered (counted s SwapMade) p a v) (with_write (counted s SwapMade) a v) refl refl
 
 -- a buffer that was drained has room
 pub drained-room : (s : FaultyState) (p : ℕ) → p < 16 → IsBuffers s.parts →

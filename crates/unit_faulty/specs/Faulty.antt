@@ -1,12 +1,12 @@
 -- What each call of a faulty unit answers, which steps it appends, and what it leaves.
-use Rattle.std.specs.Prelude.{ℕ, zero, suc, ◌-◌, List, [], ◌∷◌, ◌++◌, Option, None, Some, Bool, true, false, cond, ◌&&◌, ◌==◌, nat_le, length, map, set, drop, take, replicate, slice_get, slice_index}
+use Rattle.std.specs.Prelude.{ℕ, zero, suc, ◌-◌, List, [], ◌∷◌, ◌++◌, Option, None, Some, Bool, true, false, codes, cond, ◌&&◌, ◌==◌, nat_le, length, map, set, drop, take, replicate, slice_get, slice_index}
 use Rattle.circular_buffer.specs.Buffer.{last_item}
 use Rattle.tso_ops.specs.declared.settings.Order.TheVariants.{Tso}
 use Rattle.store_buffers.specs.declared.entries.StoreEntry.{StoreEntry}
 use Rattle.store_buffers.specs.Buffers.{BuffersValue, entries_of, new_buffers, newest_value, with_entries, with_word}
 use Rattle.unit_core.specs.declared.steps.Step.{Step}
 use Rattle.unit_core.specs.declared.steps.Step.TheVariants.{Drain}
-use Rattle.unit_core.specs.Units.{UnitValue}
+use Rattle.unit_core.specs.Units.{Design, UnitValue}
 use Rattle.unit_faulty.specs.declared.kinds.FaultKind.{FaultKind}
 use Rattle.unit_faulty.specs.declared.kinds.FaultKind.TheVariants.{NewestFirst, NoForward, StaleLoad, TornSwap, IdleMembar, LostDrain}
 use Rattle.unit_faulty.specs.declared.kinds.Occasion.{Occasion}
@@ -155,9 +155,22 @@ pub record FaultyValue : Type 0 where
 abbrev pub new_faulty : FaultKind → ℕ → ℕ → FaultyValue
 new_faulty kind trigger capacity = record { steps = []; first = replicate 256 0; state = new_faulty_state kind trigger capacity }
 
+-- the names of the kinds
+abbrev pub fault_name : FaultKind → List ℕ
+fault_name NewestFirst = codes "newest-first"
+fault_name NoForward = codes "no-forward"
+fault_name StaleLoad = codes "stale-load"
+fault_name TornSwap = codes "torn-swap"
+fault_name IdleMembar = codes "idle-membar"
+fault_name LostDrain = codes "lost-drain"
+
+-- the design of a faulty unit: its kind, with its trigger and its capacity
+abbrev pub faulty_design : FaultyState → Design
+faulty_design s = record { kind = fault_name s.kind; numbers = s.trigger ∷ s.parts.capacity ∷ [] }
+
 -- It isn't lawful, and the entries in its buffers wait.
 abbrev pub faulty_unit : FaultyValue → UnitValue
-faulty_unit u = record { steps = u.steps; lawful = false; order = Tso; first = u.first; waiting = map length u.state.parts.buffers }
+faulty_unit u = record { design = faulty_design u.state; steps = u.steps; lawful = false; order = Tso; first = u.first; waiting = map length u.state.parts.buffers }
 
 -- after a call that makes so many drains of processor p, takes this step and leaves this state
 abbrev pub with_step : FaultyValue → ℕ → ℕ → Step → FaultyState → FaultyValue

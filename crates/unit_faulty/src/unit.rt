@@ -2,7 +2,7 @@ ghost use Rattle.std.specs.Prelude.{◌≡◌, ◌<◌, ◌≤◌, [], ◌∷◌
 ghost use Rattle.tso_ops.specs.declared.settings.Order.TheVariants.{Tso};
 ghost use Rattle.unit_core.specs.declared.steps.Step.TheVariants.{Store, Drain, Load, Swap, Membar, Stbar};
 ghost use Rattle.unit_core.specs.Units.{AnswersDrain, Takes, new_unit};
-ghost use Rattle.unit_faulty.specs.Faulty.{after_load, after_membar, after_preset, after_store, after_swap, drain_once, faulty_unit, load_answer, membar_drains, new_faulty, store_drains, swap_answer, swap_drains, with_step};
+ghost use Rattle.unit_faulty.specs.Faulty.{after_load, after_membar, after_preset, after_store, after_swap, drain_once, faulty_design, faulty_unit, load_answer, membar_drains, new_faulty, new_faulty_state, store_drains, swap_answer, swap_drains, with_step};
 
 use crate::kinds::{FaultKind, Occasion};
 use crate::memory::FaultyMemory;
@@ -49,7 +49,7 @@ impl FaultyUnit {
         requires least { 1 ≤ capacity }
         requires most { capacity ≤ 64 }
         ensures is { IfOk result (λ u. u ≡ new_faulty kind trigger capacity) }
-        ensures unit { IfOk result (λ u. faulty_unit u ≡ new_unit false Tso) }
+        ensures unit { IfOk result (λ u. faulty_unit u ≡ new_unit (faulty_design (new_faulty_state kind trigger capacity)) false Tso) }
     {
         Ok(FaultyUnit {
             memory: FaultyMemory::new(alloc, kind, trigger, capacity)?,

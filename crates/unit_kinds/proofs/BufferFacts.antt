@@ -15,7 +15,7 @@ use Rattle.unit_core.specs.Machine.{Entry, State, IsAllowed, IsRunFrom, Waits, a
 use Rattle.unit_core.proofs.DrainedSteps.{Takes-drains_and}
 use Rattle.unit_core.proofs.RunFacts.{IsRunFrom-append, after-append}
 use Rattle.unit_core.specs.Units.{DrainsOne, IsUnit, Takes, new_unit}
-use Rattle.unit_kinds.specs.Buffer.{StoreBufferValue, after_drains_and, new_store_buffer, store_buffer_unit, waiting_after}
+use Rattle.unit_kinds.specs.Buffer.{StoreBufferValue, after_drains_and, new_store_buffer, store_buffer_design, store_buffer_unit, waiting_after}
 use Rattle.unit_kinds.specs.Internal.Buffer.{HasBuffers, IsStoreBufferUnit, drained_times, entry_of}
 use Rattle.unit_kinds.proofs.DrainingFacts.{drained-buffers, drained_times-kept}
 
@@ -181,7 +181,7 @@ waiting-preset (step ∷ steps) first a v none = absurd cc
 pub IsStoreBufferUnit-new : (capacity : ℕ) → IsStoreBufferUnit [] (replicate 256 0) (new_buffers capacity)
 IsStoreBufferUnit-new capacity = record { addresses = refl; run = tt; state = record { memory = refl; buffers = refl } }
 
-pub unit-new : (capacity : ℕ) → store_buffer_unit (new_store_buffer capacity) ≡ new_unit true Tso
+pub unit-new : (capacity : ℕ) → store_buffer_unit (new_store_buffer capacity) ≡ new_unit (store_buffer_design capacity) true Tso
 unfolding waiting_after
 unit-new capacity = refl
 
@@ -196,7 +196,7 @@ IsUnit-store_buffer u parts kept = record {
 -- drains of the step's processor, and then the step
 pub Takes-after_drains : (u : StoreBufferValue) (count : ℕ) (step : Step) → Takes (store_buffer_unit u) (store_buffer_unit (after_drains_and u (proc_of step) count step)) step
 Takes-after_drains u count step =
-    Takes-drains_and (store_buffer_unit u) (store_buffer_unit (after_drains_and u (proc_of step) count step)) count step refl (record { lawful = refl; order = refl; first = refl })
+    Takes-drains_and (store_buffer_unit u) (store_buffer_unit (after_drains_and u (proc_of step) count step)) count step refl (record { design = refl; lawful = refl; order = refl; first = refl })
 
 -- one drain
 pub DrainsOne-store_buffer : (old new : StoreBufferValue) (parts : BuffersValue) (p : ℕ) → p < length parts.buffers → 0 < length (entries_of parts p) →
@@ -207,7 +207,7 @@ DrainsOne-store_buffer old new parts p within waits is kept after_it = record {
   steps = ap (λ u. u.steps) is;
   drain = (refl, omega arith, omega arith, tt);
   one = omega (arith, waiting-parts old.steps old.first parts p kept, waiting-parts new.steps new.first (oldest_drained parts p) p after_it, (drained-buffers parts p within).0);
-  kept = record { lawful = refl; order = refl; first = ap (λ u. u.first) is };
+  kept = record { design = ap (λ u. store_buffer_design u.capacity) is; lawful = refl; order = refl; first = ap (λ u. u.first) is };
 }
 
 pub same_value : (u : StoreBufferValue) (p count capacity : ℕ) (step : Step) (steps : List Step) → steps ≡ u.steps ++ (replicate count (Drain p) ++ step ∷ []) → capacity ≡ u.capacity →

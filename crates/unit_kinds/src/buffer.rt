@@ -2,7 +2,7 @@ ghost use Rattle.std.specs.Prelude.{◌≡◌, ◌<◌, ◌≤◌, [], ◌∷◌
 ghost use Rattle.tso_ops.specs.declared.settings.Order.TheVariants.{Tso};
 ghost use Rattle.unit_core.specs.declared.steps.Step.TheVariants.{Store, Drain, Load, Swap, Membar, Stbar};
 ghost use Rattle.unit_core.specs.Units.{AnswersDrain, Takes, new_unit, waiting_of};
-ghost use Rattle.unit_kinds.specs.Buffer.{after_drains_and, drains_for_store, new_store_buffer, store_buffer_unit};
+ghost use Rattle.unit_kinds.specs.Buffer.{after_drains_and, drains_for_store, new_store_buffer, store_buffer_design, store_buffer_unit};
 
 use crate::draining::{drain_reserved, push_reserved};
 use std::alloc::Global;
@@ -41,7 +41,7 @@ impl StoreBufferUnit {
         requires least { 1 ≤ capacity }
         requires most { capacity ≤ 64 }
         ensures is { IfOk result (λ u. u ≡ new_store_buffer capacity) }
-        ensures unit { IfOk result (λ u. store_buffer_unit u ≡ new_unit true Tso) }
+        ensures unit { IfOk result (λ u. store_buffer_unit u ≡ new_unit (store_buffer_design capacity) true Tso) }
     {
         Ok(StoreBufferUnit {
             parts: Buffers::new(alloc, capacity)?,

@@ -2,8 +2,8 @@
 
 use std::alloc::{AllocError, Global};
 use std::test::Fail;
+use tso_ops::Act::{self, Drain, Issue};
 use tso_ops::{Op, Outcome, Program, ValueFault};
-use tso_text::Act::{self, Drain, Issue};
 use unit_core::{Account, MemoryUnit, Recorded, replay};
 use unit_faulty::{FaultKind, FaultyUnit};
 

@@ -7,8 +7,8 @@ use super::{are_equal, program_of, trace_of};
 use std::alloc::{AllocError, Global};
 use std::process::Abort;
 use std::test::Fail;
+use tso_ops::Act::{self, Drain, Issue};
 use tso_ops::{Op, Order, Outcome, Program, Trace, ValueFault};
-use tso_text::Act::{self, Drain, Issue};
 use unit_core::{Account, MemoryUnit, Recorded, Step, replay};
 use unit_kinds::StoreBufferUnit;
 

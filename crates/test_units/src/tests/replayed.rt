@@ -14,8 +14,8 @@ use std::process::Abort;
 use std::sync::Arc;
 use std::sync::atomic::Ordering;
 use std::test::Fail;
+use tso_ops::Act::{self, Drain, Issue};
 use tso_ops::{Op, Order, Outcome, Program, Trace, ValueFault};
-use tso_text::Act::{self, Drain, Issue};
 use unit_core::{Account, MemoryUnit, Recorded, replay, replay_over};
 use unit_kinds::SerialUnit;
 

@@ -1,4 +1,5 @@
-//! Campaigns over units for tests: faulty ones, ones that refuse, and ones that wait for each other.
+//! Campaigns over units of one type for tests: serial ones, faulty ones, ones that refuse, and ones that wait for each
+//! other.
 ghost use Rattle.std.specs.Prelude.{◌≡◌, ◌≤◌, [], All, length};
 ghost use Rattle.tso_report.specs.Limits.{worker_limit};
 
@@ -10,7 +11,7 @@ use std::test::Fail;
 use std::thread::Threads;
 use test_units::{InventingUnit, RefusingUnit};
 use tso_ops::{Op, OutOfMemory, Shape};
-use tso_report::{Drawn, Fault, Verdict, campaign, campaign_over, seeded_program};
+use tso_report::{Drawn, Fault, Verdict, campaign_over, seeded_program};
 use unit_core::MemoryUnit;
 use unit_kinds::SerialUnit;
 
@@ -45,30 +46,17 @@ fn campaign_of<H: Threads + Wait + Sync, U: MemoryUnit + Send>(
     Ran { answer, written }
 }
 
-/// A campaign of three seeds on serial units, each in a box.
-fn campaign_of_boxes<H: Threads + Wait + Sync>(
-    rt: &H,
-    alloc: Global,
-    workers: usize,
-) -> Result<Ran, Fail>
-    requires some { 1 ≤ workers }
-    requires most { workers ≤ worker_limit }
-{
-    let shape = Shape::new(2, 20, 4).ok_or("a shape")?;
-    let first: Box<dyn MemoryUnit + Send> = Box::new(alloc, SerialUnit::new(alloc)?)?;
-    let second: Box<dyn MemoryUnit + Send> = Box::new(alloc, SerialUnit::new(alloc)?)?;
-    let third: Box<dyn MemoryUnit + Send> = Box::new(alloc, SerialUnit::new(alloc)?)?;
-    let units = Vec::from_array(alloc, [first, second, third])?;
-    let mut written = Vec::new(alloc);
-    let drawn = Drawn { first: 1, shape };
-    let answer = campaign(rt, alloc, drawn, units, workers, &mut written);
-    Ok(Ran { answer, written })
-}
-
 #[test]
 fn campaign_without_a_violation(rt: HostRuntime) -> Result<(), Fail> {
+    let alloc = rt.alloc();
+    let shape = Shape::new(2, 20, 4).ok_or("a shape")?;
     for workers in [1usize, 2, 64] {
-        let ran = campaign_of_boxes(&rt, rt.alloc(), workers)?;
+        let units = [
+            SerialUnit::new(alloc)?,
+            SerialUnit::new(alloc)?,
+            SerialUnit::new(alloc)?,
+        ];
+        let ran = campaign_of(&rt, alloc, shape, Vec::from_array(alloc, units)?, workers);
         assert!(rt;
             is_ran(&ran, Ok(Verdict::NoViolation), THREE_SEEDS),
             "{workers} workers"

@@ -41,7 +41,7 @@ pub returns-in-Run-clause-ends : goal.returns-in-Run-clause-ends
 returns-in-Run-clause-ends g c =
     let o : Outputs = outputs (g.W.Write.contents c.args.writer.now) (g.W.Write.contents c.run_named-ran.new.writer) (g.E.Write.contents c.args.errors.now) (g.E.Write.contents c.end_run.new.errors) in
     let is_text = IsRunText c.in-Run.options (g.O.NamedFiles.bytes c.args.files.now c.in-Run.program.now) in
-    rw c.in-Run.is (ends_run is_text o c.run_named-ran.result c.end_run.result c.run_named-ran.ensures.text c.run_named-ran.ensures.fault c.end_run.ensures)
+    rw c.in-Run.is (ends_run is_text o c.run_named-ran.result c.end_run.result c.run_named-ran.ensures.text c.run_named-ran.ensures.fault c.end_run.ensures.status c.end_run.ensures.failure)
 
 pub returns-in-Run-clause-first : goal.returns-in-Run-clause-first
 returns-in-Run-clause-first g c = rw c.in-Run.is (opens_all _ _ _ c.run_named-ran.ensures.opened)

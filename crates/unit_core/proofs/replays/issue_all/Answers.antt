@@ -1,7 +1,7 @@
 use Rattle.std.proofs.Common.{◌≡◌, ◌∙◌, ap, subst, ◌-◌, ◌<◌, inl, inr, length, take, replicate, arith}
 use Rattle.std.proofs.lemmas.Bool.{cases_eq}
 use Rattle.tso_ops.specs.Values.{ops_at}
-use Rattle.tso_text.specs.declared.acts.Act.TheVariants.{Issue}
+use Rattle.tso_ops.specs.declared.acts.Act.TheVariants.{Issue}
 use Rattle.unit_core.specs.Internal.Replays.{FollowsActs, left_from, rest_of}
 use Rattle.unit_core.specs.Schedule.{issues_of}
 use Rattle.unit_core.proofs.ReplayFacts.{FollowsActs-then, rests-next}

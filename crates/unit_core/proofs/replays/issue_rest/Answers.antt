@@ -1,7 +1,7 @@
 use Rattle.std.proofs.Common.{◌∙◌, ap, subst, ◌+◌, ◌-◌, ◌<◌, ◌∷◌, [], get_or, length, replicate, arith}
 use Rattle.std.proofs.lemmas.List.{replicate-append-replicate, get_or-set_same, get_or-set_other}
 use Rattle.tso_ops.specs.Values.{ops_at}
-use Rattle.tso_text.specs.declared.acts.Act.TheVariants.{Issue}
+use Rattle.tso_ops.specs.declared.acts.Act.TheVariants.{Issue}
 use Rattle.unit_core.specs.Internal.Replays.{FollowsActs}
 use Rattle.unit_core.proofs.ReplayFacts.{FollowsActs-then}
 use Rattle.unit_core.proofs.replays.issue_rest.Goals as goal

@@ -1,5 +1,5 @@
 use Rattle.std.proofs.Common.{◌≡◌, ◌≢◌, ◌-◌, ◌≤◌, ℕ, get_or, replicate}
-use Rattle.tso_text.specs.declared.acts.Act.TheVariants.{Issue}
+use Rattle.tso_ops.specs.declared.acts.Act.TheVariants.{Issue}
 use Rattle.unit_core.specs.Internal.Replays.{FollowsActs, HasIssued}
 use Rattle.unit_core.proofs.replays.issue_rest.Given as goal
 

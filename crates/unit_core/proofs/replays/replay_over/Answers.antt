@@ -13,6 +13,7 @@ returns g c =
     let closed : IsAccountOf new.steps account = subst (λ xs. IsAccountOf xs account) c.steps.ensures.are c.of_steps.ensures in
     record {
       new = new;
+      design = c.issue_and_record-answer.ensures.design;
       lawful = c.issue_and_record-answer.ensures.lawful;
       order = c.issue_and_record-answer.ensures.order;
       first = c.issue_and_record-answer.ensures.first;

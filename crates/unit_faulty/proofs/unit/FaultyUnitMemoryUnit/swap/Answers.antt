@@ -1,9 +1,9 @@
-use Rattle.std.proofs.Common.{refl, subst}
+use Rattle.std.proofs.Common.{◌∙◌, ap, refl, subst}
 use Rattle.unit_core.specs.declared.steps.Step.TheVariants.{Swap}
 use Rattle.unit_core.specs.Units.{Takes}
 use Rattle.unit_core.proofs.DrainedSteps.{drained-pushed}
-use Rattle.unit_faulty.specs.Faulty.{FaultyValue, faulty_unit}
-use Rattle.unit_faulty.proofs.DrainFacts.{drained-room}
+use Rattle.unit_faulty.specs.Faulty.{FaultyValue, faulty_design, faulty_unit}
+use Rattle.unit_faulty.proofs.DrainFacts.{drain_times-design, drained-room, swapped-design}
 use Rattle.unit_faulty.proofs.UnitFacts.{Takes-after_drains}
 use Rattle.unit_faulty.proofs.unit.FaultyUnitMemoryUnit.swap.Goals as goal
 
@@ -19,4 +19,6 @@ returns-clause-taken c =
     let old : FaultyValue = record { steps = u.steps.items; first = u.first.items; state = u.memory } in
     let new : FaultyValue = record { steps = c.push_reserved.new.steps.items; first = u.first.items; state = c.swap-r.new.self } in
     let steps = drained-pushed u.steps.items _ _ _ p c.waiting-waiting.result step c.in_ok-reserve.ensures.items c.drain_reserved.ensures.items c.push_reserved.ensures.items in
-    subst (λ w. Takes (faulty_unit w) (faulty_unit new) step) c.self.view_is (Takes-after_drains old new c.waiting-waiting.result step steps refl)
+    let design = ap faulty_design c.swap-r.ensures.left ∙ swapped-design c.drain_reserved.new.memory p c.args.a c.args.v ∙ ap faulty_design c.drain_reserved.ensures.memory
+    ∙ drain_times-design c.waiting-waiting.result u.memory p in
+    subst (λ w. Takes (faulty_unit w) (faulty_unit new) step) c.self.view_is (Takes-after_drains old new c.waiting-waiting.result step steps refl design)
