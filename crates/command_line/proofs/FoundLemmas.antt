@@ -12,11 +12,13 @@ use Rattle.clap.specs.declared.builder.value_parser.ValueParser.TheVariants as p
 use Rattle.clap.proofs.ValueTestLemmas.{accepts-Accepts, Accepts-accepts}
 use Rattle.clap.proofs.WalkLemmas.{first_value-rows, one_text-rows}
 use Rattle.command_line.specs.declared.options.CampaignOptions.{CampaignOptions}
+use Rattle.command_line.specs.declared.options.Printing.{Printing}
+use Rattle.command_line.specs.declared.options.Printing.TheVariants.{Report, Trace}
 use Rattle.command_line.specs.declared.options.RunOptions.{RunOptions}
 use Rattle.command_line.specs.declared.options.ShapeNumbers.{ShapeNumbers}
 use Rattle.command_line.specs.declared.options.UnitOptions.{UnitOptions}
-use Rattle.command_line.specs.Requests.{Text, replaying, running}
-use Rattle.command_line.specs.Internal.Computed.{number_in, number_of}
+use Rattle.command_line.specs.Requests.{Text, AskedRun, prints_trace, replaying, running}
+use Rattle.command_line.specs.Internal.Computed.{flag_in, number_in, number_of, printing_of}
 
 unwrap_or-text : (got : Option (Bor Text)) (empty : Bor Text) → empty.now ≡ [] → (unwrap_or got empty).now ≡ unwrap_or (option_map (λ s. s.now) got) []
 unwrap_or-text None empty is = is
@@ -67,19 +69,33 @@ unwrap_or-flag E t (Some false) read = rw read refl
 unwrap_or-flag E t None read = is_true t (bytes_eq t (codes "true")) read.1.0 refl
 
 -- whether the flag was used
-pub flag_or_false : (E : Type 0) (found : Option Text) (r : Option Bool) → (found ≡ None → r ≡ None) → ((t : Text) → found ≡ Some t → ReadsOne {E = E} ParsesBool t r)
+flag_or_false : (E : Type 0) (found : Option Text) (r : Option Bool) → (found ≡ None → r ≡ None) → ((t : Text) → found ≡ Some t → ReadsOne {E = E} ParsesBool t r)
     → unwrap_or r false ≡ option_map_or (λ text. bytes_eq text (codes "true")) found false
 flag_or_false E None r none some = ap (λ o. unwrap_or o false) (none refl)
 flag_or_false E (Some t) r none some = unwrap_or-flag E t r (some t refl)
+
+pub flag_found : (E : Type 0) (f : Found) (name : Text) (r : Option Bool) → (one_text f name ≡ None → r ≡ None) → ((t : Text) → one_text f name ≡ Some t → ReadsOne {E = E} ParsesBool t r)
+    → unwrap_or r false ≡ flag_in name (rows_of f)
+flag_found E f name r none some =
+    flag_or_false E (one_text f name) r none some ∙ ap (λ o. option_map_or (λ text. bytes_eq text (codes "true")) o false) (one_text-rows f name)
+
+-- what is printed, and whether it is the trace
+pub printing_back : (printing : Printing) → printing_of (prints_trace printing) ≡ printing
+printing_back Report = refl
+printing_back Trace = refl
+
+pub prints_back : (is_asked : Bool) → prints_trace (printing_of is_asked) ≡ is_asked
+prints_back false = refl
+prints_back true = refl
 
 -- options of which each is known
 module _ (unit wanted : UnitOptions) (kind : unit.kind ≡ wanted.kind) (capacity : unit.capacity ≡ wanted.capacity) (trigger : unit.trigger ≡ wanted.trigger) where
   pub unit_options_are : unit ≡ wanted
   unit_options_are = rw (kind, capacity, trigger) refl
 
-module _ (options wanted : RunOptions) (unit : options.unit ≡ wanted.unit) (workers : options.workers ≡ wanted.workers) (trace : options.prints_trace ≡ wanted.prints_trace) where
+module _ (options wanted : RunOptions) (unit : options.unit ≡ wanted.unit) (workers : options.workers ≡ wanted.workers) (printing : options.printing ≡ wanted.printing) where
   pub run_options_are : options ≡ wanted
-  run_options_are = rw (unit, workers, trace) refl
+  run_options_are = rw (unit, workers, printing) refl
 
 module _ (shape wanted : ShapeNumbers) (processors : shape.processors ≡ wanted.processors) (operations : shape.operations ≡ wanted.operations) (addresses : shape.addresses ≡ wanted.addresses) where
   pub shape_numbers_are : shape ≡ wanted
@@ -94,6 +110,6 @@ module _ (options wanted : RunOptions) (program wanted_program schedule wanted_s
   pub replaying_are : options ≡ wanted → program ≡ wanted_program → schedule ≡ wanted_schedule → replaying options program schedule ≡ replaying wanted wanted_program wanted_schedule
   replaying_are is program_is schedule_is = rw (is, program_is, schedule_is) refl
 
-module _ (options wanted : RunOptions) (seed wanted_seed : ℕ) (program wanted_program : Text) where
-  pub running_are : options ≡ wanted → seed ≡ wanted_seed → program ≡ wanted_program → running options seed program ≡ running wanted wanted_seed wanted_program
-  running_are is seed_is program_is = rw (is, seed_is, program_is) refl
+module _ (run wanted : AskedRun) where
+  pub running_are : run.options ≡ wanted.options → run.drain_seed ≡ wanted.drain_seed → run.program ≡ wanted.program → running run ≡ running wanted
+  running_are options_are seed_is program_is = rw (options_are, seed_is, program_is) refl

@@ -14,10 +14,11 @@ use Rattle.clap.proofs.ValueTestLemmas.{accepts-Accepts, Accepts-accepts}
 use Rattle.command_line.specs.Workers.{worker_limit}
 use Rattle.command_line.specs.Requests.{Text, Asked, asked_of, capacity_limit, number_limit, showing}
 use Rattle.command_line.specs.declared.requests.Request.{Request}
-use Rattle.command_line.specs.Commands.{AskCampaign, AskFlag, AskNumber, AskRequired, AskRun, AskShape, AskUnit, AskWorkers, IsAskedBy, IsAskedByMatches, IsAskedFor, UnitNames, asked_at, tsobench_app}
-use Rattle.command_line.specs.Internal.Computed.{IsFoundBy, asked_by, asked_in, campaign_in, flag_in, number_in, number_of, parsed_as, required_in, run_in, shape_in, unit_in, within, workers_in}
+use Rattle.command_line.specs.Commands.{AskCampaign, AskFlag, AskNumber, AskRequired, AskRun, AskShape, AskToRun, AskUnit, AskWorkers, IsAskedBy, IsAskedByMatches, IsAskedFor, UnitNames, asked_at, tsobench_app}
+use Rattle.command_line.specs.Internal.Computed.{IsFoundBy, asked_by, asked_in, asked_run_in, campaign_in, flag_in, number_in, number_of, parsed_as, required_in, run_in, shape_in, unit_in, within, workers_in}
 use Rattle.command_line.specs.Units.{default_capacity, default_trigger, trigger_limit, unit_kind, unit_names}
 use Rattle.command_line.specs.declared.options.UnitKind.TheVariants.{Serial}
+use Rattle.command_line.proofs.FoundLemmas.{prints_back}
 use Rattle.command_line.proofs.KindLemmas.{asked_by_error}
 use Rattle.command_line.proofs.ProgramLemmas as program
 use Rattle.command_line.proofs.SpellingLemmas.{IsFound, by_kind}
@@ -56,7 +57,11 @@ ask_unit rows = record {
 }
 
 ask_run : (rows : List Row) → AskRun rows (run_in rows)
-ask_run rows = record { unit = ask_unit rows; workers = ask_workers rows; trace = ask_flag (codes "trace") rows }
+ask_run rows = record {
+  unit = ask_unit rows;
+  workers = ask_workers rows;
+  trace = subst (AskFlag (codes "trace") rows) (sym (prints_back (flag_in (codes "trace") rows))) (ask_flag (codes "trace") rows);
+}
 
 ask_required : (name : Text) (rows : List Row) → AskRequired name rows (required_in name rows)
 ask_required name rows = record {
@@ -75,6 +80,9 @@ ask_required name rows = record {
     go : (text : Option Text) → option_map_or (number_in 0) text 0 ≤ number_limit
     go None = omega arith
     go (Some text) = spelled text (is_unsigned_in 0 number_limit text) refl
+
+ask_to_run : (rows : List Row) → AskToRun rows (asked_run_in rows)
+ask_to_run rows = record { options = ask_run rows; seed = ask_required (codes "seed") rows; program = refl }
 
 ask_shape : (rows : List Row) → AskShape rows (shape_in rows)
 ask_shape rows = record {
@@ -98,7 +106,7 @@ matched (Some found) asked is = record {
   judge = λ name. (workers_in found.1, ask_workers found.1, is ∙ ap (λ (t : Text). asked_in t found.1) name);
   check = λ name. is ∙ ap (λ (t : Text). asked_in t found.1) name;
   replay = λ name. (run_in found.1, ask_run found.1, is ∙ ap (λ (t : Text). asked_in t found.1) name);
-  run = λ name. (run_in found.1, required_in (codes "seed") found.1, ask_run found.1, ask_required (codes "seed") found.1, is ∙ ap (λ (t : Text). asked_in t found.1) name);
+  run = λ name. (asked_run_in found.1, ask_to_run found.1, is ∙ ap (λ (t : Text). asked_in t found.1) name);
   make = λ name. (required_in (codes "seed") found.1, shape_in found.1, ask_required (codes "seed") found.1, ask_shape found.1, is ∙ ap (λ (t : Text). asked_in t found.1) name);
   campaign = λ name. (campaign_in found.1, ask_campaign found.1, is ∙ ap (λ (t : Text). asked_in t found.1) name);
 }

@@ -15,7 +15,7 @@ use Rattle.clap.proofs.OnLiterals.{clap_on_literals}
 use Rattle.command_line.specs.Commands.{UnitNames, program_file_rule, replay_app, schedule_file_rule, tsobench_app}
 use Rattle.command_line.specs.Internal.Computed.{asked_by, replaying_by}
 use Rattle.command_line.specs.Options.{AreNamed}
-use Rattle.command_line.specs.Requests.{Text, replaying}
+use Rattle.command_line.specs.Requests.{Text, prints_trace, replaying}
 use Rattle.command_line.specs.Spellings.{AsksRun, AsksToReplay, run_names}
 use Rattle.command_line.specs.Units.{unit_names}
 use Rattle.command_line.specs.declared.options.RunOptions.{RunOptions}
@@ -96,8 +96,8 @@ module _ (names : UnitNames) where
     -- ---- the whole
 
     module _ (are : map (λ name. name.now) names.now ≡ unit_names) (arguments : List Text) (run : RunOptions) (asks : AsksToReplay arguments run program schedule) where
-      used_flags : FlagUses replay names offers_run asks.flags run.prints_trace
-      used_flags = flag_uses replay names offers_run asks.flags run.prints_trace asks.asks.trace
+      used_flags : FlagUses replay names offers_run asks.flags (prints_trace run.printing)
+      used_flags = flag_uses replay names offers_run asks.flags (prints_trace run.printing) asks.asks.trace
 
       leaves : LeavesRows replay arguments asks.options used_flags.uses file_uses
       leaves = leaves_rows replay refl defaults asks.options asks.flags (program ∷ schedule ∷ []) arguments used_flags.uses file_uses

@@ -15,7 +15,7 @@ use Rattle.clap.proofs.OnLiterals.{clap_on_literals}
 use Rattle.command_line.specs.Commands.{UnitNames, tsobench_app}
 use Rattle.command_line.specs.Options.{AreGiven, AreNamed, NamesOption}
 use Rattle.command_line.specs.Refusals.{IsOutside, TakesNumber}
-use Rattle.command_line.specs.Requests.{Text}
+use Rattle.command_line.specs.Requests.{Text, prints_trace}
 use Rattle.command_line.specs.Spellings.{AsksRun, run_names}
 use Rattle.command_line.specs.Units.{is_unit, unit_names}
 use Rattle.command_line.specs.declared.options.RunOptions.{RunOptions}
@@ -101,8 +101,8 @@ module _ (names : UnitNames) (are : map (λ name. name.now) names.now ≡ unit_n
     used_files : FewUses files
     used_files = few_uses files few
 
-    used_flags : FlagUses (replay names) names (offers_run names) flags run.prints_trace
-    used_flags = flag_uses (replay names) names (offers_run names) flags run.prints_trace asks.trace
+    used_flags : FlagUses (replay names) names (offers_run names) flags (prints_trace run.printing)
+    used_flags = flag_uses (replay names) names (offers_run names) flags (prints_trace run.printing) asks.trace
 
     leaves : LeavesRows (replay names) arguments options used_flags.uses used_files.uses
     leaves = leaves_rows (replay names) refl (defaults names) options flags files arguments used_flags.uses used_files.uses

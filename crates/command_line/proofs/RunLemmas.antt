@@ -16,15 +16,15 @@ use Rattle.clap.proofs.OnLiterals.{clap_on_literals}
 use Rattle.clap.proofs.WalkLemmas.{list_any-map}
 use Rattle.command_line.specs.Workers.{worker_limit}
 use Rattle.command_line.specs.Commands.{UnitNames, capacity_rule, number_rule, prints_rule, trigger_rule, unit_rule, workers_rule}
-use Rattle.command_line.specs.Internal.Computed.{flag_in, number_in, run_in, unit_in, within, workers_in}
+use Rattle.command_line.specs.Internal.Computed.{flag_in, number_in, printing_of, run_in, unit_in, within, workers_in}
 use Rattle.command_line.specs.Options.{AsksFlag, AsksNumber, IsOneOf, option_value}
-use Rattle.command_line.specs.Requests.{Text, capacity_limit}
+use Rattle.command_line.specs.Requests.{Text, capacity_limit, prints_trace}
 use Rattle.command_line.specs.Spellings.{AsksRun, AsksUnit, run_names}
 use Rattle.command_line.specs.Units.{default_capacity, default_trigger, is_unit, trigger_limit, unit_kind, unit_names, units}
 use Rattle.command_line.specs.declared.options.RunOptions.{RunOptions}
 use Rattle.command_line.specs.declared.options.UnitKind.TheVariants.{Serial}
 use Rattle.command_line.specs.declared.options.UnitOptions.{UnitOptions}
-use Rattle.command_line.proofs.FoundLemmas.{run_options_are, unit_options_are}
+use Rattle.command_line.proofs.FoundLemmas.{printing_back, run_options_are, unit_options_are}
 use Rattle.command_line.proofs.OptionLemmas.{Flagged, IsFlag, IsOption, Use, flagged, no_flag}
 use Rattle.command_line.proofs.RowLemmas.{default_for, default_row, flag_makes, has_id, option_makes, use_row, uses_id}
 use Rattle.command_line.proofs.UseLemmas.{AreUses, IsOptionRow, LeavesRows, OptionUse}
@@ -305,9 +305,9 @@ module _ (s : Shape) (names : UnitNames) where
       asked_run_use = asked_judged_use offers.judged options run.unit run.workers asks.unit asks.workers
 
       -- the run is the one that is asked for
-      module _ (arguments : List Text) (used : FlagUses flags run.prints_trace) (others : List Use) (leaves : LeavesRows s arguments options used.uses others) where
+      module _ (arguments : List Text) (used : FlagUses flags (prints_trace run.printing)) (others : List Use) (leaves : LeavesRows s arguments options used.uses others) where
         pub run_is : run_in leaves.rows ≡ run
         unfolding clap_on_literals
         run_is = run_options_are _ _ (unit_is offers.judged.unit options run.unit asks.unit arguments used.uses others leaves)
             (workers_are offers.judged options run.unit run.workers asks.unit asks.workers arguments used.uses others leaves)
-            (used.asks leaves.rows (leaves.flag (codes "trace") prints_built offers.trace.by_id refl))
+            (ap printing_of (used.asks leaves.rows (leaves.flag (codes "trace") prints_built offers.trace.by_id refl)) ∙ printing_back run.printing)

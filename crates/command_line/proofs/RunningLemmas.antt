@@ -15,7 +15,7 @@ use Rattle.clap.proofs.OnLiterals.{clap_on_literals}
 use Rattle.command_line.specs.Commands.{UnitNames, program_file_rule, run_app, tsobench_app}
 use Rattle.command_line.specs.Internal.Computed.{asked_by, running_by}
 use Rattle.command_line.specs.Options.{AreNamed, IsOneOf, option_value}
-use Rattle.command_line.specs.Requests.{Text, running}
+use Rattle.command_line.specs.Requests.{Text, AskedRun, prints_trace, running}
 use Rattle.command_line.specs.Spellings.{AsksRequired, AsksRun, AsksToRun, run_names, seeded_names}
 use Rattle.command_line.specs.Units.{unit_names}
 use Rattle.command_line.specs.declared.options.RunOptions.{RunOptions}
@@ -106,34 +106,38 @@ module _ (names : UnitNames) where
       apart = (tt, tt);
     }
 
-    -- ---- the whole
+  -- ---- the whole
 
-    module _ (are : map (λ name. name.now) names.now ≡ unit_names) (arguments : List Text) (asked : RunOptions) (seed : ℕ) (asks : AsksToRun arguments asked seed program) where
-      used_flags : FlagUses run names offers_run asks.flags asked.prints_trace
-      used_flags = flag_uses run names offers_run asks.flags asked.prints_trace asks.asks.trace
+  module _ (are : map (λ name. name.now) names.now ≡ unit_names) (arguments : List Text) (asked : AskedRun) (asks : AsksToRun arguments asked) where
+    abbrev files : List Use
+    files = file_uses asked.program
 
-      leaves : LeavesRows run arguments asks.options used_flags.uses file_uses
-      leaves = leaves_rows run refl defaults asks.options asks.flags (program ∷ []) arguments used_flags.uses file_uses
-          (seeded_uses are asks.options asks.flags asked asks.asks seed asks.seeds asks.named) used_flags.are_uses file_is asks.given used_flags.flagged file_placed
+    used_flags : FlagUses run names offers_run asks.flags (prints_trace asked.options.printing)
+    used_flags = flag_uses run names offers_run asks.flags (prints_trace asked.options.printing) asks.asks.trace
 
-      abbrev rows : List Row
-      rows = leaves.rows
+    leaves : LeavesRows run arguments asks.options used_flags.uses files
+    leaves = leaves_rows run refl defaults asks.options asks.flags (asked.program ∷ []) arguments used_flags.uses files
+        (seeded_uses are asks.options asks.flags asked.options asks.asks asked.drain_seed asks.seeds asks.named) used_flags.are_uses (file_is asked.program)
+        asks.given used_flags.flagged (file_placed asked.program)
 
-      program_row : find (has_id (codes "program")) rows ≡ Some (use_row (program_built, program ∷ []))
-      program_row = leaves.other (codes "program") program_built refl refl
+    abbrev rows : List Row
+    rows = leaves.rows
 
-      passes : check_fault run rows false ≡ []
-      passes = all_given rows (unit_given run names offers_run.judged.unit asks.options asked.unit asks.asks.unit arguments used_flags.uses file_uses leaves)
-          (required_given run (codes "seed") seed_long offers_seed asks.options arguments used_flags.uses file_uses leaves seed asks.seeds)
-          (ap (λ o. option_map_or (λ r. explicit_source r.source) o false) program_row)
+    program_row : find (has_id (codes "program")) rows ≡ Some (use_row (program_built, asked.program ∷ []))
+    program_row = leaves.other (codes "program") program_built refl refl
 
-      rows_ask : running_by rows ≡ running asked seed program
-      rows_ask = running_are _ _ _ _ _ _ (run_is run names offers_run asks.options asks.flags asked asks.asks arguments used_flags file_uses leaves)
-          (required_is run (codes "seed") seed_long offers_seed asks.options arguments used_flags.uses file_uses leaves seed asks.seeds)
-          (ap (λ o. unwrap_or (option_and_then (λ r. slice_get r.values 0) o) []) program_row)
+    passes : check_fault run rows false ≡ []
+    passes = all_given rows (unit_given run names offers_run.judged.unit asks.options asked.options.unit asks.asks.unit arguments used_flags.uses files leaves)
+        (required_given run (codes "seed") seed_long offers_seed asks.options arguments used_flags.uses files leaves asked.drain_seed asks.seeds)
+        (ap (λ o. option_map_or (λ r. explicit_source r.source) o false) program_row)
 
-      pub run_taken : fault_of (tsobench_app names) (codes "run" ∷ arguments) ≡ []
-      run_taken = run_fault names arguments ∙ ap (λ kinds. or_else kinds []) (leaves.fault ∙ passes)
+    rows_ask : running_by rows ≡ running asked
+    rows_ask = running_are _ _ (run_is run names offers_run asks.options asks.flags asked.options asks.asks arguments used_flags files leaves)
+        (required_is run (codes "seed") seed_long offers_seed asks.options arguments used_flags.uses files leaves asked.drain_seed asks.seeds)
+        (ap (λ o. unwrap_or (option_and_then (λ r. slice_get r.values 0) o) []) program_row)
 
-      pub run_asked : asked_by (subcommand_of (tsobench_app names) (codes "run" ∷ arguments)) ≡ running asked seed program
-      run_asked = ap asked_by (run_found names arguments) ∙ ap (λ (r : List Row). asked_by (Some (codes "run", r))) leaves.after ∙ rows_ask
+    pub run_taken : fault_of (tsobench_app names) (codes "run" ∷ arguments) ≡ []
+    run_taken = run_fault names arguments ∙ ap (λ kinds. or_else kinds []) (leaves.fault ∙ passes)
+
+    pub run_asked : asked_by (subcommand_of (tsobench_app names) (codes "run" ∷ arguments)) ≡ running asked
+    run_asked = ap asked_by (run_found names arguments) ∙ ap (λ (r : List Row). asked_by (Some (codes "run", r))) leaves.after ∙ rows_ask

@@ -14,7 +14,7 @@ use Rattle.clap.proofs.OnLiterals.{clap_on_literals}
 use Rattle.command_line.specs.Commands.{UnitNames, tsobench_app}
 use Rattle.command_line.specs.Options.{AreGiven, AreNamed, IsOneOf, NamesOption, option_value}
 use Rattle.command_line.specs.Refusals.{IsOutside, TakesNumber}
-use Rattle.command_line.specs.Requests.{Text, number_limit}
+use Rattle.command_line.specs.Requests.{Text, number_limit, prints_trace}
 use Rattle.command_line.specs.Spellings.{AsksRequired, AsksRun, run_names, seeded_names}
 use Rattle.command_line.specs.Units.{is_unit, unit_names}
 use Rattle.command_line.specs.declared.options.RunOptions.{RunOptions}
@@ -108,8 +108,8 @@ module _ (names : UnitNames) (are : map (λ name. name.now) names.now ≡ unit_n
     used_files : FileUses files
     used_files = one_or_none files few
 
-    used_flags : FlagUses (run names) names (offers_run names) flags asked.prints_trace
-    used_flags = flag_uses (run names) names (offers_run names) flags asked.prints_trace asks.trace
+    used_flags : FlagUses (run names) names (offers_run names) flags (prints_trace asked.printing)
+    used_flags = flag_uses (run names) names (offers_run names) flags (prints_trace asked.printing) asks.trace
 
     leaves : LeavesRows (run names) arguments options used_flags.uses used_files.uses
     leaves = leaves_rows (run names) refl (defaults names) options flags files arguments used_flags.uses used_files.uses
@@ -126,8 +126,8 @@ module _ (names : UnitNames) (are : map (λ name. name.now) names.now ≡ unit_n
 
   module _ (asked : RunOptions) (seed : ℕ) (options : List (Text × Text)) (flags arguments : List Text) (given : AreGiven options flags [] arguments)
       (named : AreNamed seeded_names options) (asks : AsksRun options flags asked) (seeds : AsksRequired (codes "seed") options seed) where
-    seeded_flags : FlagUses (run names) names (offers_run names) flags asked.prints_trace
-    seeded_flags = flag_uses (run names) names (offers_run names) flags asked.prints_trace asks.trace
+    seeded_flags : FlagUses (run names) names (offers_run names) flags (prints_trace asked.printing)
+    seeded_flags = flag_uses (run names) names (offers_run names) flags (prints_trace asked.printing) asks.trace
 
     seeded_leaves : LeavesRows (run names) arguments options seeded_flags.uses []
     seeded_leaves = leaves_rows (run names) refl (defaults names) options flags [] arguments seeded_flags.uses []

@@ -74,9 +74,9 @@ module _ (units : UnitNames) where
   plain_is are arguments wanted asked (asks.replay rest run program_file schedule h) is =
       by_matches _ asked _ (replay.replay_taken units program_file schedule are rest run h) (unchanged (codes "replay" ∷ rest) asked (subcommand.replay_parsed rest) is)
       ∙ replay.replay_asked units program_file schedule are rest run h
-  plain_is are arguments wanted asked (asks.run rest options seed program_file h) is =
-      by_matches _ asked _ (run.run_taken units program_file are rest options seed h) (unchanged (codes "run" ∷ rest) asked (subcommand.run_parsed rest) is)
-      ∙ run.run_asked units program_file are rest options seed h
+  plain_is are arguments wanted asked (asks.run rest asked_run h) is =
+      by_matches _ asked _ (run.run_taken units are rest asked_run h) (unchanged (codes "run" ∷ rest) asked (subcommand.run_parsed rest) is)
+      ∙ run.run_asked units are rest asked_run h
   plain_is are arguments wanted asked (asks.make rest seed shape h) is =
       by_matches _ asked _ (make.make_taken units rest seed shape h) (unchanged (codes "make" ∷ rest) asked (subcommand.make_parsed rest) is)
       ∙ make.make_asked units rest seed shape h

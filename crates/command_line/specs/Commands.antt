@@ -16,7 +16,7 @@ use Rattle.command_line.specs.declared.options.RunOptions.{RunOptions}
 use Rattle.command_line.specs.declared.options.ShapeNumbers.{ShapeNumbers}
 use Rattle.command_line.specs.declared.options.UnitKind.{UnitKind}
 use Rattle.command_line.specs.declared.options.UnitOptions.{UnitOptions}
-use Rattle.command_line.specs.Requests.{Text, Asked, campaigning, capacity_limit, making, number_limit, judging, checking, replaying, running, showing, refusing}
+use Rattle.command_line.specs.Requests.{Text, Asked, AskedRun, campaigning, capacity_limit, making, number_limit, judging, checking, prints_trace, replaying, running, showing, refusing}
 use Rattle.command_line.specs.Units.{default_capacity, default_trigger, trigger_limit, unit_kind, unit_names}
 
 -- ---- the command line
@@ -161,7 +161,7 @@ pub record AskUnit (rows : List Row) (unit : UnitOptions) : Type 0 where
 pub record AskRun (rows : List Row) (options : RunOptions) : Type 0 where
   pub unit : AskUnit rows options.unit
   pub workers : AskWorkers rows options.workers
-  pub trace : AskFlag (codes "trace") rows options.prints_trace
+  pub trace : AskFlag (codes "trace") rows (prints_trace options.printing)
 
 -- the rows ask by the option of this name, which has no default, for the number that its text spells, since `clap`
 -- refuses any other
@@ -192,8 +192,11 @@ abbrev pub replaying_with : RunOptions → List Row → Asked
 replaying_with options rows =
     replaying options (unwrap_or (first_of (codes "program") rows) []) (unwrap_or (first_of (codes "schedule") rows) [])
 
-abbrev pub running_with : RunOptions → ℕ → List Row → Asked
-running_with options seed rows = running options seed (unwrap_or (first_of (codes "program") rows) [])
+-- the rows ask for this run of a program
+pub record AskToRun (rows : List Row) (run : AskedRun) : Type 0 where
+  pub options : AskRun rows run.options
+  pub seed : AskRequired (codes "seed") rows run.drain_seed
+  pub program : run.program ≡ unwrap_or (first_of (codes "program") rows) []
 
 -- the subcommand of this name, with these rows, asks for that
 pub record IsAskedIn (name : Text) (rows : List Row) (asked : Asked) : Type 0 where
@@ -201,9 +204,7 @@ pub record IsAskedIn (name : Text) (rows : List Row) (asked : Asked) : Type 0 wh
   pub check : name ≡ codes "check" → asked ≡ checking_by rows
   pub replay : name ≡ codes "replay"
       → (options : RunOptions) × AskRun rows options × (asked ≡ replaying_with options rows)
-  pub run : name ≡ codes "run"
-      → (options : RunOptions) × (seed : ℕ) × AskRun rows options × AskRequired (codes "seed") rows seed
-      × (asked ≡ running_with options seed rows)
+  pub run : name ≡ codes "run" → (run : AskedRun) × AskToRun rows run × (asked ≡ running run)
   pub make : name ≡ codes "make"
       → (seed : ℕ) × (shape : ShapeNumbers) × AskRequired (codes "seed") rows seed × AskShape rows shape × (asked ≡ making seed shape)
   pub campaign : name ≡ codes "campaign"

@@ -7,7 +7,7 @@ use Rattle.command_line.specs.declared.options.RunOptions.{RunOptions}
 use Rattle.command_line.specs.declared.options.ShapeNumbers.{ShapeNumbers}
 use Rattle.command_line.specs.declared.options.UnitOptions.{UnitOptions}
 use Rattle.command_line.specs.Options.{AreGiven, AreNamed, AsksFlag, AsksNumber, option_value}
-use Rattle.command_line.specs.Requests.{Text, Asked, campaigning, capacity_limit, making, number_limit, judging, checking, replaying, running}
+use Rattle.command_line.specs.Requests.{Text, Asked, AskedRun, campaigning, capacity_limit, making, number_limit, judging, checking, prints_trace, replaying, running}
 use Rattle.command_line.specs.Units.{default_capacity, default_trigger, trigger_limit, unit_kind}
 
 -- the options of `judge`: none, for one worker, or a number of workers, in digits without a leading zero
@@ -37,7 +37,7 @@ pub record AsksUnit (options : List (Text × Text)) (unit : UnitOptions) : Type 
 pub record AsksRun (options : List (Text × Text)) (flags : List Text) (run : RunOptions) : Type 0 where
   pub unit : AsksUnit options run.unit
   pub workers : AsksNumber 1 1 worker_limit (option_value (codes "workers") options) run.workers
-  pub trace : AsksFlag (codes "trace") flags run.prints_trace
+  pub trace : AsksFlag (codes "trace") flags (prints_trace run.printing)
 
 -- the names of the options of a run
 abbrev pub run_names : List Text
@@ -61,14 +61,14 @@ abbrev pub seeded_names : List Text
 seeded_names = codes "seed" ∷ run_names
 
 -- the arguments after `run`, as `--unit UNIT [--capacity C] [--trigger T] [--workers N] [--trace] --seed N PROGRAM` with
--- the options in any order, ask for this run of a program with this seed of the drains
-pub record AsksToRun (arguments : List Text) (run : RunOptions) (seed : ℕ) (program : Text) : Type 0 where
+-- the options in any order, ask for this run of a program
+pub record AsksToRun (arguments : List Text) (run : AskedRun) : Type 0 where
   pub options : List (Text × Text)
   pub flags : List Text
-  pub given : AreGiven options flags (program ∷ []) arguments
+  pub given : AreGiven options flags (run.program ∷ []) arguments
   pub named : AreNamed seeded_names options
-  pub asks : AsksRun options flags run
-  pub seeds : AsksRequired (codes "seed") options seed
+  pub asks : AsksRun options flags run.options
+  pub seeds : AsksRequired (codes "seed") options run.drain_seed
 
 -- the options ask for a shape of these numbers
 pub record AsksShape (options : List (Text × Text)) (shape : ShapeNumbers) : Type 0 where
@@ -123,8 +123,7 @@ pub data Asks : List Text → Asked → Type 0 where
       → Asks (codes "check" ∷ rest) (checking trace certificate)
   replay : (rest : List Text) (run : RunOptions) (program schedule : Text) → AsksToReplay rest run program schedule
       → Asks (codes "replay" ∷ rest) (replaying run program schedule)
-  run : (rest : List Text) (options : RunOptions) (seed : ℕ) (program : Text) → AsksToRun rest options seed program
-      → Asks (codes "run" ∷ rest) (running options seed program)
+  run : (rest : List Text) (run : AskedRun) → AsksToRun rest run → Asks (codes "run" ∷ rest) (running run)
   make : (rest : List Text) (seed : ℕ) (shape : ShapeNumbers) → AsksToMake rest seed shape
       → Asks (codes "make" ∷ rest) (making seed shape)
   campaign : (rest : List Text) (options : CampaignOptions) → AsksToCampaign rest options

@@ -4,14 +4,14 @@ use Rattle.std.specs.Str.{bytes_eq}
 use Rattle.command_line.specs.declared.options.UnitKind.{UnitKind}
 use Rattle.command_line.specs.declared.options.UnitKind.TheVariants.{Serial, Buffer, Faulty}
 use Rattle.command_line.specs.Requests.{Text}
+use Rattle.unit_faulty.specs.Faulty.{fault_name}
 use Rattle.unit_faulty.specs.declared.kinds.FaultKind.TheVariants.{NewestFirst, NoForward, StaleLoad, TornSwap, IdleMembar, LostDrain}
 
 -- the units, each with its name and its kind
 abbrev pub units : List (Text × UnitKind)
 units =
     (codes "serial", Serial) ∷ (codes "buffer", Buffer)
-    ∷ (codes "newest-first", Faulty NewestFirst) ∷ (codes "no-forward", Faulty NoForward) ∷ (codes "stale-load", Faulty StaleLoad)
-    ∷ (codes "torn-swap", Faulty TornSwap) ∷ (codes "idle-membar", Faulty IdleMembar) ∷ (codes "lost-drain", Faulty LostDrain) ∷ []
+    ∷ map (λ kind. (fault_name kind, Faulty kind)) (NewestFirst ∷ NoForward ∷ StaleLoad ∷ TornSwap ∷ IdleMembar ∷ LostDrain ∷ [])
 
 abbrev pub unit_names : List Text
 unit_names = map (λ unit. unit.0) units

@@ -4,13 +4,13 @@ ghost use Rattle.clap.specs.Words.{found_of, rows_of, subcommand_rows_of};
 ghost use Rattle.command_line.specs.Requests.{HasUnitRanges, HasWorkers, asked_of};
 ghost use Rattle.command_line.specs.Workers.{worker_limit};
 ghost use Rattle.command_line.specs.Commands.{checking_by};
-ghost use Rattle.command_line.specs.Internal.Computed.{asked_by, campaigning_by, capacity_in, judging_by, making_by, replaying_by, required_in, run_in, running_by, shape_in, trigger_in, unit_in, workers_in};
+ghost use Rattle.command_line.specs.Internal.Computed.{asked_by, campaigning_by, capacity_in, judging_by, making_by, printing_in, replaying_by, required_in, run_in, running_by, shape_in, trigger_in, unit_in, workers_in};
 
 use crate::options::{
-    CampaignOptions, MAX_CAPACITY, MAX_WORKERS, RunOptions, ShapeNumbers, UnitKind, UnitOptions,
-    kind_named,
+    CampaignOptions, MAX_CAPACITY, MAX_WORKERS, Printing, RunOptions, ShapeNumbers, UnitKind,
+    UnitOptions, kind_named,
 };
-use crate::requests::Request;
+use crate::requests::{Request, RunRequest};
 use clap::ArgMatches;
 
 /// What the matches ask for: without a subcommand, to judge standard input with one worker.
@@ -80,11 +80,11 @@ fn run_request<'a>(matches: &ArgMatches<'a>) -> Request<'a>
     ensures { asked_of result ≡ running_by (rows_of (found_of matches.now)) }
 {
     let program = matches.get_str("program").unwrap_or("");
-    Request::Run {
+    Request::Run(RunRequest {
         options: run_options(matches),
         drain_seed: required_number(matches, "seed"),
         program,
-    }
+    })
 }
 
 /// What the matches of `make` ask for. The command has refused arguments without a seed or a shape.
@@ -136,7 +136,18 @@ fn run_options(matches: &ArgMatches<'_>) -> RunOptions
     RunOptions {
         unit: unit_options(matches),
         workers: workers(matches),
-        prints_trace: matches.get_one("trace").unwrap_or(false),
+        printing: printing(matches),
+    }
+}
+
+/// What is to be printed: the trace where its flag is used, else the report.
+fn printing(matches: &ArgMatches<'_>) -> Printing
+    ensures { result ≡ printing_in (rows_of (found_of matches.now)) }
+{
+    if matches.get_one("trace").unwrap_or(false) {
+        Printing::Trace
+    } else {
+        Printing::Report
     }
 }
 

@@ -61,6 +61,15 @@ pub struct UnitOptions {
     pub trigger: u64,
 }
 
+/// What is printed of a run or a replay.
+#[derive(Clone, Copy, Debug, PartialEq, Eq)]
+pub enum Printing {
+    /// The report of the recorded trace, and the account of the unit's steps.
+    Report,
+    /// The recorded trace alone.
+    Trace,
+}
+
 /// How a program is run, and what is printed of it.
 #[derive(Clone, Copy, Debug, PartialEq, Eq)]
 pub struct RunOptions {
@@ -68,8 +77,8 @@ pub struct RunOptions {
     pub unit: UnitOptions,
     /// The number of workers that judge the recorded trace, 1 to 64.
     pub workers: usize,
-    /// Whether the recorded trace is printed, in place of its report and the account.
-    pub prints_trace: bool,
+    /// What is printed.
+    pub printing: Printing,
 }
 
 /// The shape of a drawn program, as numbers that no limit was compared with.

@@ -15,6 +15,17 @@ use clap::error::ErrorKind;
 use clap::{ArgMatches, Error};
 use std::alloc::{AllocError, Global};
 
+/// Which program to run with a thread per processor, and how.
+#[derive(Clone, Copy, Debug, PartialEq, Eq)]
+pub struct RunRequest<'a> {
+    /// The unit, the number of workers, and what is printed.
+    pub options: RunOptions,
+    /// The seed that the drains follow.
+    pub drain_seed: u64,
+    /// The file of the program.
+    pub program: &'a str,
+}
+
 /// What the arguments of a command line ask for.
 #[derive(Debug, Drop)]
 pub enum Request<'a> {
@@ -35,12 +46,8 @@ pub enum Request<'a> {
         program: &'a str,
         schedule: &'a str,
     },
-    /// To run the program in this file with a thread per processor, whose drains follow this seed.
-    Run {
-        options: RunOptions,
-        drain_seed: u64,
-        program: &'a str,
-    },
+    /// To run a program with a thread per processor.
+    Run(RunRequest<'a>),
     /// To print the program that is drawn from this seed in this shape.
     Make {
         seed: u64,

@@ -7,9 +7,10 @@ use Rattle.unit_core.specs.Units.{UnitValue}
 use Rattle.issue_desk.specs.declared.faults.RunFault.{RunFault}
 use Rattle.issue_desk.specs.Finishing.{CountsRecord}
 
--- The record of a run of the program on the unit that was handed in: its trace has all operations of the program and no others, and it is lawful where
+-- The record of a run of the program on the unit that was handed in: it is of this unit, its trace has all operations of the program and no others, and it is lawful where
 -- the unit is, and not of PSO where the program is of TSO.
 pub record IsRunOf (program : ProgramValue) (unit : UnitValue) (r : RecordedValue) : Type 0 where
+  pub design : r.design ≡ unit.design
   pub ops : program_of r.trace ≡ program
   pub lawful : r.lawful ≡ (unit.lawful && is_within unit.order program.setting.order)
   pub kept : IsRecorded r

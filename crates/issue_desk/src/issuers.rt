@@ -2,10 +2,10 @@
 ghost use Rattle.std.specs.Prelude.{◌≡◌, ◌+◌, ◌-◌, ◌≤◌, ◌<◌, ℕ, IfOk};
 ghost use Rattle.issue_desk.specs.Internal.Passes.{ArePassesFrom};
 
-use crate::desks::Desk;
 use crate::faults::RunFault;
 use crate::gates::Gate;
 use crate::passes::Pass;
+use crate::run_desks::{RunDesign, RunDesk};
 use rand_core::{Rng, SeedableRng};
 use rand_pcg::Pcg64;
 use std::alloc::Global;
@@ -44,9 +44,9 @@ impl Promise<Result<Pass, OutOfMemory>> for PassOf {
 }
 
 /// Drains processor `p` up to `count` times, each under a lock of its own taking, and stops where nothing waits.
-fn drain_up_to<U: MemoryUnit + Send, R: Wait>(
+fn drain_up_to<D: RunDesign + Send, U: MemoryUnit + Send, R: Wait>(
     rt: &R,
-    desk: &Mutex<Desk<U>>,
+    desk: &Mutex<RunDesk<D, U>>,
     p: usize,
     count: u64,
 ) -> Result<(), OutOfMemory>
@@ -63,10 +63,10 @@ fn drain_up_to<U: MemoryUnit + Send, R: Wait>(
 /// Issues the operations of processor `p`, one after the other, with drains after each: their number is a word of the
 /// processor's own generator, modulo 3. The processor's pass, or OutOfMemory where the unit answered it or an allocation
 /// was refused.
-fn issue_all<U: MemoryUnit + Send, R: Wait, G: Gate>(
+fn issue_all<D: RunDesign + Send, U: MemoryUnit + Send, R: Wait, G: Gate>(
     rt: &R,
     alloc: Global,
-    shared: Shared<&Mutex<Desk<U>>, &G>,
+    shared: Shared<&Mutex<RunDesk<D, U>>, &G>,
     p: usize,
 ) -> Result<Pass, OutOfMemory>
     requires { p < 16 }
@@ -85,11 +85,11 @@ fn issue_all<U: MemoryUnit + Send, R: Wait, G: Gate>(
 }
 
 /// Starts the issuer of processor `p`. NoThread where the system refused the thread.
-fn start_issuer<'s, E, U: MemoryUnit + Send, R: Wait + Sync, G: Gate + Sync>(
+fn start_issuer<'s, E, D: RunDesign + Send, U: MemoryUnit + Send, R: Wait + Sync, G: Gate + Sync>(
     scope: &'s Scope<'s, E>,
     rt: &'s R,
     alloc: Global,
-    shared: Shared<&'s Mutex<Desk<U>>, &'s G>,
+    shared: Shared<&'s Mutex<RunDesk<D, U>>, &'s G>,
     p: usize,
 ) -> Result<PromisedHandle<Result<Pass, OutOfMemory>, PassOf>, RunFault>
     requires { p < 16 }
@@ -121,11 +121,18 @@ fn joined_passes(
 
 /// The passes of the processors from `p` on, each given back by an issuer in a thread of the scope. All threads that were
 /// started are joined.
-fn passes_from<'s, E, U: MemoryUnit + Send, R: Threads + Wait + Sync, G: Gate + Sync>(
+fn passes_from<
+    's,
+    E,
+    D: RunDesign + Send,
+    U: MemoryUnit + Send,
+    R: Threads + Wait + Sync,
+    G: Gate + Sync,
+>(
     scope: &'s Scope<'s, E>,
     rt: &'s R,
     alloc: Global,
-    shared: Shared<&'s Mutex<Desk<U>>, &'s G>,
+    shared: Shared<&'s Mutex<RunDesk<D, U>>, &'s G>,
     p: usize,
 ) -> Result<Vec<Pass>, RunFault>
     requires most { shared.processors ≤ 16 }
@@ -142,10 +149,15 @@ fn passes_from<'s, E, U: MemoryUnit + Send, R: Threads + Wait + Sync, G: Gate + 
 
 /// The passes of a run's processors, in order, each given back by an issuer in a thread of its own. OutOfMemory where the
 /// unit answered it or an allocation was refused, NoThread where the system refused a thread; all threads are joined.
-pub(crate) fn issue_in_threads<U: MemoryUnit + Send, R: Threads + Wait + Sync, G: Gate + Sync>(
+pub(crate) fn issue_in_threads<
+    D: RunDesign + Send,
+    U: MemoryUnit + Send,
+    R: Threads + Wait + Sync,
+    G: Gate + Sync,
+>(
     rt: &R,
     alloc: Global,
-    desk: &Mutex<Desk<U>>,
+    desk: &Mutex<RunDesk<D, U>>,
     issuers: Issuers<'_, G>,
     processors: usize,
 ) -> Result<Vec<Pass>, RunFault>

@@ -14,4 +14,5 @@ mod faults;
 mod gates;
 mod issuers;
 mod passes;
+mod run_desks;
 mod running;

@@ -1,11 +1,13 @@
-ghost use Rattle.std.specs.Prelude.{◌≡◌, []};
+ghost use Rattle.std.specs.Prelude.{◌≡◌, [], IfOk};
 ghost use Rattle.issue_desk.specs.Running.{Runs};
 
 use crate::desks::Desk;
 use crate::faults::RunFault;
 use crate::gates::Gate;
 use crate::issuers::{Issuers, issue_in_threads};
+use crate::run_desks::{RunDesign, RunDesk};
 use std::alloc::Global;
+use std::marker::Brand;
 use std::sync::{Mutex, Wait};
 use std::thread::Threads;
 use tso_ops::{OutOfMemory, Program};
@@ -48,12 +50,29 @@ pub fn run_over<U: MemoryUnit + Send, R: Threads + Wait + Sync, G: Gate + Sync>(
     requires { (U.value_of unit).steps ≡ [] }
     ensures { Runs program.now (U.value_of unit) account.new result }
 {
+    run_of::<Brand, U, R, G>(rt, alloc, program, unit, issuers, account)
+}
+
+/// `run_over` for a unit of this design.
+fn run_of<D: RunDesign + Send, U: MemoryUnit + Send, R: Threads + Wait + Sync, G: Gate + Sync>(
+    rt: &R,
+    alloc: Global,
+    program: &Program,
+    unit: U,
+    issuers: Issuers<'_, G>,
+    account: &mut Account,
+) -> Result<Recorded, RunFault>
+    requires untouched { (U.value_of unit).steps ≡ [] }
+    requires design { (U.value_of unit).design ≡ D.design }
+    ensures { Runs program.now (U.value_of unit) account.new result }
+{
     // the account of a unit that takes no step, where the desk is refused memory
     *account = Account::of_steps(&[]);
     let lawful = is_lawful_under(&unit, program.order());
-    let desk = Mutex::new(open_desk(alloc, program, unit)?);
+    let desk: RunDesk<D, U> = RunDesk::new(open_desk(alloc, program, unit)?);
+    let desk = Mutex::new(desk);
     let passes = issue_in_threads(rt, alloc, &desk, issuers, program.processors());
-    let desk = desk.into_inner();
+    let desk = desk.into_inner().into_desk();
     let passes = match passes {
         Ok(passes) => passes,
         Err(fault) => {
@@ -76,6 +95,7 @@ fn open_desk<U: MemoryUnit>(
     unit: U,
 ) -> Result<Desk<U>, OutOfMemory>
     requires { (U.value_of unit).steps ≡ [] }
+    ensures { IfOk result (λ desk. desk.unit.design ≡ (U.value_of unit).design) }
 {
     let own = program.copy()?;
     Desk::new(alloc, own, unit)

@@ -13,8 +13,8 @@ mod shown;
 fn described_options(alloc: Global, options: &RunOptions) -> Result<String, AllocError> {
     let unit = options.unit;
     format!(in alloc;
-        "on {:?} {} {} with {} trace {}",
-        unit.kind, unit.capacity, unit.trigger, options.workers, options.prints_trace
+        "on {:?} {} {} with {} printing {:?}",
+        unit.kind, unit.capacity, unit.trigger, options.workers, options.printing
     )
 }
 
@@ -58,13 +58,9 @@ fn described(alloc: Global, request: &Request<'_>) -> Result<String, AllocError>
             let options = described_options(alloc, options)?;
             format!(in alloc; "replay {program:?} by {schedule:?} {options}")
         }
-        Request::Run {
-            options,
-            drain_seed,
-            program,
-        } => {
-            let options = described_options(alloc, options)?;
-            format!(in alloc; "run {program:?} seeded {drain_seed} {options}")
+        Request::Run(run) => {
+            let options = described_options(alloc, &run.options)?;
+            format!(in alloc; "run {:?} seeded {} {options}", run.program, run.drain_seed)
         }
         Request::Make { seed, shape } => {
             let shape = described_shape(alloc, shape)?;

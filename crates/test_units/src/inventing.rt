@@ -6,7 +6,7 @@ ghost use Rattle.test_units.specs.Inventing.{inventing_design, inventing_unit};
 use std::alloc::Global;
 use std::marker::Model;
 use tso_ops::{Order, OutOfMemory};
-use unit_core::{MemoryUnit, Step};
+use unit_core::{History, MemoryUnit, Step};
 
 /// What each load and each swap of an `InventingUnit` answers.
 pub const INVENTED: u64 = 999_999;
@@ -15,20 +15,15 @@ pub const INVENTED: u64 = 999_999;
 /// call.
 #[derive(Debug, Drop)]
 pub struct InventingUnit {
-    /// The first value of each address.
-    first: Vec<u64>,
-    steps: Vec<Step>,
+    history: History,
 }
 
 impl Model for InventingUnit {
-    ghost use Rattle.std.specs.Prelude.{◌≡◌, length};
     ghost use Rattle.test_units.specs.Inventing.{InventingValue};
 
     ghost Value = { InventingValue };
 
-    ghost view = { λ u. record { steps = u.steps.items; first = u.first.items } };
-
-    ghost invariant = { λ u. length u.first.items ≡ 256 };
+    ghost view = { λ u. record { steps = u.history.steps; first = u.history.first } };
 }
 
 impl InventingUnit {
@@ -37,8 +32,7 @@ impl InventingUnit {
         ensures { IfOk result (λ u. inventing_unit u ≡ new_unit inventing_design false Tso) }
     {
         Ok(InventingUnit {
-            first: vec![in alloc; 0; 256]?,
-            steps: Vec::new(alloc),
+            history: History::new(alloc)?,
         })
     }
 }
@@ -47,18 +41,19 @@ impl MemoryUnit for InventingUnit {
     ghost value_of = { inventing_unit };
 
     fn load(&mut self, p: usize, a: u16) -> Result<u64, OutOfMemory> {
-        self.steps.push(Step::Load { p, a, r: INVENTED })?;
+        self.history.append(Step::Load { p, a, r: INVENTED })?;
         Ok(INVENTED)
     }
 
     fn store(&mut self, p: usize, a: u16, v: u64) -> Result<(), OutOfMemory> {
-        self.steps
-            .extend_from_slice(&[Step::Store { p, a, v }, Step::Drain { p }])?;
+        self.history.reserve(2)?;
+        self.history.push_reserved(Step::Store { p, a, v });
+        self.history.push_reserved(Step::Drain { p });
         Ok(())
     }
 
     fn swap(&mut self, p: usize, a: u16, v: u64) -> Result<u64, OutOfMemory> {
-        self.steps.push(Step::Swap {
+        self.history.append(Step::Swap {
             p,
             a,
             r: INVENTED,
@@ -68,12 +63,12 @@ impl MemoryUnit for InventingUnit {
     }
 
     fn membar(&mut self, p: usize) -> Result<(), OutOfMemory> {
-        self.steps.push(Step::Membar { p })?;
+        self.history.append(Step::Membar { p })?;
         Ok(())
     }
 
     fn stbar(&mut self, p: usize) -> Result<(), OutOfMemory> {
-        self.steps.push(Step::Stbar { p })?;
+        self.history.append(Step::Stbar { p })?;
         Ok(())
     }
 
@@ -82,7 +77,7 @@ impl MemoryUnit for InventingUnit {
     }
 
     fn preset(&mut self, a: u16, v: u64) {
-        self.first[a as usize] = v;
+        self.history.preset(a, v);
     }
 
     fn waiting(&self, _p: usize) -> usize {
@@ -90,7 +85,7 @@ impl MemoryUnit for InventingUnit {
     }
 
     fn steps(&self) -> &[Step] {
-        &self.steps
+        self.history.steps()
     }
 
     fn lawful(&self) -> bool {
@@ -102,6 +97,6 @@ impl MemoryUnit for InventingUnit {
     }
 
     fn first(&self, a: u16) -> u64 {
-        self.first[a as usize]
+        self.history.first(a)
     }
 }

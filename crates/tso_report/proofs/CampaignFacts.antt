@@ -1,18 +1,20 @@
 -- Lemmas on campaigns: verdicts as they come in, and the lines of seeds.
-use Rattle.std.proofs.Common.{◌≡◌, ℕ, suc, ◌+◌, ◌<◌, ◌≤◌, ◌^◌, inl, inr, Bool, false, List, [], ◌∷◌, ◌++◌, length, map, take, set, get_or, replicate, Option, None, Some, unwrap_or, is_some, true≢false, refl, ap, sym, subst, ◌∙◌, arith, append_assoc, codes, length-set}
+use Rattle.std.proofs.Common.{◌≡◌, ℕ, suc, ◌+◌, ◌<◌, ◌≤◌, ◌^◌, inl, inr, Bool, true, false, ◌&&◌, List, [], ◌∷◌, ◌++◌, length, map, take, set, get_or, replicate, Option, None, Some, unwrap_or, is_some, true≢false, refl, ap, sym, subst, ◌∙◌, arith, append_assoc, codes, length-set}
 use Rattle.std.specs.Fmt.{decimal}
 use Rattle.std.proofs.lemmas.Bool.{cases_eq}
 use Rattle.std.proofs.lemmas.List.{append-nil, length-take-le, take_more, get_or-map, get_or-replicate, get_or-set_other, get_or-set_same, length-map, length-replicate}
+use Rattle.tso_ops.specs.Drawing as Drawing
 use Rattle.tso_ops.specs.Drawing.{ShapeValue}
 use Rattle.tso_ops.specs.Values.{ProgramValue, TraceValue}
 use Rattle.tso_model.specs.Order.{IsConsistent}
-use Rattle.unit_core.specs.Records.{RecordedValue}
+use Rattle.tso_ops.specs.declared.settings.Order.TheVariants.{Tso}
+use Rattle.unit_core.specs.Records.{RecordedValue, is_within}
 use Rattle.unit_core.specs.Units.{UnitValue}
 use Rattle.issue_desk.specs.Running.{IsRunOf}
 use Rattle.tso_report.specs.declared.verdicts.Verdict.{Verdict}
 use Rattle.tso_report.specs.declared.verdicts.Verdict.TheVariants.{NoViolation, Violation, Refused}
 use Rattle.tso_report.specs.Campaigns.{AreVerdicts, IsVerdictOfSeed, program_of_seed, seed_line, seed_lines, verdict_line, verdict_of}
-use Rattle.tso_report.specs.Internal.Gathering.{GatheredValue, IsGathered, is_violation}
+use Rattle.tso_report.specs.Internal.Gathering.{AreUnitsFrom, GatheredValue, IsGathered, KeepsSeeds, is_violation}
 use Rattle.tso_report.specs.Reports.{IsTraceReport}
 use Rattle.tso_report.proofs.InputFacts.{consistent_verdict}
 use Rattle.tso_report.proofs.LawfulRecords.{lawful_consistent}
@@ -46,25 +48,27 @@ lines-written seed violations i verdict old new inside is before added =
     ∙ sym (seed_lines-more seed violations i inside)
 
 -- nothing came yet
-pub gathered-new : (shape : ShapeValue) (first : ℕ) (lawful : List Bool) → first + length lawful ≤ 2 ^ 64 →
-    IsGathered (record { shape = shape; first = first; lawful = lawful; violations = replicate (length lawful) None })
-gathered-new shape first lawful last = record {
-  last = last;
-  one_each = length-replicate (length lawful) None;
-  came = λ i violation inside some. absurd (true≢false (sym (ap is_some (sym (get_or-replicate (length lawful) i None None inside) ∙ some))));
-}
+pub gathered-new : (unit_of : ℕ → UnitValue) (shape : ShapeValue) (first seeds : ℕ) → first + seeds ≤ 2 ^ 64 →
+    IsGathered unit_of (record { shape = shape; first = first; violations = replicate seeds None })
+gathered-new unit_of shape first seeds last =
+    let none : Option Bool = None in
+    let count : length (replicate seeds none) ≡ seeds = length-replicate seeds none in
+    record {
+      last = omega (arith, last, count);
+      came = λ i violation inside some. absurd (true≢false (sym (ap is_some (sym (get_or-replicate seeds i None None (omega (arith, inside, count))) ∙ some))));
+    }
 
 -- the verdict of seed i came
-pub gathered-set : (g : GatheredValue) (i : ℕ) (violation : Bool) → i < length g.lawful → IsVerdictOfSeed g.shape (g.first + i) (get_or g.lawful i false) violation →
-    IsGathered g → IsGathered (record { shape = g.shape; first = g.first; lawful = g.lawful; violations = set g.violations i (Some violation) })
-gathered-set g i violation inside is so_far = record {
-  last = so_far.last;
-  one_each = length-set g.violations i (Some violation) ∙ so_far.one_each;
+pub gathered-set : (unit_of : ℕ → UnitValue) (g : GatheredValue) (i : ℕ) (violation : Bool) → i < length g.violations →
+    IsVerdictOfSeed g.shape (g.first + i) (unit_of (g.first + i)) violation → IsGathered unit_of g →
+    IsGathered unit_of (record { shape = g.shape; first = g.first; violations = set g.violations i (Some violation) })
+gathered-set unit_of g i violation inside is so_far = let count = length-set g.violations i (Some violation) in record {
+  last = omega (arith, so_far.last, count);
   came = λ j other within some. elim (cases_eq j i) [
     | inl e ↦
-        let read : Some violation ≡ Some other = sym (get_or-set_same g.violations i (Some violation) None (omega (arith, inside, so_far.one_each))) ∙ ap (λ k. get_or (set g.violations i (Some violation)) k None) (sym e) ∙ some in
-        rw e (subst (IsVerdictOfSeed g.shape (g.first + i) (get_or g.lawful i false)) (ap (λ o. unwrap_or o false) read) is)
-    | inr apart ↦ so_far.came j other within (sym (get_or-set_other g.violations i j (Some violation) None apart) ∙ some)
+        let read : Some violation ≡ Some other = sym (get_or-set_same g.violations i (Some violation) None inside) ∙ ap (λ k. get_or (set g.violations i (Some violation)) k None) (sym e) ∙ some in
+        rw e (subst (IsVerdictOfSeed g.shape (g.first + i) (unit_of (g.first + i))) (ap (λ o. unwrap_or o false) read) is)
+    | inr apart ↦ so_far.came j other (omega (arith, within, count)) (sym (get_or-set_other g.violations i j (Some violation) None apart) ∙ some)
   ];
 }
 
@@ -74,15 +78,27 @@ some_there None there = absurd (there refl)
 some_there (Some v) there = refl
 
 -- all came
-pub gathered-all : (g : GatheredValue) → IsGathered g → ((i : ℕ) → i < length g.violations → get_or g.violations i None ≡ None → ⊥) →
-    AreVerdicts g.shape g.first g.lawful (map (λ v. unwrap_or v false) g.violations)
-gathered-all g so_far there = record {
-  one_each = length-map g.violations _ ∙ so_far.one_each;
+pub gathered-all : (unit_of : ℕ → UnitValue) (g : GatheredValue) → IsGathered unit_of g → ((i : ℕ) → i < length g.violations → get_or g.violations i None ≡ None → ⊥) →
+    (units : List UnitValue) → length units ≡ length g.violations → AreUnitsFrom unit_of g.first units →
+    AreVerdicts g.shape g.first units (map (λ v. unwrap_or v false) g.violations)
+gathered-all unit_of g so_far there units count are = record {
+  one_each = length-map g.violations _ ∙ sym count;
   each = λ i inside.
-      let within : i < length g.violations = omega (arith, inside, so_far.one_each) in
-      rw (get_or-map (λ (v : Option Bool). unwrap_or v false) g.violations i None false within)
-      (so_far.came i _ inside (some_there (get_or g.violations i None) (there i within)));
+      let within : i < length g.violations = omega (arith, inside, count) in
+      rw (get_or-map (λ (v : Option Bool). unwrap_or v false) g.violations i None false within, are i inside)
+      (so_far.came i _ within (some_there (get_or g.violations i None) (there i within)));
 }
+
+-- all came of these units
+pub came-all : (shape : ShapeValue) (first : ℕ) (units : List UnitValue) (unit_of : ℕ → UnitValue) (old new : GatheredValue) (violations : List Bool) →
+    (old.shape ≡ shape) × (old.first ≡ first) × (length old.violations ≡ length units) → KeepsSeeds old new → AreUnitsFrom unit_of first units →
+    ((us : List UnitValue) → length us ≡ length new.violations → AreUnitsFrom unit_of new.first us → AreVerdicts new.shape new.first us violations) →
+    AreVerdicts shape first units violations
+came-all shape first units unit_of old new violations is kept are came =
+    let here : new.first ≡ first = kept.first ∙ is.1 in
+    subst (λ s. AreVerdicts s first units violations) (kept.shape ∙ is.0)
+    (subst (λ n. AreVerdicts new.shape n units violations) here
+    (came units (sym (kept.one_each ∙ is.2)) (subst (λ n. AreUnitsFrom unit_of n units) (sym here) are)))
 
 -- ---- a seed
 
@@ -92,13 +108,21 @@ report_says t text NoViolation report = report
 report_says t text Violation report = report
 report_says t text Refused report = absurd report.says
 
+-- the programs of seeds are under TSO
+under_tso : (shape : ShapeValue) (seed : ℕ) → (program_of_seed shape seed).setting.order ≡ Tso
+unfolding Drawing.drawn_program
+under_tso shape seed = refl
+
 -- the report of the record's trace says the verdict of the seed
 pub verdict_of_seed : (shape : ShapeValue) (seed : ℕ) (program : ProgramValue) (unit : UnitValue) (r : RecordedValue) (text : List ℕ) (v : Verdict) → program ≡ program_of_seed shape seed →
-    IsRunOf program unit r → IsTraceReport r.trace text v → (v ≡ Violation → IsConsistent r.trace → ⊥) → IsVerdictOfSeed shape seed r.lawful (is_violation v)
+    IsRunOf program unit r → IsTraceReport r.trace text v → (v ≡ Violation → IsConsistent r.trace → ⊥) → IsVerdictOfSeed shape seed unit (is_violation v)
 verdict_of_seed shape seed program unit r text v drawn run report no_order = record {
-  trace = r.trace;
-  ops = run.ops ∙ drawn;
+  recorded = r;
+  run = subst (λ p. IsRunOf p unit r) drawn run;
   text = text;
   report = report_says r.trace text v report;
-  no_false_alarm = λ lawful. ap is_violation (consistent_verdict r.trace text v report no_order (lawful_consistent r run.kept lawful));
+  no_false_alarm = λ lawful.
+      let tso : program.setting.order ≡ Tso = ap (λ (p : ProgramValue). p.setting.order) drawn ∙ under_tso shape seed in
+      let is : r.lawful ≡ true = run.lawful ∙ ap (λ order. unit.lawful && is_within unit.order order) tso ∙ lawful in
+      ap is_violation (consistent_verdict r.trace text v report no_order (lawful_consistent r run.kept is));
 }

@@ -7,11 +7,12 @@ use Rattle.rand_core.specs.Stream.{Stream}
 use Rattle.rand_core.specs.Steps.{stream_of, steps_u64_low}
 use Rattle.rand_core.specs.Pcg32Seed.{pcg32_seed}
 use Rattle.rand_pcg.specs.Pcg.{pcg64, pcg64_of_seed}
+use Rattle.issue_desk.specs.Running.{IsRunOf}
 use Rattle.tso_ops.specs.declared.settings.Order.TheVariants.{Tso}
 use Rattle.tso_ops.specs.Drawing.{ShapeValue, drawn_program, size_of, words_of}
-use Rattle.tso_ops.specs.Values.{ProgramValue, TraceValue, program_of}
-use Rattle.unit_core.specs.Records.{is_within}
-use Rattle.unit_core.specs.Units.{UnitValue}
+use Rattle.tso_ops.specs.Values.{ProgramValue}
+use Rattle.unit_core.specs.Records.{RecordedValue, is_within}
+use Rattle.unit_core.specs.Units.{UnitValue, new_unit}
 use Rattle.tso_report.specs.declared.faults.Fault.{Fault}
 use Rattle.tso_report.specs.declared.faults.Fault.TheVariants.{OutOfMemory, Read, Write, NoThread, Missing}
 use Rattle.tso_report.specs.declared.verdicts.Verdict.{Verdict}
@@ -36,17 +37,17 @@ abbrev pub verdict_of : Bool → Verdict
 verdict_of true = Violation
 verdict_of false = NoViolation
 
--- It is the verdict of the report of a trace over the seed's program, and no violation where the unit is lawful.
-pub record IsVerdictOfSeed (shape : ShapeValue) (seed : ℕ) (lawful violation : Bool) : Type 0 where
-  pub trace : TraceValue
-  pub ops : program_of trace ≡ program_of_seed shape seed
-  pub text : List ℕ
-  pub report : IsTraceReport trace text (verdict_of violation)
-  pub no_false_alarm : lawful ≡ true → violation ≡ false
-
 -- whether a unit is lawful for programs under TSO, as those of seeds are
 abbrev pub is_lawful_unit : UnitValue → Bool
 is_lawful_unit unit = unit.lawful && is_within unit.order Tso
+
+-- It is the verdict of the report of the trace that a run of the seed's program on this unit recorded, and no violation where the unit is lawful.
+pub record IsVerdictOfSeed (shape : ShapeValue) (seed : ℕ) (unit : UnitValue) (violation : Bool) : Type 0 where
+  pub recorded : RecordedValue
+  pub run : IsRunOf (program_of_seed shape seed) unit recorded
+  pub text : List ℕ
+  pub report : IsTraceReport recorded.trace text (verdict_of violation)
+  pub no_false_alarm : is_lawful_unit unit ≡ true → violation ≡ false
 
 -- ---- the text
 
@@ -71,23 +72,27 @@ total_line violations = codes "seeds " ++ decimal (length violations) ++ codes "
 abbrev pub campaign_text : ℕ → List Bool → List ℕ
 campaign_text first violations = seed_lines first violations ++ total_line violations
 
--- These are the verdicts of the seeds from this one on, a seed for each unit, of which it is known whether it is lawful.
-pub record AreVerdicts (shape : ShapeValue) (first : ℕ) (lawful violations : List Bool) : Type 0 where
-  pub one_each : length violations ≡ length lawful
-  pub each : (i : ℕ) → i < length lawful → IsVerdictOfSeed shape (first + i) (get_or lawful i false) (get_or violations i false)
+-- a unit that was never made
+abbrev pub no_unit : UnitValue
+no_unit = new_unit (record { kind = []; numbers = [] }) false Tso
 
--- The text is that of a campaign from this seed on over units of which it is known whether they are lawful: a line for each seed in the order of the
--- seeds, and the last line. The verdict is Violation where a line says so, else NoViolation.
-pub record IsCampaign (shape : ShapeValue) (first : ℕ) (lawful : List Bool) (text : List ℕ) (verdict : Verdict) : Type 0 where
+-- These are the verdicts of the seeds from this one on, a seed for each unit.
+pub record AreVerdicts (shape : ShapeValue) (first : ℕ) (units : List UnitValue) (violations : List Bool) : Type 0 where
+  pub one_each : length violations ≡ length units
+  pub each : (i : ℕ) → i < length units → IsVerdictOfSeed shape (first + i) (get_or units i no_unit) (get_or violations i false)
+
+-- The text is that of a campaign from this seed on over these units: a line for each seed in the order of the seeds, and the last line. The verdict is
+-- Violation where a line says so, else NoViolation.
+pub record IsCampaign (shape : ShapeValue) (first : ℕ) (units : List UnitValue) (text : List ℕ) (verdict : Verdict) : Type 0 where
   pub violations : List Bool
-  pub verdicts : AreVerdicts shape first lawful violations
+  pub verdicts : AreVerdicts shape first units violations
   pub whole : text ≡ campaign_text first violations
   pub says : verdict ≡ verdict_of (list_any (λ violation. violation) violations)
 
 -- What a fault leaves: on Write a prefix of the text, else nothing was written. A missing seed is one of the campaign. Nothing is read.
-abbrev pub LeavesCampaign : ShapeValue → ℕ → List Bool → Option (List ℕ) → Option (List ℕ) → Fault → Type 0
-LeavesCampaign shape first lawful old new OutOfMemory = Keeps old new
-LeavesCampaign shape first lawful old new Read = ⊥
-LeavesCampaign shape first lawful old new Write = WritesPrefix (IsCampaign shape first lawful) old new
-LeavesCampaign shape first lawful old new NoThread = Keeps old new
-LeavesCampaign shape first lawful old new (Missing seed) = (first ≤ seed) × (seed < first + length lawful) × Keeps old new
+abbrev pub LeavesCampaign : ShapeValue → ℕ → List UnitValue → Option (List ℕ) → Option (List ℕ) → Fault → Type 0
+LeavesCampaign shape first units old new OutOfMemory = Keeps old new
+LeavesCampaign shape first units old new Read = ⊥
+LeavesCampaign shape first units old new Write = WritesPrefix (IsCampaign shape first units) old new
+LeavesCampaign shape first units old new NoThread = Keeps old new
+LeavesCampaign shape first units old new (Missing seed) = (first ≤ seed) × (seed < first + length units) × Keeps old new

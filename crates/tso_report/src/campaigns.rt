@@ -2,7 +2,8 @@
 ghost use Rattle.std.specs.Prelude.{◌≡◌, ◌≤◌, ◌+◌, ◌^◌, [], All, IfOk, IfErr, length, map};
 ghost use Rattle.std.specs.List.{list_any};
 ghost use Rattle.round_pool.specs.Workers.{worker_limit};
-ghost use Rattle.tso_report.specs.Campaigns.{IsCampaign, LeavesCampaign, is_lawful_unit, verdict_of};
+ghost use Rattle.tso_report.specs.Campaigns.{IsCampaign, LeavesCampaign, verdict_of};
+ghost use Rattle.tso_report.specs.Internal.Gathering.{AreUnitsFrom};
 ghost use Rattle.tso_report.specs.Limits.{seed_count_limit};
 ghost use Rattle.tso_report.specs.Written.{WritesWhole};
 
@@ -10,12 +11,14 @@ use crate::faults::Fault;
 use crate::streams::writing::write_text;
 use crate::verdicts::Verdict;
 use gathering::Gathered;
+use seeds::SeedUnits;
 use std::alloc::Global;
 use std::io::Write;
+use std::marker::Brand;
 use std::sync::Wait;
 use std::thread::Threads;
-use tso_ops::{Order, OutOfMemory, Shape};
-use unit_core::{MemoryUnit, is_lawful_under};
+use tso_ops::Shape;
+use unit_core::MemoryUnit;
 use workers::gather;
 
 mod gathering;
@@ -58,8 +61,8 @@ pub fn campaign<R: Threads + Wait + Sync, W: Write>(
     requires seeds { length units.items ≤ seed_count_limit }
     requires last { drawn.first + length units.items ≤ 2 ^ 64 }
     requires untouched { All (λ unit. (value_of unit).steps ≡ []) units.items }
-    ensures whole { IfOk result (WritesWhole (IsCampaign drawn.shape drawn.first (map (λ unit. is_lawful_unit (value_of unit)) units.items)) (W.contents writer.old) (W.contents writer.new)) }
-    ensures fault { IfErr result (LeavesCampaign drawn.shape drawn.first (map (λ unit. is_lawful_unit (value_of unit)) units.items) (W.contents writer.old) (W.contents writer.new)) }
+    ensures whole { IfOk result (WritesWhole (IsCampaign drawn.shape drawn.first (map (λ unit. value_of unit) units.items)) (W.contents writer.old) (W.contents writer.new)) }
+    ensures fault { IfErr result (LeavesCampaign drawn.shape drawn.first (map (λ unit. value_of unit) units.items) (W.contents writer.old) (W.contents writer.new)) }
 {
     campaign_over(rt, alloc, drawn, units, workers, writer)
 }
@@ -78,28 +81,37 @@ pub fn campaign_over<U: MemoryUnit + Send, R: Threads + Wait + Sync, W: Write>(
     requires seeds { length units.items ≤ seed_count_limit }
     requires last { drawn.first + length units.items ≤ 2 ^ 64 }
     requires untouched { All (λ unit. (U.value_of unit).steps ≡ []) units.items }
-    ensures whole { IfOk result (WritesWhole (IsCampaign drawn.shape drawn.first (map (λ unit. is_lawful_unit (U.value_of unit)) units.items)) (W.contents writer.old) (W.contents writer.new)) }
-    ensures fault { IfErr result (LeavesCampaign drawn.shape drawn.first (map (λ unit. is_lawful_unit (U.value_of unit)) units.items) (W.contents writer.old) (W.contents writer.new)) }
+    ensures whole { IfOk result (WritesWhole (IsCampaign drawn.shape drawn.first (map (λ unit. U.value_of unit) units.items)) (W.contents writer.old) (W.contents writer.new)) }
+    ensures fault { IfErr result (LeavesCampaign drawn.shape drawn.first (map (λ unit. U.value_of unit) units.items) (W.contents writer.old) (W.contents writer.new)) }
 {
-    let lawful = lawful_units(alloc, &units)?;
+    campaign_of::<Brand, U, R, W>(rt, alloc, drawn, units, workers, writer)
+}
+
+/// `campaign_over` where these are the units of the seeds.
+fn campaign_of<S: SeedUnits + Send, U: MemoryUnit + Send, R: Threads + Wait + Sync, W: Write>(
+    rt: &R,
+    alloc: Global,
+    drawn: Drawn,
+    units: Vec<U>,
+    workers: usize,
+    writer: &mut W,
+) -> Result<Verdict, Fault>
+    requires some { 1 ≤ workers }
+    requires most { workers ≤ worker_limit }
+    requires seeds { length units.items ≤ seed_count_limit }
+    requires last { drawn.first + length units.items ≤ 2 ^ 64 }
+    requires untouched { All (λ unit. (U.value_of unit).steps ≡ []) units.items }
+    requires units { AreUnitsFrom S.unit_of drawn.first (map (λ unit. U.value_of unit) units.items) }
+    ensures whole { IfOk result (WritesWhole (IsCampaign drawn.shape drawn.first (map (λ unit. U.value_of unit) units.items)) (W.contents writer.old) (W.contents writer.new)) }
+    ensures fault { IfErr result (LeavesCampaign drawn.shape drawn.first (map (λ unit. U.value_of unit) units.items) (W.contents writer.old) (W.contents writer.new)) }
+{
     let first = drawn.first;
-    let gathered = Gathered::new(alloc, drawn, lawful)?;
+    let gathered: Gathered<S> = Gathered::new(alloc, drawn, units.len())?;
     let gathered = gather(rt, alloc, gathered, units, workers)?;
     let violations = gathered.violations(alloc)?;
     let text = lines::campaign_text(alloc, first, &violations)?;
     write_text(writer, text.as_bytes())?;
     Ok(verdict_of(says_violation(&violations)))
-}
-
-/// Whether each unit is lawful for programs under TSO.
-fn lawful_units<U: MemoryUnit>(alloc: Global, units: &[U]) -> Result<Vec<bool>, OutOfMemory>
-    ensures { IfOk result (λ lawful. lawful.items ≡ map (λ unit. is_lawful_unit (U.value_of unit)) units.now) }
-{
-    let mut lawful = Vec::with_capacity(alloc, units.len())?;
-    for unit in units {
-        lawful.push(is_lawful_under(unit, Order::Tso))?;
-    }
-    Ok(lawful)
 }
 
 /// Whether a line of the seeds says VIOLATION.

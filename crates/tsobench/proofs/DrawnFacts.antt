@@ -1,21 +1,18 @@
 -- Lemmas on what is printed of drawn programs, and on lines that are written in parts.
 use Rattle.std.proofs.Common.{◌≡◌, ◌∙◌, ℕ, zero, suc, ◌+◌, All, List, [], ◌∷◌, ◌++◌, Bool, Option, None, Some, append_assoc, arith, length, get_or, map, replicate, take, ap, refl, subst, sym, inr}
 use Rattle.std.proofs.lemmas.List.{get_or-map, get_or-replicate, length-append, length-map, length-replicate, take-append-le}
-use Rattle.std.proofs.lemmas.Simd.{map-map}
 use Rattle.std.proofs.Math.Seq.{take-append-add}
 use Rattle.std.specs.Io.KnownBytes.{Appends}
 use Rattle.command_line.specs.declared.options.CampaignOptions.{CampaignOptions}
-use Rattle.command_line.specs.declared.options.UnitKind.{UnitKind}
-use Rattle.command_line.specs.declared.options.UnitKind.TheVariants.{Serial, Buffer, Faulty}
 use Rattle.tso_ops.specs.Drawing.{ShapeValue}
-use Rattle.tso_report.specs.Campaigns.{IsCampaign, LeavesCampaign, is_lawful_unit}
+use Rattle.tso_report.specs.Campaigns.{IsCampaign, LeavesCampaign}
 use Rattle.tso_report.specs.Streams.{AppendsPrefix}
 use Rattle.tso_report.specs.declared.faults.Fault.{Fault}
 use Rattle.tso_report.specs.declared.faults.Fault.TheVariants.{OutOfMemory, Read, Write, NoThread, Missing}
 use Rattle.tso_report.specs.declared.verdicts.Verdict.{Verdict}
 use Rattle.unit_core.specs.Units.{UnitValue}
-use Rattle.tsobench.specs.Drawn.{IsCampaignOf, IsDrawnOf, LeavesCampaignText, lawful_units}
-use Rattle.tsobench.specs.Printing.{unit_of, unit_of_kind}
+use Rattle.tsobench.specs.Drawn.{IsCampaignOf, IsDrawnOf, LeavesCampaignText, units_of}
+use Rattle.tsobench.specs.Printing.{unit_of}
 use Rattle.tsobench.specs.Statuses.{status_of}
 
 -- ---- parts of a line
@@ -45,38 +42,24 @@ prefix_longer old new a b prefix = (
 
 -- ---- the units of a campaign
 
-pub map_replicate : {X Y : Type 0} (f : X → Y) (n : ℕ) (x : X) → map f (replicate n x) ≡ replicate n (f x)
-map_replicate f zero x = refl
-map_replicate f (suc n) x = ap (λ rest. f x ∷ rest) (map_replicate f n x)
-
-untouched_unit : (kind : UnitKind) (capacity trigger : ℕ) → (unit_of_kind kind capacity trigger).steps ≡ []
-untouched_unit Serial capacity trigger = refl
-untouched_unit Buffer capacity trigger = refl
-untouched_unit (Faulty kind) capacity trigger = refl
-
 -- none has taken a step
 pub untouched : {X : Type 0} (f : X → UnitValue) (xs : List X) (options : CampaignOptions) → map f xs ≡ replicate options.count (unit_of options.unit) → All (λ x. (f x).steps ≡ []) xs
 untouched f xs options are = λ k d within.
     let count = sym (length-map xs f) ∙ ap length are ∙ length-replicate options.count (unit_of options.unit) in
     let is = sym (get_or-map f xs k d (f d) within) ∙ ap (λ us. get_or us k (f d)) are ∙ get_or-replicate options.count k (unit_of options.unit) (f d) (omega (arith, within, count)) in
-    ap (λ (u : UnitValue). u.steps) is ∙ untouched_unit options.unit.kind options.unit.capacity options.unit.trigger
-
--- each is as lawful as the others
-pub lawful : {X : Type 0} (f : X → UnitValue) (xs : List X) (options : CampaignOptions) → map f xs ≡ replicate options.count (unit_of options.unit) →
-    map (λ x. is_lawful_unit (f x)) xs ≡ lawful_units options
-lawful f xs options are = sym (map-map is_lawful_unit f xs) ∙ ap (map is_lawful_unit) are ∙ map_replicate is_lawful_unit options.count (unit_of options.unit)
+    ap (λ (u : UnitValue). u.steps) is
 
 -- ---- the text of a campaign
 
-module _ (options : CampaignOptions) (shape : ShapeValue) (first : ℕ) (units : List Bool) (drawn : IsDrawnOf options shape first) (same : units ≡ lawful_units options) where
+module _ (options : CampaignOptions) (shape : ShapeValue) (first : ℕ) (units : List UnitValue) (drawn : IsDrawnOf options shape first) (same : units ≡ units_of options) where
   -- the campaign of these options
   pub campaign_is : (text : List ℕ) (verdict : Verdict) → IsCampaign shape first units text verdict → IsCampaignOf options text (status_of verdict)
   campaign_is text verdict is = record {
     shape = drawn.shape_kept;
     seeds = drawn.seeds;
     verdict = verdict;
-    campaign = subst (λ s. IsCampaign s options.first (lawful_units options) text verdict) drawn.is
-        (subst (λ n. IsCampaign shape n (lawful_units options) text verdict) drawn.first_is (subst (λ l. IsCampaign shape first l text verdict) same is));
+    campaign = subst (λ s. IsCampaign s options.first (units_of options) text verdict) drawn.is
+        (subst (λ n. IsCampaign shape n (units_of options) text verdict) drawn.first_is (subst (λ l. IsCampaign shape first l text verdict) same is));
     ends = refl;
   }
 
@@ -87,5 +70,5 @@ module _ (options : CampaignOptions) (shape : ShapeValue) (first : ℕ) (units :
   leaves_campaign old new Write leaves = (status_of leaves.0, leaves.1, inr (inr (campaign_is leaves.1 leaves.0 leaves.2)), leaves.3)
   leaves_campaign old new NoThread leaves = leaves
   leaves_campaign old new (Missing seed) leaves =
-      let count = ap length same ∙ length-replicate options.count (is_lawful_unit (unit_of options.unit)) in
+      let count = ap length same ∙ length-replicate options.count (unit_of options.unit) in
       (omega (arith, leaves.0, drawn.first_is), omega (arith, leaves.1, count, drawn.first_is), leaves.2)

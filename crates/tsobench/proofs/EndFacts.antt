@@ -1,17 +1,15 @@
 -- Lemmas on how the program ends.
 use Rattle.std.proofs.Common.{◌≡◌, ◌∙◌, ◌⊎◌, ℕ, List, [], ◌∷◌, ◌++◌, append_assoc, Ok, Err, Result, IfOk, IfErr, Some, None, arith, length, ap, refl, subst, sym, inl, inr, true, true≢false}
-use Rattle.std.specs.Prelude.{Option, ◌≢◌, option_map, string_bytes}
+use Rattle.std.specs.Prelude.{Option, ◌≢◌, option_map}
 use Rattle.std.specs.Borrow.{Bor}
 use Rattle.std.specs.Io.KnownBytes.{Keeps}
-use Rattle.command_line.specs.declared.requests.Request.{Request}
-use Rattle.command_line.specs.declared.requests.Request.TheVariants.{Judge, Check, Replay, Run, Make, Campaign, Show, Refuse}
-use Rattle.command_line.specs.Requests.{asked_of, judging}
+use Rattle.command_line.specs.Requests.{Asked, Text, judging, checking, replaying, running, making, campaigning, showing, refusing}
 use Rattle.std.proofs.lemmas.List.{append-nil}
 use Rattle.tso_report.specs.declared.verdicts.Verdict.{Verdict}
 use Rattle.tso_report.specs.declared.faults.Fault.{Fault}
 use Rattle.tso_report.specs.declared.faults.Fault.TheVariants.{OutOfMemory, Read, Write, NoThread, Missing}
 use Rattle.tso_report.specs.Written.{IsCheckReportOfReaders, IsReportOfReader, LeavesAtFault, LeavesCheckFault, LeavesFault, WritesCheckReport, WritesReport, WritesWhole}
-use Rattle.tsobench.specs.Endings.{EndsAs, EndsAsAsked, EndsByReport, Outputs, WritesFaultLine}
+use Rattle.tsobench.specs.Endings.{EndsAsAsked, EndsByReport, EndsRefusing, EndsShowing, OfText, Outputs, WritesFaultLine}
 use Rattle.tsobench.specs.Statuses.{status_of}
 use Rattle.std.proofs.Math.Seq.{take-length}
 use Rattle.tsobench.specs.Named.{HasKnown, OpensFirst, OpensNext, reads_input}
@@ -98,17 +96,22 @@ pub ends_by_report : (is_report : List ℕ → Verdict → Type 0) (o : Outputs)
 ends_by_report is_report o (Ok verdict) status writes leaves told faulty = inl (verdict, writes, told.1, told.0)
 ends_by_report is_report o (Err fault) status writes leaves told faulty = inr (fault, leaves, faulty)
 
--- what was done for a request was asked for
-pub does_asked : (request : Request) (input : Option (List ℕ)) (files : List ℕ → Option (List ℕ)) (o : Outputs) (status : ℕ) → EndsAs request input files o status →
-    EndsAsAsked (asked_of request) input files o status
-does_asked (Judge file workers) input files o status ends = ends
-does_asked (Check trace certificate) input files o status ends = ends
-does_asked (Replay options program schedule) input files o status ends = ends
-does_asked (Run options drain_seed program) input files o status ends = ends
-does_asked (Make seed shape) input files o status ends = ends
-does_asked (Campaign options) input files o status ends = ends
-does_asked (Show text) input files o status ends = (string_bytes text, ends)
-does_asked (Refuse text) input files o status ends = (string_bytes text, ends)
+-- it holds of some text
+some_text : (known : Option Text) (Is : Text → Type 0) → OfText known Is → OfText None Is
+some_text None Is holds = holds
+some_text (Some text) Is holds = (text, holds)
+
+-- what was done with a known text was done
+pub does_asked : (known : Option Text) (asked : Asked) (input : Option (List ℕ)) (files : List ℕ → Option (List ℕ)) (o : Outputs) (status : ℕ) →
+    EndsAsAsked known asked input files o status → EndsAsAsked None asked input files o status
+does_asked known (judging file workers) input files o status ends = ends
+does_asked known (checking trace certificate) input files o status ends = ends
+does_asked known (replaying options program schedule) input files o status ends = ends
+does_asked known (running run) input files o status ends = ends
+does_asked known (making seed shape) input files o status ends = ends
+does_asked known (campaigning options) input files o status ends = ends
+does_asked known showing input files o status ends = some_text known (λ text. EndsShowing text o status) ends
+does_asked known refusing input files o status ends = some_text known (λ text. EndsRefusing text o status) ends
 
 -- where nothing was opened
 pub opens_none : (old : Option (List (List ℕ))) (names : List (List ℕ)) → OpensFirst old old names

@@ -1,16 +1,17 @@
 -- What the program prints of drawn programs and of campaigns.
-use Rattle.std.specs.Prelude.{◌≡◌, ◌⊎◌, ℕ, ◌+◌, ◌<◌, ◌≤◌, ◌^◌, Bool, List, [], ◌∷◌, ◌++◌, codes, replicate, Option}
+use Rattle.std.specs.Prelude.{◌≡◌, ◌⊎◌, ℕ, ◌+◌, ◌<◌, ◌≤◌, ◌^◌, List, [], ◌∷◌, ◌++◌, codes, replicate, Option}
 use Rattle.std.specs.Io.KnownBytes.{Keeps}
 use Rattle.tso_ops.specs.Drawing.{IsShape, ShapeValue, shape_of}
 use Rattle.tso_text.specs.Printed.{program_text}
 use Rattle.command_line.specs.declared.options.ShapeNumbers.{ShapeNumbers}
 use Rattle.command_line.specs.declared.options.CampaignOptions.{CampaignOptions}
-use Rattle.tso_report.specs.Campaigns.{IsCampaign, is_lawful_unit, program_of_seed}
+use Rattle.tso_report.specs.Campaigns.{IsCampaign, program_of_seed}
 use Rattle.tso_report.specs.declared.faults.Fault.{Fault}
 use Rattle.tso_report.specs.declared.faults.Fault.TheVariants.{OutOfMemory, Read, Write, NoThread, Missing}
 use Rattle.tso_report.specs.Streams.{AppendsPrefix}
 use Rattle.tso_report.specs.Limits.{seed_count_limit}
 use Rattle.tso_report.specs.declared.verdicts.Verdict.{Verdict}
+use Rattle.unit_core.specs.Units.{UnitValue}
 use Rattle.tsobench.specs.Printing.{unit_of}
 use Rattle.tsobench.specs.Statuses.{status_of}
 
@@ -59,20 +60,20 @@ pub record IsDrawnOf (options : CampaignOptions) (shape : ShapeValue) (first : �
   pub first_is : first ≡ options.first
   pub seeds : AreSeeds options.first options.count
 
--- whether the units, one of the kind for each seed, are lawful
-abbrev pub lawful_units : CampaignOptions → List Bool
-lawful_units options = replicate options.count (is_lawful_unit (unit_of options.unit))
+-- the units, one for each seed, as the options say
+abbrev pub units_of : CampaignOptions → List UnitValue
+units_of options = replicate options.count (unit_of options.unit)
 
 -- The numbers are a shape, but the seeds aren't within their limits.
 abbrev pub IsSeedsRefusal : CampaignOptions → List ℕ → ℕ → Type 0
 IsSeedsRefusal options text status = IsShape (asked_shape options.shape) × (AreSeeds options.first options.count → ⊥) × (text ≡ seeds_refusal) × (status ≡ 2)
 
--- The text is that of a campaign over these seeds.
+-- The text is that of a campaign over these seeds, on units as the options say.
 pub record IsCampaignOf (options : CampaignOptions) (text : List ℕ) (status : ℕ) : Type 0 where
   pub shape : IsShape (asked_shape options.shape)
   pub seeds : AreSeeds options.first options.count
   pub verdict : Verdict
-  pub campaign : IsCampaign (asked_shape options.shape) options.first (lawful_units options) text verdict
+  pub campaign : IsCampaign (asked_shape options.shape) options.first (units_of options) text verdict
   pub ends : status ≡ status_of verdict
 
 -- What is printed of a campaign, and the status then.

@@ -8,7 +8,6 @@ use Rattle.tso_report.specs.declared.faults.Fault.TheVariants.{OutOfMemory, Read
 use Rattle.tso_report.specs.Streams.{AppendsPrefix}
 use Rattle.tso_report.specs.Written.{IsReportOfReader, LeavesAtFault, LeavesCheckFault, WritesCheckReport, WritesWhole}
 use Rattle.tsobench.specs.Drawn.{IsCampaignText, IsMadeText, LeavesCampaignText, LeavesMadeText}
-use Rattle.tsobench.specs.Named.{name_in}
 use Rattle.tsobench.specs.Replaying.{IsReplayText}
 use Rattle.tsobench.specs.Running.{IsRunText}
 use Rattle.tsobench.specs.Statuses.{status_of}
@@ -16,9 +15,9 @@ use Rattle.command_line.specs.declared.options.CampaignOptions.{CampaignOptions}
 use Rattle.command_line.specs.declared.options.RunOptions.{RunOptions}
 use Rattle.command_line.specs.declared.options.ShapeNumbers.{ShapeNumbers}
 use Rattle.command_line.specs.declared.requests.Request.{Request}
-use Rattle.command_line.specs.declared.requests.Request.TheVariants.{Judge, Check, Replay, Run, Make, Campaign, Show, Refuse}
+use Rattle.command_line.specs.declared.requests.Request.TheVariants.{Show, Refuse}
 use Rattle.command_line.specs.Commands.{IsAskedFor}
-use Rattle.command_line.specs.Requests.{Asked, Text, judging, checking, replaying, running, making, campaigning, showing, refusing}
+use Rattle.command_line.specs.Requests.{Asked, Text, asked_of, judging, checking, replaying, running, making, campaigning, showing, refusing}
 
 -- ---- the lines of faults
 
@@ -131,36 +130,40 @@ abbrev pub judged_bytes : Option (List ℕ) → Option (List ℕ) → (List ℕ 
 judged_bytes None input files = input
 judged_bytes (Some name) input files = files name
 
--- Each request ends in its own way, where standard input has these bytes, and the file of each name those.
+-- it holds of the text that is known, or of some text where none is
+abbrev pub OfText : Option Text → (Text → Type 0) → Type 0
+OfText None Is = (text : Text) × Is text
+OfText (Some text) Is = Is text
+
+-- What was asked for was done, where standard input has these bytes, and the file of each name those. A text that was shown, or that refuses, is the one that
+-- is known, where one is.
+abbrev pub EndsAsAsked : Option Text → Asked → Option (List ℕ) → (List ℕ → Option (List ℕ)) → Outputs → ℕ → Type 0
+EndsAsAsked known (judging file workers) input files o status = EndsJudged (judged_bytes file input files) o status
+EndsAsAsked known (checking trace certificate) input files o status = EndsChecked (files trace) (files certificate) o status
+EndsAsAsked known (replaying options program schedule) input files o status = EndsReplayed options (files program) (files schedule) o status
+EndsAsAsked known (running run) input files o status = EndsRun run.options (files run.program) o status
+EndsAsAsked known (making seed shape) input files o status = EndsMade seed shape o status
+EndsAsAsked known (campaigning options) input files o status = EndsCampaign options o status
+EndsAsAsked known showing input files o status = OfText known (λ text. EndsShowing text o status)
+EndsAsAsked known refusing input files o status = OfText known (λ text. EndsRefusing text o status)
+
+-- the text that a request is to show, or that refuses it
+abbrev pub text_in : Request → Option Text
+text_in (Show text) = Some (string_bytes text)
+text_in (Refuse text) = Some (string_bytes text)
+text_in _ = None
+
+-- what the request asks for was done, with the request's own text where it has one
 abbrev pub EndsAs : Request → Option (List ℕ) → (List ℕ → Option (List ℕ)) → Outputs → ℕ → Type 0
-EndsAs (Judge file workers) input files o status = EndsJudged (judged_bytes (name_in file) input files) o status
-EndsAs (Check trace certificate) input files o status = EndsChecked (files trace.now) (files certificate.now) o status
-EndsAs (Replay options program schedule) input files o status = EndsReplayed options (files program.now) (files schedule.now) o status
-EndsAs (Run options drain_seed program) input files o status = EndsRun options (files program.now) o status
-EndsAs (Make seed shape) input files o status = EndsMade seed shape o status
-EndsAs (Campaign options) input files o status = EndsCampaign options o status
-EndsAs (Show text) input files o status = EndsShowing (string_bytes text) o status
-EndsAs (Refuse text) input files o status = EndsRefusing (string_bytes text) o status
+EndsAs request input files o status = EndsAsAsked (text_in request) (asked_of request) input files o status
 
--- What was asked for was done, where standard input has these bytes, and the file of each name those. Which text is shown or refuses isn't
--- said.
-abbrev pub EndsAsAsked : Asked → Option (List ℕ) → (List ℕ → Option (List ℕ)) → Outputs → ℕ → Type 0
-EndsAsAsked (judging file workers) input files o status = EndsJudged (judged_bytes file input files) o status
-EndsAsAsked (checking trace certificate) input files o status = EndsChecked (files trace) (files certificate) o status
-EndsAsAsked (replaying options program schedule) input files o status = EndsReplayed options (files program) (files schedule) o status
-EndsAsAsked (running options drain_seed program) input files o status = EndsRun options (files program) o status
-EndsAsAsked (making seed shape) input files o status = EndsMade seed shape o status
-EndsAsAsked (campaigning options) input files o status = EndsCampaign options o status
-EndsAsAsked showing input files o status = (text : List ℕ) × EndsShowing text o status
-EndsAsAsked refusing input files o status = (text : List ℕ) × EndsRefusing text o status
-
--- so it was, or memory ran out while the arguments were read
+-- what was asked for was done, with any text, or memory ran out while the arguments were read
 abbrev pub Does : Asked → Option (List ℕ) → (List ℕ → Option (List ℕ)) → Outputs → ℕ → Type 0
-Does asked input files o status = EndsAsAsked asked input files o status ⊎ EndsOutOfMemory o status
+Does asked input files o status = EndsAsAsked None asked input files o status ⊎ EndsOutOfMemory o status
 
 -- what clap says that the arguments ask for was done, or memory ran out while they were read
 abbrev pub DoesWhatClapSays : List Text → Option (List ℕ) → (List ℕ → Option (List ℕ)) → Outputs → ℕ → Type 0
-DoesWhatClapSays arguments input files o status = ((asked : Asked) × IsAskedFor arguments asked × EndsAsAsked asked input files o status) ⊎ EndsOutOfMemory o status
+DoesWhatClapSays arguments input files o status = ((asked : Asked) × IsAskedFor arguments asked × EndsAsAsked None asked input files o status) ⊎ EndsOutOfMemory o status
 
 -- ---- arguments that can't be had
 

@@ -13,7 +13,7 @@ reads_input (judging None workers) = true
 reads_input (judging (Some name) workers) = false
 reads_input (checking trace certificate) = false
 reads_input (replaying options program schedule) = false
-reads_input (running options drain_seed program) = false
+reads_input (running run) = false
 reads_input (making seed shape) = false
 reads_input (campaigning options) = false
 reads_input showing = false
@@ -32,7 +32,7 @@ abbrev pub files_named : Asked → List (List ℕ)
 files_named (judging file workers) = option_to_list file
 files_named (checking trace certificate) = trace ∷ certificate ∷ []
 files_named (replaying options program schedule) = program ∷ schedule ∷ []
-files_named (running options drain_seed program) = program ∷ []
+files_named (running run) = run.program ∷ []
 files_named (making seed shape) = []
 files_named (campaigning options) = []
 files_named showing = []

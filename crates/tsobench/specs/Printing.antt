@@ -1,41 +1,33 @@
 -- What the program prints of records and of refused texts.
-use Rattle.std.specs.Prelude.{◌≡◌, ℕ, List, ◌++◌, Bool, true, false, Option, IfSome}
+use Rattle.std.specs.Prelude.{◌≡◌, ℕ, List, ◌++◌, true, Option, IfSome}
+use Rattle.tso_ops.specs.declared.settings.Order.TheVariants.{Tso}
 use Rattle.tso_text.specs.declared.faults.Why.{Why}
 use Rattle.tso_text.specs.Printed.{trace_text}
 use Rattle.tso_report.specs.declared.verdicts.Verdict.{Verdict}
 use Rattle.tso_report.specs.declared.verdicts.Verdict.TheVariants.{NoViolation}
 use Rattle.tso_report.specs.AccountTexts.{account_text}
 use Rattle.tso_report.specs.Reports.{IsTraceReport, refusal_text}
-use Rattle.command_line.specs.declared.options.UnitKind.{UnitKind}
-use Rattle.command_line.specs.declared.options.UnitKind.TheVariants.{Serial, Buffer, Faulty}
+use Rattle.command_line.specs.declared.options.Printing.{Printing}
+use Rattle.command_line.specs.declared.options.Printing.TheVariants.{Report, Trace}
 use Rattle.command_line.specs.declared.options.UnitOptions.{UnitOptions}
 use Rattle.unit_core.specs.declared.accounts.Account.{Account}
 use Rattle.unit_core.specs.Records.{RecordedValue}
-use Rattle.unit_core.specs.Units.{UnitValue}
-use Rattle.unit_faulty.specs.Faulty.{faulty_unit, new_faulty}
-use Rattle.unit_kinds.specs.Buffer.{new_store_buffer, store_buffer_unit}
-use Rattle.unit_kinds.specs.Serial.{new_serial, serial_unit}
+use Rattle.unit_core.specs.Units.{UnitValue, new_unit}
+use Rattle.tsobench.specs.BenchUnits.{design_of_kind, is_lawful_kind}
 use Rattle.tsobench.specs.Statuses.{status_of}
 
 -- ---- the unit
 
--- The unit of this kind, with this capacity and this trigger: its store buffers, if it has any, hold so many entries, and a faulty one deviates from this
--- occasion on.
-abbrev pub unit_of_kind : UnitKind → ℕ → ℕ → UnitValue
-unit_of_kind Serial capacity trigger = serial_unit new_serial
-unit_of_kind Buffer capacity trigger = store_buffer_unit (new_store_buffer capacity)
-unit_of_kind (Faulty kind) capacity trigger = faulty_unit (new_faulty kind trigger capacity)
-
--- the unit that the options ask for, before its first step
+-- the unit that the options ask for, before its first step: of any kind it is one of TSO
 abbrev pub unit_of : UnitOptions → UnitValue
-unit_of options = unit_of_kind options.kind options.capacity options.trigger
+unit_of options = new_unit (design_of_kind options.kind options.capacity options.trigger) (is_lawful_kind options.kind) Tso
 
 -- ---- what is printed of a record
 
 -- its trace, with the status of a text that was asked for, or else the report of its trace, which is no violation where the record is lawful, and the account
-abbrev pub PrintsRecord : Bool → RecordedValue → Account → List ℕ → ℕ → Type 0
-PrintsRecord true recorded account text status = (text ≡ trace_text recorded.trace) × (status ≡ 0)
-PrintsRecord false recorded account text status =
+abbrev pub PrintsRecord : Printing → RecordedValue → Account → List ℕ → ℕ → Type 0
+PrintsRecord Trace recorded account text status = (text ≡ trace_text recorded.trace) × (status ≡ 0)
+PrintsRecord Report recorded account text status =
     (report : List ℕ) × (verdict : Verdict) × IsTraceReport recorded.trace report verdict × (recorded.lawful ≡ true → verdict ≡ NoViolation) × (text ≡ report ++ account_text account)
     × (status ≡ status_of verdict)
 

@@ -14,7 +14,7 @@ pub record IsReplayOf (options : RunOptions) (program : ProgramValue) (schedule 
   pub recorded : RecordedValue
   pub account : Account
   pub replays : Replays program schedule (unit_of options.unit) account (Ok recorded)
-  pub prints : PrintsRecord options.prints_trace recorded account text status
+  pub prints : PrintsRecord options.printing recorded account text status
 
 -- Such bytes spell a schedule, and the program was replayed by it.
 pub record IsReplayBy (options : RunOptions) (program : ProgramValue) (schedules : Option (List ℕ)) (text : List ℕ) (status : ℕ) : Type 0 where

@@ -13,7 +13,7 @@ pub record IsRunPrinted (options : RunOptions) (program : ProgramValue) (text : 
   pub recorded : RecordedValue
   pub account : Account
   pub runs : Runs program (unit_of options.unit) account (Ok recorded)
-  pub prints : PrintsRecord options.prints_trace recorded account text status
+  pub prints : PrintsRecord options.printing recorded account text status
 
 -- Such bytes spell a program, and it was run.
 pub record IsRunIn (options : RunOptions) (programs : Option (List ℕ)) (text : List ℕ) (status : ℕ) : Type 0 where

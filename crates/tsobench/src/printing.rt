@@ -7,7 +7,7 @@ ghost use Rattle.tso_text.specs.declared.faults.Why.{Why};
 ghost use Rattle.tsobench.specs.Printing.{PrintsRecord};
 
 use crate::endings::{DONE, REFUSED, status_of};
-use command_line::RunOptions;
+use command_line::{Printing, RunOptions};
 use std::alloc::Global;
 use std::sync::Wait;
 use std::thread::Threads;
@@ -33,20 +33,22 @@ pub(crate) fn print_record<H: Threads + Wait + AllocGlobal>(
 ) -> Result<Printed, Fault>
     requires some { 1 ≤ options.now.workers }
     requires most { options.now.workers ≤ worker_limit }
-    ensures text { IfOk result (λ printed. PrintsRecord options.now.prints_trace recorded.now account.now printed.text.items printed.status) }
+    ensures text { IfOk result (λ printed. PrintsRecord options.now.printing recorded.now account.now printed.text.items printed.status) }
     ensures fault { IfErr result (λ fault. (fault ≡ Fault.OutOfMemory) ⊎ (fault ≡ Fault.NoThread)) }
 {
-    if options.prints_trace {
-        return Ok(Printed {
+    match options.printing {
+        Printing::Trace => Ok(Printed {
             text: print_trace(rt.alloc(), recorded.trace())?.into_bytes(),
             status: DONE,
-        });
+        }),
+        Printing::Report => {
+            let report = report_of_record(rt, rt.alloc(), recorded, options.workers)?;
+            let status = status_of(report.verdict);
+            let mut text = report.text.into_bytes();
+            text.extend_from_slice(&print_account(rt.alloc(), account)?)?;
+            Ok(Printed { text, status })
+        }
     }
-    let report = report_of_record(rt, rt.alloc(), recorded, options.workers)?;
-    let status = status_of(report.verdict);
-    let mut text = report.text.into_bytes();
-    text.extend_from_slice(&print_account(rt.alloc(), account)?)?;
-    Ok(Printed { text, status })
 }
 
 /// The line of the refusal of a text.

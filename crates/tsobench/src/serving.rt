@@ -13,7 +13,7 @@ use crate::drawing::{campaign_by, make};
 use crate::endings::{DONE, REFUSED, end, end_by, end_run, end_with};
 use crate::files::{NamedFiles, open};
 use crate::replaying::replay_named;
-use crate::running::{RunPlan, run_named};
+use crate::running::run_named;
 use command_line::Request;
 use std::alloc::Global;
 use std::io::{Read, Write};
@@ -67,16 +67,8 @@ pub fn serve<H: Threads + Wait + Sync + AllocGlobal, O: NamedFiles, R: Read, W: 
             let replayed = replay_named(rt, options, program, schedule, files, writer);
             end_with(replayed, errors)
         }
-        Request::Run {
-            options,
-            drain_seed,
-            program,
-        } => {
-            let plan = RunPlan {
-                options,
-                drain_seed: *drain_seed,
-            };
-            let ran = run_named(rt, plan, program, files, writer);
+        Request::Run(run_request) => {
+            let ran = run_named(rt, run_request, files, writer);
             end_run(ran, errors)
         }
         Request::Make { seed, shape } => end_with(make(rt.alloc(), *seed, *shape, writer), errors),

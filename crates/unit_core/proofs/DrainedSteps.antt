@@ -1,5 +1,5 @@
 -- Lemmas on units that append drains of one processor and then a step.
-use Rattle.std.proofs.Common.{◌≡◌, ◌∙◌, ap, refl, ℕ, zero, suc, List, [], ◌∷◌, ◌++◌, replicate, append_assoc, arith}
+use Rattle.std.proofs.Common.{◌≡◌, ◌∙◌, ap, refl, ℕ, zero, suc, List, [], ◌∷◌, ◌++◌, replicate, arith}
 use Rattle.unit_core.specs.declared.steps.Step.{Step}
 use Rattle.unit_core.specs.declared.steps.Step.TheVariants.{Drain}
 use Rattle.unit_core.specs.Machine.{proc_of}
@@ -21,8 +21,6 @@ Takes-drains_and old new count step steps kept = record {
   kept = kept;
 }
 
--- what was reserved, drained and pushed
-pub drained-pushed : (old reserved drained pushed : List Step) (p count : ℕ) (step : Step) → reserved ≡ old → drained ≡ reserved ++ replicate count (Drain p) → pushed ≡ drained ++ step ∷ [] →
-    pushed ≡ old ++ (replicate count (Drain p) ++ step ∷ [])
-drained-pushed old reserved drained pushed p count step is_old is_drained is_pushed =
-    is_pushed ∙ ap (λ (xs : List Step). xs ++ step ∷ []) (is_drained ∙ ap (λ (xs : List Step). xs ++ replicate count (Drain p)) is_old) ∙ append_assoc old (replicate count (Drain p)) (step ∷ [])
+-- steps that were appended after room was reserved
+pub reserved-pushed : (old reserved pushed more : List Step) → reserved ≡ old → pushed ≡ reserved ++ more → pushed ≡ old ++ more
+reserved-pushed old reserved pushed more is_old is_pushed = is_pushed ∙ ap (λ (xs : List Step). xs ++ more) is_old

@@ -80,12 +80,13 @@ is_trace program steps count lists counted are ops kept fits = record {
 
 -- the record of these values
 pub record_of : (program : ProgramValue) (unit : UnitValue) (count : ℕ) (lists : List (List Outcome)) (r : RecordedValue) → AreOpsOf program unit.steps →
-    count ≡ length program.lists → lists ≡ lists_from 0 count unit.steps → r.trace ≡ trace_of_lists program.setting lists → r.steps ≡ unit.steps →
+    count ≡ length program.lists → lists ≡ lists_from 0 count unit.steps → r.design ≡ unit.design → r.trace ≡ trace_of_lists program.setting lists → r.steps ≡ unit.steps →
     r.lawful ≡ (unit.lawful && is_within unit.order program.setting.order) → IsRecordOf program unit r
-record_of program unit count lists r ops counted are trace steps lawful =
+record_of program unit count lists r ops counted are design trace steps lawful =
     let whole : r.trace ≡ trace_of program.setting (length program.lists) unit.steps =
     trace ∙ ap (trace_of_lists program.setting) (are ∙ ap (λ n. lists_from 0 n unit.steps) counted) in
     record {
+      design = design;
       trace = whole;
       ops = ap program_of whole ∙ same_program program unit.steps ops;
       steps = steps;

@@ -1,4 +1,5 @@
 pub mod Accounts
+pub mod Histories
 pub mod Internal
 pub mod Issues
 pub mod Machine

@@ -8,7 +8,7 @@ use Rattle.unit_core.specs.declared.steps.Step.{Step}
 use Rattle.unit_core.specs.declared.accounts.Account.{Account}
 use Rattle.unit_core.specs.Accounts.{IsAccountOf}
 use Rattle.unit_core.specs.Machine.{IsCompleteRun, buffer_of, after, first_state, outcomes_of, trace_of}
-use Rattle.unit_core.specs.Units.{UnitValue, TakesDrains}
+use Rattle.unit_core.specs.Units.{Design, UnitValue, TakesDrains}
 
 -- Without drains, the steps are the operations of the program, all, by processor in order.
 abbrev pub AreOpsOf : ProgramValue → List Step → Type 0
@@ -24,8 +24,9 @@ is_within Pso Pso = true
 abbrev pub EmptiesBelow : UnitValue → ℕ → Type 0
 EmptiesBelow u past = u.lawful ≡ true → (p : ℕ) → p < past → buffer_of (after (first_state u.first) u.steps) p ≡ []
 
--- the trace, the steps that it is the trace of, and whether the unit was lawful
+-- which unit it was, the trace, the steps that it is the trace of, and whether the unit was lawful
 pub record RecordedValue : Type 0 where
+  pub design : Design
   pub trace : TraceValue
   pub steps : List Step
   pub lawful : Bool
@@ -38,6 +39,7 @@ pub record IsRecorded (r : RecordedValue) : Type 0 where
 
 -- The record of a run of the program on this unit.
 pub record IsRecordOf (program : ProgramValue) (unit : UnitValue) (r : RecordedValue) : Type 0 where
+  pub design : r.design ≡ unit.design
   pub trace : r.trace ≡ trace_of program.setting (length program.lists) unit.steps
   pub ops : program_of r.trace ≡ program
   pub steps : r.steps ≡ unit.steps

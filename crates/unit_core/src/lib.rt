@@ -3,6 +3,7 @@
 
 pub use accounts::Account;
 pub use endings::{conclude, conclude_over};
+pub use histories::History;
 pub use issuing::perform;
 pub use presets::preset_all;
 pub use records::{Recorded, is_lawful_under};
@@ -11,7 +12,9 @@ pub use steps::Step;
 pub use units::MemoryUnit;
 
 mod accounts;
+mod designs;
 mod endings;
+mod histories;
 mod issuing;
 pub mod laws;
 mod presets;

@@ -5,6 +5,7 @@ ghost use Rattle.unit_core.specs.Machine.{outcomes_of, lists_from};
 ghost use Rattle.unit_core.specs.Records.{AreOpsOf, EmptiesBelow, IsRecorded, IsRecordOf, is_within};
 ghost use Rattle.unit_core.specs.Machine.{IsFirstMemory};
 
+use crate::designs::DesignMark;
 use crate::steps::Step;
 use crate::units::MemoryUnit;
 use std::alloc::Global;
@@ -12,12 +13,13 @@ use std::marker::Model;
 use tso_ops::{Order, OutOfMemory, Outcome, Program, Trace};
 
 /// The record of a program's run on a unit: the trace of the unit's steps, and whether these are a run of the trace's
-/// memory model. `conclude` makes it, at the end of the unit.
+/// memory model; clauses see of which unit it is. `conclude` makes it, at the end of the unit.
 #[derive(Debug, Drop)]
 pub struct Recorded {
     trace: Trace,
     steps: Vec<Step>,
     lawful: bool,
+    design: DesignMark,
 }
 
 impl Model for Recorded {
@@ -25,9 +27,9 @@ impl Model for Recorded {
 
     ghost Value = { RecordedValue };
 
-    ghost view = { λ r. record { trace = r.trace; steps = r.steps.items; lawful = r.lawful } };
+    ghost view = { λ r. record { design = r.design.value; trace = r.trace; steps = r.steps.items; lawful = r.lawful } };
 
-    ghost invariant = { λ r. IsRecorded (record { trace = r.trace; steps = r.steps.items; lawful = r.lawful }) };
+    ghost invariant = { λ r. IsRecorded (record { design = r.design.value; trace = r.trace; steps = r.steps.items; lawful = r.lawful }) };
 }
 
 impl Recorded {
@@ -69,6 +71,7 @@ pub(crate) fn record<U: MemoryUnit>(
         trace,
         steps,
         lawful,
+        design: DesignMark::of(unit),
     })
 }
 

@@ -6,5 +6,4 @@ pub use unit::FaultyUnit;
 
 mod kinds;
 mod memory;
-mod reserved;
 mod unit;

@@ -1,6 +1,6 @@
 ghost use Rattle.std.specs.Prelude.{◌≡◌, ◌<◌, ◌≤◌, ◌+◌, ◌^◌, ◌==◌, IfOk, IfSome, length};
 ghost use Rattle.store_buffers.specs.Buffers.{IsBuffers, entries_of};
-ghost use Rattle.unit_faulty.specs.Faulty.{after_load, after_preset, counted, deviates, drain_once, load_answer, new_faulty_state, swapped, with_entered, with_entry_written, with_write, word_of};
+ghost use Rattle.unit_faulty.specs.Faulty.{after_load, after_preset, counted, deviates, drain_once, drain_times, load_answer, new_faulty_state, swapped, with_entered, with_entry_written, with_write, word_of};
 
 use crate::kinds::{FaultKind, Occasion};
 use std::alloc::Global;
@@ -145,6 +145,18 @@ impl FaultyMemory {
                 let oldest = self.parts.remove_oldest(p);
                 self.write_entry(oldest);
             }
+        }
+    }
+
+    /// Makes so many drains of processor `p`.
+    pub fn drain_times(&mut self, p: usize, count: usize)
+        requires processor { p < 16 }
+        requires count { self.old.occasions + count < 2 ^ 64 }
+        ensures left { self.new ≡ drain_times count self.old p }
+        ensures count { self.new.occasions ≤ self.old.occasions + count }
+    {
+        for _done in 0..count {
+            self.drain_once(p);
         }
     }
 

@@ -6,11 +6,10 @@ ghost use Rattle.unit_faulty.specs.Faulty.{after_load, after_membar, after_prese
 
 use crate::kinds::{FaultKind, Occasion};
 use crate::memory::FaultyMemory;
-use crate::reserved::{drain_reserved, push_reserved};
 use std::alloc::Global;
 use std::marker::Model;
 use tso_ops::{Order, OutOfMemory};
-use unit_core::{MemoryUnit, Step};
+use unit_core::{History, MemoryUnit, Step};
 
 /// A store-buffer unit of TSO with one deviation. It isn't lawful.
 ///
@@ -20,9 +19,7 @@ use unit_core::{MemoryUnit, Step};
 #[derive(Debug, Drop)]
 pub struct FaultyUnit {
     memory: FaultyMemory,
-    steps: Vec<Step>,
-    /// The first value of each address.
-    first: Vec<u64>,
+    history: History,
 }
 
 impl Model for FaultyUnit {
@@ -31,9 +28,9 @@ impl Model for FaultyUnit {
 
     ghost Value = { FaultyValue };
 
-    ghost view = { λ u. record { steps = u.steps.items; first = u.first.items; state = u.memory } };
+    ghost view = { λ u. record { steps = u.history.steps; first = u.history.first; state = u.memory } };
 
-    ghost invariant = { λ u. IsFaulty u.steps.items u.first.items u.memory };
+    ghost invariant = { λ u. IsFaulty u.history.steps u.memory };
 }
 
 impl FaultyUnit {
@@ -53,8 +50,7 @@ impl FaultyUnit {
     {
         Ok(FaultyUnit {
             memory: FaultyMemory::new(alloc, kind, trigger, capacity)?,
-            steps: Vec::new(alloc),
-            first: vec![in alloc; 0; 256]?,
+            history: History::new(alloc)?,
         })
     }
 }
@@ -70,9 +66,9 @@ impl MemoryUnit for FaultyUnit {
         ensures answer { IfOk result (λ r. r ≡ load_answer self.old.state p a) }
         ensures exact { IfOk result (λ r. self.new ≡ with_step self.old p 0 (Load p a r) (after_load self.old.state p a)) }
     {
-        self.steps.reserve(1)?;
+        self.history.reserve(1)?;
         let r = self.memory.load(p, a);
-        push_reserved(&mut self.steps, Step::Load { p, a, r });
+        self.history.push_reserved(Step::Load { p, a, r });
         Ok(r)
     }
 
@@ -85,10 +81,11 @@ impl MemoryUnit for FaultyUnit {
         ensures exact { IfOk result (λ _. self.new ≡ with_step self.old p (store_drains self.old.state p) (Store p a v) (after_store self.old.state p a v)) }
     {
         let forced = usize::from(self.memory.is_full(p));
-        self.steps.reserve(forced + 1)?;
-        drain_reserved(&mut self.memory, &mut self.steps, p, forced);
+        self.history.reserve(forced + 1)?;
+        self.memory.drain_times(p, forced);
         self.memory.enter(p, a, v);
-        push_reserved(&mut self.steps, Step::Store { p, a, v });
+        self.history
+            .push_after_drains(p, forced, Step::Store { p, a, v });
         Ok(())
     }
 
@@ -102,10 +99,11 @@ impl MemoryUnit for FaultyUnit {
         ensures exact { IfOk result (λ r. self.new ≡ with_step self.old p (swap_drains self.old.state p) (Swap p a r v) (after_swap self.old.state p a v)) }
     {
         let waiting = self.memory.waiting(p);
-        self.steps.reserve(waiting + 1)?;
-        drain_reserved(&mut self.memory, &mut self.steps, p, waiting);
+        self.history.reserve(waiting + 1)?;
+        self.memory.drain_times(p, waiting);
         let r = self.memory.swap(p, a, v);
-        push_reserved(&mut self.steps, Step::Swap { p, a, r, v });
+        self.history
+            .push_after_drains(p, waiting, Step::Swap { p, a, r, v });
         Ok(r)
     }
 
@@ -116,11 +114,12 @@ impl MemoryUnit for FaultyUnit {
         ensures exact { IfOk result (λ _. self.new ≡ with_step self.old p (membar_drains self.old.state p) (Membar p) (after_membar self.old.state p)) }
     {
         let waiting = self.memory.waiting(p);
-        self.steps.reserve(waiting + 1)?;
+        self.history.reserve(waiting + 1)?;
         let deviates = self.memory.deviates(Occasion::MembarMade);
         let drains = if deviates { 0 } else { waiting };
-        drain_reserved(&mut self.memory, &mut self.steps, p, drains);
-        push_reserved(&mut self.steps, Step::Membar { p });
+        self.memory.drain_times(p, drains);
+        self.history
+            .push_after_drains(p, drains, Step::Membar { p });
         Ok(())
     }
 
@@ -130,7 +129,7 @@ impl MemoryUnit for FaultyUnit {
         ensures refused { IfErr result (λ _. self.new ≡ self.old) }
         ensures exact { IfOk result (λ _. self.new ≡ with_step self.old p 0 (Stbar p) self.old.state) }
     {
-        self.steps.push(Step::Stbar { p })?;
+        self.history.append(Step::Stbar { p })?;
         Ok(())
     }
 
@@ -143,7 +142,7 @@ impl MemoryUnit for FaultyUnit {
         if self.memory.waiting(p) == 0 {
             return Ok(false);
         }
-        self.steps.push(Step::Drain { p })?;
+        self.history.append(Step::Drain { p })?;
         self.memory.drain_once(p);
         Ok(true)
     }
@@ -154,7 +153,7 @@ impl MemoryUnit for FaultyUnit {
         ensures set { faulty_unit self.new ≡ record (faulty_unit self.old) { first = set (faulty_unit self.old).first a v } }
         ensures exact { self.new ≡ record self.old { first = set self.old.first a v; state = after_preset self.old.state a v } }
     {
-        self.first[a as usize] = v;
+        self.history.preset(a, v);
         self.memory.preset(a, v);
     }
 
@@ -163,7 +162,7 @@ impl MemoryUnit for FaultyUnit {
     }
 
     fn steps(&self) -> &[Step] {
-        &self.steps
+        self.history.steps()
     }
 
     fn lawful(&self) -> bool {
@@ -175,6 +174,6 @@ impl MemoryUnit for FaultyUnit {
     }
 
     fn first(&self, a: u16) -> u64 {
-        self.first[a as usize]
+        self.history.first(a)
     }
 }

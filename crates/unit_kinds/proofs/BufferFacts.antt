@@ -1,5 +1,5 @@
 -- A store-buffer unit's steps stay a run of the TSO machine, whose buffers have the entries that wait.
-use Rattle.std.proofs.Common.{◌≡◌, ◌∙◌, sym, ap, refl, subst, ℕ, zero, suc, ◌<◌, ◌≤◌, Bool, true, false, cond, ◌==◌, Option, None, Some, List, [], ◌∷◌, ◌++◌, length, get_or, map, set, drop, replicate, slice_get, slice_index, length-set, arith}
+use Rattle.std.proofs.Common.{◌≡◌, ◌∙◌, sym, ap, refl, subst, ℕ, zero, suc, ◌<◌, ◌≤◌, Bool, true, false, cond, ◌==◌, Option, None, Some, List, [], ◌∷◌, ◌++◌, length, get_or, map, set, drop, replicate, slice_get, slice_index, arith}
 use Rattle.std.specs.Int.{from_bool}
 use Rattle.std.specs.List.{remove}
 use Rattle.std.specs.Option.{option_or, unwrap_or}
@@ -41,7 +41,6 @@ IsStoreBufferUnit-append : (steps more : List Step) (first : List ℕ) (old new 
 IsStoreBufferUnit-append steps more first old new kept goes =
     let reached = goes (after (first_state first) steps) kept.state in
     record {
-      addresses = kept.addresses;
       run = IsRunFrom-append Tso (first_state first) steps more kept.run reached.0;
       state = subst (λ s. HasBuffers s new) (sym (after-append (first_state first) steps more)) reached.1;
     }
@@ -166,7 +165,6 @@ IsStoreBufferUnit-membar steps first parts p processor wide kept =
 pub IsStoreBufferUnit-preset : (steps : List Step) (first : List ℕ) (parts : BuffersValue) (a v : ℕ) → steps ≡ [] → IsStoreBufferUnit steps first parts →
     IsStoreBufferUnit steps (set first a v) (with_word parts a v)
 IsStoreBufferUnit-preset [] first parts a v none kept = record {
-  addresses = length-set first a v ∙ kept.addresses;
   run = tt;
   state = record { memory = ap (λ (words : List ℕ). set words a v) kept.state.memory; buffers = kept.state.buffers };
 }
@@ -179,16 +177,16 @@ waiting-preset (step ∷ steps) first a v none = absurd cc
 
 -- a new unit
 pub IsStoreBufferUnit-new : (capacity : ℕ) → IsStoreBufferUnit [] (replicate 256 0) (new_buffers capacity)
-IsStoreBufferUnit-new capacity = record { addresses = refl; run = tt; state = record { memory = refl; buffers = refl } }
+IsStoreBufferUnit-new capacity = record { run = tt; state = record { memory = refl; buffers = refl } }
 
 pub unit-new : (capacity : ℕ) → store_buffer_unit (new_store_buffer capacity) ≡ new_unit (store_buffer_design capacity) true Tso
 unfolding waiting_after
 unit-new capacity = refl
 
 -- what its law says
-pub IsUnit-store_buffer : (u : StoreBufferValue) (parts : BuffersValue) → IsStoreBufferUnit u.steps u.first parts → IsUnit (store_buffer_unit u)
-IsUnit-store_buffer u parts kept = record {
-  addresses = kept.addresses;
+pub IsUnit-store_buffer : (u : StoreBufferValue) (parts : BuffersValue) → length u.first ≡ 256 → IsStoreBufferUnit u.steps u.first parts → IsUnit (store_buffer_unit u)
+IsUnit-store_buffer u parts addresses kept = record {
+  addresses = addresses;
   run = λ lawful. kept.run;
   waiting = λ lawful p. waiting-machine u.first u.steps p;
 }
@@ -210,9 +208,9 @@ DrainsOne-store_buffer old new parts p within waits is kept after_it = record {
   kept = record { design = ap (λ u. store_buffer_design u.capacity) is; lawful = refl; order = refl; first = ap (λ u. u.first) is };
 }
 
-pub same_value : (u : StoreBufferValue) (p count capacity : ℕ) (step : Step) (steps : List Step) → steps ≡ u.steps ++ (replicate count (Drain p) ++ step ∷ []) → capacity ≡ u.capacity →
-    record { steps = steps; first = u.first; capacity = capacity } ≡ after_drains_and u p count step
-same_value u p count capacity step steps is kept = λ i. record { steps = is i; first = u.first; capacity = kept i }
+pub same_value : (u : StoreBufferValue) (p count capacity : ℕ) (step : Step) (steps : List Step) (first : List ℕ) → steps ≡ u.steps ++ (replicate count (Drain p) ++ step ∷ []) →
+    first ≡ u.first → capacity ≡ u.capacity → record { steps = steps; first = first; capacity = capacity } ≡ after_drains_and u p count step
+same_value u p count capacity step steps first is same kept = λ i. record { steps = is i; first = same i; capacity = kept i }
 
 -- an entry is there to be drained where the buffer is full
 pub drains-enough : (count capacity : ℕ) → 1 ≤ capacity → cond (count == capacity) 1 0 ≤ count

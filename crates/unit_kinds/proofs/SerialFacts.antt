@@ -32,7 +32,6 @@ IsSerial-append steps more first old new serial long goes =
     let same : state ≡ idle old state.stbars = is_idle steps first old serial in
     record {
       memory_length = long;
-      first_length = serial.first_length;
       run = IsRunFrom-append Tso (first_state first) steps more serial.run (subst (λ s. IsRunFrom Tso s more) (sym same) reached.0);
       memory = ap (λ s. s.memory) (after-append (first_state first) steps more ∙ ap (λ s. after s more) same) ∙ reached.1;
       buffers = ap (λ s. s.buffers) (after-append (first_state first) steps more ∙ ap (λ s. after s more) same) ∙ reached.2;
@@ -91,7 +90,7 @@ IsSerial-store steps first memory p a v processor address serial =
 
 -- at first
 pub IsSerial-new : IsSerial [] (replicate 256 0) (replicate 256 0)
-IsSerial-new = record { memory_length = refl; first_length = refl; run = tt; memory = refl; buffers = refl }
+IsSerial-new = record { memory_length = refl; run = tt; memory = refl; buffers = refl }
 
 zeros : (n p : ℕ) → slice_index (replicate n 0) p ≡ 0
 zeros zero p = refl

@@ -4,12 +4,12 @@ ghost use Rattle.unit_core.specs.declared.steps.Step.TheVariants.{Store, Drain, 
 ghost use Rattle.unit_core.specs.Units.{AnswersDrain, Takes, new_unit, waiting_of};
 ghost use Rattle.unit_kinds.specs.Buffer.{after_drains_and, drains_for_store, new_store_buffer, store_buffer_design, store_buffer_unit};
 
-use crate::draining::{drain_reserved, push_reserved};
+use crate::draining::drain_times;
 use std::alloc::Global;
 use std::marker::Model;
 use store_buffers::Buffers;
 use tso_ops::{Order, OutOfMemory};
-use unit_core::{MemoryUnit, Step};
+use unit_core::{History, MemoryUnit, Step};
 
 /// A lawful unit of TSO with a store buffer for each processor, all of one capacity.
 ///
@@ -18,9 +18,7 @@ use unit_core::{MemoryUnit, Step};
 #[derive(Debug, Drop)]
 pub struct StoreBufferUnit {
     parts: Buffers,
-    steps: Vec<Step>,
-    /// The first value of each address.
-    first: Vec<u64>,
+    history: History,
 }
 
 impl Model for StoreBufferUnit {
@@ -29,9 +27,9 @@ impl Model for StoreBufferUnit {
 
     ghost Value = { StoreBufferValue };
 
-    ghost view = { λ u. record { steps = u.steps.items; first = u.first.items; capacity = u.parts.capacity } };
+    ghost view = { λ u. record { steps = u.history.steps; first = u.history.first; capacity = u.parts.capacity } };
 
-    ghost invariant = { λ u. IsStoreBufferUnit u.steps.items u.first.items u.parts };
+    ghost invariant = { λ u. IsStoreBufferUnit u.history.steps u.history.first u.parts };
 }
 
 impl StoreBufferUnit {
@@ -45,8 +43,7 @@ impl StoreBufferUnit {
     {
         Ok(StoreBufferUnit {
             parts: Buffers::new(alloc, capacity)?,
-            steps: Vec::new(alloc),
-            first: vec![in alloc; 0; 256]?,
+            history: History::new(alloc)?,
         })
     }
 }
@@ -63,7 +60,7 @@ impl MemoryUnit for StoreBufferUnit {
     {
         let word = self.parts.word(a);
         let r = self.parts.newest(p, a).unwrap_or(word);
-        self.steps.push(Step::Load { p, a, r })?;
+        self.history.append(Step::Load { p, a, r })?;
         Ok(r)
     }
 
@@ -76,10 +73,11 @@ impl MemoryUnit for StoreBufferUnit {
         ensures exact { IfOk result (λ _. self.new ≡ after_drains_and self.old p (drains_for_store self.old p) (Store p a v)) }
     {
         let drains = usize::from(self.parts.is_full(p));
-        self.steps.reserve(drains + 1)?;
-        drain_reserved(&mut self.parts, &mut self.steps, p, drains);
+        self.history.reserve(drains + 1)?;
+        drain_times(&mut self.parts, p, drains);
         self.parts.enter(p, a, v);
-        push_reserved(&mut self.steps, Step::Store { p, a, v });
+        self.history
+            .push_after_drains(p, drains, Step::Store { p, a, v });
         Ok(())
     }
 
@@ -92,11 +90,12 @@ impl MemoryUnit for StoreBufferUnit {
         ensures exact { IfOk result (λ r. self.new ≡ after_drains_and self.old p (waiting_of (store_buffer_unit self.old) p) (Swap p a r v)) }
     {
         let waiting = self.parts.waiting(p);
-        self.steps.reserve(waiting + 1)?;
-        drain_reserved(&mut self.parts, &mut self.steps, p, waiting);
+        self.history.reserve(waiting + 1)?;
+        drain_times(&mut self.parts, p, waiting);
         let r = self.parts.word(a);
         self.parts.write(a, v);
-        push_reserved(&mut self.steps, Step::Swap { p, a, r, v });
+        self.history
+            .push_after_drains(p, waiting, Step::Swap { p, a, r, v });
         Ok(r)
     }
 
@@ -107,9 +106,10 @@ impl MemoryUnit for StoreBufferUnit {
         ensures exact { IfOk result (λ _. self.new ≡ after_drains_and self.old p (waiting_of (store_buffer_unit self.old) p) (Membar p)) }
     {
         let drains = self.parts.waiting(p);
-        self.steps.reserve(drains + 1)?;
-        drain_reserved(&mut self.parts, &mut self.steps, p, drains);
-        push_reserved(&mut self.steps, Step::Membar { p });
+        self.history.reserve(drains + 1)?;
+        drain_times(&mut self.parts, p, drains);
+        self.history
+            .push_after_drains(p, drains, Step::Membar { p });
         Ok(())
     }
 
@@ -119,7 +119,7 @@ impl MemoryUnit for StoreBufferUnit {
         ensures refused { IfErr result (λ _. self.new ≡ self.old) }
         ensures exact { IfOk result (λ _. self.new ≡ record self.old { steps = self.old.steps ++ Stbar p ∷ [] }) }
     {
-        self.steps.push(Step::Stbar { p })?;
+        self.history.append(Step::Stbar { p })?;
         Ok(())
     }
 
@@ -132,13 +132,13 @@ impl MemoryUnit for StoreBufferUnit {
         if self.parts.waiting(p) == 0 {
             return Ok(false);
         }
-        self.steps.push(Step::Drain { p })?;
+        self.history.append(Step::Drain { p })?;
         self.parts.drain_oldest(p);
         Ok(true)
     }
 
     fn preset(&mut self, a: u16, v: u64) {
-        self.first[a as usize] = v;
+        self.history.preset(a, v);
         self.parts.write(a, v);
     }
 
@@ -147,7 +147,7 @@ impl MemoryUnit for StoreBufferUnit {
     }
 
     fn steps(&self) -> &[Step] {
-        &self.steps
+        self.history.steps()
     }
 
     fn lawful(&self) -> bool {
@@ -159,6 +159,6 @@ impl MemoryUnit for StoreBufferUnit {
     }
 
     fn first(&self, a: u16) -> u64 {
-        self.first[a as usize]
+        self.history.first(a)
     }
 }

@@ -6,16 +6,14 @@ ghost use Rattle.unit_kinds.specs.Serial.{new_serial, serial_unit};
 use std::alloc::Global;
 use std::marker::Model;
 use tso_ops::{Order, OutOfMemory};
-use unit_core::{MemoryUnit, Step};
+use unit_core::{History, MemoryUnit, Step};
 
 /// A lawful unit of TSO that drains each store within its call: no entry waits between two calls.
 #[derive(Debug, Drop)]
 pub struct SerialUnit {
     /// The word at each address.
     memory: Vec<u64>,
-    /// The first value of each address.
-    first: Vec<u64>,
-    steps: Vec<Step>,
+    history: History,
 }
 
 impl Model for SerialUnit {
@@ -24,9 +22,9 @@ impl Model for SerialUnit {
 
     ghost Value = { SerialValue };
 
-    ghost view = { λ u. record { steps = u.steps.items; first = u.first.items } };
+    ghost view = { λ u. record { steps = u.history.steps; first = u.history.first } };
 
-    ghost invariant = { λ u. IsSerial u.steps.items u.first.items u.memory.items };
+    ghost invariant = { λ u. IsSerial u.history.steps u.history.first u.memory.items };
 }
 
 impl SerialUnit {
@@ -36,8 +34,7 @@ impl SerialUnit {
     {
         Ok(SerialUnit {
             memory: vec![in alloc; 0; 256]?,
-            first: vec![in alloc; 0; 256]?,
-            steps: Vec::new(alloc),
+            history: History::new(alloc)?,
         })
     }
 }
@@ -53,7 +50,7 @@ impl MemoryUnit for SerialUnit {
         ensures exact { IfOk result (λ r. self.new ≡ record self.old { steps = self.old.steps ++ Load p a r ∷ [] }) }
     {
         let r = self.memory[a as usize];
-        self.steps.push(Step::Load { p, a, r })?;
+        self.history.append(Step::Load { p, a, r })?;
         Ok(r)
     }
 
@@ -65,9 +62,10 @@ impl MemoryUnit for SerialUnit {
         ensures refused { IfErr result (λ _. self.new ≡ self.old) }
         ensures exact { IfOk result (λ _. self.new ≡ record self.old { steps = self.old.steps ++ (Store p a v ∷ (Drain p ∷ [])) }) }
     {
-        self.steps
-            .extend_from_slice(&[Step::Store { p, a, v }, Step::Drain { p }])?;
+        self.history.reserve(2)?;
         self.memory[a as usize] = v;
+        self.history.push_reserved(Step::Store { p, a, v });
+        self.history.push_reserved(Step::Drain { p });
         Ok(())
     }
 
@@ -80,7 +78,7 @@ impl MemoryUnit for SerialUnit {
         ensures exact { IfOk result (λ r. self.new ≡ record self.old { steps = self.old.steps ++ Swap p a r v ∷ [] }) }
     {
         let r = self.memory[a as usize];
-        self.steps.push(Step::Swap { p, a, r, v })?;
+        self.history.append(Step::Swap { p, a, r, v })?;
         self.memory[a as usize] = v;
         Ok(r)
     }
@@ -91,7 +89,7 @@ impl MemoryUnit for SerialUnit {
         ensures refused { IfErr result (λ _. self.new ≡ self.old) }
         ensures exact { IfOk result (λ _. self.new ≡ record self.old { steps = self.old.steps ++ Membar p ∷ [] }) }
     {
-        self.steps.push(Step::Membar { p })?;
+        self.history.append(Step::Membar { p })?;
         Ok(())
     }
 
@@ -101,7 +99,7 @@ impl MemoryUnit for SerialUnit {
         ensures refused { IfErr result (λ _. self.new ≡ self.old) }
         ensures exact { IfOk result (λ _. self.new ≡ record self.old { steps = self.old.steps ++ Stbar p ∷ [] }) }
     {
-        self.steps.push(Step::Stbar { p })?;
+        self.history.append(Step::Stbar { p })?;
         Ok(())
     }
 
@@ -110,7 +108,7 @@ impl MemoryUnit for SerialUnit {
     }
 
     fn preset(&mut self, a: u16, v: u64) {
-        self.first[a as usize] = v;
+        self.history.preset(a, v);
         self.memory[a as usize] = v;
     }
 
@@ -119,7 +117,7 @@ impl MemoryUnit for SerialUnit {
     }
 
     fn steps(&self) -> &[Step] {
-        &self.steps
+        self.history.steps()
     }
 
     fn lawful(&self) -> bool {
@@ -131,6 +129,6 @@ impl MemoryUnit for SerialUnit {
     }
 
     fn first(&self, a: u16) -> u64 {
-        self.first[a as usize]
+        self.history.first(a)
     }
 }

@@ -1,5 +1,5 @@
 -- For private functions: what they parse in place of the arguments, and what they make of the matches, as functions.
-use Rattle.std.specs.Prelude.{◌≡◌, ◌^◌, ◌-◌, ℕ, Bool, false, List, [], ◌∷◌, Option, Some, None, codes, min, max, option_and_then, unwrap_or, if◌then◌else◌}
+use Rattle.std.specs.Prelude.{◌≡◌, ◌^◌, ◌-◌, ℕ, Bool, true, false, List, [], ◌∷◌, Option, Some, None, codes, min, max, option_and_then, unwrap_or, if◌then◌else◌}
 use Rattle.std.specs.Option.{option_map_or}
 use Rattle.std.specs.Str.{bytes_eq}
 use Rattle.std.specs.Str.Parse.{digits_value, without_leading_plus}
@@ -7,13 +7,15 @@ use Rattle.clap.specs.ValueTests.{is_unsigned_in}
 use Rattle.clap.specs.Words.{Kinds, Row, first_of, one_of}
 use Rattle.command_line.specs.Workers.{worker_limit}
 use Rattle.command_line.specs.declared.options.CampaignOptions.{CampaignOptions}
+use Rattle.command_line.specs.declared.options.Printing.{Printing}
+use Rattle.command_line.specs.declared.options.Printing.TheVariants.{Report, Trace}
 use Rattle.command_line.specs.declared.options.RunOptions.{RunOptions}
 use Rattle.command_line.specs.declared.options.ShapeNumbers.{ShapeNumbers}
 use Rattle.command_line.specs.declared.options.UnitKind.TheVariants.{Serial}
 use Rattle.command_line.specs.declared.options.UnitOptions.{UnitOptions}
-use Rattle.command_line.specs.Requests.{Text, Asked, campaigning, capacity_limit, judging, making}
+use Rattle.command_line.specs.Requests.{Text, Asked, AskedRun, campaigning, capacity_limit, judging, making, running}
 use Rattle.command_line.specs.Units.{default_capacity, default_trigger, trigger_limit, unit_kind}
-use Rattle.command_line.specs.Commands.{IsAskedAtOne, checking_by, replaying_with, running_with}
+use Rattle.command_line.specs.Commands.{IsAskedAtOne, checking_by, replaying_with}
 
 -- ---- the arguments that are parsed
 
@@ -76,8 +78,23 @@ unit_in rows = record {
   trigger = trigger_in rows;
 }
 
+-- what is printed, by whether the trace is asked for
+abbrev pub printing_of : Bool → Printing
+printing_of false = Report
+printing_of true = Trace
+
+abbrev pub printing_in : List Row → Printing
+printing_in rows = printing_of (flag_in (codes "trace") rows)
+
 abbrev pub run_in : List Row → RunOptions
-run_in rows = record { unit = unit_in rows; workers = workers_in rows; prints_trace = flag_in (codes "trace") rows }
+run_in rows = record { unit = unit_in rows; workers = workers_in rows; printing = printing_in rows }
+
+abbrev pub asked_run_in : List Row → AskedRun
+asked_run_in rows = record {
+  options = run_in rows;
+  drain_seed = required_in (codes "seed") rows;
+  program = unwrap_or (first_of (codes "program") rows) [];
+}
 
 abbrev pub shape_in : List Row → ShapeNumbers
 shape_in rows = record {
@@ -99,7 +116,7 @@ abbrev pub replaying_by : List Row → Asked
 replaying_by rows = replaying_with (run_in rows) rows
 
 abbrev pub running_by : List Row → Asked
-running_by rows = running_with (run_in rows) (required_in (codes "seed") rows) rows
+running_by rows = running (asked_run_in rows)
 
 abbrev pub making_by : List Row → Asked
 making_by rows = making (required_in (codes "seed") rows) (shape_in rows)

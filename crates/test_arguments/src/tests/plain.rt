@@ -34,35 +34,35 @@ fn plain_arguments(rt: HostRuntime) -> Result<(), Fail> {
 const REPLAYS: [(&[&str], &str); 15] = [
     (
         &["replay", "--unit", "serial", "p", "s"],
-        "replay \"p\" by \"s\" on Serial 8 1 with 1 trace false",
+        "replay \"p\" by \"s\" on Serial 8 1 with 1 printing Report",
     ),
     (
         &["replay", "--unit", "buffer", "p", "s"],
-        "replay \"p\" by \"s\" on Buffer 8 1 with 1 trace false",
+        "replay \"p\" by \"s\" on Buffer 8 1 with 1 printing Report",
     ),
     (
         &["replay", "--capacity=64", "--unit=buffer", "p", "s"],
-        "replay \"p\" by \"s\" on Buffer 64 1 with 1 trace false",
+        "replay \"p\" by \"s\" on Buffer 64 1 with 1 printing Report",
     ),
     (
         &["replay", "--unit=serial", "p", "s"],
-        "replay \"p\" by \"s\" on Serial 8 1 with 1 trace false",
+        "replay \"p\" by \"s\" on Serial 8 1 with 1 printing Report",
     ),
     (
         &["replay", "p", "--unit", "serial", "s"],
-        "replay \"p\" by \"s\" on Serial 8 1 with 1 trace false",
+        "replay \"p\" by \"s\" on Serial 8 1 with 1 printing Report",
     ),
     (
         &["replay", "p", "s", "--unit=serial"],
-        "replay \"p\" by \"s\" on Serial 8 1 with 1 trace false",
+        "replay \"p\" by \"s\" on Serial 8 1 with 1 printing Report",
     ),
     (
         &["replay", "--unit", "serial", "--capacity", "1", "p", "s"],
-        "replay \"p\" by \"s\" on Serial 1 1 with 1 trace false",
+        "replay \"p\" by \"s\" on Serial 1 1 with 1 printing Report",
     ),
     (
         &["replay", "--capacity=64", "--unit", "serial", "p", "s"],
-        "replay \"p\" by \"s\" on Serial 64 1 with 1 trace false",
+        "replay \"p\" by \"s\" on Serial 64 1 with 1 printing Report",
     ),
     (
         &[
@@ -73,23 +73,23 @@ const REPLAYS: [(&[&str], &str); 15] = [
             "s",
             "--unit=serial",
         ],
-        "replay \"p\" by \"s\" on Serial 8 18446744073709551615 with 1 trace false",
+        "replay \"p\" by \"s\" on Serial 8 18446744073709551615 with 1 printing Report",
     ),
     (
         &["replay", "--unit=serial", "--trigger=7", "p", "s"],
-        "replay \"p\" by \"s\" on Serial 8 7 with 1 trace false",
+        "replay \"p\" by \"s\" on Serial 8 7 with 1 printing Report",
     ),
     (
         &["replay", "p", "s", "--workers", "64", "--unit", "serial"],
-        "replay \"p\" by \"s\" on Serial 8 1 with 64 trace false",
+        "replay \"p\" by \"s\" on Serial 8 1 with 64 printing Report",
     ),
     (
         &["replay", "--trace", "--unit", "serial", "-", "a b"],
-        "replay \"-\" by \"a b\" on Serial 8 1 with 1 trace true",
+        "replay \"-\" by \"a b\" on Serial 8 1 with 1 printing Trace",
     ),
     (
         &["replay", "--unit", "serial", "p", "s", "--trace"],
-        "replay \"p\" by \"s\" on Serial 8 1 with 1 trace true",
+        "replay \"p\" by \"s\" on Serial 8 1 with 1 printing Trace",
     ),
     (
         &[
@@ -104,11 +104,11 @@ const REPLAYS: [(&[&str], &str); 15] = [
             "--unit",
             "serial",
         ],
-        "replay \"p\" by \"s\" on Serial 4 3 with 2 trace true",
+        "replay \"p\" by \"s\" on Serial 4 3 with 2 printing Trace",
     ),
     (
         &["replay", "--unit", "serial", "--", "--trace", "-s"],
-        "replay \"--trace\" by \"-s\" on Serial 8 1 with 1 trace false",
+        "replay \"--trace\" by \"-s\" on Serial 8 1 with 1 printing Report",
     ),
 ];
 
@@ -121,15 +121,15 @@ fn plain_replays(rt: HostRuntime) -> Result<(), Fail> {
 const RUNS: [(&[&str], &str); 13] = [
     (
         &["run", "--unit", "serial", "--seed", "1", "p"],
-        "run \"p\" seeded 1 on Serial 8 1 with 1 trace false",
+        "run \"p\" seeded 1 on Serial 8 1 with 1 printing Report",
     ),
     (
         &["run", "--unit", "buffer", "--seed", "1", "p"],
-        "run \"p\" seeded 1 on Buffer 8 1 with 1 trace false",
+        "run \"p\" seeded 1 on Buffer 8 1 with 1 printing Report",
     ),
     (
         &["run", "--seed=0", "--unit=lost-drain", "p"],
-        "run \"p\" seeded 0 on Faulty(LostDrain) 8 1 with 1 trace false",
+        "run \"p\" seeded 0 on Faulty(LostDrain) 8 1 with 1 printing Report",
     ),
     (
         &[
@@ -139,31 +139,31 @@ const RUNS: [(&[&str], &str); 13] = [
             "--unit=serial",
             "p",
         ],
-        "run \"p\" seeded 18446744073709551615 on Serial 8 1 with 1 trace false",
+        "run \"p\" seeded 18446744073709551615 on Serial 8 1 with 1 printing Report",
     ),
     (
         &["run", "--seed", "9223372036854775808", "p", "--unit=serial"],
-        "run \"p\" seeded 9223372036854775808 on Serial 8 1 with 1 trace false",
+        "run \"p\" seeded 9223372036854775808 on Serial 8 1 with 1 printing Report",
     ),
     (
         &["run", "p", "--seed", "7", "--unit", "serial"],
-        "run \"p\" seeded 7 on Serial 8 1 with 1 trace false",
+        "run \"p\" seeded 7 on Serial 8 1 with 1 printing Report",
     ),
     (
         &["run", "p", "--unit=serial", "--seed=7"],
-        "run \"p\" seeded 7 on Serial 8 1 with 1 trace false",
+        "run \"p\" seeded 7 on Serial 8 1 with 1 printing Report",
     ),
     (
         &["run", "--capacity=64", "--seed=7", "p", "--unit=buffer"],
-        "run \"p\" seeded 7 on Buffer 64 1 with 1 trace false",
+        "run \"p\" seeded 7 on Buffer 64 1 with 1 printing Report",
     ),
     (
         &["run", "--trace", "--unit", "serial", "--seed=7", "-"],
-        "run \"-\" seeded 7 on Serial 8 1 with 1 trace true",
+        "run \"-\" seeded 7 on Serial 8 1 with 1 printing Trace",
     ),
     (
         &["run", "--unit", "serial", "a b", "--trace", "--seed=7"],
-        "run \"a b\" seeded 7 on Serial 8 1 with 1 trace true",
+        "run \"a b\" seeded 7 on Serial 8 1 with 1 printing Trace",
     ),
     (
         &[
@@ -179,15 +179,15 @@ const RUNS: [(&[&str], &str); 13] = [
             "--unit",
             "serial",
         ],
-        "run \"p\" seeded 5 on Serial 4 3 with 2 trace true",
+        "run \"p\" seeded 5 on Serial 4 3 with 2 printing Trace",
     ),
     (
         &["run", "--unit", "serial", "--seed=+007", "p"],
-        "run \"p\" seeded 7 on Serial 8 1 with 1 trace false",
+        "run \"p\" seeded 7 on Serial 8 1 with 1 printing Report",
     ),
     (
         &["run", "--unit", "serial", "--seed=7", "--", "--trace"],
-        "run \"--trace\" seeded 7 on Serial 8 1 with 1 trace false",
+        "run \"--trace\" seeded 7 on Serial 8 1 with 1 printing Report",
     ),
 ];
 
@@ -330,7 +330,9 @@ fn kinds_of_units(rt: HostRuntime) -> Result<(), Fail> {
     let alloc = rt.alloc();
     for (name, kind) in KINDS {
         let arguments = ["replay", "--trigger", "2", "--unit", name, "p", "s"];
-        let request = format!(in alloc; "replay \"p\" by \"s\" on {kind} 8 2 with 1 trace false")?;
+        let request = format!(in alloc;
+            "replay \"p\" by \"s\" on {kind} 8 2 with 1 printing Report"
+        )?;
         assert!(rt; asked(alloc, &arguments)?.as_str() == request.as_str());
     }
     Ok(())

@@ -3,7 +3,8 @@ use Rattle.std.specs.Prelude.{◌≡◌, ℕ, ◌+◌, ◌<◌, ◌≤◌, ◌^�
 use Rattle.tso_ops.specs.Drawing.{ShapeValue}
 use Rattle.tso_report.specs.declared.verdicts.Verdict.{Verdict}
 use Rattle.tso_report.specs.declared.verdicts.Verdict.TheVariants.{NoViolation, Violation, Refused}
-use Rattle.tso_report.specs.Campaigns.{IsVerdictOfSeed}
+use Rattle.unit_core.specs.Units.{UnitValue}
+use Rattle.tso_report.specs.Campaigns.{IsVerdictOfSeed, no_unit}
 
 -- whether a verdict says a violation
 abbrev pub is_violation : Verdict → Bool
@@ -15,27 +16,28 @@ is_violation Refused = false
 pub record JudgedValue : Type 0 where
   pub seed : ℕ
   pub shape : ShapeValue
-  pub lawful : Bool
   pub violation : Bool
 
--- a campaign's shape and first seed, which units are lawful, and the verdicts that came
+-- a campaign's shape and first seed, and the verdicts that came, a place for each seed
 pub record GatheredValue : Type 0 where
   pub shape : ShapeValue
   pub first : ℕ
-  pub lawful : List Bool
   pub violations : List (Option Bool)
 
--- The seeds are numbers of 64 bits. There is a place for each seed; a verdict that came is that of its seed.
-pub record IsGathered (g : GatheredValue) : Type 0 where
-  pub last : g.first + length g.lawful ≤ 2 ^ 64
-  pub one_each : length g.violations ≡ length g.lawful
-  pub came : (i : ℕ) (violation : Bool) → i < length g.lawful → get_or g.violations i None ≡ Some violation → IsVerdictOfSeed g.shape (g.first + i) (get_or g.lawful i false) violation
+-- The seeds are numbers of 64 bits. A verdict that came is that of its seed, of which this is the unit.
+pub record IsGathered (unit_of : ℕ → UnitValue) (g : GatheredValue) : Type 0 where
+  pub last : g.first + length g.violations ≤ 2 ^ 64
+  pub came : (i : ℕ) (violation : Bool) → i < length g.violations → get_or g.violations i None ≡ Some violation → IsVerdictOfSeed g.shape (g.first + i) (unit_of (g.first + i)) violation
+
+-- these are the units of the seeds from this one on
+abbrev pub AreUnitsFrom : (ℕ → UnitValue) → ℕ → List UnitValue → Type 0
+AreUnitsFrom unit_of first units = (i : ℕ) → i < length units → get_or units i no_unit ≡ unit_of (first + i)
 
 -- Only verdicts came.
 pub record KeepsSeeds (old new : GatheredValue) : Type 0 where
   pub shape : new.shape ≡ old.shape
   pub first : new.first ≡ old.first
-  pub lawful : new.lawful ≡ old.lawful
+  pub one_each : length new.violations ≡ length old.violations
 
 -- No verdict of seed i came, and one of each before it.
 pub record IsLeastMissing (violations : List (Option Bool)) (i : ℕ) : Type 0 where

@@ -1,55 +1,51 @@
 //! What is known of a campaign's seeds while their results come in.
-ghost use Rattle.std.specs.Prelude.{◌≡◌, ◌≢◌, ◌⊎◌, ◌+◌, ◌<◌, ◌≤◌, ◌^◌, ℕ, false, None, IfOk, IfErr, IfSome, MatchOption, length, get_or, map, unwrap_or};
+ghost use Rattle.std.specs.Prelude.{◌≡◌, ◌≢◌, ◌⊎◌, ◌+◌, ◌<◌, ◌≤◌, ◌^◌, ℕ, List, false, None, IfOk, IfErr, IfSome, MatchOption, length, get_or, map, unwrap_or};
 ghost use Rattle.tso_report.specs.Campaigns.{AreVerdicts};
-ghost use Rattle.tso_report.specs.Internal.Gathering.{IsGathered, IsLeastMissing, KeepsSeeds};
+ghost use Rattle.tso_report.specs.Internal.Gathering.{AreUnitsFrom, IsGathered, IsLeastMissing, KeepsSeeds};
 ghost use Rattle.tso_report.specs.declared.faults.Fault.{Fault};
+ghost use Rattle.unit_core.specs.Units.{UnitValue};
 
 use super::Drawn;
-use super::seeds::{JobResult, Judged};
+use super::seeds::{JobResult, Judged, SeedUnits};
 use crate::faults::Fault;
 use std::alloc::Global;
-use std::marker::Model;
+use std::marker::{Model, PhantomData};
 use tso_ops::OutOfMemory;
 
 /// The verdicts of a campaign's seeds, as far as they came, and which faults came.
 #[derive(Drop)]
-pub(crate) struct Gathered {
+pub(crate) struct Gathered<S: SeedUnits> {
     drawn: Drawn,
-    /// Whether the unit of each seed is lawful.
-    lawful: Vec<bool>,
     /// Whether the trace of each seed is a violation.
     violations: Vec<Option<bool>>,
     met_out_of_memory: bool,
     met_no_thread: bool,
+    of: PhantomData<S>,
 }
 
-impl Model for Gathered {
+impl<S: SeedUnits> Model for Gathered<S> {
     ghost use Rattle.tso_report.specs.Internal.Gathering.{GatheredValue, IsGathered};
 
     ghost Value = { GatheredValue };
 
-    ghost view = { λ g. record { shape = g.drawn.shape; first = g.drawn.first; lawful = g.lawful.items; violations = g.violations.items } };
+    ghost view = { λ g. record { shape = g.drawn.shape; first = g.drawn.first; violations = g.violations.items } };
 
-    ghost invariant = { λ g. IsGathered (record { shape = g.drawn.shape; first = g.drawn.first; lawful = g.lawful.items; violations = g.violations.items }) };
+    ghost invariant = { λ g. IsGathered S.unit_of (record { shape = g.drawn.shape; first = g.drawn.first; violations = g.violations.items }) };
 }
 
-impl Gathered {
-    /// Nothing is known of these seeds; it is known of the unit of each whether it is lawful.
-    pub(crate) fn new(
-        alloc: Global,
-        drawn: Drawn,
-        lawful: Vec<bool>,
-    ) -> Result<Gathered, OutOfMemory>
-        requires { drawn.first + length lawful.items ≤ 2 ^ 64 }
-        ensures { IfOk result (λ g. (g.shape ≡ drawn.shape) × (g.first ≡ drawn.first) × (g.lawful ≡ lawful.items)) }
+impl<S: SeedUnits> Gathered<S> {
+    /// Nothing is known of so many seeds.
+    pub(crate) fn new(alloc: Global, drawn: Drawn, seeds: usize) -> Result<Gathered<S>, OutOfMemory>
+        requires { drawn.first + seeds ≤ 2 ^ 64 }
+        ensures { IfOk result (λ g. (g.shape ≡ drawn.shape) × (g.first ≡ drawn.first) × (length g.violations ≡ seeds)) }
     {
-        let violations = vec![in alloc; None; lawful.len()]?;
+        let violations = vec![in alloc; None; seeds]?;
         Ok(Gathered {
             drawn,
-            lawful,
             violations,
             met_out_of_memory: false,
             met_no_thread: false,
+            of: PhantomData,
         })
     }
 
@@ -61,7 +57,7 @@ impl Gathered {
     }
 
     /// Takes a result in. One of a strange seed is dropped, and so is a second one of a seed.
-    pub(crate) fn accept(&mut self, came: JobResult)
+    pub(crate) fn accept(&mut self, came: JobResult<S>)
         ensures { KeepsSeeds self.old self.new }
     {
         match came {
@@ -70,14 +66,14 @@ impl Gathered {
         }
     }
 
-    /// Takes the verdict on a record in. That of a record that isn't lawful though the unit was is dropped.
-    fn accept_verdict(&mut self, judged: Judged)
+    /// Takes the verdict on a record in. That of a program in another shape is dropped.
+    fn accept_verdict(&mut self, judged: Judged<S>)
         ensures { KeepsSeeds self.old self.new }
     {
         let Some(i) = self.place_of(judged.seed()) else {
             return;
         };
-        if !judged.is_of_shape(&self.drawn.shape) || (self.lawful[i] && !judged.lawful()) {
+        if !judged.is_of_shape(&self.drawn.shape) {
             return;
         }
         if self.violations[i].is_none() {
@@ -101,10 +97,10 @@ impl Gathered {
 
     /// The place of a seed, or None where it is a strange one.
     fn place_of(&self, seed: u64) -> Option<usize>
-        ensures { IfSome result (λ i. (self.now.first + i ≡ seed) × (i < length self.now.lawful)) }
+        ensures { IfSome result (λ i. (self.now.first + i ≡ seed) × (i < length self.now.violations)) }
     {
         let after = seed.checked_sub(self.drawn.first)?;
-        if after < self.lawful.len() as u64 {
+        if after < self.violations.len() as u64 {
             Some(after as usize)
         } else {
             None
@@ -114,7 +110,7 @@ impl Gathered {
     /// The verdicts, in the order of the seeds. OutOfMemory where a result said so or an allocation was refused, NoThread
     /// where a result said so; else Missing with the least seed that has no verdict.
     pub(crate) fn violations(self, alloc: Global) -> Result<Vec<bool>, Fault>
-        ensures verdicts { IfOk result (λ violations. AreVerdicts self.shape self.first self.lawful violations.items) }
+        ensures verdicts { (units : List UnitValue) → length units ≡ length self.violations → AreUnitsFrom S.unit_of self.first units → IfOk result (λ violations. AreVerdicts self.shape self.first units violations.items) }
         ensures fault { IfErr result (λ fault. (fault ≡ Fault.OutOfMemory) ⊎ (fault ≡ Fault.NoThread) ⊎ ((i : ℕ) × IsLeastMissing self.violations i × (fault ≡ Fault.Missing (self.first + i)))) }
     {
         if self.met_out_of_memory {

@@ -11,42 +11,57 @@ use issue_desk::{Issuers, OpenGate, RunFault, run_over};
 use rand_core::SeedableRng;
 use rand_pcg::Pcg64;
 use std::alloc::Global;
-use std::marker::Model;
+use std::marker::{Brand, Model, PhantomData};
 use std::sync::Wait;
 use std::thread::Threads;
 use tso_ops::{OutOfMemory, Program, Shape, Trace, make_program};
 use unit_core::{Account, MemoryUnit};
 
-/// A seed, and the unit on which its program is run.
+/// The unit of each seed. Each campaign picks them.
+pub(crate) trait SeedUnits {
+    ghost use Rattle.std.specs.Prelude.{ℕ};
+    ghost use Rattle.unit_core.specs.Units.{UnitValue};
+
+    ghost unit_of: { ℕ → UnitValue };
+}
+
+impl SeedUnits for Brand {
+    ghost use Rattle.tso_report.specs.Campaigns.{no_unit};
+
+    ghost unit_of = { λ seed. no_unit };
+}
+
+/// A seed, and its unit, on which its program is run.
 #[derive(Drop)]
-pub(crate) struct Job<U: MemoryUnit> {
+pub(crate) struct Job<S: SeedUnits, U: MemoryUnit> {
     seed: u64,
     unit: U,
+    of: PhantomData<S>,
     ghost untouched: { (U.value_of unit).steps ≡ [] },
+    ghost is: { U.value_of unit ≡ S.unit_of seed },
 }
 
-/// What is said of a seed, whose program has this shape: whether the trace of its record is a violation, and whether the
-/// record is lawful.
+/// What is said of a seed, whose program has this shape: whether the trace recorded on its unit is a violation.
 #[derive(Drop)]
-pub(crate) struct Judged {
+pub(crate) struct Judged<S: SeedUnits> {
     seed: u64,
     shape: Shape,
-    lawful: bool,
     violation: bool,
+    of: PhantomData<S>,
 }
 
-impl Model for Judged {
+impl<S: SeedUnits> Model for Judged<S> {
     ghost use Rattle.tso_report.specs.Campaigns.{IsVerdictOfSeed};
     ghost use Rattle.tso_report.specs.Internal.Gathering.{JudgedValue};
 
     ghost Value = { JudgedValue };
 
-    ghost view = { λ j. record { seed = j.seed; shape = j.shape; lawful = j.lawful; violation = j.violation } };
+    ghost view = { λ j. record { seed = j.seed; shape = j.shape; violation = j.violation } };
 
-    ghost invariant = { λ j. IsVerdictOfSeed j.shape j.seed j.lawful j.violation };
+    ghost invariant = { λ j. IsVerdictOfSeed j.shape j.seed (S.unit_of j.seed) j.violation };
 }
 
-impl Judged {
+impl<S: SeedUnits> Judged<S> {
     /// Whose verdict it is.
     pub(crate) fn seed(&self) -> u64
         ensures { result ≡ self.now.seed }
@@ -61,17 +76,10 @@ impl Judged {
         self.shape.is_same(shape)
     }
 
-    /// Whether the record is lawful.
-    pub(crate) fn lawful(&self) -> bool
-        ensures { result ≡ self.now.lawful }
-    {
-        self.lawful
-    }
-
     /// Whether the trace of the record is a violation.
     pub(crate) fn violation(&self) -> bool
         ensures is { result ≡ self.now.violation }
-        ensures said { IsVerdictOfSeed self.now.shape self.now.seed self.now.lawful self.now.violation }
+        ensures said { IsVerdictOfSeed self.now.shape self.now.seed (S.unit_of self.now.seed) self.now.violation }
     {
         self.violation
     }
@@ -79,9 +87,9 @@ impl Judged {
 
 /// What a job gave.
 #[derive(Drop)]
-pub(crate) enum JobResult {
+pub(crate) enum JobResult<S: SeedUnits> {
     /// A record of the seed was judged.
-    Judged(Judged),
+    Judged(Judged<S>),
     /// None was, for this fault.
     Failed { seed: u64, fault: Fault },
 }
@@ -93,20 +101,25 @@ pub fn seeded_program(alloc: Global, seed: u64, shape: Shape) -> Result<Program,
     make_program(alloc, &mut Pcg64::seed_from_u64(seed), shape)
 }
 
-/// The job of a seed and a unit that has taken no step.
-pub(crate) fn job_of<U: MemoryUnit>(seed: u64, unit: U) -> Job<U>
-    requires { (U.value_of unit).steps ≡ [] }
+/// The job of a seed and its unit, which has taken no step.
+pub(crate) fn job_of<S: SeedUnits, U: MemoryUnit>(seed: u64, unit: U) -> Job<S, U>
+    requires untouched { (U.value_of unit).steps ≡ [] }
+    requires is { U.value_of unit ≡ S.unit_of seed }
 {
-    Job { seed, unit }
+    Job {
+        seed,
+        unit,
+        of: PhantomData,
+    }
 }
 
 /// Does a job: runs the program of its seed in this shape on its unit, and judges the record with one worker.
-pub(crate) fn result_of<U: MemoryUnit + Send, R: Threads + Wait + Sync>(
+pub(crate) fn result_of<S: SeedUnits, U: MemoryUnit + Send, R: Threads + Wait + Sync>(
     rt: &R,
     alloc: Global,
     shape: Shape,
-    job: Job<U>,
-) -> JobResult {
+    job: Job<S, U>,
+) -> JobResult<S> {
     let seed = job.seed;
     match judge_seed(rt, alloc, shape, job) {
         Ok(judged) => JobResult::Judged(judged),
@@ -116,13 +129,13 @@ pub(crate) fn result_of<U: MemoryUnit + Send, R: Threads + Wait + Sync>(
 
 /// What is said of the job's seed. OutOfMemory where the unit answered it or an allocation was refused, NoThread where the
 /// system refused a thread, Missing where the run gave no record.
-fn judge_seed<U: MemoryUnit + Send, R: Threads + Wait + Sync>(
+fn judge_seed<S: SeedUnits, U: MemoryUnit + Send, R: Threads + Wait + Sync>(
     rt: &R,
     alloc: Global,
     shape: Shape,
-    job: Job<U>,
-) -> Result<Judged, Fault> {
-    let Job { seed, unit } = job;
+    job: Job<S, U>,
+) -> Result<Judged<S>, Fault> {
+    let Job { seed, unit, .. } = job;
     let program = seeded_program(alloc, seed, shape)?;
     let issuers = Issuers {
         gate: &OpenGate,
@@ -137,8 +150,8 @@ fn judge_seed<U: MemoryUnit + Send, R: Threads + Wait + Sync>(
     Ok(Judged {
         seed,
         shape,
-        lawful: recorded.lawful(),
         violation: is_violation(verdict),
+        of: PhantomData,
     })
 }
 

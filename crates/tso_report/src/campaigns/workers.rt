@@ -1,11 +1,11 @@
 //! The threads that do a campaign's jobs, and the channels between them and the caller's thread.
-ghost use Rattle.std.specs.Prelude.{◌≡◌, ◌⊎◌, ◌+◌, ◌≤◌, ◌^◌, [], All, IfOk, IfErr, length};
+ghost use Rattle.std.specs.Prelude.{◌≡◌, ◌⊎◌, ◌+◌, ◌≤◌, ◌^◌, [], All, IfOk, IfErr, length, map};
 ghost use Rattle.tso_report.specs.Limits.{seed_count_limit};
-ghost use Rattle.tso_report.specs.Internal.Gathering.{KeepsSeeds};
+ghost use Rattle.tso_report.specs.Internal.Gathering.{AreUnitsFrom, KeepsSeeds};
 ghost use Rattle.tso_report.specs.declared.faults.Fault.{Fault};
 
 use super::gathering::Gathered;
-use super::seeds::{Job, JobResult, job_of, result_of};
+use super::seeds::{Job, JobResult, SeedUnits, job_of, result_of};
 use crate::faults::Fault;
 use crossbeam_channel::{Receiver, Sender, bounded};
 use std::alloc::Global;
@@ -17,25 +17,26 @@ use unit_core::MemoryUnit;
 
 /// The ends of the channels that a worker has: jobs come in by one, their results go out by the other.
 #[derive(Drop)]
-struct Ends<U: MemoryUnit> {
-    jobs: Receiver<Job<U>>,
-    results: Sender<JobResult>,
+struct Ends<S: SeedUnits, U: MemoryUnit> {
+    jobs: Receiver<Job<S, U>>,
+    results: Sender<JobResult<S>>,
 }
 
 /// Has the jobs of all seeds done by `workers` threads, and takes their results in. With no seed no thread is started.
 ///
 /// Faults: OutOfMemory where an allocation was refused; NoThread where the system refused a thread, and then no job was
 /// sent. On every return all threads are joined.
-pub(super) fn gather<U: MemoryUnit + Send, R: Threads + Wait + Sync>(
+pub(super) fn gather<S: SeedUnits + Send, U: MemoryUnit + Send, R: Threads + Wait + Sync>(
     rt: &R,
     alloc: Global,
-    gathered: Gathered,
+    gathered: Gathered<S>,
     units: Vec<U>,
     workers: usize,
-) -> Result<Gathered, Fault>
+) -> Result<Gathered<S>, Fault>
     requires most { length units.items ≤ seed_count_limit }
-    requires one_each { length units.items ≡ length gathered.lawful }
+    requires one_each { length units.items ≡ length gathered.violations }
     requires untouched { All (λ unit. (U.value_of unit).steps ≡ []) units.items }
+    requires units { AreUnitsFrom S.unit_of gathered.first (map (λ unit. U.value_of unit) units.items) }
     ensures seeds { IfOk result (KeepsSeeds gathered) }
     ensures fault { IfErr result (λ fault. (fault ≡ Fault.OutOfMemory) ⊎ (fault ≡ Fault.NoThread)) }
 {
@@ -45,27 +46,29 @@ pub(super) fn gather<U: MemoryUnit + Send, R: Threads + Wait + Sync>(
     thread::scope(
         thread::scope_env(),
         rt,
-        |scope| -> Result<Gathered, Fault>
+        |scope| -> Result<Gathered<S>, Fault>
             requires most { length units.items ≤ seed_count_limit }
-            requires one_each { length units.items ≡ length gathered.lawful }
+            requires one_each { length units.items ≡ length gathered.violations }
             requires untouched { All (λ unit. (U.value_of unit).steps ≡ []) units.items }
+            requires units { AreUnitsFrom S.unit_of gathered.first (map (λ unit. U.value_of unit) units.items) }
             ensures seeds { IfOk result (KeepsSeeds gathered) }
             ensures fault { IfErr result (λ fault. (fault ≡ Fault.OutOfMemory) ⊎ (fault ≡ Fault.NoThread)) }
         { gather_in(scope, rt, alloc, gathered, units, workers) },
     )
 }
 
-fn gather_in<'s, E, U: MemoryUnit + Send + 's, R: Threads + Wait + Sync>(
+fn gather_in<'s, E, S: SeedUnits + Send + 's, U: MemoryUnit + Send + 's, R: Threads + Wait + Sync>(
     scope: &'s Scope<'s, E>,
     rt: &'s R,
     alloc: Global,
-    gathered: Gathered,
+    gathered: Gathered<S>,
     units: Vec<U>,
     workers: usize,
-) -> Result<Gathered, Fault>
+) -> Result<Gathered<S>, Fault>
     requires most { length units.items ≤ seed_count_limit }
-    requires one_each { length units.items ≡ length gathered.lawful }
+    requires one_each { length units.items ≡ length gathered.violations }
     requires untouched { All (λ unit. (U.value_of unit).steps ≡ []) units.items }
+    requires units { AreUnitsFrom S.unit_of gathered.first (map (λ unit. U.value_of unit) units.items) }
     ensures seeds { IfOk result (KeepsSeeds gathered) }
     ensures fault { IfErr result (λ fault. (fault ≡ Fault.OutOfMemory) ⊎ (fault ≡ Fault.NoThread)) }
 {
@@ -85,12 +88,18 @@ fn gather_in<'s, E, U: MemoryUnit + Send + 's, R: Threads + Wait + Sync>(
 }
 
 /// Starts the workers, each with ends of its own. NoThread where the system refused a thread.
-fn start_workers<'s, E, U: MemoryUnit + Send + 's, R: Threads + Wait + Sync>(
+fn start_workers<
+    's,
+    E,
+    S: SeedUnits + Send + 's,
+    U: MemoryUnit + Send + 's,
+    R: Threads + Wait + Sync,
+>(
     scope: &'s Scope<'s, E>,
     rt: &'s R,
     alloc: Global,
     shape: Shape,
-    ends: Ends<U>,
+    ends: Ends<S, U>,
     workers: usize,
 ) -> Result<(), Fault>
     ensures { IfErr result (λ fault. (fault ≡ Fault.OutOfMemory) ⊎ (fault ≡ Fault.NoThread)) }
@@ -108,11 +117,11 @@ fn start_workers<'s, E, U: MemoryUnit + Send + 's, R: Threads + Wait + Sync>(
 }
 
 /// Does jobs as long as some come.
-fn work<U: MemoryUnit + Send, R: Threads + Wait + Sync>(
+fn work<S: SeedUnits + Send, U: MemoryUnit + Send, R: Threads + Wait + Sync>(
     rt: &R,
     alloc: Global,
     shape: Shape,
-    ends: Ends<U>,
+    ends: Ends<S, U>,
 ) {
     for _ in rt.forever() {
         let Ok(job) = ends.jobs.recv(rt) else {
@@ -123,10 +132,16 @@ fn work<U: MemoryUnit + Send, R: Threads + Wait + Sync>(
 }
 
 /// Sends the jobs of the seeds from `first` on.
-fn send_jobs<U: MemoryUnit, R: Wait>(rt: &R, to_workers: Sender<Job<U>>, first: u64, units: Vec<U>)
+fn send_jobs<S: SeedUnits, U: MemoryUnit, R: Wait>(
+    rt: &R,
+    to_workers: Sender<Job<S, U>>,
+    first: u64,
+    units: Vec<U>,
+)
     requires most { length units.items ≤ seed_count_limit }
     requires last { first + length units.items ≤ 2 ^ 64 }
     requires untouched { All (λ unit. (U.value_of unit).steps ≡ []) units.items }
+    requires units { AreUnitsFrom S.unit_of first (map (λ unit. U.value_of unit) units.items) }
 {
     let mut after: u64 = 0;
     for unit in units {
@@ -136,11 +151,11 @@ fn send_jobs<U: MemoryUnit, R: Wait>(rt: &R, to_workers: Sender<Job<U>>, first: 
 }
 
 /// Takes results in until they end.
-fn receive_results<R: Wait>(
+fn receive_results<S: SeedUnits, R: Wait>(
     rt: &R,
-    from_workers: Receiver<JobResult>,
-    gathered: Gathered,
-) -> Gathered
+    from_workers: Receiver<JobResult<S>>,
+    gathered: Gathered<S>,
+) -> Gathered<S>
     ensures { KeepsSeeds gathered result }
 {
     let mut gathered = gathered;

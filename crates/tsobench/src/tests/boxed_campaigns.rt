@@ -1,12 +1,13 @@
 //! Campaigns of the seeds 1, 2 and 3 on units in boxes, of one type or of several: what is written, and which calls the
 //! units get.
-ghost use Rattle.std.specs.Prelude.{◌≡◌, ◌≤◌, [], IfOk};
+ghost use Rattle.std.specs.Prelude.{◌≡◌, ◌≤◌, []};
 ghost use Rattle.tso_report.specs.Limits.{worker_limit};
 
 use super::campaigns::THREE_SEEDS;
 use super::meeting::{Meeting, MeetingUnit};
 use std::alloc::Global;
 use std::io::Write;
+use std::process::Abort;
 use std::sync::atomic::Ordering;
 use std::sync::{Arc, Wait};
 use std::test::Fail;
@@ -18,59 +19,49 @@ use unit_core::MemoryUnit;
 use unit_faulty::{FaultKind, FaultyUnit};
 use unit_kinds::SerialUnit;
 
-/// The answer of a campaign of three seeds on these units, each in a box, which writes to this writer.
-fn campaign_into<
-    H: Threads + Wait + Sync,
-    A: MemoryUnit + Send + 'static,
-    B: MemoryUnit + Send + 'static,
-    C: MemoryUnit + Send + 'static,
-    W: Write,
->(
-    rt: &H,
-    alloc: Global,
-    shape: Shape,
-    units: (A, B, C),
-    workers: usize,
-    writer: &mut W,
-) -> Result<Result<Verdict, Fault>, OutOfMemory>
-    requires some { 1 ≤ workers }
-    requires most { workers ≤ worker_limit }
-    requires first { (A.value_of units.0).steps ≡ [] }
-    requires second { (B.value_of units.1).steps ≡ [] }
-    requires third { (C.value_of units.2).steps ≡ [] }
-{
-    let (first, second, third) = units;
-    let first: Box<dyn MemoryUnit + Send> = Box::new(alloc, first)?;
-    let second: Box<dyn MemoryUnit + Send> = Box::new(alloc, second)?;
-    let third: Box<dyn MemoryUnit + Send> = Box::new(alloc, third)?;
-    let units = Vec::from_array(alloc, [first, second, third])?;
-    let drawn = Drawn { first: 1, shape };
-    Ok(campaign(rt, alloc, drawn, units, workers, writer))
-}
+/// A unit in a box. A box is made of a concrete type, in the test.
+type Boxed = Box<dyn MemoryUnit + Send>;
 
-/// Whether a campaign of three seeds on these units, each in a box, gives this answer and this text.
-fn is_ran<
-    H: Threads + Wait + Sync,
-    A: MemoryUnit + Send + 'static,
-    B: MemoryUnit + Send + 'static,
-    C: MemoryUnit + Send + 'static,
->(
+/// The answer of a campaign of three seeds on these units, which writes to this writer.
+fn campaign_into<H: Threads + Wait + Sync, W: Write>(
     rt: &H,
     alloc: Global,
     of: (Shape, usize),
-    units: (A, B, C),
+    units: (Boxed, Boxed, Boxed),
+    writer: &mut W,
+) -> Result<Result<Verdict, Fault>, OutOfMemory>
+    requires some { 1 ≤ of.1 }
+    requires most { of.1 ≤ worker_limit }
+    requires first { (value_of units.0).steps ≡ [] }
+    requires second { (value_of units.1).steps ≡ [] }
+    requires third { (value_of units.2).steps ≡ [] }
+{
+    let (first, second, third) = units;
+    let units = Vec::from_array(alloc, [first, second, third])?;
+    let drawn = Drawn {
+        first: 1,
+        shape: of.0,
+    };
+    Ok(campaign(rt, alloc, drawn, units, of.1, writer))
+}
+
+/// Whether a campaign of three seeds on these units gives this answer and this text.
+fn is_ran<H: Threads + Wait + Sync>(
+    rt: &H,
+    alloc: Global,
+    of: (Shape, usize),
+    units: (Boxed, Boxed, Boxed),
     told: (Result<Verdict, Fault>, &str),
 ) -> Result<bool, OutOfMemory>
     requires some { 1 ≤ of.1 }
     requires most { of.1 ≤ worker_limit }
-    requires first { (A.value_of units.0).steps ≡ [] }
-    requires second { (B.value_of units.1).steps ≡ [] }
-    requires third { (C.value_of units.2).steps ≡ [] }
+    requires first { (value_of units.0).steps ≡ [] }
+    requires second { (value_of units.1).steps ≡ [] }
+    requires third { (value_of units.2).steps ≡ [] }
 {
-    let (shape, workers) = of;
     let (answer, text) = told;
     let mut written = Vec::new(alloc);
-    let answered = campaign_into(rt, alloc, shape, units, workers, &mut written)?;
+    let answered = campaign_into(rt, alloc, of, units, &mut written)?;
     Ok(answered == answer && written.as_slice() == text.as_bytes())
 }
 
@@ -79,48 +70,67 @@ fn new_counts(alloc: Global) -> Result<Arc<CallCounts, Global>, OutOfMemory> {
     Ok(Arc::new(alloc, CallCounts::new())?)
 }
 
-/// How many loads, stores, swaps and barriers were counted.
-fn calls_of(counts: &CallCounts) -> [u64; 4] {
-    [
-        counts.loads.load(Ordering::SeqCst),
-        counts.stores.load(Ordering::SeqCst),
-        counts.swaps.load(Ordering::SeqCst),
-        counts.membars.load(Ordering::SeqCst),
-    ]
+/// How many loads, stores, swaps and barriers.
+#[derive(Clone, Copy, PartialEq, Eq)]
+struct Calls {
+    loads: u64,
+    stores: u64,
+    swaps: u64,
+    membars: u64,
 }
 
-/// Counts the operation of a program under TSO among loads, stores, swaps and barriers.
-fn count_op(calls: [u64; 4], op: Op) -> [u64; 4] {
-    let [loads, stores, swaps, membars] = calls;
-    match op {
-        Op::Ld { .. } => [loads.saturating_add(1), stores, swaps, membars],
-        Op::St { .. } => [loads, stores.saturating_add(1), swaps, membars],
-        Op::Sw { .. } => [loads, stores, swaps.saturating_add(1), membars],
-        Op::Mb | Op::Sb => [loads, stores, swaps, membars.saturating_add(1)],
+/// The calls that were counted.
+fn calls_of(counts: &CallCounts) -> Calls {
+    Calls {
+        loads: counts.loads.load(Ordering::SeqCst),
+        stores: counts.stores.load(Ordering::SeqCst),
+        swaps: counts.swaps.load(Ordering::SeqCst),
+        membars: counts.membars.load(Ordering::SeqCst),
     }
 }
 
-/// These numbers, and those of the program of a seed.
-fn with_seed(
-    alloc: Global,
-    calls: [u64; 4],
-    seed: u64,
-    shape: Shape,
-) -> Result<[u64; 4], OutOfMemory> {
+/// These calls, and those of the operations of a program under TSO.
+fn with_ops(calls: Calls, ops: &[Op]) -> Calls {
+    let Calls {
+        mut loads,
+        mut stores,
+        mut swaps,
+        mut membars,
+    } = calls;
+    for op in ops {
+        match op {
+            Op::Ld { .. } => loads = loads.saturating_add(1),
+            Op::St { .. } => stores = stores.saturating_add(1),
+            Op::Sw { .. } => swaps = swaps.saturating_add(1),
+            Op::Mb | Op::Sb => membars = membars.saturating_add(1),
+        }
+    }
+    Calls {
+        loads,
+        stores,
+        swaps,
+        membars,
+    }
+}
+
+/// These calls, and those of the program of a seed.
+fn with_seed(alloc: Global, calls: Calls, seed: u64, shape: Shape) -> Result<Calls, OutOfMemory> {
     let program = seeded_program(alloc, seed, shape)?;
     let mut calls = calls;
     for p in 0..program.processors() {
-        calls = program
-            .ops(p)
-            .iter()
-            .fold(calls, |calls, op| count_op(calls, *op));
+        calls = with_ops(calls, program.ops(p));
     }
     Ok(calls)
 }
 
-/// How many loads, stores, swaps and barriers the programs of these seeds have.
-fn calls_of_seeds(alloc: Global, seeds: &[u64], shape: Shape) -> Result<[u64; 4], OutOfMemory> {
-    let mut calls = [0u64; 4];
+/// The calls of the programs of these seeds.
+fn calls_of_seeds(alloc: Global, seeds: &[u64], shape: Shape) -> Result<Calls, OutOfMemory> {
+    let mut calls = Calls {
+        loads: 0,
+        stores: 0,
+        swaps: 0,
+        membars: 0,
+    };
     for seed in seeds {
         calls = with_seed(alloc, calls, *seed, shape)?;
     }
@@ -139,103 +149,132 @@ fn have_served(
     Ok(drops == seeds.len() as u64 && calls_of(counts) == calls)
 }
 
-#[test]
-fn boxed_serial_units_are_used(rt: HostRuntime) -> Result<(), Fail> {
-    let alloc = rt.alloc();
+/// Runs a campaign on serial units, and compares their calls.
+fn serve_serial_units<H: Threads + Wait + Sync + Abort>(
+    rt: &H,
+    alloc: Global,
+    workers: usize,
+) -> Result<(), Fail>
+    requires some { 1 ≤ workers }
+    requires most { workers ≤ worker_limit }
+{
     let shape = Shape::new(2, 20, 4).ok_or("a shape")?;
+    let counts = new_counts(alloc)?;
+    let one = CountingUnit::new(SerialUnit::new(alloc)?, Arc::try_clone(&counts)?);
+    let two = CountingUnit::new(SerialUnit::new(alloc)?, Arc::try_clone(&counts)?);
+    let three = CountingUnit::new(SerialUnit::new(alloc)?, Arc::try_clone(&counts)?);
+    let units: (Boxed, Boxed, Boxed) = (
+        Box::new(alloc, one)?,
+        Box::new(alloc, two)?,
+        Box::new(alloc, three)?,
+    );
     let told = (Ok(Verdict::NoViolation), THREE_SEEDS);
-    for workers in [1usize, 2, 64] {
-        let counts = new_counts(alloc)?;
-        let units = (
-            CountingUnit::new(SerialUnit::new(alloc)?, Arc::try_clone(&counts)?),
-            CountingUnit::new(SerialUnit::new(alloc)?, Arc::try_clone(&counts)?),
-            CountingUnit::new(SerialUnit::new(alloc)?, Arc::try_clone(&counts)?),
-        );
-        assert!(rt;
-            is_ran(&rt, alloc, (shape, workers), units, told)?,
-            "{workers} workers"
-        );
-        assert!(rt;
-            have_served(alloc, &counts, &[1, 2, 3], shape)?,
-            "{workers} workers"
-        );
-    }
+    assert!(rt;
+        is_ran(rt, alloc, (shape, workers), units, told)?,
+        "{workers} workers"
+    );
+    assert!(rt;
+        have_served(alloc, &counts, &[1, 2, 3], shape)?,
+        "{workers} workers"
+    );
     Ok(())
 }
 
-/// A unit that isn't lawful, but whose deviation no run comes to, and which counts its calls.
-fn undeviating(
+#[test]
+fn boxed_serial_units_are_used(rt: HostRuntime) -> Result<(), Fail> {
+    serve_serial_units(&rt, rt.alloc(), 1)?;
+    serve_serial_units(&rt, rt.alloc(), 2)?;
+    serve_serial_units(&rt, rt.alloc(), 64)
+}
+
+/// Runs a campaign on units that aren't lawful, but to whose deviations no run comes, and compares their calls.
+fn serve_unlawful_units<H: Threads + Wait + Sync + Abort>(
+    rt: &H,
     alloc: Global,
-    kind: FaultKind,
-    counts: &Arc<CallCounts, Global>,
-) -> Result<CountingUnit<FaultyUnit>, OutOfMemory>
-    ensures { IfOk result (λ unit. (⟦<CountingUnit<FaultyUnit> as MemoryUnit>⟧.value_of unit).steps ≡ []) }
+    workers: usize,
+) -> Result<(), Fail>
+    requires some { 1 ≤ workers }
+    requires most { workers ≤ worker_limit }
 {
-    let unit = FaultyUnit::new(alloc, kind, u64::MAX, 8)?;
-    Ok(CountingUnit::new(unit, Arc::try_clone(counts)?))
+    let shape = Shape::new(2, 20, 4).ok_or("a shape")?;
+    let counts = new_counts(alloc)?;
+    let one = FaultyUnit::new(alloc, FaultKind::LostDrain, u64::MAX, 8)?;
+    let two = FaultyUnit::new(alloc, FaultKind::NoForward, u64::MAX, 8)?;
+    let three = FaultyUnit::new(alloc, FaultKind::StaleLoad, u64::MAX, 8)?;
+    let units: (Boxed, Boxed, Boxed) = (
+        Box::new(alloc, CountingUnit::new(one, Arc::try_clone(&counts)?))?,
+        Box::new(alloc, CountingUnit::new(two, Arc::try_clone(&counts)?))?,
+        Box::new(alloc, CountingUnit::new(three, Arc::try_clone(&counts)?))?,
+    );
+    let told = (Ok(Verdict::NoViolation), THREE_SEEDS);
+    assert!(rt;
+        is_ran(rt, alloc, (shape, workers), units, told)?,
+        "{workers} workers"
+    );
+    assert!(rt;
+        have_served(alloc, &counts, &[1, 2, 3], shape)?,
+        "{workers} workers"
+    );
+    Ok(())
 }
 
 /// A unit that isn't lawful is run all the same: its record is judged by what it answered.
 #[test]
 fn boxed_unlawful_units_are_used(rt: HostRuntime) -> Result<(), Fail> {
-    let alloc = rt.alloc();
-    let shape = Shape::new(2, 20, 4).ok_or("a shape")?;
-    let told = (Ok(Verdict::NoViolation), THREE_SEEDS);
-    for workers in [1usize, 2, 64] {
-        let counts = new_counts(alloc)?;
-        let units = (
-            undeviating(alloc, FaultKind::LostDrain, &counts)?,
-            undeviating(alloc, FaultKind::NoForward, &counts)?,
-            undeviating(alloc, FaultKind::StaleLoad, &counts)?,
-        );
-        assert!(rt; !units.0.lawful() && !units.1.lawful() && !units.2.lawful());
-        assert!(rt;
-            is_ran(&rt, alloc, (shape, workers), units, told)?,
-            "{workers} workers"
-        );
-        assert!(rt;
-            have_served(alloc, &counts, &[1, 2, 3], shape)?,
-            "{workers} workers"
-        );
-    }
+    serve_unlawful_units(&rt, rt.alloc(), 1)?;
+    serve_unlawful_units(&rt, rt.alloc(), 2)?;
+    serve_unlawful_units(&rt, rt.alloc(), 64)
+}
+
+/// Runs a campaign on units of two types, and compares the calls of each.
+fn serve_two_types<H: Threads + Wait + Sync + Abort>(
+    rt: &H,
+    alloc: Global,
+    workers: usize,
+) -> Result<(), Fail>
+    requires some { 1 ≤ workers }
+    requires most { workers ≤ worker_limit }
+{
+    let shape = Shape::new(1, 200, 4).ok_or("a shape")?;
+    let text =
+        "seed 1 VIOLATION\nseed 2 NO VIOLATION FOUND\nseed 3 NO VIOLATION FOUND\nseeds 3 violations 1\n";
+    let first = new_counts(alloc)?;
+    let second = new_counts(alloc)?;
+    let third = new_counts(alloc)?;
+    let one = CountingUnit::new(InventingUnit::new(alloc)?, Arc::try_clone(&first)?);
+    let two = CountingUnit::new(SerialUnit::new(alloc)?, Arc::try_clone(&second)?);
+    let three = CountingUnit::new(SerialUnit::new(alloc)?, Arc::try_clone(&third)?);
+    let units: (Boxed, Boxed, Boxed) = (
+        Box::new(alloc, one)?,
+        Box::new(alloc, two)?,
+        Box::new(alloc, three)?,
+    );
+    let told = (Ok(Verdict::Violation), text);
+    assert!(rt;
+        is_ran(rt, alloc, (shape, workers), units, told)?,
+        "{workers} workers"
+    );
+    assert!(rt;
+        have_served(alloc, &first, &[1], shape)?,
+        "{workers} workers"
+    );
+    assert!(rt;
+        have_served(alloc, &second, &[2], shape)?,
+        "{workers} workers"
+    );
+    assert!(rt;
+        have_served(alloc, &third, &[3], shape)?,
+        "{workers} workers"
+    );
     Ok(())
 }
 
 /// Each unit serves the seed of its place: the violation is that of the unit that invents its answers.
 #[test]
 fn boxed_units_of_two_types(rt: HostRuntime) -> Result<(), Fail> {
-    let alloc = rt.alloc();
-    let shape = Shape::new(1, 200, 4).ok_or("a shape")?;
-    let text =
-        "seed 1 VIOLATION\nseed 2 NO VIOLATION FOUND\nseed 3 NO VIOLATION FOUND\nseeds 3 violations 1\n";
-    let told = (Ok(Verdict::Violation), text);
-    for workers in [1usize, 2, 3] {
-        let first = new_counts(alloc)?;
-        let second = new_counts(alloc)?;
-        let third = new_counts(alloc)?;
-        let units = (
-            CountingUnit::new(InventingUnit::new(alloc)?, Arc::try_clone(&first)?),
-            CountingUnit::new(SerialUnit::new(alloc)?, Arc::try_clone(&second)?),
-            CountingUnit::new(SerialUnit::new(alloc)?, Arc::try_clone(&third)?),
-        );
-        assert!(rt;
-            is_ran(&rt, alloc, (shape, workers), units, told)?,
-            "{workers} workers"
-        );
-        assert!(rt;
-            have_served(alloc, &first, &[1], shape)?,
-            "{workers} workers"
-        );
-        assert!(rt;
-            have_served(alloc, &second, &[2], shape)?,
-            "{workers} workers"
-        );
-        assert!(rt;
-            have_served(alloc, &third, &[3], shape)?,
-            "{workers} workers"
-        );
-    }
-    Ok(())
+    serve_two_types(&rt, rt.alloc(), 1)?;
+    serve_two_types(&rt, rt.alloc(), 2)?;
+    serve_two_types(&rt, rt.alloc(), 3)
 }
 
 #[test]
@@ -243,12 +282,15 @@ fn boxed_campaign_of_invented_answers(rt: HostRuntime) -> Result<(), Fail> {
     let alloc = rt.alloc();
     let shape = Shape::new(1, 200, 4).ok_or("a shape")?;
     let text = "seed 1 VIOLATION\nseed 2 VIOLATION\nseed 3 VIOLATION\nseeds 3 violations 3\n";
-    let units = (
-        InventingUnit::new(alloc)?,
-        InventingUnit::new(alloc)?,
-        InventingUnit::new(alloc)?,
-    );
+    let one = InventingUnit::new(alloc)?;
+    let two = InventingUnit::new(alloc)?;
+    let three = InventingUnit::new(alloc)?;
     let told = (Ok(Verdict::Violation), text);
+    let units: (Boxed, Boxed, Boxed) = (
+        Box::new(alloc, one)?,
+        Box::new(alloc, two)?,
+        Box::new(alloc, three)?,
+    );
     assert!(rt; is_ran(&rt, alloc, (shape, 2), units, told)?);
     Ok(())
 }
@@ -259,12 +301,15 @@ fn boxed_campaigns_overlap(rt: HostRuntime) -> Result<(), Fail> {
     let alloc = rt.alloc();
     let shape = Shape::new(1, 1, 1).ok_or("a shape")?;
     let meeting = Arc::new(alloc, Meeting::new())?;
-    let units = (
-        MeetingUnit::new(SerialUnit::new(alloc)?, Arc::try_clone(&meeting)?),
-        MeetingUnit::new(SerialUnit::new(alloc)?, Arc::try_clone(&meeting)?),
-        SerialUnit::new(alloc)?,
-    );
+    let one = MeetingUnit::new(SerialUnit::new(alloc)?, Arc::try_clone(&meeting)?);
+    let two = MeetingUnit::new(SerialUnit::new(alloc)?, Arc::try_clone(&meeting)?);
+    let three = SerialUnit::new(alloc)?;
     let told = (Ok(Verdict::NoViolation), THREE_SEEDS);
+    let units: (Boxed, Boxed, Boxed) = (
+        Box::new(alloc, one)?,
+        Box::new(alloc, two)?,
+        Box::new(alloc, three)?,
+    );
     assert!(rt; is_ran(&rt, alloc, (shape, 2), units, told)?);
     assert!(rt; meeting.have_met());
     Ok(())
@@ -277,12 +322,15 @@ fn boxed_campaign_on_a_unit_that_refuses(rt: HostRuntime) -> Result<(), Fail> {
     let shape = Shape::new(1, 20, 4).ok_or("a shape")?;
     let counts = new_counts(alloc)?;
     let refusing = RefusingUnit::new(SerialUnit::new(alloc)?, 7);
-    let units = (
-        CountingUnit::new(SerialUnit::new(alloc)?, Arc::try_clone(&counts)?),
-        CountingUnit::new(refusing, Arc::try_clone(&counts)?),
-        CountingUnit::new(SerialUnit::new(alloc)?, Arc::try_clone(&counts)?),
-    );
+    let one = CountingUnit::new(SerialUnit::new(alloc)?, Arc::try_clone(&counts)?);
+    let two = CountingUnit::new(refusing, Arc::try_clone(&counts)?);
+    let three = CountingUnit::new(SerialUnit::new(alloc)?, Arc::try_clone(&counts)?);
     let told = (Err(Fault::OutOfMemory), "");
+    let units: (Boxed, Boxed, Boxed) = (
+        Box::new(alloc, one)?,
+        Box::new(alloc, two)?,
+        Box::new(alloc, three)?,
+    );
     assert!(rt; is_ran(&rt, alloc, (shape, 2), units, told)?);
     assert!(rt; counts.drops.load(Ordering::SeqCst) == 3);
     Ok(())
@@ -292,7 +340,7 @@ fn boxed_campaign_on_a_unit_that_refuses(rt: HostRuntime) -> Result<(), Fail> {
 fn boxed_campaign_of_no_seed(rt: HostRuntime) -> Result<(), Fail> {
     let shape = Shape::new(1, 1, 1).ok_or("a shape")?;
     for workers in [1usize, 64] {
-        let units: Vec<Box<dyn MemoryUnit + Send>> = Vec::new(rt.alloc());
+        let units: Vec<Boxed> = Vec::new(rt.alloc());
         let mut written = Vec::new(rt.alloc());
         let drawn = Drawn { first: 1, shape };
         let answer = campaign(&rt, rt.alloc(), drawn, units, workers, &mut written);
@@ -309,14 +357,17 @@ fn campaign_with_room<H: Threads + Wait + Sync>(
     room: usize,
 ) -> Result<(Result<Verdict, Fault>, Vec<u8>), Fail> {
     let shape = Shape::new(1, 1, 1).ok_or("a shape")?;
-    let units = (
-        SerialUnit::new(alloc)?,
-        SerialUnit::new(alloc)?,
-        SerialUnit::new(alloc)?,
-    );
+    let one = SerialUnit::new(alloc)?;
+    let two = SerialUnit::new(alloc)?;
+    let three = SerialUnit::new(alloc)?;
     let mut written = vec![in alloc; 0u8; room]?;
     let mut writer = written.as_mut_slice();
-    let answer = campaign_into(rt, alloc, shape, units, 1, &mut writer)?;
+    let units: (Boxed, Boxed, Boxed) = (
+        Box::new(alloc, one)?,
+        Box::new(alloc, two)?,
+        Box::new(alloc, three)?,
+    );
+    let answer = campaign_into(rt, alloc, (shape, 1), units, &mut writer)?;
     Ok((answer, written))
 }
 

@@ -6,7 +6,7 @@ use super::{Ended, FailingReader, FailingWriter, expect};
 use crate::endings::end_by;
 use crate::files::NamedFiles;
 use crate::serving::serve;
-use command_line::{Request, RunOptions, UnitKind, UnitOptions};
+use command_line::{Printing, Request, RunOptions, UnitKind, UnitOptions};
 use std::alloc::{AllocError, Global};
 use std::io;
 use std::io::{Error, ErrorKind, Read, Write};
@@ -201,7 +201,7 @@ fn checking(rt: HostRuntime) -> Result<(), Fail> {
 }
 
 /// The request to replay these files on a serial unit.
-fn replay<'a>(program: &'a str, schedule: &'a str, prints_trace: bool) -> Request<'a>
+fn replay<'a>(program: &'a str, schedule: &'a str, printing: Printing) -> Request<'a>
     ensures workers { HasWorkers (asked_of result) }
     ensures unit { HasUnitRanges (asked_of result) }
 {
@@ -213,7 +213,7 @@ fn replay<'a>(program: &'a str, schedule: &'a str, prints_trace: bool) -> Reques
     let options = RunOptions {
         unit,
         workers: 2,
-        prints_trace,
+        printing,
     };
     Request::Replay {
         options,
@@ -224,29 +224,29 @@ fn replay<'a>(program: &'a str, schedule: &'a str, prints_trace: bool) -> Reques
 
 #[test]
 fn replaying(rt: HostRuntime) -> Result<(), Fail> {
-    let both = replay("program", "schedule", false);
+    let both = replay("program", "schedule", Printing::Report);
     compare(
         &rt,
         &both,
         outcome(&["program", "schedule"], 0, REPLAYED, ""),
     )?;
-    let recorded = replay("program", "schedule", true);
+    let recorded = replay("program", "schedule", Printing::Trace);
     compare(
         &rt,
         &recorded,
         outcome(&["program", "schedule"], 0, RECORDED, ""),
     )?;
-    let no_program = replay("other", "schedule", false);
+    let no_program = replay("other", "schedule", Printing::Report);
     compare(&rt, &no_program, outcome(&["other"], 4, "", READ))?;
-    let no_schedule = replay("trace", "other", false);
+    let no_schedule = replay("trace", "other", Printing::Report);
     compare(&rt, &no_schedule, outcome(&["trace", "other"], 4, "", READ))?;
-    let refused = replay("trace", "schedule", false);
+    let refused = replay("trace", "schedule", Printing::Report);
     compare(
         &rt,
         &refused,
         outcome(&["trace", "schedule"], 2, "REFUSED BadHeader line 1\n", ""),
     )?;
-    let refused_schedule = replay("program", "trace", true);
+    let refused_schedule = replay("program", "trace", Printing::Trace);
     compare(
         &rt,
         &refused_schedule,

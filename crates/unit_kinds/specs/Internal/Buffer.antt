@@ -1,5 +1,5 @@
 -- What a store-buffer unit keeps between calls.
-use Rattle.std.specs.Prelude.{◌≡◌, ℕ, zero, suc, List, length, map}
+use Rattle.std.specs.Prelude.{◌≡◌, ℕ, zero, suc, List, map}
 use Rattle.tso_ops.specs.declared.settings.Order.TheVariants.{Tso}
 use Rattle.store_buffers.specs.declared.entries.StoreEntry.{StoreEntry}
 use Rattle.store_buffers.specs.Buffers.{BuffersValue, oldest_drained}
@@ -17,7 +17,6 @@ pub record HasBuffers (s : State) (parts : BuffersValue) : Type 0 where
 
 -- The steps are a run of the TSO machine, after which it has these words and entries.
 pub record IsStoreBufferUnit (steps : List Step) (first : List ℕ) (parts : BuffersValue) : Type 0 where
-  pub addresses : length first ≡ 256
   pub run : IsRun Tso first steps
   pub state : HasBuffers (after (first_state first) steps) parts
 

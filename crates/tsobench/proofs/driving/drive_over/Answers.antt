@@ -1,6 +1,6 @@
 use Rattle.std.proofs.Common.{◌∙◌, ap, inl, inr, rules, subst, arith}
 use Rattle.command_line.specs.Requests.{asked_of}
-use Rattle.tsobench.specs.Endings.{Does, Outputs, outputs}
+use Rattle.tsobench.specs.Endings.{Does, Outputs, outputs, text_in}
 use Rattle.tsobench.specs.Lawful.{runs_on_lawful_unit}
 use Rattle.tsobench.specs.Named.{OpensFirst, files_named, reads_input}
 use Rattle.tsobench.proofs.EndFacts.{does_asked}
@@ -10,22 +10,22 @@ pub returns-in-Ok-clause-asked : goal.returns-in-Ok-clause-asked
 returns-in-Ok-clause-asked g c = λ asked asks.
     let o : Outputs = outputs (g.W.Write.contents c.args.writer.now) (g.W.Write.contents c.serve.new.writer) (g.E.Write.contents c.args.errors.now) (g.E.Write.contents c.serve.new.errors) in
     subst (λ a. Does a (g.R.Read.remaining c.args.reader.now) (g.O.NamedFiles.bytes c.args.files.now) o c.serve.result) (c.in-Ok.ensures.plain asked asks)
-    (inl (does_asked c.in-Ok.request _ _ o _ c.serve.ensures.ends))
+    (inl (does_asked (text_in c.in-Ok.request) (asked_of c.in-Ok.request) _ _ o _ c.serve.ensures.ends))
 
 pub returns-in-Ok-clause-helped : goal.returns-in-Ok-clause-helped
 returns-in-Ok-clause-helped g c = λ asks.
     let o : Outputs = outputs (g.W.Write.contents c.args.writer.now) (g.W.Write.contents c.serve.new.writer) (g.E.Write.contents c.args.errors.now) (g.E.Write.contents c.serve.new.errors) in
     subst (λ a. Does a (g.R.Read.remaining c.args.reader.now) (g.O.NamedFiles.bytes c.args.files.now) o c.serve.result) (c.in-Ok.ensures.helped asks)
-    (inl (does_asked c.in-Ok.request _ _ o _ c.serve.ensures.ends))
+    (inl (does_asked (text_in c.in-Ok.request) (asked_of c.in-Ok.request) _ _ o _ c.serve.ensures.ends))
 
 pub returns-in-Ok-clause-refused : goal.returns-in-Ok-clause-refused
 returns-in-Ok-clause-refused g c = λ asks.
     let o : Outputs = outputs (g.W.Write.contents c.args.writer.now) (g.W.Write.contents c.serve.new.writer) (g.E.Write.contents c.args.errors.now) (g.E.Write.contents c.serve.new.errors) in
     subst (λ a. Does a (g.R.Read.remaining c.args.reader.now) (g.O.NamedFiles.bytes c.args.files.now) o c.serve.result) (c.in-Ok.ensures.refused asks)
-    (inl (does_asked c.in-Ok.request _ _ o _ c.serve.ensures.ends))
+    (inl (does_asked (text_in c.in-Ok.request) (asked_of c.in-Ok.request) _ _ o _ c.serve.ensures.ends))
 
 pub returns-in-Ok-clause-ends : goal.returns-in-Ok-clause-ends
-returns-in-Ok-clause-ends g c = inl (asked_of c.in-Ok.request, c.in-Ok.ensures.parsed, does_asked c.in-Ok.request _ _ _ _ c.serve.ensures.ends)
+returns-in-Ok-clause-ends g c = inl (asked_of c.in-Ok.request, c.in-Ok.ensures.parsed, does_asked (text_in c.in-Ok.request) (asked_of c.in-Ok.request) _ _ _ _ c.serve.ensures.ends)
 
 pub returns-in-Ok-clause-opened : goal.returns-in-Ok-clause-opened
 returns-in-Ok-clause-opened g c = λ asked asks.

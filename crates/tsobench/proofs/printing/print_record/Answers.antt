@@ -2,9 +2,10 @@ use Rattle.std.proofs.Common.{◌≡◌, ◌++◌, rules, string_bytes}
 use Rattle.tso_report.specs.AccountTexts.{account_text}
 use Rattle.tsobench.proofs.printing.print_record.Goals as goal
 
-pub returns-clause-text : goal.returns-clause-text
-returns-clause-text g c =
-    let text = string_bytes c.in_ok-report.report.text in
-    let verdict = c.in_ok-report.report.verdict in
+pub returns-in_ok-extend_from_slice-in-Report-clause-text : goal.returns-in_ok-extend_from_slice-in-Report-clause-text
+returns-in_ok-extend_from_slice-in-Report-clause-text g c =
+    let report = c.in_ok-report-in-Report.report in
+    let told = c.in_ok-report-in-Report.ensures in
+    let text = string_bytes report.text in
     let whole : c.extend_from_slice.new.self.items ≡ text ++ account_text c.args.account.now = search rules in
-    rw c.if-options.false (text, verdict, c.in_ok-report.ensures.report, c.in_ok-report.ensures.no_false_alarm, whole, c.status_of-status.ensures)
+    rw c.in-Report.is (text, report.verdict, told.report, told.no_false_alarm, whole, c.status_of-status.ensures)

@@ -7,8 +7,8 @@ use Rattle.tsobench.proofs.running.run_named.Goals as goal
 
 pub returns-in_err-write_text-clause-fault : goal.returns-in_err-write_text-clause-fault
 returns-in_err-write_text-clause-fault g c =
-    let is_text = IsRunText c.args.plan.options.now (g.O.NamedFiles.bytes c.args.files.now c.args.program.now) in
-    let is = known_run c.args.plan.options.now (g.O.NamedFiles.bytes c.args.files.now c.args.program.now) _ c.in_ok-program.ensures.known _ _ c.in_ok-printed.ensures.text in
+    let is_text = IsRunText c.args.request.now.options (g.O.NamedFiles.bytes c.args.files.now c.args.request.now.program.now) in
+    let is = known_run c.args.request.now.options (g.O.NamedFiles.bytes c.args.files.now c.args.request.now.program.now) _ c.in_ok-program.ensures.known _ _ c.in_ok-printed.ensures.text in
     let prefix = rw c.deref.ensures.value at c.in_err-write_text.ensures.prefix in
     let leaves : LeavesAtFault (IsPrintable is_text) (g.W.Write.contents c.args.writer.now) (g.W.Write.contents c.write_text.new.writer) c.in_err-write_text.field-0.0 =
     leaves_text is_text (g.W.Write.contents c.args.writer.now) (g.W.Write.contents c.write_text.new.writer) _ _ c.in_err-write_text.field-0.0 is prefix c.in_err-write_text.ensures.fault in
@@ -16,5 +16,5 @@ returns-in_err-write_text-clause-fault g c =
 
 pub returns-clause-text : goal.returns-clause-text
 returns-clause-text g c =
-    let is = known_run c.args.plan.options.now (g.O.NamedFiles.bytes c.args.files.now c.args.program.now) _ c.in_ok-program.ensures.known _ _ c.in_ok-printed.ensures.text in
+    let is = known_run c.args.request.now.options (g.O.NamedFiles.bytes c.args.files.now c.args.request.now.program.now) _ c.in_ok-program.ensures.known _ _ c.in_ok-printed.ensures.text in
     (c.in_ok-printed.printed.text.items, is, rw c.deref.ensures.value at c.in_ok-write_text.ensures.whole)

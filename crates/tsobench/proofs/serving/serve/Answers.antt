@@ -1,6 +1,7 @@
 use Rattle.std.specs.Prelude.{option_to_list}
 use Rattle.tso_report.specs.Written.{IsReportOfReader}
-use Rattle.tsobench.specs.Endings.{Outputs, judged_bytes, outputs}
+use Rattle.command_line.specs.Requests.{asked_of}
+use Rattle.tsobench.specs.Endings.{Outputs, judged_bytes, outputs, text_in}
 use Rattle.tsobench.specs.Named.{name_in}
 use Rattle.tsobench.specs.Replaying.{IsReplayText}
 use Rattle.tsobench.proofs.EndFacts.{at_verdict, ends_by_report, opens_all, unnamed_read}
@@ -40,14 +41,14 @@ returns-in-Replay-clause-opened g c = λ other.
 pub returns-in-Run-clause-ends : goal.returns-in-Run-clause-ends
 returns-in-Run-clause-ends g c =
     let o : Outputs = outputs (g.W.Write.contents c.args.writer.now) (g.W.Write.contents c.run_named-ran.new.writer) (g.E.Write.contents c.args.errors.now) (g.E.Write.contents c.end_run.new.errors) in
-    let is_text = IsRunText c.in-Run.options (g.O.NamedFiles.bytes c.args.files.now c.in-Run.program.now) in
+    let is_text = IsRunText c.in-Run.run_request.options (g.O.NamedFiles.bytes c.args.files.now c.in-Run.run_request.program.now) in
     rw c.in-Run.is (ends_run is_text o c.run_named-ran.result c.end_run.result c.run_named-ran.ensures.text c.run_named-ran.ensures.fault c.end_run.ensures.status c.end_run.ensures.failure)
 
 pub returns-in-Run-clause-first : goal.returns-in-Run-clause-first
 returns-in-Run-clause-first g c = rw c.in-Run.is (opens_all _ _ _ c.run_named-ran.ensures.opened)
 
 pub returns-in-Replay-clause-no_false_alarm : goal.returns-in-Replay-clause-no_false_alarm
-returns-in-Replay-clause-no_false_alarm g c = λ lawful. lawful_status c.args.request.now _ _ _ _ (returns-in-Replay-clause-ends g c) lawful
+returns-in-Replay-clause-no_false_alarm g c = λ lawful. lawful_status (text_in c.args.request.now) (asked_of c.args.request.now) _ _ _ _ (returns-in-Replay-clause-ends g c) lawful
 
 pub returns-in-Run-clause-no_false_alarm : goal.returns-in-Run-clause-no_false_alarm
-returns-in-Run-clause-no_false_alarm g c = λ lawful. lawful_status c.args.request.now _ _ _ _ (returns-in-Run-clause-ends g c) lawful
+returns-in-Run-clause-no_false_alarm g c = λ lawful. lawful_status (text_in c.args.request.now) (asked_of c.args.request.now) _ _ _ _ (returns-in-Run-clause-ends g c) lawful

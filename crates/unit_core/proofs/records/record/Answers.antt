@@ -13,7 +13,7 @@ of_program-requires g c =
 pub returns-clause-is : goal.returns-clause-is
 returns-clause-is g c =
     record_of c.args.program.now (g.U.MemoryUnit.value_of c.args.unit.now) c.processors.result (rows c.in_ok-lists.lists.items) _ c.requires.ops c.processors.ensures.count
-    (c.in_ok-lists.ensures.are ∙ ap (lists_from 0 c.processors.result) c.steps.ensures.are) c.in_ok-trace.ensures (c.in_ok-steps.ensures.items ∙ c.steps-2.ensures.are)
+    (c.in_ok-lists.ensures.are ∙ ap (lists_from 0 c.processors.result) c.steps.ensures.are) c.of.ensures c.in_ok-trace.ensures (c.in_ok-steps.ensures.items ∙ c.steps-2.ensures.are)
     (rw c.order.ensures at c.is_lawful_under-lawful.ensures)
 
 pub returns-clause-kept : goal.returns-clause-kept

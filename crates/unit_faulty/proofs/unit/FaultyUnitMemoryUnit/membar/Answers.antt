@@ -1,7 +1,7 @@
-use Rattle.std.proofs.Common.{◌∙◌, ap, refl, subst}
+use Rattle.std.proofs.Common.{◌∙◌, ap, subst}
 use Rattle.unit_core.specs.declared.steps.Step.TheVariants.{Membar}
 use Rattle.unit_core.specs.Units.{Takes}
-use Rattle.unit_core.proofs.DrainedSteps.{drained-pushed}
+use Rattle.unit_core.proofs.DrainedSteps.{reserved-pushed}
 use Rattle.unit_faulty.specs.Faulty.{FaultyValue, faulty_design, faulty_unit}
 use Rattle.unit_faulty.proofs.DrainFacts.{drain_times-design}
 use Rattle.unit_faulty.proofs.UnitFacts.{Takes-after_drains}
@@ -12,9 +12,10 @@ returns-clause-taken c =
     let u = c.self.inside in
     let p = c.args.p in
     let drains = c.if-deviates.drains in
-    let old : FaultyValue = record { steps = u.steps.items; first = u.first.items; state = u.memory } in
-    let new : FaultyValue = record { steps = c.push_reserved.new.steps.items; first = u.first.items; state = c.drain_reserved.new.memory } in
-    let steps = drained-pushed u.steps.items _ _ _ p drains (Membar p) c.in_ok-reserve.ensures.items c.drain_reserved.ensures.items c.push_reserved.ensures.items in
-    let design = ap faulty_design c.drain_reserved.ensures.memory ∙ drain_times-design drains c.deviates-deviates.new.self p
+    let old : FaultyValue = record { steps = u.history.steps; first = u.history.first; state = u.memory } in
+    let new : FaultyValue = record { steps = c.push_after_drains.new.self.steps; first = c.push_after_drains.new.self.first; state = c.drain_times.new.self } in
+    let steps = reserved-pushed u.history.steps _ _ _ c.in_ok-reserve.ensures.steps c.push_after_drains.ensures.steps in
+    let first = c.push_after_drains.ensures.first ∙ c.in_ok-reserve.ensures.first in
+    let design = ap faulty_design c.drain_times.ensures.left ∙ drain_times-design drains c.deviates-deviates.new.self p
     ∙ ap faulty_design c.deviates-deviates.ensures.left in
-    subst (λ w. Takes (faulty_unit w) (faulty_unit new) (Membar p)) c.self.view_is (Takes-after_drains old new drains (Membar p) steps refl design)
+    subst (λ w. Takes (faulty_unit w) (faulty_unit new) (Membar p)) c.self.view_is (Takes-after_drains old new drains (Membar p) steps first design)

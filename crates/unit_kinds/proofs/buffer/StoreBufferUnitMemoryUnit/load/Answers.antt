@@ -8,4 +8,4 @@ pub invariant_of-self-2 : goal.invariant_of-self-2
 invariant_of-self-2 c =
     let u = c.self.inside in
     let read : c.unwrap_or-r.result ≡ unwrap_or (newest_value (entries_of u.parts c.args.p) c.args.a) (slice_index u.parts.memory c.args.a) = search rules in
-    rw c.in_ok-push.ensures.items (IsStoreBufferUnit-load u.steps.items u.first.items u.parts c.args.p c.args.a _ c.requires.processor c.requires.address read c.self.invariant)
+    rw (c.in_ok-append.ensures.steps, c.in_ok-append.ensures.first) (IsStoreBufferUnit-load u.history.steps u.history.first u.parts c.args.p c.args.a _ c.requires.processor c.requires.address read c.self.invariant)

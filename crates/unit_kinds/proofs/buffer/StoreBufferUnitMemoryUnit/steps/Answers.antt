@@ -5,4 +5,4 @@ use Rattle.unit_kinds.proofs.BufferFacts.{IsUnit-store_buffer}
 use Rattle.unit_kinds.proofs.buffer.StoreBufferUnitMemoryUnit.steps.Goals as goal
 
 pub returns-clause-kept : goal.returns-clause-kept
-returns-clause-kept c = subst (λ u. IsUnit (store_buffer_unit u)) c.self.view_is (IsUnit-store_buffer (record { steps = c.self.inside.steps.items; first = c.self.inside.first.items; capacity = c.self.inside.parts.capacity }) c.self.inside.parts c.self.invariant)
+returns-clause-kept c = subst (λ u. IsUnit (store_buffer_unit u)) c.self.view_is (IsUnit-store_buffer (record { steps = c.self.inside.history.steps; first = c.self.inside.history.first; capacity = c.self.inside.parts.capacity }) c.self.inside.parts c.steps.ensures.kept c.self.invariant)

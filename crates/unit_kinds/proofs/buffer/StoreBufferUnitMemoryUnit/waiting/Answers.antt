@@ -7,4 +7,4 @@ use Rattle.unit_kinds.proofs.buffer.StoreBufferUnitMemoryUnit.waiting.Goals as g
 pub returns : goal.returns
 returns c =
     let u = c.self.inside in
-    c.waiting.ensures.is ∙ sym (waiting-parts u.steps.items u.first.items u.parts c.args.p c.self.invariant) ∙ ap (λ u. waiting_of (store_buffer_unit u) c.args.p) c.self.view_is
+    c.waiting.ensures.is ∙ sym (waiting-parts u.history.steps u.history.first u.parts c.args.p c.self.invariant) ∙ ap (λ u. waiting_of (store_buffer_unit u) c.args.p) c.self.view_is
