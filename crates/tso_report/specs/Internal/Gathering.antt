@@ -3,6 +3,10 @@ use Rattle.std.specs.Prelude.{◌≡◌, ℕ, ◌+◌, ◌<◌, ◌≤◌, ◌^�
 use Rattle.tso_ops.specs.Drawing.{ShapeValue}
 use Rattle.tso_report.specs.declared.verdicts.Verdict.{Verdict}
 use Rattle.tso_report.specs.declared.verdicts.Verdict.TheVariants.{NoViolation, Violation, Refused}
+use Rattle.issue_desk.specs.declared.faults.RunFault.{RunFault}
+use Rattle.issue_desk.specs.declared.faults.RunFault.TheVariants as run
+use Rattle.tso_report.specs.declared.faults.Fault.{Fault}
+use Rattle.tso_report.specs.declared.faults.Fault.TheVariants.{OutOfMemory, NoThread, Missing}
 use Rattle.unit_core.specs.Units.{UnitValue}
 use Rattle.tso_report.specs.Campaigns.{IsVerdictOfSeed, no_unit}
 
@@ -11,6 +15,13 @@ abbrev pub is_violation : Verdict → Bool
 is_violation NoViolation = false
 is_violation Violation = true
 is_violation Refused = false
+
+-- the fault of a seed whose run gave no record
+abbrev pub fault_of_seed : ℕ → RunFault → Fault
+fault_of_seed seed run.OutOfMemory = OutOfMemory
+fault_of_seed seed run.NoThread = NoThread
+fault_of_seed seed (run.Torn p) = Missing seed
+fault_of_seed seed run.OtherProgram = Missing seed
 
 -- what a job says of its seed
 pub record JudgedValue : Type 0 where

@@ -2,7 +2,7 @@
 ghost use Rattle.std.specs.Prelude.{◌≡◌, [], Decides, IfOk};
 ghost use Rattle.unit_core.specs.Units.{UnitValue};
 ghost use Rattle.tso_report.specs.Campaigns.{IsVerdictOfSeed, program_of_seed};
-ghost use Rattle.tso_report.specs.Internal.Gathering.{is_violation};
+ghost use Rattle.tso_report.specs.Internal.Gathering.{fault_of_seed, is_violation};
 
 use crate::faults::Fault;
 use crate::judging::judge_trace;
@@ -167,7 +167,9 @@ fn is_violation(verdict: Verdict) -> bool
 }
 
 /// The fault of a seed whose run gave no record.
-fn fault_of_seed(seed: u64, fault: RunFault) -> Fault {
+fn fault_of_seed(seed: u64, fault: RunFault) -> Fault
+    ensures { result ≡ fault_of_seed seed fault }
+{
     match fault {
         RunFault::OutOfMemory => Fault::OutOfMemory,
         RunFault::NoThread => Fault::NoThread,
