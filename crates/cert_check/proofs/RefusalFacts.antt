@@ -15,7 +15,7 @@ use Rattle.order_paths.specs.Paths.{Linked, HasEnds, IsCycle, last_of}
 use Rattle.tso_ops.proofs.NumberFacts.{event_at-within, own_values}
 use Rattle.tso_model.proofs.Bounds.{BasePair-within, InferredBy-within}
 use Rattle.tso_ops.specs.Limits.{IsTrace}
-use Rattle.tso_model.specs.Order.{IsConsistent}
+use Rattle.tso_model.specs.Axioms.{IsConsistent}
 use Rattle.tso_model.proofs.CertificateHolds.{not_consistent}
 use Rattle.tso_model.proofs.OrderedLists.{slice_get-take}
 use Rattle.tso_model.specs.Certs.{IsStep, MeetsRule, IsPathIn, StepHolds, StepsHold, Holds}

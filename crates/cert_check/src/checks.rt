@@ -3,7 +3,7 @@ ghost use Rattle.std.specs.Prelude.{◌≡◌, IsOk, OnOk, IfErr, MatchOption, M
 ghost use Rattle.tso_ops.specs.Limits.{IsTrace};
 ghost use Rattle.tso_ops.specs.Events.{IsUnwritten};
 ghost use Rattle.order_paths.specs.Paths.{IsCycle};
-ghost use Rattle.tso_model.specs.Order.{IsConsistent};
+ghost use Rattle.tso_model.specs.Axioms.{IsConsistent};
 ghost use Rattle.tso_model.specs.Certs.{Holds, IsStep, StepsHold};
 ghost use Rattle.cert_check.specs.Internal.Sides.{Follows};
 ghost use Rattle.cert_check.specs.Refusals.{HasFault, IsCycleFault, IsCycleRefusal, IsCertRefusal, IsStepFault};

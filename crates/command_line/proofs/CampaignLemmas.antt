@@ -13,7 +13,7 @@ use Rattle.command_line.specs.Internal.Computed.{asked_by, campaigning_by}
 use Rattle.command_line.specs.Options.{AreGiven, IsOneOf, option_value}
 use Rattle.command_line.specs.Refusals.{IsNumber}
 use Rattle.command_line.specs.Requests.{Text, campaigning}
-use Rattle.command_line.specs.Spellings.{AsksToCampaign, campaign_names, drawing_names, run_names}
+use Rattle.command_line.specs.Spellings.{AsksToCampaign, campaign_names, seeds_and_shape_names, run_names}
 use Rattle.command_line.specs.Units.{unit_names}
 use Rattle.command_line.specs.declared.options.CampaignOptions.{CampaignOptions}
 use Rattle.command_line.proofs.FoundLemmas.{campaign_options_are}
@@ -66,12 +66,12 @@ module _ (names : UnitNames) where
   }
 
   -- the uses of the options with numbers that may not be left out
-  pub drawing_use : (name value : Text) → IsOneOf drawing_names name → IsNumber value → OptionUse campaign.rules name value
-  drawing_use name value (inl is) number =
+  pub seeds_and_shape_use : (name value : Text) → IsOneOf seeds_and_shape_names name → IsNumber value → OptionUse campaign.rules name value
+  seeds_and_shape_use name value (inl is) number =
       subst (λ (t : Text). OptionUse campaign.rules t value) (sym is) (required_use campaign (codes "first") first_long offers_first value number)
-  drawing_use name value (inr (inl is)) number =
+  seeds_and_shape_use name value (inr (inl is)) number =
       subst (λ (t : Text). OptionUse campaign.rules t value) (sym is) (required_use campaign (codes "count") count_long offers_count value number)
-  drawing_use name value (inr (inr is)) number = shape_use campaign offers_shape name value is number
+  seeds_and_shape_use name value (inr (inr is)) number = shape_use campaign offers_shape name value is number
 
   -- what a parse leaves of the options alone
   pub leaves_options : (options : List (Text × Text)) (arguments : List Text) → AreGiven options [] [] arguments → OptionUses campaign options → LeavesRows campaign arguments options [] []
@@ -135,7 +135,7 @@ module _ (names : UnitNames) where
         go true true true true true e f g h k = rw (e, f, g, h, k, none) refl
 
   module _ (options : List (Text × Text)) (arguments : List Text) (leaves : LeavesRows campaign arguments options [] []) where
-    pub some_missing : (name : Text) → IsOneOf (codes "unit" ∷ drawing_names) name → option_value name options ≡ None → check_fault campaign leaves.rows false ≡ MissingRequiredArgument ∷ []
+    pub some_missing : (name : Text) → IsOneOf (codes "unit" ∷ seeds_and_shape_names) name → option_value name options ≡ None → check_fault campaign leaves.rows false ≡ MissingRequiredArgument ∷ []
     some_missing name (inl is) none =
         no_unit leaves.rows (unit_missing campaign names offers_judged.unit options arguments [] [] leaves (ap (λ (t : Text). option_value t options) (sym is) ∙ none))
     some_missing name (inr (inl is)) none =
@@ -159,7 +159,7 @@ module _ (names : UnitNames) where
 
   module _ (are : map (λ name. name.now) names.now ≡ unit_names) (arguments : List Text) (wanted : CampaignOptions) (asks : AsksToCampaign arguments wanted) where
     -- the options that may not be left out have numbers
-    numbers_asked : (name value : Text) → IsOneOf drawing_names name → option_value name asks.options ≡ Some value → IsNumber value
+    numbers_asked : (name value : Text) → IsOneOf seeds_and_shape_names name → option_value name asks.options ≡ Some value → IsNumber value
     numbers_asked name value (inl is) found =
         number_asked (codes "first") asks.options wanted.first value asks.first (ap (λ (t : Text). option_value t asks.options) (sym is) ∙ found)
     numbers_asked name value (inr (inl is)) found =
@@ -167,11 +167,11 @@ module _ (names : UnitNames) where
     numbers_asked name value (inr (inr is)) found = shape_numbers_asked asks.options wanted.shape asks.shape name value is found
 
     use_of : (name value : Text) → IsOneOf campaign_names name → option_value name asks.options ≡ Some value → OptionUse campaign.rules name value
-    use_of name value is found = go (one_of_both run_names drawing_names name is)
+    use_of name value is found = go (one_of_both run_names seeds_and_shape_names name is)
       where
-        go : IsOneOf run_names name ⊎ IsOneOf drawing_names name → OptionUse campaign.rules name value
+        go : IsOneOf run_names name ⊎ IsOneOf seeds_and_shape_names name → OptionUse campaign.rules name value
         go (inl one) = asked_judged_use campaign names offers_judged asks.options wanted.unit wanted.workers asks.unit asks.workers are name value one found
-        go (inr one) = drawing_use name value one (numbers_asked name value one found)
+        go (inr one) = seeds_and_shape_use name value one (numbers_asked name value one found)
 
     leaves : LeavesRows campaign arguments asks.options [] []
     leaves = leaves_options asks.options arguments asks.given (named_uses campaign campaign_names asks.options asks.named use_of)

@@ -15,9 +15,9 @@ use Rattle.command_line.specs.Options.{AreGiven, AreNamed, IsOneOf, option_value
 use Rattle.command_line.specs.Refusals.{IsAbove, IsOutside, RefusesValue, TakesNumber, TakesValue}
 use Rattle.command_line.specs.Refusals as refuses
 use Rattle.command_line.specs.Requests.{Text, capacity_limit, refusing}
-use Rattle.command_line.specs.Spellings.{campaign_names, drawing_names, run_names}
+use Rattle.command_line.specs.Spellings.{campaign_names, seeds_and_shape_names, run_names}
 use Rattle.command_line.specs.Units.{trigger_limit, unit_names}
-use Rattle.command_line.proofs.CampaignLemmas.{campaign, drawing_use, leaves_options, offers_count, offers_first, offers_judged, offers_shape, one_of_both, some_missing}
+use Rattle.command_line.proofs.CampaignLemmas.{campaign, seeds_and_shape_use, leaves_options, offers_count, offers_first, offers_judged, offers_shape, one_of_both, some_missing}
 use Rattle.command_line.proofs.RequiredLemmas.{count_long, first_long}
 use Rattle.command_line.proofs.RequiredRefusals.{required_refused, shape_refused, zero_is_number}
 use Rattle.command_line.proofs.RowLemmas.{option_fails}
@@ -62,7 +62,7 @@ module _ (names : UnitNames) where
         fails = λ rows none. option_fails _ (filled workers_rule) (decimal n ∷ []) rows refl (rw fails refl) refl none;
       }
 
-  above_refused : (name value : Text) → IsOneOf drawing_names name → IsAbove value → RefusedOption (campaign names) ValueValidation name value
+  above_refused : (name value : Text) → IsOneOf seeds_and_shape_names name → IsAbove value → RefusedOption (campaign names) ValueValidation name value
   above_refused name value (inl is) wrong =
       subst (λ (t : Text). RefusedOption (campaign names) ValueValidation t value) (sym is) (required_refused (campaign names) (codes "first") first_long (offers_first names) value wrong)
   above_refused name value (inr (inl is)) wrong =
@@ -70,7 +70,7 @@ module _ (names : UnitNames) where
   above_refused name value (inr (inr is)) wrong = shape_refused (campaign names) (offers_shape names) name value is wrong
 
   -- each option is offered
-  offered : (name : Text) → IsOneOf run_names name ⊎ IsOneOf drawing_names name → OffersOption (campaign names) name
+  offered : (name : Text) → IsOneOf run_names name ⊎ IsOneOf seeds_and_shape_names name → OffersOption (campaign names) name
   offered name (inl (inl is)) =
       subst (λ (t : Text). OffersOption (campaign names) t) (sym is) (record { rule = unit_built names; is = unit_offered (campaign names) names (offers_judged names).unit })
   offered name (inl (inr (inl is))) =
@@ -81,12 +81,12 @@ module _ (names : UnitNames) where
       subst (λ (t : Text). OffersOption (campaign names) t) (sym is) (record { rule = filled workers_rule; is = workers_offered (campaign names) names (offers_judged names) })
   offered name (inl (inr (inr (inr (inr is))))) = absurd is
   offered name (inr is) =
-      let option = drawing_use names name (decimal 0) is zero_is_number in
+      let option = seeds_and_shape_use names name (decimal 0) is zero_is_number in
       record { rule = option.rule; is = option.is }
 
   all_offered : (options : List (Text × Text)) → AllByRecursion (λ o. IsOneOf campaign_names o.0) options → AllByRecursion (λ o. OffersOption (campaign names) o.0) options
   all_offered [] known = tt
-  all_offered (o ∷ options) known = (offered o.0 (one_of_both run_names drawing_names o.0 known.0), all_offered options known.1)
+  all_offered (o ∷ options) known = (offered o.0 (one_of_both run_names seeds_and_shape_names o.0 known.0), all_offered options known.1)
 
 module _ (names : UnitNames) (are : map (λ name. name.now) names.now ≡ unit_names) where
   pub refused_value : (name value : Text) → RefusesValue name value → Refused names name value
@@ -121,7 +121,7 @@ module _ (names : UnitNames) (are : map (λ name. name.now) names.now ≡ unit_n
   use_of : (name value : Text) → TakesValue name value → OptionUse (campaign names).rules name value
   use_of name value (refuses.unit unit known) = unit_use (campaign names) names (offers_judged names).unit are unit known
   use_of name value (refuses.number option limit n takes least most) = number_use_of option limit n takes least most
-  use_of name value (refuses.required option text is number) = drawing_use names option text is number
+  use_of name value (refuses.required option text is number) = seeds_and_shape_use names option text is number
 
   uses_of : (options : List (Text × Text)) → AllByRecursion (λ o. TakesValue o.0 o.1) options → AllByRecursion (λ o. OptionUse (campaign names).rules o.0 o.1) options
   uses_of [] taken = tt
@@ -134,7 +134,7 @@ module _ (names : UnitNames) (are : map (λ name. name.now) names.now ≡ unit_n
     leaves : LeavesRows (campaign names) arguments options [] []
     leaves = leaves_options names options arguments given (option_uses (campaign names) options (uses_of options (each_of (λ o. TakesValue o.0 o.1) options taken)) named.once)
 
-    pub left_out_refused : (name : Text) → IsOneOf (codes "unit" ∷ drawing_names) name → option_value name options ≡ None
+    pub left_out_refused : (name : Text) → IsOneOf (codes "unit" ∷ seeds_and_shape_names) name → option_value name options ≡ None
         → fault_of (tsobench_app names) (codes "campaign" ∷ arguments) ≡ MissingRequiredArgument ∷ []
     left_out_refused name is none = campaign_fault names arguments ∙ ap (λ kinds. or_else kinds []) (leaves.fault ∙ some_missing names options arguments leaves name is none)
 

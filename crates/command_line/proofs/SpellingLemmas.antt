@@ -1,4 +1,4 @@
--- The plain spellings ask for what their definitions say.
+-- The usual spellings ask for what their definitions say.
 use Rattle.std.proofs.Common.{◌≡◌, ◌∙◌, ◌≤◌, ◌<◌, ◌^◌, subst, inl, inr, arith, ℕ, false, List, [], ◌∷◌, ◌++◌, Option, codes, map}
 use Rattle.std.specs.Fmt.{decimal}
 use Rattle.clap.specs.ValueTests.{accepts}
@@ -56,31 +56,31 @@ module _ (units : UnitNames) where
   abbrev pub IsFound : List Text → Asked → Type 0
   IsFound arguments asked = IsFoundBy (fault_of (tsobench_app units) (parsed_as arguments)) (subcommand_of (tsobench_app units) (parsed_as arguments)) asked
 
-  -- ---- plain requests
+  -- ---- requests in a usual spelling
 
   -- what is asked for by the arguments that are parsed as they stand
   unchanged : (arguments : List Text) (asked : Asked) → parsed_as arguments ≡ arguments → IsFound arguments asked
       → IsFoundBy (fault_of (tsobench_app units) arguments) (subcommand_of (tsobench_app units) arguments) asked
   unchanged arguments asked same is = subst (λ (a : List Text). IsFoundBy (fault_of (tsobench_app units) a) (subcommand_of (tsobench_app units) a) asked) same is
 
-  pub plain_is : map (λ name. name.now) units.now ≡ unit_names → (arguments : List Text) (wanted asked : Asked) → Asks arguments wanted → IsFound arguments asked → asked ≡ wanted
-  plain_is are arguments wanted asked asks.nothing is = by_matches _ asked _ (program.nothing_taken units) is
-  plain_is are arguments wanted asked (asks.judge rest file n h) is =
+  pub asked_is : map (λ name. name.now) units.now ≡ unit_names → (arguments : List Text) (wanted asked : Asked) → Asks arguments wanted → IsFound arguments asked → asked ≡ wanted
+  asked_is are arguments wanted asked asks.nothing is = by_matches _ asked _ (program.nothing_taken units) is
+  asked_is are arguments wanted asked (asks.judge rest file n h) is =
       by_matches _ asked _ (judge.judge_taken units rest file n h) (unchanged (codes "judge" ∷ rest) asked (subcommand.judge_parsed rest) is)
       ∙ judge.judge_asked units rest file n h
-  plain_is are arguments wanted asked (asks.check rest trace certificate h) is =
+  asked_is are arguments wanted asked (asks.check rest trace certificate h) is =
       by_matches _ asked _ (check.check_taken trace certificate units rest h) (unchanged (codes "check" ∷ rest) asked (subcommand.check_parsed rest) is)
       ∙ check.check_asked trace certificate units rest h
-  plain_is are arguments wanted asked (asks.replay rest run program_file schedule h) is =
+  asked_is are arguments wanted asked (asks.replay rest run program_file schedule h) is =
       by_matches _ asked _ (replay.replay_taken units program_file schedule are rest run h) (unchanged (codes "replay" ∷ rest) asked (subcommand.replay_parsed rest) is)
       ∙ replay.replay_asked units program_file schedule are rest run h
-  plain_is are arguments wanted asked (asks.run rest asked_run h) is =
+  asked_is are arguments wanted asked (asks.run rest asked_run h) is =
       by_matches _ asked _ (run.run_taken units are rest asked_run h) (unchanged (codes "run" ∷ rest) asked (subcommand.run_parsed rest) is)
       ∙ run.run_asked units are rest asked_run h
-  plain_is are arguments wanted asked (asks.make rest seed shape h) is =
+  asked_is are arguments wanted asked (asks.make rest seed shape h) is =
       by_matches _ asked _ (make.make_taken units rest seed shape h) (unchanged (codes "make" ∷ rest) asked (subcommand.make_parsed rest) is)
       ∙ make.make_asked units rest seed shape h
-  plain_is are arguments wanted asked (asks.campaign rest options h) is =
+  asked_is are arguments wanted asked (asks.campaign rest options h) is =
       by_matches _ asked _ (campaign.campaign_taken units are rest options h) (unchanged (codes "campaign" ∷ rest) asked (subcommand.campaign_parsed rest) is)
       ∙ campaign.campaign_asked units are rest options h
 

@@ -21,25 +21,25 @@ pub record IsValue (argument : Text) : Type 0 where
   pub no_short : short_of argument ≡ None
   pub no_escape : bytes_eq argument (45 ∷ 45 ∷ []) ≡ false
 
-plain_value : (x : ℕ) (rest : Text) → (x == 45) ≡ false → IsValue (x ∷ rest)
-plain_value x rest other = record { no_long = rw other refl; no_short = rw other refl; no_escape = rw other refl }
+value_without_hyphen : (x : ℕ) (rest : Text) → (x == 45) ≡ false → IsValue (x ∷ rest)
+value_without_hyphen x rest other = record { no_long = rw other refl; no_short = rw other refl; no_escape = rw other refl }
 
 pub value_is : (name : Text) → is_value name ≡ true → IsValue name
 value_is [] is = record { no_long = refl; no_short = refl; no_escape = refl }
 value_is (x ∷ []) is = go (x == 45) refl
   where
     go : (b : Bool) → (x == 45) ≡ b → IsValue (x ∷ [])
-    go false e = plain_value x [] e
+    go false e = value_without_hyphen x [] e
     go true e = record { no_long = rw e refl; no_short = rw e refl; no_escape = rw e refl }
 value_is (x ∷ y ∷ rest) is = go (x == 45) refl is
   where
     go : (b : Bool) → (x == 45) ≡ b → not b ≡ true → IsValue (x ∷ y ∷ rest)
-    go false e h = plain_value x (y ∷ rest) e
+    go false e h = value_without_hyphen x (y ∷ rest) e
     go true e h = absurd (true≢false (sym h))
 
 digits_are_value : (digits : Text) → IsNumeral 10 digits → IsValue digits
 digits_are_value [] is = absurd (omega (arith, is.0))
-digits_are_value (d ∷ ds) is = plain_value d ds (ne_eqb _ _ (λ e. omega (arith, digit_from_value d is.1.0)))
+digits_are_value (d ∷ ds) is = value_without_hyphen d ds (ne_eqb _ _ (λ e. omega (arith, digit_from_value d is.1.0)))
 
 pub decimal_is_value : (n : ℕ) → n < 10 ^ 64 → IsValue (decimal n)
 decimal_is_value n small = digits_are_value (decimal n) (decimal_is_IsNumeral_wide n small).0

@@ -1,4 +1,4 @@
--- Plain arguments that are refused, in the program's own terms.
+-- Arguments in a usual spelling that are refused, in the program's own terms.
 use Rattle.std.specs.Prelude.{◌≡◌, ◌≤◌, ◌<◌, ◌^◌, ◌⊎◌, ◌||◌, ℕ, Bool, true, false, List, [], ◌∷◌, ◌++◌, None, codes, length}
 use Rattle.std.specs.Fmt.{decimal}
 use Rattle.std.specs.List.{All}
@@ -7,7 +7,7 @@ use Rattle.command_line.specs.Workers.{worker_limit}
 use Rattle.command_line.specs.declared.options.RunOptions.{RunOptions}
 use Rattle.command_line.specs.Requests.{Text, capacity_limit, number_limit}
 use Rattle.command_line.specs.Options.{AreGiven, AreNamed, IsOneOf, NamesOption, is_value, option_value}
-use Rattle.command_line.specs.Spellings.{AsksRequired, AsksRun, campaign_names, drawing_names, make_names, run_names, seeded_names}
+use Rattle.command_line.specs.Spellings.{AsksRequired, AsksRun, campaign_names, seeds_and_shape_names, make_names, run_names, seeded_names}
 use Rattle.command_line.specs.Units.{is_unit, trigger_limit}
 
 -- the text is the name of a subcommand
@@ -142,21 +142,21 @@ pub data RefusesToMake : List Text → Type 0 where
 pub data TakesValue : Text → Text → Type 0 where
   unit : (name : Text) → is_unit name ≡ true → TakesValue (codes "unit") name
   number : (option : Text) (limit n : ℕ) → TakesNumber option limit → 1 ≤ n → n ≤ limit → TakesValue option (decimal n)
-  required : (option value : Text) → IsOneOf drawing_names option → IsNumber value → TakesValue option value
+  required : (option value : Text) → IsOneOf seeds_and_shape_names option → IsNumber value → TakesValue option value
 
 -- and it refuses this one
 pub data RefusesValue : Text → Text → Type 0 where
   unit : (name : Text) → is_unit name ≡ false → RefusesValue (codes "unit") name
   number : (option : Text) (limit n : ℕ) → TakesNumber option limit → IsOutside limit n → n < 10 ^ 64
       → RefusesValue option (decimal n)
-  required : (option value : Text) → IsOneOf drawing_names option → IsAbove value → RefusesValue option value
+  required : (option value : Text) → IsOneOf seeds_and_shape_names option → IsAbove value → RefusesValue option value
 
 -- the arguments after `campaign` are refused
 pub data RefusesToCampaign : List Text → Type 0 where
   -- the options in any order, of which the unit is left out, or a number that has no default
   left_out : (name : Text) (options : List (Text × Text)) (arguments : List Text)
       → AreGiven options [] [] arguments → AreNamed campaign_names options → All (λ option. TakesValue option.0 option.1) options
-      → IsOneOf (codes "unit" ∷ drawing_names) name → option_value name options ≡ None → RefusesToCampaign arguments
+      → IsOneOf (codes "unit" ∷ seeds_and_shape_names) name → option_value name options ≡ None → RefusesToCampaign arguments
   -- the options in any order, of which one has a value that it refuses, after others that take theirs
   wrong_value : (name value : Text) (before after : List (Text × Text)) (arguments : List Text)
       → AreGiven (before ++ (name, value) ∷ after) [] [] arguments → AreNamed campaign_names (before ++ (name, value) ∷ after)

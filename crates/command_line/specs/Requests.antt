@@ -41,9 +41,9 @@ pub data Asked : Type 0 where
   replaying : RunOptions → Text → Text → Asked
   -- to run a program with a thread per processor
   running : AskedRun → Asked
-  -- to print the program drawn from this seed in this shape
+  -- to print the program made from this seed in this shape
   making : ℕ → ShapeNumbers → Asked
-  -- to run the programs drawn from the seeds of a campaign, and to judge the trace of each
+  -- to run the programs made from the seeds of a campaign, and to judge the trace of each
   campaigning : CampaignOptions → Asked
   -- to print the help or the version
   showing : Asked

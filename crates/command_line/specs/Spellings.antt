@@ -1,4 +1,4 @@
--- The plain spellings of requests: which arguments ask for what, in the program's own terms.
+-- The usual spellings of requests: which arguments ask for what, in the program's own terms.
 use Rattle.std.specs.Prelude.{◌≡◌, ◌≤◌, ℕ, List, [], ◌∷◌, ◌++◌, Option, Some, None, codes, option_and_then, option_to_list}
 use Rattle.std.specs.Fmt.{decimal}
 use Rattle.command_line.specs.Workers.{worker_limit}
@@ -84,7 +84,7 @@ shape_names = codes "procs" ∷ codes "ops" ∷ codes "addrs" ∷ []
 abbrev pub make_names : List Text
 make_names = codes "seed" ∷ shape_names
 
--- the arguments after `make`, as `--seed N --procs P --ops O --addrs A` in any order, ask for the program that is drawn
+-- the arguments after `make`, as `--seed N --procs P --ops O --addrs A` in any order, ask for the program that is made
 -- from this seed in this shape
 pub record AsksToMake (arguments : List Text) (seed : ℕ) (shape : ShapeNumbers) : Type 0 where
   pub options : List (Text × Text)
@@ -94,12 +94,12 @@ pub record AsksToMake (arguments : List Text) (seed : ℕ) (shape : ShapeNumbers
   pub shapes : AsksShape options shape
 
 -- the names of the options of `campaign` with a number that may not be left out
-abbrev pub drawing_names : List Text
-drawing_names = codes "first" ∷ codes "count" ∷ shape_names
+abbrev pub seeds_and_shape_names : List Text
+seeds_and_shape_names = codes "first" ∷ codes "count" ∷ shape_names
 
 -- the names of the options of `campaign`
 abbrev pub campaign_names : List Text
-campaign_names = run_names ++ drawing_names
+campaign_names = run_names ++ seeds_and_shape_names
 
 -- the arguments after `campaign`, as `--unit UNIT [--capacity C] [--trigger T] [--workers N] --first S --count K
 -- --procs P --ops O --addrs A` in any order, ask for this campaign

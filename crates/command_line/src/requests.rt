@@ -66,7 +66,7 @@ pub enum Request<'a> {
 /// Its only error is that memory ran out, and it may come for any arguments.
 pub fn read_arguments<'a>(alloc: Global, arguments: &'a [String]) -> Result<Request<'a>, AllocError>
     ensures parsed { IfOk result (λ request. IsAskedFor (texts_in arguments.now) (asked_of request)) }
-    ensures plain { (asked : Asked) → Asks (texts_in arguments.now) asked
+    ensures asked { (asked : Asked) → Asks (texts_in arguments.now) asked
         → IfOk result (λ request. asked_of request ≡ asked) }
     ensures helped { AsksHelp (texts_in arguments.now)
         → IfOk result (λ request. asked_of request ≡ showing) }

@@ -9,7 +9,7 @@ use Rattle.tso_ops.specs.declared.ops.Outcome.TheVariants.{Ld, Sw}
 use Rattle.tso_ops.specs.declared.events.Event.{Event}
 use Rattle.tso_ops.specs.Values.{TraceValue}
 use Rattle.tso_ops.specs.Events.{event_at, IsLoad, IsStore, IsSwapLoad, Earlier, HasFewerBarriersBefore, HasFewerStbarsBefore, KeepsStores}
-use Rattle.tso_model.specs.Order.{occurrences, place, IsUpTo}
+use Rattle.tso_model.specs.Axioms.{occurrences, place, IsUpTo}
 use Rattle.tso_ops.proofs.NumberFacts.{event_unique}
 use Rattle.unit_core.specs.declared.steps.Step.{Step}
 use Rattle.unit_core.specs.declared.steps.Step.TheVariants.{Store, Drain, DrainAt, Load, Swap, Membar, Stbar}

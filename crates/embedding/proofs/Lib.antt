@@ -1,5 +1,5 @@
 pub mod Buffers
-pub mod Embedding
+pub mod RunOrderFacts
 pub mod Kept
 pub mod LoadedValues
 pub mod Moments

@@ -9,7 +9,7 @@ use Rattle.tso_ops.specs.declared.events.Event.{Event}
 use Rattle.tso_ops.specs.Settings.{first_value}
 use Rattle.tso_ops.specs.Values.{TraceValue}
 use Rattle.tso_ops.specs.Events.{event_at, events_from, IsEvent, IsStoreTo, HasValue}
-use Rattle.tso_model.specs.Order.{occurrences, IsUpTo}
+use Rattle.tso_model.specs.Axioms.{occurrences, IsUpTo}
 use Rattle.unit_core.specs.declared.steps.Step.{Step}
 use Rattle.unit_core.specs.declared.steps.Step.TheVariants.{Store, Drain, DrainAt, Load, Swap, Membar, Stbar}
 use Rattle.unit_core.specs.Machine.{Entry, State, IsAllowed, buffer_of, drained, next, oldest_of, outcome_of, outcomes_of, proc_of, stbars_of, written}

@@ -2,7 +2,7 @@
 use Rattle.std.proofs.Common.{◌≡◌, ◌≢◌, ◌∙◌, ◌⊎◌, inl, inr, sym, ap, refl, ℕ, zero, suc, ◌+◌, ◌<◌, ◌≤◌, Bool, true, false, cond, Some, List, [], ◌∷◌, ◌++◌, length, slice_get, eqb, arith}
 use Rattle.std.specs.List.{remove}
 use Rattle.std.proofs.lemmas.Bool.{cases_eq, cases_lt, eq-eqb}
-use Rattle.tso_model.specs.Order.{occurrences, place, IsUpTo}
+use Rattle.tso_model.specs.Axioms.{occurrences, place, IsUpTo}
 use Rattle.tso_model.proofs.Places.{place-here, place-later, occurrences-later}
 
 -- a test adds one or none

@@ -9,7 +9,7 @@ use Rattle.tso_ops.specs.declared.ops.Outcome.{Outcome}
 use Rattle.tso_ops.specs.declared.events.Event.{Event}
 use Rattle.tso_ops.specs.Values.{TraceValue}
 use Rattle.tso_ops.specs.Events.{event_at, IsEvent, IsStoreTo}
-use Rattle.tso_model.specs.Order.{occurrences, IsUpTo}
+use Rattle.tso_model.specs.Axioms.{occurrences, IsUpTo}
 use Rattle.tso_ops.proofs.NumberFacts.{event_unique}
 use Rattle.unit_core.specs.declared.steps.Step.{Step}
 use Rattle.unit_core.specs.declared.steps.Step.TheVariants.{Store, Drain, DrainAt, Load, Swap, Membar, Stbar}

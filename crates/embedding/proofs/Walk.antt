@@ -4,7 +4,7 @@ use Rattle.std.proofs.lemmas.Bool.{cases_lt}
 use Rattle.std.proofs.lemmas.List.{append-nil}
 use Rattle.tso_ops.specs.declared.settings.Order.{Order}
 use Rattle.tso_ops.specs.Values.{TraceValue}
-use Rattle.tso_model.specs.Order.{occurrences}
+use Rattle.tso_model.specs.Axioms.{occurrences}
 use Rattle.unit_core.specs.declared.steps.Step.{Step}
 use Rattle.unit_core.specs.Machine.{State, HasProcessors, IsAllowed, IsRunFrom, after, next, proc_of}
 use Rattle.embedding.specs.RunOrder.{Numbering, numberings_after, order_from, ordered_by}

@@ -4,7 +4,7 @@ ghost use Rattle.std.specs.Prelude.{ℕ, List};
 ghost use Rattle.tso_ops.specs.Events.{IsUnwritten};
 ghost use Rattle.tso_ops.specs.Limits.{IsTrace};
 ghost use Rattle.tso_ops.specs.Settings.{SettingValue};
-ghost use Rattle.tso_model.specs.Order.{IsConsistent, IsModelOrder};
+ghost use Rattle.tso_model.specs.Axioms.{IsConsistent, IsModelOrder};
 ghost use Rattle.tso_model.specs.Rules.{HasDerivedCycle};
 ghost use Rattle.unit_core.specs.declared.steps.Step.{Step};
 ghost use Rattle.unit_core.specs.Machine.{IsCompleteRun, trace_of};

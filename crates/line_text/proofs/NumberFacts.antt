@@ -8,20 +8,20 @@ use Rattle.std.proofs.lemmas.Bool.Decides.{nat_tests}
 use Rattle.std.proofs.lemmas.Bool.{lt-ltb, le-ltb, ltb-true, ltb-false}
 use Rattle.std.proofs.lemmas.Str.Parse.{IsNumeralModel, numerals_by_value}
 use Rattle.std.proofs.lemmas.Fmt.{decimal-digits_value, digits_decimal, digits_value-decimal, decimal_nonempty, first_decimal}
-use Rattle.line_text.specs.Numbers.{is_plain, is_numeral, number}
+use Rattle.line_text.specs.Numbers.{is_canonical, is_numeral, number}
 
 -- the digits of a number, by std's definition
 pub digits_model : IsNumeralModel (λ ds. list_all is_ascii_digit ds ≡ true) (digits_value 10)
 digits_model = numerals_by_value _ (search rules)
 
--- a piece that is not plain spells no number
-pub number-not_plain : (piece : List ℕ) → is_plain piece ≡ false → number piece ≡ None
+-- a piece that is not canonical spells no number
+pub number-not_canonical : (piece : List ℕ) → is_canonical piece ≡ false → number piece ≡ None
 unfolding number
-number-not_plain piece off = rw off (elim (list_all is_ascii_digit piece) as (λ b. cond (b && false && ltb (digits_value 10 piece) (2 ^ 64)) (Some (digits_value 10 piece)) None ≡ None) [ true ↦ refl | false ↦ refl ])
+number-not_canonical piece off = rw off (elim (list_all is_ascii_digit piece) as (λ b. cond (b && false && ltb (digits_value 10 piece) (2 ^ 64)) (Some (digits_value 10 piece)) None ≡ None) [ true ↦ refl | false ↦ refl ])
 
-pub length-plain : (piece : List ℕ) → is_plain piece ≡ true → 0 < length piece
-length-plain [] plain = absurd cc
-length-plain (d ∷ ds) plain = omega arith
+pub length-canonical : (piece : List ℕ) → is_canonical piece ≡ true → 0 < length piece
+length-canonical [] canonical = absurd cc
+length-canonical (d ∷ ds) canonical = omega arith
 
 pub and_parts : (a b : Bool) → (a && b) ≡ true → (a ≡ true) × (b ≡ true)
 and_parts true b e = (refl, e)
@@ -49,9 +49,9 @@ number-by_parts : (a b : Bool) (n : ℕ) → cond ((a && true) && b) (Some n) No
 number-by_parts true b n = refl
 number-by_parts false b n = refl
 
-pub number-plain : (piece : List ℕ) → is_plain piece ≡ true → number piece ≡ number_after 0 piece
+pub number-canonical : (piece : List ℕ) → is_canonical piece ≡ true → number piece ≡ number_after 0 piece
 unfolding number number_after
-number-plain piece plain = rw plain (number-by_parts (list_all is_ascii_digit piece) (ltb (digits_value 10 piece) (2 ^ 64)) (digits_value 10 piece))
+number-canonical piece canonical = rw canonical (number-by_parts (list_all is_ascii_digit piece) (ltb (digits_value 10 piece) (2 ^ 64)) (digits_value 10 piece))
 
 pub number_after-nil : (n : ℕ) → n < 2 ^ 64 → number_after n [] ≡ Some n
 unfolding number_after
@@ -93,43 +93,43 @@ number_after-refused n d ds e = refused_by_tests n d ds (is_ascii_digit d) (ltb 
 
 -- ---- one way to write a number
 
-zero_alone : (p : List ℕ) → is_plain p ≡ true → get_or p 0 0 ≡ 48 → length p ≡ 1
-zero_alone [] plain first = absurd cc
-zero_alone (d ∷ []) plain first = refl
-zero_alone (d ∷ e ∷ ds) plain first = absurd (grind (arith, nat_tests))
+zero_alone : (p : List ℕ) → is_canonical p ≡ true → get_or p 0 0 ≡ 48 → length p ≡ 1
+zero_alone [] canonical first = absurd cc
+zero_alone (d ∷ []) canonical first = refl
+zero_alone (d ∷ e ∷ ds) canonical first = absurd (grind (arith, nat_tests))
 
 -- a number is written in one way
 pub number_is : (p : List ℕ) (n : ℕ) → number p ≡ Some n → p ≡ decimal n
 unfolding number
 number_is p n e =
     let whole = some_parts (is_numeral p) (digits_value 10 p) n e in
-    let outer = and_parts (list_all is_ascii_digit p && is_plain p) (ltb (digits_value 10 p) (2 ^ 64)) whole.0 in
-    let inner = and_parts (list_all is_ascii_digit p) (is_plain p) outer.0 in
+    let outer = and_parts (list_all is_ascii_digit p && is_canonical p) (ltb (digits_value 10 p) (2 ^ 64)) whole.0 in
+    let inner = and_parts (list_all is_ascii_digit p) (is_canonical p) outer.0 in
     let fits : digits_value 10 p < 2 ^ 64 = (let t = outer.1 in grind (arith, nat_tests)) in
-    sym (decimal-digits_value digits_model p inner.0 (length-plain p inner.1) (zero_alone p inner.1) fits) ∙ ap decimal whole.1
+    sym (decimal-digits_value digits_model p inner.0 (length-canonical p inner.1) (zero_alone p inner.1) fits) ∙ ap decimal whole.1
 
 -- a number has 64 bits
 pub number_fits : (p : List ℕ) (n : ℕ) → number p ≡ Some n → n < 2 ^ 64
 unfolding number
 number_fits p n e =
     let whole = some_parts (is_numeral p) (digits_value 10 p) n e in
-    let outer = and_parts (list_all is_ascii_digit p && is_plain p) (ltb (digits_value 10 p) (2 ^ 64)) whole.0 in
+    let outer = and_parts (list_all is_ascii_digit p && is_canonical p) (ltb (digits_value 10 p) (2 ^ 64)) whole.0 in
     let fits : digits_value 10 p < 2 ^ 64 = (let t = outer.1 in grind (arith, nat_tests)) in
     subst (λ m. m < 2 ^ 64) whole.1 fits
 
-plain_some : (p : List ℕ) → 0 < length p → 48 < get_or p 0 0 → is_plain p ≡ true
-plain_some [] some first = absurd (omega arith)
-plain_some (d ∷ []) some first = refl
-plain_some (d ∷ e ∷ ds) some first = grind (arith, nat_tests)
+canonical_some : (p : List ℕ) → 0 < length p → 48 < get_or p 0 0 → is_canonical p ≡ true
+canonical_some [] some first = absurd (omega arith)
+canonical_some (d ∷ []) some first = refl
+canonical_some (d ∷ e ∷ ds) some first = grind (arith, nat_tests)
 
-plain_decimal : (n : ℕ) → n < 2 ^ 64 → is_plain (decimal n) ≡ true
+canonical_decimal : (n : ℕ) → n < 2 ^ 64 → is_canonical (decimal n) ≡ true
 unfolding digits
-plain_decimal zero fits = refl
-plain_decimal (suc n) fits = plain_some (decimal (suc n)) (decimal_nonempty (suc n) fits) (first_decimal (suc n) (omega arith) fits)
+canonical_decimal zero fits = refl
+canonical_decimal (suc n) fits = canonical_some (decimal (suc n)) (decimal_nonempty (suc n) fits) (first_decimal (suc n) (omega arith) fits)
 
 -- a number in decimal spells it
 pub number-decimal : (n : ℕ) → n < 2 ^ 64 → number (decimal n) ≡ Some n
 unfolding number
 number-decimal n fits =
     let low : ltb n (2 ^ 64) ≡ true = grind (arith, nat_tests) in
-    rw (digits_decimal digits_model n fits, plain_decimal n fits, digits_value-decimal digits_model n fits, low) refl
+    rw (digits_decimal digits_model n fits, canonical_decimal n fits, digits_value-decimal digits_model n fits, low) refl

@@ -5,14 +5,14 @@ use Rattle.std.specs.Char.{is_ascii_digit}
 use Rattle.std.specs.Str.Parse.{digits_value}
 
 -- not empty, and no 0 before another digit
-abbrev pub is_plain : List ℕ → Bool
-is_plain [] = false
-is_plain (d ∷ []) = true
-is_plain (d ∷ e ∷ ds) = not (d == 48)
+abbrev pub is_canonical : List ℕ → Bool
+is_canonical [] = false
+is_canonical (d ∷ []) = true
+is_canonical (d ∷ e ∷ ds) = not (d == 48)
 
 -- digits without a leading zero, of a value that 64 bits hold
 abbrev pub is_numeral : List ℕ → Bool
-is_numeral piece = list_all is_ascii_digit piece && is_plain piece && nat_lt (digits_value 10 piece) (2 ^ 64)
+is_numeral piece = list_all is_ascii_digit piece && is_canonical piece && nat_lt (digits_value 10 piece) (2 ^ 64)
 
 -- the number that a piece spells
 unfoldable pub number : List ℕ → Option ℕ

@@ -1,4 +1,4 @@
-//! The lines and pieces of plain texts, and the numbers in them.
+//! The lines and pieces of texts, and the numbers in them.
 //!
 //! A text is cut at its line ends, and a line at its single spaces. `README.md` says what is proved.
 #![tactic(auto)]

@@ -1,12 +1,12 @@
 ghost use Rattle.std.specs.Prelude.{◌≡◌, ◌+◌, ◌*◌, ◌^◌, ◌&&◌, nat_lt, Some, None, if◌then◌else◌};
 ghost use Rattle.std.specs.Char.{is_ascii_digit, digit_value};
-ghost use Rattle.line_text.specs.Numbers.{is_plain, number};
+ghost use Rattle.line_text.specs.Numbers.{is_canonical, number};
 
 /// The number that a piece spells: digits without a leading zero, within 64 bits.
 pub fn number_of(piece: &[u8]) -> Option<u64>
     ensures { result ≡ number piece.now }
 {
-    if !is_plain(piece) {
+    if !is_canonical(piece) {
         return None;
     }
     let mut value: u64 = 0;
@@ -29,8 +29,8 @@ fn with_digit(prefix: u64, byte: u8) -> Option<u64>
 }
 
 /// Whether a piece isn't empty and has no 0 before another byte.
-fn is_plain(piece: &[u8]) -> bool
-    ensures { result ≡ is_plain piece.now }
+fn is_canonical(piece: &[u8]) -> bool
+    ensures { result ≡ is_canonical piece.now }
 {
     match piece {
         [] => false,

@@ -15,8 +15,8 @@ use Rattle.order_graph.specs.Internal.KeptPaths.{KeepsAllPaths, IsNodeRow}
 use Rattle.order_graph.specs.Digraphs.{Digraph, IsEdge, HasGrown, ReachesMore}
 use Rattle.order_graph.specs.Internal.Views.{grown_graph_of}
 use Rattle.order_graph.proofs.AddedBits.{given_is}
-use Rattle.order_graph.proofs.Reaching.{WithEdge, reach_split, reach_through, reach_same}
-use Rattle.order_graph.proofs.Keeping.{sees_path, Reaches-more, test_is, no_test}
+use Rattle.order_graph.proofs.AddedEdges.{WithEdge, reach_split, reach_through, reach_same}
+use Rattle.order_graph.proofs.KeptTablesFacts.{sees_path, Reaches-more, test_is, no_test}
 
 -- The numbers that gain something by an edge from u to v are u and those that reach u, but for those that reach v.
 gains : (Edge : ℕ → ℕ → Type 0) (u v x : ℕ) → (((x ≡ u) ⊎ Reaches Edge x u) × (Reaches Edge x v → ⊥)) ↔ ReachesMore Edge (WithEdge Edge u v) x

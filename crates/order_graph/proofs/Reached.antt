@@ -14,7 +14,7 @@ use Rattle.order_graph.specs.Internal.Tables.{Joined, IsMaskedEdge, JoinedWithin
 use Rattle.bitsets.proofs.TableFacts.{IsSet-decided, IsSet-word, Leaves, Leaves-start, Leaves-step, Leaves-end, Adds-kept, column_within, no_bit}
 use Rattle.order_graph.specs.Digraphs.{Digraph, IsEdge}
 use Rattle.order_graph.specs.Internal.KeptPaths.{Covers}
-use Rattle.order_graph.proofs.Keeping.{Sees, sees_path}
+use Rattle.order_graph.proofs.KeptTablesFacts.{Sees, sees_path}
 
 -- the numbers that x has an edge to, and of these those that weren't reached, from word j on
 abbrev pub EdgeFrom : List ℕ → List ℕ → ℕ → ℕ → ℕ → ℕ → ℕ → Type 0
@@ -314,12 +314,12 @@ masked_from edges paths transposed mask width nodes u covers hu has y = (
 pub masked_to : (edges paths transposed mask : List ℕ) (width nodes v : ℕ) → Covers nodes width edges paths transposed → v < nodes →
     ((y : ℕ) → y / 64 < width → IsSet mask width 0 y ↔ (IsSet transposed width v y ⊎ (y ≡ v))) → (u : ℕ) → Reaches (JoinedWithin edges mask width nodes) u v ↔ Reaches (Joined edges width nodes) u v
 masked_to edges paths transposed mask width nodes v covers hv has u = (
-  Reaches-mono (JoinedWithin edges mask width nodes) (Joined edges width nodes) plain u v,
+  Reaches-mono (JoinedWithin edges mask width nodes) (Joined edges width nodes) unmasked u v,
   λ p. Reaches-into (Joined edges width nodes) Onward onward step u v p (inr refl),
 )
   where
-    plain : (a b : ℕ) → JoinedWithin edges mask width nodes a b → Joined edges width nodes a b
-    plain a b e = (e.0, e.1, e.2.edge)
+    unmasked : (a b : ℕ) → JoinedWithin edges mask width nodes a b → Joined edges width nodes a b
+    unmasked a b e = (e.0, e.1, e.2.edge)
 
     Leads : ℕ → Type 0
     Leads x = Reaches (Joined edges width nodes) x v ⊎ (x ≡ v)
@@ -328,7 +328,7 @@ masked_to edges paths transposed mask width nodes v covers hv has u = (
     Onward a b = Leads b → Reaches (JoinedWithin edges mask width nodes) a b
 
     joined : (a b : ℕ) → Reaches (JoinedWithin edges mask width nodes) a b → Reaches (Joined edges width nodes) a b
-    joined a b p = Reaches-mono (JoinedWithin edges mask width nodes) (Joined edges width nodes) plain a b p
+    joined a b p = Reaches-mono (JoinedWithin edges mask width nodes) (Joined edges width nodes) unmasked a b p
 
     later : (b c : ℕ) → Reaches (Joined edges width nodes) b c → Leads c → Leads b
     later b c p (inl q) = inl (Reaches-join (Joined edges width nodes) b c v p q)

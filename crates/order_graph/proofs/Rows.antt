@@ -6,7 +6,7 @@ use Rattle.bitsets.specs.Tables.{IsSet, Adds}
 use Rattle.order_graph.specs.Internal.Tables.{IsTable}
 use Rattle.order_graph.specs.Digraphs.{Digraph, IsEdge}
 use Rattle.bitsets.proofs.TableFacts.{column_within, no_bit}
-use Rattle.order_graph.proofs.Keeping.{Sees, sees_edge}
+use Rattle.order_graph.proofs.KeptTablesFacts.{Sees, sees_edge}
 
 -- A table of zeros has no edges.
 pub IsTable-empty : (nodes width : ℕ) (edges : List ℕ) → nodes < 2 ^ 32 → width ≡ (nodes + 63) / 64 → edges ≡ replicate (nodes * width) 0 → IsTable nodes width edges

@@ -9,8 +9,8 @@ use Rattle.order_graph.specs.Internal.Tables.{Joined}
 use Rattle.order_graph.specs.Internal.KeptPaths.{KeepsAllPaths}
 use Rattle.order_graph.specs.Internal.Tracks.{Track, NoCycleBefore, IsLeastCycleBefore, IsOpen, OpenEdge, NoShorterOpen, IsClosedNumber, IsNext, IsUnseen}
 use Rattle.bitsets.proofs.TableFacts.{IsSet-decided, column_within, Adds-kept, no_bit}
-use Rattle.order_graph.proofs.Searching.{row_of_zeros}
-use Rattle.order_graph.proofs.Cycling.{IsCycle-track, before_more_longer}
+use Rattle.order_graph.proofs.SearchesFacts.{row_of_zeros}
+use Rattle.order_graph.proofs.CyclesFacts.{IsCycle-track, before_more_longer}
 
 -- a walk of this many edges leads from the start to y
 abbrev pub Ends : (ℕ → ℕ → Type 0) → ℕ → ℕ → ℕ → Type 0

@@ -46,7 +46,7 @@ impl EdgeRows {
         })
     }
 
-    /// The number of numbers: each is below it.
+    /// The number of nodes: each number is below it.
     #[inline]
     pub fn nodes(&self) -> usize
         ensures size { result ≡ self.now.nodes }
@@ -107,7 +107,7 @@ impl EdgeRows {
         first_shared(edges, u, edges.words, u, 0, edges.width).is_some()
     }
 
-    /// The number of numbers, how many words a row has, and the table of the rows.
+    /// The number of nodes, how many words a row has, and the table of the rows.
     pub(crate) fn into_table(self) -> (usize, usize, Vec<u64>)
         ensures edges { IsTable result.0 result.1 result.2.items }
         ensures same { graph_of result.0 result.1 result.2.items ≡ self }

@@ -49,7 +49,7 @@ impl EdgeSet {
         Ok(EdgeSet { tables })
     }
 
-    /// The number of numbers: each is below it.
+    /// The number of nodes: each number is below it.
     #[inline]
     pub fn nodes(&self) -> usize
         ensures size { result ≡ self.now.nodes }

@@ -96,7 +96,7 @@ impl Graph {
         })
     }
 
-    /// The number of numbers: each is below it.
+    /// The number of nodes: each number is below it.
     #[inline]
     pub fn nodes(&self) -> usize
         ensures size { result ≡ self.now.nodes }

@@ -12,7 +12,7 @@ use std::alloc::AllocError;
 pub trait PathSearch {
     ghost digraph: { Self → Digraph };
 
-    /// The number of numbers: each is below it.
+    /// The number of nodes: each number is below it.
     fn nodes(&self) -> usize
         ensures size { result ≡ (digraph self.now).nodes }
         ensures within { EdgesWithin (digraph self.now) };

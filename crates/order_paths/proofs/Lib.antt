@@ -3,4 +3,4 @@ pub mod Least
 pub mod LeastExists
 pub mod Neighbours
 pub mod Reach
-pub mod Rising
+pub mod RisingNumbers

@@ -11,7 +11,7 @@ use Rattle.tso_model.specs.NewEdges.{IsNew}
 use Rattle.tso_model.proofs.NewEdgeFacts.{new_within}
 use Rattle.bitsets.specs.Rows.{IsAscending as IsAscendingRow}
 use Rattle.round_pool.specs.declared.ranked.Edge.{Edge}
-use Rattle.round_pool.specs.Internal.ClaimedRows.{AreRowsOf}
+use Rattle.round_pool.specs.Internal.WorkerRows.{AreRowsOf}
 use Rattle.round_pool.specs.Internal.EdgeLists.{AreEdgesOf, AreNewEdges, AreAscendingBelow}
 use Rattle.round_pool.specs.Internal.Worksets.{IsWorkset}
 use Rattle.round_pool.specs.Rankings.{ListsEdge, IsEdgeBefore, AreEdgesAscending, edge_from}

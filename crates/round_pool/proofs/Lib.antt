@@ -1,8 +1,8 @@
 pub mod AnswerFacts
 pub mod ClaimFacts
-pub mod ClaimedRowFacts
 pub mod EdgeFacts
 pub mod GraphFacts
 pub mod RankedFacts
 pub mod RoundFacts
+pub mod WorkerRowFacts
 pub mod WorksetFacts

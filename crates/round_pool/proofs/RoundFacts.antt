@@ -13,7 +13,7 @@ use Rattle.tso_model.proofs.NewEdgeFacts.{new_same}
 use Rattle.tso_model.proofs.LastRankSet.{before_last, RankSet-mono}
 use Rattle.tso_rules.specs.declared.masks.SourceMasks.{SourceMasks}
 use Rattle.tso_rules.specs.SourceMasks.{AreSourceMasks}
-use Rattle.round_pool.specs.Internal.ClaimedRows.{AreOverBase}
+use Rattle.round_pool.specs.Internal.WorkerRows.{AreOverBase}
 use Rattle.round_pool.specs.declared.ranked.Edge.{Edge}
 use Rattle.round_pool.specs.RankGraphs.{IsRankGraph, AddsEdges}
 use Rattle.round_pool.specs.Internal.EdgeLists.{AreNewEdges}
@@ -112,29 +112,33 @@ pub record RoundStep (t : TraceValue) (g new : Digraph) (added : List (List Edge
   pub follows : FollowsRound t (length added) g new
   pub adds : AddsEdges g new (ListsEdge edges)
 
--- a round that adds an edge to the graph, which is settled before
-pub round_step : (t : TraceValue) (g settled new : Digraph) (added : List (List Edge)) (edges : List Edge) → AreRoundsMade t g added → IsAcyclic g → AreNewEdges t g edges → 0 < length edges →
-    ((u v : ℕ) → RankSet t (length added) u v ⊎ (RankSet t (length added) u v → ⊥)) → settled.nodes ≡ g.nodes → ((x y : ℕ) → IsEdge settled x y ↔ IsEdge g x y) →
-    AddsEdges settled new (ListsEdge edges) → OnlyGrown (IsEdge settled) new → RoundStep t g new added edges
-round_step t g settled new added edges made acyclic fresh some decided same_nodes same adds_settled only = record {
+-- a round that adds an edge to the graph
+pub round_step : (t : TraceValue) (g new : Digraph) (added : List (List Edge)) (edges : List Edge) → AreRoundsMade t g added → IsAcyclic g → AreNewEdges t g edges → 0 < length edges →
+    ((u v : ℕ) → RankSet t (length added) u v ⊎ (RankSet t (length added) u v → ⊥)) → AddsEdges g new (ListsEdge edges) → OnlyGrown (IsEdge g) new → RoundStep t g new added edges
+round_step t g new added edges made acyclic fresh some decided adds only = record {
   made = made_more t g new added edges made acyclic.none fresh some decided adds;
   follows = record {
     ranked = made.graph;
     kept = λ x y e. (adds.edges x y).1 (inl e);
     added = λ u v more. (adds.edges u v).1 (inr (fresh.all u v more));
-    grown = λ x more none. only x (more.0, more.1, λ path. more.2 (Reaches-mono (IsEdge settled) (IsEdge g) (λ a b e. (same a b).0 e) x more.0 path)) none;
+    grown = only;
   };
   adds = adds;
 }
-  where
-    adds : AddsEdges g new (ListsEdge edges)
-    adds = record {
-      nodes = adds_settled.nodes ∙ same_nodes;
-      edges = λ x y. (
-        λ e. elim ((adds_settled.edges x y).0 e) [ inl before ↦ inl ((same x y).0 before) | inr now ↦ inr now ],
-        λ e. (adds_settled.edges x y).1 (elim e [ inl before ↦ inl ((same x y).1 before) | inr now ↦ inr now ]),
-      );
-    }
+
+-- what is added to a graph that was settled is added to the graph before
+pub settled_adds : (g settled new : Digraph) (Added : ℕ → ℕ → Type 0) → settled.nodes ≡ g.nodes → ((x y : ℕ) → IsEdge settled x y ↔ IsEdge g x y) → AddsEdges settled new Added → AddsEdges g new Added
+settled_adds g settled new Added same_nodes same adds = record {
+  nodes = adds.nodes ∙ same_nodes;
+  edges = λ x y. (
+    λ e. elim ((adds.edges x y).0 e) [ inl before ↦ inl ((same x y).0 before) | inr now ↦ inr now ],
+    λ e. (adds.edges x y).1 (elim e [ inl before ↦ inl ((same x y).1 before) | inr now ↦ inr now ]),
+  );
+}
+
+-- and a number that reaches more than in the one reaches more than in the other
+pub settled_grown : (g settled new : Digraph) → ((x y : ℕ) → IsEdge settled x y ↔ IsEdge g x y) → OnlyGrown (IsEdge settled) new → OnlyGrown (IsEdge g) new
+settled_grown g settled new same only = λ x more none. only x (more.0, more.1, λ path. more.2 (Reaches-mono (IsEdge settled) (IsEdge g) (λ a b e. (same a b).0 e) x more.0 path)) none
 
 -- the graph has no cycle after a round whose edges close none
 pub still_acyclic : (t : TraceValue) (g new : Digraph) (added : List (List Edge)) (edges : List Edge) → RoundStep t g new added edges → IsAcyclic g → (ClosesCycle new (ListsEdge edges) → ⊥) → IsAcyclic new

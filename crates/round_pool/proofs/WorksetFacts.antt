@@ -9,7 +9,7 @@ use Rattle.order_paths.proofs.Decisions.{Decision}
 use Rattle.order_paths.proofs.Reach.{Reaches-decided, Reaches-edge, Reaches-join, Reaches-into, Reaches-mono, HasCycle-iff, HasCycle-Reaches}
 use Rattle.bitsets.specs.Rows.{IsListOf, IsAscending as IsAscendingRow}
 use Rattle.order_graph.specs.Digraphs.{Digraph, IsEdge, HasGrown, ReachesMore}
-use Rattle.order_graph.proofs.Keeping.{IsEdge-decided}
+use Rattle.order_graph.proofs.KeptTablesFacts.{IsEdge-decided}
 use Rattle.tso_ops.specs.Values.{TraceValue}
 use Rattle.tso_ops.specs.Events.{event_total}
 use Rattle.tso_model.specs.NewEdges.{IsNew}

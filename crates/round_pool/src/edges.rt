@@ -2,16 +2,16 @@
 ghost use Rattle.std.specs.Prelude.{◌≡◌, ◌+◌, ◌*◌, ◌<◌, ◌≤◌, ◌++◌, ℕ, length, map, All, AllPairs, IfOk, OnOk};
 ghost use Rattle.tso_ops.specs.Values.{rows};
 ghost use Rattle.bitsets.specs.Rows.{IsAscending as IsAscendingRow};
-ghost use Rattle.round_pool.specs.Internal.ClaimedRows.{AreOverBase};
 ghost use Rattle.round_pool.specs.Internal.EdgeLists.{AreNewEdges, AreEdgesOf, AreAscendingBelow};
+ghost use Rattle.round_pool.specs.Internal.WorkerRows.{AreOverBase};
 ghost use Rattle.round_pool.specs.Internal.Worksets.{IsWorkset};
 ghost use Rattle.round_pool.specs.Rankings.{edge_from};
 ghost use Rattle.round_pool.specs.Workers.{worker_limit};
 
-use crate::claimed_rows::{RowInput, rows_by_claims};
 use crate::faults::PoolFault;
 use crate::gates::PoolGate;
 use crate::ranked::Edge;
+use crate::worker_rows::{RowInput, rows_by_workers};
 use std::alloc::Global;
 use std::sync::Wait;
 use std::thread::Threads;
@@ -71,7 +71,7 @@ pub fn round_edges<H: Threads + Wait, G: PoolGate + Sync>(
     ensures { IfOk result (λ edges. AreNewEdges input.entry.trace.now input.entry.graph.now edges.items) }
 {
     let _events = input.trace.events();
-    let made = rows_by_claims(rt, alloc, input, gate, workers, numbers)?;
+    let made = rows_by_workers(rt, alloc, input, gate, workers, numbers)?;
     let edges = edges_of(alloc, numbers, &made)?;
     Ok(edges)
 }

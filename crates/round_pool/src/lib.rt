@@ -9,7 +9,6 @@ pub use ranked::{Edge, Ranked};
 pub use round_loop::{MAX_WORKERS, rounds};
 
 mod answers;
-mod claimed_rows;
 mod claims;
 mod edges;
 mod faults;
@@ -17,4 +16,5 @@ mod gates;
 mod graphs;
 mod ranked;
 mod round_loop;
+mod worker_rows;
 mod worksets;

@@ -3,16 +3,17 @@ ghost use Rattle.std.specs.Prelude.{◌≡◌, ◌↔◌, ◌≤◌, ℕ, IsTrue
 ghost use Rattle.order_paths.specs.Paths.{HasCycle};
 ghost use Rattle.order_graph.specs.Digraphs.{IsEdge};
 ghost use Rattle.tso_ops.specs.Events.{IsUnwritten};
-ghost use Rattle.round_pool.specs.Internal.Worksets.{ClosesCycle};
+ghost use Rattle.round_pool.specs.Internal.Worksets.{OnlyGrown, ClosesCycle};
+ghost use Rattle.round_pool.specs.RankGraphs.{AddsEdges};
 ghost use Rattle.round_pool.specs.Rankings.{IsRankingOf, ListsEdge, AreEdgesWithin};
 ghost use Rattle.round_pool.specs.Workers.{worker_limit};
 
-use crate::claimed_rows::RowInput;
 use crate::edges::round_edges;
 use crate::faults::PoolFault;
 use crate::gates::PoolGate;
 use crate::graphs::{add_edges, base_graph};
 use crate::ranked::{Edge, Ranked};
+use crate::worker_rows::RowInput;
 use crate::worksets::{all_rows, changed_rows, first_workers, later_workers};
 use order_graph::Graph;
 use std::alloc::Global;
@@ -68,9 +69,7 @@ pub fn rounds<H: Threads + Wait, G: PoolGate + Sync>(
         if edges.is_empty() {
             return Ok(Ranked { last, added });
         }
-        last.settle();
-        add_edges(&mut last, &edges);
-        let is_cyclic = closes_cycle(&last, &edges);
+        let is_cyclic = add_round(&mut last, &edges);
         added.push(edges)?;
         if is_cyclic {
             return Ok(Ranked { last, added });
@@ -78,6 +77,19 @@ pub fn rounds<H: Threads + Wait, G: PoolGate + Sync>(
         numbers = changed_rows(alloc, trace, &last)?;
         sharing = later_workers(workers, numbers.len());
     }
+}
+
+/// Adds the edges of a round, and says whether one of them closes a cycle. The graph is settled before: what reaches more by
+/// the edges has grown in it then.
+fn add_round(graph: &mut Graph, edges: &[Edge]) -> bool
+    requires { AreEdgesWithin graph.old.nodes edges.now }
+    ensures edges { AddsEdges graph.old graph.new (ListsEdge edges.now) }
+    ensures grown { OnlyGrown (IsEdge graph.old) graph.new }
+    ensures cycle { IsTrue result ↔ ClosesCycle graph.new (ListsEdge edges.now) }
+{
+    graph.settle();
+    add_edges(graph, edges);
+    closes_cycle(graph, edges)
 }
 
 /// Whether one of these edges leads from a number that its end reaches.

@@ -3,7 +3,7 @@ pub mod LineFacts
 pub mod PieceFacts
 pub mod PrintFacts
 pub mod PrintedFacts
-pub mod Reaching
+pub mod ReadersFacts
 pub mod SayingFacts
 pub mod SpellingFacts
 pub mod StepFacts

@@ -24,7 +24,7 @@ use Rattle.tso_cert.specs.Spelling.{SpellsCertificate, IsCertTextRefusal}
 use Rattle.tso_cert.specs.Internal.LineValues.{cert_line_said, step_said, events}
 use Rattle.tso_cert.proofs.LineFacts.{told, line_pieces, ends, LineFits, step_said-pieces, cert_line_said-pieces}
 use Rattle.tso_cert.proofs.SayingFacts.{all_first, all_after, events-text}
-use Rattle.tso_cert.proofs.Reaching.{Reached, AcceptsCertLine, Reached-start, Reached-next, Reached-end}
+use Rattle.tso_cert.proofs.ReadersFacts.{Reached, AcceptsCertLine, Reached-start, Reached-next, Reached-end}
 use Rattle.tso_cert.proofs.SpellingFacts.{not_both}
 use Rattle.tso_cert.proofs.StepFacts.{accepts}
 

@@ -18,7 +18,7 @@ use Rattle.tso_cert.specs.Printed.{step_pieces, steps_pieces, cert_pieces, cert_
 use Rattle.tso_cert.specs.Spelling.{SpellsCertificate, IsCertTextRefusal, cert_fault_number, unended_cert_fault}
 use Rattle.tso_cert.specs.Internal.LineValues.{cert_line_said}
 use Rattle.tso_cert.proofs.LineFacts.{told, line_pieces, ends}
-use Rattle.tso_cert.proofs.Reaching.{unended_refused}
+use Rattle.tso_cert.proofs.ReadersFacts.{unended_refused}
 use Rattle.tso_cert.proofs.StepFacts.{IsRead, IsRead-start, IsRead-next, read_refused, read_after, read_cycle, read_unwritten, unwritten_alone, steps_pieces-next}
 
 -- ---- the refusals by their numbers

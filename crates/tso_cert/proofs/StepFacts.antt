@@ -16,7 +16,7 @@ use Rattle.tso_cert.specs.Spelling.{SpellsCertificate, IsCertTextRefusal}
 use Rattle.tso_cert.specs.Internal.LineValues.{cert_line_said}
 use Rattle.tso_cert.proofs.LineFacts.{Told, told, refused, line_pieces, ends}
 use Rattle.tso_cert.proofs.PrintFacts.{steps_pieces-push}
-use Rattle.tso_cert.proofs.Reaching.{Reached, AcceptsCertLine, Reached-start, Reached-next, Reached-end, line_refused, ended_refused}
+use Rattle.tso_cert.proofs.ReadersFacts.{Reached, AcceptsCertLine, Reached-start, Reached-next, Reached-end, line_refused, ended_refused}
 
 -- a line that says something is accepted
 pub accepts : (number : ℕ) (line : List ℕ) (l : Line) → Told number (pieces_of line) l → AcceptsCertLine number line (ends l) (line_pieces number l)

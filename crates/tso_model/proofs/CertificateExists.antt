@@ -15,7 +15,7 @@ use Rattle.tso_cert.specs.declared.steps.Certificate.TheVariants.{Unwritten, Cyc
 use Rattle.tso_model.specs.Rules.{HasDerivedCycle}
 use Rattle.tso_model.specs.Ranks.{RankSet, HasRank}
 use Rattle.tso_model.specs.Certs.{IsStep, IsPathIn, IsJustified, IsListedBefore, AreUsed, AreStepsOf, IsCertificateOf}
-use Rattle.tso_model.specs.Used.{AreUsedBy}
+use Rattle.tso_model.specs.ReasonEdges.{AreUsedBy}
 use Rattle.tso_model.proofs.Bounds.{RankSet-within}
 use Rattle.tso_model.proofs.Decided.{RankSet-decided, IsUnwritten-decided, unwritten_decided}
 use Rattle.tso_model.proofs.Justifications.{rank_exists, rank_unique, HasRank-decided}

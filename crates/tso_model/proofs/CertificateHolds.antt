@@ -8,8 +8,8 @@ use Rattle.tso_cert.specs.declared.steps.CertStep.{CertStep}
 use Rattle.tso_cert.specs.declared.steps.Certificate.{Certificate}
 use Rattle.tso_cert.specs.declared.steps.Certificate.TheVariants.{Unwritten, Cycle}
 use Rattle.order_paths.proofs.Reach.{Linked-both, Linked-mono}
-use Rattle.order_paths.proofs.Rising.{Rises, rises_on_path, rises_without_cycle}
-use Rattle.tso_model.specs.Order.{place, IsBefore, IsModelOrder, IsConsistent}
+use Rattle.order_paths.proofs.RisingNumbers.{Rises, rises_on_path, rises_without_cycle}
+use Rattle.tso_model.specs.Axioms.{place, IsBefore, IsModelOrder, IsConsistent}
 use Rattle.tso_model.specs.Ranks.{RankSet, HasRank}
 use Rattle.tso_model.specs.Certs.{IsStep, MeetsRule, IsPathIn, StepsHold, Holds, IsJustified, IsListedBefore, AreStepsOf, IsCertificateOf}
 use Rattle.tso_ops.proofs.NumberFacts.{HasOwnValues}

@@ -7,8 +7,8 @@ use Rattle.tso_cert.specs.declared.rules.BaseRule.TheVariants.{Init, LoadOp, Sto
 use Rattle.tso_cert.specs.declared.rules.InferredRule.{InferredRule}
 use Rattle.tso_cert.specs.declared.rules.InferredRule.TheVariants.{LoadPast, StorePast, SwapBefore, SwapAfter}
 use Rattle.order_paths.specs.Paths.{HasCycle}
-use Rattle.order_paths.proofs.Rising.{Rises, rises_on_path, rises_without_cycle}
-use Rattle.tso_model.specs.Order.{place, IsUpTo, IsBefore, IsVisible, ReadsGreatest, IsModelOrder}
+use Rattle.order_paths.proofs.RisingNumbers.{Rises, rises_on_path, rises_without_cycle}
+use Rattle.tso_model.specs.Axioms.{place, IsUpTo, IsBefore, IsVisible, ReadsGreatest, IsModelOrder}
 use Rattle.tso_model.specs.Rules.{BasePair, InferredBy, IsDerived, HasDerivedCycle}
 use Rattle.tso_model.specs.Ranks.{RankSet}
 use Rattle.tso_ops.proofs.NumberFacts.{HasOwnValues, event_above_zero, load_is_no_store, store_event, load_event, store_source, source_unique}

@@ -1,7 +1,7 @@
 -- Places in an order: two numbers at one place are one if either is listed.
 use Rattle.std.proofs.Common.{◌≡◌, ◌⊎◌, ℕ, zero, suc, ◌<◌, true, false, List, [], ◌∷◌, arith, eqb, ⊎_elim, inl, inr, ◌≢◌}
 use Rattle.std.proofs.lemmas.Bool.{cases_eq, cases_lt, eq-eqb, ne_eqb}
-use Rattle.tso_model.specs.Order.{occurrences, place, IsUpTo, IsBefore}
+use Rattle.tso_model.specs.Axioms.{occurrences, place, IsUpTo, IsBefore}
 
 -- the first number's place
 pub place-here : (x : ℕ) (rest : List ℕ) (n : ℕ) → x ≡ n → place (x ∷ rest) n ≡ 0

@@ -12,7 +12,7 @@ use Rattle.tso_cert.specs.declared.steps.Reason.{Reason}
 use Rattle.tso_cert.specs.declared.steps.Reason.TheVariants.{Base, Inferred}
 use Rattle.tso_model.specs.Ranks.{RankSet, HasRank}
 use Rattle.tso_model.specs.Certs.{IsPathIn, IsJustified}
-use Rattle.tso_model.specs.Used.{AreUsedBy}
+use Rattle.tso_model.specs.ReasonEdges.{AreUsedBy}
 use Rattle.tso_model.proofs.Bounds.{RankSet-within}
 use Rattle.tso_model.proofs.Decided.{RankSet-decided}
 use Rattle.tso_model.proofs.LastRankSet.{RankSet-mono}

@@ -1,6 +1,6 @@
 pub mod Certs
 pub mod NewEdges
-pub mod Order
+pub mod Axioms
 pub mod Ranks
 pub mod Rules
-pub mod Used
+pub mod ReasonEdges

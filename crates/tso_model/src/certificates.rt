@@ -5,7 +5,7 @@ ghost use Rattle.tso_ops.specs.Limits.{IsTrace};
 ghost use Rattle.tso_ops.specs.Events.{IsUnwritten};
 ghost use Rattle.tso_cert.specs.declared.steps.Certificate.{Certificate};
 ghost use Rattle.tso_cert.specs.declared.steps.Certificate.TheVariants.{Unwritten};
-ghost use Rattle.tso_model.specs.Order.{IsConsistent};
+ghost use Rattle.tso_model.specs.Axioms.{IsConsistent};
 ghost use Rattle.tso_model.specs.Rules.{HasDerivedCycle};
 ghost use Rattle.tso_model.specs.Certs.{Holds, IsCertificateOf};
 

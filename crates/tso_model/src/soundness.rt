@@ -4,7 +4,7 @@ ghost use Rattle.tso_ops.specs.Values.{TraceValue};
 ghost use Rattle.tso_ops.specs.Limits.{IsTrace};
 ghost use Rattle.tso_ops.specs.Events.{IsUnwritten};
 ghost use Rattle.order_paths.specs.Paths.{HasCycle};
-ghost use Rattle.tso_model.specs.Order.{IsBefore, IsModelOrder, IsConsistent};
+ghost use Rattle.tso_model.specs.Axioms.{IsBefore, IsModelOrder, IsConsistent};
 ghost use Rattle.tso_model.specs.Rules.{IsDerived, HasDerivedCycle};
 ghost use Rattle.tso_model.specs.Ranks.{RankSet};
 

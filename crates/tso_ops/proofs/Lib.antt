@@ -1,5 +1,5 @@
 pub mod CheckFacts
-pub mod DrawFacts
+pub mod MakingFacts
 pub mod EntryFacts
 pub mod EventFacts
 pub mod LimitFacts

@@ -8,10 +8,10 @@ use Rattle.std.proofs.lemmas.List.FromFn.{map-range_with_len_more}
 use Rattle.std.proofs.lemmas.List.Sums.{sum_by-append, count_by-le-length}
 use Rattle.rand_core.specs.Stream.{Stream, next_u64}
 use Rattle.tso_ops.specs.declared.ops.Op.{Op}
-use Rattle.tso_ops.specs.Settings.{plain}
+use Rattle.tso_ops.specs.Settings.{version_one_tso}
 use Rattle.tso_ops.specs.Values.{program_of_lists}
-use Rattle.tso_ops.specs.Drawing.{ShapeValue, IsShape, size_of, words_of, after_words, draws_write, drawn_op, op_at_word, drawn_program}
-use Rattle.tso_ops.specs.Internal.Draws.{writes_of, next_op, next_ops, ops_of_processor}
+use Rattle.tso_ops.specs.Making.{ShapeValue, IsShape, size_of, words_of, after_words, makes_store, made_op, op_at_word, made_program}
+use Rattle.tso_ops.specs.Internal.MadeOps.{writes_of, next_op, next_ops, ops_of_processor}
 
 -- ---- words
 
@@ -57,17 +57,17 @@ unfolding words_of
 writes_of-none s = refl
 
 writes_of-add : (n k : ℕ) (s : Stream) → writes_of (n + k) s ≡ writes_of n s + writes_of k (after_words n s)
-writes_of-add n k s = ap (count_by draws_write) (words_of-add n k s) ∙ sum_by-append (λ w. cond (draws_write w) 1 0) (words_of n s) (words_of k (after_words n s))
+writes_of-add n k s = ap (count_by makes_store) (words_of-add n k s) ∙ sum_by-append (λ w. cond (makes_store w) 1 0) (words_of n s) (words_of k (after_words n s))
 
-writes_of-one : (s : Stream) → writes_of 1 s ≡ cond (draws_write (next_u64 s).0) 1 0
+writes_of-one : (s : Stream) → writes_of 1 s ≡ cond (makes_store (next_u64 s).0) 1 0
 unfolding words_of
-writes_of-one s = zero-add (cond (draws_write (next_u64 s).0) 1 0)
+writes_of-one s = zero-add (cond (makes_store (next_u64 s).0) 1 0)
 
-pub writes_of-more : (n : ℕ) (s : Stream) → writes_of (n + 1) s ≡ writes_of n s + cond (draws_write (next_u64 (after_words n s)).0) 1 0
+pub writes_of-more : (n : ℕ) (s : Stream) → writes_of (n + 1) s ≡ writes_of n s + cond (makes_store (next_u64 (after_words n s)).0) 1 0
 writes_of-more n s = writes_of-add n 1 s ∙ ap (λ k. writes_of n s + k) (writes_of-one (after_words n s))
 
 pub writes_of-le : (n : ℕ) (s : Stream) → writes_of n s ≤ n
-writes_of-le n s = omega (arith, count_by-le-length draws_write (words_of n s), length-words_of n s)
+writes_of-le n s = omega (arith, count_by-le-length makes_store (words_of n s), length-words_of n s)
 
 -- ---- the operations that they draw
 
@@ -76,12 +76,12 @@ next_ops-more addresses last s n = map-range_with_len_more (next_op addresses la
 
 -- one more operation, drawn from the word that comes next
 pub next_ops-next : (addresses last now : ℕ) (s rest : Stream) (n : ℕ) (ops : List Op) (op : Op) → ops ≡ next_ops addresses last s n → rest ≡ after_words n s →
-    now ≡ last + writes_of n s → op ≡ drawn_op addresses (now + 1) (next_u64 rest).0 → ops ++ op ∷ [] ≡ next_ops addresses last s (n + 1)
+    now ≡ last + writes_of n s → op ≡ made_op addresses (now + 1) (next_u64 rest).0 → ops ++ op ∷ [] ≡ next_ops addresses last s (n + 1)
 next_ops-next addresses last now s rest n ops op ops_are before same op_is =
     let first = next_ops addresses last s n in
     ap (λ more. more ++ op ∷ []) ops_are
     ∙ ap (λ o. first ++ o ∷ [])
-    (op_is ∙ ap (λ v. drawn_op addresses (v + 1) (next_u64 rest).0) same ∙ ap (λ t. drawn_op addresses (last + writes_of n s + 1) (next_u64 t).0) before)
+    (op_is ∙ ap (λ v. made_op addresses (v + 1) (next_u64 rest).0) same ∙ ap (λ t. made_op addresses (last + writes_of n s + 1) (next_u64 t).0) before)
     ∙ sym (next_ops-more addresses last s n)
 
 -- word n + k is word k of those after the first n
@@ -173,16 +173,16 @@ op_of_processor shape s p k has_p has_k =
     let i = p * shape.operations in
     let room : shape.operations * suc p ≤ shape.operations * shape.processors = mul-le-mul_left shape.operations (omega arith) in
     let within : i + k < size_of shape = omega (arith, room) in
-    let value : count_by draws_write (take (i + k) (words_of (size_of shape) s)) + 1 ≡ writes_of i s + writes_of k (after_words i s) + 1 =
-    ap (λ words. count_by draws_write words + 1) (take-words_of (i + k) (size_of shape) s (omega (arith, within))) ∙ ap (λ n. n + 1) (writes_of-add i k s) in
+    let value : count_by makes_store (take (i + k) (words_of (size_of shape) s)) + 1 ≡ writes_of i s + writes_of k (after_words i s) + 1 =
+    ap (λ words. count_by makes_store words + 1) (take-words_of (i + k) (size_of shape) s (omega (arith, within))) ∙ ap (λ n. n + 1) (writes_of-add i k s) in
     let word : get_or (words_of (size_of shape) s) (i + k) 0 ≡ (next_u64 (after_words k (after_words i s))).0 =
     get_or-words_of (i + k) (size_of shape) s within ∙ ap (λ t. (next_u64 t).0) (after_words-add i k s) in
-    ap (λ v. drawn_op shape.addresses v (get_or (words_of (size_of shape) s) (i + k) 0)) value
-    ∙ ap (drawn_op shape.addresses (writes_of i s + writes_of k (after_words i s) + 1)) word
+    ap (λ v. made_op shape.addresses v (get_or (words_of (size_of shape) s) (i + k) 0)) value
+    ∙ ap (made_op shape.addresses (writes_of i s + writes_of k (after_words i s) + 1)) word
 
-pub drawn_program-is : (shape : ShapeValue) (s : Stream) →
-    program_of_lists plain (map (ops_of_processor shape s) (range_with_len 0 shape.processors)) ≡ drawn_program shape (words_of (size_of shape) s)
-unfolding drawn_program
-drawn_program-is shape s =
-    ap (program_of_lists plain) (sym (map-range_same _ (ops_of_processor shape s) 0 shape.processors
+pub made_program-is : (shape : ShapeValue) (s : Stream) →
+    program_of_lists version_one_tso (map (ops_of_processor shape s) (range_with_len 0 shape.processors)) ≡ made_program shape (words_of (size_of shape) s)
+unfolding made_program
+made_program-is shape s =
+    ap (program_of_lists version_one_tso) (sym (map-range_same _ (ops_of_processor shape s) 0 shape.processors
     (λ p has_p. map-range_same _ _ 0 shape.operations (λ k has_k. op_of_processor shape s p k (omega arith) (omega arith)))))

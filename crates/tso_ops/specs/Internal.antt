@@ -1,5 +1,5 @@
 -- What private tables keep and how far loops have come. No public contract uses these definitions.
-pub mod Draws
+pub mod MadeOps
 pub mod Entries
 pub mod MaskTables
 pub mod Tables

@@ -1,4 +1,4 @@
-pub mod Drawing
+pub mod Making
 pub mod Events
 pub mod Internal
 pub mod Limits

@@ -17,8 +17,8 @@ abbrev pub setting_of_order : Order → SettingValue
 setting_of_order order = record { version = One; order = order; first = [] }
 
 -- version 1 under TSO
-abbrev pub plain : SettingValue
-plain = setting_of_order Tso
+abbrev pub version_one_tso : SettingValue
+version_one_tso = setting_of_order Tso
 
 -- version 2 of this memory model with these first values
 abbrev pub setting_of_first : Order → List (ℕ × ℕ) → SettingValue

@@ -4,10 +4,10 @@
 #![tactic(auto)]
 
 pub use acts::Act;
-pub use drawing::make_program;
 pub use events::{Event, Source};
 pub use faults::{OutOfMemory, Refused, RefusedFirst, ValueFault};
 pub use limits::Tally;
+pub use making::make_program;
 pub use ops::{Op, Outcome};
 pub use programs::Program;
 pub use settings::{Order, Version};
@@ -17,11 +17,11 @@ pub use traces::Trace;
 mod acts;
 mod checks;
 mod comparing;
-mod drawing;
 mod events;
 mod faults;
 pub mod laws;
 mod limits;
+mod making;
 mod masks;
 mod ops;
 mod predicates;

@@ -32,12 +32,12 @@ pub struct Tally {
 impl Tally {
     ghost use Rattle.std.specs.Prelude.{◌≡◌, List, [], ◌∷◌, ◌++◌, OnOk, OnErr, IfOk, IfErr};
     ghost use Rattle.tso_ops.specs.declared.ops.Op.{Op};
-    ghost use Rattle.tso_ops.specs.Settings.{SettingValue, plain, setting_of};
+    ghost use Rattle.tso_ops.specs.Settings.{SettingValue, version_one_tso, setting_of};
     ghost use Rattle.tso_ops.specs.Tally.{Admitted, IsAdmitRefusal};
 
     /// A tally of no operation, for version 1 under TSO.
     pub fn new(alloc: Global) -> Tally
-        ensures { Admitted plain result [] }
+        ensures { Admitted version_one_tso result [] }
     {
         Tally {
             version: Version::One,

@@ -1,7 +1,7 @@
 ghost use Rattle.std.specs.Prelude.{◌≡◌, ◌≢◌, ◌<◌, [], IfOk, IfErr, OnOk, Decides};
 ghost use Rattle.tso_ops.specs.declared.faults.ValueFault.{ValueFault};
 ghost use Rattle.tso_ops.specs.declared.settings.Version.TheVariants.{One};
-ghost use Rattle.tso_ops.specs.Settings.{first_value, plain, setting_of, setting_of_first, setting_of_order};
+ghost use Rattle.tso_ops.specs.Settings.{first_value, version_one_tso, setting_of, setting_of_first, setting_of_order};
 ghost use Rattle.tso_ops.specs.Values.{rows, program_of_lists, ops_at, list_count};
 ghost use Rattle.tso_ops.specs.Limits.{IsProgram, IsValueRefusal};
 
@@ -36,9 +36,9 @@ impl Model for Program {
 impl Program {
     /// The program of these lists, one for each processor: `with_order` under TSO.
     pub fn new(alloc: Global, lists: Vec<Vec<Op>>) -> Result<Program, Refused<Op>>
-        ensures made { IfOk result (λ p. p ≡ program_of_lists plain (rows lists.items)) }
-        ensures accepted { OnOk result ((why : ValueFault) → IsValueRefusal (program_of_lists plain (rows lists.items)) why → ⊥) }
-        ensures refused { IfErr result (λ r. r.why ≢ ValueFault.OutOfMemory → IsValueRefusal (program_of_lists plain (rows lists.items)) r.why) }
+        ensures made { IfOk result (λ p. p ≡ program_of_lists version_one_tso (rows lists.items)) }
+        ensures accepted { OnOk result ((why : ValueFault) → IsValueRefusal (program_of_lists version_one_tso (rows lists.items)) why → ⊥) }
+        ensures refused { IfErr result (λ r. r.why ≢ ValueFault.OutOfMemory → IsValueRefusal (program_of_lists version_one_tso (rows lists.items)) r.why) }
         ensures handed_back { IfErr result (λ r. r.lists ≡ lists) }
     {
         Program::with_order(alloc, Order::Tso, lists)
@@ -97,8 +97,8 @@ impl Program {
 
     /// The program of lists that are known to keep the limits, of version 1 under TSO.
     pub fn of_lists(lists: Vec<Vec<Op>>) -> Program
-        requires { IsProgram (program_of_lists plain (rows lists.items)) }
-        ensures { result ≡ program_of_lists plain (rows lists.items) }
+        requires { IsProgram (program_of_lists version_one_tso (rows lists.items)) }
+        ensures { result ≡ program_of_lists version_one_tso (rows lists.items) }
     {
         let setting = Setting::of_order(*lists.allocator(), Order::Tso);
         Program { setting, lists }

@@ -1,5 +1,5 @@
 ghost use Rattle.std.specs.Prelude.{◌≡◌, IfNone, IfSome, Decides};
-ghost use Rattle.tso_ops.specs.Drawing.{IsShape, shape_of};
+ghost use Rattle.tso_ops.specs.Making.{IsShape, shape_of};
 
 use crate::limits::{MAX_ADDRESS, MAX_PROCESSORS};
 use std::marker::Model;
@@ -19,7 +19,7 @@ pub struct Shape {
 }
 
 impl Model for Shape {
-    ghost use Rattle.tso_ops.specs.Drawing.{ShapeValue, IsShape, shape_of};
+    ghost use Rattle.tso_ops.specs.Making.{ShapeValue, IsShape, shape_of};
 
     ghost Value = { ShapeValue };
 

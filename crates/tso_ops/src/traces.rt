@@ -1,7 +1,7 @@
 ghost use Rattle.std.specs.Prelude.{◌≡◌, ◌≢◌, ◌<◌, ◌≤◌, ◌↔◌, ℕ, [], IsSome, IfSome, IfOk, IfErr, OnOk};
 ghost use Rattle.tso_ops.specs.declared.faults.ValueFault.{ValueFault};
 ghost use Rattle.tso_ops.specs.declared.settings.Version.TheVariants.{One};
-ghost use Rattle.tso_ops.specs.Settings.{event_limit, first_value, plain, setting_of, setting_of_first, setting_of_order};
+ghost use Rattle.tso_ops.specs.Settings.{event_limit, first_value, version_one_tso, setting_of, setting_of_first, setting_of_order};
 ghost use Rattle.tso_ops.specs.Values.{rows, trace_of_lists, program_of};
 ghost use Rattle.tso_ops.specs.Limits.{IsTrace, IsValueRefusal};
 ghost use Rattle.tso_ops.specs.Events.{processor_count, outcomes_at, event_total, event_at, IsLoad, IsLoadAt, IsStore, IsStoreTo, IsSwapLoad, IsEventOf, HasBarriersBefore, HasStbarsBefore, HasSource, SourceIs};
@@ -48,9 +48,9 @@ impl Model for Trace {
 impl Trace {
     /// The trace of these lists, one for each processor: `with_order` under TSO.
     pub fn new(alloc: Global, lists: Vec<Vec<Outcome>>) -> Result<Trace, Refused<Outcome>>
-        ensures made { IfOk result (λ t. t ≡ trace_of_lists plain (rows lists.items)) }
-        ensures accepted { OnOk result ((why : ValueFault) → IsValueRefusal (program_of (trace_of_lists plain (rows lists.items))) why → ⊥) }
-        ensures refused { IfErr result (λ r. r.why ≢ ValueFault.OutOfMemory → IsValueRefusal (program_of (trace_of_lists plain (rows lists.items))) r.why) }
+        ensures made { IfOk result (λ t. t ≡ trace_of_lists version_one_tso (rows lists.items)) }
+        ensures accepted { OnOk result ((why : ValueFault) → IsValueRefusal (program_of (trace_of_lists version_one_tso (rows lists.items))) why → ⊥) }
+        ensures refused { IfErr result (λ r. r.why ≢ ValueFault.OutOfMemory → IsValueRefusal (program_of (trace_of_lists version_one_tso (rows lists.items))) r.why) }
         ensures handed_back { IfErr result (λ r. r.lists ≡ lists) }
     {
         Trace::with_order(alloc, Order::Tso, lists)
@@ -110,8 +110,8 @@ impl Trace {
     /// The trace of lists that are known to keep the limits, of version 1 under TSO, or OutOfMemory where an allocation
     /// was refused.
     pub fn of_lists(alloc: Global, lists: Vec<Vec<Outcome>>) -> Result<Trace, OutOfMemory>
-        requires { IsTrace (trace_of_lists plain (rows lists.items)) }
-        ensures { IfOk result (λ t. t ≡ trace_of_lists plain (rows lists.items)) }
+        requires { IsTrace (trace_of_lists version_one_tso (rows lists.items)) }
+        ensures { IfOk result (λ t. t ≡ trace_of_lists version_one_tso (rows lists.items)) }
     {
         make_trace(alloc, Setting::of_order(alloc, Order::Tso), lists)
     }

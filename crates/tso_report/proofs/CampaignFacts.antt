@@ -3,10 +3,10 @@ use Rattle.std.proofs.Common.{◌≡◌, ℕ, suc, ◌+◌, ◌<◌, ◌≤◌, 
 use Rattle.std.specs.Fmt.{decimal}
 use Rattle.std.proofs.lemmas.Bool.{cases_eq}
 use Rattle.std.proofs.lemmas.List.{append-nil, length-take-le, take_more, get_or-map, get_or-replicate, get_or-set_other, get_or-set_same, length-map, length-replicate}
-use Rattle.tso_ops.specs.Drawing as Drawing
-use Rattle.tso_ops.specs.Drawing.{ShapeValue}
+use Rattle.tso_ops.specs.Making as Making
+use Rattle.tso_ops.specs.Making.{ShapeValue}
 use Rattle.tso_ops.specs.Values.{ProgramValue, TraceValue}
-use Rattle.tso_model.specs.Order.{IsConsistent}
+use Rattle.tso_model.specs.Axioms.{IsConsistent}
 use Rattle.tso_ops.specs.declared.settings.Order.TheVariants.{Tso}
 use Rattle.unit_core.specs.Records.{RecordedValue, is_within}
 use Rattle.unit_core.specs.Units.{UnitValue}
@@ -110,19 +110,19 @@ report_says t text Refused report = absurd report.says
 
 -- the programs of seeds are under TSO
 under_tso : (shape : ShapeValue) (seed : ℕ) → (program_of_seed shape seed).setting.order ≡ Tso
-unfolding Drawing.drawn_program
+unfolding Making.made_program
 under_tso shape seed = refl
 
 -- the report of the record's trace says the verdict of the seed
 pub verdict_of_seed : (shape : ShapeValue) (seed : ℕ) (program : ProgramValue) (unit : UnitValue) (r : RecordedValue) (text : List ℕ) (v : Verdict) → program ≡ program_of_seed shape seed →
     IsRunOf program unit r → IsTraceReport r.trace text v → (v ≡ Violation → IsConsistent r.trace → ⊥) → IsVerdictOfSeed shape seed unit (is_violation v)
-verdict_of_seed shape seed program unit r text v drawn run report no_order = record {
+verdict_of_seed shape seed program unit r text v made run report no_order = record {
   recorded = r;
-  run = subst (λ p. IsRunOf p unit r) drawn run;
+  run = subst (λ p. IsRunOf p unit r) made run;
   text = text;
   report = report_says r.trace text v report;
   no_false_alarm = λ lawful.
-      let tso : program.setting.order ≡ Tso = ap (λ (p : ProgramValue). p.setting.order) drawn ∙ under_tso shape seed in
+      let tso : program.setting.order ≡ Tso = ap (λ (p : ProgramValue). p.setting.order) made ∙ under_tso shape seed in
       let is : r.lawful ≡ true = run.lawful ∙ ap (λ order. unit.lawful && is_within unit.order order) tso ∙ lawful in
       ap is_violation (consistent_verdict r.trace text v report no_order (lawful_consistent r run.kept is));
 }

@@ -3,7 +3,7 @@ use Rattle.std.proofs.Common.{◌≡◌, ◌⊎◌, ◌↔◌, ℕ, ◌<◌, ◌
 use Rattle.std.proofs.lemmas.Bool.{false≢true, cases_lt}
 use Rattle.std.proofs.lemmas.List.{take_all, length-take-le}
 use Rattle.std.specs.Prelude.{Option}
-use Rattle.tso_ops.specs.Settings.{plain}
+use Rattle.tso_ops.specs.Settings.{version_one_tso}
 use Rattle.tso_ops.specs.Values.{TraceValue, trace_of_lists}
 use Rattle.tso_ops.specs.Limits.{IsTrace}
 use Rattle.tso_text.specs.declared.faults.Why.{Why}
@@ -12,7 +12,7 @@ use Rattle.tso_text.proofs.SpellingFacts.{not_both, spelled_or_refused}
 use Rattle.tso_cert.proofs.SpellingFacts.{not_both as cert_not_both, one_refusal as one_unread, spelled_or_refused as spelled_or_unread}
 use Rattle.tso_cert.proofs.PrintedFacts.{one_value}
 use Rattle.tso_model.specs.Certs.{Holds}
-use Rattle.tso_model.specs.Order.{IsConsistent}
+use Rattle.tso_model.specs.Axioms.{IsConsistent}
 use Rattle.tso_model.proofs.CertificateHolds.{not_consistent}
 use Rattle.tso_ops.proofs.NumberFacts.{own_values}
 use Rattle.cert_check.specs.Refusals.{IsCertRefusal}
@@ -23,7 +23,7 @@ use Rattle.tso_report.specs.declared.verdicts.Verdict.TheVariants.{NoViolation, 
 use Rattle.tso_report.specs.Reports.{refusal_text}
 use Rattle.tso_report.specs.Checks.{holds_text, fails_text, unread_text, SpellsHolding, SpellHolding, IsFailureReport, IsUnreadReport, IsCertReport, IsCertReportOfReader, IsCheckReport}
 use Rattle.tso_report.specs.Limits.{certificate_byte_limit, certificate_read_limit, trace_read_limit}
-use Rattle.tso_report.specs.Written.{IsCheckReportOfReaders}
+use Rattle.tso_report.specs.WrittenReports.{IsCheckReportOfReaders}
 use Rattle.tso_report.proofs.InputFacts.{one_refused_input, one_trace, refusal_of_prefix, spells_of_prefix}
 
 -- ---- what is read
@@ -164,6 +164,6 @@ some_cert_report t cert = elim (spelled_or_unread cert) [
 
 pub some_check_report : (trace cert : List ℕ) → length cert ≤ certificate_byte_limit → (text : List ℕ) × (v : Verdict) × IsCheckReport trace cert text v
 some_check_report trace cert within = elim (spelled_or_refused trace_grammar trace) [
-  | inl spelled ↦ (let t = trace_of_lists plain spelled.0 in let report = some_cert_report t cert in (report.0, report.1, inl (t, (refl, spelled.1), within, report.2)))
+  | inl spelled ↦ (let t = trace_of_lists version_one_tso spelled.0 in let report = some_cert_report t cert in (report.0, report.1, inl (t, (refl, spelled.1), within, report.2)))
   | inr refused ↦ (refusal_text refused.0 refused.1, Refused, inr (refused.0, refused.1, refused.2, refl, refl))
 ]

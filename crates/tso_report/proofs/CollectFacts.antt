@@ -10,7 +10,7 @@ use Rattle.tso_ops.specs.Values.{TraceValue}
 use Rattle.tso_cert.specs.declared.steps.CertStep.{CertStep}
 use Rattle.tso_model.specs.Ranks.{RankSet, HasRank}
 use Rattle.tso_model.specs.Certs.{IsStep, IsJustified, IsListedBefore, AreUsed, AreStepsOf}
-use Rattle.tso_model.specs.Used.{AreUsedBy}
+use Rattle.tso_model.specs.ReasonEdges.{AreUsedBy}
 use Rattle.tso_model.proofs.CertificateUnique.{IsPathIn-mono}
 use Rattle.tso_model.proofs.Justifications.{rank_exists, rank_unique}
 use Rattle.tso_model.proofs.LastRankSet.{RankSet-mono}

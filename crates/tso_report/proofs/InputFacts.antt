@@ -4,7 +4,7 @@ use Rattle.std.proofs.lemmas.Bool.{false≢true, cases_lt}
 use Rattle.std.proofs.lemmas.List.{take_all, length-take-le}
 use Rattle.std.specs.Prelude.{Option}
 use Rattle.std.specs.Io.KnownBytes.{Appends}
-use Rattle.tso_ops.specs.Settings.{plain}
+use Rattle.tso_ops.specs.Settings.{version_one_tso}
 use Rattle.tso_ops.specs.Limits.{IsTrace}
 use Rattle.tso_ops.specs.Values.{TraceValue, trace_of_lists}
 use Rattle.tso_ops.specs.Events.{processor_count, event_total, IsUnwritten}
@@ -12,11 +12,11 @@ use Rattle.tso_text.specs.declared.faults.Why.{Why}
 use Rattle.tso_text.specs.declared.faults.Why.TheVariants.{TooLong}
 use Rattle.tso_text.specs.Spelling.{Grammar, IsTextRefusal, SpellsLists, text_byte_limit}
 use Rattle.tso_text.specs.Grammars.{trace_grammar, SpellsTrace, IsRefusedTrace, IsTraceRefusal}
-use Rattle.tso_text.proofs.Reaching.{too_long}
+use Rattle.tso_text.proofs.ReadersFacts.{too_long}
 use Rattle.tso_text.proofs.SpelledLimits.{spelled_trace}
 use Rattle.tso_text.proofs.SpellingFacts.{spelled_or_refused, not_both, one_value, one_refusal}
 use Rattle.tso_cert.specs.Printed.{cert_text}
-use Rattle.tso_model.specs.Order.{IsConsistent}
+use Rattle.tso_model.specs.Axioms.{IsConsistent}
 use Rattle.tso_model.specs.Rules.{HasDerivedCycle}
 use Rattle.tso_model.proofs.CertificateExists.{certificate_exists}
 use Rattle.tso_model.proofs.CertificateHolds.{certificate_holds}
@@ -31,10 +31,10 @@ use Rattle.tso_report.specs.declared.verdicts.Verdict.{Verdict}
 use Rattle.tso_report.specs.declared.verdicts.Verdict.TheVariants.{NoViolation, Violation, Refused}
 use Rattle.tso_report.specs.declared.faults.Fault.{Fault}
 use Rattle.tso_report.specs.declared.faults.Fault.TheVariants.{Write}
-use Rattle.tso_report.specs.Judged.{IsViolation, IsCertificateText}
+use Rattle.tso_report.specs.Violations.{IsViolation, IsCertificateText}
 use Rattle.tso_report.specs.Limits.{trace_read_limit}
 use Rattle.tso_report.specs.Reports.{head_text, no_violation_text, refusal_text, violation_text, SaysVerdict, IsRefusalReport, IsReport, IsTraceReport, ShowsNoViolationOf, ShowsViolation, ShowsViolationOf, SpellsViolation}
-use Rattle.tso_report.specs.Written.{IsReportOfReader, LeavesAtFault}
+use Rattle.tso_report.specs.WrittenReports.{IsReportOfReader, LeavesAtFault}
 use Rattle.tso_report.specs.Streams.{AppendsPrefix}
 
 -- ---- what is read of a long input
@@ -141,7 +141,7 @@ some_trace_report input t spells =
 
 pub some_report : (input : List ℕ) → (text : List ℕ) × (v : Verdict) × IsReport input text v
 some_report input =
-    ⊎_elim (λ s. some_trace_report input (trace_of_lists plain s.0) (refl, s.1)) (λ r. (refusal_text r.0 r.1, Refused, inr (r.0, r.1, r.2, refl, refl))) (spelled_or_refused trace_grammar input)
+    ⊎_elim (λ s. some_trace_report input (trace_of_lists version_one_tso s.0) (refl, s.1)) (λ r. (refusal_text r.0 r.1, Refused, inr (r.0, r.1, r.2, refl, refl))) (spelled_or_refused trace_grammar input)
 
 -- ---- what the verdict says
 

@@ -1,9 +1,9 @@
 -- The trace of a lawful record has an order of its model.
 use Rattle.std.proofs.Common.{◌≡◌, true, length, subst, sym}
-use Rattle.tso_model.specs.Order.{IsConsistent}
+use Rattle.tso_model.specs.Axioms.{IsConsistent}
 use Rattle.unit_core.specs.Records.{IsRecorded, RecordedValue}
 use Rattle.embedding.specs.RunOrder.{order_of}
-use Rattle.embedding.proofs.Embedding.{run_order}
+use Rattle.embedding.proofs.RunOrderFacts.{run_order}
 
 -- It is that of a complete run.
 pub lawful_consistent : (r : RecordedValue) → IsRecorded r → r.lawful ≡ true → IsConsistent r.trace

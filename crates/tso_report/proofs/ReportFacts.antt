@@ -13,7 +13,7 @@ use Rattle.tso_model.specs.Ranks.{IsRounds}
 use Rattle.tso_model.proofs.CertificateCause.{certificate_cause}
 use Rattle.tso_ops.proofs.NumberFacts.{event_at-within}
 use Rattle.tso_report.specs.declared.verdicts.Verdict.TheVariants.{NoViolation, Violation}
-use Rattle.tso_report.specs.Judged.{IsViolation}
+use Rattle.tso_report.specs.Violations.{IsViolation}
 use Rattle.tso_report.specs.Reports.{head_text, no_violation_text, violation_text, IsTraceReport}
 
 -- ---- unwritten loads

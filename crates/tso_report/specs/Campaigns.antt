@@ -9,7 +9,7 @@ use Rattle.rand_core.specs.Pcg32Seed.{pcg32_seed}
 use Rattle.rand_pcg.specs.Pcg.{pcg64, pcg64_of_seed}
 use Rattle.issue_desk.specs.Running.{IsRunOf}
 use Rattle.tso_ops.specs.declared.settings.Order.TheVariants.{Tso}
-use Rattle.tso_ops.specs.Drawing.{ShapeValue, drawn_program, size_of, words_of}
+use Rattle.tso_ops.specs.Making.{ShapeValue, made_program, size_of, words_of}
 use Rattle.tso_ops.specs.Values.{ProgramValue}
 use Rattle.unit_core.specs.Records.{RecordedValue, is_within}
 use Rattle.unit_core.specs.Units.{UnitValue, new_unit}
@@ -18,7 +18,7 @@ use Rattle.tso_report.specs.declared.faults.Fault.TheVariants.{OutOfMemory, Read
 use Rattle.tso_report.specs.declared.verdicts.Verdict.{Verdict}
 use Rattle.tso_report.specs.declared.verdicts.Verdict.TheVariants.{NoViolation, Violation}
 use Rattle.tso_report.specs.Reports.{IsTraceReport, no_violation_text}
-use Rattle.tso_report.specs.Written.{WritesPrefix}
+use Rattle.tso_report.specs.WrittenReports.{WritesPrefix}
 
 -- ---- the program of a seed
 
@@ -28,7 +28,7 @@ stream_from seed = stream_of (steps_u64_low pcg64) (pcg64_of_seed (pcg32_seed 32
 
 -- the program of the shape that its words draw
 abbrev pub program_of_seed : ShapeValue → ℕ → ProgramValue
-program_of_seed shape seed = drawn_program shape (words_of (size_of shape) (stream_from seed))
+program_of_seed shape seed = made_program shape (words_of (size_of shape) (stream_from seed))
 
 -- ---- what is said of a seed
 

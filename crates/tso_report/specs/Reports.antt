@@ -12,7 +12,7 @@ use Rattle.tso_cert.specs.declared.steps.Certificate.{Certificate}
 use Rattle.tso_cert.specs.Printed.{cert_text}
 use Rattle.tso_model.specs.Ranks.{IsRounds}
 use Rattle.tso_model.specs.Certs.{Holds}
-use Rattle.tso_report.specs.Judged.{IsViolation, IsCertificateText}
+use Rattle.tso_report.specs.Violations.{IsViolation, IsCertificateText}
 
 -- ---- texts
 

@@ -5,7 +5,7 @@ ghost use Rattle.round_pool.specs.Workers.{worker_limit};
 ghost use Rattle.tso_report.specs.Campaigns.{IsCampaign, LeavesCampaign, verdict_of};
 ghost use Rattle.tso_report.specs.Internal.Gathering.{AreUnitsFrom};
 ghost use Rattle.tso_report.specs.Limits.{seed_count_limit};
-ghost use Rattle.tso_report.specs.Written.{WritesWhole};
+ghost use Rattle.tso_report.specs.WrittenReports.{WritesWhole};
 
 use crate::faults::Fault;
 use crate::streams::writing::write_text;
@@ -31,7 +31,7 @@ pub const MAX_SEEDS: usize = 1000;
 
 /// Which programs a campaign runs: those of the seeds from `first` on, in one shape.
 #[derive(Clone, Copy, Debug)]
-pub struct Drawn {
+pub struct CampaignPrograms {
     pub first: u64,
     pub shape: Shape,
 }
@@ -51,7 +51,7 @@ pub struct Drawn {
 pub fn campaign<R: Threads + Wait + Sync, W: Write>(
     rt: &R,
     alloc: Global,
-    drawn: Drawn,
+    programs: CampaignPrograms,
     units: Vec<Box<dyn MemoryUnit + Send>>,
     workers: usize,
     writer: &mut W,
@@ -59,19 +59,19 @@ pub fn campaign<R: Threads + Wait + Sync, W: Write>(
     requires some { 1 ≤ workers }
     requires most { workers ≤ worker_limit }
     requires seeds { length units.items ≤ seed_count_limit }
-    requires last { drawn.first + length units.items ≤ 2 ^ 64 }
+    requires last { programs.first + length units.items ≤ 2 ^ 64 }
     requires untouched { All (λ unit. (value_of unit).steps ≡ []) units.items }
-    ensures whole { IfOk result (WritesWhole (IsCampaign drawn.shape drawn.first (map (λ unit. value_of unit) units.items)) (W.contents writer.old) (W.contents writer.new)) }
-    ensures fault { IfErr result (LeavesCampaign drawn.shape drawn.first (map (λ unit. value_of unit) units.items) (W.contents writer.old) (W.contents writer.new)) }
+    ensures whole { IfOk result (WritesWhole (IsCampaign programs.shape programs.first (map (λ unit. value_of unit) units.items)) (W.contents writer.old) (W.contents writer.new)) }
+    ensures fault { IfErr result (LeavesCampaign programs.shape programs.first (map (λ unit. value_of unit) units.items) (W.contents writer.old) (W.contents writer.new)) }
 {
-    campaign_over(rt, alloc, drawn, units, workers, writer)
+    campaign_over(rt, alloc, programs, units, workers, writer)
 }
 
 /// `campaign` over units of any one type.
 pub fn campaign_over<U: MemoryUnit + Send, R: Threads + Wait + Sync, W: Write>(
     rt: &R,
     alloc: Global,
-    drawn: Drawn,
+    programs: CampaignPrograms,
     units: Vec<U>,
     workers: usize,
     writer: &mut W,
@@ -79,19 +79,19 @@ pub fn campaign_over<U: MemoryUnit + Send, R: Threads + Wait + Sync, W: Write>(
     requires some { 1 ≤ workers }
     requires most { workers ≤ worker_limit }
     requires seeds { length units.items ≤ seed_count_limit }
-    requires last { drawn.first + length units.items ≤ 2 ^ 64 }
+    requires last { programs.first + length units.items ≤ 2 ^ 64 }
     requires untouched { All (λ unit. (U.value_of unit).steps ≡ []) units.items }
-    ensures whole { IfOk result (WritesWhole (IsCampaign drawn.shape drawn.first (map (λ unit. U.value_of unit) units.items)) (W.contents writer.old) (W.contents writer.new)) }
-    ensures fault { IfErr result (LeavesCampaign drawn.shape drawn.first (map (λ unit. U.value_of unit) units.items) (W.contents writer.old) (W.contents writer.new)) }
+    ensures whole { IfOk result (WritesWhole (IsCampaign programs.shape programs.first (map (λ unit. U.value_of unit) units.items)) (W.contents writer.old) (W.contents writer.new)) }
+    ensures fault { IfErr result (LeavesCampaign programs.shape programs.first (map (λ unit. U.value_of unit) units.items) (W.contents writer.old) (W.contents writer.new)) }
 {
-    campaign_of::<Brand, U, R, W>(rt, alloc, drawn, units, workers, writer)
+    campaign_of::<Brand, U, R, W>(rt, alloc, programs, units, workers, writer)
 }
 
 /// `campaign_over` where these are the units of the seeds.
 fn campaign_of<S: SeedUnits + Send, U: MemoryUnit + Send, R: Threads + Wait + Sync, W: Write>(
     rt: &R,
     alloc: Global,
-    drawn: Drawn,
+    programs: CampaignPrograms,
     units: Vec<U>,
     workers: usize,
     writer: &mut W,
@@ -99,14 +99,14 @@ fn campaign_of<S: SeedUnits + Send, U: MemoryUnit + Send, R: Threads + Wait + Sy
     requires some { 1 ≤ workers }
     requires most { workers ≤ worker_limit }
     requires seeds { length units.items ≤ seed_count_limit }
-    requires last { drawn.first + length units.items ≤ 2 ^ 64 }
+    requires last { programs.first + length units.items ≤ 2 ^ 64 }
     requires untouched { All (λ unit. (U.value_of unit).steps ≡ []) units.items }
-    requires units { AreUnitsFrom S.unit_of drawn.first (map (λ unit. U.value_of unit) units.items) }
-    ensures whole { IfOk result (WritesWhole (IsCampaign drawn.shape drawn.first (map (λ unit. U.value_of unit) units.items)) (W.contents writer.old) (W.contents writer.new)) }
-    ensures fault { IfErr result (LeavesCampaign drawn.shape drawn.first (map (λ unit. U.value_of unit) units.items) (W.contents writer.old) (W.contents writer.new)) }
+    requires units { AreUnitsFrom S.unit_of programs.first (map (λ unit. U.value_of unit) units.items) }
+    ensures whole { IfOk result (WritesWhole (IsCampaign programs.shape programs.first (map (λ unit. U.value_of unit) units.items)) (W.contents writer.old) (W.contents writer.new)) }
+    ensures fault { IfErr result (LeavesCampaign programs.shape programs.first (map (λ unit. U.value_of unit) units.items) (W.contents writer.old) (W.contents writer.new)) }
 {
-    let first = drawn.first;
-    let gathered: Gathered<S> = Gathered::new(alloc, drawn, units.len())?;
+    let first = programs.first;
+    let gathered: Gathered<S> = Gathered::new(alloc, programs, units.len())?;
     let gathered = gather(rt, alloc, gathered, units, workers)?;
     let violations = gathered.violations(alloc)?;
     let text = lines::campaign_text(alloc, first, &violations)?;

@@ -7,7 +7,7 @@ ghost use Rattle.tso_ops.specs.Events.{event_total, IsUnwritten};
 ghost use Rattle.tso_model.specs.Rules.{HasDerivedCycle};
 ghost use Rattle.tso_model.specs.Ranks.{RankSet};
 ghost use Rattle.tso_model.specs.Certs.{AreStepsOf, IsCertificateOf};
-ghost use Rattle.tso_model.specs.Used.{AreUsedBy};
+ghost use Rattle.tso_model.specs.ReasonEdges.{AreUsedBy};
 ghost use Rattle.tso_rules.specs.Rows.{IsUngiven};
 ghost use Rattle.round_pool.specs.RankGraphs.{IsRankGraph, AddsEdges};
 ghost use Rattle.round_pool.specs.Rankings.{IsRankingOf, rounds_of, ListsEdge, AreEdgesWithin};

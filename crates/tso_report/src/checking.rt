@@ -2,13 +2,13 @@
 ghost use Rattle.std.specs.Prelude.{◌≡◌, ◌≢◌, ◌⊎◌, ◌↔◌, ◌≤◌, length, take, string_bytes, IfSome, IfOk, IfErr};
 ghost use Rattle.tso_ops.specs.Values.{TraceValue};
 ghost use Rattle.tso_text.specs.Grammars.{IsRefusedTrace, SpellsTrace};
-ghost use Rattle.tso_model.specs.Order.{IsConsistent};
+ghost use Rattle.tso_model.specs.Axioms.{IsConsistent};
 ghost use Rattle.tso_report.specs.declared.faults.Fault.{Fault};
 ghost use Rattle.tso_report.specs.declared.verdicts.Verdict.{Verdict};
 ghost use Rattle.tso_report.specs.Checks.{IsCertReportOfReader, SpellHolding};
 ghost use Rattle.tso_report.specs.Limits.{certificate_byte_limit, certificate_read_limit, trace_read_limit};
 ghost use Rattle.tso_report.specs.Streams.{LosesPrefix};
-ghost use Rattle.tso_report.specs.Written.{IsCheckReportOfReaders, LeavesCheckFault, WritesCheckReport};
+ghost use Rattle.tso_report.specs.WrittenReports.{IsCheckReportOfReaders, LeavesCheckFault, WritesCheckReport};
 
 use crate::cert_rendering::render_check;
 use crate::faults::Fault;

@@ -5,7 +5,7 @@ ghost use Rattle.tso_ops.specs.Events.{IsUnwritten};
 ghost use Rattle.tso_cert.specs.declared.steps.Certificate.TheVariants.{Unwritten};
 ghost use Rattle.tso_model.specs.Certs.{IsCertificateOf};
 ghost use Rattle.tso_report.specs.declared.faults.Fault.{Fault};
-ghost use Rattle.tso_report.specs.Findings.{IsFinding};
+ghost use Rattle.tso_report.specs.RoundsAndCertificates.{IsFinding};
 
 use crate::certificates::build_cert;
 use crate::faults::Fault;

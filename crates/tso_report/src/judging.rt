@@ -4,13 +4,13 @@ ghost use Rattle.std.specs.Io.KnownBytes.{Appends};
 ghost use Rattle.round_pool.specs.Workers.{worker_limit};
 ghost use Rattle.tso_ops.specs.Values.{TraceValue};
 ghost use Rattle.tso_text.specs.Grammars.{SpellsTrace};
-ghost use Rattle.tso_model.specs.Order.{IsConsistent};
+ghost use Rattle.tso_model.specs.Axioms.{IsConsistent};
 ghost use Rattle.tso_report.specs.declared.faults.Fault.{Fault};
 ghost use Rattle.tso_report.specs.declared.verdicts.Verdict.{Verdict};
 ghost use Rattle.tso_report.specs.Limits.{trace_read_limit};
 ghost use Rattle.tso_report.specs.Reports.{IsTraceReport, ShowsViolation, SpellsViolation};
 ghost use Rattle.tso_report.specs.Streams.{LosesPrefix};
-ghost use Rattle.tso_report.specs.Written.{LeavesFault, WritesReport};
+ghost use Rattle.tso_report.specs.WrittenReports.{LeavesFault, WritesReport};
 
 use crate::faults::Fault;
 use crate::findings::find_violation;

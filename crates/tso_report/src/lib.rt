@@ -7,7 +7,7 @@
 
 pub use account_rendering::print_account;
 pub use campaigns::seeds::seeded_program;
-pub use campaigns::{Drawn, MAX_SEEDS, campaign, campaign_over};
+pub use campaigns::{CampaignPrograms, MAX_SEEDS, campaign, campaign_over};
 pub use certificates::build_cert;
 pub use checking::{MAX_CERTIFICATE_BYTES, check_texts};
 pub use faults::Fault;

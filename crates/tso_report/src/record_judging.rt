@@ -2,12 +2,12 @@
 ghost use Rattle.std.specs.Prelude.{◌≡◌, ◌≢◌, ◌⊎◌, ◌↔◌, ◌≤◌, ℕ, List, true, string_bytes, IfOk, IfErr};
 ghost use Rattle.std.specs.Io.KnownBytes.{Appends};
 ghost use Rattle.round_pool.specs.Workers.{worker_limit};
-ghost use Rattle.tso_model.specs.Order.{IsConsistent};
+ghost use Rattle.tso_model.specs.Axioms.{IsConsistent};
 ghost use Rattle.tso_report.specs.declared.faults.Fault.{Fault};
 ghost use Rattle.tso_report.specs.declared.verdicts.Verdict.{Verdict};
-ghost use Rattle.tso_report.specs.Judged.{IsViolation};
+ghost use Rattle.tso_report.specs.Violations.{IsViolation};
 ghost use Rattle.tso_report.specs.Reports.{IsTraceReport, ShowsNoViolationOf, ShowsViolationOf};
-ghost use Rattle.tso_report.specs.Written.{LeavesAtFault, WritesWhole};
+ghost use Rattle.tso_report.specs.WrittenReports.{LeavesAtFault, WritesWhole};
 
 use crate::faults::Fault;
 use crate::judging::judge_trace;

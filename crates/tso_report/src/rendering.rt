@@ -1,9 +1,9 @@
 //! The texts of reports on traces.
 ghost use Rattle.std.specs.Prelude.{◌≡◌, ◌≢◌, string_bytes, IfOk, IsErr};
 ghost use Rattle.tso_text.specs.declared.faults.Why.{Why};
-ghost use Rattle.tso_model.specs.Order.{IsConsistent};
+ghost use Rattle.tso_model.specs.Axioms.{IsConsistent};
 ghost use Rattle.tso_report.specs.declared.verdicts.Verdict.{Verdict};
-ghost use Rattle.tso_report.specs.Findings.{IsFinding};
+ghost use Rattle.tso_report.specs.RoundsAndCertificates.{IsFinding};
 ghost use Rattle.tso_report.specs.Reports.{IsTraceReport, head_text, refusal_name, refusal_text};
 
 use crate::findings::Finding;

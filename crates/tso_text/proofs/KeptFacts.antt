@@ -6,7 +6,7 @@ use Rattle.std.specs.Option.{unwrap_or}
 use Rattle.std.proofs.lemmas.List.{length-map}
 use Rattle.std.proofs.lemmas.Result.{IfOk-at_ok}
 use Rattle.tso_ops.specs.declared.ops.Outcome.{Outcome}
-use Rattle.tso_ops.specs.Settings.{plain}
+use Rattle.tso_ops.specs.Settings.{version_one_tso}
 use Rattle.tso_ops.proofs.EntryFacts.{KeepsEntries-nil}
 use Rattle.tso_ops.specs.Values.{op_of, ReadFits, trace_of_lists, rows}
 use Rattle.tso_ops.specs.declared.acts.Act.{Act}
@@ -23,18 +23,18 @@ use Rattle.tso_text.proofs.CanonicalFacts.{if_bind, if_cond}
 use Rattle.tso_text.proofs.LineFacts.{items_of-map}
 
 -- lists of outcomes within the limits are those of a trace
-pub trace_within : (lists : List (List Outcome)) → length lists ≤ 16 → KeepsLimits plain (map op_of (items_of lists)) → All ReadFits (items_of lists) → IsTrace (trace_of_lists plain lists)
+pub trace_within : (lists : List (List Outcome)) → length lists ≤ 16 → KeepsLimits version_one_tso (map op_of (items_of lists)) → All ReadFits (items_of lists) → IsTrace (trace_of_lists version_one_tso lists)
 trace_within lists few limits reads = record {
   program = record {
     processors = omega (arith, length-map lists (map op_of), few);
     version_one = λ _. refl;
     entries = KeepsEntries-nil;
-    limits = subst (KeepsLimits plain) (sym (items_of-map op_of lists)) limits;
+    limits = subst (KeepsLimits version_one_tso) (sym (items_of-map op_of lists)) limits;
   };
   reads = reads;
 }
 
-pub trace_kept : (lists : List (List Outcome)) → IsKept (λ tally items. Admitted plain tally (map op_of items) × All ReadFits items) lists → IsTrace (trace_of_lists plain lists)
+pub trace_kept : (lists : List (List Outcome)) → IsKept (λ tally items. Admitted version_one_tso tally (map op_of items) × All ReadFits items) lists → IsTrace (trace_of_lists version_one_tso lists)
 trace_kept lists kept = trace_within lists kept.few kept.keeps_items.0.limits kept.keeps_items.1
 
 -- ---- a schedule is one list

@@ -9,6 +9,6 @@ pub mod PrintedFacts
 pub mod PrintedItems
 pub mod PrintedLines
 pub mod PrintedSpelling
-pub mod Reaching
+pub mod ReadersFacts
 pub mod SpelledLimits
 pub mod SpellingFacts

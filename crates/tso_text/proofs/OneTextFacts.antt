@@ -18,7 +18,7 @@ use Rattle.tso_text.specs.declared.faults.Why.{Why}
 use Rattle.tso_text.specs.declared.faults.Why.TheVariants.{AddressRange}
 use Rattle.tso_text.specs.declared.lines.Line.{Line}
 use Rattle.tso_text.specs.declared.lines.Line.TheVariants.{Proc, Item, End}
-use Rattle.tso_text.specs.Grammars.{trace_grammar, program_grammar, schedule_grammar, trace_line, program_line, schedule_line, is_word, address, outcome_fault, plain_fault, SpellsTrace, SpellsProgram, SpellsSchedule, trace_header, program_header, schedule_header}
+use Rattle.tso_text.specs.Grammars.{trace_grammar, program_grammar, schedule_grammar, trace_line, program_line, schedule_line, is_word, address, outcome_fault, program_op_fault, SpellsTrace, SpellsProgram, SpellsSchedule, trace_header, program_header, schedule_header}
 use Rattle.line_text.specs.Results.{◌>>=◌}
 use Rattle.tso_text.specs.Numbers.{no_number, one_number, two_numbers, three_numbers}
 use Rattle.tso_text.specs.Printed.{items_text, processor_text, whole_text, outcome_pieces, op_pieces, act_pieces, trace_text, program_text, schedule_text}
@@ -31,9 +31,9 @@ use Rattle.tso_text.proofs.PrintedFacts.{Prints, spelled_text}
 -- ---- one way to write a line
 
 -- a word alone
-plain_line : {X : Type 0} (p : X → List (List ℕ)) (word text : List ℕ) (pieces : List (List ℕ)) (m l : Line X) → is_word word text ≡ true → text ∷ [] ≡ pieces_by p m →
+single_word_line : {X : Type 0} (p : X → List (List ℕ)) (word text : List ℕ) (pieces : List (List ℕ)) (m l : Line X) → is_word word text ≡ true → text ∷ [] ≡ pieces_by p m →
     (no_number pieces >>= λ _. Ok m) ≡ Ok l → word ∷ pieces ≡ pieces_by p l
-plain_line p word text pieces m l is shows e =
+single_word_line p word text pieces m l is shows e =
     let b = bind_ok (no_number pieces) _ l e in
     let says = b.2 in
     let same : m ≡ l = cc in
@@ -55,22 +55,22 @@ unfolding outcome_fault
 outcome_range lists x n s at = in_range n (rw at at (s.clean AddressRange))
 
 op_range : (lists : List (List Op)) (x : Op) (n : ℕ) → IsSound program_grammar lists x → address_of x ≡ Some (address n) → n ≡ address n
-unfolding plain_fault
+unfolding program_op_fault
 op_range lists x n s at = in_range n (rw at at (s.clean AddressRange))
 
 trace_canonical : (lists : List (List Outcome)) (ps : List (List ℕ)) (l : Line Outcome) → trace_line ps ≡ Ok l → ((w : Why) → line_fault trace_grammar lists l w ≡ false) → ps ≡ pieces_by outcome_pieces l
 unfolding trace_line
 trace_canonical lists [] l e clean = absurd cc
 trace_canonical lists (word ∷ pieces) l e clean =
-    ⊎_elim (λ h. plain_line outcome_pieces word (codes "proc") pieces Proc l h.0 refl h.1) (λ h.
+    ⊎_elim (λ h. single_word_line outcome_pieces word (codes "proc") pieces Proc l h.0 refl h.1) (λ h.
     ⊎_elim (λ h. args_line trace_grammar lists outcome_pieces (two_numbers pieces) (λ n. Ld (address n.0) n.1) word (codes "ld") pieces (λ n. decimal n.0 ∷ decimal n.1 ∷ []) l h.0 (two_is pieces)
     (λ n s. ap (λ a. codes "ld" ∷ decimal a ∷ decimal n.1 ∷ []) (outcome_range lists (Ld (address n.0) n.1) n.0 s refl)) clean h.1) (λ h.
     ⊎_elim (λ h. args_line trace_grammar lists outcome_pieces (two_numbers pieces) (λ n. St (address n.0) n.1) word (codes "st") pieces (λ n. decimal n.0 ∷ decimal n.1 ∷ []) l h.0 (two_is pieces)
     (λ n s. ap (λ a. codes "st" ∷ decimal a ∷ decimal n.1 ∷ []) (outcome_range lists (St (address n.0) n.1) n.0 s refl)) clean h.1) (λ h.
     ⊎_elim (λ h. args_line trace_grammar lists outcome_pieces (three_numbers pieces) (λ n. Sw (address n.0) n.1 n.2) word (codes "sw") pieces (λ n. decimal n.0 ∷ decimal n.1 ∷ decimal n.2 ∷ []) l h.0 (three_is pieces)
     (λ n s. ap (λ a. codes "sw" ∷ decimal a ∷ decimal n.1 ∷ decimal n.2 ∷ []) (outcome_range lists (Sw (address n.0) n.1 n.2) n.0 s refl)) clean h.1) (λ h.
-    ⊎_elim (λ h. plain_line outcome_pieces word (codes "mb") pieces (Item Mb) l h.0 refl h.1) (λ h.
-    ⊎_elim (λ h. plain_line outcome_pieces word (codes "end") pieces End l h.0 refl h.1) (λ h. absurd (let bad = h.1 in cc))
+    ⊎_elim (λ h. single_word_line outcome_pieces word (codes "mb") pieces (Item Mb) l h.0 refl h.1) (λ h.
+    ⊎_elim (λ h. single_word_line outcome_pieces word (codes "end") pieces End l h.0 refl h.1) (λ h. absurd (let bad = h.1 in cc))
     (cond_parts (is_word word (codes "end")) _ _ l h.1))
     (cond_parts (is_word word (codes "mb")) _ _ l h.1))
     (cond_parts (is_word word (codes "sw")) _ _ l h.1))
@@ -82,15 +82,15 @@ program_canonical : (lists : List (List Op)) (ps : List (List ℕ)) (l : Line Op
 unfolding program_line
 program_canonical lists [] l e clean = absurd cc
 program_canonical lists (word ∷ pieces) l e clean =
-    ⊎_elim (λ h. plain_line op_pieces word (codes "proc") pieces Proc l h.0 refl h.1) (λ h.
+    ⊎_elim (λ h. single_word_line op_pieces word (codes "proc") pieces Proc l h.0 refl h.1) (λ h.
     ⊎_elim (λ h. args_line program_grammar lists op_pieces (one_number pieces) (λ n. OpLd (address n)) word (codes "ld") pieces (λ n. decimal n ∷ []) l h.0 (one_is pieces)
     (λ n s. ap (λ a. codes "ld" ∷ decimal a ∷ []) (op_range lists (OpLd (address n)) n s refl)) clean h.1) (λ h.
     ⊎_elim (λ h. args_line program_grammar lists op_pieces (two_numbers pieces) (λ n. OpSt (address n.0) n.1) word (codes "st") pieces (λ n. decimal n.0 ∷ decimal n.1 ∷ []) l h.0 (two_is pieces)
     (λ n s. ap (λ a. codes "st" ∷ decimal a ∷ decimal n.1 ∷ []) (op_range lists (OpSt (address n.0) n.1) n.0 s refl)) clean h.1) (λ h.
     ⊎_elim (λ h. args_line program_grammar lists op_pieces (two_numbers pieces) (λ n. OpSw (address n.0) n.1) word (codes "sw") pieces (λ n. decimal n.0 ∷ decimal n.1 ∷ []) l h.0 (two_is pieces)
     (λ n s. ap (λ a. codes "sw" ∷ decimal a ∷ decimal n.1 ∷ []) (op_range lists (OpSw (address n.0) n.1) n.0 s refl)) clean h.1) (λ h.
-    ⊎_elim (λ h. plain_line op_pieces word (codes "mb") pieces (Item OpMb) l h.0 refl h.1) (λ h.
-    ⊎_elim (λ h. plain_line op_pieces word (codes "end") pieces End l h.0 refl h.1) (λ h. absurd (let bad = h.1 in cc))
+    ⊎_elim (λ h. single_word_line op_pieces word (codes "mb") pieces (Item OpMb) l h.0 refl h.1) (λ h.
+    ⊎_elim (λ h. single_word_line op_pieces word (codes "end") pieces End l h.0 refl h.1) (λ h. absurd (let bad = h.1 in cc))
     (cond_parts (is_word word (codes "end")) _ _ l h.1))
     (cond_parts (is_word word (codes "mb")) _ _ l h.1))
     (cond_parts (is_word word (codes "sw")) _ _ l h.1))
@@ -104,7 +104,7 @@ schedule_canonical lists [] l e clean = absurd cc
 schedule_canonical lists (word ∷ pieces) l e clean =
     ⊎_elim (λ h. args_line schedule_grammar lists act_pieces (one_number pieces) (λ n. Issue n) word (codes "i") pieces (λ n. decimal n ∷ []) l h.0 (one_is pieces) (λ n s. refl) clean h.1) (λ h.
     ⊎_elim (λ h. args_line schedule_grammar lists act_pieces (one_number pieces) (λ n. Drain n) word (codes "d") pieces (λ n. decimal n ∷ []) l h.0 (one_is pieces) (λ n s. refl) clean h.1) (λ h.
-    ⊎_elim (λ h. plain_line act_pieces word (codes "end") pieces End l h.0 refl h.1) (λ h. absurd (let bad = h.1 in cc))
+    ⊎_elim (λ h. single_word_line act_pieces word (codes "end") pieces End l h.0 refl h.1) (λ h. absurd (let bad = h.1 in cc))
     (cond_parts (is_word word (codes "end")) _ _ l h.1))
     (cond_parts (is_word word (codes "d")) _ _ l h.1))
     (cond_parts (is_word word (codes "i")) _ _ l e)

@@ -12,7 +12,7 @@ use Rattle.tso_text.specs.declared.faults.Why.TheVariants.{BadHeader, AfterEnd}
 use Rattle.tso_text.specs.declared.lines.Line.{Line}
 use Rattle.tso_text.specs.declared.lines.Line.TheVariants.{Proc, Item, End}
 use Rattle.tso_text.specs.Spelling.{Grammar, SpellsLists, fault_at, said_fault, line_fault, said, lists_of, with_line, with_said, has_end_line, has_header, is_end, unended_text_fault, body_of, body_lines, same_text_fault}
-use Rattle.tso_text.proofs.Reaching.{part_fault-open, part_fault-last, part_fault-ended, fault_at-place, lists_of-push, has_end_line-push}
+use Rattle.tso_text.proofs.ReadersFacts.{part_fault-open, part_fault-last, part_fault-ended, fault_at-place, lists_of-push, has_end_line-push}
 
 -- ---- the lines of a spelled text
 

@@ -11,7 +11,7 @@ use Rattle.tso_text.specs.Printed.{whole_text}
 use Rattle.line_text.specs.Lines.{line_text, parts_of, pieces_of}
 use Rattle.tso_text.specs.Spelling.{Grammar, text_byte_limit, SpellsLists, said, said_fault, line_fault, lists_of, with_line, with_said, has_end_line, is_end}
 use Rattle.tso_text.proofs.CanonicalFacts.{pieces_by}
-use Rattle.tso_text.proofs.Reaching.{IsClean, IsClean-push, Begins, part_fault-open, lists_of-push, has_end_line-push, spelled}
+use Rattle.tso_text.proofs.ReadersFacts.{IsClean, IsClean-push, Begins, part_fault-open, lists_of-push, has_end_line-push, spelled}
 use Rattle.line_text.proofs.SplitFacts.{has_byte, has_byte_in, split_part, split_joined, joined_without}
 
 -- ---- lines that are read back

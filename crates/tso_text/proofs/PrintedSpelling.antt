@@ -13,7 +13,7 @@ use Rattle.tso_ops.specs.declared.ops.Outcome.{Outcome}
 use Rattle.tso_ops.specs.declared.ops.Outcome.TheVariants.{Ld, St, Sw, Mb, Sb}
 use Rattle.tso_ops.specs.declared.settings.Order.TheVariants.{Tso}
 use Rattle.tso_ops.specs.declared.faults.ValueFault.TheVariants.{StbarInTso}
-use Rattle.tso_ops.specs.Settings.{plain}
+use Rattle.tso_ops.specs.Settings.{version_one_tso}
 use Rattle.tso_ops.specs.Limits.{KeepsLimits, IsProgram, IsTrace, address_of, stored_by, is_stbar_in_tso}
 use Rattle.tso_ops.specs.Values.{TraceValue, ProgramValue, ReadFits, op_of}
 use Rattle.tso_ops.proofs.RefusalFacts.{each-middle, kept_faultless, kept_address, kept_value, kept_few}
@@ -21,7 +21,7 @@ use Rattle.tso_ops.specs.declared.acts.Act.{Act}
 use Rattle.tso_ops.specs.declared.acts.Act.TheVariants.{Issue, Drain}
 use Rattle.tso_text.specs.declared.lines.Line.{Line}
 use Rattle.tso_text.specs.declared.lines.Line.TheVariants.{Proc, Item, End}
-use Rattle.tso_text.specs.Grammars.{trace_grammar, program_grammar, schedule_grammar, trace_line, program_line, schedule_line, trace_header, program_header, outcome_fault, plain_fault, processor_of, address, SpellsTrace, SpellsProgram, SpellsSchedule}
+use Rattle.tso_text.specs.Grammars.{trace_grammar, program_grammar, schedule_grammar, trace_line, program_line, schedule_line, trace_header, program_header, outcome_fault, program_op_fault, processor_of, address, SpellsTrace, SpellsProgram, SpellsSchedule}
 use Rattle.tso_text.specs.Numbers.{numeral, or_bad_number, no_number, one_number, two_numbers, three_numbers}
 use Rattle.tso_text.specs.Printed.{items_text, processor_text, whole_text, outcome_pieces, op_pieces, act_pieces, trace_text, program_text, schedule_text}
 use Rattle.line_text.specs.Lines.{line_text}
@@ -118,18 +118,18 @@ outcome_back (Sw a r v) within writes reads no_stbar =
 outcome_back Mb within writes reads no_stbar = read_back trace_grammar outcome_pieces (Item Mb) (codes "mb") [] refl refl refl (omega arith) (omega arith) tt refl
 outcome_back Sb within writes reads no_stbar = absurd (false≢true (sym no_stbar))
 
-middle_limits : (items before : List Outcome) (x : Outcome) (after : List Outcome) → KeepsLimits plain (map op_of items) → items ≡ before ++ x ∷ after → KeepsLimits plain (map op_of before ++ op_of x ∷ map op_of after)
-middle_limits items before x after limits at = subst (KeepsLimits plain) (ap (map op_of) at ∙ map-append op_of before (x ∷ after)) limits
+middle_limits : (items before : List Outcome) (x : Outcome) (after : List Outcome) → KeepsLimits version_one_tso (map op_of items) → items ≡ before ++ x ∷ after → KeepsLimits version_one_tso (map op_of before ++ op_of x ∷ map op_of after)
+middle_limits items before x after limits at = subst (KeepsLimits version_one_tso) (ap (map op_of) at ∙ map-append op_of before (x ∷ after)) limits
 
-outcomes_fit : (items : List Outcome) → KeepsLimits plain (map op_of items) → All ReadFits items → AreFit trace_grammar outcome_pieces items
+outcomes_fit : (items : List Outcome) → KeepsLimits version_one_tso (map op_of items) → All ReadFits items → AreFit trace_grammar outcome_pieces items
 unfolding outcome_fault
 outcomes_fit items limits reads = record {
   back = λ before x after at.
       let kept = middle_limits items before x after limits at in
-      outcome_back x (λ a is. kept_address plain (map op_of before) (op_of x) (map op_of after) a kept is) (λ v is. kept_value plain (map op_of before) (op_of x) (map op_of after) v kept is)
+      outcome_back x (λ a is. kept_address version_one_tso (map op_of before) (op_of x) (map op_of after) a kept is) (λ v is. kept_value version_one_tso (map op_of before) (op_of x) (map op_of after) v kept is)
       (each-middle ReadFits before x after (subst (AllByRecursion ReadFits) at (recursion_from_All _ _ reads)))
-      (kept_faultless plain (map op_of before) (op_of x) (map op_of after) kept StbarInTso);
-  clean = λ before x after at w. op_clean (map op_of before) (op_of x) (kept_faultless plain (map op_of before) (op_of x) (map op_of after) (middle_limits items before x after limits at)) w;
+      (kept_faultless version_one_tso (map op_of before) (op_of x) (map op_of after) kept StbarInTso);
+  clean = λ before x after at w. op_clean (map op_of before) (op_of x) (kept_faultless version_one_tso (map op_of before) (op_of x) (map op_of after) (middle_limits items before x after limits at)) w;
 }
 
 -- lines of at most 16 processors and 4,000 items are a short text
@@ -145,15 +145,15 @@ length-whole : (header lines : List ℕ) → length header ≤ 20 → length lin
 unfolding whole_text
 length-whole header lines short few = omega (arith, length-append (header ++ 10 ∷ lines) (line_text (codes "end" ∷ [])), length-append header (10 ∷ lines), short, few)
 
-pub printed_trace_spells : (t : TraceValue) → IsTrace t → t.setting ≡ plain → SpellsTrace (trace_text t) t
+pub printed_trace_spells : (t : TraceValue) → IsTrace t → t.setting ≡ version_one_tso → SpellsTrace (trace_text t) t
 unfolding trace_text
 printed_trace_spells t trace is =
-    let limits : KeepsLimits plain (map op_of (items_of t.lists)) =
+    let limits : KeepsLimits version_one_tso (map op_of (items_of t.lists)) =
     subst (λ setting. KeepsLimits setting (map op_of (items_of t.lists))) is (subst (KeepsLimits t.setting) (items_of-map op_of t.lists) trace.program.limits) in
     let few : length t.lists ≤ 16 = omega (arith, length-map t.lists (map op_of), trace.program.processors) in
     let fit = outcomes_fit (items_of t.lists) limits trace.reads in
     let accepted = lists_accepted trace_grammar outcome_pieces (items_of t.lists) fit trace_proc [] t.lists (omega (arith, few)) refl in
-    let some : length (items_of t.lists) ≤ 4000 = omega (arith, kept_few plain (map op_of (items_of t.lists)) limits, length-map (items_of t.lists) op_of) in (
+    let some : length (items_of t.lists) ≤ 4000 = omega (arith, kept_few version_one_tso (map op_of (items_of t.lists)) limits, length-map (items_of t.lists) op_of) in (
       is,
       printed_spells trace_grammar outcome_pieces (made_by t.lists) t.lists (flat_map (processor_text outcome_pieces) t.lists) refl trace_end accepted (made_by-text outcome_pieces t.lists)
           (length-whole trace_header (flat_map (processor_text outcome_pieces) t.lists) (omega arith) (short_text trace_grammar outcome_pieces t.lists t.lists accepted few some)),
@@ -191,24 +191,24 @@ op_back (OpSw a v) within writes no_stbar =
 op_back OpMb within writes no_stbar = read_back program_grammar op_pieces (Item OpMb) (codes "mb") [] refl refl refl (omega arith) (omega arith) tt refl
 op_back OpSb within writes no_stbar = absurd (false≢true (sym no_stbar))
 
-ops_fit : (items : List Op) → KeepsLimits plain items → AreFit program_grammar op_pieces items
-unfolding plain_fault
+ops_fit : (items : List Op) → KeepsLimits version_one_tso items → AreFit program_grammar op_pieces items
+unfolding program_op_fault
 ops_fit items limits = record {
   back = λ before x after at.
-      let kept = subst (KeepsLimits plain) at limits in
-      op_back x (λ a is. kept_address plain before x after a kept is) (λ v is. kept_value plain before x after v kept is) (kept_faultless plain before x after kept StbarInTso);
-  clean = λ before x after at w. op_clean before x (kept_faultless plain before x after (subst (KeepsLimits plain) at limits)) w;
+      let kept = subst (KeepsLimits version_one_tso) at limits in
+      op_back x (λ a is. kept_address version_one_tso before x after a kept is) (λ v is. kept_value version_one_tso before x after v kept is) (kept_faultless version_one_tso before x after kept StbarInTso);
+  clean = λ before x after at w. op_clean before x (kept_faultless version_one_tso before x after (subst (KeepsLimits version_one_tso) at limits)) w;
 }
 
-pub printed_program_spells : (p : ProgramValue) → IsProgram p → p.setting ≡ plain → SpellsProgram (program_text p) p
+pub printed_program_spells : (p : ProgramValue) → IsProgram p → p.setting ≡ version_one_tso → SpellsProgram (program_text p) p
 unfolding program_text
 printed_program_spells p program is =
-    let limits : KeepsLimits plain (items_of p.lists) = subst (λ setting. KeepsLimits setting (items_of p.lists)) is program.limits in
+    let limits : KeepsLimits version_one_tso (items_of p.lists) = subst (λ setting. KeepsLimits setting (items_of p.lists)) is program.limits in
     let fit = ops_fit (items_of p.lists) limits in
     let accepted = lists_accepted program_grammar op_pieces (items_of p.lists) fit program_proc [] p.lists (omega (arith, program.processors)) refl in (
       is,
       printed_spells program_grammar op_pieces (made_by p.lists) p.lists (flat_map (processor_text op_pieces) p.lists) refl program_end accepted (made_by-text op_pieces p.lists)
-          (length-whole program_header (flat_map (processor_text op_pieces) p.lists) (omega arith) (short_text program_grammar op_pieces p.lists p.lists accepted program.processors (kept_few plain (items_of p.lists) limits))),
+          (length-whole program_header (flat_map (processor_text op_pieces) p.lists) (omega arith) (short_text program_grammar op_pieces p.lists p.lists accepted program.processors (kept_few version_one_tso (items_of p.lists) limits))),
     )
 
 -- ---- the lines of schedules
@@ -240,10 +240,10 @@ printed_schedule_spells acts within short =
 
 -- ---- what a printer answers
 
-pub trace_answered : (t : TraceValue) (bytes : List ℕ) → IsTrace t → bytes ≡ trace_text t → t.setting ≡ plain → SpellsTrace bytes t
+pub trace_answered : (t : TraceValue) (bytes : List ℕ) → IsTrace t → bytes ≡ trace_text t → t.setting ≡ version_one_tso → SpellsTrace bytes t
 trace_answered t bytes kept is setting = subst (λ b. SpellsTrace b t) (sym is) (printed_trace_spells t kept setting)
 
-pub program_answered : (p : ProgramValue) (bytes : List ℕ) → IsProgram p → bytes ≡ program_text p → p.setting ≡ plain → SpellsProgram bytes p
+pub program_answered : (p : ProgramValue) (bytes : List ℕ) → IsProgram p → bytes ≡ program_text p → p.setting ≡ version_one_tso → SpellsProgram bytes p
 program_answered p bytes kept is setting = subst (λ b. SpellsProgram b p) (sym is) (printed_program_spells p kept setting)
 
 pub schedule_answered : (acts : List Act) (bytes : List ℕ) → bytes ≡ schedule_text acts → All (λ x. processor_of x ≤ 15) acts → length bytes ≤ text_byte_limit → SpellsSchedule bytes acts

@@ -15,21 +15,21 @@ use Rattle.tso_ops.specs.declared.ops.Outcome.{Outcome}
 use Rattle.tso_ops.specs.declared.ops.Outcome.TheVariants.{Ld, St, Sw, Mb}
 use Rattle.tso_ops.specs.Limits.{KeepsLimits, IsProgram, IsTrace, event_count, barrier_count, total_events, total_barriers, stored_by}
 use Rattle.tso_ops.specs.Values.{TraceValue, ProgramValue, ReadFits, op_of, trace_of_lists, program_of_lists}
-use Rattle.tso_ops.specs.Settings.{plain}
+use Rattle.tso_ops.specs.Settings.{version_one_tso}
 use Rattle.tso_ops.proofs.LimitFacts.{KeepsLimits-nil, KeepsLimits-push}
 use Rattle.tso_ops.proofs.EntryFacts.{KeepsEntries-nil}
 use Rattle.tso_text.specs.declared.faults.Why.{Why}
 use Rattle.tso_text.specs.declared.faults.Why.TheVariants.{BadLine, TooManyProcessors, TooManyEvents, AddressRange, ZeroValue, RepeatedValue, AfterEnd}
 use Rattle.tso_text.specs.declared.lines.Line.{Line}
 use Rattle.tso_text.specs.declared.lines.Line.TheVariants.{Proc, Item, End}
-use Rattle.tso_text.specs.Grammars.{trace_grammar, program_grammar, trace_line, program_line, is_word, op_fault, outcome_fault, plain_fault, SpellsTrace, SpellsProgram}
+use Rattle.tso_text.specs.Grammars.{trace_grammar, program_grammar, trace_line, program_line, is_word, op_fault, outcome_fault, program_op_fault, SpellsTrace, SpellsProgram}
 use Rattle.tso_text.specs.Numbers.{numeral, no_number, one_number, two_numbers, three_numbers}
 use Rattle.tso_text.specs.Spelling.{Grammar, SpellsLists, said_fault, line_fault, said, lists_of, with_line, with_said, has_end_line, body_of, body_lines, items_of}
 use Rattle.tso_text.proofs.CanonicalFacts.{or_bad_ok, if_bind, if_cond, sound}
 use Rattle.tso_text.proofs.KeptFacts.{trace_within}
 use Rattle.tso_text.proofs.LineFacts.{items_of-push_last, length-push_last}
 use Rattle.tso_text.proofs.PrintedFacts.{body_lines-place}
-use Rattle.tso_text.proofs.Reaching.{part_fault-open, part_fault-ended, fault_at-place, lists_of-push}
+use Rattle.tso_text.proofs.ReadersFacts.{part_fault-open, part_fault-ended, fault_at-place, lists_of-push}
 
 -- ---- from line to line
 
@@ -147,12 +147,12 @@ abbrev WriteFits : Op → Type 0
 WriteFits op = (v : ℕ) → stored_by op ≡ Some v → Fits v
 
 -- one more operation without a fault keeps the limits
-limits_kept : (ops : List Op) (op : Op) → ((w : Why) → op_fault ops op w ≡ false) → WriteFits op → KeepsLimits plain ops → KeepsLimits plain (ops ++ op ∷ [])
+limits_kept : (ops : List Op) (op : Op) → ((w : Why) → op_fault ops op w ≡ false) → WriteFits op → KeepsLimits version_one_tso ops → KeepsLimits version_one_tso (ops ++ op ∷ [])
 limits_kept ops op clean fits limits =
     let many = or_parts (ltb 2000 (total_events ops + event_count op)) (ltb 2000 (total_barriers ops + barrier_count op)) (clean TooManyEvents) in
     let events : total_events ops + event_count op ≤ 2000 = let off = many.0 in grind (arith, nat_tests) in
     let barriers : total_barriers ops + barrier_count op ≤ 2000 = let off = many.1 in grind (arith, nat_tests) in
-    KeepsLimits-push plain ops op limits record {
+    KeepsLimits-push version_one_tso ops op limits record {
       few_events = events;
       few_barriers = barriers;
       in_range = clean AddressRange;
@@ -200,7 +200,7 @@ trace_line_fits (word ∷ pieces) =
 
 -- the outcomes keep the limits, and what they read has 64 bits
 record AreLawful (items : List Outcome) : Type 0 where
-  limits : KeepsLimits plain (map op_of items)
+  limits : KeepsLimits version_one_tso (map op_of items)
   reads : All ReadFits items
 
 trace_items : IsKeptByItems trace_grammar AreLawful
@@ -215,7 +215,7 @@ trace_items items x ps says clean kept =
 -- what a text spells as a trace is a trace
 pub spelled_trace : (text : List ℕ) (t : TraceValue) → SpellsTrace text t → IsTrace t
 spelled_trace text t spells =
-    let kept = spelled_kept trace_grammar AreLawful trace_items (omega arith) (record { limits = KeepsLimits-nil plain; reads = All-nil _ }) text t.lists spells.1 in
+    let kept = spelled_kept trace_grammar AreLawful trace_items (omega arith) (record { limits = KeepsLimits-nil version_one_tso; reads = All-nil _ }) text t.lists spells.1 in
     subst (λ setting. IsTrace (trace_of_lists setting t.lists)) (sym spells.0) (trace_within t.lists kept.few kept.items.limits kept.items.reads)
 
 -- ---- programs
@@ -236,13 +236,13 @@ program_line_fits (word ∷ pieces) =
     (if_cond _ (is_word word (codes "mb")) _ _ (if_bind OpLineFits (no_number pieces) _ (λ u is v at. absurd cc))
     (if_cond _ (is_word word (codes "end")) _ _ (if_bind OpLineFits (no_number pieces) _ (λ u is. tt)) tt)))))
 
-program_items : IsKeptByItems program_grammar (KeepsLimits plain)
-unfolding plain_fault
+program_items : IsKeptByItems program_grammar (KeepsLimits version_one_tso)
+unfolding program_op_fault
 program_items items op ps says clean kept = limits_kept items op clean (IfOk-at_ok OpLineFits says (program_line_fits ps)) kept
 
 -- what a text spells as a program is a program
 pub spelled_program : (text : List ℕ) (p : ProgramValue) → SpellsProgram text p → IsProgram p
 spelled_program text p spells =
-    let kept = spelled_kept program_grammar (KeepsLimits plain) program_items (omega arith) (KeepsLimits-nil plain) text p.lists spells.1 in
-    let program : IsProgram (program_of_lists plain p.lists) = record { processors = kept.few; version_one = λ _. refl; entries = KeepsEntries-nil; limits = kept.items } in
+    let kept = spelled_kept program_grammar (KeepsLimits version_one_tso) program_items (omega arith) (KeepsLimits-nil version_one_tso) text p.lists spells.1 in
+    let program : IsProgram (program_of_lists version_one_tso p.lists) = record { processors = kept.few; version_one = λ _. refl; entries = KeepsEntries-nil; limits = kept.items } in
     subst (λ setting. IsProgram (program_of_lists setting p.lists)) (sym spells.0) program

@@ -5,7 +5,7 @@ use Rattle.line_text.proofs.LeastFacts.{IsLeast, least}
 use Rattle.tso_text.specs.declared.faults.Why.{Why}
 use Rattle.tso_text.specs.declared.faults.Why.TheVariants.{BadHeader, BadLine, BadNumber, BeforeProc, TooManyProcessors, TooManyEvents, AddressRange, ZeroValue, RepeatedValue, MissingEnd, AfterEnd, TooLong, ProcessorRange, OutOfMemory}
 use Rattle.tso_text.specs.Spelling.{Grammar, SpellsLists, IsTextRefusal, fault_at, text_fault_number, lists_of, body_lines, body_of}
-use Rattle.tso_text.proofs.Reaching.{fault_at-past}
+use Rattle.tso_text.proofs.ReadersFacts.{fault_at-past}
 
 -- ---- the refusals by their numbers
 

@@ -7,7 +7,7 @@ use Rattle.tso_ops.specs.declared.ops.Op.TheVariants.{Ld as OpLd, St as OpSt, Sw
 use Rattle.tso_ops.specs.declared.ops.Outcome.{Outcome}
 use Rattle.tso_ops.specs.declared.ops.Outcome.TheVariants.{Ld, St, Sw, Mb}
 use Rattle.tso_ops.specs.declared.faults.ValueFault.TheVariants.{TooManyEvents as ManyEvents, AddressRange as PastAddresses, ZeroValue as ZeroStored, RepeatedValue as Repeated, StbarInTso}
-use Rattle.tso_ops.specs.Settings.{plain}
+use Rattle.tso_ops.specs.Settings.{version_one_tso}
 use Rattle.tso_ops.specs.Values.{TraceValue, ProgramValue, op_of}
 use Rattle.tso_ops.specs.Limits.{has_fault}
 use Rattle.tso_ops.specs.declared.acts.Act.{Act}
@@ -42,11 +42,11 @@ trace_line (word ∷ pieces) =
 
 -- The fault of an operation in texts is that of values of version 1 under TSO, which texts are of. No line spells an STBAR.
 abbrev pub op_fault : List Op → Op → Why → Bool
-op_fault before op BadLine = has_fault plain before op StbarInTso
-op_fault before op TooManyEvents = has_fault plain before op ManyEvents
-op_fault before op AddressRange = has_fault plain before op PastAddresses
-op_fault before op ZeroValue = has_fault plain before op ZeroStored
-op_fault before op RepeatedValue = has_fault plain before op Repeated
+op_fault before op BadLine = has_fault version_one_tso before op StbarInTso
+op_fault before op TooManyEvents = has_fault version_one_tso before op ManyEvents
+op_fault before op AddressRange = has_fault version_one_tso before op PastAddresses
+op_fault before op ZeroValue = has_fault version_one_tso before op ZeroStored
+op_fault before op RepeatedValue = has_fault version_one_tso before op Repeated
 op_fault before op _ = false
 
 unfoldable pub outcome_fault : List Outcome → Outcome → Why → Bool
@@ -71,14 +71,14 @@ program_line (word ∷ pieces) =
     else if is_word word (codes "end") then no_number pieces >>= (λ _. Ok End)
     else Err BadLine
 
-unfoldable pub plain_fault : List Op → Op → Why → Bool
-plain_fault before op w = op_fault before op w
+unfoldable pub program_op_fault : List Op → Op → Why → Bool
+program_op_fault before op w = op_fault before op w
 
 abbrev pub program_header : List ℕ
 program_header = codes "tso program 1"
 
 abbrev pub program_grammar : Grammar Op
-program_grammar = record { header = program_header; start = []; said_by = program_line; item_fault = plain_fault }
+program_grammar = record { header = program_header; start = []; said_by = program_line; item_fault = program_op_fault }
 
 -- ---- schedules
 
@@ -109,10 +109,10 @@ schedule_grammar = record { header = schedule_header; start = [] ∷ []; said_by
 
 -- a text spells traces and programs of version 1 under TSO
 abbrev pub SpellsTrace : List ℕ → TraceValue → Type 0
-SpellsTrace text t = (t.setting ≡ plain) × SpellsLists trace_grammar text t.lists
+SpellsTrace text t = (t.setting ≡ version_one_tso) × SpellsLists trace_grammar text t.lists
 
 abbrev pub SpellsProgram : List ℕ → ProgramValue → Type 0
-SpellsProgram text p = (p.setting ≡ plain) × SpellsLists program_grammar text p.lists
+SpellsProgram text p = (p.setting ≡ version_one_tso) × SpellsLists program_grammar text p.lists
 
 abbrev pub SpellsSchedule : List ℕ → List Act → Type 0
 SpellsSchedule text acts = SpellsLists schedule_grammar text (acts ∷ [])

@@ -4,7 +4,7 @@ ghost use Rattle.tso_ops.specs.declared.limits.Tally.{Tally};
 ghost use Rattle.tso_ops.specs.declared.faults.ValueFault.{ValueFault};
 ghost use Rattle.tso_ops.specs.declared.settings.Order.TheVariants.{Tso};
 ghost use Rattle.tso_ops.specs.Limits.{is_stbar_in_tso};
-ghost use Rattle.tso_ops.specs.Settings.{plain};
+ghost use Rattle.tso_ops.specs.Settings.{version_one_tso};
 ghost use Rattle.tso_ops.specs.Tally.{Admitted};
 ghost use Rattle.tso_ops.specs.Values.{rows, op_of, ReadFits};
 ghost use Rattle.tso_text.specs.Grammars.{trace_grammar, program_grammar, schedule_grammar, processor_of};
@@ -60,7 +60,7 @@ pub(crate) trait Form: Copy {
 impl Form for Outcome {
     ghost grammar = { trace_grammar };
 
-    ghost keeps = { λ tally items. Admitted plain tally (map op_of items) × All ReadFits items };
+    ghost keeps = { λ tally items. Admitted version_one_tso tally (map op_of items) × All ReadFits items };
 
     ghost pieces = { outcome_pieces };
 
@@ -122,7 +122,7 @@ impl Form for Outcome {
 impl Form for Op {
     ghost grammar = { program_grammar };
 
-    ghost keeps = { λ tally items. Admitted plain tally items };
+    ghost keeps = { λ tally items. Admitted version_one_tso tally items };
 
     ghost pieces = { op_pieces };
 
@@ -179,7 +179,7 @@ impl Form for Op {
 impl Form for Act {
     ghost grammar = { schedule_grammar };
 
-    ghost keeps = { λ tally items. Admitted plain tally [] };
+    ghost keeps = { λ tally items. Admitted version_one_tso tally [] };
 
     ghost pieces = { act_pieces };
 

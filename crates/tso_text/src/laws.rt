@@ -2,7 +2,7 @@
 
 ghost use Rattle.std.specs.Prelude.{◌≡◌, ◌⊎◌, ◌≤◌, ℕ, List, All, length};
 ghost use Rattle.tso_ops.specs.Limits.{IsTrace, IsProgram};
-ghost use Rattle.tso_ops.specs.Settings.{plain};
+ghost use Rattle.tso_ops.specs.Settings.{version_one_tso};
 ghost use Rattle.tso_ops.specs.Values.{TraceValue, ProgramValue};
 ghost use Rattle.tso_text.specs.Grammars.{processor_of, SpellsTrace, SpellsProgram, SpellsSchedule, IsTraceRefusal, IsProgramRefusal, IsScheduleRefusal, IsSpelledTrace, IsRefusedTrace, IsSpelledProgram, IsRefusedProgram, IsSpelledSchedule, IsRefusedSchedule};
 ghost use Rattle.tso_text.specs.Printed.{trace_text, program_text, schedule_text};
@@ -19,7 +19,7 @@ pub fn traces()
     ensures one_value { (text : List ℕ) (t u : TraceValue) → SpellsTrace text t → SpellsTrace text u → t ≡ u }
     ensures one_text { (text : List ℕ) (t : TraceValue) → SpellsTrace text t → text ≡ trace_text t }
     ensures lawful { (text : List ℕ) (t : TraceValue) → SpellsTrace text t → IsTrace t }
-    ensures printed { (t : TraceValue) → IsTrace t → t.setting ≡ plain → SpellsTrace (trace_text t) t }
+    ensures printed { (t : TraceValue) → IsTrace t → t.setting ≡ version_one_tso → SpellsTrace (trace_text t) t }
     ensures one_refusal { (text : List ℕ) (j k : ℕ) (v w : Why) → IsTraceRefusal text j v → IsTraceRefusal text k w → (j ≡ k) × (v ≡ w) }
 {}
 
@@ -32,7 +32,7 @@ pub fn programs()
     ensures one_value { (text : List ℕ) (p q : ProgramValue) → SpellsProgram text p → SpellsProgram text q → p ≡ q }
     ensures one_text { (text : List ℕ) (p : ProgramValue) → SpellsProgram text p → text ≡ program_text p }
     ensures lawful { (text : List ℕ) (p : ProgramValue) → SpellsProgram text p → IsProgram p }
-    ensures printed { (p : ProgramValue) → IsProgram p → p.setting ≡ plain → SpellsProgram (program_text p) p }
+    ensures printed { (p : ProgramValue) → IsProgram p → p.setting ≡ version_one_tso → SpellsProgram (program_text p) p }
     ensures one_refusal { (text : List ℕ) (j k : ℕ) (v w : Why) → IsProgramRefusal text j v → IsProgramRefusal text k w → (j ≡ k) × (v ≡ w) }
 {}
 

@@ -1,5 +1,5 @@
 ghost use Rattle.std.specs.Prelude.{◌≡◌, ◌++◌, ◌≤◌, All, length, string_bytes, OnOk, IfOk};
-ghost use Rattle.tso_ops.specs.Settings.{plain};
+ghost use Rattle.tso_ops.specs.Settings.{version_one_tso};
 ghost use Rattle.tso_text.specs.Grammars.{processor_of, SpellsTrace, SpellsProgram, SpellsSchedule};
 ghost use Rattle.tso_text.specs.Printed.{items_text, processor_text, trace_text, program_text, schedule_text};
 ghost use Rattle.tso_text.specs.Spelling.{text_byte_limit};
@@ -13,7 +13,7 @@ use tso_ops::{Act, OutOfMemory, Program, Trace};
 /// allocation was refused.
 pub fn print_trace(alloc: Global, trace: &Trace) -> Result<String, OutOfMemory>
     ensures lines { IfOk result (λ text. string_bytes text ≡ trace_text trace.now) }
-    ensures spelled { IfOk result (λ text. trace.now.setting ≡ plain → SpellsTrace (string_bytes text) trace.now) }
+    ensures spelled { IfOk result (λ text. trace.now.setting ≡ version_one_tso → SpellsTrace (string_bytes text) trace.now) }
 {
     let mut text = String::from_str(alloc, "tso trace 1\n")?;
     for p in 0..trace.processors() {
@@ -27,7 +27,7 @@ pub fn print_trace(alloc: Global, trace: &Trace) -> Result<String, OutOfMemory>
 /// an allocation was refused.
 pub fn print_program(alloc: Global, program: &Program) -> Result<String, OutOfMemory>
     ensures lines { IfOk result (λ text. string_bytes text ≡ program_text program.now) }
-    ensures spelled { IfOk result (λ text. program.now.setting ≡ plain → SpellsProgram (string_bytes text) program.now) }
+    ensures spelled { IfOk result (λ text. program.now.setting ≡ version_one_tso → SpellsProgram (string_bytes text) program.now) }
 {
     let mut text = String::from_str(alloc, "tso program 1\n")?;
     for p in 0..program.processors() {

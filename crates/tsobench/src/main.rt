@@ -1,25 +1,12 @@
-//! The program: judges a trace and prints its report, or checks a certificate against one.
+//! The program: hands its arguments and the standard streams to `request_serving`, which does what they ask for.
 //!
-//! `README.md` says how it is run and what is proved of it.
+//! `README.md` says how it is run, and `crates/request_serving/README.md` what is proved of it.
 #![tactic(auto)]
 
-use driving::{drive, end_without_arguments};
+use request_serving::{drive, end_without_arguments};
 use std::process::ExitCode;
 use std::rt::Env;
 use std::{env, io};
-
-mod drawing;
-mod driving;
-mod endings;
-mod failures;
-mod files;
-mod printing;
-mod replaying;
-mod running;
-mod serving;
-#[cfg(test)]
-mod tests;
-mod units;
 
 fn main(rt: HostRuntime) -> ExitCode {
     let mut errors = rt.stderr();

@@ -8,7 +8,7 @@ use Rattle.tso_cert.specs.declared.steps.Reason.TheVariants.{Base, Inferred}
 use Rattle.tso_cert.specs.declared.steps.CertStep.{CertStep}
 use Rattle.tso_model.specs.Ranks.{RankSet, HasRank}
 use Rattle.tso_model.specs.Certs.{IsStep, IsPathIn, IsJustified, IsListedBefore, AreUsed}
-use Rattle.tso_model.specs.Used.{AreUsedBy}
+use Rattle.tso_model.specs.ReasonEdges.{AreUsedBy}
 use Rattle.tso_rules.specs.Rows.{IsJustifiedOver}
 use Rattle.round_pool.specs.declared.ranked.Edge.{Edge}
 use Rattle.round_pool.specs.RankGraphs.{AddsEdges}

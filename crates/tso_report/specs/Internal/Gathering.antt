@@ -1,6 +1,6 @@
 -- What is known of a campaign's seeds while their results come in.
 use Rattle.std.specs.Prelude.{◌≡◌, ℕ, ◌+◌, ◌<◌, ◌≤◌, ◌^◌, Bool, true, false, List, length, get_or, Option, None, Some}
-use Rattle.tso_ops.specs.Drawing.{ShapeValue}
+use Rattle.tso_ops.specs.Making.{ShapeValue}
 use Rattle.tso_report.specs.declared.verdicts.Verdict.{Verdict}
 use Rattle.tso_report.specs.declared.verdicts.Verdict.TheVariants.{NoViolation, Violation, Refused}
 use Rattle.issue_desk.specs.declared.faults.RunFault.{RunFault}

@@ -5,7 +5,7 @@ ghost use Rattle.tso_report.specs.Internal.Gathering.{AreUnitsFrom, IsGathered, 
 ghost use Rattle.tso_report.specs.declared.faults.Fault.{Fault};
 ghost use Rattle.unit_core.specs.Units.{UnitValue};
 
-use super::Drawn;
+use super::CampaignPrograms;
 use super::seeds::{JobResult, Judged, SeedUnits};
 use crate::faults::Fault;
 use std::alloc::Global;
@@ -15,7 +15,7 @@ use tso_ops::OutOfMemory;
 /// The verdicts of a campaign's seeds, as far as they came, and which faults came.
 #[derive(Drop)]
 pub(crate) struct Gathered<S: SeedUnits> {
-    drawn: Drawn,
+    programs: CampaignPrograms,
     /// Whether the trace of each seed is a violation.
     violations: Vec<Option<bool>>,
     met_out_of_memory: bool,
@@ -28,20 +28,24 @@ impl<S: SeedUnits> Model for Gathered<S> {
 
     ghost Value = { GatheredValue };
 
-    ghost view = { λ g. record { shape = g.drawn.shape; first = g.drawn.first; violations = g.violations.items } };
+    ghost view = { λ g. record { shape = g.programs.shape; first = g.programs.first; violations = g.violations.items } };
 
-    ghost invariant = { λ g. IsGathered S.unit_of (record { shape = g.drawn.shape; first = g.drawn.first; violations = g.violations.items }) };
+    ghost invariant = { λ g. IsGathered S.unit_of (record { shape = g.programs.shape; first = g.programs.first; violations = g.violations.items }) };
 }
 
 impl<S: SeedUnits> Gathered<S> {
     /// Nothing is known of so many seeds.
-    pub(crate) fn new(alloc: Global, drawn: Drawn, seeds: usize) -> Result<Gathered<S>, OutOfMemory>
-        requires { drawn.first + seeds ≤ 2 ^ 64 }
-        ensures { IfOk result (λ g. (g.shape ≡ drawn.shape) × (g.first ≡ drawn.first) × (length g.violations ≡ seeds)) }
+    pub(crate) fn new(
+        alloc: Global,
+        programs: CampaignPrograms,
+        seeds: usize,
+    ) -> Result<Gathered<S>, OutOfMemory>
+        requires { programs.first + seeds ≤ 2 ^ 64 }
+        ensures { IfOk result (λ g. (g.shape ≡ programs.shape) × (g.first ≡ programs.first) × (length g.violations ≡ seeds)) }
     {
         let violations = vec![in alloc; None; seeds]?;
         Ok(Gathered {
-            drawn,
+            programs,
             violations,
             met_out_of_memory: false,
             met_no_thread: false,
@@ -50,10 +54,10 @@ impl<S: SeedUnits> Gathered<S> {
     }
 
     /// Which programs the campaign runs.
-    pub(crate) fn drawn(&self) -> Drawn
+    pub(crate) fn programs(&self) -> CampaignPrograms
         ensures { (result.shape ≡ self.now.shape) × (result.first ≡ self.now.first) }
     {
-        self.drawn
+        self.programs
     }
 
     /// Takes a result in. One of a strange seed is dropped, and so is a second one of a seed.
@@ -73,7 +77,7 @@ impl<S: SeedUnits> Gathered<S> {
         let Some(i) = self.place_of(judged.seed()) else {
             return;
         };
-        if !judged.is_of_shape(&self.drawn.shape) {
+        if !judged.is_of_shape(&self.programs.shape) {
             return;
         }
         if self.violations[i].is_none() {
@@ -99,7 +103,7 @@ impl<S: SeedUnits> Gathered<S> {
     fn place_of(&self, seed: u64) -> Option<usize>
         ensures { IfSome result (λ i. (self.now.first + i ≡ seed) × (i < length self.now.violations)) }
     {
-        let after = seed.checked_sub(self.drawn.first)?;
+        let after = seed.checked_sub(self.programs.first)?;
         if after < self.violations.len() as u64 {
             Some(after as usize)
         } else {
@@ -120,7 +124,7 @@ impl<S: SeedUnits> Gathered<S> {
             return Err(Fault::NoThread);
         }
         match least_missing(&self.violations) {
-            Some(i) => Err(Fault::Missing(self.drawn.first + i as u64)),
+            Some(i) => Err(Fault::Missing(self.programs.first + i as u64)),
             None => Ok(known(alloc, &self.violations)?),
         }
     }

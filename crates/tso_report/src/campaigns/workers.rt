@@ -72,18 +72,18 @@ fn gather_in<'s, E, S: SeedUnits + Send + 's, U: MemoryUnit + Send + 's, R: Thre
     ensures seeds { IfOk result (KeepsSeeds gathered) }
     ensures fault { IfErr result (λ fault. (fault ≡ Fault.OutOfMemory) ⊎ (fault ≡ Fault.NoThread)) }
 {
-    let drawn = gathered.drawn();
+    let programs = gathered.programs();
     let (to_workers, jobs) = bounded(alloc, workers)?;
     let (results, from_workers) = bounded(alloc, units.len())?;
     start_workers(
         scope,
         rt,
         alloc,
-        drawn.shape,
+        programs.shape,
         Ends { jobs, results },
         workers,
     )?;
-    send_jobs(rt, to_workers, drawn.first, units);
+    send_jobs(rt, to_workers, programs.first, units);
     Ok(receive_results(rt, from_workers, gathered))
 }
 

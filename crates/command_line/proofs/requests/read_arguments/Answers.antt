@@ -3,7 +3,7 @@ use Rattle.std.proofs.lemmas.Result.{IfOk-weaker}
 use Rattle.command_line.specs.Requests.{asked_of, texts_in}
 use Rattle.command_line.specs.Units.{unit_names}
 use Rattle.command_line.proofs.MatchLemmas.{asked_for, error_found}
-use Rattle.command_line.proofs.SpellingLemmas.{IsFound, help_is, plain_is, refused_is}
+use Rattle.command_line.proofs.SpellingLemmas.{IsFound, help_is, asked_is, refused_is}
 use Rattle.command_line.proofs.requests.read_arguments.Goals as goal
 
 pub returns-in-Err-clause-parsed : goal.returns-in-Err-clause-parsed
@@ -12,10 +12,10 @@ returns-in-Err-clause-parsed c =
     IfOk-weaker c.text_request.result _ _ (λ request is. asked_for _ named _ _ is)
     (error_found _ c.text_request.result (texts_in c.args.arguments.now) c.in-Err.error c.in-Err.ensures.kinds c.text_request.ensures.memory c.text_request.ensures.asked)
 
-pub returns-in-Err-clause-plain : goal.returns-in-Err-clause-plain
-returns-in-Err-clause-plain c = λ asked asks.
+pub returns-in-Err-clause-asked : goal.returns-in-Err-clause-asked
+returns-in-Err-clause-asked c = λ asked asks.
     let named : map (λ name. name.now) c.as_slice.result.now ≡ unit_names = search rules in
-    IfOk-weaker c.text_request.result _ _ (λ request is. plain_is _ named _ asked _ asks is)
+    IfOk-weaker c.text_request.result _ _ (λ request is. asked_is _ named _ asked _ asks is)
     (error_found _ c.text_request.result (texts_in c.args.arguments.now) c.in-Err.error c.in-Err.ensures.kinds c.text_request.ensures.memory c.text_request.ensures.asked)
 
 pub returns-in-Err-clause-helped : goal.returns-in-Err-clause-helped
@@ -35,11 +35,11 @@ returns-in-Ok-clause-parsed c =
     let is : IsFound c.as_slice.result (texts_in c.args.arguments.now) (asked_of c.request.result) = search rules in
     asked_for _ named _ _ is
 
-pub returns-in-Ok-clause-plain : goal.returns-in-Ok-clause-plain
-returns-in-Ok-clause-plain c =
+pub returns-in-Ok-clause-asked : goal.returns-in-Ok-clause-asked
+returns-in-Ok-clause-asked c =
     let named : map (λ name. name.now) c.as_slice.result.now ≡ unit_names = search rules in
     let is : IsFound c.as_slice.result (texts_in c.args.arguments.now) (asked_of c.request.result) = search rules in
-    λ asked asks. plain_is _ named _ asked _ asks is
+    λ asked asks. asked_is _ named _ asked _ asks is
 
 pub returns-in-Ok-clause-helped : goal.returns-in-Ok-clause-helped
 returns-in-Ok-clause-helped c =

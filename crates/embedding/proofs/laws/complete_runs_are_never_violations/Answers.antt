@@ -1,4 +1,4 @@
-use Rattle.embedding.proofs.Embedding.{none_derived, none_unwritten}
+use Rattle.embedding.proofs.RunOrderFacts.{none_derived, none_unwritten}
 use Rattle.embedding.proofs.laws.complete_runs_are_never_violations.Goals as goal
 
 pub returns-clause-written : goal.returns-clause-written

@@ -1,5 +1,5 @@
 use Rattle.embedding.specs.RunOrder.{order_of}
-use Rattle.embedding.proofs.Embedding.{run_order}
+use Rattle.embedding.proofs.RunOrderFacts.{run_order}
 use Rattle.embedding.proofs.laws.complete_runs_have_orders.Goals as goal
 
 pub returns-clause-order : goal.returns-clause-order

@@ -1,10 +1,10 @@
 use Rattle.std.proofs.Common.{sym, ◌∙◌, refl, arith, ◌+◌, drop, get_or}
 use Rattle.std.proofs.lemmas.List.{drop_more, drop_all}
-use Rattle.line_text.proofs.NumberFacts.{number-not_plain, number-plain, number_after-nil, number_after-digit, number_after-refused, number_with-fits}
+use Rattle.line_text.proofs.NumberFacts.{number-not_canonical, number-canonical, number_after-nil, number_after-digit, number_after-refused, number_with-fits}
 use Rattle.line_text.proofs.numbers.number_of.Goals as goal
 
-pub returns-then-not-is_plain : goal.returns-then-not-is_plain
-returns-then-not-is_plain c = sym (number-not_plain c.args.piece.now (sym c.is_plain.ensures ∙ c.if-not-is_plain.true))
+pub returns-then-not-is_canonical : goal.returns-then-not-is_canonical
+returns-then-not-is_canonical c = sym (number-not_canonical c.args.piece.now (sym c.is_canonical.ensures ∙ c.if-not-is_canonical.true))
 
 pub loop-byte-init : goal.loop-byte-init
 loop-byte-init c = record { read = refl; fits = omega arith }
@@ -15,7 +15,7 @@ returns-in_err-value c =
     let i = c.loop-byte.byte-index in
     let refused = number_after-refused c.loop-byte.value _ (drop (i + 1) piece) (sym c.with_digit.ensures ∙ c.in_err-value.was) in
     c.from_residual.ensures
-    ∙ sym (number-plain piece (sym c.is_plain.ensures ∙ c.if-not-is_plain.false) ∙ c.loop-byte.invariant.read ∙ rw (drop_more piece i 0 c.loop-byte-test.true) refused)
+    ∙ sym (number-canonical piece (sym c.is_canonical.ensures ∙ c.if-not-is_canonical.false) ∙ c.loop-byte.invariant.read ∙ rw (drop_more piece i 0 c.loop-byte-test.true) refused)
 
 pub loop-byte-preserved : goal.loop-byte-preserved
 loop-byte-preserved c =
@@ -30,5 +30,5 @@ loop-byte-preserved c =
 pub returns : goal.returns
 returns c =
     let piece = c.args.piece.now in
-    sym (number-plain piece (sym c.is_plain.ensures ∙ c.if-not-is_plain.false) ∙ c.loop-byte.invariant.read
+    sym (number-canonical piece (sym c.is_canonical.ensures ∙ c.if-not-is_canonical.false) ∙ c.loop-byte.invariant.read
     ∙ rw (drop_all c.loop-byte.byte-index piece c.loop-byte-test.false) (number_after-nil c.loop-byte.value c.loop-byte.invariant.fits))

@@ -1,6 +1,6 @@
 use Rattle.std.proofs.Common.{◌/◌, inl, inr, IsTrue, not, refl, sym, subst, arith}
 use Rattle.std.proofs.lemmas.Bool.{cases_eq, ne_eqb}
-use Rattle.order_graph.proofs.Spreading.{Advances, Advances-step, Advances-some}
+use Rattle.order_graph.proofs.ClosingFacts.{Advances, Advances-step, Advances-some}
 use Rattle.order_graph.proofs.closing.advance.Goals as goal
 
 pub loop-j-preserved : goal.loop-j-preserved

@@ -1,5 +1,5 @@
 use Rattle.std.proofs.Common.{◌/◌}
-use Rattle.order_graph.proofs.Spreading.{Advances}
+use Rattle.order_graph.proofs.ClosingFacts.{Advances}
 use Rattle.order_graph.proofs.closing.advance.Given as goal
 
 abbrev pub invariant-loop-j : goal.invariant-loop-j

@@ -1,5 +1,5 @@
 use Rattle.std.proofs.Common.{refl}
-use Rattle.order_graph.proofs.Spreading.{ClosedFrom-step}
+use Rattle.order_graph.proofs.ClosingFacts.{ClosedFrom-step}
 use Rattle.order_graph.proofs.closing.note_closed.Goals as goal
 
 pub loop-j-preserved : goal.loop-j-preserved

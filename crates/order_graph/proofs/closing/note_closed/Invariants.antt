@@ -1,7 +1,7 @@
 use Rattle.std.proofs.Common.{◌≡◌}
 use Rattle.bitsets.specs.Tables.{IsSet}
 use Rattle.bitsets.proofs.TableFacts.{Leaves}
-use Rattle.order_graph.proofs.Spreading.{ClosedFrom}
+use Rattle.order_graph.proofs.ClosingFacts.{ClosedFrom}
 use Rattle.order_graph.proofs.closing.note_closed.Given as goal
 
 abbrev pub invariant-loop-j : goal.invariant-loop-j

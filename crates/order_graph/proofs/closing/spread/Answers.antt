@@ -1,7 +1,7 @@
 use Rattle.std.proofs.Common.{◌≡◌, ◌<◌, ◌+◌, ◌*◌, ◌%◌, ◌/◌, subst, sym, arith, slice_index_or}
 use Rattle.bitsets.specs.Rows.{HasBit}
 use Rattle.bitsets.proofs.TableFacts.{IsSet-word, row_within}
-use Rattle.order_graph.proofs.Spreading.{NextFrom-step}
+use Rattle.order_graph.proofs.ClosingFacts.{NextFrom-step}
 use Rattle.order_graph.proofs.closing.spread.Goals as goal
 
 pub or_rows-requires-clause-within : goal.or_rows-requires-clause-within

@@ -1,5 +1,5 @@
 use Rattle.bitsets.proofs.TableFacts.{Leaves}
-use Rattle.order_graph.proofs.Spreading.{NextFrom}
+use Rattle.order_graph.proofs.ClosingFacts.{NextFrom}
 use Rattle.order_graph.proofs.closing.spread.Given as goal
 
 abbrev pub invariant-loop-i : goal.invariant-loop-i

@@ -1,8 +1,8 @@
 use Rattle.std.proofs.Common.{inl, inr, arith}
 use Rattle.std.proofs.lemmas.Bool.{both_ways}
 use Rattle.order_graph.specs.Internal.Tables.{Joined}
-use Rattle.order_graph.proofs.Cycling.{next_longer, next_found}
-use Rattle.order_graph.proofs.Searching.{KeepsAllPaths-covers}
+use Rattle.order_graph.proofs.CyclesFacts.{next_longer, next_found}
+use Rattle.order_graph.proofs.SearchesFacts.{KeepsAllPaths-covers}
 use Rattle.order_graph.proofs.ShortCycles.{IsClosedNumber-reach, next_closed, next_unclosed}
 use Rattle.order_graph.proofs.cycles.better.Goals as goal
 

@@ -2,7 +2,7 @@ use Rattle.std.proofs.Common.{◌≡◌, suc, ◌+◌, ◌-◌, [], ◌∷◌, �
 use Rattle.std.proofs.lemmas.Grind.{common_steps}
 use Rattle.bitsets.specs.Tables.{IsFirstShared}
 use Rattle.order_graph.specs.Internal.Tracks.{IsLevel}
-use Rattle.order_graph.proofs.Searching.{Descends, Descends-start, Descends-meets, Descends-step, Descends-end}
+use Rattle.order_graph.proofs.SearchesFacts.{Descends, Descends-start, Descends-meets, Descends-step, Descends-end}
 use Rattle.order_graph.proofs.searches.descend.Goals as goal
 
 pub loop-done-init : goal.loop-done-init

@@ -1,5 +1,5 @@
 use Rattle.std.proofs.Common.{◌-◌}
-use Rattle.order_graph.proofs.Searching.{Descends}
+use Rattle.order_graph.proofs.SearchesFacts.{Descends}
 use Rattle.order_graph.proofs.searches.descend.Given as goal
 
 abbrev pub invariant-loop-done : goal.invariant-loop-done

@@ -1,7 +1,7 @@
 use Rattle.std.proofs.Common.{◌≡◌, [], ◌∷◌, ◌++◌, arith}
 use Rattle.std.proofs.lemmas.Grind.{common_steps}
 use Rattle.order_graph.specs.Internal.Tables.{Joined}
-use Rattle.order_graph.proofs.Cycling.{IsLeastPath-track}
+use Rattle.order_graph.proofs.CyclesFacts.{IsLeastPath-track}
 use Rattle.order_graph.proofs.searches.least_path_of.Goals as goal
 
 pub returns : goal.returns

@@ -1,5 +1,5 @@
 use Rattle.std.proofs.lemmas.Bool.{both_ways}
-use Rattle.order_graph.proofs.Searching.{Raised-set, Raised-skip}
+use Rattle.order_graph.proofs.SearchesFacts.{Raised-set, Raised-skip}
 use Rattle.order_graph.proofs.searches.raise.Goals as goal
 use Rattle.order_graph.proofs.searches.raise.Goals.{then-is_above, else-is_above}
 

@@ -1,5 +1,5 @@
 use Rattle.bitsets.specs.Tables.{Adds}
-use Rattle.order_graph.proofs.Searching.{Raised}
+use Rattle.order_graph.proofs.SearchesFacts.{Raised}
 use Rattle.order_graph.proofs.searches.raise.Given as goal
 
 abbrev pub invariant-loop-x : goal.invariant-loop-x

@@ -1,7 +1,7 @@
 use Rattle.std.proofs.Common.{◌≡◌, ◌<◌, ◌++◌, replicate, sym, ◌∙◌, arith}
 use Rattle.std.proofs.lemmas.Grind.{common_steps}
 use Rattle.std.proofs.lemmas.List.{take_at}
-use Rattle.order_graph.proofs.Searching.{Levels-start, Levels-step, path_size, path_size-above, none_from_match}
+use Rattle.order_graph.proofs.SearchesFacts.{Levels-start, Levels-step, path_size, path_size-above, none_from_match}
 use Rattle.order_graph.proofs.searches.shortest.Goals as goal
 
 pub levels-init : goal.levels-init

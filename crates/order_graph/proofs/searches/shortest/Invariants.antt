@@ -1,5 +1,5 @@
 use Rattle.std.proofs.Common.{◌-◌}
-use Rattle.order_graph.proofs.Searching.{Levels, path_size}
+use Rattle.order_graph.proofs.SearchesFacts.{Levels, path_size}
 use Rattle.order_graph.proofs.searches.shortest.Given as goal
 
 abbrev pub invariant-levels : goal.invariant-levels

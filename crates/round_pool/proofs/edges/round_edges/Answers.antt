@@ -1,7 +1,7 @@
 use Rattle.std.proofs.Common.{ℕ, List, sym, subst, arith}
 use Rattle.std.specs.Global.{Vec}
 use Rattle.std.proofs.lemmas.List.{length-map}
-use Rattle.round_pool.specs.Internal.ClaimedRows.{AreRowsOf}
+use Rattle.round_pool.specs.Internal.WorkerRows.{AreRowsOf}
 use Rattle.tso_ops.specs.Values.{rows}
 use Rattle.tso_ops.proofs.EventFacts.{event_total-most}
 use Rattle.round_pool.proofs.EdgeFacts.{workset_edges, rows_ascend, numbers_below}

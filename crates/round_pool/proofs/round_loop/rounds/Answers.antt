@@ -49,18 +49,11 @@ invariant_of-result-then-is_empty g c =
     added_within c.args.trace.now (record { last = c.loop-numbers.last; added = added })
     (made_without_cycle c.args.trace.now c.loop-numbers.last added edges.items c.loop-numbers.invariant.0 c.requires.written c.loop-numbers.invariant.1.none c.in_ok-edges.ensures empty)
 
-pub add_edges-requires : goal.add_edges-requires
-add_edges-requires g c = λ u v has.
+pub add_round-is_cyclic-requires : goal.add_round-is_cyclic-requires
+add_round-is_cyclic-requires g c = λ u v has.
     let edges = subst (λ (l : List Edge). ListsEdge l u v) c.deref-in-loop-numbers.ensures.value has in
     let within = new_within c.args.trace.now (IsEdge c.loop-numbers.last) u v (c.in_ok-edges.ensures.only u v edges) in
-    let nodes = c.settle.ensures.nodes ∙ c.loop-numbers.invariant.0.graph.nodes in
-    (omega (arith, within.0, nodes), omega (arith, within.1, nodes))
-
-pub closes_cycle-is_cyclic-requires : goal.closes_cycle-is_cyclic-requires
-closes_cycle-is_cyclic-requires g c = λ u v has.
-    let edges = subst (λ (l : List Edge). ListsEdge l u v) c.deref-in-loop-numbers-2.ensures.value has in
-    let within = new_within c.args.trace.now (IsEdge c.loop-numbers.last) u v (c.in_ok-edges.ensures.only u v edges) in
-    let nodes = c.add_edges.ensures.edges.nodes ∙ c.settle.ensures.nodes ∙ c.loop-numbers.invariant.0.graph.nodes in
+    let nodes = c.loop-numbers.invariant.0.graph.nodes in
     (omega (arith, within.0, nodes), omega (arith, within.1, nodes))
 
 pub returns-then-is_cyclic : goal.returns-then-is_cyclic
@@ -69,12 +62,11 @@ returns-then-is_cyclic g c =
     let t = c.args.trace.now in
     let some : 0 < length edges.items = grind (arith, nat_tests, c.is_empty.ensures, edges.ok.0) in
     let added = map (λ (v : Vec Edge). v.items) c.loop-numbers.added.items in
-    let step = round_step t c.loop-numbers.last c.settle.new.self c.add_edges.new.graph added edges.items c.loop-numbers.invariant.0 c.loop-numbers.invariant.1 c.in_ok-edges.ensures some (RankSet-decided t (length added))
-    c.settle.ensures.nodes c.settle.ensures.edges (subst (λ (l : List Edge). AddsEdges c.settle.new.self c.add_edges.new.graph (ListsEdge l)) c.deref-in-loop-numbers.ensures.value c.add_edges.ensures.edges)
-    c.add_edges.ensures.grown in
-    let closes = subst (λ (l : List Edge). ClosesCycle c.add_edges.new.graph (ListsEdge l)) c.deref-in-loop-numbers-2.ensures.value (c.closes_cycle-is_cyclic.ensures.0 c.if-is_cyclic.true) in
+    let step = round_step t c.loop-numbers.last c.add_round-is_cyclic.new.graph added edges.items c.loop-numbers.invariant.0 c.loop-numbers.invariant.1 c.in_ok-edges.ensures some (RankSet-decided t (length added))
+    (subst (λ (l : List Edge). AddsEdges c.loop-numbers.last c.add_round-is_cyclic.new.graph (ListsEdge l)) c.deref-in-loop-numbers.ensures.value c.add_round-is_cyclic.ensures.edges) c.add_round-is_cyclic.ensures.grown in
+    let closes = subst (λ (l : List Edge). ClosesCycle c.add_round-is_cyclic.new.graph (ListsEdge l)) c.deref-in-loop-numbers.ensures.value (c.add_round-is_cyclic.ensures.cycle.0 c.if-is_cyclic.true) in
     let pushed = ap (λ (l : List (Vec Edge)). map (λ (v : Vec Edge). v.items) l) c.in_ok-push.ensures.items ∙ map-append (λ (v : Vec Edge). v.items) c.loop-numbers.added.items (edges ∷ []) in
-    made_then_cycle t c.loop-numbers.last c.add_edges.new.graph added (map (λ (v : Vec Edge). v.items) c.push.new.self.items) edges.items step c.requires.written closes pushed
+    made_then_cycle t c.loop-numbers.last c.add_round-is_cyclic.new.graph added (map (λ (v : Vec Edge). v.items) c.push.new.self.items) edges.items step c.requires.written closes pushed
 
 pub invariant_of-result-then-is_cyclic : goal.invariant_of-result-then-is_cyclic
 invariant_of-result-then-is_cyclic g c =
@@ -82,12 +74,11 @@ invariant_of-result-then-is_cyclic g c =
     let t = c.args.trace.now in
     let some : 0 < length edges.items = grind (arith, nat_tests, c.is_empty.ensures, edges.ok.0) in
     let added = map (λ (v : Vec Edge). v.items) c.loop-numbers.added.items in
-    let step = round_step t c.loop-numbers.last c.settle.new.self c.add_edges.new.graph added edges.items c.loop-numbers.invariant.0 c.loop-numbers.invariant.1 c.in_ok-edges.ensures some (RankSet-decided t (length added))
-    c.settle.ensures.nodes c.settle.ensures.edges (subst (λ (l : List Edge). AddsEdges c.settle.new.self c.add_edges.new.graph (ListsEdge l)) c.deref-in-loop-numbers.ensures.value c.add_edges.ensures.edges)
-    c.add_edges.ensures.grown in
-    let closes = subst (λ (l : List Edge). ClosesCycle c.add_edges.new.graph (ListsEdge l)) c.deref-in-loop-numbers-2.ensures.value (c.closes_cycle-is_cyclic.ensures.0 c.if-is_cyclic.true) in
+    let step = round_step t c.loop-numbers.last c.add_round-is_cyclic.new.graph added edges.items c.loop-numbers.invariant.0 c.loop-numbers.invariant.1 c.in_ok-edges.ensures some (RankSet-decided t (length added))
+    (subst (λ (l : List Edge). AddsEdges c.loop-numbers.last c.add_round-is_cyclic.new.graph (ListsEdge l)) c.deref-in-loop-numbers.ensures.value c.add_round-is_cyclic.ensures.edges) c.add_round-is_cyclic.ensures.grown in
+    let closes = subst (λ (l : List Edge). ClosesCycle c.add_round-is_cyclic.new.graph (ListsEdge l)) c.deref-in-loop-numbers.ensures.value (c.add_round-is_cyclic.ensures.cycle.0 c.if-is_cyclic.true) in
     let pushed = ap (λ (l : List (Vec Edge)). map (λ (v : Vec Edge). v.items) l) c.in_ok-push.ensures.items ∙ map-append (λ (v : Vec Edge). v.items) c.loop-numbers.added.items (edges ∷ []) in
-    added_within t (record { last = c.add_edges.new.graph; added = map (λ (v : Vec Edge). v.items) c.push.new.self.items }) (made_then_cycle t c.loop-numbers.last c.add_edges.new.graph added (map (λ (v : Vec Edge). v.items) c.push.new.self.items) edges.items step c.requires.written closes pushed)
+    added_within t (record { last = c.add_round-is_cyclic.new.graph; added = map (λ (v : Vec Edge). v.items) c.push.new.self.items }) (made_then_cycle t c.loop-numbers.last c.add_round-is_cyclic.new.graph added (map (λ (v : Vec Edge). v.items) c.push.new.self.items) edges.items step c.requires.written closes pushed)
 
 pub loop-numbers-smaller : goal.loop-numbers-smaller
 loop-numbers-smaller g c =
@@ -105,14 +96,13 @@ loop-numbers-preserved g c =
     let t = c.args.trace.now in
     let some : 0 < length edges.items = grind (arith, nat_tests, c.is_empty.ensures, edges.ok.0) in
     let added = map (λ (v : Vec Edge). v.items) c.loop-numbers.added.items in
-    let step = round_step t c.loop-numbers.last c.settle.new.self c.add_edges.new.graph added edges.items c.loop-numbers.invariant.0 c.loop-numbers.invariant.1 c.in_ok-edges.ensures some (RankSet-decided t (length added))
-    c.settle.ensures.nodes c.settle.ensures.edges (subst (λ (l : List Edge). AddsEdges c.settle.new.self c.add_edges.new.graph (ListsEdge l)) c.deref-in-loop-numbers.ensures.value c.add_edges.ensures.edges)
-    c.add_edges.ensures.grown in
-    let unclosed = refused (ClosesCycle c.add_edges.new.graph (ListsEdge c.deref-in-loop-numbers-2.result.now)) (rw c.if-is_cyclic.false at c.closes_cycle-is_cyclic.ensures) in
+    let step = round_step t c.loop-numbers.last c.add_round-is_cyclic.new.graph added edges.items c.loop-numbers.invariant.0 c.loop-numbers.invariant.1 c.in_ok-edges.ensures some (RankSet-decided t (length added))
+    (subst (λ (l : List Edge). AddsEdges c.loop-numbers.last c.add_round-is_cyclic.new.graph (ListsEdge l)) c.deref-in-loop-numbers.ensures.value c.add_round-is_cyclic.ensures.edges) c.add_round-is_cyclic.ensures.grown in
+    let unclosed = refused (ClosesCycle c.add_round-is_cyclic.new.graph (ListsEdge c.deref-in-loop-numbers.result.now)) (rw c.if-is_cyclic.false at c.add_round-is_cyclic.ensures.cycle) in
     let pushed = ap (λ (l : List (Vec Edge)). map (λ (v : Vec Edge). v.items) l) c.in_ok-push.ensures.items ∙ map-append (λ (v : Vec Edge). v.items) c.loop-numbers.added.items (edges ∷ []) in (
-      subst (λ l. AreRoundsMade t c.add_edges.new.graph l) (sym pushed) step.made,
-      still_acyclic t c.loop-numbers.last c.add_edges.new.graph added edges.items step c.loop-numbers.invariant.1
-          (subst (λ (l : List Edge). ClosesCycle c.add_edges.new.graph (ListsEdge l) → ⊥) c.deref-in-loop-numbers-2.ensures.value unclosed),
+      subst (λ l. AreRoundsMade t c.add_round-is_cyclic.new.graph l) (sym pushed) step.made,
+      still_acyclic t c.loop-numbers.last c.add_round-is_cyclic.new.graph added edges.items step c.loop-numbers.invariant.1
+          (subst (λ (l : List Edge). ClosesCycle c.add_round-is_cyclic.new.graph (ListsEdge l) → ⊥) c.deref-in-loop-numbers.ensures.value unclosed),
       c.in_ok-numbers-2.ensures (length added) c.loop-numbers.last step.follows,
       c.later_workers-sharing.ensures.some,
       omega (arith, c.later_workers-sharing.ensures.most, c.requires.most),

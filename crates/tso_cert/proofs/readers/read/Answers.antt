@@ -1,6 +1,6 @@
 use Rattle.std.proofs.Common.{arith, refl, ap, ◌∙◌, length, suc, ◌+◌, length-append, [], ◌∷◌}
 use Rattle.tso_cert.proofs.StepFacts.{IsRead-start, IsRead-next, read_refused, read_after, read_cycle, read_unwritten, answered, ended_found, ended_not}
-use Rattle.tso_cert.proofs.Reaching.{unended_refused}
+use Rattle.tso_cert.proofs.ReadersFacts.{unended_refused}
 use Rattle.tso_cert.specs.declared.lines.Line.TheVariants.{Cycle, Unwritten}
 use Rattle.tso_cert.specs.Printed.{steps_pieces}
 use Rattle.tso_cert.proofs.readers.read.Goals as goal

@@ -2,7 +2,7 @@ use Rattle.std.proofs.Common.{inl, inr, rules, string_bytes, subst, sym}
 use Rattle.tso_report.specs.declared.rendering.Report.{Report}
 use Rattle.tso_report.specs.Limits.{trace_read_limit}
 use Rattle.tso_report.specs.Reports.{IsReport}
-use Rattle.tso_report.specs.Written.{IsReportOfReader}
+use Rattle.tso_report.specs.WrittenReports.{IsReportOfReader}
 use Rattle.tso_report.proofs.InputFacts.{leaves_prefix, no_order_of_reader, report_of_reader, shows_violation_of_reader, violation_of_reader}
 use Rattle.tso_report.proofs.StreamFacts.{loses_prefix}
 use Rattle.tso_report.proofs.judging.judge.Given as given

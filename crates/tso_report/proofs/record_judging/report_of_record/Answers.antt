@@ -1,5 +1,5 @@
 use Rattle.std.proofs.Common.{◌≡◌, string_bytes, subst}
-use Rattle.tso_model.specs.Order.{IsConsistent}
+use Rattle.tso_model.specs.Axioms.{IsConsistent}
 use Rattle.tso_report.specs.Reports.{IsTraceReport}
 use Rattle.tso_report.specs.declared.verdicts.Verdict.TheVariants.{Violation}
 use Rattle.tso_report.proofs.InputFacts.{consistent_verdict}

@@ -1,7 +1,7 @@
 use Rattle.std.proofs.Common.{◌++◌, ◌∙◌, ap, string_bytes, subst}
 use Rattle.std.specs.Prelude.{MatchOption}
 use Rattle.tso_model.specs.Certs.{IsCertificateOf}
-use Rattle.tso_report.specs.Judged.{IsViolation}
+use Rattle.tso_report.specs.Violations.{IsViolation}
 use Rattle.tso_report.specs.Reports.{IsTraceReport}
 use Rattle.tso_report.specs.declared.verdicts.Verdict.TheVariants.{Violation}
 use Rattle.tso_report.proofs.InputFacts.{trace_no_order}

@@ -1,5 +1,5 @@
 use Rattle.std.proofs.Common.{sym, ◌∙◌}
-use Rattle.tso_text.proofs.Reaching.{too_long, other_header, no_header}
+use Rattle.tso_text.proofs.ReadersFacts.{too_long, other_header, no_header}
 use Rattle.tso_text.proofs.readers.body_of.Goals as goal
 
 pub returns-then-text-gt-MAX_TEXT_BYTES-clause-refused : goal.returns-then-text-gt-MAX_TEXT_BYTES-clause-refused

@@ -1,7 +1,7 @@
 use Rattle.std.proofs.Common.{arith, suc, ◌+◌}
 use Rattle.tso_text.specs.declared.faults.Why.TheVariants.{AfterEnd}
 use Rattle.tso_text.proofs.LineFacts.{not_zero, is_zero}
-use Rattle.tso_text.proofs.Reaching.{Reached-start, Reached-next, Reached-end, line_refused, unended_refused, ended_refused, answered, first_fault}
+use Rattle.tso_text.proofs.ReadersFacts.{Reached-start, Reached-next, Reached-end, line_refused, unended_refused, ended_refused, answered, first_fault}
 use Rattle.tso_text.proofs.readers.read_lists.Goals as goal
 
 pub lines-init : goal.lines-init

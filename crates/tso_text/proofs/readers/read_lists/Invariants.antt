@@ -1,7 +1,7 @@
 use Rattle.std.proofs.Common.{◌≡◌, ℕ, suc, ◌+◌, ◌≤◌, length}
 use Rattle.tso_ops.specs.Values.{rows}
 use Rattle.tso_text.specs.Spelling.{items_of}
-use Rattle.tso_text.proofs.Reaching.{Reached}
+use Rattle.tso_text.proofs.ReadersFacts.{Reached}
 use Rattle.tso_text.proofs.readers.read_lists.Given as goal
 
 abbrev pub invariant-lines : goal.invariant-lines

@@ -1,6 +1,6 @@
 use Rattle.std.proofs.Common.{refl, arith}
 use Rattle.std.proofs.lemmas.List.{take_at}
-use Rattle.order_graph.proofs.Keeping.{sees_more, sees_nodes}
+use Rattle.order_graph.proofs.KeptTablesFacts.{sees_more, sees_nodes}
 use Rattle.order_graph.proofs.Rows.{IsTable-more}
 use Rattle.order_graph.proofs.edge_rows.EdgeRows.add.Goals as goal
 

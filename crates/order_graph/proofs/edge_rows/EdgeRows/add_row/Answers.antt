@@ -1,6 +1,6 @@
 use Rattle.std.proofs.Common.{refl, arith}
 use Rattle.std.proofs.lemmas.List.{take_at}
-use Rattle.order_graph.proofs.Keeping.{sees_nodes}
+use Rattle.order_graph.proofs.KeptTablesFacts.{sees_nodes}
 use Rattle.order_graph.proofs.Rows.{IsTable-more, sees_words}
 use Rattle.order_graph.proofs.edge_rows.EdgeRows.add_row.Goals as goal
 

@@ -1,7 +1,7 @@
 use Rattle.std.proofs.Common.{◌↔◌, ℕ, IsTrue, sym, subst, arith}
 use Rattle.order_graph.specs.Digraphs.{IsEdge}
-use Rattle.order_graph.proofs.Keeping.{sees_nodes}
-use Rattle.order_graph.proofs.Cycling.{row_edge}
+use Rattle.order_graph.proofs.KeptTablesFacts.{sees_nodes}
+use Rattle.order_graph.proofs.CyclesFacts.{row_edge}
 use Rattle.order_graph.proofs.edge_rows.EdgeRows.has_from.Goals as goal
 
 pub returns : goal.returns

@@ -1,5 +1,5 @@
 use Rattle.std.proofs.Common.{refl, arith}
-use Rattle.order_graph.proofs.Keeping.{sees_empty}
+use Rattle.order_graph.proofs.KeptTablesFacts.{sees_empty}
 use Rattle.order_graph.proofs.Rows.{IsTable-empty}
 use Rattle.order_graph.proofs.edge_rows.EdgeRows.new.Goals as goal
 

@@ -1,5 +1,5 @@
 use Rattle.std.proofs.Common.{arith}
-use Rattle.order_graph.proofs.Keeping.{sees_edge, sees_nodes}
+use Rattle.order_graph.proofs.KeptTablesFacts.{sees_edge, sees_nodes}
 use Rattle.order_graph.proofs.edge_sets.EdgeSet.has.Goals as goal
 
 pub returns : goal.returns

@@ -2,7 +2,7 @@ use Rattle.std.proofs.Common.{◌≡◌, ◌⊎◌, ◌↔◌, ◌/◌, ◌<◌,
 use Rattle.std.proofs.lemmas.List.{take_at}
 use Rattle.bitsets.specs.Tables.{IsSet}
 use Rattle.bitsets.proofs.TableFacts.{column_within}
-use Rattle.order_graph.proofs.Keeping.{sees_nodes, sees_path}
+use Rattle.order_graph.proofs.KeptTablesFacts.{sees_nodes, sees_path}
 use Rattle.order_graph.proofs.Reached.{masked_to}
 use Rattle.order_graph.proofs.edge_sets.EdgeSet.leads.Goals as goal
 

@@ -1,7 +1,7 @@
 use Rattle.order_graph.specs.Internal.Tables.{Joined}
 use Rattle.order_graph.specs.Digraphs.{IsEdge}
-use Rattle.order_graph.proofs.Keeping.{sees_edge, sees_path}
-use Rattle.order_graph.proofs.Cycling.{IsLeastPath-same}
+use Rattle.order_graph.proofs.KeptTablesFacts.{sees_edge, sees_path}
+use Rattle.order_graph.proofs.CyclesFacts.{IsLeastPath-same}
 use Rattle.order_graph.proofs.edge_sets.EdgeSet.least_path.Goals as goal
 
 pub least_path-requires-clause-path : goal.least_path-requires-clause-path

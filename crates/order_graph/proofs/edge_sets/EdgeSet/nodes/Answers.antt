@@ -1,4 +1,4 @@
-use Rattle.order_graph.proofs.Keeping.{sees_within}
+use Rattle.order_graph.proofs.KeptTablesFacts.{sees_within}
 use Rattle.order_graph.proofs.edge_sets.EdgeSet.nodes.Goals as goal
 
 pub returns-clause-within : goal.returns-clause-within

@@ -1,6 +1,6 @@
 use Rattle.std.proofs.Common.{arith}
 use Rattle.bitsets.proofs.TableFacts.{column_within}
-use Rattle.order_graph.proofs.Keeping.{sees_nodes}
+use Rattle.order_graph.proofs.KeptTablesFacts.{sees_nodes}
 use Rattle.order_graph.proofs.Reached.{tests_are_paths, masked_from}
 use Rattle.order_graph.proofs.edge_sets.EdgeSet.reached.Goals as goal
 

@@ -2,7 +2,7 @@ use Rattle.std.proofs.Common.{refl, arith}
 use Rattle.std.proofs.lemmas.Bool.{both_ways, false≢true}
 use Rattle.order_paths.proofs.Reach.{Reaches-edge}
 use Rattle.order_graph.specs.Internal.Tables.{Joined}
-use Rattle.order_graph.proofs.Keeping.{sees_nodes, sees_path}
+use Rattle.order_graph.proofs.KeptTablesFacts.{sees_nodes, sees_path}
 use Rattle.order_graph.proofs.edge_sets.EdgeSet.reaches.Goals as goal
 
 pub returns-then-has_edge : goal.returns-then-has_edge

@@ -1,6 +1,6 @@
 use Rattle.std.proofs.Common.{refl, arith}
 use Rattle.std.proofs.lemmas.List.{take_at}
-use Rattle.order_graph.proofs.Losing.{Covers-less, sees_less}
+use Rattle.order_graph.proofs.EdgeSetsFacts.{Covers-less, sees_less}
 use Rattle.order_graph.proofs.edge_sets.EdgeSet.remove.Goals as goal
 
 pub invariant_of-self : goal.invariant_of-self

@@ -1,6 +1,6 @@
 use Rattle.std.proofs.Common.{refl, arith}
 use Rattle.std.proofs.lemmas.List.{take_at}
-use Rattle.order_graph.proofs.Keeping.{KeepsAllPaths-edge, KeepsAllPaths-join, KeepsAllPaths-transitive, sees_decided, sees_more, sees_nodes, sees_within}
+use Rattle.order_graph.proofs.KeptTablesFacts.{KeepsAllPaths-edge, KeepsAllPaths-join, KeepsAllPaths-transitive, sees_decided, sees_more, sees_nodes, sees_within}
 use Rattle.order_graph.proofs.GrownFacts.{IsNodeRow-more, grown_same, grown_more}
 use Rattle.order_graph.proofs.graphs.Graph.add.Goals as goal
 

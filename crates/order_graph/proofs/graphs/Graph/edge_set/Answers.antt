@@ -1,6 +1,6 @@
 use Rattle.std.proofs.Common.{sym, ◌∙◌}
-use Rattle.order_graph.proofs.Keeping.{Sees, sees_edge, sees_nodes}
-use Rattle.order_graph.proofs.Searching.{KeepsAllPaths-covers}
+use Rattle.order_graph.proofs.KeptTablesFacts.{Sees, sees_edge, sees_nodes}
+use Rattle.order_graph.proofs.SearchesFacts.{KeepsAllPaths-covers}
 use Rattle.order_graph.proofs.graphs.Graph.edge_set.Goals as goal
 
 pub of_tables-requires : goal.of_tables-requires

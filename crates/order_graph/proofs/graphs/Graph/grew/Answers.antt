@@ -1,5 +1,5 @@
 use Rattle.std.proofs.Common.{arith}
-use Rattle.order_graph.proofs.Keeping.{sees_nodes}
+use Rattle.order_graph.proofs.KeptTablesFacts.{sees_nodes}
 use Rattle.order_graph.proofs.GrownFacts.{sees_grown}
 use Rattle.order_graph.proofs.graphs.Graph.grew.Goals as goal
 

@@ -4,8 +4,8 @@ use Rattle.bitsets.specs.Tables.{IsSet}
 use Rattle.order_graph.specs.Internal.Tables.{Joined}
 use Rattle.order_graph.specs.Digraphs.{IsEdge}
 use Rattle.bitsets.proofs.TableFacts.{no_bit}
-use Rattle.order_graph.proofs.Keeping.{sees_edge}
-use Rattle.order_graph.proofs.Cycling.{last_start}
+use Rattle.order_graph.proofs.KeptTablesFacts.{sees_edge}
+use Rattle.order_graph.proofs.CyclesFacts.{last_start}
 use Rattle.order_graph.proofs.graphs.Graph.least_cycle.Goals as goal
 
 pub loop-start-init : goal.loop-start-init

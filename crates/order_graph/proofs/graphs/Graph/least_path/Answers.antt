@@ -2,9 +2,9 @@ use Rattle.std.proofs.Common.{arith}
 use Rattle.std.proofs.lemmas.Bool.{both_ways}
 use Rattle.order_graph.specs.Internal.Tables.{Joined}
 use Rattle.order_graph.specs.Digraphs.{IsEdge}
-use Rattle.order_graph.proofs.Keeping.{sees_nodes, sees_edge, sees_path}
-use Rattle.order_graph.proofs.Cycling.{IsLeastPath-same}
-use Rattle.order_graph.proofs.Searching.{KeepsAllPaths-covers}
+use Rattle.order_graph.proofs.KeptTablesFacts.{sees_nodes, sees_edge, sees_path}
+use Rattle.order_graph.proofs.CyclesFacts.{IsLeastPath-same}
+use Rattle.order_graph.proofs.SearchesFacts.{KeepsAllPaths-covers}
 use Rattle.order_graph.proofs.graphs.Graph.least_path.Goals as goal
 
 pub returns-then-not-has_path : goal.returns-then-not-has_path

@@ -1,5 +1,5 @@
 use Rattle.std.proofs.Common.{refl, arith}
-use Rattle.order_graph.proofs.Keeping.{KeepsAllPaths-empty, sees_empty}
+use Rattle.order_graph.proofs.KeptTablesFacts.{KeepsAllPaths-empty, sees_empty}
 use Rattle.order_graph.proofs.GrownFacts.{IsNodeRow-empty, sees_settled}
 use Rattle.order_graph.proofs.graphs.Graph.new.Goals as goal
 

@@ -4,7 +4,7 @@ use Rattle.order_paths.specs.Paths.{Reaches}
 use Rattle.order_graph.specs.Internal.Tables.{Joined}
 use Rattle.std.proofs.lemmas.List.{length-take, length-drop}
 use Rattle.bitsets.proofs.TableFacts.{row_within}
-use Rattle.order_graph.proofs.Keeping.{sees_nodes, sees_path, row_paths}
+use Rattle.order_graph.proofs.KeptTablesFacts.{sees_nodes, sees_path, row_paths}
 use Rattle.order_graph.proofs.graphs.Graph.path_words.Goals as goal
 
 pub returns-clause-paths : goal.returns-clause-paths

@@ -1,5 +1,5 @@
 use Rattle.std.proofs.Common.{arith}
-use Rattle.order_graph.proofs.Keeping.{sees_nodes}
+use Rattle.order_graph.proofs.KeptTablesFacts.{sees_nodes}
 use Rattle.order_graph.proofs.Reached.{tests_are_paths}
 use Rattle.order_graph.proofs.graphs.Graph.reached.Goals as goal
 

@@ -1,5 +1,5 @@
 use Rattle.std.proofs.Common.{arith}
-use Rattle.order_graph.proofs.Keeping.{sees_path, sees_decided, sees_nodes}
+use Rattle.order_graph.proofs.KeptTablesFacts.{sees_path, sees_decided, sees_nodes}
 use Rattle.order_graph.proofs.graphs.Graph.reaches.Goals as goal
 
 pub returns-clause-path : goal.returns-clause-path

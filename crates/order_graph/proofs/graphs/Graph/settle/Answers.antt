@@ -1,5 +1,5 @@
 use Rattle.std.proofs.Common.{ℕ, refl, ap, ◌∙◌, replicate, arith}
-use Rattle.order_graph.proofs.Keeping.{Sees, sees_edge}
+use Rattle.order_graph.proofs.KeptTablesFacts.{Sees, sees_edge}
 use Rattle.order_graph.proofs.GrownFacts.{IsNodeRow-empty, sees_settled}
 use Rattle.order_graph.proofs.graphs.Graph.settle.Goals as goal
 

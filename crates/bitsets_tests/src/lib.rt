@@ -1,0 +1,5 @@
+//! Tests of `bitsets`, by its public calls.
+#![tactic(auto)]
+
+#[cfg(test)]
+mod tests;

@@ -1,0 +1,3 @@
+//! Rows and tables of bits.
+
+mod bit_rows;

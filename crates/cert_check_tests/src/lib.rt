@@ -1,0 +1,5 @@
+//! Tests of `cert_check`, by its public calls.
+#![tactic(auto)]
+
+#[cfg(test)]
+mod tests;

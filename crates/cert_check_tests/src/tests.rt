@@ -1,0 +1,3 @@
+//! The checker of certificates.
+
+mod check;

@@ -1,0 +1,103 @@
+//! What arguments ask for, and the texts of help and of refusals.
+
+use command_line::{CampaignOptions, Request, RunOptions, ShapeNumbers, read_arguments};
+use std::alloc::{AllocError, Global};
+use std::process::Abort;
+use std::test::Fail;
+
+mod accepted;
+mod help;
+mod refused;
+
+/// The options of a run, as text.
+fn described_options(alloc: Global, options: &RunOptions) -> Result<String, AllocError> {
+    let unit = options.unit;
+    format!(in alloc;
+        "on {:?} {} {} with {} printing {:?}",
+        unit.kind, unit.capacity, unit.trigger, options.workers, options.printing
+    )
+}
+
+/// A shape, as text.
+fn described_shape(alloc: Global, shape: &ShapeNumbers) -> Result<String, AllocError> {
+    format!(in alloc;
+        "{}x{} at {}",
+        shape.processors, shape.operations, shape.addresses
+    )
+}
+
+/// The options of a campaign, as text.
+fn described_campaign(alloc: Global, options: &CampaignOptions) -> Result<String, AllocError> {
+    let unit = options.unit;
+    let shape = described_shape(alloc, &options.shape)?;
+    format!(in alloc;
+        "{} from {} of {shape} on {:?} {} {} with {}",
+        options.count, options.first, unit.kind, unit.capacity, unit.trigger, options.workers
+    )
+}
+
+/// What a request is, as one line of text with the texts that it shows.
+fn described(alloc: Global, request: &Request<'_>) -> Result<String, AllocError> {
+    match request {
+        Request::Judge {
+            file: None,
+            workers,
+        } => format!(in alloc; "judge standard input with {workers}"),
+        Request::Judge {
+            file: Some(file),
+            workers,
+        } => format!(in alloc; "judge {file:?} with {workers}"),
+        Request::Check { trace, certificate } => {
+            format!(in alloc; "check {trace:?} against {certificate:?}")
+        }
+        Request::Replay {
+            options,
+            program,
+            schedule,
+        } => {
+            let options = described_options(alloc, options)?;
+            format!(in alloc; "replay {program:?} by {schedule:?} {options}")
+        }
+        Request::Run(run) => {
+            let options = described_options(alloc, &run.options)?;
+            format!(in alloc; "run {:?} seeded {} {options}", run.program, run.drain_seed)
+        }
+        Request::Make { seed, shape } => {
+            let shape = described_shape(alloc, shape)?;
+            format!(in alloc; "make {shape} from {seed}")
+        }
+        Request::Campaign(options) => {
+            let options = described_campaign(alloc, options)?;
+            format!(in alloc; "campaign {options}")
+        }
+        Request::Show(text) => format!(in alloc; "show {text}"),
+        Request::Refuse(text) => format!(in alloc; "refuse {text}"),
+    }
+}
+
+/// What these arguments ask for.
+fn asked(alloc: Global, arguments: &[&str]) -> Result<String, AllocError> {
+    let mut owned = Vec::new(alloc);
+    for argument in arguments {
+        owned.push(String::from_str(alloc, argument)?)?;
+    }
+    described(alloc, &read_arguments(alloc, &owned)?)
+}
+
+/// Compares what each of these arguments ask for with this word and the text beside them.
+fn expect_each<H: Abort>(
+    rt: &H,
+    alloc: Global,
+    word: &str,
+    cases: &[(&[&str], &str)],
+) -> Result<(), Fail> {
+    for (arguments, text) in cases {
+        let wanted = format!(in alloc; "{word}{text}")?;
+        let asked = asked(alloc, arguments)?;
+        assert!(rt;
+            asked.as_str() == wanted.as_str(),
+            "{arguments:?} ask to {asked}"
+        );
+    }
+    Ok(())
+}

@@ -1,0 +1,339 @@
+//! Arguments that ask for something that the program does.
+
+use super::{asked, expect_each};
+use std::test::Fail;
+
+/// Arguments, and what they ask for.
+const ACCEPTED: [(&[&str], &str); 12] = [
+    (&[], "judge standard input with 1"),
+    (&["judge"], "judge standard input with 1"),
+    (&["judge", "a.trace"], "judge \"a.trace\" with 1"),
+    (&["judge", "-"], "judge \"-\" with 1"),
+    (
+        &["judge", "--workers", "64"],
+        "judge standard input with 64",
+    ),
+    (&["judge", "--workers", "7", "a b"], "judge \"a b\" with 7"),
+    (&["judge", "a b", "--workers", "7"], "judge \"a b\" with 7"),
+    (&["judge", "--workers=2", "--", "-x"], "judge \"-x\" with 2"),
+    (&["judge", "--workers=64", "x"], "judge \"x\" with 64"),
+    (
+        &["judge", "--workers", "+007"],
+        "judge standard input with 7",
+    ),
+    (&["judge", "check"], "judge \"check\" with 1"),
+    (&["check", "t", "c"], "check \"t\" against \"c\""),
+];
+
+#[test]
+fn accepted_arguments(rt: HostRuntime) -> Result<(), Fail> {
+    expect_each(&rt, rt.alloc(), "", &ACCEPTED)
+}
+
+/// Arguments of `replay`, and what they ask for.
+const REPLAYS: [(&[&str], &str); 15] = [
+    (
+        &["replay", "--unit", "serial", "p", "s"],
+        "replay \"p\" by \"s\" on Serial 8 1 with 1 printing Report",
+    ),
+    (
+        &["replay", "--unit", "buffer", "p", "s"],
+        "replay \"p\" by \"s\" on Buffer 8 1 with 1 printing Report",
+    ),
+    (
+        &["replay", "--capacity=64", "--unit=buffer", "p", "s"],
+        "replay \"p\" by \"s\" on Buffer 64 1 with 1 printing Report",
+    ),
+    (
+        &["replay", "--unit=serial", "p", "s"],
+        "replay \"p\" by \"s\" on Serial 8 1 with 1 printing Report",
+    ),
+    (
+        &["replay", "p", "--unit", "serial", "s"],
+        "replay \"p\" by \"s\" on Serial 8 1 with 1 printing Report",
+    ),
+    (
+        &["replay", "p", "s", "--unit=serial"],
+        "replay \"p\" by \"s\" on Serial 8 1 with 1 printing Report",
+    ),
+    (
+        &["replay", "--unit", "serial", "--capacity", "1", "p", "s"],
+        "replay \"p\" by \"s\" on Serial 1 1 with 1 printing Report",
+    ),
+    (
+        &["replay", "--capacity=64", "--unit", "serial", "p", "s"],
+        "replay \"p\" by \"s\" on Serial 64 1 with 1 printing Report",
+    ),
+    (
+        &[
+            "replay",
+            "p",
+            "--trigger",
+            "18446744073709551615",
+            "s",
+            "--unit=serial",
+        ],
+        "replay \"p\" by \"s\" on Serial 8 18446744073709551615 with 1 printing Report",
+    ),
+    (
+        &["replay", "--unit=serial", "--trigger=7", "p", "s"],
+        "replay \"p\" by \"s\" on Serial 8 7 with 1 printing Report",
+    ),
+    (
+        &["replay", "p", "s", "--workers", "64", "--unit", "serial"],
+        "replay \"p\" by \"s\" on Serial 8 1 with 64 printing Report",
+    ),
+    (
+        &["replay", "--trace", "--unit", "serial", "-", "a b"],
+        "replay \"-\" by \"a b\" on Serial 8 1 with 1 printing Trace",
+    ),
+    (
+        &["replay", "--unit", "serial", "p", "s", "--trace"],
+        "replay \"p\" by \"s\" on Serial 8 1 with 1 printing Trace",
+    ),
+    (
+        &[
+            "replay",
+            "--workers=2",
+            "p",
+            "--trace",
+            "--trigger",
+            "3",
+            "s",
+            "--capacity=4",
+            "--unit",
+            "serial",
+        ],
+        "replay \"p\" by \"s\" on Serial 4 3 with 2 printing Trace",
+    ),
+    (
+        &["replay", "--unit", "serial", "--", "--trace", "-s"],
+        "replay \"--trace\" by \"-s\" on Serial 8 1 with 1 printing Report",
+    ),
+];
+
+#[test]
+fn accepted_replays(rt: HostRuntime) -> Result<(), Fail> {
+    expect_each(&rt, rt.alloc(), "", &REPLAYS)
+}
+
+/// Arguments of `run`, and what they ask for.
+const RUNS: [(&[&str], &str); 13] = [
+    (
+        &["run", "--unit", "serial", "--seed", "1", "p"],
+        "run \"p\" seeded 1 on Serial 8 1 with 1 printing Report",
+    ),
+    (
+        &["run", "--unit", "buffer", "--seed", "1", "p"],
+        "run \"p\" seeded 1 on Buffer 8 1 with 1 printing Report",
+    ),
+    (
+        &["run", "--seed=0", "--unit=lost-drain", "p"],
+        "run \"p\" seeded 0 on Faulty(LostDrain) 8 1 with 1 printing Report",
+    ),
+    (
+        &[
+            "run",
+            "--seed",
+            "18446744073709551615",
+            "--unit=serial",
+            "p",
+        ],
+        "run \"p\" seeded 18446744073709551615 on Serial 8 1 with 1 printing Report",
+    ),
+    (
+        &["run", "--seed", "9223372036854775808", "p", "--unit=serial"],
+        "run \"p\" seeded 9223372036854775808 on Serial 8 1 with 1 printing Report",
+    ),
+    (
+        &["run", "p", "--seed", "7", "--unit", "serial"],
+        "run \"p\" seeded 7 on Serial 8 1 with 1 printing Report",
+    ),
+    (
+        &["run", "p", "--unit=serial", "--seed=7"],
+        "run \"p\" seeded 7 on Serial 8 1 with 1 printing Report",
+    ),
+    (
+        &["run", "--capacity=64", "--seed=7", "p", "--unit=buffer"],
+        "run \"p\" seeded 7 on Buffer 64 1 with 1 printing Report",
+    ),
+    (
+        &["run", "--trace", "--unit", "serial", "--seed=7", "-"],
+        "run \"-\" seeded 7 on Serial 8 1 with 1 printing Trace",
+    ),
+    (
+        &["run", "--unit", "serial", "a b", "--trace", "--seed=7"],
+        "run \"a b\" seeded 7 on Serial 8 1 with 1 printing Trace",
+    ),
+    (
+        &[
+            "run",
+            "--workers=2",
+            "--trace",
+            "--trigger",
+            "3",
+            "p",
+            "--seed",
+            "5",
+            "--capacity=4",
+            "--unit",
+            "serial",
+        ],
+        "run \"p\" seeded 5 on Serial 4 3 with 2 printing Trace",
+    ),
+    (
+        &["run", "--unit", "serial", "--seed=+007", "p"],
+        "run \"p\" seeded 7 on Serial 8 1 with 1 printing Report",
+    ),
+    (
+        &["run", "--unit", "serial", "--seed=7", "--", "--trace"],
+        "run \"--trace\" seeded 7 on Serial 8 1 with 1 printing Report",
+    ),
+];
+
+#[test]
+fn accepted_runs(rt: HostRuntime) -> Result<(), Fail> {
+    expect_each(&rt, rt.alloc(), "", &RUNS)
+}
+
+/// Arguments of `make`, and what they ask for.
+const DRAWN: [(&[&str], &str); 6] = [
+    (
+        &[
+            "make", "--seed", "7", "--procs", "2", "--ops", "4", "--addrs", "3",
+        ],
+        "make 2x4 at 3 from 7",
+    ),
+    (
+        &["make", "--seed=7", "--procs=2", "--ops=4", "--addrs=3"],
+        "make 2x4 at 3 from 7",
+    ),
+    (
+        &[
+            "make", "--addrs", "3", "--ops=4", "--procs", "2", "--seed=7",
+        ],
+        "make 2x4 at 3 from 7",
+    ),
+    (
+        &["make", "--seed=0", "--procs=0", "--ops=0", "--addrs=0"],
+        "make 0x0 at 0 from 0",
+    ),
+    (
+        &[
+            "make",
+            "--seed=18446744073709551615",
+            "--procs=18446744073709551614",
+            "--ops=18446744073709551613",
+            "--addrs=18446744073709551612",
+        ],
+        "make 18446744073709551614x18446744073709551613 at 18446744073709551612 from 18446744073709551615",
+    ),
+    (
+        &["make", "--seed=+007", "--procs=02", "--ops=4", "--addrs=3"],
+        "make 2x4 at 3 from 7",
+    ),
+];
+
+#[test]
+fn accepted_drawings(rt: HostRuntime) -> Result<(), Fail> {
+    expect_each(&rt, rt.alloc(), "", &DRAWN)
+}
+
+/// Arguments of `campaign`, and what they ask for.
+const CAMPAIGNS: [(&[&str], &str); 5] = [
+    (
+        &[
+            "campaign", "--unit", "buffer", "--first", "7", "--count", "20", "--procs", "2",
+            "--ops", "4", "--addrs", "3",
+        ],
+        "campaign 20 from 7 of 2x4 at 3 on Buffer 8 1 with 1",
+    ),
+    (
+        &[
+            "campaign",
+            "--unit=lost-drain",
+            "--capacity=64",
+            "--trigger=5",
+            "--workers=2",
+            "--first=7",
+            "--count=20",
+            "--procs=2",
+            "--ops=4",
+            "--addrs=3",
+        ],
+        "campaign 20 from 7 of 2x4 at 3 on Faulty(LostDrain) 64 5 with 2",
+    ),
+    (
+        &[
+            "campaign",
+            "--addrs=3",
+            "--ops",
+            "4",
+            "--procs=2",
+            "--count",
+            "20",
+            "--first=7",
+            "--workers",
+            "64",
+            "--trigger=18446744073709551615",
+            "--capacity",
+            "1",
+            "--unit=serial",
+        ],
+        "campaign 20 from 7 of 2x4 at 3 on Serial 1 18446744073709551615 with 64",
+    ),
+    (
+        &[
+            "campaign",
+            "--unit=serial",
+            "--first=18446744073709551615",
+            "--count=18446744073709551614",
+            "--procs=18446744073709551613",
+            "--ops=18446744073709551612",
+            "--addrs=18446744073709551611",
+        ],
+        "campaign 18446744073709551614 from 18446744073709551615 of 18446744073709551613x18446744073709551612 at 18446744073709551611 on Serial 8 1 with 1",
+    ),
+    (
+        &[
+            "campaign",
+            "--unit=serial",
+            "--first=0",
+            "--count=0",
+            "--procs=0",
+            "--ops=0",
+            "--addrs=0",
+        ],
+        "campaign 0 from 0 of 0x0 at 0 on Serial 8 1 with 1",
+    ),
+];
+
+#[test]
+fn accepted_campaigns(rt: HostRuntime) -> Result<(), Fail> {
+    expect_each(&rt, rt.alloc(), "", &CAMPAIGNS)
+}
+
+/// Kinds of units by name, and what they print as.
+const KINDS: [(&str, &str); 8] = [
+    ("serial", "Serial"),
+    ("buffer", "Buffer"),
+    ("newest-first", "Faulty(NewestFirst)"),
+    ("no-forward", "Faulty(NoForward)"),
+    ("stale-load", "Faulty(StaleLoad)"),
+    ("torn-swap", "Faulty(TornSwap)"),
+    ("idle-membar", "Faulty(IdleMembar)"),
+    ("lost-drain", "Faulty(LostDrain)"),
+];
+
+#[test]
+fn kinds_of_units(rt: HostRuntime) -> Result<(), Fail> {
+    let alloc = rt.alloc();
+    for (name, kind) in KINDS {
+        let arguments = ["replay", "--trigger", "2", "--unit", name, "p", "s"];
+        let request = format!(in alloc;
+            "replay \"p\" by \"s\" on {kind} 8 2 with 1 printing Report"
+        )?;
+        assert!(rt; asked(alloc, &arguments)?.as_str() == request.as_str());
+    }
+    Ok(())
+}

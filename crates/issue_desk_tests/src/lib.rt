@@ -1,0 +1,5 @@
+//! Tests of `issue_desk`, by its public calls.
+#![tactic(auto)]
+
+#[cfg(test)]
+mod tests;

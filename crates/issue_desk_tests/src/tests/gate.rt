@@ -1,0 +1,202 @@
+//! When the issuers of a run call its gate, and that they may wait for each other there.
+
+use issue_desk::{Gate, Issuers, run_over};
+use std::alloc::{AllocError, Global};
+use std::process::Abort;
+use std::sync::atomic::{AtomicBool, AtomicU64, AtomicUsize, Ordering};
+use std::sync::{Arc, Wait};
+use std::test::Fail;
+use std::thread::{Threads, yield_now};
+use traces_for_tests::program_of;
+use tso_ops::{Op, Order, ValueFault};
+use unit_kinds::StoreBufferUnit;
+use units_for_tests::{CallCounts, CountingUnit, OTHER_ACCOUNT, new_counts};
+
+/// Runs these operations by issuers that pass this gate, on a unit that counts its calls.
+fn run_past<H: Threads + Wait + Sync + Abort, G: Gate + Sync>(
+    rt: &H,
+    alloc: Global,
+    ops: &[&[Op]],
+    gate: &G,
+    counts: &Arc<CallCounts, Global>,
+) -> Result<(), ValueFault> {
+    let program = program_of(alloc, Order::Tso, ops)?;
+    let unit = CountingUnit::new(StoreBufferUnit::new(alloc, 8)?, Arc::try_clone(counts)?);
+    let issuers = Issuers {
+        gate,
+        drain_seed: 1,
+    };
+    let mut account = OTHER_ACCOUNT;
+    let answer = run_over(rt, alloc, &program, unit, issuers, &mut account);
+    assert!(rt; answer.is_ok());
+    Ok(())
+}
+
+/// A call of a gate, with the number of loads that the unit had then taken.
+#[derive(Drop)]
+struct GateCall {
+    p: AtomicUsize,
+    done: AtomicUsize,
+    loads: AtomicU64,
+}
+
+impl GateCall {
+    fn new() -> GateCall {
+        GateCall {
+            p: AtomicUsize::new(0),
+            done: AtomicUsize::new(0),
+            loads: AtomicU64::new(0),
+        }
+    }
+}
+
+/// A gate that logs its first calls, as many as there is room for.
+#[derive(Drop)]
+struct LoggingGate {
+    counts: Arc<CallCounts, Global>,
+    taken: AtomicUsize,
+    places: Vec<GateCall>,
+}
+
+impl Gate for LoggingGate {
+    fn before(&self, p: usize, done: usize) {
+        let place = self.taken.fetch_add(1, Ordering::SeqCst);
+        if let Some(call) = self.places.get(place) {
+            call.p.store(p, Ordering::SeqCst);
+            call.done.store(done, Ordering::SeqCst);
+            let loads = self.counts.loads.load(Ordering::SeqCst);
+            call.loads.store(loads, Ordering::SeqCst);
+        }
+    }
+}
+
+impl LoggingGate {
+    fn new(
+        alloc: Global,
+        counts: Arc<CallCounts, Global>,
+        room: usize,
+    ) -> Result<LoggingGate, AllocError> {
+        let mut places = Vec::new(alloc);
+        for _ in 0..room {
+            places.push(GateCall::new())?;
+        }
+        Ok(LoggingGate {
+            counts,
+            taken: AtomicUsize::new(0),
+            places,
+        })
+    }
+
+    /// The processor, the answers and the loads of each call.
+    fn calls(&self, alloc: Global) -> Result<Vec<(usize, usize, u64)>, AllocError> {
+        let mut calls = Vec::new(alloc);
+        for call in self.places.iter().take(self.taken.load(Ordering::SeqCst)) {
+            let p = call.p.load(Ordering::SeqCst);
+            let done = call.done.load(Ordering::SeqCst);
+            calls.push((p, done, call.loads.load(Ordering::SeqCst)))?;
+        }
+        Ok(calls)
+    }
+}
+
+const LOAD: Op = Op::Ld { a: 1 };
+
+/// The call with three answers comes before the issue that finds nothing left.
+#[test]
+fn gate_is_called_before_each_operation(rt: HostRuntime) -> Result<(), Fail> {
+    let counts = new_counts(rt.alloc())?;
+    let gate = LoggingGate::new(rt.alloc(), Arc::try_clone(&counts)?, 8)?;
+    run_past(&rt, rt.alloc(), &[&[LOAD; 3]], &gate, &counts)?;
+    let calls = gate.calls(rt.alloc())?;
+    let expected = [(0, 0, 0), (0, 1, 1), (0, 2, 2), (0, 3, 3)];
+    assert_eq!(rt; calls.as_slice(), expected.as_slice());
+    Ok(())
+}
+
+/// How often an issuer looks for the others.
+const TURNS: u64 = 4_000_000;
+
+/// A gate at which the calls with `at` answers wait for one another.
+#[derive(Drop)]
+struct MeetingGate {
+    at: usize,
+    /// Whether the call of each processor came.
+    came: Vec<AtomicBool>,
+    gave_up: AtomicBool,
+}
+
+impl Gate for MeetingGate {
+    fn before(&self, p: usize, done: usize) {
+        if done == self.at {
+            if let Some(own) = self.came.get(p) {
+                own.store(true, Ordering::SeqCst);
+            }
+            self.wait_for_all();
+        }
+    }
+}
+
+impl MeetingGate {
+    fn new(alloc: Global, processors: usize, at: usize) -> Result<MeetingGate, AllocError> {
+        let mut came = Vec::new(alloc);
+        for _ in 0..processors {
+            came.push(AtomicBool::new(false))?;
+        }
+        Ok(MeetingGate {
+            at,
+            came,
+            gave_up: AtomicBool::new(false),
+        })
+    }
+
+    /// Whether the call of each processor came.
+    fn have_come(&self) -> bool {
+        self.came.iter().all(|one| one.load(Ordering::SeqCst))
+    }
+
+    fn wait_for_all(&self) {
+        for _ in 0..TURNS {
+            if self.have_come() || self.gave_up.load(Ordering::SeqCst) {
+                return;
+            }
+            yield_now();
+        }
+        self.gave_up.store(true, Ordering::SeqCst);
+    }
+
+    /// Whether all calls came, and none gave up.
+    fn have_met(&self) -> bool {
+        self.have_come() && !self.gave_up.load(Ordering::SeqCst)
+    }
+}
+
+/// Whether issuers of these operations meet at their calls with `at` answers.
+fn meet<H: Threads + Wait + Sync + Abort>(
+    rt: &H,
+    alloc: Global,
+    ops: &[&[Op]],
+    at: usize,
+) -> Result<bool, ValueFault> {
+    let gate = MeetingGate::new(alloc, ops.len(), at)?;
+    run_past(rt, alloc, ops, &gate, &new_counts(alloc)?)?;
+    Ok(gate.have_met())
+}
+
+/// The last calls come before the issues that find nothing left.
+#[test]
+fn issuers_meet_after_their_first_operations(rt: HostRuntime) -> Result<(), Fail> {
+    let ops: [&[Op]; 2] = [&[LOAD; 2]; 2];
+    for at in [0, 1, 2] {
+        assert!(rt; meet(&rt, rt.alloc(), &ops, at)?, "at {at}");
+    }
+    Ok(())
+}
+
+#[test]
+fn sixteen_issuers_meet(rt: HostRuntime) -> Result<(), Fail> {
+    let ops: [&[Op]; 16] = [&[LOAD]; 16];
+    for at in [0, 1] {
+        assert!(rt; meet(&rt, rt.alloc(), &ops, at)?, "at {at}");
+    }
+    Ok(())
+}

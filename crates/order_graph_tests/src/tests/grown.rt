@@ -1,0 +1,95 @@
+//! Which numbers have come to reach more since a graph was settled.
+use super::{drawn_edges, drawn_number, graph_of, graph_of_rows, join, reaches};
+use order_graph::Graph;
+use std::alloc::{AllocError, Global};
+use std::process::Abort;
+use std::test::Fail;
+use traces_for_tests::next_word;
+
+/// Whether u has come to reach more; false for what is no number of the graph.
+fn grew(graph: &Graph, u: usize) -> bool {
+    u < graph.nodes() && graph.grew(u)
+}
+
+fn expect_grown(rt: &impl Abort, graph: &Graph, expected: &[usize]) -> Result<(), AllocError> {
+    let grown = graph.grown()?;
+    assert_eq!(rt; grown.as_slice(), expected);
+    for u in 0..graph.nodes() {
+        assert_eq!(rt; grew(graph, u), expected.contains(&u), "{u}");
+    }
+    Ok(())
+}
+
+#[test]
+fn edges_one_after_another(rt: HostRuntime) -> Result<(), Fail> {
+    let mut graph = graph_of_rows(rt.alloc(), 130, &[(1, 64), (64, 129)])?;
+    expect_grown(&rt, &graph, &[])?;
+    join(&mut graph, 129, 2);
+    expect_grown(&rt, &graph, &[1, 64, 129])?;
+    join(&mut graph, 0, 3);
+    expect_grown(&rt, &graph, &[0, 1, 64, 129])?;
+    graph.settle();
+    expect_grown(&rt, &graph, &[])?;
+    join(&mut graph, 1, 129);
+    join(&mut graph, 0, 3);
+    expect_grown(&rt, &graph, &[])?;
+    join(&mut graph, 3, 2);
+    expect_grown(&rt, &graph, &[0, 3])?;
+    Ok(())
+}
+
+#[test]
+fn new_graphs_are_settled(rt: HostRuntime) -> Result<(), Fail> {
+    let graph = graph_of(rt.alloc(), 65, &[])?;
+    expect_grown(&rt, &graph, &[])?;
+    let mut graph = graph_of(rt.alloc(), 65, &[(64, 0), (0, 64)])?;
+    expect_grown(&rt, &graph, &[0, 64])?;
+    graph.settle();
+    join(&mut graph, 64, 64);
+    expect_grown(&rt, &graph, &[])?;
+    Ok(())
+}
+
+/// How many numbers u reaches.
+fn count_reached(graph: &Graph, nodes: usize, u: usize) -> usize {
+    (0..nodes).filter(|v| reaches(graph, u, *v)).count()
+}
+
+/// Adds edges to a settled graph, and compares what grew with what each number reached before.
+fn compare_growing(
+    rt: &impl Abort,
+    alloc: Global,
+    word: &mut u64,
+    nodes: usize,
+) -> Result<(), AllocError> {
+    let first = drawn_edges(alloc, word, nodes, nodes)?;
+    let mut graph = graph_of(alloc, nodes, &first)?;
+    graph.settle();
+    let before: Vec<usize> = (0..nodes)
+        .map(|u| count_reached(&graph, nodes, u))
+        .collect(alloc)?;
+    for _ in 0..3 {
+        join(
+            &mut graph,
+            drawn_number(word, nodes),
+            drawn_number(word, nodes),
+        );
+    }
+    for (u, count) in before.iter().enumerate() {
+        assert_eq!(rt;
+            grew(&graph, u),
+            count_reached(&graph, nodes, u) > *count,
+            "{u}"
+        );
+    }
+    Ok(())
+}
+
+#[test]
+fn drawn_graphs(rt: HostRuntime) -> Result<(), Fail> {
+    let mut word = next_word(7);
+    for nodes in 1..20 {
+        compare_growing(&rt, rt.alloc(), &mut word, nodes)?;
+    }
+    Ok(())
+}

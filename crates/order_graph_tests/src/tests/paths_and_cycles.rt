@@ -1,0 +1,169 @@
+//! Least paths and least cycles of graphs by hand.
+
+use super::{
+    expect_cycle, expect_path, expect_words, graph_of, has, join, join_all, least_cycle,
+    least_path, nodes_of, reaches,
+};
+use order_graph::Graph;
+use std::alloc::{AllocError, Global};
+use std::test::Fail;
+
+#[test]
+fn diamond_graph(rt: HostRuntime) -> Result<(), Fail> {
+    let edges = [(0, 1), (0, 2), (1, 3), (2, 3), (3, 0)];
+    let graph = graph_of(rt.alloc(), 4, &edges)?;
+    expect_path(&rt, &graph, (0, 3), &[0, 1, 3])?;
+    expect_cycle(&rt, &graph, &[0, 1, 3])?;
+    Ok(())
+}
+
+#[test]
+fn loop_edge(rt: HostRuntime) -> Result<(), Fail> {
+    let graph = graph_of(rt.alloc(), 3, &[(0, 1), (1, 1), (1, 2)])?;
+    let found = [reaches(&graph, 1, 1), reaches(&graph, 0, 0)];
+    assert_eq!(rt; found, [true, false]);
+    expect_path(&rt, &graph, (1, 1), &[1, 1])?;
+    expect_path(&rt, &graph, (0, 2), &[0, 1, 2])?;
+    expect_cycle(&rt, &graph, &[1])?;
+    Ok(())
+}
+
+#[test]
+fn words_of_paths(rt: HostRuntime) -> Result<(), Fail> {
+    let graph = graph_of(rt.alloc(), 66, &[(1, 2), (2, 65), (0, 1)])?;
+    expect_words(&rt, &graph, 0, &[6, 2]);
+    expect_words(&rt, &graph, 2, &[0, 2]);
+    expect_words(&rt, &graph, 65, &[0, 0]);
+    Ok(())
+}
+
+#[test]
+fn path_to_itself(rt: HostRuntime) -> Result<(), Fail> {
+    let graph = graph_of(rt.alloc(), 4, &[(0, 1), (1, 2), (2, 0), (2, 3)])?;
+    expect_path(&rt, &graph, (1, 1), &[1, 2, 0, 1])?;
+    expect_path(&rt, &graph, (3, 3), &[])?;
+    expect_cycle(&rt, &graph, &[0, 1, 2])?;
+    Ok(())
+}
+
+#[test]
+fn empty_graphs(rt: HostRuntime) -> Result<(), Fail> {
+    for nodes in [0, 1, 64, 65, 8001] {
+        let graph = graph_of(rt.alloc(), nodes, &[])?;
+        let found = (nodes_of(&graph), has(&graph, 0, 0), reaches(&graph, 0, 0));
+        assert_eq!(rt; found, (nodes, false, false));
+        expect_path(&rt, &graph, (0, 0), &[])?;
+        expect_cycle(&rt, &graph, &[])?;
+    }
+    assert!(rt; graph_of(rt.alloc(), usize::MAX, &[]).is_err());
+    Ok(())
+}
+
+/// A graph with an edge from each number to the next.
+fn open_ring(alloc: Global, nodes: usize) -> Result<Graph, AllocError> {
+    let mut graph = Graph::new(alloc, nodes)?;
+    for u in 1..nodes {
+        join(&mut graph, u - 1, u);
+    }
+    Ok(graph)
+}
+
+/// Whether each number has a path to 0 and one from it.
+fn is_round(graph: &Graph, nodes: usize) -> bool {
+    (0..nodes).all(|u| reaches(graph, u, 0) && reaches(graph, 0, u))
+}
+
+/// A ring of all numbers of a graph of each size: each reaches each, and the only cycle is the ring.
+#[test]
+fn rings(rt: HostRuntime) -> Result<(), Fail> {
+    for nodes in [1, 2, 63, 64, 65, 129] {
+        let mut graph = open_ring(rt.alloc(), nodes)?;
+        expect_cycle(&rt, &graph, &[])?;
+        let last = nodes.saturating_sub(1);
+        assert!(rt; nodes == 1 || !reaches(&graph, last, 0), "{nodes}");
+        join(&mut graph, last, 0);
+        let ring: Vec<usize> = (0..nodes).collect(rt.alloc())?;
+        expect_cycle(&rt, &graph, &ring)?;
+        assert!(rt; is_round(&graph, nodes), "{nodes}");
+    }
+    Ok(())
+}
+
+#[test]
+fn many_numbers(rt: HostRuntime) -> Result<(), Fail> {
+    let edges = [
+        (63, 64),
+        (8000, 63),
+        (64, 4096),
+        (4096, 127),
+        (64, 127),
+        (127, 8000),
+    ];
+    let graph = graph_of(rt.alloc(), 8001, &edges)?;
+    let found = [reaches(&graph, 8000, 127), reaches(&graph, 0, 127)];
+    assert_eq!(rt; found, [true, false]);
+    expect_path(&rt, &graph, (63, 8000), &[63, 64, 127, 8000])?;
+    expect_cycle(&rt, &graph, &[63, 64, 127, 8000])?;
+    Ok(())
+}
+
+/// A long cycle of low numbers, a short one that begins after it, and another as short.
+#[test]
+fn short_cycle_after_a_long_one(rt: HostRuntime) -> Result<(), Fail> {
+    let mut graph = Graph::new(rt.alloc(), 200)?;
+    for u in 0..99 {
+        join(&mut graph, u, u + 1);
+    }
+    join_all(&mut graph, &[(99, 0), (160, 161), (161, 162), (162, 160)]);
+    expect_cycle(&rt, &graph, &[160, 161, 162])?;
+    join_all(&mut graph, &[(150, 70), (70, 199), (199, 150)]);
+    expect_cycle(&rt, &graph, &[70, 199, 150])?;
+    join(&mut graph, 199, 199);
+    expect_cycle(&rt, &graph, &[199])?;
+    Ok(())
+}
+
+/// Adds edges from a place of a ring of 130 to the next three. Its numbers are `step` from place to place.
+fn join_three(graph: &mut Graph, place: usize, step: usize) {
+    for further in 1..4usize {
+        let next = place.wrapping_add(further);
+        join(
+            graph,
+            place.wrapping_mul(step) % 130,
+            next.wrapping_mul(step) % 130,
+        );
+    }
+}
+
+/// A ring of 130 numbers, with edges to the next three places.
+fn ring_of_threes(alloc: Global, step: usize) -> Result<Graph, AllocError> {
+    let mut graph = Graph::new(alloc, 130)?;
+    for place in 0..130 {
+        join_three(&mut graph, place, step);
+    }
+    Ok(graph)
+}
+
+/// Whether each two numbers that follow one another have an edge.
+fn goes_along(graph: &Graph, cycle: &[usize]) -> bool {
+    cycle
+        .iter()
+        .zip(cycle.iter().skip(1))
+        .all(|(u, v)| has(graph, *u, *v))
+}
+
+/// A ring with edges to the next three numbers: a cycle goes round it, so it has a third of the numbers at least, and
+/// one with so few begins at each number.
+#[test]
+fn ring_with_edges_to_three_places(rt: HostRuntime) -> Result<(), Fail> {
+    for step in [1, 37, 129] {
+        let graph = ring_of_threes(rt.alloc(), step)?;
+        let cycle = least_cycle(&graph)?.ok_or("no cycle")?;
+        let path = least_path(&graph, 0, 0)?.ok_or("no path")?;
+        let found = (cycle.len(), cycle.first().copied(), path.len());
+        assert_eq!(rt; found, (44, Some(0), 45), "{step}");
+        assert!(rt; goes_along(&graph, &cycle), "{step}");
+        assert!(rt; path.starts_with(&cycle), "{step}");
+    }
+    Ok(())
+}

@@ -1,0 +1,46 @@
+-- Lemmas on what is printed of campaigns.
+use Rattle.std.proofs.Common.{◌≡◌, ◌∙◌, ℕ, zero, suc, ◌+◌, All, List, [], ◌∷◌, Bool, Option, arith, length, get_or, map, replicate, ap, refl, subst, sym, inr}
+use Rattle.std.proofs.lemmas.List.{get_or-map, get_or-replicate, length-map, length-replicate}
+use Rattle.command_line.specs.declared.options.CampaignOptions.{CampaignOptions}
+use Rattle.tso_ops.specs.Making.{ShapeValue}
+use Rattle.tso_report.specs.Campaigns.{IsCampaign, LeavesCampaign}
+use Rattle.tso_report.specs.declared.faults.Fault.{Fault}
+use Rattle.tso_report.specs.declared.faults.Fault.TheVariants.{OutOfMemory, Read, Write, NoThread, Missing}
+use Rattle.tso_report.specs.declared.verdicts.Verdict.{Verdict}
+use Rattle.unit_core.specs.Units.{UnitValue}
+use Rattle.request_serving.specs.Campaigning.{AreProgramsOf, IsCampaignOf, LeavesCampaignText, units_of}
+use Rattle.request_serving.specs.Printing.{unit_of}
+use Rattle.request_serving.specs.Statuses.{status_of}
+
+-- ---- the units of a campaign
+
+-- none has taken a step
+pub untouched : {X : Type 0} (f : X → UnitValue) (xs : List X) (options : CampaignOptions) → map f xs ≡ replicate options.count (unit_of options.unit) → All (λ x. (f x).steps ≡ []) xs
+untouched f xs options are = λ k d within.
+    let count = sym (length-map xs f) ∙ ap length are ∙ length-replicate options.count (unit_of options.unit) in
+    let is = sym (get_or-map f xs k d (f d) within) ∙ ap (λ us. get_or us k (f d)) are ∙ get_or-replicate options.count k (unit_of options.unit) (f d) (omega (arith, within, count)) in
+    ap (λ (u : UnitValue). u.steps) is
+
+-- ---- the text of a campaign
+
+module _ (options : CampaignOptions) (shape : ShapeValue) (first : ℕ) (units : List UnitValue) (programs : AreProgramsOf options shape first) (same : units ≡ units_of options) where
+  -- the campaign of these options
+  pub campaign_is : (text : List ℕ) (verdict : Verdict) → IsCampaign shape first units text verdict → IsCampaignOf options text (status_of verdict)
+  campaign_is text verdict is = record {
+    shape = programs.shape_kept;
+    seeds = programs.seeds;
+    verdict = verdict;
+    campaign = subst (λ s. IsCampaign s options.first (units_of options) text verdict) programs.is
+        (subst (λ n. IsCampaign shape n (units_of options) text verdict) programs.first_is (subst (λ l. IsCampaign shape first l text verdict) same is));
+    ends = refl;
+  }
+
+  -- what a fault leaves of it
+  pub leaves_campaign : (old new : Option (List ℕ)) (fault : Fault) → LeavesCampaign shape first units old new fault → LeavesCampaignText options old new fault
+  leaves_campaign old new OutOfMemory leaves = leaves
+  leaves_campaign old new Read leaves = leaves
+  leaves_campaign old new Write leaves = (status_of leaves.0, leaves.1, inr (inr (campaign_is leaves.1 leaves.0 leaves.2)), leaves.3)
+  leaves_campaign old new NoThread leaves = leaves
+  leaves_campaign old new (Missing seed) leaves =
+      let count = ap length same ∙ length-replicate options.count (unit_of options.unit) in
+      (omega (arith, leaves.0, programs.first_is), omega (arith, leaves.1, count, programs.first_is), leaves.2)

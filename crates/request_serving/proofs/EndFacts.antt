@@ -1,0 +1,132 @@
+-- Lemmas on how the program ends.
+use Rattle.std.proofs.Common.{◌≡◌, ◌∙◌, ◌⊎◌, ℕ, List, [], ◌∷◌, ◌++◌, append_assoc, Ok, Err, Result, IfOk, IfErr, Some, None, arith, length, ap, refl, subst, sym, inl, inr, true, true≢false}
+use Rattle.std.specs.Prelude.{Option, ◌≢◌, option_map}
+use Rattle.std.specs.Borrow.{Bor}
+use Rattle.std.specs.Io.KnownBytes.{Keeps}
+use Rattle.command_line.specs.Requests.{Asked, Text, judging, checking, replaying, running, making, campaigning, showing, refusing}
+use Rattle.std.proofs.lemmas.List.{append-nil}
+use Rattle.tso_report.specs.declared.verdicts.Verdict.{Verdict}
+use Rattle.tso_report.specs.declared.faults.Fault.{Fault}
+use Rattle.tso_report.specs.declared.faults.Fault.TheVariants.{OutOfMemory, Read, Write, NoThread, Missing}
+use Rattle.tso_report.specs.WrittenReports.{IsCheckReportOfReaders, IsReportOfReader, LeavesAtFault, LeavesCheckFault, LeavesFault, WritesCheckReport, WritesReport, WritesWhole}
+use Rattle.request_serving.specs.Endings.{EndsAsAsked, EndsByReport, EndsRefusing, EndsShowing, OfText, Outputs, WritesFaultLine}
+use Rattle.request_serving.specs.Statuses.{status_of}
+use Rattle.std.proofs.Math.Seq.{take-length}
+use Rattle.request_serving.specs.OpenedFiles.{HasKnown, OpensFirst, OpensNext, reads_input}
+
+-- ---- reports of files of which less may be known
+
+known_bytes : (known remaining : Option (List ℕ)) → HasKnown known remaining → (known ≡ None) ⊎ (known ≡ remaining)
+known_bytes None remaining has = inl refl
+known_bytes (Some all) remaining has = inr (sym has)
+
+pub report_of_known : (known remaining : Option (List ℕ)) → HasKnown known remaining → (text : List ℕ) (verdict : Verdict) → IsReportOfReader remaining text verdict → IsReportOfReader known text verdict
+report_of_known None remaining has text verdict report = record { bytes = report.bytes; of_read = report.of_read; of_all = tt }
+report_of_known (Some all) remaining has text verdict report = subst (λ r. IsReportOfReader r text verdict) has report
+
+first_known : (known remaining certs : Option (List ℕ)) → HasKnown known remaining → (text : List ℕ) (verdict : Verdict) → IsCheckReportOfReaders remaining certs text verdict →
+    IsCheckReportOfReaders known certs text verdict
+first_known None remaining certs has text verdict report =
+    record { trace = report.trace; cert = report.cert; whole_trace = tt; whole_cert = report.whole_cert; is_report = report.is_report }
+first_known (Some all) remaining certs has text verdict report = subst (λ r. IsCheckReportOfReaders r certs text verdict) has report
+
+second_known : (traces known remaining : Option (List ℕ)) → HasKnown known remaining → (text : List ℕ) (verdict : Verdict) → IsCheckReportOfReaders traces remaining text verdict →
+    IsCheckReportOfReaders traces known text verdict
+second_known traces None remaining has text verdict report =
+    record { trace = report.trace; cert = report.cert; whole_trace = report.whole_trace; whole_cert = tt; is_report = report.is_report }
+second_known traces (Some all) remaining has text verdict report = subst (λ r. IsCheckReportOfReaders traces r text verdict) has report
+
+check_of_known : (trace traces cert certs : Option (List ℕ)) → HasKnown trace traces → HasKnown cert certs → (text : List ℕ) (verdict : Verdict) → IsCheckReportOfReaders traces certs text verdict →
+    IsCheckReportOfReaders trace cert text verdict
+check_of_known trace traces cert certs has has_cert text verdict report = second_known trace cert certs has_cert text verdict (first_known trace traces certs has text verdict report)
+
+-- what is written of one kind of report is written of any kind that it is
+pub writes_as : (A B : List ℕ → Verdict → Type 0) → ((text : List ℕ) (verdict : Verdict) → A text verdict → B text verdict) → (old new : Option (List ℕ)) (outcome : Result Verdict Fault) →
+    IfOk outcome (WritesWhole A old new) → IfOk outcome (WritesWhole B old new)
+writes_as A B implied old new (Ok verdict) writes = (writes.0, implied writes.0 verdict writes.1, writes.2)
+writes_as A B implied old new (Err fault) writes = tt
+
+leaves_as : (A B : List ℕ → Verdict → Type 0) → ((text : List ℕ) (verdict : Verdict) → A text verdict → B text verdict) → (old new : Option (List ℕ)) (fault : Fault) →
+    LeavesAtFault A old new fault → LeavesAtFault B old new fault
+leaves_as A B implied old new OutOfMemory leaves = leaves
+leaves_as A B implied old new Read leaves = leaves
+leaves_as A B implied old new Write leaves = (leaves.0, leaves.1, implied leaves.1 leaves.0 leaves.2, leaves.3)
+leaves_as A B implied old new NoThread leaves = leaves
+leaves_as A B implied old new (Missing seed) leaves = leaves
+
+pub faults_as : (A B : List ℕ → Verdict → Type 0) → ((text : List ℕ) (verdict : Verdict) → A text verdict → B text verdict) → (old new : Option (List ℕ)) (outcome : Result Verdict Fault) →
+    IfErr outcome (LeavesAtFault A old new) → IfErr outcome (LeavesAtFault B old new)
+faults_as A B implied old new (Ok verdict) leaves = tt
+faults_as A B implied old new (Err fault) leaves = leaves_as A B implied old new fault leaves
+
+pub file_writes : (known remaining : Option (List ℕ)) → HasKnown known remaining → (old new : Option (List ℕ)) (outcome : Result Verdict Fault) → IfOk outcome (WritesReport remaining old new) →
+    IfOk outcome (WritesReport known old new)
+file_writes known remaining has = writes_as (IsReportOfReader remaining) (IsReportOfReader known) (report_of_known known remaining has)
+
+pub file_leaves : (known remaining : Option (List ℕ)) → HasKnown known remaining → (old new : Option (List ℕ)) (outcome : Result Verdict Fault) → IfErr outcome (LeavesFault remaining old new) →
+    IfErr outcome (LeavesFault known old new)
+file_leaves known remaining has = faults_as (IsReportOfReader remaining) (IsReportOfReader known) (report_of_known known remaining has)
+
+pub files_write : (trace traces cert certs : Option (List ℕ)) → HasKnown trace traces → HasKnown cert certs → (old new : Option (List ℕ)) (outcome : Result Verdict Fault) →
+    IfOk outcome (WritesCheckReport traces certs old new) → IfOk outcome (WritesCheckReport trace cert old new)
+files_write trace traces cert certs has has_cert = writes_as (IsCheckReportOfReaders traces certs) (IsCheckReportOfReaders trace cert) (check_of_known trace traces cert certs has has_cert)
+
+pub files_leave : (trace traces cert certs : Option (List ℕ)) → HasKnown trace traces → HasKnown cert certs → (old new : Option (List ℕ)) (outcome : Result Verdict Fault) →
+    IfErr outcome (LeavesCheckFault traces certs old new) → IfErr outcome (LeavesCheckFault trace cert old new)
+files_leave trace traces cert certs has has_cert = faults_as (IsCheckReportOfReaders traces certs) (IsCheckReportOfReaders trace cert) (check_of_known trace traces cert certs has has_cert)
+
+-- ---- files opened
+
+-- all of them are some of the first
+pub opens_all : (old new : Option (List (List ℕ))) (names : List (List ℕ)) → OpensNext old new names → OpensFirst old new names
+opens_all old new names opens = (length names, omega arith, subst (OpensNext old new) (sym (take-length names)) opens)
+
+-- one after the other
+pub opens_both : (old mid new : Option (List (List ℕ))) (name other : List ℕ) → OpensNext old mid (name ∷ []) → OpensNext mid new (other ∷ []) → OpensNext old new (name ∷ other ∷ [])
+opens_both None mid new name other opens also = tt
+opens_both (Some before) mid new name other opens also =
+    let both : OpensNext (Some (before ++ name ∷ [])) new (other ∷ []) = subst (λ m. OpensNext m new (other ∷ [])) opens also in
+    both ∙ ap Some (append_assoc before (name ∷ []) (other ∷ []))
+
+-- ---- how a request ends
+
+pub ends_by_report : (is_report : List ℕ → Verdict → Type 0) (o : Outputs) (outcome : Result Verdict Fault) (status : ℕ) → IfOk outcome (WritesWhole is_report o.written_before o.written) →
+    IfErr outcome (LeavesAtFault is_report o.written_before o.written) → IfOk outcome (λ verdict. (status ≡ status_of verdict) × Keeps o.errors_before o.errors) →
+    IfErr outcome (λ fault. WritesFaultLine o.errors_before o.errors fault × (status ≡ 4)) → EndsByReport is_report o status
+ends_by_report is_report o (Ok verdict) status writes leaves told faulty = inl (verdict, writes, told.1, told.0)
+ends_by_report is_report o (Err fault) status writes leaves told faulty = inr (fault, leaves, faulty)
+
+-- it holds of some text
+some_text : (known : Option Text) (Is : Text → Type 0) → OfText known Is → OfText None Is
+some_text None Is holds = holds
+some_text (Some text) Is holds = (text, holds)
+
+-- what was done with a known text was done
+pub does_asked : (known : Option Text) (asked : Asked) (input : Option (List ℕ)) (files : List ℕ → Option (List ℕ)) (o : Outputs) (status : ℕ) →
+    EndsAsAsked known asked input files o status → EndsAsAsked None asked input files o status
+does_asked known (judging file workers) input files o status ends = ends
+does_asked known (checking trace certificate) input files o status ends = ends
+does_asked known (replaying options program schedule) input files o status ends = ends
+does_asked known (running run) input files o status ends = ends
+does_asked known (making seed shape) input files o status ends = ends
+does_asked known (campaigning options) input files o status ends = ends
+does_asked known showing input files o status ends = some_text known (λ text. EndsShowing text o status) ends
+does_asked known refusing input files o status ends = some_text known (λ text. EndsRefusing text o status) ends
+
+-- where nothing was opened
+pub opens_none : (old : Option (List (List ℕ))) (names : List (List ℕ)) → OpensFirst old old names
+opens_none None names = (0, omega arith, tt)
+opens_none (Some before) names = (0, omega arith, ap Some (sym (append-nil before)))
+
+-- ---- standard input
+
+-- it is judged where no file is named
+pub unnamed_read : (file : Option (Bor (List ℕ))) (workers : ℕ) → reads_input (judging (option_map (λ f. f.now) file) workers) ≡ true → file ≡ None
+unnamed_read None workers reads = refl
+unnamed_read (Some name) workers reads = absurd (true≢false (sym reads))
+
+-- a status other than that of a fault is that of a verdict
+pub at_verdict : (outcome : Result Verdict Fault) (status : ℕ) (before errors : Option (List ℕ)) (P : Type 0) → IfErr outcome (λ fault. WritesFaultLine before errors fault × (status ≡ 4))
+    → IfOk outcome (λ _. P) → status ≢ 4 → P
+at_verdict (Ok verdict) status before errors P faulty holds other = holds
+at_verdict (Err fault) status before errors P faulty holds other = absurd (other faulty.1)

@@ -1,0 +1,6 @@
+pub mod CampaigningFacts
+pub mod EndFacts
+pub mod LawfulFacts
+pub mod PartedLines
+pub mod ReplayingFacts
+pub mod RunningFacts

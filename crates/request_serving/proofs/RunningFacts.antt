@@ -1,0 +1,36 @@
+-- Lemmas on how a run ends.
+use Rattle.std.proofs.Common.{◌≡◌, ◌∙◌, ◌⊎◌, ℕ, List, Ok, Err, Result, IfOk, IfErr, ap, subst, sym, inl, inr, true≢false}
+use Rattle.std.proofs.lemmas.Result.{IfOk-at_ok}
+use Rattle.std.specs.Prelude.{Option}
+use Rattle.std.specs.Io.KnownBytes.{Keeps}
+use Rattle.std.specs.Result.{MatchResult, is_ok}
+use Rattle.issue_desk.specs.declared.faults.RunFault.{RunFault}
+use Rattle.unit_core.specs.Records.{RecordedValue}
+use Rattle.request_serving.specs.declared.failures.RunFailure.{RunFailure}
+use Rattle.request_serving.specs.declared.failures.RunFailure.TheVariants.{Fault as ByFault, Torn, OtherProgram}
+use Rattle.request_serving.specs.Endings.{EndsByText, EndsUnrecorded, IsPrintable, Outputs, WritesText}
+use Rattle.request_serving.specs.Failures.{WritesFailureLine}
+use Rattle.tso_report.specs.declared.faults.Fault.TheVariants.{OutOfMemory, Read, NoThread}
+use Rattle.request_serving.specs.Internal.Runs.{LeavesAtFailure, OnFault}
+use Rattle.request_serving.proofs.ReplayingFacts.{leaves_nothing}
+
+-- What holds of a run's answer holds of the record, where only its failure was told in another way.
+pub run_recorded : (P : Result RecordedValue RunFault → Type 0) (ran : Result RecordedValue RunFault) (told : Result RecordedValue RunFailure) (Q : RunFault → Type 0) (recorded : RecordedValue) →
+    MatchResult ran (λ r. told ≡ Ok r) Q → is_ok told ≡ is_ok ran → told ≡ Ok recorded → P ran → P (Ok recorded)
+run_recorded P (Ok r) told Q recorded cases same is holds = IfOk-at_ok (λ y. P (Ok y)) is (subst (λ t. IfOk t (λ y. P (Ok y))) (sym cases) holds)
+run_recorded P (Err e) told Q recorded cases same is holds = absurd (true≢false (sym (ap is_ok is) ∙ same))
+
+-- a failure before anything is written
+pub failure_leaves_nothing : (is_text : List ℕ → ℕ → Type 0) (old : Option (List ℕ)) (failure : RunFailure) → OnFault (λ fault. (fault ≡ OutOfMemory) ⊎ ((fault ≡ Read) ⊎ (fault ≡ NoThread))) failure →
+    Keeps old old → LeavesAtFailure is_text old old failure
+failure_leaves_nothing is_text old (ByFault fault) before keeps = leaves_nothing (IsPrintable is_text) old fault before keeps
+failure_leaves_nothing is_text old (Torn p) before keeps = keeps
+failure_leaves_nothing is_text old OtherProgram before keeps = keeps
+
+pub ends_run : (is_text : List ℕ → ℕ → Type 0) (o : Outputs) (outcome : Result ℕ RunFailure) (status : ℕ) → IfOk outcome (WritesText is_text o.written_before o.written) →
+    IfErr outcome (LeavesAtFailure is_text o.written_before o.written) → IfOk outcome (λ told. (status ≡ told) × Keeps o.errors_before o.errors) →
+    IfErr outcome (λ failure. WritesFailureLine o.errors_before o.errors failure × (status ≡ 4)) → EndsByText is_text o status ⊎ EndsUnrecorded o status
+ends_run is_text o (Ok told) status writes leaves tells failed = inl (inl (subst (WritesText is_text o.written_before o.written) (sym tells.0) writes, tells.1))
+ends_run is_text o (Err (ByFault fault)) status writes leaves tells failed = inl (inr (fault, leaves, failed))
+ends_run is_text o (Err (Torn p)) status writes leaves tells failed = inr (leaves, failed.1, inl (p, failed.0))
+ends_run is_text o (Err OtherProgram) status writes leaves tells failed = inr (leaves, failed.1, inr failed.0)

@@ -1,0 +1,60 @@
+-- What the program prints of campaigns.
+use Rattle.std.specs.Prelude.{◌≡◌, ◌⊎◌, ℕ, ◌+◌, ◌<◌, ◌≤◌, ◌^◌, List, [], ◌∷◌, ◌++◌, codes, replicate, Option}
+use Rattle.std.specs.Io.KnownBytes.{Keeps}
+use Rattle.tso_ops.specs.Making.{IsShape, ShapeValue}
+use Rattle.command_line.specs.declared.options.CampaignOptions.{CampaignOptions}
+use Rattle.tso_report.specs.Campaigns.{IsCampaign}
+use Rattle.tso_report.specs.declared.faults.Fault.{Fault}
+use Rattle.tso_report.specs.declared.faults.Fault.TheVariants.{OutOfMemory, Read, Write, NoThread, Missing}
+use Rattle.tso_report.specs.Streams.{AppendsPrefix}
+use Rattle.tso_report.specs.Limits.{seed_count_limit}
+use Rattle.tso_report.specs.declared.verdicts.Verdict.{Verdict}
+use Rattle.unit_core.specs.Units.{UnitValue}
+use Rattle.request_serving.specs.Making.{IsShapeRefusal, asked_shape}
+use Rattle.request_serving.specs.Printing.{unit_of}
+use Rattle.request_serving.specs.Statuses.{status_of}
+
+-- the line of seeds past their limits
+abbrev pub seeds_refusal : List ℕ
+seeds_refusal = codes "REFUSED Seeds" ++ 10 ∷ []
+
+-- The seeds from the first on, so many, are not too many, and numbers of 64 bits.
+pub record AreSeeds (first count : ℕ) : Type 0 where
+  pub most : count ≤ seed_count_limit
+  pub last : first + count ≤ 2 ^ 64
+
+-- The campaign's programs are those of these seeds in this shape, within the limits.
+pub record AreProgramsOf (options : CampaignOptions) (shape : ShapeValue) (first : ℕ) : Type 0 where
+  pub is : shape ≡ asked_shape options.shape
+  pub shape_kept : IsShape (asked_shape options.shape)
+  pub first_is : first ≡ options.first
+  pub seeds : AreSeeds options.first options.count
+
+-- the units, one for each seed, as the options say
+abbrev pub units_of : CampaignOptions → List UnitValue
+units_of options = replicate options.count (unit_of options.unit)
+
+-- The numbers are a shape, but the seeds aren't within their limits.
+abbrev pub IsSeedsRefusal : CampaignOptions → List ℕ → ℕ → Type 0
+IsSeedsRefusal options text status = IsShape (asked_shape options.shape) × (AreSeeds options.first options.count → ⊥) × (text ≡ seeds_refusal) × (status ≡ 2)
+
+-- The text is that of a campaign over these seeds, on units as the options say.
+pub record IsCampaignOf (options : CampaignOptions) (text : List ℕ) (status : ℕ) : Type 0 where
+  pub shape : IsShape (asked_shape options.shape)
+  pub seeds : AreSeeds options.first options.count
+  pub verdict : Verdict
+  pub campaign : IsCampaign (asked_shape options.shape) options.first (units_of options) text verdict
+  pub ends : status ≡ status_of verdict
+
+-- What is printed of a campaign, and the status then.
+abbrev pub IsCampaignText : CampaignOptions → List ℕ → ℕ → Type 0
+IsCampaignText options text status =
+    IsShapeRefusal options.shape text status ⊎ (IsSeedsRefusal options text status ⊎ IsCampaignOf options text status)
+
+-- What a fault leaves of it: on Write a prefix of the text, else nothing was written. A missing seed is one of the campaign.
+abbrev pub LeavesCampaignText : CampaignOptions → Option (List ℕ) → Option (List ℕ) → Fault → Type 0
+LeavesCampaignText options old new OutOfMemory = Keeps old new
+LeavesCampaignText options old new Read = ⊥
+LeavesCampaignText options old new Write = (status : ℕ) × (text : List ℕ) × IsCampaignText options text status × AppendsPrefix old new text
+LeavesCampaignText options old new NoThread = Keeps old new
+LeavesCampaignText options old new (Missing seed) = (options.first ≤ seed) × (seed < options.first + options.count) × Keeps old new

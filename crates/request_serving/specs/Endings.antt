@@ -1,0 +1,173 @@
+-- How the program ends: what it has written to its output and to its errors, and its status.
+use Rattle.std.specs.Prelude.{◌≡◌, ◌≢◌, ◌⊎◌, ℕ, List, [], ◌∷◌, ◌++◌, codes, string_bytes, Option, Some, None}
+use Rattle.std.specs.Fmt.{decimal}
+use Rattle.std.specs.Io.KnownBytes.{Appends, Keeps}
+use Rattle.tso_report.specs.declared.verdicts.Verdict.{Verdict}
+use Rattle.tso_report.specs.declared.faults.Fault.{Fault}
+use Rattle.tso_report.specs.declared.faults.Fault.TheVariants.{OutOfMemory, Read, Write, NoThread, Missing}
+use Rattle.tso_report.specs.Streams.{AppendsPrefix}
+use Rattle.tso_report.specs.WrittenReports.{IsReportOfReader, LeavesAtFault, LeavesCheckFault, WritesCheckReport, WritesWhole}
+use Rattle.request_serving.specs.Campaigning.{IsCampaignText, LeavesCampaignText}
+use Rattle.request_serving.specs.Making.{IsMadeText, LeavesMadeText}
+use Rattle.request_serving.specs.Replaying.{IsReplayText}
+use Rattle.request_serving.specs.Running.{IsRunText}
+use Rattle.request_serving.specs.Statuses.{status_of}
+use Rattle.command_line.specs.declared.options.CampaignOptions.{CampaignOptions}
+use Rattle.command_line.specs.declared.options.RunOptions.{RunOptions}
+use Rattle.command_line.specs.declared.options.ShapeNumbers.{ShapeNumbers}
+use Rattle.command_line.specs.declared.requests.Request.{Request}
+use Rattle.command_line.specs.declared.requests.Request.TheVariants.{Show, Refuse}
+use Rattle.command_line.specs.Commands.{IsAskedFor}
+use Rattle.command_line.specs.Requests.{Asked, Text, asked_of, judging, checking, replaying, running, making, campaigning, showing, refusing}
+
+-- ---- the lines of faults
+
+-- the line that names a fault
+abbrev pub fault_line : List ℕ → List ℕ
+fault_line name = codes "FAULT " ++ name ++ 10 ∷ []
+
+-- Known errors grow by the fault's line or a prefix of it, since their writer may fail.
+abbrev pub WritesFaultLine : Option (List ℕ) → Option (List ℕ) → Fault → Type 0
+WritesFaultLine before errors OutOfMemory = AppendsPrefix before errors (fault_line (codes "OutOfMemory"))
+WritesFaultLine before errors Read = AppendsPrefix before errors (fault_line (codes "Read"))
+WritesFaultLine before errors Write = AppendsPrefix before errors (fault_line (codes "Write"))
+WritesFaultLine before errors NoThread = AppendsPrefix before errors (fault_line (codes "NoThread"))
+WritesFaultLine before errors (Missing seed) = AppendsPrefix before errors (fault_line (codes "Missing " ++ decimal seed))
+
+-- ---- what was written, and the status
+
+-- what the output and the errors held before, and what they hold at the end, where this is known
+pub record Outputs : Type 0 where
+  pub written_before : Option (List ℕ)
+  pub written : Option (List ℕ)
+  pub errors_before : Option (List ℕ)
+  pub errors : Option (List ℕ)
+
+abbrev pub outputs : Option (List ℕ) → Option (List ℕ) → Option (List ℕ) → Option (List ℕ) → Outputs
+outputs written_before written errors_before errors = record { written_before = written_before; written = written; errors_before = errors_before; errors = errors }
+
+-- The fault's line was written to the errors, and the status is 4.
+abbrev pub EndsByFault : Fault → Outputs → ℕ → Type 0
+EndsByFault fault o status = WritesFaultLine o.errors_before o.errors fault × (status ≡ 4)
+
+-- The output grows by the report and the errors by nothing, and the status is that of the report's verdict; or a fault left nothing or, on
+-- Write, a prefix of the report.
+abbrev pub EndsByReport : (List ℕ → Verdict → Type 0) → Outputs → ℕ → Type 0
+EndsByReport is_report o status =
+    ((verdict : Verdict) × WritesWhole is_report o.written_before o.written verdict × Keeps o.errors_before o.errors × (status ≡ status_of verdict))
+    ⊎ ((fault : Fault) × LeavesAtFault is_report o.written_before o.written fault × EndsByFault fault o status)
+
+-- the report of a trace, of which a reader has these bytes
+abbrev pub EndsJudged : Option (List ℕ) → Outputs → ℕ → Type 0
+EndsJudged remaining o status = EndsByReport (IsReportOfReader remaining) o status
+
+-- The report of a certificate, of which and of whose trace readers have these bytes. No thread is started for it, so none is refused.
+abbrev pub EndsChecked : Option (List ℕ) → Option (List ℕ) → Outputs → ℕ → Type 0
+EndsChecked traces certs o status =
+    ((verdict : Verdict) × WritesCheckReport traces certs o.written_before o.written verdict × Keeps o.errors_before o.errors × (status ≡ status_of verdict))
+    ⊎ ((fault : Fault) × (fault ≢ NoThread) × LeavesCheckFault traces certs o.written_before o.written fault × EndsByFault fault o status)
+
+-- known bytes of the output grow by a text of this kind, with this status
+abbrev pub WritesText : (List ℕ → ℕ → Type 0) → Option (List ℕ) → Option (List ℕ) → ℕ → Type 0
+WritesText is_text old new status = (text : List ℕ) × is_text text status × Appends old new text
+
+-- a text of this kind, with any status; its verdict isn't looked at
+abbrev pub IsPrintable : (List ℕ → ℕ → Type 0) → List ℕ → Verdict → Type 0
+IsPrintable is_text text verdict = (status : ℕ) × is_text text status
+
+-- The output grows by a text of this kind and the errors by nothing, and the status is the text's; or a fault left nothing or, on Write, a prefix of
+-- such a text.
+abbrev pub EndsByText : (List ℕ → ℕ → Type 0) → Outputs → ℕ → Type 0
+EndsByText is_text o status =
+    (WritesText is_text o.written_before o.written status × Keeps o.errors_before o.errors)
+    ⊎ ((fault : Fault) × LeavesAtFault (IsPrintable is_text) o.written_before o.written fault × EndsByFault fault o status)
+
+-- what is printed of a replay, where readers have these bytes of the program and of the schedule
+abbrev pub EndsReplayed : RunOptions → Option (List ℕ) → Option (List ℕ) → Outputs → ℕ → Type 0
+EndsReplayed options programs schedules o status = EndsByText (IsReplayText options programs schedules) o status
+
+-- A run gave no record: the output is as it was, the line of the fault was written to the errors, and the status is 4.
+abbrev pub EndsUnrecorded : Outputs → ℕ → Type 0
+EndsUnrecorded o status =
+    Keeps o.written_before o.written × (status ≡ 4)
+    × (((p : ℕ) × AppendsPrefix o.errors_before o.errors (fault_line (codes "Torn " ++ decimal p))) ⊎ AppendsPrefix o.errors_before o.errors (fault_line (codes "OtherProgram")))
+
+-- what is printed of a run, where a reader has these bytes of the program, or that it gave no record
+abbrev pub EndsRun : RunOptions → Option (List ℕ) → Outputs → ℕ → Type 0
+EndsRun options programs o status = EndsByText (IsRunText options programs) o status ⊎ EndsUnrecorded o status
+
+-- The output grows by the text of the program that a seed draws, or that of a refusal, and the errors by nothing, and the status is the text's; or a
+-- fault, OutOfMemory or Write, left nothing or, on Write, a prefix of such a text.
+abbrev pub EndsMade : ℕ → ShapeNumbers → Outputs → ℕ → Type 0
+EndsMade seed numbers o status =
+    (WritesText (IsMadeText seed numbers) o.written_before o.written status × Keeps o.errors_before o.errors)
+    ⊎ ((fault : Fault) × LeavesMadeText seed numbers o.written_before o.written fault × EndsByFault fault o status)
+
+-- The output grows by the text of a campaign, or that of a refusal, and the errors by nothing, and the status is the text's; or a fault left nothing or,
+-- on Write, a prefix of such a text.
+abbrev pub EndsCampaign : CampaignOptions → Outputs → ℕ → Type 0
+EndsCampaign options o status =
+    (WritesText (IsCampaignText options) o.written_before o.written status × Keeps o.errors_before o.errors)
+    ⊎ ((fault : Fault) × LeavesCampaignText options o.written_before o.written fault × EndsByFault fault o status)
+
+-- The output grows by the text and the errors by nothing, and the status is 0; or the fault Write left a prefix of the text.
+abbrev pub EndsShowing : List ℕ → Outputs → ℕ → Type 0
+EndsShowing text o status =
+    (Appends o.written_before o.written text × Keeps o.errors_before o.errors × (status ≡ 0))
+    ⊎ (AppendsPrefix o.written_before o.written text × EndsByFault Write o status)
+
+-- The errors grow by the text or a prefix of it, since their writer may fail, and the output by nothing; and the status is 2.
+abbrev pub EndsRefusing : List ℕ → Outputs → ℕ → Type 0
+EndsRefusing text o status = Keeps o.written_before o.written × AppendsPrefix o.errors_before o.errors text × (status ≡ 2)
+
+-- memory ran out before anything was written to the output
+abbrev pub EndsOutOfMemory : Outputs → ℕ → Type 0
+EndsOutOfMemory o status = Keeps o.written_before o.written × EndsByFault OutOfMemory o status
+
+-- ---- what requests and arguments lead to
+
+-- the bytes that are judged: those of the file that is named, else those of standard input
+abbrev pub judged_bytes : Option (List ℕ) → Option (List ℕ) → (List ℕ → Option (List ℕ)) → Option (List ℕ)
+judged_bytes None input files = input
+judged_bytes (Some name) input files = files name
+
+-- it holds of the text that is known, or of some text where none is
+abbrev pub OfText : Option Text → (Text → Type 0) → Type 0
+OfText None Is = (text : Text) × Is text
+OfText (Some text) Is = Is text
+
+-- What was asked for was done, where standard input has these bytes, and the file of each name those. A text that was shown, or that refuses, is the one that
+-- is known, where one is.
+abbrev pub EndsAsAsked : Option Text → Asked → Option (List ℕ) → (List ℕ → Option (List ℕ)) → Outputs → ℕ → Type 0
+EndsAsAsked known (judging file workers) input files o status = EndsJudged (judged_bytes file input files) o status
+EndsAsAsked known (checking trace certificate) input files o status = EndsChecked (files trace) (files certificate) o status
+EndsAsAsked known (replaying options program schedule) input files o status = EndsReplayed options (files program) (files schedule) o status
+EndsAsAsked known (running run) input files o status = EndsRun run.options (files run.program) o status
+EndsAsAsked known (making seed shape) input files o status = EndsMade seed shape o status
+EndsAsAsked known (campaigning options) input files o status = EndsCampaign options o status
+EndsAsAsked known showing input files o status = OfText known (λ text. EndsShowing text o status)
+EndsAsAsked known refusing input files o status = OfText known (λ text. EndsRefusing text o status)
+
+-- the text that a request is to show, or that refuses it
+abbrev pub text_in : Request → Option Text
+text_in (Show text) = Some (string_bytes text)
+text_in (Refuse text) = Some (string_bytes text)
+text_in _ = None
+
+-- what the request asks for was done, with the request's own text where it has one
+abbrev pub EndsAs : Request → Option (List ℕ) → (List ℕ → Option (List ℕ)) → Outputs → ℕ → Type 0
+EndsAs request input files o status = EndsAsAsked (text_in request) (asked_of request) input files o status
+
+-- what was asked for was done, with any text, or memory ran out while the arguments were read
+abbrev pub Does : Asked → Option (List ℕ) → (List ℕ → Option (List ℕ)) → Outputs → ℕ → Type 0
+Does asked input files o status = EndsAsAsked None asked input files o status ⊎ EndsOutOfMemory o status
+
+-- what clap says that the arguments ask for was done, or memory ran out while they were read
+abbrev pub DoesWhatClapSays : List Text → Option (List ℕ) → (List ℕ → Option (List ℕ)) → Outputs → ℕ → Type 0
+DoesWhatClapSays arguments input files o status = ((asked : Asked) × IsAskedFor arguments asked × EndsAsAsked None asked input files o status) ⊎ EndsOutOfMemory o status
+
+-- ---- arguments that can't be had
+
+-- the line that refuses arguments of which one is not UTF-8
+abbrev pub invalid_utf8_line : List ℕ
+invalid_utf8_line = codes "error: invalid UTF-8 was detected in one or more arguments" ++ 10 ∷ []

@@ -1,0 +1,20 @@
+-- What a run that failed leaves, before its failure is told.
+use Rattle.std.specs.Prelude.{ℕ, List, Option}
+use Rattle.std.specs.Io.KnownBytes.{Keeps}
+use Rattle.request_serving.specs.declared.failures.RunFailure.{RunFailure}
+use Rattle.request_serving.specs.declared.failures.RunFailure.TheVariants.{Fault as ByFault, Torn, OtherProgram}
+use Rattle.tso_report.specs.declared.faults.Fault.{Fault}
+use Rattle.tso_report.specs.WrittenReports.{LeavesAtFault}
+use Rattle.request_serving.specs.Endings.{IsPrintable}
+
+-- it holds of the fault, where there is one
+abbrev pub OnFault : (Fault → Type 0) → RunFailure → Type 0
+OnFault Is (ByFault fault) = Is fault
+OnFault Is (Torn p) = Unit {0}
+OnFault Is OtherProgram = Unit {0}
+
+-- What a failure leaves of such a text: what the fault does, or nothing where there is no record.
+abbrev pub LeavesAtFailure : (List ℕ → ℕ → Type 0) → Option (List ℕ) → Option (List ℕ) → RunFailure → Type 0
+LeavesAtFailure is_text old new (ByFault fault) = LeavesAtFault (IsPrintable is_text) old new fault
+LeavesAtFailure is_text old new (Torn p) = Keeps old new
+LeavesAtFailure is_text old new OtherProgram = Keeps old new

@@ -1,0 +1,12 @@
+pub mod BenchUnits
+pub mod Campaigning
+pub mod Endings
+pub mod Failures
+pub mod Internal
+pub mod LawfulRequests
+pub mod Making
+pub mod OpenedFiles
+pub mod Printing
+pub mod Replaying
+pub mod Running
+pub mod Statuses

@@ -1,0 +1,62 @@
+//! What is printed of records and of refused texts.
+ghost use Rattle.std.specs.Prelude.{◌≡◌, ◌≢◌, ◌⊎◌, ◌≤◌, IfOk, IfErr};
+ghost use Rattle.tso_report.specs.declared.faults.Fault.{Fault};
+ghost use Rattle.tso_report.specs.Limits.{worker_limit};
+ghost use Rattle.tso_report.specs.Reports.{refusal_text};
+ghost use Rattle.tso_text.specs.declared.faults.Why.{Why};
+ghost use Rattle.request_serving.specs.Printing.{PrintsRecord};
+
+use crate::endings::{DONE, REFUSED, status_of};
+use command_line::{Printing, RunOptions};
+use std::alloc::Global;
+use std::sync::Wait;
+use std::thread::Threads;
+use tso_ops::OutOfMemory;
+use tso_report::{Fault, print_account, render_refusal, report_of_record};
+use tso_text::{TextFault, print_trace};
+use unit_core::{Account, Recorded};
+
+/// A text to be written, and the status that the program then ends with.
+#[derive(Drop)]
+pub(crate) struct Printed {
+    pub text: Vec<u8>,
+    pub status: u8,
+}
+
+/// What is printed of a record: its trace where the options ask for it, else the report of the trace and the account. The
+/// report of a lawful record's trace is never a violation.
+pub(crate) fn print_record<H: Threads + Wait + AllocGlobal>(
+    rt: &H,
+    options: &RunOptions,
+    recorded: &Recorded,
+    account: &Account,
+) -> Result<Printed, Fault>
+    requires some { 1 ≤ options.now.workers }
+    requires most { options.now.workers ≤ worker_limit }
+    ensures text { IfOk result (λ printed. PrintsRecord options.now.printing recorded.now account.now printed.text.items printed.status) }
+    ensures fault { IfErr result (λ fault. (fault ≡ Fault.OutOfMemory) ⊎ (fault ≡ Fault.NoThread)) }
+{
+    match options.printing {
+        Printing::Trace => Ok(Printed {
+            text: print_trace(rt.alloc(), recorded.trace())?.into_bytes(),
+            status: DONE,
+        }),
+        Printing::Report => {
+            let report = report_of_record(rt, rt.alloc(), recorded, options.workers)?;
+            let status = status_of(report.verdict);
+            let mut text = report.text.into_bytes();
+            text.extend_from_slice(&print_account(rt.alloc(), account)?)?;
+            Ok(Printed { text, status })
+        }
+    }
+}
+
+/// The line of the refusal of a text.
+pub(crate) fn print_refusal(alloc: Global, fault: TextFault) -> Result<Printed, OutOfMemory>
+    ensures { IfOk result (λ printed. fault.why ≢ Why.OutOfMemory × (printed.text.items ≡ refusal_text fault.line fault.why) × (printed.status ≡ 2)) }
+{
+    Ok(Printed {
+        text: render_refusal(alloc, fault)?.text.into_bytes(),
+        status: REFUSED,
+    })
+}

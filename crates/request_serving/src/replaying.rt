@@ -1,0 +1,129 @@
+//! The way of a replay: read the program, then the schedule, run the one by the other, judge or print, write.
+ghost use Rattle.std.specs.Prelude.{◌≡◌, ◌⊎◌, ◌≤◌, [], ◌∷◌, IfOk, IfErr, OnOk};
+ghost use Rattle.command_line.specs.Requests.{capacity_limit};
+ghost use Rattle.tso_report.specs.declared.faults.Fault.{Fault};
+ghost use Rattle.tso_report.specs.Limits.{worker_limit};
+ghost use Rattle.tso_report.specs.WrittenReports.{LeavesAtFault};
+ghost use Rattle.request_serving.specs.Endings.{IsPrintable, WritesText};
+ghost use Rattle.request_serving.specs.OpenedFiles.{OpensFirst, OpensNext};
+ghost use Rattle.request_serving.specs.Printing.{unit_of};
+ghost use Rattle.request_serving.specs.Replaying.{IsReplayOf, IsReplayText, IsScheduledText};
+
+use crate::files::{NamedFiles, open};
+use crate::printing::{Printed, print_record, print_refusal};
+use crate::units::make_unit;
+use command_line::RunOptions;
+use std::io::{Read, Write};
+use std::sync::Wait;
+use std::thread::Threads;
+use tso_ops::Program;
+use tso_report::{Fault, read_all, write_text};
+use tso_text::{Act, MAX_TEXT_BYTES, read_program, read_schedule};
+use unit_core::{Account, MemoryUnit, replay};
+
+/// Replays the program in one file by the schedule in another, and writes what the options ask for: the status. Both
+/// are opened before one is read.
+pub(crate) fn replay_named<H: Threads + Wait + AllocGlobal, O: NamedFiles, W: Write>(
+    rt: &H,
+    options: &RunOptions,
+    program: &str,
+    schedule: &str,
+    files: &mut O,
+    writer: &mut W,
+) -> Result<u8, Fault>
+    requires some { 1 ≤ options.now.workers }
+    requires most { options.now.workers ≤ worker_limit }
+    requires capacity { (1 ≤ options.now.unit.capacity) × (options.now.unit.capacity ≤ capacity_limit) }
+    requires trigger { 1 ≤ options.now.unit.trigger }
+    ensures text { IfOk result (WritesText (IsReplayText options.now (O.bytes files.old program.now) (O.bytes files.old schedule.now)) (W.contents writer.old) (W.contents writer.new)) }
+    ensures fault { IfErr result (LeavesAtFault (IsPrintable (IsReplayText options.now (O.bytes files.old program.now) (O.bytes files.old schedule.now))) (W.contents writer.old) (W.contents writer.new)) }
+    ensures first { OpensFirst (O.opened files.old) (O.opened files.new) (program.now ∷ schedule.now ∷ []) }
+    ensures opened { OnOk result (OpensNext (O.opened files.old) (O.opened files.new) (program.now ∷ schedule.now ∷ [])) }
+{
+    let mut program = open(files, program)?;
+    let mut schedule = open(files, schedule)?;
+    let printed = replay_texts(rt, options, &mut program, &mut schedule)?;
+    write_text(writer, &printed.text)?;
+    Ok(printed.status)
+}
+
+/// What is printed of a replay of the program that one reader has by the schedule that another has. The schedule isn't
+/// read where the program is refused.
+fn replay_texts<H: Threads + Wait + AllocGlobal, P: Read, S: Read>(
+    rt: &H,
+    options: &RunOptions,
+    programs: &mut P,
+    schedules: &mut S,
+) -> Result<Printed, Fault>
+    requires some { 1 ≤ options.now.workers }
+    requires most { options.now.workers ≤ worker_limit }
+    requires capacity { (1 ≤ options.now.unit.capacity) × (options.now.unit.capacity ≤ capacity_limit) }
+    requires trigger { 1 ≤ options.now.unit.trigger }
+    ensures text { IfOk result (λ printed. IsReplayText options.now (P.remaining programs.old) (S.remaining schedules.old) printed.text.items printed.status) }
+    ensures fault { IfErr result (λ fault. (fault ≡ Fault.OutOfMemory) ⊎ ((fault ≡ Fault.Read) ⊎ (fault ≡ Fault.NoThread))) }
+{
+    let input = read_all(rt.alloc(), programs, MAX_TEXT_BYTES)?;
+    match read_program(rt.alloc(), &input) {
+        Ok(program) => replay_program(rt, options, &program, schedules),
+        Err(fault) => Ok(print_refusal(rt.alloc(), fault)?),
+    }
+}
+
+/// What is printed of a replay of the program by the schedule that a reader has.
+fn replay_program<H: Threads + Wait + AllocGlobal, S: Read>(
+    rt: &H,
+    options: &RunOptions,
+    program: &Program,
+    schedules: &mut S,
+) -> Result<Printed, Fault>
+    requires some { 1 ≤ options.now.workers }
+    requires most { options.now.workers ≤ worker_limit }
+    requires capacity { (1 ≤ options.now.unit.capacity) × (options.now.unit.capacity ≤ capacity_limit) }
+    requires trigger { 1 ≤ options.now.unit.trigger }
+    ensures text { IfOk result (λ printed. IsScheduledText options.now program.now (S.remaining schedules.old) printed.text.items printed.status) }
+    ensures fault { IfErr result (λ fault. (fault ≡ Fault.OutOfMemory) ⊎ ((fault ≡ Fault.Read) ⊎ (fault ≡ Fault.NoThread))) }
+{
+    let input = read_all(rt.alloc(), schedules, MAX_TEXT_BYTES)?;
+    match read_schedule(rt.alloc(), &input) {
+        Ok(schedule) => replay_by(rt, options, program, &schedule),
+        Err(fault) => Ok(print_refusal(rt.alloc(), fault)?),
+    }
+}
+
+/// What is printed of a replay of the program by the schedule.
+fn replay_by<H: Threads + Wait + AllocGlobal>(
+    rt: &H,
+    options: &RunOptions,
+    program: &Program,
+    schedule: &[Act],
+) -> Result<Printed, Fault>
+    requires some { 1 ≤ options.now.workers }
+    requires most { options.now.workers ≤ worker_limit }
+    requires capacity { (1 ≤ options.now.unit.capacity) × (options.now.unit.capacity ≤ capacity_limit) }
+    requires trigger { 1 ≤ options.now.unit.trigger }
+    ensures text { IfOk result (λ printed. IsReplayOf options.now program.now schedule.now printed.text.items printed.status) }
+    ensures fault { IfErr result (λ fault. (fault ≡ Fault.OutOfMemory) ⊎ (fault ≡ Fault.NoThread)) }
+{
+    let alloc = rt.alloc();
+    let unit = make_unit(alloc, options.unit)?;
+    replay_on(rt, Box::new(alloc, unit)?, options, program, schedule)
+}
+
+/// What is printed of a replay on this unit, which is as the options ask for.
+fn replay_on<H: Threads + Wait + AllocGlobal>(
+    rt: &H,
+    unit: Box<dyn MemoryUnit + Send>,
+    options: &RunOptions,
+    program: &Program,
+    schedule: &[Act],
+) -> Result<Printed, Fault>
+    requires unit { value_of unit ≡ unit_of options.now.unit }
+    requires some { 1 ≤ options.now.workers }
+    requires most { options.now.workers ≤ worker_limit }
+    ensures text { IfOk result (λ printed. IsReplayOf options.now program.now schedule.now printed.text.items printed.status) }
+    ensures fault { IfErr result (λ fault. (fault ≡ Fault.OutOfMemory) ⊎ (fault ≡ Fault.NoThread)) }
+{
+    let mut account = Account::new();
+    let recorded = replay(rt.alloc(), unit, program, schedule, &mut account)?;
+    print_record(rt, options, &recorded, &account)
+}

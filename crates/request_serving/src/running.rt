@@ -1,0 +1,107 @@
+//! The way of a run: read the program, run it with a thread per processor, judge or print, write.
+ghost use Rattle.std.specs.Prelude.{◌≡◌, ◌⊎◌, ◌≤◌, [], ◌∷◌, IfOk, IfErr, OnOk};
+ghost use Rattle.command_line.specs.Requests.{capacity_limit};
+ghost use Rattle.tso_report.specs.declared.faults.Fault.{Fault};
+ghost use Rattle.tso_report.specs.Limits.{worker_limit};
+ghost use Rattle.request_serving.specs.Endings.{WritesText};
+ghost use Rattle.request_serving.specs.Internal.Runs.{LeavesAtFailure, OnFault};
+ghost use Rattle.request_serving.specs.OpenedFiles.{OpensNext};
+ghost use Rattle.request_serving.specs.Printing.{unit_of};
+ghost use Rattle.request_serving.specs.Running.{IsRunPrinted, IsRunText};
+
+use crate::failures::{RunFailure, failure_of};
+use crate::files::{NamedFiles, open};
+use crate::printing::{Printed, print_record, print_refusal};
+use crate::units::make_unit;
+use command_line::RunRequest;
+use issue_desk::{Issuers, OpenGate, run};
+use std::io::{Read, Write};
+use std::sync::Wait;
+use std::thread::Threads;
+use tso_ops::Program;
+use tso_report::{read_all, write_text};
+use tso_text::{MAX_TEXT_BYTES, read_program};
+use unit_core::{Account, MemoryUnit};
+
+/// Runs the program in a file, and writes what the request's options ask for: the status.
+pub(crate) fn run_named<H: Threads + Wait + Sync + AllocGlobal, O: NamedFiles, W: Write>(
+    rt: &H,
+    request: &RunRequest<'_>,
+    files: &mut O,
+    writer: &mut W,
+) -> Result<u8, RunFailure>
+    requires some { 1 ≤ request.now.options.workers }
+    requires most { request.now.options.workers ≤ worker_limit }
+    requires capacity { (1 ≤ request.now.options.unit.capacity) × (request.now.options.unit.capacity ≤ capacity_limit) }
+    requires trigger { 1 ≤ request.now.options.unit.trigger }
+    ensures text { IfOk result (WritesText (IsRunText request.now.options (O.bytes files.old request.now.program.now)) (W.contents writer.old) (W.contents writer.new)) }
+    ensures fault { IfErr result (LeavesAtFailure (IsRunText request.now.options (O.bytes files.old request.now.program.now)) (W.contents writer.old) (W.contents writer.new)) }
+    ensures opened { OpensNext (O.opened files.old) (O.opened files.new) (request.now.program.now ∷ []) }
+{
+    let mut program = open(files, request.program)?;
+    let printed = run_text(rt, request, &mut program)?;
+    write_text(writer, &printed.text)?;
+    Ok(printed.status)
+}
+
+/// What is printed of a run of the program that the reader has.
+fn run_text<H: Threads + Wait + Sync + AllocGlobal, P: Read>(
+    rt: &H,
+    request: &RunRequest<'_>,
+    programs: &mut P,
+) -> Result<Printed, RunFailure>
+    requires some { 1 ≤ request.now.options.workers }
+    requires most { request.now.options.workers ≤ worker_limit }
+    requires capacity { (1 ≤ request.now.options.unit.capacity) × (request.now.options.unit.capacity ≤ capacity_limit) }
+    requires trigger { 1 ≤ request.now.options.unit.trigger }
+    ensures text { IfOk result (λ printed. IsRunText request.now.options (P.remaining programs.old) printed.text.items printed.status) }
+    ensures fault { IfErr result (OnFault (λ fault. (fault ≡ Fault.OutOfMemory) ⊎ ((fault ≡ Fault.Read) ⊎ (fault ≡ Fault.NoThread)))) }
+{
+    let input = read_all(rt.alloc(), programs, MAX_TEXT_BYTES)?;
+    match read_program(rt.alloc(), &input) {
+        Ok(program) => run_program(rt, request, &program),
+        Err(fault) => Ok(print_refusal(rt.alloc(), fault)?),
+    }
+}
+
+/// What is printed of a run of the program.
+fn run_program<H: Threads + Wait + Sync + AllocGlobal>(
+    rt: &H,
+    request: &RunRequest<'_>,
+    program: &Program,
+) -> Result<Printed, RunFailure>
+    requires some { 1 ≤ request.now.options.workers }
+    requires most { request.now.options.workers ≤ worker_limit }
+    requires capacity { (1 ≤ request.now.options.unit.capacity) × (request.now.options.unit.capacity ≤ capacity_limit) }
+    requires trigger { 1 ≤ request.now.options.unit.trigger }
+    ensures text { IfOk result (λ printed. IsRunPrinted request.now.options program.now printed.text.items printed.status) }
+    ensures fault { IfErr result (OnFault (λ fault. (fault ≡ Fault.OutOfMemory) ⊎ (fault ≡ Fault.NoThread))) }
+{
+    let alloc = rt.alloc();
+    let unit = make_unit(alloc, request.options.unit)?;
+    run_on(rt, Box::new(alloc, unit)?, request, program)
+}
+
+/// What is printed of a run on this unit, which is as the request asks for.
+fn run_on<H: Threads + Wait + Sync + AllocGlobal>(
+    rt: &H,
+    unit: Box<dyn MemoryUnit + Send>,
+    request: &RunRequest<'_>,
+    program: &Program,
+) -> Result<Printed, RunFailure>
+    requires unit { value_of unit ≡ unit_of request.now.options.unit }
+    requires some { 1 ≤ request.now.options.workers }
+    requires most { request.now.options.workers ≤ worker_limit }
+    ensures text { IfOk result (λ printed. IsRunPrinted request.now.options program.now printed.text.items printed.status) }
+    ensures fault { IfErr result (OnFault (λ fault. (fault ≡ Fault.OutOfMemory) ⊎ (fault ≡ Fault.NoThread))) }
+{
+    let issuers = Issuers {
+        gate: &OpenGate,
+        drain_seed: request.drain_seed,
+    };
+    let mut account = Account::new();
+    match run(rt, rt.alloc(), program, unit, issuers, &mut account) {
+        Ok(recorded) => Ok(print_record(rt, &request.options, &recorded, &account)?),
+        Err(fault) => Err(failure_of(fault)),
+    }
+}

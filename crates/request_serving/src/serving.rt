@@ -1,0 +1,162 @@
+//! What the program does for each request.
+ghost use Rattle.std.specs.Prelude.{◌≡◌, ◌≢◌, ◌≤◌, [], ◌∷◌, IfOk, IfErr, OnOk, OnSome, None, true, false, option_to_list, string_bytes};
+ghost use Rattle.command_line.specs.Requests.{HasUnitRanges, HasWorkers, asked_of};
+ghost use Rattle.tso_report.specs.Limits.{trace_read_limit, worker_limit};
+ghost use Rattle.tso_report.specs.Streams.{AppendsPrefix, LosesPrefix};
+ghost use Rattle.tso_report.specs.declared.faults.Fault.TheVariants.{NoThread};
+ghost use Rattle.tso_report.specs.WrittenReports.{LeavesCheckFault, LeavesFault, WritesCheckReport, WritesReport};
+ghost use Rattle.request_serving.specs.Endings.{EndsAs, EndsShowing, judged_bytes, outputs};
+ghost use Rattle.request_serving.specs.LawfulRequests.{runs_on_lawful_unit};
+ghost use Rattle.request_serving.specs.OpenedFiles.{OpensFirst, OpensNext, files_named, name_in, reads_input};
+
+use crate::campaigning::campaign_by;
+use crate::endings::{DONE, REFUSED, end, end_by, end_run, end_with};
+use crate::files::{NamedFiles, open};
+use crate::making::make;
+use crate::replaying::replay_named;
+use crate::running::run_named;
+use command_line::Request;
+use std::alloc::Global;
+use std::io::{Read, Write};
+use std::sync::Wait;
+use std::thread::Threads;
+use tso_report::{Fault, MAX_WORKERS, Verdict, check_texts, judge, write_text};
+
+/// The command line lets just those numbers of workers through that a trace is judged with.
+const _: () = prove!(command_line::MAX_WORKERS == MAX_WORKERS);
+
+/// Does what a request asks for, and answers the status that the program ends with.
+///
+/// `Judge` judges the trace in a file, or else what `reader` has, and writes its report to `writer`; `Check` checks a
+/// certificate against a trace and writes the report of both. Their status is that of the verdict: 0 where no violation
+/// was found, 2 where a text or the certificate was refused, 3 at a violation or a certificate that holds. `Replay` and
+/// `Run` print what a record gives: on a lawful unit never a violation, so their status isn't 3 there. `Show` writes
+/// its text to `writer`, with status 0, and `Refuse` to `errors`, with status 2. At a fault the status is 4 and one
+/// line, as `FAULT Read`, is written to `errors`; a file that can't be opened is the fault Read. All files that the
+/// request names are opened, in their order, before one is read.
+pub fn serve<H: Threads + Wait + Sync + AllocGlobal, O: NamedFiles, R: Read, W: Write, E: Write>(
+    rt: &H,
+    request: &Request<'_>,
+    files: &mut O,
+    reader: &mut R,
+    writer: &mut W,
+    errors: &mut E,
+) -> u8
+    requires workers { HasWorkers (asked_of request.now) }
+    requires unit { HasUnitRanges (asked_of request.now) }
+    ensures ends { EndsAs request.now (R.remaining reader.old) (O.bytes files.old) (outputs (W.contents writer.old) (W.contents writer.new) (E.contents errors.old) (E.contents errors.new)) result }
+    ensures no_false_alarm { runs_on_lawful_unit (asked_of request.now) ≡ true → result ≢ 3 }
+    ensures first { OpensFirst (O.opened files.old) (O.opened files.new) (files_named (asked_of request.now)) }
+    ensures opened { result ≢ 4 → OpensNext (O.opened files.old) (O.opened files.new) (files_named (asked_of request.now)) }
+    ensures unread { reads_input (asked_of request.now) ≡ false → reader.new ≡ reader.old }
+    ensures taken { reads_input (asked_of request.now) ≡ true → result ≢ 4 → LosesPrefix trace_read_limit (R.remaining reader.old) (R.remaining reader.new) }
+{
+    match request {
+        Request::Judge { file, workers } => end(
+            judge_named(rt, *file, *workers, files, reader, writer),
+            errors,
+        ),
+        Request::Check { trace, certificate } => {
+            let checked = check_files(rt.alloc(), trace, certificate, files, writer);
+            end(checked, errors)
+        }
+        Request::Replay {
+            options,
+            program,
+            schedule,
+        } => {
+            let replayed = replay_named(rt, options, program, schedule, files, writer);
+            end_with(replayed, errors)
+        }
+        Request::Run(run_request) => {
+            let ran = run_named(rt, run_request, files, writer);
+            end_run(ran, errors)
+        }
+        Request::Make { seed, shape } => end_with(make(rt.alloc(), *seed, *shape, writer), errors),
+        Request::Campaign(options) => {
+            let ran = campaign_by(rt, options, writer);
+            end_with(ran, errors)
+        }
+        Request::Show(text) => show(text, writer, errors),
+        Request::Refuse(text) => refuse(text, errors),
+    }
+}
+
+/// Judges the trace in a file, or else what the reader has.
+fn judge_named<H: Threads + Wait + Sync + AllocGlobal, O: NamedFiles, R: Read, W: Write>(
+    rt: &H,
+    file: Option<&str>,
+    workers: usize,
+    files: &mut O,
+    reader: &mut R,
+    writer: &mut W,
+) -> Result<Verdict, Fault>
+    requires some { 1 ≤ workers }
+    requires most { workers ≤ worker_limit }
+    ensures report { let remaining = judged_bytes (name_in file.entry) (R.remaining reader.old) (O.bytes files.old) in IfOk result (WritesReport remaining (W.contents writer.old) (W.contents writer.new)) }
+    ensures fault { let remaining = judged_bytes (name_in file.entry) (R.remaining reader.old) (O.bytes files.old) in IfErr result (LeavesFault remaining (W.contents writer.old) (W.contents writer.new)) }
+    ensures opened { OpensNext (O.opened files.old) (O.opened files.new) (option_to_list (name_in file.entry)) }
+    ensures unread { OnSome file.entry (reader.new ≡ reader.old) }
+    ensures taken { file.entry ≡ None → IfOk result (λ _. LosesPrefix trace_read_limit (R.remaining reader.old) (R.remaining reader.new)) }
+{
+    match file {
+        None => judge(rt, rt.alloc(), reader, writer, workers),
+        Some(name) => judge_file(rt, name, files, writer, workers),
+    }
+}
+
+/// Judges the trace in a file.
+fn judge_file<H: Threads + Wait + Sync + AllocGlobal, O: NamedFiles, W: Write>(
+    rt: &H,
+    name: &str,
+    files: &mut O,
+    writer: &mut W,
+    workers: usize,
+) -> Result<Verdict, Fault>
+    requires some { 1 ≤ workers }
+    requires most { workers ≤ worker_limit }
+    ensures report { IfOk result (WritesReport (O.bytes files.old name.now) (W.contents writer.old) (W.contents writer.new)) }
+    ensures fault { IfErr result (LeavesFault (O.bytes files.old name.now) (W.contents writer.old) (W.contents writer.new)) }
+    ensures opened { OpensNext (O.opened files.old) (O.opened files.new) (name.now ∷ []) }
+{
+    let mut file = open(files, name)?;
+    judge(rt, rt.alloc(), &mut file, writer, workers)
+}
+
+/// Checks the certificate in one file against the trace in another. Both are opened before one is read.
+fn check_files<O: NamedFiles, W: Write>(
+    alloc: Global,
+    trace: &str,
+    certificate: &str,
+    files: &mut O,
+    writer: &mut W,
+) -> Result<Verdict, Fault>
+    ensures report { IfOk result (WritesCheckReport (O.bytes files.old trace.now) (O.bytes files.old certificate.now) (W.contents writer.old) (W.contents writer.new)) }
+    ensures fault { IfErr result (LeavesCheckFault (O.bytes files.old trace.now) (O.bytes files.old certificate.now) (W.contents writer.old) (W.contents writer.new)) }
+    ensures no_thread { IfErr result (λ fault. fault ≢ NoThread) }
+    ensures first { OpensFirst (O.opened files.old) (O.opened files.new) (trace.now ∷ certificate.now ∷ []) }
+    ensures opened { OnOk result (OpensNext (O.opened files.old) (O.opened files.new) (trace.now ∷ certificate.now ∷ [])) }
+{
+    let mut trace = open(files, trace)?;
+    let mut certificate = open(files, certificate)?;
+    check_texts(alloc, &mut trace, &mut certificate, writer)
+}
+
+/// Writes a text that was asked for.
+fn show<W: Write, E: Write>(text: &str, writer: &mut W, errors: &mut E) -> u8
+    ensures { EndsShowing text.now (outputs (W.contents writer.old) (W.contents writer.new) (E.contents errors.old) (E.contents errors.new)) result }
+{
+    if write_text(writer, text.as_bytes()).is_err() {
+        return end_by(Fault::Write, errors);
+    }
+    DONE
+}
+
+/// Writes why the arguments were refused. Nothing can be done where that can't be written.
+pub(crate) fn refuse<E: Write>(text: &str, errors: &mut E) -> u8
+    ensures text { AppendsPrefix (E.contents errors.old) (E.contents errors.new) text.now }
+    ensures status { result ≡ 2 }
+{
+    let _ = write_text(errors, text.as_bytes());
+    REFUSED
+}

@@ -1,0 +1,320 @@
+//! Requests over files in memory, which note the names that they are asked to open.
+
+ghost use Rattle.command_line.specs.Requests.{HasUnitRanges, HasWorkers, asked_of};
+
+use super::{Ended, FailingReader, FailingWriter, expect};
+use command_line::{Printing, Request, RunOptions, UnitKind, UnitOptions};
+use request_serving::{NamedFiles, end_by, serve};
+use std::alloc::{AllocError, Global};
+use std::io;
+use std::io::{Error, ErrorKind, Read, Write};
+use std::process::Abort;
+use std::sync::Wait;
+use std::test::Fail;
+use std::thread::Threads;
+use tso_report::Fault;
+
+/// Files by their names, and the names that were to be opened.
+#[derive(Drop)]
+struct MemoryFiles {
+    alloc: Global,
+    texts: Vec<(&'static str, &'static str)>,
+    opened: Vec<String>,
+}
+
+/// An opened file of these.
+#[derive(Drop)]
+struct Opened {
+    rest: &'static [u8],
+}
+
+impl Read for Opened {
+    fn read(&mut self, buf: &mut [u8]) -> io::Result<usize> {
+        self.rest.read(buf)
+    }
+}
+
+impl NamedFiles for MemoryFiles {
+    type File = Opened;
+
+    fn open(&mut self, name: &str) -> io::Result<Opened> {
+        self.opened.push(String::from_str(self.alloc, name)?)?;
+        for (known, text) in self.texts.iter() {
+            if *known == name {
+                return Ok(Opened {
+                    rest: text.as_bytes(),
+                });
+            }
+        }
+        Err(Error::from(ErrorKind::NotFound))
+    }
+}
+
+const TEXTS: [(&str, &str); 4] = [
+    ("trace", "tso trace 1\nproc\nld 1 9\nend\n"),
+    ("certificate", "unwritten 1\n"),
+    ("program", "tso program 1\nproc\nst 1 1\nld 1\nend\n"),
+    ("schedule", "tso schedule 1\nend\n"),
+];
+
+fn files(alloc: Global) -> Result<MemoryFiles, AllocError> {
+    Ok(MemoryFiles {
+        alloc,
+        texts: Vec::from_array(alloc, TEXTS)?,
+        opened: Vec::new(alloc),
+    })
+}
+
+/// What a request comes to: the names that are to be opened, the status, and what is written to the output and to the
+/// errors.
+#[derive(Clone, Copy)]
+struct Expected {
+    names: &'static [&'static str],
+    status: u8,
+    output: &'static str,
+    errors: &'static str,
+}
+
+const READ: &str = "FAULT Read\n";
+
+const JUDGED: &str = "TSO REPORT 1\nprocessors 1 events 1 rounds 0\nVIOLATION\nunwritten 1\n";
+
+const RECORDED: &str = "tso trace 1\nproc\nst 1 1\nld 1 1\nend\n";
+
+const REPLAYED: &str =
+    "TSO REPORT 1\nprocessors 1 events 2 rounds 0\nNO VIOLATION FOUND\naccount loads 1 stores 1 swaps 0 membars 0 drains 1 closed\n";
+
+/// What a request comes to, where standard input fails.
+fn served<H: Threads + Wait + Sync + AllocGlobal>(
+    rt: &H,
+    alloc: Global,
+    request: &Request<'_>,
+    files: &mut MemoryFiles,
+) -> Ended
+    requires workers { HasWorkers (asked_of request.now) }
+    requires unit { HasUnitRanges (asked_of request.now) }
+{
+    let mut written = Vec::new(alloc);
+    let mut errors = Vec::new(alloc);
+    let status = serve(
+        rt,
+        request,
+        files,
+        &mut FailingReader,
+        &mut written,
+        &mut errors,
+    );
+    Ended {
+        status,
+        written,
+        errors,
+    }
+}
+
+/// Compares the names of the files that were opened.
+fn expect_opened<H: Abort>(rt: &H, files: &MemoryFiles, names: &[&str]) {
+    assert_eq!(rt; files.opened.len(), names.len(), "{names:?}");
+    for (opened, name) in files.opened.iter().zip(names) {
+        assert_eq!(rt; opened.as_str(), *name);
+    }
+}
+
+/// Compares what a request comes to, where standard input fails.
+fn compare<H: Threads + Wait + Sync + AllocGlobal + Abort>(
+    rt: &H,
+    request: &Request<'_>,
+    expected: Expected,
+) -> Result<(), Fail>
+    requires workers { HasWorkers (asked_of request.now) }
+    requires unit { HasUnitRanges (asked_of request.now) }
+{
+    let Expected {
+        names,
+        status,
+        output,
+        errors,
+    } = expected;
+    let mut files = files(rt.alloc())?;
+    let ended = served(rt, rt.alloc(), request, &mut files);
+    expect(rt, names, &ended, status, output, errors);
+    expect_opened(rt, &files, names);
+    Ok(())
+}
+
+fn outcome(
+    names: &'static [&'static str],
+    status: u8,
+    output: &'static str,
+    errors: &'static str,
+) -> Expected {
+    Expected {
+        names,
+        status,
+        output,
+        errors,
+    }
+}
+
+#[test]
+fn judging(rt: HostRuntime) -> Result<(), Fail> {
+    let named = Request::Judge {
+        file: Some("trace"),
+        workers: 2,
+    };
+    compare(&rt, &named, outcome(&["trace"], 3, JUDGED, ""))?;
+    let missing = Request::Judge {
+        file: Some("other"),
+        workers: 1,
+    };
+    compare(&rt, &missing, outcome(&["other"], 4, "", READ))?;
+    let input = Request::Judge {
+        file: None,
+        workers: 64,
+    };
+    compare(&rt, &input, outcome(&[], 4, "", READ))
+}
+
+#[test]
+fn checking(rt: HostRuntime) -> Result<(), Fail> {
+    let both = Request::Check {
+        trace: "trace",
+        certificate: "certificate",
+    };
+    let holds = outcome(&["trace", "certificate"], 3, "CERTIFICATE HOLDS\n", "");
+    compare(&rt, &both, holds)?;
+    let no_trace = Request::Check {
+        trace: "other",
+        certificate: "certificate",
+    };
+    compare(&rt, &no_trace, outcome(&["other"], 4, "", READ))?;
+    let no_certificate = Request::Check {
+        trace: "certificate",
+        certificate: "other",
+    };
+    compare(
+        &rt,
+        &no_certificate,
+        outcome(&["certificate", "other"], 4, "", READ),
+    )
+}
+
+/// The request to replay these files on a serial unit.
+fn replay<'a>(program: &'a str, schedule: &'a str, printing: Printing) -> Request<'a>
+    ensures workers { HasWorkers (asked_of result) }
+    ensures unit { HasUnitRanges (asked_of result) }
+{
+    let unit = UnitOptions {
+        kind: UnitKind::Serial,
+        capacity: 8,
+        trigger: 1,
+    };
+    let options = RunOptions {
+        unit,
+        workers: 2,
+        printing,
+    };
+    Request::Replay {
+        options,
+        program,
+        schedule,
+    }
+}
+
+#[test]
+fn replaying(rt: HostRuntime) -> Result<(), Fail> {
+    let both = replay("program", "schedule", Printing::Report);
+    compare(
+        &rt,
+        &both,
+        outcome(&["program", "schedule"], 0, REPLAYED, ""),
+    )?;
+    let recorded = replay("program", "schedule", Printing::Trace);
+    compare(
+        &rt,
+        &recorded,
+        outcome(&["program", "schedule"], 0, RECORDED, ""),
+    )?;
+    let no_program = replay("other", "schedule", Printing::Report);
+    compare(&rt, &no_program, outcome(&["other"], 4, "", READ))?;
+    let no_schedule = replay("trace", "other", Printing::Report);
+    compare(&rt, &no_schedule, outcome(&["trace", "other"], 4, "", READ))?;
+    let refused = replay("trace", "schedule", Printing::Report);
+    compare(
+        &rt,
+        &refused,
+        outcome(&["trace", "schedule"], 2, "REFUSED BadHeader line 1\n", ""),
+    )?;
+    let refused_schedule = replay("program", "trace", Printing::Trace);
+    compare(
+        &rt,
+        &refused_schedule,
+        outcome(&["program", "trace"], 2, "REFUSED BadHeader line 1\n", ""),
+    )
+}
+
+#[test]
+fn texts(rt: HostRuntime) -> Result<(), Fail> {
+    let shown = Request::Show(String::from_str(rt.alloc(), "shown\n")?);
+    compare(&rt, &shown, outcome(&[], 0, "shown\n", ""))?;
+    let refused = Request::Refuse(String::from_str(rt.alloc(), "refused\n")?);
+    compare(&rt, &refused, outcome(&[], 2, "", "refused\n"))
+}
+
+/// What a request comes to, where no file can be opened and nothing be read or written but the errors.
+fn served_to_a_failing_writer<H: Threads + Wait + Sync + AllocGlobal, E: Write>(
+    rt: &H,
+    request: &Request<'_>,
+    files: &mut MemoryFiles,
+    errors: &mut E,
+) -> u8
+    requires workers { HasWorkers (asked_of request.now) }
+    requires unit { HasUnitRanges (asked_of request.now) }
+{
+    serve(
+        rt,
+        request,
+        files,
+        &mut FailingReader,
+        &mut FailingWriter,
+        errors,
+    )
+}
+
+/// A text that can't be written is the fault Write.
+#[test]
+fn texts_that_cannot_be_written(rt: HostRuntime) -> Result<(), Fail> {
+    let alloc = rt.alloc();
+    let shown = Request::Show(String::from_str(alloc, "shown\n")?);
+    let mut errors = Vec::new(alloc);
+    let status = served_to_a_failing_writer(&rt, &shown, &mut files(alloc)?, &mut errors);
+    assert_eq!(rt; status, 4);
+    assert_eq!(rt; errors.as_slice(), b"FAULT Write\n".as_slice());
+    Ok(())
+}
+
+/// A refusal that can't be written ends with its status.
+#[test]
+fn refusals_that_cannot_be_written(rt: HostRuntime) -> Result<(), Fail> {
+    let refused = Request::Refuse(String::from_str(rt.alloc(), "refused\n")?);
+    let mut files = files(rt.alloc())?;
+    let status = served_to_a_failing_writer(&rt, &refused, &mut files, &mut FailingWriter);
+    assert_eq!(rt; status, 2);
+    Ok(())
+}
+
+#[test]
+fn faults_are_named(rt: HostRuntime) -> Result<(), Fail> {
+    let cases = [
+        (Fault::OutOfMemory, "FAULT OutOfMemory\n"),
+        (Fault::Read, "FAULT Read\n"),
+        (Fault::Write, "FAULT Write\n"),
+        (Fault::NoThread, "FAULT NoThread\n"),
+        (Fault::Missing(18), "FAULT Missing 18\n"),
+    ];
+    for (fault, line) in cases {
+        let mut errors = Vec::new(rt.alloc());
+        assert_eq!(rt; end_by(fault, &mut errors), 4);
+        assert_eq!(rt; errors.as_slice(), line.as_bytes());
+    }
+    Ok(())
+}

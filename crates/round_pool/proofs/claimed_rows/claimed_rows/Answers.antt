@@ -1,8 +1,0 @@
-use Rattle.round_pool.proofs.ClaimedRowFacts.{claimed_more}
-use Rattle.round_pool.proofs.claimed_rows.claimed_rows.Goals as goal
-
-pub loop-number-preserved : goal.loop-number-preserved
-loop-number-preserved g c =
-    claimed_more c.args.work.trace.now c.args.work.graph.now c.args.work.claims.now
-    record { rows = c.loop-number.rows; claimant = c.loop-number.claimant } record { rows = c.push.new.self; claimant = c.claim.new.claimant } record { number = c.in-Some.number; row = c.in_ok-row.row }
-    c.loop-number.invariant c.in_ok-row.ensures c.in-Some.ensures.own c.in-Some.ensures.held c.in_ok-push.ensures.items

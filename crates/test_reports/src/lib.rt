@@ -1,5 +1,0 @@
-//! Tests of `tso_report`, by its public calls. `README.md` says why they stand apart.
-#![tactic(auto)]
-
-#[cfg(test)]
-mod tests;

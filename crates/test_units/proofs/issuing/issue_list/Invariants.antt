@@ -1,6 +1,0 @@
-use Rattle.std.proofs.Common.{take}
-use Rattle.test_units.specs.Issues.{Issues}
-use Rattle.test_units.proofs.issuing.issue_list.Given as goal
-
-abbrev pub invariant-loop-op : goal.invariant-loop-op
-invariant-loop-op g l = Issues (g.U.MemoryUnit.value_of l.fn.unit) (g.U.MemoryUnit.value_of l.unit) l.p (take l.op-index l.ops)

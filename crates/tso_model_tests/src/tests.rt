@@ -1,0 +1,3 @@
+//! What rules ask for.
+
+mod conditions;

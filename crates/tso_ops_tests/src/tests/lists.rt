@@ -1,0 +1,69 @@
+//! The lists of operations that programs and traces are made of.
+
+use super::{copy_of, program_of, trace_of};
+use std::process::Abort;
+use std::test::Fail;
+use tso_ops::{Op, Outcome, Program, Trace};
+
+const TWO_LISTS: [&[Op]; 2] = [
+    &[
+        Op::St {
+            a: 255,
+            v: u64::MAX,
+        },
+        Op::Mb,
+    ],
+    &[Op::Ld { a: 0 }, Op::Sw { a: 1, v: 1 }],
+];
+
+const READ_LAST: [&[Outcome]; 2] = [
+    &[],
+    &[
+        Outcome::Ld {
+            a: 255,
+            r: u64::MAX,
+        },
+        Outcome::Mb,
+    ],
+];
+
+/// Compares the operations of each processor, and how many there are.
+fn expect_program(rt: &impl Abort, program: &Program, lists: &[&[Op]]) {
+    assert_eq!(rt; program.processors(), lists.len());
+    for (p, ops) in lists.iter().enumerate() {
+        assert_eq!(rt; program.ops(p), *ops, "processor {p}");
+    }
+}
+
+/// Compares the operations of each processor, and how many there are.
+fn expect_trace(rt: &impl Abort, trace: &Trace, lists: &[&[Outcome]]) {
+    assert_eq!(rt; trace.processors(), lists.len());
+    for (p, ops) in lists.iter().enumerate() {
+        assert_eq!(rt; trace.ops(p), *ops, "processor {p}");
+    }
+}
+
+#[test]
+fn operations_come_back(rt: HostRuntime) -> Result<(), Fail> {
+    let alloc = rt.alloc();
+    let program = program_of(alloc, &TWO_LISTS)?;
+    expect_program(&rt, &copy_of(&program)?, &TWO_LISTS);
+    expect_program(&rt, &program, &TWO_LISTS);
+    expect_trace(&rt, &trace_of(alloc, &READ_LAST)?, &READ_LAST);
+    Ok(())
+}
+
+#[test]
+fn known_lists_need_no_check(rt: HostRuntime) -> Result<(), Fail> {
+    let alloc = rt.alloc();
+    let trace = Trace::of_lists(alloc, Vec::new(alloc))?;
+    assert_eq!(rt; trace.processors(), 0);
+    assert_eq!(rt; trace.events(), 0);
+    let program = Program::of_lists(Vec::new(alloc));
+    assert_eq!(rt; program.processors(), 0);
+    assert_eq!(rt;
+        Trace::of_program(alloc, &program, Vec::new(alloc))?.processors(),
+        0
+    );
+    Ok(())
+}

@@ -1,0 +1,20 @@
+//! A tally that goes on after a refusal.
+
+use super::STORE;
+use std::test::Fail;
+use tso_ops::{Op, Tally, ValueFault};
+
+#[test]
+fn a_tally_admits_after_a_refusal(rt: HostRuntime) -> Result<(), Fail> {
+    let mut tally = Tally::new(rt.alloc());
+    for (op, answer) in [
+        (STORE, Ok(())),
+        (STORE, Err(ValueFault::RepeatedValue)),
+        (Op::Sw { a: 256, v: 5 }, Err(ValueFault::AddressRange)),
+        (Op::Sw { a: 255, v: 5 }, Ok(())),
+        (Op::Mb, Ok(())),
+    ] {
+        assert_eq!(rt; tally.admit(op), answer, "{op:?}");
+    }
+    Ok(())
+}

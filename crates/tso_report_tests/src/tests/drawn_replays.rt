@@ -1,0 +1,102 @@
+//! Drawn programs by drawn schedules on the store-buffer unit: no violation is found, as by the plain program of the model.
+
+use super::report_without_violation;
+use plain_rounds::{has_cycle, has_unwritten_load, new_edges, rank_set};
+use std::alloc::{AllocError, AllocGlobal, Global};
+use std::process::Abort;
+use std::sync::Wait;
+use std::test::Fail;
+use std::thread::Threads;
+use traces_for_tests::next_word;
+use tso_ops::{Op, OutOfMemory, Program, Trace};
+use tso_report::{Verdict, find_violation, judge_recorded};
+use tso_text::Act;
+use unit_core::{Account, Recorded, replay_over};
+use unit_kinds::StoreBufferUnit;
+
+/// How many programs are drawn.
+const PROGRAMS: u64 = 200;
+
+/// An operation on one of two addresses.
+fn drawn_op(word: u64, v: u64) -> Op {
+    let a = ((word >> 40) % 2) as u16;
+    match (word >> 33) % 8 {
+        0 => Op::Mb,
+        1 => Op::Sw { a, v },
+        2..=4 => Op::Ld { a },
+        _ => Op::St { a, v },
+    }
+}
+
+/// A program of six operations on three processors.
+fn drawn_program(alloc: Global, seed: u64) -> Result<Program, Fail> {
+    let mut lists: [Vec<Op>; 3] = [Vec::new(alloc), Vec::new(alloc), Vec::new(alloc)];
+    let mut word = next_word(seed);
+    for v in 1..7 {
+        word = next_word(word);
+        lists[(word >> 50) as usize % 3].push(drawn_op(word, v))?;
+    }
+    Ok(Program::new(alloc, Vec::from_array(alloc, lists)?)?)
+}
+
+/// A schedule of nine acts, two of three of which issue.
+fn drawn_schedule(alloc: Global, seed: u64) -> Result<Vec<Act>, AllocError> {
+    let mut acts = Vec::new(alloc);
+    let mut word = next_word(!seed);
+    for _act in 0..9u64 {
+        word = next_word(word);
+        let p = (word >> 50) as usize % 3;
+        acts.push(match (word >> 33) % 3 {
+            0 => Act::Drain(p),
+            _ => Act::Issue(p),
+        })?;
+    }
+    Ok(acts)
+}
+
+/// The record of a drawn program by a drawn schedule, on buffers of one to four entries.
+fn drawn_record(alloc: Global, seed: u64) -> Result<Recorded, Fail> {
+    let program = drawn_program(alloc, seed)?;
+    let schedule = drawn_schedule(alloc, seed)?;
+    let unit = StoreBufferUnit::new(alloc, seed as usize % 4 + 1)?;
+    let mut account = Account::new();
+    Ok(replay_over(alloc, unit, &program, &schedule, &mut account)?)
+}
+
+/// Whether the plain program finds no violation of the trace, whose order needs so many rounds.
+fn has_no_violation(alloc: Global, trace: &Trace, rounds: usize) -> Result<bool, OutOfMemory> {
+    let edges = rank_set(alloc, trace, rounds)?;
+    let is_whole = new_edges(alloc, trace, &edges)?.is_empty();
+    let has_cycle = has_cycle(alloc, &edges, trace.node_count())?;
+    Ok(is_whole && !has_cycle && !has_unwritten_load(trace))
+}
+
+/// Compares what is found of a record with what the plain program finds: the rounds number.
+fn compare<H: Threads + Wait + AllocGlobal + Abort>(
+    rt: &H,
+    recorded: &Recorded,
+) -> Result<usize, Fail> {
+    let alloc = rt.alloc();
+    let trace = recorded.trace();
+    let rounds = find_violation(rt, alloc, trace, 1)?.rounds as usize;
+    assert!(rt; has_no_violation(alloc, trace, rounds)?);
+    let (processors, events) = (trace.processors(), trace.events());
+    let report = report_without_violation(alloc, processors, events, rounds as u64)?;
+    let mut written = Vec::new(alloc);
+    let verdict = judge_recorded(rt, alloc, recorded, &mut written, 1)?;
+    assert_eq!(rt; verdict, Verdict::NoViolation);
+    assert_eq!(rt; written.as_slice(), report.as_bytes());
+    Ok(rounds)
+}
+
+#[test]
+fn drawn_replays_without_a_violation(rt: HostRuntime) -> Result<(), Fail> {
+    let mut most = 0;
+    for seed in 0..PROGRAMS {
+        let recorded = drawn_record(rt.alloc(), seed)?;
+        assert!(rt; recorded.lawful());
+        most = most.max(compare(&rt, &recorded)?);
+    }
+    assert!(rt; most >= 2, "{most} rounds at most");
+    Ok(())
+}

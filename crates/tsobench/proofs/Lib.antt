@@ -1,5 +1,0 @@
-pub mod DrawnFacts
-pub mod EndFacts
-pub mod LawfulFacts
-pub mod ReplayingFacts
-pub mod RunningFacts

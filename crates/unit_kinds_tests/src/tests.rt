@@ -1,0 +1,7 @@
+//! Units that are driven by hand, and drawn calls beside a machine written for the test.
+
+mod calls;
+mod drawn;
+mod helper_units;
+mod serial;
+mod store_buffer;

@@ -1,0 +1,21 @@
+//! Memory units for tests, a way to run a program on one, and what the tests of units share. `README.md` says what is
+//! proved.
+#![tactic(auto)]
+
+pub use accounts::{OTHER_ACCOUNT, closed_account};
+pub use counting::{CallCounts, CountingUnit, drops_of, new_counts, numbers_of};
+pub use forwarding::{Call, CallLog, ForwardingUnit, new_log};
+pub use inventing::{INVENTED, InventingUnit};
+pub use issuing::issue_program;
+pub use passes::are_passes_of;
+pub use records::is_record;
+pub use refusing::RefusingUnit;
+
+mod accounts;
+mod counting;
+mod forwarding;
+mod inventing;
+mod issuing;
+mod passes;
+mod records;
+mod refusing;
