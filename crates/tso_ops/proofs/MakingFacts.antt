@@ -1,4 +1,4 @@
--- Lemmas on drawn operations: a program of a shape keeps the limits.
+-- Lemmas on made operations: a program of a shape keeps the limits.
 use Rattle.std.proofs.Common.{◌≡◌, refl, subst, ℕ, zero, suc, ◌+◌, ◌*◌, ◌/◌, ◌%◌, ◌<◌, ◌≤◌, ◌^◌, ◌&&◌, Bool, true, false, not, cond, nat_eq, List, [], ◌∷◌, ◌++◌, map, Option, Some, None, All, arith, add-one, zero-add}
 use Rattle.std.specs.Prelude.{nat_lt}
 use Rattle.std.specs.List.{list_any, range_with_len}
@@ -22,7 +22,7 @@ use Rattle.tso_ops.proofs.EntryFacts.{KeepsEntries-nil}
 use Rattle.tso_ops.proofs.LimitFacts.{IsStorable, IsAdmissible, KeepsLimits-nil, KeepsLimits-push, stored_values-push, total_events-push, total_barriers-push}
 use Rattle.tso_ops.proofs.WordFacts.{writes_of-more, writes_of-le, next_ops-more, ops_of_processors}
 
--- what is known of a drawn operation
+-- what is known of a made operation
 pub record IsMade (value : ℕ) (writes : Bool) (op : Op) : Type 0 where
   pub events : event_count op ≤ 2
   pub barriers : barrier_count op ≤ 1
@@ -73,7 +73,7 @@ values-next values last true stored is below =
     rw is (All-push (λ x. x ≤ last + 1) values (last + 1) (λ k d within. let x = below k d within in omega arith) (omega arith))
 values-next values last false stored is below = rw (is, append-nil) (λ k d within. let x = below k d within in omega arith)
 
--- n drawn operations keep the limits, and stored no value above the last
+-- n made operations keep the limits, and stored no value above the last
 record KeepsMade (n last : ℕ) (ops : List Op) : Type 0 where
   limits : KeepsLimits version_one_tso ops
   events : total_events ops ≤ 2 * n
@@ -82,19 +82,19 @@ record KeepsMade (n last : ℕ) (ops : List Op) : Type 0 where
 
 KeepsMade-push : (n last : ℕ) (ops : List Op) (writes : Bool) (op : Op) → n < 1000 → last ≤ n → IsMade (last + 1) writes op → KeepsMade n last ops →
     KeepsMade (n + 1) (last + cond writes 1 0) (ops ++ op ∷ [])
-KeepsMade-push n last ops writes op few low drawn kept =
+KeepsMade-push n last ops writes op few low made kept =
     let may : IsAdmissible version_one_tso ops op = record {
-      few_events = omega (arith, kept.events, drawn.events);
-      few_barriers = omega (arith, kept.barriers, drawn.barriers);
-      in_range = drawn.in_range;
-      storable = storable (stored_values ops) last writes (stored_by op) drawn.stored (omega arith) kept.values;
-      no_stbar = drawn.no_stbar;
+      few_events = omega (arith, kept.events, made.events);
+      few_barriers = omega (arith, kept.barriers, made.barriers);
+      in_range = made.in_range;
+      storable = storable (stored_values ops) last writes (stored_by op) made.stored (omega arith) kept.values;
+      no_stbar = made.no_stbar;
     } in
     record {
       limits = KeepsLimits-push version_one_tso ops op kept.limits may;
-      events = rw total_events-push (omega (arith, kept.events, drawn.events));
-      barriers = rw total_barriers-push (omega (arith, kept.barriers, drawn.barriers));
-      values = rw stored_values-push (values-next (stored_values ops) last writes (stored_by op) drawn.stored kept.values);
+      events = rw total_events-push (omega (arith, kept.events, made.events));
+      barriers = rw total_barriers-push (omega (arith, kept.barriers, made.barriers));
+      values = rw stored_values-push (values-next (stored_values ops) last writes (stored_by op) made.stored kept.values);
     }
 
 next_ops-KeepsMade-more : (addresses : ℕ) (s : Stream) (n : ℕ) → 1 ≤ addresses → addresses ≤ 256 → n < 1000 → KeepsMade n (writes_of n s) (next_ops addresses 0 s n) →

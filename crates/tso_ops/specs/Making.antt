@@ -1,4 +1,4 @@
--- The shape of drawn programs, and the program that is drawn in a shape from the words of a generator.
+-- The shape of made programs, and the program that is made in a shape from the words of a generator.
 use Rattle.std.specs.Prelude.{ℕ, zero, suc, ◌+◌, ◌*◌, ◌/◌, ◌%◌, ◌≤◌, ◌&&◌, Bool, cond, not, nat_lt, List, [], ◌∷◌, map, take, get_or}
 use Rattle.std.specs.List.{count_by, range_with_len}
 use Rattle.rand_core.specs.Stream.{Stream, next_u64}
@@ -39,7 +39,7 @@ unfoldable pub after_words : ℕ → Stream → Stream
 after_words zero stream = stream
 after_words (suc n) stream = after_words n (next_u64 stream).1
 
--- the word draws a store or a swap: it is 7 to 14 modulo 16
+-- the word makes a store or a swap: it is 7 to 14 modulo 16
 abbrev pub makes_store : ℕ → Bool
 makes_store word = not (nat_lt (word % 16) 7) && nat_lt (word % 16) 15
 
@@ -47,11 +47,11 @@ makes_store word = not (nat_lt (word % 16) 7) && nat_lt (word % 16) 15
 abbrev pub op_of_kind : (kind a v : ℕ) → Op
 op_of_kind kind a v = cond (nat_lt kind 7) (Ld a) (cond (nat_lt kind 13) (St a v) (cond (nat_lt kind 15) (Sw a v) Mb))
 
--- the operation that the word draws, where a store or a swap writes this value
+-- the operation that the word makes, where a store or a swap writes this value
 abbrev pub made_op : (addresses value word : ℕ) → Op
 made_op addresses value word = op_of_kind (word % 16) (word / 16 % addresses) value
 
--- The operation of the word at index i: a store or a swap writes one more than how many of the words before it draw one.
+-- The operation of the word at index i: a store or a swap writes one more than how many of the words before it make one.
 abbrev pub op_at_word : ShapeValue → List ℕ → ℕ → Op
 op_at_word shape words i = made_op shape.addresses (count_by makes_store (take i words) + 1) (get_or words i 0)
 

@@ -1,4 +1,4 @@
-//! Programs drawn from the words of a generator.
+//! Programs made from the words of a generator.
 ghost use Rattle.std.specs.Prelude.{◌≡◌, ◌+◌, ◌≤◌, ◌<◌, ◌^◌, cond, IfOk, OnOk};
 ghost use Rattle.rand_core.specs.Stream.{next_u64};
 ghost use Rattle.tso_ops.specs.Making.{after_words, made_op, made_program, makes_store, size_of, words_of};
@@ -11,10 +11,10 @@ use crate::shapes::Shape;
 use rand_core::Rng;
 use std::alloc::Global;
 
-/// Draws a program of the shape, of version 1 under TSO: for each processor in order, and each of its operations in order,
+/// Makes a program of the shape, of version 1 under TSO: for each processor in order, and each of its operations in order,
 /// one word by `next_u64`.
 ///
-/// A word that is 0 to 6 modulo 16 draws a load, 7 to 12 a store, 13 or 14 a swap, and 15 a membar. The address is
+/// A word that is 0 to 6 modulo 16 makes a load, 7 to 12 a store, 13 or 14 a swap, and 15 a membar. The address is
 /// `word / 16` modulo the shape's number of addresses, and stores and swaps write 1, 2, 3 and so on. OutOfMemory where an
 /// allocation was refused; the generator may then have given some of the words.
 pub fn make_program<R: Rng>(
@@ -33,7 +33,7 @@ pub fn make_program<R: Rng>(
     Ok(Program::of_lists(lists))
 }
 
-/// Draws the operations of one processor. `last` is the value that was written last, 0 where none was.
+/// Makes the operations of one processor. `last` is the value that was written last, 0 where none was.
 fn make_list<R: Rng>(
     alloc: Global,
     rng: &mut R,
@@ -52,7 +52,7 @@ fn make_list<R: Rng>(
     Ok(list)
 }
 
-/// Draws one operation.
+/// Makes one operation.
 fn make_op<R: Rng>(rng: &mut R, addresses: u64, last: &mut u64) -> Op
     requires some { 1 ≤ addresses }
     requires most { addresses ≤ 256 }
@@ -68,7 +68,7 @@ fn make_op<R: Rng>(rng: &mut R, addresses: u64, last: &mut u64) -> Op
     op
 }
 
-/// The operation that a word draws, where a store or a swap writes `value`.
+/// The operation that a word makes, where a store or a swap writes `value`.
 fn op_of_word(word: u64, addresses: u64, value: u64) -> Op
     requires some { 1 ≤ addresses }
     requires most { addresses ≤ 256 }

@@ -7,7 +7,7 @@ use std::marker::Model;
 /// The greatest number of operations of a program of a shape, over all processors.
 const MAX_OPERATIONS: u64 = 1_000;
 
-/// The shape of drawn programs: how many processors they have, how many operations each of these, and how many addresses
+/// The shape of made programs: how many processors they have, how many operations each of these, and how many addresses
 /// they use, from address 0 on.
 ///
 /// 1 to 16 processors, 1 to 256 addresses, and at most 1,000 operations over all processors; a processor may have none.

@@ -10,7 +10,6 @@ mod rows;
 use order_graph::{EdgeSet, Graph, PathSearch};
 use std::alloc::{AllocError, Global};
 use std::process::Abort;
-use traces_for_tests::two_swaps_both_first;
 use tso_cert::{InferredRule, Reason};
 use tso_ops::Trace;
 use tso_rules::{base_row, justify, row_edges};

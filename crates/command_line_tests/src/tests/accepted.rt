@@ -197,7 +197,7 @@ fn accepted_runs(rt: HostRuntime) -> Result<(), Fail> {
 }
 
 /// Arguments of `make`, and what they ask for.
-const DRAWN: [(&[&str], &str); 6] = [
+const MADE: [(&[&str], &str); 6] = [
     (
         &[
             "make", "--seed", "7", "--procs", "2", "--ops", "4", "--addrs", "3",
@@ -235,8 +235,8 @@ const DRAWN: [(&[&str], &str); 6] = [
 ];
 
 #[test]
-fn accepted_drawings(rt: HostRuntime) -> Result<(), Fail> {
-    expect_each(&rt, rt.alloc(), "", &DRAWN)
+fn accepted_made_programs(rt: HostRuntime) -> Result<(), Fail> {
+    expect_each(&rt, rt.alloc(), "", &MADE)
 }
 
 /// Arguments of `campaign`, and what they ask for.

@@ -156,7 +156,7 @@ fn refused_runs(rt: HostRuntime) -> Result<(), Fail> {
 }
 
 /// Arguments of `make`, and the text of their refusal.
-const DRAWN: [(&[&str], &str); 6] = [
+const MADE: [(&[&str], &str); 6] = [
     (&["make"], NO_NUMBERS),
     (
         &["make", "--procs=2", "--ops=4", "--addrs=3"],
@@ -181,8 +181,8 @@ const DRAWN: [(&[&str], &str); 6] = [
 ];
 
 #[test]
-fn refused_drawings(rt: HostRuntime) -> Result<(), Fail> {
-    expect_each(&rt, rt.alloc(), "refuse ", &DRAWN)
+fn refused_made_programs(rt: HostRuntime) -> Result<(), Fail> {
+    expect_each(&rt, rt.alloc(), "refuse ", &MADE)
 }
 
 /// Arguments of `campaign`, and the text of their refusal.

@@ -96,19 +96,19 @@ fn shapes_are_compared(rt: HostRuntime) -> Result<(), Fail> {
 /// The words 7, 16, 61, 15 and then 9.
 const WORDS: u64 = 0x09_0F_3D_10_07;
 
-const DRAWN: [&[Op]; 2] = [
+const MADE: [&[Op]; 2] = [
     &[Op::St { a: 0, v: 1 }, Op::Ld { a: 1 }],
     &[Op::Sw { a: 3, v: 2 }, Op::Mb],
 ];
 
-/// The program that four words draw in a shape of two processors, two operations and four addresses.
+/// The program that four words make in a shape of two processors, two operations and four addresses.
 fn made_program(alloc: Global, words: &mut ByteWords) -> Result<Program, Fail> {
     let shape = Shape::new(2, 2, 4).ok_or("a shape")?;
     Ok(make_program(alloc, words, shape)?)
 }
 
-fn is_same(drawn: &Program, wanted: &Program) -> bool {
-    drawn.is_same(wanted)
+fn is_same(made: &Program, wanted: &Program) -> bool {
+    made.is_same(wanted)
 }
 
 fn next_word(words: &mut ByteWords) -> u64 {
@@ -118,9 +118,9 @@ fn next_word(words: &mut ByteWords) -> u64 {
 #[test]
 fn program_of_four_words(rt: HostRuntime) -> Result<(), Fail> {
     let mut words = ByteWords(WORDS);
-    let drawn = made_program(rt.alloc(), &mut words)?;
-    let wanted = program_of(rt.alloc(), &DRAWN)?;
-    expect(&rt, "the program", is_same(&drawn, &wanted), true);
+    let made = made_program(rt.alloc(), &mut words)?;
+    let wanted = program_of(rt.alloc(), &MADE)?;
+    expect(&rt, "the program", is_same(&made, &wanted), true);
     expect(&rt, "the next word", next_word(&mut words), 9);
     Ok(())
 }

@@ -1,6 +1,6 @@
 //! A program of each kind, replayed in a box, that shows its deviation.
 
-use std::alloc::{AllocError, Global};
+use std::alloc::Global;
 use std::test::Fail;
 use traces_for_tests::{ld as loaded, program_of, st as stored, sw as swapped};
 use tso_ops::Act::{self, Drain, Issue};

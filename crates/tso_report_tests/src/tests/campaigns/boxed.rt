@@ -339,7 +339,7 @@ fn boxed_campaign_of_no_seed(rt: HostRuntime) -> Result<(), Fail> {
         let units: Vec<Boxed> = Vec::new(rt.alloc());
         let mut written = Vec::new(rt.alloc());
         let programs = CampaignPrograms { first: 1, shape };
-        let answer = campaign(&rt, rt.alloc(), drawn, units, workers, &mut written);
+        let answer = campaign(&rt, rt.alloc(), programs, units, workers, &mut written);
         assert!(rt; answer == Ok(Verdict::NoViolation), "{workers} workers");
         assert!(rt; written.as_slice() == b"seeds 0 violations 0\n".as_slice());
     }
