@@ -12,8 +12,20 @@ mod paths_and_cycles;
 use bitsets::set_bit;
 use order_graph::{EdgeRows, Graph};
 use std::alloc::{AllocError, Global};
+use std::fmt::Debug;
 use std::process::Abort;
 use traces_for_tests::next_word;
+
+/// Compares what a call gave in this case with what it has to give. An assertion costs the check of a function many times
+/// what a call of this one costs it.
+fn expect<C: Copy + Debug, T: Copy + Debug + PartialEq>(
+    rt: &impl Abort,
+    case: C,
+    found: T,
+    wanted: T,
+) {
+    assert_eq!(rt; found, wanted, "{case:?}");
+}
 
 /// The edge from u to v, for numbers of the graph.
 fn join(graph: &mut Graph, u: usize, v: usize) {
@@ -98,11 +110,11 @@ fn least_path(graph: &Graph, u: usize, v: usize) -> Result<Option<Vec<usize>>, A
     }
 }
 
-/// Whether the answer is the numbers expected, of which none means that there is no answer.
-fn is_list(found: &Option<Vec<usize>>, expected: &[usize]) -> bool {
+/// The numbers of an answer, none where there is no answer.
+fn numbers_of(found: &Option<Vec<usize>>) -> &[usize] {
     match found {
-        Some(list) => list.as_slice() == expected,
-        None => expected.is_empty(),
+        Some(list) => list.as_slice(),
+        None => &[],
     }
 }
 
@@ -114,17 +126,14 @@ fn expect_path(
     expected: &[usize],
 ) -> Result<(), AllocError> {
     let found = least_path(graph, ends.0, ends.1)?;
-    assert!(rt;
-        is_list(&found, expected),
-        "{ends:?}: {found:?}, not {expected:?}"
-    );
+    expect(rt, ends, numbers_of(&found), expected);
     Ok(())
 }
 
 /// Compares the least cycle with the numbers expected, of which none means that there is no cycle.
 fn expect_cycle(rt: &impl Abort, graph: &Graph, expected: &[usize]) -> Result<(), AllocError> {
     let found = graph.least_cycle()?;
-    assert!(rt; is_list(&found, expected), "{found:?}, not {expected:?}");
+    expect(rt, "the least cycle", numbers_of(&found), expected);
     Ok(())
 }
 
@@ -156,5 +165,5 @@ fn least_cycle(graph: &Graph) -> Result<Option<Vec<usize>>, AllocError> {
 
 /// Compares the words of the row of paths from u.
 fn expect_words(rt: &impl Abort, graph: &Graph, u: usize, words: &[u64]) {
-    assert_eq!(rt; path_words(graph, u), words, "{u}");
+    expect(rt, u, path_words(graph, u), words);
 }

@@ -6,7 +6,7 @@ use Rattle.command_line.specs.declared.options.RunOptions.{RunOptions}
 use Rattle.tso_ops.specs.Values.{ProgramValue}
 use Rattle.tso_ops.specs.declared.acts.Act.{Act}
 use Rattle.tso_text.specs.declared.faults.Why.{Why}
-use Rattle.tso_text.specs.Grammars.{IsProgramRefusal, IsScheduleRefusal, SpellsProgram, SpellsSchedule, program_grammar, schedule_grammar}
+use Rattle.tso_text.specs.Grammars.{IsProgramRefusal, IsScheduleRefusal, SpellsProgram, SpellsSchedule, program_format, schedule_format}
 use Rattle.tso_report.specs.declared.verdicts.Verdict.{Verdict}
 use Rattle.tso_report.specs.declared.verdicts.Verdict.TheVariants.{NoViolation}
 use Rattle.tso_report.specs.declared.faults.Fault.{Fault}
@@ -14,7 +14,7 @@ use Rattle.tso_report.specs.declared.faults.Fault.TheVariants.{OutOfMemory, Read
 use Rattle.tso_report.specs.Limits.{trace_read_limit}
 use Rattle.tso_report.specs.Streams.{AppendsPrefix}
 use Rattle.tso_report.specs.WrittenReports.{LeavesAtFault}
-use Rattle.tso_report.proofs.InputFacts.{lists_of_prefix, text_refusal_of_prefix}
+use Rattle.tso_report.proofs.InputFacts.{holds_of_prefix, lists_past, lists_of_prefix, text_refusal_of_prefix}
 use Rattle.request_serving.specs.Endings.{EndsByText, IsPrintable, Outputs, WritesFaultLine, WritesText}
 use Rattle.request_serving.specs.OpenedFiles.{HasKnown}
 use Rattle.request_serving.specs.Printing.{IsRefusalOf, ReadsAs}
@@ -33,22 +33,22 @@ module _ (remaining : Option (List ℕ)) (bytes seen : List ℕ) (prefix : IfSom
   pub program_read : (program : ProgramValue) → SpellsProgram seen program → ReadsAs remaining (λ b. SpellsProgram b program)
   program_read program spells =
       let Is : List ℕ → Type 0 = λ b. SpellsProgram b program in
-      reads_as Is (λ input is. (is.0, lists_of_prefix program_grammar input program.lists is.1)) remaining bytes prefix (subst Is same spells)
+      reads_as Is (λ input is. holds_of_prefix Is input (λ b long spelled. lists_past program_format b program.lists long spelled.1) is) remaining bytes prefix (subst Is same spells)
 
   pub schedule_read : (schedule : List Act) → SpellsSchedule seen schedule → ReadsAs remaining (λ b. SpellsSchedule b schedule)
   schedule_read schedule spells =
       let Is : List ℕ → Type 0 = λ b. SpellsSchedule b schedule in
-      reads_as Is (λ input is. lists_of_prefix schedule_grammar input (schedule ∷ []) is) remaining bytes prefix (subst Is same spells)
+      reads_as Is (λ input is. lists_of_prefix schedule_format input (schedule ∷ []) is) remaining bytes prefix (subst Is same spells)
 
   pub program_refused : (line : ℕ) (why : Why) → IsProgramRefusal seen line why → ReadsAs remaining (λ b. IsProgramRefusal b line why)
   program_refused line why refused =
       let Is : List ℕ → Type 0 = λ b. IsProgramRefusal b line why in
-      reads_as Is (λ input is. text_refusal_of_prefix program_grammar input line why is) remaining bytes prefix (subst Is same refused)
+      reads_as Is (λ input is. text_refusal_of_prefix program_format input line why is) remaining bytes prefix (subst Is same refused)
 
   pub schedule_refused : (line : ℕ) (why : Why) → IsScheduleRefusal seen line why → ReadsAs remaining (λ b. IsScheduleRefusal b line why)
   schedule_refused line why refused =
       let Is : List ℕ → Type 0 = λ b. IsScheduleRefusal b line why in
-      reads_as Is (λ input is. text_refusal_of_prefix schedule_grammar input line why is) remaining bytes prefix (subst Is same refused)
+      reads_as Is (λ input is. text_refusal_of_prefix schedule_format input line why is) remaining bytes prefix (subst Is same refused)
 
 -- ---- files of which less may be known than of their readers
 

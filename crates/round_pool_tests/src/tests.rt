@@ -18,9 +18,15 @@ use std::sync::Wait;
 use std::thread::Threads;
 use tso_ops::Trace;
 
-/// Compares what a call gave with what it has to give.
-fn expect<T: Copy + Debug + PartialEq>(rt: &impl Abort, name: &str, found: T, wanted: T) {
-    assert_eq!(rt; found, wanted, "{name}");
+/// Compares what a call gave in this case with what it has to give. An assertion costs the check of a function many times
+/// what a call of this one costs it.
+fn expect<C: Copy + Debug, T: Copy + Debug + PartialEq>(
+    rt: &impl Abort,
+    case: C,
+    found: T,
+    wanted: T,
+) {
+    assert_eq!(rt; found, wanted, "{case:?}");
 }
 
 fn rounds_of(ranked: &Ranked) -> u64 {
@@ -76,11 +82,8 @@ impl Plain {
 
     /// Fails unless rounds number, ranks and graphs are these.
     fn compare(&self, rt: &impl Abort, trace: &Trace, ranked: &Ranked) -> Result<(), AllocError> {
-        assert_eq!(rt;
-            ranked.rounds().saturating_add(1),
-            self.ranks.len() as u64,
-            "{trace:?}"
-        );
+        let ranks = ranked.rounds().saturating_add(1);
+        expect(rt, trace, ranks, self.ranks.len() as u64);
         for (k, edges) in self.ranks.iter().enumerate() {
             if k as u64 <= ranked.rounds() {
                 compare_graph(rt, trace, &ranked.up_to(k as u64)?, edges);
@@ -96,11 +99,8 @@ impl Plain {
     fn compare_ranks(&self, rt: &impl Abort, trace: &Trace, ranked: &Ranked, u: usize) {
         for v in 0..trace.node_count().saturating_add(1) {
             let first = self.ranks.iter().position(|edges| has_edge(edges, u, v));
-            assert_eq!(rt;
-                ranked.rank(u, v),
-                first.map(|k| k as u64),
-                "{u} to {v} of {trace:?}"
-            );
+            let wanted = first.map(|k| k as u64);
+            expect(rt, (u, v, trace), ranked.rank(u, v), wanted);
         }
     }
 }
@@ -117,14 +117,11 @@ fn compare(
 
 /// Fails unless the graph has just these edges.
 fn compare_graph(rt: &impl Abort, trace: &Trace, graph: &Graph, edges: &[(usize, usize)]) {
-    assert_eq!(rt; graph.nodes(), trace.node_count());
+    expect(rt, trace, graph.nodes(), trace.node_count());
     for u in 0..graph.nodes() {
         for v in 0..graph.nodes() {
-            assert_eq!(rt;
-                has(graph, u, v),
-                has_edge(edges, u, v),
-                "{u} to {v} of {trace:?}"
-            );
+            let wanted = has_edge(edges, u, v);
+            expect(rt, (u, v, trace), has(graph, u, v), wanted);
         }
     }
 }

@@ -1,3 +1,4 @@
 pub mod Internal
 pub mod Printed
+pub mod RefusalNames
 pub mod Spelling

@@ -9,26 +9,39 @@ pub use std::alloc::AllocError as OutOfMemory;
 
 /// Why the text of a certificate is refused, in the order of their numbers: of two on one line the first counts.
 #[derive(Clone, Copy, Debug, PartialEq, Eq, Error)]
+#[error("{}", self.name())]
 pub enum Why {
     /// A line with no line end; `unwritten` on another line than the first, or not with just one piece after it; or a
     /// step line of fewer than four pieces.
-    #[error("BadLine")]
     BadLine,
     /// A step that isn't numbered as its line is, or a piece that should be an event number and is none.
-    #[error("BadNumber")]
     BadNumber,
     /// The name of no rule, a base rule with pieces after it, or an inferred rule with none.
-    #[error("BadRule")]
     BadRule,
     /// The text ends after a whole line, or is empty, and no line `cycle` or `unwritten` came.
-    #[error("NoCycle")]
     NoCycle,
     /// A byte after the line `cycle` or `unwritten`.
-    #[error("AfterCycle")]
     AfterCycle,
     /// An allocation was refused.
-    #[error("OutOfMemory")]
     OutOfMemory,
+}
+
+impl Why {
+    ghost use Rattle.tso_cert.specs.RefusalNames.{certificate_refusal_name};
+
+    /// The name, as reports on certificates print it.
+    pub fn name(self) -> &'static str
+        ensures { result.now ≡ certificate_refusal_name self }
+    {
+        match self {
+            Why::BadLine => "BadLine",
+            Why::BadNumber => "BadNumber",
+            Why::BadRule => "BadRule",
+            Why::NoCycle => "NoCycle",
+            Why::AfterCycle => "AfterCycle",
+            Why::OutOfMemory => "OutOfMemory",
+        }
+    }
 }
 
 /// Why the text of a certificate is refused, and at which line: from 1, or 0 for OutOfMemory.

@@ -1,12 +1,13 @@
 -- Lemmas on the entries of first values: their check, one after the other, and the value of an address.
-use Rattle.std.proofs.Common.{◌≡◌, ◌∙◌, ⊎_elim, sym, ap, refl, ℕ, ◌+◌, ◌<◌, ◌≤◌, ◌^◌, ◌||◌, Bool, true, false, nat_eq, nat_le, nat_lt, eqb, cond, List, [], ◌∷◌, ◌++◌, All, length, get_or, take, drop, Some, arith}
+use Rattle.std.proofs.Common.{◌≡◌, ◌∙◌, ⊎_elim, sym, ap, refl, ℕ, ◌+◌, ◌<◌, ◌≤◌, ◌^◌, ◌||◌, Bool, true, false, nat_eq, nat_le, nat_lt, eqb, cond, List, [], ◌∷◌, ◌++◌, All, ◌-◌, length, get_or, take, drop, slice_get, Some, arith}
 use Rattle.std.specs.List.{list_any}
 use Rattle.std.specs.Ordering.{nat_cmp}
 use Rattle.std.specs.BTreeSet.{BTreeSet, contains, Updates}
 use Rattle.std.proofs.lemmas.Bool.{false≢true, cases_lt}
 use Rattle.std.proofs.lemmas.Bool.Decides.{nat_tests}
 use Rattle.std.proofs.lemmas.List.{drop_more, drop_all, take_more, take-append-drop, map-append}
-use Rattle.std.proofs.lemmas.List.Elements.{All-nil, All-cons, All-push}
+use Rattle.std.proofs.lemmas.List.Elements.{All-nil, All-cons, All-head, All-tail, All-push}
+use Rattle.std.proofs.lemmas.Option.{slice_get_within, slice_get-get_or}
 use Rattle.std.proofs.lemmas.List.Folds.{list_any-append}
 use Rattle.tso_ops.specs.declared.faults.ValueFault.{ValueFault}
 use Rattle.tso_ops.specs.declared.faults.ValueFault.TheVariants.{TooManyProcessors, TooManyEvents, AddressRange, ZeroValue, RepeatedValue, OutOfMemory, StbarInTso, InitOrder}
@@ -54,7 +55,8 @@ pub record IsNextEntry (least : ℕ) (entry : ℕ × ℕ) : Type 0 where
 next_above : (entries : List (ℕ × ℕ)) (least : ℕ) (entry : ℕ × ℕ) → EndsBelow entries least → IsNextEntry least entry → list_any (λ (other : ℕ × ℕ). nat_le entry.0 other.0) entries ≡ false
 next_above entries least entry below next = below entry.0 ∙ (let low = next.after in grind (arith, nat_tests))
 
-next_faultless : (entries : List (ℕ × ℕ)) (least : ℕ) (entry : ℕ × ℕ) → EndsBelow entries least → IsNextEntry least entry → (why : ValueFault) → has_entry_fault entries entry why ≡ false
+-- an entry that may come next has no fault
+pub next_faultless : (entries : List (ℕ × ℕ)) (least : ℕ) (entry : ℕ × ℕ) → EndsBelow entries least → IsNextEntry least entry → (why : ValueFault) → has_entry_fault entries entry why ≡ false
 next_faultless entries least entry below next TooManyProcessors = refl
 next_faultless entries least entry below next TooManyEvents = refl
 next_faultless entries least entry below next AddressRange = let within = next.within in grind (arith, nat_tests)
@@ -64,17 +66,58 @@ next_faultless entries least entry below next OutOfMemory = refl
 next_faultless entries least entry below next StbarInTso = refl
 next_faultless entries least entry below next InitOrder = next_above entries least entry below next
 
+-- the entries keep their limits with one more
+pub KeepsEntries-push : (entries : List (ℕ × ℕ)) (least : ℕ) (entry : ℕ × ℕ) → KeepsEntries entries → EndsBelow entries least → IsNextEntry least entry → KeepsEntries (entries ++ entry ∷ [])
+KeepsEntries-push entries least entry keeps below next = record {
+  addresses = All-push (λ (e : ℕ × ℕ). e.0 < 256) entries entry keeps.addresses next.within;
+  ascending = λ before other after e.
+      ⊎_elim (λ last. rw (last.0, last.1) (none_above entries entry.0 (next_above entries least entry below next)))
+      (λ earlier. keeps.ascending before other earlier.0 earlier.1) (split_push entries entry before other after e);
+  non_zero = All-push (λ (e : ℕ × ℕ). 0 < e.1) entries entry keeps.non_zero next.non_zero;
+  fits = All-push (λ (e : ℕ × ℕ). e.1 < 2 ^ 64) entries entry keeps.fits next.fits;
+}
+
+-- so they do with one more that has no fault after them
+pub KeepsEntries-clean : (entries : List (ℕ × ℕ)) (entry : ℕ × ℕ) → KeepsEntries entries → ((why : ValueFault) → has_entry_fault entries entry why ≡ false) → entry.1 < 2 ^ 64 → KeepsEntries (entries ++ entry ∷ [])
+KeepsEntries-clean entries entry keeps clean fits = record {
+  addresses = All-push (λ (e : ℕ × ℕ). e.0 < 256) entries entry keeps.addresses (let low = clean AddressRange in grind (arith, nat_tests));
+  ascending = λ before other after e.
+      ⊎_elim (λ last. rw (last.0, last.1) (none_above entries entry.0 (clean InitOrder)))
+      (λ earlier. keeps.ascending before other earlier.0 earlier.1) (split_push entries entry before other after e);
+  non_zero = All-push (λ (e : ℕ × ℕ). 0 < e.1) entries entry keeps.non_zero (let some = clean ZeroValue in grind (arith, nat_tests));
+  fits = All-push (λ (e : ℕ × ℕ). e.1 < 2 ^ 64) entries entry keeps.fits fits;
+}
+
+-- what holds at each place holds of all
+all_places : {X : Type 0} (P : X → Type 0) (xs : List X) → ((before : List X) (x : X) (after : List X) → xs ≡ before ++ x ∷ after → P x) → All P xs
+all_places P [] holds = All-nil P
+all_places P (x ∷ xs) holds = All-cons P x xs (holds [] x xs refl) (all_places P xs (λ before y after at. holds (x ∷ before) y after (ap (λ ys. x ∷ ys) at)))
+
+-- each address is above those before it
+abbrev Ascending : List (ℕ × ℕ) → Type 0
+Ascending first = (before : List (ℕ × ℕ)) (entry : ℕ × ℕ) (after : List (ℕ × ℕ)) → first ≡ before ++ entry ∷ after → All (λ other. other.0 < entry.0) before
+
+few_from : (k : ℕ) (first : List (ℕ × ℕ)) → k ≤ 256 → All (λ entry. k ≤ entry.0) first → All (λ entry. entry.0 < 256) first → Ascending first → k + length first ≤ 256
+few_from k [] low above within ascending = omega (arith, low)
+few_from k (entry ∷ rest) low above within ascending =
+    let here : k ≤ entry.0 = All-head (λ (other : ℕ × ℕ). k ≤ other.0) entry rest above in
+    let inside : entry.0 < 256 = All-head (λ (other : ℕ × ℕ). other.0 < 256) entry rest within in
+    let next : All (λ (other : ℕ × ℕ). k + 1 ≤ other.0) rest =
+    all_places (λ (other : ℕ × ℕ). k + 1 ≤ other.0) rest
+    (λ before other after at. let less : entry.0 < other.0 = All-head (λ (o : ℕ × ℕ). o.0 < other.0) entry before (ascending (entry ∷ before) other after (ap (λ r. entry ∷ r) at)) in omega (arith, here, less)) in
+    let more : (k + 1) + length rest ≤ 256 =
+    few_from (k + 1) rest (omega (arith, here, inside)) next (All-tail (λ (other : ℕ × ℕ). other.0 < 256) entry rest within)
+    (λ before other after at. All-tail (λ (o : ℕ × ℕ). o.0 < other.0) entry before (ascending (entry ∷ before) other after (ap (λ r. entry ∷ r) at))) in
+    omega (arith, more)
+
+-- there are no more entries than addresses
+pub KeepsEntries-few : (first : List (ℕ × ℕ)) → KeepsEntries first → length first ≤ 256
+KeepsEntries-few first keeps = omega (arith, few_from 0 first (omega arith) (all_places (λ (entry : ℕ × ℕ). 0 ≤ entry.0) first (λ before entry after at. omega arith)) keeps.addresses keeps.ascending)
+
 -- one more entry
 AreChecked-push : (entries : List (ℕ × ℕ)) (least : ℕ) (entry : ℕ × ℕ) → AreChecked entries least → IsNextEntry least entry → AreChecked (entries ++ entry ∷ []) (entry.0 + 1)
 AreChecked-push entries least entry checked next = record {
-  keeps = record {
-    addresses = All-push (λ (e : ℕ × ℕ). e.0 < 256) entries entry checked.keeps.addresses next.within;
-    ascending = λ before other after e.
-        ⊎_elim (λ last. rw (last.0, last.1) (none_above entries entry.0 (next_above entries least entry checked.below next)))
-        (λ earlier. checked.keeps.ascending before other earlier.0 earlier.1) (split_push entries entry before other after e);
-    non_zero = All-push (λ (e : ℕ × ℕ). 0 < e.1) entries entry checked.keeps.non_zero next.non_zero;
-    fits = All-push (λ (e : ℕ × ℕ). e.1 < 2 ^ 64) entries entry checked.keeps.fits next.fits;
-  };
+  keeps = KeepsEntries-push entries least entry checked.keeps checked.below next;
   faultless = IsFaultless-push has_entry_fault entries entry checked.faultless (next_faultless entries least entry checked.below next);
   below = λ a.
       list_any-append (λ (other : ℕ × ℕ). nat_le a other.0) entries (entry ∷ []) ∙ ap (λ b. b || (nat_le a entry.0 || false)) (checked.below a)
@@ -103,6 +146,36 @@ fault_at first i d why within faultless fault =
     let parts : first ≡ take i first ++ entry ∷ drop (i + 1) first =
     sym (take-append-drop i first) ∙ ap (λ rest. take i first ++ rest) (drop_more first i d within) in
     rw parts (IsFaultOf-next has_entry_fault (take i first) entry (drop (i + 1) first) why faultless fault)
+
+-- the address is above those of all entries
+none_reached : (entries : List (ℕ × ℕ)) (m a : ℕ) → All (λ (other : ℕ × ℕ). other.0 < m) entries → m ≤ a → list_any (λ (other : ℕ × ℕ). nat_le a other.0) entries ≡ false
+none_reached [] m a below high = refl
+none_reached (entry ∷ entries) m a below high =
+    let here : entry.0 < m = All-head (λ (other : ℕ × ℕ). other.0 < m) entry entries below in
+    let off : nat_le a entry.0 ≡ false = grind (arith, nat_tests) in
+    rw off (none_reached entries m a (All-tail (λ (other : ℕ × ℕ). other.0 < m) entry entries below) high)
+
+-- entries end below one more than the address of the last of them
+pub EndsBelow-last : (first : List (ℕ × ℕ)) (last : ℕ × ℕ) → slice_get first (length first - 1) ≡ Some last → KeepsEntries first → EndsBelow first (last.0 + 1)
+EndsBelow-last first last is keeps a =
+    let i = length first - 1 in
+    let within : i < length first = slice_get_within first i last is in
+    let some : Some (get_or first i last) ≡ Some last = sym (slice_get-get_or first i last within) ∙ is in
+    let at : get_or first i last ≡ last = cc in
+    let rest : drop i first ≡ last ∷ [] = drop_more first i last within ∙ ap (λ e. e ∷ drop (i + 1) first) at ∙ ap (λ r. last ∷ r) (drop_all (i + 1) first (omega arith)) in
+    let parts : first ≡ take i first ++ last ∷ [] = sym (take-append-drop i first) ∙ ap (λ r. take i first ++ r) rest in
+    let below : All (λ (other : ℕ × ℕ). other.0 < last.0) (take i first) = keeps.ascending (take i first) last [] parts in
+    ap (list_any (λ (other : ℕ × ℕ). nat_le a other.0)) parts ∙ list_any-append (λ (other : ℕ × ℕ). nat_le a other.0) (take i first) (last ∷ [])
+    ∙ ⊎_elim
+    (λ (low : a < last.0 + 1). let on : nat_le a last.0 ≡ true = grind (arith, nat_tests) in let all : nat_lt a (last.0 + 1) ≡ true = grind (arith, nat_tests) in
+    rw (on, all) (or_true (list_any (λ (other : ℕ × ℕ). nat_le a other.0) (take i first))))
+    (λ (high : last.0 + 1 ≤ a). let none = none_reached (take i first) last.0 a below (omega arith) in
+    let off : nat_le a last.0 ≡ false = grind (arith, nat_tests) in let all : nat_lt a (last.0 + 1) ≡ false = grind (arith, nat_tests) in rw (none, off, all) refl)
+    (cases_lt a (last.0 + 1))
+  where
+    or_true : (b : Bool) → (b || true) ≡ true
+    or_true true = refl
+    or_true false = refl
 
 -- an address that isn't above those of the entries before
 pub out_of_order : (before : List (ℕ × ℕ)) (least a value : ℕ) → EndsBelow before least → a < 256 → (value ≡ 0 → ⊥) → a < least → IsFirstFault has_entry_fault before (a, value) InitOrder

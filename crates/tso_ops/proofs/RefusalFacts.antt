@@ -170,7 +170,7 @@ pub kept_faultless : (setting : SettingValue) (before : List Op) (op : Op) (afte
 kept_faultless setting before op after limits why = decided (has_fault setting before op why) (fault_breaks setting before op after why limits)
 
 -- an entry of first values that keep their limits has no fault
-kept_entry : (before : List (ℕ × ℕ)) (entry : ℕ × ℕ) (after : List (ℕ × ℕ)) → KeepsEntries (before ++ entry ∷ after) → (why : ValueFault) → has_entry_fault before entry why ≡ false
+pub kept_entry : (before : List (ℕ × ℕ)) (entry : ℕ × ℕ) (after : List (ℕ × ℕ)) → KeepsEntries (before ++ entry ∷ after) → (why : ValueFault) → has_entry_fault before entry why ≡ false
 kept_entry before entry after keeps TooManyProcessors = refl
 kept_entry before entry after keeps TooManyEvents = refl
 kept_entry before entry after keeps AddressRange =

@@ -164,6 +164,10 @@ pub record IsFaultOf {X : Type 0} (has : List X → X → ValueFault → Bool) (
   pub faultless : IsFaultless has before
   pub first : IsFirstFault has before item why
 
+-- The refusal is the first fault of the entry after these, or memory was refused.
+abbrev pub IsEntryRefusal : List (ℕ × ℕ) → ℕ × ℕ → ValueFault → Type 0
+IsEntryRefusal before entry why = (why ≡ OutOfMemory) ⊎ IsFirstFault has_entry_fault before entry why
+
 -- The refusal that the lists of a program get: too many processors before all else, then the first entry of first values with a fault, then the
 -- first operation with a fault.
 abbrev pub IsValueRefusal : ProgramValue → ValueFault → Type 0

@@ -1,5 +1,5 @@
 -- The version, the memory model and the first values of a program or a trace.
-use Rattle.std.specs.Prelude.{ℕ, List, [], ◌∷◌, cond, ◌==◌, map}
+use Rattle.std.specs.Prelude.{ℕ, List, [], ◌∷◌, ◌++◌, cond, ◌==◌, map}
 use Rattle.tso_ops.specs.declared.settings.Version.{Version}
 use Rattle.tso_ops.specs.declared.settings.Version.TheVariants.{One, Two}
 use Rattle.tso_ops.specs.declared.settings.Order.{Order}
@@ -23,6 +23,10 @@ version_one_tso = setting_of_order Tso
 -- version 2 of this memory model with these first values
 abbrev pub setting_of_first : Order → List (ℕ × ℕ) → SettingValue
 setting_of_first order first = record { version = Two; order = order; first = first }
+
+-- the setting with one more first value
+abbrev pub with_entry : SettingValue → ℕ × ℕ → SettingValue
+with_entry setting entry = record { version = setting.version; order = setting.order; first = setting.first ++ entry ∷ [] }
 
 -- the setting that the fields hold
 abbrev pub setting_of : Setting → SettingValue

@@ -10,7 +10,7 @@ pub use limits::Tally;
 pub use making::make_program;
 pub use ops::{Op, Outcome};
 pub use programs::Program;
-pub use settings::{Order, Version};
+pub use settings::{Order, Setting, Version};
 pub use shapes::Shape;
 pub use traces::Trace;
 

@@ -48,8 +48,8 @@ impl Tally {
         }
     }
 
-    /// A tally of no operation, for this setting.
-    pub(crate) fn of_setting(alloc: Global, setting: &Setting) -> Result<Tally, OutOfMemory>
+    /// A tally of no operation, for this setting, or OutOfMemory where an allocation was refused.
+    pub fn of_setting(alloc: Global, setting: &Setting) -> Result<Tally, OutOfMemory>
         ensures { IfOk result (λ tally. Admitted (setting_of setting.now) tally []) }
     {
         Ok(Tally {

@@ -7,6 +7,7 @@ ghost use Rattle.tso_ops.specs.Internal.MadeOps.{next_ops, writes_of};
 use crate::faults::OutOfMemory;
 use crate::ops::Op;
 use crate::programs::Program;
+use crate::settings::{Order, Setting};
 use crate::shapes::Shape;
 use rand_core::Rng;
 use std::alloc::Global;
@@ -30,7 +31,8 @@ pub fn make_program<R: Rng>(
     for _ in 0..shape.processors() {
         lists.push(make_list(alloc, rng, shape, &mut last)?)?;
     }
-    Ok(Program::of_lists(lists))
+    let setting = Setting::of_order(alloc, Order::Tso);
+    Ok(Program::of_lists(setting, lists))
 }
 
 /// Makes the operations of one processor. `last` is the value that was written last, 0 where none was.

@@ -95,12 +95,11 @@ impl Program {
         check_program(alloc, setting, lists)
     }
 
-    /// The program of lists that are known to keep the limits, of version 1 under TSO.
-    pub fn of_lists(lists: Vec<Vec<Op>>) -> Program
-        requires { IsProgram (program_of_lists version_one_tso (rows lists.items)) }
-        ensures { result ≡ program_of_lists version_one_tso (rows lists.items) }
+    /// The program of a setting and lists that are known to keep the limits.
+    pub fn of_lists(setting: Setting, lists: Vec<Vec<Op>>) -> Program
+        requires { IsProgram (program_of_lists (setting_of setting) (rows lists.items)) }
+        ensures { result ≡ program_of_lists (setting_of setting) (rows lists.items) }
     {
-        let setting = Setting::of_order(*lists.allocator(), Order::Tso);
         Program { setting, lists }
     }
 
@@ -126,7 +125,7 @@ impl Program {
     }
 
     /// Version, memory model and first values.
-    pub(crate) fn setting(&self) -> &Setting
+    pub fn setting(&self) -> &Setting
         ensures { setting_of result.now ≡ self.now.setting }
     {
         &self.setting

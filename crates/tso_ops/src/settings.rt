@@ -1,6 +1,7 @@
-ghost use Rattle.std.specs.Prelude.{◌≡◌, ◌≤◌, ◌<◌, ◌^◌, ℕ, List, IfOk, OnOk, IfErr};
-ghost use Rattle.tso_ops.specs.Settings.{barrier_limit, event_limit, first_value, setting_of, setting_of_order};
-ghost use Rattle.tso_ops.specs.Limits.{has_entry_fault, is_stbar_in_tso, KeepsEntries, IsFaultOf, IsFaultless, IsFirstFault};
+ghost use Rattle.std.specs.Prelude.{◌≡◌, ◌≤◌, ◌<◌, ◌^◌, ℕ, false, List, IfOk, OnOk, IfErr, OnErr};
+ghost use Rattle.tso_ops.specs.declared.faults.ValueFault.{ValueFault};
+ghost use Rattle.tso_ops.specs.Settings.{barrier_limit, event_limit, first_value, setting_of, setting_of_order, with_entry};
+ghost use Rattle.tso_ops.specs.Limits.{has_entry_fault, is_stbar_in_tso, KeepsEntries, IsEntryRefusal, IsFaultOf, IsFaultless, IsFirstFault};
 ghost use Rattle.tso_ops.specs.Internal.Entries.{EndsBelow};
 
 use crate::faults::{OutOfMemory, ValueFault};
@@ -61,10 +62,12 @@ impl Order {
 
 /// The version, the memory model and the first values of a program or a trace.
 #[derive(Debug, Drop)]
-pub(crate) struct Setting {
+pub struct Setting {
+    /// The version.
     pub version: Version,
+    /// The memory model.
     pub order: Order,
-    /// Addresses, in ascending order, and what memory has there at first: 0 at all others.
+    /// Addresses, in ascending order, and what memory has there at first: 0 at all others. Version 1 has none.
     pub first: Vec<(u16, u64)>,
 }
 
@@ -89,6 +92,34 @@ impl Setting {
             order: self.order,
             first: Vec::from_slice(alloc, &self.first)?,
         })
+    }
+
+    /// Appends the first value of an address, after entries that keep their limits.
+    ///
+    /// It is refused for the first of AddressRange (an address above 255), ZeroValue and InitOrder (an address that isn't
+    /// above those before) that it has, or as OutOfMemory where an allocation was refused; a refusal leaves the setting as
+    /// it was.
+    pub fn push_first(&mut self, address: u16, value: u64) -> Result<(), ValueFault>
+        requires { KeepsEntries self.old.first.items }
+        ensures appended { OnOk result (setting_of self.new ≡ with_entry (setting_of self.old) (address, value)) }
+        ensures kept { OnOk result (KeepsEntries self.new.first.items) }
+        ensures clean { OnOk result ((why : ValueFault) → has_entry_fault self.old.first.items (address, value) why ≡ false) }
+        ensures refused { IfErr result (IsEntryRefusal self.old.first.items (address, value)) }
+        ensures unchanged { OnErr result (setting_of self.new ≡ setting_of self.old) }
+    {
+        check_entry(end_of(&self.first), address, value)?;
+        self.first.push((address, value))?;
+        Ok(())
+    }
+}
+
+/// One more than the greatest address of these entries: 0 where there is none.
+fn end_of(first: &[(u16, u64)]) -> usize
+    ensures { KeepsEntries first.now → EndsBelow first.now result }
+{
+    match first.last() {
+        Some(entry) => entry.0 as usize + 1,
+        None => 0,
     }
 }
 

@@ -107,13 +107,23 @@ impl Trace {
         check_trace(alloc, setting, lists)
     }
 
-    /// The trace of lists that are known to keep the limits, of version 1 under TSO, or OutOfMemory where an allocation
-    /// was refused.
-    pub fn of_lists(alloc: Global, lists: Vec<Vec<Outcome>>) -> Result<Trace, OutOfMemory>
-        requires { IsTrace (trace_of_lists version_one_tso (rows lists.items)) }
-        ensures { IfOk result (λ t. t ≡ trace_of_lists version_one_tso (rows lists.items)) }
+    /// The trace of a setting and lists that are known to keep the limits, or OutOfMemory where an allocation was refused.
+    pub fn of_lists(
+        alloc: Global,
+        setting: Setting,
+        lists: Vec<Vec<Outcome>>,
+    ) -> Result<Trace, OutOfMemory>
+        requires { IsTrace (trace_of_lists (setting_of setting) (rows lists.items)) }
+        ensures { IfOk result (λ t. t ≡ trace_of_lists (setting_of setting) (rows lists.items)) }
     {
-        make_trace(alloc, Setting::of_order(alloc, Order::Tso), lists)
+        let (events, sources, masks) = tables(alloc, &setting, &lists)?;
+        Ok(Trace {
+            setting,
+            lists,
+            events,
+            sources,
+            masks,
+        })
     }
 
     /// The trace of a run of the program: these lists, which are known to keep the limits, with the program's version,
@@ -126,7 +136,14 @@ impl Trace {
         requires { IsTrace (trace_of_lists program.now.setting (rows lists.items)) }
         ensures { IfOk result (λ t. t ≡ trace_of_lists program.now.setting (rows lists.items)) }
     {
-        make_trace(alloc, program.setting().copy(alloc)?, lists)
+        Trace::of_lists(alloc, program.setting().copy(alloc)?, lists)
+    }
+
+    /// Version, memory model and first values.
+    pub fn setting(&self) -> &Setting
+        ensures { setting_of result.now ≡ self.now.setting }
+    {
+        &self.setting
     }
 
     /// The memory model.
@@ -294,25 +311,6 @@ fn check_trace(
             lists,
         }),
     }
-}
-
-/// The trace of this setting and these lists, which keep the limits.
-fn make_trace(
-    alloc: Global,
-    setting: Setting,
-    lists: Vec<Vec<Outcome>>,
-) -> Result<Trace, OutOfMemory>
-    requires { IsTrace (trace_of_lists (setting_of setting) (rows lists.items)) }
-    ensures { IfOk result (λ t. t ≡ trace_of_lists (setting_of setting) (rows lists.items)) }
-{
-    let (events, sources, masks) = tables(alloc, &setting, &lists)?;
-    Ok(Trace {
-        setting,
-        lists,
-        events,
-        sources,
-        masks,
-    })
 }
 
 /// The tables that a trace of this setting and these lists answers from: its events, their sources, and rows of bits.

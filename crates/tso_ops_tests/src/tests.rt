@@ -2,6 +2,7 @@
 
 mod events;
 mod faults;
+mod first_values;
 mod limits;
 mod lists;
 mod making;
@@ -43,16 +44,22 @@ fn trace_of(alloc: Global, lists: &[&[Outcome]]) -> Result<Trace, Fail> {
     Ok(Trace::new(alloc, lists_of(alloc, lists)?).map_err(|refused| refused.why)?)
 }
 
-/// Compares what a call gave with what it has to give.
-fn expect<T: Copy + Debug + PartialEq>(rt: &impl Abort, name: &str, found: T, wanted: T) {
-    assert_eq!(rt; found, wanted, "{name}");
+/// Compares what a call gave in this case with what it has to give. An assertion costs the check of a function many times
+/// what a call of this one costs it.
+fn expect<C: Copy + Debug, T: Copy + Debug + PartialEq>(
+    rt: &impl Abort,
+    case: C,
+    found: T,
+    wanted: T,
+) {
+    assert_eq!(rt; found, wanted, "{case:?}");
 }
 
 /// Compares lists of operations.
 fn expect_lists<T: Copy + Debug + PartialEq>(rt: &impl Abort, found: &[Vec<T>], wanted: &[&[T]]) {
-    assert_eq!(rt; found.len(), wanted.len());
+    expect(rt, "lists", found.len(), wanted.len());
     for (list, operations) in found.iter().zip(wanted) {
-        assert_eq!(rt; list.as_slice(), *operations);
+        expect(rt, "a list", list.as_slice(), *operations);
     }
 }
 
@@ -84,14 +91,14 @@ fn row_words(trace: &Trace, row: Row) -> &[u64] {
 
 fn expect_rows(rt: &impl Abort, trace: &Trace, rows: &[(Row, &[u64])]) {
     for (n, (row, wanted)) in rows.iter().enumerate() {
-        assert_eq!(rt; row_words(trace, *row), *wanted, "row {n} of the table");
+        expect(rt, ("row of the table", n), row_words(trace, *row), *wanted);
     }
 }
 
 /// Compares where the loads read from.
 fn expect_sources(rt: &impl Abort, trace: &Trace, sources: &[(usize, Option<Source>)]) {
     for (n, source) in sources {
-        assert_eq!(rt; trace.source(*n), *source, "source of {n}");
+        expect(rt, ("source", *n), trace.source(*n), *source);
     }
 }
 
@@ -165,10 +172,10 @@ fn expect_refusal<T: Copy + Debug + PartialEq>(
     why: ValueFault,
     lists: &[&[T]],
 ) {
-    assert_eq!(rt; refused.why, why);
+    expect(rt, "why", refused.why, why);
     expect_lists(rt, &refused.lists, lists);
 }
 
 fn expect_text(rt: &impl Abort, found: &str, wanted: &str) {
-    assert_eq!(rt; found, wanted);
+    expect(rt, "a text", found, wanted);
 }

@@ -4,15 +4,14 @@ use Rattle.std.proofs.lemmas.Bool.{false≢true, cases_lt}
 use Rattle.std.proofs.lemmas.List.{take_all, length-take-le}
 use Rattle.std.specs.Prelude.{Option}
 use Rattle.std.specs.Io.KnownBytes.{Appends}
-use Rattle.tso_ops.specs.Settings.{version_one_tso}
 use Rattle.tso_ops.specs.Limits.{IsTrace}
 use Rattle.tso_ops.specs.Values.{TraceValue, trace_of_lists}
 use Rattle.tso_ops.specs.Events.{processor_count, event_total, IsUnwritten}
 use Rattle.tso_text.specs.declared.faults.Why.{Why}
 use Rattle.tso_text.specs.declared.faults.Why.TheVariants.{TooLong}
-use Rattle.tso_text.specs.Spelling.{Grammar, IsTextRefusal, SpellsLists, text_byte_limit}
-use Rattle.tso_text.specs.Grammars.{trace_grammar, SpellsTrace, IsRefusedTrace, IsTraceRefusal}
-use Rattle.tso_text.proofs.ReadersFacts.{too_long}
+use Rattle.tso_text.specs.Spelling.{Format, IsTextRefusal, SpellsLists, preamble_of, text_byte_limit}
+use Rattle.tso_text.specs.Grammars.{trace_format, SpellsTrace, IsRefusedTrace, IsTraceRefusal}
+use Rattle.tso_text.proofs.TextFacts.{too_long}
 use Rattle.tso_text.proofs.SpelledLimits.{spelled_trace}
 use Rattle.tso_text.proofs.SpellingFacts.{spelled_or_refused, not_both, one_value, one_refusal}
 use Rattle.tso_cert.specs.Printed.{cert_text}
@@ -40,41 +39,43 @@ use Rattle.tso_report.specs.Streams.{AppendsPrefix}
 -- ---- what is read of a long input
 
 -- A prefix that reaches past the limit is refused for its length alone, as all is.
-lists_past : {X : Type 0} (g : Grammar X) (input : List ℕ) (lists : List (List X)) → text_byte_limit < length input → SpellsLists g input lists → ⊥
-lists_past g input lists long spells = not_both g input lists 0 TooLong spells (too_long g input long)
+pub lists_past : {X : Type 0} (f : Format X) (input : List ℕ) (lists : List (List X)) → text_byte_limit < length input → SpellsLists f input lists → ⊥
+lists_past f input lists long spells = not_both f input lists 0 TooLong spells (too_long f input long)
 
 length_past : (input : List ℕ) → text_byte_limit < length input → text_byte_limit < length (take trace_read_limit input)
 length_past input long = let count = length-take-le trace_read_limit input (omega arith) in omega (arith, count)
 
--- The prefix up to one past the limit spells what all spells, by any grammar.
-pub lists_of_prefix : {X : Type 0} (g : Grammar X) (input : List ℕ) (lists : List (List X)) → SpellsLists g (take trace_read_limit input) lists → SpellsLists g input lists
-lists_of_prefix {X} g input lists spells = ⊎_elim long short (cases_lt text_byte_limit (length input))
-  where
-    short : length input ≤ text_byte_limit → SpellsLists g input lists
-    short fits = subst (λ prefix. SpellsLists g prefix lists) (take_all trace_read_limit input (omega arith)) spells
+-- What holds of the prefix up to one past the limit, and of nothing past the limit, holds of all.
+pub holds_of_prefix : (Is : List ℕ → Type 0) (input : List ℕ) → ((bytes : List ℕ) → text_byte_limit < length bytes → Is bytes → ⊥) → Is (take trace_read_limit input) → Is input
+holds_of_prefix Is input none is =
+    ⊎_elim
+    (λ (past : text_byte_limit < length input). absurd (none (take trace_read_limit input) (length_past input past) is))
+    (λ (fits : length input ≤ text_byte_limit). subst Is (take_all trace_read_limit input (omega arith)) is)
+    (cases_lt text_byte_limit (length input))
 
-    long : text_byte_limit < length input → SpellsLists g input lists
-    long past = absurd (lists_past g (take trace_read_limit input) lists (length_past input past) spells)
+-- The prefix spells what all spells, by any format.
+pub lists_of_prefix : {X : Type 0} (f : Format X) (input : List ℕ) (lists : List (List X)) → SpellsLists f (take trace_read_limit input) lists → SpellsLists f input lists
+lists_of_prefix f input lists spells = holds_of_prefix (λ bytes. SpellsLists f bytes lists) input (λ bytes long is. lists_past f bytes lists long is) spells
 
 -- And it is refused as all is.
-pub text_refusal_of_prefix : {X : Type 0} (g : Grammar X) (input : List ℕ) (line : ℕ) (why : Why) → IsTextRefusal g (take trace_read_limit input) line why → IsTextRefusal g input line why
-text_refusal_of_prefix {X} g input line why refusal = ⊎_elim long short (cases_lt text_byte_limit (length input))
+pub text_refusal_of_prefix : {X : Type 0} (f : Format X) (input : List ℕ) (line : ℕ) (why : Why) → IsTextRefusal f (take trace_read_limit input) line why → IsTextRefusal f input line why
+text_refusal_of_prefix {X} f input line why refusal = ⊎_elim long short (cases_lt text_byte_limit (length input))
   where
-    short : length input ≤ text_byte_limit → IsTextRefusal g input line why
-    short fits = subst (λ prefix. IsTextRefusal g prefix line why) (take_all trace_read_limit input (omega arith)) refusal
+    short : length input ≤ text_byte_limit → IsTextRefusal f input line why
+    short fits = subst (λ prefix. IsTextRefusal f prefix line why) (take_all trace_read_limit input (omega arith)) refusal
 
-    long : text_byte_limit < length input → IsTextRefusal g input line why
+    long : text_byte_limit < length input → IsTextRefusal f input line why
     long past =
         let prefix = take trace_read_limit input in
-        let same = one_refusal g prefix line 0 why TooLong refusal (too_long g prefix (length_past input past)) in
-        subst (λ l. IsTextRefusal g input l why) (sym same.0) (subst (IsTextRefusal g input 0) (sym same.1) (too_long g input past))
+        let same = one_refusal f prefix line 0 why TooLong refusal (too_long f prefix (length_past input past)) in
+        subst (λ l. IsTextRefusal f input l why) (sym same.0) (subst (IsTextRefusal f input 0) (sym same.1) (too_long f input past))
 
 -- the two of traces
 pub spells_of_prefix : (input : List ℕ) (t : TraceValue) → SpellsTrace (take trace_read_limit input) t → SpellsTrace input t
-spells_of_prefix input t spells = (spells.0, lists_of_prefix trace_grammar input t.lists spells.1)
+spells_of_prefix input t spells = holds_of_prefix (λ bytes. SpellsTrace bytes t) input (λ bytes long is. lists_past trace_format bytes t.lists long is.1) spells
 
 pub refusal_of_prefix : (input : List ℕ) (line : ℕ) (why : Why) → IsTraceRefusal (take trace_read_limit input) line why → IsTraceRefusal input line why
-refusal_of_prefix input line why refusal = text_refusal_of_prefix trace_grammar input line why refusal
+refusal_of_prefix input line why refusal = text_refusal_of_prefix trace_format input line why refusal
 
 -- The report of the bytes up to one past the limit is that of all.
 pub report_of_prefix : (input text : List ℕ) (v : Verdict) → IsReport (take trace_read_limit input) text v → IsReport input text v
@@ -106,17 +107,17 @@ spelled_own : (input : List ℕ) (t : TraceValue) → SpellsTrace input t → Ha
 spelled_own input t spells = own_values t (spelled_trace input t spells)
 
 pub one_trace : (input : List ℕ) (t u : TraceValue) → SpellsTrace input t → SpellsTrace input u → t ≡ u
-one_trace input t u s r = ap (λ setting. trace_of_lists setting t.lists) (s.0 ∙ sym r.0) ∙ ap (trace_of_lists u.setting) (one_value trace_grammar input t.lists u.lists s.1 r.1)
+one_trace input t u s r = ap (λ setting. trace_of_lists setting t.lists) (s.0 ∙ sym r.0) ∙ ap (trace_of_lists u.setting) (one_value trace_format input t.lists u.lists s.1 r.1)
 
 pub one_refused_input : (input a b : List ℕ) (v w : Verdict) → IsRefusalReport input a v → IsRefusalReport input b w → (a ≡ b) × (v ≡ w)
 one_refused_input input a b v w p q =
-    let same = one_refusal trace_grammar input p.0 q.0 p.1 q.1 p.2 q.2 in
+    let same = one_refusal trace_format input p.0 q.0 p.1 q.1 p.2 q.2 in
     (p.3 ∙ ap (λ line. refusal_text line p.1) same.0 ∙ ap (refusal_text q.0) same.1 ∙ sym q.3, p.4 ∙ sym q.4)
 
 pub one_report : (input a b : List ℕ) (v w : Verdict) → IsReport input a v → IsReport input b w → (a ≡ b) × (v ≡ w)
 one_report input a b v w (inl p) (inl q) = one_trace_report q.0 (spelled_own input q.0 q.1) a b v w (subst (λ t. IsTraceReport t a v) (one_trace input p.0 q.0 p.1 q.1) p.2) q.2
-one_report input a b v w (inl p) (inr q) = absurd (not_both trace_grammar input p.0.lists q.0 q.1 p.1.1 q.2)
-one_report input a b v w (inr p) (inl q) = absurd (not_both trace_grammar input q.0.lists p.0 p.1 q.1.1 p.2)
+one_report input a b v w (inl p) (inr q) = absurd (not_both trace_format input p.0.lists q.0 q.1 p.1.1 q.2)
+one_report input a b v w (inr p) (inl q) = absurd (not_both trace_format input q.0.lists p.0 p.1 q.1.1 p.2)
 one_report input a b v w (inr p) (inr q) = one_refused_input input a b v w p q
 
 -- ---- some report
@@ -141,7 +142,7 @@ some_trace_report input t spells =
 
 pub some_report : (input : List ℕ) → (text : List ℕ) × (v : Verdict) × IsReport input text v
 some_report input =
-    ⊎_elim (λ s. some_trace_report input (trace_of_lists version_one_tso s.0) (refl, s.1)) (λ r. (refusal_text r.0 r.1, Refused, inr (r.0, r.1, r.2, refl, refl))) (spelled_or_refused trace_grammar input)
+    ⊎_elim (λ s. some_trace_report input (trace_of_lists (preamble_of trace_format input).setting s.0) (refl, s.1)) (λ r. (refusal_text r.0 r.1, Refused, inr (r.0, r.1, r.2, refl, refl))) (spelled_or_refused trace_format input)
 
 -- ---- what the verdict says
 
@@ -220,12 +221,12 @@ violation_exactly input text v (inl p) =
     let said = said_violation p.0 p.2.lines v p.2.says in
     (λ e. (p.0, p.1, said.0 e), λ s. said.1 (subst IsViolation (one_trace input s.0 p.0 s.1 p.1) s.2))
 violation_exactly input text v (inr p) =
-    (λ e. absurd (false≢true (ap is_violation (sym p.4 ∙ e))), λ s. absurd (not_both trace_grammar input s.0.lists p.0 p.1 s.1.1 p.2))
+    (λ e. absurd (false≢true (ap is_violation (sym p.4 ∙ e))), λ s. absurd (not_both trace_format input s.0.lists p.0 p.1 s.1.1 p.2))
 
 -- and REFUSED exactly where it spells no trace
 pub refused_exactly : (input text : List ℕ) (v : Verdict) → IsReport input text v → (v ≡ Refused) ↔ IsRefusedTrace input
 refused_exactly input text v (inl p) =
-    (λ e. absurd (subst (SaysVerdict p.0 p.2.lines) e p.2.says), λ r. absurd (not_both trace_grammar input p.0.lists r.0 r.1 p.1.1 r.2))
+    (λ e. absurd (subst (SaysVerdict p.0 p.2.lines) e p.2.says), λ r. absurd (not_both trace_format input p.0.lists r.0 r.1 p.1.1 r.2))
 refused_exactly input text v (inr p) = (λ _. (p.0, p.1, p.2), λ _. p.4)
 
 -- a violation leaves no order

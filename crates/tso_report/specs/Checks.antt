@@ -4,7 +4,7 @@ use Rattle.std.specs.Fmt.{decimal}
 use Rattle.tso_ops.specs.Values.{TraceValue}
 use Rattle.tso_text.specs.Grammars.{SpellsTrace}
 use Rattle.tso_cert.specs.declared.faults.Why.{Why}
-use Rattle.tso_cert.specs.declared.faults.Why.TheVariants.{BadLine, BadNumber, BadRule, NoCycle, AfterCycle, OutOfMemory}
+use Rattle.tso_cert.specs.RefusalNames.{certificate_refusal_name}
 use Rattle.tso_cert.specs.declared.steps.Certificate.{Certificate}
 use Rattle.tso_cert.specs.Spelling.{SpellsCertificate, IsCertTextRefusal}
 use Rattle.tso_model.specs.Certs.{Holds}
@@ -21,15 +21,6 @@ use Rattle.tso_report.specs.Reports.{IsRefusalReport}
 -- the line of a certificate that holds
 abbrev pub holds_text : List ℕ
 holds_text = codes "CERTIFICATE HOLDS" ++ 10 ∷ []
-
--- the name of a refusal of a certificate's text
-abbrev pub certificate_refusal_name : Why → List ℕ
-certificate_refusal_name BadLine = codes "BadLine"
-certificate_refusal_name BadNumber = codes "BadNumber"
-certificate_refusal_name BadRule = codes "BadRule"
-certificate_refusal_name NoCycle = codes "NoCycle"
-certificate_refusal_name AfterCycle = codes "AfterCycle"
-certificate_refusal_name OutOfMemory = codes "OutOfMemory"
 
 -- the line of a refused text of a certificate
 abbrev pub unread_text : ℕ → Why → List ℕ

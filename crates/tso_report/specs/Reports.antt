@@ -4,7 +4,7 @@ use Rattle.std.specs.Fmt.{decimal}
 use Rattle.tso_ops.specs.Values.{TraceValue}
 use Rattle.tso_ops.specs.Events.{processor_count, event_total}
 use Rattle.tso_text.specs.declared.faults.Why.{Why}
-use Rattle.tso_text.specs.declared.faults.Why.TheVariants.{BadHeader, BadLine, BadNumber, BeforeProc, TooManyProcessors, TooManyEvents, AddressRange, ZeroValue, RepeatedValue, MissingEnd, AfterEnd, TooLong, ProcessorRange, OutOfMemory as NoMemory}
+use Rattle.tso_text.specs.RefusalNames.{refusal_name}
 use Rattle.tso_text.specs.Grammars.{SpellsTrace, IsTraceRefusal}
 use Rattle.tso_report.specs.declared.verdicts.Verdict.{Verdict}
 use Rattle.tso_report.specs.declared.verdicts.Verdict.TheVariants.{NoViolation, Violation, Refused}
@@ -27,23 +27,6 @@ no_violation_text = codes "NO VIOLATION FOUND" ++ 10 ∷ []
 
 abbrev pub violation_text : List ℕ → List ℕ
 violation_text certificate = codes "VIOLATION" ++ 10 ∷ certificate
-
--- the name of a refusal
-abbrev pub refusal_name : Why → List ℕ
-refusal_name BadHeader = codes "BadHeader"
-refusal_name BadLine = codes "BadLine"
-refusal_name BadNumber = codes "BadNumber"
-refusal_name BeforeProc = codes "BeforeProc"
-refusal_name TooManyProcessors = codes "TooManyProcessors"
-refusal_name TooManyEvents = codes "TooManyEvents"
-refusal_name AddressRange = codes "AddressRange"
-refusal_name ZeroValue = codes "ZeroValue"
-refusal_name RepeatedValue = codes "RepeatedValue"
-refusal_name MissingEnd = codes "MissingEnd"
-refusal_name AfterEnd = codes "AfterEnd"
-refusal_name TooLong = codes "TooLong"
-refusal_name ProcessorRange = codes "ProcessorRange"
-refusal_name NoMemory = codes "OutOfMemory"
 
 -- the line of a refusal
 abbrev pub refusal_text : ℕ → Why → List ℕ

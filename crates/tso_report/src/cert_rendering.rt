@@ -1,7 +1,7 @@
 //! The texts of reports on certificates.
 ghost use Rattle.std.specs.Prelude.{◌≡◌, ◌≢◌, IfOk, string_bytes};
 ghost use Rattle.tso_cert.specs.declared.faults.Why.{Why};
-ghost use Rattle.tso_report.specs.Checks.{IsCertReport, fails_text, certificate_refusal_name, unread_text};
+ghost use Rattle.tso_report.specs.Checks.{IsCertReport, fails_text, unread_text};
 
 use crate::rendering::Report;
 use crate::verdicts::Verdict;
@@ -41,23 +41,9 @@ pub(crate) fn render_check(
 fn unread_text(alloc: Global, fault: TextFault) -> Result<String, OutOfMemory>
     ensures { IfOk result (λ text. string_bytes text ≡ unread_text fault.line fault.why) }
 {
-    let name = certificate_refusal_name(fault.why);
+    let name = fault.why.name();
     let line = fault.line;
     format!(in alloc; "CERTIFICATE REFUSED {name} line {line}\n")
-}
-
-/// The name of a refusal of a certificate's text.
-fn certificate_refusal_name(why: Why) -> &'static str
-    ensures { result.now ≡ certificate_refusal_name why }
-{
-    match why {
-        Why::BadLine => "BadLine",
-        Why::BadNumber => "BadNumber",
-        Why::BadRule => "BadRule",
-        Why::NoCycle => "NoCycle",
-        Why::AfterCycle => "AfterCycle",
-        Why::OutOfMemory => "OutOfMemory",
-    }
 }
 
 /// The line of a certificate that doesn't hold.

@@ -1,7 +1,8 @@
 //! Reports on traces: from the bytes of a trace's text to the bytes of its report.
 //!
 //! Each input has one report, and `judge` writes it; `check_texts` writes that of a trace and a certificate.
-//! `find_violation` and `render_trace` are the two steps between a trace and its report, for traces that no text tells.
+//! `find_violation` and `render_trace` are the two steps between a trace and its report, for traces that were not read from
+//! a text.
 //! `README.md` says what is proved.
 #![tactic(auto)]
 

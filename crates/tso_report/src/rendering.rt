@@ -4,7 +4,7 @@ ghost use Rattle.tso_text.specs.declared.faults.Why.{Why};
 ghost use Rattle.tso_model.specs.Axioms.{IsConsistent};
 ghost use Rattle.tso_report.specs.declared.verdicts.Verdict.{Verdict};
 ghost use Rattle.tso_report.specs.RoundsAndCertificates.{IsFinding};
-ghost use Rattle.tso_report.specs.Reports.{IsTraceReport, head_text, refusal_name, refusal_text};
+ghost use Rattle.tso_report.specs.Reports.{IsTraceReport, head_text, refusal_text};
 
 use crate::findings::Finding;
 use crate::verdicts::Verdict;
@@ -87,29 +87,7 @@ fn head_text(
 fn refusal_text(alloc: Global, fault: TextFault) -> Result<String, OutOfMemory>
     ensures { IfOk result (λ text. string_bytes text ≡ refusal_text fault.line fault.why) }
 {
-    let name = refusal_name(fault.why);
+    let name = fault.why.name();
     let line = fault.line;
     format!(in alloc; "REFUSED {name} line {line}\n")
-}
-
-/// The name of a refusal.
-fn refusal_name(why: Why) -> &'static str
-    ensures { result.now ≡ refusal_name why }
-{
-    match why {
-        Why::BadHeader => "BadHeader",
-        Why::BadLine => "BadLine",
-        Why::BadNumber => "BadNumber",
-        Why::BeforeProc => "BeforeProc",
-        Why::TooManyProcessors => "TooManyProcessors",
-        Why::TooManyEvents => "TooManyEvents",
-        Why::AddressRange => "AddressRange",
-        Why::ZeroValue => "ZeroValue",
-        Why::RepeatedValue => "RepeatedValue",
-        Why::MissingEnd => "MissingEnd",
-        Why::AfterEnd => "AfterEnd",
-        Why::TooLong => "TooLong",
-        Why::ProcessorRange => "ProcessorRange",
-        Why::OutOfMemory => "OutOfMemory",
-    }
 }

@@ -16,6 +16,7 @@ mod stream_faults;
 mod workers;
 
 use std::alloc::{AllocError, Global};
+use std::fmt::Debug;
 use std::process::Abort;
 use tso_report::{Fault, Verdict};
 
@@ -26,9 +27,20 @@ struct Ended {
     written: Vec<u8>,
 }
 
+/// Compares what a call gave in this case. An assertion costs the check of a function many times what a call of this one
+/// costs it.
+fn expect_equal<H: Abort, C: Copy + Debug, T: Copy + Debug + PartialEq>(
+    rt: &H,
+    case: C,
+    found: T,
+    expected: T,
+) {
+    assert_eq!(rt; found, expected, "{case:?}");
+}
+
 /// Compares the bytes of this case.
 fn expect_bytes<H: Abort>(rt: &H, case: &str, found: &[u8], expected: &[u8]) {
-    assert_eq!(rt; found, expected, "{case:?}");
+    expect_equal(rt, case, found, expected);
 }
 
 /// Compares what a call of this case came to.
@@ -38,12 +50,12 @@ fn expect_said<H: Abort>(
     said: Result<Verdict, Fault>,
     expected: Result<Verdict, Fault>,
 ) {
-    assert_eq!(rt; said, expected, "{case:?}");
+    expect_equal(rt, case, said, expected);
 }
 
 /// Compares a number of this case, of calls or of bytes.
 fn expect_count<H: Abort>(rt: &H, case: &str, found: usize, expected: usize) {
-    assert_eq!(rt; found, expected, "{case:?}");
+    expect_equal(rt, case, found, expected);
 }
 
 /// Compares what a call of this case came to, and what it wrote.

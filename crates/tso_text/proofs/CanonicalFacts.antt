@@ -11,9 +11,8 @@ use Rattle.tso_text.specs.declared.faults.Why.{Why}
 use Rattle.tso_text.specs.declared.faults.Why.TheVariants.{BeforeProc}
 use Rattle.tso_text.specs.declared.lines.Line.{Line}
 use Rattle.tso_text.specs.declared.lines.Line.TheVariants.{Proc, Item, End}
-use Rattle.tso_text.specs.Grammars.{is_word, address}
 use Rattle.line_text.specs.Results.{◌>>=◌}
-use Rattle.tso_text.specs.Numbers.{numeral, or_bad_number, no_number, one_number, two_numbers, three_numbers}
+use Rattle.tso_text.specs.Numbers.{is_word, address, numeral, or_bad_number, no_number, one_number, two_numbers, three_numbers}
 use Rattle.tso_text.specs.Spelling.{Grammar, line_fault, items_of}
 
 -- ---- numbers
@@ -85,6 +84,11 @@ cond_parts false r s l e = inr (refl, e)
 pub if_cond : {A : Type 0} (holds : A → Type 0) (b : Bool) (r s : Result A Why) → IfOk r holds → IfOk s holds → IfOk (cond b r s) holds
 if_cond holds true r s first second = first
 if_cond holds false r s first second = second
+
+-- what holds of both results, each where its condition holds
+pub if_cond_on : {A : Type 0} (holds : A → Type 0) (b : Bool) (r s : Result A Why) → (b ≡ true → IfOk r holds) → IfOk s holds → IfOk (cond b r s) holds
+if_cond_on holds true r s first second = first refl
+if_cond_on holds false r s first second = second
 
 pub word_is : (word text : List ℕ) → is_word word text ≡ true → word ≡ text
 word_is word text same = (bytes_eq-Decides word text).0 same

@@ -1,15 +1,18 @@
 -- Each value has one text: what a text spells is printed as that text.
-use Rattle.std.proofs.Common.{◌≡◌, ℕ, true, false, List, [], ◌∷◌, ◌++◌, map, Some, Result, Ok, refl, ap, sym, ◌∙◌, arith, append_assoc, ⊎_elim}
+use Rattle.std.proofs.Common.{◌≡◌, ℕ, ◌&&◌, true, false, List, [], ◌∷◌, ◌++◌, map, Some, Result, Ok, refl, ap, sym, ◌∙◌, arith, append_assoc, ⊎_elim}
 use Rattle.std.specs.Prelude.{codes}
 use Rattle.std.specs.Fmt.{decimal}
-use Rattle.std.specs.List.{flat_map}
+use Rattle.std.specs.List.{flat_map, join_with_byte}
 use Rattle.std.proofs.lemmas.List.{append-nil, map-append}
 use Rattle.std.proofs.lemmas.List.Concat.{flat_map-append}
-use Rattle.line_text.specs.Lines.{line_text, is_empty}
+use Rattle.line_text.specs.Lines.{line_text, is_empty, parts_of}
+use Rattle.line_text.proofs.NumberFacts.{and_parts}
 use Rattle.tso_ops.specs.declared.ops.Op.{Op}
-use Rattle.tso_ops.specs.declared.ops.Op.TheVariants.{Ld as OpLd, St as OpSt, Sw as OpSw, Mb as OpMb}
+use Rattle.tso_ops.specs.declared.ops.Op.TheVariants.{Ld as OpLd, St as OpSt, Sw as OpSw, Mb as OpMb, Sb as OpSb}
 use Rattle.tso_ops.specs.declared.ops.Outcome.{Outcome}
-use Rattle.tso_ops.specs.declared.ops.Outcome.TheVariants.{Ld, St, Sw, Mb}
+use Rattle.tso_ops.specs.declared.ops.Outcome.TheVariants.{Ld, St, Sw, Mb, Sb}
+use Rattle.tso_ops.specs.declared.settings.Version.TheVariants.{One, Two}
+use Rattle.tso_ops.specs.Settings.{SettingValue}
 use Rattle.tso_ops.specs.Limits.{address_of}
 use Rattle.tso_ops.specs.Values.{TraceValue, ProgramValue, op_of}
 use Rattle.tso_ops.specs.declared.acts.Act.{Act}
@@ -18,15 +21,18 @@ use Rattle.tso_text.specs.declared.faults.Why.{Why}
 use Rattle.tso_text.specs.declared.faults.Why.TheVariants.{AddressRange}
 use Rattle.tso_text.specs.declared.lines.Line.{Line}
 use Rattle.tso_text.specs.declared.lines.Line.TheVariants.{Proc, Item, End}
-use Rattle.tso_text.specs.Grammars.{trace_grammar, program_grammar, schedule_grammar, trace_line, program_line, schedule_line, is_word, address, outcome_fault, program_op_fault, SpellsTrace, SpellsProgram, SpellsSchedule, trace_header, program_header, schedule_header}
+use Rattle.tso_text.specs.Grammars.{trace_format, program_format, schedule_format, trace_grammar, program_grammar, schedule_grammar, trace_line, program_line, schedule_line, has_stbar, outcome_fault, program_op_fault, SpellsTrace, SpellsProgram, SpellsSchedule, trace_header, program_header, schedule_header}
+use Rattle.tso_text.specs.Preambles.{header_of, setting_preamble}
 use Rattle.line_text.specs.Results.{◌>>=◌}
-use Rattle.tso_text.specs.Numbers.{no_number, one_number, two_numbers, three_numbers}
-use Rattle.tso_text.specs.Printed.{items_text, processor_text, whole_text, outcome_pieces, op_pieces, act_pieces, trace_text, program_text, schedule_text}
-use Rattle.tso_text.specs.Spelling.{Grammar, line_fault, items_of, with_line, push_last, is_end}
+use Rattle.tso_text.specs.Numbers.{is_word, address, no_number, one_number, two_numbers, three_numbers}
+use Rattle.tso_text.specs.Printed.{items_text, processor_text, setting_text, whole_text, outcome_pieces, op_pieces, act_pieces, trace_text, program_text, schedule_text}
+use Rattle.tso_text.specs.Spelling.{Grammar, Format, SpellsLists, preamble_of, grammar_of, body_of, whole_lines, line_fault, items_of, with_line, push_last, is_end}
 use Rattle.tso_text.proofs.CanonicalFacts.{bind_ok, none_is, one_is, two_is, three_is, pieces_by, cond_parts, word_is, in_range, IsSound, sound}
 use Rattle.tso_text.proofs.KeptFacts.{not_proc}
 use Rattle.tso_text.proofs.LineFacts.{items_of-push_last}
-use Rattle.tso_text.proofs.PrintedFacts.{Prints, spelled_text}
+use Rattle.tso_text.proofs.PrintedFacts.{Prints, spelled_parts}
+use Rattle.tso_text.proofs.SettingText.{setting_printed, header_printed}
+use Rattle.tso_text.proofs.TextFacts.{body_spells}
 
 -- ---- one way to write a line
 
@@ -50,48 +56,52 @@ args_line g lists p r f word text pieces shown l is reads shows clean e =
     let clean_item : (w : Why) → line_fault g lists (Item (f b.0)) w ≡ false = λ w. ap (λ m. line_fault g lists m w) same ∙ clean w in
     ap (λ w. w ∷ pieces) (word_is word text is) ∙ ap (λ q. text ∷ q) (reads b.0 b.1) ∙ shows b.0 (sound g lists (f b.0) clean_item) ∙ ap (pieces_by p) same
 
-outcome_range : (lists : List (List Outcome)) (x : Outcome) (n : ℕ) → IsSound trace_grammar lists x → address_of (op_of x) ≡ Some (address n) → n ≡ address n
+outcome_range : (setting : SettingValue) (lists : List (List Outcome)) (x : Outcome) (n : ℕ) → IsSound (trace_grammar setting) lists x → address_of (op_of x) ≡ Some (address n) → n ≡ address n
 unfolding outcome_fault
-outcome_range lists x n s at = in_range n (rw at at (s.clean AddressRange))
+outcome_range setting lists x n s at = in_range n (rw at at (s.clean AddressRange))
 
-op_range : (lists : List (List Op)) (x : Op) (n : ℕ) → IsSound program_grammar lists x → address_of x ≡ Some (address n) → n ≡ address n
+op_range : (setting : SettingValue) (lists : List (List Op)) (x : Op) (n : ℕ) → IsSound (program_grammar setting) lists x → address_of x ≡ Some (address n) → n ≡ address n
 unfolding program_op_fault
-op_range lists x n s at = in_range n (rw at at (s.clean AddressRange))
+op_range setting lists x n s at = in_range n (rw at at (s.clean AddressRange))
 
-trace_canonical : (lists : List (List Outcome)) (ps : List (List ℕ)) (l : Line Outcome) → trace_line ps ≡ Ok l → ((w : Why) → line_fault trace_grammar lists l w ≡ false) → ps ≡ pieces_by outcome_pieces l
+trace_canonical : (setting : SettingValue) (lists : List (List Outcome)) (ps : List (List ℕ)) (l : Line Outcome) → trace_line setting.order ps ≡ Ok l → ((w : Why) → line_fault (trace_grammar setting) lists l w ≡ false) → ps ≡ pieces_by outcome_pieces l
 unfolding trace_line
-trace_canonical lists [] l e clean = absurd cc
-trace_canonical lists (word ∷ pieces) l e clean =
+trace_canonical setting lists [] l e clean = absurd cc
+trace_canonical setting lists (word ∷ pieces) l e clean =
     ⊎_elim (λ h. single_word_line outcome_pieces word (codes "proc") pieces Proc l h.0 refl h.1) (λ h.
-    ⊎_elim (λ h. args_line trace_grammar lists outcome_pieces (two_numbers pieces) (λ n. Ld (address n.0) n.1) word (codes "ld") pieces (λ n. decimal n.0 ∷ decimal n.1 ∷ []) l h.0 (two_is pieces)
-    (λ n s. ap (λ a. codes "ld" ∷ decimal a ∷ decimal n.1 ∷ []) (outcome_range lists (Ld (address n.0) n.1) n.0 s refl)) clean h.1) (λ h.
-    ⊎_elim (λ h. args_line trace_grammar lists outcome_pieces (two_numbers pieces) (λ n. St (address n.0) n.1) word (codes "st") pieces (λ n. decimal n.0 ∷ decimal n.1 ∷ []) l h.0 (two_is pieces)
-    (λ n s. ap (λ a. codes "st" ∷ decimal a ∷ decimal n.1 ∷ []) (outcome_range lists (St (address n.0) n.1) n.0 s refl)) clean h.1) (λ h.
-    ⊎_elim (λ h. args_line trace_grammar lists outcome_pieces (three_numbers pieces) (λ n. Sw (address n.0) n.1 n.2) word (codes "sw") pieces (λ n. decimal n.0 ∷ decimal n.1 ∷ decimal n.2 ∷ []) l h.0 (three_is pieces)
-    (λ n s. ap (λ a. codes "sw" ∷ decimal a ∷ decimal n.1 ∷ decimal n.2 ∷ []) (outcome_range lists (Sw (address n.0) n.1 n.2) n.0 s refl)) clean h.1) (λ h.
+    ⊎_elim (λ h. args_line (trace_grammar setting) lists outcome_pieces (two_numbers pieces) (λ n. Ld (address n.0) n.1) word (codes "ld") pieces (λ n. decimal n.0 ∷ decimal n.1 ∷ []) l h.0 (two_is pieces)
+    (λ n s. ap (λ a. codes "ld" ∷ decimal a ∷ decimal n.1 ∷ []) (outcome_range setting lists (Ld (address n.0) n.1) n.0 s refl)) clean h.1) (λ h.
+    ⊎_elim (λ h. args_line (trace_grammar setting) lists outcome_pieces (two_numbers pieces) (λ n. St (address n.0) n.1) word (codes "st") pieces (λ n. decimal n.0 ∷ decimal n.1 ∷ []) l h.0 (two_is pieces)
+    (λ n s. ap (λ a. codes "st" ∷ decimal a ∷ decimal n.1 ∷ []) (outcome_range setting lists (St (address n.0) n.1) n.0 s refl)) clean h.1) (λ h.
+    ⊎_elim (λ h. args_line (trace_grammar setting) lists outcome_pieces (three_numbers pieces) (λ n. Sw (address n.0) n.1 n.2) word (codes "sw") pieces (λ n. decimal n.0 ∷ decimal n.1 ∷ decimal n.2 ∷ []) l h.0 (three_is pieces)
+    (λ n s. ap (λ a. codes "sw" ∷ decimal a ∷ decimal n.1 ∷ decimal n.2 ∷ []) (outcome_range setting lists (Sw (address n.0) n.1 n.2) n.0 s refl)) clean h.1) (λ h.
     ⊎_elim (λ h. single_word_line outcome_pieces word (codes "mb") pieces (Item Mb) l h.0 refl h.1) (λ h.
+    ⊎_elim (λ h. single_word_line outcome_pieces word (codes "stbar") pieces (Item Sb) l (and_parts (is_word word (codes "stbar")) (has_stbar setting.order) h.0).0 refl h.1) (λ h.
     ⊎_elim (λ h. single_word_line outcome_pieces word (codes "end") pieces End l h.0 refl h.1) (λ h. absurd (let bad = h.1 in cc))
     (cond_parts (is_word word (codes "end")) _ _ l h.1))
+    (cond_parts (is_word word (codes "stbar") && has_stbar setting.order) _ _ l h.1))
     (cond_parts (is_word word (codes "mb")) _ _ l h.1))
     (cond_parts (is_word word (codes "sw")) _ _ l h.1))
     (cond_parts (is_word word (codes "st")) _ _ l h.1))
     (cond_parts (is_word word (codes "ld")) _ _ l h.1))
     (cond_parts (is_word word (codes "proc")) _ _ l e)
 
-program_canonical : (lists : List (List Op)) (ps : List (List ℕ)) (l : Line Op) → program_line ps ≡ Ok l → ((w : Why) → line_fault program_grammar lists l w ≡ false) → ps ≡ pieces_by op_pieces l
+program_canonical : (setting : SettingValue) (lists : List (List Op)) (ps : List (List ℕ)) (l : Line Op) → program_line setting.order ps ≡ Ok l → ((w : Why) → line_fault (program_grammar setting) lists l w ≡ false) → ps ≡ pieces_by op_pieces l
 unfolding program_line
-program_canonical lists [] l e clean = absurd cc
-program_canonical lists (word ∷ pieces) l e clean =
+program_canonical setting lists [] l e clean = absurd cc
+program_canonical setting lists (word ∷ pieces) l e clean =
     ⊎_elim (λ h. single_word_line op_pieces word (codes "proc") pieces Proc l h.0 refl h.1) (λ h.
-    ⊎_elim (λ h. args_line program_grammar lists op_pieces (one_number pieces) (λ n. OpLd (address n)) word (codes "ld") pieces (λ n. decimal n ∷ []) l h.0 (one_is pieces)
-    (λ n s. ap (λ a. codes "ld" ∷ decimal a ∷ []) (op_range lists (OpLd (address n)) n s refl)) clean h.1) (λ h.
-    ⊎_elim (λ h. args_line program_grammar lists op_pieces (two_numbers pieces) (λ n. OpSt (address n.0) n.1) word (codes "st") pieces (λ n. decimal n.0 ∷ decimal n.1 ∷ []) l h.0 (two_is pieces)
-    (λ n s. ap (λ a. codes "st" ∷ decimal a ∷ decimal n.1 ∷ []) (op_range lists (OpSt (address n.0) n.1) n.0 s refl)) clean h.1) (λ h.
-    ⊎_elim (λ h. args_line program_grammar lists op_pieces (two_numbers pieces) (λ n. OpSw (address n.0) n.1) word (codes "sw") pieces (λ n. decimal n.0 ∷ decimal n.1 ∷ []) l h.0 (two_is pieces)
-    (λ n s. ap (λ a. codes "sw" ∷ decimal a ∷ decimal n.1 ∷ []) (op_range lists (OpSw (address n.0) n.1) n.0 s refl)) clean h.1) (λ h.
+    ⊎_elim (λ h. args_line (program_grammar setting) lists op_pieces (one_number pieces) (λ n. OpLd (address n)) word (codes "ld") pieces (λ n. decimal n ∷ []) l h.0 (one_is pieces)
+    (λ n s. ap (λ a. codes "ld" ∷ decimal a ∷ []) (op_range setting lists (OpLd (address n)) n s refl)) clean h.1) (λ h.
+    ⊎_elim (λ h. args_line (program_grammar setting) lists op_pieces (two_numbers pieces) (λ n. OpSt (address n.0) n.1) word (codes "st") pieces (λ n. decimal n.0 ∷ decimal n.1 ∷ []) l h.0 (two_is pieces)
+    (λ n s. ap (λ a. codes "st" ∷ decimal a ∷ decimal n.1 ∷ []) (op_range setting lists (OpSt (address n.0) n.1) n.0 s refl)) clean h.1) (λ h.
+    ⊎_elim (λ h. args_line (program_grammar setting) lists op_pieces (two_numbers pieces) (λ n. OpSw (address n.0) n.1) word (codes "sw") pieces (λ n. decimal n.0 ∷ decimal n.1 ∷ []) l h.0 (two_is pieces)
+    (λ n s. ap (λ a. codes "sw" ∷ decimal a ∷ decimal n.1 ∷ []) (op_range setting lists (OpSw (address n.0) n.1) n.0 s refl)) clean h.1) (λ h.
     ⊎_elim (λ h. single_word_line op_pieces word (codes "mb") pieces (Item OpMb) l h.0 refl h.1) (λ h.
+    ⊎_elim (λ h. single_word_line op_pieces word (codes "stbar") pieces (Item OpSb) l (and_parts (is_word word (codes "stbar")) (has_stbar setting.order) h.0).0 refl h.1) (λ h.
     ⊎_elim (λ h. single_word_line op_pieces word (codes "end") pieces End l h.0 refl h.1) (λ h. absurd (let bad = h.1 in cc))
     (cond_parts (is_word word (codes "end")) _ _ l h.1))
+    (cond_parts (is_word word (codes "stbar") && has_stbar setting.order) _ _ l h.1))
     (cond_parts (is_word word (codes "mb")) _ _ l h.1))
     (cond_parts (is_word word (codes "sw")) _ _ l h.1))
     (cond_parts (is_word word (codes "st")) _ _ l h.1))
@@ -140,23 +150,38 @@ made_by-text p (row ∷ lists) =
     ∙ ap (λ r. (line_text (codes "proc" ∷ []) ++ r) ++ flat_map (λ l. line_text (pieces_by p l)) (made_by lists)) (flat_map-Item (λ l. line_text (pieces_by p l)) row)
     ∙ ap (λ r. (line_text (codes "proc" ∷ []) ++ flat_map (λ x. line_text (p x)) row) ++ r) (made_by-text p lists)
 
-prints_trace : Prints trace_grammar made_by (pieces_by outcome_pieces)
-prints_trace = record { start = refl; canonical = trace_canonical; more = λ lists ps l says clean running. made_by-more trace_grammar lists l clean running }
+prints_trace : (setting : SettingValue) → Prints (trace_grammar setting) made_by (pieces_by outcome_pieces)
+prints_trace setting = record { start = refl; canonical = trace_canonical setting; more = λ lists ps l says clean running. made_by-more (trace_grammar setting) lists l clean running }
 
-prints_program : Prints program_grammar made_by (pieces_by op_pieces)
-prints_program = record { start = refl; canonical = program_canonical; more = λ lists ps l says clean running. made_by-more program_grammar lists l clean running }
+prints_program : (setting : SettingValue) → Prints (program_grammar setting) made_by (pieces_by op_pieces)
+prints_program setting = record { start = refl; canonical = program_canonical setting; more = λ lists ps l says clean running. made_by-more (program_grammar setting) lists l clean running }
 
-whole : (header lines : List ℕ) (text others : List ℕ) → lines ≡ others → text ≡ header ++ 10 ∷ (lines ++ line_text (codes "end" ∷ [])) → text ≡ whole_text header others
+-- the text of a preamble and of the lines after it
+whole : (header setting lines : List ℕ) (text : List ℕ) → text ≡ (header ++ 10 ∷ setting) ++ (lines ++ line_text (codes "end" ∷ [])) → text ≡ whole_text header (setting ++ lines)
 unfolding whole_text
-whole header lines text others same is = is ∙ ap (λ ls. header ++ 10 ∷ (ls ++ line_text (codes "end" ∷ []))) same ∙ sym (append_assoc header (10 ∷ others) (line_text (codes "end" ∷ [])))
+whole header setting lines text is =
+    is ∙ sym (append_assoc (header ++ 10 ∷ setting) lines (line_text (codes "end" ∷ []))) ∙ ap (λ b. b ++ line_text (codes "end" ∷ [])) (append_assoc header (10 ∷ setting) lines)
+
+-- the text of a setting and of lists
+spelled_whole : {X : Type 0} (f : Format X) (one two : List ℕ) (p : X → List (List ℕ)) (text : List ℕ) (lists : List (List X)) → preamble_of f text ≡ setting_preamble one two (whole_lines (parts_of text)) → Prints (grammar_of f text) made_by (pieces_by p) → SpellsLists f text lists →
+    text ≡ whole_text (header_of one two (preamble_of f text).setting.version) (setting_text (preamble_of f text).setting ++ flat_map (processor_text p) lists)
+spelled_whole f one two p text lists is prints spells =
+    let setting = (preamble_of f text).setting in
+    let printed = setting_printed f one two text lists is spells in
+    let body : join_with_byte 10 (body_of f text) ≡ flat_map (processor_text p) lists ++ line_text (codes "end" ∷ []) =
+    spelled_parts (grammar_of f text) made_by (pieces_by p) prints (body_of f text) lists printed.some (body_spells f text lists spells) ∙ ap (λ ls. ls ++ line_text (codes "end" ∷ [])) (made_by-text p lists) in
+    whole (header_of one two setting.version) (setting_text setting) (flat_map (processor_text p) lists) text
+    (printed.text_is ∙ ap (λ b. (header_of one two setting.version ++ 10 ∷ setting_text setting) ++ b) body)
 
 pub trace_printed : (text : List ℕ) (t : TraceValue) → SpellsTrace text t → text ≡ trace_text t
 unfolding trace_text
-trace_printed text t spells = whole trace_header _ text _ (made_by-text outcome_pieces t.lists) (spelled_text trace_grammar made_by (pieces_by outcome_pieces) prints_trace text t.lists spells.1)
+trace_printed text t spells =
+    rw spells.0 (spelled_whole trace_format (trace_header One) (trace_header Two) outcome_pieces text t.lists refl (prints_trace (preamble_of trace_format text).setting) spells.1)
 
 pub program_printed : (text : List ℕ) (p : ProgramValue) → SpellsProgram text p → text ≡ program_text p
 unfolding program_text
-program_printed text p spells = whole program_header _ text _ (made_by-text op_pieces p.lists) (spelled_text program_grammar made_by (pieces_by op_pieces) prints_program text p.lists spells.1)
+program_printed text p spells =
+    rw spells.0 (spelled_whole program_format (program_header One) (program_header Two) op_pieces text p.lists refl (prints_program (preamble_of program_format text).setting) spells.1)
 
 -- ---- schedules
 
@@ -175,5 +200,9 @@ prints_schedule = record { start = refl; canonical = schedule_canonical; more = 
 pub schedule_printed : (text : List ℕ) (acts : List Act) → SpellsSchedule text acts → text ≡ schedule_text acts
 unfolding schedule_text items_text
 schedule_printed text acts spells =
-    whole schedule_header _ text (flat_map (λ x. line_text (act_pieces x)) acts) (flat_map-Item (λ l. line_text (pieces_by act_pieces l)) (acts ++ []) ∙ ap (flat_map (λ x. line_text (act_pieces x))) (append-nil acts))
-    (spelled_text schedule_grammar acts_made (pieces_by act_pieces) prints_schedule text (acts ∷ []) spells)
+    let printed = header_printed schedule_format schedule_header text (acts ∷ []) refl spells in
+    let lines : flat_map (λ l. line_text (pieces_by act_pieces l)) (acts_made (acts ∷ [])) ≡ flat_map (λ x. line_text (act_pieces x)) acts =
+    flat_map-Item (λ l. line_text (pieces_by act_pieces l)) (acts ++ []) ∙ ap (flat_map (λ x. line_text (act_pieces x))) (append-nil acts) in
+    let body : join_with_byte 10 (body_of schedule_format text) ≡ flat_map (λ x. line_text (act_pieces x)) acts ++ line_text (codes "end" ∷ []) =
+    spelled_parts schedule_grammar acts_made (pieces_by act_pieces) prints_schedule (body_of schedule_format text) (acts ∷ []) printed.some (body_spells schedule_format text (acts ∷ []) spells) ∙ ap (λ ls. ls ++ line_text (codes "end" ∷ [])) lines in
+    whole schedule_header [] (flat_map (λ x. line_text (act_pieces x)) acts) text (printed.text_is ∙ ap (λ b. (schedule_header ++ 10 ∷ []) ++ b) body)

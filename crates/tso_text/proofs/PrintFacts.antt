@@ -1,5 +1,6 @@
 -- Lemmas on printing: one more line, and one more processor.
 use Rattle.std.proofs.Common.{◌≡◌, ℕ, ◌+◌, ◌<◌, ◌≤◌, List, [], ◌∷◌, ◌++◌, length, get_or, take, Result, Ok, Err, refl, ap, sym, ◌∙◌, arith, append_assoc}
+use Rattle.tso_ops.specs.Settings.{SettingValue}
 use Rattle.tso_ops.specs.Values.{TraceValue, ProgramValue}
 use Rattle.tso_ops.specs.declared.acts.Act.{Act}
 use Rattle.std.specs.List.{flat_map}
@@ -8,15 +9,15 @@ use Rattle.std.proofs.lemmas.List.{append-nil, take_all}
 use Rattle.line_text.specs.Lines.{line_text}
 use Rattle.line_text.proofs.PrintFacts.{flat_map-take_more}
 use Rattle.tso_text.specs.Grammars.{trace_header, program_header, schedule_header}
-use Rattle.tso_text.specs.Printed.{items_text, processor_text, whole_text, outcome_pieces, op_pieces, act_pieces, trace_text, program_text, schedule_text}
+use Rattle.tso_text.specs.Printed.{items_text, processor_text, entry_pieces, model_text, setting_text, whole_text, outcome_pieces, op_pieces, act_pieces, trace_text, program_text, schedule_text}
 
 -- the text after one more item
-pub items_text-more : {X : Type 0} (pieces : X → List (List ℕ)) (start old new : List ℕ) (items : List X) (i : ℕ) (x : X) → i < length items → x ≡ get_or items i x →
+pub items_text-more : {X : Type 0} (pieces : X → List (List ℕ)) (start old new : List ℕ) (items : List X) (i : ℕ) (x d : X) → i < length items → x ≡ get_or items i d →
     old ≡ start ++ items_text pieces (take i items) → new ≡ old ++ line_text (pieces x) → new ≡ start ++ items_text pieces (take (i + 1) items)
 unfolding items_text
-items_text-more pieces start old new items i x inside is before added =
+items_text-more pieces start old new items i x d inside is before added =
     added ∙ ap (λ t. t ++ line_text (pieces x)) before ∙ append_assoc start _ (line_text (pieces x))
-    ∙ ap (λ t. start ++ t) (ap (λ y. flat_map (λ z. line_text (pieces z)) (take i items) ++ line_text (pieces y)) is ∙ sym (flat_map-take_more (λ z. line_text (pieces z)) items i x inside))
+    ∙ ap (λ t. start ++ t) (ap (λ y. flat_map (λ z. line_text (pieces z)) (take i items) ++ line_text (pieces y)) is ∙ sym (flat_map-take_more (λ z. line_text (pieces z)) items i d inside))
 
 pub items_text-none : {X : Type 0} (pieces : X → List (List ℕ)) (start : List ℕ) (items : List X) → start ≡ start ++ items_text pieces (take 0 items)
 unfolding items_text
@@ -34,6 +35,19 @@ pub whole_text-parts : (header lines : List ℕ) (text : List ℕ) (start : List
 unfolding whole_text
 whole_text-parts header lines text start is parts = parts ∙ ap (λ s. s ++ lines ++ 101 ∷ 110 ∷ 100 ∷ 10 ∷ []) is ∙ ap (λ t. t ++ 101 ∷ 110 ∷ 100 ∷ 10 ∷ []) (append_assoc header (10 ∷ []) lines)
 
+-- the same after the lines of a setting
+whole_text-after : (header setting lines : List ℕ) (text : List ℕ) → text ≡ ((header ++ 10 ∷ setting) ++ lines) ++ 101 ∷ 110 ∷ 100 ∷ 10 ∷ [] → text ≡ whole_text header (setting ++ lines)
+unfolding whole_text
+whole_text-after header setting lines text is = is ∙ ap (λ t. t ++ 101 ∷ 110 ∷ 100 ∷ 10 ∷ []) (append_assoc header (10 ∷ setting) lines)
+
+-- the lines of a setting, by their parts
+pub setting_text-parts : {E : Type 0} (setting : SettingValue) (r : Result (Unit {0}) E) (old mid new : List ℕ) (first : List (ℕ × ℕ)) → first ≡ setting.first → mid ≡ old ++ model_text setting.order →
+    OnOk r (new ≡ mid ++ items_text entry_pieces first) → OnOk r (new ≡ old ++ setting_text setting)
+unfolding setting_text
+setting_text-parts setting (Ok u) old mid new first same is parts =
+    parts ∙ ap (λ t. t ++ items_text entry_pieces first) is ∙ append_assoc old (model_text setting.order) (items_text entry_pieces first) ∙ ap (λ f. old ++ (model_text setting.order ++ items_text entry_pieces f)) same
+setting_text-parts setting (Err e) old mid new first same is parts = tt
+
 -- the lines of a processor, by their parts
 pub processor_text-parts : {X E : Type 0} (pieces : X → List (List ℕ)) (r : Result (Unit {0}) E) (old mid new : List ℕ) (items : List X) → mid ≡ old ++ 112 ∷ 114 ∷ 111 ∷ 99 ∷ 10 ∷ [] →
     OnOk r (new ≡ mid ++ items_text pieces items) → OnOk r (new ≡ old ++ processor_text pieces items)
@@ -43,19 +57,19 @@ processor_text-parts pieces (Err e) old mid new items is parts = tt
 
 -- the text of a trace, after all its processors
 pub trace_text-parts : (v : TraceValue) (p end : ℕ) (mid text : List ℕ) → end ≡ length v.lists → end ≤ p →
-    mid ≡ (trace_header ++ 10 ∷ []) ++ flat_map (processor_text outcome_pieces) (take p v.lists) → text ≡ mid ++ 101 ∷ 110 ∷ 100 ∷ 10 ∷ [] → text ≡ trace_text v
+    mid ≡ (trace_header v.setting.version ++ 10 ∷ setting_text v.setting) ++ flat_map (processor_text outcome_pieces) (take p v.lists) → text ≡ mid ++ 101 ∷ 110 ∷ 100 ∷ 10 ∷ [] → text ≡ trace_text v
 unfolding trace_text
 trace_text-parts v p end mid text count past is added =
-    whole_text-parts trace_header (flat_map (processor_text outcome_pieces) v.lists) text (trace_header ++ 10 ∷ []) refl
-    (added ∙ ap (λ m. m ++ 101 ∷ 110 ∷ 100 ∷ 10 ∷ []) (is ∙ ap (λ l. (trace_header ++ 10 ∷ []) ++ flat_map (processor_text outcome_pieces) l) (take_all p v.lists (omega arith))))
+    whole_text-after (trace_header v.setting.version) (setting_text v.setting) (flat_map (processor_text outcome_pieces) v.lists) text
+    (added ∙ ap (λ m. m ++ 101 ∷ 110 ∷ 100 ∷ 10 ∷ []) (is ∙ ap (λ l. (trace_header v.setting.version ++ 10 ∷ setting_text v.setting) ++ flat_map (processor_text outcome_pieces) l) (take_all p v.lists (omega arith))))
 
 -- the text of a program, after all its processors
 pub program_text-parts : (v : ProgramValue) (p end : ℕ) (mid text : List ℕ) → end ≡ length v.lists → end ≤ p →
-    mid ≡ (program_header ++ 10 ∷ []) ++ flat_map (processor_text op_pieces) (take p v.lists) → text ≡ mid ++ 101 ∷ 110 ∷ 100 ∷ 10 ∷ [] → text ≡ program_text v
+    mid ≡ (program_header v.setting.version ++ 10 ∷ setting_text v.setting) ++ flat_map (processor_text op_pieces) (take p v.lists) → text ≡ mid ++ 101 ∷ 110 ∷ 100 ∷ 10 ∷ [] → text ≡ program_text v
 unfolding program_text
 program_text-parts v p end mid text count past is added =
-    whole_text-parts program_header (flat_map (processor_text op_pieces) v.lists) text (program_header ++ 10 ∷ []) refl
-    (added ∙ ap (λ m. m ++ 101 ∷ 110 ∷ 100 ∷ 10 ∷ []) (is ∙ ap (λ l. (program_header ++ 10 ∷ []) ++ flat_map (processor_text op_pieces) l) (take_all p v.lists (omega arith))))
+    whole_text-after (program_header v.setting.version) (setting_text v.setting) (flat_map (processor_text op_pieces) v.lists) text
+    (added ∙ ap (λ m. m ++ 101 ∷ 110 ∷ 100 ∷ 10 ∷ []) (is ∙ ap (λ l. (program_header v.setting.version ++ 10 ∷ setting_text v.setting) ++ flat_map (processor_text op_pieces) l) (take_all p v.lists (omega arith))))
 
 -- the text of a schedule, after all its acts
 pub schedule_text-parts : (acts : List Act) (mid text : List ℕ) → mid ≡ (schedule_header ++ 10 ∷ []) ++ items_text act_pieces acts → text ≡ mid ++ 101 ∷ 110 ∷ 100 ∷ 10 ∷ [] → text ≡ schedule_text acts

@@ -1,18 +1,18 @@
--- What a text spells is printed as that text: the lines of a spelled text are those of its value.
-use Rattle.std.proofs.Common.{◌≡◌, ℕ, suc, Bool, true, false, not, ◌&&◌, List, [], ◌∷◌, ◌++◌, length, take, drop, ◌-◌, length-append, Result, Ok, Err, refl, ap, sym, ◌∙◌, arith, append_assoc}
+-- What parts spell is printed as these parts: the lines after a preamble are those of the value.
+use Rattle.std.proofs.Common.{◌≡◌, ℕ, true, false, not, ◌&&◌, List, [], ◌∷◌, ◌++◌, length, Result, Ok, Err, refl, ap, sym, ◌∙◌, arith, append_assoc}
 use Rattle.std.specs.List.{flat_map, join_with_byte}
 use Rattle.std.proofs.lemmas.Bool.{false≢true}
 use Rattle.std.proofs.lemmas.Bool.Decides.{nat_tests}
-use Rattle.std.proofs.lemmas.List.{append-nil, take_at}
+use Rattle.std.proofs.lemmas.List.{append-nil}
 use Rattle.std.proofs.lemmas.List.Splits.{join_with_byte-slice_split}
-use Rattle.std.proofs.lemmas.Slice.Eq.{bytes_eq-Decides}
-use Rattle.line_text.specs.Lines.{line_text, is_empty, parts_of, pieces_of}
+use Rattle.line_text.specs.Lines.{line_text, is_empty, pieces_of, SomePiece}
 use Rattle.tso_text.specs.declared.faults.Why.{Why}
-use Rattle.tso_text.specs.declared.faults.Why.TheVariants.{BadHeader, AfterEnd}
+use Rattle.tso_text.specs.declared.faults.Why.TheVariants.{AfterEnd}
 use Rattle.tso_text.specs.declared.lines.Line.{Line}
 use Rattle.tso_text.specs.declared.lines.Line.TheVariants.{Proc, Item, End}
-use Rattle.tso_text.specs.Spelling.{Grammar, SpellsLists, fault_at, said_fault, line_fault, said, lists_of, with_line, with_said, has_end_line, has_header, is_end, unended_text_fault, body_of, body_lines, same_text_fault}
-use Rattle.tso_text.proofs.ReadersFacts.{part_fault-open, part_fault-last, part_fault-ended, fault_at-place, lists_of-push, has_end_line-push}
+use Rattle.tso_text.specs.Spelling.{Grammar, said_fault, line_fault, said, lists_of, whole_lines, with_line, with_said, has_end_line, is_end, unended_text_fault, same_text_fault}
+use Rattle.tso_text.specs.Internal.Begun.{SpellsBody}
+use Rattle.tso_text.proofs.ReadersFacts.{part_fault-open, part_fault-last, part_fault-ended, body_fault-place, whole_lines-place, lists_of-push, has_end_line-push}
 
 -- ---- the lines of a spelled text
 
@@ -29,20 +29,13 @@ record Rendered {X : Type 0} (made : List (List X) → List (Line X)) (pieces : 
   makes : made last ≡ made lists ++ lines
   text : join_with_byte 10 parts ≡ flat_map (λ l. line_text (pieces l)) lines ++ line_text (pieces End)
 
-same_text_fault-self : (w : Why) → same_text_fault w w ≡ true
+pub same_text_fault-self : (w : Why) → same_text_fault w w ≡ true
 same_text_fault-self w = grind (arith, nat_tests)
 
 -- a line is its pieces
 part_text : {X : Type 0} (pieces : Line X → List (List ℕ)) (part : List ℕ) (l : Line X) → pieces_of part ≡ pieces l → part ≡ join_with_byte 32 (pieces l)
 unfolding pieces_of
 part_text pieces part l same = sym (join_with_byte-slice_split 32 part) ∙ ap (join_with_byte 32) same
-
--- the lines of a text are the parts before its last
-pub body_lines-place : (text : List ℕ) (prefix : List (List ℕ)) (last : List ℕ) → body_of text ≡ prefix ++ last ∷ [] → body_lines text ≡ prefix
-body_lines-place text prefix last body =
-    let n : length (prefix ++ last ∷ []) - 1 ≡ length prefix = omega (arith, length-append prefix (last ∷ [])) in
-    let t : take (length (prefix ++ last ∷ []) - 1) (prefix ++ last ∷ []) ≡ prefix = take_at prefix (last ∷ []) (length (prefix ++ last ∷ []) - 1) (sym n) in
-    rw (body, t) refl
 
 -- after an `end` there is nothing
 nothing_left : (next : List ℕ) (parts : List (List ℕ)) → (true && not (is_empty parts && is_empty next)) ≡ false → (next ≡ []) × (parts ≡ [])
@@ -76,65 +69,50 @@ rendered_end g made pieces prints lists part last says same = record {
 abbrev GoesOn : {X : Type 0} → Grammar X → (List (List X) → List (Line X)) → (Line X → List (List ℕ)) → List (List ℕ) → List (List ℕ) → List (List X) → Type 0
 GoesOn {X} g made pieces prefix parts last = (lists : List (List X)) → has_end_line g prefix ≡ false → lists_of g prefix ≡ lists → Rendered made pieces lists parts last
 
-rendered_line : {X : Type 0} (g : Grammar X) (made : List (List X) → List (Line X)) (pieces : Line X → List (List ℕ)) → Prints g made pieces → (text : List ℕ) (last : List (List X)) → SpellsLists g text last →
-    (prefix : List (List ℕ)) (part next : List ℕ) (parts : List (List ℕ)) (lists : List (List X)) → body_of text ≡ (prefix ++ part ∷ []) ++ next ∷ parts → has_end_line g prefix ≡ false → lists_of g prefix ≡ lists →
+rendered_line : {X : Type 0} (g : Grammar X) (made : List (List X) → List (Line X)) (pieces : Line X → List (List ℕ)) → Prints g made pieces → (parts0 : List (List ℕ)) (last : List (List X)) → SpellsBody g parts0 last →
+    (prefix : List (List ℕ)) (part next : List ℕ) (parts : List (List ℕ)) (lists : List (List X)) → parts0 ≡ (prefix ++ part ∷ []) ++ next ∷ parts → has_end_line g prefix ≡ false → lists_of g prefix ≡ lists →
     GoesOn g made pieces (prefix ++ part ∷ []) (next ∷ parts) last → (l : Line X) → said g part ≡ Ok l → ((w : Why) → line_fault g lists l w ≡ false) → Rendered made pieces lists (part ∷ next ∷ parts) last
-rendered_line g made pieces prints text last spells prefix part next parts lists after running says go Proc is clean =
+rendered_line g made pieces prints parts0 last spells prefix part next parts lists after running says go Proc is clean =
     rendered_more g made pieces prints lists part next parts last Proc is clean refl
     (go _ (has_end_line-push g prefix part running ∙ ap is_end is) (lists_of-push g prefix part ∙ ap (λ l. with_said l (said g part)) says ∙ ap (with_said lists) is))
-rendered_line g made pieces prints text last spells prefix part next parts lists after running says go (Item x) is clean =
+rendered_line g made pieces prints parts0 last spells prefix part next parts lists after running says go (Item x) is clean =
     rendered_more g made pieces prints lists part next parts last (Item x) is clean refl
     (go _ (has_end_line-push g prefix part running ∙ ap is_end is) (lists_of-push g prefix part ∙ ap (λ l. with_said l (said g part)) says ∙ ap (with_said lists) is))
-rendered_line g made pieces prints text last spells prefix part next parts lists after running says go End is clean =
+rendered_line g made pieces prints parts0 last spells prefix part next parts lists after running says go End is clean =
     let ended : has_end_line g (prefix ++ part ∷ []) ≡ true = has_end_line-push g prefix part running ∙ ap is_end is in
     let none = nothing_left next parts
-    (sym (part_fault-ended g (prefix ++ part ∷ []) next (is_empty parts) AfterEnd ended) ∙ sym (fault_at-place g text (prefix ++ part ∷ []) next parts (length (prefix ++ part ∷ [])) AfterEnd after refl)
-    ∙ spells.clean (suc (suc (length (prefix ++ part ∷ [])))) AfterEnd) in
-    let whole : body_of text ≡ (prefix ++ part ∷ []) ++ [] ∷ [] = after ∙ ap (λ p. (prefix ++ part ∷ []) ++ p ∷ parts) none.0 ∙ ap (λ ps. (prefix ++ part ∷ []) ++ [] ∷ ps) none.1 in
-    let same : lists ≡ last = sym (lists_of-push g prefix part ∙ ap (λ l. with_said l (said g part)) says ∙ ap (with_said lists) is) ∙ ap (lists_of g) (sym (body_lines-place text (prefix ++ part ∷ []) [] whole)) ∙ spells.says in
+    (sym (part_fault-ended g (prefix ++ part ∷ []) next (is_empty parts) AfterEnd ended) ∙ sym (body_fault-place g parts0 (prefix ++ part ∷ []) next parts (length (prefix ++ part ∷ [])) AfterEnd after refl)
+    ∙ spells.clean (length (prefix ++ part ∷ [])) AfterEnd) in
+    let whole : parts0 ≡ (prefix ++ part ∷ []) ++ [] ∷ [] = after ∙ ap (λ p. (prefix ++ part ∷ []) ++ p ∷ parts) none.0 ∙ ap (λ ps. (prefix ++ part ∷ []) ++ [] ∷ ps) none.1 in
+    let same : lists ≡ last = sym (lists_of-push g prefix part ∙ ap (λ l. with_said l (said g part)) says ∙ ap (with_said lists) is) ∙ ap (lists_of g) (sym (ap whole_lines whole ∙ whole_lines-place (prefix ++ part ∷ []) [])) ∙ spells.says in
     rw (none.0, none.1) (rendered_end g made pieces prints lists part last is same)
 
-rendered_said : {X : Type 0} (g : Grammar X) (made : List (List X) → List (Line X)) (pieces : Line X → List (List ℕ)) → Prints g made pieces → (text : List ℕ) (last : List (List X)) → SpellsLists g text last →
-    (prefix : List (List ℕ)) (part next : List ℕ) (parts : List (List ℕ)) (lists : List (List X)) → body_of text ≡ (prefix ++ part ∷ []) ++ next ∷ parts → has_end_line g prefix ≡ false → lists_of g prefix ≡ lists →
+rendered_said : {X : Type 0} (g : Grammar X) (made : List (List X) → List (Line X)) (pieces : Line X → List (List ℕ)) → Prints g made pieces → (parts0 : List (List ℕ)) (last : List (List X)) → SpellsBody g parts0 last →
+    (prefix : List (List ℕ)) (part next : List ℕ) (parts : List (List ℕ)) (lists : List (List X)) → parts0 ≡ (prefix ++ part ∷ []) ++ next ∷ parts → has_end_line g prefix ≡ false → lists_of g prefix ≡ lists →
     GoesOn g made pieces (prefix ++ part ∷ []) (next ∷ parts) last → (r : Result (Line X) Why) → said g part ≡ r → ((w : Why) → said_fault g lists r w ≡ false) → Rendered made pieces lists (part ∷ next ∷ parts) last
-rendered_said g made pieces prints text last spells prefix part next parts lists after running says go (Err why) is clean = absurd (false≢true (sym (clean why) ∙ same_text_fault-self why))
-rendered_said g made pieces prints text last spells prefix part next parts lists after running says go (Ok l) is clean =
-    rendered_line g made pieces prints text last spells prefix part next parts lists after running says go l is clean
+rendered_said g made pieces prints parts0 last spells prefix part next parts lists after running says go (Err why) is clean = absurd (false≢true (sym (clean why) ∙ same_text_fault-self why))
+rendered_said g made pieces prints parts0 last spells prefix part next parts lists after running says go (Ok l) is clean =
+    rendered_line g made pieces prints parts0 last spells prefix part next parts lists after running says go l is clean
 
 -- the parts of a spelled text, from a line on
-rendered : {X : Type 0} (g : Grammar X) (made : List (List X) → List (Line X)) (pieces : Line X → List (List ℕ)) → Prints g made pieces → (text : List ℕ) (last : List (List X)) → SpellsLists g text last →
-    (prefix : List (List ℕ)) (part : List ℕ) (parts : List (List ℕ)) (lists : List (List X)) → body_of text ≡ prefix ++ part ∷ parts → has_end_line g prefix ≡ false → lists_of g prefix ≡ lists →
+rendered : {X : Type 0} (g : Grammar X) (made : List (List X) → List (Line X)) (pieces : Line X → List (List ℕ)) → Prints g made pieces → (parts0 : List (List ℕ)) (last : List (List X)) → SpellsBody g parts0 last →
+    (prefix : List (List ℕ)) (part : List ℕ) (parts : List (List ℕ)) (lists : List (List X)) → parts0 ≡ prefix ++ part ∷ parts → has_end_line g prefix ≡ false → lists_of g prefix ≡ lists →
     Rendered made pieces lists (part ∷ parts) last
-rendered g made pieces prints text last spells prefix part [] lists body running says =
-    absurd (false≢true (sym (spells.clean (suc (suc (length prefix))) (unended_text_fault part)) ∙ fault_at-place g text prefix part [] (length prefix) (unended_text_fault part) body refl
+rendered g made pieces prints parts0 last spells prefix part [] lists body running says =
+    absurd (false≢true (sym (spells.clean (length prefix) (unended_text_fault part)) ∙ body_fault-place g parts0 prefix part [] (length prefix) (unended_text_fault part) body refl
     ∙ part_fault-last g prefix part (unended_text_fault part) running ∙ same_text_fault-self (unended_text_fault part)))
-rendered g made pieces prints text last spells prefix part (next ∷ parts) lists body running says =
-    let after : body_of text ≡ (prefix ++ part ∷ []) ++ next ∷ parts = body ∙ sym (append_assoc prefix (part ∷ []) (next ∷ parts)) in
-    rendered_said g made pieces prints text last spells prefix part next parts lists after running says
-    (λ ls runs is. rendered g made pieces prints text last spells (prefix ++ part ∷ []) next parts ls after runs is)
+rendered g made pieces prints parts0 last spells prefix part (next ∷ parts) lists body running says =
+    let after : parts0 ≡ (prefix ++ part ∷ []) ++ next ∷ parts = body ∙ sym (append_assoc prefix (part ∷ []) (next ∷ parts)) in
+    rendered_said g made pieces prints parts0 last spells prefix part next parts lists after running says
+    (λ ls runs is. rendered g made pieces prints parts0 last spells (prefix ++ part ∷ []) next parts ls after runs is)
     (said g part) refl
-    (λ w. ap (λ l. said_fault g l (said g part) w) (sym says) ∙ sym (part_fault-open g prefix part w running) ∙ sym (fault_at-place g text prefix part (next ∷ parts) (length prefix) w body refl) ∙ spells.clean (suc (suc (length prefix))) w)
+    (λ w. ap (λ l. said_fault g l (said g part) w) (sym says) ∙ sym (part_fault-open g prefix part w running) ∙ sym (body_fault-place g parts0 prefix part (next ∷ parts) (length prefix) w body refl) ∙ spells.clean (length prefix) w)
 
-header_place : (header : List ℕ) (parts : List (List ℕ)) → has_header header parts ≡ true → (first : List ℕ) × (others : List (List ℕ)) × (parts ≡ header ∷ first ∷ others)
-header_place header [] e = absurd cc
-header_place header (p ∷ []) e = absurd cc
-header_place header (p ∷ q ∷ ps) e = (q, ps, ap (λ h. h ∷ q ∷ ps) ((bytes_eq-Decides p header).0 e))
-
-not_false : (b : Bool) → (true && not b) ≡ false → b ≡ true
-not_false true e = refl
-not_false false e = absurd cc
-
-begins_so : {X : Type 0} (g : Grammar X) (text : List ℕ) (lists : List (List X)) → SpellsLists g text lists → has_header g.header (parts_of text) ≡ true
-unfolding fault_at
-begins_so g text lists spells = not_false _ (spells.clean 1 BadHeader)
-
--- a spelled text is the header, the lines of the value, and `end`
-pub spelled_text : {X : Type 0} (g : Grammar X) (made : List (List X) → List (Line X)) (pieces : Line X → List (List ℕ)) → Prints g made pieces → (text : List ℕ) (lists : List (List X)) → SpellsLists g text lists →
-    text ≡ g.header ++ 10 ∷ (flat_map (λ l. line_text (pieces l)) (made lists) ++ line_text (pieces End))
-unfolding parts_of has_end_line lists_of
-spelled_text g made pieces prints text lists spells =
-    let p = header_place g.header (parts_of text) (begins_so g text lists spells) in
-    let r = rendered g made pieces prints text lists spells [] p.0 p.1 g.start (ap (drop 1) p.2) refl refl in
+-- parts that are spelled are the lines of the value, and `end`
+pub spelled_parts : {X : Type 0} (g : Grammar X) (made : List (List X) → List (Line X)) (pieces : Line X → List (List ℕ)) → Prints g made pieces → (parts : List (List ℕ)) (lists : List (List X)) → SomePiece parts → SpellsBody g parts lists →
+    join_with_byte 10 parts ≡ flat_map (λ l. line_text (pieces l)) (made lists) ++ line_text (pieces End)
+unfolding has_end_line lists_of
+spelled_parts g made pieces prints parts lists some spells =
+    let r = rendered g made pieces prints parts lists spells [] some.first some.others g.start some.parts refl refl in
     let all : made lists ≡ r.lines = r.makes ∙ ap (λ m. m ++ r.lines) prints.start in
-    sym (join_with_byte-slice_split 10 text) ∙ ap (join_with_byte 10) p.2 ∙ ap (λ t. g.header ++ 10 ∷ t) r.text
-    ∙ ap (λ ls. g.header ++ 10 ∷ (flat_map (λ l. line_text (pieces l)) ls ++ line_text (pieces End))) (sym all)
+    ap (join_with_byte 10) some.parts ∙ r.text ∙ ap (λ ls. flat_map (λ l. line_text (pieces l)) ls ++ line_text (pieces End)) (sym all)

@@ -1,17 +1,16 @@
 -- The printed lines of lists spell these lists, in any grammar: where each line says what it was printed from, and has no fault.
-use Rattle.std.proofs.Common.{◌≡◌, ℕ, ◌*◌, ◌<◌, ◌≤◌, false, eqb, List, [], ◌∷◌, ◌++◌, length, map, drop, Ok, refl, ap, sym, ◌∙◌, subst, arith, append_assoc, length-append}
+use Rattle.std.proofs.Common.{◌≡◌, ℕ, ◌*◌, ◌<◌, ◌≤◌, false, eqb, List, [], ◌∷◌, ◌++◌, length, map, Ok, refl, ap, sym, ◌∙◌, subst, arith, append_assoc, length-append}
 use Rattle.std.specs.Prelude.{codes}
 use Rattle.std.specs.List.{flat_map, slice_split, join_with_byte}
 use Rattle.std.proofs.lemmas.List.{append-nil}
-use Rattle.std.proofs.lemmas.Slice.Eq.{bytes_eq-Decides}
 use Rattle.tso_text.specs.declared.faults.Why.{Why}
 use Rattle.tso_text.specs.declared.lines.Line.{Line}
 use Rattle.tso_text.specs.declared.lines.Line.TheVariants.{End}
-use Rattle.tso_text.specs.Printed.{whole_text}
 use Rattle.line_text.specs.Lines.{line_text, parts_of, pieces_of}
-use Rattle.tso_text.specs.Spelling.{Grammar, text_byte_limit, SpellsLists, said, said_fault, line_fault, lists_of, with_line, with_said, has_end_line, is_end}
+use Rattle.tso_text.specs.Spelling.{Grammar, said, said_fault, line_fault, lists_of, with_line, with_said, has_end_line, is_end}
+use Rattle.tso_text.specs.Internal.Begun.{SpellsBody}
 use Rattle.tso_text.proofs.CanonicalFacts.{pieces_by}
-use Rattle.tso_text.proofs.ReadersFacts.{IsClean, IsClean-push, Begins, part_fault-open, lists_of-push, has_end_line-push, spelled}
+use Rattle.tso_text.proofs.ReadersFacts.{IsClean, IsClean-push, part_fault-open, lists_of-push, has_end_line-push, spelled}
 use Rattle.line_text.proofs.SplitFacts.{has_byte, has_byte_in, split_part, split_joined, joined_without}
 
 -- ---- lines that are read back
@@ -28,7 +27,7 @@ pub record IsReadBack {X : Type 0} (g : Grammar X) (p : X → List (List ℕ)) (
   pub some : pieces_by p l ≡ word ∷ others
   pub no_space : has_byte_in 32 (pieces_by p l) ≡ false
   pub no_end : has_byte_in 10 (pieces_by p l) ≡ false
-  pub short : length (line_of p l) < 70
+  pub short : length (line_of p l) < 50
 
 -- a printed line is read as what it was printed from
 said-line_of : {X : Type 0} (g : Grammar X) (p : X → List (List ℕ)) (l : Line X) → IsReadBack g p l → said g (line_of p l) ≡ Ok l
@@ -70,7 +69,7 @@ parts-lines g p first (l ∷ ls) last rest accepted =
 
 -- the lines are as long as their number allows
 pub length-lines : {X : Type 0} (g : Grammar X) (p : X → List (List ℕ)) (first : List (List X)) (ls : List (Line X)) (last : List (List X)) → AreAccepted g p first ls last →
-    length (flat_map (λ l. line_text (pieces_by p l)) ls) ≤ 70 * length ls
+    length (flat_map (λ l. line_text (pieces_by p l)) ls) ≤ 50 * length ls
 length-lines g p first [] last accepted = omega arith
 length-lines g p first (l ∷ ls) last accepted =
     let short = accepted.0.back.short in
@@ -104,35 +103,21 @@ nothing_before : {X : Type 0} (g : Grammar X) → Stands g [] g.start
 unfolding has_end_line lists_of
 nothing_before g = record { clean = λ i w low. absurd (omega arith); running = refl; says = refl }
 
--- a text of the header, lines that are accepted, and `end` spells what the lines make
-pub printed_spells : {X : Type 0} (g : Grammar X) (p : X → List (List ℕ)) (ls : List (Line X)) (last : List (List X)) (lines : List ℕ) →
-    has_byte 10 g.header ≡ false → IsReadBack g p End → AreAccepted g p g.start ls last → flat_map (λ l. line_text (pieces_by p l)) ls ≡ lines →
-    length (whole_text g.header lines) ≤ text_byte_limit → SpellsLists g (whole_text g.header lines) last
-unfolding parts_of whole_text
-printed_spells {X} g p ls last lines header end accepted bytes short =
+-- lines that are accepted, and `end`, spell what the lines make
+pub printed_parts : {X : Type 0} (g : Grammar X) (p : X → List (List ℕ)) (ls : List (Line X)) (last : List (List X)) (lines : List ℕ) → IsReadBack g p End → AreAccepted g p g.start ls last → flat_map (λ l. line_text (pieces_by p l)) ls ≡ lines →
+    SpellsBody g (parts_of (lines ++ line_text (codes "end" ∷ []))) last
+unfolding parts_of
+printed_parts {X} g p ls last lines end accepted bytes =
     let ending = line_of p End in
     let prefix = map (line_of p) ls in
     let stands = stands-lines g p [] g.start ls last (nothing_before g) accepted in
     let is = said-line_of g p End end in
-    let after : slice_split (λ b. eqb b 10) (lines ++ line_text (codes "end" ∷ [])) ≡ prefix ++ ending ∷ [] ∷ [] =
+    let parts : slice_split (λ b. eqb b 10) (lines ++ line_text (codes "end" ∷ [])) ≡ prefix ++ ending ∷ [] ∷ [] =
     ap (λ b. slice_split (λ b. eqb b 10) (b ++ line_text (codes "end" ∷ []))) (sym bytes)
     ∙ parts-lines g p g.start ls last (line_text (codes "end" ∷ [])) accepted
     ∙ ap (λ ps. prefix ++ ps) (split_part 10 ending [] (line_of-whole g p End end)) in
-    let parts : parts_of (whole_text g.header lines) ≡ g.header ∷ (prefix ++ ending ∷ [] ∷ []) =
-    ap (slice_split (λ b. eqb b 10)) (append_assoc g.header (10 ∷ lines) (line_text (codes "end" ∷ [])))
-    ∙ split_part 10 g.header (lines ++ line_text (codes "end" ∷ [])) header ∙ ap (λ ps. g.header ∷ ps) after in
-    spelled g (whole_text g.header lines) (prefix ++ ending ∷ []) last
-    (begins g (whole_text g.header lines) prefix ending short parts)
+    spelled g (slice_split (λ b. eqb b 10) (lines ++ line_text (codes "end" ∷ []))) (prefix ++ ending ∷ []) last
     (IsClean-push g prefix ending stands.clean (λ w. part_fault-open g prefix ending w stands.running ∙ ap (λ ls. said_fault g ls (said g ending) w) stands.says ∙ ap (λ r. said_fault g last r w) is))
     (has_end_line-push g prefix ending stands.running ∙ ap is_end is)
     (lists_of-push g prefix ending ∙ ap (λ ls. with_said ls (said g ending)) stands.says ∙ ap (with_said last) is)
-    (ap (drop 1) parts ∙ sym (append_assoc prefix (ending ∷ []) ([] ∷ [])))
-  where
-    header_stands : (prefix : List (List ℕ)) (ending : List ℕ) (header : List ℕ) → (next : List ℕ) × (others : List (List ℕ)) × (prefix ++ ending ∷ [] ∷ [] ≡ next ∷ others)
-    header_stands [] ending header = (ending, [] ∷ [], refl)
-    header_stands (f ∷ prefix) ending header = (f, prefix ++ ending ∷ [] ∷ [], refl)
-
-    begins : {X : Type 0} (g : Grammar X) (text : List ℕ) (prefix : List (List ℕ)) (ending : List ℕ) → length text ≤ text_byte_limit → parts_of text ≡ g.header ∷ (prefix ++ ending ∷ [] ∷ []) → Begins g text
-    begins g text prefix ending short parts =
-        let p = header_stands prefix ending g.header in
-        record { short = short; header = rw (parts, p.2) ((bytes_eq-Decides g.header g.header).1 refl) }
+    (parts ∙ sym (append_assoc prefix (ending ∷ []) ([] ∷ [])))

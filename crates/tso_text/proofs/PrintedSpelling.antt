@@ -1,5 +1,5 @@
 -- The printed text of a value within the limits spells it.
-use Rattle.std.proofs.Common.{◌≡◌, ℕ, ◌+◌, ◌*◌, ◌<◌, ◌≤◌, ◌^◌, false, List, [], ◌∷◌, ◌++◌, length, map, Some, Ok, refl, ap, sym, ◌∙◌, subst, arith, length-append, All}
+use Rattle.std.proofs.Common.{◌≡◌, ℕ, ◌+◌, ◌*◌, ◌<◌, ◌≤◌, ◌^◌, true, false, List, [], ◌∷◌, ◌++◌, length, map, Some, Ok, refl, ap, sym, ◌∙◌, subst, arith, append_assoc, length-append, All}
 use Rattle.std.proofs.lemmas.Bool.{false≢true}
 use Rattle.std.specs.Prelude.{codes}
 use Rattle.std.specs.Fmt.{decimal}
@@ -11,40 +11,39 @@ use Rattle.tso_ops.specs.declared.ops.Op.{Op}
 use Rattle.tso_ops.specs.declared.ops.Op.TheVariants.{Ld as OpLd, St as OpSt, Sw as OpSw, Mb as OpMb, Sb as OpSb}
 use Rattle.tso_ops.specs.declared.ops.Outcome.{Outcome}
 use Rattle.tso_ops.specs.declared.ops.Outcome.TheVariants.{Ld, St, Sw, Mb, Sb}
-use Rattle.tso_ops.specs.declared.settings.Order.TheVariants.{Tso}
+use Rattle.tso_ops.specs.declared.settings.Order.{Order}
+use Rattle.tso_ops.specs.declared.settings.Order.TheVariants.{Tso, Pso}
+use Rattle.tso_ops.specs.declared.settings.Version.{Version}
+use Rattle.tso_ops.specs.declared.settings.Version.TheVariants.{One, Two}
 use Rattle.tso_ops.specs.declared.faults.ValueFault.TheVariants.{StbarInTso}
-use Rattle.tso_ops.specs.Settings.{version_one_tso}
+use Rattle.tso_ops.specs.Settings.{SettingValue, version_one_tso, event_limit, barrier_limit}
 use Rattle.tso_ops.specs.Limits.{KeepsLimits, IsProgram, IsTrace, address_of, stored_by, is_stbar_in_tso}
-use Rattle.tso_ops.specs.Values.{TraceValue, ProgramValue, ReadFits, op_of}
+use Rattle.tso_ops.specs.Values.{TraceValue, ProgramValue, ReadFits, op_of, program_of}
 use Rattle.tso_ops.proofs.RefusalFacts.{each-middle, kept_faultless, kept_address, kept_value, kept_few}
+use Rattle.tso_ops.proofs.EntryFacts.{KeepsEntries-few}
 use Rattle.tso_ops.specs.declared.acts.Act.{Act}
 use Rattle.tso_ops.specs.declared.acts.Act.TheVariants.{Issue, Drain}
 use Rattle.tso_text.specs.declared.lines.Line.{Line}
 use Rattle.tso_text.specs.declared.lines.Line.TheVariants.{Proc, Item, End}
-use Rattle.tso_text.specs.Grammars.{trace_grammar, program_grammar, schedule_grammar, trace_line, program_line, schedule_line, trace_header, program_header, outcome_fault, program_op_fault, processor_of, address, SpellsTrace, SpellsProgram, SpellsSchedule}
-use Rattle.tso_text.specs.Numbers.{numeral, or_bad_number, no_number, one_number, two_numbers, three_numbers}
-use Rattle.tso_text.specs.Printed.{items_text, processor_text, whole_text, outcome_pieces, op_pieces, act_pieces, trace_text, program_text, schedule_text}
-use Rattle.line_text.specs.Lines.{line_text}
-use Rattle.tso_text.specs.Spelling.{Grammar, items_of, text_byte_limit}
+use Rattle.tso_text.specs.Grammars.{trace_format, program_format, schedule_format, trace_grammar, program_grammar, schedule_grammar, schedule_header, has_stbar, trace_line, program_line, schedule_line, trace_header, program_header, outcome_fault, program_op_fault, processor_of, SpellsTrace, SpellsProgram, SpellsSchedule}
+use Rattle.tso_text.specs.Numbers.{no_number}
+use Rattle.tso_text.specs.Printed.{items_text, processor_text, entry_pieces, model_text, setting_text, whole_text, outcome_pieces, op_pieces, act_pieces, trace_text, program_text, schedule_text}
+use Rattle.line_text.specs.Lines.{line_text, parts_of}
+use Rattle.tso_text.specs.Preambles.{header_of, setting_preamble}
+use Rattle.tso_text.specs.Spelling.{Grammar, Format, SpellsLists, preamble_of, whole_lines, items_of, text_byte_limit}
+use Rattle.tso_text.specs.Internal.Begun.{IsSetting, HasBegun}
 use Rattle.tso_text.proofs.CanonicalFacts.{pieces_by}
 use Rattle.tso_text.proofs.FaultFacts.{op_clean, act_clean}
 use Rattle.tso_text.proofs.LineFacts.{items_of-map}
-use Rattle.line_text.proofs.NumberFacts.{number-decimal}
 use Rattle.tso_text.proofs.OneTextFacts.{made_by, made_by-text, flat_map-Item}
 use Rattle.tso_text.proofs.PrintedItems.{AreFit, lists_accepted, items_accepted, length-made_by}
-use Rattle.tso_text.proofs.PrintedLines.{IsReadBack, AreAccepted, length-lines, printed_spells}
-use Rattle.line_text.proofs.SplitFacts.{has_byte, has_byte_in, decimal_without}
+use Rattle.tso_text.proofs.PrintedLines.{IsReadBack, AreAccepted, length-lines, printed_parts}
+use Rattle.tso_text.proofs.PrintedSetting.{AreHeaders, BeginsBody, printed_line, setting_back, header_read}
+use Rattle.tso_text.proofs.TextFacts.{begun_spells}
+use Rattle.line_text.proofs.SplitFacts.{has_byte, has_byte_in}
+use Rattle.tso_text.proofs.PrintedNumbers.{Fit64, numbers_without, one-decimal, two-decimal, three-decimal, address-within}
 
 -- ---- a word and numbers
-
--- numbers of 64 bits
-abbrev Fit64 : List ℕ → Type 0
-Fit64 [] = Unit {0}
-Fit64 (n ∷ ns) = (n < 2 ^ 64) × Fit64 ns
-
-numbers_without : (c : ℕ) (ns : List ℕ) → c < 48 → Fit64 ns → has_byte_in c (map decimal ns) ≡ false
-numbers_without c [] low fit = refl
-numbers_without c (n ∷ ns) low fit = rw (decimal_without c n low fit.0) (numbers_without c ns low fit.1)
 
 length-decimal : (n : ℕ) → n < 2 ^ 64 → length (decimal n) ≤ 20
 length-decimal n fits = length-decimal-le 20 n (omega arith) (omega arith) fits
@@ -54,162 +53,225 @@ length-pieces word [] fit = omega arith
 length-pieces word (n ∷ ns) fit =
     omega (arith, length-append word (32 ∷ join_with_byte 32 (decimal n ∷ map decimal ns)), length-pieces (decimal n) ns fit.1, length-decimal n fit.0)
 
--- a line of a word and numbers
-read_back : {X : Type 0} (g : Grammar X) (p : X → List (List ℕ)) (l : Line X) (word : List ℕ) (ns : List ℕ) → pieces_by p l ≡ word ∷ map decimal ns →
-    has_byte 32 word ≡ false → has_byte 10 word ≡ false → length word ≤ 4 → length ns ≤ 3 → Fit64 ns → g.said_by (word ∷ map decimal ns) ≡ Ok l → IsReadBack g p l
-read_back g p l word ns shape space end short few fit says = record {
+-- a line of a word and numbers that is short
+short_back : {X : Type 0} (g : Grammar X) (p : X → List (List ℕ)) (l : Line X) (word : List ℕ) (ns : List ℕ) → pieces_by p l ≡ word ∷ map decimal ns →
+    has_byte 32 word ≡ false → has_byte 10 word ≡ false → length (join_with_byte 32 (word ∷ map decimal ns)) < 50 → Fit64 ns → g.said_by (word ∷ map decimal ns) ≡ Ok l → IsReadBack g p l
+short_back g p l word ns shape space end short fit says = record {
   says = ap (g.said_by) shape ∙ says;
   word = word;
   others = map decimal ns;
   some = shape;
   no_space = ap (has_byte_in 32) shape ∙ rw space (numbers_without 32 ns (omega arith) fit);
   no_end = ap (has_byte_in 10) shape ∙ rw end (numbers_without 10 ns (omega arith) fit);
-  short = let bound : length (join_with_byte 32 (pieces_by p l)) ≤ length word + 21 * length ns = rw shape (length-pieces word ns fit) in omega (arith, bound, short, few);
+  short = rw shape short;
 }
 
-numeral-decimal : (n : ℕ) → n < 2 ^ 64 → numeral (decimal n) ≡ Ok n
-numeral-decimal n fits = ap or_bad_number (number-decimal n fits)
+-- a line of a word and up to two numbers
+read_back : {X : Type 0} (g : Grammar X) (p : X → List (List ℕ)) (l : Line X) (word : List ℕ) (ns : List ℕ) → pieces_by p l ≡ word ∷ map decimal ns →
+    has_byte 32 word ≡ false → has_byte 10 word ≡ false → length word ≤ 5 → length ns ≤ 2 → Fit64 ns → g.said_by (word ∷ map decimal ns) ≡ Ok l → IsReadBack g p l
+read_back g p l word ns shape space end short few fit says =
+    short_back g p l word ns shape space end (let bound = length-pieces word ns fit in omega (arith, bound, short, few)) fit says
 
-one-decimal : (n : ℕ) → n < 2 ^ 64 → one_number (decimal n ∷ []) ≡ Ok n
-unfolding one_number
-one-decimal n fits = numeral-decimal n fits
+-- a line of a word, an address and two numbers
+length-swap : (a r v : ℕ) → a < 256 → Fit64 (a ∷ r ∷ v ∷ []) → length (join_with_byte 32 (codes "sw" ∷ map decimal (a ∷ r ∷ v ∷ []))) < 50
+length-swap a r v low fit =
+    let address : length (decimal a) ≤ 3 = length-decimal-le 3 a (omega arith) (omega (arith, low)) (omega (arith, low)) in
+    let rest = length-pieces (decimal a) (r ∷ v ∷ []) fit.1 in
+    omega (arith, address, rest, length-append (codes "sw") (32 ∷ join_with_byte 32 (decimal a ∷ decimal r ∷ decimal v ∷ [])))
 
-two-decimal : (m n : ℕ) → m < 2 ^ 64 → n < 2 ^ 64 → two_numbers (decimal m ∷ decimal n ∷ []) ≡ Ok (m, n)
-unfolding two_numbers
-two-decimal m n fits also = rw (numeral-decimal m fits, numeral-decimal n also) refl
-
-three-decimal : (m n o : ℕ) → m < 2 ^ 64 → n < 2 ^ 64 → o < 2 ^ 64 → three_numbers (decimal m ∷ decimal n ∷ decimal o ∷ []) ≡ Ok (m, n, o)
-unfolding three_numbers
-three-decimal m n o fits also third = rw (numeral-decimal m fits, numeral-decimal n also, numeral-decimal o third) refl
-
-address-within : (a : ℕ) → a < 256 → address a ≡ a
-address-within a low = omega arith
+-- where an STBAR is none under TSO, texts have the keyword
+order_has_stbar : (order : Order) → is_stbar_in_tso order OpSb ≡ false → has_stbar order ≡ true
+order_has_stbar Tso none = absurd (false≢true (sym none))
+order_has_stbar Pso none = refl
 
 -- ---- the lines of traces
 
-trace_end : IsReadBack trace_grammar outcome_pieces End
+trace_end : (setting : SettingValue) → IsReadBack (trace_grammar setting) outcome_pieces End
 unfolding trace_line no_number
-trace_end = read_back trace_grammar outcome_pieces End (codes "end") [] refl refl refl (omega arith) (omega arith) tt refl
+trace_end setting = read_back (trace_grammar setting) outcome_pieces End (codes "end") [] refl refl refl (omega arith) (omega arith) tt refl
 
-trace_proc : IsReadBack trace_grammar outcome_pieces Proc
+trace_proc : (setting : SettingValue) → IsReadBack (trace_grammar setting) outcome_pieces Proc
 unfolding trace_line no_number
-trace_proc = read_back trace_grammar outcome_pieces Proc (codes "proc") [] refl refl refl (omega arith) (omega arith) tt refl
+trace_proc setting = read_back (trace_grammar setting) outcome_pieces Proc (codes "proc") [] refl refl refl (omega arith) (omega arith) tt refl
 
-outcome_back : (x : Outcome) → ((a : ℕ) → address_of (op_of x) ≡ Some a → a < 256) → ((v : ℕ) → stored_by (op_of x) ≡ Some v → v < 2 ^ 64) → ReadFits x →
-    is_stbar_in_tso Tso (op_of x) ≡ false → IsReadBack trace_grammar outcome_pieces (Item x)
+outcome_back : (setting : SettingValue) (x : Outcome) → ((a : ℕ) → address_of (op_of x) ≡ Some a → a < 256) → ((v : ℕ) → stored_by (op_of x) ≡ Some v → v < 2 ^ 64) → ReadFits x →
+    is_stbar_in_tso setting.order (op_of x) ≡ false → IsReadBack (trace_grammar setting) outcome_pieces (Item x)
 unfolding trace_line no_number
-outcome_back (Ld a r) within writes reads no_stbar =
+outcome_back setting (Ld a r) within writes reads no_stbar =
     let low = within a refl in
     let fits : a < 2 ^ 64 = omega (arith, low) in
-    read_back trace_grammar outcome_pieces (Item (Ld a r)) (codes "ld") (a ∷ r ∷ []) refl refl refl (omega arith) (omega arith) (fits, (reads, tt))
+    read_back (trace_grammar setting) outcome_pieces (Item (Ld a r)) (codes "ld") (a ∷ r ∷ []) refl refl refl (omega arith) (omega arith) (fits, (reads, tt))
     (rw (two-decimal a r fits reads) (ap (λ b. Ok (Item (Ld b r))) (address-within a low)))
-outcome_back (St a v) within writes reads no_stbar =
+outcome_back setting (St a v) within writes reads no_stbar =
     let low = within a refl in
     let fits : a < 2 ^ 64 = omega (arith, low) in
     let value = writes v refl in
-    read_back trace_grammar outcome_pieces (Item (St a v)) (codes "st") (a ∷ v ∷ []) refl refl refl (omega arith) (omega arith) (fits, (value, tt))
+    read_back (trace_grammar setting) outcome_pieces (Item (St a v)) (codes "st") (a ∷ v ∷ []) refl refl refl (omega arith) (omega arith) (fits, (value, tt))
     (rw (two-decimal a v fits value) (ap (λ b. Ok (Item (St b v))) (address-within a low)))
-outcome_back (Sw a r v) within writes reads no_stbar =
+outcome_back setting (Sw a r v) within writes reads no_stbar =
     let low = within a refl in
     let fits : a < 2 ^ 64 = omega (arith, low) in
     let value = writes v refl in
-    read_back trace_grammar outcome_pieces (Item (Sw a r v)) (codes "sw") (a ∷ r ∷ v ∷ []) refl refl refl (omega arith) (omega arith) (fits, (reads, (value, tt)))
+    short_back (trace_grammar setting) outcome_pieces (Item (Sw a r v)) (codes "sw") (a ∷ r ∷ v ∷ []) refl refl refl (length-swap a r v low (fits, (reads, (value, tt)))) (fits, (reads, (value, tt)))
     (rw (three-decimal a r v fits reads value) (ap (λ b. Ok (Item (Sw b r v))) (address-within a low)))
-outcome_back Mb within writes reads no_stbar = read_back trace_grammar outcome_pieces (Item Mb) (codes "mb") [] refl refl refl (omega arith) (omega arith) tt refl
-outcome_back Sb within writes reads no_stbar = absurd (false≢true (sym no_stbar))
+outcome_back setting Mb within writes reads no_stbar = read_back (trace_grammar setting) outcome_pieces (Item Mb) (codes "mb") [] refl refl refl (omega arith) (omega arith) tt refl
+outcome_back setting Sb within writes reads no_stbar = read_back (trace_grammar setting) outcome_pieces (Item Sb) (codes "stbar") [] refl refl refl (omega arith) (omega arith) tt (rw (order_has_stbar setting.order no_stbar) refl)
 
-middle_limits : (items before : List Outcome) (x : Outcome) (after : List Outcome) → KeepsLimits version_one_tso (map op_of items) → items ≡ before ++ x ∷ after → KeepsLimits version_one_tso (map op_of before ++ op_of x ∷ map op_of after)
-middle_limits items before x after limits at = subst (KeepsLimits version_one_tso) (ap (map op_of) at ∙ map-append op_of before (x ∷ after)) limits
+middle_limits : (setting : SettingValue) (items before : List Outcome) (x : Outcome) (after : List Outcome) → KeepsLimits setting (map op_of items) → items ≡ before ++ x ∷ after → KeepsLimits setting (map op_of before ++ op_of x ∷ map op_of after)
+middle_limits setting items before x after limits at = subst (KeepsLimits setting) (ap (map op_of) at ∙ map-append op_of before (x ∷ after)) limits
 
-outcomes_fit : (items : List Outcome) → KeepsLimits version_one_tso (map op_of items) → All ReadFits items → AreFit trace_grammar outcome_pieces items
+outcomes_fit : (setting : SettingValue) (items : List Outcome) → KeepsLimits setting (map op_of items) → All ReadFits items → AreFit (trace_grammar setting) outcome_pieces items
 unfolding outcome_fault
-outcomes_fit items limits reads = record {
+outcomes_fit setting items limits reads = record {
   back = λ before x after at.
-      let kept = middle_limits items before x after limits at in
-      outcome_back x (λ a is. kept_address version_one_tso (map op_of before) (op_of x) (map op_of after) a kept is) (λ v is. kept_value version_one_tso (map op_of before) (op_of x) (map op_of after) v kept is)
+      let kept = middle_limits setting items before x after limits at in
+      outcome_back setting x (λ a is. kept_address setting (map op_of before) (op_of x) (map op_of after) a kept is) (λ v is. kept_value setting (map op_of before) (op_of x) (map op_of after) v kept is)
       (each-middle ReadFits before x after (subst (AllByRecursion ReadFits) at (recursion_from_All _ _ reads)))
-      (kept_faultless version_one_tso (map op_of before) (op_of x) (map op_of after) kept StbarInTso);
-  clean = λ before x after at w. op_clean (map op_of before) (op_of x) (kept_faultless version_one_tso (map op_of before) (op_of x) (map op_of after) (middle_limits items before x after limits at)) w;
+      (kept_faultless setting (map op_of before) (op_of x) (map op_of after) kept StbarInTso);
+  clean = λ before x after at w. op_clean setting (map op_of before) (op_of x) (kept_faultless setting (map op_of before) (op_of x) (map op_of after) (middle_limits setting items before x after limits at)) w;
 }
 
--- lines of at most 16 processors and 4,000 items are a short text
-short_text : {X : Type 0} (g : Grammar X) (p : X → List (List ℕ)) (lists last : List (List X)) → AreAccepted g p [] (made_by lists) last → length lists ≤ 16 → length (items_of lists) ≤ 4000 →
-    length (flat_map (processor_text p) lists) ≤ 281120
-short_text g p lists last accepted few some =
+-- lines of at most 16 processors and 16,000 items are a short text
+short_lines : {X : Type 0} (g : Grammar X) (p : X → List (List ℕ)) (lists last : List (List X)) → AreAccepted g p [] (made_by lists) last → length lists ≤ 16 → length (items_of lists) ≤ 16000 →
+    length (flat_map (processor_text p) lists) ≤ 800800
+short_lines g p lists last accepted few some =
     let lines = length-lines g p [] (made_by lists) last accepted in
     let count = length-made_by lists in
     let same = ap length (made_by-text p lists) in
     omega (arith, lines, count, same, few, some)
 
-length-whole : (header lines : List ℕ) → length header ≤ 20 → length lines ≤ 281120 → length (whole_text header lines) ≤ text_byte_limit
-unfolding whole_text
-length-whole header lines short few = omega (arith, length-append (header ++ 10 ∷ lines) (line_text (codes "end" ∷ [])), length-append header (10 ∷ lines), short, few)
+-- ---- whole texts
 
-pub printed_trace_spells : (t : TraceValue) → IsTrace t → t.setting ≡ version_one_tso → SpellsTrace (trace_text t) t
+-- the lines of lists and `end` don't begin with a keyword of the preamble
+body_begins : {X : Type 0} (p : X → List (List ℕ)) (lists : List (List X)) → BeginsBody (flat_map (processor_text p) lists ++ line_text (codes "end" ∷ []))
+unfolding processor_text
+body_begins p [] = record { word = codes "end"; pieces = []; rest = []; begins = printed_line (codes "end") [] [] refl refl; no_model = refl; no_entry = refl }
+body_begins p (row ∷ lists) =
+    let rest = flat_map (processor_text p) lists in
+    let last = line_text (codes "end" ∷ []) in
+    let same : ((line_text (codes "proc" ∷ []) ++ items_text p row) ++ rest) ++ last ≡ line_text (codes "proc" ∷ []) ++ ((items_text p row ++ rest) ++ last) =
+    ap (λ b. b ++ last) (append_assoc (line_text (codes "proc" ∷ [])) (items_text p row) rest) ∙ append_assoc (line_text (codes "proc" ∷ [])) (items_text p row ++ rest) last in
+    rw same (record { word = codes "proc"; pieces = []; rest = (items_text p row ++ rest) ++ last; begins = printed_line (codes "proc") [] ((items_text p row ++ rest) ++ last) refl refl; no_model = refl; no_entry = refl })
+
+entries_length : (first : List (ℕ × ℕ)) → AllByRecursion (λ entry. entry.0 < 256) first → AllByRecursion (λ entry. entry.1 < 2 ^ 64) first → length (items_text entry_pieces first) ≤ 50 * length first
+unfolding items_text
+entries_length [] low fits = omega arith
+entries_length (entry ∷ first) low fits =
+    let address : entry.0 < 2 ^ 64 = omega (arith, low.0) in
+    let line = length-pieces (codes "init") (entry.0 ∷ entry.1 ∷ []) (address, (fits.0, tt)) in
+    let rest = entries_length first low.1 fits.1 in
+    omega (arith, line, rest, length-append (line_text (entry_pieces entry)) (items_text entry_pieces first), length-append (join_with_byte 32 (entry_pieces entry)) (10 ∷ []))
+
+model_length : (order : Order) → length (model_text order) ≤ 10
+model_length Tso = omega arith
+model_length Pso = omega arith
+
+setting_length : (setting : SettingValue) → IsSetting setting → length (setting_text setting) ≤ 12810
+unfolding setting_text
+setting_length setting is =
+    let entries = entries_length setting.first (recursion_from_All _ _ is.entries.addresses) (recursion_from_All _ _ is.entries.fits) in
+    omega (arith, length-append (model_text setting.order) (items_text entry_pieces setting.first), model_length setting.order, entries, KeepsEntries-few setting.first is.entries)
+
+length-whole : (header setting lines : List ℕ) → length header ≤ 20 → length setting ≤ 12810 → length lines ≤ 800800 → length (whole_text header (setting ++ lines)) ≤ text_byte_limit
+unfolding whole_text
+length-whole header setting lines short few some =
+    omega (arith, length-append (header ++ 10 ∷ (setting ++ lines)) (line_text (codes "end" ∷ [])), length-append header (10 ∷ (setting ++ lines)), length-append setting lines, short, few, some)
+
+length-header : (one two : List ℕ) (version : Version) → length one ≤ 20 → length two ≤ 20 → length (header_of one two version) ≤ 20
+length-header one two One short also = short
+length-header one two Two short also = also
+
+-- The printed text of a setting and of lists, in a format with this preamble.
+whole_spells : {X : Type 0} (f : Format X) (one two : List ℕ) (p : X → List (List ℕ)) (setting : SettingValue) (lists : List (List X)) →
+    ((text : List ℕ) → preamble_of f text ≡ setting_preamble one two (whole_lines (parts_of text))) → AreHeaders one two → IsSetting setting → IsReadBack (f.grammar setting) p End → AreAccepted (f.grammar setting) p (f.grammar setting).start (made_by lists) lists →
+    length (whole_text (header_of one two setting.version) (setting_text setting ++ flat_map (processor_text p) lists)) ≤ text_byte_limit →
+    (setting ≡ (preamble_of f (whole_text (header_of one two setting.version) (setting_text setting ++ flat_map (processor_text p) lists))).setting) × SpellsLists f (whole_text (header_of one two setting.version) (setting_text setting ++ flat_map (processor_text p) lists)) lists
+whole_spells f one two p setting lists by headers is end accepted short =
+    let lines = flat_map (processor_text p) lists in
+    let text = whole_text (header_of one two setting.version) (setting_text setting ++ lines) in
+    let read = setting_back one two setting lines headers is (body_begins p lists) in
+    let begun : HasBegun (preamble_of f text) text setting read.0 (lines ++ line_text (codes "end" ∷ [])) = subst (λ q. HasBegun q text setting read.0 (lines ++ line_text (codes "end" ∷ []))) (sym (by text)) read.1 in
+    (sym begun.says, begun_spells f text setting read.0 (lines ++ line_text (codes "end" ∷ [])) lists short begun (printed_parts (f.grammar setting) p (made_by lists) lists lines end accepted (made_by-text p lists)))
+
+setting_of_program : (p : ProgramValue) → IsProgram p → IsSetting p.setting
+setting_of_program p program = record { entries = program.entries; version_one = program.version_one }
+
+few_items : (version : Version) (n : ℕ) → n ≤ event_limit version + barrier_limit version → n ≤ 16000
+few_items One n low = omega (arith, low)
+few_items Two n low = omega (arith, low)
+
+pub trace_headers : AreHeaders (trace_header One) (trace_header Two)
+trace_headers = record { differ = refl; same_one = refl; same_two = refl; whole_one = refl; whole_two = refl }
+
+pub program_headers : AreHeaders (program_header One) (program_header Two)
+program_headers = record { differ = refl; same_one = refl; same_two = refl; whole_one = refl; whole_two = refl }
+
+pub printed_trace_spells : (t : TraceValue) → IsTrace t → SpellsTrace (trace_text t) t
 unfolding trace_text
-printed_trace_spells t trace is =
-    let limits : KeepsLimits version_one_tso (map op_of (items_of t.lists)) =
-    subst (λ setting. KeepsLimits setting (map op_of (items_of t.lists))) is (subst (KeepsLimits t.setting) (items_of-map op_of t.lists) trace.program.limits) in
+printed_trace_spells t trace =
+    let setting = t.setting in
+    let is = setting_of_program (program_of t) trace.program in
+    let limits : KeepsLimits setting (map op_of (items_of t.lists)) = subst (KeepsLimits setting) (items_of-map op_of t.lists) trace.program.limits in
     let few : length t.lists ≤ 16 = omega (arith, length-map t.lists (map op_of), trace.program.processors) in
-    let fit = outcomes_fit (items_of t.lists) limits trace.reads in
-    let accepted = lists_accepted trace_grammar outcome_pieces (items_of t.lists) fit trace_proc [] t.lists (omega (arith, few)) refl in
-    let some : length (items_of t.lists) ≤ 4000 = omega (arith, kept_few version_one_tso (map op_of (items_of t.lists)) limits, length-map (items_of t.lists) op_of) in (
-      is,
-      printed_spells trace_grammar outcome_pieces (made_by t.lists) t.lists (flat_map (processor_text outcome_pieces) t.lists) refl trace_end accepted (made_by-text outcome_pieces t.lists)
-          (length-whole trace_header (flat_map (processor_text outcome_pieces) t.lists) (omega arith) (short_text trace_grammar outcome_pieces t.lists t.lists accepted few some)),
-    )
+    let fit = outcomes_fit setting (items_of t.lists) limits trace.reads in
+    let accepted = lists_accepted (trace_grammar setting) outcome_pieces (items_of t.lists) fit (trace_proc setting) [] t.lists (omega (arith, few)) refl in
+    let some : length (items_of t.lists) ≤ 16000 = few_items setting.version (length (items_of t.lists)) (omega (arith, kept_few setting (map op_of (items_of t.lists)) limits, length-map (items_of t.lists) op_of)) in
+    let short = length-whole (trace_header setting.version) (setting_text setting) (flat_map (processor_text outcome_pieces) t.lists) (length-header (trace_header One) (trace_header Two) setting.version (omega arith) (omega arith)) (setting_length setting is)
+    (short_lines (trace_grammar setting) outcome_pieces t.lists t.lists accepted few some) in
+    whole_spells trace_format (trace_header One) (trace_header Two) outcome_pieces setting t.lists (λ text. refl) trace_headers is (trace_end setting) accepted short
 
 -- ---- the lines of programs
 
-program_end : IsReadBack program_grammar op_pieces End
+program_end : (setting : SettingValue) → IsReadBack (program_grammar setting) op_pieces End
 unfolding program_line no_number
-program_end = read_back program_grammar op_pieces End (codes "end") [] refl refl refl (omega arith) (omega arith) tt refl
+program_end setting = read_back (program_grammar setting) op_pieces End (codes "end") [] refl refl refl (omega arith) (omega arith) tt refl
 
-program_proc : IsReadBack program_grammar op_pieces Proc
+program_proc : (setting : SettingValue) → IsReadBack (program_grammar setting) op_pieces Proc
 unfolding program_line no_number
-program_proc = read_back program_grammar op_pieces Proc (codes "proc") [] refl refl refl (omega arith) (omega arith) tt refl
+program_proc setting = read_back (program_grammar setting) op_pieces Proc (codes "proc") [] refl refl refl (omega arith) (omega arith) tt refl
 
-op_back : (x : Op) → ((a : ℕ) → address_of x ≡ Some a → a < 256) → ((v : ℕ) → stored_by x ≡ Some v → v < 2 ^ 64) → is_stbar_in_tso Tso x ≡ false → IsReadBack program_grammar op_pieces (Item x)
+op_back : (setting : SettingValue) (x : Op) → ((a : ℕ) → address_of x ≡ Some a → a < 256) → ((v : ℕ) → stored_by x ≡ Some v → v < 2 ^ 64) → is_stbar_in_tso setting.order x ≡ false → IsReadBack (program_grammar setting) op_pieces (Item x)
 unfolding program_line no_number
-op_back (OpLd a) within writes no_stbar =
+op_back setting (OpLd a) within writes no_stbar =
     let low = within a refl in
     let fits : a < 2 ^ 64 = omega (arith, low) in
-    read_back program_grammar op_pieces (Item (OpLd a)) (codes "ld") (a ∷ []) refl refl refl (omega arith) (omega arith) (fits, tt)
+    read_back (program_grammar setting) op_pieces (Item (OpLd a)) (codes "ld") (a ∷ []) refl refl refl (omega arith) (omega arith) (fits, tt)
     (rw (one-decimal a fits) (ap (λ b. Ok (Item (OpLd b))) (address-within a low)))
-op_back (OpSt a v) within writes no_stbar =
+op_back setting (OpSt a v) within writes no_stbar =
     let low = within a refl in
     let fits : a < 2 ^ 64 = omega (arith, low) in
     let value = writes v refl in
-    read_back program_grammar op_pieces (Item (OpSt a v)) (codes "st") (a ∷ v ∷ []) refl refl refl (omega arith) (omega arith) (fits, (value, tt))
+    read_back (program_grammar setting) op_pieces (Item (OpSt a v)) (codes "st") (a ∷ v ∷ []) refl refl refl (omega arith) (omega arith) (fits, (value, tt))
     (rw (two-decimal a v fits value) (ap (λ b. Ok (Item (OpSt b v))) (address-within a low)))
-op_back (OpSw a v) within writes no_stbar =
+op_back setting (OpSw a v) within writes no_stbar =
     let low = within a refl in
     let fits : a < 2 ^ 64 = omega (arith, low) in
     let value = writes v refl in
-    read_back program_grammar op_pieces (Item (OpSw a v)) (codes "sw") (a ∷ v ∷ []) refl refl refl (omega arith) (omega arith) (fits, (value, tt))
+    read_back (program_grammar setting) op_pieces (Item (OpSw a v)) (codes "sw") (a ∷ v ∷ []) refl refl refl (omega arith) (omega arith) (fits, (value, tt))
     (rw (two-decimal a v fits value) (ap (λ b. Ok (Item (OpSw b v))) (address-within a low)))
-op_back OpMb within writes no_stbar = read_back program_grammar op_pieces (Item OpMb) (codes "mb") [] refl refl refl (omega arith) (omega arith) tt refl
-op_back OpSb within writes no_stbar = absurd (false≢true (sym no_stbar))
+op_back setting OpMb within writes no_stbar = read_back (program_grammar setting) op_pieces (Item OpMb) (codes "mb") [] refl refl refl (omega arith) (omega arith) tt refl
+op_back setting OpSb within writes no_stbar = read_back (program_grammar setting) op_pieces (Item OpSb) (codes "stbar") [] refl refl refl (omega arith) (omega arith) tt (rw (order_has_stbar setting.order no_stbar) refl)
 
-ops_fit : (items : List Op) → KeepsLimits version_one_tso items → AreFit program_grammar op_pieces items
+ops_fit : (setting : SettingValue) (items : List Op) → KeepsLimits setting items → AreFit (program_grammar setting) op_pieces items
 unfolding program_op_fault
-ops_fit items limits = record {
+ops_fit setting items limits = record {
   back = λ before x after at.
-      let kept = subst (KeepsLimits version_one_tso) at limits in
-      op_back x (λ a is. kept_address version_one_tso before x after a kept is) (λ v is. kept_value version_one_tso before x after v kept is) (kept_faultless version_one_tso before x after kept StbarInTso);
-  clean = λ before x after at w. op_clean before x (kept_faultless version_one_tso before x after (subst (KeepsLimits version_one_tso) at limits)) w;
+      let kept = subst (KeepsLimits setting) at limits in
+      op_back setting x (λ a is. kept_address setting before x after a kept is) (λ v is. kept_value setting before x after v kept is) (kept_faultless setting before x after kept StbarInTso);
+  clean = λ before x after at w. op_clean setting before x (kept_faultless setting before x after (subst (KeepsLimits setting) at limits)) w;
 }
 
-pub printed_program_spells : (p : ProgramValue) → IsProgram p → p.setting ≡ version_one_tso → SpellsProgram (program_text p) p
+pub printed_program_spells : (p : ProgramValue) → IsProgram p → SpellsProgram (program_text p) p
 unfolding program_text
-printed_program_spells p program is =
-    let limits : KeepsLimits version_one_tso (items_of p.lists) = subst (λ setting. KeepsLimits setting (items_of p.lists)) is program.limits in
-    let fit = ops_fit (items_of p.lists) limits in
-    let accepted = lists_accepted program_grammar op_pieces (items_of p.lists) fit program_proc [] p.lists (omega (arith, program.processors)) refl in (
-      is,
-      printed_spells program_grammar op_pieces (made_by p.lists) p.lists (flat_map (processor_text op_pieces) p.lists) refl program_end accepted (made_by-text op_pieces p.lists)
-          (length-whole program_header (flat_map (processor_text op_pieces) p.lists) (omega arith) (short_text program_grammar op_pieces p.lists p.lists accepted program.processors (kept_few version_one_tso (items_of p.lists) limits))),
-    )
+printed_program_spells p program =
+    let setting = p.setting in
+    let is = setting_of_program p program in
+    let fit = ops_fit setting (items_of p.lists) program.limits in
+    let accepted = lists_accepted (program_grammar setting) op_pieces (items_of p.lists) fit (program_proc setting) [] p.lists (omega (arith, program.processors)) refl in
+    let some = few_items setting.version (length (items_of p.lists)) (kept_few setting (items_of p.lists) program.limits) in
+    let short = length-whole (program_header setting.version) (setting_text setting) (flat_map (processor_text op_pieces) p.lists) (length-header (program_header One) (program_header Two) setting.version (omega arith) (omega arith)) (setting_length setting is)
+    (short_lines (program_grammar setting) op_pieces p.lists p.lists accepted program.processors some) in
+    whole_spells program_format (program_header One) (program_header Two) op_pieces setting p.lists (λ text. refl) program_headers is (program_end setting) accepted short
 
 -- ---- the lines of schedules
 
@@ -233,18 +295,22 @@ acts_fit acts within = record {
 }
 
 pub printed_schedule_spells : (acts : List Act) → All (λ x. processor_of x ≤ 15) acts → length (schedule_text acts) ≤ text_byte_limit → SpellsSchedule (schedule_text acts) acts
-unfolding schedule_text items_text
+unfolding schedule_text items_text whole_text
 printed_schedule_spells acts within short =
-    printed_spells schedule_grammar act_pieces (map Item acts) (acts ∷ []) (flat_map (λ x. line_text (act_pieces x)) acts) refl schedule_end (items_accepted schedule_grammar act_pieces acts (acts_fit acts within))
-    (flat_map-Item (λ l. line_text (pieces_by act_pieces l)) acts) short
+    let lines = flat_map (λ x. line_text (act_pieces x)) acts in
+    let last = line_text (codes "end" ∷ []) in
+    let same : (schedule_header ++ 10 ∷ lines) ++ last ≡ schedule_header ++ 10 ∷ (lines ++ last) = append_assoc schedule_header (10 ∷ lines) last in
+    let begun = header_read schedule_header (lines ++ last) refl refl in
+    let body = printed_parts schedule_grammar act_pieces (map Item acts) (acts ∷ []) lines schedule_end (items_accepted schedule_grammar act_pieces acts (acts_fit acts within)) (flat_map-Item (λ l. line_text (pieces_by act_pieces l)) acts) in
+    rw same (begun_spells schedule_format (schedule_header ++ 10 ∷ (lines ++ last)) version_one_tso 1 (lines ++ last) (acts ∷ []) (subst (λ t. length t ≤ text_byte_limit) same short) begun body)
 
 -- ---- what a printer answers
 
-pub trace_answered : (t : TraceValue) (bytes : List ℕ) → IsTrace t → bytes ≡ trace_text t → t.setting ≡ version_one_tso → SpellsTrace bytes t
-trace_answered t bytes kept is setting = subst (λ b. SpellsTrace b t) (sym is) (printed_trace_spells t kept setting)
+pub trace_answered : (t : TraceValue) (bytes : List ℕ) → IsTrace t → bytes ≡ trace_text t → SpellsTrace bytes t
+trace_answered t bytes kept is = subst (λ b. SpellsTrace b t) (sym is) (printed_trace_spells t kept)
 
-pub program_answered : (p : ProgramValue) (bytes : List ℕ) → IsProgram p → bytes ≡ program_text p → p.setting ≡ version_one_tso → SpellsProgram bytes p
-program_answered p bytes kept is setting = subst (λ b. SpellsProgram b p) (sym is) (printed_program_spells p kept setting)
+pub program_answered : (p : ProgramValue) (bytes : List ℕ) → IsProgram p → bytes ≡ program_text p → SpellsProgram bytes p
+program_answered p bytes kept is = subst (λ b. SpellsProgram b p) (sym is) (printed_program_spells p kept)
 
 pub schedule_answered : (acts : List Act) (bytes : List ℕ) → bytes ≡ schedule_text acts → All (λ x. processor_of x ≤ 15) acts → length bytes ≤ text_byte_limit → SpellsSchedule bytes acts
 schedule_answered acts bytes is within short = subst (λ b. SpellsSchedule b acts) (sym is) (printed_schedule_spells acts within (subst (λ b. length b ≤ text_byte_limit) is short))

@@ -1,5 +1,5 @@
 -- What a text spells keeps the limits of its value.
-use Rattle.std.proofs.Common.{◌≡◌, ℕ, suc, ◌+◌, ◌<◌, ◌≤◌, ◌^◌, Bool, true, false, ltb, List, [], ◌∷◌, ◌++◌, length, map, All, Some, Result, Ok, Err, refl, sym, ◌∙◌, subst, arith, append_assoc, length-append}
+use Rattle.std.proofs.Common.{◌≡◌, ℕ, ◌+◌, ◌<◌, ◌≤◌, ◌&&◌, Bool, true, false, ltb, List, [], ◌∷◌, ◌++◌, length, map, All, Some, Result, Ok, Err, refl, sym, ◌∙◌, subst, arith, append_assoc, length-append}
 use Rattle.std.specs.Prelude.{codes, IfOk}
 use Rattle.std.proofs.lemmas.Bool.{false≢true, or_parts}
 use Rattle.std.proofs.lemmas.Bool.Decides.{nat_tests}
@@ -8,28 +8,34 @@ use Rattle.std.proofs.lemmas.List.Concat.{flat_map-append}
 use Rattle.std.proofs.lemmas.List.Elements.{All-nil, All-push}
 use Rattle.std.proofs.lemmas.Result.{IfOk-at_ok}
 use Rattle.line_text.specs.Lines.{is_empty}
-use Rattle.line_text.specs.Numbers.{number}
-use Rattle.line_text.proofs.NumberFacts.{number_fits}
+use Rattle.line_text.proofs.NumberFacts.{and_parts}
 use Rattle.tso_ops.specs.declared.ops.Op.{Op}
+use Rattle.tso_ops.specs.declared.ops.Op.TheVariants.{Ld as OpLd, St as OpSt, Sw as OpSw, Mb as OpMb, Sb as OpSb}
+use Rattle.tso_ops.specs.declared.settings.Order.{Order}
+use Rattle.tso_ops.specs.declared.settings.Order.TheVariants.{Tso, Pso}
+use Rattle.tso_ops.specs.declared.settings.Version.TheVariants.{One, Two}
 use Rattle.tso_ops.specs.declared.ops.Outcome.{Outcome}
-use Rattle.tso_ops.specs.declared.ops.Outcome.TheVariants.{Ld, St, Sw, Mb}
-use Rattle.tso_ops.specs.Limits.{KeepsLimits, IsProgram, IsTrace, event_count, barrier_count, total_events, total_barriers, stored_by}
+use Rattle.tso_ops.specs.declared.ops.Outcome.TheVariants.{Ld, St, Sw, Mb, Sb}
+use Rattle.tso_ops.specs.Limits.{KeepsLimits, IsProgram, IsTrace, event_count, barrier_count, total_events, total_barriers, stored_by, is_stbar_in_tso}
 use Rattle.tso_ops.specs.Values.{TraceValue, ProgramValue, ReadFits, op_of, trace_of_lists, program_of_lists}
-use Rattle.tso_ops.specs.Settings.{version_one_tso}
+use Rattle.tso_ops.specs.Settings.{SettingValue, event_limit, barrier_limit}
 use Rattle.tso_ops.proofs.LimitFacts.{KeepsLimits-nil, KeepsLimits-push}
-use Rattle.tso_ops.proofs.EntryFacts.{KeepsEntries-nil}
 use Rattle.tso_text.specs.declared.faults.Why.{Why}
-use Rattle.tso_text.specs.declared.faults.Why.TheVariants.{BadLine, TooManyProcessors, TooManyEvents, AddressRange, ZeroValue, RepeatedValue, AfterEnd}
+use Rattle.tso_text.specs.declared.faults.Why.TheVariants.{TooManyProcessors, TooManyEvents, AddressRange, ZeroValue, RepeatedValue, AfterEnd}
 use Rattle.tso_text.specs.declared.lines.Line.{Line}
 use Rattle.tso_text.specs.declared.lines.Line.TheVariants.{Proc, Item, End}
-use Rattle.tso_text.specs.Grammars.{trace_grammar, program_grammar, trace_line, program_line, is_word, op_fault, outcome_fault, program_op_fault, SpellsTrace, SpellsProgram}
-use Rattle.tso_text.specs.Numbers.{numeral, no_number, one_number, two_numbers, three_numbers}
-use Rattle.tso_text.specs.Spelling.{Grammar, SpellsLists, said_fault, line_fault, said, lists_of, with_line, with_said, has_end_line, body_of, body_lines, items_of}
-use Rattle.tso_text.proofs.CanonicalFacts.{or_bad_ok, if_bind, if_cond, sound}
+use Rattle.tso_text.specs.Grammars.{trace_format, program_format, trace_header, program_header, trace_grammar, program_grammar, trace_line, program_line, has_stbar, op_fault, outcome_fault, program_op_fault, SpellsTrace, SpellsProgram}
+use Rattle.tso_text.specs.Numbers.{is_word, no_number, one_number, two_numbers, three_numbers}
+use Rattle.tso_text.specs.Spelling.{Grammar, preamble_of, body_of, said_fault, line_fault, said, lists_of, whole_lines, with_line, with_said, has_end_line, items_of}
+use Rattle.tso_text.specs.Internal.Accepted.{CanSay}
+use Rattle.tso_text.specs.Internal.Begun.{SpellsBody}
+use Rattle.tso_text.proofs.CanonicalFacts.{if_bind, if_cond, if_cond_on, sound}
 use Rattle.tso_text.proofs.KeptFacts.{trace_within}
 use Rattle.tso_text.proofs.LineFacts.{items_of-push_last, length-push_last}
-use Rattle.tso_text.proofs.PrintedFacts.{body_lines-place}
-use Rattle.tso_text.proofs.ReadersFacts.{part_fault-open, part_fault-ended, fault_at-place, lists_of-push}
+use Rattle.tso_text.proofs.NumberLimits.{Fits, two_fit, three_fit}
+use Rattle.tso_text.proofs.ReadersFacts.{part_fault-open, part_fault-ended, body_fault-place, whole_lines-place, lists_of-push}
+use Rattle.tso_text.proofs.SettingText.{setting_kept}
+use Rattle.tso_text.proofs.TextFacts.{body_spells}
 
 -- ---- from line to line
 
@@ -71,74 +77,43 @@ said_kept g keeps more lists ps (Err why) says clean kept = kept
 said_kept g keeps more lists ps (Ok l) says clean kept = line_kept g keeps more lists ps l says clean kept
 
 -- before a line of a spelled text there is no `end`
-not_ended : {X : Type 0} (g : Grammar X) (text : List ℕ) (last : List (List X)) (prefix : List (List ℕ)) (part next : List ℕ) (parts : List (List ℕ)) → SpellsLists g text last →
-    body_of text ≡ prefix ++ part ∷ next ∷ parts → has_end_line g prefix ≡ false
-not_ended g text last prefix part next parts spells body = decided (has_end_line g prefix) refl
+not_ended : {X : Type 0} (g : Grammar X) (whole : List (List ℕ)) (last : List (List X)) (prefix : List (List ℕ)) (part next : List ℕ) (parts : List (List ℕ)) → SpellsBody g whole last →
+    whole ≡ prefix ++ part ∷ next ∷ parts → has_end_line g prefix ≡ false
+not_ended g whole last prefix part next parts spells body = decided (has_end_line g prefix) refl
   where
     decided : (b : Bool) → has_end_line g prefix ≡ b → b ≡ false
     decided false running = refl
     decided true ended =
-        absurd (false≢true (sym (spells.clean (suc (suc (length prefix))) AfterEnd)
-        ∙ fault_at-place g text prefix part (next ∷ parts) (length prefix) AfterEnd body refl ∙ part_fault-ended g prefix part false AfterEnd ended))
+        absurd (false≢true (sym (spells.clean (length prefix) AfterEnd)
+        ∙ body_fault-place g whole prefix part (next ∷ parts) (length prefix) AfterEnd body refl ∙ part_fault-ended g prefix part false AfterEnd ended))
 
 -- a line of a spelled text has no fault after those before it
-line_clean : {X : Type 0} (g : Grammar X) (text : List ℕ) (last : List (List X)) (prefix : List (List ℕ)) (part next : List ℕ) (parts : List (List ℕ)) → SpellsLists g text last →
-    body_of text ≡ prefix ++ part ∷ next ∷ parts → (w : Why) → said_fault g (lists_of g prefix) (said g part) w ≡ false
-line_clean g text last prefix part next parts spells body w =
-    sym (part_fault-open g prefix part w (not_ended g text last prefix part next parts spells body))
-    ∙ sym (fault_at-place g text prefix part (next ∷ parts) (length prefix) w body refl) ∙ spells.clean (suc (suc (length prefix))) w
+line_clean : {X : Type 0} (g : Grammar X) (whole : List (List ℕ)) (last : List (List X)) (prefix : List (List ℕ)) (part next : List ℕ) (parts : List (List ℕ)) → SpellsBody g whole last →
+    whole ≡ prefix ++ part ∷ next ∷ parts → (w : Why) → said_fault g (lists_of g prefix) (said g part) w ≡ false
+line_clean g whole last prefix part next parts spells body w =
+    sym (part_fault-open g prefix part w (not_ended g whole last prefix part next parts spells body))
+    ∙ sym (body_fault-place g whole prefix part (next ∷ parts) (length prefix) w body refl) ∙ spells.clean (length prefix) w
 
 -- from a line on, the lines of a spelled text keep what is said
-lines_kept : {X : Type 0} (g : Grammar X) (keeps : List X → Type 0) → IsKeptByItems g keeps → (text : List ℕ) (last : List (List X)) → SpellsLists g text last →
-    (prefix : List (List ℕ)) (part : List ℕ) (parts : List (List ℕ)) → body_of text ≡ prefix ++ part ∷ parts → KeepsLists keeps (lists_of g prefix) → KeepsLists keeps (lists_of g (body_lines text))
-lines_kept g keeps more text last spells prefix part [] body kept = rw (body_lines-place text prefix part body) kept
-lines_kept g keeps more text last spells prefix part (next ∷ parts) body kept =
+lines_kept : {X : Type 0} (g : Grammar X) (keeps : List X → Type 0) → IsKeptByItems g keeps → (whole : List (List ℕ)) (last : List (List X)) → SpellsBody g whole last →
+    (prefix : List (List ℕ)) (part : List ℕ) (parts : List (List ℕ)) → whole ≡ prefix ++ part ∷ parts → KeepsLists keeps (lists_of g prefix) → KeepsLists keeps (lists_of g (whole_lines whole))
+lines_kept g keeps more whole last spells prefix part [] body kept = rw (body, whole_lines-place prefix part) kept
+lines_kept g keeps more whole last spells prefix part (next ∷ parts) body kept =
     let after : KeepsLists keeps (lists_of g (prefix ++ part ∷ [])) =
-    rw (lists_of-push g prefix part) (said_kept g keeps more (lists_of g prefix) _ (said g part) refl (line_clean g text last prefix part next parts spells body) kept) in
-    lines_kept g keeps more text last spells (prefix ++ part ∷ []) next parts (body ∙ sym (append_assoc prefix (part ∷ []) (next ∷ parts))) after
+    rw (lists_of-push g prefix part) (said_kept g keeps more (lists_of g prefix) _ (said g part) refl (line_clean g whole last prefix part next parts spells body) kept) in
+    lines_kept g keeps more whole last spells (prefix ++ part ∷ []) next parts (body ∙ sym (append_assoc prefix (part ∷ []) (next ∷ parts))) after
 
-body_kept : {X : Type 0} (g : Grammar X) (keeps : List X → Type 0) → IsKeptByItems g keeps → (text : List ℕ) (last : List (List X)) → SpellsLists g text last →
-    (parts : List (List ℕ)) → body_of text ≡ parts → KeepsLists keeps g.start → KeepsLists keeps (lists_of g (body_lines text))
+body_kept : {X : Type 0} (g : Grammar X) (keeps : List X → Type 0) → IsKeptByItems g keeps → (whole : List (List ℕ)) (last : List (List X)) → SpellsBody g whole last →
+    (parts : List (List ℕ)) → whole ≡ parts → KeepsLists keeps g.start → KeepsLists keeps (lists_of g (whole_lines whole))
 unfolding lists_of
-body_kept g keeps more text last spells [] body kept = rw body kept
-body_kept g keeps more text last spells (part ∷ parts) body kept = lines_kept g keeps more text last spells [] part parts body kept
+body_kept g keeps more whole last spells [] body kept = rw body kept
+body_kept g keeps more whole last spells (part ∷ parts) body kept = lines_kept g keeps more whole last spells [] part parts body kept
 
 -- what is said of the items at the start, and kept by each line, is said of what a text spells
-spelled_kept : {X : Type 0} (g : Grammar X) (keeps : List X → Type 0) → IsKeptByItems g keeps → length g.start ≤ 16 → keeps (items_of g.start) → (text : List ℕ) (lists : List (List X)) → SpellsLists g text lists →
+spelled_kept : {X : Type 0} (g : Grammar X) (keeps : List X → Type 0) → IsKeptByItems g keeps → length g.start ≤ 16 → keeps (items_of g.start) → (parts : List (List ℕ)) (lists : List (List X)) → SpellsBody g parts lists →
     KeepsLists keeps lists
-spelled_kept g keeps more few start text lists spells =
-    subst (KeepsLists keeps) spells.says (body_kept g keeps more text lists spells (body_of text) refl (record { few = few; items = start }))
-
--- ---- the numbers of a line
-
--- a number of 64 bits
-abbrev Fits : ℕ → Type 0
-Fits n = n < 2 ^ 64
-
-numeral_fits : (p : List ℕ) (n : ℕ) → numeral p ≡ Ok n → Fits n
-numeral_fits p n says = number_fits p n (or_bad_ok (number p) n says)
-
-two_fit : (ps : List (List ℕ)) (n : ℕ × ℕ) → two_numbers ps ≡ Ok n → Fits n.0 × Fits n.1
-unfolding two_numbers
-two_fit ps n says = IfOk-at_ok (λ n. Fits n.0 × Fits n.1) says (each ps)
-  where
-    each : (ps : List (List ℕ)) → IfOk (two_numbers ps) (λ n. Fits n.0 × Fits n.1)
-    each [] = tt
-    each (p ∷ []) = tt
-    each (p ∷ q ∷ []) = if_bind _ (numeral p) _ (λ a first. if_bind _ (numeral q) _ (λ b second. (numeral_fits p a first, numeral_fits q b second)))
-    each (p ∷ q ∷ r ∷ ps) = tt
-
-three_fit : (ps : List (List ℕ)) (n : ℕ × ℕ × ℕ) → three_numbers ps ≡ Ok n → Fits n.0 × Fits n.1 × Fits n.2
-unfolding three_numbers
-three_fit ps n says = IfOk-at_ok (λ n. Fits n.0 × Fits n.1 × Fits n.2) says (each ps)
-  where
-    each : (ps : List (List ℕ)) → IfOk (three_numbers ps) (λ n. Fits n.0 × Fits n.1 × Fits n.2)
-    each [] = tt
-    each (p ∷ []) = tt
-    each (p ∷ q ∷ []) = tt
-    each (p ∷ q ∷ r ∷ []) =
-        if_bind _ (numeral p) _ (λ a first. if_bind _ (numeral q) _ (λ b second. if_bind _ (numeral r) _ (λ c third. (numeral_fits p a first, numeral_fits q b second, numeral_fits r c third))))
-    each (p ∷ q ∷ r ∷ s ∷ ps) = tt
+spelled_kept g keeps more few start parts lists spells =
+    subst (KeepsLists keeps) spells.says (body_kept g keeps more parts lists spells parts refl (record { few = few; items = start }))
 
 -- ---- operations
 
@@ -147,102 +122,152 @@ abbrev WriteFits : Op → Type 0
 WriteFits op = (v : ℕ) → stored_by op ≡ Some v → Fits v
 
 -- one more operation without a fault keeps the limits
-limits_kept : (ops : List Op) (op : Op) → ((w : Why) → op_fault ops op w ≡ false) → WriteFits op → KeepsLimits version_one_tso ops → KeepsLimits version_one_tso (ops ++ op ∷ [])
-limits_kept ops op clean fits limits =
-    let many = or_parts (ltb 2000 (total_events ops + event_count op)) (ltb 2000 (total_barriers ops + barrier_count op)) (clean TooManyEvents) in
-    let events : total_events ops + event_count op ≤ 2000 = let off = many.0 in grind (arith, nat_tests) in
-    let barriers : total_barriers ops + barrier_count op ≤ 2000 = let off = many.1 in grind (arith, nat_tests) in
-    KeepsLimits-push version_one_tso ops op limits record {
+limits_kept : (setting : SettingValue) (ops : List Op) (op : Op) → ((w : Why) → op_fault setting ops op w ≡ false) → WriteFits op → is_stbar_in_tso setting.order op ≡ false → KeepsLimits setting ops → KeepsLimits setting (ops ++ op ∷ [])
+limits_kept setting ops op clean fits no_stbar limits =
+    let many = or_parts (ltb (event_limit setting.version) (total_events ops + event_count op)) (ltb (barrier_limit setting.version) (total_barriers ops + barrier_count op)) (clean TooManyEvents) in
+    let events : total_events ops + event_count op ≤ event_limit setting.version = let off = many.0 in grind (arith, nat_tests) in
+    let barriers : total_barriers ops + barrier_count op ≤ barrier_limit setting.version = let off = many.1 in grind (arith, nat_tests) in
+    KeepsLimits-push setting ops op limits record {
       few_events = events;
       few_barriers = barriers;
       in_range = clean AddressRange;
       storable = record { non_zero = clean ZeroValue; new = clean RepeatedValue; fits = fits };
-      no_stbar = clean BadLine;
+      no_stbar = no_stbar;
     }
 
 value_fits : (v : ℕ) → Fits v → (w : ℕ) → Some v ≡ Some w → Fits w
 value_fits v fits w at = let same : v ≡ w = cc in omega (arith, same, fits)
 
+-- no operation but an STBAR is one
+load_no_stbar : (order : Order) (a : ℕ) → is_stbar_in_tso order (OpLd a) ≡ false
+load_no_stbar Tso a = refl
+load_no_stbar Pso a = refl
+
+store_no_stbar : (order : Order) (a v : ℕ) → is_stbar_in_tso order (OpSt a v) ≡ false
+store_no_stbar Tso a v = refl
+store_no_stbar Pso a v = refl
+
+swap_no_stbar : (order : Order) (a v : ℕ) → is_stbar_in_tso order (OpSw a v) ≡ false
+swap_no_stbar Tso a v = refl
+swap_no_stbar Pso a v = refl
+
+membar_no_stbar : (order : Order) → is_stbar_in_tso order OpMb ≡ false
+membar_no_stbar Tso = refl
+membar_no_stbar Pso = refl
+
+-- texts of PSO have the keyword
+pso_stbar : (order : Order) → has_stbar order ≡ true → is_stbar_in_tso order OpSb ≡ false
+pso_stbar Tso has = absurd (false≢true has)
+pso_stbar Pso has = refl
+
 -- ---- traces
 
--- what the outcome read and what it writes have 64 bits
-record OutcomeFits (x : Outcome) : Type 0 where
+-- what the outcome read and what it writes have 64 bits, and it is no STBAR under TSO
+record OutcomeFits (order : Order) (x : Outcome) : Type 0 where
   read : ReadFits x
   write : WriteFits (op_of x)
+  no_stbar : is_stbar_in_tso order (op_of x) ≡ false
 
-abbrev OutcomeLineFits : Line Outcome → Type 0
-OutcomeLineFits Proc = Unit {0}
-OutcomeLineFits (Item x) = OutcomeFits x
-OutcomeLineFits End = Unit {0}
+abbrev OutcomeLineFits : Order → Line Outcome → Type 0
+OutcomeLineFits order Proc = Unit {0}
+OutcomeLineFits order (Item x) = OutcomeFits order x
+OutcomeLineFits order End = Unit {0}
 
-load_fits : (a r : ℕ) → Fits r → OutcomeFits (Ld a r)
-load_fits a r read = record { read = read; write = λ v at. absurd cc }
+load_fits : (order : Order) (a r : ℕ) → Fits r → OutcomeFits order (Ld a r)
+load_fits order a r read = record { read = read; write = λ v at. absurd cc; no_stbar = load_no_stbar order a }
 
-store_fits : (a v : ℕ) → Fits v → OutcomeFits (St a v)
-store_fits a v fits = record { read = tt; write = value_fits v fits }
+store_fits : (order : Order) (a v : ℕ) → Fits v → OutcomeFits order (St a v)
+store_fits order a v fits = record { read = tt; write = value_fits v fits; no_stbar = store_no_stbar order a v }
 
-swap_fits : (a r v : ℕ) → Fits r → Fits v → OutcomeFits (Sw a r v)
-swap_fits a r v read fits = record { read = read; write = value_fits v fits }
+swap_fits : (order : Order) (a r v : ℕ) → Fits r → Fits v → OutcomeFits order (Sw a r v)
+swap_fits order a r v read fits = record { read = read; write = value_fits v fits; no_stbar = swap_no_stbar order a v }
 
-barrier_fits : OutcomeFits Mb
-barrier_fits = record { read = tt; write = λ v at. absurd cc }
+barrier_fits : (order : Order) → OutcomeFits order Mb
+barrier_fits order = record { read = tt; write = λ v at. absurd cc; no_stbar = membar_no_stbar order }
 
-trace_line_fits : (ps : List (List ℕ)) → IfOk (trace_line ps) OutcomeLineFits
+stbar_fits : (order : Order) → has_stbar order ≡ true → OutcomeFits order Sb
+stbar_fits order has = record { read = tt; write = λ v at. absurd cc; no_stbar = pso_stbar order has }
+
+trace_line_fits : (order : Order) (ps : List (List ℕ)) → IfOk (trace_line order ps) (OutcomeLineFits order)
 unfolding trace_line
-trace_line_fits [] = tt
-trace_line_fits (word ∷ pieces) =
-    if_cond _ (is_word word (codes "proc")) _ _ (if_bind OutcomeLineFits (no_number pieces) _ (λ u is. tt))
-    (if_cond _ (is_word word (codes "ld")) _ _ (if_bind OutcomeLineFits (two_numbers pieces) _ (λ n is. load_fits _ n.1 (two_fit pieces n is).1))
-    (if_cond _ (is_word word (codes "st")) _ _ (if_bind OutcomeLineFits (two_numbers pieces) _ (λ n is. store_fits _ n.1 (two_fit pieces n is).1))
-    (if_cond _ (is_word word (codes "sw")) _ _ (if_bind OutcomeLineFits (three_numbers pieces) _ (λ n is. swap_fits _ n.1 n.2 (three_fit pieces n is).1 (three_fit pieces n is).2))
-    (if_cond _ (is_word word (codes "mb")) _ _ (if_bind OutcomeLineFits (no_number pieces) _ (λ u is. barrier_fits))
-    (if_cond _ (is_word word (codes "end")) _ _ (if_bind OutcomeLineFits (no_number pieces) _ (λ u is. tt)) tt)))))
+trace_line_fits order [] = tt
+trace_line_fits order (word ∷ pieces) =
+    if_cond _ (is_word word (codes "proc")) _ _ (if_bind (OutcomeLineFits order) (no_number pieces) _ (λ u is. tt))
+    (if_cond _ (is_word word (codes "ld")) _ _ (if_bind (OutcomeLineFits order) (two_numbers pieces) _ (λ n is. load_fits order _ n.1 (two_fit pieces n is).1))
+    (if_cond _ (is_word word (codes "st")) _ _ (if_bind (OutcomeLineFits order) (two_numbers pieces) _ (λ n is. store_fits order _ n.1 (two_fit pieces n is).1))
+    (if_cond _ (is_word word (codes "sw")) _ _ (if_bind (OutcomeLineFits order) (three_numbers pieces) _ (λ n is. swap_fits order _ n.1 n.2 (three_fit pieces n is).1 (three_fit pieces n is).2))
+    (if_cond _ (is_word word (codes "mb")) _ _ (if_bind (OutcomeLineFits order) (no_number pieces) _ (λ u is. barrier_fits order))
+    (if_cond_on _ (is_word word (codes "stbar") && has_stbar order) _ _ (λ on. if_bind (OutcomeLineFits order) (no_number pieces) _ (λ u is. stbar_fits order (and_parts (is_word word (codes "stbar")) (has_stbar order) on).1))
+    (if_cond _ (is_word word (codes "end")) _ _ (if_bind (OutcomeLineFits order) (no_number pieces) _ (λ u is. tt)) tt))))))
+
+-- what a line says is no STBAR under TSO
+pub outcome_no_stbar : (setting : SettingValue) (x : Outcome) → CanSay (trace_grammar setting) (Item x) → is_stbar_in_tso setting.order (op_of x) ≡ false
+outcome_no_stbar setting x said = (IfOk-at_ok (OutcomeLineFits setting.order) said.1 (trace_line_fits setting.order said.0)).no_stbar
+
+-- what it read has 64 bits
+pub outcome_read_fits : (setting : SettingValue) (x : Outcome) → CanSay (trace_grammar setting) (Item x) → ReadFits x
+outcome_read_fits setting x said = (IfOk-at_ok (OutcomeLineFits setting.order) said.1 (trace_line_fits setting.order said.0)).read
 
 -- the outcomes keep the limits, and what they read has 64 bits
-record AreLawful (items : List Outcome) : Type 0 where
-  limits : KeepsLimits version_one_tso (map op_of items)
+record AreLawful (setting : SettingValue) (items : List Outcome) : Type 0 where
+  limits : KeepsLimits setting (map op_of items)
   reads : All ReadFits items
 
-trace_items : IsKeptByItems trace_grammar AreLawful
+trace_items : (setting : SettingValue) → IsKeptByItems (trace_grammar setting) (AreLawful setting)
 unfolding outcome_fault
-trace_items items x ps says clean kept =
-    let fits = IfOk-at_ok OutcomeLineFits says (trace_line_fits ps) in
+trace_items setting items x ps says clean kept =
+    let fits = IfOk-at_ok (OutcomeLineFits setting.order) says (trace_line_fits setting.order ps) in
     record {
-      limits = rw (map-append op_of items (x ∷ [])) (limits_kept (map op_of items) (op_of x) clean fits.write kept.limits);
+      limits = rw (map-append op_of items (x ∷ [])) (limits_kept setting (map op_of items) (op_of x) clean fits.write fits.no_stbar kept.limits);
       reads = All-push ReadFits items x kept.reads fits.read;
     }
 
 -- what a text spells as a trace is a trace
 pub spelled_trace : (text : List ℕ) (t : TraceValue) → SpellsTrace text t → IsTrace t
 spelled_trace text t spells =
-    let kept = spelled_kept trace_grammar AreLawful trace_items (omega arith) (record { limits = KeepsLimits-nil version_one_tso; reads = All-nil _ }) text t.lists spells.1 in
-    subst (λ setting. IsTrace (trace_of_lists setting t.lists)) (sym spells.0) (trace_within t.lists kept.few kept.items.limits kept.items.reads)
+    let setting = (preamble_of trace_format text).setting in
+    let kept = spelled_kept (trace_grammar setting) (AreLawful setting) (trace_items setting) (omega arith) (record { limits = KeepsLimits-nil setting; reads = All-nil _ }) (body_of trace_format text) t.lists (body_spells trace_format text t.lists spells.1) in
+    subst (λ s. IsTrace (trace_of_lists s t.lists)) (sym spells.0)
+    (trace_within setting t.lists (setting_kept trace_format (trace_header One) (trace_header Two) text t.lists refl spells.1) kept.few kept.items.limits kept.items.reads)
 
 -- ---- programs
 
-abbrev OpLineFits : Line Op → Type 0
-OpLineFits Proc = Unit {0}
-OpLineFits (Item op) = WriteFits op
-OpLineFits End = Unit {0}
+-- what the operation writes has 64 bits, and it is no STBAR under TSO
+record OpFits (order : Order) (op : Op) : Type 0 where
+  write : WriteFits op
+  no_stbar : is_stbar_in_tso order op ≡ false
 
-program_line_fits : (ps : List (List ℕ)) → IfOk (program_line ps) OpLineFits
+abbrev OpLineFits : Order → Line Op → Type 0
+OpLineFits order Proc = Unit {0}
+OpLineFits order (Item op) = OpFits order op
+OpLineFits order End = Unit {0}
+
+program_line_fits : (order : Order) (ps : List (List ℕ)) → IfOk (program_line order ps) (OpLineFits order)
 unfolding program_line
-program_line_fits [] = tt
-program_line_fits (word ∷ pieces) =
-    if_cond _ (is_word word (codes "proc")) _ _ (if_bind OpLineFits (no_number pieces) _ (λ u is. tt))
-    (if_cond _ (is_word word (codes "ld")) _ _ (if_bind OpLineFits (one_number pieces) _ (λ n is v at. absurd cc))
-    (if_cond _ (is_word word (codes "st")) _ _ (if_bind OpLineFits (two_numbers pieces) _ (λ n is. value_fits n.1 (two_fit pieces n is).1))
-    (if_cond _ (is_word word (codes "sw")) _ _ (if_bind OpLineFits (two_numbers pieces) _ (λ n is. value_fits n.1 (two_fit pieces n is).1))
-    (if_cond _ (is_word word (codes "mb")) _ _ (if_bind OpLineFits (no_number pieces) _ (λ u is v at. absurd cc))
-    (if_cond _ (is_word word (codes "end")) _ _ (if_bind OpLineFits (no_number pieces) _ (λ u is. tt)) tt)))))
+program_line_fits order [] = tt
+program_line_fits order (word ∷ pieces) =
+    if_cond _ (is_word word (codes "proc")) _ _ (if_bind (OpLineFits order) (no_number pieces) _ (λ u is. tt))
+    (if_cond _ (is_word word (codes "ld")) _ _ (if_bind (OpLineFits order) (one_number pieces) _ (λ n is. record { write = λ v at. absurd cc; no_stbar = load_no_stbar order _ }))
+    (if_cond _ (is_word word (codes "st")) _ _ (if_bind (OpLineFits order) (two_numbers pieces) _ (λ n is. record { write = value_fits n.1 (two_fit pieces n is).1; no_stbar = store_no_stbar order _ n.1 }))
+    (if_cond _ (is_word word (codes "sw")) _ _ (if_bind (OpLineFits order) (two_numbers pieces) _ (λ n is. record { write = value_fits n.1 (two_fit pieces n is).1; no_stbar = swap_no_stbar order _ n.1 }))
+    (if_cond _ (is_word word (codes "mb")) _ _ (if_bind (OpLineFits order) (no_number pieces) _ (λ u is. record { write = λ v at. absurd cc; no_stbar = membar_no_stbar order }))
+    (if_cond_on _ (is_word word (codes "stbar") && has_stbar order) _ _ (λ on. if_bind (OpLineFits order) (no_number pieces) _ (λ u is. record { write = λ v at. absurd cc; no_stbar = pso_stbar order (and_parts (is_word word (codes "stbar")) (has_stbar order) on).1 }))
+    (if_cond _ (is_word word (codes "end")) _ _ (if_bind (OpLineFits order) (no_number pieces) _ (λ u is. tt)) tt))))))
 
-program_items : IsKeptByItems program_grammar (KeepsLimits version_one_tso)
+pub op_no_stbar : (setting : SettingValue) (op : Op) → CanSay (program_grammar setting) (Item op) → is_stbar_in_tso setting.order op ≡ false
+op_no_stbar setting op said = (IfOk-at_ok (OpLineFits setting.order) said.1 (program_line_fits setting.order said.0)).no_stbar
+
+program_items : (setting : SettingValue) → IsKeptByItems (program_grammar setting) (KeepsLimits setting)
 unfolding program_op_fault
-program_items items op ps says clean kept = limits_kept items op clean (IfOk-at_ok OpLineFits says (program_line_fits ps)) kept
+program_items setting items op ps says clean kept =
+    let fits = IfOk-at_ok (OpLineFits setting.order) says (program_line_fits setting.order ps) in
+    limits_kept setting items op clean fits.write fits.no_stbar kept
 
 -- what a text spells as a program is a program
 pub spelled_program : (text : List ℕ) (p : ProgramValue) → SpellsProgram text p → IsProgram p
 spelled_program text p spells =
-    let kept = spelled_kept program_grammar (KeepsLimits version_one_tso) program_items (omega arith) (KeepsLimits-nil version_one_tso) text p.lists spells.1 in
-    let program : IsProgram (program_of_lists version_one_tso p.lists) = record { processors = kept.few; version_one = λ _. refl; entries = KeepsEntries-nil; limits = kept.items } in
-    subst (λ setting. IsProgram (program_of_lists setting p.lists)) (sym spells.0) program
+    let setting = (preamble_of program_format text).setting in
+    let kept = spelled_kept (program_grammar setting) (KeepsLimits setting) (program_items setting) (omega arith) (KeepsLimits-nil setting) (body_of program_format text) p.lists (body_spells program_format text p.lists spells.1) in
+    let is = setting_kept program_format (program_header One) (program_header Two) text p.lists refl spells.1 in
+    let program : IsProgram (program_of_lists setting p.lists) = record { processors = kept.few; version_one = is.version_one; entries = is.entries; limits = kept.items } in
+    subst (λ s. IsProgram (program_of_lists s p.lists)) (sym spells.0) program

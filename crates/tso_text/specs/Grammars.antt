@@ -1,13 +1,16 @@
--- The grammars of traces, programs and schedules.
-use Rattle.std.specs.Prelude.{◌≡◌, ℕ, ◌&&◌, Bool, false, nat_lt, min, List, [], ◌∷◌, map, Result, Ok, Err, codes, if◌then◌else◌}
-use Rattle.std.specs.Str.{bytes_eq}
+-- How the texts of traces, programs and schedules are written.
+use Rattle.std.specs.Prelude.{◌≡◌, ℕ, ◌&&◌, Bool, true, false, nat_lt, List, [], ◌∷◌, map, Result, Ok, Err, codes, if◌then◌else◌}
 use Rattle.line_text.specs.Results.{◌>>=◌}
 use Rattle.tso_ops.specs.declared.ops.Op.{Op}
-use Rattle.tso_ops.specs.declared.ops.Op.TheVariants.{Ld as OpLd, St as OpSt, Sw as OpSw, Mb as OpMb}
+use Rattle.tso_ops.specs.declared.ops.Op.TheVariants.{Ld as OpLd, St as OpSt, Sw as OpSw, Mb as OpMb, Sb as OpSb}
 use Rattle.tso_ops.specs.declared.ops.Outcome.{Outcome}
-use Rattle.tso_ops.specs.declared.ops.Outcome.TheVariants.{Ld, St, Sw, Mb}
-use Rattle.tso_ops.specs.declared.faults.ValueFault.TheVariants.{TooManyEvents as ManyEvents, AddressRange as PastAddresses, ZeroValue as ZeroStored, RepeatedValue as Repeated, StbarInTso}
-use Rattle.tso_ops.specs.Settings.{version_one_tso}
+use Rattle.tso_ops.specs.declared.ops.Outcome.TheVariants.{Ld, St, Sw, Mb, Sb}
+use Rattle.tso_ops.specs.declared.faults.ValueFault.TheVariants.{TooManyEvents as ManyEvents, AddressRange as PastAddresses, ZeroValue as ZeroStored, RepeatedValue as Repeated}
+use Rattle.tso_ops.specs.declared.settings.Order.{Order}
+use Rattle.tso_ops.specs.declared.settings.Order.TheVariants.{Tso, Pso}
+use Rattle.tso_ops.specs.declared.settings.Version.{Version}
+use Rattle.tso_ops.specs.declared.settings.Version.TheVariants.{One, Two}
+use Rattle.tso_ops.specs.Settings.{SettingValue}
 use Rattle.tso_ops.specs.Values.{TraceValue, ProgramValue, op_of}
 use Rattle.tso_ops.specs.Limits.{has_fault}
 use Rattle.tso_ops.specs.declared.acts.Act.{Act}
@@ -16,69 +19,76 @@ use Rattle.tso_text.specs.declared.faults.Why.{Why}
 use Rattle.tso_text.specs.declared.faults.Why.TheVariants.{BadLine, TooManyEvents, AddressRange, ZeroValue, RepeatedValue, ProcessorRange}
 use Rattle.tso_text.specs.declared.lines.Line.{Line}
 use Rattle.tso_text.specs.declared.lines.Line.TheVariants.{Proc, Item, End}
-use Rattle.tso_text.specs.Numbers.{no_number, one_number, two_numbers, three_numbers}
-use Rattle.tso_text.specs.Spelling.{Grammar, SpellsLists, IsTextRefusal, same_text_fault}
+use Rattle.tso_text.specs.Numbers.{is_word, address, no_number, one_number, two_numbers, three_numbers}
+use Rattle.tso_text.specs.Preambles.{header_of, header_alone, setting_preamble}
+use Rattle.tso_text.specs.Spelling.{Grammar, Format, SpellsLists, IsTextRefusal, preamble_of, same_text_fault}
 
--- the piece is this keyword
-abbrev pub is_word : List ℕ → List ℕ → Bool
-is_word piece word = bytes_eq piece word
-
--- An address of 16 bits. A greater number counts as the greatest of them, which is past the range as well.
-abbrev pub address : ℕ → ℕ
-address n = min n 65535
+-- the keyword `stbar` is one of texts of this memory model
+abbrev pub has_stbar : Order → Bool
+has_stbar Tso = false
+has_stbar Pso = true
 
 -- ---- traces
 
-unfoldable pub trace_line : List (List ℕ) → Result (Line Outcome) Why
-trace_line [] = Err BadLine
-trace_line (word ∷ pieces) =
+unfoldable pub trace_line : Order → List (List ℕ) → Result (Line Outcome) Why
+trace_line order [] = Err BadLine
+trace_line order (word ∷ pieces) =
     if is_word word (codes "proc") then no_number pieces >>= (λ _. Ok Proc)
     else if is_word word (codes "ld") then two_numbers pieces >>= (λ n. Ok (Item (Ld (address n.0) n.1)))
     else if is_word word (codes "st") then two_numbers pieces >>= (λ n. Ok (Item (St (address n.0) n.1)))
     else if is_word word (codes "sw") then three_numbers pieces >>= (λ n. Ok (Item (Sw (address n.0) n.1 n.2)))
     else if is_word word (codes "mb") then no_number pieces >>= (λ _. Ok (Item Mb))
+    else if is_word word (codes "stbar") && has_stbar order then no_number pieces >>= (λ _. Ok (Item Sb))
     else if is_word word (codes "end") then no_number pieces >>= (λ _. Ok End)
     else Err BadLine
 
--- The fault of an operation in texts is that of values of version 1 under TSO, which texts are of. No line spells an STBAR.
-abbrev pub op_fault : List Op → Op → Why → Bool
-op_fault before op BadLine = has_fault version_one_tso before op StbarInTso
-op_fault before op TooManyEvents = has_fault version_one_tso before op ManyEvents
-op_fault before op AddressRange = has_fault version_one_tso before op PastAddresses
-op_fault before op ZeroValue = has_fault version_one_tso before op ZeroStored
-op_fault before op RepeatedValue = has_fault version_one_tso before op Repeated
-op_fault before op _ = false
+-- the fault of an operation in a text of the setting
+abbrev pub op_fault : SettingValue → List Op → Op → Why → Bool
+op_fault setting before op TooManyEvents = has_fault setting before op ManyEvents
+op_fault setting before op AddressRange = has_fault setting before op PastAddresses
+op_fault setting before op ZeroValue = has_fault setting before op ZeroStored
+op_fault setting before op RepeatedValue = has_fault setting before op Repeated
+op_fault setting before op _ = false
 
-unfoldable pub outcome_fault : List Outcome → Outcome → Why → Bool
-outcome_fault before outcome w = op_fault (map op_of before) (op_of outcome) w
+unfoldable pub outcome_fault : SettingValue → List Outcome → Outcome → Why → Bool
+outcome_fault setting before outcome w = op_fault setting (map op_of before) (op_of outcome) w
 
-abbrev pub trace_header : List ℕ
-trace_header = codes "tso trace 1"
+-- the headers of traces of version 1 and of version 2
+abbrev pub trace_header : Version → List ℕ
+trace_header version = header_of (codes "tso trace 1") (codes "tso trace 2") version
 
-abbrev pub trace_grammar : Grammar Outcome
-trace_grammar = record { header = trace_header; start = []; said_by = trace_line; item_fault = outcome_fault }
+abbrev pub trace_grammar : SettingValue → Grammar Outcome
+trace_grammar setting = record { start = []; said_by = trace_line setting.order; item_fault = outcome_fault setting }
+
+abbrev pub trace_format : Format Outcome
+trace_format = record { preamble = setting_preamble (trace_header One) (trace_header Two); grammar = trace_grammar }
 
 -- ---- programs
 
-unfoldable pub program_line : List (List ℕ) → Result (Line Op) Why
-program_line [] = Err BadLine
-program_line (word ∷ pieces) =
+unfoldable pub program_line : Order → List (List ℕ) → Result (Line Op) Why
+program_line order [] = Err BadLine
+program_line order (word ∷ pieces) =
     if is_word word (codes "proc") then no_number pieces >>= (λ _. Ok Proc)
     else if is_word word (codes "ld") then one_number pieces >>= (λ n. Ok (Item (OpLd (address n))))
     else if is_word word (codes "st") then two_numbers pieces >>= (λ n. Ok (Item (OpSt (address n.0) n.1)))
     else if is_word word (codes "sw") then two_numbers pieces >>= (λ n. Ok (Item (OpSw (address n.0) n.1)))
     else if is_word word (codes "mb") then no_number pieces >>= (λ _. Ok (Item OpMb))
+    else if is_word word (codes "stbar") && has_stbar order then no_number pieces >>= (λ _. Ok (Item OpSb))
     else if is_word word (codes "end") then no_number pieces >>= (λ _. Ok End)
     else Err BadLine
 
-unfoldable pub program_op_fault : List Op → Op → Why → Bool
-program_op_fault before op w = op_fault before op w
+unfoldable pub program_op_fault : SettingValue → List Op → Op → Why → Bool
+program_op_fault setting before op w = op_fault setting before op w
 
-abbrev pub program_header : List ℕ
-program_header = codes "tso program 1"
+-- the headers of programs of version 1 and of version 2
+abbrev pub program_header : Version → List ℕ
+program_header version = header_of (codes "tso program 1") (codes "tso program 2") version
 
-abbrev pub program_grammar : Grammar Op
-program_grammar = record { header = program_header; start = []; said_by = program_line; item_fault = program_op_fault }
+abbrev pub program_grammar : SettingValue → Grammar Op
+program_grammar setting = record { start = []; said_by = program_line setting.order; item_fault = program_op_fault setting }
+
+abbrev pub program_format : Format Op
+program_format = record { preamble = setting_preamble (program_header One) (program_header Two); grammar = program_grammar }
 
 -- ---- schedules
 
@@ -103,28 +113,31 @@ schedule_header = codes "tso schedule 1"
 
 -- a schedule is the one list of its acts
 abbrev pub schedule_grammar : Grammar Act
-schedule_grammar = record { header = schedule_header; start = [] ∷ []; said_by = schedule_line; item_fault = act_fault }
+schedule_grammar = record { start = [] ∷ []; said_by = schedule_line; item_fault = act_fault }
+
+-- schedules have one version, and no memory model
+abbrev pub schedule_format : Format Act
+schedule_format = record { preamble = header_alone schedule_header; grammar = λ _. schedule_grammar }
 
 -- ---- what texts spell, and how they are refused
 
--- a text spells traces and programs of version 1 under TSO
 abbrev pub SpellsTrace : List ℕ → TraceValue → Type 0
-SpellsTrace text t = (t.setting ≡ version_one_tso) × SpellsLists trace_grammar text t.lists
+SpellsTrace text t = (t.setting ≡ (preamble_of trace_format text).setting) × SpellsLists trace_format text t.lists
 
 abbrev pub SpellsProgram : List ℕ → ProgramValue → Type 0
-SpellsProgram text p = (p.setting ≡ version_one_tso) × SpellsLists program_grammar text p.lists
+SpellsProgram text p = (p.setting ≡ (preamble_of program_format text).setting) × SpellsLists program_format text p.lists
 
 abbrev pub SpellsSchedule : List ℕ → List Act → Type 0
-SpellsSchedule text acts = SpellsLists schedule_grammar text (acts ∷ [])
+SpellsSchedule text acts = SpellsLists schedule_format text (acts ∷ [])
 
 abbrev pub IsTraceRefusal : List ℕ → ℕ → Why → Type 0
-IsTraceRefusal text line why = IsTextRefusal trace_grammar text line why
+IsTraceRefusal text line why = IsTextRefusal trace_format text line why
 
 abbrev pub IsProgramRefusal : List ℕ → ℕ → Why → Type 0
-IsProgramRefusal text line why = IsTextRefusal program_grammar text line why
+IsProgramRefusal text line why = IsTextRefusal program_format text line why
 
 abbrev pub IsScheduleRefusal : List ℕ → ℕ → Why → Type 0
-IsScheduleRefusal text line why = IsTextRefusal schedule_grammar text line why
+IsScheduleRefusal text line why = IsTextRefusal schedule_format text line why
 
 -- ---- some value, some refusal
 

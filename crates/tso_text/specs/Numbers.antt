@@ -1,9 +1,18 @@
--- The numbers after the keyword of a line, or their fault.
-use Rattle.std.specs.Prelude.{ℕ, List, [], ◌∷◌, Option, Some, None, Result, Ok, Err}
+-- The keyword of a line, and the numbers after it or their fault.
+use Rattle.std.specs.Prelude.{ℕ, Bool, List, [], ◌∷◌, min, Option, Some, None, Result, Ok, Err}
+use Rattle.std.specs.Str.{bytes_eq}
 use Rattle.line_text.specs.Numbers.{number}
 use Rattle.line_text.specs.Results.{◌>>=◌}
 use Rattle.tso_text.specs.declared.faults.Why.{Why}
 use Rattle.tso_text.specs.declared.faults.Why.TheVariants.{BadLine, BadNumber}
+
+-- the piece is this keyword
+abbrev pub is_word : List ℕ → List ℕ → Bool
+is_word piece word = bytes_eq piece word
+
+-- An address of 16 bits. A greater number counts as the greatest of them, which is past the range as well.
+abbrev pub address : ℕ → ℕ
+address n = min n 65535
 
 -- a number, or its fault
 abbrev pub or_bad_number : Option ℕ → Result ℕ Why

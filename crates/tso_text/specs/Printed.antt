@@ -7,6 +7,9 @@ use Rattle.tso_ops.specs.declared.ops.Op.{Op}
 use Rattle.tso_ops.specs.declared.ops.Op.TheVariants.{Ld as OpLd, St as OpSt, Sw as OpSw, Mb as OpMb, Sb as OpSb}
 use Rattle.tso_ops.specs.declared.ops.Outcome.{Outcome}
 use Rattle.tso_ops.specs.declared.ops.Outcome.TheVariants.{Ld, St, Sw, Mb, Sb}
+use Rattle.tso_ops.specs.declared.settings.Order.{Order}
+use Rattle.tso_ops.specs.declared.settings.Order.TheVariants.{Tso, Pso}
+use Rattle.tso_ops.specs.Settings.{SettingValue}
 use Rattle.tso_ops.specs.Values.{TraceValue, ProgramValue}
 use Rattle.tso_ops.specs.declared.acts.Act.{Act}
 use Rattle.tso_ops.specs.declared.acts.Act.TheVariants.{Issue, Drain}
@@ -38,15 +41,27 @@ items_text pieces items = flat_map (λ x. line_text (pieces x)) items
 unfoldable pub processor_text : {X : Type 0} → (X → List (List ℕ)) → List X → List ℕ
 processor_text pieces items = line_text (codes "proc" ∷ []) ++ items_text pieces items
 
+-- the line that says the memory model: TSO has none
+abbrev pub model_text : Order → List ℕ
+model_text Tso = []
+model_text Pso = line_text (codes "model" ∷ codes "pso" ∷ [])
+
+abbrev pub entry_pieces : ℕ × ℕ → List (List ℕ)
+entry_pieces entry = codes "init" ∷ decimal entry.0 ∷ decimal entry.1 ∷ []
+
+-- the lines that say the memory model and the first values
+unfoldable pub setting_text : SettingValue → List ℕ
+setting_text setting = model_text setting.order ++ items_text entry_pieces setting.first
+
 -- a text with this header and these lines
 unfoldable pub whole_text : List ℕ → List ℕ → List ℕ
 whole_text header lines = header ++ 10 ∷ lines ++ line_text (codes "end" ∷ [])
 
 unfoldable pub trace_text : TraceValue → List ℕ
-trace_text t = whole_text trace_header (flat_map (processor_text outcome_pieces) t.lists)
+trace_text t = whole_text (trace_header t.setting.version) (setting_text t.setting ++ flat_map (processor_text outcome_pieces) t.lists)
 
 unfoldable pub program_text : ProgramValue → List ℕ
-program_text p = whole_text program_header (flat_map (processor_text op_pieces) p.lists)
+program_text p = whole_text (program_header p.setting.version) (setting_text p.setting ++ flat_map (processor_text op_pieces) p.lists)
 
 unfoldable pub schedule_text : List Act → List ℕ
 schedule_text acts = whole_text schedule_header (items_text act_pieces acts)

@@ -1,10 +1,10 @@
--- What a text spells, and how it is refused: over the whole text, by its lines, for any grammar of lines.
+-- What a text spells, and how it is refused: over the whole text, by its lines, for any format of texts.
 use Rattle.std.specs.Prelude.{◌≡◌, ℕ, zero, suc, ◌-◌, ◌<◌, ◌==◌, ◌&&◌, Bool, true, false, not, nat_lt, List, [], ◌∷◌, ◌++◌, length, take, drop, get_or, Result, Ok, Err, if◌then◌else◌}
 use Rattle.std.specs.List.{flat_map, list_any}
-use Rattle.std.specs.Str.{bytes_eq}
 use Rattle.line_text.specs.Lines.{parts_of, pieces_of, is_empty}
+use Rattle.tso_ops.specs.Settings.{SettingValue}
 use Rattle.tso_text.specs.declared.faults.Why.{Why}
-use Rattle.tso_text.specs.declared.faults.Why.TheVariants.{BadHeader, BadLine, BadNumber, BeforeProc, TooManyProcessors, TooManyEvents, AddressRange, ZeroValue, RepeatedValue, MissingEnd, AfterEnd, TooLong, ProcessorRange, OutOfMemory}
+use Rattle.tso_text.specs.declared.faults.Why.TheVariants.{BadHeader, BadLine, BadNumber, BeforeProc, TooManyProcessors, TooManyEvents, AddressRange, ZeroValue, RepeatedValue, MissingEnd, AfterEnd, TooLong, ProcessorRange, OutOfMemory, BadModel, InitOrder}
 use Rattle.tso_text.specs.declared.lines.Line.{Line}
 use Rattle.tso_text.specs.declared.lines.Line.TheVariants.{Proc, Item, End}
 
@@ -24,36 +24,56 @@ text_fault_number AfterEnd = 11
 text_fault_number TooLong = 12
 text_fault_number ProcessorRange = 13
 text_fault_number OutOfMemory = 14
+text_fault_number BadModel = 15
+text_fault_number InitOrder = 16
 
 abbrev pub same_text_fault : Why → Why → Bool
 same_text_fault v w = text_fault_number v == text_fault_number w
 
--- ---- a text in parts
+-- ---- how texts are written
 
--- the parts after the first
-abbrev pub body_of : List ℕ → List (List ℕ)
-body_of text = drop 1 (parts_of text)
-
--- the lines after the header: the parts that a line end follows
-abbrev pub body_lines : List ℕ → List (List ℕ)
-body_lines text = take (length (body_of text) - 1) (body_of text)
-
--- the first part is the header, and a line end follows it
-abbrev pub has_header : List ℕ → List (List ℕ) → Bool
-has_header header [] = false
-has_header header (part ∷ []) = false
-has_header header (part ∷ next ∷ parts) = bytes_eq part header
-
--- ---- what lines say
+-- The lines that a text begins with: the setting that they say, and for each of them which faults it has.
+pub record Preamble : Type 0 where
+  pub setting : SettingValue
+  pub faults : List (Why → Bool)
 
 -- A grammar of lines that make lists of items. A text that has no lines for lists has its one list from the start.
 pub record Grammar (X : Type 0) : Type 0 where
-  pub header : List ℕ
   pub start : List (List X)
   -- what the pieces of a line say, or their fault: BadLine or BadNumber
   pub said_by : List (List ℕ) → Result (Line X) Why
   -- the item has the fault, after these items in file order
   pub item_fault : List X → X → Why → Bool
+
+-- How texts are written: the preamble that the lines of a text begin with, and the grammar of the lines after it.
+pub record Format (X : Type 0) : Type 0 where
+  pub preamble : List (List ℕ) → Preamble
+  pub grammar : SettingValue → Grammar X
+
+-- ---- a text in parts
+
+-- of the parts of a text, the lines: those that a line end follows
+abbrev pub whole_lines : List (List ℕ) → List (List ℕ)
+whole_lines [] = []
+whole_lines (part ∷ []) = []
+whole_lines (part ∷ next ∷ parts) = part ∷ whole_lines (next ∷ parts)
+
+abbrev pub preamble_of : {X : Type 0} → Format X → List ℕ → Preamble
+preamble_of f text = f.preamble (whole_lines (parts_of text))
+
+-- the number of lines of the preamble
+abbrev pub preamble_lines : {X : Type 0} → Format X → List ℕ → ℕ
+preamble_lines f text = length (preamble_of f text).faults
+
+-- the parts after the preamble
+abbrev pub body_of : {X : Type 0} → Format X → List ℕ → List (List ℕ)
+body_of f text = drop (preamble_lines f text) (parts_of text)
+
+-- the grammar of the lines after the preamble
+abbrev pub grammar_of : {X : Type 0} → Format X → List ℕ → Grammar X
+grammar_of f text = f.grammar (preamble_of f text).setting
+
+-- ---- what lines say
 
 abbrev pub said : {X : Type 0} → Grammar X → List ℕ → Result (Line X) Why
 said g line = g.said_by (pieces_of line)
@@ -121,25 +141,32 @@ part_fault g before part last w =
     else if last then same_text_fault (unended_text_fault part) w
     else said_fault g (lists_of g before) (said g part) w
 
+-- The part of this place, counted from 0 after the preamble, has the fault.
+unfoldable pub body_fault : {X : Type 0} → Grammar X → List (List ℕ) → ℕ → Why → Bool
+body_fault g parts i w = nat_lt i (length parts) && part_fault g (take i parts) (get_or parts i []) (suc i == length parts) w
+
+-- no fault
+abbrev pub no_fault : Why → Bool
+no_fault w = false
+
 -- the greatest number of bytes of a text
 abbrev pub text_byte_limit : ℕ
 text_byte_limit = 1048576
 
 -- The text has the fault at this line. Line 0 is the text as a whole.
-unfoldable pub fault_at : {X : Type 0} → Grammar X → List ℕ → ℕ → Why → Bool
-fault_at g text zero w = same_text_fault TooLong w && nat_lt text_byte_limit (length text)
-fault_at g text (suc zero) w = same_text_fault BadHeader w && not (has_header g.header (parts_of text))
-fault_at g text (suc (suc i)) w =
-    nat_lt i (length (body_of text))
-    && part_fault g (take i (body_of text)) (get_or (body_of text) i []) (suc i == length (body_of text)) w
+unfoldable pub fault_at : {X : Type 0} → Format X → List ℕ → ℕ → Why → Bool
+fault_at f text zero w = same_text_fault TooLong w && nat_lt text_byte_limit (length text)
+fault_at f text (suc i) w =
+    if nat_lt i (preamble_lines f text) then get_or (preamble_of f text).faults i no_fault w
+    else body_fault (grammar_of f text) (body_of f text) (i - preamble_lines f text) w
 
 -- The refusal of a text: the least line with a fault, and the fault of the least number there.
-pub record IsTextRefusal {X : Type 0} (g : Grammar X) (text : List ℕ) (line : ℕ) (why : Why) : Type 0 where
-  pub fault : fault_at g text line why ≡ true
-  pub first : (j : ℕ) (w : Why) → j < line → fault_at g text j w ≡ false
-  pub least : (w : Why) → text_fault_number w < text_fault_number why → fault_at g text line w ≡ false
+pub record IsTextRefusal {X : Type 0} (f : Format X) (text : List ℕ) (line : ℕ) (why : Why) : Type 0 where
+  pub fault : fault_at f text line why ≡ true
+  pub first : (j : ℕ) (w : Why) → j < line → fault_at f text j w ≡ false
+  pub least : (w : Why) → text_fault_number w < text_fault_number why → fault_at f text line w ≡ false
 
--- The text spells these lists: it has no fault, and its lines say them.
-pub record SpellsLists {X : Type 0} (g : Grammar X) (text : List ℕ) (lists : List (List X)) : Type 0 where
-  pub clean : (line : ℕ) (w : Why) → fault_at g text line w ≡ false
-  pub says : lists_of g (body_lines text) ≡ lists
+-- The text spells these lists: it has no fault, and its lines after the preamble say them.
+pub record SpellsLists {X : Type 0} (f : Format X) (text : List ℕ) (lists : List (List X)) : Type 0 where
+  pub clean : (line : ℕ) (w : Why) → fault_at f text line w ≡ false
+  pub says : lists_of (grammar_of f text) (whole_lines (body_of f text)) ≡ lists

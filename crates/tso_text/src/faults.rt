@@ -1,5 +1,7 @@
-ghost use Rattle.std.specs.Prelude.{◌≡◌, if◌then◌else◌};
+ghost use Rattle.std.specs.Prelude.{◌≡◌, ◌≢◌, if◌then◌else◌};
+ghost use Rattle.tso_ops.specs.declared.faults.ValueFault.{ValueFault};
 ghost use Rattle.tso_text.specs.Spelling.{same_text_fault};
+ghost use Rattle.tso_text.specs.Internal.Accepted.{IsWhyOf};
 ghost use Rattle.tso_text.specs.declared.faults.Why.{Why};
 
 use std::alloc::{AllocError, AllocFailed};
@@ -8,49 +10,68 @@ use tso_ops::ValueFault;
 
 /// Why a text is refused, in the order of their numbers: of two on one line the first counts.
 #[derive(Clone, Copy, Debug, PartialEq, Eq, Error)]
+#[error("{}", self.name())]
 pub enum Why {
-    /// The text doesn't begin with the header line and its line end.
-    #[error("BadHeader")]
+    /// The text doesn't begin with a header line and its line end.
     BadHeader,
     /// A line with no line end, whose first piece is no keyword, or with another number of pieces than its keyword has.
-    #[error("BadLine")]
     BadLine,
     /// A piece after the first is no number.
-    #[error("BadNumber")]
     BadNumber,
     /// An operation before the first `proc`.
-    #[error("BeforeProc")]
     BeforeProc,
     /// The 17th `proc`.
-    #[error("TooManyProcessors")]
     TooManyProcessors,
-    /// The line that makes more than 2,000 events, or more than 2,000 barriers.
-    #[error("TooManyEvents")]
+    /// The line that makes more than 2,000 events, or more than 2,000 barriers of both kinds; in version 2, than 8,000.
     TooManyEvents,
     /// An address above 255.
-    #[error("AddressRange")]
     AddressRange,
-    /// A store or a swap of the value 0.
-    #[error("ZeroValue")]
+    /// A store or a swap of the value 0, or a first value 0.
     ZeroValue,
-    /// A store or a swap of a value that an earlier line stored.
-    #[error("RepeatedValue")]
+    /// A store or a swap of a value that an earlier line stored, or that is a first value of any address.
     RepeatedValue,
     /// The text ends after a whole line, and no `end` came.
-    #[error("MissingEnd")]
     MissingEnd,
     /// A byte after the line `end`.
-    #[error("AfterEnd")]
     AfterEnd,
     /// More than 1,048,576 bytes.
-    #[error("TooLong")]
     TooLong,
     /// A processor above 15 in a schedule.
-    #[error("ProcessorRange")]
     ProcessorRange,
     /// An allocation was refused.
-    #[error("OutOfMemory")]
     OutOfMemory,
+    /// Line 2 is `model` with one more piece that isn't `pso`.
+    BadModel,
+    /// An address of an `init` line that isn't above that of the one before.
+    InitOrder,
+}
+
+impl Why {
+    ghost use Rattle.tso_text.specs.RefusalNames.{refusal_name};
+
+    /// The name, as reports print it.
+    pub fn name(self) -> &'static str
+        ensures { result.now ≡ refusal_name self }
+    {
+        match self {
+            Why::BadHeader => "BadHeader",
+            Why::BadLine => "BadLine",
+            Why::BadNumber => "BadNumber",
+            Why::BeforeProc => "BeforeProc",
+            Why::TooManyProcessors => "TooManyProcessors",
+            Why::TooManyEvents => "TooManyEvents",
+            Why::AddressRange => "AddressRange",
+            Why::ZeroValue => "ZeroValue",
+            Why::RepeatedValue => "RepeatedValue",
+            Why::MissingEnd => "MissingEnd",
+            Why::AfterEnd => "AfterEnd",
+            Why::TooLong => "TooLong",
+            Why::ProcessorRange => "ProcessorRange",
+            Why::OutOfMemory => "OutOfMemory",
+            Why::BadModel => "BadModel",
+            Why::InitOrder => "InitOrder",
+        }
+    }
 }
 
 /// Why a text is refused, and at which line: from 1, or 0 for TooLong and OutOfMemory.
@@ -76,5 +97,34 @@ impl<T: Drop> From<AllocFailed<T>> for Why {
 
     fn from(_error: AllocFailed<T>) -> Why {
         Why::OutOfMemory
+    }
+}
+
+/// The refusal of a value, as that of a text. No text is refused for an STBAR under TSO: `stbar` is no keyword there.
+pub(crate) fn why_of(fault: ValueFault) -> Why
+    requires { fault ≢ ValueFault.StbarInTso }
+    ensures { IsWhyOf fault result }
+{
+    match fault {
+        ValueFault::TooManyProcessors => Why::TooManyProcessors,
+        ValueFault::TooManyEvents => Why::TooManyEvents,
+        ValueFault::AddressRange => Why::AddressRange,
+        ValueFault::ZeroValue => Why::ZeroValue,
+        ValueFault::RepeatedValue => Why::RepeatedValue,
+        ValueFault::OutOfMemory => Why::OutOfMemory,
+        ValueFault::StbarInTso => unreachable!(),
+        ValueFault::InitOrder => Why::InitOrder,
+    }
+}
+
+/// The refusal at this line, but for OutOfMemory, which is of the whole text.
+pub(crate) fn fault_of(line: usize, why: Why) -> TextFault
+    ensures why { result.why ≡ why }
+    ensures line { why ≢ Why.OutOfMemory → result.line ≡ line }
+    ensures memory { why ≡ Why.OutOfMemory → result.line ≡ 0 }
+{
+    match why {
+        Why::OutOfMemory => TextFault { line: 0, why },
+        _ => TextFault { line, why },
     }
 }

@@ -1,79 +1,84 @@
 ghost use Rattle.std.specs.Prelude.{◌≡◌, ◌≢◌, ◌++◌, ◌∷◌, [], ◌≤◌, true, false, ℕ, List, map, length, All, string_bytes, OnOk, IfOk, IfErr};
 ghost use Rattle.line_text.specs.Lines.{line_text};
 ghost use Rattle.tso_ops.specs.declared.limits.Tally.{Tally};
-ghost use Rattle.tso_ops.specs.declared.faults.ValueFault.{ValueFault};
-ghost use Rattle.tso_ops.specs.declared.settings.Order.TheVariants.{Tso};
-ghost use Rattle.tso_ops.specs.Limits.{is_stbar_in_tso};
-ghost use Rattle.tso_ops.specs.Settings.{version_one_tso};
+ghost use Rattle.tso_ops.specs.Settings.{SettingValue, setting_of};
 ghost use Rattle.tso_ops.specs.Tally.{Admitted};
 ghost use Rattle.tso_ops.specs.Values.{rows, op_of, ReadFits};
-ghost use Rattle.tso_text.specs.Grammars.{trace_grammar, program_grammar, schedule_grammar, processor_of};
+ghost use Rattle.tso_text.specs.Grammars.{trace_format, program_format, schedule_format, has_stbar, processor_of};
 ghost use Rattle.tso_text.specs.Printed.{outcome_pieces, op_pieces, act_pieces};
-ghost use Rattle.tso_text.specs.Spelling.{Grammar, said, items_of};
-ghost use Rattle.tso_text.specs.Internal.Accepted.{IsItemRefusedFor, why_of};
+ghost use Rattle.tso_text.specs.Spelling.{Format, preamble_of, said, items_of, text_byte_limit};
+ghost use Rattle.tso_text.specs.Internal.Accepted.{CanSay, IsItemRefusedFor};
+ghost use Rattle.tso_text.specs.Internal.Begun.{HasBegun, IsPreambleRefusal};
+ghost use Rattle.tso_text.specs.declared.lines.Line.TheVariants.{Item};
 ghost use Rattle.tso_text.specs.declared.faults.Why.{Why};
 
-use crate::faults::Why;
+use crate::faults::{TextFault, Why, why_of};
 use crate::lines::Line;
 use crate::numbers::{address, no_number, one_number, three_numbers, two_numbers};
+use crate::preambles::{read_header, read_setting};
 use line_text::next_piece;
 use std::alloc::{AllocError, Global};
-use tso_ops::{Act, Op, Outcome, Tally, ValueFault};
+use tso_ops::{Act, Op, Order, Outcome, Setting, Tally};
 
 /// The greatest processor that a schedule may name.
 const MAX_PROCESSOR: usize = 15;
 
-/// What the lines of a text are made of: the items of its lists, with the text's grammar.
+/// What the lines of a text are made of: the items of its lists, with the text's format.
 pub(crate) trait Form: Copy {
-    ghost grammar: { Grammar Self };
+    ghost format: { Format Self };
 
-    ghost keeps: { Tally → List Self → Type 0 };
+    ghost keeps: { SettingValue → Tally → List Self → Type 0 };
 
     ghost pieces: { Self → List (List ℕ) };
 
-    /// The first line.
-    fn header() -> &'static [u8]
-        ensures { result.now ≡ grammar.header };
+    /// Reads the preamble: its setting, the number of its lines, and what stands after it.
+    fn read_preamble(alloc: Global, text: &[u8]) -> Result<(Setting, usize, &[u8]), TextFault>
+        requires { length text.now ≤ text_byte_limit }
+        ensures begun { IfOk result (λ begun. HasBegun (preamble_of format text.now) text.now (setting_of begun.0) begun.1 begun.2.now) }
+        ensures refused { IfErr result (λ fault. fault.why ≢ Why.OutOfMemory → IsPreambleRefusal (preamble_of format text.now) fault.line fault.why) }
+        ensures memory { IfErr result (λ fault. fault.why ≡ Why.OutOfMemory → fault.line ≡ 0) };
 
     /// The lists that no line makes, and the tally of them.
-    fn start(alloc: Global) -> Result<(Vec<Vec<Self>>, Tally), Why>
-        ensures start { IfOk result (λ start. rows start.0.items ≡ grammar.start) }
-        ensures keeps { IfOk result (λ start. keeps start.1 (items_of (grammar.start))) }
-        ensures few { length (grammar.start) ≤ 16 }
+    fn start(alloc: Global, setting: &Setting) -> Result<(Vec<Vec<Self>>, Tally), Why>
+        ensures start { IfOk result (λ start. rows start.0.items ≡ (format.grammar (setting_of setting.now)).start) }
+        ensures keeps { IfOk result (λ start. keeps (setting_of setting.now) start.1 (items_of (format.grammar (setting_of setting.now)).start)) }
+        ensures few { length (format.grammar (setting_of setting.now)).start ≤ 16 }
         ensures refused { IfErr result (λ why. why ≡ Why.OutOfMemory) };
 
     /// What a line says, or its fault.
-    fn said_by(line: &[u8]) -> Result<Line<Self>, Why>
-        ensures { result ≡ said grammar line.now };
+    fn said_by(order: Order, line: &[u8]) -> Result<Line<Self>, Why>
+        ensures { (setting : SettingValue) → setting.order ≡ order → result ≡ said (format.grammar setting) line.now };
 
     /// Appends the line of the item.
     fn print(self, text: &mut String) -> Result<(), AllocError>
         ensures { OnOk result (string_bytes text.new ≡ string_bytes text.old ++ line_text (pieces self)) };
 
-    /// Admits the item after those admitted before, or refuses it for its first fault.
-    fn admit(self, tally: &mut Tally) -> Result<(), Why>
-        ensures admitted { (items : List Self) → keeps tally.old items → OnOk result (keeps tally.new (items ++ self ∷ [])) }
-        ensures clean { (items : List Self) → keeps tally.old items → OnOk result ((w : Why) → grammar.item_fault items self w ≡ false) }
-        ensures refused { (items : List Self) → keeps tally.old items → IfErr result (IsItemRefusedFor grammar items self) };
+    /// Admits the item that a line says, after those admitted before, or refuses it for its first fault.
+    fn admit(self, setting: &Setting, tally: &mut Tally) -> Result<(), Why>
+        requires said { CanSay (format.grammar (setting_of setting.now)) (Item self) }
+        requires kept { (items : List Self) × keeps (setting_of setting.now) tally.old items }
+        ensures admitted { (items : List Self) → keeps (setting_of setting.now) tally.old items → OnOk result (keeps (setting_of setting.now) tally.new (items ++ self ∷ [])) }
+        ensures clean { (items : List Self) → keeps (setting_of setting.now) tally.old items → OnOk result ((w : Why) → (format.grammar (setting_of setting.now)).item_fault items self w ≡ false) }
+        ensures refused { (items : List Self) → keeps (setting_of setting.now) tally.old items → IfErr result (IsItemRefusedFor (format.grammar (setting_of setting.now)) items self) };
 }
 
 impl Form for Outcome {
-    ghost grammar = { trace_grammar };
+    ghost format = { trace_format };
 
-    ghost keeps = { λ tally items. Admitted version_one_tso tally (map op_of items) × All ReadFits items };
+    ghost keeps = { λ setting tally items. Admitted setting tally (map op_of items) × All ReadFits items };
 
     ghost pieces = { outcome_pieces };
 
-    fn header() -> &'static [u8] {
-        b"tso trace 1"
+    fn read_preamble(alloc: Global, text: &[u8]) -> Result<(Setting, usize, &[u8]), TextFault> {
+        read_setting(alloc, b"tso trace 1", b"tso trace 2", text)
     }
 
-    fn start(alloc: Global) -> Result<(Vec<Vec<Outcome>>, Tally), Why> {
-        Ok((Vec::new(alloc), Tally::new(alloc)))
+    fn start(alloc: Global, setting: &Setting) -> Result<(Vec<Vec<Outcome>>, Tally), Why> {
+        Ok((Vec::new(alloc), Tally::of_setting(alloc, setting)?))
     }
 
     #[tactic(auto, unfolding(crate::specs::Grammars::trace_line))]
-    fn said_by(line: &[u8]) -> Result<Line<Outcome>, Why> {
+    fn said_by(order: Order, line: &[u8]) -> Result<Line<Outcome>, Why> {
         let (word, pieces) = next_piece(line);
         if word == b"proc".as_slice() {
             no_number(pieces)?;
@@ -94,6 +99,9 @@ impl Form for Outcome {
         } else if word == b"mb".as_slice() {
             no_number(pieces)?;
             Ok(Line::Item(Outcome::Mb))
+        } else if word == b"stbar".as_slice() && has_stbar(order) {
+            no_number(pieces)?;
+            Ok(Line::Item(Outcome::Sb))
         } else if word == b"end".as_slice() {
             no_number(pieces)?;
             Ok(Line::End)
@@ -112,30 +120,31 @@ impl Form for Outcome {
         }
     }
 
-    fn admit(self, tally: &mut Tally) -> Result<(), Why> {
-        let op = op_of(self);
-        no_stbar(op)?;
-        Ok(tally.admit(op)?)
+    fn admit(self, _setting: &Setting, tally: &mut Tally) -> Result<(), Why> {
+        match tally.admit(self.op()) {
+            Ok(()) => Ok(()),
+            Err(fault) => Err(why_of(fault)),
+        }
     }
 }
 
 impl Form for Op {
-    ghost grammar = { program_grammar };
+    ghost format = { program_format };
 
-    ghost keeps = { λ tally items. Admitted version_one_tso tally items };
+    ghost keeps = { λ setting tally items. Admitted setting tally items };
 
     ghost pieces = { op_pieces };
 
-    fn header() -> &'static [u8] {
-        b"tso program 1"
+    fn read_preamble(alloc: Global, text: &[u8]) -> Result<(Setting, usize, &[u8]), TextFault> {
+        read_setting(alloc, b"tso program 1", b"tso program 2", text)
     }
 
-    fn start(alloc: Global) -> Result<(Vec<Vec<Op>>, Tally), Why> {
-        Ok((Vec::new(alloc), Tally::new(alloc)))
+    fn start(alloc: Global, setting: &Setting) -> Result<(Vec<Vec<Op>>, Tally), Why> {
+        Ok((Vec::new(alloc), Tally::of_setting(alloc, setting)?))
     }
 
     #[tactic(auto, unfolding(crate::specs::Grammars::program_line))]
-    fn said_by(line: &[u8]) -> Result<Line<Op>, Why> {
+    fn said_by(order: Order, line: &[u8]) -> Result<Line<Op>, Why> {
         let (word, pieces) = next_piece(line);
         if word == b"proc".as_slice() {
             no_number(pieces)?;
@@ -152,6 +161,9 @@ impl Form for Op {
         } else if word == b"mb".as_slice() {
             no_number(pieces)?;
             Ok(Line::Item(Op::Mb))
+        } else if word == b"stbar".as_slice() && has_stbar(order) {
+            no_number(pieces)?;
+            Ok(Line::Item(Op::Sb))
         } else if word == b"end".as_slice() {
             no_number(pieces)?;
             Ok(Line::End)
@@ -170,31 +182,33 @@ impl Form for Op {
         }
     }
 
-    fn admit(self, tally: &mut Tally) -> Result<(), Why> {
-        no_stbar(self)?;
-        Ok(tally.admit(self)?)
+    fn admit(self, _setting: &Setting, tally: &mut Tally) -> Result<(), Why> {
+        match tally.admit(self) {
+            Ok(()) => Ok(()),
+            Err(fault) => Err(why_of(fault)),
+        }
     }
 }
 
 impl Form for Act {
-    ghost grammar = { schedule_grammar };
+    ghost format = { schedule_format };
 
-    ghost keeps = { λ tally items. Admitted version_one_tso tally [] };
+    ghost keeps = { λ setting tally items. Unit {0} };
 
     ghost pieces = { act_pieces };
 
-    fn header() -> &'static [u8] {
-        b"tso schedule 1"
+    fn read_preamble(alloc: Global, text: &[u8]) -> Result<(Setting, usize, &[u8]), TextFault> {
+        read_header(alloc, b"tso schedule 1", text)
     }
 
-    fn start(alloc: Global) -> Result<(Vec<Vec<Act>>, Tally), Why> {
+    fn start(alloc: Global, _setting: &Setting) -> Result<(Vec<Vec<Act>>, Tally), Why> {
         let mut lists = Vec::new(alloc);
         lists.push(Vec::new(alloc))?;
         Ok((lists, Tally::new(alloc)))
     }
 
     #[tactic(auto, unfolding(crate::specs::Grammars::schedule_line))]
-    fn said_by(line: &[u8]) -> Result<Line<Act>, Why> {
+    fn said_by(_order: Order, line: &[u8]) -> Result<Line<Act>, Why> {
         let (word, pieces) = next_piece(line);
         if word == b"i".as_slice() {
             let p = one_number(pieces)?;
@@ -217,7 +231,7 @@ impl Form for Act {
         }
     }
 
-    fn admit(self, _tally: &mut Tally) -> Result<(), Why> {
+    fn admit(self, _setting: &Setting, _tally: &mut Tally) -> Result<(), Why> {
         if processor_of(self) > MAX_PROCESSOR {
             return Err(Why::ProcessorRange);
         }
@@ -225,31 +239,13 @@ impl Form for Act {
     }
 }
 
-impl From<ValueFault> for Why {
-    ghost from_gives = { λ fault why. why ≡ why_of fault };
-
-    fn from(fault: ValueFault) -> Why {
-        match fault {
-            ValueFault::TooManyProcessors => Why::TooManyProcessors,
-            ValueFault::TooManyEvents => Why::TooManyEvents,
-            ValueFault::AddressRange => Why::AddressRange,
-            ValueFault::ZeroValue => Why::ZeroValue,
-            ValueFault::RepeatedValue => Why::RepeatedValue,
-            ValueFault::OutOfMemory => Why::OutOfMemory,
-            // No text says either: the word `stbar` and the line `init` are bad lines.
-            ValueFault::StbarInTso | ValueFault::InitOrder => Why::BadLine,
-        }
-    }
-}
-
-/// Refuses an STBAR, which no line spells.
-fn no_stbar(op: Op) -> Result<(), Why>
-    ensures none { OnOk result (is_stbar_in_tso Tso op ≡ false) }
-    ensures refused { IfErr result (λ why. (why ≡ Why.BadLine) × (is_stbar_in_tso Tso op ≡ true)) }
+/// Whether `stbar` is a keyword of texts of this memory model.
+fn has_stbar(order: Order) -> bool
+    ensures { result ≡ has_stbar order }
 {
-    match op {
-        Op::Sb => Err(Why::BadLine),
-        Op::Ld { .. } | Op::St { .. } | Op::Sw { .. } | Op::Mb => Ok(()),
+    match order {
+        Order::Tso => false,
+        Order::Pso => true,
     }
 }
 
@@ -259,19 +255,5 @@ fn processor_of(act: Act) -> usize
 {
     match act {
         Act::Issue(p) | Act::Drain(p) => p,
-    }
-}
-
-/// The operation of an outcome, without what was read.
-fn op_of(outcome: Outcome) -> Op
-    ensures is { result ≡ op_of outcome }
-    ensures fits { ReadFits outcome }
-{
-    match outcome {
-        Outcome::Ld { a, .. } => Op::Ld { a },
-        Outcome::St { a, v } => Op::St { a, v },
-        Outcome::Sw { a, v, .. } => Op::Sw { a, v },
-        Outcome::Mb => Op::Mb,
-        Outcome::Sb => Op::Sb,
     }
 }

@@ -13,6 +13,7 @@ mod forms;
 pub mod laws;
 mod lines;
 mod numbers;
+mod preambles;
 mod printers;
 mod readers;
 mod readings;

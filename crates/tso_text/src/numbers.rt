@@ -1,8 +1,7 @@
 ghost use Rattle.std.specs.Prelude.{◌≡◌, [], ◌∷◌, IfOk, OnOk, IfErr};
 ghost use Rattle.line_text.specs.Lines.{pieces_after, SomePiece};
-ghost use Rattle.tso_text.specs.Grammars.{address};
 ghost use Rattle.tso_text.specs.declared.faults.Why.{Why};
-ghost use Rattle.tso_text.specs.Numbers.{numeral, no_number, one_number, two_numbers, three_numbers};
+ghost use Rattle.tso_text.specs.Numbers.{address, numeral, no_number, one_number, two_numbers, three_numbers};
 
 use crate::faults::Why;
 use line_text::{next_piece, number_of};
@@ -15,7 +14,7 @@ fn numeral(piece: &[u8]) -> Result<u64, Why>
 }
 
 /// The next piece, and what stands after its space; BadLine where there is none.
-fn piece_of(pieces: Option<&[u8]>) -> Result<(&[u8], Option<&[u8]>), Why>
+pub(crate) fn piece_of(pieces: Option<&[u8]>) -> Result<(&[u8], Option<&[u8]>), Why>
     ensures found { IfOk result (λ found. pieces_after pieces.entry ≡ found.0.now ∷ pieces_after found.1) }
     ensures none { IfErr result (λ why. (pieces_after pieces.entry ≡ []) × (why ≡ Why.BadLine)) }
 {

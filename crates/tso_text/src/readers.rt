@@ -1,18 +1,20 @@
-ghost use Rattle.std.specs.Prelude.{◌≡◌, ◌≢◌, ◌∷◌, [], List, ◌<◌, ◌≤◌, length, MatchResult, IfOk, IfErr, OnOk};
+ghost use Rattle.std.specs.Prelude.{◌≡◌, ◌≢◌, ◌∷◌, [], List, ◌+◌, ◌≤◌, length, MatchResult, IfOk, IfErr, OnOk};
 ghost use Rattle.line_text.specs.Lines.{parts_of};
+ghost use Rattle.tso_ops.specs.Settings.{setting_of};
 ghost use Rattle.tso_ops.specs.Values.{TraceValue, ProgramValue, rows};
 ghost use Rattle.tso_text.specs.Grammars.{SpellsTrace, SpellsProgram, SpellsSchedule, IsTraceRefusal, IsProgramRefusal, IsScheduleRefusal};
-ghost use Rattle.tso_text.specs.Spelling.{text_byte_limit, SpellsLists, IsTextRefusal};
+ghost use Rattle.tso_text.specs.Spelling.{text_byte_limit, preamble_of, SpellsLists, IsTextRefusal};
 ghost use Rattle.tso_text.specs.Internal.Accepted.{IsKept};
+ghost use Rattle.tso_text.specs.Internal.Begun.{IsSetting, SpellsBody, IsRefusedAfter};
 ghost use Rattle.tso_ops.specs.declared.acts.Act.{Act};
 ghost use Rattle.tso_text.specs.declared.faults.Why.{Why};
 
-use crate::faults::{TextFault, Why};
+use crate::faults::{TextFault, Why, fault_of};
 use crate::forms::Form;
 use crate::lines::next_line;
 use crate::readings::Reading;
 use std::alloc::Global;
-use tso_ops::{Act, Program, Trace};
+use tso_ops::{Act, Program, Setting, Trace};
 
 /// The greatest number of bytes of the text of a trace, a program or a schedule.
 pub const MAX_TEXT_BYTES: usize = 1_048_576;
@@ -34,7 +36,7 @@ pub fn read_trace(alloc: Global, text: &[u8]) -> Result<Trace, TextFault>
     ensures memory { IfErr result (λ fault. fault.why ≡ Why.OutOfMemory → fault.line ≡ 0) }
 {
     match read_lists(alloc, text) {
-        Ok(lists) => match Trace::of_lists(alloc, lists) {
+        Ok((setting, lists)) => match Trace::of_lists(alloc, setting, lists) {
             Ok(trace) => Ok(trace),
             Err(_) => Err(NO_MEMORY),
         },
@@ -50,7 +52,7 @@ pub fn read_program(alloc: Global, text: &[u8]) -> Result<Program, TextFault>
     ensures memory { IfErr result (λ fault. fault.why ≡ Why.OutOfMemory → fault.line ≡ 0) }
 {
     match read_lists(alloc, text) {
-        Ok(lists) => Ok(Program::of_lists(lists)),
+        Ok((setting, lists)) => Ok(Program::of_lists(setting, lists)),
         Err(fault) => Err(fault),
     }
 }
@@ -63,33 +65,64 @@ pub fn read_schedule(alloc: Global, text: &[u8]) -> Result<Vec<Act>, TextFault>
     ensures memory { IfErr result (λ fault. fault.why ≡ Why.OutOfMemory → fault.line ≡ 0) }
 {
     match read_lists(alloc, text) {
-        Ok(mut lists) => Ok(lists.pop().unwrap_or(Vec::new(alloc))),
+        Ok((_, mut lists)) => Ok(lists.pop().unwrap_or(Vec::new(alloc))),
         Err(fault) => Err(fault),
     }
 }
 
-/// The lists that a text spells.
-pub(crate) fn read_lists<T: Form>(alloc: Global, text: &[u8]) -> Result<Vec<Vec<T>>, TextFault>
-    ensures found { IfOk result (λ lists. SpellsLists T.grammar text.now (rows lists.items)) }
-    ensures kept { IfOk result (λ lists. IsKept T.keeps (rows lists.items)) }
-    ensures refused { IfErr result (λ fault. fault.why ≢ Why.OutOfMemory → IsTextRefusal T.grammar text.now fault.line fault.why) }
+/// The setting and the lists that a text spells.
+pub(crate) fn read_lists<T: Form>(
+    alloc: Global,
+    text: &[u8],
+) -> Result<(Setting, Vec<Vec<T>>), TextFault>
+    ensures says { IfOk result (λ read. (preamble_of T.format text.now).setting ≡ setting_of read.0) }
+    ensures setting { IfOk result (λ read. IsSetting (setting_of read.0)) }
+    ensures found { IfOk result (λ read. SpellsLists T.format text.now (rows read.1.items)) }
+    ensures kept { IfOk result (λ read. IsKept (T.keeps (setting_of read.0)) (rows read.1.items)) }
+    ensures refused { IfErr result (λ fault. fault.why ≢ Why.OutOfMemory → IsTextRefusal T.format text.now fault.line fault.why) }
     ensures memory { IfErr result (λ fault. fault.why ≡ Why.OutOfMemory → fault.line ≡ 0) }
 {
-    let mut rest = match body_of::<T>(text) {
-        Ok(rest) => rest,
+    if text.len() > MAX_TEXT_BYTES {
+        return Err(TextFault {
+            line: 0,
+            why: Why::TooLong,
+        });
+    }
+    let (setting, lines, rest) = match T::read_preamble(alloc, text) {
+        Ok(begun) => begun,
         Err(fault) => return Err(fault),
     };
-    let mut reading = match Reading::new(alloc) {
+    match read_body(alloc, &setting, lines, rest) {
+        Ok(lists) => Ok((setting, lists)),
+        Err(fault) => Err(fault),
+    }
+}
+
+/// The lists that a text spells after so many lines of its preamble.
+fn read_body<T: Form>(
+    alloc: Global,
+    setting: &Setting,
+    lines: usize,
+    text: &[u8],
+) -> Result<Vec<Vec<T>>, TextFault>
+    requires { lines + length text.now ≤ text_byte_limit }
+    ensures found { IfOk result (λ lists. SpellsBody (T.format.grammar (setting_of setting.now)) (parts_of text.now) (rows lists.items)) }
+    ensures kept { IfOk result (λ lists. IsKept (T.keeps (setting_of setting.now)) (rows lists.items)) }
+    ensures refused { IfErr result (λ fault. fault.why ≢ Why.OutOfMemory → IsRefusedAfter (T.format.grammar (setting_of setting.now)) (parts_of text.now) lines fault.line fault.why) }
+    ensures memory { IfErr result (λ fault. fault.why ≡ Why.OutOfMemory → fault.line ≡ 0) }
+{
+    let mut rest = text;
+    let mut reading = match Reading::new(alloc, setting) {
         Ok(reading) => reading,
         Err(why) => return Err(fault_of(0, why)),
     };
-    let mut line: usize = 2;
+    let mut line = lines + 1;
     'lines: loop {
         let (prefix, after) = match next_line(rest) {
             Ok(parts) => parts,
             Err(why) => return Err(fault_of(line, why)),
         };
-        let ended = match reading.accept_line(prefix) {
+        let ended = match reading.accept_line(setting, prefix) {
             Ok(ended) => ended,
             Err(why) => return Err(fault_of(line, why)),
         };
@@ -102,47 +135,5 @@ pub(crate) fn read_lists<T: Form>(alloc: Global, text: &[u8]) -> Result<Vec<Vec<
             let Reading { lists, tally: _ } = reading;
             return Ok(lists);
         }
-    }
-}
-
-/// What stands after the header line.
-fn body_of<T: Form>(text: &[u8]) -> Result<&[u8], TextFault>
-    ensures body { IfOk result (λ rest. parts_of text.now ≡ T.grammar.header ∷ parts_of rest.now) }
-    ensures short { OnOk result (length text.now ≤ text_byte_limit) }
-    ensures shorter { IfOk result (λ rest. length rest.now < length text.now) }
-    ensures refused { IfErr result (λ fault. IsTextRefusal T.grammar text.now fault.line fault.why) }
-    ensures why { IfErr result (λ fault. fault.why ≢ Why.OutOfMemory) }
-{
-    if text.len() > MAX_TEXT_BYTES {
-        return Err(TextFault {
-            line: 0,
-            why: Why::TooLong,
-        });
-    }
-    let bad_header = TextFault {
-        line: 1,
-        why: Why::BadHeader,
-    };
-    match next_line(text) {
-        Ok((header, rest)) => {
-            if header == T::header() {
-                Ok(rest)
-            } else {
-                Err(bad_header)
-            }
-        }
-        Err(_) => Err(bad_header),
-    }
-}
-
-/// The refusal at this line, but for OutOfMemory, which is of the whole text.
-fn fault_of(line: usize, why: Why) -> TextFault
-    ensures why { result.why ≡ why }
-    ensures line { why ≢ Why.OutOfMemory → result.line ≡ line }
-    ensures memory { why ≡ Why.OutOfMemory → result.line ≡ 0 }
-{
-    match why {
-        Why::OutOfMemory => TextFault { line: 0, why },
-        _ => TextFault { line, why },
     }
 }

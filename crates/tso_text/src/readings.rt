@@ -1,14 +1,15 @@
 ghost use Rattle.std.specs.Prelude.{◌≡◌, ◌<◌, ◌≤◌, length, OnOk, IfOk, IfErr, vec_len};
+ghost use Rattle.tso_ops.specs.Settings.{setting_of};
 ghost use Rattle.tso_ops.specs.Values.{rows};
 ghost use Rattle.tso_text.specs.Spelling.{push_last, items_of};
-ghost use Rattle.tso_text.specs.Internal.Accepted.{AcceptsLine, AcceptsSaid, IsLineRefusedFor, IsSaidRefusedFor};
+ghost use Rattle.tso_text.specs.Internal.Accepted.{AcceptsLine, AcceptsSaid, CanSay, IsLineRefusedFor, IsSaidRefusedFor};
 ghost use Rattle.tso_text.specs.declared.faults.Why.{Why};
 
 use crate::faults::Why;
 use crate::forms::Form;
 use crate::lines::Line;
 use std::alloc::{AllocFailed, Global};
-use tso_ops::Tally;
+use tso_ops::{Setting, Tally};
 
 /// The greatest number of processors.
 const MAX_PROCESSORS: usize = 16;
@@ -22,37 +23,38 @@ pub(crate) struct Reading<T: Form> {
 
 impl<T: Form> Reading<T> {
     /// What no line says.
-    pub(crate) fn new(alloc: Global) -> Result<Reading<T>, Why>
-        ensures start { IfOk result (λ r. rows r.lists.items ≡ T.grammar.start) }
-        ensures keeps { IfOk result (λ r. T.keeps r.tally (items_of (rows r.lists.items))) }
+    pub(crate) fn new(alloc: Global, setting: &Setting) -> Result<Reading<T>, Why>
+        ensures start { IfOk result (λ r. rows r.lists.items ≡ (T.format.grammar (setting_of setting.now)).start) }
+        ensures keeps { IfOk result (λ r. T.keeps (setting_of setting.now) r.tally (items_of (rows r.lists.items))) }
         ensures few { IfOk result (λ r. length (rows r.lists.items) ≤ 16) }
         ensures refused { IfErr result (λ why. why ≡ Why.OutOfMemory) }
     {
-        let (lists, tally) = T::start(alloc)?;
+        let (lists, tally) = T::start(alloc, setting)?;
         Ok(Reading { lists, tally })
     }
 
     /// Accepts the next line, and says whether it ends the text; or refuses it for its first fault.
-    pub(crate) fn accept_line(&mut self, line: &[u8]) -> Result<bool, Why>
-        requires keeps { T.keeps self.old.tally (items_of (rows self.old.lists.items)) }
+    pub(crate) fn accept_line(&mut self, setting: &Setting, line: &[u8]) -> Result<bool, Why>
+        requires keeps { T.keeps (setting_of setting.now) self.old.tally (items_of (rows self.old.lists.items)) }
         requires few { length (rows self.old.lists.items) ≤ 16 }
-        ensures accepted { IfOk result (λ ended. AcceptsLine T.grammar (rows self.old.lists.items) line.now ended (rows self.new.lists.items)) }
-        ensures keeps { OnOk result (T.keeps self.new.tally (items_of (rows self.new.lists.items))) }
+        ensures accepted { IfOk result (λ ended. AcceptsLine (T.format.grammar (setting_of setting.now)) (rows self.old.lists.items) line.now ended (rows self.new.lists.items)) }
+        ensures keeps { OnOk result (T.keeps (setting_of setting.now) self.new.tally (items_of (rows self.new.lists.items))) }
         ensures few { OnOk result (length (rows self.new.lists.items) ≤ 16) }
-        ensures refused { IfErr result (IsLineRefusedFor T.grammar (rows self.old.lists.items) line.now) }
+        ensures refused { IfErr result (IsLineRefusedFor (T.format.grammar (setting_of setting.now)) (rows self.old.lists.items) line.now) }
     {
-        let said = T::said_by(line)?;
-        self.accept(said)
+        let said = T::said_by(setting.order, line)?;
+        self.accept(setting, said)
     }
 
     /// Accepts what the next line says, and says whether it ends the text; or refuses it for its first fault.
-    fn accept(&mut self, said: Line<T>) -> Result<bool, Why>
-        requires keeps { T.keeps self.old.tally (items_of (rows self.old.lists.items)) }
+    fn accept(&mut self, setting: &Setting, said: Line<T>) -> Result<bool, Why>
+        requires said { CanSay (T.format.grammar (setting_of setting.now)) said }
+        requires keeps { T.keeps (setting_of setting.now) self.old.tally (items_of (rows self.old.lists.items)) }
         requires few { length (rows self.old.lists.items) ≤ 16 }
-        ensures accepted { IfOk result (λ ended. AcceptsSaid T.grammar (rows self.old.lists.items) said ended (rows self.new.lists.items)) }
-        ensures keeps { OnOk result (T.keeps self.new.tally (items_of (rows self.new.lists.items))) }
+        ensures accepted { IfOk result (λ ended. AcceptsSaid (T.format.grammar (setting_of setting.now)) (rows self.old.lists.items) said ended (rows self.new.lists.items)) }
+        ensures keeps { OnOk result (T.keeps (setting_of setting.now) self.new.tally (items_of (rows self.new.lists.items))) }
         ensures few { OnOk result (length (rows self.new.lists.items) ≤ 16) }
-        ensures refused { IfErr result (IsSaidRefusedFor T.grammar (rows self.old.lists.items) said) }
+        ensures refused { IfErr result (IsSaidRefusedFor (T.format.grammar (setting_of setting.now)) (rows self.old.lists.items) said) }
     {
         match said {
             Line::Proc => {
@@ -67,7 +69,7 @@ impl<T: Form> Reading<T> {
                 if self.lists.is_empty() {
                     return Err(Why::BeforeProc);
                 }
-                item.admit(&mut self.tally)?;
+                item.admit(setting, &mut self.tally)?;
                 push_last(&mut self.lists, item)?;
                 Ok(false)
             }

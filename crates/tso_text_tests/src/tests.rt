@@ -1,11 +1,14 @@
 //! Texts of traces, programs and schedules, and what the tests of texts share.
 
+mod drawn;
 mod examples;
 mod fault_texts;
 mod limits;
 mod printed_back;
 mod refused;
 mod refused_allocations;
+mod refused_settings;
+mod setting_examples;
 
 use std::alloc::Global;
 use std::fmt::Debug;

@@ -3,6 +3,7 @@
 #![tactic(auto)]
 
 pub use accounts::{OTHER_ACCOUNT, closed_account};
+pub use answers::{Answered, first_unanswered};
 pub use counting::{CallCounts, CountingUnit, drops_of, new_counts, numbers_of};
 pub use forwarding::{Call, CallLog, ForwardingUnit, new_log};
 pub use inventing::{INVENTED, InventingUnit};
@@ -12,6 +13,7 @@ pub use records::is_record;
 pub use refusing::RefusingUnit;
 
 mod accounts;
+mod answers;
 mod counting;
 mod forwarding;
 mod inventing;

@@ -8,31 +8,37 @@ use bitsets::{
     word_above, word_at, word_below, word_without,
 };
 use std::alloc::{AllocError, Global};
+use std::fmt::Debug;
+use std::process::Abort;
 use std::test::Fail;
 
-#[test]
-fn words(rt: HostRuntime) -> Result<(), Fail> {
-    assert_eq!(rt; with_bit(1, 1, 66), 5);
-    assert_eq!(rt; with_bit(1, 0, 66), 1);
-    assert_eq!(rt; word_above(70, 0), 0);
-    assert_eq!(rt; word_above(70, 1), u64::MAX << 7);
-    assert_eq!(rt; word_above(70, 2), u64::MAX);
-    assert_eq!(rt; word_without(7, 1, 65), 5);
-    assert_eq!(rt; word_without(7, 0, 65), 7);
-    Ok(())
+/// Compares what a call gave with what it has to give. An assertion costs the check of a function many times what a call of
+/// this one costs it.
+fn expect<T: Copy + Debug + PartialEq>(rt: &impl Abort, case: &str, found: T, wanted: T) {
+    assert_eq!(rt; found, wanted, "{case}");
 }
 
 #[test]
-fn rows_that_are_read(rt: HostRuntime) -> Result<(), Fail> {
+fn words(rt: HostRuntime) {
+    expect(&rt, "bit 66 of word 1", with_bit(1, 1, 66), 5);
+    expect(&rt, "bit 66 of word 0", with_bit(1, 0, 66), 1);
+    expect(&rt, "word 0 above 70", word_above(70, 0), 0);
+    expect(&rt, "word 1 above 70", word_above(70, 1), u64::MAX << 7);
+    expect(&rt, "word 2 above 70", word_above(70, 2), u64::MAX);
+    expect(&rt, "word 1 without 65", word_without(7, 1, 65), 5);
+    expect(&rt, "word 0 without 65", word_without(7, 0, 65), 7);
+}
+
+#[test]
+fn rows_that_are_read(rt: HostRuntime) {
     let row: [u64; 2] = [1 << 63, 5];
-    assert_eq!(rt; word_at(row.as_slice(), 1), 5);
-    assert_eq!(rt; word_at(row.as_slice(), 2), 0);
-    assert!(rt; has_number(row.as_slice(), 66));
-    assert!(rt; !has_number(row.as_slice(), 65));
-    assert!(rt; !has_number(row.as_slice(), 128));
-    assert_eq!(rt; word_below(row.as_slice(), 0), 1 << 62 | 1 << 63);
-    assert_eq!(rt; word_below(row.as_slice(), 1), 2);
-    Ok(())
+    expect(&rt, "word 1", word_at(&row, 1), 5);
+    expect(&rt, "word 2", word_at(&row, 2), 0);
+    expect(&rt, "66", has_number(&row, 66), true);
+    expect(&rt, "65", has_number(&row, 65), false);
+    expect(&rt, "128", has_number(&row, 128), false);
+    expect(&rt, "below word 0", word_below(&row, 0), 1 << 62 | 1 << 63);
+    expect(&rt, "below word 1", word_below(&row, 1), 2);
 }
 
 #[test]
@@ -43,9 +49,9 @@ fn rows_that_grow(rt: HostRuntime) -> Result<(), Fail> {
     mark_if_some(&mut row, None)?;
     mark_word(&mut row, 1, 1)?;
     mark_word(&mut row, 5, 0)?;
-    assert_eq!(rt; row.as_slice(), [8, 5].as_slice());
+    expect(&rt, "marked", row.as_slice(), [8, 5].as_slice());
     mark_row(&mut row, [1, 0, 2].as_slice())?;
-    assert_eq!(rt; row.as_slice(), [9, 5, 2].as_slice());
+    expect(&rt, "a row marked", row.as_slice(), [9, 5, 2].as_slice());
     Ok(())
 }
 
@@ -60,7 +66,8 @@ fn list_of(alloc: Global, number: usize) -> Result<Vec<usize>, AllocError>
 
 #[test]
 fn lists(rt: HostRuntime) -> Result<(), Fail> {
-    assert_eq!(rt; list_of(rt.alloc(), 66)?.as_slice(), [66].as_slice());
+    let list = list_of(rt.alloc(), 66)?;
+    expect(&rt, "list", list.as_slice(), [66].as_slice());
     Ok(())
 }
 
@@ -88,23 +95,23 @@ fn table_of(alloc: Global) -> Result<Vec<u64>, AllocError> {
 #[test]
 fn tables(rt: HostRuntime) -> Result<(), Fail> {
     let table = table_of(rt.alloc())?;
-    assert_eq!(rt; word_at(&table, 0), 7);
-    assert_eq!(rt; word_at(&table, 1), 48);
-    assert_eq!(rt; word_at(&table, 2), 0);
-    assert_eq!(rt; word_at(&table, 3), 10);
+    expect(&rt, "word 0", word_at(&table, 0), 7);
+    expect(&rt, "word 1", word_at(&table, 1), 48);
+    expect(&rt, "word 2", word_at(&table, 2), 0);
+    expect(&rt, "word 3", word_at(&table, 3), 10);
     Ok(())
 }
 
 #[test]
-fn columns_of_two_rows(rt: HostRuntime) -> Result<(), Fail> {
+fn columns_of_two_rows(rt: HostRuntime) {
     let words: [u64; 4] = [3, 6, 4, 12];
     let table = BitTable {
         words: words.as_slice(),
         width: 2,
     };
-    assert!(rt; bit(table, 1, 66));
-    assert!(rt; !bit(table, 1, 64));
-    assert_eq!(rt; used_words(table, 1), (0, 2));
-    assert_eq!(rt; first_shared(table, 0, words.as_slice(), 1, 0, 2), Some(66));
-    Ok(())
+    expect(&rt, "bit 66", bit(table, 1, 66), true);
+    expect(&rt, "bit 64", bit(table, 1, 64), false);
+    expect(&rt, "used words", used_words(table, 1), (0, 2));
+    let shared = first_shared(table, 0, words.as_slice(), 1, 0, 2);
+    expect(&rt, "shared", shared, Some(66));
 }

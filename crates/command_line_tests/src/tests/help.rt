@@ -39,7 +39,7 @@ fn help_and_version(rt: HostRuntime) -> Result<(), Fail> {
 }
 
 const PROGRAM_HELP: &str = "\
-Judges traces of multiprocessor memory operations against Total Store Order (TSO)
+Judges traces of multiprocessor memory operations against the SPARC memory models TSO and PSO
 
 Usage: tsobench [COMMAND]
 
@@ -67,10 +67,15 @@ that it read:
   ld 1 1
   end
 
+Its second line may be `model pso`, for Partial Store Order: else the trace is
+judged against Total Store Order. Of version 2, `tso trace 2`, it may have
+8,000 events in place of 2,000, and lines as `init 1 7` say what memory has at
+first.
+
 Exit status:
   0  no violation was found, which proves nothing about the trace
   2  a text or the command line was refused
-  3  the trace violates TSO, or the certificate holds
+  3  the trace violates its memory model, or the certificate holds
   4  a fault, which one line on standard error names
 
 Example:
@@ -99,7 +104,7 @@ alone is a file of that name.
 Exit status:
   0  no violation was found, which proves nothing about the trace
   2  the text is no trace, or the command line was refused
-  3  the trace violates TSO
+  3  the trace violates its memory model
   4  a fault, which one line on standard error names, as FAULT Read
 
 Example:
@@ -120,14 +125,14 @@ Options:
 
 It reads the text of a trace and that of a certificate, at most 67,108,864
 bytes, as it stands in a report after the line VIOLATION. It prints one line:
-CERTIFICATE HOLDS, which proves that no order of the trace meets TSO, or
-CERTIFICATE REFUSED and why. A text that is no trace gets a line as
+CERTIFICATE HOLDS, which proves that no order of the trace meets its memory
+model, or CERTIFICATE REFUSED and why. A text that is no trace gets a line as
 REFUSED BadLine line 3, and the certificate isn't read. Both files are opened
 before one is read.
 
 Exit status:
   2  the trace, the certificate or the command line was refused
-  3  the certificate holds: the trace violates TSO
+  3  the certificate holds: the trace violates its memory model
   4  a fault, which one line on standard error names, as FAULT Read
 
 Example:

@@ -1,6 +1,6 @@
 //! Desks driven by hand: what issues and drains answer, and how a desk is finished.
 
-use super::STORES_THEN_LOADS;
+use super::{STORES_THEN_LOADS, expect_equal};
 use issue_desk::{Desk, Pass, RunFault};
 use std::alloc::{AllocError, Global};
 use std::process::Abort;
@@ -96,7 +96,7 @@ fn expect_issues<H: Abort>(
 ) -> Result<(), AllocError> {
     for (p, answer) in issues {
         let found = driven.issue(*p)?;
-        assert_eq!(rt; found, *answer, "processor {p}");
+        expect_equal(rt, *p, found, *answer);
     }
     Ok(())
 }
@@ -108,19 +108,19 @@ fn expect_drains<H: Abort>(
     answers: [bool; 2],
 ) -> Result<(), AllocError> {
     let found = [driven.desk.drain(0)?, driven.desk.drain(0)?];
-    assert_eq!(rt; found, answers);
+    expect_equal(rt, "drains", found, answers);
     Ok(())
 }
 
 /// Compares the answer of a desk that gave no record.
 fn expect_fault<H: Abort>(rt: &H, finished: &Finished, fault: RunFault) {
-    assert!(rt; finished.answer.as_ref().err() == Some(&fault));
+    expect_equal(rt, "fault", finished.answer.as_ref().err(), Some(&fault));
 }
 
 /// Compares the account of a desk that was finished, whose unit is dropped.
 fn expect_end<H: Abort>(rt: &H, finished: &Finished, account: &Account) {
-    assert_eq!(rt; &finished.account, account);
-    assert_eq!(rt; finished.drops, 1);
+    expect_equal(rt, "account", &finished.account, account);
+    expect_equal(rt, "drops", finished.drops, 1);
 }
 
 /// Whether the answer is a lawful record of these processors.
@@ -150,7 +150,7 @@ fn driven_desk<H: Abort>(rt: &H, alloc: Global) -> Result<Driven, ValueFault> {
 #[test]
 fn desk_by_hand(rt: HostRuntime) -> Result<(), Fail> {
     let driven = driven_desk(&rt, rt.alloc())?;
-    assert!(rt; drops_of(&driven.counts) == 0);
+    expect_equal(&rt, "drops", drops_of(&driven.counts), 0);
     Ok(())
 }
 
@@ -183,7 +183,8 @@ fn desk_finished(rt: HostRuntime) -> Result<(), Fail> {
     let mut driven = driven_desk(&rt, rt.alloc())?;
     expect_issues(&rt, &mut driven, &LAST_ISSUES)?;
     let finished = driven.finish(rt.alloc(), &STORES_THEN_LOADS)?;
-    assert!(rt; is_lawful_record(&finished, &FINISHED_ROWS));
+    let is_lawful = is_lawful_record(&finished, &FINISHED_ROWS);
+    expect_equal(&rt, "lawful", is_lawful, true);
     expect_end(&rt, &finished, &closed_account(2, 2, 2));
     Ok(())
 }
@@ -218,19 +219,18 @@ fn text_of(alloc: Global, fault: RunFault) -> Result<String, Fail> {
     Ok(format!(in alloc; "{fault}")?)
 }
 
-fn expect_text(rt: &impl Abort, found: &str, wanted: &str) {
-    assert_eq!(rt; found, wanted);
-}
+const TEXTS: [(RunFault, &str); 4] = [
+    (RunFault::OutOfMemory, "OutOfMemory"),
+    (RunFault::NoThread, "NoThread"),
+    (RunFault::Torn { p: 15 }, "Torn 15"),
+    (RunFault::OtherProgram, "OtherProgram"),
+];
 
 #[test]
 fn texts_of_run_faults(rt: HostRuntime) -> Result<(), Fail> {
-    for (fault, text) in [
-        (RunFault::OutOfMemory, "OutOfMemory"),
-        (RunFault::NoThread, "NoThread"),
-        (RunFault::Torn { p: 15 }, "Torn 15"),
-        (RunFault::OtherProgram, "OtherProgram"),
-    ] {
-        expect_text(&rt, &text_of(rt.alloc(), fault)?, text);
+    for (fault, text) in TEXTS {
+        let found = text_of(rt.alloc(), fault)?;
+        expect_equal(&rt, text, found.as_str(), text);
     }
     Ok(())
 }

@@ -3,6 +3,7 @@
 //! The expected numbers come from words of PCG64 that were computed without rand_pcg and rand_core, by a program that gives
 //! the published words of PCG64 and PCG32. Before each table stand the words modulo 3.
 
+use super::expect_equal;
 use issue_desk::{Issuers, OpenGate, run_over};
 use std::alloc::{AllocError, Global};
 use std::process::Abort;
@@ -58,7 +59,7 @@ fn expect_drains<H: Threads + Wait + Sync + Abort>(
 ) -> Result<(), ValueFault> {
     let calls = calls_of(rt, alloc, ops, drain_seed)?;
     let drains = drains_after_each(alloc, &calls)?;
-    assert_eq!(rt; drains.as_slice(), expected.as_slice(), "seed {drain_seed}");
+    expect_equal(rt, drain_seed, drains.as_slice(), expected.as_slice());
     Ok(())
 }
 

@@ -1,5 +1,6 @@
 //! When the issuers of a run call its gate, and that they may wait for each other there.
 
+use super::expect_equal;
 use issue_desk::{Gate, Issuers, run_over};
 use std::alloc::{AllocError, Global};
 use std::process::Abort;
@@ -101,6 +102,9 @@ impl LoggingGate {
 
 const LOAD: Op = Op::Ld { a: 1 };
 
+/// The processor, the answers and the loads of each call of the gate by three loads.
+const GATE_CALLS: [(usize, usize, u64); 4] = [(0, 0, 0), (0, 1, 1), (0, 2, 2), (0, 3, 3)];
+
 /// The call with three answers comes before the issue that finds nothing left.
 #[test]
 fn gate_is_called_before_each_operation(rt: HostRuntime) -> Result<(), Fail> {
@@ -108,8 +112,7 @@ fn gate_is_called_before_each_operation(rt: HostRuntime) -> Result<(), Fail> {
     let gate = LoggingGate::new(rt.alloc(), Arc::try_clone(&counts)?, 8)?;
     run_past(&rt, rt.alloc(), &[&[LOAD; 3]], &gate, &counts)?;
     let calls = gate.calls(rt.alloc())?;
-    let expected = [(0, 0, 0), (0, 1, 1), (0, 2, 2), (0, 3, 3)];
-    assert_eq!(rt; calls.as_slice(), expected.as_slice());
+    expect_equal(&rt, "calls", calls.as_slice(), GATE_CALLS.as_slice());
     Ok(())
 }
 
@@ -182,21 +185,25 @@ fn meet<H: Threads + Wait + Sync + Abort>(
     Ok(gate.have_met())
 }
 
+/// Two loads of each of two processors.
+const TWO_ISSUERS: [&[Op]; 2] = [&[LOAD; 2]; 2];
+
+/// A load of each of sixteen processors.
+const SIXTEEN_ISSUERS: [&[Op]; 16] = [&[LOAD]; 16];
+
 /// The last calls come before the issues that find nothing left.
 #[test]
 fn issuers_meet_after_their_first_operations(rt: HostRuntime) -> Result<(), Fail> {
-    let ops: [&[Op]; 2] = [&[LOAD; 2]; 2];
-    for at in [0, 1, 2] {
-        assert!(rt; meet(&rt, rt.alloc(), &ops, at)?, "at {at}");
+    for at in 0..3usize {
+        expect_equal(&rt, at, meet(&rt, rt.alloc(), &TWO_ISSUERS, at)?, true);
     }
     Ok(())
 }
 
 #[test]
 fn sixteen_issuers_meet(rt: HostRuntime) -> Result<(), Fail> {
-    let ops: [&[Op]; 16] = [&[LOAD]; 16];
-    for at in [0, 1] {
-        assert!(rt; meet(&rt, rt.alloc(), &ops, at)?, "at {at}");
+    for at in 0..2usize {
+        expect_equal(&rt, at, meet(&rt, rt.alloc(), &SIXTEEN_ISSUERS, at)?, true);
     }
     Ok(())
 }

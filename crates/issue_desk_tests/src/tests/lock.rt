@@ -44,13 +44,43 @@ fn wait_for(set: &AtomicBool) {
 }
 
 /// Processor 0 stores 32 times and processor 1 loads once.
-fn stores_and_load(alloc: Global) -> Result<Program, ValueFault> {
-    let mut stores = Vec::new(alloc);
-    for v in 1..33 {
-        stores.push(Op::St { a: 1, v })?;
-    }
-    program_of(alloc, Order::Tso, &[stores.as_slice(), &[Op::Ld { a: 2 }]])
-}
+const STORES_AND_LOAD: [&[Op]; 2] = [
+    &[
+        Op::St { a: 1, v: 1 },
+        Op::St { a: 1, v: 2 },
+        Op::St { a: 1, v: 3 },
+        Op::St { a: 1, v: 4 },
+        Op::St { a: 1, v: 5 },
+        Op::St { a: 1, v: 6 },
+        Op::St { a: 1, v: 7 },
+        Op::St { a: 1, v: 8 },
+        Op::St { a: 1, v: 9 },
+        Op::St { a: 1, v: 10 },
+        Op::St { a: 1, v: 11 },
+        Op::St { a: 1, v: 12 },
+        Op::St { a: 1, v: 13 },
+        Op::St { a: 1, v: 14 },
+        Op::St { a: 1, v: 15 },
+        Op::St { a: 1, v: 16 },
+        Op::St { a: 1, v: 17 },
+        Op::St { a: 1, v: 18 },
+        Op::St { a: 1, v: 19 },
+        Op::St { a: 1, v: 20 },
+        Op::St { a: 1, v: 21 },
+        Op::St { a: 1, v: 22 },
+        Op::St { a: 1, v: 23 },
+        Op::St { a: 1, v: 24 },
+        Op::St { a: 1, v: 25 },
+        Op::St { a: 1, v: 26 },
+        Op::St { a: 1, v: 27 },
+        Op::St { a: 1, v: 28 },
+        Op::St { a: 1, v: 29 },
+        Op::St { a: 1, v: 30 },
+        Op::St { a: 1, v: 31 },
+        Op::St { a: 1, v: 32 },
+    ],
+    &[Op::Ld { a: 2 }],
+];
 
 /// A drain seed by which processor 0 drains after many of its stores, and processor 1 never after its load.
 const DRAINS_OF_0: u64 = 16;
@@ -101,7 +131,7 @@ fn is_seen<H: Threads + Wait + Sync + Abort>(
     alloc: Global,
     three: [Call; 3],
 ) -> Result<bool, ValueFault> {
-    let program = stores_and_load(alloc)?;
+    let program = program_of(alloc, Order::Tso, &STORES_AND_LOAD)?;
     for run in 0..RUNS {
         let log = run_behind(rt, alloc, &program, run % 16)?;
         if has_before_a_store(log.calls(alloc)?.as_slice(), three) {

@@ -1,7 +1,7 @@
 //! Programs that are run by a thread per processor: the record, the account, the calls of the unit and its drop.
 ghost use Rattle.std.specs.Prelude.{◌≡◌, []};
 
-use super::STORES_THEN_LOADS;
+use super::{STORES_THEN_LOADS, expect_equal};
 use issue_desk::{Gate, Issuers, OpenGate, RunFault, run, run_over};
 use std::alloc::{AllocError, Global};
 use std::process::Abort;
@@ -28,7 +28,7 @@ struct Ended {
 
 /// Compares an account.
 fn expect_account<H: Abort>(rt: &H, account: &Account, expected: &Account) {
-    assert_eq!(rt; account, expected);
+    expect_equal(rt, "account", account, expected);
 }
 
 /// The program run on a store-buffer unit, in a box, that counts its calls and refuses the one of this number, none where
@@ -149,8 +149,8 @@ fn issuers_meet(rt: HostRuntime) -> Result<(), Fail> {
         gave_up: AtomicBool::new(false),
     };
     let ended = run_meeting(&rt, rt.alloc(), &gate)?;
-    assert!(rt; gate.have_met());
-    assert!(rt; is_lawful_record(&ended.answer));
+    expect_equal(&rt, "met", gate.have_met(), true);
+    expect_equal(&rt, "lawful", is_lawful_record(&ended.answer), true);
     expect_account(&rt, &ended.account, &closed_account(2, 2, 0, 0));
     Ok(())
 }
@@ -165,28 +165,41 @@ const INVENTED_ROWS: [&[Outcome]; 1] = [&[
     Outcome::Ld { a: 1, r: INVENTED },
 ]];
 
+/// The seeds of the drains of `FORWARDED`.
+const DRAIN_SEEDS: [u64; 5] = [0, 1, 2, 3, u64::MAX];
+
+/// Runs `FORWARDED` with this drain seed, and compares how it ended.
+fn expect_forwarded<H: Threads + Wait + Sync + Abort>(
+    rt: &H,
+    alloc: Global,
+    seed: u64,
+) -> Result<(), ValueFault> {
+    let ended = run_freely(rt, alloc, &FORWARDED, 0, seed)?;
+    let is_record = is_record_of(&ended.answer, true, &FORWARDED_ROWS);
+    expect_equal(rt, seed, is_record, true);
+    expect_account(rt, &ended.account, &closed_account(1, 1, 0, 0));
+    let [loads, stores, _, _, _, _, drops] = ended.numbers;
+    expect_equal(rt, seed, [loads, stores, drops], [1; 3]);
+    Ok(())
+}
+
 #[test]
 fn run_forwarded_on_a_counting_unit(rt: HostRuntime) -> Result<(), Fail> {
-    for seed in [0, 1, 2, 3, u64::MAX] {
-        let ended = run_freely(&rt, rt.alloc(), &FORWARDED, 0, seed)?;
-        assert!(rt;
-            is_record_of(&ended.answer, true, &FORWARDED_ROWS),
-            "seed {seed}"
-        );
-        expect_account(&rt, &ended.account, &closed_account(1, 1, 0, 0));
-        let [loads, stores, _, _, _, _, drops] = ended.numbers;
-        assert!(rt; [loads, stores, drops] == [1, 1, 1], "seed {seed}");
+    for seed in DRAIN_SEEDS {
+        expect_forwarded(&rt, rt.alloc(), seed)?;
     }
     Ok(())
 }
 
-/// The run of `FORWARDED` on this unit, which is in no box.
-fn run_forwarded<H: Threads + Wait + Sync, U: MemoryUnit + Send>(
+/// Whether the run of `FORWARDED` on this unit, which is in no box, gives a record of these processors, lawful or not, as is
+/// said, and closes the account.
+fn is_forwarded<H: Threads + Wait + Sync, U: MemoryUnit + Send>(
     rt: &H,
     alloc: Global,
     unit: U,
-    account: &mut Account,
-) -> Result<Result<Recorded, RunFault>, ValueFault>
+    lawful: bool,
+    rows: &[&[Outcome]],
+) -> Result<bool, ValueFault>
     requires { (U.value_of unit).steps ≡ [] }
 {
     let program = program_of(alloc, Order::Tso, &FORWARDED)?;
@@ -194,35 +207,32 @@ fn run_forwarded<H: Threads + Wait + Sync, U: MemoryUnit + Send>(
         gate: &OpenGate,
         drain_seed: 7,
     };
-    Ok(run_over(rt, alloc, &program, unit, issuers, account))
+    let mut account = OTHER_ACCOUNT;
+    let answer = run_over(rt, alloc, &program, unit, issuers, &mut account);
+    Ok(account == closed_account(1, 1, 0, 0) && is_record_of(&answer, lawful, rows))
 }
 
 #[test]
 fn run_forwarded_on_a_store_buffer(rt: HostRuntime) -> Result<(), Fail> {
     let unit = StoreBufferUnit::new(rt.alloc(), 8)?;
-    let mut account = OTHER_ACCOUNT;
-    let answer = run_forwarded(&rt, rt.alloc(), unit, &mut account)?;
-    assert!(rt; is_record_of(&answer, true, &FORWARDED_ROWS));
-    expect_account(&rt, &account, &closed_account(1, 1, 0, 0));
+    assert!(rt; is_forwarded(&rt, rt.alloc(), unit, true, &FORWARDED_ROWS)?);
     Ok(())
 }
 
 #[test]
 fn run_forwarded_on_an_inventing_unit(rt: HostRuntime) -> Result<(), Fail> {
     let unit = InventingUnit::new(rt.alloc())?;
-    let mut account = OTHER_ACCOUNT;
-    let answer = run_forwarded(&rt, rt.alloc(), unit, &mut account)?;
-    assert!(rt; is_record_of(&answer, false, &INVENTED_ROWS));
-    expect_account(&rt, &account, &closed_account(1, 1, 0, 0));
+    assert!(rt; is_forwarded(&rt, rt.alloc(), unit, false, &INVENTED_ROWS)?);
     Ok(())
 }
 
 #[test]
 fn program_without_processors_is_run(rt: HostRuntime) -> Result<(), Fail> {
     let ended = run_freely(&rt, rt.alloc(), &[], 0, 1)?;
-    assert!(rt; is_record_of(&ended.answer, true, &[]));
+    let is_record = is_record_of(&ended.answer, true, &[]);
+    expect_equal(&rt, "record", is_record, true);
     expect_account(&rt, &ended.account, &closed_account(0, 0, 0, 0));
-    assert!(rt; ended.numbers == [0, 0, 0, 0, 0, 0, 1]);
+    expect_equal(&rt, "calls", ended.numbers, [0, 0, 0, 0, 0, 0, 1]);
     Ok(())
 }
 
@@ -308,7 +318,7 @@ fn is_whole_answer(answer: &Result<Recorded, RunFault>, program: &Program) -> bo
 fn sixteen_processors_are_run(rt: HostRuntime) -> Result<(), Fail> {
     for seed in 0..20u64 {
         let (ended, program) = run_large(&rt, rt.alloc(), seed)?;
-        assert!(rt; is_whole_answer(&ended.answer, &program), "seed {seed}");
+        expect_equal(&rt, seed, is_whole_answer(&ended.answer, &program), true);
         expect_account(&rt, &ended.account, &closed_account(320, 320, 160, 160));
     }
     Ok(())
@@ -345,19 +355,27 @@ fn is_refused<H: Threads + Wait + Sync>(
     Ok(is_no_memory && ended.account.closed && drops == 1)
 }
 
+/// How many calls a run of `EACH_KIND` makes whose record is lawful, or 0.
+fn calls_unrefused<H: Threads + Wait + Sync>(rt: &H, alloc: Global) -> Result<u64, ValueFault> {
+    let ended = run_freely(rt, alloc, &EACH_KIND, 0, 5)?;
+    if is_lawful_record(&ended.answer) {
+        Ok(calls_of(ended.numbers))
+    } else {
+        Ok(0)
+    }
+}
+
 #[test]
 fn refused_calls_end_the_run(rt: HostRuntime) -> Result<(), Fail> {
-    let ended = run_freely(&rt, rt.alloc(), &EACH_KIND, 0, 5)?;
-    assert!(rt; is_lawful_record(&ended.answer));
-    let calls = calls_of(ended.numbers);
-    assert!(rt; calls > 5);
+    let calls = calls_unrefused(&rt, rt.alloc())?;
+    expect_equal(&rt, calls, calls > 5, true);
     for refused in 1..=calls {
-        assert!(rt;
-            is_refused(&rt, rt.alloc(), &EACH_KIND, refused)?,
-            "call {refused}"
-        );
+        let is_refused = is_refused(&rt, rt.alloc(), &EACH_KIND, refused)?;
+        expect_equal(&rt, refused, is_refused, true);
     }
-    assert!(rt; !is_refused(&rt, rt.alloc(), &EACH_KIND, calls.wrapping_add(1))?);
+    let past = calls.wrapping_add(1);
+    let is_refused = is_refused(&rt, rt.alloc(), &EACH_KIND, past)?;
+    expect_equal(&rt, past, is_refused, false);
     Ok(())
 }
 
@@ -365,10 +383,8 @@ fn refused_calls_end_the_run(rt: HostRuntime) -> Result<(), Fail> {
 #[test]
 fn refused_calls_end_the_run_of_two_issuers(rt: HostRuntime) -> Result<(), Fail> {
     for refused in 1..=4u64 {
-        assert!(rt;
-            is_refused(&rt, rt.alloc(), &STORES_THEN_LOADS, refused)?,
-            "call {refused}"
-        );
+        let is_refused = is_refused(&rt, rt.alloc(), &STORES_THEN_LOADS, refused)?;
+        expect_equal(&rt, refused, is_refused, true);
     }
     Ok(())
 }
@@ -383,7 +399,7 @@ fn run_again<H: Threads + Wait + Sync + Abort>(
         return Ok(ended);
     }
     let [_, _, _, _, _, _, drops] = ended.numbers;
-    assert!(rt; ended.account.closed && drops == 1);
+    expect_equal(rt, "drops", (ended.account.closed, drops), (true, 1));
     run_freely(rt, alloc, &STORES_THEN_LOADS, 0, 3)
 }
 

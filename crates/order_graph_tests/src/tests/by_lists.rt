@@ -1,8 +1,8 @@
 //! Small graphs beside a program over lists of edges.
 
 use super::{
-    drawn_edges, expect_cycle, expect_path, graph_of, graph_of_rows, has, nodes_of, reached,
-    reaches,
+    drawn_edges, expect, expect_cycle, expect_path, graph_of, graph_of_rows, has, nodes_of,
+    reached, reaches,
 };
 use order_graph::Graph;
 use std::alloc::{AllocError, Global};
@@ -92,11 +92,8 @@ fn compare_from(
             has(graph, u, v),
             reaches(graph, u, v),
         );
-        assert_eq!(rt;
-            found,
-            (Some(is_path), is_edge, is_path),
-            "{u} {v} in {edges:?}"
-        );
+        let wanted = (Some(is_path), is_edge, is_path);
+        expect(rt, (u, v, edges), found, wanted);
         expect_path(rt, graph, (u, v), &path)?;
     }
     Ok(())
@@ -125,7 +122,7 @@ fn small_graphs_as_by_lists(rt: HostRuntime) -> Result<(), Fail> {
         let edges = drawn_edges(alloc, &mut word, nodes, number % 11)?;
         let added = graph_of(alloc, nodes, &edges)?;
         let made = graph_of_rows(alloc, nodes, &edges)?;
-        assert_eq!(rt; [nodes_of(&added), nodes_of(&made)], [nodes; 2]);
+        expect(&rt, number, [nodes_of(&added), nodes_of(&made)], [nodes; 2]);
         compare(&rt, alloc, &added, &edges)?;
         compare(&rt, alloc, &made, &edges)?;
     }

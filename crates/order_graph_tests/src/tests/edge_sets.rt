@@ -1,7 +1,7 @@
 //! Sets of edges, from which edges are removed, beside a program over lists of edges.
 
 use super::by_lists::listed_path;
-use super::{drawn_edges, graph_of, is_list};
+use super::{drawn_edges, expect, graph_of, numbers_of};
 use order_graph::{EdgeSet, Graph};
 use std::alloc::{AllocError, Global};
 use std::process::Abort;
@@ -71,12 +71,9 @@ fn compare_set_from(
             Some(!path.is_empty()),
             !path.is_empty(),
         );
-        assert_eq!(rt; found, wanted, "{u} {v} in {edges:?}");
+        expect(rt, (u, v, edges), found, wanted);
         let found = set_least_path(set, u, v)?;
-        assert!(rt;
-            is_list(&found, &path),
-            "{u} {v} in {edges:?}: {found:?}, not {path:?}"
-        );
+        expect(rt, (u, v, edges), numbers_of(&found), path.as_slice());
     }
     Ok(())
 }

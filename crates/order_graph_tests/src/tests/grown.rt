@@ -1,5 +1,5 @@
 //! Which numbers have come to reach more since a graph was settled.
-use super::{drawn_edges, drawn_number, graph_of, graph_of_rows, join, reaches};
+use super::{drawn_edges, drawn_number, expect, graph_of, graph_of_rows, join, reaches};
 use order_graph::Graph;
 use std::alloc::{AllocError, Global};
 use std::process::Abort;
@@ -13,9 +13,9 @@ fn grew(graph: &Graph, u: usize) -> bool {
 
 fn expect_grown(rt: &impl Abort, graph: &Graph, expected: &[usize]) -> Result<(), AllocError> {
     let grown = graph.grown()?;
-    assert_eq!(rt; grown.as_slice(), expected);
+    expect(rt, "grown", grown.as_slice(), expected);
     for u in 0..graph.nodes() {
-        assert_eq!(rt; grew(graph, u), expected.contains(&u), "{u}");
+        expect(rt, u, grew(graph, u), expected.contains(&u));
     }
     Ok(())
 }
@@ -76,11 +76,8 @@ fn compare_growing(
         );
     }
     for (u, count) in before.iter().enumerate() {
-        assert_eq!(rt;
-            grew(&graph, u),
-            count_reached(&graph, nodes, u) > *count,
-            "{u}"
-        );
+        let has_more = count_reached(&graph, nodes, u) > *count;
+        expect(rt, u, grew(&graph, u), has_more);
     }
     Ok(())
 }

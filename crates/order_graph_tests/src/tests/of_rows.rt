@@ -1,8 +1,8 @@
 //! Graphs that are made of rows.
 
 use super::{
-    drawn_edges, expect_path, expect_words, graph_of, graph_of_rows, has, least_cycle, reaches,
-    row_of,
+    drawn_edges, expect, expect_path, expect_words, graph_of, graph_of_rows, has, least_cycle,
+    reaches, row_of,
 };
 use order_graph::{EdgeRows, Graph};
 use std::alloc::{AllocError, Global};
@@ -14,7 +14,7 @@ fn expect_same_from(rt: &impl Abort, made: &Graph, added: &Graph, nodes: usize, 
     for v in 0..nodes {
         let found = (has(made, u, v), reaches(made, u, v));
         let wanted = (has(added, u, v), reaches(added, u, v));
-        assert_eq!(rt; found, wanted, "{u} {v} of {nodes}");
+        expect(rt, (u, v, nodes), found, wanted);
     }
 }
 
@@ -28,7 +28,8 @@ fn expect_same(
     for u in 0..nodes {
         expect_same_from(rt, made, added, nodes, u);
     }
-    assert_eq!(rt; least_cycle(made)?, least_cycle(added)?, "{nodes}");
+    let (found, wanted) = (least_cycle(made)?, least_cycle(added)?);
+    expect(rt, nodes, found.as_deref(), wanted.as_deref());
     Ok(())
 }
 
@@ -71,7 +72,7 @@ fn rows_of_any_width(rt: HostRuntime) -> Result<(), Fail> {
     expect_words(&rt, &graph, 0, &[2, 64, 4]);
     let (nodes, graph) = graph_of_a_wide_row(alloc)?;
     let found = [has(&graph, 0, 1), has(&graph, 1, 0), has(&graph, 0, 0)];
-    assert_eq!(rt; (nodes, found), (2, [true, false, false]));
-    assert!(rt; are_rows_refused(alloc, usize::MAX));
+    expect(&rt, "a wide row", (nodes, found), (2, [true, false, false]));
+    expect(&rt, "refused", are_rows_refused(alloc, usize::MAX), true);
     Ok(())
 }

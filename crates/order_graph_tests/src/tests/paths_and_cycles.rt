@@ -1,17 +1,17 @@
 //! Least paths and least cycles of graphs by hand.
 
 use super::{
-    expect_cycle, expect_path, expect_words, graph_of, has, join, join_all, least_cycle,
+    expect, expect_cycle, expect_path, expect_words, graph_of, has, join, join_all, least_cycle,
     least_path, nodes_of, reaches,
 };
 use order_graph::Graph;
 use std::alloc::{AllocError, Global};
+use std::process::Abort;
 use std::test::Fail;
 
 #[test]
 fn diamond_graph(rt: HostRuntime) -> Result<(), Fail> {
-    let edges = [(0, 1), (0, 2), (1, 3), (2, 3), (3, 0)];
-    let graph = graph_of(rt.alloc(), 4, &edges)?;
+    let graph = graph_of(rt.alloc(), 4, &[(0, 1), (0, 2), (1, 3), (2, 3), (3, 0)])?;
     expect_path(&rt, &graph, (0, 3), &[0, 1, 3])?;
     expect_cycle(&rt, &graph, &[0, 1, 3])?;
     Ok(())
@@ -20,8 +20,8 @@ fn diamond_graph(rt: HostRuntime) -> Result<(), Fail> {
 #[test]
 fn loop_edge(rt: HostRuntime) -> Result<(), Fail> {
     let graph = graph_of(rt.alloc(), 3, &[(0, 1), (1, 1), (1, 2)])?;
-    let found = [reaches(&graph, 1, 1), reaches(&graph, 0, 0)];
-    assert_eq!(rt; found, [true, false]);
+    expect(&rt, "1 to 1", reaches(&graph, 1, 1), true);
+    expect(&rt, "0 to 0", reaches(&graph, 0, 0), false);
     expect_path(&rt, &graph, (1, 1), &[1, 1])?;
     expect_path(&rt, &graph, (0, 2), &[0, 1, 2])?;
     expect_cycle(&rt, &graph, &[1])?;
@@ -46,16 +46,24 @@ fn path_to_itself(rt: HostRuntime) -> Result<(), Fail> {
     Ok(())
 }
 
+/// Sees that a graph of so many numbers has no edge, no path and no cycle.
+fn expect_empty(rt: &impl Abort, alloc: Global, nodes: usize) -> Result<(), AllocError> {
+    let graph = graph_of(alloc, nodes, &[])?;
+    let found = (nodes_of(&graph), has(&graph, 0, 0), reaches(&graph, 0, 0));
+    expect(rt, nodes, found, (nodes, false, false));
+    expect_path(rt, &graph, (0, 0), &[])?;
+    expect_cycle(rt, &graph, &[])
+}
+
+const SIZES: [usize; 5] = [0, 1, 64, 65, 8001];
+
 #[test]
 fn empty_graphs(rt: HostRuntime) -> Result<(), Fail> {
-    for nodes in [0, 1, 64, 65, 8001] {
-        let graph = graph_of(rt.alloc(), nodes, &[])?;
-        let found = (nodes_of(&graph), has(&graph, 0, 0), reaches(&graph, 0, 0));
-        assert_eq!(rt; found, (nodes, false, false));
-        expect_path(&rt, &graph, (0, 0), &[])?;
-        expect_cycle(&rt, &graph, &[])?;
+    for nodes in SIZES {
+        expect_empty(&rt, rt.alloc(), nodes)?;
     }
-    assert!(rt; graph_of(rt.alloc(), usize::MAX, &[]).is_err());
+    let is_refused = graph_of(rt.alloc(), usize::MAX, &[]).is_err();
+    expect(&rt, "refused", is_refused, true);
     Ok(())
 }
 
@@ -73,35 +81,43 @@ fn is_round(graph: &Graph, nodes: usize) -> bool {
     (0..nodes).all(|u| reaches(graph, u, 0) && reaches(graph, 0, u))
 }
 
+/// Closes a ring of so many numbers, and compares paths and cycles before and after.
+fn expect_ring(rt: &impl Abort, alloc: Global, nodes: usize) -> Result<(), AllocError> {
+    let mut graph = open_ring(alloc, nodes)?;
+    expect_cycle(rt, &graph, &[])?;
+    let last = nodes.saturating_sub(1);
+    expect(rt, nodes, nodes > 1 && reaches(&graph, last, 0), false);
+    join(&mut graph, last, 0);
+    let ring: Vec<usize> = (0..nodes).collect(alloc)?;
+    expect(rt, nodes, is_round(&graph, nodes), true);
+    expect_cycle(rt, &graph, &ring)
+}
+
+const RING_SIZES: [usize; 6] = [1, 2, 63, 64, 65, 129];
+
 /// A ring of all numbers of a graph of each size: each reaches each, and the only cycle is the ring.
 #[test]
 fn rings(rt: HostRuntime) -> Result<(), Fail> {
-    for nodes in [1, 2, 63, 64, 65, 129] {
-        let mut graph = open_ring(rt.alloc(), nodes)?;
-        expect_cycle(&rt, &graph, &[])?;
-        let last = nodes.saturating_sub(1);
-        assert!(rt; nodes == 1 || !reaches(&graph, last, 0), "{nodes}");
-        join(&mut graph, last, 0);
-        let ring: Vec<usize> = (0..nodes).collect(rt.alloc())?;
-        expect_cycle(&rt, &graph, &ring)?;
-        assert!(rt; is_round(&graph, nodes), "{nodes}");
+    for nodes in RING_SIZES {
+        expect_ring(&rt, rt.alloc(), nodes)?;
     }
     Ok(())
 }
 
+const FAR_EDGES: [(usize, usize); 6] = [
+    (63, 64),
+    (8000, 63),
+    (64, 4096),
+    (4096, 127),
+    (64, 127),
+    (127, 8000),
+];
+
 #[test]
 fn many_numbers(rt: HostRuntime) -> Result<(), Fail> {
-    let edges = [
-        (63, 64),
-        (8000, 63),
-        (64, 4096),
-        (4096, 127),
-        (64, 127),
-        (127, 8000),
-    ];
-    let graph = graph_of(rt.alloc(), 8001, &edges)?;
-    let found = [reaches(&graph, 8000, 127), reaches(&graph, 0, 127)];
-    assert_eq!(rt; found, [true, false]);
+    let graph = graph_of(rt.alloc(), 8001, &FAR_EDGES)?;
+    expect(&rt, "8000 to 127", reaches(&graph, 8000, 127), true);
+    expect(&rt, "0 to 127", reaches(&graph, 0, 127), false);
     expect_path(&rt, &graph, (63, 8000), &[63, 64, 127, 8000])?;
     expect_cycle(&rt, &graph, &[63, 64, 127, 8000])?;
     Ok(())
@@ -152,18 +168,29 @@ fn goes_along(graph: &Graph, cycle: &[usize]) -> bool {
         .all(|(u, v)| has(graph, *u, *v))
 }
 
+/// The least cycle of the ring whose numbers are `step` from place to place, which goes along its edges, and the least path
+/// from 0 to itself.
+fn ring_lists(alloc: Global, step: usize) -> Result<(Vec<usize>, Vec<usize>), Fail> {
+    let graph = ring_of_threes(alloc, step)?;
+    let cycle = least_cycle(&graph)?.ok_or("no cycle")?;
+    let path = least_path(&graph, 0, 0)?.ok_or("no path")?;
+    if !goes_along(&graph, &cycle) {
+        return Err("no edge")?;
+    }
+    Ok((cycle, path))
+}
+
+const STEPS: [usize; 3] = [1, 37, 129];
+
 /// A ring with edges to the next three numbers: a cycle goes round it, so it has a third of the numbers at least, and
 /// one with so few begins at each number.
 #[test]
 fn ring_with_edges_to_three_places(rt: HostRuntime) -> Result<(), Fail> {
-    for step in [1, 37, 129] {
-        let graph = ring_of_threes(rt.alloc(), step)?;
-        let cycle = least_cycle(&graph)?.ok_or("no cycle")?;
-        let path = least_path(&graph, 0, 0)?.ok_or("no path")?;
+    for step in STEPS {
+        let (cycle, path) = ring_lists(rt.alloc(), step)?;
         let found = (cycle.len(), cycle.first().copied(), path.len());
-        assert_eq!(rt; found, (44, Some(0), 45), "{step}");
-        assert!(rt; goes_along(&graph, &cycle), "{step}");
-        assert!(rt; path.starts_with(&cycle), "{step}");
+        expect(&rt, step, found, (44, Some(0), 45));
+        expect(&rt, step, path.starts_with(&cycle), true);
     }
     Ok(())
 }

@@ -1,11 +1,14 @@
 //! The plain program on traces under partial store order, and on traces with first values.
+use super::expect;
 use plain_rounds::{has_cycle, has_unwritten_load, rank_set, rounds_number};
 use std::alloc::Global;
 use std::test::Fail;
-use traces_for_tests::{ld, st, trace_from, trace_of};
+use traces_for_tests::{trace_from, trace_of};
+use tso_ops::Outcome::{Ld, Sb, St};
 use tso_ops::{Order, Outcome, Trace};
 
-const STBAR: Outcome = Outcome::Sb;
+/// What processors did, the rounds number, and whether the rank set of that number has a cycle.
+type Case = (&'static [&'static [Outcome]], (usize, bool));
 
 /// The rounds number of a trace, and whether the rank set of that number has a cycle.
 fn rounds_and_cycle(alloc: Global, trace: &Trace) -> Result<(usize, bool), Fail> {
@@ -14,38 +17,68 @@ fn rounds_and_cycle(alloc: Global, trace: &Trace) -> Result<(usize, bool), Fail>
     Ok((rounds, has_cycle(alloc, &edges, trace.node_count())?))
 }
 
+const UNDER_PSO: [Case; 3] = [
+    (
+        &[
+            &[St { a: 1, v: 1 }, St { a: 2, v: 2 }],
+            &[Ld { a: 2, r: 2 }, Ld { a: 1, r: 0 }],
+        ],
+        (1, false),
+    ),
+    (
+        &[
+            &[St { a: 1, v: 1 }, Sb, St { a: 2, v: 2 }],
+            &[Ld { a: 2, r: 2 }, Ld { a: 1, r: 0 }],
+        ],
+        (1, true),
+    ),
+    (
+        &[
+            &[St { a: 1, v: 1 }, St { a: 1, v: 2 }],
+            &[Ld { a: 1, r: 2 }, Ld { a: 1, r: 1 }],
+        ],
+        (1, true),
+    ),
+];
+
 #[test]
 fn message_passing_under_partial_store_order(rt: HostRuntime) -> Result<(), Fail> {
-    let alloc = rt.alloc();
-    let reader = [ld(2, 2), ld(1, 0)];
-    let passing = trace_of(alloc, Order::Pso, &[&[st(1, 1), st(2, 2)], &reader])?;
-    assert_eq!(rt; rounds_and_cycle(alloc, &passing)?, (1, false));
-    let with_stbar = trace_of(alloc, Order::Pso, &[&[st(1, 1), STBAR, st(2, 2)], &reader])?;
-    assert_eq!(rt; rounds_and_cycle(alloc, &with_stbar)?, (1, true));
-    let backwards = trace_of(
-        alloc,
-        Order::Pso,
-        &[&[st(1, 1), st(1, 2)], &[ld(1, 2), ld(1, 1)]],
-    )?;
-    assert_eq!(rt; rounds_and_cycle(alloc, &backwards)?, (1, true));
+    for (rows, answer) in UNDER_PSO {
+        let trace = trace_of(rt.alloc(), Order::Pso, rows)?;
+        expect(&rt, rows, rounds_and_cycle(rt.alloc(), &trace)?, answer);
+    }
     Ok(())
 }
 
+/// Cases, each after its first values.
+const WITH_FIRST: [(&[(u16, u64)], Case); 3] = [
+    (
+        &[(1, 7)],
+        (&[&[St { a: 1, v: 1 }, Ld { a: 1, r: 7 }]], (0, true)),
+    ),
+    (
+        &[(1, 7)],
+        (
+            &[
+                &[St { a: 1, v: 1 }, St { a: 2, v: 2 }],
+                &[Ld { a: 2, r: 2 }, Ld { a: 1, r: 7 }],
+            ],
+            (1, true),
+        ),
+    ),
+    (
+        &[(1, 5), (2, 5)],
+        (&[&[Ld { a: 1, r: 5 }, Ld { a: 2, r: 5 }]], (0, false)),
+    ),
+];
+
 #[test]
 fn first_values_of_memory(rt: HostRuntime) -> Result<(), Fail> {
-    let alloc = rt.alloc();
-    let first = [(1, 7)];
-    let missed = trace_from(alloc, &first, &[&[st(1, 1), ld(1, 7)]])?;
-    assert_eq!(rt; rounds_and_cycle(alloc, &missed)?, (0, true));
-
-    let zero = trace_from(alloc, &first, &[&[ld(1, 0)]])?;
-    assert!(rt; has_unwritten_load(&zero));
-
-    let rows: [&[Outcome]; 2] = [&[st(1, 1), st(2, 2)], &[ld(2, 2), ld(1, 7)]];
-    let passing = trace_from(alloc, &first, &rows)?;
-    assert_eq!(rt; rounds_and_cycle(alloc, &passing)?, (1, true));
-
-    let equal = trace_from(alloc, &[(1, 5), (2, 5)], &[&[ld(1, 5), ld(2, 5)]])?;
-    assert_eq!(rt; rounds_and_cycle(alloc, &equal)?, (0, false));
+    for (first, (rows, answer)) in WITH_FIRST {
+        let trace = trace_from(rt.alloc(), first, rows)?;
+        expect(&rt, rows, rounds_and_cycle(rt.alloc(), &trace)?, answer);
+    }
+    let zero = trace_from(rt.alloc(), &[(1, 7)], &[&[Ld { a: 1, r: 0 }]])?;
+    expect(&rt, "unwritten", has_unwritten_load(&zero), true);
     Ok(())
 }

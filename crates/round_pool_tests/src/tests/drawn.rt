@@ -1,6 +1,6 @@
 //! Drawn traces: rounds number, ranks and graphs are those of the plain program.
 
-use super::{Plain, made};
+use super::{Plain, expect, made};
 use plain_rounds::has_unwritten_load;
 use round_pool::OpenPoolGate;
 use std::alloc::AllocGlobal;
@@ -36,8 +36,8 @@ fn compare_drawn<H: Threads + Wait + AllocGlobal + Abort>(
         }
         compared = compared.wrapping_add(1);
     }
-    assert_eq!(rt; compared, TRACES);
-    assert!(rt; most >= 2, "{most} rounds at most");
+    expect(rt, "traces", compared, TRACES);
+    expect(rt, ("rounds at most", most), most >= 2, true);
     Ok(())
 }
 

@@ -240,7 +240,7 @@ fn compare_added(rt: &impl Abort, one: &Ranked, other: &Ranked) {
     expect(rt, "rounds", rounds_of(other), rounds_of(one));
     for k in 0..rounds_of(one) as usize {
         let round = k.saturating_add(1);
-        assert_eq!(rt; added(other, round), added(one, round), "round {round}");
+        expect(rt, round, added(other, round), added(one, round));
     }
 }
 
@@ -333,11 +333,11 @@ fn compare_bounces<H: Threads + Wait + AllocGlobal + Abort>(
     let alloc = rt.alloc();
     let least = size.swaps as u64 * size.stores as u64;
     let rounds = compared(rt, &Trace::new(alloc, bounce(alloc, size)?)?)?;
-    assert!(rt; rounds >= least, "{rounds} rounds");
+    expect(rt, rounds, rounds >= least, true);
     let mut lists = bounce(alloc, size)?;
     lists.push(end_seen(alloc, size)?)?;
     let rounds = compared(rt, &Trace::new(alloc, lists)?)?;
-    assert!(rt; rounds >= least, "{rounds} rounds");
+    expect(rt, rounds, rounds >= least, true);
     Ok(())
 }
 

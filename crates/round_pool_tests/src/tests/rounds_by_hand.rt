@@ -36,7 +36,7 @@ fn expect_rounds<H: Threads + Wait + AllocGlobal + Abort>(
 /// Compares the ranks of edges.
 fn expect_ranks(rt: &impl Abort, ranked: &Ranked, ranks: &[(usize, usize, Option<u64>)]) {
     for (u, v, rank) in ranks {
-        assert_eq!(rt; rank_of(ranked, *u, *v), *rank, "{u} to {v}");
+        expect(rt, (*u, *v), rank_of(ranked, *u, *v), *rank);
     }
 }
 
@@ -62,7 +62,7 @@ fn two_swaps_on_each_number_of_workers(rt: HostRuntime) -> Result<(), Fail> {
 }
 
 fn expect_added(rt: &impl Abort, ranked: &Ranked, k: usize, edges: &[Edge]) {
-    assert_eq!(rt; added(ranked, k), edges, "round {k}");
+    expect(rt, k, added(ranked, k), edges);
 }
 
 fn last_nodes(ranked: &Ranked) -> usize {

@@ -40,7 +40,7 @@ fn faults_of_pair(alloc: Global, ops: &[Op; 2]) -> Result<[Option<ValueFault>; 2
 fn expect_faults_of_pairs(rt: &impl Abort, alloc: Global) -> Result<(), AllocError> {
     for (ops, fault) in &FAULTS_OF_PAIRS {
         let found = faults_of_pair(alloc, ops)?;
-        assert_eq!(rt; found, [*fault; 2], "{ops:?}");
+        expect(rt, ops, found, [*fault; 2]);
     }
     Ok(())
 }
@@ -108,19 +108,21 @@ fn text_of_refusal(alloc: Global, why: ValueFault) -> Result<String, Fail> {
     Ok(format!(in alloc; "{refused}")?)
 }
 
+const TEXTS: [(ValueFault, &str); 8] = [
+    (ValueFault::TooManyProcessors, "TooManyProcessors"),
+    (ValueFault::TooManyEvents, "TooManyEvents"),
+    (ValueFault::AddressRange, "AddressRange"),
+    (ValueFault::ZeroValue, "ZeroValue"),
+    (ValueFault::RepeatedValue, "RepeatedValue"),
+    (ValueFault::OutOfMemory, "OutOfMemory"),
+    (ValueFault::StbarInTso, "StbarInTso"),
+    (ValueFault::InitOrder, "InitOrder"),
+];
+
 #[test]
 fn texts_of_faults(rt: HostRuntime) -> Result<(), Fail> {
     let alloc = rt.alloc();
-    for (why, text) in [
-        (ValueFault::TooManyProcessors, "TooManyProcessors"),
-        (ValueFault::TooManyEvents, "TooManyEvents"),
-        (ValueFault::AddressRange, "AddressRange"),
-        (ValueFault::ZeroValue, "ZeroValue"),
-        (ValueFault::RepeatedValue, "RepeatedValue"),
-        (ValueFault::OutOfMemory, "OutOfMemory"),
-        (ValueFault::StbarInTso, "StbarInTso"),
-        (ValueFault::InitOrder, "InitOrder"),
-    ] {
+    for (why, text) in TEXTS {
         expect_text(&rt, &text_of_fault(alloc, why)?, text);
         expect_text(&rt, &text_of_refusal(alloc, why)?, text);
     }

@@ -1,9 +1,9 @@
 //! The lists of operations that programs and traces are made of.
 
-use super::{copy_of, program_of, trace_of};
+use super::{copy_of, expect, program_of, trace_of};
 use std::process::Abort;
 use std::test::Fail;
-use tso_ops::{Op, Outcome, Program, Trace};
+use tso_ops::{Op, Order, Outcome, Program, Setting, Trace};
 
 const TWO_LISTS: [&[Op]; 2] = [
     &[
@@ -29,17 +29,17 @@ const READ_LAST: [&[Outcome]; 2] = [
 
 /// Compares the operations of each processor, and how many there are.
 fn expect_program(rt: &impl Abort, program: &Program, lists: &[&[Op]]) {
-    assert_eq!(rt; program.processors(), lists.len());
+    assert!(rt; program.processors() == lists.len());
     for (p, ops) in lists.iter().enumerate() {
-        assert_eq!(rt; program.ops(p), *ops, "processor {p}");
+        expect(rt, p, program.ops(p), *ops);
     }
 }
 
 /// Compares the operations of each processor, and how many there are.
 fn expect_trace(rt: &impl Abort, trace: &Trace, lists: &[&[Outcome]]) {
-    assert_eq!(rt; trace.processors(), lists.len());
+    assert!(rt; trace.processors() == lists.len());
     for (p, ops) in lists.iter().enumerate() {
-        assert_eq!(rt; trace.ops(p), *ops, "processor {p}");
+        expect(rt, p, trace.ops(p), *ops);
     }
 }
 
@@ -56,10 +56,11 @@ fn operations_come_back(rt: HostRuntime) -> Result<(), Fail> {
 #[test]
 fn known_lists_need_no_check(rt: HostRuntime) -> Result<(), Fail> {
     let alloc = rt.alloc();
-    let trace = Trace::of_lists(alloc, Vec::new(alloc))?;
+    let tso = Setting::of_order(alloc, Order::Tso);
+    let trace = Trace::of_lists(alloc, tso.copy(alloc)?, Vec::new(alloc))?;
     assert_eq!(rt; trace.processors(), 0);
     assert_eq!(rt; trace.events(), 0);
-    let program = Program::of_lists(Vec::new(alloc));
+    let program = Program::of_lists(tso, Vec::new(alloc));
     assert_eq!(rt; program.processors(), 0);
     assert_eq!(rt;
         Trace::of_program(alloc, &program, Vec::new(alloc))?.processors(),

@@ -69,23 +69,28 @@ const SHAPES: [(u64, u64, u64, bool); 15] = [
 fn shapes_keep_their_limits(rt: HostRuntime) {
     for (processors, operations, addresses, is_within) in SHAPES {
         let shape = Shape::new(processors, operations, addresses);
-        assert!(rt;
-            shape.is_some() == is_within,
-            "{processors} {operations} {addresses}"
+        expect(
+            &rt,
+            (processors, operations, addresses),
+            shape.is_some(),
+            is_within,
         );
     }
 }
+
+/// Processors, operations and addresses, and whether they are 2, 3 and 4.
+const COMPARED: [(u64, u64, u64, bool); 4] = [
+    (2, 3, 4, true),
+    (1, 3, 4, false),
+    (2, 2, 4, false),
+    (2, 3, 5, false),
+];
 
 #[test]
 fn shapes_are_compared(rt: HostRuntime) -> Result<(), Fail> {
     let shape = Shape::new(2, 3, 4).ok_or("a shape")?;
     assert!(rt; (shape.processors(), shape.operations(), shape.addresses()) == (2, 3, 4));
-    for (processors, operations, addresses, is_same) in [
-        (2, 3, 4, true),
-        (1, 3, 4, false),
-        (2, 2, 4, false),
-        (2, 3, 5, false),
-    ] {
+    for (processors, operations, addresses, is_same) in COMPARED {
         let other = Shape::new(processors, operations, addresses).ok_or("a shape")?;
         assert!(rt; shape.is_same(&other) == is_same);
         assert!(rt; (shape == other) == is_same);

@@ -1,5 +1,6 @@
 //! What events are, and how two of them stand to each other.
 
+use super::expect;
 use std::test::Fail;
 use traces_for_tests::trace_of;
 use tso_ops::Outcome::{Ld, Mb, Sb, St, Sw};
@@ -44,9 +45,9 @@ fn kind_of(trace: &Trace, n: usize) -> (bool, bool, bool, bool) {
 #[test]
 fn kinds_of_events(rt: HostRuntime) -> Result<(), Fail> {
     let trace = trace_of(rt.alloc(), Order::Tso, &DONE)?;
-    assert_eq!(rt; trace.node_count(), 7);
+    expect(&rt, "numbers", trace.node_count(), 7);
     for (n, kind) in KINDS.iter().enumerate() {
-        assert_eq!(rt; kind_of(&trace, n), *kind, "{n}");
+        expect(&rt, n, kind_of(&trace, n), *kind);
     }
     Ok(())
 }
@@ -66,9 +67,9 @@ const SOURCES: [(Option<usize>, Option<usize>); 7] = [
 fn sources_and_swaps(rt: HostRuntime) -> Result<(), Fail> {
     let trace = trace_of(rt.alloc(), Order::Tso, &DONE)?;
     for (n, (source, store)) in SOURCES.iter().enumerate() {
-        assert_eq!(rt; trace.source_number(n), *source, "{n}");
-        assert_eq!(rt; trace.swap_store(n), *store, "{n}");
-        assert_eq!(rt; trace.has_source(n, 1), *source == Some(1), "{n}");
+        expect(&rt, n, trace.source_number(n), *source);
+        expect(&rt, n, trace.swap_store(n), *store);
+        expect(&rt, n, trace.has_source(n, 1), *source == Some(1));
     }
     Ok(())
 }
@@ -95,8 +96,8 @@ fn pair_of(trace: &Trace, u: usize, v: usize) -> (bool, bool, bool) {
 fn pairs_of_events(rt: HostRuntime) -> Result<(), Fail> {
     let trace = trace_of(rt.alloc(), Order::Tso, &DONE)?;
     for ((u, v), pair) in PAIRS {
-        assert_eq!(rt; pair_of(&trace, u, v), pair, "{u} {v}");
-        assert!(rt; trace.keeps_stores(u, v), "{u} {v}");
+        expect(&rt, (u, v), pair_of(&trace, u, v), pair);
+        expect(&rt, (u, v), trace.keeps_stores(u, v), true);
     }
     Ok(())
 }
@@ -105,8 +106,8 @@ fn pairs_of_events(rt: HostRuntime) -> Result<(), Fail> {
 fn stores_under_partial_store_order(rt: HostRuntime) -> Result<(), Fail> {
     let trace = trace_of(rt.alloc(), Order::Pso, &STORED)?;
     for (u, v, stbar, kept) in [(1, 2, true, false), (2, 3, false, true)] {
-        assert_eq!(rt; trace.has_stbar_between(u, v), stbar, "{u} {v}");
-        assert_eq!(rt; trace.keeps_stores(u, v), kept, "{u} {v}");
+        expect(&rt, (u, v), trace.has_stbar_between(u, v), stbar);
+        expect(&rt, (u, v), trace.keeps_stores(u, v), kept);
     }
     Ok(())
 }

@@ -118,9 +118,12 @@ fn settings_are_told(rt: HostRuntime) -> Result<(), Fail> {
     Ok(())
 }
 
+/// Addresses and their first values.
+const FIRST_VALUES: [(u16, u64); 6] = [(0, 0), (1, 7), (2, 0), (3, 7), (255, u64::MAX), (256, 0)];
+
 fn expect_first_values(rt: &impl Abort, program: &Program) {
-    for (a, value) in [(0, 0), (1, 7), (2, 0), (3, 7), (255, u64::MAX), (256, 0)] {
-        assert_eq!(rt; program.first(a), value, "the first value of {a}");
+    for (a, value) in FIRST_VALUES {
+        expect(rt, a, program.first(a), value);
     }
 }
 
@@ -175,13 +178,16 @@ fn barriers_before(trace: &Trace, n: usize) -> Option<(usize, usize)> {
     trace.event(n).map(|event| (event.bars, event.stbars))
 }
 
+/// Events, and the numbers of barriers and of STBARs before each.
+const BARRIERS: [(usize, (usize, usize)); 4] = [(1, (0, 0)), (2, (1, 2)), (3, (1, 2)), (4, (0, 1))];
+
 /// STBARs are no events, and each event has the number of those before it on its processor.
 #[test]
 fn stbars_of_a_trace(rt: HostRuntime) -> Result<(), Fail> {
     let trace = ordered_trace(rt.alloc(), Order::Pso, &BARRED)?;
     expect(&rt, "processors and events", counts_of(&trace), (2, 4));
-    for (n, barriers) in [(1, (0, 0)), (2, (1, 2)), (3, (1, 2)), (4, (0, 1))] {
-        expect(&rt, "barriers", barriers_before(&trace, n), Some(barriers));
+    for (n, barriers) in BARRIERS {
+        expect(&rt, n, barriers_before(&trace, n), Some(barriers));
     }
     expect_rows(&rt, &trace, &STBAR_ROWS);
     Ok(())
@@ -274,7 +280,7 @@ fn faults_of_first_values(rt: HostRuntime) -> Result<(), Fail> {
     for (first, fault) in &FAULTS_OF_ENTRIES {
         let found = faults_of_entries(alloc, first)?;
         let wanted = [*fault, fault.or(ZERO), Some(ValueFault::TooManyProcessors)];
-        assert_eq!(rt; found, wanted, "{first:?}");
+        expect(&rt, first, found, wanted);
     }
     Ok(())
 }
@@ -289,19 +295,22 @@ fn entries_are_tried_first(rt: HostRuntime) -> Result<(), Fail> {
     Ok(())
 }
 
+/// Operations of a program from the first values 7 and 5, and what is wrong.
+const STORED_AGAIN: [(Op, Option<ValueFault>); 4] = [
+    (Op::St { a: 1, v: 7 }, REPEATED),
+    (Op::St { a: 2, v: 7 }, REPEATED),
+    (Op::Sw { a: 9, v: 5 }, REPEATED),
+    (Op::St { a: 1, v: 6 }, None),
+];
+
 /// A first value of any address is one that a store repeats.
 #[test]
 fn first_values_stored_again(rt: HostRuntime) -> Result<(), Fail> {
     let alloc = rt.alloc();
-    for (op, fault) in [
-        (Op::St { a: 1, v: 7 }, REPEATED),
-        (Op::St { a: 2, v: 7 }, REPEATED),
-        (Op::Sw { a: 9, v: 5 }, REPEATED),
-        (Op::St { a: 1, v: 6 }, None),
-    ] {
+    for (op, fault) in STORED_AGAIN {
         let lists = lists_of(alloc, &[&[op]])?;
         let found = program_fault(alloc, &[(1, 7), (2, 5)], lists)?;
-        assert_eq!(rt; found, fault, "{op:?}");
+        expect(&rt, op, found, fault);
     }
     Ok(())
 }
@@ -341,8 +350,8 @@ fn expect_first_refusal<T: Copy + Debug + PartialEq>(
     first: &[(u16, u64)],
     lists: &[&[T]],
 ) {
-    assert_eq!(rt; refused.why, why);
-    assert_eq!(rt; refused.first.as_slice(), first);
+    expect(rt, "why", refused.why, why);
+    expect(rt, "first values", refused.first.as_slice(), first);
     expect_lists(rt, &refused.lists, lists);
 }
 

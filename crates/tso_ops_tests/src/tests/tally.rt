@@ -1,20 +1,23 @@
 //! A tally that goes on after a refusal.
 
-use super::STORE;
+use super::{STORE, expect};
 use std::test::Fail;
 use tso_ops::{Op, Tally, ValueFault};
+
+/// Operations, and what the tally answers to each in turn.
+const ADMITTED: [(Op, Result<(), ValueFault>); 5] = [
+    (STORE, Ok(())),
+    (STORE, Err(ValueFault::RepeatedValue)),
+    (Op::Sw { a: 256, v: 5 }, Err(ValueFault::AddressRange)),
+    (Op::Sw { a: 255, v: 5 }, Ok(())),
+    (Op::Mb, Ok(())),
+];
 
 #[test]
 fn a_tally_admits_after_a_refusal(rt: HostRuntime) -> Result<(), Fail> {
     let mut tally = Tally::new(rt.alloc());
-    for (op, answer) in [
-        (STORE, Ok(())),
-        (STORE, Err(ValueFault::RepeatedValue)),
-        (Op::Sw { a: 256, v: 5 }, Err(ValueFault::AddressRange)),
-        (Op::Sw { a: 255, v: 5 }, Ok(())),
-        (Op::Mb, Ok(())),
-    ] {
-        assert_eq!(rt; tally.admit(op), answer, "{op:?}");
+    for (op, answer) in ADMITTED {
+        expect(&rt, op, tally.admit(op), answer);
     }
     Ok(())
 }

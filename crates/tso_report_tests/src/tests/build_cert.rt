@@ -1,5 +1,6 @@
 //! Certificates of whole traces, with the expected text of each.
 
+use super::expect_equal;
 use plain_rounds::has_unwritten_load;
 use round_pool::{OpenPoolGate, rounds};
 use std::alloc::{AllocError, Global};
@@ -57,7 +58,7 @@ fn expect_certificate<H: Threads + Wait + Abort>(
     let trace = trace_of(alloc, text)?;
     let found = certificate_of(rt, alloc, &trace, workers)?;
     let printed = text_of(alloc, found)?;
-    assert_eq!(rt; printed.as_deref(), expected, "{text:?}");
+    expect_equal(rt, text, printed.as_deref(), expected);
     Ok(())
 }
 

@@ -1,6 +1,6 @@
 //! Drawn programs by drawn schedules on the store-buffer unit: no violation is found, as by the plain program of the model.
 
-use super::report_without_violation;
+use super::{Ended, expect, expect_equal, report_without_violation};
 use plain_rounds::{has_cycle, has_unwritten_load, new_edges, rank_set};
 use std::alloc::{AllocError, AllocGlobal, Global};
 use std::process::Abort;
@@ -71,21 +71,32 @@ fn has_no_violation(alloc: Global, trace: &Trace, rounds: usize) -> Result<bool,
     Ok(is_whole && !has_cycle && !has_unwritten_load(trace))
 }
 
+/// Judges a record.
+fn judged<H: Threads + Wait + Sync>(rt: &H, alloc: Global, recorded: &Recorded) -> Ended {
+    let mut written = Vec::new(alloc);
+    let said = judge_recorded(rt, alloc, recorded, &mut written, 1);
+    Ended { said, written }
+}
+
 /// Compares what is found of a record with what the plain program finds: the rounds number.
-fn compare<H: Threads + Wait + AllocGlobal + Abort>(
+fn compare<H: Threads + Wait + Sync + AllocGlobal + Abort>(
     rt: &H,
     recorded: &Recorded,
 ) -> Result<usize, Fail> {
     let alloc = rt.alloc();
     let trace = recorded.trace();
     let rounds = find_violation(rt, alloc, trace, 1)?.rounds as usize;
-    assert!(rt; has_no_violation(alloc, trace, rounds)?);
+    expect_equal(rt, "plain", has_no_violation(alloc, trace, rounds)?, true);
     let (processors, events) = (trace.processors(), trace.events());
     let report = report_without_violation(alloc, processors, events, rounds as u64)?;
-    let mut written = Vec::new(alloc);
-    let verdict = judge_recorded(rt, alloc, recorded, &mut written, 1)?;
-    assert_eq!(rt; verdict, Verdict::NoViolation);
-    assert_eq!(rt; written.as_slice(), report.as_bytes());
+    let ended = judged(rt, alloc, recorded);
+    expect(
+        rt,
+        &report,
+        &ended,
+        Ok(Verdict::NoViolation),
+        report.as_bytes(),
+    );
     Ok(rounds)
 }
 
@@ -94,9 +105,9 @@ fn drawn_replays_without_a_violation(rt: HostRuntime) -> Result<(), Fail> {
     let mut most = 0;
     for seed in 0..PROGRAMS {
         let recorded = drawn_record(rt.alloc(), seed)?;
-        assert!(rt; recorded.lawful());
+        expect_equal(&rt, seed, recorded.lawful(), true);
         most = most.max(compare(&rt, &recorded)?);
     }
-    assert!(rt; most >= 2, "{most} rounds at most");
+    expect_equal(&rt, most, most >= 2, true);
     Ok(())
 }

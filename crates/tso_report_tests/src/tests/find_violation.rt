@@ -1,6 +1,6 @@
-//! Reports of traces under PSO and with first values, which no text tells yet, with the expected bytes of each.
+//! Reports of traces under PSO and with first values, made by value, with the expected bytes of each.
 
-use super::{expect_bytes, expect_count, report_without_violation};
+use super::{expect_bytes, expect_count, expect_equal, report_without_violation};
 use std::alloc::{AllocError, Global};
 use std::process::Abort;
 use std::sync::Wait;
@@ -110,7 +110,7 @@ fn reported<H: Threads + Wait>(
 /// Compares a report with this verdict and this text.
 pub(super) fn expect_report<H: Abort>(rt: &H, report: &Report, verdict: Verdict, text: &str) {
     expect_bytes(rt, text, report.text.as_bytes(), text.as_bytes());
-    assert_eq!(rt; report.verdict, verdict, "{text:?}");
+    expect_equal(rt, text, report.verdict, verdict);
 }
 
 /// Whether the checker accepts the certificate, or the verdict is that of a trace without one.
@@ -132,7 +132,7 @@ fn expect_reported<H: Threads + Wait + Abort>(
     let (finding, report) = reported(rt, alloc, trace)?;
     expect_report(rt, &report, verdict, text);
     let accepted = is_accepted(trace, &finding.certificate, verdict);
-    assert!(rt; accepted, "{text}");
+    expect_equal(rt, text, accepted, true);
     Ok(())
 }
 
@@ -194,7 +194,12 @@ fn a_report_of_8000_drawn_events(rt: HostRuntime) -> Result<(), Fail> {
     let mut lists = drawn(alloc, Order::Tso, 8_000)?;
     lists.push([Ld { a: 0, r: 0 }].to_vec(alloc)?)?;
     let refused = made_from(alloc, Vec::new(alloc), lists).err();
-    assert_eq!(rt; refused, Some((ValueFault::TooManyEvents, 5)));
+    expect_equal(
+        &rt,
+        "refused",
+        refused,
+        Some((ValueFault::TooManyEvents, 5)),
+    );
     Ok(())
 }
 

@@ -1,11 +1,14 @@
 //! Records of replays and of runs, judged.
 
-ghost use Rattle.std.specs.Prelude.{◌≡◌, []};
+ghost use Rattle.std.specs.Prelude.{◌≡◌, ◌≤◌, []};
+ghost use Rattle.round_pool.specs.Workers.{worker_limit};
 
 use super::readers_and_writers::{Full, ShortWriter};
+use super::{Ended, expect, expect_bytes, expect_equal, expect_said};
 use issue_desk::{Issuers, OpenGate, run_over};
 use std::alloc::Global;
 use std::io::ErrorKind;
+use std::process::Abort;
 use std::sync::Wait;
 use std::test::Fail;
 use std::thread::Threads;
@@ -48,34 +51,71 @@ fn replayed<U: MemoryUnit>(
     Ok(replay_over(alloc, unit, &program, schedule, account)?)
 }
 
+/// Judges a record on so many workers.
+fn judged<H: Threads + Wait + Sync>(
+    rt: &H,
+    alloc: Global,
+    recorded: &Recorded,
+    workers: usize,
+) -> Ended
+    requires some { 1 ≤ workers }
+    requires most { workers ≤ worker_limit }
+{
+    let mut written = Vec::new(alloc);
+    let said = judge_recorded(rt, alloc, recorded, &mut written, workers);
+    Ended { said, written }
+}
+
+/// The record of a replay of the text of a program on a serial unit.
+fn serial_record(alloc: Global, account: &mut Account) -> Result<Recorded, Fail> {
+    let serial = SerialUnit::new(alloc)?;
+    replayed(alloc, serial, PROGRAM, &SCHEDULE, account)
+}
+
 #[test]
 fn record_without_a_violation(rt: HostRuntime) -> Result<(), Fail> {
     let alloc = rt.alloc();
     let mut account = Account::new();
-    let serial = SerialUnit::new(alloc)?;
-    let recorded = replayed(alloc, serial, PROGRAM, &SCHEDULE, &mut account)?;
-    assert_eq!(rt; account, ACCOUNT);
-    for workers in [1usize, 2, 7, 64] {
-        let mut written = Vec::new(alloc);
-        let verdict = judge_recorded(&rt, alloc, &recorded, &mut written, workers)?;
-        assert_eq!(rt; verdict, Verdict::NoViolation, "{workers} workers");
-        assert_eq!(rt; written.as_slice(), REPORT.as_bytes(), "{workers} workers");
-    }
+    let recorded = serial_record(alloc, &mut account)?;
+    expect_equal(&rt, "account", &account, &ACCOUNT);
+    let (said, report) = (Ok(Verdict::NoViolation), REPORT.as_bytes());
+    expect(&rt, "1", &judged(&rt, alloc, &recorded, 1), said, report);
+    expect(&rt, "2", &judged(&rt, alloc, &recorded, 2), said, report);
+    expect(&rt, "7", &judged(&rt, alloc, &recorded, 7), said, report);
+    expect(&rt, "64", &judged(&rt, alloc, &recorded, 64), said, report);
     Ok(())
+}
+
+/// A program whose load is answered what nobody wrote, and its report.
+const INVENTED: (&str, &str) = (
+    "tso program 1\nproc\nst 1 1\nld 1\nend\n",
+    "TSO REPORT 1\nprocessors 1 events 2 rounds 0\nVIOLATION\nunwritten 2\n",
+);
+
+/// The record of a replay of `INVENTED` on an inventing unit.
+fn invented_record(alloc: Global) -> Result<Recorded, Fail> {
+    let mut account = Account::new();
+    replayed(
+        alloc,
+        InventingUnit::new(alloc)?,
+        INVENTED.0,
+        &[],
+        &mut account,
+    )
+}
+
+/// Compares the report of a record of invented answers.
+fn expect_invented<H: Threads + Wait + Sync + Abort>(rt: &H, alloc: Global, recorded: &Recorded) {
+    let (case, report) = INVENTED;
+    expect_equal(rt, case, recorded.lawful(), false);
+    let ended = judged(rt, alloc, recorded, 1);
+    expect(rt, case, &ended, Ok(Verdict::Violation), report.as_bytes());
 }
 
 #[test]
 fn record_of_invented_answers(rt: HostRuntime) -> Result<(), Fail> {
-    let alloc = rt.alloc();
-    let text = "tso program 1\nproc\nst 1 1\nld 1\nend\n";
-    let report = "TSO REPORT 1\nprocessors 1 events 2 rounds 0\nVIOLATION\nunwritten 2\n";
-    let mut account = Account::new();
-    let recorded = replayed(alloc, InventingUnit::new(alloc)?, text, &[], &mut account)?;
-    assert!(rt; !recorded.lawful());
-    let mut written = Vec::new(alloc);
-    let verdict = judge_recorded(&rt, alloc, &recorded, &mut written, 1)?;
-    assert_eq!(rt; verdict, Verdict::Violation);
-    assert_eq!(rt; written.as_slice(), report.as_bytes());
+    let recorded = invented_record(rt.alloc())?;
+    expect_invented(&rt, rt.alloc(), &recorded);
     Ok(())
 }
 
@@ -97,27 +137,11 @@ fn ran<H: Threads + Wait + Sync, U: MemoryUnit + Send>(
     Ok(run_over(rt, alloc, &program, unit, issuers, &mut account)?)
 }
 
-/// The verdict of a record, and its report.
-fn judged<H: Threads + Wait + Sync>(
-    rt: &H,
-    alloc: Global,
-    recorded: &Recorded,
-) -> Result<(Verdict, Vec<u8>), Fault> {
-    let mut written = Vec::new(alloc);
-    let verdict = judge_recorded(rt, alloc, recorded, &mut written, 1)?;
-    Ok((verdict, written))
-}
-
 #[test]
 fn run_of_invented_answers(rt: HostRuntime) -> Result<(), Fail> {
-    let alloc = rt.alloc();
-    let text = "tso program 1\nproc\nst 1 1\nld 1\nend\n";
-    let report = "TSO REPORT 1\nprocessors 1 events 2 rounds 0\nVIOLATION\nunwritten 2\n";
-    let recorded = ran(&rt, alloc, InventingUnit::new(alloc)?, text)?;
-    assert!(rt; !recorded.lawful());
-    let (verdict, written) = judged(&rt, alloc, &recorded)?;
-    assert!(rt; verdict == Verdict::Violation);
-    assert!(rt; written.as_slice() == report.as_bytes());
+    let unit = InventingUnit::new(rt.alloc())?;
+    let recorded = ran(&rt, rt.alloc(), unit, INVENTED.0)?;
+    expect_invented(&rt, rt.alloc(), &recorded);
     Ok(())
 }
 
@@ -125,9 +149,7 @@ fn run_of_invented_answers(rt: HostRuntime) -> Result<(), Fail> {
 #[test]
 fn record_that_cannot_be_written(rt: HostRuntime) -> Result<(), Fail> {
     let alloc = rt.alloc();
-    let mut account = Account::new();
-    let serial = SerialUnit::new(alloc)?;
-    let recorded = replayed(alloc, serial, PROGRAM, &SCHEDULE, &mut account)?;
+    let recorded = serial_record(alloc, &mut Account::new())?;
     let mut full = ShortWriter {
         taken: Vec::new(alloc),
         room: 0,
@@ -135,11 +157,11 @@ fn record_that_cannot_be_written(rt: HostRuntime) -> Result<(), Fail> {
         calls: 0,
     };
     let failed = judge_recorded(&rt, alloc, &recorded, &mut full, 1);
-    assert_eq!(rt; failed, Err(Fault::Write));
+    expect_said(&rt, "failed", failed, Err(Fault::Write));
     let mut bytes = [0u8; 13];
     let mut writer = bytes.as_mut_slice();
     let answer = judge_recorded(&rt, alloc, &recorded, &mut writer, 1);
-    assert_eq!(rt; answer, Err(Fault::Write));
-    assert_eq!(rt; bytes.as_slice(), b"TSO REPORT 1\n".as_slice());
+    expect_said(&rt, "13 bytes", answer, Err(Fault::Write));
+    expect_bytes(&rt, "13 bytes", &bytes, b"TSO REPORT 1\n");
     Ok(())
 }

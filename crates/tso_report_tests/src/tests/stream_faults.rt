@@ -4,7 +4,7 @@ use super::readers_and_writers::{
     EndedReader, FailingReader, Full, InterruptedWriter, ShortWriter, SlowReader, SlowWriter,
     TornReader,
 };
-use super::{Ended, expect, expect_bytes, expect_count, expect_said};
+use super::{Ended, expect, expect_bytes, expect_count, expect_equal, expect_said};
 use std::alloc::Global;
 use std::io;
 use std::io::{ErrorKind, Read, Write};
@@ -98,7 +98,7 @@ fn write<W: Write>(writer: &mut W, text: &[u8]) -> Option<Fault> {
 
 /// Compares the fault of a call of this case.
 fn expect_fault<H: Abort>(rt: &H, case: &str, fault: Option<Fault>, expected: Option<Fault>) {
-    assert_eq!(rt; fault, expected, "{case:?}");
+    expect_equal(rt, case, fault, expected);
 }
 
 #[test]
@@ -209,18 +209,20 @@ fn count_read(alloc: Global, count: u64, limit: usize) -> Result<usize, Fault> {
     Ok(read(alloc, &mut slow_bytes(count), limit)?.len())
 }
 
+/// How many bytes come, the limit, and how many are read.
+const CALLS: [(u64, usize, Result<usize, Fault>); 3] = [
+    (1_048_575, usize::MAX, Ok(1_048_575)),
+    (1_048_576, usize::MAX, Err(Fault::Read)),
+    // the byte after the limit, at the last call that is allowed
+    (1_048_577, 1_048_575, Ok(1_048_576)),
+];
+
 /// 1,048,575 bytes and the end take 2,097,152 calls, and one byte more is a call too many.
 #[test]
 fn calls_of_read_at_their_limit(rt: HostRuntime) {
-    let alloc = rt.alloc();
-    let cases = [
-        (1_048_575, usize::MAX, Ok(1_048_575)),
-        (1_048_576, usize::MAX, Err(Fault::Read)),
-        // the byte after the limit, at the last call that is allowed
-        (1_048_577, 1_048_575, Ok(1_048_576)),
-    ];
-    for (count, limit, expected) in cases {
-        assert_eq!(rt; count_read(alloc, count, limit), expected, "{count}");
+    for (count, limit, expected) in CALLS {
+        let found = count_read(rt.alloc(), count, limit);
+        expect_equal(&rt, count, found, expected);
     }
 }
 
@@ -336,19 +338,20 @@ fn writer_always_interrupted(rt: HostRuntime) {
     expect_count(&rt, "interrupted", writer.calls, 1 + 1_048_577);
 }
 
+const NAMES: [(Fault, &str); 5] = [
+    (Fault::OutOfMemory, "OutOfMemory"),
+    (Fault::Read, "Read"),
+    (Fault::Write, "Write"),
+    (Fault::NoThread, "NoThread"),
+    (Fault::Missing(18), "Missing 18"),
+];
+
 #[test]
 fn faults_have_names(rt: HostRuntime) -> Result<(), Fail> {
     let alloc = rt.alloc();
-    let names = [
-        (Fault::OutOfMemory, "OutOfMemory"),
-        (Fault::Read, "Read"),
-        (Fault::Write, "Write"),
-        (Fault::NoThread, "NoThread"),
-        (Fault::Missing(18), "Missing 18"),
-    ];
-    for (fault, name) in names {
+    for (fault, name) in NAMES {
         let text = format!(in alloc; "{fault}")?;
-        assert!(rt; text.as_str() == name);
+        expect_bytes(&rt, name, text.as_bytes(), name.as_bytes());
     }
     Ok(())
 }

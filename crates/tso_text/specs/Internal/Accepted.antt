@@ -2,22 +2,26 @@
 use Rattle.std.specs.Prelude.{◌≡◌, ◌⊎◌, ℕ, ◌<◌, ◌≤◌, Bool, true, false, List, length, Ok}
 use Rattle.tso_ops.specs.declared.limits.Tally.{Tally}
 use Rattle.tso_ops.specs.declared.faults.ValueFault.{ValueFault}
-use Rattle.tso_ops.specs.declared.faults.ValueFault.TheVariants.{TooManyProcessors as ManyProcessors, TooManyEvents as ManyEvents, AddressRange as PastAddresses, ZeroValue as ZeroStored, RepeatedValue as Repeated, OutOfMemory as NoMemory, StbarInTso, InitOrder}
+use Rattle.tso_ops.specs.declared.faults.ValueFault.TheVariants.{TooManyProcessors as ManyProcessors, TooManyEvents as ManyEvents, AddressRange as PastAddresses, ZeroValue as ZeroStored, RepeatedValue as Repeated, OutOfMemory as NoMemory, StbarInTso, InitOrder as NotAscending}
 use Rattle.tso_text.specs.declared.faults.Why.{Why}
-use Rattle.tso_text.specs.declared.faults.Why.TheVariants.{BadLine, TooManyProcessors, TooManyEvents, AddressRange, ZeroValue, RepeatedValue, OutOfMemory}
+use Rattle.tso_text.specs.declared.faults.Why.TheVariants.{TooManyProcessors, TooManyEvents, AddressRange, ZeroValue, RepeatedValue, OutOfMemory, InitOrder}
 use Rattle.tso_text.specs.declared.lines.Line.{Line}
 use Rattle.tso_text.specs.Spelling.{Grammar, said, said_fault, line_fault, with_line, is_end, items_of, text_fault_number}
 
--- the refusal of a value, as that of a text
-abbrev pub why_of : ValueFault → Why
-why_of ManyProcessors = TooManyProcessors
-why_of ManyEvents = TooManyEvents
-why_of PastAddresses = AddressRange
-why_of ZeroStored = ZeroValue
-why_of Repeated = RepeatedValue
-why_of NoMemory = OutOfMemory
-why_of StbarInTso = BadLine
-why_of InitOrder = BadLine
+-- The refusal of a value is this one of a text. No text is refused for an STBAR under TSO, which is no keyword there.
+abbrev pub IsWhyOf : ValueFault → Why → Type 0
+IsWhyOf ManyProcessors why = why ≡ TooManyProcessors
+IsWhyOf ManyEvents why = why ≡ TooManyEvents
+IsWhyOf PastAddresses why = why ≡ AddressRange
+IsWhyOf ZeroStored why = why ≡ ZeroValue
+IsWhyOf Repeated why = why ≡ RepeatedValue
+IsWhyOf NoMemory why = why ≡ OutOfMemory
+IsWhyOf StbarInTso why = ⊥
+IsWhyOf NotAscending why = why ≡ InitOrder
+
+-- some pieces say the line
+abbrev pub CanSay : {X : Type 0} → Grammar X → Line X → Type 0
+CanSay g line = (pieces : List (List ℕ)) × (g.said_by pieces ≡ Ok line)
 
 -- the fault of the least number, of those that a test finds
 pub record IsFirstTextFault (has : Why → Bool) (why : Why) : Type 0 where

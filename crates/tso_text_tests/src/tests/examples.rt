@@ -9,12 +9,12 @@ use traces_for_tests::{EXAMPLES, repeated};
 use tso_text::Why;
 
 /// Reads the text of a trace and prints it back.
-fn trace_back(alloc: Global, text: &str) -> Result<String, Fail> {
+pub(super) fn trace_back(alloc: Global, text: &str) -> Result<String, Fail> {
     trace_text(alloc, &trace_of(alloc, text)?)
 }
 
 /// Reads the text of a program and prints it back.
-fn program_back(alloc: Global, text: &str) -> Result<String, Fail> {
+pub(super) fn program_back(alloc: Global, text: &str) -> Result<String, Fail> {
     program_text(alloc, &program_of(alloc, text)?)
 }
 
@@ -309,20 +309,4 @@ fn events_at_their_limit(rt: HostRuntime) -> Result<(), Fail> {
     let full = repeated(alloc, PREFIX, "ld 0 0\n", 2_000, "end\n")?;
     expect_text(&rt, "full_trace", &trace_back(alloc, &full)?, &full);
     Ok(())
-}
-
-/// pso_stbar_under_tso and first_values_in_version_1: no line of version 1 under TSO says either.
-#[test]
-fn stbars_and_first_values_are_bad_lines(rt: HostRuntime) {
-    for (text, line) in [
-        ("tso trace 1\nproc\nstbar\nend\n", 3),
-        ("tso trace 1\ninit 1 7\nend\n", 2),
-    ] {
-        expect(
-            &rt,
-            text,
-            trace_fault(rt.alloc(), text),
-            Some((line, Why::BadLine)),
-        );
-    }
 }

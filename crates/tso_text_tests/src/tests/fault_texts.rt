@@ -13,7 +13,7 @@ fn text_of_fault(alloc: Global, fault: TextFault) -> Result<String, Fail> {
     Ok(format!(in alloc; "{fault}")?)
 }
 
-const KINDS: [(Why, &str); 14] = [
+const KINDS: [(Why, &str); 16] = [
     (Why::BadHeader, "BadHeader"),
     (Why::BadLine, "BadLine"),
     (Why::BadNumber, "BadNumber"),
@@ -28,6 +28,8 @@ const KINDS: [(Why, &str); 14] = [
     (Why::TooLong, "TooLong"),
     (Why::ProcessorRange, "ProcessorRange"),
     (Why::OutOfMemory, "OutOfMemory"),
+    (Why::BadModel, "BadModel"),
+    (Why::InitOrder, "InitOrder"),
 ];
 
 #[test]

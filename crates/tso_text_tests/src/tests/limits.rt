@@ -7,7 +7,7 @@ use traces_for_tests::repeated;
 use tso_text::Why;
 
 /// Of each text its prefix, a line, how often it comes, the end and the fault.
-const COUNTS: [(&str, &str, usize, &str, At); 6] = [
+const COUNTS: [(&str, &str, usize, &str, At); 14] = [
     (PREFIX, "ld 1 0\n", 2_000, "end\n", None),
     (
         PREFIX,
@@ -37,6 +37,56 @@ const COUNTS: [(&str, &str, usize, &str, At); 6] = [
         17,
         "end\n",
         Some((18, Why::TooManyProcessors)),
+    ),
+    (
+        "tso trace 1\nmodel pso\nproc\n",
+        "stbar\n",
+        2_000,
+        "end\n",
+        None,
+    ),
+    (
+        "tso trace 1\nmodel pso\nproc\n",
+        "stbar\n",
+        2_000,
+        "mb\nend\n",
+        Some((2_004, Why::TooManyEvents)),
+    ),
+    ("tso trace 2\nproc\n", "ld 0 0\n", 8_000, "end\n", None),
+    (
+        "tso trace 2\nproc\n",
+        "ld 0 0\n",
+        8_001,
+        "end\n",
+        Some((8_003, Why::TooManyEvents)),
+    ),
+    (
+        "tso trace 2\nproc\n",
+        "ld 0 0\n",
+        7_999,
+        "sw 0 0 1\nend\n",
+        Some((8_002, Why::TooManyEvents)),
+    ),
+    (
+        "tso trace 2\nmodel pso\nproc\n",
+        "stbar\n",
+        7_999,
+        "mb\nend\n",
+        None,
+    ),
+    (
+        "tso trace 2\nmodel pso\nproc\n",
+        "mb\n",
+        8_000,
+        "stbar\nend\n",
+        Some((8_004, Why::TooManyEvents)),
+    ),
+    (
+        "tso trace 2\nproc\n",
+        "mb\n",
+        8_001,
+        "end\n",
+        Some((8_003, Why::TooManyEvents)),
     ),
 ];
 

@@ -7,7 +7,7 @@ use tso_text::Why;
 const REFUSED: [(&str, usize, Why); 24] = [
     ("", 1, Why::BadHeader),
     ("tso trace 1", 1, Why::BadHeader),
-    ("tso trace 2\nend\n", 1, Why::BadHeader),
+    ("tso trace 3\nend\n", 1, Why::BadHeader),
     ("tso trace 1\n", 2, Why::MissingEnd),
     ("tso trace 1\nend", 2, Why::BadLine),
     ("tso trace 1\nend\nx", 3, Why::AfterEnd),

@@ -2,23 +2,11 @@
 
 use std::alloc::Global;
 use std::test::Fail;
-use traces_for_tests::{ld as loaded, program_of, st as stored, sw as swapped};
+use traces_for_tests::program_of;
 use tso_ops::Act::{self, Drain, Issue};
 use tso_ops::{Op, Order, Outcome, ValueFault};
 use unit_core::{Account, MemoryUnit, Recorded, replay};
 use unit_faulty::{FaultKind, FaultyUnit};
-
-fn ld(a: u16) -> Op {
-    Op::Ld { a }
-}
-
-fn st(a: u16, v: u64) -> Op {
-    Op::St { a, v }
-}
-
-fn sw(a: u16, v: u64) -> Op {
-    Op::Sw { a, v }
-}
 
 /// Whether the record has this trace, and isn't a lawful unit's.
 fn has_trace(recorded: &Recorded, rows: &[&[Outcome]]) -> bool {
@@ -31,17 +19,17 @@ fn has_trace(recorded: &Recorded, rows: &[&[Outcome]]) -> bool {
 
 /// A program that is replayed on a unit of capacity 8, and what it does.
 #[derive(Clone, Copy)]
-struct Example<'a> {
+struct Example {
     kind: FaultKind,
     trigger: u64,
-    program: &'a [&'a [Op]],
-    schedule: &'a [Act],
-    trace: &'a [&'a [Outcome]],
+    program: &'static [&'static [Op]],
+    schedule: &'static [Act],
+    trace: &'static [&'static [Outcome]],
     drains: usize,
 }
 
 /// Whether the replay, in a box, has this trace and so many drains.
-fn replays(alloc: Global, example: &Example<'_>) -> Result<bool, ValueFault> {
+fn replays(alloc: Global, example: &Example) -> Result<bool, ValueFault> {
     let program = program_of(alloc, Order::Tso, example.program)?;
     let unit = FaultyUnit::new(alloc, example.kind, example.trigger.max(1), 8)?;
     let unit: Box<dyn MemoryUnit + Send> = Box::new(alloc, unit)?;
@@ -51,89 +39,125 @@ fn replays(alloc: Global, example: &Example<'_>) -> Result<bool, ValueFault> {
     Ok(drains && has_trace(&recorded, example.trace))
 }
 
+const NEWEST_FIRST: Example = Example {
+    kind: FaultKind::NewestFirst,
+    trigger: 1,
+    program: &[
+        &[Op::St { a: 1, v: 1 }, Op::St { a: 2, v: 2 }],
+        &[Op::Ld { a: 2 }, Op::Ld { a: 1 }],
+    ],
+    schedule: &[Issue(0), Issue(0), Drain(0), Issue(1), Issue(1)],
+    trace: &[
+        &[Outcome::St { a: 1, v: 1 }, Outcome::St { a: 2, v: 2 }],
+        &[Outcome::Ld { a: 2, r: 2 }, Outcome::Ld { a: 1, r: 0 }],
+    ],
+    drains: 2,
+};
+
 #[test]
 fn newest_first(rt: HostRuntime) -> Result<(), Fail> {
-    let example = Example {
-        kind: FaultKind::NewestFirst,
-        trigger: 1,
-        program: &[&[st(1, 1), st(2, 2)], &[ld(2), ld(1)]],
-        schedule: &[Issue(0), Issue(0), Drain(0), Issue(1), Issue(1)],
-        trace: &[&[stored(1, 1), stored(2, 2)], &[loaded(2, 2), loaded(1, 0)]],
-        drains: 2,
-    };
-    assert!(rt; replays(rt.alloc(), &example)?);
+    assert!(rt; replays(rt.alloc(), &NEWEST_FIRST)?);
     Ok(())
 }
+
+const NO_FORWARD: Example = Example {
+    kind: FaultKind::NoForward,
+    trigger: 1,
+    program: &[&[Op::St { a: 1, v: 1 }, Op::Ld { a: 1 }]],
+    schedule: &[],
+    trace: &[&[Outcome::St { a: 1, v: 1 }, Outcome::Ld { a: 1, r: 0 }]],
+    drains: 1,
+};
 
 #[test]
 fn no_forward(rt: HostRuntime) -> Result<(), Fail> {
-    let example = Example {
-        kind: FaultKind::NoForward,
-        trigger: 1,
-        program: &[&[st(1, 1), ld(1)]],
-        schedule: &[],
-        trace: &[&[stored(1, 1), loaded(1, 0)]],
-        drains: 1,
-    };
-    assert!(rt; replays(rt.alloc(), &example)?);
+    assert!(rt; replays(rt.alloc(), &NO_FORWARD)?);
     Ok(())
 }
+
+const STALE_LOAD: Example = Example {
+    kind: FaultKind::StaleLoad,
+    trigger: 2,
+    program: &[
+        &[Op::St { a: 1, v: 1 }],
+        &[Op::Ld { a: 1 }, Op::Ld { a: 1 }],
+    ],
+    schedule: &[Issue(0), Drain(0), Issue(1), Issue(1)],
+    trace: &[
+        &[Outcome::St { a: 1, v: 1 }],
+        &[Outcome::Ld { a: 1, r: 1 }, Outcome::Ld { a: 1, r: 0 }],
+    ],
+    drains: 1,
+};
 
 #[test]
 fn stale_load(rt: HostRuntime) -> Result<(), Fail> {
-    let example = Example {
-        kind: FaultKind::StaleLoad,
-        trigger: 2,
-        program: &[&[st(1, 1)], &[ld(1), ld(1)]],
-        schedule: &[Issue(0), Drain(0), Issue(1), Issue(1)],
-        trace: &[&[stored(1, 1)], &[loaded(1, 1), loaded(1, 0)]],
-        drains: 1,
-    };
-    assert!(rt; replays(rt.alloc(), &example)?);
+    assert!(rt; replays(rt.alloc(), &STALE_LOAD)?);
     Ok(())
 }
+
+const TORN_SWAP: Example = Example {
+    kind: FaultKind::TornSwap,
+    trigger: 1,
+    program: &[&[Op::Sw { a: 1, v: 1 }], &[Op::Sw { a: 1, v: 2 }]],
+    schedule: &[Issue(0), Issue(1)],
+    trace: &[
+        &[Outcome::Sw { a: 1, r: 0, v: 1 }],
+        &[Outcome::Sw { a: 1, r: 0, v: 2 }],
+    ],
+    drains: 2,
+};
 
 #[test]
 fn torn_swap(rt: HostRuntime) -> Result<(), Fail> {
-    let example = Example {
-        kind: FaultKind::TornSwap,
-        trigger: 1,
-        program: &[&[sw(1, 1)], &[sw(1, 2)]],
-        schedule: &[Issue(0), Issue(1)],
-        trace: &[&[swapped(1, 0, 1)], &[swapped(1, 0, 2)]],
-        drains: 2,
-    };
-    assert!(rt; replays(rt.alloc(), &example)?);
+    assert!(rt; replays(rt.alloc(), &TORN_SWAP)?);
     Ok(())
 }
+
+const IDLE_MEMBAR: Example = Example {
+    kind: FaultKind::IdleMembar,
+    trigger: 1,
+    program: &[
+        &[Op::St { a: 1, v: 1 }, Op::Mb, Op::Ld { a: 2 }],
+        &[Op::St { a: 2, v: 2 }, Op::Mb, Op::Ld { a: 1 }],
+    ],
+    schedule: &[Issue(0), Issue(0), Issue(1), Issue(1), Issue(0), Issue(1)],
+    trace: &[
+        &[
+            Outcome::St { a: 1, v: 1 },
+            Outcome::Mb,
+            Outcome::Ld { a: 2, r: 0 },
+        ],
+        &[
+            Outcome::St { a: 2, v: 2 },
+            Outcome::Mb,
+            Outcome::Ld { a: 1, r: 0 },
+        ],
+    ],
+    drains: 2,
+};
 
 #[test]
 fn idle_membar(rt: HostRuntime) -> Result<(), Fail> {
-    let example = Example {
-        kind: FaultKind::IdleMembar,
-        trigger: 1,
-        program: &[&[st(1, 1), Op::Mb, ld(2)], &[st(2, 2), Op::Mb, ld(1)]],
-        schedule: &[Issue(0), Issue(0), Issue(1), Issue(1), Issue(0), Issue(1)],
-        trace: &[
-            &[stored(1, 1), Outcome::Mb, loaded(2, 0)],
-            &[stored(2, 2), Outcome::Mb, loaded(1, 0)],
-        ],
-        drains: 2,
-    };
-    assert!(rt; replays(rt.alloc(), &example)?);
+    assert!(rt; replays(rt.alloc(), &IDLE_MEMBAR)?);
     Ok(())
 }
 
+const LOST_DRAIN: Example = Example {
+    kind: FaultKind::LostDrain,
+    trigger: 1,
+    program: &[&[Op::St { a: 1, v: 1 }, Op::Mb, Op::Ld { a: 1 }]],
+    schedule: &[],
+    trace: &[&[
+        Outcome::St { a: 1, v: 1 },
+        Outcome::Mb,
+        Outcome::Ld { a: 1, r: 0 },
+    ]],
+    drains: 1,
+};
+
 #[test]
 fn lost_drain(rt: HostRuntime) -> Result<(), Fail> {
-    let example = Example {
-        kind: FaultKind::LostDrain,
-        trigger: 1,
-        program: &[&[st(1, 1), Op::Mb, ld(1)]],
-        schedule: &[],
-        trace: &[&[stored(1, 1), Outcome::Mb, loaded(1, 0)]],
-        drains: 1,
-    };
-    assert!(rt; replays(rt.alloc(), &example)?);
+    assert!(rt; replays(rt.alloc(), &LOST_DRAIN)?);
     Ok(())
 }

@@ -174,8 +174,8 @@ impl Simulator {
 }
 
 /// Makes a drawn call of both units, which stores `number` + 1 if it stores.
-fn call_both(
-    unit: &mut FaultyUnit,
+fn call_both<U: MemoryUnit>(
+    unit: &mut U,
     simulator: &mut Simulator,
     draws: &mut Draws,
     number: u32,

@@ -1,13 +1,13 @@
 //! A call of each kind of the units of `units_for_tests` that invent their answers and that log their calls.
 
-use super::calls::Answered::{Drain, Load, Membar, Stbar, Store, Swap, Waiting};
-use super::calls::{Answered, expect_answers, state_of};
+use super::calls::{expect_answers, state_of};
 use std::alloc::{AllocError, Global};
 use std::sync::Arc;
 use std::test::Fail;
 use tso_ops::Order;
 use unit_core::MemoryUnit;
 use unit_kinds::SerialUnit;
+use units_for_tests::Answered::{self, Drain, Load, Membar, Stbar, Store, Swap, Waiting};
 use units_for_tests::{Call, CallLog, ForwardingUnit, INVENTED, InventingUnit, new_log};
 
 /// Calls of the inventing unit.

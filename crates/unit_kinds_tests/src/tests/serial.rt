@@ -1,12 +1,12 @@
 //! A call of each kind of a serial unit.
 
-use super::calls::Answered::{Drain, Load, Membar, Stbar, Store, Swap, Waiting};
-use super::calls::{Answered, expect_answers, expect_steps, state_of};
+use super::calls::{expect_answers, expect_steps, state_of};
 use std::alloc::{AllocError, Global};
 use std::test::Fail;
 use tso_ops::Order;
 use unit_core::{MemoryUnit, Step};
 use unit_kinds::SerialUnit;
+use units_for_tests::Answered::{self, Drain, Load, Membar, Stbar, Store, Swap, Waiting};
 
 /// Each processor's call of the serial unit whose address 7 has the first value 70.
 const SERIAL: [(usize, Answered); 9] = [

@@ -1,8 +1,7 @@
 //! Store-buffer units: driven by hand, replayed, and with allocations refused.
 ghost use Rattle.std.specs.Prelude.{◌≤◌};
 
-use super::calls::Answered::{Drain as Drained, Load, Membar, Stbar, Steps, Store, Swap, Waiting};
-use super::calls::{Answered, expect_answers, expect_steps, state_of};
+use super::calls::{expect_answers, expect_steps, state_of};
 use std::alloc::{AllocError, Global};
 use std::process::Abort;
 use std::test::Fail;
@@ -11,6 +10,9 @@ use tso_ops::Act::{self, Drain, Issue};
 use tso_ops::{Op, Order, Outcome, Program, Trace, ValueFault};
 use unit_core::{Account, MemoryUnit, Recorded, Step, replay};
 use unit_kinds::StoreBufferUnit;
+use units_for_tests::Answered::{
+    self, Drain as Drained, Load, Membar, Stbar, Steps, Store, Swap, Waiting,
+};
 
 /// Each processor's call of the unit of capacity 1.
 const ONE: [(usize, Answered); 6] = [

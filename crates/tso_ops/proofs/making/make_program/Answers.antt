@@ -39,14 +39,15 @@ loop-preserved g c =
 pub of_lists-requires : goal.of_lists-requires
 of_lists-requires g c =
     let all : c.loop.counter ≡ c.args.shape.processors = omega (arith, c.loop-test.false, c.loop.auto.counter-end, c.processors-end.ensures.is) in
-    subst (λ lists. IsProgram (program_of_lists version_one_tso lists))
+    subst (λ setting. IsProgram (program_of_lists setting (rows c.loop.lists.items))) (sym c.of_order-setting.ensures)
+    (subst (λ lists. IsProgram (program_of_lists version_one_tso lists))
     (sym (c.loop.invariant.lists ∙ ap (λ n. map (ops_of_processor c.args.shape (g.R.Rng.stream c.args.rng.now)) (range_with_len 0 n)) all))
-    (IsProgram-made c.args.shape (g.R.Rng.stream c.args.rng.now) c.processors-end.ensures.kept)
+    (IsProgram-made c.args.shape (g.R.Rng.stream c.args.rng.now) c.processors-end.ensures.kept))
 
 pub returns-clause-made : goal.returns-clause-made
 returns-clause-made g c =
     let all : c.loop.counter ≡ c.args.shape.processors = omega (arith, c.loop-test.false, c.loop.auto.counter-end, c.processors-end.ensures.is) in
-    c.of_lists.ensures
+    c.of_lists.ensures ∙ ap (λ setting. program_of_lists setting (rows c.loop.lists.items)) c.of_order-setting.ensures
     ∙ ap (program_of_lists version_one_tso)
     (c.loop.invariant.lists ∙ ap (λ n. map (ops_of_processor c.args.shape (g.R.Rng.stream c.args.rng.now)) (range_with_len 0 n)) all)
     ∙ made_program-is c.args.shape (g.R.Rng.stream c.args.rng.now)

@@ -1,56 +1,19 @@
-use Rattle.std.proofs.Common.{arith, suc, ◌+◌}
-use Rattle.tso_text.specs.declared.faults.Why.TheVariants.{AfterEnd}
-use Rattle.tso_text.proofs.LineFacts.{not_zero, is_zero}
-use Rattle.tso_text.proofs.ReadersFacts.{Reached-start, Reached-next, Reached-end, line_refused, unended_refused, ended_refused, answered, first_fault}
+use Rattle.tso_ops.specs.Settings.{setting_of}
+use Rattle.tso_text.proofs.TextFacts.{too_long, preamble_refused, begun_spells, begun_refused}
 use Rattle.tso_text.proofs.readers.read_lists.Goals as goal
 
-pub lines-init : goal.lines-init
-lines-init g c = record {
-  reached = (0, omega arith, rw c.in-Ok-new.ensures.start (Reached-start g.T.Form.grammar c.args.text.now c.in-Ok.rest.now c.in-Ok.ensures.short c.in-Ok.ensures.body));
-  keeps = c.in-Ok-new.ensures.keeps;
-  few = c.in-Ok-new.ensures.few;
-  room = omega (arith, c.in-Ok.ensures.short, c.in-Ok.ensures.shorter);
-}
+pub returns-then-text-gt-MAX_TEXT_BYTES-clause-refused : goal.returns-then-text-gt-MAX_TEXT_BYTES-clause-refused
+returns-then-text-gt-MAX_TEXT_BYTES-clause-refused g c other = too_long g.T.Form.format c.args.text.now c.if-text-gt-MAX_TEXT_BYTES.true
 
-pub returns-in-Err-next_line-clause-refused : goal.returns-in-Err-next_line-clause-refused
-returns-in-Err-next_line-clause-refused g c =
-    let at = c.lines.invariant.reached in
-    let fault = c.fault_of-in-Err-next_line in
-    answered g.T.Form.grammar c.args.text.now c.lines.line at.0 c.in-Err-next_line.why fault.result.line fault.result.why at.1 fault.ensures.why fault.ensures.line
-    (λ _. unended_refused g.T.Form.grammar c.args.text.now at.0 c.lines.rest.now _ c.in-Err-next_line.why at.2 c.in-Err-next_line.ensures.none c.in-Err-next_line.ensures.why)
+pub returns-in-Err-clause-refused : goal.returns-in-Err-clause-refused
+returns-in-Err-clause-refused g c other =
+    preamble_refused g.T.Form.format c.args.text.now c.in-Err.fault.line c.in-Err.fault.why c.if-text-gt-MAX_TEXT_BYTES.false (c.in-Err.ensures.refused other)
 
-pub returns-in-Err-accept_line-clause-refused : goal.returns-in-Err-accept_line-clause-refused
-returns-in-Err-accept_line-clause-refused g c =
-    let at = c.lines.invariant.reached in
-    let fault = c.fault_of-in-Err-accept_line in
-    let parts = c.in-Ok-next_line.parts in
-    answered g.T.Form.grammar c.args.text.now c.lines.line at.0 c.in-Err-accept_line.why fault.result.line fault.result.why at.1 fault.ensures.why fault.ensures.line
-    (λ other. line_refused g.T.Form.grammar c.args.text.now at.0 c.lines.rest.now _ parts.0.now parts.1.now c.in-Err-accept_line.why at.2 c.in-Ok-next_line.ensures.line
-    (first_fault _ c.in-Err-accept_line.why c.in-Err-accept_line.ensures.refused other))
+pub returns-in-Ok-read_body-clause-found : goal.returns-in-Ok-read_body-clause-found
+returns-in-Ok-read_body-clause-found g c =
+    begun_spells g.T.Form.format c.args.text.now (setting_of c.in-Ok.begun.0) c.in-Ok.begun.1 c.in-Ok.begun.2.now _ c.if-text-gt-MAX_TEXT_BYTES.false c.in-Ok.ensures.begun c.in-Ok-read_body.ensures.found
 
-pub returns-then-ended-clause-found : goal.returns-then-ended-clause-found
-returns-then-ended-clause-found g c =
-    let at = c.lines.invariant.reached in
-    let parts = c.in-Ok-next_line.parts in
-    Reached-end g.T.Form.grammar c.args.text.now at.0 c.lines.rest.now _ parts.0.now parts.1.now _ at.2 c.in-Ok-next_line.ensures.line (rw c.if-ended.true at c.in-Ok-accept_line.ensures.accepted)
-    (is_zero _ c.is_empty.result c.is_empty.ensures c.if-not-is_empty.false)
-
-pub returns-then-not-is_empty-clause-refused : goal.returns-then-not-is_empty-clause-refused
-returns-then-not-is_empty-clause-refused g c =
-    let at = c.lines.invariant.reached in
-    let parts = c.in-Ok-next_line.parts in
-    let fault = c.fault_of-then-not-is_empty in
-    answered g.T.Form.grammar c.args.text.now (c.lines.line + 1) (suc at.0) AfterEnd fault.result.line fault.result.why (omega (arith, at.1)) fault.ensures.why fault.ensures.line
-    (λ _. ended_refused g.T.Form.grammar c.args.text.now at.0 c.lines.rest.now _ parts.0.now parts.1.now _ at.2 c.in-Ok-next_line.ensures.line (rw c.if-ended.true at c.in-Ok-accept_line.ensures.accepted)
-    (not_zero _ c.is_empty.result c.is_empty.ensures c.if-not-is_empty.true))
-
-pub lines-preserved : goal.lines-preserved
-lines-preserved g c =
-    let at = c.lines.invariant.reached in
-    let parts = c.in-Ok-next_line.parts in
-    record {
-      reached = (suc at.0, omega (arith, at.1), Reached-next g.T.Form.grammar c.args.text.now at.0 c.lines.rest.now _ parts.0.now parts.1.now _ at.2 c.in-Ok-next_line.ensures.line (rw c.if-ended.false at c.in-Ok-accept_line.ensures.accepted));
-      keeps = c.in-Ok-accept_line.ensures.keeps;
-      few = c.in-Ok-accept_line.ensures.few;
-      room = omega (arith, c.in-Ok-next_line.ensures.shorter, c.lines.invariant.room);
-    }
+pub returns-in-Err-read_body-clause-refused : goal.returns-in-Err-read_body-clause-refused
+returns-in-Err-read_body-clause-refused g c other =
+    begun_refused g.T.Form.format c.args.text.now (setting_of c.in-Ok.begun.0) c.in-Ok.begun.1 c.in-Ok.begun.2.now c.in-Err-read_body.fault.line c.in-Err-read_body.fault.why c.if-text-gt-MAX_TEXT_BYTES.false c.in-Ok.ensures.begun
+    (c.in-Err-read_body.ensures.refused other)

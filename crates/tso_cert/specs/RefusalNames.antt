@@ -1,0 +1,13 @@
+-- The names of the refusals of certificates' texts.
+use Rattle.std.specs.Prelude.{ℕ, List, codes}
+use Rattle.tso_cert.specs.declared.faults.Why.{Why}
+use Rattle.tso_cert.specs.declared.faults.Why.TheVariants.{BadLine, BadNumber, BadRule, NoCycle, AfterCycle, OutOfMemory}
+
+-- the name of a refusal of a certificate's text
+abbrev pub certificate_refusal_name : Why → List ℕ
+certificate_refusal_name BadLine = codes "BadLine"
+certificate_refusal_name BadNumber = codes "BadNumber"
+certificate_refusal_name BadRule = codes "BadRule"
+certificate_refusal_name NoCycle = codes "NoCycle"
+certificate_refusal_name AfterCycle = codes "AfterCycle"
+certificate_refusal_name OutOfMemory = codes "OutOfMemory"
