@@ -7,7 +7,7 @@ pub use acts::Act;
 pub use events::{Event, Source};
 pub use faults::{OutOfMemory, Refused, RefusedFirst, ValueFault};
 pub use limits::Tally;
-pub use making::make_program;
+pub use making::{make_program, make_program_with_order};
 pub use ops::{Op, Outcome};
 pub use programs::Program;
 pub use settings::{Order, Setting, Version};

@@ -8,7 +8,8 @@ use rand_core::{Rng, utils};
 use std::alloc::Global;
 use std::marker::Model;
 use std::test::Fail;
-use tso_ops::{Op, Program, Shape, make_program};
+use traces_for_tests::lists_of;
+use tso_ops::{Op, Order, Program, Shape, make_program, make_program_with_order};
 
 /// A generator whose words are the bytes of a number, the low one first, and 0 after them.
 #[derive(Drop)]
@@ -106,10 +107,29 @@ const MADE: [&[Op]; 2] = [
     &[Op::Sw { a: 3, v: 2 }, Op::Mb],
 ];
 
+/// The words 31, 8, 15, 63, 47, 95 and then 9.
+const WORDS_OF_BARRIERS: u64 = 0x09_5F_2F_3F_0F_08_1F;
+
+const MADE_UNDER_TSO: [&[Op]; 2] = [
+    &[Op::Mb, Op::St { a: 0, v: 1 }, Op::Mb],
+    &[Op::Mb, Op::Mb, Op::Mb],
+];
+
+const MADE_UNDER_PSO: [&[Op]; 2] = [
+    &[Op::Sb, Op::St { a: 0, v: 1 }, Op::Mb],
+    &[Op::Sb, Op::Mb, Op::Sb],
+];
+
 /// The program that four words make in a shape of two processors, two operations and four addresses.
 fn made_program(alloc: Global, words: &mut ByteWords) -> Result<Program, Fail> {
     let shape = Shape::new(2, 2, 4).ok_or("a shape")?;
     Ok(make_program(alloc, words, shape)?)
+}
+
+/// The program that six words make under a memory model in a shape of two processors, three operations and four addresses.
+fn ordered_program(alloc: Global, order: Order, words: &mut ByteWords) -> Result<Program, Fail> {
+    let shape = Shape::new(2, 3, 4).ok_or("a shape")?;
+    Ok(make_program_with_order(alloc, order, words, shape)?)
 }
 
 fn is_same(made: &Program, wanted: &Program) -> bool {
@@ -127,5 +147,23 @@ fn program_of_four_words(rt: HostRuntime) -> Result<(), Fail> {
     let wanted = program_of(rt.alloc(), &MADE)?;
     expect(&rt, "the program", is_same(&made, &wanted), true);
     expect(&rt, "the next word", next_word(&mut words), 9);
+    Ok(())
+}
+
+/// The program by hand under a memory model.
+fn wanted_program(alloc: Global, order: Order, lists: &[&[Op]]) -> Result<Program, Fail> {
+    Ok(Program::with_order(alloc, order, lists_of(alloc, lists)?).map_err(|refused| refused.why)?)
+}
+
+/// A word that is 31 modulo 32 makes an STBAR under PSO, and a membar under TSO; all others make the same.
+#[test]
+fn programs_of_barriers(rt: HostRuntime) -> Result<(), Fail> {
+    for (order, lists) in [(Order::Tso, &MADE_UNDER_TSO), (Order::Pso, &MADE_UNDER_PSO)] {
+        let mut words = ByteWords(WORDS_OF_BARRIERS);
+        let made = ordered_program(rt.alloc(), order, &mut words)?;
+        let wanted = wanted_program(rt.alloc(), order, lists)?;
+        expect(&rt, order, is_same(&made, &wanted), true);
+        expect(&rt, order, next_word(&mut words), 9);
+    }
     Ok(())
 }

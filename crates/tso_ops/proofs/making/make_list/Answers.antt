@@ -19,10 +19,10 @@ pub loop-preserved : goal.loop-preserved
 loop-preserved g c =
     let s = g.R.Rng.stream c.args.rng.now in
     let rest = g.R.Rng.stream c.loop.rng in
-    let op = c.make_op.ensures.op ∙ ap (λ a. made_op a (c.loop.last + 1) (next_u64 rest).0) c.addresses.ensures.is in
+    let op = c.make_op.ensures.op ∙ ap (λ a. made_op c.args.order a (c.loop.last + 1) (next_u64 rest).0) c.addresses.ensures.is in
     record {
       list = rw c.in_ok-push.ensures.items
-          (next_ops-next c.args.shape.addresses c.args.last.now c.loop.last s rest c.loop.counter c.loop.list.items c.make_op.result c.loop.invariant.list c.loop.invariant.left
+          (next_ops-next c.args.order c.args.shape.addresses c.args.last.now c.loop.last s rest c.loop.counter c.loop.list.items c.make_op.result c.loop.invariant.list c.loop.invariant.left
           c.loop.invariant.last op);
       left = c.make_op.ensures.left ∙ ap (λ t. (next_u64 t).1) c.loop.invariant.left ∙ sym (after_words-more c.loop.counter s);
       last = rw (writes_of-more c.loop.counter s, ← c.loop.invariant.left) (omega (arith, c.make_op.ensures.last, c.loop.invariant.last));

@@ -5,7 +5,7 @@ use Rattle.tso_ops.proofs.making.make_list.Given as goal
 
 abbrev pub invariant-loop : goal.invariant-loop
 invariant-loop g l = record {
-  list : l.list.items ≡ next_ops l.shape.addresses l.fn.last (g.R.Rng.stream l.fn.rng) l.counter;
+  list : l.list.items ≡ next_ops l.order l.shape.addresses l.fn.last (g.R.Rng.stream l.fn.rng) l.counter;
   left : g.R.Rng.stream l.rng ≡ after_words l.counter (g.R.Rng.stream l.fn.rng);
   last : l.last ≡ l.fn.last + writes_of l.counter (g.R.Rng.stream l.fn.rng);
 }

@@ -14,7 +14,7 @@ no_lists = record {
 }
 
 pub of_lists-requires : goal.of_lists-requires
-of_lists-requires g c = rw c.new.ensures.items no_lists
+of_lists-requires g c = rw (c.in_ok-copy.ensures, c.of_order-tso.ensures, c.new.ensures.items) no_lists
 
 pub of_program-requires : goal.of_program-requires
-of_program-requires g c = rw (c.of_lists-program.ensures, c.new-3.ensures.items) no_lists
+of_program-requires g c = rw (c.of_lists-program.ensures, c.of_order-tso.ensures, c.new-3.ensures.items) no_lists
