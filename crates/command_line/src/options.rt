@@ -2,6 +2,7 @@
 ghost use Rattle.std.specs.Prelude.{◌≡◌};
 ghost use Rattle.command_line.specs.Units.{unit_kind};
 
+use tso_ops::Order;
 use unit_faulty::FaultKind;
 
 /// The greatest number of workers.
@@ -17,14 +18,18 @@ pub enum UnitKind {
     Serial,
     /// `buffer`: lawful, of TSO; each processor has a store buffer, where its stores wait until they are drained.
     Buffer,
+    /// `partial`: lawful, of PSO; each processor has a store buffer, whose stores may leave for different addresses in
+    /// another order than they entered.
+    Partial,
     /// Not lawful: as `buffer`, with one deviation, after whose kind it is named, as `newest-first`.
     Faulty(FaultKind),
 }
 
 /// The names of the kinds, as `--unit` takes them; `kind_named` knows each.
-pub(crate) static UNIT_NAMES: [&str; 8] = [
+pub(crate) static UNIT_NAMES: [&str; 9] = [
     "serial",
     "buffer",
+    "partial",
     "newest-first",
     "no-forward",
     "stale-load",
@@ -40,6 +45,7 @@ pub(crate) fn kind_named(name: &str) -> Option<UnitKind>
     match name {
         "serial" => Some(UnitKind::Serial),
         "buffer" => Some(UnitKind::Buffer),
+        "partial" => Some(UnitKind::Partial),
         "newest-first" => Some(UnitKind::Faulty(FaultKind::NewestFirst)),
         "no-forward" => Some(UnitKind::Faulty(FaultKind::NoForward)),
         "stale-load" => Some(UnitKind::Faulty(FaultKind::StaleLoad)),
@@ -99,6 +105,8 @@ pub struct CampaignOptions {
     pub unit: UnitOptions,
     /// The number of workers that share the seeds, 1 to 64.
     pub workers: usize,
+    /// The memory model of each program.
+    pub order: Order,
     /// The seed of the first program; each further program has the next seed.
     pub first: u64,
     /// The number of seeds.

@@ -14,6 +14,7 @@ use crate::options::{CampaignOptions, RunOptions, ShapeNumbers, UNIT_NAMES};
 use clap::error::ErrorKind;
 use clap::{ArgMatches, Error};
 use std::alloc::{AllocError, Global};
+use tso_ops::Order;
 
 /// Which program to run with a thread per processor, and how.
 #[derive(Clone, Copy, Debug, PartialEq, Eq)]
@@ -48,8 +49,10 @@ pub enum Request<'a> {
     },
     /// To run a program with a thread per processor.
     Run(RunRequest<'a>),
-    /// To print the program that is drawn from this seed in this shape.
+    /// To print the program of a memory model that is drawn from this seed in this shape.
     Make {
+        /// The memory model of the program.
+        order: Order,
         seed: u64,
         shape: ShapeNumbers,
     },
