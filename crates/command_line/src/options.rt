@@ -1,5 +1,7 @@
 //! What options say of a run on a memory unit, and of drawn programs.
 ghost use Rattle.std.specs.Prelude.{◌≡◌};
+ghost use Rattle.command_line.specs.Commands.{HasKnownNames};
+ghost use Rattle.command_line.specs.Models.{model_order};
 ghost use Rattle.command_line.specs.Units.{unit_kind};
 
 use tso_ops::Order;
@@ -26,7 +28,7 @@ pub enum UnitKind {
 }
 
 /// The names of the kinds, as `--unit` takes them; `kind_named` knows each.
-pub(crate) static UNIT_NAMES: [&str; 9] = [
+static UNIT_NAMES: [&str; 9] = [
     "serial",
     "buffer",
     "partial",
@@ -53,6 +55,39 @@ pub(crate) fn kind_named(name: &str) -> Option<UnitKind>
         "idle-membar" => Some(UnitKind::Faulty(FaultKind::IdleMembar)),
         "lost-drain" => Some(UnitKind::Faulty(FaultKind::LostDrain)),
         _ => None,
+    }
+}
+
+/// The names of the memory models, as `--model` takes them; `order_named` knows each.
+static MODEL_NAMES: [&str; 2] = ["tso", "pso"];
+
+/// The memory model of this name.
+pub(crate) fn order_named(name: &str) -> Option<Order>
+    ensures { result ≡ model_order name.now }
+{
+    match name {
+        "tso" => Some(Order::Tso),
+        "pso" => Some(Order::Pso),
+        _ => None,
+    }
+}
+
+/// The names that options take which take one of a list.
+#[derive(Clone, Copy)]
+pub(crate) struct OptionNames<'a> {
+    /// Those of the kinds of units.
+    pub(crate) units: &'a [&'a str],
+    /// Those of the memory models.
+    pub(crate) models: &'a [&'a str],
+}
+
+/// The names of all kinds of units and of all memory models.
+pub(crate) fn option_names() -> OptionNames<'static>
+    ensures { HasKnownNames result }
+{
+    OptionNames {
+        units: UNIT_NAMES.as_slice(),
+        models: MODEL_NAMES.as_slice(),
     }
 }
 
