@@ -1,5 +1,5 @@
 -- What a parse makes of the arguments after `campaign`.
-use Rattle.std.proofs.Common.{◌≡◌, ◌∙◌, ap, refl, subst, sym, inl, inr, ◌⊎◌, Bool, true, false, List, [], ◌∷◌, ◌++◌, Some, None, codes, map}
+use Rattle.std.proofs.Common.{◌≡◌, ◌∙◌, ap, refl, subst, sym, inl, inr, ◌⊎◌, Bool, true, false, List, [], ◌∷◌, ◌++◌, Some, None, codes}
 use Rattle.clap.specs.Faults.{check_fault}
 use Rattle.clap.specs.Kinds.{or_else}
 use Rattle.clap.specs.Simple.{Shape}
@@ -8,15 +8,16 @@ use Rattle.clap.specs.Walk.{Row}
 use Rattle.clap.specs.Words.{fault_of, subcommand_of}
 use Rattle.clap.specs.declared.error.kind.ErrorKind.TheVariants.{MissingRequiredArgument}
 use Rattle.clap.proofs.OnLiterals.{clap_on_literals}
-use Rattle.command_line.specs.Commands.{UnitNames, campaign_app, tsobench_app}
+use Rattle.command_line.specs.Commands.{HasKnownNames, campaign_app, tsobench_app}
+use Rattle.command_line.specs.declared.options.OptionNames.{OptionNames}
 use Rattle.command_line.specs.Internal.Computed.{asked_by, campaigning_by}
 use Rattle.command_line.specs.Options.{AreGiven, IsOneOf, option_value}
 use Rattle.command_line.specs.Refusals.{IsNumber}
 use Rattle.command_line.specs.Requests.{Text, campaigning}
 use Rattle.command_line.specs.Spellings.{AsksToCampaign, campaign_names, seeds_and_shape_names, run_names}
-use Rattle.command_line.specs.Units.{unit_names}
 use Rattle.command_line.specs.declared.options.CampaignOptions.{CampaignOptions}
 use Rattle.command_line.proofs.FoundLemmas.{campaign_options_are}
+use Rattle.command_line.proofs.ModelLemmas.{asked_model_use, model_built, model_default, order_is}
 use Rattle.command_line.proofs.OptionLemmas.{no_flag, no_other}
 use Rattle.command_line.proofs.RequiredLemmas.{OffersShape, addresses_long, count_long, first_long, number_asked, operations_long, processors_long, required_built, required_given, required_is, required_missing, required_use, shape_is, shape_numbers_asked, shape_use}
 use Rattle.command_line.proofs.RowLemmas.{DefaultsPass}
@@ -34,13 +35,13 @@ one_of_both (x ∷ first) second name (inr is) = go (one_of_both first second na
     go (inl one) = inl (inr one)
     go (inr one) = inr one
 
-module _ (names : UnitNames) where
+module _ (names : OptionNames) where
   abbrev pub campaign : Shape
   campaign = built_below (campaign_app names)
 
-  pub defaults : DefaultsPass campaign.rules
+  pub defaults : HasKnownNames names → DefaultsPass campaign.rules
   unfolding clap_on_literals
-  defaults = (refl, (refl, (refl, (refl, (refl, (refl, (refl, (refl, (refl, (refl, tt))))))))))
+  defaults are = (refl, (refl, (refl, (refl, (model_default names are, (refl, (refl, (refl, (refl, (refl, (refl, tt)))))))))))
 
   pub offers_judged : OffersWorkers campaign names
   offers_judged = record {
@@ -51,6 +52,9 @@ module _ (names : UnitNames) where
     };
     workers = record { by_id = refl; by_long = refl; otherwise = refl };
   }
+
+  pub offers_model : Offers campaign (model_built names) (codes "model")
+  offers_model = record { by_id = refl; by_long = refl; otherwise = refl }
 
   pub offers_first : Offers campaign (required_built (codes "first")) (codes "first")
   offers_first = record { by_id = refl; by_long = refl; otherwise = refl }
@@ -74,9 +78,9 @@ module _ (names : UnitNames) where
   seeds_and_shape_use name value (inr (inr is)) number = shape_use campaign offers_shape name value is number
 
   -- what a parse leaves of the options alone
-  pub leaves_options : (options : List (Text × Text)) (arguments : List Text) → AreGiven options [] [] arguments → OptionUses campaign options → LeavesRows campaign arguments options [] []
-  leaves_options options arguments given uses =
-      leaves_rows campaign refl defaults options [] [] arguments [] [] uses (no_uses campaign 1) (no_uses campaign 2) given no_flag (no_other 1)
+  pub leaves_options : HasKnownNames names → (options : List (Text × Text)) (arguments : List Text) → AreGiven options [] [] arguments → OptionUses campaign options → LeavesRows campaign arguments options [] []
+  leaves_options are options arguments given uses =
+      leaves_rows campaign refl (defaults are) options [] [] arguments [] [] uses (no_uses campaign 1) (no_uses campaign 2) given no_flag (no_other 1)
 
   -- ---- an option is left out
 
@@ -157,7 +161,7 @@ module _ (names : UnitNames) where
 
   -- ---- the whole
 
-  module _ (are : map (λ name. name.now) names.now ≡ unit_names) (arguments : List Text) (wanted : CampaignOptions) (asks : AsksToCampaign arguments wanted) where
+  module _ (are : HasKnownNames names) (arguments : List Text) (wanted : CampaignOptions) (asks : AsksToCampaign arguments wanted) where
     -- the options that may not be left out have numbers
     numbers_asked : (name value : Text) → IsOneOf seeds_and_shape_names name → option_value name asks.options ≡ Some value → IsNumber value
     numbers_asked name value (inl is) found =
@@ -167,14 +171,17 @@ module _ (names : UnitNames) where
     numbers_asked name value (inr (inr is)) found = shape_numbers_asked asks.options wanted.shape asks.shape name value is found
 
     use_of : (name value : Text) → IsOneOf campaign_names name → option_value name asks.options ≡ Some value → OptionUse campaign.rules name value
-    use_of name value is found = go (one_of_both run_names seeds_and_shape_names name is)
+    use_of name value (inl is) found =
+        subst (λ (t : Text). OptionUse campaign.rules t value) (sym is)
+        (asked_model_use campaign names offers_model asks.options wanted.order asks.order are value (ap (λ (t : Text). option_value t asks.options) (sym is) ∙ found))
+    use_of name value (inr is) found = go (one_of_both run_names seeds_and_shape_names name is)
       where
         go : IsOneOf run_names name ⊎ IsOneOf seeds_and_shape_names name → OptionUse campaign.rules name value
         go (inl one) = asked_judged_use campaign names offers_judged asks.options wanted.unit wanted.workers asks.unit asks.workers are name value one found
         go (inr one) = seeds_and_shape_use name value one (numbers_asked name value one found)
 
     leaves : LeavesRows campaign arguments asks.options [] []
-    leaves = leaves_options asks.options arguments asks.given (named_uses campaign campaign_names asks.options asks.named use_of)
+    leaves = leaves_options are asks.options arguments asks.given (named_uses campaign campaign_names asks.options asks.named use_of)
 
     abbrev rows : List Row
     rows = leaves.rows
@@ -192,6 +199,7 @@ module _ (names : UnitNames) where
     rows_ask = ap campaigning (campaign_options_are _ _
         (unit_is campaign names offers_judged.unit asks.options wanted.unit asks.unit arguments [] [] leaves)
         (workers_are campaign names offers_judged asks.options wanted.unit wanted.workers asks.unit asks.workers arguments [] [] leaves)
+        (order_is campaign names offers_model asks.options wanted.order asks.order arguments [] [] leaves)
         (required_is campaign (codes "first") first_long offers_first asks.options arguments [] [] leaves wanted.first asks.first)
         (required_is campaign (codes "count") count_long offers_count asks.options arguments [] [] leaves wanted.count asks.count)
         (shape_is campaign offers_shape asks.options arguments [] [] leaves wanted.shape asks.shape))

@@ -1,5 +1,5 @@
 -- Arguments after `campaign` that are refused.
-use Rattle.std.proofs.Common.{◌≡◌, ◌∙◌, ◌≤◌, ◌<◌, ◌^◌, ap, refl, subst, sym, inl, inr, ◌⊎◌, arith, ℕ, false, List, [], ◌∷◌, ◌++◌, None, codes, map}
+use Rattle.std.proofs.Common.{◌≡◌, ◌∙◌, ◌≤◌, ◌<◌, ◌^◌, ap, refl, subst, sym, inl, inr, ◌⊎◌, arith, ℕ, false, List, [], ◌∷◌, ◌++◌, None, codes}
 use Rattle.std.specs.Fmt.{decimal}
 use Rattle.std.specs.List.{All, AllByRecursion}
 use Rattle.clap.specs.Kinds.{or_else}
@@ -7,34 +7,29 @@ use Rattle.clap.specs.Simple.{filled}
 use Rattle.clap.specs.ValueTests.{accepts}
 use Rattle.clap.specs.Words.{fault_of}
 use Rattle.clap.specs.declared.builder.value_parser.ValueParser.TheVariants as parser
-use Rattle.clap.specs.declared.error.kind.ErrorKind.{ErrorKind}
 use Rattle.clap.specs.declared.error.kind.ErrorKind.TheVariants.{InvalidValue, MissingRequiredArgument, ValueValidation}
 use Rattle.command_line.specs.Workers.{worker_limit}
-use Rattle.command_line.specs.Commands.{UnitNames, asked_at, capacity_rule, trigger_rule, tsobench_app, workers_rule}
+use Rattle.command_line.specs.Commands.{HasKnownNames, capacity_rule, trigger_rule, tsobench_app, workers_rule}
+use Rattle.command_line.specs.declared.options.OptionNames.{OptionNames}
 use Rattle.command_line.specs.Options.{AreGiven, AreNamed, IsOneOf, option_value}
 use Rattle.command_line.specs.Refusals.{IsAbove, IsOutside, RefusesValue, TakesNumber, TakesValue}
 use Rattle.command_line.specs.Refusals as refuses
-use Rattle.command_line.specs.Requests.{Text, capacity_limit, refusing}
+use Rattle.command_line.specs.Requests.{Text, capacity_limit}
 use Rattle.command_line.specs.Spellings.{campaign_names, seeds_and_shape_names, run_names}
-use Rattle.command_line.specs.Units.{trigger_limit, unit_names}
-use Rattle.command_line.proofs.CampaignLemmas.{campaign, seeds_and_shape_use, leaves_options, offers_count, offers_first, offers_judged, offers_shape, one_of_both, some_missing}
+use Rattle.command_line.specs.Units.{trigger_limit}
+use Rattle.command_line.proofs.CampaignLemmas.{campaign, seeds_and_shape_use, leaves_options, offers_count, offers_first, offers_judged, offers_model, offers_shape, one_of_both, some_missing}
+use Rattle.command_line.proofs.ModelLemmas.{model_built, model_offered, model_refused, model_use}
 use Rattle.command_line.proofs.RequiredLemmas.{count_long, first_long}
 use Rattle.command_line.proofs.RequiredRefusals.{required_refused, shape_refused, zero_is_number}
 use Rattle.command_line.proofs.RowLemmas.{option_fails}
-use Rattle.command_line.proofs.RunLemmas.{capacity_long, capacity_offered, names_accept, number_use, trigger_long, trigger_offered, unit_built, unit_offered, unit_use, workers_long, workers_offered}
+use Rattle.command_line.proofs.RunLemmas.{capacity_long, capacity_offered, unit_accepts, number_use, trigger_long, trigger_offered, unit_built, unit_offered, unit_use, workers_long, workers_offered}
 use Rattle.command_line.proofs.RunRefusals.{not_within}
 use Rattle.command_line.proofs.SubcommandLemmas.{campaign_fault}
 use Rattle.command_line.proofs.UseLemmas.{LeavesRows, OptionUse, each_of, option_uses}
-use Rattle.command_line.proofs.UseRefusals.{OffersOption, RefusedOption, all_parts, option_among_refused}
+use Rattle.command_line.proofs.UseRefusals.{OffersOption, Refused, RefusedOption, all_parts, option_among_refused}
 use Rattle.command_line.proofs.ValueLemmas.{decimal_fails, decimal_passes}
 
--- an option whose value is refused, by a kind of error that stands for a refusal
-pub record Refused (names : UnitNames) (name value : Text) : Type 0 where
-  pub kind : ErrorKind
-  pub option : RefusedOption (campaign names) kind name value
-  pub asks : asked_at kind ≡ refusing
-
-module _ (names : UnitNames) where
+module _ (names : OptionNames) where
   -- a number outside the range of its option
   outside_refused : (name : Text) (limit n : ℕ) → TakesNumber name limit → IsOutside limit n → n < 10 ^ 64 → RefusedOption (campaign names) ValueValidation name (decimal n)
   outside_refused name limit n refuses.capacity wrong small =
@@ -70,28 +65,33 @@ module _ (names : UnitNames) where
   above_refused name value (inr (inr is)) wrong = shape_refused (campaign names) (offers_shape names) name value is wrong
 
   -- each option is offered
-  offered : (name : Text) → IsOneOf run_names name ⊎ IsOneOf seeds_and_shape_names name → OffersOption (campaign names) name
-  offered name (inl (inl is)) =
+  offered_there : (name : Text) → IsOneOf run_names name ⊎ IsOneOf seeds_and_shape_names name → OffersOption (campaign names) name
+  offered_there name (inl (inl is)) =
       subst (λ (t : Text). OffersOption (campaign names) t) (sym is) (record { rule = unit_built names; is = unit_offered (campaign names) names (offers_judged names).unit })
-  offered name (inl (inr (inl is))) =
+  offered_there name (inl (inr (inl is))) =
       subst (λ (t : Text). OffersOption (campaign names) t) (sym is) (record { rule = filled capacity_rule; is = capacity_offered (campaign names) names (offers_judged names).unit })
-  offered name (inl (inr (inr (inl is)))) =
+  offered_there name (inl (inr (inr (inl is)))) =
       subst (λ (t : Text). OffersOption (campaign names) t) (sym is) (record { rule = filled trigger_rule; is = trigger_offered (campaign names) names (offers_judged names).unit })
-  offered name (inl (inr (inr (inr (inl is))))) =
+  offered_there name (inl (inr (inr (inr (inl is))))) =
       subst (λ (t : Text). OffersOption (campaign names) t) (sym is) (record { rule = filled workers_rule; is = workers_offered (campaign names) names (offers_judged names) })
-  offered name (inl (inr (inr (inr (inr is))))) = absurd is
-  offered name (inr is) =
+  offered_there name (inl (inr (inr (inr (inr is))))) = absurd is
+  offered_there name (inr is) =
       let option = seeds_and_shape_use names name (decimal 0) is zero_is_number in
       record { rule = option.rule; is = option.is }
 
+  offered : (name : Text) → IsOneOf campaign_names name → OffersOption (campaign names) name
+  offered name (inl is) =
+      subst (λ (t : Text). OffersOption (campaign names) t) (sym is) (record { rule = model_built names; is = model_offered (campaign names) names (offers_model names) })
+  offered name (inr is) = offered_there name (one_of_both run_names seeds_and_shape_names name is)
+
   all_offered : (options : List (Text × Text)) → AllByRecursion (λ o. IsOneOf campaign_names o.0) options → AllByRecursion (λ o. OffersOption (campaign names) o.0) options
   all_offered [] known = tt
-  all_offered (o ∷ options) known = (offered o.0 (one_of_both run_names seeds_and_shape_names o.0 known.0), all_offered options known.1)
+  all_offered (o ∷ options) known = (offered o.0 known.0, all_offered options known.1)
 
-module _ (names : UnitNames) (are : map (λ name. name.now) names.now ≡ unit_names) where
-  pub refused_value : (name value : Text) → RefusesValue name value → Refused names name value
+module _ (names : OptionNames) (are : HasKnownNames names) where
+  pub refused_value : (name value : Text) → RefusesValue name value → Refused (campaign names) name value
   refused_value name value (refuses.unit unit unknown) =
-      let refused : accepts false (parser.Names names) unit ≡ false = names_accept names are unit ∙ unknown in
+      let refused : accepts false (parser.Names names.units) unit ≡ false = unit_accepts names are unit ∙ unknown in
       record {
         kind = InvalidValue;
         option = record {
@@ -104,6 +104,8 @@ module _ (names : UnitNames) (are : map (λ name. name.now) names.now ≡ unit_n
       }
   refused_value name value (refuses.number option limit n takes wrong small) =
       record { kind = ValueValidation; option = outside_refused names option limit n takes wrong small; asks = refl }
+  refused_value name value (refuses.model model unknown) =
+      record { kind = InvalidValue; option = model_refused (campaign names) names (offers_model names) are model unknown; asks = refl }
   refused_value name value (refuses.required option text is wrong) =
       record { kind = ValueValidation; option = above_refused names option text is wrong; asks = refl }
 
@@ -121,6 +123,7 @@ module _ (names : UnitNames) (are : map (λ name. name.now) names.now ≡ unit_n
   use_of : (name value : Text) → TakesValue name value → OptionUse (campaign names).rules name value
   use_of name value (refuses.unit unit known) = unit_use (campaign names) names (offers_judged names).unit are unit known
   use_of name value (refuses.number option limit n takes least most) = number_use_of option limit n takes least most
+  use_of name value (refuses.model model known) = model_use (campaign names) names (offers_model names) are model known
   use_of name value (refuses.required option text is number) = seeds_and_shape_use names option text is number
 
   uses_of : (options : List (Text × Text)) → AllByRecursion (λ o. TakesValue o.0 o.1) options → AllByRecursion (λ o. OptionUse (campaign names).rules o.0 o.1) options
@@ -132,7 +135,7 @@ module _ (names : UnitNames) (are : map (λ name. name.now) names.now ≡ unit_n
   module _ (options : List (Text × Text)) (arguments : List Text) (given : AreGiven options [] [] arguments) (named : AreNamed campaign_names options)
       (taken : All (λ o. TakesValue o.0 o.1) options) where
     leaves : LeavesRows (campaign names) arguments options [] []
-    leaves = leaves_options names options arguments given (option_uses (campaign names) options (uses_of options (each_of (λ o. TakesValue o.0 o.1) options taken)) named.once)
+    leaves = leaves_options names are options arguments given (option_uses (campaign names) options (uses_of options (each_of (λ o. TakesValue o.0 o.1) options taken)) named.once)
 
     pub left_out_refused : (name : Text) → IsOneOf (codes "unit" ∷ seeds_and_shape_names) name → option_value name options ≡ None
         → fault_of (tsobench_app names) (codes "campaign" ∷ arguments) ≡ MissingRequiredArgument ∷ []
@@ -140,7 +143,7 @@ module _ (names : UnitNames) (are : map (λ name. name.now) names.now ≡ unit_n
 
   module _ (name value : Text) (before after : List (Text × Text)) (arguments : List Text) (given : AreGiven (before ++ (name, value) ∷ after) [] [] arguments)
       (named : AreNamed campaign_names (before ++ (name, value) ∷ after)) (taken : All (λ o. TakesValue o.0 o.1) before) (refuses_it : RefusesValue name value) where
-    abbrev pub wrong : Refused names name value
+    abbrev pub wrong : Refused (campaign names) name value
     wrong = refused_value name value refuses_it
 
     pub value_refused : fault_of (tsobench_app names) (codes "campaign" ∷ arguments) ≡ wrong.kind ∷ []

@@ -7,7 +7,8 @@ use Rattle.clap.specs.Walk.{Row, Rule, with_default}
 use Rattle.clap.specs.Words.{fault_of, subcommand_of}
 use Rattle.clap.specs.Faults.{check_fault, defaults_fault}
 use Rattle.clap.proofs.OnLiterals.{clap_on_literals}
-use Rattle.command_line.specs.Commands.{UnitNames, certificate_rule, check_app, checking_by, trace_rule, tsobench_app}
+use Rattle.command_line.specs.Commands.{certificate_rule, check_app, checking_by, trace_rule, tsobench_app}
+use Rattle.command_line.specs.declared.options.OptionNames.{OptionNames}
 use Rattle.command_line.specs.Internal.Computed.{asked_by}
 use Rattle.command_line.specs.Requests.{Text, checking}
 use Rattle.command_line.specs.Spellings.{AsksToCheck}
@@ -50,15 +51,15 @@ module _ (trace certificate : Text) where
   uses_ask = refl
 
   -- what is asked for by arguments that ask for checking
-  module _ (units : UnitNames) (arguments : List Text) (asks : AsksToCheck arguments trace certificate) where
+  module _ (option_names : OptionNames) (arguments : List Text) (asks : AsksToCheck arguments trace certificate) where
     gives : Gives check 1 uses arguments
     gives =
         let some = gives_of check 1 [] [] (trace ∷ certificate ∷ []) arguments [] [] uses asks no_option no_flag files_placed in
         subst (λ (u : List Use). Gives check 1 u arguments) (merges_right _ _ _ _ some.merges refl refl) some.gives
 
-    pub check_taken : fault_of (tsobench_app units) (codes "check" ∷ arguments) ≡ []
-    check_taken = subcommand.check_fault units arguments ∙ ap (λ kinds. or_else kinds []) (level_fault_uses check uses arguments gives uses_pass ∙ uses_end)
+    pub check_taken : fault_of (tsobench_app option_names) (codes "check" ∷ arguments) ≡ []
+    check_taken = subcommand.check_fault option_names arguments ∙ ap (λ kinds. or_else kinds []) (level_fault_uses check uses arguments gives uses_pass ∙ uses_end)
 
-    pub check_asked : asked_by (subcommand_of (tsobench_app units) (codes "check" ∷ arguments)) ≡ checking trace certificate
-    check_asked = ap asked_by (subcommand.check_found units arguments)
+    pub check_asked : asked_by (subcommand_of (tsobench_app option_names) (codes "check" ∷ arguments)) ≡ checking trace certificate
+    check_asked = ap asked_by (subcommand.check_found option_names arguments)
         ∙ ap (λ (rows : List Row). asked_by (Some (codes "check", rows))) (rows_after_uses check uses arguments gives uses_pass) ∙ uses_ask

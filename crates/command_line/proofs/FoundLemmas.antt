@@ -11,13 +11,14 @@ use Rattle.clap.specs.declared.parser.matches.Found.{Found}
 use Rattle.clap.specs.declared.builder.value_parser.ValueParser.TheVariants as parser
 use Rattle.clap.proofs.ValueTestLemmas.{accepts-Accepts, Accepts-accepts}
 use Rattle.clap.proofs.WalkLemmas.{first_value-rows, one_text-rows}
+use Rattle.tso_ops.specs.declared.settings.Order.{Order}
 use Rattle.command_line.specs.declared.options.CampaignOptions.{CampaignOptions}
 use Rattle.command_line.specs.declared.options.Printing.{Printing}
 use Rattle.command_line.specs.declared.options.Printing.TheVariants.{Report, Trace}
 use Rattle.command_line.specs.declared.options.RunOptions.{RunOptions}
 use Rattle.command_line.specs.declared.options.ShapeNumbers.{ShapeNumbers}
 use Rattle.command_line.specs.declared.options.UnitOptions.{UnitOptions}
-use Rattle.command_line.specs.Requests.{Text, AskedRun, prints_trace, replaying, running}
+use Rattle.command_line.specs.Requests.{Text, AskedRun, making, prints_trace, replaying, running}
 use Rattle.command_line.specs.Internal.Computed.{flag_in, number_in, number_of, printing_of}
 
 unwrap_or-text : (got : Option (Bor Text)) (empty : Bor Text) → empty.now ≡ [] → (unwrap_or got empty).now ≡ unwrap_or (option_map (λ s. s.now) got) []
@@ -101,14 +102,18 @@ module _ (shape wanted : ShapeNumbers) (processors : shape.processors ≡ wanted
   pub shape_numbers_are : shape ≡ wanted
   shape_numbers_are = rw (processors, operations, addresses) refl
 
-module _ (options wanted : CampaignOptions) (unit : options.unit ≡ wanted.unit) (workers : options.workers ≡ wanted.workers)
+module _ (options wanted : CampaignOptions) (unit : options.unit ≡ wanted.unit) (workers : options.workers ≡ wanted.workers) (order : options.order ≡ wanted.order)
     (first : options.first ≡ wanted.first) (count : options.count ≡ wanted.count) (shape : options.shape ≡ wanted.shape) where
   pub campaign_options_are : options ≡ wanted
-  campaign_options_are = rw (unit, workers, first, count, shape) refl
+  campaign_options_are = rw (unit, workers, order, first, count, shape) refl
 
 module _ (options wanted : RunOptions) (program wanted_program schedule wanted_schedule : Text) where
   pub replaying_are : options ≡ wanted → program ≡ wanted_program → schedule ≡ wanted_schedule → replaying options program schedule ≡ replaying wanted wanted_program wanted_schedule
   replaying_are is program_is schedule_is = rw (is, program_is, schedule_is) refl
+
+module _ (order wanted : Order) (seed wanted_seed : ℕ) (shape wanted_shape : ShapeNumbers) where
+  pub making_are : order ≡ wanted → seed ≡ wanted_seed → shape ≡ wanted_shape → making order seed shape ≡ making wanted wanted_seed wanted_shape
+  making_are order_is seed_is shape_is = rw (order_is, seed_is, shape_is) refl
 
 module _ (run wanted : AskedRun) where
   pub running_are : run.options ≡ wanted.options → run.drain_seed ≡ wanted.drain_seed → run.program ≡ wanted.program → running run ≡ running wanted

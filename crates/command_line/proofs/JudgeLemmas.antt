@@ -12,7 +12,8 @@ use Rattle.clap.specs.Words.{fault_of, subcommand_of}
 use Rattle.clap.specs.declared.builder.value_parser.ValueParser.TheVariants as parser
 use Rattle.clap.proofs.OnLiterals.{clap_on_literals}
 use Rattle.command_line.specs.Workers.{worker_limit}
-use Rattle.command_line.specs.Commands.{UnitNames, file_rule, judge_app, tsobench_app, workers_rule}
+use Rattle.command_line.specs.Commands.{file_rule, judge_app, tsobench_app, workers_rule}
+use Rattle.command_line.specs.declared.options.OptionNames.{OptionNames}
 use Rattle.command_line.specs.Internal.Computed.{asked_by, judging_by, number_in, within_workers}
 use Rattle.command_line.specs.Options.{AreGiven}
 use Rattle.command_line.specs.Requests.{Text, judging}
@@ -123,14 +124,14 @@ uses_of (option ∷ []) arguments file n given is =
 uses_of (option ∷ other ∷ others) arguments file n given is = absurd is
 
 -- what is asked for by arguments that ask for judging
-module _ (units : UnitNames) (arguments : List Text) (file : Option Text) (n : ℕ) (asks : AsksToJudge arguments file n) where
+module _ (option_names : OptionNames) (arguments : List Text) (file : Option Text) (n : ℕ) (asks : AsksToJudge arguments file n) where
   found : JudgingUses arguments file n
   found = uses_of asks.options arguments file n asks.given asks.workers
 
-  pub judge_taken : fault_of (tsobench_app units) (codes "judge" ∷ arguments) ≡ []
-  judge_taken = judge_fault units arguments
+  pub judge_taken : fault_of (tsobench_app option_names) (codes "judge" ∷ arguments) ≡ []
+  judge_taken = judge_fault option_names arguments
       ∙ ap (λ kinds. or_else kinds []) (level_fault_uses judge found.uses arguments found.gives found.are.passes ∙ found.are.ends)
 
-  pub judge_asked : asked_by (subcommand_of (tsobench_app units) (codes "judge" ∷ arguments)) ≡ judging file n
-  judge_asked = ap asked_by (judge_found units arguments)
+  pub judge_asked : asked_by (subcommand_of (tsobench_app option_names) (codes "judge" ∷ arguments)) ≡ judging file n
+  judge_asked = ap asked_by (judge_found option_names arguments)
       ∙ ap (λ (rows : List Row). asked_by (Some (codes "judge", rows))) (rows_after_uses judge found.uses arguments found.gives found.are.passes) ∙ found.are.asks

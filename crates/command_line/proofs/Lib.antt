@@ -23,6 +23,7 @@ pub mod RunningRefusals
 pub mod JudgeRefusals
 pub mod CheckRefusals
 pub mod UseRefusals
+pub mod ModelLemmas
 pub mod RequiredRefusals
 pub mod MakeRefusals
 pub mod CampaignRefusals

@@ -1,5 +1,5 @@
 -- From what the matches are computed to stand for to what they ask for.
-use Rattle.std.proofs.Common.{◌≡◌, ◌∙◌, ◌≤◌, ◌<◌, ◌^◌, ◌-◌, ℕ, ap, refl, subst, sym, inl, arith, Bool, true, false, List, [], ◌∷◌, Option, Some, None, Result, IfOk, IsErr, codes, map, option_and_then, unwrap_or}
+use Rattle.std.proofs.Common.{◌≡◌, ◌∙◌, ◌≤◌, ◌<◌, ◌^◌, ◌-◌, ℕ, ap, refl, subst, sym, inl, arith, Bool, true, false, List, [], ◌∷◌, Option, Some, None, Result, IfOk, IsErr, codes, option_and_then, unwrap_or}
 use Rattle.std.specs.declared.alloc.AllocError.{AllocError}
 use Rattle.std.specs.Option.{option_map_or}
 use Rattle.std.specs.Str.{bytes_eq}
@@ -14,9 +14,11 @@ use Rattle.clap.proofs.ValueTestLemmas.{accepts-Accepts, Accepts-accepts}
 use Rattle.command_line.specs.Workers.{worker_limit}
 use Rattle.command_line.specs.Requests.{Text, Asked, asked_of, capacity_limit, number_limit, showing}
 use Rattle.command_line.specs.declared.requests.Request.{Request}
-use Rattle.command_line.specs.Commands.{AskCampaign, AskFlag, AskNumber, AskRequired, AskRun, AskShape, AskToRun, AskUnit, AskWorkers, IsAskedBy, IsAskedByMatches, IsAskedFor, UnitNames, asked_at, tsobench_app}
-use Rattle.command_line.specs.Internal.Computed.{IsFoundBy, asked_by, asked_in, asked_run_in, campaign_in, flag_in, number_in, number_of, parsed_as, required_in, run_in, shape_in, unit_in, within, workers_in}
-use Rattle.command_line.specs.Units.{default_capacity, default_trigger, trigger_limit, unit_kind, unit_names}
+use Rattle.command_line.specs.Commands.{AskCampaign, AskFlag, AskModel, AskNumber, AskRequired, AskRun, AskShape, AskToRun, AskUnit, AskWorkers, HasKnownNames, IsAskedBy, IsAskedByMatches, IsAskedFor, asked_at, tsobench_app}
+use Rattle.command_line.specs.declared.options.OptionNames.{OptionNames}
+use Rattle.command_line.specs.Internal.Computed.{IsFoundBy, asked_by, asked_in, asked_run_in, campaign_in, flag_in, number_in, number_of, order_in, parsed_as, required_in, run_in, shape_in, unit_in, within, workers_in}
+use Rattle.command_line.specs.Models.{default_model, model_order}
+use Rattle.command_line.specs.Units.{default_capacity, default_trigger, trigger_limit, unit_kind}
 use Rattle.command_line.specs.declared.options.UnitKind.TheVariants.{Serial}
 use Rattle.command_line.proofs.FoundLemmas.{prints_back}
 use Rattle.command_line.proofs.KindLemmas.{asked_by_error}
@@ -91,10 +93,17 @@ ask_shape rows = record {
   addresses = ask_required (codes "addrs") rows;
 }
 
+ask_model : (rows : List Row) → AskModel rows (order_in rows)
+ask_model rows = record {
+  unnamed = λ none. ap (λ o. unwrap_or (option_and_then model_order o) default_model) none;
+  named = λ name model is model_is. ap (λ o. unwrap_or (option_and_then model_order o) default_model) is ∙ ap (λ o. unwrap_or o default_model) model_is;
+}
+
 ask_campaign : (rows : List Row) → AskCampaign rows (campaign_in rows)
 ask_campaign rows = record {
   unit = ask_unit rows;
   workers = ask_workers rows;
+  order = ask_model rows;
   first = ask_required (codes "first") rows;
   count = ask_required (codes "count") rows;
   shape = ask_shape rows;
@@ -107,7 +116,7 @@ matched (Some found) asked is = record {
   check = λ name. is ∙ ap (λ (t : Text). asked_in t found.1) name;
   replay = λ name. (run_in found.1, ask_run found.1, is ∙ ap (λ (t : Text). asked_in t found.1) name);
   run = λ name. (asked_run_in found.1, ask_to_run found.1, is ∙ ap (λ (t : Text). asked_in t found.1) name);
-  make = λ name. (required_in (codes "seed") found.1, shape_in found.1, ask_required (codes "seed") found.1, ask_shape found.1, is ∙ ap (λ (t : Text). asked_in t found.1) name);
+  make = λ name. (order_in found.1, required_in (codes "seed") found.1, shape_in found.1, ask_model found.1, ask_required (codes "seed") found.1, ask_shape found.1, is ∙ ap (λ (t : Text). asked_in t found.1) name);
   campaign = λ name. (campaign_in found.1, ask_campaign found.1, is ∙ ap (λ (t : Text). asked_in t found.1) name);
 }
 
@@ -118,60 +127,60 @@ found_asked (kind ∷ others) found asked is = is
 text_is : (a b : Text) → bytes_eq a b ≡ true → a ≡ b
 text_is a b e = (bytes_eq-Decides a b).0 e
 
-module _ (units : UnitNames) where
-  -- what the arguments ask for where the units have these names
+module _ (option_names : OptionNames) where
+  -- what the arguments ask for where options take these names
   abbrev IsAskedBelow : List Text → Asked → Type 0
-  IsAskedBelow arguments asked = IsAskedBy (fault_of (tsobench_app units) arguments) (subcommand_of (tsobench_app units) arguments) asked
+  IsAskedBelow arguments asked = IsAskedBy (fault_of (tsobench_app option_names) arguments) (subcommand_of (tsobench_app option_names) arguments) asked
 
   -- where they are parsed as they stand
-  as_given : (arguments : List Text) (asked : Asked) → parsed_as arguments ≡ arguments → IsFound units arguments asked → IsAskedBelow arguments asked
+  as_given : (arguments : List Text) (asked : Asked) → parsed_as arguments ≡ arguments → IsFound option_names arguments asked → IsAskedBelow arguments asked
   as_given arguments asked same is =
-      found_asked _ _ asked (subst (λ (a : List Text). IsFoundBy (fault_of (tsobench_app units) a) (subcommand_of (tsobench_app units) a) asked) same is)
+      found_asked _ _ asked (subst (λ (a : List Text). IsFoundBy (fault_of (tsobench_app option_names) a) (subcommand_of (tsobench_app option_names) a) asked) same is)
 
   -- `help` may show its text or be refused
-  shown : (arguments : List Text) (asked : Asked) → fault_of (tsobench_app units) arguments ≡ DisplayHelp ∷ InvalidSubcommand ∷ [] → asked ≡ showing → IsAskedBelow arguments asked
-  shown arguments asked kinds is = subst (λ (k : Kinds). IsAskedBy k (subcommand_of (tsobench_app units) arguments) asked) (sym kinds) (inl is)
+  shown : (arguments : List Text) (asked : Asked) → fault_of (tsobench_app option_names) arguments ≡ DisplayHelp ∷ InvalidSubcommand ∷ [] → asked ≡ showing → IsAskedBelow arguments asked
+  shown arguments asked kinds is = subst (λ (k : Kinds). IsAskedBy k (subcommand_of (tsobench_app option_names) arguments) asked) (sym kinds) (inl is)
 
-  one_asked : (first : Text) (asked : Asked) → IsFound units (first ∷ []) asked → IsAskedBelow (first ∷ []) asked
+  one_asked : (first : Text) (asked : Asked) → IsFound option_names (first ∷ []) asked → IsAskedBelow (first ∷ []) asked
   one_asked first asked is = go (bytes_eq first (codes "help")) refl
     where
       go : (b : Bool) → bytes_eq first (codes "help") ≡ b → IsAskedBelow (first ∷ []) asked
       go false e = as_given (first ∷ []) asked (rw e refl) is
       go true e =
           let named = text_is first (codes "help") e in
-          let shows : asked ≡ showing = by_kind _ asked _ _ (program.help_shown units) (subst (λ (t : Text). IsFound units (t ∷ []) asked) named is) in
-          subst (λ (t : Text). IsAskedBelow (t ∷ []) asked) (sym named) (shown (codes "help" ∷ []) asked (program.help_called units) shows)
+          let shows : asked ≡ showing = by_kind _ asked _ _ (program.help_shown option_names) (subst (λ (t : Text). IsFound option_names (t ∷ []) asked) named is) in
+          subst (λ (t : Text). IsAskedBelow (t ∷ []) asked) (sym named) (shown (codes "help" ∷ []) asked (program.help_called option_names) shows)
 
   -- `help` with the name of a subcommand
-  module _ (first name : Text) (asked : Asked) (is : IsFound units (first ∷ name ∷ []) asked) (called : bytes_eq first (codes "help") ≡ true) where
-    help_named : (other : Text) → bytes_eq name other ≡ true → (IsFound units (codes "help" ∷ other ∷ []) asked → asked ≡ showing)
-        → fault_of (tsobench_app units) (codes "help" ∷ other ∷ []) ≡ DisplayHelp ∷ InvalidSubcommand ∷ [] → IsAskedBelow (first ∷ name ∷ []) asked
+  module _ (first name : Text) (asked : Asked) (is : IsFound option_names (first ∷ name ∷ []) asked) (called : bytes_eq first (codes "help") ≡ true) where
+    help_named : (other : Text) → bytes_eq name other ≡ true → (IsFound option_names (codes "help" ∷ other ∷ []) asked → asked ≡ showing)
+        → fault_of (tsobench_app option_names) (codes "help" ∷ other ∷ []) ≡ DisplayHelp ∷ InvalidSubcommand ∷ [] → IsAskedBelow (first ∷ name ∷ []) asked
     help_named other e shows kinds =
         let is_help = text_is first (codes "help") called in
         let is_other = text_is name other e in
-        let found = subst (λ (t : Text). IsFound units (codes "help" ∷ t ∷ []) asked) is_other (subst (λ (t : Text). IsFound units (t ∷ name ∷ []) asked) is_help is) in
+        let found = subst (λ (t : Text). IsFound option_names (codes "help" ∷ t ∷ []) asked) is_other (subst (λ (t : Text). IsFound option_names (t ∷ name ∷ []) asked) is_help is) in
         let wanted = shown (codes "help" ∷ other ∷ []) asked kinds (shows found) in
         subst (λ (t : Text). IsAskedBelow (t ∷ name ∷ []) asked) (sym is_help) (subst (λ (t : Text). IsAskedBelow (codes "help" ∷ t ∷ []) asked) (sym is_other) wanted)
 
     of_judge : bytes_eq name (codes "judge") ≡ true → IsAskedBelow (first ∷ name ∷ []) asked
-    of_judge e = help_named (codes "judge") e (λ found. by_kind _ asked _ _ (program.judge_help_shown units) found) (program.judge_help_called units)
+    of_judge e = help_named (codes "judge") e (λ found. by_kind _ asked _ _ (program.judge_help_shown option_names) found) (program.judge_help_called option_names)
 
     of_replay : bytes_eq name (codes "replay") ≡ true → IsAskedBelow (first ∷ name ∷ []) asked
-    of_replay e = help_named (codes "replay") e (λ found. by_kind _ asked _ _ (program.replay_help_shown units) found) (program.replay_help_called units)
+    of_replay e = help_named (codes "replay") e (λ found. by_kind _ asked _ _ (program.replay_help_shown option_names) found) (program.replay_help_called option_names)
 
     of_run : bytes_eq name (codes "run") ≡ true → IsAskedBelow (first ∷ name ∷ []) asked
-    of_run e = help_named (codes "run") e (λ found. by_kind _ asked _ _ (program.run_help_shown units) found) (program.run_help_called units)
+    of_run e = help_named (codes "run") e (λ found. by_kind _ asked _ _ (program.run_help_shown option_names) found) (program.run_help_called option_names)
 
     of_make : bytes_eq name (codes "make") ≡ true → IsAskedBelow (first ∷ name ∷ []) asked
-    of_make e = help_named (codes "make") e (λ found. by_kind _ asked _ _ (program.make_help_shown units) found) (program.make_help_called units)
+    of_make e = help_named (codes "make") e (λ found. by_kind _ asked _ _ (program.make_help_shown option_names) found) (program.make_help_called option_names)
 
     of_campaign : bytes_eq name (codes "campaign") ≡ true → IsAskedBelow (first ∷ name ∷ []) asked
-    of_campaign e = help_named (codes "campaign") e (λ found. by_kind _ asked _ _ (program.campaign_help_shown units) found) (program.campaign_help_called units)
+    of_campaign e = help_named (codes "campaign") e (λ found. by_kind _ asked _ _ (program.campaign_help_shown option_names) found) (program.campaign_help_called option_names)
 
     of_check : bytes_eq name (codes "check") ≡ true → IsAskedBelow (first ∷ name ∷ []) asked
-    of_check e = help_named (codes "check") e (λ found. by_kind _ asked _ _ (program.check_help_shown units) found) (program.check_help_called units)
+    of_check e = help_named (codes "check") e (λ found. by_kind _ asked _ _ (program.check_help_shown option_names) found) (program.check_help_called option_names)
 
-  two_asked : (first name : Text) (asked : Asked) → IsFound units (first ∷ name ∷ []) asked → IsAskedBelow (first ∷ name ∷ []) asked
+  two_asked : (first name : Text) (asked : Asked) → IsFound option_names (first ∷ name ∷ []) asked → IsAskedBelow (first ∷ name ∷ []) asked
   two_asked first name asked is =
       go (bytes_eq first (codes "help")) (bytes_eq name (codes "judge")) (bytes_eq name (codes "check")) (bytes_eq name (codes "replay")) (bytes_eq name (codes "run"))
       (bytes_eq name (codes "make")) (bytes_eq name (codes "campaign")) refl refl refl refl refl refl refl
@@ -187,17 +196,17 @@ module _ (units : UnitNames) where
       go true false false false false false true e f g k l n o = of_campaign first name asked is e o
       go true false false false false false false e f g k l n o = as_given (first ∷ name ∷ []) asked (rw (e, f, g, k, l, n, o) refl) is
 
-  parsed_asked : (arguments : List Text) (asked : Asked) → IsFound units arguments asked → IsAskedBelow arguments asked
+  parsed_asked : (arguments : List Text) (asked : Asked) → IsFound option_names arguments asked → IsAskedBelow arguments asked
   parsed_asked [] asked is = as_given [] asked refl is
   parsed_asked (first ∷ []) asked is = one_asked first asked is
   parsed_asked (first ∷ name ∷ []) asked is = two_asked first name asked is
   parsed_asked (first ∷ second ∷ third ∷ rest) asked is = as_given (first ∷ second ∷ third ∷ rest) asked refl is
 
   -- what the arguments ask for that are parsed is asked for by those that were given
-  pub asked_for : map (λ name. name.now) units.now ≡ unit_names → (arguments : List Text) (asked : Asked) → IsFound units arguments asked → IsAskedFor arguments asked
-  asked_for are arguments asked is = (units, are, parsed_asked arguments asked is)
+  pub asked_for : HasKnownNames option_names → (arguments : List Text) (asked : Asked) → IsFound option_names arguments asked → IsAskedFor arguments asked
+  asked_for are arguments asked is = (option_names, are, parsed_asked arguments asked is)
 
   -- what a request that an error stands for asks for
-  pub error_found : (r : Result Request AllocError) (texts : List Text) (e : Error) → HasKind (fault_of (tsobench_app units) (parsed_as texts)) e
-      → (kind_of e ≡ OutOfMemory → IsErr r) → IfOk r (λ request. asked_of request ≡ asked_at (kind_of e)) → IfOk r (λ request. IsFound units texts (asked_of request))
-  error_found r texts e has memory asked = asked_by_error r (fault_of (tsobench_app units) (parsed_as texts)) (subcommand_of (tsobench_app units) (parsed_as texts)) e has memory asked
+  pub error_found : (r : Result Request AllocError) (texts : List Text) (e : Error) → HasKind (fault_of (tsobench_app option_names) (parsed_as texts)) e
+      → (kind_of e ≡ OutOfMemory → IsErr r) → IfOk r (λ request. asked_of request ≡ asked_at (kind_of e)) → IfOk r (λ request. IsFound option_names texts (asked_of request))
+  error_found r texts e has memory asked = asked_by_error r (fault_of (tsobench_app option_names) (parsed_as texts)) (subcommand_of (tsobench_app option_names) (parsed_as texts)) e has memory asked

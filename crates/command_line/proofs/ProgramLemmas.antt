@@ -8,104 +8,105 @@ use Rattle.clap.proofs.OnLiterals.{clap_on_literals}
 use Rattle.command_line.proofs.ValueLemmas.{IsValue}
 use Rattle.command_line.specs.Requests.{Text}
 use Rattle.command_line.specs.Refusals.{is_subcommand}
-use Rattle.command_line.specs.Commands.{UnitNames, tsobench_app}
+use Rattle.command_line.specs.Commands.{tsobench_app}
+use Rattle.command_line.specs.declared.options.OptionNames.{OptionNames}
 use Rattle.command_line.specs.Internal.Computed.{parsed_as}
 
-module _ (units : UnitNames) where
-  pub nothing_taken : fault_of (tsobench_app units) [] ≡ []
+module _ (option_names : OptionNames) where
+  pub nothing_taken : fault_of (tsobench_app option_names) [] ≡ []
   unfolding clap_on_literals
   nothing_taken = refl
 
-  pub help_shown : fault_of (tsobench_app units) (codes "--help" ∷ []) ≡ DisplayHelp ∷ []
+  pub help_shown : fault_of (tsobench_app option_names) (codes "--help" ∷ []) ≡ DisplayHelp ∷ []
   unfolding clap_on_literals
   help_shown = refl
 
-  pub short_help_shown : fault_of (tsobench_app units) (codes "-h" ∷ []) ≡ DisplayHelp ∷ []
+  pub short_help_shown : fault_of (tsobench_app option_names) (codes "-h" ∷ []) ≡ DisplayHelp ∷ []
   unfolding clap_on_literals
   short_help_shown = refl
 
-  pub judge_help_shown : fault_of (tsobench_app units) (codes "judge" ∷ codes "--help" ∷ []) ≡ DisplayHelp ∷ []
+  pub judge_help_shown : fault_of (tsobench_app option_names) (codes "judge" ∷ codes "--help" ∷ []) ≡ DisplayHelp ∷ []
   unfolding clap_on_literals
   judge_help_shown = refl
 
-  pub judge_short_shown : fault_of (tsobench_app units) (codes "judge" ∷ codes "-h" ∷ []) ≡ DisplayHelp ∷ []
+  pub judge_short_shown : fault_of (tsobench_app option_names) (codes "judge" ∷ codes "-h" ∷ []) ≡ DisplayHelp ∷ []
   unfolding clap_on_literals
   judge_short_shown = refl
 
-  pub check_short_shown : fault_of (tsobench_app units) (codes "check" ∷ codes "-h" ∷ []) ≡ DisplayHelp ∷ []
+  pub check_short_shown : fault_of (tsobench_app option_names) (codes "check" ∷ codes "-h" ∷ []) ≡ DisplayHelp ∷ []
   unfolding clap_on_literals
   check_short_shown = refl
 
   -- what `clap` promises of `help`
-  pub help_called : fault_of (tsobench_app units) (codes "help" ∷ []) ≡ DisplayHelp ∷ InvalidSubcommand ∷ []
+  pub help_called : fault_of (tsobench_app option_names) (codes "help" ∷ []) ≡ DisplayHelp ∷ InvalidSubcommand ∷ []
   unfolding clap_on_literals
   help_called = refl
 
-  pub judge_help_called : fault_of (tsobench_app units) (codes "help" ∷ codes "judge" ∷ []) ≡ DisplayHelp ∷ InvalidSubcommand ∷ []
+  pub judge_help_called : fault_of (tsobench_app option_names) (codes "help" ∷ codes "judge" ∷ []) ≡ DisplayHelp ∷ InvalidSubcommand ∷ []
   unfolding clap_on_literals
   judge_help_called = refl
 
-  pub check_help_called : fault_of (tsobench_app units) (codes "help" ∷ codes "check" ∷ []) ≡ DisplayHelp ∷ InvalidSubcommand ∷ []
+  pub check_help_called : fault_of (tsobench_app option_names) (codes "help" ∷ codes "check" ∷ []) ≡ DisplayHelp ∷ InvalidSubcommand ∷ []
   unfolding clap_on_literals
   check_help_called = refl
 
-  pub check_help_shown : fault_of (tsobench_app units) (codes "check" ∷ codes "--help" ∷ []) ≡ DisplayHelp ∷ []
+  pub check_help_shown : fault_of (tsobench_app option_names) (codes "check" ∷ codes "--help" ∷ []) ≡ DisplayHelp ∷ []
   unfolding clap_on_literals
   check_help_shown = refl
 
-  pub version_shown : fault_of (tsobench_app units) (codes "--version" ∷ []) ≡ DisplayVersion ∷ []
+  pub version_shown : fault_of (tsobench_app option_names) (codes "--version" ∷ []) ≡ DisplayVersion ∷ []
   unfolding clap_on_literals
   version_shown = refl
 
-  pub short_version_shown : fault_of (tsobench_app units) (codes "-V" ∷ []) ≡ DisplayVersion ∷ []
+  pub short_version_shown : fault_of (tsobench_app option_names) (codes "-V" ∷ []) ≡ DisplayVersion ∷ []
   unfolding clap_on_literals
   short_version_shown = refl
 
-  pub replay_help_shown : fault_of (tsobench_app units) (codes "replay" ∷ codes "--help" ∷ []) ≡ DisplayHelp ∷ []
+  pub replay_help_shown : fault_of (tsobench_app option_names) (codes "replay" ∷ codes "--help" ∷ []) ≡ DisplayHelp ∷ []
   unfolding clap_on_literals
   replay_help_shown = refl
 
-  pub replay_short_shown : fault_of (tsobench_app units) (codes "replay" ∷ codes "-h" ∷ []) ≡ DisplayHelp ∷ []
+  pub replay_short_shown : fault_of (tsobench_app option_names) (codes "replay" ∷ codes "-h" ∷ []) ≡ DisplayHelp ∷ []
   unfolding clap_on_literals
   replay_short_shown = refl
 
-  pub replay_help_called : fault_of (tsobench_app units) (codes "help" ∷ codes "replay" ∷ []) ≡ DisplayHelp ∷ InvalidSubcommand ∷ []
+  pub replay_help_called : fault_of (tsobench_app option_names) (codes "help" ∷ codes "replay" ∷ []) ≡ DisplayHelp ∷ InvalidSubcommand ∷ []
   unfolding clap_on_literals
   replay_help_called = refl
 
-  pub run_help_shown : fault_of (tsobench_app units) (codes "run" ∷ codes "--help" ∷ []) ≡ DisplayHelp ∷ []
+  pub run_help_shown : fault_of (tsobench_app option_names) (codes "run" ∷ codes "--help" ∷ []) ≡ DisplayHelp ∷ []
   unfolding clap_on_literals
   run_help_shown = refl
 
-  pub run_short_shown : fault_of (tsobench_app units) (codes "run" ∷ codes "-h" ∷ []) ≡ DisplayHelp ∷ []
+  pub run_short_shown : fault_of (tsobench_app option_names) (codes "run" ∷ codes "-h" ∷ []) ≡ DisplayHelp ∷ []
   unfolding clap_on_literals
   run_short_shown = refl
 
-  pub run_help_called : fault_of (tsobench_app units) (codes "help" ∷ codes "run" ∷ []) ≡ DisplayHelp ∷ InvalidSubcommand ∷ []
+  pub run_help_called : fault_of (tsobench_app option_names) (codes "help" ∷ codes "run" ∷ []) ≡ DisplayHelp ∷ InvalidSubcommand ∷ []
   unfolding clap_on_literals
   run_help_called = refl
 
-  pub make_help_shown : fault_of (tsobench_app units) (codes "make" ∷ codes "--help" ∷ []) ≡ DisplayHelp ∷ []
+  pub make_help_shown : fault_of (tsobench_app option_names) (codes "make" ∷ codes "--help" ∷ []) ≡ DisplayHelp ∷ []
   unfolding clap_on_literals
   make_help_shown = refl
 
-  pub make_short_shown : fault_of (tsobench_app units) (codes "make" ∷ codes "-h" ∷ []) ≡ DisplayHelp ∷ []
+  pub make_short_shown : fault_of (tsobench_app option_names) (codes "make" ∷ codes "-h" ∷ []) ≡ DisplayHelp ∷ []
   unfolding clap_on_literals
   make_short_shown = refl
 
-  pub make_help_called : fault_of (tsobench_app units) (codes "help" ∷ codes "make" ∷ []) ≡ DisplayHelp ∷ InvalidSubcommand ∷ []
+  pub make_help_called : fault_of (tsobench_app option_names) (codes "help" ∷ codes "make" ∷ []) ≡ DisplayHelp ∷ InvalidSubcommand ∷ []
   unfolding clap_on_literals
   make_help_called = refl
 
-  pub campaign_help_shown : fault_of (tsobench_app units) (codes "campaign" ∷ codes "--help" ∷ []) ≡ DisplayHelp ∷ []
+  pub campaign_help_shown : fault_of (tsobench_app option_names) (codes "campaign" ∷ codes "--help" ∷ []) ≡ DisplayHelp ∷ []
   unfolding clap_on_literals
   campaign_help_shown = refl
 
-  pub campaign_short_shown : fault_of (tsobench_app units) (codes "campaign" ∷ codes "-h" ∷ []) ≡ DisplayHelp ∷ []
+  pub campaign_short_shown : fault_of (tsobench_app option_names) (codes "campaign" ∷ codes "-h" ∷ []) ≡ DisplayHelp ∷ []
   unfolding clap_on_literals
   campaign_short_shown = refl
 
-  pub campaign_help_called : fault_of (tsobench_app units) (codes "help" ∷ codes "campaign" ∷ []) ≡ DisplayHelp ∷ InvalidSubcommand ∷ []
+  pub campaign_help_called : fault_of (tsobench_app option_names) (codes "help" ∷ codes "campaign" ∷ []) ≡ DisplayHelp ∷ InvalidSubcommand ∷ []
   unfolding clap_on_literals
   campaign_help_called = refl
 
@@ -161,9 +162,9 @@ module _ (first : Text) (is : IsValue first) (unknown : is_subcommand first ≡ 
   no_help : bytes_eq first (codes "help") ≡ false
   no_help = (neither _ _ after_make).1
 
-  pub unknown_refused : (units : UnitNames) (rest : List Text) → fault_of (tsobench_app units) (first ∷ rest) ≡ UnknownArgument ∷ InvalidSubcommand ∷ []
+  pub unknown_refused : (option_names : OptionNames) (rest : List Text) → fault_of (tsobench_app option_names) (first ∷ rest) ≡ UnknownArgument ∷ InvalidSubcommand ∷ []
   unfolding clap_on_literals
-  unknown_refused units rest = rw (no_judge, no_check, no_replay, no_run, no_make, no_campaign, other_order first (codes "help") no_help, is.no_escape, is.no_long, is.no_short) refl
+  unknown_refused option_names rest = rw (no_judge, no_check, no_replay, no_run, no_make, no_campaign, other_order first (codes "help") no_help, is.no_escape, is.no_long, is.no_short) refl
 
   pub parsed_unchanged : (rest : List Text) → parsed_as (first ∷ rest) ≡ first ∷ rest
   parsed_unchanged [] = rw no_help refl

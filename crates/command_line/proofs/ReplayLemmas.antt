@@ -1,5 +1,5 @@
 -- What a parse makes of the arguments after `replay`.
-use Rattle.std.proofs.Common.{◌≡◌, ◌∙◌, ap, refl, Bool, true, false, List, [], ◌∷◌, Some, codes, map}
+use Rattle.std.proofs.Common.{◌≡◌, ◌∙◌, ap, refl, Bool, true, false, List, [], ◌∷◌, Some, codes}
 use Rattle.std.specs.Prelude.{option_and_then, slice_get}
 use Rattle.std.specs.List.{find}
 use Rattle.std.specs.Option.{option_map_or, unwrap_or}
@@ -12,12 +12,12 @@ use Rattle.clap.specs.Walk.{Row, Rule}
 use Rattle.clap.specs.Words.{fault_of, subcommand_of}
 use Rattle.clap.specs.declared.error.kind.ErrorKind.TheVariants.{MissingRequiredArgument}
 use Rattle.clap.proofs.OnLiterals.{clap_on_literals}
-use Rattle.command_line.specs.Commands.{UnitNames, program_file_rule, replay_app, schedule_file_rule, tsobench_app}
+use Rattle.command_line.specs.Commands.{HasKnownNames, program_file_rule, replay_app, schedule_file_rule, tsobench_app}
+use Rattle.command_line.specs.declared.options.OptionNames.{OptionNames}
 use Rattle.command_line.specs.Internal.Computed.{asked_by, replaying_by}
 use Rattle.command_line.specs.Options.{AreNamed}
 use Rattle.command_line.specs.Requests.{Text, prints_trace, replaying}
 use Rattle.command_line.specs.Spellings.{AsksRun, AsksToReplay, run_names}
-use Rattle.command_line.specs.Units.{unit_names}
 use Rattle.command_line.specs.declared.options.RunOptions.{RunOptions}
 use Rattle.command_line.proofs.FoundLemmas.{replaying_are}
 use Rattle.command_line.proofs.OptionLemmas.{Placed, TakesOne, Use, no_other, placed}
@@ -26,7 +26,7 @@ use Rattle.command_line.proofs.RunLemmas.{FlagUses, OffersRun, asked_run_use, fl
 use Rattle.command_line.proofs.SubcommandLemmas.{built_below, replay_fault, replay_found}
 use Rattle.command_line.proofs.UseLemmas.{AreUses, LeavesRows, OptionUses, leaves_rows, named_uses}
 
-module _ (names : UnitNames) where
+module _ (names : OptionNames) where
   abbrev pub replay : Shape
   replay = built_below (replay_app names)
 
@@ -66,7 +66,7 @@ module _ (names : UnitNames) where
 
   -- ---- options
 
-  module _ (are : map (λ name. name.now) names.now ≡ unit_names) (options : List (Text × Text)) (flags : List Text) (run : RunOptions) (asks : AsksRun options flags run) where
+  module _ (are : HasKnownNames names) (options : List (Text × Text)) (flags : List Text) (run : RunOptions) (asks : AsksRun options flags run) where
     pub run_uses : AreNamed run_names options → OptionUses replay options
     run_uses named = named_uses replay run_names options named (asked_run_use replay names offers_run options flags run asks are)
 
@@ -95,7 +95,7 @@ module _ (names : UnitNames) where
 
     -- ---- the whole
 
-    module _ (are : map (λ name. name.now) names.now ≡ unit_names) (arguments : List Text) (run : RunOptions) (asks : AsksToReplay arguments run program schedule) where
+    module _ (are : HasKnownNames names) (arguments : List Text) (run : RunOptions) (asks : AsksToReplay arguments run program schedule) where
       used_flags : FlagUses replay names offers_run asks.flags (prints_trace run.printing)
       used_flags = flag_uses replay names offers_run asks.flags (prints_trace run.printing) asks.asks.trace
 

@@ -1,5 +1,5 @@
 -- Arguments after `replay` that are refused.
-use Rattle.std.proofs.Common.{◌≡◌, ◌∙◌, ◌<◌, ◌^◌, ap, refl, subst, sym, arith, ℕ, true, false, List, [], ◌∷◌, ◌++◌, Option, Some, None, codes, map, length}
+use Rattle.std.proofs.Common.{◌≡◌, ◌∙◌, ◌<◌, ◌^◌, ap, refl, subst, sym, arith, ℕ, true, false, List, [], ◌∷◌, ◌++◌, Option, Some, None, codes, length}
 use Rattle.std.specs.Fmt.{decimal}
 use Rattle.std.specs.List.{find}
 use Rattle.std.specs.Option.{option_map, option_map_or, option_or}
@@ -12,12 +12,13 @@ use Rattle.clap.specs.Words.{fault_of}
 use Rattle.clap.specs.declared.error.kind.ErrorKind.{ErrorKind}
 use Rattle.clap.specs.declared.error.kind.ErrorKind.TheVariants.{InvalidValue, MissingRequiredArgument, UnknownArgument, ValueValidation}
 use Rattle.clap.proofs.OnLiterals.{clap_on_literals}
-use Rattle.command_line.specs.Commands.{UnitNames, tsobench_app}
+use Rattle.command_line.specs.Commands.{HasKnownNames, tsobench_app}
+use Rattle.command_line.specs.declared.options.OptionNames.{OptionNames}
 use Rattle.command_line.specs.Options.{AreGiven, AreNamed, NamesOption}
 use Rattle.command_line.specs.Refusals.{IsOutside, TakesNumber}
 use Rattle.command_line.specs.Requests.{Text, prints_trace}
 use Rattle.command_line.specs.Spellings.{AsksRun, run_names}
-use Rattle.command_line.specs.Units.{is_unit, unit_names}
+use Rattle.command_line.specs.Units.{is_unit}
 use Rattle.command_line.specs.declared.options.RunOptions.{RunOptions}
 use Rattle.command_line.proofs.OptionLemmas.{Placed, Use, no_other, placed, settled_in, standing}
 use Rattle.command_line.proofs.RefusalLemmas.{level_refused, positional_before, stray_refused}
@@ -29,7 +30,7 @@ use Rattle.command_line.proofs.SubcommandLemmas.{replay_fault}
 use Rattle.command_line.proofs.UseLemmas.{AreUses, LeavesRows, leaves_rows}
 use Rattle.command_line.proofs.ValueLemmas.{IsValue}
 
-module _ (names : UnitNames) where
+module _ (names : OptionNames) where
   pub nothing_refused : fault_of (tsobench_app names) (codes "replay" ∷ []) ≡ MissingRequiredArgument ∷ []
   unfolding clap_on_literals
   nothing_refused = refl
@@ -42,7 +43,7 @@ module _ (names : UnitNames) where
   refused_at : (kind : ErrorKind) (arguments : List Text) → walk_fault (replay names) [] (standing [] None 1) arguments ≡ kind ∷ [] → fault_of (tsobench_app names) (codes "replay" ∷ arguments) ≡ kind ∷ []
   refused_at kind arguments fails = replay_fault names arguments ∙ ap (λ kinds. or_else kinds []) (level_refused (replay names) kind arguments fails)
 
-module _ (names : UnitNames) (are : map (λ name. name.now) names.now ≡ unit_names) where
+module _ (names : OptionNames) (are : HasKnownNames names) where
   module _ (name : Text) (unit : List Text) (option : NamesOption (codes "unit") name unit) where
     pub no_such_unit_refused : is_unit name ≡ false → (program : Text) (rest : List Text) → IsValue program
         → fault_of (tsobench_app names) (codes "replay" ∷ (unit ++ program ∷ rest)) ≡ InvalidValue ∷ []

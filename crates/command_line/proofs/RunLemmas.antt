@@ -1,6 +1,7 @@
 -- The options of a unit and of a run, in any subcommand that offers them.
 use Rattle.std.proofs.Common.{◌≡◌, ◌∙◌, ◌<◌, ◌^◌, ap, refl, subst, sym, inl, inr, arith, true≢false, ℕ, Bool, true, false, cond, ◌||◌, List, [], ◌∷◌, ◌++◌, Option, Some, None, codes, map, is_some}
 use Rattle.std.specs.Prelude.{if◌then◌else◌, option_and_then, slice_get}
+use Rattle.std.specs.Borrow.{Bor}
 use Rattle.std.specs.List.{find, list_any}
 use Rattle.std.specs.Option.{option_map, option_map_or, option_or, unwrap_or}
 use Rattle.std.specs.Str.{bytes_eq}
@@ -15,12 +16,13 @@ use Rattle.clap.specs.declared.builder.value_parser.ValueParser.TheVariants as p
 use Rattle.clap.proofs.OnLiterals.{clap_on_literals}
 use Rattle.clap.proofs.WalkLemmas.{list_any-map}
 use Rattle.command_line.specs.Workers.{worker_limit}
-use Rattle.command_line.specs.Commands.{UnitNames, capacity_rule, number_rule, prints_rule, trigger_rule, unit_rule, workers_rule}
+use Rattle.command_line.specs.Commands.{HasKnownNames, HasNames, capacity_rule, number_rule, prints_rule, trigger_rule, unit_rule, workers_rule}
+use Rattle.command_line.specs.declared.options.OptionNames.{OptionNames}
 use Rattle.command_line.specs.Internal.Computed.{flag_in, number_in, printing_of, run_in, unit_in, within, workers_in}
 use Rattle.command_line.specs.Options.{AsksFlag, AsksNumber, IsOneOf, option_value}
 use Rattle.command_line.specs.Requests.{Text, capacity_limit, prints_trace}
 use Rattle.command_line.specs.Spellings.{AsksRun, AsksUnit, run_names}
-use Rattle.command_line.specs.Units.{default_capacity, default_trigger, is_unit, trigger_limit, unit_kind, unit_names, units}
+use Rattle.command_line.specs.Units.{default_capacity, default_trigger, is_unit, trigger_limit, unit_kind, units}
 use Rattle.command_line.specs.declared.options.RunOptions.{RunOptions}
 use Rattle.command_line.specs.declared.options.UnitKind.TheVariants.{Serial}
 use Rattle.command_line.specs.declared.options.UnitOptions.{UnitOptions}
@@ -30,7 +32,7 @@ use Rattle.command_line.proofs.RowLemmas.{default_for, default_row, flag_makes, 
 use Rattle.command_line.proofs.UseLemmas.{AreUses, IsOptionRow, LeavesRows, OptionUse}
 use Rattle.command_line.proofs.ValueLemmas.{decimal_passes, number_in-decimal}
 
--- ---- the names of the units
+-- ---- the names in memory
 
 any_found : {X : Type 0} (p : X → Bool) (xs : List X) → list_any p xs ≡ is_some (find p xs)
 any_found p [] = refl
@@ -44,14 +46,19 @@ is_some_map : {X Y : Type 0} (f : X → Y) (o : Option X) → is_some (option_ma
 is_some_map f None = refl
 is_some_map f (Some x) = refl
 
--- `--unit` takes the names of the units, and no other
-pub names_accept : (names : UnitNames) → map (λ name. name.now) names.now ≡ unit_names → (name : Text) → accepts false (parser.Names names) name ≡ is_unit name
-names_accept names are name =
-    list_any-map (λ (t : Text). bytes_eq t name) (λ text. text.now) names.now
+-- a list of names in memory accepts those by which something is found, and no other
+pub names_accept : {X : Type 0} (list : Bor (List (Bor Text))) (known : List (Text × X)) → HasNames list (map (λ k. k.0) known) → (name : Text)
+    → accepts false (parser.Names list) name ≡ is_some (option_map (λ k. k.1) (find (λ k. bytes_eq k.0 name) known))
+names_accept list known are name =
+    list_any-map (λ (t : Text). bytes_eq t name) (λ text. text.now) list.now
     ∙ ap (list_any (λ (t : Text). bytes_eq t name)) are
-    ∙ sym (list_any-map (λ (t : Text). bytes_eq t name) (λ unit. unit.0) units)
-    ∙ any_found (λ unit. bytes_eq unit.0 name) units
-    ∙ sym (is_some_map (λ unit. unit.1) (find (λ unit. bytes_eq unit.0 name) units))
+    ∙ sym (list_any-map (λ (t : Text). bytes_eq t name) (λ k. k.0) known)
+    ∙ any_found (λ k. bytes_eq k.0 name) known
+    ∙ sym (is_some_map (λ k. k.1) (find (λ k. bytes_eq k.0 name) known))
+
+-- `--unit` takes the names of the units, and no other
+pub unit_accepts : (names : OptionNames) → HasKnownNames names → (name : Text) → accepts false (parser.Names names.units) name ≡ is_unit name
+unit_accepts names are = names_accept names.units units are.units
 
 -- ---- an option as it is offered
 
@@ -71,7 +78,7 @@ pub record Offers (s : Shape) (a : Rule) (name : Text) : Type 0 where
 abbrev pub number_built : Text → Text → ℕ → Rule
 number_built name default limit = filled (number_rule name default limit)
 
-abbrev pub unit_built : UnitNames → Rule
+abbrev pub unit_built : OptionNames → Rule
 unit_built names = filled (unit_rule names)
 
 abbrev pub prints_built : Rule
@@ -134,22 +141,22 @@ pub workers_long : IsLong (codes "workers")
 workers_long = record { no_escape = refl; long = refl; no_escape_joined = λ v. refl; long_joined = λ v. refl }
 
 -- the subcommand offers the options of a unit
-pub record OffersUnit (s : Shape) (names : UnitNames) : Type 0 where
+pub record OffersUnit (s : Shape) (names : OptionNames) : Type 0 where
   pub unit : Offers s (unit_built names) (codes "unit")
   pub capacity : Offers s (filled capacity_rule) (codes "capacity")
   pub trigger : Offers s (filled trigger_rule) (codes "trigger")
 
 -- and the number of workers
-pub record OffersWorkers (s : Shape) (names : UnitNames) : Type 0 where
+pub record OffersWorkers (s : Shape) (names : OptionNames) : Type 0 where
   pub unit : OffersUnit s names
   pub workers : Offers s (filled workers_rule) (codes "workers")
 
 -- and what is printed: the options of a run
-pub record OffersRun (s : Shape) (names : UnitNames) : Type 0 where
+pub record OffersRun (s : Shape) (names : OptionNames) : Type 0 where
   pub judged : OffersWorkers s names
   pub trace : Offers s prints_built (codes "trace")
 
-module _ (s : Shape) (names : UnitNames) where
+module _ (s : Shape) (names : OptionNames) where
   module _ (offers : OffersUnit s names) where
     pub unit_offered : IsOption s.rules (unit_built names) (codes "unit")
     unit_offered = record {
@@ -168,9 +175,9 @@ module _ (s : Shape) (names : UnitNames) where
     trigger_offered = number_offered s (codes "trigger") (codes "1") trigger_limit trigger_long offers.trigger
 
     -- the use of `--unit` with the name of a unit
-    pub unit_use : map (λ name. name.now) names.now ≡ unit_names → (value : Text) → is_unit value ≡ true → OptionUse s.rules (codes "unit") value
+    pub unit_use : HasKnownNames names → (value : Text) → is_unit value ≡ true → OptionUse s.rules (codes "unit") value
     unit_use are value known =
-        let accepted = names_accept names are value ∙ known in
+        let accepted = unit_accepts names are value ∙ known in
         record {
           rule = unit_built names;
           is = unit_offered;
@@ -191,7 +198,7 @@ module _ (s : Shape) (names : UnitNames) where
 
     module _ (options : List (Text × Text)) (unit : UnitOptions) (asks : AsksUnit options unit) where
       -- the uses of the options, where they are there
-      pub asked_unit_use : map (λ name. name.now) names.now ≡ unit_names → (value : Text) → option_value (codes "unit") options ≡ Some value → OptionUse s.rules (codes "unit") value
+      pub asked_unit_use : HasKnownNames names → (value : Text) → option_value (codes "unit") options ≡ Some value → OptionUse s.rules (codes "unit") value
       asked_unit_use are value found =
           let known : option_and_then unit_kind (Some value) ≡ Some unit.kind = ap (option_and_then unit_kind) (sym found) ∙ asks.kind in
           unit_use are value (ap (λ o. is_some o) known)
@@ -246,7 +253,7 @@ module _ (s : Shape) (names : UnitNames) where
       asked_workers_use = asked_number_use s (codes "workers") (codes "1") worker_limit workers_long offers.workers 1 (omega arith) options workers asks_workers
 
       -- the uses of the options, where they are there
-      pub asked_judged_use : map (λ name. name.now) names.now ≡ unit_names → (name value : Text) → IsOneOf run_names name → option_value name options ≡ Some value
+      pub asked_judged_use : HasKnownNames names → (name value : Text) → IsOneOf run_names name → option_value name options ≡ Some value
           → OptionUse s.rules name value
       asked_judged_use are name value (inl is) found =
           subst (λ (t : Text). OptionUse s.rules t value) (sym is)
@@ -300,7 +307,7 @@ module _ (s : Shape) (names : UnitNames) where
 
     module _ (options : List (Text × Text)) (flags : List Text) (run : RunOptions) (asks : AsksRun options flags run) where
       -- the uses of the options, where they are there
-      pub asked_run_use : map (λ name. name.now) names.now ≡ unit_names → (name value : Text) → IsOneOf run_names name → option_value name options ≡ Some value
+      pub asked_run_use : HasKnownNames names → (name value : Text) → IsOneOf run_names name → option_value name options ≡ Some value
           → OptionUse s.rules name value
       asked_run_use = asked_judged_use offers.judged options run.unit run.workers asks.unit asks.workers
 

@@ -1,5 +1,5 @@
 -- Options of a run that are refused, in any subcommand that offers them and takes a file.
-use Rattle.std.proofs.Common.{◌≡◌, ◌∙◌, ◌≤◌, ◌<◌, ◌^◌, refl, subst, sym, inl, inr, arith, ℕ, Bool, true, false, List, [], ◌∷◌, ◌++◌, Option, Some, None, codes, map}
+use Rattle.std.proofs.Common.{◌≡◌, ◌∙◌, ◌≤◌, ◌<◌, ◌^◌, refl, subst, sym, inl, inr, arith, ℕ, Bool, true, false, List, [], ◌∷◌, ◌++◌, Option, Some, None, codes}
 use Rattle.std.specs.Fmt.{decimal}
 use Rattle.clap.specs.Facts.{unwrap_or_range}
 use Rattle.clap.specs.Faults.{settle_fault, use_fault, values_fault, walk_fault}
@@ -11,15 +11,16 @@ use Rattle.clap.specs.declared.builder.action.ArgAction.TheVariants.{Set}
 use Rattle.clap.specs.declared.builder.value_parser.ValueParser.TheVariants as parser
 use Rattle.clap.specs.declared.error.kind.ErrorKind.TheVariants.{InvalidValue, ValueValidation}
 use Rattle.command_line.specs.Workers.{worker_limit}
-use Rattle.command_line.specs.Commands.{UnitNames, capacity_rule, trigger_rule, workers_rule}
+use Rattle.command_line.specs.Commands.{HasKnownNames, capacity_rule, trigger_rule, workers_rule}
+use Rattle.command_line.specs.declared.options.OptionNames.{OptionNames}
 use Rattle.command_line.specs.Options.{NamesOption}
 use Rattle.command_line.specs.Refusals.{IsOutside, TakesNumber}
 use Rattle.command_line.specs.Refusals as takes
 use Rattle.command_line.specs.Requests.{Text, capacity_limit}
-use Rattle.command_line.specs.Units.{is_unit, trigger_limit, unit_names}
+use Rattle.command_line.specs.Units.{is_unit, trigger_limit}
 use Rattle.command_line.proofs.OptionLemmas.{IsOption, TakesOne, settled_in, standing}
 use Rattle.command_line.proofs.RefusalLemmas.{option_before, option_refused}
-use Rattle.command_line.proofs.RunLemmas.{OffersWorkers, capacity_offered, names_accept, trigger_offered, unit_built, unit_offered, workers_offered}
+use Rattle.command_line.proofs.RunLemmas.{OffersWorkers, capacity_offered, unit_accepts, trigger_offered, unit_built, unit_offered, workers_offered}
 use Rattle.command_line.proofs.RowLemmas.{MakesRow, option_fails, option_makes, use_row}
 use Rattle.command_line.proofs.ValueLemmas.{IsValue, decimal_fails}
 
@@ -27,7 +28,7 @@ pub not_within : (limit n : ℕ) → IsOutside limit n → 1 ≤ n → n ≤ lim
 not_within limit n (inl zero) least most = omega (arith, zero, least)
 not_within limit n (inr above) least most = omega (arith, above, most)
 
-module _ (s : Shape) (names : UnitNames) (are : map (λ name. name.now) names.now ≡ unit_names) (offers : OffersWorkers s names) (single : s.args_override_self ≡ false) where
+module _ (s : Shape) (names : OptionNames) (are : HasKnownNames names) (offers : OffersWorkers s names) (single : s.args_override_self ≡ false) where
   -- a use of an argument that may not be used again
   single_use : (kinds : Kinds) (a : Rule) (values : List Text) (rows : List Row) → use_fault false a values rows ≡ kinds → use_fault s.args_override_self a values rows ≡ kinds
   single_use kinds a values rows is = subst (λ (b : Bool). use_fault b a values rows ≡ kinds) (sym single) is
@@ -37,7 +38,7 @@ module _ (s : Shape) (names : UnitNames) (are : map (λ name. name.now) names.no
     pub no_such_unit : is_unit name ≡ false → (program : Text) (rest : List Text) → IsValue program
         → walk_fault s [] (standing [] None 1) (unit ++ program ∷ rest) ≡ InvalidValue ∷ []
     no_such_unit unknown program rest is =
-        let refused : accepts false (parser.Names names) name ≡ false = names_accept names are name ∙ unknown in
+        let refused : accepts false (parser.Names names.units) name ≡ false = unit_accepts names are name ∙ unknown in
         let fails = single_use (InvalidValue ∷ []) (unit_built names) (name ∷ []) [] (option_fails _ (unit_built names) (name ∷ []) [] refl (rw refused refl) refl refl) in
         option_refused s [] None 1 refl InvalidValue (unit_built names) file (codes "unit") name program unit rest
         (unit_offered s names offers.unit) option fails takes_file at is
@@ -48,7 +49,7 @@ module _ (s : Shape) (names : UnitNames) (are : map (λ name. name.now) names.no
 
       unit_makes : MakesRow (unit_built names, name ∷ [])
       unit_makes =
-          let accepted : accepts false (parser.Names names) name ≡ true = names_accept names are name ∙ known in
+          let accepted : accepts false (parser.Names names.units) name ≡ true = unit_accepts names are name ∙ known in
           option_makes (unit_built names) (name ∷ []) refl (rw accepted refl) refl
 
       -- the unit passes, and arguments of which one is refused

@@ -1,5 +1,5 @@
 -- What a parse makes of the arguments after `run`.
-use Rattle.std.proofs.Common.{◌≡◌, ◌∙◌, ap, refl, subst, sym, inl, inr, true, false, ℕ, List, [], ◌∷◌, Some, codes, map}
+use Rattle.std.proofs.Common.{◌≡◌, ◌∙◌, ap, refl, subst, sym, inl, inr, true, false, ℕ, List, [], ◌∷◌, Some, codes}
 use Rattle.std.specs.Prelude.{option_and_then, slice_get}
 use Rattle.std.specs.List.{find}
 use Rattle.std.specs.Option.{option_map_or, unwrap_or}
@@ -12,12 +12,12 @@ use Rattle.clap.specs.Walk.{Row, Rule}
 use Rattle.clap.specs.Words.{fault_of, subcommand_of}
 use Rattle.clap.specs.declared.error.kind.ErrorKind.TheVariants.{MissingRequiredArgument}
 use Rattle.clap.proofs.OnLiterals.{clap_on_literals}
-use Rattle.command_line.specs.Commands.{UnitNames, program_file_rule, run_app, tsobench_app}
+use Rattle.command_line.specs.Commands.{HasKnownNames, program_file_rule, run_app, tsobench_app}
+use Rattle.command_line.specs.declared.options.OptionNames.{OptionNames}
 use Rattle.command_line.specs.Internal.Computed.{asked_by, running_by}
 use Rattle.command_line.specs.Options.{AreNamed, IsOneOf, option_value}
 use Rattle.command_line.specs.Requests.{Text, AskedRun, prints_trace, running}
 use Rattle.command_line.specs.Spellings.{AsksRequired, AsksRun, AsksToRun, run_names, seeded_names}
-use Rattle.command_line.specs.Units.{unit_names}
 use Rattle.command_line.specs.declared.options.RunOptions.{RunOptions}
 use Rattle.command_line.proofs.FoundLemmas.{running_are}
 use Rattle.command_line.proofs.OptionLemmas.{Placed, TakesOne, Use, no_other, placed}
@@ -27,7 +27,7 @@ use Rattle.command_line.proofs.RunLemmas.{FlagUses, Offers, OffersRun, asked_run
 use Rattle.command_line.proofs.SubcommandLemmas.{built_below, run_fault, run_found}
 use Rattle.command_line.proofs.UseLemmas.{AreUses, LeavesRows, OptionUse, OptionUses, leaves_rows, named_uses}
 
-module _ (names : UnitNames) where
+module _ (names : OptionNames) where
   abbrev pub run : Shape
   run = built_below (run_app names)
 
@@ -71,7 +71,7 @@ module _ (names : UnitNames) where
 
   -- ---- options
 
-  module _ (are : map (λ name. name.now) names.now ≡ unit_names) (options : List (Text × Text)) (flags : List Text) (asked : RunOptions) (asks : AsksRun options flags asked) where
+  module _ (are : HasKnownNames names) (options : List (Text × Text)) (flags : List Text) (asked : RunOptions) (asks : AsksRun options flags asked) where
     -- the uses of options of a run alone
     pub run_uses : AreNamed run_names options → OptionUses run options
     run_uses named = named_uses run run_names options named (asked_run_use run names offers_run options flags asked asks are)
@@ -108,7 +108,7 @@ module _ (names : UnitNames) where
 
   -- ---- the whole
 
-  module _ (are : map (λ name. name.now) names.now ≡ unit_names) (arguments : List Text) (asked : AskedRun) (asks : AsksToRun arguments asked) where
+  module _ (are : HasKnownNames names) (arguments : List Text) (asked : AskedRun) (asks : AsksToRun arguments asked) where
     abbrev files : List Use
     files = file_uses asked.program
 

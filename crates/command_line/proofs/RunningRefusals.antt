@@ -1,5 +1,5 @@
 -- Arguments after `run` that are refused.
-use Rattle.std.proofs.Common.{◌≡◌, ◌∙◌, ◌<◌, ◌^◌, ap, refl, inl, inr, arith, ℕ, true, false, List, [], ◌∷◌, ◌++◌, None, codes, map, length}
+use Rattle.std.proofs.Common.{◌≡◌, ◌∙◌, ◌<◌, ◌^◌, ap, refl, inl, inr, arith, ℕ, true, false, List, [], ◌∷◌, ◌++◌, None, codes, length}
 use Rattle.std.specs.Fmt.{decimal}
 use Rattle.std.specs.List.{AllByRecursion, find}
 use Rattle.std.specs.Option.{option_map_or}
@@ -11,12 +11,13 @@ use Rattle.clap.specs.Words.{fault_of}
 use Rattle.clap.specs.declared.error.kind.ErrorKind.{ErrorKind}
 use Rattle.clap.specs.declared.error.kind.ErrorKind.TheVariants.{InvalidValue, MissingRequiredArgument, UnknownArgument, ValueValidation}
 use Rattle.clap.proofs.OnLiterals.{clap_on_literals}
-use Rattle.command_line.specs.Commands.{UnitNames, tsobench_app}
+use Rattle.command_line.specs.Commands.{HasKnownNames, tsobench_app}
+use Rattle.command_line.specs.declared.options.OptionNames.{OptionNames}
 use Rattle.command_line.specs.Options.{AreGiven, AreNamed, IsOneOf, NamesOption, option_value}
 use Rattle.command_line.specs.Refusals.{IsOutside, TakesNumber}
 use Rattle.command_line.specs.Requests.{Text, number_limit, prints_trace}
 use Rattle.command_line.specs.Spellings.{AsksRequired, AsksRun, run_names, seeded_names}
-use Rattle.command_line.specs.Units.{is_unit, unit_names}
+use Rattle.command_line.specs.Units.{is_unit}
 use Rattle.command_line.specs.declared.options.RunOptions.{RunOptions}
 use Rattle.command_line.proofs.OptionLemmas.{Placed, Use, no_other, standing}
 use Rattle.command_line.proofs.RefusalLemmas.{level_refused, positional_before, stray_refused}
@@ -41,7 +42,7 @@ pub no_seed_value : (options : List (Text × Text)) → AllByRecursion (λ optio
 no_seed_value [] known = refl
 no_seed_value (o ∷ options) known = rw (no_seed_name o.0 known.0) (no_seed_value options known.1)
 
-module _ (names : UnitNames) where
+module _ (names : OptionNames) where
   pub nothing_refused : fault_of (tsobench_app names) (codes "run" ∷ []) ≡ MissingRequiredArgument ∷ []
   unfolding clap_on_literals
   nothing_refused = refl
@@ -54,7 +55,7 @@ module _ (names : UnitNames) where
   refused_at : (kind : ErrorKind) (arguments : List Text) → walk_fault (run names) [] (standing [] None 1) arguments ≡ kind ∷ [] → fault_of (tsobench_app names) (codes "run" ∷ arguments) ≡ kind ∷ []
   refused_at kind arguments fails = run_fault names arguments ∙ ap (λ kinds. or_else kinds []) (level_refused (run names) kind arguments fails)
 
-module _ (names : UnitNames) (are : map (λ name. name.now) names.now ≡ unit_names) where
+module _ (names : OptionNames) (are : HasKnownNames names) where
   module _ (name : Text) (unit : List Text) (option : NamesOption (codes "unit") name unit) where
     pub no_such_unit_refused : is_unit name ≡ false → (program : Text) (rest : List Text) → IsValue program
         → fault_of (tsobench_app names) (codes "run" ∷ (unit ++ program ∷ rest)) ≡ InvalidValue ∷ []

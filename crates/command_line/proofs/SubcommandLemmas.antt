@@ -10,7 +10,8 @@ use Rattle.clap.proofs.OnLiterals.{clap_on_literals}
 use Rattle.clap.proofs.WalkLemmas.{walk_stopped}
 use Rattle.command_line.proofs.OptionLemmas.{standing}
 use Rattle.command_line.specs.Requests.{Text}
-use Rattle.command_line.specs.Commands.{UnitNames, campaign_app, check_app, judge_app, make_app, program_app, replay_app, run_app, tsobench_app}
+use Rattle.command_line.specs.Commands.{campaign_app, check_app, judge_app, make_app, program_app, replay_app, run_app, tsobench_app}
+use Rattle.command_line.specs.declared.options.OptionNames.{OptionNames}
 use Rattle.command_line.specs.Internal.Computed.{parsed_as}
 
 -- the program as a subcommand sees it when it is built
@@ -21,12 +22,12 @@ program = with_leaf_noted (marked_built (record program_app.top { is_leaf = fals
 abbrev pub built_below : App → Shape
 built_below sub = built_leaf (inherited program sub.top)
 
-module _ (units : UnitNames) where
+module _ (option_names : OptionNames) where
   abbrev top : Shape
-  top = (built (tsobench_app units)).top
+  top = (built (tsobench_app option_names)).top
 
   abbrev subcommand_names : Names
-  subcommand_names = names_of (built (tsobench_app units))
+  subcommand_names = names_of (built (tsobench_app option_names))
 
   abbrev stopped_at : Text → List Text → Walk
   stopped_at name rest = record (standing [] None 1) { stopped = Some (name, rest) }
@@ -40,51 +41,51 @@ module _ (units : UnitNames) where
   nothing_fails name seen (x ∷ xs) = nothing_fails name (seen ++ x ∷ []) xs
 
   module _ (rest : List Text) where
-    pub judge_found : subcommand_of (tsobench_app units) (codes "judge" ∷ rest) ≡ Some (codes "judge", rows_after (built_below judge_app).rules [] rest)
+    pub judge_found : subcommand_of (tsobench_app option_names) (codes "judge" ∷ rest) ≡ Some (codes "judge", rows_after (built_below judge_app).rules [] rest)
     unfolding walked
-    judge_found = ap (λ (w : Walk). entered (built (tsobench_app units)) w.stopped) (left_to (codes "judge") rest)
+    judge_found = ap (λ (w : Walk). entered (built (tsobench_app option_names)) w.stopped) (left_to (codes "judge") rest)
 
-    pub judge_fault : fault_of (tsobench_app units) (codes "judge" ∷ rest) ≡ or_else (level_fault (built_below judge_app) [] nothing_held rest false []) []
+    pub judge_fault : fault_of (tsobench_app option_names) (codes "judge" ∷ rest) ≡ or_else (level_fault (built_below judge_app) [] nothing_held rest false []) []
     unfolding clap_on_literals
     judge_fault = rw (left_to (codes "judge") rest, nothing_fails (codes "judge") [] rest) refl
 
-    pub check_found : subcommand_of (tsobench_app units) (codes "check" ∷ rest) ≡ Some (codes "check", rows_after (built_below check_app).rules [] rest)
+    pub check_found : subcommand_of (tsobench_app option_names) (codes "check" ∷ rest) ≡ Some (codes "check", rows_after (built_below check_app).rules [] rest)
     unfolding walked
-    check_found = ap (λ (w : Walk). entered (built (tsobench_app units)) w.stopped) (left_to (codes "check") rest)
+    check_found = ap (λ (w : Walk). entered (built (tsobench_app option_names)) w.stopped) (left_to (codes "check") rest)
 
-    pub check_fault : fault_of (tsobench_app units) (codes "check" ∷ rest) ≡ or_else (level_fault (built_below check_app) [] nothing_held rest false []) []
+    pub check_fault : fault_of (tsobench_app option_names) (codes "check" ∷ rest) ≡ or_else (level_fault (built_below check_app) [] nothing_held rest false []) []
     unfolding clap_on_literals
     check_fault = rw (left_to (codes "check") rest, nothing_fails (codes "check") [] rest) refl
 
-    pub replay_found : subcommand_of (tsobench_app units) (codes "replay" ∷ rest) ≡ Some (codes "replay", rows_after (built_below (replay_app units)).rules [] rest)
+    pub replay_found : subcommand_of (tsobench_app option_names) (codes "replay" ∷ rest) ≡ Some (codes "replay", rows_after (built_below (replay_app option_names)).rules [] rest)
     unfolding walked
-    replay_found = ap (λ (w : Walk). entered (built (tsobench_app units)) w.stopped) (left_to (codes "replay") rest)
+    replay_found = ap (λ (w : Walk). entered (built (tsobench_app option_names)) w.stopped) (left_to (codes "replay") rest)
 
-    pub replay_fault : fault_of (tsobench_app units) (codes "replay" ∷ rest) ≡ or_else (level_fault (built_below (replay_app units)) [] nothing_held rest false []) []
+    pub replay_fault : fault_of (tsobench_app option_names) (codes "replay" ∷ rest) ≡ or_else (level_fault (built_below (replay_app option_names)) [] nothing_held rest false []) []
     unfolding clap_on_literals
     replay_fault = rw (left_to (codes "replay") rest, nothing_fails (codes "replay") [] rest) refl
 
-    pub run_found : subcommand_of (tsobench_app units) (codes "run" ∷ rest) ≡ Some (codes "run", rows_after (built_below (run_app units)).rules [] rest)
+    pub run_found : subcommand_of (tsobench_app option_names) (codes "run" ∷ rest) ≡ Some (codes "run", rows_after (built_below (run_app option_names)).rules [] rest)
     unfolding walked
-    run_found = ap (λ (w : Walk). entered (built (tsobench_app units)) w.stopped) (left_to (codes "run") rest)
+    run_found = ap (λ (w : Walk). entered (built (tsobench_app option_names)) w.stopped) (left_to (codes "run") rest)
 
-    pub run_fault : fault_of (tsobench_app units) (codes "run" ∷ rest) ≡ or_else (level_fault (built_below (run_app units)) [] nothing_held rest false []) []
+    pub run_fault : fault_of (tsobench_app option_names) (codes "run" ∷ rest) ≡ or_else (level_fault (built_below (run_app option_names)) [] nothing_held rest false []) []
     unfolding clap_on_literals
     run_fault = rw (left_to (codes "run") rest, nothing_fails (codes "run") [] rest) refl
 
-    pub make_found : subcommand_of (tsobench_app units) (codes "make" ∷ rest) ≡ Some (codes "make", rows_after (built_below make_app).rules [] rest)
+    pub make_found : subcommand_of (tsobench_app option_names) (codes "make" ∷ rest) ≡ Some (codes "make", rows_after (built_below (make_app option_names)).rules [] rest)
     unfolding walked
-    make_found = ap (λ (w : Walk). entered (built (tsobench_app units)) w.stopped) (left_to (codes "make") rest)
+    make_found = ap (λ (w : Walk). entered (built (tsobench_app option_names)) w.stopped) (left_to (codes "make") rest)
 
-    pub make_fault : fault_of (tsobench_app units) (codes "make" ∷ rest) ≡ or_else (level_fault (built_below make_app) [] nothing_held rest false []) []
+    pub make_fault : fault_of (tsobench_app option_names) (codes "make" ∷ rest) ≡ or_else (level_fault (built_below (make_app option_names)) [] nothing_held rest false []) []
     unfolding clap_on_literals
     make_fault = rw (left_to (codes "make") rest, nothing_fails (codes "make") [] rest) refl
 
-    pub campaign_found : subcommand_of (tsobench_app units) (codes "campaign" ∷ rest) ≡ Some (codes "campaign", rows_after (built_below (campaign_app units)).rules [] rest)
+    pub campaign_found : subcommand_of (tsobench_app option_names) (codes "campaign" ∷ rest) ≡ Some (codes "campaign", rows_after (built_below (campaign_app option_names)).rules [] rest)
     unfolding walked
-    campaign_found = ap (λ (w : Walk). entered (built (tsobench_app units)) w.stopped) (left_to (codes "campaign") rest)
+    campaign_found = ap (λ (w : Walk). entered (built (tsobench_app option_names)) w.stopped) (left_to (codes "campaign") rest)
 
-    pub campaign_fault : fault_of (tsobench_app units) (codes "campaign" ∷ rest) ≡ or_else (level_fault (built_below (campaign_app units)) [] nothing_held rest false []) []
+    pub campaign_fault : fault_of (tsobench_app option_names) (codes "campaign" ∷ rest) ≡ or_else (level_fault (built_below (campaign_app option_names)) [] nothing_held rest false []) []
     unfolding clap_on_literals
     campaign_fault = rw (left_to (codes "campaign") rest, nothing_fails (codes "campaign") [] rest) refl
 

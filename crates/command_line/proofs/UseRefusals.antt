@@ -7,7 +7,8 @@ use Rattle.clap.specs.Kinds.{Kinds, or_else}
 use Rattle.clap.specs.Simple.{Shape}
 use Rattle.clap.specs.Walk.{Row, Rule, Walk, finished, has_row, is_pending, next_position, nothing_held, settled, settled_rows, used, walk, walked}
 use Rattle.clap.specs.declared.error.kind.ErrorKind.{ErrorKind}
-use Rattle.command_line.specs.Requests.{Text}
+use Rattle.command_line.specs.Commands.{asked_at}
+use Rattle.command_line.specs.Requests.{Text, refusing}
 use Rattle.command_line.specs.Options.{AreGiven}
 use Rattle.command_line.specs.Options as given
 use Rattle.command_line.proofs.OptionLemmas.{Gives, GivesSome, IsOption, Offered, TakesOne, Use, and_false, both_empty, ended, flag, flag_fault, flag_walked, gives_of, joined_fault, joined_walked, merges_left, name_fault, name_walked, no_flag, no_option, no_other, offered, option, pending_settles, positional, positional_fault, positional_walked, standing, taken, takes_a_value, takes_no_value, used_all, uses_fault, value_fault, value_walked}
@@ -124,6 +125,12 @@ pub record RefusedOption (s : Shape) (kind : ErrorKind) (name value : Text) : Ty
   pub is : IsOption s.rules rule name
   pub named : rule.id ≡ name
   pub fails : (rows : List Row) → has_row rule.id rows ≡ false → use_fault false rule (value ∷ []) rows ≡ kind ∷ []
+
+-- and by a kind of error that stands for a refusal
+pub record Refused (s : Shape) (name value : Text) : Type 0 where
+  pub kind : ErrorKind
+  pub option : RefusedOption s kind name value
+  pub asks : asked_at kind ≡ refusing
 
 -- an option of this name is offered
 pub record OffersOption (s : Shape) (name : Text) : Type 0 where

@@ -10,13 +10,16 @@ use Rattle.clap.specs.declared.builder.action.ArgAction.TheVariants.{SetTrue}
 use Rattle.clap.specs.declared.builder.value_parser.ValueParser.TheVariants as parser
 use Rattle.clap.specs.declared.error.kind.ErrorKind.{ErrorKind}
 use Rattle.clap.specs.declared.error.kind.ErrorKind.TheVariants.{DisplayHelp, DisplayVersion}
+use Rattle.tso_ops.specs.declared.settings.Order.{Order}
 use Rattle.command_line.specs.Workers.{worker_limit}
 use Rattle.command_line.specs.declared.options.CampaignOptions.{CampaignOptions}
+use Rattle.command_line.specs.declared.options.OptionNames.{OptionNames}
 use Rattle.command_line.specs.declared.options.RunOptions.{RunOptions}
 use Rattle.command_line.specs.declared.options.ShapeNumbers.{ShapeNumbers}
 use Rattle.command_line.specs.declared.options.UnitKind.{UnitKind}
 use Rattle.command_line.specs.declared.options.UnitOptions.{UnitOptions}
 use Rattle.command_line.specs.Requests.{Text, Asked, AskedRun, campaigning, capacity_limit, making, number_limit, judging, checking, prints_trace, replaying, running, showing, refusing}
+use Rattle.command_line.specs.Models.{default_model, model_names, model_order}
 use Rattle.command_line.specs.Units.{default_capacity, default_trigger, trigger_limit, unit_kind, unit_names}
 
 -- ---- the command line
@@ -49,17 +52,22 @@ certificate_rule = record (new_rule (codes "cert")) { value_names = 1; required 
 abbrev pub check_app : App
 check_app = with_rule (with_rule (new_app (codes "check")) trace_rule) certificate_rule
 
--- the names of the units, as a list in memory
-abbrev pub UnitNames : Type 0
-UnitNames = Bor (List (Bor Text))
+-- the list in memory has these names
+abbrev pub HasNames : Bor (List (Bor Text)) → List Text → Type 0
+HasNames list names = map (λ name. name.now) list.now ≡ names
 
--- `--unit UNIT`: one of these names
-abbrev pub unit_rule : UnitNames → Rule
+-- the lists in memory have the names of the units and those of the memory models
+pub record HasKnownNames (names : OptionNames) : Type 0 where
+  pub units : HasNames names.units unit_names
+  pub models : HasNames names.models model_names
+
+-- `--unit UNIT`: one of the names of units
+abbrev pub unit_rule : OptionNames → Rule
 unit_rule names = record (new_rule (codes "unit")) {
   long = Some (codes "unit");
   value_names = 1;
   required = true;
-  parser = Some (parser.Names names);
+  parser = Some (parser.Names names.units);
 }
 
 -- `--capacity C`: a number from 1 to the limit of capacities, and 8 where it is left out
@@ -74,12 +82,21 @@ trigger_rule = number_rule (codes "trigger") (codes "1") trigger_limit
 abbrev pub prints_rule : Rule
 prints_rule = record (new_rule (codes "trace")) { long = Some (codes "trace"); action = Some SetTrue }
 
+-- `--model MODEL`: one of the names of memory models, and TSO where it is left out
+abbrev pub model_rule : OptionNames → Rule
+model_rule names = record (new_rule (codes "model")) {
+  long = Some (codes "model");
+  value_names = 1;
+  defaults = codes "tso" ∷ [];
+  parser = Some (parser.Names names.models);
+}
+
 -- the options of a unit
-abbrev pub unit_rules : UnitNames → List Rule
+abbrev pub unit_rules : OptionNames → List Rule
 unit_rules names = unit_rule names ∷ capacity_rule ∷ trigger_rule ∷ []
 
 -- the options of a run
-abbrev pub run_rules : UnitNames → List Rule
+abbrev pub run_rules : OptionNames → List Rule
 run_rules names = unit_rules names ++ workers_rule ∷ prints_rule ∷ []
 
 -- the command with these options and other arguments after its own
@@ -92,7 +109,7 @@ program_file_rule = record (new_rule (codes "program")) { value_names = 1; requi
 abbrev pub schedule_file_rule : Rule
 schedule_file_rule = record (new_rule (codes "schedule")) { value_names = 1; required = true }
 
-abbrev pub replay_app : UnitNames → App
+abbrev pub replay_app : OptionNames → App
 replay_app names =
     with_rules (new_app (codes "replay")) (run_rules names ++ program_file_rule ∷ schedule_file_rule ∷ [])
 
@@ -105,7 +122,7 @@ required_rule name = record (new_rule name) {
   parser = Some (parser.Unsigned 0 number_limit);
 }
 
-abbrev pub run_app : UnitNames → App
+abbrev pub run_app : OptionNames → App
 run_app names =
     with_rules (new_app (codes "run")) (run_rules names ++ required_rule (codes "seed") ∷ program_file_rule ∷ [])
 
@@ -113,22 +130,22 @@ run_app names =
 abbrev pub shape_rules : List Rule
 shape_rules = required_rule (codes "procs") ∷ required_rule (codes "ops") ∷ required_rule (codes "addrs") ∷ []
 
-abbrev pub make_app : App
-make_app = with_rules (new_app (codes "make")) (required_rule (codes "seed") ∷ shape_rules)
+abbrev pub make_app : OptionNames → App
+make_app names = with_rules (new_app (codes "make")) (model_rule names ∷ required_rule (codes "seed") ∷ shape_rules)
 
-abbrev pub campaign_app : UnitNames → App
+abbrev pub campaign_app : OptionNames → App
 campaign_app names =
     with_rules (new_app (codes "campaign"))
-    (unit_rules names ++ workers_rule ∷ required_rule (codes "first") ∷ required_rule (codes "count") ∷ shape_rules)
+    (unit_rules names ++ workers_rule ∷ model_rule names ∷ required_rule (codes "first") ∷ required_rule (codes "count") ∷ shape_rules)
 
 -- the program, before its subcommands; the name of the program is none of its arguments
 abbrev pub program_app : App
 program_app = on_top (λ s. record s { no_binary_name = true; has_version = true }) (new_app (codes "tsobench"))
 
-abbrev pub tsobench_app : UnitNames → App
+abbrev pub tsobench_app : OptionNames → App
 tsobench_app names =
     fold (λ app command. with_subcommand app command.top) program_app
-    (judge_app ∷ check_app ∷ replay_app names ∷ run_app names ∷ make_app ∷ campaign_app names ∷ [])
+    (judge_app ∷ check_app ∷ replay_app names ∷ run_app names ∷ make_app names ∷ campaign_app names ∷ [])
 
 -- ---- what the matches stand for
 
@@ -176,10 +193,17 @@ pub record AskShape (rows : List Row) (shape : ShapeNumbers) : Type 0 where
   pub operations : AskRequired (codes "ops") rows shape.operations
   pub addresses : AskRequired (codes "addrs") rows shape.addresses
 
+-- the rows ask for this memory model: the one that they name, or the default where they name none
+pub record AskModel (rows : List Row) (order : Order) : Type 0 where
+  pub unnamed : first_of (codes "model") rows ≡ None → order ≡ default_model
+  pub named : (name : Text) (model : Order) → first_of (codes "model") rows ≡ Some name → model_order name ≡ Some model
+      → order ≡ model
+
 -- the rows ask for a campaign with these options
 pub record AskCampaign (rows : List Row) (options : CampaignOptions) : Type 0 where
   pub unit : AskUnit rows options.unit
   pub workers : AskWorkers rows options.workers
+  pub order : AskModel rows options.order
   pub first : AskRequired (codes "first") rows options.first
   pub count : AskRequired (codes "count") rows options.count
   pub shape : AskShape rows options.shape
@@ -206,7 +230,8 @@ pub record IsAskedIn (name : Text) (rows : List Row) (asked : Asked) : Type 0 wh
       → (options : RunOptions) × AskRun rows options × (asked ≡ replaying_with options rows)
   pub run : name ≡ codes "run" → (run : AskedRun) × AskToRun rows run × (asked ≡ running run)
   pub make : name ≡ codes "make"
-      → (seed : ℕ) × (shape : ShapeNumbers) × AskRequired (codes "seed") rows seed × AskShape rows shape × (asked ≡ making seed shape)
+      → (order : Order) × (seed : ℕ) × (shape : ShapeNumbers)
+      × AskModel rows order × AskRequired (codes "seed") rows seed × AskShape rows shape × (asked ≡ making order seed shape)
   pub campaign : name ≡ codes "campaign"
       → (options : CampaignOptions) × AskCampaign rows options × (asked ≡ campaigning options)
 
@@ -231,7 +256,8 @@ abbrev pub IsAskedBy : Kinds → Option (Text × List Row) → Asked → Type 0
 IsAskedBy [] found asked = IsAskedByMatches found asked
 IsAskedBy (kind ∷ others) found asked = IsAskedAtOne (kind ∷ others) asked
 
--- what `clap` says that the arguments ask for, where `--unit` takes the names of the units
+-- what `clap` says that the arguments ask for, where `--unit` takes the names of the units, and `--model` those of the
+-- memory models
 abbrev pub IsAskedFor : List Text → Asked → Type 0
-IsAskedFor arguments asked = (names : UnitNames) × (map (λ name. name.now) names.now ≡ unit_names)
+IsAskedFor arguments asked = (names : OptionNames) × HasKnownNames names
     × IsAskedBy (fault_of (tsobench_app names) arguments) (subcommand_of (tsobench_app names) arguments) asked

@@ -1,6 +1,7 @@
 pub mod Requests
 pub mod Workers
 pub mod Units
+pub mod Models
 pub mod Options
 pub mod Spellings
 pub mod Refusals

@@ -7,7 +7,8 @@ use Rattle.command_line.specs.Workers.{worker_limit}
 use Rattle.command_line.specs.declared.options.RunOptions.{RunOptions}
 use Rattle.command_line.specs.Requests.{Text, capacity_limit, number_limit}
 use Rattle.command_line.specs.Options.{AreGiven, AreNamed, IsOneOf, NamesOption, is_value, option_value}
-use Rattle.command_line.specs.Spellings.{AsksRequired, AsksRun, campaign_names, seeds_and_shape_names, make_names, run_names, seeded_names}
+use Rattle.command_line.specs.Spellings.{AsksRequired, AsksRun, campaign_names, seed_and_shape_names, seeds_and_shape_names, make_names, run_names, seeded_names}
+use Rattle.command_line.specs.Models.{is_model}
 use Rattle.command_line.specs.Units.{is_unit, trigger_limit}
 
 -- the text is the name of a subcommand
@@ -127,21 +128,32 @@ pub record IsAbove (text : Text) : Type 0 where
   pub above : number_limit < n
   pub short : n < 10 ^ 64
 
+-- the option of `make` of this name takes this value
+pub data TakesToMake : Text → Text → Type 0 where
+  model : (name : Text) → is_model name ≡ true → TakesToMake (codes "model") name
+  required : (option value : Text) → IsOneOf seed_and_shape_names option → IsNumber value → TakesToMake option value
+
+-- and it refuses this one
+pub data RefusesToTake : Text → Text → Type 0 where
+  model : (name : Text) → is_model name ≡ false → RefusesToTake (codes "model") name
+  required : (option value : Text) → IsOneOf seed_and_shape_names option → IsAbove value → RefusesToTake option value
+
 -- the arguments after `make` are refused
 pub data RefusesToMake : List Text → Type 0 where
-  -- the options in any order, of which one is left out
+  -- the options in any order, of which one with a number is left out
   left_out : (name : Text) (options : List (Text × Text)) (arguments : List Text)
-      → AreGiven options [] [] arguments → AreNamed make_names options → All (λ option. IsNumber option.1) options
-      → IsOneOf make_names name → option_value name options ≡ None → RefusesToMake arguments
-  -- the options in any order, of which one has a number above 64 bits, after others that have numbers of 64 bits
-  above : (name value : Text) (before after : List (Text × Text)) (arguments : List Text)
+      → AreGiven options [] [] arguments → AreNamed make_names options → All (λ option. TakesToMake option.0 option.1) options
+      → IsOneOf seed_and_shape_names name → option_value name options ≡ None → RefusesToMake arguments
+  -- the options in any order, of which one has a value that it refuses, after others that take theirs
+  wrong_value : (name value : Text) (before after : List (Text × Text)) (arguments : List Text)
       → AreGiven (before ++ (name, value) ∷ after) [] [] arguments → AreNamed make_names (before ++ (name, value) ∷ after)
-      → All (λ option. IsNumber option.1) before → IsAbove value → RefusesToMake arguments
+      → All (λ option. TakesToMake option.0 option.1) before → RefusesToTake name value → RefusesToMake arguments
 
 -- the option of `campaign` of this name takes this value
 pub data TakesValue : Text → Text → Type 0 where
   unit : (name : Text) → is_unit name ≡ true → TakesValue (codes "unit") name
   number : (option : Text) (limit n : ℕ) → TakesNumber option limit → 1 ≤ n → n ≤ limit → TakesValue option (decimal n)
+  model : (name : Text) → is_model name ≡ true → TakesValue (codes "model") name
   required : (option value : Text) → IsOneOf seeds_and_shape_names option → IsNumber value → TakesValue option value
 
 -- and it refuses this one
@@ -149,6 +161,7 @@ pub data RefusesValue : Text → Text → Type 0 where
   unit : (name : Text) → is_unit name ≡ false → RefusesValue (codes "unit") name
   number : (option : Text) (limit n : ℕ) → TakesNumber option limit → IsOutside limit n → n < 10 ^ 64
       → RefusesValue option (decimal n)
+  model : (name : Text) → is_model name ≡ false → RefusesValue (codes "model") name
   required : (option value : Text) → IsOneOf seeds_and_shape_names option → IsAbove value → RefusesValue option value
 
 -- the arguments after `campaign` are refused

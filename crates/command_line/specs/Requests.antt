@@ -1,5 +1,6 @@
 -- What the arguments of a command line may ask for.
 use Rattle.std.specs.Prelude.{◌≤◌, ◌^◌, ◌-◌, ℕ, Bool, true, false, List, map, Option, Some, None, IfSome, option_map, String, string_bytes}
+use Rattle.tso_ops.specs.declared.settings.Order.{Order}
 use Rattle.command_line.specs.Workers.{worker_limit}
 use Rattle.command_line.specs.declared.requests.Request.{Request}
 use Rattle.command_line.specs.declared.requests.RunRequest.{RunRequest}
@@ -41,8 +42,8 @@ pub data Asked : Type 0 where
   replaying : RunOptions → Text → Text → Asked
   -- to run a program with a thread per processor
   running : AskedRun → Asked
-  -- to print the program made from this seed in this shape
-  making : ℕ → ShapeNumbers → Asked
+  -- to print the program of this memory model made from this seed in this shape
+  making : Order → ℕ → ShapeNumbers → Asked
   -- to run the programs made from the seeds of a campaign, and to judge the trace of each
   campaigning : CampaignOptions → Asked
   -- to print the help or the version
@@ -60,7 +61,7 @@ asked_of (Judge file workers) = judging (option_map (λ f. f.now) file) workers
 asked_of (Check trace certificate) = checking trace.now certificate.now
 asked_of (Replay options program schedule) = replaying options program.now schedule.now
 asked_of (Run run) = running (asked_run run)
-asked_of (Make seed shape) = making seed shape
+asked_of (Make order seed shape) = making order seed shape
 asked_of (Campaign options) = campaigning options
 asked_of (Show text) = showing
 asked_of (Refuse text) = refusing

@@ -1,6 +1,7 @@
 -- The usual spellings of requests: which arguments ask for what, in the program's own terms.
 use Rattle.std.specs.Prelude.{◌≡◌, ◌≤◌, ℕ, List, [], ◌∷◌, ◌++◌, Option, Some, None, codes, option_and_then, option_to_list}
 use Rattle.std.specs.Fmt.{decimal}
+use Rattle.tso_ops.specs.declared.settings.Order.{Order}
 use Rattle.command_line.specs.Workers.{worker_limit}
 use Rattle.command_line.specs.declared.options.CampaignOptions.{CampaignOptions}
 use Rattle.command_line.specs.declared.options.RunOptions.{RunOptions}
@@ -8,6 +9,7 @@ use Rattle.command_line.specs.declared.options.ShapeNumbers.{ShapeNumbers}
 use Rattle.command_line.specs.declared.options.UnitOptions.{UnitOptions}
 use Rattle.command_line.specs.Options.{AreGiven, AreNamed, AsksFlag, AsksNumber, option_value}
 use Rattle.command_line.specs.Requests.{Text, Asked, AskedRun, campaigning, capacity_limit, making, number_limit, judging, checking, prints_trace, replaying, running}
+use Rattle.command_line.specs.Models.{default_model, model_order}
 use Rattle.command_line.specs.Units.{default_capacity, default_trigger, trigger_limit, unit_kind}
 
 -- the options of `judge`: none, for one worker, or a number of workers, in digits without a leading zero
@@ -80,16 +82,26 @@ pub record AsksShape (options : List (Text × Text)) (shape : ShapeNumbers) : Ty
 abbrev pub shape_names : List Text
 shape_names = codes "procs" ∷ codes "ops" ∷ codes "addrs" ∷ []
 
+-- by the value of its option, a memory model is asked for by its name, or it is the default where the option isn't there
+abbrev pub AsksModel : Option Text → Order → Type 0
+AsksModel None order = order ≡ default_model
+AsksModel (Some text) order = model_order text ≡ Some order
+
+-- the names of the options of `make` with a number that may not be left out
+abbrev pub seed_and_shape_names : List Text
+seed_and_shape_names = codes "seed" ∷ shape_names
+
 -- the names of the options of `make`
 abbrev pub make_names : List Text
-make_names = codes "seed" ∷ shape_names
+make_names = codes "model" ∷ seed_and_shape_names
 
--- the arguments after `make`, as `--seed N --procs P --ops O --addrs A` in any order, ask for the program that is made
--- from this seed in this shape
-pub record AsksToMake (arguments : List Text) (seed : ℕ) (shape : ShapeNumbers) : Type 0 where
+-- the arguments after `make`, as `[--model MODEL] --seed N --procs P --ops O --addrs A` in any order, ask for the program
+-- of this memory model that is made from this seed in this shape
+pub record AsksToMake (arguments : List Text) (order : Order) (seed : ℕ) (shape : ShapeNumbers) : Type 0 where
   pub options : List (Text × Text)
   pub given : AreGiven options [] [] arguments
   pub named : AreNamed make_names options
+  pub model : AsksModel (option_value (codes "model") options) order
   pub seeds : AsksRequired (codes "seed") options seed
   pub shapes : AsksShape options shape
 
@@ -99,16 +111,17 @@ seeds_and_shape_names = codes "first" ∷ codes "count" ∷ shape_names
 
 -- the names of the options of `campaign`
 abbrev pub campaign_names : List Text
-campaign_names = run_names ++ seeds_and_shape_names
+campaign_names = codes "model" ∷ (run_names ++ seeds_and_shape_names)
 
--- the arguments after `campaign`, as `--unit UNIT [--capacity C] [--trigger T] [--workers N] --first S --count K
--- --procs P --ops O --addrs A` in any order, ask for this campaign
+-- the arguments after `campaign`, as `--unit UNIT [--capacity C] [--trigger T] [--workers N] [--model MODEL] --first S
+-- --count K --procs P --ops O --addrs A` in any order, ask for this campaign
 pub record AsksToCampaign (arguments : List Text) (campaign : CampaignOptions) : Type 0 where
   pub options : List (Text × Text)
   pub given : AreGiven options [] [] arguments
   pub named : AreNamed campaign_names options
   pub unit : AsksUnit options campaign.unit
   pub workers : AsksNumber 1 1 worker_limit (option_value (codes "workers") options) campaign.workers
+  pub order : AsksModel (option_value (codes "model") options) campaign.order
   pub first : AsksRequired (codes "first") options campaign.first
   pub count : AsksRequired (codes "count") options campaign.count
   pub shape : AsksShape options campaign.shape
@@ -124,8 +137,8 @@ pub data Asks : List Text → Asked → Type 0 where
   replay : (rest : List Text) (run : RunOptions) (program schedule : Text) → AsksToReplay rest run program schedule
       → Asks (codes "replay" ∷ rest) (replaying run program schedule)
   run : (rest : List Text) (run : AskedRun) → AsksToRun rest run → Asks (codes "run" ∷ rest) (running run)
-  make : (rest : List Text) (seed : ℕ) (shape : ShapeNumbers) → AsksToMake rest seed shape
-      → Asks (codes "make" ∷ rest) (making seed shape)
+  make : (rest : List Text) (order : Order) (seed : ℕ) (shape : ShapeNumbers) → AsksToMake rest order seed shape
+      → Asks (codes "make" ∷ rest) (making order seed shape)
   campaign : (rest : List Text) (options : CampaignOptions) → AsksToCampaign rest options
       → Asks (codes "campaign" ∷ rest) (campaigning options)
 

@@ -2,7 +2,7 @@
 use Rattle.std.specs.Prelude.{◌^◌, ◌-◌, ℕ, Bool, List, [], ◌∷◌, Option, codes, find, is_some, map, option_map}
 use Rattle.std.specs.Str.{bytes_eq}
 use Rattle.command_line.specs.declared.options.UnitKind.{UnitKind}
-use Rattle.command_line.specs.declared.options.UnitKind.TheVariants.{Serial, Buffer, Faulty}
+use Rattle.command_line.specs.declared.options.UnitKind.TheVariants.{Serial, Buffer, Partial, Faulty}
 use Rattle.command_line.specs.Requests.{Text}
 use Rattle.unit_faulty.specs.Faulty.{fault_name}
 use Rattle.unit_faulty.specs.declared.kinds.FaultKind.TheVariants.{NewestFirst, NoForward, StaleLoad, TornSwap, IdleMembar, LostDrain}
@@ -10,7 +10,7 @@ use Rattle.unit_faulty.specs.declared.kinds.FaultKind.TheVariants.{NewestFirst, 
 -- the units, each with its name and its kind
 abbrev pub units : List (Text × UnitKind)
 units =
-    (codes "serial", Serial) ∷ (codes "buffer", Buffer)
+    (codes "serial", Serial) ∷ (codes "buffer", Buffer) ∷ (codes "partial", Partial)
     ∷ map (λ kind. (fault_name kind, Faulty kind)) (NewestFirst ∷ NoForward ∷ StaleLoad ∷ TornSwap ∷ IdleMembar ∷ LostDrain ∷ [])
 
 abbrev pub unit_names : List Text

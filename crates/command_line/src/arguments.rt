@@ -1,11 +1,12 @@
-//! The options of subcommands: those of a unit, those of a run, those of a shape, and numbers that are required.
+//! The options of subcommands: those of a unit, those of a run, those of a shape, the memory model, and numbers that are
+//! required.
 ghost use Rattle.std.specs.Prelude.{◌≡◌, false, IfOk};
 ghost use Rattle.clap.specs.Words.{app_of, rule_of};
 ghost use Rattle.clap.specs.declared.builder.command.Command.TheViews.{out-Command as fields_of};
-ghost use Rattle.command_line.specs.Commands.{capacity_rule, prints_rule, required_rule, run_rules, shape_rules, trigger_rule, unit_rule, unit_rules, with_rules, workers_rule};
+ghost use Rattle.command_line.specs.Commands.{capacity_rule, model_rule, prints_rule, required_rule, run_rules, shape_rules, trigger_rule, unit_rule, unit_rules, with_rules, workers_rule};
 
 use crate::help;
-use crate::options::{MAX_CAPACITY, MAX_WORKERS};
+use crate::options::{MAX_CAPACITY, MAX_WORKERS, OptionNames};
 use clap::builder::ValueParser;
 use clap::{Arg, ArgAction, Command, value_parser};
 use std::alloc::{AllocError, Global};
@@ -18,6 +19,9 @@ const DEFAULT_CAPACITY: &str = "8";
 
 /// The trigger of a unit where none is named.
 const DEFAULT_TRIGGER: &str = "1";
+
+/// The memory model where none is named.
+const DEFAULT_MODEL: &str = "tso";
 
 /// The option `--workers`, with this help.
 pub(crate) fn workers_option<'a>(alloc: Global, help: &'a str) -> Arg<'a>
@@ -50,6 +54,19 @@ pub(crate) fn required_option<'a>(
         .help(help)
 }
 
+/// The option `--model`, which takes the names of memory models.
+pub(crate) fn model_option<'a>(alloc: Global, names: OptionNames<'a>) -> Arg<'a>
+    ensures rule { rule_of result ≡ model_rule names.entry }
+    ensures local { result.global ≡ false }
+{
+    Arg::new(alloc, "model")
+        .long("model")
+        .value_name("MODEL")
+        .value_parser(ValueParser::Names(names.models))
+        .default_value(DEFAULT_MODEL)
+        .help(help::MODEL)
+}
+
 /// The command with the options of a shape.
 pub(crate) fn with_shape_options<'a>(
     alloc: Global,
@@ -64,11 +81,11 @@ pub(crate) fn with_shape_options<'a>(
         .arg(required_option(alloc, "addrs", "A", help::ADDRESSES))
 }
 
-/// The command with the options of a run: those of a unit, which has one of these names, `--workers` and `--trace`.
+/// The command with the options of a run: those of a unit, `--workers` and `--trace`.
 pub(crate) fn with_run_options<'a>(
     alloc: Global,
     command: Command<'a>,
-    names: &'a [&'a str],
+    names: OptionNames<'a>,
 ) -> Result<Command<'a>, AllocError>
     ensures app { IfOk result (λ offered. app_of offered ≡ with_rules (app_of command.entry) (run_rules names.entry)) }
     ensures local { IfOk result (λ offered. (fields_of offered).has_globals ≡ (fields_of command.entry).has_globals) }
@@ -78,11 +95,11 @@ pub(crate) fn with_run_options<'a>(
         .arg(trace_option(alloc))
 }
 
-/// The command with the options of a unit, which has one of these names.
+/// The command with the options of a unit.
 pub(crate) fn with_unit_options<'a>(
     alloc: Global,
     command: Command<'a>,
-    names: &'a [&'a str],
+    names: OptionNames<'a>,
 ) -> Result<Command<'a>, AllocError>
     ensures app { IfOk result (λ offered. app_of offered ≡ with_rules (app_of command.entry) (unit_rules names.entry)) }
     ensures local { IfOk result (λ offered. (fields_of offered).has_globals ≡ (fields_of command.entry).has_globals) }
@@ -93,8 +110,8 @@ pub(crate) fn with_unit_options<'a>(
         .arg(trigger_option(alloc))
 }
 
-/// The option `--unit`, which takes these names.
-fn unit_option<'a>(alloc: Global, names: &'a [&'a str]) -> Arg<'a>
+/// The option `--unit`, which takes the names of units.
+fn unit_option<'a>(alloc: Global, names: OptionNames<'a>) -> Arg<'a>
     ensures rule { rule_of result ≡ unit_rule names.entry }
     ensures local { result.global ≡ false }
 {
@@ -102,7 +119,7 @@ fn unit_option<'a>(alloc: Global, names: &'a [&'a str]) -> Arg<'a>
         .long("unit")
         .value_name("UNIT")
         .required(true)
-        .value_parser(ValueParser::Names(names))
+        .value_parser(ValueParser::Names(names.units))
         .help(help::UNIT)
 }
 

@@ -5,19 +5,21 @@ ghost use Rattle.clap.specs.declared.builder.command.Command.TheViews.{out-Comma
 ghost use Rattle.command_line.specs.Commands.{campaign_app, check_app, judge_app, make_app, program_app, replay_app, run_app, tsobench_app};
 
 use crate::arguments::{
-    required_option, with_run_options, with_shape_options, with_unit_options, workers_option,
+    model_option, required_option, with_run_options, with_shape_options, with_unit_options,
+    workers_option,
 };
 use crate::help;
+use crate::options::OptionNames;
 use clap::{Arg, Command};
 use std::alloc::{AllocError, Global};
 
 /// The version of the program.
 const VERSION: &str = "0.1.0";
 
-/// The command line of the program, where the units have these names.
+/// The command line of the program, where options take these names.
 pub(crate) fn tsobench_command<'a>(
     alloc: Global,
-    names: &'a [&'a str],
+    names: OptionNames<'a>,
 ) -> Result<Command<'a>, AllocError>
     ensures app { IfOk result (λ command. app_of command ≡ tsobench_app names.entry) }
     ensures local { IfOk result (λ command. (fields_of command).has_globals ≡ false) }
@@ -27,7 +29,7 @@ pub(crate) fn tsobench_command<'a>(
         .subcommand(check_command(alloc)?)?
         .subcommand(replay_command(alloc, names)?)?
         .subcommand(run_command(alloc, names)?)?
-        .subcommand(make_command(alloc)?)?
+        .subcommand(make_command(alloc, names)?)?
         .subcommand(campaign_command(alloc, names)?)
 }
 
@@ -81,7 +83,7 @@ fn check_command<'a>(alloc: Global) -> Result<Command<'a>, AllocError>
 }
 
 /// The subcommand `replay`.
-fn replay_command<'a>(alloc: Global, names: &'a [&'a str]) -> Result<Command<'a>, AllocError>
+fn replay_command<'a>(alloc: Global, names: OptionNames<'a>) -> Result<Command<'a>, AllocError>
     ensures app { IfOk result (λ command. app_of command ≡ replay_app names.entry) }
     ensures local { IfOk result (λ command. (fields_of command).has_globals ≡ false) }
 {
@@ -102,7 +104,7 @@ fn replay_command<'a>(alloc: Global, names: &'a [&'a str]) -> Result<Command<'a>
 }
 
 /// The subcommand `run`.
-fn run_command<'a>(alloc: Global, names: &'a [&'a str]) -> Result<Command<'a>, AllocError>
+fn run_command<'a>(alloc: Global, names: OptionNames<'a>) -> Result<Command<'a>, AllocError>
     ensures app { IfOk result (λ command. app_of command ≡ run_app names.entry) }
     ensures local { IfOk result (λ command. (fields_of command).has_globals ≡ false) }
 {
@@ -119,19 +121,20 @@ fn run_command<'a>(alloc: Global, names: &'a [&'a str]) -> Result<Command<'a>, A
 }
 
 /// The subcommand `make`.
-fn make_command<'a>(alloc: Global) -> Result<Command<'a>, AllocError>
-    ensures app { IfOk result (λ command. app_of command ≡ make_app) }
+fn make_command<'a>(alloc: Global, names: OptionNames<'a>) -> Result<Command<'a>, AllocError>
+    ensures app { IfOk result (λ command. app_of command ≡ make_app names.entry) }
     ensures local { IfOk result (λ command. (fields_of command).has_globals ≡ false) }
 {
     let command = Command::new(alloc, "make")
         .about("Prints the program that is drawn from a seed")
         .after_help(help::MAKE)
+        .arg(model_option(alloc, names))?
         .arg(required_option(alloc, "seed", "N", help::SEED))?;
     with_shape_options(alloc, command)
 }
 
 /// The subcommand `campaign`.
-fn campaign_command<'a>(alloc: Global, names: &'a [&'a str]) -> Result<Command<'a>, AllocError>
+fn campaign_command<'a>(alloc: Global, names: OptionNames<'a>) -> Result<Command<'a>, AllocError>
     ensures app { IfOk result (λ command. app_of command ≡ campaign_app names.entry) }
     ensures local { IfOk result (λ command. (fields_of command).has_globals ≡ false) }
 {
@@ -140,6 +143,7 @@ fn campaign_command<'a>(alloc: Global, names: &'a [&'a str]) -> Result<Command<'
         .after_help(help::CAMPAIGN);
     let command = with_unit_options(alloc, command, names)?
         .arg(workers_option(alloc, help::CAMPAIGN_WORKERS))?
+        .arg(model_option(alloc, names))?
         .arg(required_option(alloc, "first", "S", help::FIRST))?
         .arg(required_option(alloc, "count", "K", help::COUNT))?;
     with_shape_options(alloc, command)

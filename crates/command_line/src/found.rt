@@ -4,14 +4,15 @@ ghost use Rattle.clap.specs.Words.{found_of, rows_of, subcommand_rows_of};
 ghost use Rattle.command_line.specs.Requests.{HasUnitRanges, HasWorkers, asked_of};
 ghost use Rattle.command_line.specs.Workers.{worker_limit};
 ghost use Rattle.command_line.specs.Commands.{checking_by};
-ghost use Rattle.command_line.specs.Internal.Computed.{asked_by, campaigning_by, capacity_in, judging_by, making_by, printing_in, replaying_by, required_in, run_in, running_by, shape_in, trigger_in, unit_in, workers_in};
+ghost use Rattle.command_line.specs.Internal.Computed.{asked_by, campaigning_by, capacity_in, judging_by, making_by, order_in, printing_in, replaying_by, required_in, run_in, running_by, shape_in, trigger_in, unit_in, workers_in};
 
 use crate::options::{
     CampaignOptions, MAX_CAPACITY, MAX_WORKERS, Printing, RunOptions, ShapeNumbers, UnitKind,
-    UnitOptions, kind_named,
+    UnitOptions, kind_named, order_named,
 };
 use crate::requests::{Request, RunRequest};
 use clap::ArgMatches;
+use tso_ops::Order;
 
 /// What the matches ask for: without a subcommand, to judge standard input with one worker.
 pub(crate) fn request<'a>(matches: &ArgMatches<'a>) -> Request<'a>
@@ -92,6 +93,7 @@ fn make_request<'a>(matches: &ArgMatches<'a>) -> Request<'a>
     ensures { asked_of result ≡ making_by (rows_of (found_of matches.now)) }
 {
     Request::Make {
+        order: order(matches),
         seed: required_number(matches, "seed"),
         shape: shape_numbers(matches),
     }
@@ -104,10 +106,19 @@ fn campaign_request<'a>(matches: &ArgMatches<'a>) -> Request<'a>
     Request::Campaign(CampaignOptions {
         unit: unit_options(matches),
         workers: workers(matches),
+        order: order(matches),
         first: required_number(matches, "first"),
         count: required_number(matches, "count"),
         shape: shape_numbers(matches),
     })
+}
+
+/// The memory model: TSO where none is named.
+fn order(matches: &ArgMatches<'_>) -> Order
+    ensures { result ≡ order_in (rows_of (found_of matches.now)) }
+{
+    let named = matches.get_str("model").and_then(order_named);
+    named.unwrap_or(Order::Tso)
 }
 
 /// What the options say of a shape.

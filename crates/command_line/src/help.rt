@@ -74,6 +74,9 @@ pub(crate) const OPERATIONS: &str = "How many operations each processor has, at 
 /// Of `--addrs`.
 pub(crate) const ADDRESSES: &str = "How many addresses are drawn from, 1 to 256";
 
+/// Of `--model`.
+pub(crate) const MODEL: &str = "The memory model of the program, tso or pso";
+
 /// Of `--trace`.
 pub(crate) const TRACE: &str = "Prints the recorded trace alone";
 
@@ -124,7 +127,8 @@ numbers of the unit's steps; with --trace it prints the recorded trace alone. A
 text that is no program or no schedule gets one line that says why.
 
 --capacity and --trigger are ignored by units that have no use for them. The
-report is the same for each number of workers.
+unit `partial` keeps PSO: on it a program without the line `model pso` may give
+a violation. The report is the same for each number of workers.
 
 Exit status:
   0  no violation was found, or the trace was printed
@@ -152,7 +156,9 @@ two runs of the same arguments may record different traces. To run a program in
 an order that is the same each time, use `tsobench replay`.
 
 --capacity and --trigger are ignored by units that have no use for them. The
-report of a recorded trace is the same for each number of workers.
+unit `partial` keeps PSO: on it a program without the line `model pso` may give
+a violation. The report of a recorded trace is the same for each number of
+workers.
 
 Exit status:
   0  no violation was found, or the trace was printed
@@ -172,6 +178,10 @@ P, O and A are the shape of the program: each of its P processors has O
 operations, which are loads, stores, swaps and barriers at the addresses 0 to
 A - 1. P times O is at most 1,000. Each store and swap writes a value of its
 own: 1, 2, 3 and so on. A shape outside the limits gets one line, REFUSED Shape.
+
+With --model pso the program is of Partial Store Order: its text has the line
+`model pso`, and a word drawn from the seed that is 31 modulo 32 makes an STBAR
+in place of a barrier.
 
 Exit status:
   0  the program was printed
@@ -194,6 +204,11 @@ recorded and judged. It prints a line for each seed, in their order,
 P, O and A are the shape of each program, as for `tsobench make`. A shape
 outside the limits gets one line, REFUSED Shape; more than 1,000 seeds, or a
 last seed above 18446744073709551615, get one line, REFUSED Seeds.
+
+With --model pso each program is of Partial Store Order and has STBARs, as for
+`tsobench make`, and its trace is judged against that model. The unit `partial`
+is lawful for programs of --model pso alone: with --model tso it shows what TSO
+forbids, so violations are to be expected.
 
 The system, and not the seed, says in which order the threads come to the unit:
 two campaigns of the same arguments may find different violations. Each worker

@@ -1,7 +1,10 @@
 //! What options say of a run on a memory unit, and of drawn programs.
 ghost use Rattle.std.specs.Prelude.{◌≡◌};
+ghost use Rattle.command_line.specs.Commands.{HasKnownNames};
+ghost use Rattle.command_line.specs.Models.{model_order};
 ghost use Rattle.command_line.specs.Units.{unit_kind};
 
+use tso_ops::Order;
 use unit_faulty::FaultKind;
 
 /// The greatest number of workers.
@@ -17,14 +20,18 @@ pub enum UnitKind {
     Serial,
     /// `buffer`: lawful, of TSO; each processor has a store buffer, where its stores wait until they are drained.
     Buffer,
+    /// `partial`: lawful, of PSO; each processor has a store buffer, whose stores may leave for different addresses in
+    /// another order than they entered.
+    Partial,
     /// Not lawful: as `buffer`, with one deviation, after whose kind it is named, as `newest-first`.
     Faulty(FaultKind),
 }
 
 /// The names of the kinds, as `--unit` takes them; `kind_named` knows each.
-pub(crate) static UNIT_NAMES: [&str; 8] = [
+static UNIT_NAMES: [&str; 9] = [
     "serial",
     "buffer",
+    "partial",
     "newest-first",
     "no-forward",
     "stale-load",
@@ -40,6 +47,7 @@ pub(crate) fn kind_named(name: &str) -> Option<UnitKind>
     match name {
         "serial" => Some(UnitKind::Serial),
         "buffer" => Some(UnitKind::Buffer),
+        "partial" => Some(UnitKind::Partial),
         "newest-first" => Some(UnitKind::Faulty(FaultKind::NewestFirst)),
         "no-forward" => Some(UnitKind::Faulty(FaultKind::NoForward)),
         "stale-load" => Some(UnitKind::Faulty(FaultKind::StaleLoad)),
@@ -47,6 +55,39 @@ pub(crate) fn kind_named(name: &str) -> Option<UnitKind>
         "idle-membar" => Some(UnitKind::Faulty(FaultKind::IdleMembar)),
         "lost-drain" => Some(UnitKind::Faulty(FaultKind::LostDrain)),
         _ => None,
+    }
+}
+
+/// The names of the memory models, as `--model` takes them; `order_named` knows each.
+static MODEL_NAMES: [&str; 2] = ["tso", "pso"];
+
+/// The memory model of this name.
+pub(crate) fn order_named(name: &str) -> Option<Order>
+    ensures { result ≡ model_order name.now }
+{
+    match name {
+        "tso" => Some(Order::Tso),
+        "pso" => Some(Order::Pso),
+        _ => None,
+    }
+}
+
+/// The names that options take which take one of a list.
+#[derive(Clone, Copy)]
+pub(crate) struct OptionNames<'a> {
+    /// Those of the kinds of units.
+    pub(crate) units: &'a [&'a str],
+    /// Those of the memory models.
+    pub(crate) models: &'a [&'a str],
+}
+
+/// The names of all kinds of units and of all memory models.
+pub(crate) fn option_names() -> OptionNames<'static>
+    ensures { HasKnownNames result }
+{
+    OptionNames {
+        units: UNIT_NAMES.as_slice(),
+        models: MODEL_NAMES.as_slice(),
     }
 }
 
@@ -99,6 +140,8 @@ pub struct CampaignOptions {
     pub unit: UnitOptions,
     /// The number of workers that share the seeds, 1 to 64.
     pub workers: usize,
+    /// The memory model of each program.
+    pub order: Order,
     /// The seed of the first program; each further program has the next seed.
     pub first: u64,
     /// The number of seeds.

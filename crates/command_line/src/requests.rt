@@ -10,10 +10,11 @@ ghost use Rattle.command_line.specs.Internal.Computed.{help_option_of, parsed_as
 
 use crate::commands::tsobench_command;
 use crate::found::request;
-use crate::options::{CampaignOptions, RunOptions, ShapeNumbers, UNIT_NAMES};
+use crate::options::{CampaignOptions, OptionNames, RunOptions, ShapeNumbers, option_names};
 use clap::error::ErrorKind;
 use clap::{ArgMatches, Error};
 use std::alloc::{AllocError, Global};
+use tso_ops::Order;
 
 /// Which program to run with a thread per processor, and how.
 #[derive(Clone, Copy, Debug, PartialEq, Eq)]
@@ -48,8 +49,10 @@ pub enum Request<'a> {
     },
     /// To run a program with a thread per processor.
     Run(RunRequest<'a>),
-    /// To print the program that is drawn from this seed in this shape.
+    /// To print the program of a memory model that is drawn from this seed in this shape.
     Make {
+        /// The memory model of the program.
+        order: Order,
         seed: u64,
         shape: ShapeNumbers,
     },
@@ -75,16 +78,16 @@ pub fn read_arguments<'a>(alloc: Global, arguments: &'a [String]) -> Result<Requ
     ensures workers { IfOk result (λ request. HasWorkers (asked_of request)) }
     ensures unit { IfOk result (λ request. HasUnitRanges (asked_of request)) }
 {
-    match matches(alloc, UNIT_NAMES.as_slice(), arguments) {
+    match matches(alloc, option_names(), arguments) {
         Ok(matches) => Ok(request(&matches)),
         Err(error) => text_request(alloc, &error),
     }
 }
 
-/// What the command line of the program, where the units have these names, makes of the arguments.
+/// What the command line of the program, where options take these names, makes of the arguments.
 fn matches<'a>(
     alloc: Global,
-    names: &'a [&'a str],
+    names: OptionNames<'a>,
     arguments: &'a [String],
 ) -> Result<ArgMatches<'a>, Error>
     ensures found { IfOk result (λ found. subcommand_rows_of found

@@ -30,9 +30,10 @@ fn described_shape(alloc: Global, shape: &ShapeNumbers) -> Result<String, AllocE
 fn described_campaign(alloc: Global, options: &CampaignOptions) -> Result<String, AllocError> {
     let unit = options.unit;
     let shape = described_shape(alloc, &options.shape)?;
+    let seeds = format!(in alloc; "{} from {}", options.count, options.first)?;
     format!(in alloc;
-        "{} from {} of {shape} on {:?} {} {} with {}",
-        options.count, options.first, unit.kind, unit.capacity, unit.trigger, options.workers
+        "{seeds} of {:?} {shape} on {:?} {} {} with {}",
+        options.order, unit.kind, unit.capacity, unit.trigger, options.workers
     )
 }
 
@@ -62,9 +63,9 @@ fn described(alloc: Global, request: &Request<'_>) -> Result<String, AllocError>
             let options = described_options(alloc, &run.options)?;
             format!(in alloc; "run {:?} seeded {} {options}", run.program, run.drain_seed)
         }
-        Request::Make { seed, shape } => {
+        Request::Make { order, seed, shape } => {
             let shape = described_shape(alloc, shape)?;
-            format!(in alloc; "make {shape} from {seed}")
+            format!(in alloc; "make {order:?} {shape} from {seed}")
         }
         Request::Campaign(options) => {
             let options = described_campaign(alloc, options)?;

@@ -1,3 +1,4 @@
 pub mod Buffer
 pub mod Internal
+pub mod Partial
 pub mod Serial

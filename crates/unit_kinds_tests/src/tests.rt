@@ -3,5 +3,7 @@
 mod calls;
 mod drawn;
 mod helper_units;
+mod partial;
+mod refused;
 mod serial;
 mod store_buffer;

@@ -5,6 +5,7 @@ use Rattle.std.specs.Str.{bytes_eq}
 use Rattle.std.specs.Str.Parse.{digits_value, without_leading_plus}
 use Rattle.clap.specs.ValueTests.{is_unsigned_in}
 use Rattle.clap.specs.Words.{Kinds, Row, first_of, one_of}
+use Rattle.tso_ops.specs.declared.settings.Order.{Order}
 use Rattle.command_line.specs.Workers.{worker_limit}
 use Rattle.command_line.specs.declared.options.CampaignOptions.{CampaignOptions}
 use Rattle.command_line.specs.declared.options.Printing.{Printing}
@@ -14,6 +15,7 @@ use Rattle.command_line.specs.declared.options.ShapeNumbers.{ShapeNumbers}
 use Rattle.command_line.specs.declared.options.UnitKind.TheVariants.{Serial}
 use Rattle.command_line.specs.declared.options.UnitOptions.{UnitOptions}
 use Rattle.command_line.specs.Requests.{Text, Asked, AskedRun, campaigning, capacity_limit, judging, making, running}
+use Rattle.command_line.specs.Models.{default_model, model_order}
 use Rattle.command_line.specs.Units.{default_capacity, default_trigger, trigger_limit, unit_kind}
 use Rattle.command_line.specs.Commands.{IsAskedAtOne, checking_by, replaying_with}
 
@@ -96,6 +98,10 @@ asked_run_in rows = record {
   program = unwrap_or (first_of (codes "program") rows) [];
 }
 
+-- the memory model
+abbrev pub order_in : List Row → Order
+order_in rows = unwrap_or (option_and_then model_order (first_of (codes "model") rows)) default_model
+
 abbrev pub shape_in : List Row → ShapeNumbers
 shape_in rows = record {
   processors = required_in (codes "procs") rows;
@@ -107,6 +113,7 @@ abbrev pub campaign_in : List Row → CampaignOptions
 campaign_in rows = record {
   unit = unit_in rows;
   workers = workers_in rows;
+  order = order_in rows;
   first = required_in (codes "first") rows;
   count = required_in (codes "count") rows;
   shape = shape_in rows;
@@ -119,7 +126,7 @@ abbrev pub running_by : List Row → Asked
 running_by rows = running (asked_run_in rows)
 
 abbrev pub making_by : List Row → Asked
-making_by rows = making (required_in (codes "seed") rows) (shape_in rows)
+making_by rows = making (order_in rows) (required_in (codes "seed") rows) (shape_in rows)
 
 abbrev pub campaigning_by : List Row → Asked
 campaigning_by rows = campaigning (campaign_in rows)

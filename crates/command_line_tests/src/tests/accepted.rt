@@ -31,7 +31,7 @@ fn accepted_arguments(rt: HostRuntime) -> Result<(), Fail> {
 }
 
 /// Arguments of `replay`, and what they ask for.
-const REPLAYS: [(&[&str], &str); 15] = [
+const REPLAYS: [(&[&str], &str); 16] = [
     (
         &["replay", "--unit", "serial", "p", "s"],
         "replay \"p\" by \"s\" on Serial 8 1 with 1 printing Report",
@@ -39,6 +39,10 @@ const REPLAYS: [(&[&str], &str); 15] = [
     (
         &["replay", "--unit", "buffer", "p", "s"],
         "replay \"p\" by \"s\" on Buffer 8 1 with 1 printing Report",
+    ),
+    (
+        &["replay", "--capacity=4", "p", "s", "--unit", "partial"],
+        "replay \"p\" by \"s\" on Partial 4 1 with 1 printing Report",
     ),
     (
         &["replay", "--capacity=64", "--unit=buffer", "p", "s"],
@@ -118,7 +122,7 @@ fn accepted_replays(rt: HostRuntime) -> Result<(), Fail> {
 }
 
 /// Arguments of `run`, and what they ask for.
-const RUNS: [(&[&str], &str); 13] = [
+const RUNS: [(&[&str], &str); 14] = [
     (
         &["run", "--unit", "serial", "--seed", "1", "p"],
         "run \"p\" seeded 1 on Serial 8 1 with 1 printing Report",
@@ -126,6 +130,10 @@ const RUNS: [(&[&str], &str); 13] = [
     (
         &["run", "--unit", "buffer", "--seed", "1", "p"],
         "run \"p\" seeded 1 on Buffer 8 1 with 1 printing Report",
+    ),
+    (
+        &["run", "--unit=partial", "--seed", "1", "p"],
+        "run \"p\" seeded 1 on Partial 8 1 with 1 printing Report",
     ),
     (
         &["run", "--seed=0", "--unit=lost-drain", "p"],
@@ -197,26 +205,26 @@ fn accepted_runs(rt: HostRuntime) -> Result<(), Fail> {
 }
 
 /// Arguments of `make`, and what they ask for.
-const MADE: [(&[&str], &str); 6] = [
+const MADE: [(&[&str], &str); 10] = [
     (
         &[
             "make", "--seed", "7", "--procs", "2", "--ops", "4", "--addrs", "3",
         ],
-        "make 2x4 at 3 from 7",
+        "make Tso 2x4 at 3 from 7",
     ),
     (
         &["make", "--seed=7", "--procs=2", "--ops=4", "--addrs=3"],
-        "make 2x4 at 3 from 7",
+        "make Tso 2x4 at 3 from 7",
     ),
     (
         &[
             "make", "--addrs", "3", "--ops=4", "--procs", "2", "--seed=7",
         ],
-        "make 2x4 at 3 from 7",
+        "make Tso 2x4 at 3 from 7",
     ),
     (
         &["make", "--seed=0", "--procs=0", "--ops=0", "--addrs=0"],
-        "make 0x0 at 0 from 0",
+        "make Tso 0x0 at 0 from 0",
     ),
     (
         &[
@@ -226,11 +234,57 @@ const MADE: [(&[&str], &str); 6] = [
             "--ops=18446744073709551613",
             "--addrs=18446744073709551612",
         ],
-        "make 18446744073709551614x18446744073709551613 at 18446744073709551612 from 18446744073709551615",
+        "make Tso 18446744073709551614x18446744073709551613 at 18446744073709551612 from 18446744073709551615",
     ),
     (
         &["make", "--seed=+007", "--procs=02", "--ops=4", "--addrs=3"],
-        "make 2x4 at 3 from 7",
+        "make Tso 2x4 at 3 from 7",
+    ),
+    (
+        &[
+            "make",
+            "--model",
+            "pso",
+            "--seed=7",
+            "--procs=2",
+            "--ops=4",
+            "--addrs=3",
+        ],
+        "make Pso 2x4 at 3 from 7",
+    ),
+    (
+        &[
+            "make",
+            "--seed=7",
+            "--procs=2",
+            "--model=pso",
+            "--ops=4",
+            "--addrs=3",
+        ],
+        "make Pso 2x4 at 3 from 7",
+    ),
+    (
+        &[
+            "make",
+            "--seed=7",
+            "--procs=2",
+            "--ops=4",
+            "--addrs=3",
+            "--model",
+            "tso",
+        ],
+        "make Tso 2x4 at 3 from 7",
+    ),
+    (
+        &[
+            "make",
+            "--model=tso",
+            "--addrs=3",
+            "--ops=4",
+            "--procs=2",
+            "--seed=7",
+        ],
+        "make Tso 2x4 at 3 from 7",
     ),
 ];
 
@@ -240,13 +294,13 @@ fn accepted_made_programs(rt: HostRuntime) -> Result<(), Fail> {
 }
 
 /// Arguments of `campaign`, and what they ask for.
-const CAMPAIGNS: [(&[&str], &str); 5] = [
+const CAMPAIGNS: [(&[&str], &str); 8] = [
     (
         &[
             "campaign", "--unit", "buffer", "--first", "7", "--count", "20", "--procs", "2",
             "--ops", "4", "--addrs", "3",
         ],
-        "campaign 20 from 7 of 2x4 at 3 on Buffer 8 1 with 1",
+        "campaign 20 from 7 of Tso 2x4 at 3 on Buffer 8 1 with 1",
     ),
     (
         &[
@@ -261,7 +315,7 @@ const CAMPAIGNS: [(&[&str], &str); 5] = [
             "--ops=4",
             "--addrs=3",
         ],
-        "campaign 20 from 7 of 2x4 at 3 on Faulty(LostDrain) 64 5 with 2",
+        "campaign 20 from 7 of Tso 2x4 at 3 on Faulty(LostDrain) 64 5 with 2",
     ),
     (
         &[
@@ -280,7 +334,7 @@ const CAMPAIGNS: [(&[&str], &str); 5] = [
             "1",
             "--unit=serial",
         ],
-        "campaign 20 from 7 of 2x4 at 3 on Serial 1 18446744073709551615 with 64",
+        "campaign 20 from 7 of Tso 2x4 at 3 on Serial 1 18446744073709551615 with 64",
     ),
     (
         &[
@@ -292,7 +346,7 @@ const CAMPAIGNS: [(&[&str], &str); 5] = [
             "--ops=18446744073709551612",
             "--addrs=18446744073709551611",
         ],
-        "campaign 18446744073709551614 from 18446744073709551615 of 18446744073709551613x18446744073709551612 at 18446744073709551611 on Serial 8 1 with 1",
+        "campaign 18446744073709551614 from 18446744073709551615 of Tso 18446744073709551613x18446744073709551612 at 18446744073709551611 on Serial 8 1 with 1",
     ),
     (
         &[
@@ -304,7 +358,50 @@ const CAMPAIGNS: [(&[&str], &str); 5] = [
             "--ops=0",
             "--addrs=0",
         ],
-        "campaign 0 from 0 of 0x0 at 0 on Serial 8 1 with 1",
+        "campaign 0 from 0 of Tso 0x0 at 0 on Serial 8 1 with 1",
+    ),
+    (
+        &[
+            "campaign",
+            "--model",
+            "pso",
+            "--unit",
+            "partial",
+            "--first=7",
+            "--count=20",
+            "--procs=2",
+            "--ops=4",
+            "--addrs=3",
+        ],
+        "campaign 20 from 7 of Pso 2x4 at 3 on Partial 8 1 with 1",
+    ),
+    (
+        &[
+            "campaign",
+            "--unit=partial",
+            "--capacity=64",
+            "--first=7",
+            "--count=20",
+            "--model=tso",
+            "--procs=2",
+            "--ops=4",
+            "--addrs=3",
+        ],
+        "campaign 20 from 7 of Tso 2x4 at 3 on Partial 64 1 with 1",
+    ),
+    (
+        &[
+            "campaign",
+            "--unit=buffer",
+            "--workers=2",
+            "--first=7",
+            "--count=20",
+            "--procs=2",
+            "--ops=4",
+            "--addrs=3",
+            "--model=pso",
+        ],
+        "campaign 20 from 7 of Pso 2x4 at 3 on Buffer 8 1 with 2",
     ),
 ];
 
@@ -314,9 +411,10 @@ fn accepted_campaigns(rt: HostRuntime) -> Result<(), Fail> {
 }
 
 /// Kinds of units by name, and what they print as.
-const KINDS: [(&str, &str); 8] = [
+const KINDS: [(&str, &str); 9] = [
     ("serial", "Serial"),
     ("buffer", "Buffer"),
+    ("partial", "Partial"),
     ("newest-first", "Faulty(NewestFirst)"),
     ("no-forward", "Faulty(NoForward)"),
     ("stale-load", "Faulty(StaleLoad)"),

@@ -150,7 +150,7 @@ Arguments:
   <SCHEDULE>  The text of a schedule
 
 Options:
-      --unit <UNIT>   Which memory unit runs the program [possible values: serial, buffer, newest-first, no-forward, stale-load, torn-swap, idle-membar, lost-drain]
+      --unit <UNIT>   Which memory unit runs the program [possible values: serial, buffer, partial, newest-first, no-forward, stale-load, torn-swap, idle-membar, lost-drain]
       --capacity <C>  How many stores each store buffer of the unit holds, 1 to 64 [default: 8]
       --trigger <T>   From which occasion on a faulty unit deviates, from 1 [default: 1]
       --workers <N>   How many workers judge, 1 to 64 [default: 1]
@@ -166,7 +166,8 @@ numbers of the unit's steps; with --trace it prints the recorded trace alone. A
 text that is no program or no schedule gets one line that says why.
 
 --capacity and --trigger are ignored by units that have no use for them. The
-report is the same for each number of workers.
+unit `partial` keeps PSO: on it a program without the line `model pso` may give
+a violation. The report is the same for each number of workers.
 
 Exit status:
   0  no violation was found, or the trace was printed
@@ -187,7 +188,7 @@ Arguments:
   <PROGRAM>  The text of a program
 
 Options:
-      --unit <UNIT>   Which memory unit runs the program [possible values: serial, buffer, newest-first, no-forward, stale-load, torn-swap, idle-membar, lost-drain]
+      --unit <UNIT>   Which memory unit runs the program [possible values: serial, buffer, partial, newest-first, no-forward, stale-load, torn-swap, idle-membar, lost-drain]
       --capacity <C>  How many stores each store buffer of the unit holds, 1 to 64 [default: 8]
       --trigger <T>   From which occasion on a faulty unit deviates, from 1 [default: 1]
       --workers <N>   How many workers judge, 1 to 64 [default: 1]
@@ -210,7 +211,9 @@ two runs of the same arguments may record different traces. To run a program in
 an order that is the same each time, use `tsobench replay`.
 
 --capacity and --trigger are ignored by units that have no use for them. The
-report of a recorded trace is the same for each number of workers.
+unit `partial` keeps PSO: on it a program without the line `model pso` may give
+a violation. The report of a recorded trace is the same for each number of
+workers.
 
 Exit status:
   0  no violation was found, or the trace was printed
@@ -225,14 +228,15 @@ Example:
 const MAKE_HELP: &str = "\
 Prints the program that is drawn from a seed
 
-Usage: tsobench make --seed <N> --procs <P> --ops <O> --addrs <A>
+Usage: tsobench make [OPTIONS] --seed <N> --procs <P> --ops <O> --addrs <A>
 
 Options:
-      --seed <N>   The seed of the program, 0 to 18446744073709551615
-      --procs <P>  How many processors the program has, 1 to 16
-      --ops <O>    How many operations each processor has, at most 1000 over all
-      --addrs <A>  How many addresses are drawn from, 1 to 256
-  -h, --help       Print help
+      --model <MODEL>  The memory model of the program, tso or pso [default: tso] [possible values: tso, pso]
+      --seed <N>       The seed of the program, 0 to 18446744073709551615
+      --procs <P>      How many processors the program has, 1 to 16
+      --ops <O>        How many operations each processor has, at most 1000 over all
+      --addrs <A>      How many addresses are drawn from, 1 to 256
+  -h, --help           Print help
 
 It draws a program from a seed and prints its text, which `tsobench run` and
 `tsobench replay` read. The same arguments give the same program each time.
@@ -241,6 +245,10 @@ P, O and A are the shape of the program: each of its P processors has O
 operations, which are loads, stores, swaps and barriers at the addresses 0 to
 A - 1. P times O is at most 1,000. Each store and swap writes a value of its
 own: 1, 2, 3 and so on. A shape outside the limits gets one line, REFUSED Shape.
+
+With --model pso the program is of Partial Store Order: its text has the line
+`model pso`, and a word drawn from the seed that is 31 modulo 32 makes an STBAR
+in place of a barrier.
 
 Exit status:
   0  the program was printed
@@ -258,16 +266,17 @@ Runs the programs drawn from many seeds, and judges their traces
 Usage: tsobench campaign [OPTIONS] --unit <UNIT> --first <S> --count <K> --procs <P> --ops <O> --addrs <A>
 
 Options:
-      --unit <UNIT>   Which memory unit runs the program [possible values: serial, buffer, newest-first, no-forward, stale-load, torn-swap, idle-membar, lost-drain]
-      --capacity <C>  How many stores each store buffer of the unit holds, 1 to 64 [default: 8]
-      --trigger <T>   From which occasion on a faulty unit deviates, from 1 [default: 1]
-      --workers <N>   How many workers share the seeds, 1 to 64 [default: 1]
-      --first <S>     The first seed, 0 to 18446744073709551615
-      --count <K>     How many seeds there are, each one more than the last, at most 1000
-      --procs <P>     How many processors the program has, 1 to 16
-      --ops <O>       How many operations each processor has, at most 1000 over all
-      --addrs <A>     How many addresses are drawn from, 1 to 256
-  -h, --help          Print help
+      --unit <UNIT>    Which memory unit runs the program [possible values: serial, buffer, partial, newest-first, no-forward, stale-load, torn-swap, idle-membar, lost-drain]
+      --capacity <C>   How many stores each store buffer of the unit holds, 1 to 64 [default: 8]
+      --trigger <T>    From which occasion on a faulty unit deviates, from 1 [default: 1]
+      --workers <N>    How many workers share the seeds, 1 to 64 [default: 1]
+      --model <MODEL>  The memory model of the program, tso or pso [default: tso] [possible values: tso, pso]
+      --first <S>      The first seed, 0 to 18446744073709551615
+      --count <K>      How many seeds there are, each one more than the last, at most 1000
+      --procs <P>      How many processors the program has, 1 to 16
+      --ops <O>        How many operations each processor has, at most 1000 over all
+      --addrs <A>      How many addresses are drawn from, 1 to 256
+  -h, --help           Print help
 
 It takes the seeds S, S + 1 and so on, K of them. From each it draws a program,
 as `tsobench make` does, and runs it on a memory unit of its own, as
@@ -279,6 +288,11 @@ recorded and judged. It prints a line for each seed, in their order,
 P, O and A are the shape of each program, as for `tsobench make`. A shape
 outside the limits gets one line, REFUSED Shape; more than 1,000 seeds, or a
 last seed above 18446744073709551615, get one line, REFUSED Seeds.
+
+With --model pso each program is of Partial Store Order and has STBARs, as for
+`tsobench make`, and its trace is judged against that model. The unit `partial`
+is lawful for programs of --model pso alone: with --model tso it shows what TSO
+forbids, so violations are to be expected.
 
 The system, and not the seed, says in which order the threads come to the unit:
 two campaigns of the same arguments may find different violations. Each worker

@@ -4,7 +4,7 @@ use super::expect_each;
 use std::test::Fail;
 
 /// Arguments, and the text of their refusal.
-const REFUSED: [(&[&str], &str); 7] = [
+const REFUSED: [(&[&str], &str); 8] = [
     (&["seek", "judge"], UNKNOWN),
     (&["help", "seek"], UNKNOWN),
     (
@@ -18,6 +18,10 @@ const REFUSED: [(&[&str], &str); 7] = [
     (
         &["judge", "a", "b"],
         "error: unexpected argument 'b' found\n\nUsage: tsobench judge [OPTIONS] [FILE]\n\nFor more information, try '--help'.\n",
+    ),
+    (
+        &["judge", "--model", "pso"],
+        "error: unexpected argument '--model' found\n\n  tip: to pass '--model' as a value, use '-- --model'\n\nUsage: tsobench judge [OPTIONS] [FILE]\n\nFor more information, try '--help'.\n",
     ),
     (
         &["check", "a"],
@@ -54,7 +58,7 @@ const REPLAYS: [(&[&str], &str); 12] = [
     ),
     (
         &["replay", "--unit", "other", "p", "s"],
-        "error: invalid value 'other' for '--unit <UNIT>'\n  [possible values: serial, buffer, newest-first, no-forward, stale-load, torn-swap, idle-membar, lost-drain]\n\nFor more information, try '--help'.\n",
+        "error: invalid value 'other' for '--unit <UNIT>'\n  [possible values: serial, buffer, partial, newest-first, no-forward, stale-load, torn-swap, idle-membar, lost-drain]\n\nFor more information, try '--help'.\n",
     ),
     (
         &["replay", "--unit", "serial", "--capacity", "0", "p", "s"],
@@ -92,7 +96,7 @@ fn refused_replays(rt: HostRuntime) -> Result<(), Fail> {
 }
 
 /// Arguments of `run`, and the text of their refusal.
-const RUNS: [(&[&str], &str); 12] = [
+const RUNS: [(&[&str], &str); 13] = [
     (
         &["run"],
         "error: the following required arguments were not provided:\n  --unit <UNIT>\n  --seed <N>\n  <PROGRAM>\n\nUsage: tsobench run --unit <UNIT> --seed <N> <PROGRAM>\n\nFor more information, try '--help'.\n",
@@ -119,7 +123,7 @@ const RUNS: [(&[&str], &str); 12] = [
     ),
     (
         &["run", "--unit", "other", "--seed", "1", "p"],
-        "error: invalid value 'other' for '--unit <UNIT>'\n  [possible values: serial, buffer, newest-first, no-forward, stale-load, torn-swap, idle-membar, lost-drain]\n\nFor more information, try '--help'.\n",
+        "error: invalid value 'other' for '--unit <UNIT>'\n  [possible values: serial, buffer, partial, newest-first, no-forward, stale-load, torn-swap, idle-membar, lost-drain]\n\nFor more information, try '--help'.\n",
     ),
     (
         &["run", "--unit", "serial", "--capacity", "0", "p"],
@@ -145,6 +149,10 @@ const RUNS: [(&[&str], &str); 12] = [
         "error: the argument '--seed <N>' cannot be used multiple times\n\nUsage: tsobench run [OPTIONS] --unit <UNIT> --seed <N> <PROGRAM>\n\nFor more information, try '--help'.\n",
     ),
     (
+        &["run", "--model", "pso", "--unit", "serial", "p"],
+        "error: unexpected argument '--model' found\n\n  tip: to pass '--model' as a value, use '-- --model'\n\nUsage: tsobench run [OPTIONS] --unit <UNIT> --seed <N> <PROGRAM>\n\nFor more information, try '--help'.\n",
+    ),
+    (
         &["replay", "--seed", "1", "--unit", "serial", "p", "s"],
         "error: unexpected argument '--seed' found\n\n  tip: to pass '--seed' as a value, use '-- --seed'\n\nUsage: tsobench replay [OPTIONS] --unit <UNIT> <PROGRAM> <SCHEDULE>\n\nFor more information, try '--help'.\n",
     ),
@@ -156,7 +164,7 @@ fn refused_runs(rt: HostRuntime) -> Result<(), Fail> {
 }
 
 /// Arguments of `make`, and the text of their refusal.
-const MADE: [(&[&str], &str); 6] = [
+const MADE: [(&[&str], &str); 10] = [
     (&["make"], NO_NUMBERS),
     (
         &["make", "--procs=2", "--ops=4", "--addrs=3"],
@@ -172,11 +180,27 @@ const MADE: [(&[&str], &str); 6] = [
     ),
     (
         &["make", "--seed=7", "--procs=2", "--ops=4", "--addrs=3", "x"],
-        "error: unexpected argument 'x' found\n\nUsage: tsobench make --seed <N> --procs <P> --ops <O> --addrs <A>\n\nFor more information, try '--help'.\n",
+        "error: unexpected argument 'x' found\n\nUsage: tsobench make [OPTIONS] --seed <N> --procs <P> --ops <O> --addrs <A>\n\nFor more information, try '--help'.\n",
     ),
     (
         &["make", "--unit=serial"],
-        "error: unexpected argument '--unit' found\n\nUsage: tsobench make --seed <N> --procs <P> --ops <O> --addrs <A>\n\nFor more information, try '--help'.\n",
+        "error: unexpected argument '--unit' found\n\nUsage: tsobench make [OPTIONS] --seed <N> --procs <P> --ops <O> --addrs <A>\n\nFor more information, try '--help'.\n",
+    ),
+    (
+        &["make", "--model", "rmo", "--seed=7"],
+        "error: invalid value 'rmo' for '--model <MODEL>'\n  [possible values: tso, pso]\n\nFor more information, try '--help'.\n",
+    ),
+    (
+        &["make", "--seed=7", "--model=PSO"],
+        "error: invalid value 'PSO' for '--model <MODEL>'\n  [possible values: tso, pso]\n\nFor more information, try '--help'.\n",
+    ),
+    (
+        &["make", "--seed=7", "--model"],
+        "error: a value is required for '--model <MODEL>' but none was supplied\n  [possible values: tso, pso]\n\nFor more information, try '--help'.\n",
+    ),
+    (
+        &["make", "--model=pso", "--seed=7", "--model=pso"],
+        "error: the argument '--model <MODEL>' cannot be used multiple times\n\nUsage: tsobench make [OPTIONS] --seed <N> --procs <P> --ops <O> --addrs <A>\n\nFor more information, try '--help'.\n",
     ),
 ];
 
@@ -186,7 +210,7 @@ fn refused_made_programs(rt: HostRuntime) -> Result<(), Fail> {
 }
 
 /// Arguments of `campaign`, and the text of their refusal.
-const CAMPAIGNS: [(&[&str], &str); 6] = [
+const CAMPAIGNS: [(&[&str], &str); 10] = [
     (
         &["campaign"],
         "error: the following required arguments were not provided:\n  --unit <UNIT>\n  --first <S>\n  --count <K>\n  --procs <P>\n  --ops <O>\n  --addrs <A>\n\nUsage: tsobench campaign --unit <UNIT> --first <S> --count <K> --procs <P> --ops <O> --addrs <A>\n\nFor more information, try '--help'.\n",
@@ -212,11 +236,27 @@ const CAMPAIGNS: [(&[&str], &str); 6] = [
     ),
     (
         &["campaign", "--first=7", "--unit", "other", "--count=20"],
-        "error: invalid value 'other' for '--unit <UNIT>'\n  [possible values: serial, buffer, newest-first, no-forward, stale-load, torn-swap, idle-membar, lost-drain]\n\nFor more information, try '--help'.\n",
+        "error: invalid value 'other' for '--unit <UNIT>'\n  [possible values: serial, buffer, partial, newest-first, no-forward, stale-load, torn-swap, idle-membar, lost-drain]\n\nFor more information, try '--help'.\n",
     ),
     (
         &["campaign", "--trace"],
         "error: unexpected argument '--trace' found\n\nUsage: tsobench campaign [OPTIONS] --unit <UNIT> --first <S> --count <K> --procs <P> --ops <O> --addrs <A>\n\nFor more information, try '--help'.\n",
+    ),
+    (
+        &["campaign", "--unit=partial", "--model", "rmo"],
+        "error: invalid value 'rmo' for '--model <MODEL>'\n  [possible values: tso, pso]\n\nFor more information, try '--help'.\n",
+    ),
+    (
+        &["campaign", "--model=PSO", "--first=7"],
+        "error: invalid value 'PSO' for '--model <MODEL>'\n  [possible values: tso, pso]\n\nFor more information, try '--help'.\n",
+    ),
+    (
+        &["campaign", "--model"],
+        "error: a value is required for '--model <MODEL>' but none was supplied\n  [possible values: tso, pso]\n\nFor more information, try '--help'.\n",
+    ),
+    (
+        &["campaign", "--model", "pso", "--model", "pso"],
+        "error: the argument '--model <MODEL>' cannot be used multiple times\n\nUsage: tsobench campaign [OPTIONS] --unit <UNIT> --first <S> --count <K> --procs <P> --ops <O> --addrs <A>\n\nFor more information, try '--help'.\n",
     ),
 ];
 

@@ -1,18 +1,16 @@
 //! Store-buffer units: driven by hand, replayed, and with allocations refused.
 ghost use Rattle.std.specs.Prelude.{◌≤◌};
 
-use super::calls::{expect_answers, expect_steps, state_of};
+use super::calls::{TWO, expect_answers, expect_sixty_four, expect_steps, is_balanced, state_of};
+use super::refused::check_refused;
 use std::alloc::{AllocError, Global};
-use std::process::Abort;
 use std::test::Fail;
-use traces_for_tests::{are_equal, program_of, trace_of};
+use traces_for_tests::{program_of, trace_of};
 use tso_ops::Act::{self, Drain, Issue};
-use tso_ops::{Op, Order, Outcome, Program, Trace, ValueFault};
+use tso_ops::{Op, Order, Outcome, Program, ValueFault};
 use unit_core::{Account, MemoryUnit, Recorded, Step, replay};
 use unit_kinds::StoreBufferUnit;
-use units_for_tests::Answered::{
-    self, Drain as Drained, Load, Membar, Stbar, Steps, Store, Swap, Waiting,
-};
+use units_for_tests::Answered::{self, Load, Store, Swap, Waiting};
 
 /// Each processor's call of the unit of capacity 1.
 const ONE: [(usize, Answered); 6] = [
@@ -36,44 +34,6 @@ const STEPS_OF_ONE: [Step; 6] = [
         v: 3,
     },
     Step::Load { p: 0, a: 2, r: 2 },
-];
-
-/// Each processor's call of the unit of capacity 2, whose address 1 has the first value 9.
-const TWO: [(usize, Answered); 16] = [
-    (3, Store { a: 1, v: 1 }),
-    (3, Stbar),
-    (3, Store { a: 1, v: 2 }),
-    (3, Load { a: 1, r: 2 }),
-    (4, Load { a: 1, r: 9 }),
-    (3, Store { a: 1, v: 3 }),
-    (3, Load { a: 1, r: 3 }),
-    (4, Load { a: 1, r: 1 }),
-    (3, Drained(true)),
-    (3, Load { a: 1, r: 3 }),
-    (4, Load { a: 1, r: 2 }),
-    (3, Membar),
-    (4, Load { a: 1, r: 3 }),
-    (3, Waiting(0)),
-    (3, Drained(false)),
-    (3, Steps(15)),
-];
-
-/// Each processor's call of the unit of capacity 64, after 64 stores of processor 15 to address 255.
-const SIXTY_FOUR: [(usize, Answered); 14] = [
-    (15, Steps(64)),
-    (15, Waiting(64)),
-    (15, Load { a: 255, r: 64 }),
-    (14, Load { a: 255, r: 0 }),
-    (15, Store { a: 0, v: 65 }),
-    (15, Steps(68)),
-    (15, Waiting(64)),
-    (15, Load { a: 255, r: 64 }),
-    (14, Load { a: 255, r: 1 }),
-    (15, Membar),
-    (15, Steps(135)),
-    (15, Waiting(0)),
-    (14, Load { a: 255, r: 64 }),
-    (14, Load { a: 0, r: 65 }),
 ];
 
 /// A unit of this capacity.
@@ -111,10 +71,7 @@ fn capacity_of_two(rt: HostRuntime) -> Result<(), Fail> {
 #[test]
 fn capacity_of_sixty_four(rt: HostRuntime) -> Result<(), Fail> {
     let mut unit = unit_of(rt.alloc(), 64)?;
-    for v in 1..65u64 {
-        expect_answers(&rt, &mut unit, &[(15, Store { a: 255, v })])?;
-    }
-    expect_answers(&rt, &mut unit, &SIXTY_FOUR)?;
+    expect_sixty_four(&rt, &mut unit)?;
     Ok(())
 }
 
@@ -131,12 +88,6 @@ fn replayed(
 {
     let unit: Box<dyn MemoryUnit + Send> = Box::new(alloc, StoreBufferUnit::new(alloc, capacity)?)?;
     replay(alloc, unit, program, schedule, account)
-}
-
-/// Whether a record is lawful and of this trace, and its account closed, with as many drains as stores.
-fn is_balanced(recorded: &Recorded, trace: &Trace, account: &Account) -> bool {
-    let is_closed = account.closed && account.drains == account.stores;
-    recorded.lawful() && are_equal(recorded.trace(), trace) && is_closed
 }
 
 /// Whether the program of these operations, replayed on a unit of this capacity in a box, gives this trace, lawful, with as
@@ -156,7 +107,7 @@ fn replays_as(
     let mut account = Account::new();
     let recorded = replayed(alloc, capacity, &program, schedule, &mut account)?;
     let trace = trace_of(alloc, order, rows)?;
-    Ok(is_balanced(&recorded, &trace, &account))
+    Ok(is_balanced(&recorded, true, &trace, &account))
 }
 
 /// The operations of store_buffering, a schedule, and what they read by it.
@@ -223,33 +174,6 @@ fn drain_of_the_schedule_and_stbar(rt: HostRuntime) -> Result<(), Fail> {
     Ok(())
 }
 
-/// Makes a call of the kind of this number on processor 0.
-fn call(unit: &mut StoreBufferUnit, kind: u8) -> Result<(), AllocError> {
-    match kind {
-        0 => unit.load(0, 1).map(|_r| ()),
-        1 => unit.store(0, 1, 5),
-        2 => unit.swap(0, 1, 6).map(|_r| ()),
-        3 => unit.membar(0),
-        4 => unit.stbar(0),
-        _ => unit.drain(0).map(|_some| ()),
-    }
-}
-
-/// How many steps the unit has taken, and how many entries wait in the buffer of processor 0.
-fn numbers_of(unit: &StoreBufferUnit) -> (usize, usize) {
-    (unit.steps().len(), unit.waiting(0))
-}
-
-/// Makes a call; where it is refused, sees that the unit is as it was, and makes it again.
-fn call_again(rt: &impl Abort, unit: &mut StoreBufferUnit, kind: u8) -> Result<(), AllocError> {
-    let before = numbers_of(unit);
-    if call(unit, kind).is_err() {
-        assert!(rt; numbers_of(unit) == before);
-        call(unit, kind)?;
-    }
-    Ok(())
-}
-
 /// A unit of capacity 64, made once more where an allocation was refused.
 fn large_unit(alloc: Global) -> Result<StoreBufferUnit, AllocError> {
     match StoreBufferUnit::new(alloc, 64) {
@@ -258,66 +182,32 @@ fn large_unit(alloc: Global) -> Result<StoreBufferUnit, AllocError> {
     }
 }
 
-/// What processor 1 loads from address 1, once more where it is refused: the last step.
-fn last_load(unit: &mut StoreBufferUnit) -> Result<Option<Step>, AllocError> {
-    if unit.load(1, 1).is_err() {
-        unit.load(1, 1)?;
-    }
-    Ok(unit.steps().last().copied())
-}
-
-/// Makes two stores and a call of this kind eight times, with an allocation refused by `rt try --test --fail-alloc N`, and
-/// sees that the unit has taken so many steps and that memory has the value at last.
-fn check_refused(
-    rt: &impl Abort,
-    alloc: Global,
-    kind: u8,
-    steps: usize,
-    last: u64,
-) -> Result<(), AllocError> {
-    let mut unit = large_unit(alloc)?;
-    for _round in 0..8 {
-        call_again(rt, &mut unit, 1)?;
-        call_again(rt, &mut unit, 1)?;
-        call_again(rt, &mut unit, kind)?;
-    }
-    let (count, _) = numbers_of(&unit);
-    assert!(rt; count == steps, "{count} steps");
-    let expected = Step::Load {
-        p: 1,
-        a: 1,
-        r: last,
-    };
-    assert!(rt; last_load(&mut unit)? == Some(expected), "of kind {kind}");
-    Ok(())
-}
-
 #[test]
 fn refused_allocations_of_loads(rt: HostRuntime) -> Result<(), Fail> {
-    Ok(check_refused(&rt, rt.alloc(), 0, 24, 0)?)
+    Ok(check_refused(&rt, large_unit(rt.alloc())?, 0, 24, 0)?)
 }
 
 #[test]
 fn refused_allocations_of_stores(rt: HostRuntime) -> Result<(), Fail> {
-    Ok(check_refused(&rt, rt.alloc(), 1, 24, 0)?)
+    Ok(check_refused(&rt, large_unit(rt.alloc())?, 1, 24, 0)?)
 }
 
 #[test]
 fn refused_allocations_of_swaps(rt: HostRuntime) -> Result<(), Fail> {
-    Ok(check_refused(&rt, rt.alloc(), 2, 40, 6)?)
+    Ok(check_refused(&rt, large_unit(rt.alloc())?, 2, 40, 6)?)
 }
 
 #[test]
 fn refused_allocations_of_membars(rt: HostRuntime) -> Result<(), Fail> {
-    Ok(check_refused(&rt, rt.alloc(), 3, 40, 5)?)
+    Ok(check_refused(&rt, large_unit(rt.alloc())?, 3, 40, 5)?)
 }
 
 #[test]
 fn refused_allocations_of_stbars(rt: HostRuntime) -> Result<(), Fail> {
-    Ok(check_refused(&rt, rt.alloc(), 4, 24, 0)?)
+    Ok(check_refused(&rt, large_unit(rt.alloc())?, 4, 24, 0)?)
 }
 
 #[test]
 fn refused_allocations_of_drains(rt: HostRuntime) -> Result<(), Fail> {
-    Ok(check_refused(&rt, rt.alloc(), 5, 24, 5)?)
+    Ok(check_refused(&rt, large_unit(rt.alloc())?, 5, 24, 5)?)
 }

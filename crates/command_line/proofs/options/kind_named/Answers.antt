@@ -14,6 +14,7 @@ returns-in_default c =
     rw (
       apart (codes "serial") _ d.not-serial,
       apart (codes "buffer") _ d.not-buffer,
+      apart (codes "partial") _ d.not-partial,
       apart (codes "newest-first") _ d.not-text,
       apart (codes "no-forward") _ d.not-text-2,
       apart (codes "stale-load") _ d.not-text-3,
