@@ -2,8 +2,8 @@
 use Rattle.std.proofs.Common.{◌≡◌, ◌∙◌, ℕ, zero, suc, ◌+◌, All, List, [], ◌∷◌, Bool, Option, arith, length, get_or, map, replicate, ap, refl, subst, sym, inr}
 use Rattle.std.proofs.lemmas.List.{get_or-map, get_or-replicate, length-map, length-replicate}
 use Rattle.command_line.specs.declared.options.CampaignOptions.{CampaignOptions}
-use Rattle.tso_ops.specs.Making.{ShapeValue}
 use Rattle.tso_report.specs.Campaigns.{IsCampaign, LeavesCampaign}
+use Rattle.tso_report.specs.declared.campaigns.CampaignPrograms.{CampaignPrograms}
 use Rattle.tso_report.specs.declared.faults.Fault.{Fault}
 use Rattle.tso_report.specs.declared.faults.Fault.TheVariants.{OutOfMemory, Read, Write, NoThread, Missing}
 use Rattle.tso_report.specs.declared.verdicts.Verdict.{Verdict}
@@ -23,24 +23,24 @@ untouched f xs options are = λ k d within.
 
 -- ---- the text of a campaign
 
-module _ (options : CampaignOptions) (shape : ShapeValue) (first : ℕ) (units : List UnitValue) (programs : AreProgramsOf options shape first) (same : units ≡ units_of options) where
+module _ (options : CampaignOptions) (programs : CampaignPrograms) (units : List UnitValue) (asked : AreProgramsOf options programs) (same : units ≡ units_of options) where
   -- the campaign of these options
-  pub campaign_is : (text : List ℕ) (verdict : Verdict) → IsCampaign shape first units text verdict → IsCampaignOf options text (status_of verdict)
+  pub campaign_is : (text : List ℕ) (verdict : Verdict) → IsCampaign programs units text verdict → IsCampaignOf options text (status_of verdict)
   campaign_is text verdict is = record {
-    shape = programs.shape_kept;
-    seeds = programs.seeds;
+    shape = asked.shape_kept;
+    seeds = asked.seeds;
     verdict = verdict;
-    campaign = subst (λ s. IsCampaign s options.first (units_of options) text verdict) programs.is
-        (subst (λ n. IsCampaign shape n (units_of options) text verdict) programs.first_is (subst (λ l. IsCampaign shape first l text verdict) same is));
+    campaign = subst (λ p. IsCampaign p (units_of options) text verdict) asked.are (subst (λ l. IsCampaign programs l text verdict) same is);
     ends = refl;
   }
 
   -- what a fault leaves of it
-  pub leaves_campaign : (old new : Option (List ℕ)) (fault : Fault) → LeavesCampaign shape first units old new fault → LeavesCampaignText options old new fault
+  pub leaves_campaign : (old new : Option (List ℕ)) (fault : Fault) → LeavesCampaign programs units old new fault → LeavesCampaignText options old new fault
   leaves_campaign old new OutOfMemory leaves = leaves
   leaves_campaign old new Read leaves = leaves
   leaves_campaign old new Write leaves = (status_of leaves.0, leaves.1, inr (inr (campaign_is leaves.1 leaves.0 leaves.2)), leaves.3)
   leaves_campaign old new NoThread leaves = leaves
   leaves_campaign old new (Missing seed) leaves =
       let count = ap length same ∙ length-replicate options.count (unit_of options.unit) in
-      (omega (arith, leaves.0, programs.first_is), omega (arith, leaves.1, count, programs.first_is), leaves.2)
+      let first : programs.first ≡ options.first = ap (λ (p : CampaignPrograms). p.first) asked.are in
+      (omega (arith, leaves.0, first), omega (arith, leaves.1, count, first), leaves.2)

@@ -1,9 +1,10 @@
 -- What the program prints of campaigns.
 use Rattle.std.specs.Prelude.{◌≡◌, ◌⊎◌, ℕ, ◌+◌, ◌<◌, ◌≤◌, ◌^◌, List, [], ◌∷◌, ◌++◌, codes, replicate, Option}
 use Rattle.std.specs.Io.KnownBytes.{Keeps}
-use Rattle.tso_ops.specs.Making.{IsShape, ShapeValue}
+use Rattle.tso_ops.specs.Making.{IsShape}
 use Rattle.command_line.specs.declared.options.CampaignOptions.{CampaignOptions}
 use Rattle.tso_report.specs.Campaigns.{IsCampaign}
+use Rattle.tso_report.specs.declared.campaigns.CampaignPrograms.{CampaignPrograms}
 use Rattle.tso_report.specs.declared.faults.Fault.{Fault}
 use Rattle.tso_report.specs.declared.faults.Fault.TheVariants.{OutOfMemory, Read, Write, NoThread, Missing}
 use Rattle.tso_report.specs.Streams.{AppendsPrefix}
@@ -23,11 +24,14 @@ pub record AreSeeds (first count : ℕ) : Type 0 where
   pub most : count ≤ seed_count_limit
   pub last : first + count ≤ 2 ^ 64
 
--- The campaign's programs are those of these seeds in this shape, within the limits.
-pub record AreProgramsOf (options : CampaignOptions) (shape : ShapeValue) (first : ℕ) : Type 0 where
-  pub is : shape ≡ asked_shape options.shape
+-- the programs that the options ask for
+abbrev pub asked_programs : CampaignOptions → CampaignPrograms
+asked_programs options = record { first = options.first; order = options.order; shape = asked_shape options.shape }
+
+-- The campaign's programs are those that the options ask for, within the limits.
+pub record AreProgramsOf (options : CampaignOptions) (programs : CampaignPrograms) : Type 0 where
+  pub are : programs ≡ asked_programs options
   pub shape_kept : IsShape (asked_shape options.shape)
-  pub first_is : first ≡ options.first
   pub seeds : AreSeeds options.first options.count
 
 -- the units, one for each seed, as the options say
@@ -38,12 +42,12 @@ units_of options = replicate options.count (unit_of options.unit)
 abbrev pub IsSeedsRefusal : CampaignOptions → List ℕ → ℕ → Type 0
 IsSeedsRefusal options text status = IsShape (asked_shape options.shape) × (AreSeeds options.first options.count → ⊥) × (text ≡ seeds_refusal) × (status ≡ 2)
 
--- The text is that of a campaign over these seeds, on units as the options say.
+-- The text is that of a campaign of these programs, on units as the options say.
 pub record IsCampaignOf (options : CampaignOptions) (text : List ℕ) (status : ℕ) : Type 0 where
   pub shape : IsShape (asked_shape options.shape)
   pub seeds : AreSeeds options.first options.count
   pub verdict : Verdict
-  pub campaign : IsCampaign (asked_shape options.shape) options.first (units_of options) text verdict
+  pub campaign : IsCampaign (asked_programs options) (units_of options) text verdict
   pub ends : status ≡ status_of verdict
 
 -- What is printed of a campaign, and the status then.

@@ -2,6 +2,7 @@
 use Rattle.std.specs.Prelude.{◌≡◌, ◌≢◌, ◌⊎◌, ℕ, List, [], ◌∷◌, ◌++◌, codes, string_bytes, Option, Some, None}
 use Rattle.std.specs.Fmt.{decimal}
 use Rattle.std.specs.Io.KnownBytes.{Appends, Keeps}
+use Rattle.tso_ops.specs.declared.settings.Order.{Order}
 use Rattle.tso_report.specs.declared.verdicts.Verdict.{Verdict}
 use Rattle.tso_report.specs.declared.faults.Fault.{Fault}
 use Rattle.tso_report.specs.declared.faults.Fault.TheVariants.{OutOfMemory, Read, Write, NoThread, Missing}
@@ -96,12 +97,12 @@ EndsUnrecorded o status =
 abbrev pub EndsRun : RunOptions → Option (List ℕ) → Outputs → ℕ → Type 0
 EndsRun options programs o status = EndsByText (IsRunText options programs) o status ⊎ EndsUnrecorded o status
 
--- The output grows by the text of the program that a seed draws, or that of a refusal, and the errors by nothing, and the status is the text's; or a
+-- The output grows by the text of the program of this memory model that a seed draws, or that of a refusal, and the errors by nothing, and the status is the text's; or a
 -- fault, OutOfMemory or Write, left nothing or, on Write, a prefix of such a text.
-abbrev pub EndsMade : ℕ → ShapeNumbers → Outputs → ℕ → Type 0
-EndsMade seed numbers o status =
-    (WritesText (IsMadeText seed numbers) o.written_before o.written status × Keeps o.errors_before o.errors)
-    ⊎ ((fault : Fault) × LeavesMadeText seed numbers o.written_before o.written fault × EndsByFault fault o status)
+abbrev pub EndsMade : Order → ℕ → ShapeNumbers → Outputs → ℕ → Type 0
+EndsMade order seed numbers o status =
+    (WritesText (IsMadeText order seed numbers) o.written_before o.written status × Keeps o.errors_before o.errors)
+    ⊎ ((fault : Fault) × LeavesMadeText order seed numbers o.written_before o.written fault × EndsByFault fault o status)
 
 -- The output grows by the text of a campaign, or that of a refusal, and the errors by nothing, and the status is the text's; or a fault left nothing or,
 -- on Write, a prefix of such a text.
@@ -143,7 +144,7 @@ EndsAsAsked known (judging file workers) input files o status = EndsJudged (judg
 EndsAsAsked known (checking trace certificate) input files o status = EndsChecked (files trace) (files certificate) o status
 EndsAsAsked known (replaying options program schedule) input files o status = EndsReplayed options (files program) (files schedule) o status
 EndsAsAsked known (running run) input files o status = EndsRun run.options (files run.program) o status
-EndsAsAsked known (making seed shape) input files o status = EndsMade seed shape o status
+EndsAsAsked known (making order seed shape) input files o status = EndsMade order seed shape o status
 EndsAsAsked known (campaigning options) input files o status = EndsCampaign options o status
 EndsAsAsked known showing input files o status = OfText known (λ text. EndsShowing text o status)
 EndsAsAsked known refusing input files o status = OfText known (λ text. EndsRefusing text o status)

@@ -2,9 +2,10 @@
 use Rattle.std.specs.Prelude.{◌≡◌, ◌⊎◌, ℕ, List, [], ◌∷◌, ◌++◌, codes, Option}
 use Rattle.std.specs.Io.KnownBytes.{Keeps}
 use Rattle.tso_ops.specs.Making.{IsShape, ShapeValue, shape_of}
+use Rattle.tso_ops.specs.declared.settings.Order.{Order}
 use Rattle.tso_text.specs.Printed.{program_text}
 use Rattle.command_line.specs.declared.options.ShapeNumbers.{ShapeNumbers}
-use Rattle.tso_report.specs.Campaigns.{program_of_seed}
+use Rattle.tso_report.specs.Campaigns.{program_of_seed_with_order}
 use Rattle.tso_report.specs.declared.faults.Fault.{Fault}
 use Rattle.tso_report.specs.declared.faults.Fault.TheVariants.{OutOfMemory, Read, Write, NoThread, Missing}
 use Rattle.tso_report.specs.Streams.{AppendsPrefix}
@@ -21,16 +22,16 @@ shape_refusal = codes "REFUSED Shape" ++ 10 ∷ []
 abbrev pub IsShapeRefusal : ShapeNumbers → List ℕ → ℕ → Type 0
 IsShapeRefusal numbers text status = (IsShape (asked_shape numbers) → ⊥) × (text ≡ shape_refusal) × (status ≡ 2)
 
--- The text is that of the program that is made from the seed in this shape, or the numbers are no shape.
-abbrev pub IsMadeText : ℕ → ShapeNumbers → List ℕ → ℕ → Type 0
-IsMadeText seed numbers text status =
+-- The text is that of the program of this memory model that is made from the seed in this shape, or the numbers are no shape.
+abbrev pub IsMadeText : Order → ℕ → ShapeNumbers → List ℕ → ℕ → Type 0
+IsMadeText order seed numbers text status =
     IsShapeRefusal numbers text status
-    ⊎ (IsShape (asked_shape numbers) × (text ≡ program_text (program_of_seed (asked_shape numbers) seed)) × (status ≡ 0))
+    ⊎ (IsShape (asked_shape numbers) × (text ≡ program_text (program_of_seed_with_order order (asked_shape numbers) seed)) × (status ≡ 0))
 
 -- What a fault leaves of it: on Write a prefix of the text, else nothing was written. No text is read, and no thread started.
-abbrev pub LeavesMadeText : ℕ → ShapeNumbers → Option (List ℕ) → Option (List ℕ) → Fault → Type 0
-LeavesMadeText seed numbers old new OutOfMemory = Keeps old new
-LeavesMadeText seed numbers old new Read = ⊥
-LeavesMadeText seed numbers old new Write = (status : ℕ) × (text : List ℕ) × IsMadeText seed numbers text status × AppendsPrefix old new text
-LeavesMadeText seed numbers old new NoThread = ⊥
-LeavesMadeText seed numbers old new (Missing missing) = ⊥
+abbrev pub LeavesMadeText : Order → ℕ → ShapeNumbers → Option (List ℕ) → Option (List ℕ) → Fault → Type 0
+LeavesMadeText order seed numbers old new OutOfMemory = Keeps old new
+LeavesMadeText order seed numbers old new Read = ⊥
+LeavesMadeText order seed numbers old new Write = (status : ℕ) × (text : List ℕ) × IsMadeText order seed numbers text status × AppendsPrefix old new text
+LeavesMadeText order seed numbers old new NoThread = ⊥
+LeavesMadeText order seed numbers old new (Missing missing) = ⊥

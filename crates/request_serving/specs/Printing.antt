@@ -1,6 +1,5 @@
 -- What the program prints of records and of refused texts.
 use Rattle.std.specs.Prelude.{◌≡◌, ℕ, List, ◌++◌, true, Option, IfSome}
-use Rattle.tso_ops.specs.declared.settings.Order.TheVariants.{Tso}
 use Rattle.tso_text.specs.declared.faults.Why.{Why}
 use Rattle.tso_text.specs.Printed.{trace_text}
 use Rattle.tso_report.specs.declared.verdicts.Verdict.{Verdict}
@@ -13,14 +12,14 @@ use Rattle.command_line.specs.declared.options.UnitOptions.{UnitOptions}
 use Rattle.unit_core.specs.declared.accounts.Account.{Account}
 use Rattle.unit_core.specs.Records.{RecordedValue}
 use Rattle.unit_core.specs.Units.{UnitValue, new_unit}
-use Rattle.request_serving.specs.BenchUnits.{design_of_kind, is_lawful_kind}
+use Rattle.request_serving.specs.BenchUnits.{design_of_kind, is_lawful_kind, order_of_kind}
 use Rattle.request_serving.specs.Statuses.{status_of}
 
 -- ---- the unit
 
--- the unit that the options ask for, before its first step: of any kind it is one of TSO
+-- the unit that the options ask for, before its first step
 abbrev pub unit_of : UnitOptions → UnitValue
-unit_of options = new_unit (design_of_kind options.kind options.capacity options.trigger) (is_lawful_kind options.kind) Tso
+unit_of options = new_unit (design_of_kind options.kind options.capacity options.trigger) (is_lawful_kind options.kind) (order_of_kind options.kind)
 
 -- ---- what is printed of a record
 

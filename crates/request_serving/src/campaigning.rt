@@ -21,7 +21,7 @@ const SEEDS_REFUSAL: &[u8] = b"REFUSED Seeds\n";
 
 /// Which programs a campaign runs by its options, or the line of what is refused: the shape, or else the seeds.
 fn asked_programs(options: &CampaignOptions) -> Result<CampaignPrograms, &'static [u8]>
-    ensures programs { IfOk result (λ programs. AreProgramsOf options.now programs.shape programs.first) }
+    ensures programs { IfOk result (λ programs. AreProgramsOf options.now programs) }
     ensures refused { IfErr result (λ line. IsCampaignText options.now line.now 2) }
 {
     let Some(shape) = asked_shape(options.shape) else {
@@ -32,6 +32,7 @@ fn asked_programs(options: &CampaignOptions) -> Result<CampaignPrograms, &'stati
     }
     Ok(CampaignPrograms {
         first: options.first,
+        order: options.order,
         shape,
     })
 }
@@ -72,7 +73,7 @@ fn campaign_over_programs<H: Threads + Wait + Sync + AllocGlobal, W: Write>(
     programs: CampaignPrograms,
     writer: &mut W,
 ) -> Result<u8, Fault>
-    requires programs { AreProgramsOf options.now programs.shape programs.first }
+    requires programs { AreProgramsOf options.now programs }
     requires some { 1 ≤ options.now.workers }
     requires most { options.now.workers ≤ worker_limit }
     requires capacity { (1 ≤ options.now.unit.capacity) × (options.now.unit.capacity ≤ capacity_limit) }
@@ -92,7 +93,7 @@ fn campaign_on<H: Threads + Wait + Sync + AllocGlobal, U: MemoryUnit + Send, W: 
     units: Vec<U>,
     writer: &mut W,
 ) -> Result<u8, Fault>
-    requires programs { AreProgramsOf options.now programs.shape programs.first }
+    requires programs { AreProgramsOf options.now programs }
     requires units { map (λ unit. U.value_of unit) units.items ≡ replicate options.now.count (unit_of options.now.unit) }
     requires some { 1 ≤ options.now.workers }
     requires most { options.now.workers ≤ worker_limit }

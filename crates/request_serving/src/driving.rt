@@ -8,7 +8,7 @@ ghost use Rattle.tso_report.specs.Limits.{trace_read_limit};
 ghost use Rattle.tso_report.specs.Streams.{AppendsPrefix, LosesPrefix};
 ghost use Rattle.tso_report.specs.declared.faults.Fault.TheVariants.{OutOfMemory};
 ghost use Rattle.request_serving.specs.Endings.{Does, DoesWhatClapSays, WritesFaultLine, invalid_utf8_line, outputs};
-ghost use Rattle.request_serving.specs.LawfulRequests.{runs_on_lawful_unit};
+ghost use Rattle.request_serving.specs.LawfulRequests.{RunsLawfully, runs_on_lawful_unit};
 ghost use Rattle.request_serving.specs.OpenedFiles.{OpensFirst, files_named, reads_input};
 
 use crate::endings::end_by;
@@ -64,6 +64,7 @@ pub fn drive_over<
     ensures helped { AsksHelp (texts_in arguments.now) → Does showing (R.remaining reader.old) (O.bytes files.old) (outputs (W.contents writer.old) (W.contents writer.new) (E.contents errors.old) (E.contents errors.new)) result }
     ensures refused { Refuses (texts_in arguments.now) → Does refusing (R.remaining reader.old) (O.bytes files.old) (outputs (W.contents writer.old) (W.contents writer.new) (E.contents errors.old) (E.contents errors.new)) result }
     ensures no_false_alarm { (asked : Asked) → Asks (texts_in arguments.now) asked → runs_on_lawful_unit asked ≡ true → result ≢ 3 }
+    ensures no_false_alarm_of_file { (asked : Asked) → Asks (texts_in arguments.now) asked → RunsLawfully asked (O.bytes files.old) → result ≢ 3 }
     ensures ends { DoesWhatClapSays (texts_in arguments.now) (R.remaining reader.old) (O.bytes files.old) (outputs (W.contents writer.old) (W.contents writer.new) (E.contents errors.old) (E.contents errors.new)) result }
     ensures opened { (asked : Asked) → Asks (texts_in arguments.now) asked → OpensFirst (O.opened files.old) (O.opened files.new) (files_named asked) }
     ensures unread { (asked : Asked) → Asks (texts_in arguments.now) asked → reads_input asked ≡ false → reader.new ≡ reader.old }

@@ -9,31 +9,37 @@ use crate::printing::Printed;
 use command_line::ShapeNumbers;
 use std::alloc::Global;
 use std::io::Write;
-use tso_ops::{OutOfMemory, Shape};
-use tso_report::{Fault, seeded_program, write_text};
+use tso_ops::{Order, OutOfMemory, Shape};
+use tso_report::{Fault, seeded_program_with_order, write_text};
 use tso_text::print_program;
 
 /// The line of numbers that are no shape.
 pub(crate) const SHAPE_REFUSAL: &[u8] = b"REFUSED Shape\n";
 
-/// Writes the program that is made from a seed in this shape: the status.
+/// Writes the program of this memory model that is made from a seed in this shape: the status.
 pub(crate) fn make<W: Write>(
     alloc: Global,
+    order: Order,
     seed: u64,
     numbers: ShapeNumbers,
     writer: &mut W,
 ) -> Result<u8, Fault>
-    ensures text { IfOk result (WritesText (IsMadeText seed numbers) (W.contents writer.old) (W.contents writer.new)) }
-    ensures fault { IfErr result (LeavesMadeText seed numbers (W.contents writer.old) (W.contents writer.new)) }
+    ensures text { IfOk result (WritesText (IsMadeText order seed numbers) (W.contents writer.old) (W.contents writer.new)) }
+    ensures fault { IfErr result (LeavesMadeText order seed numbers (W.contents writer.old) (W.contents writer.new)) }
 {
-    let made = made_text(alloc, seed, numbers)?;
+    let made = made_text(alloc, order, seed, numbers)?;
     write_text(writer, &made.text)?;
     Ok(made.status)
 }
 
-/// What is printed of the program that is made from a seed in this shape.
-fn made_text(alloc: Global, seed: u64, numbers: ShapeNumbers) -> Result<Printed, OutOfMemory>
-    ensures { IfOk result (λ made. IsMadeText seed numbers made.text.items made.status) }
+/// What is printed of the program of this memory model that is made from a seed in this shape.
+fn made_text(
+    alloc: Global,
+    order: Order,
+    seed: u64,
+    numbers: ShapeNumbers,
+) -> Result<Printed, OutOfMemory>
+    ensures { IfOk result (λ made. IsMadeText order seed numbers made.text.items made.status) }
 {
     let Some(shape) = asked_shape(numbers) else {
         return Ok(Printed {
@@ -41,7 +47,7 @@ fn made_text(alloc: Global, seed: u64, numbers: ShapeNumbers) -> Result<Printed,
             status: REFUSED,
         });
     };
-    let program = seeded_program(alloc, seed, shape)?;
+    let program = seeded_program_with_order(alloc, order, seed, shape)?;
     Ok(Printed {
         text: print_program(alloc, &program)?.into_bytes(),
         status: DONE,

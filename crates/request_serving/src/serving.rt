@@ -6,7 +6,7 @@ ghost use Rattle.tso_report.specs.Streams.{AppendsPrefix, LosesPrefix};
 ghost use Rattle.tso_report.specs.declared.faults.Fault.TheVariants.{NoThread};
 ghost use Rattle.tso_report.specs.WrittenReports.{LeavesCheckFault, LeavesFault, WritesCheckReport, WritesReport};
 ghost use Rattle.request_serving.specs.Endings.{EndsAs, EndsShowing, judged_bytes, outputs};
-ghost use Rattle.request_serving.specs.LawfulRequests.{runs_on_lawful_unit};
+ghost use Rattle.request_serving.specs.LawfulRequests.{RunsLawfully, runs_on_lawful_unit};
 ghost use Rattle.request_serving.specs.OpenedFiles.{OpensFirst, OpensNext, files_named, name_in, reads_input};
 
 use crate::campaigning::campaign_by;
@@ -30,8 +30,8 @@ const _: () = prove!(command_line::MAX_WORKERS == MAX_WORKERS);
 /// `Judge` judges the trace in a file, or else what `reader` has, and writes its report to `writer`; `Check` checks a
 /// certificate against a trace and writes the report of both. Their status is that of the verdict: 0 where no violation
 /// was found, 2 where a text or the certificate was refused, 3 at a violation or a certificate that holds. `Replay` and
-/// `Run` print what a record gives: on a lawful unit never a violation, so their status isn't 3 there. `Show` writes
-/// its text to `writer`, with status 0, and `Refuse` to `errors`, with status 2. At a fault the status is 4 and one
+/// `Run` print what a record gives: never a violation where the unit is lawful for programs of the memory model that the
+/// program's text names, so their status isn't 3 there. `Show` writes its text to `writer`, with status 0, and `Refuse` to `errors`, with status 2. At a fault the status is 4 and one
 /// line, as `FAULT Read`, is written to `errors`; a file that can't be opened is the fault Read. All files that the
 /// request names are opened, in their order, before one is read.
 pub fn serve<H: Threads + Wait + Sync + AllocGlobal, O: NamedFiles, R: Read, W: Write, E: Write>(
@@ -46,6 +46,7 @@ pub fn serve<H: Threads + Wait + Sync + AllocGlobal, O: NamedFiles, R: Read, W: 
     requires unit { HasUnitRanges (asked_of request.now) }
     ensures ends { EndsAs request.now (R.remaining reader.old) (O.bytes files.old) (outputs (W.contents writer.old) (W.contents writer.new) (E.contents errors.old) (E.contents errors.new)) result }
     ensures no_false_alarm { runs_on_lawful_unit (asked_of request.now) ≡ true → result ≢ 3 }
+    ensures no_false_alarm_of_file { RunsLawfully (asked_of request.now) (O.bytes files.old) → result ≢ 3 }
     ensures first { OpensFirst (O.opened files.old) (O.opened files.new) (files_named (asked_of request.now)) }
     ensures opened { result ≢ 4 → OpensNext (O.opened files.old) (O.opened files.new) (files_named (asked_of request.now)) }
     ensures unread { reads_input (asked_of request.now) ≡ false → reader.new ≡ reader.old }
@@ -72,7 +73,10 @@ pub fn serve<H: Threads + Wait + Sync + AllocGlobal, O: NamedFiles, R: Read, W: 
             let ran = run_named(rt, run_request, files, writer);
             end_run(ran, errors)
         }
-        Request::Make { seed, shape } => end_with(make(rt.alloc(), *seed, *shape, writer), errors),
+        Request::Make { order, seed, shape } => {
+            let made = make(rt.alloc(), *order, *seed, *shape, writer);
+            end_with(made, errors)
+        }
         Request::Campaign(options) => {
             let ran = campaign_by(rt, options, writer);
             end_with(ran, errors)

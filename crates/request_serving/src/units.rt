@@ -9,13 +9,14 @@ use std::alloc::Global;
 use tso_ops::{Order, OutOfMemory};
 use unit_core::{MemoryUnit, Step};
 use unit_faulty::FaultyUnit;
-use unit_kinds::{SerialUnit, StoreBufferUnit};
+use unit_kinds::{PartialOrderUnit, SerialUnit, StoreBufferUnit};
 
 /// A memory unit of one of the kinds that options name.
 #[derive(Drop)]
 pub(crate) enum BenchUnit {
     Serial(SerialUnit),
     Buffer(StoreBufferUnit),
+    Partial(PartialOrderUnit),
     Faulty(FaultyUnit),
 }
 
@@ -28,6 +29,7 @@ pub(crate) fn make_unit(alloc: Global, options: UnitOptions) -> Result<BenchUnit
     Ok(match options.kind {
         UnitKind::Serial => BenchUnit::Serial(SerialUnit::new(alloc)?),
         UnitKind::Buffer => BenchUnit::Buffer(StoreBufferUnit::new(alloc, options.capacity)?),
+        UnitKind::Partial => BenchUnit::Partial(PartialOrderUnit::new(alloc, options.capacity)?),
         UnitKind::Faulty(kind) => BenchUnit::Faulty(FaultyUnit::new(
             alloc,
             kind,
@@ -61,6 +63,7 @@ impl MemoryUnit for BenchUnit {
         match self {
             BenchUnit::Serial(unit) => unit.load(p, a),
             BenchUnit::Buffer(unit) => unit.load(p, a),
+            BenchUnit::Partial(unit) => unit.load(p, a),
             BenchUnit::Faulty(unit) => unit.load(p, a),
         }
     }
@@ -69,6 +72,7 @@ impl MemoryUnit for BenchUnit {
         match self {
             BenchUnit::Serial(unit) => unit.store(p, a, v),
             BenchUnit::Buffer(unit) => unit.store(p, a, v),
+            BenchUnit::Partial(unit) => unit.store(p, a, v),
             BenchUnit::Faulty(unit) => unit.store(p, a, v),
         }
     }
@@ -77,6 +81,7 @@ impl MemoryUnit for BenchUnit {
         match self {
             BenchUnit::Serial(unit) => unit.swap(p, a, v),
             BenchUnit::Buffer(unit) => unit.swap(p, a, v),
+            BenchUnit::Partial(unit) => unit.swap(p, a, v),
             BenchUnit::Faulty(unit) => unit.swap(p, a, v),
         }
     }
@@ -85,6 +90,7 @@ impl MemoryUnit for BenchUnit {
         match self {
             BenchUnit::Serial(unit) => unit.membar(p),
             BenchUnit::Buffer(unit) => unit.membar(p),
+            BenchUnit::Partial(unit) => unit.membar(p),
             BenchUnit::Faulty(unit) => unit.membar(p),
         }
     }
@@ -93,6 +99,7 @@ impl MemoryUnit for BenchUnit {
         match self {
             BenchUnit::Serial(unit) => unit.stbar(p),
             BenchUnit::Buffer(unit) => unit.stbar(p),
+            BenchUnit::Partial(unit) => unit.stbar(p),
             BenchUnit::Faulty(unit) => unit.stbar(p),
         }
     }
@@ -101,6 +108,7 @@ impl MemoryUnit for BenchUnit {
         match self {
             BenchUnit::Serial(unit) => unit.drain(p),
             BenchUnit::Buffer(unit) => unit.drain(p),
+            BenchUnit::Partial(unit) => unit.drain(p),
             BenchUnit::Faulty(unit) => unit.drain(p),
         }
     }
@@ -109,6 +117,7 @@ impl MemoryUnit for BenchUnit {
         match self {
             BenchUnit::Serial(unit) => unit.preset(a, v),
             BenchUnit::Buffer(unit) => unit.preset(a, v),
+            BenchUnit::Partial(unit) => unit.preset(a, v),
             BenchUnit::Faulty(unit) => unit.preset(a, v),
         }
     }
@@ -117,6 +126,7 @@ impl MemoryUnit for BenchUnit {
         match self {
             BenchUnit::Serial(unit) => unit.waiting(p),
             BenchUnit::Buffer(unit) => unit.waiting(p),
+            BenchUnit::Partial(unit) => unit.waiting(p),
             BenchUnit::Faulty(unit) => unit.waiting(p),
         }
     }
@@ -125,6 +135,7 @@ impl MemoryUnit for BenchUnit {
         match self {
             BenchUnit::Serial(unit) => unit.steps(),
             BenchUnit::Buffer(unit) => unit.steps(),
+            BenchUnit::Partial(unit) => unit.steps(),
             BenchUnit::Faulty(unit) => unit.steps(),
         }
     }
@@ -133,6 +144,7 @@ impl MemoryUnit for BenchUnit {
         match self {
             BenchUnit::Serial(unit) => unit.lawful(),
             BenchUnit::Buffer(unit) => unit.lawful(),
+            BenchUnit::Partial(unit) => unit.lawful(),
             BenchUnit::Faulty(unit) => unit.lawful(),
         }
     }
@@ -141,6 +153,7 @@ impl MemoryUnit for BenchUnit {
         match self {
             BenchUnit::Serial(unit) => unit.order(),
             BenchUnit::Buffer(unit) => unit.order(),
+            BenchUnit::Partial(unit) => unit.order(),
             BenchUnit::Faulty(unit) => unit.order(),
         }
     }
@@ -149,6 +162,7 @@ impl MemoryUnit for BenchUnit {
         match self {
             BenchUnit::Serial(unit) => unit.first(a),
             BenchUnit::Buffer(unit) => unit.first(a),
+            BenchUnit::Partial(unit) => unit.first(a),
             BenchUnit::Faulty(unit) => unit.first(a),
         }
     }

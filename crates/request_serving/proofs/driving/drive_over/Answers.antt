@@ -1,7 +1,7 @@
-use Rattle.std.proofs.Common.{◌∙◌, ap, inl, inr, rules, subst, arith}
+use Rattle.std.proofs.Common.{◌∙◌, ap, inl, inr, rules, subst, sym, arith}
 use Rattle.command_line.specs.Requests.{asked_of}
 use Rattle.request_serving.specs.Endings.{Does, Outputs, outputs, text_in}
-use Rattle.request_serving.specs.LawfulRequests.{runs_on_lawful_unit}
+use Rattle.request_serving.specs.LawfulRequests.{RunsLawfully, runs_on_lawful_unit}
 use Rattle.request_serving.specs.OpenedFiles.{OpensFirst, files_named, reads_input}
 use Rattle.request_serving.proofs.EndFacts.{does_asked}
 use Rattle.request_serving.proofs.driving.drive_over.Goals as goal
@@ -53,3 +53,10 @@ returns-in-Ok-clause-no_false_alarm g c = λ asked asks lawful.
 
 pub returns-in-Err-clause-no_false_alarm : goal.returns-in-Err-clause-no_false_alarm
 returns-in-Err-clause-no_false_alarm g c = λ asked asks lawful three. omega (arith, c.end_by.ensures.status, three)
+
+pub returns-in-Ok-clause-no_false_alarm_of_file : goal.returns-in-Ok-clause-no_false_alarm_of_file
+returns-in-Ok-clause-no_false_alarm_of_file g c = λ asked asks lawful.
+    c.serve.ensures.no_false_alarm_of_file (subst (λ a. RunsLawfully a (g.O.NamedFiles.bytes c.args.files.now)) (sym (c.in-Ok.ensures.asked asked asks)) lawful)
+
+pub returns-in-Err-clause-no_false_alarm_of_file : goal.returns-in-Err-clause-no_false_alarm_of_file
+returns-in-Err-clause-no_false_alarm_of_file g c = λ asked asks lawful three. omega (arith, c.end_by.ensures.status, three)

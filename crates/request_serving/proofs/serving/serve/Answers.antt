@@ -8,7 +8,7 @@ use Rattle.request_serving.proofs.EndFacts.{at_verdict, ends_by_report, opens_al
 use Rattle.request_serving.proofs.ReplayingFacts.{at_text, ends_by_text}
 use Rattle.request_serving.proofs.RunningFacts.{ends_run}
 use Rattle.request_serving.specs.Running.{IsRunText}
-use Rattle.request_serving.proofs.LawfulFacts.{lawful_status}
+use Rattle.request_serving.proofs.LawfulFacts.{file_status, lawful_status}
 use Rattle.request_serving.proofs.serving.serve.Goals as goal
 
 pub returns-in-Judge-clause-ends : goal.returns-in-Judge-clause-ends
@@ -52,3 +52,9 @@ returns-in-Replay-clause-no_false_alarm g c = λ lawful. lawful_status (text_in 
 
 pub returns-in-Run-clause-no_false_alarm : goal.returns-in-Run-clause-no_false_alarm
 returns-in-Run-clause-no_false_alarm g c = λ lawful. lawful_status (text_in c.args.request.now) (asked_of c.args.request.now) _ _ _ _ (returns-in-Run-clause-ends g c) lawful
+
+pub returns-in-Replay-clause-no_false_alarm_of_file : goal.returns-in-Replay-clause-no_false_alarm_of_file
+returns-in-Replay-clause-no_false_alarm_of_file g c = λ lawful. file_status (text_in c.args.request.now) (asked_of c.args.request.now) _ _ _ _ (returns-in-Replay-clause-ends g c) lawful
+
+pub returns-in-Run-clause-no_false_alarm_of_file : goal.returns-in-Run-clause-no_false_alarm_of_file
+returns-in-Run-clause-no_false_alarm_of_file g c = λ lawful. file_status (text_in c.args.request.now) (asked_of c.args.request.now) _ _ _ _ (returns-in-Run-clause-ends g c) lawful
