@@ -7,13 +7,14 @@ use Rattle.tso_ops.specs.Making as Making
 use Rattle.tso_ops.specs.Making.{ShapeValue}
 use Rattle.tso_ops.specs.Values.{ProgramValue, TraceValue}
 use Rattle.tso_model.specs.Axioms.{IsConsistent}
-use Rattle.tso_ops.specs.declared.settings.Order.TheVariants.{Tso}
+use Rattle.tso_ops.specs.declared.settings.Order.{Order}
 use Rattle.unit_core.specs.Records.{RecordedValue, is_within}
 use Rattle.unit_core.specs.Units.{UnitValue}
 use Rattle.issue_desk.specs.Running.{IsRunOf}
+use Rattle.tso_report.specs.declared.campaigns.CampaignPrograms.{CampaignPrograms}
 use Rattle.tso_report.specs.declared.verdicts.Verdict.{Verdict}
 use Rattle.tso_report.specs.declared.verdicts.Verdict.TheVariants.{NoViolation, Violation, Refused}
-use Rattle.tso_report.specs.Campaigns.{AreVerdicts, IsVerdictOfSeed, program_of_seed, seed_line, seed_lines, verdict_line, verdict_of}
+use Rattle.tso_report.specs.Campaigns.{AreVerdicts, IsVerdictOfSeed, campaign_program, program_of_seed_with_order, seed_line, seed_lines, verdict_line, verdict_of}
 use Rattle.tso_report.specs.Internal.Gathering.{AreUnitsFrom, GatheredValue, IsGathered, KeepsSeeds, is_violation}
 use Rattle.tso_report.specs.Reports.{IsTraceReport}
 use Rattle.tso_report.proofs.InputFacts.{consistent_verdict}
@@ -48,9 +49,9 @@ lines-written seed violations i verdict old new inside is before added =
     ∙ sym (seed_lines-more seed violations i inside)
 
 -- nothing came yet
-pub gathered-new : (unit_of : ℕ → UnitValue) (shape : ShapeValue) (first seeds : ℕ) → first + seeds ≤ 2 ^ 64 →
-    IsGathered unit_of (record { shape = shape; first = first; violations = replicate seeds None })
-gathered-new unit_of shape first seeds last =
+pub gathered-new : (unit_of : ℕ → UnitValue) (programs : CampaignPrograms) (seeds : ℕ) → programs.first + seeds ≤ 2 ^ 64 →
+    IsGathered unit_of (record { programs = programs; violations = replicate seeds None })
+gathered-new unit_of programs seeds last =
     let none : Option Bool = None in
     let count : length (replicate seeds none) ≡ seeds = length-replicate seeds none in
     record {
@@ -60,14 +61,14 @@ gathered-new unit_of shape first seeds last =
 
 -- the verdict of seed i came
 pub gathered-set : (unit_of : ℕ → UnitValue) (g : GatheredValue) (i : ℕ) (violation : Bool) → i < length g.violations →
-    IsVerdictOfSeed g.shape (g.first + i) (unit_of (g.first + i)) violation → IsGathered unit_of g →
-    IsGathered unit_of (record { shape = g.shape; first = g.first; violations = set g.violations i (Some violation) })
+    IsVerdictOfSeed g.programs (g.programs.first + i) (unit_of (g.programs.first + i)) violation → IsGathered unit_of g →
+    IsGathered unit_of (record { programs = g.programs; violations = set g.violations i (Some violation) })
 gathered-set unit_of g i violation inside is so_far = let count = length-set g.violations i (Some violation) in record {
   last = omega (arith, so_far.last, count);
   came = λ j other within some. elim (cases_eq j i) [
     | inl e ↦
         let read : Some violation ≡ Some other = sym (get_or-set_same g.violations i (Some violation) None inside) ∙ ap (λ k. get_or (set g.violations i (Some violation)) k None) (sym e) ∙ some in
-        rw e (subst (IsVerdictOfSeed g.shape (g.first + i) (unit_of (g.first + i))) (ap (λ o. unwrap_or o false) read) is)
+        rw e (subst (IsVerdictOfSeed g.programs (g.programs.first + i) (unit_of (g.programs.first + i))) (ap (λ o. unwrap_or o false) read) is)
     | inr apart ↦ so_far.came j other (omega (arith, within, count)) (sym (get_or-set_other g.violations i j (Some violation) None apart) ∙ some)
   ];
 }
@@ -79,8 +80,8 @@ some_there (Some v) there = refl
 
 -- all came
 pub gathered-all : (unit_of : ℕ → UnitValue) (g : GatheredValue) → IsGathered unit_of g → ((i : ℕ) → i < length g.violations → get_or g.violations i None ≡ None → ⊥) →
-    (units : List UnitValue) → length units ≡ length g.violations → AreUnitsFrom unit_of g.first units →
-    AreVerdicts g.shape g.first units (map (λ v. unwrap_or v false) g.violations)
+    (units : List UnitValue) → length units ≡ length g.violations → AreUnitsFrom unit_of g.programs.first units →
+    AreVerdicts g.programs units (map (λ v. unwrap_or v false) g.violations)
 gathered-all unit_of g so_far there units count are = record {
   one_each = length-map g.violations _ ∙ sym count;
   each = λ i inside.
@@ -90,15 +91,14 @@ gathered-all unit_of g so_far there units count are = record {
 }
 
 -- all came of these units
-pub came-all : (shape : ShapeValue) (first : ℕ) (units : List UnitValue) (unit_of : ℕ → UnitValue) (old new : GatheredValue) (violations : List Bool) →
-    (old.shape ≡ shape) × (old.first ≡ first) × (length old.violations ≡ length units) → KeepsSeeds old new → AreUnitsFrom unit_of first units →
-    ((us : List UnitValue) → length us ≡ length new.violations → AreUnitsFrom unit_of new.first us → AreVerdicts new.shape new.first us violations) →
-    AreVerdicts shape first units violations
-came-all shape first units unit_of old new violations is kept are came =
-    let here : new.first ≡ first = kept.first ∙ is.1 in
-    subst (λ s. AreVerdicts s first units violations) (kept.shape ∙ is.0)
-    (subst (λ n. AreVerdicts new.shape n units violations) here
-    (came units (sym (kept.one_each ∙ is.2)) (subst (λ n. AreUnitsFrom unit_of n units) (sym here) are)))
+pub came-all : (programs : CampaignPrograms) (units : List UnitValue) (unit_of : ℕ → UnitValue) (old new : GatheredValue) (violations : List Bool) →
+    (old.programs ≡ programs) × (length old.violations ≡ length units) → KeepsSeeds old new → AreUnitsFrom unit_of programs.first units →
+    ((us : List UnitValue) → length us ≡ length new.violations → AreUnitsFrom unit_of new.programs.first us → AreVerdicts new.programs us violations) →
+    AreVerdicts programs units violations
+came-all programs units unit_of old new violations is kept are came =
+    let same : new.programs ≡ programs = kept.programs ∙ is.0 in
+    subst (λ p. AreVerdicts p units violations) same
+    (came units (sym (kept.one_each ∙ is.1)) (subst (λ (p : CampaignPrograms). AreUnitsFrom unit_of p.first units) (sym same) are))
 
 -- ---- a seed
 
@@ -108,21 +108,21 @@ report_says t text NoViolation report = report
 report_says t text Violation report = report
 report_says t text Refused report = absurd report.says
 
--- the programs of seeds are under TSO
-under_tso : (shape : ShapeValue) (seed : ℕ) → (program_of_seed shape seed).setting.order ≡ Tso
-unfolding Making.made_program
-under_tso shape seed = refl
+-- the programs of seeds are of their memory model
+of_order : (order : Order) (shape : ShapeValue) (seed : ℕ) → (program_of_seed_with_order order shape seed).setting.order ≡ order
+unfolding Making.made_program_with_order
+of_order order shape seed = refl
 
 -- the report of the record's trace says the verdict of the seed
-pub verdict_of_seed : (shape : ShapeValue) (seed : ℕ) (program : ProgramValue) (unit : UnitValue) (r : RecordedValue) (text : List ℕ) (v : Verdict) → program ≡ program_of_seed shape seed →
-    IsRunOf program unit r → IsTraceReport r.trace text v → (v ≡ Violation → IsConsistent r.trace → ⊥) → IsVerdictOfSeed shape seed unit (is_violation v)
-verdict_of_seed shape seed program unit r text v made run report no_order = record {
+pub verdict_of_seed : (programs : CampaignPrograms) (seed : ℕ) (program : ProgramValue) (unit : UnitValue) (r : RecordedValue) (text : List ℕ) (v : Verdict) → program ≡ campaign_program programs seed →
+    IsRunOf program unit r → IsTraceReport r.trace text v → (v ≡ Violation → IsConsistent r.trace → ⊥) → IsVerdictOfSeed programs seed unit (is_violation v)
+verdict_of_seed programs seed program unit r text v made run report no_order = record {
   recorded = r;
   run = subst (λ p. IsRunOf p unit r) made run;
   text = text;
   report = report_says r.trace text v report;
   no_false_alarm = λ lawful.
-      let tso : program.setting.order ≡ Tso = ap (λ (p : ProgramValue). p.setting.order) made ∙ under_tso shape seed in
-      let is : r.lawful ≡ true = run.lawful ∙ ap (λ order. unit.lawful && is_within unit.order order) tso ∙ lawful in
+      let same : program.setting.order ≡ programs.order = ap (λ (p : ProgramValue). p.setting.order) made ∙ of_order programs.order programs.shape seed in
+      let is : r.lawful ≡ true = run.lawful ∙ ap (λ order. unit.lawful && is_within unit.order order) same ∙ lawful in
       ap is_violation (consistent_verdict r.trace text v report no_order (lawful_consistent r run.kept is));
 }

@@ -8,11 +8,13 @@ use Rattle.rand_core.specs.Steps.{stream_of, steps_u64_low}
 use Rattle.rand_core.specs.Pcg32Seed.{pcg32_seed}
 use Rattle.rand_pcg.specs.Pcg.{pcg64, pcg64_of_seed}
 use Rattle.issue_desk.specs.Running.{IsRunOf}
+use Rattle.tso_ops.specs.declared.settings.Order.{Order}
 use Rattle.tso_ops.specs.declared.settings.Order.TheVariants.{Tso}
-use Rattle.tso_ops.specs.Making.{ShapeValue, made_program, size_of, words_of}
+use Rattle.tso_ops.specs.Making.{ShapeValue, made_program_with_order, size_of, words_of}
 use Rattle.tso_ops.specs.Values.{ProgramValue}
 use Rattle.unit_core.specs.Records.{RecordedValue, is_within}
 use Rattle.unit_core.specs.Units.{UnitValue, new_unit}
+use Rattle.tso_report.specs.declared.campaigns.CampaignPrograms.{CampaignPrograms}
 use Rattle.tso_report.specs.declared.faults.Fault.{Fault}
 use Rattle.tso_report.specs.declared.faults.Fault.TheVariants.{OutOfMemory, Read, Write, NoThread, Missing}
 use Rattle.tso_report.specs.declared.verdicts.Verdict.{Verdict}
@@ -26,9 +28,17 @@ use Rattle.tso_report.specs.WrittenReports.{WritesPrefix}
 abbrev pub stream_from : ℕ → Stream
 stream_from seed = stream_of (steps_u64_low pcg64) (pcg64_of_seed (pcg32_seed 32 seed))
 
--- the program of the shape that its words draw
+-- the program of the shape that its words draw under the memory model
+abbrev pub program_of_seed_with_order : Order → ShapeValue → ℕ → ProgramValue
+program_of_seed_with_order order shape seed = made_program_with_order order shape (words_of (size_of shape) (stream_from seed))
+
+-- that under TSO
 abbrev pub program_of_seed : ShapeValue → ℕ → ProgramValue
-program_of_seed shape seed = made_program shape (words_of (size_of shape) (stream_from seed))
+program_of_seed shape seed = program_of_seed_with_order Tso shape seed
+
+-- the program of a seed among these programs
+abbrev pub campaign_program : CampaignPrograms → ℕ → ProgramValue
+campaign_program programs seed = program_of_seed_with_order programs.order programs.shape seed
 
 -- ---- what is said of a seed
 
@@ -37,17 +47,18 @@ abbrev pub verdict_of : Bool → Verdict
 verdict_of true = Violation
 verdict_of false = NoViolation
 
--- whether a unit is lawful for programs under TSO, as those of seeds are
-abbrev pub is_lawful_unit : UnitValue → Bool
-is_lawful_unit unit = unit.lawful && is_within unit.order Tso
+-- whether a unit is lawful for programs of the memory model
+abbrev pub is_lawful_under : Order → UnitValue → Bool
+is_lawful_under order unit = unit.lawful && is_within unit.order order
 
--- It is the verdict of the report of the trace that a run of the seed's program on this unit recorded, and no violation where the unit is lawful.
-pub record IsVerdictOfSeed (shape : ShapeValue) (seed : ℕ) (unit : UnitValue) (violation : Bool) : Type 0 where
+-- It is the verdict of the report of the trace that a run of the seed's program on this unit recorded, and no violation where the unit is lawful for
+-- programs of this memory model.
+pub record IsVerdictOfSeed (programs : CampaignPrograms) (seed : ℕ) (unit : UnitValue) (violation : Bool) : Type 0 where
   pub recorded : RecordedValue
-  pub run : IsRunOf (program_of_seed shape seed) unit recorded
+  pub run : IsRunOf (campaign_program programs seed) unit recorded
   pub text : List ℕ
   pub report : IsTraceReport recorded.trace text (verdict_of violation)
-  pub no_false_alarm : is_lawful_unit unit ≡ true → violation ≡ false
+  pub no_false_alarm : is_lawful_under programs.order unit ≡ true → violation ≡ false
 
 -- ---- the text
 
@@ -76,23 +87,23 @@ campaign_text first violations = seed_lines first violations ++ total_line viola
 abbrev pub no_unit : UnitValue
 no_unit = new_unit (record { kind = []; numbers = [] }) false Tso
 
--- These are the verdicts of the seeds from this one on, a seed for each unit.
-pub record AreVerdicts (shape : ShapeValue) (first : ℕ) (units : List UnitValue) (violations : List Bool) : Type 0 where
+-- These are the verdicts of the seeds from the first on, a seed for each unit.
+pub record AreVerdicts (programs : CampaignPrograms) (units : List UnitValue) (violations : List Bool) : Type 0 where
   pub one_each : length violations ≡ length units
-  pub each : (i : ℕ) → i < length units → IsVerdictOfSeed shape (first + i) (get_or units i no_unit) (get_or violations i false)
+  pub each : (i : ℕ) → i < length units → IsVerdictOfSeed programs (programs.first + i) (get_or units i no_unit) (get_or violations i false)
 
--- The text is that of a campaign from this seed on over these units: a line for each seed in the order of the seeds, and the last line. The verdict is
+-- The text is that of a campaign of these programs over these units: a line for each seed in the order of the seeds, and the last line. The verdict is
 -- Violation where a line says so, else NoViolation.
-pub record IsCampaign (shape : ShapeValue) (first : ℕ) (units : List UnitValue) (text : List ℕ) (verdict : Verdict) : Type 0 where
+pub record IsCampaign (programs : CampaignPrograms) (units : List UnitValue) (text : List ℕ) (verdict : Verdict) : Type 0 where
   pub violations : List Bool
-  pub verdicts : AreVerdicts shape first units violations
-  pub whole : text ≡ campaign_text first violations
+  pub verdicts : AreVerdicts programs units violations
+  pub whole : text ≡ campaign_text programs.first violations
   pub says : verdict ≡ verdict_of (list_any (λ violation. violation) violations)
 
 -- What a fault leaves: on Write a prefix of the text, else nothing was written. A missing seed is one of the campaign. Nothing is read.
-abbrev pub LeavesCampaign : ShapeValue → ℕ → List UnitValue → Option (List ℕ) → Option (List ℕ) → Fault → Type 0
-LeavesCampaign shape first units old new OutOfMemory = Keeps old new
-LeavesCampaign shape first units old new Read = ⊥
-LeavesCampaign shape first units old new Write = WritesPrefix (IsCampaign shape first units) old new
-LeavesCampaign shape first units old new NoThread = Keeps old new
-LeavesCampaign shape first units old new (Missing seed) = (first ≤ seed) × (seed < first + length units) × Keeps old new
+abbrev pub LeavesCampaign : CampaignPrograms → List UnitValue → Option (List ℕ) → Option (List ℕ) → Fault → Type 0
+LeavesCampaign programs units old new OutOfMemory = Keeps old new
+LeavesCampaign programs units old new Read = ⊥
+LeavesCampaign programs units old new Write = WritesPrefix (IsCampaign programs units) old new
+LeavesCampaign programs units old new NoThread = Keeps old new
+LeavesCampaign programs units old new (Missing seed) = (programs.first ≤ seed) × (seed < programs.first + length units) × Keeps old new

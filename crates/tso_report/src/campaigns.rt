@@ -1,5 +1,5 @@
 //! Campaigns: a program drawn from each of many seeds, run on a unit of its own, and judged.
-ghost use Rattle.std.specs.Prelude.{◌≡◌, ◌≤◌, ◌+◌, ◌^◌, [], All, IfOk, IfErr, length, map};
+ghost use Rattle.std.specs.Prelude.{◌≡◌, ◌≤◌, ◌+◌, ◌^◌, [], All, Decides, IfOk, IfErr, length, map};
 ghost use Rattle.std.specs.List.{list_any};
 ghost use Rattle.round_pool.specs.Workers.{worker_limit};
 ghost use Rattle.tso_report.specs.Campaigns.{IsCampaign, LeavesCampaign, verdict_of};
@@ -17,7 +17,7 @@ use std::io::Write;
 use std::marker::Brand;
 use std::sync::Wait;
 use std::thread::Threads;
-use tso_ops::Shape;
+use tso_ops::{Order, Shape};
 use unit_core::MemoryUnit;
 use workers::gather;
 
@@ -29,16 +29,38 @@ mod workers;
 /// The greatest number of seeds of a campaign.
 pub const MAX_SEEDS: usize = 1000;
 
-/// Which programs a campaign runs: those of the seeds from `first` on, in one shape.
+/// Which programs a campaign runs: those of the seeds from `first` on, of one memory model and in one shape.
 #[derive(Clone, Copy, Debug)]
 pub struct CampaignPrograms {
     pub first: u64,
+    /// The memory model of each program.
+    pub order: Order,
     pub shape: Shape,
 }
 
-/// Runs a campaign and writes its text: unit `i` serves seed `first + i`, whose program is that of `seeded_program`. It is
-/// run on the unit by a thread per processor, with drains by the same seed, and the record's trace is judged with one
-/// worker. `workers` threads (1 to 64) share the seeds.
+impl CampaignPrograms {
+    /// The same programs, for who hands them on more than once: what is proved of `Copy` hands a value with a shape on once.
+    pub(crate) fn copy(&self) -> CampaignPrograms
+        ensures { result ≡ self.now }
+    {
+        CampaignPrograms {
+            first: self.first,
+            order: self.order,
+            shape: self.shape,
+        }
+    }
+
+    /// Whether the other are the same programs.
+    pub(crate) fn are_same(&self, other: &CampaignPrograms) -> bool
+        ensures { Decides result (self.now ≡ other.now) }
+    {
+        self.first == other.first && self.order == other.order && self.shape.is_same(&other.shape)
+    }
+}
+
+/// Runs a campaign and writes its text: unit `i` serves seed `first + i`, whose program is that of
+/// `seeded_program_with_order`. It is run on the unit by a thread per processor, with drains by the same seed, and the
+/// record's trace is judged with one worker. `workers` threads (1 to 64) share the seeds.
 ///
 /// The text has a line for each seed, in the order of the seeds, and a last line with their numbers; it is written after all
 /// results are in. The verdict is Violation where a line says so, else NoViolation. At most 1,000 units, none of which has
@@ -61,8 +83,8 @@ pub fn campaign<R: Threads + Wait + Sync, W: Write>(
     requires seeds { length units.items ≤ seed_count_limit }
     requires last { programs.first + length units.items ≤ 2 ^ 64 }
     requires untouched { All (λ unit. (value_of unit).steps ≡ []) units.items }
-    ensures whole { IfOk result (WritesWhole (IsCampaign programs.shape programs.first (map (λ unit. value_of unit) units.items)) (W.contents writer.old) (W.contents writer.new)) }
-    ensures fault { IfErr result (LeavesCampaign programs.shape programs.first (map (λ unit. value_of unit) units.items) (W.contents writer.old) (W.contents writer.new)) }
+    ensures whole { IfOk result (WritesWhole (IsCampaign programs (map (λ unit. value_of unit) units.items)) (W.contents writer.old) (W.contents writer.new)) }
+    ensures fault { IfErr result (LeavesCampaign programs (map (λ unit. value_of unit) units.items) (W.contents writer.old) (W.contents writer.new)) }
 {
     campaign_over(rt, alloc, programs, units, workers, writer)
 }
@@ -81,8 +103,8 @@ pub fn campaign_over<U: MemoryUnit + Send, R: Threads + Wait + Sync, W: Write>(
     requires seeds { length units.items ≤ seed_count_limit }
     requires last { programs.first + length units.items ≤ 2 ^ 64 }
     requires untouched { All (λ unit. (U.value_of unit).steps ≡ []) units.items }
-    ensures whole { IfOk result (WritesWhole (IsCampaign programs.shape programs.first (map (λ unit. U.value_of unit) units.items)) (W.contents writer.old) (W.contents writer.new)) }
-    ensures fault { IfErr result (LeavesCampaign programs.shape programs.first (map (λ unit. U.value_of unit) units.items) (W.contents writer.old) (W.contents writer.new)) }
+    ensures whole { IfOk result (WritesWhole (IsCampaign programs (map (λ unit. U.value_of unit) units.items)) (W.contents writer.old) (W.contents writer.new)) }
+    ensures fault { IfErr result (LeavesCampaign programs (map (λ unit. U.value_of unit) units.items) (W.contents writer.old) (W.contents writer.new)) }
 {
     campaign_of::<Brand, U, R, W>(rt, alloc, programs, units, workers, writer)
 }
@@ -102,8 +124,8 @@ fn campaign_of<S: SeedUnits + Send, U: MemoryUnit + Send, R: Threads + Wait + Sy
     requires last { programs.first + length units.items ≤ 2 ^ 64 }
     requires untouched { All (λ unit. (U.value_of unit).steps ≡ []) units.items }
     requires units { AreUnitsFrom S.unit_of programs.first (map (λ unit. U.value_of unit) units.items) }
-    ensures whole { IfOk result (WritesWhole (IsCampaign programs.shape programs.first (map (λ unit. U.value_of unit) units.items)) (W.contents writer.old) (W.contents writer.new)) }
-    ensures fault { IfErr result (LeavesCampaign programs.shape programs.first (map (λ unit. U.value_of unit) units.items) (W.contents writer.old) (W.contents writer.new)) }
+    ensures whole { IfOk result (WritesWhole (IsCampaign programs (map (λ unit. U.value_of unit) units.items)) (W.contents writer.old) (W.contents writer.new)) }
+    ensures fault { IfErr result (LeavesCampaign programs (map (λ unit. U.value_of unit) units.items) (W.contents writer.old) (W.contents writer.new)) }
 {
     let first = programs.first;
     let gathered: Gathered<S> = Gathered::new(alloc, programs, units.len())?;

@@ -7,7 +7,7 @@
 #![tactic(auto)]
 
 pub use account_rendering::print_account;
-pub use campaigns::seeds::seeded_program;
+pub use campaigns::seeds::{seeded_program, seeded_program_with_order};
 pub use campaigns::{CampaignPrograms, MAX_SEEDS, campaign, campaign_over};
 pub use certificates::build_cert;
 pub use checking::{MAX_CERTIFICATE_BYTES, check_texts};

@@ -1,6 +1,6 @@
 -- What is known of a campaign's seeds while their results come in.
 use Rattle.std.specs.Prelude.{◌≡◌, ℕ, ◌+◌, ◌<◌, ◌≤◌, ◌^◌, Bool, true, false, List, length, get_or, Option, None, Some}
-use Rattle.tso_ops.specs.Making.{ShapeValue}
+use Rattle.tso_report.specs.declared.campaigns.CampaignPrograms.{CampaignPrograms}
 use Rattle.tso_report.specs.declared.verdicts.Verdict.{Verdict}
 use Rattle.tso_report.specs.declared.verdicts.Verdict.TheVariants.{NoViolation, Violation, Refused}
 use Rattle.issue_desk.specs.declared.faults.RunFault.{RunFault}
@@ -26,19 +26,18 @@ fault_of_seed seed run.OtherProgram = Missing seed
 -- what a job says of its seed
 pub record JudgedValue : Type 0 where
   pub seed : ℕ
-  pub shape : ShapeValue
+  pub programs : CampaignPrograms
   pub violation : Bool
 
--- a campaign's shape and first seed, and the verdicts that came, a place for each seed
+-- a campaign's programs, and the verdicts that came, a place for each seed
 pub record GatheredValue : Type 0 where
-  pub shape : ShapeValue
-  pub first : ℕ
+  pub programs : CampaignPrograms
   pub violations : List (Option Bool)
 
 -- The seeds are numbers of 64 bits. A verdict that came is that of its seed, of which this is the unit.
 pub record IsGathered (unit_of : ℕ → UnitValue) (g : GatheredValue) : Type 0 where
-  pub last : g.first + length g.violations ≤ 2 ^ 64
-  pub came : (i : ℕ) (violation : Bool) → i < length g.violations → get_or g.violations i None ≡ Some violation → IsVerdictOfSeed g.shape (g.first + i) (unit_of (g.first + i)) violation
+  pub last : g.programs.first + length g.violations ≤ 2 ^ 64
+  pub came : (i : ℕ) (violation : Bool) → i < length g.violations → get_or g.violations i None ≡ Some violation → IsVerdictOfSeed g.programs (g.programs.first + i) (unit_of (g.programs.first + i)) violation
 
 -- these are the units of the seeds from this one on
 abbrev pub AreUnitsFrom : (ℕ → UnitValue) → ℕ → List UnitValue → Type 0
@@ -46,8 +45,7 @@ AreUnitsFrom unit_of first units = (i : ℕ) → i < length units → get_or uni
 
 -- Only verdicts came.
 pub record KeepsSeeds (old new : GatheredValue) : Type 0 where
-  pub shape : new.shape ≡ old.shape
-  pub first : new.first ≡ old.first
+  pub programs : new.programs ≡ old.programs
   pub one_each : length new.violations ≡ length old.violations
 
 -- No verdict of seed i came, and one of each before it.

@@ -28,9 +28,9 @@ impl<S: SeedUnits> Model for Gathered<S> {
 
     ghost Value = { GatheredValue };
 
-    ghost view = { λ g. record { shape = g.programs.shape; first = g.programs.first; violations = g.violations.items } };
+    ghost view = { λ g. record { programs = g.programs; violations = g.violations.items } };
 
-    ghost invariant = { λ g. IsGathered S.unit_of (record { shape = g.programs.shape; first = g.programs.first; violations = g.violations.items }) };
+    ghost invariant = { λ g. IsGathered S.unit_of (record { programs = g.programs; violations = g.violations.items }) };
 }
 
 impl<S: SeedUnits> Gathered<S> {
@@ -41,7 +41,7 @@ impl<S: SeedUnits> Gathered<S> {
         seeds: usize,
     ) -> Result<Gathered<S>, OutOfMemory>
         requires { programs.first + seeds ≤ 2 ^ 64 }
-        ensures { IfOk result (λ g. (g.shape ≡ programs.shape) × (g.first ≡ programs.first) × (length g.violations ≡ seeds)) }
+        ensures { IfOk result (λ g. (g.programs ≡ programs) × (length g.violations ≡ seeds)) }
     {
         let violations = vec![in alloc; None; seeds]?;
         Ok(Gathered {
@@ -55,7 +55,7 @@ impl<S: SeedUnits> Gathered<S> {
 
     /// Which programs the campaign runs.
     pub(crate) fn programs(&self) -> CampaignPrograms
-        ensures { (result.shape ≡ self.now.shape) × (result.first ≡ self.now.first) }
+        ensures { result ≡ self.now.programs }
     {
         self.programs
     }
@@ -70,14 +70,14 @@ impl<S: SeedUnits> Gathered<S> {
         }
     }
 
-    /// Takes the verdict on a record in. That of a program in another shape is dropped.
+    /// Takes the verdict on a record in. That of a program of another campaign is dropped.
     fn accept_verdict(&mut self, judged: Judged<S>)
         ensures { KeepsSeeds self.old self.new }
     {
         let Some(i) = self.place_of(judged.seed()) else {
             return;
         };
-        if !judged.is_of_shape(&self.programs.shape) {
+        if !judged.is_of(&self.programs) {
             return;
         }
         if self.violations[i].is_none() {
@@ -101,7 +101,7 @@ impl<S: SeedUnits> Gathered<S> {
 
     /// The place of a seed, or None where it is a strange one.
     fn place_of(&self, seed: u64) -> Option<usize>
-        ensures { IfSome result (λ i. (self.now.first + i ≡ seed) × (i < length self.now.violations)) }
+        ensures { IfSome result (λ i. (self.now.programs.first + i ≡ seed) × (i < length self.now.violations)) }
     {
         let after = seed.checked_sub(self.programs.first)?;
         if after < self.violations.len() as u64 {
@@ -114,8 +114,8 @@ impl<S: SeedUnits> Gathered<S> {
     /// The verdicts, in the order of the seeds. OutOfMemory where a result said so or an allocation was refused, NoThread
     /// where a result said so; else Missing with the least seed that has no verdict.
     pub(crate) fn violations(self, alloc: Global) -> Result<Vec<bool>, Fault>
-        ensures verdicts { (units : List UnitValue) → length units ≡ length self.violations → AreUnitsFrom S.unit_of self.first units → IfOk result (λ violations. AreVerdicts self.shape self.first units violations.items) }
-        ensures fault { IfErr result (λ fault. (fault ≡ Fault.OutOfMemory) ⊎ (fault ≡ Fault.NoThread) ⊎ ((i : ℕ) × IsLeastMissing self.violations i × (fault ≡ Fault.Missing (self.first + i)))) }
+        ensures verdicts { (units : List UnitValue) → length units ≡ length self.violations → AreUnitsFrom S.unit_of self.programs.first units → IfOk result (λ violations. AreVerdicts self.programs units violations.items) }
+        ensures fault { IfErr result (λ fault. (fault ≡ Fault.OutOfMemory) ⊎ (fault ≡ Fault.NoThread) ⊎ ((i : ℕ) × IsLeastMissing self.violations i × (fault ≡ Fault.Missing (self.programs.first + i)))) }
     {
         if self.met_out_of_memory {
             return Err(Fault::OutOfMemory);

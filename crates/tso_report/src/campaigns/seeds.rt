@@ -1,9 +1,10 @@
 //! One seed of a campaign: its program is drawn and run on a unit, and the record is judged.
 ghost use Rattle.std.specs.Prelude.{◌≡◌, [], Decides, IfOk};
 ghost use Rattle.unit_core.specs.Units.{UnitValue};
-ghost use Rattle.tso_report.specs.Campaigns.{IsVerdictOfSeed, program_of_seed};
+ghost use Rattle.tso_report.specs.Campaigns.{IsVerdictOfSeed, program_of_seed, program_of_seed_with_order};
 ghost use Rattle.tso_report.specs.Internal.Gathering.{fault_of_seed, is_violation};
 
+use super::CampaignPrograms;
 use crate::faults::Fault;
 use crate::judging::judge_trace;
 use crate::verdicts::Verdict;
@@ -14,7 +15,7 @@ use std::alloc::Global;
 use std::marker::{Brand, Model, PhantomData};
 use std::sync::Wait;
 use std::thread::Threads;
-use tso_ops::{OutOfMemory, Program, Shape, Trace, make_program};
+use tso_ops::{Order, OutOfMemory, Program, Shape, Trace, make_program_with_order};
 use unit_core::{Account, MemoryUnit};
 
 /// The unit of each seed. Each campaign picks them.
@@ -41,11 +42,11 @@ pub(crate) struct Job<S: SeedUnits, U: MemoryUnit> {
     ghost is: { U.value_of unit ≡ S.unit_of seed },
 }
 
-/// What is said of a seed, whose program has this shape: whether the trace recorded on its unit is a violation.
+/// What is said of a seed of these programs: whether the trace recorded on its unit is a violation.
 #[derive(Drop)]
 pub(crate) struct Judged<S: SeedUnits> {
     seed: u64,
-    shape: Shape,
+    programs: CampaignPrograms,
     violation: bool,
     of: PhantomData<S>,
 }
@@ -56,9 +57,9 @@ impl<S: SeedUnits> Model for Judged<S> {
 
     ghost Value = { JudgedValue };
 
-    ghost view = { λ j. record { seed = j.seed; shape = j.shape; violation = j.violation } };
+    ghost view = { λ j. record { seed = j.seed; programs = j.programs; violation = j.violation } };
 
-    ghost invariant = { λ j. IsVerdictOfSeed j.shape j.seed (S.unit_of j.seed) j.violation };
+    ghost invariant = { λ j. IsVerdictOfSeed j.programs j.seed (S.unit_of j.seed) j.violation };
 }
 
 impl<S: SeedUnits> Judged<S> {
@@ -69,17 +70,17 @@ impl<S: SeedUnits> Judged<S> {
         self.seed
     }
 
-    /// Whether the program of the seed was of this shape.
-    pub(crate) fn is_of_shape(&self, shape: &Shape) -> bool
-        ensures { Decides result (self.now.shape ≡ shape.now) }
+    /// Whether the program of the seed was one of these.
+    pub(crate) fn is_of(&self, programs: &CampaignPrograms) -> bool
+        ensures { Decides result (self.now.programs ≡ programs.now) }
     {
-        self.shape.is_same(shape)
+        self.programs.are_same(programs)
     }
 
     /// Whether the trace of the record is a violation.
     pub(crate) fn violation(&self) -> bool
         ensures is { result ≡ self.now.violation }
-        ensures said { IsVerdictOfSeed self.now.shape self.now.seed (S.unit_of self.now.seed) self.now.violation }
+        ensures said { IsVerdictOfSeed self.now.programs self.now.seed (S.unit_of self.now.seed) self.now.violation }
     {
         self.violation
     }
@@ -94,11 +95,24 @@ pub(crate) enum JobResult<S: SeedUnits> {
     Failed { seed: u64, fault: Fault },
 }
 
-/// The program of this shape that the words of PCG64 from this seed draw, or OutOfMemory where an allocation was refused.
+/// The program under TSO of this shape that the words of PCG64 from this seed draw, or OutOfMemory where an allocation was
+/// refused.
 pub fn seeded_program(alloc: Global, seed: u64, shape: Shape) -> Result<Program, OutOfMemory>
     ensures { IfOk result (λ program. program ≡ program_of_seed shape seed) }
 {
-    make_program(alloc, &mut Pcg64::seed_from_u64(seed), shape)
+    seeded_program_with_order(alloc, Order::Tso, seed, shape)
+}
+
+/// `seeded_program` under this memory model: under PSO some barriers are an STBAR in place of a membar.
+pub fn seeded_program_with_order(
+    alloc: Global,
+    order: Order,
+    seed: u64,
+    shape: Shape,
+) -> Result<Program, OutOfMemory>
+    ensures { IfOk result (λ program. program ≡ program_of_seed_with_order order shape seed) }
+{
+    make_program_with_order(alloc, order, &mut Pcg64::seed_from_u64(seed), shape)
 }
 
 /// The job of a seed and its unit, which has taken no step.
@@ -113,15 +127,15 @@ pub(crate) fn job_of<S: SeedUnits, U: MemoryUnit>(seed: u64, unit: U) -> Job<S, 
     }
 }
 
-/// Does a job: runs the program of its seed in this shape on its unit, and judges the record with one worker.
+/// Does a job: runs the program of its seed, one of these, on its unit, and judges the record with one worker.
 pub(crate) fn result_of<S: SeedUnits, U: MemoryUnit + Send, R: Threads + Wait + Sync>(
     rt: &R,
     alloc: Global,
-    shape: Shape,
+    programs: CampaignPrograms,
     job: Job<S, U>,
 ) -> JobResult<S> {
     let seed = job.seed;
-    match judge_seed(rt, alloc, shape, job) {
+    match judge_seed(rt, alloc, programs, job) {
         Ok(judged) => JobResult::Judged(judged),
         Err(fault) => JobResult::Failed { seed, fault },
     }
@@ -132,11 +146,11 @@ pub(crate) fn result_of<S: SeedUnits, U: MemoryUnit + Send, R: Threads + Wait + 
 fn judge_seed<S: SeedUnits, U: MemoryUnit + Send, R: Threads + Wait + Sync>(
     rt: &R,
     alloc: Global,
-    shape: Shape,
+    programs: CampaignPrograms,
     job: Job<S, U>,
 ) -> Result<Judged<S>, Fault> {
     let Job { seed, unit, .. } = job;
-    let program = seeded_program(alloc, seed, shape)?;
+    let program = seeded_program_with_order(alloc, programs.order, seed, programs.shape)?;
     let issuers = Issuers {
         gate: &OpenGate,
         drain_seed: seed,
@@ -149,7 +163,7 @@ fn judge_seed<S: SeedUnits, U: MemoryUnit + Send, R: Threads + Wait + Sync>(
     let verdict = judge_trace(rt, alloc, recorded.trace(), 1)?.verdict;
     Ok(Judged {
         seed,
-        shape,
+        programs,
         violation: is_violation(verdict),
         of: PhantomData,
     })

@@ -10,8 +10,8 @@ pub campaign_text-requires : goal.campaign_text-requires
 campaign_text-requires g c =
     let count = sym (length-map c.args.units.items (λ unit. g.U.MemoryUnit.value_of unit)) in
     let verdicts =
-    came-all c.args.programs.shape c.args.programs.first (map (λ unit. g.U.MemoryUnit.value_of unit) c.args.units.items) g.S.SeedUnits.unit_of c.in_ok-gathered.gathered c.in_ok-gathered-2.gathered
-    c.in_ok-violations.violations.items (c.in_ok-gathered.ensures.0, c.in_ok-gathered.ensures.1, (let made = c.in_ok-gathered.ensures.2 in let len = c.len.ensures in let items = c.args.units.ok.0 in omega (arith, made, len, items, count))) c.in_ok-gathered-2.ensures.seeds
+    came-all c.args.programs (map (λ unit. g.U.MemoryUnit.value_of unit) c.args.units.items) g.S.SeedUnits.unit_of c.in_ok-gathered.gathered c.in_ok-gathered-2.gathered
+    c.in_ok-violations.violations.items (c.in_ok-gathered.ensures.0, (let made = c.in_ok-gathered.ensures.1 in let len = c.len.ensures in let items = c.args.units.ok.0 in omega (arith, made, len, items, count))) c.in_ok-gathered-2.ensures.seeds
     c.requires.units c.in_ok-violations.ensures.verdicts in
     let each = verdicts.one_each in
     let read = ap length c.deref.ensures.value in
@@ -22,8 +22,8 @@ returns-clause-whole g c =
     let units = map (λ unit. g.U.MemoryUnit.value_of unit) c.args.units.items in
     let count = sym (length-map c.args.units.items (λ unit. g.U.MemoryUnit.value_of unit)) in
     let verdicts =
-    came-all c.args.programs.shape c.args.programs.first units g.S.SeedUnits.unit_of c.in_ok-gathered.gathered c.in_ok-gathered-2.gathered c.in_ok-violations.violations.items
-    (c.in_ok-gathered.ensures.0, c.in_ok-gathered.ensures.1, (let made = c.in_ok-gathered.ensures.2 in let len = c.len.ensures in let items = c.args.units.ok.0 in omega (arith, made, len, items, count))) c.in_ok-gathered-2.ensures.seeds c.requires.units
+    came-all c.args.programs units g.S.SeedUnits.unit_of c.in_ok-gathered.gathered c.in_ok-gathered-2.gathered c.in_ok-violations.violations.items
+    (c.in_ok-gathered.ensures.0, (let made = c.in_ok-gathered.ensures.1 in let len = c.len.ensures in let items = c.args.units.ok.0 in omega (arith, made, len, items, count))) c.in_ok-gathered-2.ensures.seeds c.requires.units
     c.in_ok-violations.ensures.verdicts in
     search (rules, verdicts)
 
@@ -33,19 +33,19 @@ returns-in_err-write_text-clause-fault g c =
     let count = sym (length-map c.args.units.items (λ unit. g.U.MemoryUnit.value_of unit)) in
     let text = string_bytes c.in_ok-text.text in
     let verdict = verdict_of (list_any (λ violation. violation) c.in_ok-violations.violations.items) in
-    let verdicts : AreVerdicts c.args.programs.shape c.args.programs.first units c.in_ok-violations.violations.items =
-    came-all c.args.programs.shape c.args.programs.first units g.S.SeedUnits.unit_of c.in_ok-gathered.gathered c.in_ok-gathered-2.gathered c.in_ok-violations.violations.items
-    (c.in_ok-gathered.ensures.0, c.in_ok-gathered.ensures.1, (let made = c.in_ok-gathered.ensures.2 in let len = c.len.ensures in let items = c.args.units.ok.0 in omega (arith, made, len, items, count))) c.in_ok-gathered-2.ensures.seeds c.requires.units
+    let verdicts : AreVerdicts c.args.programs units c.in_ok-violations.violations.items =
+    came-all c.args.programs units g.S.SeedUnits.unit_of c.in_ok-gathered.gathered c.in_ok-gathered-2.gathered c.in_ok-violations.violations.items
+    (c.in_ok-gathered.ensures.0, (let made = c.in_ok-gathered.ensures.1 in let len = c.len.ensures in let items = c.args.units.ok.0 in omega (arith, made, len, items, count))) c.in_ok-gathered-2.ensures.seeds c.requires.units
     c.in_ok-violations.ensures.verdicts in
-    let is_text : IsCampaign c.args.programs.shape c.args.programs.first units text verdict =
+    let is_text : IsCampaign c.args.programs units text verdict =
     record {
       violations = c.in_ok-violations.violations.items;
       verdicts = verdicts;
       whole = c.in_ok-text.ensures ∙ ap (campaign_text c.args.programs.first) c.deref.ensures.value;
       says = refl;
     } in
-    let prefix : WritesPrefix (IsCampaign c.args.programs.shape c.args.programs.first units) (g.W.Write.contents c.args.writer.now) (g.W.Write.contents c.write_text.new.writer) =
+    let prefix : WritesPrefix (IsCampaign c.args.programs units) (g.W.Write.contents c.args.writer.now) (g.W.Write.contents c.write_text.new.writer) =
     (verdict, text, is_text, rw c.as_bytes.ensures.value at c.in_err-write_text.ensures.prefix) in
-    let leaves : LeavesCampaign c.args.programs.shape c.args.programs.first units (g.W.Write.contents c.args.writer.now) (g.W.Write.contents c.write_text.new.writer) c.in_err-write_text.field-0.0 =
+    let leaves : LeavesCampaign c.args.programs units (g.W.Write.contents c.args.writer.now) (g.W.Write.contents c.write_text.new.writer) c.in_err-write_text.field-0.0 =
     rw c.in_err-write_text.ensures.fault prefix in
     search (rules, leaves)

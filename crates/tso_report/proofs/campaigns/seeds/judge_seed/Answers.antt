@@ -11,5 +11,5 @@ invariant_of-result g c =
     let verdict = c.in_ok-verdict.field-0.verdict in
     let report = subst (λ t. IsTraceReport t text verdict) c.trace.ensures.is c.in_ok-verdict.ensures.report in
     let no_order = subst (λ t. verdict ≡ Violation → IsConsistent t → ⊥) c.trace.ensures.is c.in_ok-verdict.ensures.no_order in
-    rw (sym c.args.job.is, c.is_violation.ensures) (verdict_of_seed c.args.shape c.args.job.seed c.in_ok-program.program (g.U.MemoryUnit.value_of c.args.job.unit) c.in-Ok.recorded text verdict
+    rw (sym c.args.job.is, c.is_violation.ensures) (verdict_of_seed c.args.programs c.args.job.seed c.in_ok-program.program (g.U.MemoryUnit.value_of c.args.job.unit) c.in-Ok.recorded text verdict
     c.in_ok-program.ensures c.in-Ok.ensures.recorded report no_order)
