@@ -120,7 +120,7 @@ Example:
 pub(crate) const REPLAY: &str = "\
 It reads the text of a program and that of a schedule, and runs the program on
 the memory unit: each line of the schedule says which processor issues its next
-operation, or drains its oldest store. The trace of what the unit answered is
+operation, or drains a waiting store. The trace of what the unit answered is
 recorded and judged. It prints the report of `tsobench judge`, and then a line
 `account loads .. stores .. swaps .. membars .. drains .. closed` with the
 numbers of the unit's steps; with --trace it prints the recorded trace alone. A
@@ -144,7 +144,7 @@ pub(crate) const RUN: &str = "\
 It reads the text of a program, and runs the program on the memory unit: each
 processor has a thread of its own, which issues its operations in program order,
 and the unit serves one call at a time. After each operation the thread drains
-its processor's oldest store up to twice: numbers drawn from the seed say how
+a store of its processor up to twice: numbers drawn from the seed say how
 often. The trace of what the unit answered is recorded and judged. It prints the
 report of `tsobench judge`, and then a line
 `account loads .. stores .. swaps .. membars .. drains .. closed` with the

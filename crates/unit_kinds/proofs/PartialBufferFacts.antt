@@ -12,7 +12,7 @@ use Rattle.std.proofs.lemmas.Option.{get_or_from_slice_get, same_Some, slice_get
 use Rattle.unit_core.specs.declared.steps.Step.TheVariants.{Store}
 use Rattle.unit_core.specs.Machine.{Entry, buffer_of, drained, first_state, newest, next, oldest_of, written}
 use Rattle.unit_kinds.specs.declared.partial_buffers.WaitingStore.{WaitingStore}
-use Rattle.unit_kinds.specs.Internal.Partial.{AreEmptyBuffers, ArePartialBuffers, IsNextPlace, IsReserved, LeavesFirst, entries_in, entry_of, state_in}
+use Rattle.unit_kinds.specs.Internal.Partial.{AreEmptyBuffers, ArePartialBuffers, IsNextPlace, IsReserved, LeavesFirst, PartialBuffersValue, entries_in, entry_of, state_in}
 use Rattle.unit_kinds.specs.Partial.{IsNextAddress}
 
 -- ---- empty buffers
@@ -137,6 +137,11 @@ IsNextAddress-first buffer i best all among = record {
 pub buffer-at : (memory : List ℕ) (buffers : List (Vec WaitingStore)) (stbars : List ℕ) (p : ℕ) (buffer : Vec WaitingStore) → p < length buffers → buffer ≡ get_or buffers p buffer →
     buffer_of (state_in memory buffers stbars) p ≡ entries_in buffer
 buffer-at memory buffers stbars p buffer within read = get_or-map entries_in buffers p buffer [] within ∙ ap entries_in (sym read)
+
+-- where the fields are those of this value
+pub entries-at : (b : PartialBuffersValue) (memory : List ℕ) (buffers : List (Vec WaitingStore)) (stbars : List ℕ) (p : ℕ) (buffer : Vec WaitingStore) → state_in memory buffers stbars ≡ b.state →
+    p < length buffers → buffer ≡ get_or buffers p buffer → buffer_of b.state p ≡ entries_in buffer
+entries-at b memory buffers stbars p buffer view within read = ap (λ s. buffer_of s p) (sym view) ∙ buffer-at memory buffers stbars p buffer within read
 
 -- what is kept of it
 pub reserved-at : (buffers : List (Vec WaitingStore)) (capacity p : ℕ) (buffer : Vec WaitingStore) → p < length buffers → buffer ≡ get_or buffers p buffer →

@@ -1,4 +1,5 @@
-//! Drawn programs by drawn schedules on the store-buffer unit: no violation is found, as by the plain program of the model.
+//! Drawn programs by drawn schedules on units with store buffers, each of its own memory model: no violation is found, as by the
+//! plain program of the model.
 
 use super::{Ended, expect, expect_equal, report_without_violation};
 use plain_rounds::{has_cycle, has_unwritten_load, new_edges, rank_set};
@@ -8,19 +9,20 @@ use std::sync::Wait;
 use std::test::Fail;
 use std::thread::Threads;
 use traces_for_tests::next_word;
-use tso_ops::{Op, OutOfMemory, Program, Trace};
+use tso_ops::{Op, Order, OutOfMemory, Program, Trace};
 use tso_report::{Verdict, find_violation, judge_recorded};
 use tso_text::Act;
-use unit_core::{Account, Recorded, replay_over};
-use unit_kinds::StoreBufferUnit;
+use unit_core::{Account, MemoryUnit, Recorded, replay_over};
+use unit_kinds::{PartialOrderUnit, StoreBufferUnit};
 
 /// How many programs are drawn.
 const PROGRAMS: u64 = 200;
 
-/// An operation on one of two addresses.
-fn drawn_op(word: u64, v: u64) -> Op {
+/// An operation on one of two addresses; under PSO half of the barriers are STBARs.
+fn drawn_op(order: Order, word: u64, v: u64) -> Op {
     let a = ((word >> 40) % 2) as u16;
     match (word >> 33) % 8 {
+        0 if order == Order::Pso && (word >> 41) % 2 == 0 => Op::Sb,
         0 => Op::Mb,
         1 => Op::Sw { a, v },
         2..=4 => Op::Ld { a },
@@ -29,14 +31,14 @@ fn drawn_op(word: u64, v: u64) -> Op {
 }
 
 /// A program of six operations on three processors.
-fn drawn_program(alloc: Global, seed: u64) -> Result<Program, Fail> {
+fn drawn_program(alloc: Global, order: Order, seed: u64) -> Result<Program, Fail> {
     let mut lists: [Vec<Op>; 3] = [Vec::new(alloc), Vec::new(alloc), Vec::new(alloc)];
     let mut word = next_word(seed);
     for v in 1..7 {
         word = next_word(word);
-        lists[(word >> 50) as usize % 3].push(drawn_op(word, v))?;
+        lists[(word >> 50) as usize % 3].push(drawn_op(order, word, v))?;
     }
-    Ok(Program::new(alloc, Vec::from_array(alloc, lists)?)?)
+    Ok(Program::with_order(alloc, order, Vec::from_array(alloc, lists)?)?)
 }
 
 /// A schedule of nine acts, two of three of which issue.
@@ -54,13 +56,26 @@ fn drawn_schedule(alloc: Global, seed: u64) -> Result<Vec<Act>, AllocError> {
     Ok(acts)
 }
 
-/// The record of a drawn program by a drawn schedule, on buffers of one to four entries.
-fn drawn_record(alloc: Global, seed: u64) -> Result<Recorded, Fail> {
-    let program = drawn_program(alloc, seed)?;
+/// The record of a drawn program by a drawn schedule, on this unit.
+fn record_on<U: MemoryUnit>(
+    alloc: Global,
+    order: Order,
+    seed: u64,
+    unit: U,
+) -> Result<Recorded, Fail> {
+    let program = drawn_program(alloc, order, seed)?;
     let schedule = drawn_schedule(alloc, seed)?;
-    let unit = StoreBufferUnit::new(alloc, seed as usize % 4 + 1)?;
     let mut account = Account::new();
     Ok(replay_over(alloc, unit, &program, &schedule, &mut account)?)
+}
+
+/// The record of a drawn program by a drawn schedule, on buffers of one to four entries that keep its memory model.
+fn drawn_record(alloc: Global, order: Order, seed: u64) -> Result<Recorded, Fail> {
+    let capacity = seed as usize % 4 + 1;
+    match order {
+        Order::Tso => record_on(alloc, order, seed, StoreBufferUnit::new(alloc, capacity)?),
+        Order::Pso => record_on(alloc, order, seed, PartialOrderUnit::new(alloc, capacity)?),
+    }
 }
 
 /// Whether the plain program finds no violation of the trace, whose order needs so many rounds.
@@ -100,14 +115,27 @@ fn compare<H: Threads + Wait + Sync + AllocGlobal + Abort>(
     Ok(rounds)
 }
 
-#[test]
-fn drawn_replays_without_a_violation(rt: HostRuntime) -> Result<(), Fail> {
+/// Compares the records of the drawn programs of a memory model, some of which need two rounds.
+fn compare_records<H: Threads + Wait + Sync + AllocGlobal + Abort>(
+    rt: &H,
+    order: Order,
+) -> Result<(), Fail> {
     let mut most = 0;
     for seed in 0..PROGRAMS {
-        let recorded = drawn_record(rt.alloc(), seed)?;
-        expect_equal(&rt, seed, recorded.lawful(), true);
-        most = most.max(compare(&rt, &recorded)?);
+        let recorded = drawn_record(rt.alloc(), order, seed)?;
+        expect_equal(rt, seed, recorded.lawful(), true);
+        most = most.max(compare(rt, &recorded)?);
     }
-    expect_equal(&rt, most, most >= 2, true);
+    expect_equal(rt, most, most >= 2, true);
     Ok(())
+}
+
+#[test]
+fn drawn_replays_without_a_violation(rt: HostRuntime) -> Result<(), Fail> {
+    compare_records(&rt, Order::Tso)
+}
+
+#[test]
+fn drawn_replays_under_pso_without_a_violation(rt: HostRuntime) -> Result<(), Fail> {
+    compare_records(&rt, Order::Pso)
 }

@@ -3,7 +3,8 @@
 use std::alloc::AllocError;
 use std::process::Abort;
 use traces_for_tests::are_equal;
-use tso_ops::{Order, Trace};
+use tso_ops::Act::{self, Drain, Issue};
+use tso_ops::{Op, Order, Outcome, Trace};
 use unit_core::{Account, MemoryUnit, Recorded, Step};
 use units_for_tests::Answered::{
     self, Drain as Drained, Load, Membar, Stbar, Steps, Store, Waiting,
@@ -47,6 +48,30 @@ pub(super) const SIXTY_FOUR: [(usize, Answered); 14] = [
     (15, Waiting(0)),
     (14, Load { a: 255, r: 64 }),
     (14, Load { a: 0, r: 65 }),
+];
+
+/// Message passing under PSO with an STBAR between the stores, a schedule, and what is read by it.
+pub(super) const STBARRED: [&[Op]; 2] = [
+    &[Op::St { a: 1, v: 1 }, Op::Sb, Op::St { a: 2, v: 2 }],
+    &[Op::Ld { a: 2 }, Op::Ld { a: 1 }],
+];
+
+pub(super) const STBARRED_ACTS: [Act; 6] = [
+    Issue(0),
+    Issue(0),
+    Issue(0),
+    Drain(0),
+    Issue(1),
+    Issue(1),
+];
+
+pub(super) const STBARRED_ROWS: [&[Outcome]; 2] = [
+    &[
+        Outcome::St { a: 1, v: 1 },
+        Outcome::Sb,
+        Outcome::St { a: 2, v: 2 },
+    ],
+    &[Outcome::Ld { a: 2, r: 0 }, Outcome::Ld { a: 1, r: 1 }],
 ];
 
 /// Makes 64 stores of processor 15 to address 255, and then the calls of `SIXTY_FOUR`.

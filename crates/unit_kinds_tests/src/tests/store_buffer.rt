@@ -1,7 +1,10 @@
 //! Store-buffer units: driven by hand, replayed, and with allocations refused.
 ghost use Rattle.std.specs.Prelude.{◌≤◌};
 
-use super::calls::{TWO, expect_answers, expect_sixty_four, expect_steps, is_balanced, state_of};
+use super::calls::{
+    STBARRED, STBARRED_ACTS, STBARRED_ROWS, TWO, expect_answers, expect_sixty_four, expect_steps,
+    is_balanced, state_of,
+};
 use super::refused::check_refused;
 use std::alloc::{AllocError, Global};
 use std::test::Fail;
@@ -150,22 +153,6 @@ fn full_buffer_and_swap_drain(rt: HostRuntime) -> Result<(), Fail> {
     assert!(rt; replays_as(rt.alloc(), 1, Order::Tso, ops, &[], rows)?);
     Ok(())
 }
-
-const STBARRED: [&[Op]; 2] = [
-    &[Op::St { a: 1, v: 1 }, Op::Sb, Op::St { a: 2, v: 2 }],
-    &[Op::Ld { a: 2 }, Op::Ld { a: 1 }],
-];
-
-const STBARRED_ACTS: [Act; 6] = [Issue(0), Issue(0), Issue(0), Drain(0), Issue(1), Issue(1)];
-
-const STBARRED_ROWS: [&[Outcome]; 2] = [
-    &[
-        Outcome::St { a: 1, v: 1 },
-        Outcome::Sb,
-        Outcome::St { a: 2, v: 2 },
-    ],
-    &[Outcome::Ld { a: 2, r: 0 }, Outcome::Ld { a: 1, r: 1 }],
-];
 
 #[test]
 fn drain_of_the_schedule_and_stbar(rt: HostRuntime) -> Result<(), Fail> {
