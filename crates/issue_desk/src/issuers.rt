@@ -10,7 +10,6 @@ use rand_core::{Rng, SeedableRng};
 use rand_pcg::Pcg64;
 use std::alloc::Global;
 use std::sync::{Mutex, Wait};
-use std::thread;
 use std::thread::{Promise, PromisedHandle, Scope, Threads};
 use tso_ops::OutOfMemory;
 use unit_core::MemoryUnit;
@@ -24,11 +23,11 @@ pub struct Issuers<'a, G> {
 
 /// What the issuers of a run share; desk and gate are references.
 #[derive(Clone, Copy)]
-struct Shared<LockedDesk, OneGate> {
-    desk: LockedDesk,
-    gate: OneGate,
-    drain_seed: u64,
-    processors: usize,
+pub(crate) struct Shared<LockedDesk, OneGate> {
+    pub(crate) desk: LockedDesk,
+    pub(crate) gate: OneGate,
+    pub(crate) drain_seed: u64,
+    pub(crate) processors: usize,
 }
 
 /// The processor whose pass an issuer gives back.
@@ -121,7 +120,7 @@ fn joined_passes(
 
 /// The passes of the processors from `p` on, each given back by an issuer in a thread of the scope. All threads that were
 /// started are joined.
-fn passes_from<
+pub(crate) fn passes_from<
     's,
     E,
     D: RunDesign + Send,
@@ -145,40 +144,4 @@ fn passes_from<
     let child = start_issuer(scope, rt, alloc, shared, p)?;
     let rest = passes_from(scope, rt, alloc, shared, p + 1);
     joined_passes(alloc, child.join(rt), rest)
-}
-
-/// The passes of a run's processors, in order, each given back by an issuer in a thread of its own. OutOfMemory where the
-/// unit answered it or an allocation was refused, NoThread where the system refused a thread; all threads are joined.
-pub(crate) fn issue_in_threads<
-    D: RunDesign + Send,
-    U: MemoryUnit + Send,
-    R: Threads + Wait + Sync,
-    G: Gate + Sync,
->(
-    rt: &R,
-    alloc: Global,
-    desk: &Mutex<RunDesk<D, U>>,
-    issuers: Issuers<'_, G>,
-    processors: usize,
-) -> Result<Vec<Pass>, RunFault>
-    requires { processors ≤ 16 }
-    ensures { IfOk result (λ passes. ArePassesFrom 0 processors passes.items) }
-{
-    let Issuers { gate, drain_seed } = issuers;
-    thread::scope(
-        thread::scope_env(),
-        rt,
-        |scope| -> Result<Vec<Pass>, RunFault>
-            requires { processors ≤ 16 }
-            ensures { IfOk result (λ passes. ArePassesFrom 0 processors passes.items) }
-        {
-            let shared = Shared {
-                desk,
-                gate,
-                drain_seed,
-                processors,
-            };
-            passes_from(scope, rt, alloc, shared, 0)
-        },
-    )
 }

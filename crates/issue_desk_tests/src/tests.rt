@@ -1,6 +1,7 @@
 //! Desks driven by hand, and runs.
 
 mod desk;
+mod drainer;
 mod drains;
 mod gate;
 mod lock;

@@ -23,12 +23,28 @@ pub enum Call {
     Drain = 6,
 }
 
-/// The first calls of a unit, in their order, as many as there is room for.
+/// Room for a call and its processor.
+#[derive(Drop)]
+struct Place {
+    /// The number of the call, or 0.
+    call: AtomicU64,
+    processor: AtomicUsize,
+}
+
+impl Place {
+    fn new() -> Place {
+        Place {
+            call: AtomicU64::new(0),
+            processor: AtomicUsize::new(0),
+        }
+    }
+}
+
+/// The first calls of a unit with their processors, in their order, as many as there is room for.
 #[derive(Drop)]
 pub struct CallLog {
     taken: AtomicUsize,
-    /// The number of each call, or 0.
-    places: Vec<AtomicU64>,
+    places: Vec<Place>,
 }
 
 impl CallLog {
@@ -36,7 +52,7 @@ impl CallLog {
     pub fn new(alloc: Global, room: usize) -> Result<CallLog, OutOfMemory> {
         let mut places = Vec::new(alloc);
         for _ in 0..room {
-            places.push(AtomicU64::new(0))?;
+            places.push(Place::new())?;
         }
         Ok(CallLog {
             taken: AtomicUsize::new(0),
@@ -44,10 +60,11 @@ impl CallLog {
         })
     }
 
-    fn push(&self, call: Call) {
-        let place = self.taken.fetch_add(1, Ordering::SeqCst);
-        if let Some(slot) = self.places.get(place) {
-            slot.store(call as u64, Ordering::SeqCst);
+    fn push(&self, call: Call, p: usize) {
+        let taken = self.taken.fetch_add(1, Ordering::SeqCst);
+        if let Some(place) = self.places.get(taken) {
+            place.processor.store(p, Ordering::SeqCst);
+            place.call.store(call as u64, Ordering::SeqCst);
         }
     }
 
@@ -55,7 +72,7 @@ impl CallLog {
     pub fn calls(&self, alloc: Global) -> Result<Vec<Call>, OutOfMemory> {
         let mut calls = Vec::new(alloc);
         for place in &self.places {
-            match place.load(Ordering::SeqCst) {
+            match place.call.load(Ordering::SeqCst) {
                 1 => calls.push(Call::Load)?,
                 2 => calls.push(Call::Store)?,
                 3 => calls.push(Call::Swap)?,
@@ -66,6 +83,15 @@ impl CallLog {
             }
         }
         Ok(calls)
+    }
+
+    /// The processor of each call, or OutOfMemory where an allocation was refused.
+    pub fn processors(&self, alloc: Global) -> Result<Vec<usize>, OutOfMemory> {
+        let mut processors = Vec::new(alloc);
+        for place in self.places.iter().take(self.taken.load(Ordering::SeqCst)) {
+            processors.push(place.processor.load(Ordering::SeqCst))?;
+        }
+        Ok(processors)
     }
 }
 
@@ -94,32 +120,32 @@ impl<U: MemoryUnit> MemoryUnit for ForwardingUnit<U> {
     ghost value_of = { λ u. U.value_of u.inner };
 
     fn load(&mut self, p: usize, a: u16) -> Result<u64, OutOfMemory> {
-        self.log.push(Call::Load);
+        self.log.push(Call::Load, p);
         self.inner.load(p, a)
     }
 
     fn store(&mut self, p: usize, a: u16, v: u64) -> Result<(), OutOfMemory> {
-        self.log.push(Call::Store);
+        self.log.push(Call::Store, p);
         self.inner.store(p, a, v)
     }
 
     fn swap(&mut self, p: usize, a: u16, v: u64) -> Result<u64, OutOfMemory> {
-        self.log.push(Call::Swap);
+        self.log.push(Call::Swap, p);
         self.inner.swap(p, a, v)
     }
 
     fn membar(&mut self, p: usize) -> Result<(), OutOfMemory> {
-        self.log.push(Call::Membar);
+        self.log.push(Call::Membar, p);
         self.inner.membar(p)
     }
 
     fn stbar(&mut self, p: usize) -> Result<(), OutOfMemory> {
-        self.log.push(Call::Stbar);
+        self.log.push(Call::Stbar, p);
         self.inner.stbar(p)
     }
 
     fn drain(&mut self, p: usize) -> Result<bool, OutOfMemory> {
-        self.log.push(Call::Drain);
+        self.log.push(Call::Drain, p);
         self.inner.drain(p)
     }
 

@@ -121,7 +121,7 @@ const TURNS: u64 = 4_000_000;
 
 /// A gate at which the calls with `at` answers wait for one another.
 #[derive(Drop)]
-struct MeetingGate {
+pub(super) struct MeetingGate {
     at: usize,
     /// Whether the call of each processor came.
     came: Vec<AtomicBool>,
@@ -140,7 +140,12 @@ impl Gate for MeetingGate {
 }
 
 impl MeetingGate {
-    fn new(alloc: Global, processors: usize, at: usize) -> Result<MeetingGate, AllocError> {
+    /// A gate for so many processors.
+    pub(super) fn new(
+        alloc: Global,
+        processors: usize,
+        at: usize,
+    ) -> Result<MeetingGate, AllocError> {
         let mut came = Vec::new(alloc);
         for _ in 0..processors {
             came.push(AtomicBool::new(false))?;
@@ -168,7 +173,7 @@ impl MeetingGate {
     }
 
     /// Whether all calls came, and none gave up.
-    fn have_met(&self) -> bool {
+    pub(super) fn have_met(&self) -> bool {
         self.have_come() && !self.gave_up.load(Ordering::SeqCst)
     }
 }
