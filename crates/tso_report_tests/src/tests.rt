@@ -12,6 +12,7 @@ mod judge_violations;
 mod print_account;
 mod readers_and_writers;
 mod refused_allocations;
+mod seeded_programs;
 mod stream_faults;
 mod workers;
 

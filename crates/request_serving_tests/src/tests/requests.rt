@@ -50,11 +50,23 @@ impl NamedFiles for MemoryFiles {
     }
 }
 
-const TEXTS: [(&str, &str); 4] = [
+const TEXTS: [(&str, &str); 7] = [
     ("trace", "tso trace 1\nproc\nld 1 9\nend\n"),
     ("certificate", "unwritten 1\n"),
     ("program", "tso program 1\nproc\nst 1 1\nld 1\nend\n"),
     ("schedule", "tso schedule 1\nend\n"),
+    (
+        "pso_stores",
+        "tso program 1\nmodel pso\nproc\nst 1 1\nst 2 2\nproc\nld 2\nld 1\nend\n",
+    ),
+    (
+        "tso_stores",
+        "tso program 1\nproc\nst 1 1\nst 2 2\nproc\nld 2\nld 1\nend\n",
+    ),
+    (
+        "one_drain",
+        "tso schedule 1\ni 0\ni 0\nd 0\ni 1\ni 1\nend\n",
+    ),
 ];
 
 fn files(alloc: Global) -> Result<MemoryFiles, AllocError> {
@@ -203,8 +215,21 @@ fn replay<'a>(program: &'a str, schedule: &'a str, printing: Printing) -> Reques
     ensures workers { HasWorkers (asked_of result) }
     ensures unit { HasUnitRanges (asked_of result) }
 {
+    replay_on(UnitKind::Serial, program, schedule, printing)
+}
+
+/// The request to replay these files on a unit of this kind.
+fn replay_on<'a>(
+    kind: UnitKind,
+    program: &'a str,
+    schedule: &'a str,
+    printing: Printing,
+) -> Request<'a>
+    ensures workers { HasWorkers (asked_of result) }
+    ensures unit { HasUnitRanges (asked_of result) }
+{
     let unit = UnitOptions {
-        kind: UnitKind::Serial,
+        kind,
         capacity: 8,
         trigger: 1,
     };
@@ -249,6 +274,41 @@ fn replaying(rt: HostRuntime) -> Result<(), Fail> {
         &rt,
         &refused_schedule,
         outcome(&["program", "trace"], 2, "REFUSED BadHeader line 1\n", ""),
+    )
+}
+
+/// The report of the example `pso_message_passing`, and the account.
+const UNDER_PSO: &str =
+    "TSO REPORT 1\nprocessors 2 events 4 rounds 1\nNO VIOLATION FOUND\naccount loads 2 stores 2 swaps 0 membars 0 drains 2 closed\n";
+
+/// The report of the example `message_passing_stale`, and the account.
+const UNDER_TSO: &str =
+    "TSO REPORT 1\nprocessors 2 events 4 rounds 1\nVIOLATION\n1 init 1 Init\n2 1 2 StoreStore\n3 2 3 Read\n4 3 4 LoadOp\n5 1 init LoadPast 4 1 2 3 4\ncycle init 1\naccount loads 2 stores 2 swaps 0 membars 0 drains 2 closed\n";
+
+/// The unit `partial` drains the second store first, which PSO allows and TSO does not.
+#[test]
+fn replaying_on_a_partial_unit(rt: HostRuntime) -> Result<(), Fail> {
+    let under_pso = replay_on(
+        UnitKind::Partial,
+        "pso_stores",
+        "one_drain",
+        Printing::Report,
+    );
+    compare(
+        &rt,
+        &under_pso,
+        outcome(&["pso_stores", "one_drain"], 0, UNDER_PSO, ""),
+    )?;
+    let under_tso = replay_on(
+        UnitKind::Partial,
+        "tso_stores",
+        "one_drain",
+        Printing::Report,
+    );
+    compare(
+        &rt,
+        &under_tso,
+        outcome(&["tso_stores", "one_drain"], 3, UNDER_TSO, ""),
     )
 }
 

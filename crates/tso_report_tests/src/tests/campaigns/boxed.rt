@@ -3,8 +3,8 @@
 ghost use Rattle.std.specs.Prelude.{◌≡◌, ◌≤◌, []};
 ghost use Rattle.tso_report.specs.Limits.{worker_limit};
 
-use super::THREE_SEEDS;
 use super::meeting::{Meeting, MeetingUnit};
+use super::{THREE_SEEDS, THREE_VIOLATIONS};
 use std::alloc::Global;
 use std::io::Write;
 use std::process::Abort;
@@ -12,7 +12,7 @@ use std::sync::atomic::Ordering;
 use std::sync::{Arc, Wait};
 use std::test::Fail;
 use std::thread::Threads;
-use tso_ops::{Op, OutOfMemory, Shape};
+use tso_ops::{Op, Order, OutOfMemory, Shape};
 use tso_report::{CampaignPrograms, Fault, Verdict, campaign, seeded_program};
 use unit_core::MemoryUnit;
 use unit_faulty::{FaultKind, FaultyUnit};
@@ -40,6 +40,7 @@ fn campaign_into<H: Threads + Wait + Sync, W: Write>(
     let units = Vec::from_array(alloc, [first, second, third])?;
     let programs = CampaignPrograms {
         first: 1,
+        order: Order::Tso,
         shape: of.0,
     };
     Ok(campaign(rt, alloc, programs, units, of.1, writer))
@@ -277,11 +278,10 @@ fn boxed_units_of_two_types(rt: HostRuntime) -> Result<(), Fail> {
 fn boxed_campaign_of_invented_answers(rt: HostRuntime) -> Result<(), Fail> {
     let alloc = rt.alloc();
     let shape = Shape::new(1, 200, 4).ok_or("a shape")?;
-    let text = "seed 1 VIOLATION\nseed 2 VIOLATION\nseed 3 VIOLATION\nseeds 3 violations 3\n";
     let one = InventingUnit::new(alloc)?;
     let two = InventingUnit::new(alloc)?;
     let three = InventingUnit::new(alloc)?;
-    let told = (Ok(Verdict::Violation), text);
+    let told = (Ok(Verdict::Violation), THREE_VIOLATIONS);
     let units: (Boxed, Boxed, Boxed) = (
         Box::new(alloc, one)?,
         Box::new(alloc, two)?,
@@ -338,7 +338,11 @@ fn boxed_campaign_of_no_seed(rt: HostRuntime) -> Result<(), Fail> {
     for workers in [1usize, 64] {
         let units: Vec<Boxed> = Vec::new(rt.alloc());
         let mut written = Vec::new(rt.alloc());
-        let programs = CampaignPrograms { first: 1, shape };
+        let programs = CampaignPrograms {
+            first: 1,
+            order: Order::Tso,
+            shape,
+        };
         let answer = campaign(&rt, rt.alloc(), programs, units, workers, &mut written);
         assert!(rt; answer == Ok(Verdict::NoViolation), "{workers} workers");
         assert!(rt; written.as_slice() == b"seeds 0 violations 0\n".as_slice());

@@ -1,18 +1,18 @@
-//! Campaigns over units of one type for tests: serial ones, faulty ones, ones that refuse, and ones that wait for each
-//! other.
+//! Campaigns over units of one type for tests: serial ones, ones with store buffers, faulty ones, ones that refuse, and
+//! ones that wait for each other.
 ghost use Rattle.std.specs.Prelude.{◌≡◌, ◌≤◌, [], All, length};
 ghost use Rattle.tso_report.specs.Limits.{worker_limit};
 
-use super::THREE_SEEDS;
 use super::meeting::{Meeting, MeetingUnit};
+use super::{THREE_SEEDS, THREE_VIOLATIONS};
 use std::alloc::Global;
 use std::sync::{Arc, Wait};
 use std::test::Fail;
 use std::thread::Threads;
-use tso_ops::{Op, OutOfMemory, Shape};
+use tso_ops::{Op, Order, OutOfMemory, Shape};
 use tso_report::{CampaignPrograms, Fault, Verdict, campaign_over, seeded_program};
 use unit_core::MemoryUnit;
-use unit_kinds::SerialUnit;
+use unit_kinds::{SerialUnit, StoreBufferUnit};
 use units_for_tests::{InventingUnit, RefusingUnit};
 
 /// What a campaign gave: its answer, and what was written.
@@ -27,7 +27,31 @@ fn is_ran(ran: &Ran, answer: Result<Verdict, Fault>, text: &str) -> bool {
     ran.answer == answer && ran.written.as_slice() == text.as_bytes()
 }
 
-/// A campaign of the seeds from 1 on over at most three units.
+/// A campaign of the seeds from 1 on, of this memory model, over at most three units.
+fn campaign_with_order<H: Threads + Wait + Sync, U: MemoryUnit + Send>(
+    rt: &H,
+    alloc: Global,
+    order: Order,
+    shape: Shape,
+    units: Vec<U>,
+    workers: usize,
+) -> Ran
+    requires some { 1 ≤ workers }
+    requires most { workers ≤ worker_limit }
+    requires seeds { length units.items ≤ 3 }
+    requires untouched { All (λ unit. (U.value_of unit).steps ≡ []) units.items }
+{
+    let mut written = Vec::new(alloc);
+    let programs = CampaignPrograms {
+        first: 1,
+        order,
+        shape,
+    };
+    let answer = campaign_over(rt, alloc, programs, units, workers, &mut written);
+    Ran { answer, written }
+}
+
+/// `campaign_with_order` under TSO.
 fn campaign_of<H: Threads + Wait + Sync, U: MemoryUnit + Send>(
     rt: &H,
     alloc: Global,
@@ -40,10 +64,7 @@ fn campaign_of<H: Threads + Wait + Sync, U: MemoryUnit + Send>(
     requires seeds { length units.items ≤ 3 }
     requires untouched { All (λ unit. (U.value_of unit).steps ≡ []) units.items }
 {
-    let mut written = Vec::new(alloc);
-    let programs = CampaignPrograms { first: 1, shape };
-    let answer = campaign_over(rt, alloc, programs, units, workers, &mut written);
-    Ran { answer, written }
+    campaign_with_order(rt, alloc, Order::Tso, shape, units, workers)
 }
 
 #[test]
@@ -83,14 +104,35 @@ fn campaign_of_invented_answers(rt: HostRuntime) -> Result<(), Fail> {
     for seed in [1u64, 2, 3] {
         assert!(rt; has_load(alloc, seed, shape)?, "seed {seed}");
     }
-    let text = "seed 1 VIOLATION\nseed 2 VIOLATION\nseed 3 VIOLATION\nseeds 3 violations 3\n";
+    for order in [Order::Tso, Order::Pso] {
+        let units = [
+            InventingUnit::new(alloc)?,
+            InventingUnit::new(alloc)?,
+            InventingUnit::new(alloc)?,
+        ];
+        let units = Vec::from_array(alloc, units)?;
+        let ran = campaign_with_order(&rt, alloc, order, shape, units, 2);
+        assert!(rt;
+            is_ran(&ran, Ok(Verdict::Violation), THREE_VIOLATIONS),
+            "{order:?}"
+        );
+    }
+    Ok(())
+}
+
+/// A unit with store buffers is lawful for programs under PSO too: each run of the machine of TSO is one of that of PSO.
+#[test]
+fn campaign_under_pso_without_a_violation(rt: HostRuntime) -> Result<(), Fail> {
+    let alloc = rt.alloc();
+    let shape = Shape::new(3, 20, 4).ok_or("a shape")?;
     let units = [
-        InventingUnit::new(alloc)?,
-        InventingUnit::new(alloc)?,
-        InventingUnit::new(alloc)?,
+        StoreBufferUnit::new(alloc, 1)?,
+        StoreBufferUnit::new(alloc, 2)?,
+        StoreBufferUnit::new(alloc, 8)?,
     ];
-    let ran = campaign_of(&rt, alloc, shape, Vec::from_array(alloc, units)?, 2);
-    assert!(rt; is_ran(&ran, Ok(Verdict::Violation), text));
+    let units = Vec::from_array(alloc, units)?;
+    let ran = campaign_with_order(&rt, alloc, Order::Pso, shape, units, 2);
+    assert!(rt; is_ran(&ran, Ok(Verdict::NoViolation), THREE_SEEDS));
     Ok(())
 }
 
@@ -146,7 +188,11 @@ fn campaign_into<H: Threads + Wait + Sync>(
     let units = Vec::from_array(alloc, units)?;
     let mut written = vec![in alloc; 0u8; room]?;
     let mut writer = written.as_mut_slice();
-    let programs = CampaignPrograms { first: 1, shape };
+    let programs = CampaignPrograms {
+        first: 1,
+        order: Order::Tso,
+        shape,
+    };
     let answer = campaign_over(rt, alloc, programs, units, 1, &mut writer);
     Ok(Ran { answer, written })
 }
