@@ -1,5 +1,6 @@
 //! Drawn programs by drawn schedules on units with store buffers, each of its own memory model: no violation is found, as by the
 //! plain program of the model.
+ghost use Rattle.std.specs.Prelude.{◌≡◌, []};
 
 use super::{Ended, expect, expect_equal, report_without_violation};
 use plain_rounds::{has_cycle, has_unwritten_load, new_edges, rank_set};
@@ -62,7 +63,9 @@ fn record_on<U: MemoryUnit>(
     order: Order,
     seed: u64,
     unit: U,
-) -> Result<Recorded, Fail> {
+) -> Result<Recorded, Fail>
+    requires untouched { (U.value_of unit).steps ≡ [] }
+{
     let program = drawn_program(alloc, order, seed)?;
     let schedule = drawn_schedule(alloc, seed)?;
     let mut account = Account::new();
