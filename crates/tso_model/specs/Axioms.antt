@@ -1,7 +1,7 @@
 -- Memory orders, and the axioms of Total Store Order (TSO) and of Partial Store Order (PSO).
 -- The axioms are those of the SPARC Architecture Manual Version 8, chapter 6 'Memory Model' and appendix K 'Formal Specification of the Memory
 -- Model' (section K.2 has those of TSO), over the events of a trace, and one for the barrier MEMBAR #StoreLoad of the SPARC Architecture Manual
--- Version 9. The two models differ in StoreStore alone.
+-- Version 9. The two models differ in StoreStore, and in STBAR, which orders the stores that StoreStore under PSO does not.
 use Rattle.std.specs.Prelude.{◌≡◌, ◌≢◌, ◌⊎◌, ℕ, suc, ◌<◌, ◌≤◌, List, [], ◌∷◌, cond, ◌==◌}
 use Rattle.tso_ops.specs.Values.{TraceValue}
 use Rattle.tso_ops.specs.Events.{IsEvent, IsLoad, IsStore, IsSwapLoad, HasFirstValue, SameAddress, SameValue, Earlier, HasFewerBarriersBefore, HasFewerStbarsBefore, KeepsStores}

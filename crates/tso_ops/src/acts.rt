@@ -3,6 +3,6 @@
 pub enum Act {
     /// The processor's next operation is issued.
     Issue(usize),
-    /// The processor's oldest waiting store is drained.
+    /// One of the processor's waiting stores is drained, if any waits: which one is the memory unit's choice.
     Drain(usize),
 }
