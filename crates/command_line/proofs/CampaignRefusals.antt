@@ -111,13 +111,13 @@ module _ (names : OptionNames) (are : HasKnownNames names) where
 
   number_use_of : (name : Text) (limit n : ℕ) → TakesNumber name limit → 1 ≤ n → n ≤ limit → OptionUse (campaign names).rules name (decimal n)
   number_use_of name limit n refuses.capacity least most =
-      number_use (campaign names) (codes "capacity") (codes "8") capacity_limit capacity_long (offers_judged names).unit.capacity (decimal n)
+      number_use (campaign names) (codes "capacity") (codes "8") 1 capacity_limit capacity_long (offers_judged names).unit.capacity (decimal n)
       (decimal_passes 1 capacity_limit n least most (omega (arith, most)))
   number_use_of name limit n refuses.trigger least most =
-      number_use (campaign names) (codes "trigger") (codes "1") trigger_limit trigger_long (offers_judged names).unit.trigger (decimal n)
+      number_use (campaign names) (codes "trigger") (codes "1") 1 trigger_limit trigger_long (offers_judged names).unit.trigger (decimal n)
       (decimal_passes 1 trigger_limit n least most (omega (arith, most)))
   number_use_of name limit n refuses.workers least most =
-      number_use (campaign names) (codes "workers") (codes "1") worker_limit workers_long (offers_judged names).workers (decimal n)
+      number_use (campaign names) (codes "workers") (codes "1") 1 worker_limit workers_long (offers_judged names).workers (decimal n)
       (decimal_passes 1 worker_limit n least most (omega (arith, most)))
 
   use_of : (name value : Text) → TakesValue name value → OptionUse (campaign names).rules name value

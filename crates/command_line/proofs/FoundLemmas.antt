@@ -116,5 +116,5 @@ module _ (order wanted : Order) (seed wanted_seed : ℕ) (shape wanted_shape : S
   making_are order_is seed_is shape_is = rw (order_is, seed_is, shape_is) refl
 
 module _ (run wanted : AskedRun) where
-  pub running_are : run.options ≡ wanted.options → run.drain_seed ≡ wanted.drain_seed → run.program ≡ wanted.program → running run ≡ running wanted
-  running_are options_are seed_is program_is = rw (options_are, seed_is, program_is) refl
+  pub running_are : run.options ≡ wanted.options → run.drain_seed ≡ wanted.drain_seed → run.drain_turns ≡ wanted.drain_turns → run.program ≡ wanted.program → running run ≡ running wanted
+  running_are options_are seed_is turns_are program_is = rw (options_are, seed_is, turns_are, program_is) refl

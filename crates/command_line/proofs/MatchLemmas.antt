@@ -12,7 +12,7 @@ use Rattle.clap.specs.declared.error.kind.ErrorKind.TheVariants.{DisplayHelp, In
 use Rattle.clap.specs.declared.error.Error.{Error}
 use Rattle.clap.proofs.ValueTestLemmas.{accepts-Accepts, Accepts-accepts}
 use Rattle.command_line.specs.Workers.{worker_limit}
-use Rattle.command_line.specs.Requests.{Text, Asked, asked_of, capacity_limit, number_limit, showing}
+use Rattle.command_line.specs.Requests.{Text, Asked, asked_of, capacity_limit, drain_turns_limit, number_limit, showing}
 use Rattle.command_line.specs.declared.requests.Request.{Request}
 use Rattle.command_line.specs.Commands.{AskCampaign, AskFlag, AskModel, AskNumber, AskRequired, AskRun, AskShape, AskToRun, AskUnit, AskWorkers, HasKnownNames, IsAskedBy, IsAskedByMatches, IsAskedFor, asked_at, tsobench_app}
 use Rattle.command_line.specs.declared.options.OptionNames.{OptionNames}
@@ -84,7 +84,12 @@ ask_required name rows = record {
     go (Some text) = spelled text (is_unsigned_in 0 number_limit text) refl
 
 ask_to_run : (rows : List Row) → AskToRun rows (asked_run_in rows)
-ask_to_run rows = record { options = ask_run rows; seed = ask_required (codes "seed") rows; program = refl }
+ask_to_run rows = record {
+  options = ask_run rows;
+  seed = ask_required (codes "seed") rows;
+  turns = ask_number (codes "drain-turns") 0 0 drain_turns_limit (omega arith) (omega arith) (omega arith, omega arith) rows;
+  program = refl;
+}
 
 ask_shape : (rows : List Row) → AskShape rows (shape_in rows)
 ask_shape rows = record {

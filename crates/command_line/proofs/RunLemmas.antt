@@ -75,8 +75,8 @@ pub record Offers (s : Shape) (a : Rule) (name : Text) : Type 0 where
   pub by_long : arg_by_long s.rules name ≡ Some a
   pub otherwise : default_for name s.rules ≡ (if is_empty a.defaults then None else Some (default_row a))
 
-abbrev pub number_built : Text → Text → ℕ → Rule
-number_built name default limit = filled (number_rule name default limit)
+abbrev pub number_built : Text → Text → ℕ → ℕ → Rule
+number_built name default least limit = filled (number_rule name default least limit)
 
 abbrev pub unit_built : OptionNames → Rule
 unit_built names = filled (unit_rule names)
@@ -84,8 +84,8 @@ unit_built names = filled (unit_rule names)
 abbrev pub prints_built : Rule
 prints_built = filled prints_rule
 
-module _ (s : Shape) (name default : Text) (limit : ℕ) (is : IsLong name) (offers : Offers s (number_built name default limit) name) where
-  pub number_offered : IsOption s.rules (number_built name default limit) name
+module _ (s : Shape) (name default : Text) (least limit : ℕ) (is : IsLong name) (offers : Offers s (number_built name default least limit) name) where
+  pub number_offered : IsOption s.rules (number_built name default least limit) name
   number_offered = record {
     takes = record { by_id = offers.by_id; same_id = (bytes_eq-Decides name name).1 refl; most = refl; single = refl };
     by_long = offers.by_long;
@@ -95,36 +95,36 @@ module _ (s : Shape) (name default : Text) (limit : ℕ) (is : IsLong name) (off
     long_joined = is.long_joined;
   }
 
-  pub number_use : (value : Text) → accepts false (parser.Unsigned 1 limit) value ≡ true → OptionUse s.rules name value
+  pub number_use : (value : Text) → accepts false (parser.Unsigned least limit) value ≡ true → OptionUse s.rules name value
   number_use value accepted = record {
-    rule = number_built name default limit;
+    rule = number_built name default least limit;
     is = number_offered;
     named = refl;
     as_written = refl;
     of = refl;
-    makes = option_makes (number_built name default limit) (value ∷ []) refl (rw accepted refl) refl;
+    makes = option_makes (number_built name default least limit) (value ∷ []) refl (rw accepted refl) refl;
   }
 
-  module _ (other : ℕ) (short : limit < 2 ^ 64) (options : List (Text × Text)) (n : ℕ) (asks : AsksNumber other 1 limit (option_value name options) n) where
+  module _ (other : ℕ) (short : limit < 2 ^ 64) (options : List (Text × Text)) (n : ℕ) (asks : AsksNumber other least limit (option_value name options) n) where
     -- the use of the option, where it is there
     pub asked_number_use : (value : Text) → option_value name options ≡ Some value → OptionUse s.rules name value
     asked_number_use value found =
-        let named = subst (λ (o : Option Text). AsksNumber other 1 limit o n) found asks in
-        number_use value (ap (accepts false (parser.Unsigned 1 limit)) named.0 ∙ decimal_passes 1 limit n named.1 named.2 (omega (arith, named.2, short)))
+        let named = subst (λ (o : Option Text). AsksNumber other least limit o n) found asks in
+        number_use value (ap (accepts false (parser.Unsigned least limit)) named.0 ∙ decimal_passes least limit n named.1 named.2 (omega (arith, named.2, short)))
 
     -- the number that the rows stand for
     pub number_is : (rows : List Row) → IsOptionRow (option_value name options) (default_for name s.rules) (find (has_id name) rows)
-        → within 1 limit (number_in other default) ≡ other → within 1 limit (option_map_or (number_in other) (one_of name rows) other) ≡ n
+        → within least limit (number_in other default) ≡ other → within least limit (option_map_or (number_in other) (one_of name rows) other) ≡ n
     number_is rows row reads = go (option_value name options) asks row
       where
-        go : (value : Option Text) → AsksNumber other 1 limit value n → IsOptionRow value (default_for name s.rules) (find (has_id name) rows)
-            → within 1 limit (option_map_or (number_in other) (one_of name rows) other) ≡ n
-        go None asks row = ap (λ o. within 1 limit (option_map_or (number_in other) (option_and_then row_text o) other)) (row ∙ offers.otherwise) ∙ reads ∙ sym asks
+        go : (value : Option Text) → AsksNumber other least limit value n → IsOptionRow value (default_for name s.rules) (find (has_id name) rows)
+            → within least limit (option_map_or (number_in other) (one_of name rows) other) ≡ n
+        go None asks row = ap (λ o. within least limit (option_map_or (number_in other) (option_and_then row_text o) other)) (row ∙ offers.otherwise) ∙ reads ∙ sym asks
         go (Some value) asks row =
             let read : number_in other value ≡ n = ap (number_in other) asks.0 ∙ number_in-decimal other n (omega (arith, asks.2, short)) in
-            ap (λ o. within 1 limit (option_map_or (number_in other) (option_and_then row_text o) other)) row.1
-            ∙ ap (λ o. within 1 limit (option_map_or (number_in other) o other)) row.2
-            ∙ ap (within 1 limit) read ∙ omega (arith, asks.1, asks.2)
+            ap (λ o. within least limit (option_map_or (number_in other) (option_and_then row_text o) other)) row.1
+            ∙ ap (λ o. within least limit (option_map_or (number_in other) o other)) row.2
+            ∙ ap (within least limit) read ∙ omega (arith, asks.1, asks.2)
 
 -- ---- the options of a unit
 
@@ -169,10 +169,10 @@ module _ (s : Shape) (names : OptionNames) where
     }
 
     pub capacity_offered : IsOption s.rules (filled capacity_rule) (codes "capacity")
-    capacity_offered = number_offered s (codes "capacity") (codes "8") capacity_limit capacity_long offers.capacity
+    capacity_offered = number_offered s (codes "capacity") (codes "8") 1 capacity_limit capacity_long offers.capacity
 
     pub trigger_offered : IsOption s.rules (filled trigger_rule) (codes "trigger")
-    trigger_offered = number_offered s (codes "trigger") (codes "1") trigger_limit trigger_long offers.trigger
+    trigger_offered = number_offered s (codes "trigger") (codes "1") 1 trigger_limit trigger_long offers.trigger
 
     -- the use of `--unit` with the name of a unit
     pub unit_use : HasKnownNames names → (value : Text) → is_unit value ≡ true → OptionUse s.rules (codes "unit") value
@@ -204,10 +204,10 @@ module _ (s : Shape) (names : OptionNames) where
           unit_use are value (ap (λ o. is_some o) known)
 
       pub asked_capacity_use : (value : Text) → option_value (codes "capacity") options ≡ Some value → OptionUse s.rules (codes "capacity") value
-      asked_capacity_use = asked_number_use s (codes "capacity") (codes "8") capacity_limit capacity_long offers.capacity default_capacity (omega arith) options unit.capacity asks.capacity
+      asked_capacity_use = asked_number_use s (codes "capacity") (codes "8") 1 capacity_limit capacity_long offers.capacity default_capacity (omega arith) options unit.capacity asks.capacity
 
       pub asked_trigger_use : (value : Text) → option_value (codes "trigger") options ≡ Some value → OptionUse s.rules (codes "trigger") value
-      asked_trigger_use = asked_number_use s (codes "trigger") (codes "1") trigger_limit trigger_long offers.trigger default_trigger (omega arith) options unit.trigger asks.trigger
+      asked_trigger_use = asked_number_use s (codes "trigger") (codes "1") 1 trigger_limit trigger_long offers.trigger default_trigger (omega arith) options unit.trigger asks.trigger
 
       module _ (arguments : List Text) (flags others : List Use) (leaves : LeavesRows s arguments options flags others) where
         abbrev unit_row : IsOptionRow (option_value (codes "unit") options) (default_for (codes "unit") s.rules) (find (has_id (codes "unit")) leaves.rows)
@@ -236,21 +236,21 @@ module _ (s : Shape) (names : OptionNames) where
         pub unit_is : unit_in leaves.rows ≡ unit
         unfolding clap_on_literals
         unit_is = unit_options_are _ _ kind_is
-            (number_is s (codes "capacity") (codes "8") capacity_limit capacity_long offers.capacity default_capacity (omega arith) options unit.capacity asks.capacity leaves.rows
+            (number_is s (codes "capacity") (codes "8") 1 capacity_limit capacity_long offers.capacity default_capacity (omega arith) options unit.capacity asks.capacity leaves.rows
             (leaves.option (codes "capacity") (filled capacity_rule) offers.capacity.by_id refl) refl)
-            (number_is s (codes "trigger") (codes "1") trigger_limit trigger_long offers.trigger default_trigger (omega arith) options unit.trigger asks.trigger leaves.rows
+            (number_is s (codes "trigger") (codes "1") 1 trigger_limit trigger_long offers.trigger default_trigger (omega arith) options unit.trigger asks.trigger leaves.rows
             (leaves.option (codes "trigger") (filled trigger_rule) offers.trigger.by_id refl) refl)
 
   -- ---- the number of workers
 
   module _ (offers : OffersWorkers s names) where
     pub workers_offered : IsOption s.rules (filled workers_rule) (codes "workers")
-    workers_offered = number_offered s (codes "workers") (codes "1") worker_limit workers_long offers.workers
+    workers_offered = number_offered s (codes "workers") (codes "1") 1 worker_limit workers_long offers.workers
 
     module _ (options : List (Text × Text)) (unit : UnitOptions) (workers : ℕ) (asks_unit : AsksUnit options unit)
         (asks_workers : AsksNumber 1 1 worker_limit (option_value (codes "workers") options) workers) where
       asked_workers_use : (value : Text) → option_value (codes "workers") options ≡ Some value → OptionUse s.rules (codes "workers") value
-      asked_workers_use = asked_number_use s (codes "workers") (codes "1") worker_limit workers_long offers.workers 1 (omega arith) options workers asks_workers
+      asked_workers_use = asked_number_use s (codes "workers") (codes "1") 1 worker_limit workers_long offers.workers 1 (omega arith) options workers asks_workers
 
       -- the uses of the options, where they are there
       pub asked_judged_use : HasKnownNames names → (name value : Text) → IsOneOf run_names name → option_value name options ≡ Some value
@@ -272,7 +272,7 @@ module _ (s : Shape) (names : OptionNames) where
       pub workers_are : (arguments : List Text) (flags others : List Use) (leaves : LeavesRows s arguments options flags others) → workers_in leaves.rows ≡ workers
       unfolding clap_on_literals
       workers_are arguments flags others leaves =
-          number_is s (codes "workers") (codes "1") worker_limit workers_long offers.workers 1 (omega arith) options workers asks_workers leaves.rows
+          number_is s (codes "workers") (codes "1") 1 worker_limit workers_long offers.workers 1 (omega arith) options workers asks_workers leaves.rows
           (leaves.option (codes "workers") (filled workers_rule) offers.workers.by_id refl) refl
 
   -- ---- the options of a run

@@ -7,16 +7,17 @@ use Rattle.std.specs.Str.{bytes_eq}
 use Rattle.clap.specs.Facts.{explicit_source}
 use Rattle.clap.specs.Faults.{walk_fault}
 use Rattle.clap.specs.Kinds.{or_else}
+use Rattle.clap.specs.Simple.{filled}
 use Rattle.clap.specs.Words.{fault_of}
 use Rattle.clap.specs.declared.error.kind.ErrorKind.{ErrorKind}
 use Rattle.clap.specs.declared.error.kind.ErrorKind.TheVariants.{InvalidValue, MissingRequiredArgument, UnknownArgument, ValueValidation}
 use Rattle.clap.proofs.OnLiterals.{clap_on_literals}
-use Rattle.command_line.specs.Commands.{HasKnownNames, tsobench_app}
+use Rattle.command_line.specs.Commands.{HasKnownNames, drain_turns_rule, tsobench_app}
 use Rattle.command_line.specs.declared.options.OptionNames.{OptionNames}
 use Rattle.command_line.specs.Options.{AreGiven, AreNamed, IsOneOf, NamesOption, option_value}
 use Rattle.command_line.specs.Refusals.{IsOutside, TakesNumber}
-use Rattle.command_line.specs.Requests.{Text, number_limit, prints_trace}
-use Rattle.command_line.specs.Spellings.{AsksRequired, AsksRun, run_names, seeded_names}
+use Rattle.command_line.specs.Requests.{Text, drain_turns_limit, number_limit, prints_trace}
+use Rattle.command_line.specs.Spellings.{AsksRequired, AsksRun, AsksTurns, drained_names, seeded_names}
 use Rattle.command_line.specs.Units.{is_unit}
 use Rattle.command_line.specs.declared.options.RunOptions.{RunOptions}
 use Rattle.command_line.proofs.OptionLemmas.{Placed, Use, no_other, standing}
@@ -25,20 +26,21 @@ use Rattle.command_line.proofs.RowLemmas.{has_id}
 use Rattle.command_line.proofs.RequiredLemmas.{required_built, required_given, required_missing, required_offered, seed_long}
 use Rattle.command_line.proofs.RunLemmas.{FlagUses, flag_uses, unit_given}
 use Rattle.command_line.proofs.RunRefusals as refusals
-use Rattle.command_line.proofs.RunningLemmas.{defaults, file_is, file_placed, file_uses, no_program_given, no_seed_given, offers_run, offers_seed, program_built, program_taken, run, run_uses, seeded_uses}
+use Rattle.command_line.proofs.RunningLemmas.{defaults, drained_uses, file_is, file_placed, file_uses, no_program_given, no_seed_given, offers_run, offers_seed, program_built, program_taken, run, seeded_uses, turns_offered}
 use Rattle.command_line.proofs.SubcommandLemmas.{run_fault}
 use Rattle.command_line.proofs.UseLemmas.{AreUses, LeavesRows, each_of, leaves_rows}
 use Rattle.command_line.proofs.ValueLemmas.{IsValue, decimal_fails}
 
-no_seed_name : (name : Text) → IsOneOf run_names name → bytes_eq name (codes "seed") ≡ false
+no_seed_name : (name : Text) → IsOneOf drained_names name → bytes_eq name (codes "seed") ≡ false
 no_seed_name name (inl is) = rw is refl
 no_seed_name name (inr (inl is)) = rw is refl
 no_seed_name name (inr (inr (inl is))) = rw is refl
 no_seed_name name (inr (inr (inr (inl is)))) = rw is refl
-no_seed_name name (inr (inr (inr (inr is)))) = absurd is
+no_seed_name name (inr (inr (inr (inr (inl is))))) = rw is refl
+no_seed_name name (inr (inr (inr (inr (inr is))))) = absurd is
 
--- the options of a run alone have no seed
-pub no_seed_value : (options : List (Text × Text)) → AllByRecursion (λ option. IsOneOf run_names option.0) options → option_value (codes "seed") options ≡ None
+-- the options without a seed
+pub no_seed_value : (options : List (Text × Text)) → AllByRecursion (λ option. IsOneOf drained_names option.0) options → option_value (codes "seed") options ≡ None
 no_seed_value [] known = refl
 no_seed_value (o ∷ options) known = rw (no_seed_name o.0 known.0) (no_seed_value options known.1)
 
@@ -79,6 +81,14 @@ module _ (names : OptionNames) (are : HasKnownNames names) where
           (refusals.after_unit (run names) names are (offers_run names).judged refl (program_built names) (program_taken names) refl name unit option known
           (required_built (codes "seed")) (codes "seed") (decimal n) program these rest (required_offered (run names) (codes "seed") seed_long (offers_seed names)) gives refl (rw fails refl) refl refl is)
 
+      pub turns_refused : (program : Text) (n : ℕ) (these rest : List Text) → NamesOption (codes "drain-turns") (decimal n) these → drain_turns_limit < n → n < 10 ^ 64 → IsValue program
+          → fault_of (tsobench_app names) (codes "run" ∷ (unit ++ (these ++ program ∷ rest))) ≡ ValueValidation ∷ []
+      turns_refused program n these rest gives above small is =
+          let fails = decimal_fails 0 drain_turns_limit n (λ least most. omega (arith, above, most)) small in
+          refused_at names ValueValidation _
+          (refusals.after_unit (run names) names are (offers_run names).judged refl (program_built names) (program_taken names) refl name unit option known
+          (filled drain_turns_rule) (codes "drain-turns") (decimal n) program these rest (turns_offered names) gives refl (rw fails refl) refl refl is)
+
       pub another_file_refused : (program other : Text) (rest : List Text) → IsValue program → IsValue other
           → fault_of (tsobench_app names) (codes "run" ∷ (unit ++ program ∷ other ∷ rest)) ≡ UnknownArgument ∷ []
       another_file_refused program other rest is is_other =
@@ -104,8 +114,8 @@ module _ (names : OptionNames) (are : HasKnownNames names) where
   one_or_none (program ∷ []) few = record { uses = file_uses names program; placed = file_placed names program; are_uses = file_is names program }
   one_or_none (program ∷ other ∷ rest) few = absurd (omega (arith, few))
 
-  module _ (asked : RunOptions) (options : List (Text × Text)) (flags files arguments : List Text) (given : AreGiven options flags files arguments)
-      (named : AreNamed run_names options) (asks : AsksRun options flags asked) (few : length files < 2) where
+  module _ (asked : RunOptions) (turns : ℕ) (options : List (Text × Text)) (flags files arguments : List Text) (given : AreGiven options flags files arguments)
+      (named : AreNamed drained_names options) (asks : AsksRun options flags asked) (asks_turns : AsksTurns options turns) (few : length files < 2) where
     used_files : FileUses files
     used_files = one_or_none files few
 
@@ -114,25 +124,25 @@ module _ (names : OptionNames) (are : HasKnownNames names) where
 
     leaves : LeavesRows (run names) arguments options used_flags.uses used_files.uses
     leaves = leaves_rows (run names) refl (defaults names) options flags files arguments used_flags.uses used_files.uses
-        (run_uses names are options flags asked asks named) used_flags.are_uses used_files.are_uses given used_flags.flagged used_files.placed
+        (drained_uses names are options flags asked turns asks asks_turns named) used_flags.are_uses used_files.are_uses given used_flags.flagged used_files.placed
 
     pub no_seed_refused : fault_of (tsobench_app names) (codes "run" ∷ arguments) ≡ MissingRequiredArgument ∷ []
     no_seed_refused = run_fault names arguments ∙ ap (λ kinds. or_else kinds []) (leaves.fault
         ∙ no_seed_given names leaves.rows
         (unit_given (run names) names (offers_run names).judged.unit options asked.unit asks.unit arguments used_flags.uses used_files.uses leaves)
         (required_missing (run names) (codes "seed") seed_long (offers_seed names) options arguments used_flags.uses used_files.uses leaves
-        (no_seed_value options (each_of (λ o. IsOneOf run_names o.0) options named.known))))
+        (no_seed_value options (each_of (λ o. IsOneOf drained_names o.0) options named.known))))
 
   -- ---- no file
 
-  module _ (asked : RunOptions) (seed : ℕ) (options : List (Text × Text)) (flags arguments : List Text) (given : AreGiven options flags [] arguments)
-      (named : AreNamed seeded_names options) (asks : AsksRun options flags asked) (seeds : AsksRequired (codes "seed") options seed) where
+  module _ (asked : RunOptions) (seed turns : ℕ) (options : List (Text × Text)) (flags arguments : List Text) (given : AreGiven options flags [] arguments)
+      (named : AreNamed seeded_names options) (asks : AsksRun options flags asked) (seeds : AsksRequired (codes "seed") options seed) (asks_turns : AsksTurns options turns) where
     seeded_flags : FlagUses (run names) names (offers_run names) flags (prints_trace asked.printing)
     seeded_flags = flag_uses (run names) names (offers_run names) flags (prints_trace asked.printing) asks.trace
 
     seeded_leaves : LeavesRows (run names) arguments options seeded_flags.uses []
     seeded_leaves = leaves_rows (run names) refl (defaults names) options flags [] arguments seeded_flags.uses []
-        (seeded_uses names are options flags asked asks seed seeds named) seeded_flags.are_uses no_files given seeded_flags.flagged (no_other 1)
+        (seeded_uses names are options flags asked turns asks asks_turns seed seeds named) seeded_flags.are_uses no_files given seeded_flags.flagged (no_other 1)
 
     no_program_row : find (has_id (codes "program")) seeded_leaves.rows ≡ None
     no_program_row = seeded_leaves.other (codes "program") (program_built names) refl refl

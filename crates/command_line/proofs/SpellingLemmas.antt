@@ -177,11 +177,11 @@ module _ (option_names : OptionNames) where
   run_refused : HasKnownNames option_names → (rest : List Text) (asked : Asked) → RefusesToRun rest → IsFound (codes "run" ∷ rest) asked → asked ≡ refusing
   run_refused are rest asked refuses.nothing is = by_kind _ asked _ _ (not_run.nothing_refused option_names) is
   run_refused are rest asked (refuses.no_unit program_file is_program) is = by_kind _ asked _ _ (not_run.no_unit_refused option_names program_file (value_is program_file is_program)) is
-  run_refused are rest asked (refuses.no_file run_options seed options flags arguments gives named asks_run asks_seed) is =
-      by_kind _ asked _ _ (not_run.no_file_refused option_names are run_options seed options flags arguments gives named asks_run asks_seed)
+  run_refused are rest asked (refuses.no_file run_options seed turns options flags arguments gives named asks_run asks_seed asks_turns) is =
+      by_kind _ asked _ _ (not_run.no_file_refused option_names are run_options seed turns options flags arguments gives named asks_run asks_seed asks_turns)
       (unchanged (codes "run" ∷ arguments) asked (subcommand.run_parsed arguments) is)
-  run_refused are rest asked (refuses.no_seed run_options options flags files arguments gives named asks_run few) is =
-      by_kind _ asked _ _ (not_run.no_seed_refused option_names are run_options options flags files arguments gives named asks_run few)
+  run_refused are rest asked (refuses.no_seed run_options turns options flags files arguments gives named asks_run asks_turns few) is =
+      by_kind _ asked _ _ (not_run.no_seed_refused option_names are run_options turns options flags files arguments gives named asks_run asks_turns few)
       (unchanged (codes "run" ∷ arguments) asked (subcommand.run_parsed arguments) is)
   run_refused are rest asked (refuses.another_file name program_file other option more names known is_program is_other) is =
       by_kind _ asked _ _ (not_run.another_file_refused option_names are name option names known program_file other more (value_is program_file is_program) (value_is other is_other))
@@ -194,6 +194,9 @@ module _ (option_names : OptionNames) where
       (unchanged _ asked (subcommand.run_parsed (option ++ (these ++ program_file ∷ more))) is)
   run_refused are rest asked (refuses.seed_outside name program_file n option these more names known gives above small is_program) is =
       by_kind _ asked _ _ (not_run.seed_refused option_names are name option names known program_file n these more gives above small (value_is program_file is_program))
+      (unchanged _ asked (subcommand.run_parsed (option ++ (these ++ program_file ∷ more))) is)
+  run_refused are rest asked (refuses.turns_outside name program_file n option these more names known gives above small is_program) is =
+      by_kind _ asked _ _ (not_run.turns_refused option_names are name option names known program_file n these more gives above small (value_is program_file is_program))
       (unchanged _ asked (subcommand.run_parsed (option ++ (these ++ program_file ∷ more))) is)
 
   make_refused : HasKnownNames option_names → (rest : List Text) (asked : Asked) → RefusesToMake rest → IsFound (codes "make" ∷ rest) asked → asked ≡ refusing

@@ -18,24 +18,24 @@ use Rattle.command_line.specs.declared.options.RunOptions.{RunOptions}
 use Rattle.command_line.specs.declared.options.ShapeNumbers.{ShapeNumbers}
 use Rattle.command_line.specs.declared.options.UnitKind.{UnitKind}
 use Rattle.command_line.specs.declared.options.UnitOptions.{UnitOptions}
-use Rattle.command_line.specs.Requests.{Text, Asked, AskedRun, campaigning, capacity_limit, making, number_limit, judging, checking, prints_trace, replaying, running, showing, refusing}
+use Rattle.command_line.specs.Requests.{Text, Asked, AskedRun, campaigning, capacity_limit, drain_turns_limit, making, number_limit, judging, checking, prints_trace, replaying, running, showing, refusing}
 use Rattle.command_line.specs.Models.{default_model, model_names, model_order}
 use Rattle.command_line.specs.Units.{default_capacity, default_trigger, trigger_limit, unit_kind, unit_names}
 
 -- ---- the command line
 
--- an option with this name, which takes a number from 1 to a limit and has a default
-abbrev pub number_rule : Text → Text → ℕ → Rule
-number_rule name default limit = record (new_rule name) {
+-- an option with this name, which takes a number of a range and has a default
+abbrev pub number_rule : Text → Text → ℕ → ℕ → Rule
+number_rule name default least limit = record (new_rule name) {
   long = Some name;
   value_names = 1;
   defaults = default ∷ [];
-  parser = Some (parser.Unsigned 1 limit);
+  parser = Some (parser.Unsigned least limit);
 }
 
 -- `--workers N`: a number from 1 to the limit of workers, and 1 where it is left out
 abbrev pub workers_rule : Rule
-workers_rule = number_rule (codes "workers") (codes "1") worker_limit
+workers_rule = number_rule (codes "workers") (codes "1") 1 worker_limit
 
 abbrev pub file_rule : Rule
 file_rule = record (new_rule (codes "file")) { value_names = 1 }
@@ -72,11 +72,11 @@ unit_rule names = record (new_rule (codes "unit")) {
 
 -- `--capacity C`: a number from 1 to the limit of capacities, and 8 where it is left out
 abbrev pub capacity_rule : Rule
-capacity_rule = number_rule (codes "capacity") (codes "8") capacity_limit
+capacity_rule = number_rule (codes "capacity") (codes "8") 1 capacity_limit
 
 -- `--trigger T`: a number of 64 bits from 1, and 1 where it is left out
 abbrev pub trigger_rule : Rule
-trigger_rule = number_rule (codes "trigger") (codes "1") trigger_limit
+trigger_rule = number_rule (codes "trigger") (codes "1") 1 trigger_limit
 
 -- `--trace`, a flag
 abbrev pub prints_rule : Rule
@@ -122,9 +122,14 @@ required_rule name = record (new_rule name) {
   parser = Some (parser.Unsigned 0 number_limit);
 }
 
+-- `--drain-turns T`: a number from 0 to the limit of turns, and 0 where it is left out
+abbrev pub drain_turns_rule : Rule
+drain_turns_rule = number_rule (codes "drain-turns") (codes "0") 0 drain_turns_limit
+
 abbrev pub run_app : OptionNames → App
 run_app names =
-    with_rules (new_app (codes "run")) (run_rules names ++ required_rule (codes "seed") ∷ program_file_rule ∷ [])
+    with_rules (new_app (codes "run"))
+    (run_rules names ++ required_rule (codes "seed") ∷ drain_turns_rule ∷ program_file_rule ∷ [])
 
 -- the options of a shape
 abbrev pub shape_rules : List Rule
@@ -220,6 +225,7 @@ replaying_with options rows =
 pub record AskToRun (rows : List Row) (run : AskedRun) : Type 0 where
   pub options : AskRun rows run.options
   pub seed : AskRequired (codes "seed") rows run.drain_seed
+  pub turns : AskNumber (codes "drain-turns") 0 0 drain_turns_limit rows run.drain_turns
   pub program : run.program ≡ unwrap_or (first_of (codes "program") rows) []
 
 -- the subcommand of this name, with these rows, asks for that

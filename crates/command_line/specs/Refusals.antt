@@ -5,9 +5,9 @@ use Rattle.std.specs.List.{All}
 use Rattle.std.specs.Str.{bytes_eq}
 use Rattle.command_line.specs.Workers.{worker_limit}
 use Rattle.command_line.specs.declared.options.RunOptions.{RunOptions}
-use Rattle.command_line.specs.Requests.{Text, capacity_limit, number_limit}
+use Rattle.command_line.specs.Requests.{Text, capacity_limit, drain_turns_limit, number_limit}
 use Rattle.command_line.specs.Options.{AreGiven, AreNamed, IsOneOf, NamesOption, is_value, option_value}
-use Rattle.command_line.specs.Spellings.{AsksRequired, AsksRun, campaign_names, seed_and_shape_names, seeds_and_shape_names, make_names, run_names, seeded_names}
+use Rattle.command_line.specs.Spellings.{AsksRequired, AsksRun, AsksTurns, campaign_names, drained_names, seed_and_shape_names, seeds_and_shape_names, make_names, run_names, seeded_names}
 use Rattle.command_line.specs.Models.{is_model}
 use Rattle.command_line.specs.Units.{is_unit, trigger_limit}
 
@@ -90,13 +90,13 @@ pub data RefusesToRun : List Text → Type 0 where
   -- run PROGRAM
   no_unit : (program : Text) → is_value program ≡ true → RefusesToRun (program ∷ [])
   -- the options and flags of a run, in any order, with a seed and no file
-  no_file : (run : RunOptions) (seed : ℕ) (options : List (Text × Text)) (flags arguments : List Text)
+  no_file : (run : RunOptions) (seed turns : ℕ) (options : List (Text × Text)) (flags arguments : List Text)
       → AreGiven options flags [] arguments → AreNamed seeded_names options → AsksRun options flags run
-      → AsksRequired (codes "seed") options seed → RefusesToRun arguments
+      → AsksRequired (codes "seed") options seed → AsksTurns options turns → RefusesToRun arguments
   -- the options and flags of a run, in any order, with one file or none and no seed
-  no_seed : (run : RunOptions) (options : List (Text × Text)) (flags files arguments : List Text)
-      → AreGiven options flags files arguments → AreNamed run_names options → AsksRun options flags run
-      → length files < 2 → RefusesToRun arguments
+  no_seed : (run : RunOptions) (turns : ℕ) (options : List (Text × Text)) (flags files arguments : List Text)
+      → AreGiven options flags files arguments → AreNamed drained_names options → AsksRun options flags run
+      → AsksTurns options turns → length files < 2 → RefusesToRun arguments
   -- run --unit UNIT PROGRAM FILE, with any after them
   another_file : (name program other : Text) (unit rest : List Text) → NamesOption (codes "unit") name unit
       → is_unit name ≡ true → is_value program ≡ true → is_value other ≡ true
@@ -113,6 +113,11 @@ pub data RefusesToRun : List Text → Type 0 where
   seed_outside : (name program : Text) (n : ℕ) (unit these rest : List Text)
       → NamesOption (codes "unit") name unit → is_unit name ≡ true
       → NamesOption (codes "seed") (decimal n) these → number_limit < n → n < 10 ^ 64
+      → is_value program ≡ true → RefusesToRun (unit ++ (these ++ program ∷ rest))
+  -- run --unit UNIT --drain-turns N PROGRAM, where N is above its limit, with any after them
+  turns_outside : (name program : Text) (n : ℕ) (unit these rest : List Text)
+      → NamesOption (codes "unit") name unit → is_unit name ≡ true
+      → NamesOption (codes "drain-turns") (decimal n) these → drain_turns_limit < n → n < 10 ^ 64
       → is_value program ≡ true → RefusesToRun (unit ++ (these ++ program ∷ rest))
 
 -- the text is a number of 64 bits, in digits without a leading zero

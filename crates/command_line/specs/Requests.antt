@@ -26,10 +26,12 @@ abbrev pub prints_trace : Printing → Bool
 prints_trace Report = false
 prints_trace Trace = true
 
--- a run of the program in a file with a thread per processor, with these options and this seed of the drains
+-- a run of the program in a file with a thread per processor, with these options and this seed of the drains, beside a
+-- drainer that takes so many turns
 pub record AskedRun : Type 0 where
   pub options : RunOptions
   pub drain_seed : ℕ
+  pub drain_turns : ℕ
   pub program : Text
 
 -- what is asked for
@@ -53,7 +55,7 @@ pub data Asked : Type 0 where
 
 -- the run that a request asks for
 abbrev pub asked_run : RunRequest → AskedRun
-asked_run run = record { options = run.options; drain_seed = run.drain_seed; program = run.program.now }
+asked_run run = record { options = run.options; drain_seed = run.drain_seed; drain_turns = run.drain_turns; program = run.program.now }
 
 -- what a request asks for
 abbrev pub asked_of : Request → Asked
@@ -69,6 +71,10 @@ asked_of (Refuse text) = refusing
 -- the greatest capacity of a store buffer, in entries
 abbrev pub capacity_limit : ℕ
 capacity_limit = 64
+
+-- the greatest number of turns of a drainer
+abbrev pub drain_turns_limit : ℕ
+drain_turns_limit = 1000000
 
 -- the greatest number of 64 bits
 abbrev pub number_limit : ℕ
@@ -89,6 +95,11 @@ asked_unit (running run) = Some run.options.unit
 asked_unit (campaigning options) = Some options.unit
 asked_unit _ = None
 
+-- the number of turns of a drainer that is asked for, where a run is
+abbrev pub asked_drain_turns : Asked → Option ℕ
+asked_drain_turns (running run) = Some run.drain_turns
+asked_drain_turns _ = None
+
 -- judging is done, and a campaign is run, by a number of workers within the limits
 abbrev pub HasWorkers : Asked → Type 0
 HasWorkers asked = IfSome (asked_workers asked) (λ workers. (1 ≤ workers) × (workers ≤ worker_limit))
@@ -96,3 +107,7 @@ HasWorkers asked = IfSome (asked_workers asked) (λ workers. (1 ≤ workers) × 
 -- the options of a unit are within their ranges
 abbrev pub HasUnitRanges : Asked → Type 0
 HasUnitRanges asked = IfSome (asked_unit asked) (λ unit. (1 ≤ unit.capacity) × (unit.capacity ≤ capacity_limit) × (1 ≤ unit.trigger))
+
+-- a drainer takes no more turns than it may
+abbrev pub HasDrainTurns : Asked → Type 0
+HasDrainTurns asked = IfSome (asked_drain_turns asked) (λ turns. turns ≤ drain_turns_limit)

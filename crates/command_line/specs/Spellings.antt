@@ -8,7 +8,7 @@ use Rattle.command_line.specs.declared.options.RunOptions.{RunOptions}
 use Rattle.command_line.specs.declared.options.ShapeNumbers.{ShapeNumbers}
 use Rattle.command_line.specs.declared.options.UnitOptions.{UnitOptions}
 use Rattle.command_line.specs.Options.{AreGiven, AreNamed, AsksFlag, AsksNumber, option_value}
-use Rattle.command_line.specs.Requests.{Text, Asked, AskedRun, campaigning, capacity_limit, making, number_limit, judging, checking, prints_trace, replaying, running}
+use Rattle.command_line.specs.Requests.{Text, Asked, AskedRun, campaigning, capacity_limit, drain_turns_limit, making, number_limit, judging, checking, prints_trace, replaying, running}
 use Rattle.command_line.specs.Models.{default_model, model_order}
 use Rattle.command_line.specs.Units.{default_capacity, default_trigger, trigger_limit, unit_kind}
 
@@ -58,12 +58,20 @@ pub record AsksToReplay (arguments : List Text) (run : RunOptions) (program sche
 abbrev pub AsksRequired : Text → List (Text × Text) → ℕ → Type 0
 AsksRequired name options n = (option_value name options ≡ Some (decimal n)) × (n ≤ number_limit)
 
+-- the options ask for so many turns of a drainer, for none where no number is named
+abbrev pub AsksTurns : List (Text × Text) → ℕ → Type 0
+AsksTurns options turns = AsksNumber 0 0 drain_turns_limit (option_value (codes "drain-turns") options) turns
+
+-- the names of the options of `run`, but for that of the seed
+abbrev pub drained_names : List Text
+drained_names = codes "drain-turns" ∷ run_names
+
 -- the names of the options of `run`
 abbrev pub seeded_names : List Text
-seeded_names = codes "seed" ∷ run_names
+seeded_names = codes "seed" ∷ drained_names
 
--- the arguments after `run`, as `--unit UNIT [--capacity C] [--trigger T] [--workers N] [--trace] --seed N PROGRAM` with
--- the options in any order, ask for this run of a program
+-- the arguments after `run`, as `--unit UNIT [--capacity C] [--trigger T] [--workers N] [--trace] --seed N
+-- [--drain-turns T] PROGRAM` with the options in any order, ask for this run of a program
 pub record AsksToRun (arguments : List Text) (run : AskedRun) : Type 0 where
   pub options : List (Text × Text)
   pub flags : List Text
@@ -71,6 +79,7 @@ pub record AsksToRun (arguments : List Text) (run : AskedRun) : Type 0 where
   pub named : AreNamed seeded_names options
   pub asks : AsksRun options flags run.options
   pub seeds : AsksRequired (codes "seed") options run.drain_seed
+  pub turns : AsksTurns options run.drain_turns
 
 -- the options ask for a shape of these numbers
 pub record AsksShape (options : List (Text × Text)) (shape : ShapeNumbers) : Type 0 where

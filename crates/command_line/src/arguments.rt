@@ -3,10 +3,10 @@
 ghost use Rattle.std.specs.Prelude.{◌≡◌, false, IfOk};
 ghost use Rattle.clap.specs.Words.{app_of, rule_of};
 ghost use Rattle.clap.specs.declared.builder.command.Command.TheViews.{out-Command as fields_of};
-ghost use Rattle.command_line.specs.Commands.{capacity_rule, model_rule, prints_rule, required_rule, run_rules, shape_rules, trigger_rule, unit_rule, unit_rules, with_rules, workers_rule};
+ghost use Rattle.command_line.specs.Commands.{capacity_rule, drain_turns_rule, model_rule, prints_rule, required_rule, run_rules, shape_rules, trigger_rule, unit_rule, unit_rules, with_rules, workers_rule};
 
 use crate::help;
-use crate::options::{MAX_CAPACITY, MAX_WORKERS, OptionNames};
+use crate::options::{MAX_CAPACITY, MAX_DRAIN_TURNS, MAX_WORKERS, OptionNames};
 use clap::builder::ValueParser;
 use clap::{Arg, ArgAction, Command, value_parser};
 use std::alloc::{AllocError, Global};
@@ -19,6 +19,9 @@ const DEFAULT_CAPACITY: &str = "8";
 
 /// The trigger of a unit where none is named.
 const DEFAULT_TRIGGER: &str = "1";
+
+/// The turns of a drainer where none are named.
+const DEFAULT_DRAIN_TURNS: &str = "0";
 
 /// The memory model where none is named.
 const DEFAULT_MODEL: &str = "tso";
@@ -158,4 +161,17 @@ fn trace_option<'a>(alloc: Global) -> Arg<'a>
         .long("trace")
         .action(ArgAction::SetTrue)
         .help(help::TRACE)
+}
+
+/// The option `--drain-turns`.
+pub(crate) fn drain_turns_option<'a>(alloc: Global) -> Arg<'a>
+    ensures rule { rule_of result ≡ drain_turns_rule }
+    ensures local { result.global ≡ false }
+{
+    Arg::new(alloc, "drain-turns")
+        .long("drain-turns")
+        .value_name("T")
+        .value_parser(value_parser!(u64).range(0..=MAX_DRAIN_TURNS as i64))
+        .default_value(DEFAULT_DRAIN_TURNS)
+        .help(help::DRAIN_TURNS)
 }

@@ -5,8 +5,8 @@ ghost use Rattle.clap.specs.declared.builder.command.Command.TheViews.{out-Comma
 ghost use Rattle.command_line.specs.Commands.{campaign_app, check_app, judge_app, make_app, program_app, replay_app, run_app, tsobench_app};
 
 use crate::arguments::{
-    model_option, required_option, with_run_options, with_shape_options, with_unit_options,
-    workers_option,
+    drain_turns_option, model_option, required_option, with_run_options, with_shape_options,
+    with_unit_options, workers_option,
 };
 use crate::help;
 use crate::options::OptionNames;
@@ -117,6 +117,7 @@ fn run_command<'a>(alloc: Global, names: OptionNames<'a>) -> Result<Command<'a>,
         .after_help(help::RUN);
     with_run_options(alloc, command, names)?
         .arg(required_option(alloc, "seed", "N", help::DRAIN_SEED))?
+        .arg(drain_turns_option(alloc))?
         .arg(program)
 }
 

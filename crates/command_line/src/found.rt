@@ -1,14 +1,14 @@
 //! From the matches of the arguments to what they ask for.
 ghost use Rattle.std.specs.Prelude.{◌≡◌, ◌≤◌};
 ghost use Rattle.clap.specs.Words.{found_of, rows_of, subcommand_rows_of};
-ghost use Rattle.command_line.specs.Requests.{HasUnitRanges, HasWorkers, asked_of};
+ghost use Rattle.command_line.specs.Requests.{HasDrainTurns, HasUnitRanges, HasWorkers, asked_of};
 ghost use Rattle.command_line.specs.Workers.{worker_limit};
 ghost use Rattle.command_line.specs.Commands.{checking_by};
-ghost use Rattle.command_line.specs.Internal.Computed.{asked_by, campaigning_by, capacity_in, judging_by, making_by, order_in, printing_in, replaying_by, required_in, run_in, running_by, shape_in, trigger_in, unit_in, workers_in};
+ghost use Rattle.command_line.specs.Internal.Computed.{asked_by, campaigning_by, capacity_in, drain_turns_in, judging_by, making_by, order_in, printing_in, replaying_by, required_in, run_in, running_by, shape_in, trigger_in, unit_in, workers_in};
 
 use crate::options::{
-    CampaignOptions, MAX_CAPACITY, MAX_WORKERS, Printing, RunOptions, ShapeNumbers, UnitKind,
-    UnitOptions, kind_named, order_named,
+    CampaignOptions, MAX_CAPACITY, MAX_DRAIN_TURNS, MAX_WORKERS, Printing, RunOptions,
+    ShapeNumbers, UnitKind, UnitOptions, kind_named, order_named,
 };
 use crate::requests::{Request, RunRequest};
 use clap::ArgMatches;
@@ -19,6 +19,7 @@ pub(crate) fn request<'a>(matches: &ArgMatches<'a>) -> Request<'a>
     ensures asked { asked_of result ≡ asked_by (subcommand_rows_of matches.now) }
     ensures workers { HasWorkers (asked_of result) }
     ensures unit { HasUnitRanges (asked_of result) }
+    ensures turns { HasDrainTurns (asked_of result) }
 {
     if let Some(found) = matches.subcommand_matches("judge") {
         return judge_request(found);
@@ -84,6 +85,7 @@ fn run_request<'a>(matches: &ArgMatches<'a>) -> Request<'a>
     Request::Run(RunRequest {
         options: run_options(matches),
         drain_seed: required_number(matches, "seed"),
+        drain_turns: drain_turns(matches),
         program,
     })
 }
@@ -198,4 +200,12 @@ fn trigger(matches: &ArgMatches<'_>) -> u64
 {
     let named: Option<u64> = matches.get_one("trigger");
     named.unwrap_or(1).max(1)
+}
+
+/// The turns of a drainer, 0 where none are named, clamped as the workers are.
+fn drain_turns(matches: &ArgMatches<'_>) -> u64
+    ensures { result ≡ drain_turns_in (rows_of (found_of matches.now)) }
+{
+    let named: Option<u64> = matches.get_one("drain-turns");
+    named.unwrap_or(0).min(MAX_DRAIN_TURNS)
 }

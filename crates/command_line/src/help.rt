@@ -1,6 +1,6 @@
 //! The texts of `--help` after the list of arguments.
 
-use crate::options::{MAX_CAPACITY, MAX_WORKERS};
+use crate::options::{MAX_CAPACITY, MAX_DRAIN_TURNS, MAX_WORKERS};
 
 /// What the program is for.
 pub(crate) const ABOUT: &str =
@@ -54,6 +54,12 @@ pub(crate) const TRIGGER: &str = "From which occasion on a faulty unit deviates,
 
 /// Of `--seed` in `run`.
 pub(crate) const DRAIN_SEED: &str = "The seed of the drains, 0 to 18446744073709551615";
+
+/// Of `--drain-turns`; it tells the limit of turns.
+pub(crate) const DRAIN_TURNS: &str =
+    "How many turns a drainer takes beside the processors, 0 to 1000000";
+
+const _: () = prove!(MAX_DRAIN_TURNS == 1_000_000);
 
 /// Of `--seed` in `make`.
 pub(crate) const SEED: &str = "The seed of the program, 0 to 18446744073709551615";
@@ -145,9 +151,11 @@ It reads the text of a program, and runs the program on the memory unit: each
 processor has a thread of its own, which issues its operations in program order,
 and the unit serves one call at a time. After each operation the thread drains
 a store of its processor up to twice: numbers drawn from the seed say how
-often. The trace of what the unit answered is recorded and judged. It prints the
-report of `tsobench judge`, and then a line
-`account loads .. stores .. swaps .. membars .. drains .. closed` with the
+often. With --drain-turns T there is a drainer, a thread more beside these: it
+takes T turns, and on turn t, from 0, it drains a store of processor t modulo
+the number of processors, where one waits. The trace of what the unit answered
+is recorded and judged. It prints the report of `tsobench judge`, and then a
+line `account loads .. stores .. swaps .. membars .. drains .. closed` with the
 numbers of the unit's steps; with --trace it prints the recorded trace alone. A
 text that is no program gets one line that says why.
 

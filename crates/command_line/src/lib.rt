@@ -11,7 +11,7 @@ mod options;
 mod requests;
 
 pub use options::{
-    CampaignOptions, MAX_CAPACITY, MAX_WORKERS, Printing, RunOptions, ShapeNumbers, UnitKind,
-    UnitOptions,
+    CampaignOptions, MAX_CAPACITY, MAX_DRAIN_TURNS, MAX_WORKERS, Printing, RunOptions,
+    ShapeNumbers, UnitKind, UnitOptions,
 };
 pub use requests::{Request, RunRequest, read_arguments};

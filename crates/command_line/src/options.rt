@@ -13,6 +13,9 @@ pub const MAX_WORKERS: usize = 64;
 /// The greatest capacity of a unit's store buffers, in entries.
 pub const MAX_CAPACITY: usize = 64;
 
+/// The greatest number of turns that a drainer takes beside the issuers of a run.
+pub const MAX_DRAIN_TURNS: u64 = 1_000_000;
+
 /// A kind of memory unit.
 #[derive(Clone, Copy, Debug, PartialEq, Eq)]
 pub enum UnitKind {

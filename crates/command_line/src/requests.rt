@@ -2,7 +2,7 @@
 ghost use Rattle.std.specs.Prelude.{◌≡◌, IfOk, IsErr, map, option_map, unwrap_or};
 ghost use Rattle.clap.specs.Words.{FailsBy, app_of, fault_of, kind_of, subcommand_of, subcommand_rows_of};
 ghost use Rattle.clap.specs.declared.error.kind.ErrorKind.TheVariants.{OutOfMemory};
-ghost use Rattle.command_line.specs.Requests.{Asked, HasUnitRanges, HasWorkers, asked_of, refusing, showing, texts_in};
+ghost use Rattle.command_line.specs.Requests.{Asked, HasDrainTurns, HasUnitRanges, HasWorkers, asked_of, refusing, showing, texts_in};
 ghost use Rattle.command_line.specs.Spellings.{Asks, AsksHelp};
 ghost use Rattle.command_line.specs.Refusals.{Refuses};
 ghost use Rattle.command_line.specs.Commands.{IsAskedFor, asked_at, tsobench_app};
@@ -23,6 +23,8 @@ pub struct RunRequest<'a> {
     pub options: RunOptions,
     /// The seed that the drains follow.
     pub drain_seed: u64,
+    /// How many turns a drainer takes beside the processors, 0, where there is none, to 1,000,000.
+    pub drain_turns: u64,
     /// The file of the program.
     pub program: &'a str,
 }
@@ -77,6 +79,7 @@ pub fn read_arguments<'a>(alloc: Global, arguments: &'a [String]) -> Result<Requ
         → IfOk result (λ request. asked_of request ≡ refusing) }
     ensures workers { IfOk result (λ request. HasWorkers (asked_of request)) }
     ensures unit { IfOk result (λ request. HasUnitRanges (asked_of request)) }
+    ensures turns { IfOk result (λ request. HasDrainTurns (asked_of request)) }
 {
     match matches(alloc, option_names(), arguments) {
         Ok(matches) => Ok(request(&matches)),

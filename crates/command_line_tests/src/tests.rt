@@ -61,7 +61,8 @@ fn described(alloc: Global, request: &Request<'_>) -> Result<String, AllocError>
         }
         Request::Run(run) => {
             let options = described_options(alloc, &run.options)?;
-            format!(in alloc; "run {:?} seeded {} {options}", run.program, run.drain_seed)
+            let seeded = format!(in alloc; "{} and {} turns", run.drain_seed, run.drain_turns)?;
+            format!(in alloc; "run {:?} seeded {seeded} {options}", run.program)
         }
         Request::Make { order, seed, shape } => {
             let shape = described_shape(alloc, shape)?;

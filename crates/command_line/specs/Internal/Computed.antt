@@ -14,7 +14,7 @@ use Rattle.command_line.specs.declared.options.RunOptions.{RunOptions}
 use Rattle.command_line.specs.declared.options.ShapeNumbers.{ShapeNumbers}
 use Rattle.command_line.specs.declared.options.UnitKind.TheVariants.{Serial}
 use Rattle.command_line.specs.declared.options.UnitOptions.{UnitOptions}
-use Rattle.command_line.specs.Requests.{Text, Asked, AskedRun, campaigning, capacity_limit, judging, making, running}
+use Rattle.command_line.specs.Requests.{Text, Asked, AskedRun, campaigning, capacity_limit, drain_turns_limit, judging, making, running}
 use Rattle.command_line.specs.Models.{default_model, model_order}
 use Rattle.command_line.specs.Units.{default_capacity, default_trigger, trigger_limit, unit_kind}
 use Rattle.command_line.specs.Commands.{IsAskedAtOne, checking_by, replaying_with}
@@ -65,6 +65,9 @@ capacity_in rows = within 1 capacity_limit (number_of (codes "capacity") default
 abbrev pub trigger_in : List Row → ℕ
 trigger_in rows = within 1 trigger_limit (number_of (codes "trigger") default_trigger rows)
 
+abbrev pub drain_turns_in : List Row → ℕ
+drain_turns_in rows = within 0 drain_turns_limit (number_of (codes "drain-turns") 0 rows)
+
 -- the number of the option of this name, which has no default
 abbrev pub required_in : Text → List Row → ℕ
 required_in name rows = number_of name 0 rows
@@ -95,6 +98,7 @@ abbrev pub asked_run_in : List Row → AskedRun
 asked_run_in rows = record {
   options = run_in rows;
   drain_seed = required_in (codes "seed") rows;
+  drain_turns = drain_turns_in rows;
   program = unwrap_or (first_of (codes "program") rows) [];
 }
 

@@ -122,22 +122,22 @@ fn accepted_replays(rt: HostRuntime) -> Result<(), Fail> {
 }
 
 /// Arguments of `run`, and what they ask for.
-const RUNS: [(&[&str], &str); 14] = [
+const RUNS: [(&[&str], &str); 22] = [
     (
         &["run", "--unit", "serial", "--seed", "1", "p"],
-        "run \"p\" seeded 1 on Serial 8 1 with 1 printing Report",
+        "run \"p\" seeded 1 and 0 turns on Serial 8 1 with 1 printing Report",
     ),
     (
         &["run", "--unit", "buffer", "--seed", "1", "p"],
-        "run \"p\" seeded 1 on Buffer 8 1 with 1 printing Report",
+        "run \"p\" seeded 1 and 0 turns on Buffer 8 1 with 1 printing Report",
     ),
     (
         &["run", "--unit=partial", "--seed", "1", "p"],
-        "run \"p\" seeded 1 on Partial 8 1 with 1 printing Report",
+        "run \"p\" seeded 1 and 0 turns on Partial 8 1 with 1 printing Report",
     ),
     (
         &["run", "--seed=0", "--unit=lost-drain", "p"],
-        "run \"p\" seeded 0 on Faulty(LostDrain) 8 1 with 1 printing Report",
+        "run \"p\" seeded 0 and 0 turns on Faulty(LostDrain) 8 1 with 1 printing Report",
     ),
     (
         &[
@@ -147,31 +147,31 @@ const RUNS: [(&[&str], &str); 14] = [
             "--unit=serial",
             "p",
         ],
-        "run \"p\" seeded 18446744073709551615 on Serial 8 1 with 1 printing Report",
+        "run \"p\" seeded 18446744073709551615 and 0 turns on Serial 8 1 with 1 printing Report",
     ),
     (
         &["run", "--seed", "9223372036854775808", "p", "--unit=serial"],
-        "run \"p\" seeded 9223372036854775808 on Serial 8 1 with 1 printing Report",
+        "run \"p\" seeded 9223372036854775808 and 0 turns on Serial 8 1 with 1 printing Report",
     ),
     (
         &["run", "p", "--seed", "7", "--unit", "serial"],
-        "run \"p\" seeded 7 on Serial 8 1 with 1 printing Report",
+        "run \"p\" seeded 7 and 0 turns on Serial 8 1 with 1 printing Report",
     ),
     (
         &["run", "p", "--unit=serial", "--seed=7"],
-        "run \"p\" seeded 7 on Serial 8 1 with 1 printing Report",
+        "run \"p\" seeded 7 and 0 turns on Serial 8 1 with 1 printing Report",
     ),
     (
         &["run", "--capacity=64", "--seed=7", "p", "--unit=buffer"],
-        "run \"p\" seeded 7 on Buffer 64 1 with 1 printing Report",
+        "run \"p\" seeded 7 and 0 turns on Buffer 64 1 with 1 printing Report",
     ),
     (
         &["run", "--trace", "--unit", "serial", "--seed=7", "-"],
-        "run \"-\" seeded 7 on Serial 8 1 with 1 printing Trace",
+        "run \"-\" seeded 7 and 0 turns on Serial 8 1 with 1 printing Trace",
     ),
     (
         &["run", "--unit", "serial", "a b", "--trace", "--seed=7"],
-        "run \"a b\" seeded 7 on Serial 8 1 with 1 printing Trace",
+        "run \"a b\" seeded 7 and 0 turns on Serial 8 1 with 1 printing Trace",
     ),
     (
         &[
@@ -187,15 +187,91 @@ const RUNS: [(&[&str], &str); 14] = [
             "--unit",
             "serial",
         ],
-        "run \"p\" seeded 5 on Serial 4 3 with 2 printing Trace",
+        "run \"p\" seeded 5 and 0 turns on Serial 4 3 with 2 printing Trace",
     ),
     (
         &["run", "--unit", "serial", "--seed=+007", "p"],
-        "run \"p\" seeded 7 on Serial 8 1 with 1 printing Report",
+        "run \"p\" seeded 7 and 0 turns on Serial 8 1 with 1 printing Report",
     ),
     (
         &["run", "--unit", "serial", "--seed=7", "--", "--trace"],
-        "run \"--trace\" seeded 7 on Serial 8 1 with 1 printing Report",
+        "run \"--trace\" seeded 7 and 0 turns on Serial 8 1 with 1 printing Report",
+    ),
+    (
+        &[
+            "run",
+            "--drain-turns",
+            "7",
+            "--unit=serial",
+            "--seed=1",
+            "p",
+        ],
+        "run \"p\" seeded 1 and 7 turns on Serial 8 1 with 1 printing Report",
+    ),
+    (
+        &["run", "--unit=serial", "--seed=1", "p", "--drain-turns=7"],
+        "run \"p\" seeded 1 and 7 turns on Serial 8 1 with 1 printing Report",
+    ),
+    (
+        &["run", "--unit=buffer", "--seed=7", "--drain-turns=0", "p"],
+        "run \"p\" seeded 7 and 0 turns on Buffer 8 1 with 1 printing Report",
+    ),
+    (
+        &[
+            "run",
+            "--unit=buffer",
+            "--drain-turns",
+            "1",
+            "p",
+            "--seed=0",
+        ],
+        "run \"p\" seeded 0 and 1 turns on Buffer 8 1 with 1 printing Report",
+    ),
+    (
+        &[
+            "run",
+            "p",
+            "--drain-turns",
+            "1000000",
+            "--seed=7",
+            "--unit=serial",
+        ],
+        "run \"p\" seeded 7 and 1000000 turns on Serial 8 1 with 1 printing Report",
+    ),
+    (
+        &[
+            "run",
+            "--drain-turns=1000000",
+            "p",
+            "--seed=7",
+            "--unit=serial",
+        ],
+        "run \"p\" seeded 7 and 1000000 turns on Serial 8 1 with 1 printing Report",
+    ),
+    (
+        &[
+            "run",
+            "--unit=serial",
+            "--seed=7",
+            "--drain-turns=+007",
+            "p",
+        ],
+        "run \"p\" seeded 7 and 7 turns on Serial 8 1 with 1 printing Report",
+    ),
+    (
+        &[
+            "run",
+            "--trigger=3",
+            "--trace",
+            "--drain-turns",
+            "5",
+            "--capacity=4",
+            "p",
+            "--workers=2",
+            "--seed=6",
+            "--unit=lost-drain",
+        ],
+        "run \"p\" seeded 6 and 5 turns on Faulty(LostDrain) 4 3 with 2 printing Trace",
     ),
 ];
 

@@ -188,21 +188,24 @@ Arguments:
   <PROGRAM>  The text of a program
 
 Options:
-      --unit <UNIT>   Which memory unit runs the program [possible values: serial, buffer, partial, newest-first, no-forward, stale-load, torn-swap, idle-membar, lost-drain]
-      --capacity <C>  How many stores each store buffer of the unit holds, 1 to 64 [default: 8]
-      --trigger <T>   From which occasion on a faulty unit deviates, from 1 [default: 1]
-      --workers <N>   How many workers judge, 1 to 64 [default: 1]
-      --trace         Prints the recorded trace alone
-      --seed <N>      The seed of the drains, 0 to 18446744073709551615
-  -h, --help          Print help
+      --unit <UNIT>      Which memory unit runs the program [possible values: serial, buffer, partial, newest-first, no-forward, stale-load, torn-swap, idle-membar, lost-drain]
+      --capacity <C>     How many stores each store buffer of the unit holds, 1 to 64 [default: 8]
+      --trigger <T>      From which occasion on a faulty unit deviates, from 1 [default: 1]
+      --workers <N>      How many workers judge, 1 to 64 [default: 1]
+      --trace            Prints the recorded trace alone
+      --seed <N>         The seed of the drains, 0 to 18446744073709551615
+      --drain-turns <T>  How many turns a drainer takes beside the processors, 0 to 1000000 [default: 0]
+  -h, --help             Print help
 
 It reads the text of a program, and runs the program on the memory unit: each
 processor has a thread of its own, which issues its operations in program order,
 and the unit serves one call at a time. After each operation the thread drains
 a store of its processor up to twice: numbers drawn from the seed say how
-often. The trace of what the unit answered is recorded and judged. It prints the
-report of `tsobench judge`, and then a line
-`account loads .. stores .. swaps .. membars .. drains .. closed` with the
+often. With --drain-turns T there is a drainer, a thread more beside these: it
+takes T turns, and on turn t, from 0, it drains a store of processor t modulo
+the number of processors, where one waits. The trace of what the unit answered
+is recorded and judged. It prints the report of `tsobench judge`, and then a
+line `account loads .. stores .. swaps .. membars .. drains .. closed` with the
 numbers of the unit's steps; with --trace it prints the recorded trace alone. A
 text that is no program gets one line that says why.
 

@@ -96,7 +96,7 @@ fn refused_replays(rt: HostRuntime) -> Result<(), Fail> {
 }
 
 /// Arguments of `run`, and the text of their refusal.
-const RUNS: [(&[&str], &str); 13] = [
+const RUNS: [(&[&str], &str); 18] = [
     (
         &["run"],
         "error: the following required arguments were not provided:\n  --unit <UNIT>\n  --seed <N>\n  <PROGRAM>\n\nUsage: tsobench run --unit <UNIT> --seed <N> <PROGRAM>\n\nFor more information, try '--help'.\n",
@@ -155,6 +155,45 @@ const RUNS: [(&[&str], &str); 13] = [
     (
         &["replay", "--seed", "1", "--unit", "serial", "p", "s"],
         "error: unexpected argument '--seed' found\n\n  tip: to pass '--seed' as a value, use '-- --seed'\n\nUsage: tsobench replay [OPTIONS] --unit <UNIT> <PROGRAM> <SCHEDULE>\n\nFor more information, try '--help'.\n",
+    ),
+    (
+        &["run", "--unit", "serial", "--drain-turns", "1000001", "p"],
+        "error: invalid value '1000001' for '--drain-turns <T>': 1000001 is not in 0..=1000000\n\nFor more information, try '--help'.\n",
+    ),
+    (
+        &[
+            "run",
+            "--unit=serial",
+            "--seed=1",
+            "--drain-turns=1000001",
+            "p",
+        ],
+        "error: invalid value '1000001' for '--drain-turns <T>': 1000001 is not in 0..=1000000\n\nFor more information, try '--help'.\n",
+    ),
+    (
+        &[
+            "run",
+            "--unit=serial",
+            "--seed=1",
+            "--drain-turns",
+            "x",
+            "p",
+        ],
+        "error: invalid value 'x' for '--drain-turns <T>': invalid digit found in string\n\nFor more information, try '--help'.\n",
+    ),
+    (
+        &[
+            "run",
+            "--drain-turns=1",
+            "--unit=serial",
+            "--drain-turns=1",
+            "p",
+        ],
+        "error: the argument '--drain-turns <T>' cannot be used multiple times\n\nUsage: tsobench run [OPTIONS] --unit <UNIT> --seed <N> <PROGRAM>\n\nFor more information, try '--help'.\n",
+    ),
+    (
+        &["replay", "--drain-turns", "1", "--unit", "serial", "p", "s"],
+        "error: unexpected argument '--drain-turns' found\n\n  tip: to pass '--drain-turns' as a value, use '-- --drain-turns'\n\nUsage: tsobench replay [OPTIONS] --unit <UNIT> <PROGRAM> <SCHEDULE>\n\nFor more information, try '--help'.\n",
     ),
 ];
 
