@@ -1,6 +1,6 @@
-//! The way of a run: read the program, run it with a thread per processor, judge or print, write.
+//! The way of a run: read the program, run it with a thread per processor and a drainer, judge or print, write.
 ghost use Rattle.std.specs.Prelude.{◌≡◌, ◌⊎◌, ◌≤◌, [], ◌∷◌, IfOk, IfErr, OnOk};
-ghost use Rattle.command_line.specs.Requests.{capacity_limit};
+ghost use Rattle.command_line.specs.Requests.{capacity_limit, drain_turns_limit};
 ghost use Rattle.tso_report.specs.declared.faults.Fault.{Fault};
 ghost use Rattle.tso_report.specs.Limits.{worker_limit};
 ghost use Rattle.request_serving.specs.Endings.{WritesText};
@@ -14,7 +14,7 @@ use crate::files::{NamedFiles, open};
 use crate::printing::{Printed, print_record, print_refusal};
 use crate::units::make_unit;
 use command_line::RunRequest;
-use issue_desk::{Issuers, OpenGate, run};
+use issue_desk::{Issuers, OpenGate, RunThreads, run_with_drainer};
 use std::io::{Read, Write};
 use std::sync::Wait;
 use std::thread::Threads;
@@ -34,6 +34,7 @@ pub(crate) fn run_named<H: Threads + Wait + Sync + AllocGlobal, O: NamedFiles, W
     requires most { request.now.options.workers ≤ worker_limit }
     requires capacity { (1 ≤ request.now.options.unit.capacity) × (request.now.options.unit.capacity ≤ capacity_limit) }
     requires trigger { 1 ≤ request.now.options.unit.trigger }
+    requires turns { request.now.drain_turns ≤ drain_turns_limit }
     ensures text { IfOk result (WritesText (IsRunText request.now.options (O.bytes files.old request.now.program.now)) (W.contents writer.old) (W.contents writer.new)) }
     ensures fault { IfErr result (LeavesAtFailure (IsRunText request.now.options (O.bytes files.old request.now.program.now)) (W.contents writer.old) (W.contents writer.new)) }
     ensures opened { OpensNext (O.opened files.old) (O.opened files.new) (request.now.program.now ∷ []) }
@@ -54,6 +55,7 @@ fn run_text<H: Threads + Wait + Sync + AllocGlobal, P: Read>(
     requires most { request.now.options.workers ≤ worker_limit }
     requires capacity { (1 ≤ request.now.options.unit.capacity) × (request.now.options.unit.capacity ≤ capacity_limit) }
     requires trigger { 1 ≤ request.now.options.unit.trigger }
+    requires turns { request.now.drain_turns ≤ drain_turns_limit }
     ensures text { IfOk result (λ printed. IsRunText request.now.options (P.remaining programs.old) printed.text.items printed.status) }
     ensures fault { IfErr result (OnFault (λ fault. (fault ≡ Fault.OutOfMemory) ⊎ ((fault ≡ Fault.Read) ⊎ (fault ≡ Fault.NoThread)))) }
 {
@@ -74,6 +76,7 @@ fn run_program<H: Threads + Wait + Sync + AllocGlobal>(
     requires most { request.now.options.workers ≤ worker_limit }
     requires capacity { (1 ≤ request.now.options.unit.capacity) × (request.now.options.unit.capacity ≤ capacity_limit) }
     requires trigger { 1 ≤ request.now.options.unit.trigger }
+    requires turns { request.now.drain_turns ≤ drain_turns_limit }
     ensures text { IfOk result (λ printed. IsRunPrinted request.now.options program.now printed.text.items printed.status) }
     ensures fault { IfErr result (OnFault (λ fault. (fault ≡ Fault.OutOfMemory) ⊎ (fault ≡ Fault.NoThread))) }
 {
@@ -82,7 +85,8 @@ fn run_program<H: Threads + Wait + Sync + AllocGlobal>(
     run_on(rt, Box::new(alloc, unit)?, request, program)
 }
 
-/// What is printed of a run on this unit, which is as the request asks for.
+/// What is printed of a run on this unit, which is as the request asks for, beside a drainer that takes the request's
+/// turns.
 fn run_on<H: Threads + Wait + Sync + AllocGlobal>(
     rt: &H,
     unit: Box<dyn MemoryUnit + Send>,
@@ -92,6 +96,7 @@ fn run_on<H: Threads + Wait + Sync + AllocGlobal>(
     requires unit { value_of unit ≡ unit_of request.now.options.unit }
     requires some { 1 ≤ request.now.options.workers }
     requires most { request.now.options.workers ≤ worker_limit }
+    requires turns { request.now.drain_turns ≤ drain_turns_limit }
     ensures text { IfOk result (λ printed. IsRunPrinted request.now.options program.now printed.text.items printed.status) }
     ensures fault { IfErr result (OnFault (λ fault. (fault ≡ Fault.OutOfMemory) ⊎ (fault ≡ Fault.NoThread))) }
 {
@@ -99,8 +104,12 @@ fn run_on<H: Threads + Wait + Sync + AllocGlobal>(
         gate: &OpenGate,
         drain_seed: request.drain_seed,
     };
+    let threads = RunThreads {
+        issuers,
+        turns: request.drain_turns,
+    };
     let mut account = Account::new();
-    match run(rt, rt.alloc(), program, unit, issuers, &mut account) {
+    match run_with_drainer(rt, rt.alloc(), program, unit, threads, &mut account) {
         Ok(recorded) => Ok(print_record(rt, &request.options, &recorded, &account)?),
         Err(fault) => Err(failure_of(fault)),
     }

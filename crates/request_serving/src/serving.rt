@@ -1,6 +1,6 @@
 //! What the program does for each request.
 ghost use Rattle.std.specs.Prelude.{◌≡◌, ◌≢◌, ◌≤◌, [], ◌∷◌, IfOk, IfErr, OnOk, OnSome, None, true, false, option_to_list, string_bytes};
-ghost use Rattle.command_line.specs.Requests.{HasUnitRanges, HasWorkers, asked_of};
+ghost use Rattle.command_line.specs.Requests.{HasDrainTurns, HasUnitRanges, HasWorkers, asked_of};
 ghost use Rattle.tso_report.specs.Limits.{trace_read_limit, worker_limit};
 ghost use Rattle.tso_report.specs.Streams.{AppendsPrefix, LosesPrefix};
 ghost use Rattle.tso_report.specs.declared.faults.Fault.TheVariants.{NoThread};
@@ -31,9 +31,10 @@ const _: () = prove!(command_line::MAX_WORKERS == MAX_WORKERS);
 /// certificate against a trace and writes the report of both. Their status is that of the verdict: 0 where no violation
 /// was found, 2 where a text or the certificate was refused, 3 at a violation or a certificate that holds. `Replay` and
 /// `Run` print what a record gives: never a violation where the unit is lawful for programs of the memory model that the
-/// program's text names, so their status isn't 3 there. `Show` writes its text to `writer`, with status 0, and `Refuse` to `errors`, with status 2. At a fault the status is 4 and one
-/// line, as `FAULT Read`, is written to `errors`; a file that can't be opened is the fault Read. All files that the
-/// request names are opened, in their order, before one is read.
+/// program's text names, so their status isn't 3 there. A run whose request names turns of a drainer, at most 1,000,000,
+/// has one beside its processors. `Show` writes its text to `writer`, with status 0, and `Refuse` to `errors`, with
+/// status 2. At a fault the status is 4 and one line, as `FAULT Read`, is written to `errors`; a file that can't be opened
+/// is the fault Read. All files that the request names are opened, in their order, before one is read.
 pub fn serve<H: Threads + Wait + Sync + AllocGlobal, O: NamedFiles, R: Read, W: Write, E: Write>(
     rt: &H,
     request: &Request<'_>,
@@ -44,6 +45,7 @@ pub fn serve<H: Threads + Wait + Sync + AllocGlobal, O: NamedFiles, R: Read, W: 
 ) -> u8
     requires workers { HasWorkers (asked_of request.now) }
     requires unit { HasUnitRanges (asked_of request.now) }
+    requires turns { HasDrainTurns (asked_of request.now) }
     ensures ends { EndsAs request.now (R.remaining reader.old) (O.bytes files.old) (outputs (W.contents writer.old) (W.contents writer.new) (E.contents errors.old) (E.contents errors.new)) result }
     ensures no_false_alarm { runs_on_lawful_unit (asked_of request.now) ≡ true → result ≢ 3 }
     ensures no_false_alarm_of_file { RunsLawfully (asked_of request.now) (O.bytes files.old) → result ≢ 3 }
