@@ -96,10 +96,11 @@ def is_lawful(kind, program):
 
 
 class Trial:
-    """Texts in a folder of their own, the current one, which are given to the program. What isn't right raises `Wrong`."""
+    """Texts in a folder of their own, the current one, which are given to the program. What isn't right raises `Wrong`.
+    `certificates` counts those that the checker accepted, `arguments` are those of the last run."""
 
     def __init__(self, program):
-        self.program, self.texts, self.arguments = program, {}, ()
+        self.program, self.texts, self.arguments, self.certificates = program, {}, (), 0
         self.folder = tempfile.mkdtemp(dir=".")
         os.chdir(self.folder)
 
@@ -146,6 +147,7 @@ class Trial:
         if certificate:
             self.write("found.certificate", certificate)
             self.expect(3, HOLDS, "check", name, "found.certificate")
+            self.certificates += 1
         return answer
 
     def judge_recorded(self, trace, kind, workers=1):
