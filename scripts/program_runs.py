@@ -130,7 +130,8 @@ class Trial:
         """Its output, where it ends with this status, and this output if one is given."""
         answer = self.run(*arguments)
         if answer.status != status or output not in (None, answer.output):
-            raise Wrong(f"status {answer.status}, {shown(answer.output)}, not status {status}{'' if output is None else ', ' + shown(output)}")
+            wanted = f"status {status}" if output is None else f"status {status}, {shown(output)}"
+            raise Wrong(f"status {answer.status}, {shown(answer.output)}, not {wanted}")
         return answer.output
 
     def certificate_of(self, answer, has_account=False):
