@@ -1,3 +1,4 @@
+mod drainer;
 mod failures;
 mod folders;
 mod interleaving;

@@ -1,6 +1,6 @@
 //! Requests over files in memory, which note the names that they are asked to open.
 
-ghost use Rattle.command_line.specs.Requests.{HasUnitRanges, HasWorkers, asked_of};
+ghost use Rattle.command_line.specs.Requests.{HasDrainTurns, HasUnitRanges, HasWorkers, asked_of};
 
 use super::{Ended, FailingReader, FailingWriter, expect};
 use command_line::{Printing, Request, RunOptions, UnitKind, UnitOptions};
@@ -105,6 +105,7 @@ fn served<H: Threads + Wait + Sync + AllocGlobal>(
 ) -> Ended
     requires workers { HasWorkers (asked_of request.now) }
     requires unit { HasUnitRanges (asked_of request.now) }
+    requires turns { HasDrainTurns (asked_of request.now) }
 {
     let mut written = Vec::new(alloc);
     let mut errors = Vec::new(alloc);
@@ -139,6 +140,7 @@ fn compare<H: Threads + Wait + Sync + AllocGlobal + Abort>(
 ) -> Result<(), Fail>
     requires workers { HasWorkers (asked_of request.now) }
     requires unit { HasUnitRanges (asked_of request.now) }
+    requires turns { HasDrainTurns (asked_of request.now) }
 {
     let Expected {
         names,
@@ -214,6 +216,7 @@ fn checking(rt: HostRuntime) -> Result<(), Fail> {
 fn replay<'a>(program: &'a str, schedule: &'a str, printing: Printing) -> Request<'a>
     ensures workers { HasWorkers (asked_of result) }
     ensures unit { HasUnitRanges (asked_of result) }
+    ensures turns { HasDrainTurns (asked_of result) }
 {
     replay_on(UnitKind::Serial, program, schedule, printing)
 }
@@ -227,6 +230,7 @@ fn replay_on<'a>(
 ) -> Request<'a>
     ensures workers { HasWorkers (asked_of result) }
     ensures unit { HasUnitRanges (asked_of result) }
+    ensures turns { HasDrainTurns (asked_of result) }
 {
     let unit = UnitOptions {
         kind,
@@ -329,6 +333,7 @@ fn served_to_a_failing_writer<H: Threads + Wait + Sync + AllocGlobal, E: Write>(
 ) -> u8
     requires workers { HasWorkers (asked_of request.now) }
     requires unit { HasUnitRanges (asked_of request.now) }
+    requires turns { HasDrainTurns (asked_of request.now) }
 {
     serve(
         rt,
