@@ -1,6 +1,7 @@
 //! Drawn traces of seven operations on three processors.
 
 use crate::draws::next_word;
+use crate::outcomes::empty_lists;
 use std::alloc::Global;
 use tso_ops::{Order, Outcome, Trace, ValueFault};
 
@@ -85,13 +86,14 @@ fn drawn_outcome(drawn: Drawn, word: u64, value: u64) -> Outcome {
 
 /// The trace that the seed draws. The error is that memory ran out.
 pub fn drawn_trace(alloc: Global, drawn: Drawn, seed: u64) -> Result<Trace, ValueFault> {
-    let mut lists: [Vec<Outcome>; 3] = [Vec::new(alloc), Vec::new(alloc), Vec::new(alloc)];
+    let mut lists = empty_lists(alloc, 3)?;
     let mut word = next_word(seed);
     for value in 1..8 {
         word = next_word(word);
-        lists[(word >> 50) as usize % 3].push(drawn_outcome(drawn, word, value))?;
+        if let Some(list) = lists.get_mut((word >> 50) as usize % 3) {
+            list.push(drawn_outcome(drawn, word, value))?;
+        }
     }
-    let lists = Vec::from_array(alloc, lists)?;
     if !drawn.has_first {
         return Trace::with_order(alloc, drawn.order, lists).map_err(|refused| refused.why);
     }

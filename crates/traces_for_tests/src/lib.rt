@@ -14,7 +14,7 @@ pub use examples::{
 pub use listed::{Listed, cycle_of, step_of};
 pub use machine::Machine;
 pub use outcomes::{
-    STORE_BUFFERING, TWO_SWAPS_EDGES, independent_reads, ld, lists_of, program_of, st,
+    STORE_BUFFERING, TWO_SWAPS_EDGES, empty_lists, independent_reads, ld, lists_of, program_of, st,
     store_buffering, sw, trace_from, trace_of, two_swaps_both_first,
 };
 pub use texts::repeated;

@@ -19,6 +19,15 @@ pub fn sw(a: u16, r: u64, v: u64) -> Outcome {
     Outcome::Sw { a, r, v }
 }
 
+/// So many empty lists. The error is that memory ran out.
+pub fn empty_lists<T: Drop>(alloc: Global, count: usize) -> Result<Vec<Vec<T>>, AllocError> {
+    let mut lists = Vec::new(alloc);
+    for _ in 0..count {
+        lists.push(Vec::new(alloc))?;
+    }
+    Ok(lists)
+}
+
 /// A list for each row. The error is that memory ran out.
 pub fn lists_of<T: Copy>(alloc: Global, rows: &[&[T]]) -> Result<Vec<Vec<T>>, AllocError> {
     let mut lists = Vec::new(alloc);

@@ -1,7 +1,6 @@
-//! Reports, certificates and campaigns, and what the tests of them share.
+//! Reports and certificates, and what the tests of them share.
 
 mod build_cert;
-mod campaigns;
 mod check;
 mod drawn_replays;
 mod find_violation;
@@ -12,7 +11,6 @@ mod judge_violations;
 mod print_account;
 mod readers_and_writers;
 mod refused_allocations;
-mod seeded_programs;
 mod stream_faults;
 mod workers;
 

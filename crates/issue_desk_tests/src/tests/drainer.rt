@@ -1,5 +1,5 @@
 //! The drainer of a run: its turns, that it takes them beside the issuers, and how it ends a run.
-ghost use Rattle.std.specs.Prelude.{◌≤◌};
+ghost use Rattle.std.specs.Prelude.{◌≡◌, ◌≤◌, [], IfOk};
 
 use super::gate::MeetingGate;
 use super::{STORES_THEN_LOADS, expect_equal};
@@ -13,7 +13,7 @@ use std::sync::{Arc, Wait};
 use std::test::Fail;
 use std::thread::{Threads, yield_now};
 use traces_for_tests::program_of;
-use tso_ops::{Op, Order, ValueFault};
+use tso_ops::{Op, Order, OutOfMemory, ValueFault};
 use unit_core::{Account, MemoryUnit, Recorded};
 use unit_kinds::StoreBufferUnit;
 use units_for_tests::{
@@ -127,8 +127,21 @@ struct Ended {
     drops: u64,
 }
 
-/// The run of these operations by these threads on a store-buffer unit, in a box, that counts its calls in these counts and
-/// refuses the one of this number, none where it is 0.
+/// A store-buffer unit, in a box, that counts its calls in these counts and refuses the one of this number, none where it
+/// is 0.
+fn counted_unit(
+    alloc: Global,
+    refused: u64,
+    counts: &Arc<CallCounts, Global>,
+) -> Result<Box<dyn MemoryUnit + Send>, OutOfMemory>
+    ensures { IfOk result (λ unit. (value_of unit).steps ≡ []) }
+{
+    let counts = Arc::try_clone(counts)?;
+    let buffer = RefusingUnit::new(StoreBufferUnit::new(alloc, 8)?, refused);
+    Ok(Box::new(alloc, CountingUnit::new(buffer, counts))?)
+}
+
+/// The run of these operations by these threads on such a unit.
 fn run_counted<H: Threads + Wait + Sync, G: Gate + Sync>(
     rt: &H,
     alloc: Global,
@@ -140,9 +153,7 @@ fn run_counted<H: Threads + Wait + Sync, G: Gate + Sync>(
     requires { threads.turns ≤ 1000000 }
 {
     let program = program_of(alloc, Order::Tso, ops)?;
-    let buffer = RefusingUnit::new(StoreBufferUnit::new(alloc, 8)?, refused);
-    let unit = CountingUnit::new(buffer, Arc::try_clone(counts)?);
-    let unit: Box<dyn MemoryUnit + Send> = Box::new(alloc, unit)?;
+    let unit = counted_unit(alloc, refused, counts)?;
     let mut account = OTHER_ACCOUNT;
     let answer = run_with_drainer(rt, alloc, &program, unit, threads, &mut account);
     Ok(Ended {

@@ -11,9 +11,27 @@ use std::sync::{Arc, Wait};
 use std::test::Fail;
 use std::thread::Threads;
 use traces_for_tests::program_of;
-use tso_ops::{Op, Order, ValueFault};
+use tso_ops::{Op, Order, OutOfMemory, Program, ValueFault};
 use unit_kinds::StoreBufferUnit;
-use units_for_tests::{Call, ForwardingUnit, OTHER_ACCOUNT, new_log};
+use units_for_tests::{Call, CallLog, ForwardingUnit, OTHER_ACCOUNT, new_log};
+
+/// Whether the program gives a record on a unit that logs its calls, by issuers with this drain seed.
+fn is_recorded<H: Threads + Wait + Sync>(
+    rt: &H,
+    alloc: Global,
+    program: &Program,
+    log: &Arc<CallLog, Global>,
+    drain_seed: u64,
+) -> Result<bool, OutOfMemory> {
+    let log = Arc::try_clone(log)?;
+    let unit = ForwardingUnit::new(StoreBufferUnit::new(alloc, 64)?, log);
+    let issuers = Issuers {
+        gate: &OpenGate,
+        drain_seed,
+    };
+    let mut account = OTHER_ACCOUNT;
+    Ok(run_over(rt, alloc, program, unit, issuers, &mut account).is_ok())
+}
 
 /// The calls of a unit on which these operations are run, by issuers with this drain seed.
 fn calls_of<H: Threads + Wait + Sync + Abort>(
@@ -22,16 +40,10 @@ fn calls_of<H: Threads + Wait + Sync + Abort>(
     ops: &[&[Op]],
     drain_seed: u64,
 ) -> Result<Vec<Call>, ValueFault> {
-    let program = program_of(alloc, Order::Tso, ops)?;
     let log = new_log(alloc, 64)?;
-    let unit = ForwardingUnit::new(StoreBufferUnit::new(alloc, 64)?, Arc::try_clone(&log)?);
-    let issuers = Issuers {
-        gate: &OpenGate,
-        drain_seed,
-    };
-    let mut account = OTHER_ACCOUNT;
-    let answer = run_over(rt, alloc, &program, unit, issuers, &mut account);
-    assert!(rt; answer.is_ok());
+    let program = program_of(alloc, Order::Tso, ops)?;
+    let is_recorded = is_recorded(rt, alloc, &program, &log, drain_seed)?;
+    expect_equal(rt, drain_seed, is_recorded, true);
     Ok(log.calls(alloc)?)
 }
 

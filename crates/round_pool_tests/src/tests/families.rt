@@ -8,7 +8,7 @@ use std::process::Abort;
 use std::sync::Wait;
 use std::test::Fail;
 use std::thread::Threads;
-use traces_for_tests::{ld, st, sw};
+use traces_for_tests::{empty_lists, ld, st, sw};
 use tso_ops::{Outcome, Trace};
 
 /// A value that is stored, of a kind that begins at `kind`; kinds begin 1000 apart.
@@ -301,14 +301,16 @@ fn first_loads(alloc: Global, count: u16) -> Result<Trace, Fail> {
 
 /// Swaps of one address on three processors in turn, of which each reads what the one before wrote.
 fn swaps_in_turn(alloc: Global, count: u16) -> Result<Trace, Fail> {
-    let mut lists: [Vec<Outcome>; 3] = [Vec::new(alloc), Vec::new(alloc), Vec::new(alloc)];
+    let mut lists = empty_lists(alloc, 3)?;
     let mut before = 0;
     for i in 0..count {
         let next = value(LEFT.kind, i);
-        lists[i as usize % 3].push(sw(0, before, next))?;
+        if let Some(list) = lists.get_mut(i as usize % 3) {
+            list.push(sw(0, before, next))?;
+        }
         before = next;
     }
-    Ok(Trace::new(alloc, Vec::from_array(alloc, lists)?)?)
+    Ok(Trace::new(alloc, lists)?)
 }
 
 #[test]

@@ -197,7 +197,9 @@ fn loads_past_stores(alloc: Global) -> Result<Trace, ValueFault> {
         other.push(st(b, u64::from(b).wrapping_add(1)))?;
         other.push(ld(a, 0))?;
     }
-    let lists = Vec::from_array(alloc, [one, other])?;
+    let mut lists = Vec::new(alloc);
+    lists.push(one)?;
+    lists.push(other)?;
     Trace::new(alloc, lists).map_err(|refused| refused.why)
 }
 

@@ -3,7 +3,7 @@
 use super::expect_equal;
 use plain_rounds::has_unwritten_load;
 use round_pool::{OpenPoolGate, rounds};
-use std::alloc::{AllocError, Global};
+use std::alloc::Global;
 use std::process::Abort;
 use std::sync::Wait;
 use std::test::Fail;
@@ -12,7 +12,7 @@ use traces_for_tests::{
     Example, INDEPENDENT_READS, OWN_STORE_MISSED, STORE_BUFFERING_WITH_BARRIERS,
     TWO_SWAPS_BOTH_FIRST,
 };
-use tso_cert::{Certificate, print_cert};
+use tso_cert::print_cert;
 use tso_ops::Trace;
 use tso_report::{Fault, MAX_WORKERS, build_cert};
 use tso_text::{TextFault, read_trace};
@@ -22,26 +22,19 @@ fn trace_of(alloc: Global, text: &str) -> Result<Trace, TextFault> {
     read_trace(alloc, text.as_bytes())
 }
 
-/// The certificate of a trace in which no load is unwritten, made on this many workers; None where there is none.
+/// The text of the certificate of a trace in which no load is unwritten, made on this many workers; None where there is
+/// none.
 fn certificate_of<H: Threads + Wait>(
     rt: &H,
     alloc: Global,
     trace: &Trace,
     workers: usize,
-) -> Result<Option<Certificate>, Fault> {
-    if workers < 1 || workers > MAX_WORKERS {
-        return Ok(None);
-    }
-    if has_unwritten_load(trace) {
+) -> Result<Option<String>, Fault> {
+    if workers < 1 || workers > MAX_WORKERS || has_unwritten_load(trace) {
         return Ok(None);
     }
     let ranked = rounds(rt, alloc, trace, workers, &OpenPoolGate)?;
-    Ok(build_cert(alloc, trace, &ranked)?)
-}
-
-/// The text of a certificate, if there is one.
-fn text_of(alloc: Global, certificate: Option<Certificate>) -> Result<Option<String>, AllocError> {
-    match certificate {
+    match build_cert(alloc, trace, &ranked)? {
         Some(found) => Ok(Some(print_cert(alloc, &found)?)),
         None => Ok(None),
     }
@@ -56,8 +49,7 @@ fn expect_certificate<H: Threads + Wait + Abort>(
     expected: Option<&str>,
 ) -> Result<(), Fail> {
     let trace = trace_of(alloc, text)?;
-    let found = certificate_of(rt, alloc, &trace, workers)?;
-    let printed = text_of(alloc, found)?;
+    let printed = certificate_of(rt, alloc, &trace, workers)?;
     expect_equal(rt, text, printed.as_deref(), expected);
     Ok(())
 }

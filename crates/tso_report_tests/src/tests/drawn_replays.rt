@@ -9,7 +9,7 @@ use std::process::Abort;
 use std::sync::Wait;
 use std::test::Fail;
 use std::thread::Threads;
-use traces_for_tests::next_word;
+use traces_for_tests::{empty_lists, next_word};
 use tso_ops::{Op, Order, OutOfMemory, Program, Trace};
 use tso_report::{Verdict, find_violation, judge_recorded};
 use tso_text::Act;
@@ -33,13 +33,15 @@ fn drawn_op(order: Order, word: u64, v: u64) -> Op {
 
 /// A program of six operations on three processors.
 fn drawn_program(alloc: Global, order: Order, seed: u64) -> Result<Program, Fail> {
-    let mut lists: [Vec<Op>; 3] = [Vec::new(alloc), Vec::new(alloc), Vec::new(alloc)];
+    let mut lists = empty_lists(alloc, 3)?;
     let mut word = next_word(seed);
     for v in 1..7 {
         word = next_word(word);
-        lists[(word >> 50) as usize % 3].push(drawn_op(order, word, v))?;
+        if let Some(list) = lists.get_mut((word >> 50) as usize % 3) {
+            list.push(drawn_op(order, word, v))?;
+        }
     }
-    Ok(Program::with_order(alloc, order, Vec::from_array(alloc, lists)?)?)
+    Ok(Program::with_order(alloc, order, lists)?)
 }
 
 /// A schedule of nine acts, two of three of which issue.
