@@ -1,3 +1,4 @@
 pub mod Facts
+pub mod PairFacts
 pub mod RefusalExists
 pub mod RefusalFacts

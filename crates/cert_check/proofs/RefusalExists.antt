@@ -3,7 +3,6 @@ use Rattle.std.proofs.Common.{◌≡◌, ◌⊎◌, inl, inr, ℕ, zero, suc, �
 use Rattle.std.proofs.lemmas.Bool.{cases_eq, cases_lt}
 use Rattle.std.proofs.lemmas.List.{get_or_default}
 use Rattle.std.proofs.lemmas.List.Elements.{All-from_recursion, recursion_from_All}
-use Rattle.std.proofs.lemmas.Option.{none-some, same_Some}
 use Rattle.std.specs.List.{AllByRecursion}
 use Rattle.order_paths.specs.Paths.{last_of, IsCycle}
 use Rattle.order_paths.proofs.Decisions.{Decision, Decision-both, Decision-either, Decision-iff, Decision-lt, Decision-three}
@@ -23,6 +22,7 @@ use Rattle.cert_check.specs.declared.faults.CertFault.{CertFault}
 use Rattle.cert_check.specs.declared.faults.CertFault.TheVariants.{EventRange, NotUnwritten, BaseRefused, SideRefused, PathUnlisted, CycleUnlisted, EmptyCycle}
 use Rattle.cert_check.specs.Refusals.{AreUpTo, IsReasonUpTo, IsStepUpTo, IsInRange, IsBase, HasFault, IsStepFault, IsCycleFault, IsCycleRefusal, IsCertRefusal}
 use Rattle.cert_check.specs.Internal.Sides.{Follows}
+use Rattle.cert_check.proofs.PairFacts.{first_or_later, none_listed}
 use Rattle.cert_check.proofs.RefusalFacts.{holds_all, holds_more, holds_none, step_faulty}
 
 -- ---- numbers in range
@@ -55,16 +55,9 @@ in_range_decided t (Cycle steps cycle) =
 -- ---- one step
 
 is_step_decided : (steps : List CertStep) (u v : ℕ) → Decision (IsStep steps u v)
-is_step_decided [] u v = inr (λ step. none-some step.1 step.2)
-is_step_decided (s ∷ steps) u v = Decision-iff to back (Decision-either (Decision-both (cases_eq s.from u) (cases_eq s.to v)) (is_step_decided steps u v))
-  where
-    to : ((s.from ≡ u) × (s.to ≡ v)) ⊎ IsStep steps u v → IsStep (s ∷ steps) u v
-    to (inl here) = (0, s, refl, here.0, here.1)
-    to (inr later) = (suc later.0, later.1, later.2, later.3, later.4)
-
-    back : IsStep (s ∷ steps) u v → ((s.from ≡ u) × (s.to ≡ v)) ⊎ IsStep steps u v
-    back (zero, d, at, from, to) = inl (subst (λ e. (e.from ≡ u) × (e.to ≡ v)) (sym (same_Some s d at)) (from, to))
-    back (suc k, d, at, from, to) = inr (k, d, at, from, to)
+is_step_decided [] u v = inr (none_listed u v)
+is_step_decided (s ∷ steps) u v =
+    let first = first_or_later s steps u v in Decision-iff first.1 first.0 (Decision-either (Decision-both (cases_eq s.from u) (cases_eq s.to v)) (is_step_decided steps u v))
 
 meets_decided : (t : TraceValue) (u v : ℕ) (reason : Reason) → Decision (MeetsRule t u v reason)
 meets_decided t u v (Base rule) = BasePair-decided t rule u v

@@ -1,5 +1,5 @@
 -- Which refusal a certificate gets: one at most, and none where it holds.
-use Rattle.std.proofs.Common.{◌≡◌, ◌∙◌, ⊎_elim, inr, sym, ap, subst, refl, ℕ, suc, ◌+◌, ◌<◌, ◌≤◌, List, [], ◌∷◌, length, get_or, take, Some, slice_get, Result, Ok, Err, IsOk, OnOk, IfErr, MatchResult, arith}
+use Rattle.std.proofs.Common.{◌≡◌, ◌∙◌, ⊎_elim, inr, sym, ap, subst, refl, ℕ, suc, ◌+◌, ◌<◌, ◌≤◌, List, [], ◌∷◌, length, get_or, take, Some, slice_get, Result, Ok, Err, IsOk, OnOk, IfOk, IfErr, MatchResult, arith}
 use Rattle.std.proofs.lemmas.Bool.{cases_lt}
 use Rattle.std.specs.List.{AllByRecursion}
 use Rattle.std.proofs.lemmas.Option.{slice_get_read, slice_get_within, slice_get-get_or}
@@ -173,6 +173,11 @@ pub told_of_cycle : (t : TraceValue) (certificate : Certificate) (steps : List C
     MatchResult r (λ _. Holds t certificate) (IsCertRefusal t certificate)
 told_of_cycle t certificate steps cycle (Ok x) is range told = rw is told
 told_of_cycle t certificate steps cycle (Err fault) is range told = inr (range, rw is told)
+
+-- what is told of a value that a call may answer
+pub if_ok : {A E : Type 0} (P Q : A → Type 0) → ((a : A) → P a → Q a) → (r : Result A E) → IfOk r P → IfOk r Q
+if_ok P Q more (Ok a) told = more a told
+if_ok P Q more (Err e) told = tt
 
 -- ---- one refusal at most
 

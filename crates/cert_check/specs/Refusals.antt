@@ -30,6 +30,11 @@ abbrev pub IsInRange : TraceValue → Certificate → Type 0
 IsInRange t (Unwritten n) = (0 < n) × (n ≤ event_total t)
 IsInRange t (Cycle steps cycle) = All (IsStepUpTo (event_total t)) steps × AreUpTo (event_total t) cycle
 
+-- the certificate has steps and a cycle
+abbrev pub HasSteps : Certificate → Type 0
+HasSteps (Unwritten n) = ⊥
+HasSteps (Cycle steps cycle) = Unit {0}
+
 abbrev pub IsBase : Reason → Type 0
 IsBase (Base rule) = Unit {0}
 IsBase (Inferred rule load path) = ⊥

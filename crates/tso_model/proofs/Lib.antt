@@ -12,6 +12,7 @@ pub mod Justifications
 pub mod LastRankSet
 pub mod NewEdgeFacts
 pub mod OrderedLists
+pub mod OwnLoads
 pub mod Places
 pub mod RoundsNumber
 pub mod RuleOrder

@@ -6,3 +6,4 @@ pub use inferred::{Ends, inferred_ends};
 
 mod base;
 mod inferred;
+mod own;

@@ -5,7 +5,7 @@ ghost use Rattle.tso_report.specs.Checks.{IsCertReport, fails_text, unread_text}
 
 use crate::rendering::Report;
 use crate::verdicts::Verdict;
-use cert_check::{CertFault, check};
+use cert_check::{CertFault, check_with_table};
 use std::alloc::Global;
 use tso_cert::{TextFault, Why, read_cert};
 use tso_ops::{OutOfMemory, Trace};
@@ -19,7 +19,7 @@ pub(crate) fn render_check(
     ensures { IfOk result (λ report. IsCertReport trace.now input.now (string_bytes report.text) report.verdict) }
 {
     match read_cert(alloc, input) {
-        Ok(certificate) => match check(trace, &certificate) {
+        Ok(certificate) => match check_with_table(alloc, trace, &certificate)? {
             Ok(()) => Ok(Report {
                 verdict: Verdict::Violation,
                 text: String::from_str(alloc, "CERTIFICATE HOLDS\n")?,

@@ -1,6 +1,6 @@
 //! The checker of certificates, by the steps and cycles of worked examples and ones that don't hold.
 
-use cert_check::{CertFault, check};
+use cert_check::{CertFault, check, check_with_table};
 use std::alloc::{AllocError, Global};
 use std::process::Abort;
 use std::test::Fail;
@@ -94,19 +94,19 @@ fn certificate_of(
     cycle_of(alloc, steps_of(alloc, listed, less)?, cycle)
 }
 
-fn checked(trace: &Trace, certificate: &Certificate) -> Result<(), CertFault> {
-    check(trace, certificate)
-}
-
-/// Compares what the check of a certificate against a trace says.
+/// Compares what both checks of a certificate against a trace say.
 fn expect<H: Abort>(
     rt: &H,
+    alloc: Global,
     name: &str,
     trace: &Trace,
     certificate: &Certificate,
     expected: Result<(), CertFault>,
-) {
-    assert_eq!(rt; checked(trace, certificate), expected, "{name}");
+) -> Result<(), AllocError> {
+    assert_eq!(rt; check(trace, certificate), expected, "{name}");
+    let by_table = check_with_table(alloc, trace, certificate)?;
+    assert_eq!(rt; by_table, expected, "{name}, by the table");
+    Ok(())
 }
 
 /// Compares what the check of a case says, under this memory model and less the step with this number.
@@ -118,7 +118,7 @@ fn expect_case<H: Abort>(
 ) -> Result<(), Fail> {
     let trace = trace_of(alloc, order, case.rows)?;
     let given = certificate_of(alloc, case.steps, less, case.cycle)?;
-    expect(rt, case.name, &trace, &given, expected);
+    expect(rt, alloc, case.name, &trace, &given, expected)?;
     Ok(())
 }
 
@@ -137,11 +137,12 @@ fn certificates_of_litmus_tests_hold(rt: HostRuntime) -> Result<(), Fail> {
 
 #[test]
 fn certificates_of_stale_reads_hold(rt: HostRuntime) -> Result<(), Fail> {
-    let unwritten = trace_of(rt.alloc(), Order::Tso, &[&[Ld { a: 1, r: 9 }]])?;
+    let alloc = rt.alloc();
+    let unwritten = trace_of(alloc, Order::Tso, &[&[Ld { a: 1, r: 9 }]])?;
     let given = Certificate::Unwritten(1);
-    expect(&rt, "unwritten_load", &unwritten, &given, Ok(()));
+    expect(&rt, alloc, "unwritten_load", &unwritten, &given, Ok(()))?;
     for case in [case_of(MESSAGE_PASSING_STALE), STALE] {
-        expect_holding(&rt, rt.alloc(), case, Order::Tso)?;
+        expect_holding(&rt, alloc, case, Order::Tso)?;
     }
     Ok(())
 }
@@ -178,51 +179,59 @@ fn stores_of_partial_store_order(rt: HostRuntime) -> Result<(), Fail> {
     let store_store = certificate_of(alloc, MESSAGE_PASSING_STALE.steps, 0, &[0, 1])?;
     for (stores, by_stbar, by_store_store) in PSO_STORES {
         let passing = trace_of(alloc, Order::Pso, &[stores, &PSO_LOADS])?;
-        expect(&rt, "Stbar", &passing, &stbar, by_stbar);
-        expect(&rt, "StoreStore", &passing, &store_store, by_store_store);
+        expect(&rt, alloc, "Stbar", &passing, &stbar, by_stbar)?;
+        let expected = by_store_store;
+        expect(&rt, alloc, "StoreStore", &passing, &store_store, expected)?;
     }
     Ok(())
 }
 
-/// Message passing whose last load reads the first value 7.
-const PASSING_FROM_7: [&[Outcome]; 2] = [
-    &[St { a: 1, v: 1 }, St { a: 2, v: 2 }],
-    &[Ld { a: 2, r: 2 }, Ld { a: 1, r: 7 }],
+/// What processors did from a memory with the value 7 at address 1, and the example whose certificate it has: message
+/// passing whose last load reads the first value, and a load that misses its processor's own store and reads it.
+const FROM_7: [(&str, &[&[Outcome]], Example); 2] = [
+    (
+        "first_values_message_passing",
+        &[
+            &[St { a: 1, v: 1 }, St { a: 2, v: 2 }],
+            &[Ld { a: 2, r: 2 }, Ld { a: 1, r: 7 }],
+        ],
+        MESSAGE_PASSING_STALE,
+    ),
+    (
+        "first_values_own_store_missed",
+        &[&[St { a: 1, v: 1 }, Ld { a: 1, r: 7 }]],
+        OWN_STORE_MISSED,
+    ),
 ];
-
-/// A load that misses the processor's own store and reads the first value 7.
-const OWN_MISSED_FROM_7: [&[Outcome]; 1] = [&[St { a: 1, v: 1 }, Ld { a: 1, r: 7 }]];
-
-/// Loads of the value 0, which nothing wrote, and of the first value 7.
-const ZERO_AND_7: [&[Outcome]; 2] = [&[Ld { a: 1, r: 0 }], &[Ld { a: 1, r: 7 }]];
 
 #[test]
 fn certificates_from_first_values(rt: HostRuntime) -> Result<(), Fail> {
     let alloc = rt.alloc();
-    let passing = trace_from(alloc, &[(1, 7)], &PASSING_FROM_7)?;
-    let given = certificate_of(alloc, MESSAGE_PASSING_STALE.steps, 0, &[0, 1])?;
-    expect(
-        &rt,
-        "first_values_message_passing",
-        &passing,
-        &given,
-        Ok(()),
-    );
-    let missed = trace_from(alloc, &[(1, 7)], &OWN_MISSED_FROM_7)?;
-    let given = certificate_of(alloc, OWN_STORE_MISSED.steps, 0, OWN_STORE_MISSED.cycle)?;
-    expect(
-        &rt,
-        "first_values_own_store_missed",
-        &missed,
-        &given,
-        Ok(()),
-    );
+    for (name, rows, example) in FROM_7 {
+        let trace = trace_from(alloc, &[(1, 7)], rows)?;
+        let given = certificate_of(alloc, example.steps, 0, example.cycle)?;
+        expect(&rt, alloc, name, &trace, &given, Ok(()))?;
+    }
+    Ok(())
+}
+
+/// Loads of the value 0, which nothing wrote, and of the first value 7.
+const ZERO_AND_7: [&[Outcome]; 2] = [&[Ld { a: 1, r: 0 }], &[Ld { a: 1, r: 7 }]];
+
+/// Loads of `ZERO_AND_7`, and what the check says of the certificate that such a load is unwritten.
+const SAID_OF_LOADS: [(u64, Result<(), CertFault>); 2] = [
+    (1, Ok(())),
+    (2, Err(CertFault::NotUnwritten)),
+];
+
+#[test]
+fn unwritten_loads_where_first_values_are_given(rt: HostRuntime) -> Result<(), Fail> {
+    let alloc = rt.alloc();
     let zero = trace_from(alloc, &[(1, 7)], &ZERO_AND_7)?;
-    let given = Certificate::Unwritten(1);
-    expect(&rt, "first_values_read_of_zero", &zero, &given, Ok(()));
-    let given = Certificate::Unwritten(2);
-    let refused = Err(CertFault::NotUnwritten);
-    expect(&rt, "a read of the first value", &zero, &given, refused);
+    for (load, expected) in SAID_OF_LOADS {
+        let given = Certificate::Unwritten(load);
+        expect(&rt, alloc, "unwritten", &zero, &given, expected)?;
+    }
     Ok(())
 }
 
@@ -296,20 +305,22 @@ const OTHERS: [(&[Listed], &[u64], CertFault); 4] = [
 ];
 
 /// Sees that these loads of a trace are not unwritten.
-fn expect_not_unwritten<H: Abort>(rt: &H, trace: &Trace) {
+fn expect_not_unwritten<H: Abort>(rt: &H, alloc: Global, trace: &Trace) -> Result<(), AllocError> {
     for (load, fault) in NOT_UNWRITTEN {
         let given = Certificate::Unwritten(load);
-        expect(rt, "unwritten", trace, &given, Err(fault));
+        expect(rt, alloc, "unwritten", trace, &given, Err(fault))?;
     }
+    Ok(())
 }
 
 #[test]
 fn other_certificates_are_refused(rt: HostRuntime) -> Result<(), Fail> {
-    let barriers = trace_of(rt.alloc(), Order::Tso, STORE_BUFFERING_WITH_BARRIERS.rows)?;
-    expect_not_unwritten(&rt, &barriers);
+    let alloc = rt.alloc();
+    let barriers = trace_of(alloc, Order::Tso, STORE_BUFFERING_WITH_BARRIERS.rows)?;
+    expect_not_unwritten(&rt, alloc, &barriers)?;
     for (steps, cycle, fault) in OTHERS {
-        let given = certificate_of(rt.alloc(), steps, 0, cycle)?;
-        expect(&rt, "cycle", &barriers, &given, Err(fault));
+        let given = certificate_of(alloc, steps, 0, cycle)?;
+        expect(&rt, alloc, "cycle", &barriers, &given, Err(fault))?;
     }
     Ok(())
 }
@@ -352,7 +363,7 @@ fn two_thousand_steps_hold(rt: HostRuntime) -> Result<(), Fail> {
     let given = trace_of(alloc, Order::Tso, &[&list])?;
     let cycle = numbers_to(alloc, 2_000)?;
     let certificate = cycle_of(alloc, long_steps(alloc)?, &cycle)?;
-    expect(&rt, "2,000 steps", &given, &certificate, Ok(()));
+    expect(&rt, alloc, "2,000 steps", &given, &certificate, Ok(()))?;
     Ok(())
 }
 

@@ -1,8 +1,9 @@
 //! The conditions of the base rules.
-ghost use Rattle.std.specs.Prelude.{◌≡◌, ◌↔◌, ℕ, Some, IsTrue, IfSome, MatchOption};
-ghost use Rattle.tso_model.specs.Rules.{IsOwnBy, BasePair};
+ghost use Rattle.std.specs.Prelude.{◌↔◌, ℕ, IsTrue, MatchOption};
+ghost use Rattle.tso_model.specs.Rules.{BasePair};
 ghost use Rattle.tso_model.specs.Certs.{IsFirstBase};
 
+use super::own::is_own_pair;
 use tso_cert::BaseRule;
 use tso_ops::Trace;
 
@@ -80,29 +81,4 @@ fn is_read_pair(trace: &Trace, u: usize, v: usize) -> bool
     ensures { IsTrue result ↔ BasePair trace.now BaseRule.Read u v }
 {
     trace.is_store(u) && trace.has_source(v, u) && !trace.is_earlier(u, v)
-}
-
-/// Whether some load reads past its own store `u` what `v` wrote. It looks at each event after `u`.
-fn is_own_pair(trace: &Trace, u: usize, v: usize) -> bool
-    ensures { IsTrue result ↔ BasePair trace.now BaseRule.Own u v }
-{
-    for l in u..trace.node_count() {
-        if own_target(trace, u, l) == Some(v) {
-            return true;
-        }
-    }
-    false
-}
-
-/// The source of load `l`, where it sees the program-earlier store `u` to its address and reads another.
-fn own_target(trace: &Trace, u: usize, l: usize) -> Option<usize>
-    ensures is { IfSome result (λ v. IsOwnBy trace.now l u v) }
-    ensures all { (v : ℕ) → IsOwnBy trace.now l u v → result ≡ Some v }
-{
-    let s = trace.source_number(l)?;
-    if trace.is_store(u) && trace.same_address(u, l) && trace.is_earlier(u, l) && u != s {
-        Some(s)
-    } else {
-        None
-    }
 }

@@ -1,8 +1,8 @@
 use Rattle.std.proofs.Common.{refl}
 use Rattle.std.proofs.lemmas.Bool.{false≢true}
 use Rattle.cert_check.proofs.Facts.{not_listed_at_end, listed, not_listed_more, not_listed}
-use Rattle.cert_check.proofs.listed.is_listed.Goals as goal
-use Rattle.cert_check.proofs.listed.is_listed.Goals.{else-step-u-via-then-step-u+else-step-v, else-step-u-via-else-step-u}
+use Rattle.cert_check.proofs.pairs.is_step.Goals as goal
+use Rattle.cert_check.proofs.pairs.is_step.Goals.{else-step-u-via-then-step-u+else-step-v, else-step-u-via-else-step-u}
 
 pub loop-k-init : goal.loop-k-init
 loop-k-init c = not_listed_at_end c.args.steps.now c.args.u c.args.v
