@@ -1,59 +1,58 @@
 //! Runs beside a drainer.
 
-use super::Ended;
 use super::folders::{ended, new_folder, write};
 use std::alloc::{AllocError, Global};
 use std::fs;
+use std::process::Abort;
 use std::rt::Files;
 use std::sync::Wait;
 use std::test::Fail;
 use std::thread::Threads;
 
-/// The text of a program of one processor, which stores so many values at an address, and loads there after each store.
-fn reading_back(alloc: Global, stores: u64) -> Result<String, AllocError> {
-    let mut text = String::from_str(alloc, "tso program 1\nproc\n")?;
-    for value in 0..stores {
-        write!(text, "st 1 {}\nld 1\n", value + 1)?;
-    }
-    text.push_str("end\n")?;
-    Ok(text)
+/// The text of a program whose first processor stores once, and whose second loads from there so often, with a barrier
+/// after each load.
+fn watching(alloc: Global, loads: usize) -> Result<String, AllocError> {
+    let loads = "ld 1\nmb\n".repeat(alloc, loads)?;
+    format!(in alloc; "tso program 2\nproc\nst 1 1\nproc\n{loads}end\n")
 }
 
-/// The recorded trace of a run of the program in the file `stores` on a unit whose loads see no store that waits.
-fn recorded<H: Threads + Wait + Sync + Files + AllocGlobal>(
+/// Whether the run of the program in the file `watching`, beside a drainer of so many turns, prints a trace in which the
+/// second processor loads what the first stored.
+fn is_seen<H: Threads + Wait + Sync + Files + AllocGlobal + Abort>(
     rt: &H,
     alloc: Global,
     folder: &str,
-    options: &str,
-) -> Result<Ended, Fail> {
-    let arguments = format!(in alloc; "run --trace --unit no-forward --seed 1{options} @stores")?;
-    ended(rt, alloc, folder, arguments.as_str())
+    turns: u64,
+) -> Result<bool, Fail> {
+    let options = format!(in alloc; "--trace --unit buffer --seed 1 --drain-turns {turns}")?;
+    let arguments = format!(in alloc; "run {options} @watching")?;
+    let ended = ended(rt, alloc, folder, arguments.as_str())?;
+    assert_eq!(rt; ended.status, 0, "{turns}");
+    let trace = str::from_utf8(&ended.written)?;
+    Ok(trace.contains("\nld 1 1\n"))
 }
 
-/// How many runs are tried at most until in one a store is drained that waited without a drainer.
-const TRIES: u64 = 100;
+/// How many runs beside a drainer are tried at most until the store is seen in one.
+const TRIES: u64 = 200;
 
-/// What a load reads hangs on which stores were drained. With one processor and no drainer the seed alone says which, so
-/// each such run has the same trace. Another one shows that a drainer took a turn between two operations; when it comes to
-/// the unit is left to the system's threads, hence the many turns and the tries.
+/// The seed 1 draws no drain for the first processor. So its store waits until all operations are issued, and no load sees
+/// it, unless a drainer takes a turn after the store and before the last load. When its turns come is left to the system's
+/// threads; hence the many turns and the tries. Mostly the first few are enough.
 #[test]
 fn drainers_take_turns(rt: HostRuntime) -> Result<(), Fail> {
     let folder = new_folder(&rt, "drainers")?;
-    let text = reading_back(rt.alloc(), 900)?;
-    write(&rt, folder.as_str(), "stores", text.as_str())?;
-    let alone = recorded(&rt, rt.alloc(), folder.as_str(), "")?;
-    let none = recorded(&rt, rt.alloc(), folder.as_str(), " --drain-turns 0")?;
-    assert_eq!(rt; alone.status, 0);
-    assert_eq!(rt; none.written.as_slice(), alone.written.as_slice());
-    let mut is_drained = false;
+    let text = watching(rt.alloc(), 7999)?;
+    write(&rt, folder.as_str(), "watching", text.as_str())?;
+    for _ in 0..10 {
+        assert!(rt; !is_seen(&rt, rt.alloc(), folder.as_str(), 0)?);
+    }
+    let mut seen = false;
     for _ in 0..TRIES {
-        let beside = recorded(&rt, rt.alloc(), folder.as_str(), " --drain-turns 1000000")?;
-        assert_eq!(rt; beside.status, 0);
-        is_drained = beside.written.as_slice() != alone.written.as_slice();
-        if is_drained {
+        seen = is_seen(&rt, rt.alloc(), folder.as_str(), 1_000_000)?;
+        if seen {
             break;
         }
     }
-    assert!(rt; is_drained);
+    assert!(rt; seen);
     Ok(fs::remove_dir_all(&rt, folder.as_str())?)
 }
