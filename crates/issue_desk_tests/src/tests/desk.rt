@@ -11,7 +11,8 @@ use tso_ops::{Op, Order, Outcome, Program, ValueFault};
 use unit_core::{Account, Recorded};
 use unit_kinds::StoreBufferUnit;
 use units_for_tests::{
-    CallCounts, CountingUnit, OTHER_ACCOUNT, are_passes_of, drops_of, is_record, new_counts,
+    CallCounts, CountingUnit, OTHER_ACCOUNT, RefusingUnit, are_passes_of, drops_of, is_record,
+    new_counts,
 };
 
 /// The desk of `STORES_THEN_LOADS` over a unit that counts its calls, and the pass of each processor.
@@ -232,5 +233,47 @@ fn texts_of_run_faults(rt: HostRuntime) -> Result<(), Fail> {
         let found = text_of(rt.alloc(), fault)?;
         expect_equal(&rt, text, found.as_str(), text);
     }
+    Ok(())
+}
+
+/// Issues for this pass: what it was answered. The outer None says that the call was refused, the inner one that nothing was
+/// left.
+fn issue_once(
+    desk: &mut Desk<RefusingUnit<StoreBufferUnit>>,
+    pass: &mut Pass,
+) -> Option<Option<Outcome>> {
+    match desk.issue(pass) {
+        Ok(true) => Some(pass.outcomes().last().copied()),
+        Ok(false) => Some(None),
+        Err(AllocError) => None,
+    }
+}
+
+/// What the processors 0, 1, 0 and 0 are answered at a desk whose unit refuses its third call.
+fn issue_past_a_refusal(alloc: Global) -> Result<[Option<Option<Outcome>>; 4], ValueFault> {
+    let unit = RefusingUnit::new(StoreBufferUnit::new(alloc, 8)?, 3);
+    let program = program_of(alloc, Order::Tso, &STORES_THEN_LOADS)?;
+    let mut desk = Desk::new(alloc, program, unit)?;
+    let mut first = Pass::new(alloc, 0);
+    let mut second = Pass::new(alloc, 1);
+    Ok([
+        issue_once(&mut desk, &mut first),
+        issue_once(&mut desk, &mut second),
+        issue_once(&mut desk, &mut first),
+        issue_once(&mut desk, &mut first),
+    ])
+}
+
+/// A refused issue leaves desk and pass as they were: the next one answers what it would have.
+#[test]
+fn desk_refused(rt: HostRuntime) -> Result<(), Fail> {
+    let found = issue_past_a_refusal(rt.alloc())?;
+    let expected = [
+        Some(Some(Outcome::St { a: 1, v: 1 })),
+        Some(Some(Outcome::St { a: 2, v: 2 })),
+        None,
+        Some(Some(Outcome::Ld { a: 2, r: 0 })),
+    ];
+    expect_equal(&rt, "issues", found, expected);
     Ok(())
 }

@@ -25,7 +25,7 @@ struct Ends<S: SeedUnits, U: MemoryUnit> {
 /// Has the jobs of all seeds done by `workers` threads, and takes their results in. With no seed no thread is started.
 ///
 /// Faults: OutOfMemory where an allocation was refused; NoThread where the system refused a thread, and then no job was
-/// sent. On every return all threads are joined.
+/// sent. On every return what the started threads had to do has ended.
 pub(super) fn gather<S: SeedUnits + Send, U: MemoryUnit + Send, R: Threads + Wait + Sync>(
     rt: &R,
     alloc: Global,

@@ -10,7 +10,7 @@ use traces_for_tests::{are_equal, lists_of, program_of, trace_of};
 use tso_ops::Act::{self, Drain, Issue};
 use tso_ops::{Op, Order, Outcome, Program, Trace, ValueFault};
 use unit_core::{Account, MemoryUnit, Recorded, replay, replay_over};
-use unit_kinds::SerialUnit;
+use unit_kinds::{SerialUnit, StoreBufferUnit};
 use units_for_tests::{
     Call, CallCounts, CallLog, CountingUnit, ForwardingUnit, INVENTED, InventingUnit,
     OTHER_ACCOUNT, RefusingUnit, closed_account, drops_of, new_counts, new_log, numbers_of,
@@ -521,5 +521,39 @@ fn refused_allocations_close_the_account_of_a_replay(rt: HostRuntime) -> Result<
     assert!(rt; recorded.lawful());
     expect_account(&rt, &account, &closed_account(2, 2, 0, 0));
     assert!(rt; drops_of(&counts) == 1);
+    Ok(())
+}
+
+/// Two processors that store and then load, each from the other's address.
+const STORES_THEN_LOADS: [&[Op]; 2] = [
+    &[Op::St { a: 1, v: 1 }, Op::Ld { a: 2 }],
+    &[Op::St { a: 2, v: 2 }, Op::Ld { a: 1 }],
+];
+
+/// Both processors store before either loads.
+const IN_TURN: [Act; 4] = [Issue(0), Issue(1), Issue(0), Issue(1)];
+
+/// Whether the replay of `STORES_THEN_LOADS` on a store-buffer unit that refuses the call of this number is refused, with
+/// this account.
+fn is_refused(alloc: Global, refused: u64, expected: Account) -> Result<bool, ValueFault> {
+    let program = program_of(alloc, Order::Tso, &STORES_THEN_LOADS)?;
+    let unit = RefusingUnit::new(StoreBufferUnit::new(alloc, 8)?, refused);
+    let mut account = OTHER_ACCOUNT;
+    let answer = replay_over(alloc, unit, &program, &IN_TURN, &mut account);
+    Ok(answer.is_err() && account == expected)
+}
+
+/// Both stores wait when the third call is refused, and none is drained.
+#[test]
+fn replay_refused(rt: HostRuntime) -> Result<(), Fail> {
+    let account = Account {
+        loads: 0,
+        stores: 2,
+        swaps: 0,
+        membars: 0,
+        drains: 0,
+        closed: true,
+    };
+    assert!(rt; is_refused(rt.alloc(), 3, account)?);
     Ok(())
 }
