@@ -175,6 +175,7 @@ fn slow(text: &str) -> SlowReader<&[u8]> {
     }
 }
 
+/// A body that is always_a_fault meets the contract of `check_texts`, but not this.
 #[test]
 fn certificates_that_hold(rt: HostRuntime) {
     for example in [READS, UNWRITTEN_LOAD] {

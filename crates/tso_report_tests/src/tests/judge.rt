@@ -148,6 +148,7 @@ pub(super) fn expect_judged<H: Threads + Wait + Sync + Abort>(
     );
 }
 
+/// A body that is always_a_fault meets the contract of `judge`, but not this.
 #[test]
 fn traces(rt: HostRuntime) {
     for (input, verdict, report) in TRACES {

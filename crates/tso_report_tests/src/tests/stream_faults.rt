@@ -111,12 +111,14 @@ fn reader_fails(rt: HostRuntime) {
     }
 }
 
-/// Compares what a reader leads to that fails after each number of bytes of this trace.
+/// Compares what a reader leads to that fails after each number of bytes of this trace, which come at once or one a call.
 fn expect_torn<H: Threads + Wait + Sync + Abort>(rt: &H, alloc: Global, trace: &str) {
     for count in 0..trace.len().saturating_add(1) {
         let rest = trace.as_bytes().get(..count).unwrap_or(TRACE);
         let ended = judged(rt, alloc, &mut TornReader { rest });
         expect(rt, trace, &ended, Err(Fault::Read), b"");
+        let ended = judged(rt, alloc, &mut slow(TornReader { rest }));
+        expect(rt, "slow", &ended, Err(Fault::Read), b"");
     }
 }
 
