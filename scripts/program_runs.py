@@ -60,6 +60,27 @@ def work_folder():
         shutil.rmtree(folder, ignore_errors=True)
 
 
+def build_refusals():
+    """Builds the library of scripts/refusals.c as refusals.so of the current folder; False where there is no C compiler."""
+    if shutil.which("cc") is None:
+        return False
+    subprocess.run(["cc", "-shared", "-fPIC", "-O1", "-o", "refusals.so", TOP / "scripts/refusals.c"], check=True)
+    return True
+
+
+def figures_of(command, text, refused):
+    """Runs a command with what these variables of refusals.so say refused: the answer, and the numbers that the library wrote,
+    None where it wrote none."""
+    path = f"figures.{os.getpid()}"
+    answer = run(command, text, {"LD_PRELOAD": os.path.abspath("refusals.so"), "FIGURES": path, **refused})
+    if not os.path.exists(path):
+        return answer, None
+    with open(path, encoding="ascii") as file:
+        numbers = list(map(int, file.read().split()))
+    os.remove(path)
+    return answer, numbers
+
+
 def run(command, text=None, environment=None):
     """Runs a command, with a text on standard input, or a folder there, of which no byte can be read."""
     folder = None if text is not None else os.open(".", os.O_RDONLY)

@@ -5,6 +5,7 @@
 
    REFUSED_REQUESTS=FIRST-LAST   which requests for memory are refused, by their numbers from 1; none where it isn't set
    REFUSED_THREADS=FIRST-LAST    the same of starts of threads
+   REFUSED_ALONE=1               a request that repeats a refused one is another request (see is_refused)
    FIGURES=FILE                  the file that gets one line at the end, as `write_figures` says */
 #define _GNU_SOURCE
 #include <dlfcn.h>
@@ -29,6 +30,7 @@ void *__libc_memalign(size_t, size_t);
 struct range { long first, last; };
 static struct range refused_requests, refused_threads;
 static const char *figures;
+static int are_refused_alone;
 static atomic_bool counting;
 static atomic_long requests, requests_refused, refused_in_a_start;
 static atomic_long starts, starts_refused, started, joined, detached;
@@ -55,9 +57,10 @@ OF_EACH_THREAD int is_starting;
 static const void *_Atomic refused_place;
 
 /* Whether a request is refused. A collection that was refused room for as many elements as may come asks again at once, for no
-   more bytes, and that is the same request: it is refused too, and has no number. */
+   more bytes, and that is the same request: it is refused too, and has no number. Not so with REFUSED_ALONE, for programs that
+   call a function again after a refusal. */
 static int is_refused(const void *place, const void *replaced, size_t size) {
-    int repeats = last.was_refused && replaced == last.replaced && size <= last.size;
+    int repeats = !are_refused_alone && last.was_refused && replaced == last.replaced && size <= last.size;
     last.was_refused = 0;
     last.place = place;
     last.replaced = replaced;
@@ -213,6 +216,7 @@ static int counted_main(int count, char **arguments, char **environment) {
     int status;
     refused_requests = range_of("REFUSED_REQUESTS");
     refused_threads = range_of("REFUSED_THREADS");
+    are_refused_alone = getenv("REFUSED_ALONE") != NULL;
     figures = getenv("FIGURES");
     counting = 1;
     status = program_main(count, arguments, environment);

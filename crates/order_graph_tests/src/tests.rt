@@ -2,6 +2,7 @@
 ghost use Rattle.std.specs.Prelude.{◌≡◌, ◌<◌, ◌/◌, ℕ, IfOk};
 ghost use Rattle.bitsets.specs.Rows.{HasNumber};
 
+mod at_limits;
 mod by_lists;
 mod edge_rows;
 mod edge_sets;

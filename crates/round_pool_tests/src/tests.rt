@@ -1,5 +1,6 @@
 //! Traces made by hand, and what the tests share.
 
+mod at_limits;
 mod claims;
 mod drawn;
 mod families;

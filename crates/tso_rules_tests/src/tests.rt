@@ -1,6 +1,7 @@
 //! Edges and reasons of small traces, by hand, and drawn traces beside the plain program of the model.
 
 mod affected;
+mod at_limits;
 mod drawn;
 mod justify_edges;
 mod over_base;

@@ -11,7 +11,7 @@ fn set_has(set: &EdgeSet, u: usize, v: usize) -> bool {
     u < set.nodes() && v < set.nodes() && set.has(u, v)
 }
 
-fn set_reached(alloc: Global, set: &EdgeSet, u: usize) -> Result<Vec<bool>, AllocError> {
+pub(super) fn set_reached(alloc: Global, set: &EdgeSet, u: usize) -> Result<Vec<bool>, AllocError> {
     if u < set.nodes() {
         set.reached(u)
     } else {
@@ -19,7 +19,7 @@ fn set_reached(alloc: Global, set: &EdgeSet, u: usize) -> Result<Vec<bool>, Allo
     }
 }
 
-fn set_reaches(set: &EdgeSet, u: usize, v: usize) -> Result<bool, AllocError> {
+pub(super) fn set_reaches(set: &EdgeSet, u: usize, v: usize) -> Result<bool, AllocError> {
     if u < set.nodes() && v < set.nodes() {
         set.reaches(u, v)
     } else {
@@ -27,7 +27,11 @@ fn set_reaches(set: &EdgeSet, u: usize, v: usize) -> Result<bool, AllocError> {
     }
 }
 
-fn set_least_path(set: &EdgeSet, u: usize, v: usize) -> Result<Option<Vec<usize>>, AllocError> {
+pub(super) fn set_least_path(
+    set: &EdgeSet,
+    u: usize,
+    v: usize,
+) -> Result<Option<Vec<usize>>, AllocError> {
     if u < set.nodes() && v < set.nodes() {
         set.least_path(u, v)
     } else {
@@ -39,11 +43,11 @@ fn set_nodes(set: &EdgeSet) -> usize {
     set.nodes()
 }
 
-fn set_of(graph: Graph) -> Result<EdgeSet, AllocError> {
+pub(super) fn set_of(graph: Graph) -> Result<EdgeSet, AllocError> {
     graph.edge_set()
 }
 
-fn remove(set: &mut EdgeSet, u: usize, v: usize) {
+pub(super) fn remove(set: &mut EdgeSet, u: usize, v: usize) {
     if u < set.nodes() && v < set.nodes() {
         set.remove(u, v);
     }

@@ -413,6 +413,35 @@ fn limits_of_one_list(rt: HostRuntime) -> Result<(), Fail> {
     Ok(())
 }
 
+/// Whether a trace and a program of version 1 under PSO may have so many STBARs.
+fn are_accepted(alloc: Global, count: usize) -> Result<[bool; 2], AllocError> {
+    let trace = ordered_fault(alloc, lists_of_copies(alloc, STBAR, &[count])?);
+    let lists = lists_of_copies(alloc, Op::Sb, &[count])?;
+    let program = Program::with_order(alloc, Order::Pso, lists);
+    Ok([trace.is_none(), program.is_ok()])
+}
+
+/// A program of version 2 with all first values and so many loads.
+fn program_of_loads(alloc: Global, count: usize) -> Result<Program, Fail> {
+    let mut first = Vec::new(alloc);
+    for a in 0..256u16 {
+        first.push((a, u64::from(a) + 1))?;
+    }
+    let lists = lists_of_copies(alloc, Op::Ld { a: 0 }, &[count])?;
+    Ok(Program::with_first(alloc, Order::Pso, first, lists).map_err(|refused| refused.why)?)
+}
+
+/// The most operations of each version, and the most first values.
+#[test]
+fn values_at_the_limits(rt: HostRuntime) -> Result<(), Fail> {
+    let alloc = rt.alloc();
+    expect(&rt, "STBARs", are_accepted(alloc, 2_000)?, [true; 2]);
+    let program = program_of_loads(alloc, 8_000)?;
+    let same = are_same(&program, &super::copy_of(&program)?);
+    expect(&rt, "a copy", same, (true, true));
+    Ok(())
+}
+
 /// A list of so many STBARs, and another of one more barriers of the other kind.
 fn both_barriers(alloc: Global, count: usize) -> Result<Vec<Vec<Outcome>>, AllocError> {
     let mut lists = lists_of_copies(alloc, STBAR, &[count])?;

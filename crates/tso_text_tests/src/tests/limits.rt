@@ -1,6 +1,9 @@
 //! Counts and bytes at their limits.
 
-use super::{At, PREFIX, expect, schedule_fault, schedule_of, trace_fault};
+use super::{
+    At, PREFIX, expect, expect_text, program_of, program_text, schedule_fault, schedule_of,
+    schedule_text, trace_fault, trace_of, trace_text,
+};
 use std::alloc::{AllocError, Global};
 use std::test::Fail;
 use traces_for_tests::repeated;
@@ -99,6 +102,39 @@ fn counts_at_their_limits(rt: HostRuntime) -> Result<(), Fail> {
     Ok(())
 }
 
+/// Of each text its kind, what follows the kind, a line and how often it comes: as many events, or barriers, as there may
+/// be.
+const FULL: [(&str, &str, &str, usize); 8] = [
+    ("tso trace ", "1\nproc\n", "ld 1 0\n", 2_000),
+    ("tso trace ", "2\nproc\n", "ld 1 0\n", 8_000),
+    ("tso trace ", "1\nmodel pso\nproc\n", "stbar\n", 2_000),
+    ("tso trace ", "2\nmodel pso\nproc\n", "mb\n", 8_000),
+    ("tso program ", "1\nproc\n", "ld 1\n", 2_000),
+    ("tso program ", "2\nproc\n", "ld 1\n", 8_000),
+    ("tso program ", "1\nmodel pso\nproc\n", "stbar\n", 2_000),
+    ("tso program ", "2\nmodel pso\nproc\n", "mb\n", 8_000),
+];
+
+/// The text of what a text is read as.
+fn printed_back(alloc: Global, kind: &str, text: &str) -> Result<String, Fail> {
+    if kind == "tso trace " {
+        trace_text(alloc, &trace_of(alloc, text)?)
+    } else {
+        program_text(alloc, &program_of(alloc, text)?)
+    }
+}
+
+#[test]
+fn full_texts_are_printed_back(rt: HostRuntime) -> Result<(), Fail> {
+    let alloc = rt.alloc();
+    for (kind, prefix, line, count) in &FULL {
+        let head = format!(in alloc; "{kind}{prefix}")?;
+        let text = repeated(alloc, &head, line, *count, "end\n")?;
+        expect_text(&rt, &head, &printed_back(alloc, kind, &text)?, &text);
+    }
+    Ok(())
+}
+
 /// A schedule of 262,139 acts and these bytes after the last but one.
 fn long_schedule(alloc: Global, back: &str) -> Result<String, AllocError> {
     repeated(alloc, "tso schedule 1\n", "i 0\n", 262_138, back)
@@ -109,7 +145,9 @@ fn bytes_at_their_limit(rt: HostRuntime) -> Result<(), Fail> {
     let alloc = rt.alloc();
     let whole = long_schedule(alloc, "d 15\nend\n")?;
     expect(&rt, "bytes", whole.len(), 1_048_576);
-    expect(&rt, "acts", schedule_of(alloc, &whole)?.len(), 262_139);
+    let acts = schedule_of(alloc, &whole)?;
+    expect(&rt, "acts", acts.len(), 262_139);
+    expect_text(&rt, "back", &schedule_text(alloc, &acts)?, &whole);
     let longer = long_schedule(alloc, "d 15\nend\nx")?;
     expect(&rt, "bytes", longer.len(), 1_048_577);
     let fault = Some((0, Why::TooLong));
