@@ -1,0 +1,83 @@
+//! The texts of explanations.
+ghost use Rattle.std.specs.Prelude.{◌≡◌, ◌≢◌, ◌↔◌, ◌++◌, IsErr, IfOk, OnOk, string_bytes};
+ghost use Rattle.tso_text.specs.declared.faults.Why.{Why};
+ghost use Rattle.tso_report.specs.declared.verdicts.Verdict.{Verdict};
+ghost use Rattle.tso_report.specs.Reports.{head_text, refusal_text};
+ghost use Rattle.tso_report.specs.RoundsAndCertificates.{IsFinding};
+ghost use Rattle.tso_report.specs.Violations.{IsViolation};
+ghost use Rattle.trace_explanation.specs.Refusals.{refusal_explanation};
+ghost use Rattle.explaining.specs.Explained.{IsTraceExplanation, verdict_by, verdict_text};
+
+use std::alloc::{AllocError, Global};
+use std::fmt::Write;
+use trace_explanation::{explain, explain_refusal};
+use tso_cert::Certificate;
+use tso_ops::Trace;
+use tso_report::{Finding, Report, Verdict, render_refusal};
+use tso_text::TextFault;
+
+/// The explanation of a trace, of which this was found, with the verdict of its report. OutOfMemory where an allocation
+/// was refused.
+pub(crate) fn render_explanation(
+    alloc: Global,
+    trace: &Trace,
+    finding: &Finding,
+) -> Result<Report, AllocError>
+    requires { IsFinding trace.now finding.now }
+    ensures explanation { IfOk result (λ explained. IsTraceExplanation trace.now (string_bytes explained.text) explained.verdict) }
+    ensures violation { IfOk result (λ explained. (explained.verdict ≡ Verdict.Violation) ↔ IsViolation trace.now) }
+{
+    let mut text = head_text(alloc, trace.processors(), trace.events(), finding.rounds)?;
+    let verdict = push_verdict(&mut text, &finding.certificate)?;
+    explain(alloc, &mut text, trace, &finding.certificate)?;
+    Ok(Report { verdict, text })
+}
+
+/// The explanation of a text that is no trace: the line of its refusal, and what is said of it. OutOfMemory where an
+/// allocation was refused, also where the fault says that one of its reader was.
+pub(crate) fn render_refusal_explanation(
+    alloc: Global,
+    input: &[u8],
+    fault: TextFault,
+) -> Result<Report, AllocError>
+    ensures refused { IfOk result (λ explained. fault.why ≢ Why.OutOfMemory × (string_bytes explained.text ≡ refusal_text fault.line fault.why ++ refusal_explanation input.now fault.line fault.why) × (explained.verdict ≡ Verdict.Refused)) }
+    ensures memory { fault.why ≡ Why.OutOfMemory → IsErr result }
+{
+    let Report { verdict, mut text } = render_refusal(alloc, fault)?;
+    explain_refusal(&mut text, input, fault)?;
+    Ok(Report { verdict, text })
+}
+
+/// The first two lines of a report on a trace.
+fn head_text(
+    alloc: Global,
+    processors: usize,
+    events: usize,
+    rounds: u64,
+) -> Result<String, AllocError>
+    ensures { IfOk result (λ text. string_bytes text ≡ head_text processors events rounds) }
+{
+    let mut text = String::from_str(alloc, "TSO REPORT 1\n")?;
+    writeln!(
+        text,
+        "processors {processors} events {events} rounds {rounds}"
+    )?;
+    Ok(text)
+}
+
+/// Appends the line of the verdict that the certificate stands for, or none.
+fn push_verdict(text: &mut String, certificate: &Option<Certificate>) -> Result<Verdict, AllocError>
+    ensures line { OnOk result (string_bytes text.new ≡ string_bytes text.old ++ verdict_text certificate.now) }
+    ensures verdict { IfOk result (λ verdict. verdict ≡ verdict_by certificate.now) }
+{
+    match certificate {
+        Some(_) => {
+            text.push_str("VIOLATION\n")?;
+            Ok(Verdict::Violation)
+        },
+        None => {
+            text.push_str("NO VIOLATION FOUND\n")?;
+            Ok(Verdict::NoViolation)
+        },
+    }
+}

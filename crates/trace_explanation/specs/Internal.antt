@@ -1,0 +1,2 @@
+-- What private tables keep and how far loops have come. No public contract uses these definitions.
+pub mod Tables

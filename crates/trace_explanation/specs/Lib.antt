@@ -1,0 +1,11 @@
+pub mod Claims
+pub mod Explanations
+pub mod Internal
+pub mod Lines
+pub mod Names
+pub mod Operations
+pub mod Pieces
+pub mod Refusals
+pub mod Searches
+pub mod Steps
+pub mod Words

@@ -1,0 +1,84 @@
+-- The words of each rule: in short, on a line of the cycle, and in full, where its step is explained.
+-- What they say of a memory order has a case for each rule in `BaseSays` and `InferredSays` (`Claims`), and the laws `base_sentences_are_true` and
+-- `inferred_sentences_are_true` (`src/laws.rt`) prove it for each rule; `own_loads_give_edges` is on the load that an Own step names, and
+-- `steps_rest_on_smaller_numbers` on the numbers that its path has.
+use Rattle.std.specs.Prelude.{ℕ, suc, List, [], ◌∷◌, ◌++◌, Option, None, Some, codes}
+use Rattle.tso_ops.specs.declared.settings.Order.{Order}
+use Rattle.tso_ops.specs.declared.settings.Order.TheVariants.{Tso, Pso}
+use Rattle.tso_ops.specs.Values.{TraceValue}
+use Rattle.tso_cert.specs.declared.rules.BaseRule.{BaseRule}
+use Rattle.tso_cert.specs.declared.rules.BaseRule.TheVariants.{Init, LoadOp, StoreStore, Stbar, Membar, Read, Own}
+use Rattle.tso_cert.specs.declared.rules.InferredRule.{InferredRule}
+use Rattle.tso_cert.specs.declared.rules.InferredRule.TheVariants.{LoadPast, StorePast, SwapBefore, SwapAfter}
+use Rattle.tso_cert.specs.declared.steps.Reason.{Reason}
+use Rattle.tso_cert.specs.declared.steps.Reason.TheVariants.{Base, Inferred}
+use Rattle.tso_cert.specs.declared.steps.CertStep.{CertStep}
+use Rattle.trace_explanation.specs.Pieces.{joined}
+use Rattle.trace_explanation.specs.Names.{name_text, read_text}
+use Rattle.trace_explanation.specs.Steps.{by_text, own_load}
+
+-- the name of a number that may be missing
+abbrev pub load_name : TraceValue → Option ℕ → List ℕ
+load_name t None = []
+load_name t (Some l) = name_text t l
+
+-- what the load of a number that may be missing read
+abbrev pub load_read : TraceValue → Option ℕ → List ℕ
+load_read t None = []
+load_read t (Some l) = read_text t l
+
+-- ---- in short
+
+-- a load sees one store and read another
+abbrev pub seen_short : List ℕ → List ℕ
+seen_short load = load ++ codes " sees the former, yet it read the latter"
+
+unfoldable pub base_short : TraceValue → BaseRule → ℕ → ℕ → List ℕ
+base_short t Init u v = codes "they come before every event"
+base_short t LoadOp u v = codes "program order"
+base_short t StoreStore u v = codes "program order"
+base_short t Stbar u v = codes "program order, with 'stbar' between"
+base_short t Membar u v = codes "program order, with 'mb' between"
+base_short t Read u v = codes "the load read this store"
+base_short t Own u v = seen_short (load_name t (own_load t u v))
+
+unfoldable pub inferred_short : TraceValue → InferredRule → ℕ → List ℕ
+inferred_short t LoadPast l = seen_short (name_text t l)
+inferred_short t StorePast l = codes "the load read something older than the store"
+inferred_short t SwapBefore l = codes "a swap is atomic"
+inferred_short t SwapAfter l = codes "a swap is atomic"
+
+abbrev pub reason_short : TraceValue → ℕ → ℕ → Reason → List ℕ
+reason_short t u v (Base rule) = base_short t rule u v
+reason_short t u v (Inferred rule load path) = inferred_short t rule load
+
+-- ---- in full
+
+-- how the memory model keeps the order of stores
+abbrev pub kept_stores : Order → List ℕ
+kept_stores Tso = codes "program order; a processor keeps its stores in order."
+kept_stores Pso = codes "program order; a processor keeps its stores to one address in order."
+
+unfoldable pub base_long : TraceValue → BaseRule → ℕ → ℕ → List ℕ
+base_long t Init u v = codes "they come before every event."
+base_long t LoadOp u v = codes "program order; a load comes before all that follows it on its processor."
+base_long t StoreStore u v = kept_stores t.setting.order
+base_long t Stbar u v = codes "program order, with 'stbar' between the two stores."
+base_long t Membar u v = codes "program order, with 'mb' between the store and the load."
+base_long t Read u v = codes "the load read this store.\n   It sees the store, which is not earlier on its own processor, so the store comes before it."
+base_long t Own u v = joined (
+    codes "a load that sees the store read something else.\n   " ∷ load_name t (own_load t u v) ∷ codes " sees the store, which is earlier on its own processor, and it read " ∷ load_read t (own_load t u v) ∷ codes ".\n   A load reads the last of the stores that it sees, so what it read comes after this store." ∷ [])
+
+unfoldable pub inferred_long : TraceValue → List CertStep → InferredRule → ℕ → ℕ → ℕ → List ℕ → List ℕ
+inferred_long t steps LoadPast u v l path = joined (
+    codes "a load that sees the store read something else.\n   " ∷ name_text t l ∷ codes " sees the store, which comes before it by " ∷ by_text steps path ∷ codes ", and it read " ∷ read_text t l ∷ codes ".\n   A load reads the last of the stores that it sees, so what it read comes after this store." ∷ [])
+inferred_long t steps StorePast u v l path = joined (
+    codes "the load read something older than the store.\n   It read " ∷ read_text t l ∷ codes ", and the store comes after that by " ∷ by_text steps path ∷ codes ".\n   Had the store come before the load, the load would have read it or a later store." ∷ [])
+inferred_long t steps SwapBefore u v l path = joined (
+    codes "a swap is atomic.\n   " ∷ name_text t u ∷ codes " comes before " ∷ name_text t (suc l) ∷ codes " by " ∷ by_text steps path ∷ codes ".\n   No other store comes between a swap's load and its store, so this store comes before both." ∷ [])
+inferred_long t steps SwapAfter u v l path = joined (
+    codes "a swap is atomic.\n   " ∷ name_text t v ∷ codes " comes after " ∷ name_text t l ∷ codes " by " ∷ by_text steps path ∷ codes ".\n   No other store comes between a swap's load and its store, so this store comes after both." ∷ [])
+
+abbrev pub reason_long : TraceValue → List CertStep → ℕ → ℕ → Reason → List ℕ
+reason_long t steps u v (Base rule) = base_long t rule u v
+reason_long t steps u v (Inferred rule load path) = inferred_long t steps rule u v load path

@@ -1,0 +1,57 @@
+//! The laws of the sentences: what each says is true.
+ghost use Rattle.std.specs.Prelude.{◌≡◌, ◌≢◌, ◌-◌, ◌<◌, ◌≤◌, ℕ, List, Some, slice_get};
+ghost use Rattle.std.specs.List.{flat_map};
+ghost use Rattle.order_paths.specs.Neighbours.{AreNeighbours};
+ghost use Rattle.tso_ops.specs.Values.{TraceValue};
+ghost use Rattle.tso_ops.specs.declared.events.Event.{Event};
+ghost use Rattle.tso_ops.specs.Events.{event_at};
+ghost use Rattle.tso_ops.specs.Limits.{IsTrace};
+ghost use Rattle.tso_cert.specs.declared.rules.BaseRule.{BaseRule};
+ghost use Rattle.tso_cert.specs.declared.rules.InferredRule.{InferredRule};
+ghost use Rattle.tso_cert.specs.declared.steps.Reason.TheVariants.{Inferred};
+ghost use Rattle.tso_cert.specs.declared.steps.CertStep.{CertStep};
+ghost use Rattle.tso_model.specs.Axioms.{IsBefore, IsModelOrder};
+ghost use Rattle.tso_model.specs.Rules.{BasePair, InferredBy, IsOwnBy};
+ghost use Rattle.tso_model.specs.Certs.{StepsHold};
+ghost use Rattle.tso_text.specs.Printed.{trace_text};
+ghost use Rattle.trace_explanation.specs.declared.operations.EventOperation.{EventOperation};
+ghost use Rattle.trace_explanation.specs.Lines.{ended_line, text_lines};
+ghost use Rattle.trace_explanation.specs.Names.{outcome_text};
+ghost use Rattle.trace_explanation.specs.Operations.{operation_at, IsOperationOf};
+ghost use Rattle.trace_explanation.specs.Claims.{BaseSays, InferredSays};
+ghost use Rattle.trace_explanation.specs.Steps.{own_load, step_number};
+
+/// What the sentence of a base rule says of an edge that the rule gives is true of every order of the trace's model.
+pub fn base_sentences_are_true()
+    ensures { (t : TraceValue) (order : List ℕ) → IsTrace t → IsModelOrder t order → (rule : BaseRule) (u v l : ℕ) → BasePair t rule u v → (rule ≡ BaseRule.Own → IsOwnBy t l u v) → BaseSays t order rule u v l }
+{}
+
+/// What the sentence of an inferred rule says of an edge that the rule gives is true of every order of the trace's model
+/// that puts the first number of its path before the last one.
+pub fn inferred_sentences_are_true()
+    ensures { (t : TraceValue) (order : List ℕ) → IsTrace t → IsModelOrder t order → (rule : InferredRule) (l u v x y : ℕ) → InferredBy t rule l u v x y → IsBefore order x y → InferredSays t order rule l u v x y }
+{}
+
+/// The load that an Own step's words name is the least one that gives the step's edge by the rule.
+pub fn own_loads_give_edges()
+    ensures { (t : TraceValue) → IsTrace t → (u v l : ℕ) → u ≢ v → own_load t u v ≡ Some l → IsOwnBy t l u v × ((other : ℕ) → IsOwnBy t other u v → l ≤ other) }
+{}
+
+/// Where the steps hold, a step rests only on steps of smaller numbers: each edge of its path has a number, which is below
+/// its own.
+pub fn steps_rest_on_smaller_numbers()
+    ensures { (t : TraceValue) (steps : List CertStep) → StepsHold t steps → (k : ℕ) (s : CertStep) (rule : InferredRule) (load : ℕ) (path : List ℕ) → slice_get steps k ≡ Some s →
+        s.reason ≡ Inferred rule load path → (x y : ℕ) → AreNeighbours path x y → (0 < step_number steps x y) × (step_number steps x y ≤ k) }
+{}
+
+/// A trace's text is its lines, each with its line feed, and the line of an event's operation is the number of the line
+/// that says the operation.
+pub fn operations_stand_on_their_lines()
+    ensures lines { (t : TraceValue) → trace_text t ≡ flat_map ended_line (text_lines t) }
+    ensures operation { (t : TraceValue) (n : ℕ) (o : EventOperation) → operation_at t n ≡ Some o → (0 < o.line) × (slice_get (text_lines t) (o.line - 1) ≡ Some (outcome_text o.outcome)) }
+{}
+
+/// Each event has an operation, which stands at its place of the event's processor, and the event is that part of it.
+pub fn operations_give_their_events()
+    ensures { (t : TraceValue) (n : ℕ) (e : Event) → event_at t n ≡ Some e → (o : EventOperation) × (operation_at t n ≡ Some o) × IsOperationOf t e o }
+{}

@@ -1,0 +1,47 @@
+//! Which events the steps of a certificate name.
+ghost use Rattle.std.specs.Prelude.{◌≡◌, ◌==◌, ◌||◌, ◌<◌, ℕ, suc, false, get_or, length, IfOk};
+ghost use Rattle.tso_ops.specs.Events.{event_total};
+ghost use Rattle.trace_explanation.specs.Steps.{is_named, is_number, names};
+ghost use Rattle.trace_explanation.specs.Internal.Tables.{AreMarks};
+
+use crate::loads::step_load;
+use std::alloc::{AllocError, Global};
+use tso_cert::CertStep;
+use tso_ops::Trace;
+
+/// For number 0 and each event whether one of the steps names it. OutOfMemory where an allocation was refused.
+pub(crate) fn mark_named(
+    alloc: Global,
+    trace: &Trace,
+    steps: &[CertStep],
+) -> Result<Vec<bool>, AllocError>
+    ensures { IfOk result (λ marks. AreMarks (is_named trace.now steps.now) (suc (event_total trace.now)) marks.items) }
+{
+    let mut marks = vec![in alloc; false; trace.node_count()]?;
+    for step in steps {
+        mark_step(trace, step, &mut marks);
+    }
+    Ok(marks)
+}
+
+/// Marks the numbers that a step names.
+fn mark_step(trace: &Trace, step: &CertStep, marks: &mut Vec<bool>)
+    ensures length { length marks.new.items ≡ length marks.old.items }
+    ensures marked { (n : ℕ) → n < length marks.old.items → get_or marks.new.items n false ≡ (names trace.now n step.now || get_or marks.old.items n false) }
+{
+    mark(marks, step.from as usize);
+    mark(marks, step.to as usize);
+    if let Some(load) = step_load(trace, step) {
+        mark(marks, load);
+    }
+}
+
+/// Marks a number; nothing where it is past the end.
+fn mark(marks: &mut Vec<bool>, number: usize)
+    ensures length { length marks.new.items ≡ length marks.old.items }
+    ensures marked { (n : ℕ) → n < length marks.old.items → get_or marks.new.items n false ≡ (number == n || get_or marks.old.items n false) }
+{
+    if number < marks.len() {
+        marks[number] = true;
+    }
+}

@@ -1,0 +1,215 @@
+//! The explanation of an unwritten load.
+ghost use Rattle.std.specs.Prelude.{◌≡◌, ◌++◌, Some, length, take, string_bytes, OnOk, IfOk};
+ghost use Rattle.std.specs.List.{flat_map};
+ghost use Rattle.tso_ops.specs.Events.{event_at, event_total};
+ghost use Rattle.trace_explanation.specs.Searches.{least};
+ghost use Rattle.trace_explanation.specs.Names.{place_text};
+ghost use Rattle.trace_explanation.specs.Explanations.{elsewhere_at, elsewhere_text, more_text, stores_text, stores_to, stores_up_to, stores_value, unread_text, unwritten_at, unwritten_text};
+
+use crate::names::NamedTrace;
+use crate::prefixes::first_of;
+use std::alloc::{AllocError, Global};
+use std::fmt::Write;
+use tso_ops::{Event, Trace};
+
+/// How many stores to an unwritten load's address are named at most.
+const NAMED_STORES: usize = 16;
+
+/// Appends the explanation of load `n`, whose value nothing wrote to its address; nothing where there is no such event.
+/// OutOfMemory where an allocation was refused.
+#[tactic(auto, unfolding(crate::specs::Explanations::unwritten_text))]
+pub(crate) fn push_unwritten(
+    alloc: Global,
+    text: &mut String,
+    named: &NamedTrace<'_>,
+    n: usize,
+) -> Result<(), AllocError>
+    ensures { OnOk result (string_bytes text.new ≡ string_bytes text.old ++ unwritten_text named.now n) }
+{
+    match named.trace().event(n) {
+        Some(event) => push_event(alloc, text, named, n, event),
+        None => Ok(()),
+    }
+}
+
+/// Appends the explanation of load `n`, by its event.
+fn push_event(
+    alloc: Global,
+    text: &mut String,
+    named: &NamedTrace<'_>,
+    n: usize,
+    event: Event,
+) -> Result<(), AllocError>
+    ensures { OnOk result (string_bytes text.new ≡ string_bytes text.old ++ unwritten_at named.now n (Some event)) }
+{
+    push_unread(text, named, n, event)?;
+    push_elsewhere(alloc, text, named, event.value)?;
+    push_stores(alloc, text, named, event.a)
+}
+
+/// Appends what load `n` read, and the first value of its address.
+#[tactic(auto, unfolding(crate::specs::Explanations::unread_text))]
+fn push_unread(
+    text: &mut String,
+    named: &NamedTrace<'_>,
+    n: usize,
+    event: Event,
+) -> Result<(), AllocError>
+    ensures { OnOk result (string_bytes text.new ≡ string_bytes text.old ++ unread_text named.now n event) }
+{
+    let line = named.line(n);
+    let name = named.name(n);
+    let value = event.value;
+    let address = event.a;
+    let first = named.trace().first(address);
+    write!(
+        text,
+        "\nA load read a value that nothing wrote to its address:\n\n  line {line}: {name} read {value}\n\nThe first value of address {address} is {first}.\n"
+    )
+}
+
+/// Appends the store of the value, where there is one.
+fn push_elsewhere(
+    alloc: Global,
+    text: &mut String,
+    named: &NamedTrace<'_>,
+    value: u64,
+) -> Result<(), AllocError>
+    ensures { OnOk result (string_bytes text.new ≡ string_bytes text.old ++ elsewhere_text named.now value (least (λ m. stores_value value (event_at named.now m)) (event_total named.now))) }
+{
+    match store_of(named.trace(), value) {
+        Some(m) => push_elsewhere_at(alloc, text, named, value, m),
+        None => Ok(()),
+    }
+}
+
+/// Appends that event `m` stored the value.
+fn push_elsewhere_at(
+    alloc: Global,
+    text: &mut String,
+    named: &NamedTrace<'_>,
+    value: u64,
+    m: usize,
+) -> Result<(), AllocError>
+    ensures { OnOk result (string_bytes text.new ≡ string_bytes text.old ++ elsewhere_at named.now value m (event_at named.now m)) }
+{
+    match named.trace().event(m) {
+        Some(store) => {
+            let address = store.a;
+            write!(
+                text,
+                "The value {value} was stored to address {address} instead:\n\n"
+            )?;
+            named.push_place(alloc, text, m)?;
+            text.push_str("\n")
+        },
+        None => Ok(()),
+    }
+}
+
+/// The least store of the value, to any address.
+fn store_of(trace: &Trace, value: u64) -> Option<usize>
+    ensures { result ≡ least (λ m. stores_value value (event_at trace.now m)) (event_total trace.now) }
+{
+    for m in 0..trace.events() {
+        if stores_value(trace, value, m + 1) {
+            return Some(m + 1);
+        }
+    }
+    None
+}
+
+/// Whether event `m` is a store of the value.
+fn stores_value(trace: &Trace, value: u64, m: usize) -> bool
+    ensures { result ≡ stores_value value (event_at trace.now m) }
+{
+    match trace.event(m) {
+        Some(event) => !event.load && event.value == value,
+        None => false,
+    }
+}
+
+/// Whether event `m` is a store to the address.
+fn stores_to(trace: &Trace, a: u16, m: usize) -> bool
+    ensures { result ≡ stores_to a (event_at trace.now m) }
+{
+    match trace.event(m) {
+        Some(event) => !event.load && event.a == a,
+        None => false,
+    }
+}
+
+/// The stores to the address, in the order of their numbers.
+fn list_stores(alloc: Global, trace: &Trace, a: u16) -> Result<Vec<usize>, AllocError>
+    ensures { IfOk result (λ stores. stores.items ≡ stores_up_to trace.now a (event_total trace.now)) }
+{
+    let mut stores = Vec::new(alloc);
+    for m in 0..trace.events() {
+        if stores_to(trace, a, m + 1) {
+            stores.push(m + 1)?;
+        }
+    }
+    Ok(stores)
+}
+
+/// Appends the stores to the address, of which the first 16 are named.
+fn push_stores(
+    alloc: Global,
+    text: &mut String,
+    named: &NamedTrace<'_>,
+    a: u16,
+) -> Result<(), AllocError>
+    ensures { OnOk result (string_bytes text.new ≡ string_bytes text.old ++ stores_text named.now a (stores_up_to named.now a (event_total named.now))) }
+{
+    let stores = list_stores(alloc, named.trace(), a)?;
+    push_store_lines(alloc, text, named, a, &stores)
+}
+
+/// Appends these stores to the address, of which the first 16 are named.
+#[tactic(auto, unfolding(crate::specs::Explanations::stores_text))]
+fn push_store_lines(
+    alloc: Global,
+    text: &mut String,
+    named: &NamedTrace<'_>,
+    a: u16,
+    stores: &[usize],
+) -> Result<(), AllocError>
+    ensures { OnOk result (string_bytes text.new ≡ string_bytes text.old ++ stores_text named.now a stores.now) }
+{
+    match stores {
+        [] => write!(text, "No operation stores to address {a}.\n"),
+        [_, ..] => {
+            let count = stores.len();
+            write!(text, "The stores to address {a}, {count} in all:\n\n")?;
+            push_places(alloc, text, named, first_of(stores, NAMED_STORES))?;
+            push_more(text, count)
+        },
+    }
+}
+
+/// Appends the lines of these events.
+fn push_places(
+    alloc: Global,
+    text: &mut String,
+    named: &NamedTrace<'_>,
+    events: &[usize],
+) -> Result<(), AllocError>
+    ensures { OnOk result (string_bytes text.new ≡ string_bytes text.old ++ flat_map (place_text named.now) events.now) }
+{
+    for event in events {
+        named.push_place(alloc, text, *event)?;
+    }
+    Ok(())
+}
+
+/// Appends how many more than 16 there are.
+fn push_more(text: &mut String, count: usize) -> Result<(), AllocError>
+    ensures { OnOk result (string_bytes text.new ≡ string_bytes text.old ++ more_text count) }
+{
+    if count > NAMED_STORES {
+        let more = count - NAMED_STORES;
+        write!(text, "  and {more} more\n")
+    } else {
+        Ok(())
+    }
+}

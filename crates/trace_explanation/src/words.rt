@@ -1,0 +1,247 @@
+//! The words of each rule, in short and in full.
+ghost use Rattle.std.specs.Prelude.{◌≡◌, ◌≢◌, ℕ, List, string_bytes, IfOk};
+ghost use Rattle.tso_ops.specs.Values.{TraceValue};
+ghost use Rattle.tso_cert.specs.declared.rules.BaseRule.{BaseRule};
+ghost use Rattle.tso_cert.specs.declared.rules.InferredRule.{InferredRule};
+ghost use Rattle.tso_cert.specs.declared.steps.CertStep.{CertStep};
+ghost use Rattle.trace_explanation.specs.Steps.{by_text, own_load};
+ghost use Rattle.trace_explanation.specs.Words.{base_long, base_short, inferred_long, inferred_short, kept_stores, load_name, load_read, reason_long, reason_short};
+
+use crate::loads::own_load;
+use crate::names::NamedTrace;
+use crate::numbers::NumberedSteps;
+use std::alloc::{AllocError, Global};
+use tso_cert::{BaseRule, CertStep, InferredRule, Reason};
+use tso_ops::Order;
+
+/// Why the edge of a step holds, in short. OutOfMemory where an allocation was refused.
+pub(crate) fn short_words(
+    alloc: Global,
+    named: &NamedTrace<'_>,
+    step: &CertStep,
+) -> Result<String, AllocError>
+    ensures { IfOk result (λ text. string_bytes text ≡ reason_short named.now step.now.from step.now.to step.now.reason) }
+{
+    match &step.reason {
+        Reason::Base(rule) => base_short(alloc, named, *rule, step.from as usize, step.to as usize),
+        Reason::Inferred { rule, load, .. } => inferred_short(alloc, named, *rule, *load as usize),
+    }
+}
+
+/// A base rule in short, for the edge from `u` to `v`.
+#[tactic(auto, unfolding(crate::specs::Words::base_short))]
+fn base_short(
+    alloc: Global,
+    named: &NamedTrace<'_>,
+    rule: BaseRule,
+    u: usize,
+    v: usize,
+) -> Result<String, AllocError>
+    ensures { IfOk result (λ text. string_bytes text ≡ base_short named.now rule u v) }
+{
+    match rule {
+        BaseRule::Init => String::from_str(alloc, "they come before every event"),
+        BaseRule::LoadOp | BaseRule::StoreStore => String::from_str(alloc, "program order"),
+        BaseRule::Stbar => String::from_str(alloc, "program order, with 'stbar' between"),
+        BaseRule::Membar => String::from_str(alloc, "program order, with 'mb' between"),
+        BaseRule::Read => String::from_str(alloc, "the load read this store"),
+        BaseRule::Own => {
+            let load = load_name(named, own_load(named.trace(), u, v));
+            format!(in alloc; "{load} sees the former, yet it read the latter")
+        },
+    }
+}
+
+/// An inferred rule in short, for load `l`.
+#[tactic(auto, unfolding(crate::specs::Words::inferred_short))]
+fn inferred_short(
+    alloc: Global,
+    named: &NamedTrace<'_>,
+    rule: InferredRule,
+    l: usize,
+) -> Result<String, AllocError>
+    ensures { IfOk result (λ text. string_bytes text ≡ inferred_short named.now rule l) }
+{
+    match rule {
+        InferredRule::LoadPast => {
+            let load = named.name(l);
+            format!(in alloc; "{load} sees the former, yet it read the latter")
+        },
+        InferredRule::StorePast => {
+            String::from_str(alloc, "the load read something older than the store")
+        },
+        InferredRule::SwapBefore | InferredRule::SwapAfter => {
+            String::from_str(alloc, "a swap is atomic")
+        },
+    }
+}
+
+/// Why the edge of a step holds, in full. OutOfMemory where an allocation was refused.
+pub(crate) fn long_words(
+    alloc: Global,
+    named: &NamedTrace<'_>,
+    numbered: &NumberedSteps<'_>,
+    step: &CertStep,
+) -> Result<String, AllocError>
+    ensures { IfOk result (λ text. string_bytes text ≡ reason_long named.now numbered.now step.now.from step.now.to step.now.reason) }
+{
+    match &step.reason {
+        Reason::Base(rule) => base_long(alloc, named, *rule, step.from as usize, step.to as usize),
+        Reason::Inferred { rule, load, path } => {
+            let by = numbered.by(alloc, path.items())?;
+            let l = *load as usize;
+            match rule {
+                InferredRule::LoadPast => load_past(alloc, named, l, &by),
+                InferredRule::StorePast => store_past(alloc, named, l, &by),
+                InferredRule::SwapBefore => swap_before(alloc, named, step.from as usize, l, &by),
+                InferredRule::SwapAfter => swap_after(alloc, named, step.to as usize, l, &by),
+            }
+        },
+    }
+}
+
+/// A base rule in full, for the edge from `u` to `v`.
+#[tactic(auto, unfolding(crate::specs::Words::base_long))]
+fn base_long(
+    alloc: Global,
+    named: &NamedTrace<'_>,
+    rule: BaseRule,
+    u: usize,
+    v: usize,
+) -> Result<String, AllocError>
+    ensures { IfOk result (λ text. string_bytes text ≡ base_long named.now rule u v) }
+{
+    match rule {
+        BaseRule::Own => {
+            let load = own_load(named.trace(), u, v);
+            let name = load_name(named, load);
+            let read = load_read(alloc, named, load)?;
+            format!(in alloc;
+                "a load that sees the store read something else.\n   {name} sees the store, which is earlier on its own processor, and it read {read}.\n   A load reads the last of the stores that it sees, so what it read comes after this store."
+            )
+        },
+        _ => String::from_str(alloc, order_words(rule, named.trace().order())),
+    }
+}
+
+/// A base rule that names no load, in full.
+#[tactic(auto, unfolding(crate::specs::Words::base_long))]
+fn order_words(rule: BaseRule, order: Order) -> &'static str
+    requires { rule ≢ BaseRule.Own }
+    ensures { (t : TraceValue) (u v : ℕ) → t.setting.order ≡ order → result.now ≡ base_long t rule u v }
+{
+    match rule {
+        BaseRule::Init => "they come before every event.",
+        BaseRule::LoadOp =>
+            "program order; a load comes before all that follows it on its processor.",
+        BaseRule::StoreStore => kept_stores(order),
+        BaseRule::Stbar => "program order, with 'stbar' between the two stores.",
+        BaseRule::Membar => "program order, with 'mb' between the store and the load.",
+        BaseRule::Read =>
+            "the load read this store.\n   It sees the store, which is not earlier on its own processor, so the store comes before it.",
+        BaseRule::Own => "",
+    }
+}
+
+/// How the memory model keeps the order of stores.
+fn kept_stores(order: Order) -> &'static str
+    ensures { result.now ≡ kept_stores order }
+{
+    match order {
+        Order::Tso => "program order; a processor keeps its stores in order.",
+        Order::Pso => "program order; a processor keeps its stores to one address in order.",
+    }
+}
+
+/// The rule LoadPast in full, for load `l` and the steps of its path.
+#[tactic(auto, unfolding(crate::specs::Words::inferred_long))]
+fn load_past(
+    alloc: Global,
+    named: &NamedTrace<'_>,
+    l: usize,
+    by: &str,
+) -> Result<String, AllocError>
+    ensures { (steps : List CertStep) (u v : ℕ) (path : List ℕ) → by.now ≡ by_text steps path → IfOk result (λ text. string_bytes text ≡ inferred_long named.now steps InferredRule.LoadPast u v l path) }
+{
+    let name = named.name(l);
+    let read = named.read(alloc, l)?;
+    format!(in alloc;
+        "a load that sees the store read something else.\n   {name} sees the store, which comes before it by {by}, and it read {read}.\n   A load reads the last of the stores that it sees, so what it read comes after this store."
+    )
+}
+
+/// The rule StorePast in full, for load `l` and the steps of its path.
+#[tactic(auto, unfolding(crate::specs::Words::inferred_long))]
+fn store_past(
+    alloc: Global,
+    named: &NamedTrace<'_>,
+    l: usize,
+    by: &str,
+) -> Result<String, AllocError>
+    ensures { (steps : List CertStep) (u v : ℕ) (path : List ℕ) → by.now ≡ by_text steps path → IfOk result (λ text. string_bytes text ≡ inferred_long named.now steps InferredRule.StorePast u v l path) }
+{
+    let read = named.read(alloc, l)?;
+    format!(in alloc;
+        "the load read something older than the store.\n   It read {read}, and the store comes after that by {by}.\n   Had the store come before the load, the load would have read it or a later store."
+    )
+}
+
+/// The rule SwapBefore in full, for the store `u`, the swap of load `l` and the steps of its path.
+#[tactic(auto, unfolding(crate::specs::Words::inferred_long))]
+fn swap_before(
+    alloc: Global,
+    named: &NamedTrace<'_>,
+    u: usize,
+    l: usize,
+    by: &str,
+) -> Result<String, AllocError>
+    ensures { (steps : List CertStep) (v : ℕ) (path : List ℕ) → by.now ≡ by_text steps path → IfOk result (λ text. string_bytes text ≡ inferred_long named.now steps InferredRule.SwapBefore u v l path) }
+{
+    let store = named.name(u);
+    let swap_store = named.name_after(l);
+    format!(in alloc;
+        "a swap is atomic.\n   {store} comes before {swap_store} by {by}.\n   No other store comes between a swap's load and its store, so this store comes before both."
+    )
+}
+
+/// The rule SwapAfter in full, for the store `v`, the swap of load `l` and the steps of its path.
+#[tactic(auto, unfolding(crate::specs::Words::inferred_long))]
+fn swap_after(
+    alloc: Global,
+    named: &NamedTrace<'_>,
+    v: usize,
+    l: usize,
+    by: &str,
+) -> Result<String, AllocError>
+    ensures { (steps : List CertStep) (u : ℕ) (path : List ℕ) → by.now ≡ by_text steps path → IfOk result (λ text. string_bytes text ≡ inferred_long named.now steps InferredRule.SwapAfter u v l path) }
+{
+    let store = named.name(v);
+    let swap_load = named.name(l);
+    format!(in alloc;
+        "a swap is atomic.\n   {store} comes after {swap_load} by {by}.\n   No other store comes between a swap's load and its store, so this store comes after both."
+    )
+}
+
+/// The name of a load that may be missing.
+fn load_name<'n>(named: &'n NamedTrace<'_>, load: Option<usize>) -> &'n str
+    ensures { result.now ≡ load_name named.now load }
+{
+    match load {
+        Some(l) => named.name(l),
+        None => "",
+    }
+}
+
+/// What a load that may be missing read.
+fn load_read(
+    alloc: Global,
+    named: &NamedTrace<'_>,
+    load: Option<usize>,
+) -> Result<String, AllocError>
+    ensures { IfOk result (λ text. string_bytes text ≡ load_read named.now load) }
+{
+    match load {
+        Some(l) => named.read(alloc, l),
+        None => Ok(String::new(alloc)),
+    }
+}
