@@ -1,0 +1,2 @@
+pub mod CutterFacts
+pub mod PieceFacts

@@ -1,0 +1,2 @@
+pub mod Cutters
+pub mod Pieces

@@ -1,0 +1,4 @@
+pub mod BatchFacts
+pub mod JobFacts
+pub mod StreamFacts
+pub mod TallyFacts

@@ -1,0 +1,54 @@
+use Rattle.std.proofs.Common.{◌+◌, ◌-◌, ℕ, List, Option, drop, length, rules, subst, take, arith}
+use Rattle.std.specs.Io.KnownBytes.{Consumes, prepend_known}
+use Rattle.std.proofs.lemmas.List.{drop-drop, length-drop, take_rest}
+use Rattle.std.specs.Global.{Vec}
+use Rattle.stream_pieces.specs.Cutters.{CutterValue, Cuts, IsAt}
+use Rattle.trace_batches.specs.Internal.Progress.{Stands}
+use Rattle.trace_batches.proofs.BatchFacts.{chunk_left, chunk_told, front_taken, stands_left}
+use Rattle.trace_batches.proofs.batches.tell_chunk.Goals as goal
+
+-- the next bytes of the chunk, after those up to a place
+next_taken : (chunk : List ℕ) (from count : ℕ) (now : Option (List ℕ)) → Consumes (prepend_known (drop from chunk) now) (prepend_known (drop (from + count) chunk) now) (take count (drop from chunk))
+next_taken chunk from count now =
+    subst (λ d. Consumes (prepend_known (drop from chunk) now) (prepend_known d now) (take count (drop from chunk))) (drop-drop count from chunk) (front_taken (drop from chunk) count now)
+
+-- what was cut of the rest of the chunk
+cuts_rest : (cutter after : CutterValue) (chunk : List ℕ) (from count : ℕ) (pieces : List (Vec ℕ)) →
+    ((bytes : List ℕ) → IsAt cutter bytes → Cuts cutter after bytes (take count (take (length chunk - from) (drop from chunk))) pieces) →
+    (bytes : List ℕ) → IsAt cutter bytes → Cuts cutter after bytes (take count (drop from chunk)) pieces
+cuts_rest cutter after chunk from count pieces cuts bytes at = subst (λ d. Cuts cutter after bytes (take count d) pieces) (take_rest chunk from) (cuts bytes at)
+
+pub returns-in_err-pieces-clause-left : goal.returns-in_err-pieces-clause-left
+returns-in_err-pieces-clause-left g c =
+    let quiet = c.args.options.quiet in
+    let chunk = c.args.chunk.now in
+    let before = g.W.Write.contents c.args.writer.now in
+    let left = λ (remaining now old : Option (List ℕ)) (s : Stands quiet remaining (prepend_known chunk now) old before c.args.progress.now.cutter c.args.progress.now.tally).
+    stands_left quiet remaining (prepend_known (drop c.loop-from.from chunk) now) old (g.W.Write.contents c.loop-from.writer) c.loop-from.progress.cutter c.loop-from.progress.tally
+    (c.loop-from.invariant.stands remaining now old s) in
+    search (rules, left)
+
+pub returns-in_err-tell-clause-left : goal.returns-in_err-tell-clause-left
+returns-in_err-tell-clause-left g c =
+    let quiet = c.args.options.quiet in
+    let chunk = c.args.chunk.now in
+    let from = c.loop-from.from in
+    let count = c.in_ok-pieces.count in
+    let before = g.W.Write.contents c.args.writer.now in
+    let left = λ (remaining now old : Option (List ℕ)) (s : Stands quiet remaining (prepend_known chunk now) old before c.args.progress.now.cutter c.args.progress.now.tally).
+    chunk_left quiet remaining (prepend_known (drop from chunk) now) (prepend_known (drop (from + count) chunk) now) old (g.W.Write.contents c.loop-from.writer) (g.W.Write.contents c.tell.new.writer)
+    c.loop-from.progress.cutter c.cut.new.self c.loop-from.progress.tally (take count (drop from chunk)) c.in_ok-pieces.pieces.items (c.loop-from.invariant.stands remaining now old s)
+    (next_taken chunk from count now) (cuts_rest c.loop-from.progress.cutter c.cut.new.self chunk from count c.in_ok-pieces.pieces.items c.in_ok-pieces.ensures.cut) c.in_err-tell.ensures.some in
+    search (rules, left)
+
+pub loop-from-preserved : goal.loop-from-preserved
+loop-from-preserved g c = record {
+  within = (let more = c.in_ok-pieces.ensures.within in let rest = length-drop c.loop-from.from c.args.chunk.now in let so_far = c.loop-from.invariant.within in omega (arith, more, rest, so_far));
+  stands = λ remaining now old s.
+      let chunk = c.args.chunk.now in
+      let from = c.loop-from.from in
+      let count = c.in_ok-pieces.count in
+      chunk_told c.args.options.quiet remaining (prepend_known (drop from chunk) now) (prepend_known (drop (from + count) chunk) now) old (g.W.Write.contents c.loop-from.writer)
+      (g.W.Write.contents c.tell.new.writer) c.loop-from.progress.cutter c.cut.new.self c.loop-from.progress.tally c.tell.new.tally (take count (drop from chunk)) c.in_ok-pieces.pieces.items
+      (c.loop-from.invariant.stands remaining now old s) (next_taken chunk from count now) (cuts_rest c.loop-from.progress.cutter c.cut.new.self chunk from count c.in_ok-pieces.pieces.items c.in_ok-pieces.ensures.cut) c.in_ok-tell.ensures.whole;
+}

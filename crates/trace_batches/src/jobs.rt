@@ -1,0 +1,86 @@
+//! Pieces of a batch, judged side by side.
+ghost use Rattle.std.specs.Prelude.{◌≡◌, ◌≤◌, IfOk, IfErr, string_bytes, map};
+ghost use Rattle.stream_pieces.specs.Cutters.{rows};
+ghost use Rattle.tso_report.specs.Reports.{IsReport};
+ghost use Rattle.trace_batches.specs.Batches.{IsBatchFault};
+ghost use Rattle.trace_batches.specs.Internal.Progress.{AreJudged, IsOutcome};
+
+use std::alloc::Global;
+use std::sync::Wait;
+use std::thread;
+use std::thread::Threads;
+use tso_ops::OutOfMemory;
+use tso_report::{Fault, Report, judge_trace, render_refusal};
+use tso_text::read_trace;
+
+/// A piece of a stream, and its report.
+#[derive(Drop)]
+pub(crate) struct Job {
+    piece: Vec<u8>,
+    /// The report, or why there is none: NoThread as long as the piece wasn't judged.
+    pub(crate) outcome: Result<Report, Fault>,
+}
+
+impl Job {
+    fn new(piece: Vec<u8>) -> Job
+        ensures { result ≡ record { piece = piece; outcome = Err Fault.NoThread } }
+    {
+        Job {
+            piece,
+            outcome: Err(Fault::NoThread),
+        }
+    }
+
+    /// Judges the piece with one worker.
+    fn judge<H: Threads + Wait>(&mut self, rt: &H, alloc: Global)
+        ensures { IsOutcome self.old.piece.items self.new.outcome }
+    {
+        self.outcome = report_of(rt, alloc, &self.piece);
+    }
+}
+
+/// Judges these pieces by `workers` threads at most, each piece with one worker: a job for each, in order. OutOfMemory
+/// where an allocation for the jobs was refused.
+pub(crate) fn judge_all<H: Threads + Wait + Sync>(
+    rt: &H,
+    alloc: Global,
+    pieces: Vec<Vec<u8>>,
+    workers: usize,
+) -> Result<Vec<Job>, OutOfMemory>
+    requires { 1 ≤ workers }
+    ensures { IfOk result (λ jobs. AreJudged (rows pieces.items) jobs.items) }
+{
+    let mut jobs = jobs_of(alloc, pieces)?;
+    judge_each(rt, alloc, &mut jobs, workers);
+    Ok(jobs)
+}
+
+/// A job for each piece, in order.
+fn jobs_of(alloc: Global, pieces: Vec<Vec<u8>>) -> Result<Vec<Job>, OutOfMemory>
+    ensures { IfOk result (λ jobs. jobs.items ≡ map (λ piece. record { piece = piece; outcome = Err Fault.NoThread }) pieces.items) }
+{
+    pieces
+        .into_iter()
+        .map(|piece| Job::new(piece))
+        .collect(alloc)
+}
+
+/// Does the jobs.
+fn judge_each<H: Threads + Wait + Sync>(rt: &H, alloc: Global, jobs: &mut [Job], workers: usize)
+    requires { 1 ≤ workers }
+    ensures { AreJudged (map (λ job. job.piece.items) jobs.old) jobs.new }
+{
+    thread::for_each_mut(rt, jobs, workers, &|_, job| job.judge(rt, alloc));
+}
+
+/// The report of a piece, judged with one worker. OutOfMemory where an allocation was refused, NoThread where the system
+/// refused a thread.
+fn report_of<H: Threads + Wait>(rt: &H, alloc: Global, piece: &[u8]) -> Result<Report, Fault>
+    ensures report { IfOk result (λ report. IsReport piece.now (string_bytes report.text) report.verdict) }
+    ensures fault { IfErr result IsBatchFault }
+{
+    match read_trace(alloc, piece) {
+        Ok(trace) => judge_trace(rt, alloc, &trace, 1),
+        Err(fault) => Ok(render_refusal(alloc, fault)?),
+    }
+}

@@ -1,0 +1,5 @@
+//! Tests of `trace_batches`, by its public calls.
+#![tactic(auto)]
+
+#[cfg(test)]
+mod tests;

@@ -1,0 +1,73 @@
+//! Batches, and what the tests of them share.
+ghost use Rattle.std.specs.Prelude.{◌≤◌};
+
+mod faults;
+mod pieces;
+mod refused_allocations;
+
+use std::alloc::Global;
+use std::fmt::Debug;
+use std::io::{Read, Write};
+use std::process::Abort;
+use std::sync::Wait;
+use std::thread::Threads;
+use trace_batches::{BatchOptions, judge_batch};
+use tso_report::{Fault, Verdict};
+
+/// A trace without a violation, a violation and a refused text.
+const STREAM: &[u8] =
+    b"tso trace 1\nproc\nst 1 1\nld 1 1\nend\ntso trace 1\nproc\nld 1 9\nend\ntso trace 1\nproc\nld 01 0\nend\n";
+
+/// What its batch writes.
+const TEXT: &[u8] =
+    b"trace 1 NO VIOLATION FOUND\ntrace 2 VIOLATION\ntrace 3 REFUSED BadNumber line 3\ntraces 3 violations 1 refused 1\n";
+
+/// Compares what a call gave in this case.
+fn expect_equal<H: Abort, C: Copy + Debug, T: Copy + Debug + PartialEq>(
+    rt: &H,
+    case: C,
+    found: T,
+    expected: T,
+) {
+    assert_eq!(rt; found, expected, "{case:?}");
+}
+
+/// Compares what a batch came to, and what it wrote, where it was to write the first bytes of its text.
+fn expect<H: Abort>(
+    rt: &H,
+    case: usize,
+    said: Result<Verdict, Fault>,
+    expected: Result<Verdict, Fault>,
+    written: &[u8],
+    text: &[u8],
+) {
+    expect_equal(rt, case, said, expected);
+    expect_equal(rt, case, written, text);
+}
+
+/// Judges a batch with one worker, and writes all lines.
+fn judged<H: Threads + Wait + Sync, R: Read, W: Write>(
+    rt: &H,
+    alloc: Global,
+    reader: &mut R,
+    writer: &mut W,
+) -> Result<Verdict, Fault> {
+    judged_by(rt, alloc, reader, writer, 1)
+}
+
+/// Judges a batch with so many workers, and writes all lines.
+fn judged_by<H: Threads + Wait + Sync, R: Read, W: Write>(
+    rt: &H,
+    alloc: Global,
+    reader: &mut R,
+    writer: &mut W,
+    workers: usize,
+) -> Result<Verdict, Fault>
+    requires { 1 ≤ workers }
+{
+    let options = BatchOptions {
+        workers,
+        quiet: false,
+    };
+    judge_batch(rt, alloc, options, reader, writer)
+}

@@ -1,0 +1,40 @@
+//! Allocations refused in turn: `rt try --test --fail-alloc N` refuses the Nth of each test.
+//!
+//! The batch that meets it answers OutOfMemory and wrote the first bytes of its text; the next batch writes the whole text.
+
+use super::{STREAM, TEXT, expect, expect_equal, judged};
+use std::alloc::Global;
+use std::sync::Wait;
+use std::thread::Threads;
+use tso_report::{Fault, Verdict};
+
+/// The room that a text gets.
+const ROOM: usize = 128;
+
+/// Judges the stream, and writes the text into these bytes; how much of the room is left.
+fn judged_into<H: Threads + Wait + Sync>(
+    rt: &H,
+    alloc: Global,
+    bytes: &mut [u8; ROOM],
+) -> (Result<Verdict, Fault>, usize) {
+    let mut writer = bytes.as_mut_slice();
+    let mut reader = STREAM;
+    let said = judged(rt, alloc, &mut reader, &mut writer);
+    (said, writer.len())
+}
+
+#[test]
+fn refused_allocations_of_a_batch(rt: HostRuntime) {
+    let mut bytes = [0u8; ROOM];
+    let (mut said, mut left) = judged_into(&rt, rt.alloc(), &mut bytes);
+    if said == Err(Fault::OutOfMemory) {
+        let count = ROOM.saturating_sub(left);
+        let written = bytes.get(..count).unwrap_or(STREAM);
+        expect_equal(&rt, count, written, TEXT.get(..count).unwrap_or(TEXT));
+        bytes = [0u8; ROOM];
+        (said, left) = judged_into(&rt, rt.alloc(), &mut bytes);
+    }
+    let count = ROOM.saturating_sub(left);
+    let written = bytes.get(..count).unwrap_or(STREAM);
+    expect(&rt, count, said, Ok(Verdict::Violation), written, TEXT);
+}
