@@ -6,20 +6,18 @@ use Rattle.std.specs.Str.{bytes_eq}
 use Rattle.std.proofs.lemmas.Slice.Eq.{bytes_eq-Decides}
 use Rattle.std.specs.Str.Parse.{ParsesBool, ParsesUnsigned, digits_value, without_leading_plus}
 use Rattle.clap.specs.ValueTests.{is_unsigned_in}
-use Rattle.clap.specs.Words.{ReadsOne, first_of, first_value, one_text, rows_of}
+use Rattle.clap.specs.Words.{ReadsOne, first_of, first_value, one_of, one_text, rows_of}
 use Rattle.clap.specs.declared.parser.matches.Found.{Found}
 use Rattle.clap.specs.declared.builder.value_parser.ValueParser.TheVariants as parser
 use Rattle.clap.proofs.ValueTestLemmas.{accepts-Accepts, Accepts-accepts}
 use Rattle.clap.proofs.WalkLemmas.{first_value-rows, one_text-rows}
 use Rattle.tso_ops.specs.declared.settings.Order.{Order}
 use Rattle.command_line.specs.declared.options.CampaignOptions.{CampaignOptions}
-use Rattle.command_line.specs.declared.options.Printing.{Printing}
-use Rattle.command_line.specs.declared.options.Printing.TheVariants.{Report, Trace}
 use Rattle.command_line.specs.declared.options.RunOptions.{RunOptions}
 use Rattle.command_line.specs.declared.options.ShapeNumbers.{ShapeNumbers}
 use Rattle.command_line.specs.declared.options.UnitOptions.{UnitOptions}
-use Rattle.command_line.specs.Requests.{Text, AskedRun, making, prints_trace, replaying, running}
-use Rattle.command_line.specs.Internal.Computed.{flag_in, number_in, number_of, printing_of}
+use Rattle.command_line.specs.Requests.{Text, AskedRun, batching, making, replaying, running}
+use Rattle.command_line.specs.Subcommands.{is_true, number_in, number_or}
 
 unwrap_or-text : (got : Option (Bor Text)) (empty : Bor Text) → empty.now ≡ [] → (unwrap_or got empty).now ≡ unwrap_or (option_map (λ s. s.now) got) []
 unwrap_or-text None empty is = is
@@ -48,26 +46,26 @@ module _ (other : ℕ) where
       go false e = rw e refl
 
   -- the number that was asked for, `other` where there is none
-  number_or : {E : Type 0} (gives : Text → Result ℕ E → Type 0) (found : Option Text) (r : Option ℕ)
+  read_or : {E : Type 0} (gives : Text → Result ℕ E → Type 0) (found : Option Text) (r : Option ℕ)
       → ((t : Text) (x : Result ℕ E) → gives t x → ParsesUnsigned 64 10 t x)
       → (found ≡ None → r ≡ None) → ((t : Text) → found ≡ Some t → ReadsOne gives t r) → unwrap_or r other ≡ option_map_or (number_in other) found other
-  number_or gives None r parses none some = ap (λ o. unwrap_or o other) (none refl)
-  number_or gives (Some t) r parses none some = unwrap_or-number gives t r (parses t) (some t refl)
+  read_or gives None r parses none some = ap (λ o. unwrap_or o other) (none refl)
+  read_or gives (Some t) r parses none some = unwrap_or-number gives t r (parses t) (some t refl)
 
   pub number_found : {E : Type 0} (gives : Text → Result ℕ E → Type 0) (f : Found) (name : Text) (r : Option ℕ)
       → ((t : Text) (x : Result ℕ E) → gives t x → ParsesUnsigned 64 10 t x)
-      → (one_text f name ≡ None → r ≡ None) → ((t : Text) → one_text f name ≡ Some t → ReadsOne gives t r) → unwrap_or r other ≡ number_of name other (rows_of f)
+      → (one_text f name ≡ None → r ≡ None) → ((t : Text) → one_text f name ≡ Some t → ReadsOne gives t r) → unwrap_or r other ≡ number_or other (one_of name (rows_of f))
   number_found gives f name r parses none some =
-      number_or gives (one_text f name) r parses none some ∙ ap (λ o. option_map_or (number_in other) o other) (one_text-rows f name)
+      read_or gives (one_text f name) r parses none some ∙ ap (λ o. option_map_or (number_in other) o other) (one_text-rows f name)
 
-is_true : (t : Text) (b : Bool) → (t ≡ codes "true" → ⊥) → bytes_eq t (codes "true") ≡ b → false ≡ b
-is_true t false other e = refl
-is_true t true other e = absurd (other ((bytes_eq-Decides t (codes "true")).0 e))
+reads_true : (t : Text) (b : Bool) → (t ≡ codes "true" → ⊥) → bytes_eq t (codes "true") ≡ b → false ≡ b
+reads_true t false other e = refl
+reads_true t true other e = absurd (other ((bytes_eq-Decides t (codes "true")).0 e))
 
 unwrap_or-flag : (E : Type 0) (t : Text) (r : Option Bool) → ReadsOne {E = E} ParsesBool t r → unwrap_or r false ≡ bytes_eq t (codes "true")
 unwrap_or-flag E t (Some true) read = rw read refl
 unwrap_or-flag E t (Some false) read = rw read refl
-unwrap_or-flag E t None read = is_true t (bytes_eq t (codes "true")) read.1.0 refl
+unwrap_or-flag E t None read = reads_true t (bytes_eq t (codes "true")) read.1.0 refl
 
 -- whether the flag was used
 flag_or_false : (E : Type 0) (found : Option Text) (r : Option Bool) → (found ≡ None → r ≡ None) → ((t : Text) → found ≡ Some t → ReadsOne {E = E} ParsesBool t r)
@@ -76,18 +74,9 @@ flag_or_false E None r none some = ap (λ o. unwrap_or o false) (none refl)
 flag_or_false E (Some t) r none some = unwrap_or-flag E t r (some t refl)
 
 pub flag_found : (E : Type 0) (f : Found) (name : Text) (r : Option Bool) → (one_text f name ≡ None → r ≡ None) → ((t : Text) → one_text f name ≡ Some t → ReadsOne {E = E} ParsesBool t r)
-    → unwrap_or r false ≡ flag_in name (rows_of f)
+    → unwrap_or r false ≡ is_true (one_of name (rows_of f))
 flag_found E f name r none some =
     flag_or_false E (one_text f name) r none some ∙ ap (λ o. option_map_or (λ text. bytes_eq text (codes "true")) o false) (one_text-rows f name)
-
--- what is printed, and whether it is the trace
-pub printing_back : (printing : Printing) → printing_of (prints_trace printing) ≡ printing
-printing_back Report = refl
-printing_back Trace = refl
-
-pub prints_back : (is_asked : Bool) → prints_trace (printing_of is_asked) ≡ is_asked
-prints_back false = refl
-prints_back true = refl
 
 -- options of which each is known
 module _ (unit wanted : UnitOptions) (kind : unit.kind ≡ wanted.kind) (capacity : unit.capacity ≡ wanted.capacity) (trigger : unit.trigger ≡ wanted.trigger) where
@@ -110,6 +99,10 @@ module _ (options wanted : CampaignOptions) (unit : options.unit ≡ wanted.unit
 module _ (options wanted : RunOptions) (program wanted_program schedule wanted_schedule : Text) where
   pub replaying_are : options ≡ wanted → program ≡ wanted_program → schedule ≡ wanted_schedule → replaying options program schedule ≡ replaying wanted wanted_program wanted_schedule
   replaying_are is program_is schedule_is = rw (is, program_is, schedule_is) refl
+
+module _ (file wanted : Option Text) (workers wanted_workers : ℕ) (quiet wanted_quiet : Bool) where
+  pub batching_are : file ≡ wanted → workers ≡ wanted_workers → quiet ≡ wanted_quiet → batching file workers quiet ≡ batching wanted wanted_workers wanted_quiet
+  batching_are file_is workers_are quiet_is = rw (file_is, workers_are, quiet_is) refl
 
 module _ (order wanted : Order) (seed wanted_seed : ℕ) (shape wanted_shape : ShapeNumbers) where
   pub making_are : order ≡ wanted → seed ≡ wanted_seed → shape ≡ wanted_shape → making order seed shape ≡ making wanted wanted_seed wanted_shape

@@ -6,8 +6,7 @@ use Rattle.clap.specs.declared.error.Error.{Error}
 use Rattle.clap.specs.declared.error.kind.ErrorKind.{ErrorKind}
 use Rattle.clap.specs.declared.error.kind.ErrorKind.TheVariants.{OutOfMemory}
 use Rattle.command_line.specs.Requests.{Text, Asked, asked_of}
-use Rattle.command_line.specs.Commands.{IsAskedAtOne, asked_at}
-use Rattle.command_line.specs.Internal.Computed.{IsFoundBy}
+use Rattle.command_line.specs.Commands.{IsAskedAtOne, IsAskedBy, asked_at}
 use Rattle.command_line.specs.declared.requests.Request.{Request}
 
 asked_at_one : (kinds : Kinds) (kind : ErrorKind) (asked : Asked) → IsAmong kind kinds → asked ≡ asked_at kind → IsAskedAtOne kinds asked
@@ -16,14 +15,14 @@ asked_at_one (x ∷ xs) kind asked (inl same) is = inl (is ∙ ap asked_at same)
 asked_at_one (x ∷ xs) kind asked (inr among) is = inr (asked_at_one xs kind asked among is)
 
 asked_among : (kinds : Kinds) (kind : ErrorKind) (found : Option (Text × List Row)) (asked : Asked) → IsAmong kind kinds → asked ≡ asked_at kind
-    → IsFoundBy kinds found asked
+    → IsAskedBy kinds found asked
 asked_among [] kind found asked among is = absurd among
 asked_among (x ∷ xs) kind found asked among is = asked_at_one (x ∷ xs) kind asked among is
 
 -- a request that an error stands for, where out of memory stands for none
 pub asked_by_error : (r : Result Request AllocError) (kinds : Kinds) (found : Option (Text × List Row)) (e : Error) → HasKind kinds e
     → (kind_of e ≡ OutOfMemory → IsErr r) → IfOk r (λ request. asked_of request ≡ asked_at (kind_of e))
-    → IfOk r (λ request. IsFoundBy kinds found (asked_of request))
+    → IfOk r (λ request. IsAskedBy kinds found (asked_of request))
 asked_by_error (Err e) kinds found error has memory asked = tt
 asked_by_error (Ok request) kinds found error (inl is) memory asked = absurd (true≢false (sym (memory is)))
 asked_by_error (Ok request) kinds found error (inr among) memory asked = asked_among kinds (kind_of error) found (asked_of request) among asked

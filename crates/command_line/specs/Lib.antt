@@ -2,7 +2,7 @@ pub mod Requests
 pub mod Workers
 pub mod Units
 pub mod Models
-pub mod Options
+pub mod Subcommands
 pub mod Spellings
 pub mod Refusals
 pub mod Commands

@@ -1,5 +1,5 @@
 -- What the arguments of a command line may ask for.
-use Rattle.std.specs.Prelude.{◌≤◌, ◌^◌, ◌-◌, ℕ, Bool, true, false, List, map, Option, Some, None, IfSome, option_map, String, string_bytes}
+use Rattle.std.specs.Prelude.{◌≤◌, ◌^◌, ◌-◌, ℕ, Bool, true, false, not, List, [], ◌∷◌, map, Option, Some, None, IfSome, is_some, option_map, option_to_list, String, string_bytes}
 use Rattle.tso_ops.specs.declared.settings.Order.{Order}
 use Rattle.command_line.specs.Workers.{worker_limit}
 use Rattle.command_line.specs.declared.requests.Request.{Request}
@@ -10,7 +10,7 @@ use Rattle.command_line.specs.declared.options.Printing.TheVariants.{Report, Tra
 use Rattle.command_line.specs.declared.options.RunOptions.{RunOptions}
 use Rattle.command_line.specs.declared.options.ShapeNumbers.{ShapeNumbers}
 use Rattle.command_line.specs.declared.options.UnitOptions.{UnitOptions}
-use Rattle.command_line.specs.declared.requests.Request.TheVariants.{Judge, Check, Replay, Run, Make, Campaign, Show, Refuse}
+use Rattle.command_line.specs.declared.requests.Request.TheVariants.{Judge, Explain, Batch, Check, Replay, Run, Make, Campaign, Show, Refuse}
 
 -- the bytes of a text
 abbrev pub Text : Type 0
@@ -38,6 +38,11 @@ pub record AskedRun : Type 0 where
 pub data Asked : Type 0 where
   -- to judge the trace in a file, or on standard input where none is named, with so many workers
   judging : Option Text → ℕ → Asked
+  -- to explain the verdict on the trace in a file, or on standard input where none is named, with so many workers
+  explaining : Option Text → ℕ → Asked
+  -- to judge the traces that stand one after the other in a file, or on standard input where none is named, with so many
+  -- workers, and whether the lines of those without a violation are left out
+  batching : Option Text → ℕ → Bool → Asked
   -- to check against the trace in the first file the certificate in the second
   checking : Text → Text → Asked
   -- to replay the program in the first file by the schedule in the second, with these options
@@ -60,6 +65,8 @@ asked_run run = record { options = run.options; drain_seed = run.drain_seed; dra
 -- what a request asks for
 abbrev pub asked_of : Request → Asked
 asked_of (Judge file workers) = judging (option_map (λ f. f.now) file) workers
+asked_of (Explain file workers) = explaining (option_map (λ f. f.now) file) workers
+asked_of (Batch file workers quiet) = batching (option_map (λ f. f.now) file) workers quiet
 asked_of (Check trace certificate) = checking trace.now certificate.now
 asked_of (Replay options program schedule) = replaying options program.now schedule.now
 asked_of (Run run) = running (asked_run run)
@@ -80,34 +87,54 @@ drain_turns_limit = 1000000
 abbrev pub number_limit : ℕ
 number_limit = 2 ^ 64 - 1
 
--- the number of workers that is asked for, where some are
-abbrev pub asked_workers : Asked → Option ℕ
-asked_workers (judging file workers) = Some workers
-asked_workers (replaying options program schedule) = Some options.workers
-asked_workers (running run) = Some run.options.workers
-asked_workers (campaigning options) = Some options.workers
-asked_workers _ = None
+-- ---- what is needed to do what is asked for
 
--- the unit that is asked for, where one is
-abbrev pub asked_unit : Asked → Option UnitOptions
-asked_unit (replaying options program schedule) = Some options.unit
-asked_unit (running run) = Some run.options.unit
-asked_unit (campaigning options) = Some options.unit
-asked_unit _ = None
+pub record Needs : Type 0 where
+  -- the files that are opened, in their order
+  pub files : List Text
+  -- standard input is read
+  pub input : Bool
+  -- how many workers judge, or share the seeds of a campaign
+  pub workers : Option ℕ
+  -- the memory unit on which programs are run
+  pub unit : Option UnitOptions
+  -- how many turns a drainer takes beside the processors of a run
+  pub turns : Option ℕ
+  -- the file with the one program that is run
+  pub program : Option Text
 
--- the number of turns of a drainer that is asked for, where a run is
-abbrev pub asked_drain_turns : Asked → Option ℕ
-asked_drain_turns (running run) = Some run.drain_turns
-asked_drain_turns _ = None
+abbrev pub nothing_needed : Needs
+nothing_needed = record { files = []; input = false; workers = None; unit = None; turns = None; program = None }
 
--- judging is done, and a campaign is run, by a number of workers within the limits
+abbrev pub needs : Asked → Needs
+needs (judging file workers) = record nothing_needed { files = option_to_list file; input = not (is_some file); workers = Some workers }
+needs (explaining file workers) = record nothing_needed { files = option_to_list file; input = not (is_some file); workers = Some workers }
+needs (batching file workers quiet) = record nothing_needed { files = option_to_list file; input = not (is_some file); workers = Some workers }
+needs (checking trace certificate) = record nothing_needed { files = trace ∷ certificate ∷ [] }
+needs (replaying options program schedule) = record nothing_needed {
+  files = program ∷ schedule ∷ [];
+  workers = Some options.workers;
+  unit = Some options.unit;
+  program = Some program;
+}
+needs (running run) = record nothing_needed {
+  files = run.program ∷ [];
+  workers = Some run.options.workers;
+  unit = Some run.options.unit;
+  turns = Some run.drain_turns;
+  program = Some run.program;
+}
+needs (campaigning options) = record nothing_needed { workers = Some options.workers; unit = Some options.unit }
+needs asked = nothing_needed
+
+-- the number of workers is within its limits
 abbrev pub HasWorkers : Asked → Type 0
-HasWorkers asked = IfSome (asked_workers asked) (λ workers. (1 ≤ workers) × (workers ≤ worker_limit))
+HasWorkers asked = IfSome (needs asked).workers (λ workers. (1 ≤ workers) × (workers ≤ worker_limit))
 
 -- the options of a unit are within their ranges
 abbrev pub HasUnitRanges : Asked → Type 0
-HasUnitRanges asked = IfSome (asked_unit asked) (λ unit. (1 ≤ unit.capacity) × (unit.capacity ≤ capacity_limit) × (1 ≤ unit.trigger))
+HasUnitRanges asked = IfSome (needs asked).unit (λ unit. (1 ≤ unit.capacity) × (unit.capacity ≤ capacity_limit) × (1 ≤ unit.trigger))
 
 -- a drainer takes no more turns than it may
 abbrev pub HasDrainTurns : Asked → Type 0
-HasDrainTurns asked = IfSome (asked_drain_turns asked) (λ turns. turns ≤ drain_turns_limit)
+HasDrainTurns asked = IfSome (needs asked).turns (λ turns. turns ≤ drain_turns_limit)

@@ -3,12 +3,12 @@
 //! `README.md` says what is proved of it.
 #![tactic(auto)]
 
-mod arguments;
-mod commands;
 mod found;
 mod help;
 mod options;
+mod parameters;
 mod requests;
+mod subcommands;
 
 pub use options::{
     CampaignOptions, MAX_CAPACITY, MAX_DRAIN_TURNS, MAX_WORKERS, Printing, RunOptions,

@@ -6,11 +6,10 @@ ghost use Rattle.command_line.specs.Requests.{Asked, HasDrainTurns, HasUnitRange
 ghost use Rattle.command_line.specs.Spellings.{Asks, AsksHelp};
 ghost use Rattle.command_line.specs.Refusals.{Refuses};
 ghost use Rattle.command_line.specs.Commands.{IsAskedFor, asked_at, tsobench_app};
-ghost use Rattle.command_line.specs.Internal.Computed.{help_option_of, parsed_as};
+ghost use Rattle.command_line.specs.Internal.Computed.{parsed_as};
 
-use crate::commands::tsobench_command;
-use crate::found::request;
 use crate::options::{CampaignOptions, OptionNames, RunOptions, ShapeNumbers, option_names};
+use crate::subcommands;
 use clap::error::ErrorKind;
 use clap::{ArgMatches, Error};
 use std::alloc::{AllocError, Global};
@@ -37,6 +36,19 @@ pub enum Request<'a> {
     Judge {
         file: Option<&'a str>,
         workers: usize,
+    },
+    /// To explain the verdict on the trace in this file, or else on standard input, with 1 to 64 workers.
+    Explain {
+        file: Option<&'a str>,
+        workers: usize,
+    },
+    /// To judge the traces that stand one after the other in this file, or else on standard input.
+    Batch {
+        file: Option<&'a str>,
+        /// How many workers judge them side by side, 1 to 64.
+        workers: usize,
+        /// Whether the lines of traces without a violation are left out.
+        quiet: bool,
     },
     /// To check the certificate in one file against the trace in another.
     Check {
@@ -82,7 +94,7 @@ pub fn read_arguments<'a>(alloc: Global, arguments: &'a [String]) -> Result<Requ
     ensures turns { IfOk result (λ request. HasDrainTurns (asked_of request)) }
 {
     match matches(alloc, option_names(), arguments) {
-        Ok(matches) => Ok(request(&matches)),
+        Ok(matches) => Ok(subcommands::request(&matches)),
         Err(error) => text_request(alloc, &error),
     }
 }
@@ -97,7 +109,7 @@ fn matches<'a>(
         ≡ subcommand_of (tsobench_app names.entry) (parsed_as (texts_in arguments.now))) }
     ensures kinds { FailsBy (fault_of (tsobench_app names.entry) (parsed_as (texts_in arguments.now))) result }
 {
-    let command = tsobench_command(alloc, names)?;
+    let command = subcommands::tsobench_command(alloc, names)?;
     match help_option(arguments) {
         Some(option) => command.try_get_matches_from(option),
         None => command.try_get_matches_from(arguments),
@@ -107,24 +119,6 @@ fn matches<'a>(
 /// The option that asks for the help of the program.
 static PROGRAM_HELP: [&str; 1] = ["--help"];
 
-/// The option that asks for the help of `judge`.
-static JUDGE_HELP: [&str; 2] = ["judge", "--help"];
-
-/// The option that asks for the help of `check`.
-static CHECK_HELP: [&str; 2] = ["check", "--help"];
-
-/// The option that asks for the help of `replay`.
-static REPLAY_HELP: [&str; 2] = ["replay", "--help"];
-
-/// The option that asks for the help of `run`.
-static RUN_HELP: [&str; 2] = ["run", "--help"];
-
-/// The option that asks for the help of `make`.
-static MAKE_HELP: [&str; 2] = ["make", "--help"];
-
-/// The option that asks for the help of `campaign`.
-static CAMPAIGN_HELP: [&str; 2] = ["campaign", "--help"];
-
 /// The option that asks for what `help`, alone or with the name of a subcommand, asks for: `clap` promises more of it,
 /// and it gives the same text. None of all other arguments.
 fn help_option(arguments: &[String]) -> Option<&'static [&'static str]>
@@ -132,34 +126,9 @@ fn help_option(arguments: &[String]) -> Option<&'static [&'static str]>
 {
     match arguments {
         [first] if first.as_str() == "help" => Some(PROGRAM_HELP.as_slice()),
-        [first, name] if first.as_str() == "help" => subcommand_help_option(name.as_str()),
+        [first, name] if first.as_str() == "help" => subcommands::help_option(name.as_str()),
         _ => None,
     }
-}
-
-/// The option that asks for the help of the subcommand of this name.
-fn subcommand_help_option(name: &str) -> Option<&'static [&'static str]>
-    ensures { option_map (λ option. map (λ argument. argument.now) option.now) result ≡ help_option_of name.now }
-{
-    if name == "judge" {
-        return Some(JUDGE_HELP.as_slice());
-    }
-    if name == "check" {
-        return Some(CHECK_HELP.as_slice());
-    }
-    if name == "replay" {
-        return Some(REPLAY_HELP.as_slice());
-    }
-    if name == "run" {
-        return Some(RUN_HELP.as_slice());
-    }
-    if name == "make" {
-        return Some(MAKE_HELP.as_slice());
-    }
-    if name == "campaign" {
-        return Some(CAMPAIGN_HELP.as_slice());
-    }
-    None
 }
 
 /// The text that the arguments lead to in place of matches: the help or the version, or their refusal.

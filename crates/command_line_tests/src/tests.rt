@@ -48,6 +48,14 @@ fn described(alloc: Global, request: &Request<'_>) -> Result<String, AllocError>
             file: Some(file),
             workers,
         } => format!(in alloc; "judge {file:?} with {workers}"),
+        Request::Explain { file, workers } => {
+            format!(in alloc; "explain {file:?} with {workers}")
+        }
+        Request::Batch {
+            file,
+            workers,
+            quiet,
+        } => format!(in alloc; "batch {file:?} with {workers} quiet {quiet}"),
         Request::Check { trace, certificate } => {
             format!(in alloc; "check {trace:?} against {certificate:?}")
         }

@@ -1,15 +1,19 @@
 -- Lemmas on how the program ends.
 use Rattle.std.proofs.Common.{◌≡◌, ◌∙◌, ◌⊎◌, ℕ, List, [], ◌∷◌, ◌++◌, append_assoc, Ok, Err, Result, IfOk, IfErr, Some, None, arith, length, ap, refl, subst, sym, inl, inr, true, true≢false}
-use Rattle.std.specs.Prelude.{Option, ◌≢◌, option_map}
+use Rattle.std.specs.Prelude.{Bool, OnErr, Option, ◌≢◌, option_map}
 use Rattle.std.specs.Borrow.{Bor}
 use Rattle.std.specs.Io.KnownBytes.{Keeps}
-use Rattle.command_line.specs.Requests.{Asked, Text, judging, checking, replaying, running, making, campaigning, showing, refusing}
+use Rattle.command_line.specs.Requests.{Asked, Text, batching, explaining, judging, checking, replaying, running, making, campaigning, showing, refusing}
 use Rattle.std.proofs.lemmas.List.{append-nil}
 use Rattle.tso_report.specs.declared.verdicts.Verdict.{Verdict}
 use Rattle.tso_report.specs.declared.faults.Fault.{Fault}
 use Rattle.tso_report.specs.declared.faults.Fault.TheVariants.{OutOfMemory, Read, Write, NoThread, Missing}
-use Rattle.tso_report.specs.WrittenReports.{IsCheckReportOfReaders, IsReportOfReader, LeavesAtFault, LeavesCheckFault, LeavesFault, WritesCheckReport, WritesReport, WritesWhole}
-use Rattle.request_serving.specs.Endings.{EndsAsAsked, EndsByReport, EndsRefusing, EndsShowing, OfText, Outputs, WritesFaultLine}
+use Rattle.tso_report.specs.WrittenReports.{IsCheckReportOfReaders, IsReportOfReader, LeavesAtFault, LeavesCheckFault, LeavesFault, WritesCheckReport, WritesPrefix, WritesReport, WritesWhole}
+use Rattle.explaining.specs.WrittenExplanations.{IsExplanationOfReader}
+use Rattle.trace_batches.specs.Batches.{IsBatchFault, IsBatchOfReader}
+use Rattle.trace_batches.proofs.BatchFacts.{some_batch}
+use Rattle.trace_batches.proofs.StreamFacts.{none_written}
+use Rattle.request_serving.specs.Endings.{EndsAsAsked, EndsBatched, EndsByReport, EndsRefusing, EndsShowing, OfText, Outputs, WritesFaultLine}
 use Rattle.request_serving.specs.Statuses.{status_of}
 use Rattle.std.proofs.Math.Seq.{take-length}
 use Rattle.request_serving.specs.OpenedFiles.{HasKnown, OpensFirst, OpensNext, reads_input}
@@ -75,6 +79,33 @@ pub files_leave : (trace traces cert certs : Option (List ℕ)) → HasKnown tra
     IfErr outcome (LeavesCheckFault traces certs old new) → IfErr outcome (LeavesCheckFault trace cert old new)
 files_leave trace traces cert certs has has_cert = faults_as (IsCheckReportOfReaders traces certs) (IsCheckReportOfReaders trace cert) (check_of_known trace traces cert certs has has_cert)
 
+pub explanation_of_known : (known remaining : Option (List ℕ)) → HasKnown known remaining → (text : List ℕ) (verdict : Verdict) → IsExplanationOfReader remaining text verdict → IsExplanationOfReader known text verdict
+explanation_of_known None remaining has text verdict explanation = record { bytes = explanation.bytes; of_read = explanation.of_read; of_all = tt }
+explanation_of_known (Some all) remaining has text verdict explanation = subst (λ r. IsExplanationOfReader r text verdict) has explanation
+
+pub batch_of_known : (quiet : Bool) (known remaining : Option (List ℕ)) → HasKnown known remaining → (text : List ℕ) (verdict : Verdict) → IsBatchOfReader quiet remaining text verdict →
+    IsBatchOfReader quiet known text verdict
+batch_of_known quiet None remaining has text verdict batch = record { stream = batch.stream; all = tt; is_batch = batch.is_batch }
+batch_of_known quiet (Some all) remaining has text verdict batch = subst (λ r. IsBatchOfReader quiet r text verdict) has batch
+
+-- nothing of a batch was written
+none_of_batch : (quiet : Bool) (known written : Option (List ℕ)) → WritesPrefix (IsBatchOfReader quiet known) written written
+none_of_batch quiet None written =
+    let some = some_batch quiet [] in
+    (some.1, some.0, record { stream = []; all = tt; is_batch = some.2 }, none_written written some.0)
+none_of_batch quiet (Some all) written =
+    let some = some_batch quiet all in
+    (some.1, some.0, record { stream = all; all = refl; is_batch = some.2 }, none_written written some.0)
+
+pub none_left : (quiet : Bool) (known written : Option (List ℕ)) (outcome : Result Verdict Fault) → OnErr outcome (WritesPrefix (IsBatchOfReader quiet known) written written)
+none_left quiet known written (Ok verdict) = tt
+none_left quiet known written (Err fault) = none_of_batch quiet known written
+
+pub batch_left : (quiet : Bool) (known remaining : Option (List ℕ)) → HasKnown known remaining → (old new : Option (List ℕ)) (outcome : Result Verdict Fault) →
+    OnErr outcome (WritesPrefix (IsBatchOfReader quiet remaining) old new) → OnErr outcome (WritesPrefix (IsBatchOfReader quiet known) old new)
+batch_left quiet known remaining has old new (Ok verdict) left = tt
+batch_left quiet known remaining has old new (Err fault) left = (left.0, left.1, batch_of_known quiet known remaining has left.1 left.0 left.2, left.3)
+
 -- ---- files opened
 
 -- all of them are some of the first
@@ -96,6 +127,13 @@ pub ends_by_report : (is_report : List ℕ → Verdict → Type 0) (o : Outputs)
 ends_by_report is_report o (Ok verdict) status writes leaves told faulty = inl (verdict, writes, told.1, told.0)
 ends_by_report is_report o (Err fault) status writes leaves told faulty = inr (fault, leaves, faulty)
 
+pub ends_batched : (quiet : Bool) (remaining : Option (List ℕ)) (o : Outputs) (outcome : Result Verdict Fault) (status : ℕ) →
+    IfOk outcome (WritesWhole (IsBatchOfReader quiet remaining) o.written_before o.written) → OnErr outcome (WritesPrefix (IsBatchOfReader quiet remaining) o.written_before o.written) →
+    IfErr outcome IsBatchFault → IfOk outcome (λ verdict. (status ≡ status_of verdict) × Keeps o.errors_before o.errors) →
+    IfErr outcome (λ fault. WritesFaultLine o.errors_before o.errors fault × (status ≡ 4)) → EndsBatched quiet remaining o status
+ends_batched quiet remaining o (Ok verdict) status writes left fault told faulty = inl (verdict, writes, told.1, told.0)
+ends_batched quiet remaining o (Err fault) status writes left is_fault told faulty = inr (fault, is_fault, left, faulty)
+
 -- it holds of some text
 some_text : (known : Option Text) (Is : Text → Type 0) → OfText known Is → OfText None Is
 some_text None Is holds = holds
@@ -105,6 +143,8 @@ some_text (Some text) Is holds = (text, holds)
 pub does_asked : (known : Option Text) (asked : Asked) (input : Option (List ℕ)) (files : List ℕ → Option (List ℕ)) (o : Outputs) (status : ℕ) →
     EndsAsAsked known asked input files o status → EndsAsAsked None asked input files o status
 does_asked known (judging file workers) input files o status ends = ends
+does_asked known (explaining file workers) input files o status ends = ends
+does_asked known (batching file workers quiet) input files o status ends = ends
 does_asked known (checking trace certificate) input files o status ends = ends
 does_asked known (replaying options program schedule) input files o status ends = ends
 does_asked known (running run) input files o status ends = ends
@@ -124,6 +164,14 @@ opens_none (Some before) names = (0, omega arith, ap Some (sym (append-nil befor
 pub unnamed_read : (file : Option (Bor (List ℕ))) (workers : ℕ) → reads_input (judging (option_map (λ f. f.now) file) workers) ≡ true → file ≡ None
 unnamed_read None workers reads = refl
 unnamed_read (Some name) workers reads = absurd (true≢false (sym reads))
+
+pub unnamed_explained : (file : Option (Bor (List ℕ))) (workers : ℕ) → reads_input (explaining (option_map (λ f. f.now) file) workers) ≡ true → file ≡ None
+unnamed_explained None workers reads = refl
+unnamed_explained (Some name) workers reads = absurd (true≢false (sym reads))
+
+pub unnamed_batch : (file : Option (Bor (List ℕ))) (workers : ℕ) (quiet : Bool) → reads_input (batching (option_map (λ f. f.now) file) workers quiet) ≡ true → file ≡ None
+unnamed_batch None workers quiet reads = refl
+unnamed_batch (Some name) workers quiet reads = absurd (true≢false (sym reads))
 
 -- a status other than that of a fault is that of a verdict
 pub at_verdict : (outcome : Result Verdict Fault) (status : ℕ) (before errors : Option (List ℕ)) (P : Type 0) → IfErr outcome (λ fault. WritesFaultLine before errors fault × (status ≡ 4))

@@ -4,7 +4,7 @@ use Rattle.std.proofs.lemmas.Bool.{false≢true}
 use Rattle.tso_ops.specs.Settings.{SettingValue}
 use Rattle.tso_ops.specs.Values.{ProgramValue}
 use Rattle.tso_ops.specs.declared.settings.Order.{Order}
-use Rattle.command_line.specs.Requests.{Asked, Text, judging, checking, replaying, running, making, campaigning, showing, refusing}
+use Rattle.command_line.specs.Requests.{Asked, Text, batching, explaining, judging, checking, replaying, running, making, campaigning, showing, refusing}
 use Rattle.command_line.specs.declared.options.Printing.{Printing}
 use Rattle.command_line.specs.declared.options.Printing.TheVariants.{Report, Trace}
 use Rattle.command_line.specs.declared.options.RunOptions.{RunOptions}
@@ -90,6 +90,8 @@ ran_status options programs o status lawful (inr ends) = λ three. omega (arith,
 pub lawful_status : (known : Option Text) (asked : Asked) (input : Option (List ℕ)) (files : List ℕ → Option (List ℕ)) (o : Outputs) (status : ℕ) →
     EndsAsAsked known asked input files o status → runs_on_lawful_unit asked ≡ true → status ≢ 3
 lawful_status known (judging file workers) input files o status ends lawful = absurd (false≢true lawful)
+lawful_status known (explaining file workers) input files o status ends lawful = absurd (false≢true lawful)
+lawful_status known (batching file workers quiet) input files o status ends lawful = absurd (false≢true lawful)
 lawful_status known (checking trace certificate) input files o status ends lawful = absurd (false≢true lawful)
 lawful_status known (replaying options program schedule) input files o status ends lawful =
     replayed_status options (files program) (files schedule) o status (for_all options.unit (files program) lawful) ends
@@ -102,6 +104,8 @@ lawful_status known refusing input files o status ends lawful = absurd (false≢
 pub file_status : (known : Option Text) (asked : Asked) (input : Option (List ℕ)) (files : List ℕ → Option (List ℕ)) (o : Outputs) (status : ℕ) →
     EndsAsAsked known asked input files o status → RunsLawfully asked files → status ≢ 3
 file_status known (judging file workers) input files o status ends lawful = absurd lawful
+file_status known (explaining file workers) input files o status ends lawful = absurd lawful
+file_status known (batching file workers quiet) input files o status ends lawful = absurd lawful
 file_status known (checking trace certificate) input files o status ends lawful = absurd lawful
 file_status known (replaying options program schedule) input files o status ends lawful =
     replayed_status options (files program) (files schedule) o status (for_file options.unit (files program) lawful) ends

@@ -1,5 +1,5 @@
 -- How the program ends: what it has written to its output and to its errors, and its status.
-use Rattle.std.specs.Prelude.{◌≡◌, ◌≢◌, ◌⊎◌, ℕ, List, [], ◌∷◌, ◌++◌, codes, string_bytes, Option, Some, None}
+use Rattle.std.specs.Prelude.{◌≡◌, ◌≢◌, ◌⊎◌, ℕ, Bool, List, [], ◌∷◌, ◌++◌, codes, string_bytes, Option, Some, None}
 use Rattle.std.specs.Fmt.{decimal}
 use Rattle.std.specs.Io.KnownBytes.{Appends, Keeps}
 use Rattle.tso_ops.specs.declared.settings.Order.{Order}
@@ -7,7 +7,9 @@ use Rattle.tso_report.specs.declared.verdicts.Verdict.{Verdict}
 use Rattle.tso_report.specs.declared.faults.Fault.{Fault}
 use Rattle.tso_report.specs.declared.faults.Fault.TheVariants.{OutOfMemory, Read, Write, NoThread, Missing}
 use Rattle.tso_report.specs.Streams.{AppendsPrefix}
-use Rattle.tso_report.specs.WrittenReports.{IsReportOfReader, LeavesAtFault, LeavesCheckFault, WritesCheckReport, WritesWhole}
+use Rattle.tso_report.specs.WrittenReports.{IsReportOfReader, LeavesAtFault, LeavesCheckFault, WritesCheckReport, WritesPrefix, WritesWhole}
+use Rattle.explaining.specs.WrittenExplanations.{IsExplanationOfReader}
+use Rattle.trace_batches.specs.Batches.{IsBatchFault, IsBatchOfReader}
 use Rattle.request_serving.specs.Campaigning.{IsCampaignText, LeavesCampaignText}
 use Rattle.request_serving.specs.Making.{IsMadeText, LeavesMadeText}
 use Rattle.request_serving.specs.Replaying.{IsReplayText}
@@ -19,7 +21,9 @@ use Rattle.command_line.specs.declared.options.ShapeNumbers.{ShapeNumbers}
 use Rattle.command_line.specs.declared.requests.Request.{Request}
 use Rattle.command_line.specs.declared.requests.Request.TheVariants.{Show, Refuse}
 use Rattle.command_line.specs.Commands.{IsAskedFor}
-use Rattle.command_line.specs.Requests.{Asked, Text, asked_of, judging, checking, replaying, running, making, campaigning, showing, refusing}
+use Rattle.command_line.specs.Refusals.{Refuses}
+use Rattle.command_line.specs.Spellings.{Asks, AsksHelp}
+use Rattle.command_line.specs.Requests.{Asked, Text, asked_of, judging, explaining, batching, checking, replaying, running, making, campaigning, showing, refusing}
 
 -- ---- the lines of faults
 
@@ -67,6 +71,16 @@ abbrev pub EndsChecked : Option (List ℕ) → Option (List ℕ) → Outputs →
 EndsChecked traces certs o status =
     ((verdict : Verdict) × WritesCheckReport traces certs o.written_before o.written verdict × Keeps o.errors_before o.errors × (status ≡ status_of verdict))
     ⊎ ((fault : Fault) × (fault ≢ NoThread) × LeavesCheckFault traces certs o.written_before o.written fault × EndsByFault fault o status)
+
+-- the explanation of the verdict on a trace, of which a reader has these bytes
+abbrev pub EndsExplained : Option (List ℕ) → Outputs → ℕ → Type 0
+EndsExplained remaining o status = EndsByReport (IsExplanationOfReader remaining) o status
+
+-- The lines of traces that stand one after the other, of which a reader has these bytes, and their last line; or a fault left a prefix of this text.
+abbrev pub EndsBatched : Bool → Option (List ℕ) → Outputs → ℕ → Type 0
+EndsBatched quiet remaining o status =
+    ((verdict : Verdict) × WritesWhole (IsBatchOfReader quiet remaining) o.written_before o.written verdict × Keeps o.errors_before o.errors × (status ≡ status_of verdict))
+    ⊎ ((fault : Fault) × IsBatchFault fault × WritesPrefix (IsBatchOfReader quiet remaining) o.written_before o.written × EndsByFault fault o status)
 
 -- known bytes of the output grow by a text of this kind, with this status
 abbrev pub WritesText : (List ℕ → ℕ → Type 0) → Option (List ℕ) → Option (List ℕ) → ℕ → Type 0
@@ -141,6 +155,8 @@ OfText (Some text) Is = Is text
 -- is known, where one is.
 abbrev pub EndsAsAsked : Option Text → Asked → Option (List ℕ) → (List ℕ → Option (List ℕ)) → Outputs → ℕ → Type 0
 EndsAsAsked known (judging file workers) input files o status = EndsJudged (judged_bytes file input files) o status
+EndsAsAsked known (explaining file workers) input files o status = EndsExplained (judged_bytes file input files) o status
+EndsAsAsked known (batching file workers quiet) input files o status = EndsBatched quiet (judged_bytes file input files) o status
 EndsAsAsked known (checking trace certificate) input files o status = EndsChecked (files trace) (files certificate) o status
 EndsAsAsked known (replaying options program schedule) input files o status = EndsReplayed options (files program) (files schedule) o status
 EndsAsAsked known (running run) input files o status = EndsRun run.options (files run.program) o status
@@ -166,6 +182,14 @@ Does asked input files o status = EndsAsAsked None asked input files o status �
 -- what clap says that the arguments ask for was done, or memory ran out while they were read
 abbrev pub DoesWhatClapSays : List Text → Option (List ℕ) → (List ℕ → Option (List ℕ)) → Outputs → ℕ → Type 0
 DoesWhatClapSays arguments input files o status = ((asked : Asked) × IsAskedFor arguments asked × EndsAsAsked None asked input files o status) ⊎ EndsOutOfMemory o status
+
+-- What the arguments lead to, where standard input has these bytes, and the file of each name those: in a usual spelling what they ask for was done, a
+-- help or the version shown, or they were refused; and of any arguments what clap says.
+pub record LeadTo (arguments : List Text) (input : Option (List ℕ)) (files : List ℕ → Option (List ℕ)) (o : Outputs) (status : ℕ) : Type 0 where
+  pub asked : (asked : Asked) → Asks arguments asked → Does asked input files o status
+  pub helped : AsksHelp arguments → Does showing input files o status
+  pub refused : Refuses arguments → Does refusing input files o status
+  pub parsed : DoesWhatClapSays arguments input files o status
 
 -- ---- arguments that can't be had
 

@@ -2,14 +2,13 @@
 ghost use Rattle.std.specs.Prelude.{◌≡◌, ◌≢◌, None, true, false};
 ghost use Rattle.std.specs.declared.io.ErrorKind.TheVariants.{OutOfMemory as NoMemory};
 ghost use Rattle.command_line.specs.Refusals.{Refuses};
-ghost use Rattle.command_line.specs.Requests.{Asked, refusing, showing, texts_in};
+ghost use Rattle.command_line.specs.Requests.{Asked, texts_in};
 ghost use Rattle.command_line.specs.Spellings.{Asks, AsksHelp};
-ghost use Rattle.tso_report.specs.Limits.{trace_read_limit};
-ghost use Rattle.tso_report.specs.Streams.{AppendsPrefix, LosesPrefix};
+ghost use Rattle.tso_report.specs.Streams.{AppendsPrefix};
 ghost use Rattle.tso_report.specs.declared.faults.Fault.TheVariants.{OutOfMemory};
-ghost use Rattle.request_serving.specs.Endings.{Does, DoesWhatClapSays, WritesFaultLine, invalid_utf8_line, outputs};
+ghost use Rattle.request_serving.specs.Endings.{LeadTo, WritesFaultLine, invalid_utf8_line, outputs};
 ghost use Rattle.request_serving.specs.LawfulRequests.{RunsLawfully, runs_on_lawful_unit};
-ghost use Rattle.request_serving.specs.OpenedFiles.{OpensFirst, files_named, reads_input};
+ghost use Rattle.request_serving.specs.OpenedFiles.{OpensFirst, TakesInput, files_named, reads_input};
 
 use crate::endings::end_by;
 use crate::files::{NamedFiles, SystemFiles};
@@ -25,12 +24,12 @@ use tso_report::Fault;
 /// Does what the arguments of a command line ask for, and answers the status that the program ends with.
 ///
 /// Without arguments it judges what the reader has, with one worker, and writes its report; so it does, by the arguments
-/// `judge [--workers N] [FILE]`, for a file, and by `check TRACE CERT` it checks a certificate against a trace. `replay`
+/// `judge [--workers N] [FILE]`, for a file; `explain` writes why, `batch` a line for each of many traces. By `check TRACE CERT` it checks a certificate against a trace. `replay`
 /// and `run` execute a program on a memory unit and judge the record, `make` draws a program from a seed, and `campaign`
 /// runs those of many seeds. Status 0: no violation was found, or a text was asked for and written. 2: a text, a
 /// certificate, a shape or seeds were refused, or the arguments were, whose refusal is written to `errors`. 3: a violation,
 /// or a certificate that holds. 4: a fault; one line, as `FAULT Read`, is written to `errors`. All files that the arguments
-/// name are opened, in their order, before one is read. At most 1,048,577 bytes of a trace are read.
+/// name are opened, in their order, before one is read. At most 1,048,577 bytes of a trace are read; of many traces all are.
 pub fn drive<H: Threads + Wait + Sync + Files + AllocGlobal, R: Read, W: Write, E: Write>(
     rt: &H,
     arguments: &[String],
@@ -38,15 +37,12 @@ pub fn drive<H: Threads + Wait + Sync + Files + AllocGlobal, R: Read, W: Write, 
     writer: &mut W,
     errors: &mut E,
 ) -> u8
-    ensures asked { (asked : Asked) → Asks (texts_in arguments.now) asked → Does asked (R.remaining reader.old) (λ _. None) (outputs (W.contents writer.old) (W.contents writer.new) (E.contents errors.old) (E.contents errors.new)) result }
-    ensures helped { AsksHelp (texts_in arguments.now) → Does showing (R.remaining reader.old) (λ _. None) (outputs (W.contents writer.old) (W.contents writer.new) (E.contents errors.old) (E.contents errors.new)) result }
-    ensures refused { Refuses (texts_in arguments.now) → Does refusing (R.remaining reader.old) (λ _. None) (outputs (W.contents writer.old) (W.contents writer.new) (E.contents errors.old) (E.contents errors.new)) result }
+    ensures ends { LeadTo (texts_in arguments.now) (R.remaining reader.old) (λ _. None) (outputs (W.contents writer.old) (W.contents writer.new) (E.contents errors.old) (E.contents errors.new)) result }
     ensures no_false_alarm { (asked : Asked) → Asks (texts_in arguments.now) asked → runs_on_lawful_unit asked ≡ true → result ≢ 3 }
-    ensures ends { DoesWhatClapSays (texts_in arguments.now) (R.remaining reader.old) (λ _. None) (outputs (W.contents writer.old) (W.contents writer.new) (E.contents errors.old) (E.contents errors.new)) result }
     ensures unread { (asked : Asked) → Asks (texts_in arguments.now) asked → reads_input asked ≡ false → reader.new ≡ reader.old }
     ensures unread_help { AsksHelp (texts_in arguments.now) → reader.new ≡ reader.old }
     ensures unread_refusal { Refuses (texts_in arguments.now) → reader.new ≡ reader.old }
-    ensures taken { (asked : Asked) → Asks (texts_in arguments.now) asked → reads_input asked ≡ true → result ≢ 4 → LosesPrefix trace_read_limit (R.remaining reader.old) (R.remaining reader.new) }
+    ensures taken { (asked : Asked) → Asks (texts_in arguments.now) asked → reads_input asked ≡ true → result ≢ 4 → TakesInput asked (R.remaining reader.old) (R.remaining reader.new) }
 {
     let mut files = SystemFiles::new(rt);
     drive_over(rt, arguments, &mut files, reader, writer, errors)
@@ -60,17 +56,14 @@ pub fn drive_over<
     W: Write,
     E: Write,
 >(rt: &H, arguments: &[String], files: &mut O, reader: &mut R, writer: &mut W, errors: &mut E) -> u8
-    ensures asked { (asked : Asked) → Asks (texts_in arguments.now) asked → Does asked (R.remaining reader.old) (O.bytes files.old) (outputs (W.contents writer.old) (W.contents writer.new) (E.contents errors.old) (E.contents errors.new)) result }
-    ensures helped { AsksHelp (texts_in arguments.now) → Does showing (R.remaining reader.old) (O.bytes files.old) (outputs (W.contents writer.old) (W.contents writer.new) (E.contents errors.old) (E.contents errors.new)) result }
-    ensures refused { Refuses (texts_in arguments.now) → Does refusing (R.remaining reader.old) (O.bytes files.old) (outputs (W.contents writer.old) (W.contents writer.new) (E.contents errors.old) (E.contents errors.new)) result }
+    ensures ends { LeadTo (texts_in arguments.now) (R.remaining reader.old) (O.bytes files.old) (outputs (W.contents writer.old) (W.contents writer.new) (E.contents errors.old) (E.contents errors.new)) result }
     ensures no_false_alarm { (asked : Asked) → Asks (texts_in arguments.now) asked → runs_on_lawful_unit asked ≡ true → result ≢ 3 }
     ensures no_false_alarm_of_file { (asked : Asked) → Asks (texts_in arguments.now) asked → RunsLawfully asked (O.bytes files.old) → result ≢ 3 }
-    ensures ends { DoesWhatClapSays (texts_in arguments.now) (R.remaining reader.old) (O.bytes files.old) (outputs (W.contents writer.old) (W.contents writer.new) (E.contents errors.old) (E.contents errors.new)) result }
     ensures opened { (asked : Asked) → Asks (texts_in arguments.now) asked → OpensFirst (O.opened files.old) (O.opened files.new) (files_named asked) }
     ensures unread { (asked : Asked) → Asks (texts_in arguments.now) asked → reads_input asked ≡ false → reader.new ≡ reader.old }
     ensures unread_help { AsksHelp (texts_in arguments.now) → reader.new ≡ reader.old }
     ensures unread_refusal { Refuses (texts_in arguments.now) → reader.new ≡ reader.old }
-    ensures taken { (asked : Asked) → Asks (texts_in arguments.now) asked → reads_input asked ≡ true → result ≢ 4 → LosesPrefix trace_read_limit (R.remaining reader.old) (R.remaining reader.new) }
+    ensures taken { (asked : Asked) → Asks (texts_in arguments.now) asked → reads_input asked ≡ true → result ≢ 4 → TakesInput asked (R.remaining reader.old) (R.remaining reader.new) }
 {
     match read_arguments(rt.alloc(), arguments) {
         Ok(request) => serve(rt, &request, files, reader, writer, errors),

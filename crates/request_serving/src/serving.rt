@@ -7,10 +7,12 @@ ghost use Rattle.tso_report.specs.declared.faults.Fault.TheVariants.{NoThread};
 ghost use Rattle.tso_report.specs.WrittenReports.{LeavesCheckFault, LeavesFault, WritesCheckReport, WritesReport};
 ghost use Rattle.request_serving.specs.Endings.{EndsAs, EndsShowing, judged_bytes, outputs};
 ghost use Rattle.request_serving.specs.LawfulRequests.{RunsLawfully, runs_on_lawful_unit};
-ghost use Rattle.request_serving.specs.OpenedFiles.{OpensFirst, OpensNext, files_named, name_in, reads_input};
+ghost use Rattle.request_serving.specs.OpenedFiles.{OpensFirst, OpensNext, TakesInput, files_named, name_in, reads_input};
 
+use crate::batches::batch_named;
 use crate::campaigning::campaign_by;
 use crate::endings::{DONE, REFUSED, end, end_by, end_run, end_with};
+use crate::explanations::explain_named;
 use crate::files::{NamedFiles, open};
 use crate::making::make;
 use crate::replaying::replay_named;
@@ -20,6 +22,7 @@ use std::alloc::Global;
 use std::io::{Read, Write};
 use std::sync::Wait;
 use std::thread::Threads;
+use trace_batches::BatchOptions;
 use tso_report::{Fault, MAX_WORKERS, Verdict, check_texts, judge, write_text};
 
 /// The command line lets just those numbers of workers through that a trace is judged with.
@@ -27,8 +30,9 @@ const _: () = prove!(command_line::MAX_WORKERS == MAX_WORKERS);
 
 /// Does what a request asks for, and answers the status that the program ends with.
 ///
-/// `Judge` judges the trace in a file, or else what `reader` has, and writes its report to `writer`; `Check` checks a
-/// certificate against a trace and writes the report of both. Their status is that of the verdict: 0 where no violation
+/// `Judge` judges the trace in a file, or else what `reader` has, and writes its report to `writer`; `Explain` writes the
+/// verdict's explanation, and `Batch` a line for each of many traces. `Check` checks a certificate against a trace and
+/// writes the report of both. Their status is that of the verdict: 0 where no violation
 /// was found, 2 where a text or the certificate was refused, 3 at a violation or a certificate that holds. `Replay` and
 /// `Run` print what a record gives: never a violation where the unit is lawful for programs of the memory model that the
 /// program's text names, so their status isn't 3 there. A run whose request names turns of a drainer, at most 1,000,000,
@@ -52,13 +56,31 @@ pub fn serve<H: Threads + Wait + Sync + AllocGlobal, O: NamedFiles, R: Read, W: 
     ensures first { OpensFirst (O.opened files.old) (O.opened files.new) (files_named (asked_of request.now)) }
     ensures opened { result ≢ 4 → OpensNext (O.opened files.old) (O.opened files.new) (files_named (asked_of request.now)) }
     ensures unread { reads_input (asked_of request.now) ≡ false → reader.new ≡ reader.old }
-    ensures taken { reads_input (asked_of request.now) ≡ true → result ≢ 4 → LosesPrefix trace_read_limit (R.remaining reader.old) (R.remaining reader.new) }
+    ensures taken { reads_input (asked_of request.now) ≡ true → result ≢ 4 → TakesInput (asked_of request.now) (R.remaining reader.old) (R.remaining reader.new) }
 {
     match request {
         Request::Judge { file, workers } => end(
             judge_named(rt, *file, *workers, files, reader, writer),
             errors,
         ),
+        Request::Explain { file, workers } => end(
+            explain_named(rt, *file, *workers, files, reader, writer),
+            errors,
+        ),
+        Request::Batch {
+            file,
+            workers,
+            quiet,
+        } => {
+            let options = BatchOptions {
+                workers: *workers,
+                quiet: *quiet,
+            };
+            end(
+                batch_named(rt, *file, options, files, reader, writer),
+                errors,
+            )
+        }
         Request::Check { trace, certificate } => {
             let checked = check_files(rt.alloc(), trace, certificate, files, writer);
             end(checked, errors)

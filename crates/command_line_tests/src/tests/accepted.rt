@@ -4,7 +4,7 @@ use super::{asked, expect_each};
 use std::test::Fail;
 
 /// Arguments, and what they ask for.
-const ACCEPTED: [(&[&str], &str); 12] = [
+const ACCEPTED: [(&[&str], &str); 21] = [
     (&[], "judge standard input with 1"),
     (&["judge"], "judge standard input with 1"),
     (&["judge", "a.trace"], "judge \"a.trace\" with 1"),
@@ -23,6 +23,27 @@ const ACCEPTED: [(&[&str], &str); 12] = [
     ),
     (&["judge", "check"], "judge \"check\" with 1"),
     (&["check", "t", "c"], "check \"t\" against \"c\""),
+    (&["explain"], "explain None with 1"),
+    (&["explain", "t"], "explain Some(\"t\") with 1"),
+    (
+        &["explain", "t", "--workers=64"],
+        "explain Some(\"t\") with 64",
+    ),
+    (
+        &["explain", "--workers", "2", "--", "-x"],
+        "explain Some(\"-x\") with 2",
+    ),
+    (&["batch"], "batch None with 1 quiet false"),
+    (&["batch", "--quiet"], "batch None with 1 quiet true"),
+    (
+        &["batch", "s", "--quiet", "--workers", "4"],
+        "batch Some(\"s\") with 4 quiet true",
+    ),
+    (
+        &["batch", "--workers=64", "s"],
+        "batch Some(\"s\") with 64 quiet false",
+    ),
+    (&["batch", "-"], "batch Some(\"-\") with 1 quiet false"),
 ];
 
 #[test]

@@ -4,13 +4,19 @@ use super::expect_each;
 use std::test::Fail;
 
 /// Arguments, and the text that they ask for.
-const SHOWN: [(&[&str], &str); 26] = [
+const SHOWN: [(&[&str], &str); 32] = [
     (&["--help"], PROGRAM_HELP),
     (&["-h"], PROGRAM_HELP),
     (&["help"], PROGRAM_HELP),
     (&["judge", "--help"], JUDGE_HELP),
     (&["judge", "-h"], JUDGE_HELP),
     (&["help", "judge"], JUDGE_HELP),
+    (&["explain", "--help"], EXPLAIN_HELP),
+    (&["explain", "-h"], EXPLAIN_HELP),
+    (&["help", "explain"], EXPLAIN_HELP),
+    (&["batch", "--help"], BATCH_HELP),
+    (&["batch", "-h"], BATCH_HELP),
+    (&["help", "batch"], BATCH_HELP),
     (&["check", "--help"], CHECK_HELP),
     (&["check", "-h"], CHECK_HELP),
     (&["help", "check"], CHECK_HELP),
@@ -45,6 +51,8 @@ Usage: tsobench [COMMAND]
 
 Commands:
   judge     Judges a trace and prints its report
+  explain   Explains in words why a trace is a violation
+  batch     Judges many traces, with a line for each
   check     Checks a certificate of a violation against its trace
   replay    Replays a program by a schedule, and judges the trace
   run       Runs a program with a thread per processor, and judges the trace
@@ -109,6 +117,68 @@ Exit status:
 
 Example:
   tsobench judge --workers 4 TRACE
+";
+
+const EXPLAIN_HELP: &str = "\
+Explains in words why a trace is a violation
+
+Usage: tsobench explain [OPTIONS] [FILE]
+
+Arguments:
+  [FILE]  The text of a trace; standard input where none is named
+
+Options:
+      --workers <N>  How many workers judge, 1 to 64 [default: 1]
+  -h, --help         Print help
+
+It reads the text of a trace, as `tsobench judge` does, and prints its report up
+to the verdict. Of a violation it says then what can't be: the events that would
+have to stand each before the next and the last before the first, why each of
+these has to hold, and where the events stand in the text; or which load read a
+value that nothing wrote, and what is stored to its address. Of a text that is
+no trace it shows the line and says what a line has to be. The text is the same
+for each number of workers.
+
+Exit status:
+  0  no violation was found, which proves nothing about the trace
+  2  the text is no trace, or the command line was refused
+  3  the trace violates its memory model
+  4  a fault, which one line on standard error names, as FAULT Read
+
+Example:
+  tsobench explain TRACE
+";
+
+const BATCH_HELP: &str = "\
+Judges many traces, with a line for each
+
+Usage: tsobench batch [OPTIONS] [FILE]
+
+Arguments:
+  [FILE]  The texts of traces; standard input where none is named
+
+Options:
+      --workers <N>  How many traces are judged side by side, 1 to 64 [default: 1]
+      --quiet        Leave out the lines of traces without a violation
+  -h, --help         Print help
+
+It reads texts of traces that stand one after the other: each ends with its line
+`end`. For each it prints a line, as soon as it and all before are judged:
+trace 1 NO VIOLATION FOUND, trace 2 VIOLATION or trace 3 REFUSED BadLine line 3,
+with the name and the line that `tsobench judge` gives for the text alone; and
+at last a line as traces 3 violations 1 refused 1. With --quiet the traces
+without a violation get no line. A text of more than 1,048,576 bytes is refused
+as TooLong, and the next one is judged. The lines are the same for each number
+of workers.
+
+Exit status:
+  0  no violation was found, which proves nothing about the traces
+  2  a text is no trace, and none is a violation, or the command line was refused
+  3  a trace violates its memory model
+  4  a fault, which one line on standard error names, as FAULT Read
+
+Example:
+  cat *.trace | tsobench batch --workers 4 --quiet
 ";
 
 const CHECK_HELP: &str = "\

@@ -1,38 +1,33 @@
 use Rattle.std.proofs.Common.{◌∙◌, ap, inl, inr, rules, subst, sym, arith}
 use Rattle.command_line.specs.Requests.{asked_of}
-use Rattle.request_serving.specs.Endings.{Does, Outputs, outputs, text_in}
+use Rattle.request_serving.specs.Endings.{Does, EndsOutOfMemory, Outputs, outputs, text_in}
 use Rattle.request_serving.specs.LawfulRequests.{RunsLawfully, runs_on_lawful_unit}
-use Rattle.request_serving.specs.OpenedFiles.{OpensFirst, files_named, reads_input}
+use Rattle.request_serving.specs.OpenedFiles.{OpensFirst, TakesInput, files_named, reads_input}
 use Rattle.request_serving.proofs.EndFacts.{does_asked}
 use Rattle.request_serving.proofs.driving.drive_over.Goals as goal
 
-pub returns-in-Ok-clause-asked : goal.returns-in-Ok-clause-asked
-returns-in-Ok-clause-asked g c = λ asked asks.
-    let o : Outputs = outputs (g.W.Write.contents c.args.writer.now) (g.W.Write.contents c.serve.new.writer) (g.E.Write.contents c.args.errors.now) (g.E.Write.contents c.serve.new.errors) in
-    subst (λ a. Does a (g.R.Read.remaining c.args.reader.now) (g.O.NamedFiles.bytes c.args.files.now) o c.serve.result) (c.in-Ok.ensures.asked asked asks)
-    (inl (does_asked (text_in c.in-Ok.request) (asked_of c.in-Ok.request) _ _ o _ c.serve.ensures.ends))
-
-pub returns-in-Ok-clause-helped : goal.returns-in-Ok-clause-helped
-returns-in-Ok-clause-helped g c = λ asks.
-    let o : Outputs = outputs (g.W.Write.contents c.args.writer.now) (g.W.Write.contents c.serve.new.writer) (g.E.Write.contents c.args.errors.now) (g.E.Write.contents c.serve.new.errors) in
-    subst (λ a. Does a (g.R.Read.remaining c.args.reader.now) (g.O.NamedFiles.bytes c.args.files.now) o c.serve.result) (c.in-Ok.ensures.helped asks)
-    (inl (does_asked (text_in c.in-Ok.request) (asked_of c.in-Ok.request) _ _ o _ c.serve.ensures.ends))
-
-pub returns-in-Ok-clause-refused : goal.returns-in-Ok-clause-refused
-returns-in-Ok-clause-refused g c = λ asks.
-    let o : Outputs = outputs (g.W.Write.contents c.args.writer.now) (g.W.Write.contents c.serve.new.writer) (g.E.Write.contents c.args.errors.now) (g.E.Write.contents c.serve.new.errors) in
-    subst (λ a. Does a (g.R.Read.remaining c.args.reader.now) (g.O.NamedFiles.bytes c.args.files.now) o c.serve.result) (c.in-Ok.ensures.refused asks)
-    (inl (does_asked (text_in c.in-Ok.request) (asked_of c.in-Ok.request) _ _ o _ c.serve.ensures.ends))
-
 pub returns-in-Ok-clause-ends : goal.returns-in-Ok-clause-ends
-returns-in-Ok-clause-ends g c = inl (asked_of c.in-Ok.request, c.in-Ok.ensures.parsed, does_asked (text_in c.in-Ok.request) (asked_of c.in-Ok.request) _ _ _ _ c.serve.ensures.ends)
+returns-in-Ok-clause-ends g c =
+    let o : Outputs = outputs (g.W.Write.contents c.args.writer.now) (g.W.Write.contents c.serve.new.writer) (g.E.Write.contents c.args.errors.now) (g.E.Write.contents c.serve.new.errors) in
+    let input = g.R.Read.remaining c.args.reader.now in
+    let files = g.O.NamedFiles.bytes c.args.files.now in
+    let done = does_asked (text_in c.in-Ok.request) (asked_of c.in-Ok.request) _ _ o _ c.serve.ensures.ends in
+    record {
+      asked = λ asked asks. subst (λ a. Does a input files o c.serve.result) (c.in-Ok.ensures.asked asked asks) (inl done);
+      helped = λ asks. subst (λ a. Does a input files o c.serve.result) (c.in-Ok.ensures.helped asks) (inl done);
+      refused = λ refuses. subst (λ a. Does a input files o c.serve.result) (c.in-Ok.ensures.refused refuses) (inl done);
+      parsed = inl (asked_of c.in-Ok.request, c.in-Ok.ensures.parsed, done);
+    }
 
 pub returns-in-Ok-clause-opened : goal.returns-in-Ok-clause-opened
 returns-in-Ok-clause-opened g c = λ asked asks.
     subst (λ a. OpensFirst (g.O.NamedFiles.opened c.args.files.now) (g.O.NamedFiles.opened c.serve.new.files) (files_named a)) (c.in-Ok.ensures.asked asked asks) c.serve.ensures.first
 
 pub returns-in-Err-clause-ends : goal.returns-in-Err-clause-ends
-returns-in-Err-clause-ends g c = inr (search rules)
+returns-in-Err-clause-ends g c =
+    let o : Outputs = outputs (g.W.Write.contents c.args.writer.now) (g.W.Write.contents c.args.writer.now) (g.E.Write.contents c.args.errors.now) (g.E.Write.contents c.end_by.new.errors) in
+    let memory : EndsOutOfMemory o c.end_by.result = search rules in
+    record { asked = λ asked asks. inr memory; helped = λ asks. inr memory; refused = λ refuses. inr memory; parsed = inr memory }
 
 pub returns-in-Ok-clause-unread_help : goal.returns-in-Ok-clause-unread_help
 returns-in-Ok-clause-unread_help g c = λ asks. c.serve.ensures.unread (ap reads_input (c.in-Ok.ensures.helped asks))
@@ -42,7 +37,8 @@ returns-in-Ok-clause-unread_refusal g c = λ refuses. c.serve.ensures.unread (ap
 
 pub returns-in-Ok-clause-taken : goal.returns-in-Ok-clause-taken
 returns-in-Ok-clause-taken g c = λ asked asks reads other.
-    c.serve.ensures.taken (ap reads_input (c.in-Ok.ensures.asked asked asks) ∙ reads) other
+    let same = c.in-Ok.ensures.asked asked asks in
+    subst (λ a. TakesInput a (g.R.Read.remaining c.args.reader.now) (g.R.Read.remaining c.serve.new.reader)) same (c.serve.ensures.taken (ap reads_input same ∙ reads) other)
 
 pub returns-in-Err-clause-taken : goal.returns-in-Err-clause-taken
 returns-in-Err-clause-taken g c = λ asked asks reads other. absurd (other c.end_by.ensures.status)

@@ -1,0 +1,63 @@
+# Completions of tsobench for bash. Written by scripts/compare-help from the texts of help.
+_tsobench() {
+    local word=${COMP_WORDS[COMP_CWORD]} before=${COMP_WORDS[COMP_CWORD - 1]} command='' words='' files='' i
+    # --unit=serial comes as three words
+    case $word/$before in
+        =/*) word='' ;;
+        */=) before=${COMP_WORDS[COMP_CWORD - 2]} ;;
+    esac
+    for ((i = 1; i < COMP_CWORD; i++)); do
+        case ${COMP_WORDS[i]} in
+            judge | explain | batch | check | replay | run | make | campaign | help)
+                command=${COMP_WORDS[i]}
+                break
+                ;;
+        esac
+    done
+    case $command/$before in
+        judge/--workers) ;;
+        explain/--workers) ;;
+        batch/--workers) ;;
+        replay/--unit) words='serial buffer partial newest-first no-forward stale-load torn-swap idle-membar lost-drain' ;;
+        replay/--capacity) ;;
+        replay/--trigger) ;;
+        replay/--workers) ;;
+        run/--unit) words='serial buffer partial newest-first no-forward stale-load torn-swap idle-membar lost-drain' ;;
+        run/--capacity) ;;
+        run/--trigger) ;;
+        run/--workers) ;;
+        run/--seed) ;;
+        run/--drain-turns) ;;
+        make/--model) words='tso pso' ;;
+        make/--seed) ;;
+        make/--procs) ;;
+        make/--ops) ;;
+        make/--addrs) ;;
+        campaign/--unit) words='serial buffer partial newest-first no-forward stale-load torn-swap idle-membar lost-drain' ;;
+        campaign/--capacity) ;;
+        campaign/--trigger) ;;
+        campaign/--workers) ;;
+        campaign/--model) words='tso pso' ;;
+        campaign/--first) ;;
+        campaign/--count) ;;
+        campaign/--procs) ;;
+        campaign/--ops) ;;
+        campaign/--addrs) ;;
+        /*) words='judge explain batch check replay run make campaign help -h --help -V --version' ;;
+        judge/*) words='--workers -h --help' files=yes ;;
+        explain/*) words='--workers -h --help' files=yes ;;
+        batch/*) words='--workers --quiet -h --help' files=yes ;;
+        check/*) words='-h --help' files=yes ;;
+        replay/*) words='--unit --capacity --trigger --workers --trace -h --help' files=yes ;;
+        run/*) words='--unit --capacity --trigger --workers --trace --seed --drain-turns -h --help' files=yes ;;
+        make/*) words='--model --seed --procs --ops --addrs -h --help' ;;
+        campaign/*) words='--unit --capacity --trigger --workers --model --first --count --procs --ops --addrs -h --help' ;;
+        help/*) words='judge explain batch check replay run make campaign' ;;
+    esac
+    if [[ -n $files && $word != -* ]]; then
+        words=''
+        compopt -o default 2>/dev/null
+    fi
+    mapfile -t COMPREPLY < <(compgen -W "$words" -- "$word")
+}
+complete -F _tsobench tsobench

@@ -1,0 +1,4 @@
+pub mod Parameters
+pub mod Given
+pub mod Spelled
+pub mod Offered

@@ -1,0 +1,232 @@
+-- The subcommands as values: the parameters of each, and what it asks for by their texts.
+use Rattle.std.specs.Prelude.{◌≡◌, ◌^◌, ◌-◌, ◌⊎◌, ℕ, Bool, true, false, List, [], ◌∷◌, ◌++◌, Option, Some, None, codes, min, max, option_and_then, unwrap_or, if◌then◌else◌}
+use Rattle.std.specs.Option.{option_map_or}
+use Rattle.std.specs.Str.{bytes_eq}
+use Rattle.std.specs.Str.Parse.{digits_value, without_leading_plus}
+use Rattle.clap.specs.ValueTests.{is_unsigned_in}
+use Rattle.clap_arguments.specs.Parameters.{Parameter, flag, listed, option, other, range}
+use Rattle.tso_ops.specs.declared.settings.Order.{Order}
+use Rattle.command_line.specs.Workers.{worker_limit}
+use Rattle.command_line.specs.declared.options.Printing.{Printing}
+use Rattle.command_line.specs.declared.options.Printing.TheVariants.{Report, Trace}
+use Rattle.command_line.specs.declared.options.RunOptions.{RunOptions}
+use Rattle.command_line.specs.declared.options.ShapeNumbers.{ShapeNumbers}
+use Rattle.command_line.specs.declared.options.UnitKind.TheVariants.{Serial}
+use Rattle.command_line.specs.declared.options.UnitOptions.{UnitOptions}
+use Rattle.command_line.specs.declared.parameters.NameList.{NameList}
+use Rattle.command_line.specs.declared.parameters.NameList.TheVariants.{Units, Models}
+use Rattle.command_line.specs.Models.{default_model, model_names, model_order}
+use Rattle.command_line.specs.Requests.{Text, Asked, batching, campaigning, capacity_limit, checking, drain_turns_limit, explaining, judging, making, number_limit, refusing, replaying, running}
+use Rattle.command_line.specs.Units.{default_capacity, default_trigger, trigger_limit, unit_kind, unit_names}
+
+pub record Subcommand : Type 0 where
+  pub name : Text
+  pub parameters : List (Parameter NameList)
+  -- what is asked for, by the texts of the parameters in their order
+  pub ask : List (Option Text) → Asked
+
+-- the names that an option takes
+abbrev pub known_names : NameList → List Text
+known_names Units = unit_names
+known_names Models = model_names
+
+-- ---- parameters of several subcommands
+
+-- `--workers N`: 1 where it is left out
+abbrev pub workers : Parameter NameList
+workers = option (codes "workers") (range 1 worker_limit) (Some (codes "1"))
+
+-- `--unit UNIT`
+abbrev pub unit : Parameter NameList
+unit = option (codes "unit") (listed Units) None
+
+-- `--capacity C`: 8 where it is left out
+abbrev pub capacity : Parameter NameList
+capacity = option (codes "capacity") (range 1 capacity_limit) (Some (codes "8"))
+
+-- `--trigger T`: 1 where it is left out
+abbrev pub trigger : Parameter NameList
+trigger = option (codes "trigger") (range 1 trigger_limit) (Some (codes "1"))
+
+-- `--trace`
+abbrev pub trace : Parameter NameList
+trace = flag (codes "trace")
+
+-- the options of a unit, and those of a run
+abbrev pub unit_parameters : List (Parameter NameList)
+unit_parameters = unit ∷ capacity ∷ trigger ∷ []
+
+abbrev pub run_parameters : List (Parameter NameList)
+run_parameters = unit_parameters ++ workers ∷ trace ∷ []
+
+-- `--name N`, which may not be left out
+abbrev pub required : Text → Parameter NameList
+required id = option id (range 0 number_limit) None
+
+-- `--procs P --ops O --addrs A`
+abbrev pub shape_parameters : List (Parameter NameList)
+shape_parameters = required (codes "procs") ∷ required (codes "ops") ∷ required (codes "addrs") ∷ []
+
+-- `--model MODEL`: TSO where it is left out
+abbrev pub model : Parameter NameList
+model = option (codes "model") (listed Models) (Some (codes "tso"))
+
+-- a file that may not be left out
+abbrev pub file : Text → Parameter NameList
+file id = other id true
+
+-- ---- what their texts stand for
+
+-- the number of 64 bits that a text spells, in digits after a plus sign or none, and `default` where it spells none
+abbrev pub number_in : ℕ → Text → ℕ
+number_in default text =
+    if is_unsigned_in 0 (2 ^ 64 - 1) text then digits_value 10 (without_leading_plus text) else default
+
+abbrev pub number_or : ℕ → Option Text → ℕ
+number_or default text = option_map_or (number_in default) text default
+
+-- The nearest number within the limits. An option takes no other; what `clap` says of all arguments doesn't say so.
+abbrev pub within : ℕ → ℕ → ℕ → ℕ
+within least most n = max least (min n most)
+
+abbrev pub workers_of : Option Text → ℕ
+workers_of text = within 1 worker_limit (number_or 1 text)
+
+abbrev pub unit_of : Option Text → Option Text → Option Text → UnitOptions
+unit_of unit_text capacity_text trigger_text = record {
+  kind = unwrap_or (option_and_then unit_kind unit_text) Serial;
+  capacity = within 1 capacity_limit (number_or default_capacity capacity_text);
+  trigger = within 1 trigger_limit (number_or default_trigger trigger_text);
+}
+
+abbrev pub is_true : Option Text → Bool
+is_true text = option_map_or (λ t. bytes_eq t (codes "true")) text false
+
+-- the trace where its flag is used, else the report
+abbrev pub printing_by : Bool → Printing
+printing_by false = Report
+printing_by true = Trace
+
+abbrev pub run_of : UnitOptions → Option Text → Option Text → RunOptions
+run_of options workers_text trace_text = record { unit = options; workers = workers_of workers_text; printing = printing_by (is_true trace_text) }
+
+abbrev pub shape_of : Option Text → Option Text → Option Text → ShapeNumbers
+shape_of processors operations addresses =
+    record { processors = number_or 0 processors; operations = number_or 0 operations; addresses = number_or 0 addresses }
+
+abbrev pub order_of : Option Text → Order
+order_of text = unwrap_or (option_and_then model_order text) default_model
+
+abbrev pub turns_of : Option Text → ℕ
+turns_of text = within 0 drain_turns_limit (number_or 0 text)
+
+abbrev pub file_of : Option Text → Text
+file_of text = unwrap_or text []
+
+-- ---- the subcommands: each with its own number of parameters, so that other lists of texts don't come
+
+-- `judge [--workers N] [FILE]`: judges a file, or standard input
+abbrev pub ask_judge : List (Option Text) → Asked
+ask_judge (number_text ∷ file_text ∷ []) = judging file_text (workers_of number_text)
+ask_judge texts = refusing
+
+abbrev pub judge : Subcommand
+judge = record { name = codes "judge"; parameters = workers ∷ other (codes "file") false ∷ []; ask = ask_judge }
+
+-- `explain [--workers N] [FILE]`: explains the verdict on a file, or on standard input
+abbrev pub ask_explain : List (Option Text) → Asked
+ask_explain (number_text ∷ file_text ∷ []) = explaining file_text (workers_of number_text)
+ask_explain texts = refusing
+
+abbrev pub explain : Subcommand
+explain = record { name = codes "explain"; parameters = workers ∷ other (codes "file") false ∷ []; ask = ask_explain }
+
+-- `batch [--workers N] [--quiet] [FILE]`: judges the traces that stand one after the other in a file, or on standard input
+abbrev pub ask_batch : List (Option Text) → Asked
+ask_batch (number_text ∷ quiet_text ∷ file_text ∷ []) = batching file_text (workers_of number_text) (is_true quiet_text)
+ask_batch texts = refusing
+
+abbrev pub batch : Subcommand
+batch = record { name = codes "batch"; parameters = workers ∷ flag (codes "quiet") ∷ other (codes "file") false ∷ []; ask = ask_batch }
+
+-- `check TRACE CERT`: checks a certificate against its trace
+abbrev pub ask_check : List (Option Text) → Asked
+ask_check (trace_text ∷ cert_text ∷ []) = checking (file_of trace_text) (file_of cert_text)
+ask_check texts = refusing
+
+abbrev pub check : Subcommand
+check = record { name = codes "check"; parameters = file (codes "trace") ∷ file (codes "cert") ∷ []; ask = ask_check }
+
+-- `replay --unit UNIT [--capacity C] [--trigger T] [--workers N] [--trace] PROGRAM SCHEDULE`: replays a program by a schedule
+abbrev pub ask_replay : List (Option Text) → Asked
+ask_replay (unit_text ∷ capacity_text ∷ trigger_text ∷ workers_text ∷ trace_text ∷ program_text ∷ schedule_text ∷ []) =
+    replaying (run_of (unit_of unit_text capacity_text trigger_text) workers_text trace_text) (file_of program_text) (file_of schedule_text)
+ask_replay texts = refusing
+
+abbrev pub replay : Subcommand
+replay = record {
+  name = codes "replay";
+  parameters = run_parameters ++ file (codes "program") ∷ file (codes "schedule") ∷ [];
+  ask = ask_replay;
+}
+
+-- `--drain-turns T`: 0 where it is left out
+abbrev pub drain_turns : Parameter NameList
+drain_turns = option (codes "drain-turns") (range 0 drain_turns_limit) (Some (codes "0"))
+
+-- `run --unit UNIT [--capacity C] [--trigger T] [--workers N] [--trace] --seed N [--drain-turns T] PROGRAM`: runs a program with a thread per
+-- processor
+abbrev pub ask_run : List (Option Text) → Asked
+ask_run (unit_text ∷ capacity_text ∷ trigger_text ∷ workers_text ∷ trace_text ∷ seed_text ∷ turns_text ∷ program_text ∷ []) = running (record {
+  options = run_of (unit_of unit_text capacity_text trigger_text) workers_text trace_text;
+  drain_seed = number_or 0 seed_text;
+  drain_turns = turns_of turns_text;
+  program = file_of program_text;
+})
+ask_run texts = refusing
+
+abbrev pub run : Subcommand
+run = record {
+  name = codes "run";
+  parameters = run_parameters ++ required (codes "seed") ∷ drain_turns ∷ file (codes "program") ∷ [];
+  ask = ask_run;
+}
+
+-- `make [--model MODEL] --seed N --procs P --ops O --addrs A`: prints the program that a seed draws
+abbrev pub ask_make : List (Option Text) → Asked
+ask_make (model_text ∷ seed_text ∷ procs_text ∷ ops_text ∷ addrs_text ∷ []) =
+    making (order_of model_text) (number_or 0 seed_text) (shape_of procs_text ops_text addrs_text)
+ask_make texts = refusing
+
+abbrev pub make : Subcommand
+make = record { name = codes "make"; parameters = model ∷ required (codes "seed") ∷ shape_parameters; ask = ask_make }
+
+-- `campaign --unit UNIT [--capacity C] [--trigger T] [--workers N] [--model MODEL] --first S --count K --procs P --ops O --addrs A`: runs the programs
+-- that many seeds draw
+abbrev pub ask_campaign : List (Option Text) → Asked
+ask_campaign
+    (unit_text ∷ capacity_text ∷ trigger_text ∷ workers_text ∷ model_text ∷ first_text ∷ count_text ∷ procs_text ∷ ops_text ∷ addrs_text ∷ []) =
+    campaigning (record {
+      unit = unit_of unit_text capacity_text trigger_text;
+      workers = workers_of workers_text;
+      order = order_of model_text;
+      first = number_or 0 first_text;
+      count = number_or 0 count_text;
+      shape = shape_of procs_text ops_text addrs_text;
+    })
+ask_campaign texts = refusing
+
+abbrev pub campaign : Subcommand
+campaign = record {
+  name = codes "campaign";
+  parameters = unit_parameters ++ workers ∷ model ∷ required (codes "first") ∷ required (codes "count") ∷ shape_parameters;
+  ask = ask_campaign;
+}
+
+abbrev pub subcommands : List Subcommand
+subcommands = judge ∷ explain ∷ batch ∷ check ∷ replay ∷ run ∷ make ∷ campaign ∷ []
+
+-- it is one of these
+abbrev pub IsAmong : Subcommand → List Subcommand → Type 0
+IsAmong c [] = ⊥
+IsAmong c (first ∷ rest) = (c ≡ first) ⊎ IsAmong c rest

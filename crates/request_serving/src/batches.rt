@@ -1,0 +1,55 @@
+//! `batch`: traces that stand one after the other, with a line for each.
+ghost use Rattle.std.specs.Prelude.{◌≡◌, ◌≤◌, [], ◌∷◌, IfOk, IfErr, IfSome, OnErr, OnSome, None, option_to_list};
+ghost use Rattle.std.specs.Io.KnownBytes.{Consumes};
+ghost use Rattle.trace_batches.specs.Batches.{IsBatchFault, IsBatchOfReader};
+ghost use Rattle.tso_report.specs.WrittenReports.{WritesPrefix, WritesWhole};
+ghost use Rattle.request_serving.specs.Endings.{judged_bytes};
+ghost use Rattle.request_serving.specs.OpenedFiles.{OpensNext, name_in};
+
+use crate::files::{NamedFiles, open};
+use std::io::{Read, Write};
+use std::sync::Wait;
+use std::thread::Threads;
+use trace_batches::{BatchOptions, judge_batch};
+use tso_report::{Fault, Verdict};
+
+/// Judges the traces in a file, or else in what the reader has.
+pub(crate) fn batch_named<H: Threads + Wait + Sync + AllocGlobal, O: NamedFiles, R: Read, W: Write>(
+    rt: &H,
+    file: Option<&str>,
+    options: BatchOptions,
+    files: &mut O,
+    reader: &mut R,
+    writer: &mut W,
+) -> Result<Verdict, Fault>
+    requires { 1 ≤ options.workers }
+    ensures whole { let remaining = judged_bytes (name_in file.entry) (R.remaining reader.old) (O.bytes files.old) in IfOk result (WritesWhole (IsBatchOfReader options.quiet remaining) (W.contents writer.old) (W.contents writer.new)) }
+    ensures left { let remaining = judged_bytes (name_in file.entry) (R.remaining reader.old) (O.bytes files.old) in OnErr result (WritesPrefix (IsBatchOfReader options.quiet remaining) (W.contents writer.old) (W.contents writer.new)) }
+    ensures fault { IfErr result IsBatchFault }
+    ensures opened { OpensNext (O.opened files.old) (O.opened files.new) (option_to_list (name_in file.entry)) }
+    ensures unread { OnSome file.entry (reader.new ≡ reader.old) }
+    ensures taken { file.entry ≡ None → IfOk result (λ _. IfSome (R.remaining reader.old) (λ all. Consumes (R.remaining reader.old) (R.remaining reader.new) all)) }
+{
+    match file {
+        None => judge_batch(rt, rt.alloc(), options, reader, writer),
+        Some(name) => batch_file(rt, name, options, files, writer),
+    }
+}
+
+/// Judges the traces in a file.
+fn batch_file<H: Threads + Wait + Sync + AllocGlobal, O: NamedFiles, W: Write>(
+    rt: &H,
+    name: &str,
+    options: BatchOptions,
+    files: &mut O,
+    writer: &mut W,
+) -> Result<Verdict, Fault>
+    requires { 1 ≤ options.workers }
+    ensures whole { IfOk result (WritesWhole (IsBatchOfReader options.quiet (O.bytes files.old name.now)) (W.contents writer.old) (W.contents writer.new)) }
+    ensures left { OnErr result (WritesPrefix (IsBatchOfReader options.quiet (O.bytes files.old name.now)) (W.contents writer.old) (W.contents writer.new)) }
+    ensures fault { IfErr result IsBatchFault }
+    ensures opened { OpensNext (O.opened files.old) (O.opened files.new) (name.now ∷ []) }
+{
+    let mut file = open(files, name)?;
+    judge_batch(rt, rt.alloc(), options, &mut file, writer)
+}
