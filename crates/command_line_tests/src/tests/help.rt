@@ -3,14 +3,26 @@
 use super::expect_each;
 use std::test::Fail;
 
-/// Arguments, and the text that they ask for.
-const SHOWN: [(&[&str], &str); 32] = [
+/// Arguments that ask for the version or the help of the program, and the text that they ask for.
+const OF_THE_PROGRAM: [(&[&str], &str); 5] = [
     (&["--help"], PROGRAM_HELP),
     (&["-h"], PROGRAM_HELP),
     (&["help"], PROGRAM_HELP),
+    (&["--version"], "tsobench 0.1.0\n"),
+    (&["-V"], "tsobench 0.1.0\n"),
+];
+
+#[test]
+fn help_of_the_program(rt: HostRuntime) -> Result<(), Fail> {
+    expect_each(&rt, rt.alloc(), "show ", &OF_THE_PROGRAM)
+}
+
+/// Those that ask for the help of a subcommand that reads traces.
+const OF_TRACES: [(&[&str], &str); 13] = [
     (&["judge", "--help"], JUDGE_HELP),
     (&["judge", "-h"], JUDGE_HELP),
     (&["help", "judge"], JUDGE_HELP),
+    (&["judge", "a.trace", "-h"], JUDGE_HELP),
     (&["explain", "--help"], EXPLAIN_HELP),
     (&["explain", "-h"], EXPLAIN_HELP),
     (&["help", "explain"], EXPLAIN_HELP),
@@ -20,28 +32,34 @@ const SHOWN: [(&[&str], &str); 32] = [
     (&["check", "--help"], CHECK_HELP),
     (&["check", "-h"], CHECK_HELP),
     (&["help", "check"], CHECK_HELP),
+];
+
+#[test]
+fn help_on_traces(rt: HostRuntime) -> Result<(), Fail> {
+    expect_each(&rt, rt.alloc(), "show ", &OF_TRACES)
+}
+
+/// Those that ask for the help of a subcommand that is about programs.
+const OF_PROGRAMS: [(&[&str], &str); 14] = [
     (&["replay", "--help"], REPLAY_HELP),
     (&["replay", "-h"], REPLAY_HELP),
     (&["help", "replay"], REPLAY_HELP),
+    (&["replay", "--trace", "-h"], REPLAY_HELP),
     (&["run", "--help"], RUN_HELP),
     (&["run", "-h"], RUN_HELP),
     (&["help", "run"], RUN_HELP),
     (&["run", "p", "-h"], RUN_HELP),
-    (&["judge", "a.trace", "-h"], JUDGE_HELP),
-    (&["replay", "--trace", "-h"], REPLAY_HELP),
     (&["make", "--help"], MAKE_HELP),
     (&["make", "-h"], MAKE_HELP),
     (&["help", "make"], MAKE_HELP),
     (&["campaign", "--help"], CAMPAIGN_HELP),
     (&["campaign", "-h"], CAMPAIGN_HELP),
     (&["help", "campaign"], CAMPAIGN_HELP),
-    (&["--version"], "tsobench 0.1.0\n"),
-    (&["-V"], "tsobench 0.1.0\n"),
 ];
 
 #[test]
-fn help_and_version(rt: HostRuntime) -> Result<(), Fail> {
-    expect_each(&rt, rt.alloc(), "show ", &SHOWN)
+fn help_on_programs(rt: HostRuntime) -> Result<(), Fail> {
+    expect_each(&rt, rt.alloc(), "show ", &OF_PROGRAMS)
 }
 
 const PROGRAM_HELP: &str = "\
