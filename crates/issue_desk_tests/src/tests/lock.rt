@@ -123,7 +123,7 @@ fn has_before_a_store(calls: &[Call], three: [Call; 3]) -> bool {
 }
 
 /// How many runs are tried.
-const RUNS: usize = 4_000;
+const RUNS: usize = 40_000;
 
 /// Whether these three calls follow one another in one of the runs that are tried.
 fn is_seen<H: Threads + Wait + Sync + Abort>(
