@@ -105,6 +105,11 @@ def lines_of(text):
     return re.findall(rb"[^\n]*\n|[^\n]+", text)
 
 
+def traces_of(stream):
+    """The traces in a stream of them."""
+    return re.findall(rb"tso trace [12]\n(?:.*\n)*?end\n", stream)
+
+
 def without_values_read(trace):
     """The program of a trace."""
     lines = [re.sub(rb"^(ld [0-9]+|sw [0-9]+) [0-9]+", rb"\1", line) for line in lines_of(trace)]

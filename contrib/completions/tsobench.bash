@@ -8,7 +8,7 @@ _tsobench() {
     esac
     for ((i = 1; i < COMP_CWORD; i++)); do
         case ${COMP_WORDS[i]} in
-            judge | explain | batch | check | replay | run | make | campaign | help)
+            judge | explain | draw | batch | check | replay | run | make | campaign | help)
                 command=${COMP_WORDS[i]}
                 break
                 ;;
@@ -17,6 +17,7 @@ _tsobench() {
     case $command/$before in
         judge/--workers) ;;
         explain/--workers) ;;
+        draw/--workers) ;;
         batch/--workers) ;;
         replay/--unit) words='serial buffer partial newest-first no-forward stale-load torn-swap idle-membar lost-drain' ;;
         replay/--capacity) ;;
@@ -43,16 +44,17 @@ _tsobench() {
         campaign/--procs) ;;
         campaign/--ops) ;;
         campaign/--addrs) ;;
-        /*) words='judge explain batch check replay run make campaign help -h --help -V --version' ;;
+        /*) words='judge explain draw batch check replay run make campaign help -h --help -V --version' ;;
         judge/*) words='--workers -h --help' files=yes ;;
         explain/*) words='--workers -h --help' files=yes ;;
+        draw/*) words='--workers -h --help' files=yes ;;
         batch/*) words='--workers --quiet -h --help' files=yes ;;
         check/*) words='-h --help' files=yes ;;
-        replay/*) words='--unit --capacity --trigger --workers --trace -h --help' files=yes ;;
-        run/*) words='--unit --capacity --trigger --workers --trace --seed --drain-turns -h --help' files=yes ;;
+        replay/*) words='--unit --capacity --trigger --workers --trace --explain -h --help' files=yes ;;
+        run/*) words='--unit --capacity --trigger --workers --trace --explain --seed --drain-turns -h --help' files=yes ;;
         make/*) words='--model --seed --procs --ops --addrs -h --help' ;;
         campaign/*) words='--unit --capacity --trigger --workers --model --first --count --procs --ops --addrs -h --help' ;;
-        help/*) words='judge explain batch check replay run make campaign' ;;
+        help/*) words='judge explain draw batch check replay run make campaign' ;;
     esac
     if [[ -n $files && $word != -* ]]; then
         words=''

@@ -11,12 +11,11 @@ use Rattle.clap.specs.declared.parser.matches.Found.{Found}
 use Rattle.clap.specs.declared.builder.value_parser.ValueParser.TheVariants as parser
 use Rattle.clap.proofs.ValueTestLemmas.{accepts-Accepts, Accepts-accepts}
 use Rattle.clap.proofs.WalkLemmas.{first_value-rows, one_text-rows}
-use Rattle.tso_ops.specs.declared.settings.Order.{Order}
 use Rattle.command_line.specs.declared.options.CampaignOptions.{CampaignOptions}
 use Rattle.command_line.specs.declared.options.RunOptions.{RunOptions}
 use Rattle.command_line.specs.declared.options.ShapeNumbers.{ShapeNumbers}
 use Rattle.command_line.specs.declared.options.UnitOptions.{UnitOptions}
-use Rattle.command_line.specs.Requests.{Text, AskedRun, batching, making, replaying, running}
+use Rattle.command_line.specs.Requests.{Text, AskedRun, replaying, running}
 use Rattle.command_line.specs.Subcommands.{is_true, number_in, number_or}
 
 unwrap_or-text : (got : Option (Bor Text)) (empty : Bor Text) → empty.now ≡ [] → (unwrap_or got empty).now ≡ unwrap_or (option_map (λ s. s.now) got) []
@@ -99,14 +98,6 @@ module _ (options wanted : CampaignOptions) (unit : options.unit ≡ wanted.unit
 module _ (options wanted : RunOptions) (program wanted_program schedule wanted_schedule : Text) where
   pub replaying_are : options ≡ wanted → program ≡ wanted_program → schedule ≡ wanted_schedule → replaying options program schedule ≡ replaying wanted wanted_program wanted_schedule
   replaying_are is program_is schedule_is = rw (is, program_is, schedule_is) refl
-
-module _ (file wanted : Option Text) (workers wanted_workers : ℕ) (quiet wanted_quiet : Bool) where
-  pub batching_are : file ≡ wanted → workers ≡ wanted_workers → quiet ≡ wanted_quiet → batching file workers quiet ≡ batching wanted wanted_workers wanted_quiet
-  batching_are file_is workers_are quiet_is = rw (file_is, workers_are, quiet_is) refl
-
-module _ (order wanted : Order) (seed wanted_seed : ℕ) (shape wanted_shape : ShapeNumbers) where
-  pub making_are : order ≡ wanted → seed ≡ wanted_seed → shape ≡ wanted_shape → making order seed shape ≡ making wanted wanted_seed wanted_shape
-  making_are order_is seed_is shape_is = rw (order_is, seed_is, shape_is) refl
 
 module _ (run wanted : AskedRun) where
   pub running_are : run.options ≡ wanted.options → run.drain_seed ≡ wanted.drain_seed → run.drain_turns ≡ wanted.drain_turns → run.program ≡ wanted.program → running run ≡ running wanted

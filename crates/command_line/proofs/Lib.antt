@@ -5,4 +5,4 @@ pub mod MemberLemmas
 pub mod SpellingLemmas
 pub mod MatchLemmas
 pub mod OfferLemmas
-pub mod AskLemmas
+pub mod RequestLemmas

@@ -8,7 +8,7 @@ use Rattle.clap.specs.Words.{HasKind, Kinds, fault_of, kind_of, subcommand_of}
 use Rattle.clap.specs.declared.error.kind.ErrorKind.TheVariants.{DisplayHelp, InvalidSubcommand, OutOfMemory}
 use Rattle.clap.specs.declared.error.Error.{Error}
 use Rattle.command_line.specs.Commands.{HasKnownNames, IsAskedBy, IsAskedFor, asked_at, tsobench_app}
-use Rattle.command_line.specs.Internal.Computed.{parsed_as}
+use Rattle.command_line.specs.Internal.Computed.{IsFound, parsed_as}
 use Rattle.command_line.specs.Requests.{Text, Asked, asked_of, showing}
 use Rattle.command_line.specs.Spellings as asks
 use Rattle.command_line.specs.Subcommands.{Subcommand, subcommands}
@@ -16,7 +16,7 @@ use Rattle.command_line.specs.declared.options.OptionNames.{OptionNames}
 use Rattle.command_line.specs.declared.requests.Request.{Request}
 use Rattle.command_line.proofs.KindLemmas.{asked_by_error}
 use Rattle.command_line.proofs.MemberLemmas.{found_among, help_called, program_help_called}
-use Rattle.command_line.proofs.SpellingLemmas.{IsFound, help_is}
+use Rattle.command_line.proofs.SpellingLemmas.{help_is}
 
 text_is : (a b : Text) → bytes_eq a b ≡ true → a ≡ b
 text_is a b e = (bytes_eq-Decides a b).0 e

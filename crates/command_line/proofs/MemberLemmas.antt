@@ -21,6 +21,7 @@ use Rattle.command_line.specs.Refusals.{is_subcommand}
 use Rattle.command_line.specs.Requests.{Text, judging}
 use Rattle.command_line.specs.Subcommands.{IsAmong, Subcommand, known_names, subcommands}
 use Rattle.command_line.specs.declared.options.OptionNames.{OptionNames}
+use Rattle.command_line.specs.declared.options.Presentation.TheVariants.{Report}
 
 abbrev first_or : {X : Type 0} → X → List X → X
 first_or x [] = x
@@ -120,7 +121,7 @@ module _ (names : OptionNames) where
     asked_by_name rows =
         let found : find (λ d. bytes_eq d.name c.name) subcommands ≡ Some c =
         each_same (λ e. find (λ d. bytes_eq d.name e.name) subcommands) (λ e. Some e) subcommands refl c among in
-        ap (λ o. option_map_or (λ d. asked_in d rows) o (judging None 1)) found
+        ap (λ o. option_map_or (λ d. asked_in d rows) o (judging Report None 1)) found
 
     pub offers : Offers (memory_of names) (shape c) c.parameters
     offers = record {

@@ -9,7 +9,7 @@ use Rattle.clap_arguments.specs.Parameters.{Values, listed, parser_of, range}
 use Rattle.clap_arguments.proofs.GivenParameters.{give_taken, give_texts, left_out_refused, wrong_value_refused}
 use Rattle.clap_arguments.proofs.ValueTexts.{value_is}
 use Rattle.command_line.specs.Commands.{HasKnownNames, IsAskedBy, asked_at, asked_by, memory_of, tsobench_app}
-use Rattle.command_line.specs.Internal.Computed.{parsed_as}
+use Rattle.command_line.specs.Internal.Computed.{IsFound, parsed_as}
 use Rattle.command_line.specs.Refusals.{Refuses}
 use Rattle.command_line.specs.Refusals as refuses
 use Rattle.command_line.specs.Requests.{Text, Asked, refusing, showing}
@@ -50,15 +50,11 @@ module _ (names : OptionNames) where
   abbrev IsFoundOf : List Text → Asked → Type 0
   IsFoundOf arguments asked = IsAskedBy (fault_of (tsobench_app names) arguments) (subcommand_of (tsobench_app names) arguments) asked
 
-  -- what a parse of the arguments says of what is asked for
-  abbrev pub IsFound : List Text → Asked → Type 0
-  IsFound arguments asked = IsFoundOf (parsed_as arguments) asked
-
   -- of arguments that are parsed as they stand
-  unchanged : (arguments : List Text) (asked : Asked) → parsed_as arguments ≡ arguments → IsFound arguments asked → IsFoundOf arguments asked
+  unchanged : (arguments : List Text) (asked : Asked) → parsed_as arguments ≡ arguments → IsFound names arguments asked → IsFoundOf arguments asked
   unchanged arguments asked same is = subst (λ (a : List Text). IsFoundOf a asked) same is
 
-  pub asked_is : HasKnownNames names → (arguments : List Text) (wanted asked : Asked) → Asks arguments wanted → IsFound arguments asked → asked ≡ wanted
+  pub asked_is : HasKnownNames names → (arguments : List Text) (wanted asked : Asked) → Asks arguments wanted → IsFound names arguments asked → asked ≡ wanted
   asked_is are arguments wanted asked asks.nothing is = by_matches _ asked _ (nothing_taken names) is
   asked_is are arguments wanted asked (asks.subcommand c rest texts among give) is =
       let taken = subcommand_fault names c among rest
@@ -67,7 +63,7 @@ module _ (names : OptionNames) where
       ∙ ap asked_by (subcommand_found names c among rest) ∙ asked_by_name names c among _
       ∙ ap c.ask (give_texts (memory_of names) known_names are (shape names c) c.parameters (offers names c among) (defaults_taken names c among) rest texts give)
 
-  pub help_is : (arguments : List Text) (asked : Asked) → AsksHelp arguments → IsFound arguments asked → asked ≡ showing
+  pub help_is : (arguments : List Text) (asked : Asked) → AsksHelp arguments → IsFound names arguments asked → asked ≡ showing
   help_is arguments asked asks.help is = by_kind _ asked _ _ (options_shown names).0 is
   help_is arguments asked asks.help_option is = by_kind _ asked _ _ (options_shown names).0 is
   help_is arguments asked asks.help_short is = by_kind _ asked _ _ (options_shown names).1 is
@@ -81,7 +77,7 @@ module _ (names : OptionNames) where
   help_is arguments asked asks.version_option is = by_kind _ asked _ _ (options_shown names).2 is
   help_is arguments asked asks.version_short is = by_kind _ asked _ _ (options_shown names).3 is
 
-  pub refused_is : HasKnownNames names → (arguments : List Text) (asked : Asked) → Refuses arguments → IsFound arguments asked → asked ≡ refusing
+  pub refused_is : HasKnownNames names → (arguments : List Text) (asked : Asked) → Refuses arguments → IsFound names arguments asked → asked ≡ refusing
   refused_is are arguments asked (refuses.unknown first rest value unknown) is =
       stray_kinds _ asked _ (unknown_refused names first (value_is first value) unknown rest) (unchanged (first ∷ rest) asked (unknown_itself names first (value_is first value) unknown rest) is)
   refused_is are arguments asked (refuses.left_out c rest among leave) is =

@@ -10,6 +10,7 @@ use Rattle.clap.specs.declared.error.kind.ErrorKind.TheVariants.{DisplayHelp, Di
 use Rattle.clap_arguments.specs.Offered.{text_in}
 use Rattle.clap_arguments.specs.Parameters.{offered_app}
 use Rattle.command_line.specs.declared.options.OptionNames.{OptionNames}
+use Rattle.command_line.specs.declared.options.Presentation.TheVariants.{Report}
 use Rattle.command_line.specs.declared.parameters.NameList.{NameList}
 use Rattle.command_line.specs.declared.parameters.NameList.TheVariants.{Units, Models}
 use Rattle.command_line.specs.Requests.{Text, Asked, judging, refusing, showing}
@@ -45,8 +46,8 @@ asked_in c rows = c.ask (map (text_in rows) c.parameters)
 
 -- by the subcommand's name and its rows; without a subcommand standard input is judged, with one worker
 abbrev pub asked_by : Option (Text × List Row) → Asked
-asked_by None = judging None 1
-asked_by (Some found) = option_map_or (λ c. asked_in c found.1) (find (λ c. bytes_eq c.name found.0) subcommands) (judging None 1)
+asked_by None = judging Report None 1
+asked_by (Some found) = option_map_or (λ c. asked_in c found.1) (find (λ c. bytes_eq c.name found.0) subcommands) (judging Report None 1)
 
 -- ---- what a kind of error stands for
 

@@ -5,12 +5,13 @@ use Rattle.command_line.specs.Workers.{worker_limit}
 use Rattle.command_line.specs.declared.requests.Request.{Request}
 use Rattle.command_line.specs.declared.requests.RunRequest.{RunRequest}
 use Rattle.command_line.specs.declared.options.CampaignOptions.{CampaignOptions}
+use Rattle.command_line.specs.declared.options.Presentation.{Presentation}
 use Rattle.command_line.specs.declared.options.Printing.{Printing}
-use Rattle.command_line.specs.declared.options.Printing.TheVariants.{Report, Trace}
+use Rattle.command_line.specs.declared.options.Printing.TheVariants.{Report, Trace, Explanation}
 use Rattle.command_line.specs.declared.options.RunOptions.{RunOptions}
 use Rattle.command_line.specs.declared.options.ShapeNumbers.{ShapeNumbers}
 use Rattle.command_line.specs.declared.options.UnitOptions.{UnitOptions}
-use Rattle.command_line.specs.declared.requests.Request.TheVariants.{Judge, Explain, Batch, Check, Replay, Run, Make, Campaign, Show, Refuse}
+use Rattle.command_line.specs.declared.requests.Request.TheVariants.{Judge, Batch, Check, Replay, Run, Make, Campaign, Show, Refuse}
 
 -- the bytes of a text
 abbrev pub Text : Type 0
@@ -25,6 +26,7 @@ module _ {Z : Type 0} where
 abbrev pub prints_trace : Printing → Bool
 prints_trace Report = false
 prints_trace Trace = true
+prints_trace Explanation = false
 
 -- a run of the program in a file with a thread per processor, with these options and this seed of the drains, beside a
 -- drainer that takes so many turns
@@ -36,10 +38,8 @@ pub record AskedRun : Type 0 where
 
 -- what is asked for
 pub data Asked : Type 0 where
-  -- to judge the trace in a file, or on standard input where none is named, with so many workers
-  judging : Option Text → ℕ → Asked
-  -- to explain the verdict on the trace in a file, or on standard input where none is named, with so many workers
-  explaining : Option Text → ℕ → Asked
+  -- to judge the trace in a file, or on standard input where none is named, with so many workers, and to present the verdict in this form
+  judging : Presentation → Option Text → ℕ → Asked
   -- to judge the traces that stand one after the other in a file, or on standard input where none is named, with so many
   -- workers, and whether the lines of those without a violation are left out
   batching : Option Text → ℕ → Bool → Asked
@@ -64,9 +64,8 @@ asked_run run = record { options = run.options; drain_seed = run.drain_seed; dra
 
 -- what a request asks for
 abbrev pub asked_of : Request → Asked
-asked_of (Judge file workers) = judging (option_map (λ f. f.now) file) workers
-asked_of (Explain file workers) = explaining (option_map (λ f. f.now) file) workers
-asked_of (Batch file workers quiet) = batching (option_map (λ f. f.now) file) workers quiet
+asked_of (Judge judge) = judging judge.presentation (option_map (λ f. f.now) judge.file) judge.workers
+asked_of (Batch batch) = batching (option_map (λ f. f.now) batch.file) batch.workers batch.quiet
 asked_of (Check trace certificate) = checking trace.now certificate.now
 asked_of (Replay options program schedule) = replaying options program.now schedule.now
 asked_of (Run run) = running (asked_run run)
@@ -107,8 +106,7 @@ abbrev pub nothing_needed : Needs
 nothing_needed = record { files = []; input = false; workers = None; unit = None; turns = None; program = None }
 
 abbrev pub needs : Asked → Needs
-needs (judging file workers) = record nothing_needed { files = option_to_list file; input = not (is_some file); workers = Some workers }
-needs (explaining file workers) = record nothing_needed { files = option_to_list file; input = not (is_some file); workers = Some workers }
+needs (judging presentation file workers) = record nothing_needed { files = option_to_list file; input = not (is_some file); workers = Some workers }
 needs (batching file workers quiet) = record nothing_needed { files = option_to_list file; input = not (is_some file); workers = Some workers }
 needs (checking trace certificate) = record nothing_needed { files = trace ∷ certificate ∷ [] }
 needs (replaying options program schedule) = record nothing_needed {

@@ -1,13 +1,14 @@
 -- The usual spellings of requests: which arguments ask for what.
 use Rattle.std.specs.Prelude.{List, [], ◌∷◌, Option, None, codes}
 use Rattle.clap_arguments.specs.Spelled.{Give}
+use Rattle.command_line.specs.declared.options.Presentation.TheVariants.{Report}
 use Rattle.command_line.specs.Requests.{Text, Asked, judging}
 use Rattle.command_line.specs.Subcommands.{IsAmong, Subcommand, known_names, subcommands}
 
 -- the arguments ask for this
 pub data Asks : List Text → Asked → Type 0 where
   -- no arguments: standard input, with one worker
-  nothing : Asks [] (judging None 1)
+  nothing : Asks [] (judging Report None 1)
   -- the name of a subcommand, and then its parameters in a usual spelling and any order
   subcommand : (c : Subcommand) (rest : List Text) (texts : List (Option Text)) → IsAmong c subcommands → Give known_names c.parameters rest texts
       → Asks (c.name ∷ rest) (c.ask texts)

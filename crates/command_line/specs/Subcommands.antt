@@ -8,7 +8,9 @@ use Rattle.clap_arguments.specs.Parameters.{Parameter, flag, listed, option, oth
 use Rattle.tso_ops.specs.declared.settings.Order.{Order}
 use Rattle.command_line.specs.Workers.{worker_limit}
 use Rattle.command_line.specs.declared.options.Printing.{Printing}
-use Rattle.command_line.specs.declared.options.Printing.TheVariants.{Report, Trace}
+use Rattle.command_line.specs.declared.options.Presentation.{Presentation}
+use Rattle.command_line.specs.declared.options.Presentation.TheVariants as form
+use Rattle.command_line.specs.declared.options.Printing.TheVariants.{Report, Trace, Explanation}
 use Rattle.command_line.specs.declared.options.RunOptions.{RunOptions}
 use Rattle.command_line.specs.declared.options.ShapeNumbers.{ShapeNumbers}
 use Rattle.command_line.specs.declared.options.UnitKind.TheVariants.{Serial}
@@ -16,7 +18,7 @@ use Rattle.command_line.specs.declared.options.UnitOptions.{UnitOptions}
 use Rattle.command_line.specs.declared.parameters.NameList.{NameList}
 use Rattle.command_line.specs.declared.parameters.NameList.TheVariants.{Units, Models}
 use Rattle.command_line.specs.Models.{default_model, model_names, model_order}
-use Rattle.command_line.specs.Requests.{Text, Asked, batching, campaigning, capacity_limit, checking, drain_turns_limit, explaining, judging, making, number_limit, refusing, replaying, running}
+use Rattle.command_line.specs.Requests.{Text, Asked, batching, campaigning, capacity_limit, checking, drain_turns_limit, judging, making, number_limit, refusing, replaying, running}
 use Rattle.command_line.specs.Units.{default_capacity, default_trigger, trigger_limit, unit_kind, unit_names}
 
 pub record Subcommand : Type 0 where
@@ -48,16 +50,16 @@ capacity = option (codes "capacity") (range 1 capacity_limit) (Some (codes "8"))
 abbrev pub trigger : Parameter NameList
 trigger = option (codes "trigger") (range 1 trigger_limit) (Some (codes "1"))
 
--- `--trace`
-abbrev pub trace : Parameter NameList
-trace = flag (codes "trace")
+-- `--trace` and `--explain`, of which one may be used
+abbrev pub printing_flags : List (Parameter NameList)
+printing_flags = flag (codes "trace") ∷ flag (codes "explain") ∷ []
 
 -- the options of a unit, and those of a run
 abbrev pub unit_parameters : List (Parameter NameList)
 unit_parameters = unit ∷ capacity ∷ trigger ∷ []
 
 abbrev pub run_parameters : List (Parameter NameList)
-run_parameters = unit_parameters ++ workers ∷ trace ∷ []
+run_parameters = unit_parameters ++ workers ∷ printing_flags
 
 -- `--name N`, which may not be left out
 abbrev pub required : Text → Parameter NameList
@@ -102,13 +104,22 @@ unit_of unit_text capacity_text trigger_text = record {
 abbrev pub is_true : Option Text → Bool
 is_true text = option_map_or (λ t. bytes_eq t (codes "true")) text false
 
--- the trace where its flag is used, else the report
-abbrev pub printing_by : Bool → Printing
-printing_by false = Report
-printing_by true = Trace
+-- by whether the flags of trace and explanation are used: without both the report, and nothing where both are
+abbrev pub printing_by : Bool → Bool → Option Printing
+printing_by false false = Some Report
+printing_by true false = Some Trace
+printing_by false true = Some Explanation
+printing_by true true = None
 
-abbrev pub run_of : UnitOptions → Option Text → Option Text → RunOptions
-run_of options workers_text trace_text = record { unit = options; workers = workers_of workers_text; printing = printing_by (is_true trace_text) }
+abbrev pub printing_of : Option Text → Option Text → Option Printing
+printing_of trace_text explain_text = printing_by (is_true trace_text) (is_true explain_text)
+
+abbrev pub run_of : UnitOptions → Option Text → Printing → RunOptions
+run_of options workers_text printing = record { unit = options; workers = workers_of workers_text; printing = printing }
+
+-- what is asked for by what is printed: nothing, where that can't be
+abbrev pub printed : (Printing → Asked) → Option Printing → Asked
+printed ask printing = option_map_or ask printing refusing
 
 abbrev pub shape_of : Option Text → Option Text → Option Text → ShapeNumbers
 shape_of processors operations addresses =
@@ -125,21 +136,25 @@ file_of text = unwrap_or text []
 
 -- ---- the subcommands: each with its own number of parameters, so that other lists of texts don't come
 
--- `judge [--workers N] [FILE]`: judges a file, or standard input
-abbrev pub ask_judge : List (Option Text) → Asked
-ask_judge (number_text ∷ file_text ∷ []) = judging file_text (workers_of number_text)
-ask_judge texts = refusing
+-- `NAME [--workers N] [FILE]`: judges a file, or standard input, and presents the verdict in this form
+abbrev pub ask_judge : Presentation → List (Option Text) → Asked
+ask_judge presentation (number_text ∷ file_text ∷ []) = judging presentation file_text (workers_of number_text)
+ask_judge presentation texts = refusing
+
+abbrev pub judge_parameters : List (Parameter NameList)
+judge_parameters = workers ∷ other (codes "file") false ∷ []
+
+abbrev pub judge_as : Text → Presentation → Subcommand
+judge_as name presentation = record { name = name; parameters = judge_parameters; ask = ask_judge presentation }
 
 abbrev pub judge : Subcommand
-judge = record { name = codes "judge"; parameters = workers ∷ other (codes "file") false ∷ []; ask = ask_judge }
-
--- `explain [--workers N] [FILE]`: explains the verdict on a file, or on standard input
-abbrev pub ask_explain : List (Option Text) → Asked
-ask_explain (number_text ∷ file_text ∷ []) = explaining file_text (workers_of number_text)
-ask_explain texts = refusing
+judge = judge_as (codes "judge") form.Report
 
 abbrev pub explain : Subcommand
-explain = record { name = codes "explain"; parameters = workers ∷ other (codes "file") false ∷ []; ask = ask_explain }
+explain = judge_as (codes "explain") form.Explanation
+
+abbrev pub draw : Subcommand
+draw = judge_as (codes "draw") form.Picture
 
 -- `batch [--workers N] [--quiet] [FILE]`: judges the traces that stand one after the other in a file, or on standard input
 abbrev pub ask_batch : List (Option Text) → Asked
@@ -157,10 +172,11 @@ ask_check texts = refusing
 abbrev pub check : Subcommand
 check = record { name = codes "check"; parameters = file (codes "trace") ∷ file (codes "cert") ∷ []; ask = ask_check }
 
--- `replay --unit UNIT [--capacity C] [--trigger T] [--workers N] [--trace] PROGRAM SCHEDULE`: replays a program by a schedule
+-- `replay --unit UNIT [--capacity C] [--trigger T] [--workers N] [--trace|--explain] PROGRAM SCHEDULE`: replays a program by a schedule
 abbrev pub ask_replay : List (Option Text) → Asked
-ask_replay (unit_text ∷ capacity_text ∷ trigger_text ∷ workers_text ∷ trace_text ∷ program_text ∷ schedule_text ∷ []) =
-    replaying (run_of (unit_of unit_text capacity_text trigger_text) workers_text trace_text) (file_of program_text) (file_of schedule_text)
+ask_replay (unit_text ∷ capacity_text ∷ trigger_text ∷ workers_text ∷ trace_text ∷ explain_text ∷ program_text ∷ schedule_text ∷ []) =
+    printed (λ printing. replaying (run_of (unit_of unit_text capacity_text trigger_text) workers_text printing) (file_of program_text) (file_of schedule_text))
+    (printing_of trace_text explain_text)
 ask_replay texts = refusing
 
 abbrev pub replay : Subcommand
@@ -174,15 +190,16 @@ replay = record {
 abbrev pub drain_turns : Parameter NameList
 drain_turns = option (codes "drain-turns") (range 0 drain_turns_limit) (Some (codes "0"))
 
--- `run --unit UNIT [--capacity C] [--trigger T] [--workers N] [--trace] --seed N [--drain-turns T] PROGRAM`: runs a program with a thread per
+-- `run --unit UNIT [--capacity C] [--trigger T] [--workers N] [--trace|--explain] --seed N [--drain-turns T] PROGRAM`: runs a program with a thread per
 -- processor
 abbrev pub ask_run : List (Option Text) → Asked
-ask_run (unit_text ∷ capacity_text ∷ trigger_text ∷ workers_text ∷ trace_text ∷ seed_text ∷ turns_text ∷ program_text ∷ []) = running (record {
-  options = run_of (unit_of unit_text capacity_text trigger_text) workers_text trace_text;
-  drain_seed = number_or 0 seed_text;
-  drain_turns = turns_of turns_text;
-  program = file_of program_text;
-})
+ask_run (unit_text ∷ capacity_text ∷ trigger_text ∷ workers_text ∷ trace_text ∷ explain_text ∷ seed_text ∷ turns_text ∷ program_text ∷ []) =
+    printed (λ printing. running (record {
+      options = run_of (unit_of unit_text capacity_text trigger_text) workers_text printing;
+      drain_seed = number_or 0 seed_text;
+      drain_turns = turns_of turns_text;
+      program = file_of program_text;
+    })) (printing_of trace_text explain_text)
 ask_run texts = refusing
 
 abbrev pub run : Subcommand
@@ -224,7 +241,7 @@ campaign = record {
 }
 
 abbrev pub subcommands : List Subcommand
-subcommands = judge ∷ explain ∷ batch ∷ check ∷ replay ∷ run ∷ make ∷ campaign ∷ []
+subcommands = judge ∷ explain ∷ draw ∷ batch ∷ check ∷ replay ∷ run ∷ make ∷ campaign ∷ []
 
 -- it is one of these
 abbrev pub IsAmong : Subcommand → List Subcommand → Type 0

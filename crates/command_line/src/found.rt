@@ -1,7 +1,7 @@
 //! What the matches of a subcommand say of the options that several have.
 ghost use Rattle.std.specs.Prelude.{◌≡◌, ◌≤◌, codes};
 ghost use Rattle.clap.specs.Words.{first_of, found_of, one_of, rows_of};
-ghost use Rattle.command_line.specs.Subcommands.{number_or, order_of, printing_by, is_true, run_of, shape_of, turns_of, unit_of, workers_of, within};
+ghost use Rattle.command_line.specs.Subcommands.{number_or, order_of, printing_of, is_true, run_of, shape_of, turns_of, unit_of, workers_of, within};
 ghost use Rattle.command_line.specs.Requests.{capacity_limit};
 ghost use Rattle.command_line.specs.Units.{default_capacity, default_trigger, trigger_limit};
 ghost use Rattle.command_line.specs.Workers.{worker_limit};
@@ -47,25 +47,26 @@ fn number(matches: &ArgMatches<'_>, name: &str, default: u64) -> u64
     named.unwrap_or(default)
 }
 
-/// What the options say of a run.
-pub(crate) fn run_options(matches: &ArgMatches<'_>) -> RunOptions
-    ensures { let rows = rows_of (found_of matches.now) in result ≡ run_of (unit_of (first_of (codes "unit") rows) (one_of (codes "capacity") rows) (one_of (codes "trigger") rows)) (one_of (codes "workers") rows) (one_of (codes "trace") rows) }
+/// What the options say of a run, of which this is printed.
+pub(crate) fn run_options(matches: &ArgMatches<'_>, printing: Printing) -> RunOptions
+    ensures { let rows = rows_of (found_of matches.now) in result ≡ run_of (unit_of (first_of (codes "unit") rows) (one_of (codes "capacity") rows) (one_of (codes "trigger") rows)) (one_of (codes "workers") rows) printing }
 {
     RunOptions {
         unit: unit_options(matches),
         workers: workers(matches),
-        printing: printing(matches),
+        printing,
     }
 }
 
-/// What is to be printed: the trace where its flag is used, else the report.
-fn printing(matches: &ArgMatches<'_>) -> Printing
-    ensures { result ≡ printing_by (is_true (one_of (codes "trace") (rows_of (found_of matches.now)))) }
+/// What is to be printed: the report without the flags of trace and explanation, and nothing with both.
+pub(crate) fn printing(matches: &ArgMatches<'_>) -> Option<Printing>
+    ensures { let rows = rows_of (found_of matches.now) in result ≡ printing_of (one_of (codes "trace") rows) (one_of (codes "explain") rows) }
 {
-    if is_used(matches, "trace") {
-        Printing::Trace
-    } else {
-        Printing::Report
+    match (is_used(matches, "trace"), is_used(matches, "explain")) {
+        (false, false) => Some(Printing::Report),
+        (true, false) => Some(Printing::Trace),
+        (false, true) => Some(Printing::Explanation),
+        (true, true) => None,
     }
 }
 

@@ -66,3 +66,13 @@ pub(crate) const MODEL: &str = "The memory model of the program, tso or pso";
 
 /// Of `--trace`.
 pub(crate) const TRACE: &str = "Prints the recorded trace alone";
+
+/// Of `--explain`.
+pub(crate) const EXPLAIN: &str = "Prints the explanation of the verdict alone";
+
+/// The refusal of both.
+pub(crate) const BOTH: &str = "\
+error: the argument '--trace' cannot be used with '--explain'
+
+For more information, try '--help'.
+";

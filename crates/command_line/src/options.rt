@@ -105,6 +105,17 @@ pub struct UnitOptions {
     pub trigger: u64,
 }
 
+/// In which form the verdict on a trace is presented.
+#[derive(Clone, Copy, Debug, PartialEq, Eq)]
+pub enum Presentation {
+    /// The report, with the certificate of a violation.
+    Report,
+    /// The verdict, and why the trace is a violation in words.
+    Explanation,
+    /// A picture of the trace and of a violation, as a text for Graphviz.
+    Picture,
+}
+
 /// What is printed of a run or a replay.
 #[derive(Clone, Copy, Debug, PartialEq, Eq)]
 pub enum Printing {
@@ -112,6 +123,8 @@ pub enum Printing {
     Report,
     /// The recorded trace alone.
     Trace,
+    /// The explanation of the verdict on the recorded trace alone.
+    Explanation,
 }
 
 /// How a program is run, and what is printed of it.

@@ -6,9 +6,11 @@ ghost use Rattle.command_line.specs.Requests.{Asked, HasDrainTurns, HasUnitRange
 ghost use Rattle.command_line.specs.Spellings.{Asks, AsksHelp};
 ghost use Rattle.command_line.specs.Refusals.{Refuses};
 ghost use Rattle.command_line.specs.Commands.{IsAskedFor, asked_at, tsobench_app};
-ghost use Rattle.command_line.specs.Internal.Computed.{parsed_as};
+ghost use Rattle.command_line.specs.Internal.Computed.{IsFound, parsed_as};
 
-use crate::options::{CampaignOptions, OptionNames, RunOptions, ShapeNumbers, option_names};
+use crate::options::{
+    CampaignOptions, OptionNames, Presentation, RunOptions, ShapeNumbers, option_names,
+};
 use crate::subcommands;
 use clap::error::ErrorKind;
 use clap::{ArgMatches, Error};
@@ -28,28 +30,35 @@ pub struct RunRequest<'a> {
     pub program: &'a str,
 }
 
+/// Which trace is judged, and how the verdict is presented.
+#[derive(Clone, Copy, Debug)]
+pub struct JudgeRequest<'a> {
+    /// The file with the trace; standard input where none is named. A file `-` is a file of that name.
+    pub file: Option<&'a str>,
+    /// The number of workers, 1 to 64.
+    pub workers: usize,
+    /// In which form the verdict is presented.
+    pub presentation: Presentation,
+}
+
+/// Which traces are judged, one after the other.
+#[derive(Clone, Copy, Debug)]
+pub struct BatchRequest<'a> {
+    /// The file with the traces; standard input where none is named.
+    pub file: Option<&'a str>,
+    /// How many workers judge them side by side, 1 to 64.
+    pub workers: usize,
+    /// Whether the lines of traces without a violation are left out.
+    pub quiet: bool,
+}
+
 /// What the arguments of a command line ask for.
 #[derive(Debug, Drop)]
 pub enum Request<'a> {
-    /// To judge the trace in this file, or else on standard input, with 1 to 64 workers. A file `-` is a file of that
-    /// name, and not standard input.
-    Judge {
-        file: Option<&'a str>,
-        workers: usize,
-    },
-    /// To explain the verdict on the trace in this file, or else on standard input, with 1 to 64 workers.
-    Explain {
-        file: Option<&'a str>,
-        workers: usize,
-    },
-    /// To judge the traces that stand one after the other in this file, or else on standard input.
-    Batch {
-        file: Option<&'a str>,
-        /// How many workers judge them side by side, 1 to 64.
-        workers: usize,
-        /// Whether the lines of traces without a violation are left out.
-        quiet: bool,
-    },
+    /// To judge one trace.
+    Judge(JudgeRequest<'a>),
+    /// To judge traces that stand one after the other.
+    Batch(BatchRequest<'a>),
     /// To check the certificate in one file against the trace in another.
     Check {
         trace: &'a str,
@@ -93,8 +102,22 @@ pub fn read_arguments<'a>(alloc: Global, arguments: &'a [String]) -> Result<Requ
     ensures unit { IfOk result (λ request. HasUnitRanges (asked_of request)) }
     ensures turns { IfOk result (λ request. HasDrainTurns (asked_of request)) }
 {
-    match matches(alloc, option_names(), arguments) {
-        Ok(matches) => Ok(subcommands::request(&matches)),
+    request_by(alloc, option_names(), arguments)
+}
+
+/// What these arguments ask for, where options take these names.
+fn request_by<'a>(
+    alloc: Global,
+    names: OptionNames<'a>,
+    arguments: &'a [String],
+) -> Result<Request<'a>, AllocError>
+    ensures found { IfOk result (λ request. IsFound names.entry (texts_in arguments.now) (asked_of request)) }
+    ensures workers { IfOk result (λ request. HasWorkers (asked_of request)) }
+    ensures unit { IfOk result (λ request. HasUnitRanges (asked_of request)) }
+    ensures turns { IfOk result (λ request. HasDrainTurns (asked_of request)) }
+{
+    match matches(alloc, names, arguments) {
+        Ok(matches) => subcommands::request(alloc, &matches),
         Err(error) => text_request(alloc, &error),
     }
 }

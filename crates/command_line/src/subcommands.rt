@@ -1,20 +1,23 @@
 //! The subcommands: how each is offered, and what its matches ask for.
-ghost use Rattle.std.specs.Prelude.{◌≡◌, false, IfOk, map, option_map};
-ghost use Rattle.clap.specs.Words.{app_of, subcommand_rows_of};
+ghost use Rattle.std.specs.Prelude.{◌≡◌, ◌∷◌, [], false, codes, find, fold, IfOk, map, option_map};
+ghost use Rattle.std.specs.Str.{bytes_eq};
+ghost use Rattle.clap.specs.Words.{app_of, found_of, rows_of, subcommand_rows_of, with_subcommand};
 ghost use Rattle.clap.specs.declared.builder.command.Command.TheViews.{out-Command as fields_of};
 ghost use Rattle.command_line.specs.Requests.{HasDrainTurns, HasUnitRanges, HasWorkers, asked_of};
-ghost use Rattle.command_line.specs.Commands.{asked_by, program_app, tsobench_app};
-ghost use Rattle.command_line.specs.Internal.Computed.{help_option_of};
+ghost use Rattle.command_line.specs.Commands.{asked_by, asked_in, program_app, subcommand_app, tsobench_app};
+ghost use Rattle.command_line.specs.Subcommands.{subcommands};
+ghost use Rattle.command_line.specs.Internal.Computed.{help_option_of, member_of};
 
 use crate::help;
-use crate::options::OptionNames;
-use crate::requests::Request;
+use crate::options::{OptionNames, Presentation};
+use crate::requests::{JudgeRequest, Request};
 use clap::{ArgMatches, Command};
 use std::alloc::{AllocError, Global};
 
 mod batch;
 mod campaign;
 mod check;
+mod draw;
 mod explain;
 mod judge;
 mod make;
@@ -25,6 +28,97 @@ mod shared;
 /// The version of the program.
 const VERSION: &str = "0.1.0";
 
+/// A subcommand.
+#[derive(Clone, Copy)]
+enum Subcommand {
+    Judge,
+    Explain,
+    Draw,
+    Batch,
+    Check,
+    Replay,
+    Run,
+    Make,
+    Campaign,
+}
+
+/// All of them, as the help lists them.
+static SUBCOMMANDS: [Subcommand; 9] = [
+    Subcommand::Judge,
+    Subcommand::Explain,
+    Subcommand::Draw,
+    Subcommand::Batch,
+    Subcommand::Check,
+    Subcommand::Replay,
+    Subcommand::Run,
+    Subcommand::Make,
+    Subcommand::Campaign,
+];
+
+impl Subcommand {
+    /// Its name, and the option that asks for its help.
+    fn help_option(self) -> &'static [&'static str]
+        ensures { map (λ word. word.now) result.now ≡ (member_of self).name ∷ codes "--help" ∷ [] }
+    {
+        match self {
+            Subcommand::Judge => judge::HELP_OPTION.as_slice(),
+            Subcommand::Explain => explain::HELP_OPTION.as_slice(),
+            Subcommand::Draw => draw::HELP_OPTION.as_slice(),
+            Subcommand::Batch => batch::HELP_OPTION.as_slice(),
+            Subcommand::Check => check::HELP_OPTION.as_slice(),
+            Subcommand::Replay => replay::HELP_OPTION.as_slice(),
+            Subcommand::Run => run::HELP_OPTION.as_slice(),
+            Subcommand::Make => make::HELP_OPTION.as_slice(),
+            Subcommand::Campaign => campaign::HELP_OPTION.as_slice(),
+        }
+    }
+
+    /// Whether this is its name.
+    fn is_named(self, name: &str) -> bool
+        ensures { result ≡ bytes_eq (member_of self).name name.now }
+    {
+        self.help_option()[0] == name
+    }
+
+    /// The subcommand as it is offered.
+    fn command<'a>(self, alloc: Global, names: OptionNames<'a>) -> Result<Command<'a>, AllocError>
+        ensures app { IfOk result (λ command. app_of command ≡ subcommand_app names.entry (member_of self)) }
+        ensures local { IfOk result (λ command. (fields_of command).has_globals ≡ false) }
+    {
+        match self {
+            Subcommand::Judge => judge::command(alloc, names),
+            Subcommand::Explain => explain::command(alloc, names),
+            Subcommand::Draw => draw::command(alloc, names),
+            Subcommand::Batch => batch::command(alloc, names),
+            Subcommand::Check => check::command(alloc, names),
+            Subcommand::Replay => replay::command(alloc, names),
+            Subcommand::Run => run::command(alloc, names),
+            Subcommand::Make => make::command(alloc, names),
+            Subcommand::Campaign => campaign::command(alloc, names),
+        }
+    }
+
+    /// What its matches ask for.
+    fn request<'a>(self, alloc: Global, matches: &ArgMatches<'a>) -> Result<Request<'a>, AllocError>
+        ensures asked { IfOk result (λ request. asked_of request ≡ asked_in (member_of self) (rows_of (found_of matches.now))) }
+        ensures workers { IfOk result (λ request. HasWorkers (asked_of request)) }
+        ensures unit { IfOk result (λ request. HasUnitRanges (asked_of request)) }
+        ensures turns { IfOk result (λ request. HasDrainTurns (asked_of request)) }
+    {
+        match self {
+            Subcommand::Judge => Ok(shared::judge_request(matches, Presentation::Report)),
+            Subcommand::Explain => Ok(shared::judge_request(matches, Presentation::Explanation)),
+            Subcommand::Draw => Ok(shared::judge_request(matches, Presentation::Picture)),
+            Subcommand::Batch => Ok(batch::request(matches)),
+            Subcommand::Check => Ok(check::request(matches)),
+            Subcommand::Replay => replay::request(alloc, matches),
+            Subcommand::Run => run::request(alloc, matches),
+            Subcommand::Make => Ok(make::request(matches)),
+            Subcommand::Campaign => Ok(campaign::request(matches)),
+        }
+    }
+}
+
 /// The command line of the program, where options take these names.
 pub(crate) fn tsobench_command<'a>(
     alloc: Global,
@@ -33,15 +127,8 @@ pub(crate) fn tsobench_command<'a>(
     ensures app { IfOk result (λ command. app_of command ≡ tsobench_app names.entry) }
     ensures local { IfOk result (λ command. (fields_of command).has_globals ≡ false) }
 {
-    program_command(alloc)?
-        .subcommand(judge::command(alloc, names)?)?
-        .subcommand(explain::command(alloc, names)?)?
-        .subcommand(batch::command(alloc, names)?)?
-        .subcommand(check::command(alloc, names)?)?
-        .subcommand(replay::command(alloc, names)?)?
-        .subcommand(run::command(alloc, names)?)?
-        .subcommand(make::command(alloc, names)?)?
-        .subcommand(campaign::command(alloc, names)?)
+    let program = program_command(alloc)?;
+    with_subcommands(alloc, names, program, SUBCOMMANDS.as_slice())
 }
 
 /// The command line before its subcommands.
@@ -58,56 +145,68 @@ fn program_command<'a>(alloc: Global) -> Result<Command<'a>, AllocError>
     Ok(command)
 }
 
-/// What the matches ask for: without a subcommand, to judge standard input with one worker.
-pub(crate) fn request<'a>(matches: &ArgMatches<'a>) -> Request<'a>
-    ensures asked { asked_of result ≡ asked_by (subcommand_rows_of matches.now) }
-    ensures workers { HasWorkers (asked_of result) }
-    ensures unit { HasUnitRanges (asked_of result) }
-    ensures turns { HasDrainTurns (asked_of result) }
+/// A command line with these subcommands after its own.
+fn with_subcommands<'a>(
+    alloc: Global,
+    names: OptionNames<'a>,
+    mut program: Command<'a>,
+    list: &[Subcommand],
+) -> Result<Command<'a>, AllocError>
+    requires { (fields_of program).has_globals ≡ false }
+    ensures app { IfOk result (λ command. app_of command ≡ fold (λ app c. with_subcommand app (subcommand_app names.entry c).top) (app_of program.entry) (map member_of list.now)) }
+    ensures local { IfOk result (λ command. (fields_of command).has_globals ≡ false) }
 {
-    if let Some(found) = matches.subcommand_matches("judge") {
-        return judge::request(found);
+    for subcommand in list {
+        program = program.subcommand(subcommand.command(alloc, names)?)?;
     }
-    if let Some(found) = matches.subcommand_matches("explain") {
-        return explain::request(found);
+    Ok(program)
+}
+
+/// What the matches ask for: without a subcommand, to judge standard input with one worker. OutOfMemory where an allocation
+/// for the text of a refusal was refused.
+pub(crate) fn request<'a>(
+    alloc: Global,
+    matches: &ArgMatches<'a>,
+) -> Result<Request<'a>, AllocError>
+    ensures asked { IfOk result (λ request. asked_of request ≡ asked_by (subcommand_rows_of matches.now)) }
+    ensures workers { IfOk result (λ request. HasWorkers (asked_of request)) }
+    ensures unit { IfOk result (λ request. HasUnitRanges (asked_of request)) }
+    ensures turns { IfOk result (λ request. HasDrainTurns (asked_of request)) }
+{
+    if let Some((name, found)) = matches.subcommand() {
+        if let Some(subcommand) = subcommand_named(name) {
+            return subcommand.request(alloc, found);
+        }
     }
-    if let Some(found) = matches.subcommand_matches("batch") {
-        return batch::request(found);
-    }
-    if let Some(found) = matches.subcommand_matches("check") {
-        return check::request(found);
-    }
-    if let Some(found) = matches.subcommand_matches("replay") {
-        return replay::request(found);
-    }
-    if let Some(found) = matches.subcommand_matches("run") {
-        return run::request(found);
-    }
-    if let Some(found) = matches.subcommand_matches("make") {
-        return make::request(found);
-    }
-    if let Some(found) = matches.subcommand_matches("campaign") {
-        return campaign::request(found);
-    }
-    Request::Judge {
+    Ok(Request::Judge(JudgeRequest {
         file: None,
         workers: 1,
+        presentation: Presentation::Report,
+    }))
+}
+
+/// The subcommand of this name.
+fn subcommand_named(name: &str) -> Option<Subcommand>
+    ensures { option_map member_of result ≡ find (λ c. bytes_eq c.name name.now) subcommands }
+{
+    first_named(name, SUBCOMMANDS.as_slice())
+}
+
+/// The first of these subcommands with this name.
+fn first_named(name: &str, list: &[Subcommand]) -> Option<Subcommand>
+    ensures { option_map member_of result ≡ find (λ c. bytes_eq c.name name.now) (map member_of list.now) }
+{
+    for subcommand in list {
+        if subcommand.is_named(name) {
+            return Some(*subcommand);
+        }
     }
+    None
 }
 
 /// The option that asks for the help of the subcommand of this name.
 pub(crate) fn help_option(name: &str) -> Option<&'static [&'static str]>
-    ensures { option_map (λ option. map (λ argument. argument.now) option.now) result ≡ help_option_of name.now }
+    ensures { option_map (λ option. map (λ word. word.now) option.now) result ≡ help_option_of name.now }
 {
-    match name {
-        "judge" => Some(judge::HELP_OPTION.as_slice()),
-        "explain" => Some(explain::HELP_OPTION.as_slice()),
-        "batch" => Some(batch::HELP_OPTION.as_slice()),
-        "check" => Some(check::HELP_OPTION.as_slice()),
-        "replay" => Some(replay::HELP_OPTION.as_slice()),
-        "run" => Some(run::HELP_OPTION.as_slice()),
-        "make" => Some(make::HELP_OPTION.as_slice()),
-        "campaign" => Some(campaign::HELP_OPTION.as_slice()),
-        _ => None,
-    }
+    Some(subcommand_named(name)?.help_option())
 }

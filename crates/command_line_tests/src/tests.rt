@@ -40,22 +40,14 @@ fn described_campaign(alloc: Global, options: &CampaignOptions) -> Result<String
 /// What a request is, as one line of text with the texts that it shows.
 fn described(alloc: Global, request: &Request<'_>) -> Result<String, AllocError> {
     match request {
-        Request::Judge {
-            file: None,
-            workers,
-        } => format!(in alloc; "judge standard input with {workers}"),
-        Request::Judge {
-            file: Some(file),
-            workers,
-        } => format!(in alloc; "judge {file:?} with {workers}"),
-        Request::Explain { file, workers } => {
-            format!(in alloc; "explain {file:?} with {workers}")
-        }
-        Request::Batch {
-            file,
-            workers,
-            quiet,
-        } => format!(in alloc; "batch {file:?} with {workers} quiet {quiet}"),
+        Request::Judge(judge) => format!(in alloc;
+            "{:?} of {:?} with {}",
+            judge.presentation, judge.file, judge.workers
+        ),
+        Request::Batch(batch) => format!(in alloc;
+            "batch {:?} with {} quiet {}",
+            batch.file, batch.workers, batch.quiet
+        ),
         Request::Check { trace, certificate } => {
             format!(in alloc; "check {trace:?} against {certificate:?}")
         }

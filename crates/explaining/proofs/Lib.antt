@@ -1,1 +1,2 @@
 pub mod ExplanationFacts
+pub mod TextFacts

@@ -1,2 +1,4 @@
 pub mod Explained
+pub mod Pictured
+pub mod Texts
 pub mod WrittenExplanations

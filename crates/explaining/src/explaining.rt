@@ -2,6 +2,7 @@
 ghost use Rattle.std.specs.Prelude.{◌≡◌, ◌⊎◌, ◌↔◌, ◌≤◌, string_bytes, IfSome, IfOk, IfErr};
 ghost use Rattle.round_pool.specs.Workers.{worker_limit};
 ghost use Rattle.tso_report.specs.declared.faults.Fault.{Fault};
+ghost use Rattle.tso_model.specs.Axioms.{IsConsistent};
 ghost use Rattle.tso_report.specs.declared.verdicts.Verdict.{Verdict};
 ghost use Rattle.tso_report.specs.Limits.{trace_read_limit};
 ghost use Rattle.tso_report.specs.Reports.{SpellsViolation};
@@ -66,6 +67,7 @@ pub fn explain_trace<H: Threads + Wait>(
     requires most { workers ≤ worker_limit }
     ensures explanation { IfOk result (λ explained. IsTraceExplanation trace.now (string_bytes explained.text) explained.verdict) }
     ensures violation { IfOk result (λ explained. (explained.verdict ≡ Verdict.Violation) ↔ IsViolation trace.now) }
+    ensures no_order { IfOk result (λ explained. explained.verdict ≡ Verdict.Violation → IsConsistent trace.now → ⊥) }
     ensures fault { IfErr result (λ fault. (fault ≡ Fault.OutOfMemory) ⊎ (fault ≡ Fault.NoThread)) }
 {
     let finding = find_violation(rt, alloc, trace, workers)?;

@@ -1,4 +1,4 @@
-//! Tests of `explaining` and `trace_explanation`, by their public calls.
+//! Tests of `explaining`, `trace_explanation` and `trace_pictures`, by their public calls.
 #![tactic(auto)]
 
 #[cfg(test)]

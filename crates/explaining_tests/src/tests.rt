@@ -1,6 +1,7 @@
-//! Explanations, and what the tests of them share.
+//! Explanations and pictures, and what the tests of them share.
 
 mod explained;
+mod pictured;
 mod stream_faults;
 
 use std::fmt::Debug;

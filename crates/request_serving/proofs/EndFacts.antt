@@ -1,22 +1,23 @@
 -- Lemmas on how the program ends.
 use Rattle.std.proofs.Common.{◌≡◌, ◌∙◌, ◌⊎◌, ℕ, List, [], ◌∷◌, ◌++◌, append_assoc, Ok, Err, Result, IfOk, IfErr, Some, None, arith, length, ap, refl, subst, sym, inl, inr, true, true≢false}
-use Rattle.std.specs.Prelude.{Bool, OnErr, Option, ◌≢◌, option_map}
+use Rattle.std.specs.Prelude.{Bool, OnErr, Option, ◌≢◌, is_some, not, option_map}
 use Rattle.std.specs.Borrow.{Bor}
 use Rattle.std.specs.Io.KnownBytes.{Keeps}
-use Rattle.command_line.specs.Requests.{Asked, Text, batching, explaining, judging, checking, replaying, running, making, campaigning, showing, refusing}
+use Rattle.command_line.specs.declared.options.Presentation.{Presentation}
+use Rattle.command_line.specs.declared.options.Presentation.TheVariants.{Report, Explanation, Picture}
 use Rattle.std.proofs.lemmas.List.{append-nil}
 use Rattle.tso_report.specs.declared.verdicts.Verdict.{Verdict}
 use Rattle.tso_report.specs.declared.faults.Fault.{Fault}
 use Rattle.tso_report.specs.declared.faults.Fault.TheVariants.{OutOfMemory, Read, Write, NoThread, Missing}
-use Rattle.tso_report.specs.WrittenReports.{IsCheckReportOfReaders, IsReportOfReader, LeavesAtFault, LeavesCheckFault, LeavesFault, WritesCheckReport, WritesPrefix, WritesReport, WritesWhole}
-use Rattle.explaining.specs.WrittenExplanations.{IsExplanationOfReader}
+use Rattle.tso_report.specs.WrittenReports.{IsCheckReportOfReaders, IsReportOfReader, LeavesAtFault, LeavesCheckFault, WritesCheckReport, WritesPrefix, WritesWhole}
+use Rattle.explaining.specs.Texts.{IsTextOfReader, SaidOfRefusal, SaidOfTrace}
 use Rattle.trace_batches.specs.Batches.{IsBatchFault, IsBatchOfReader}
 use Rattle.trace_batches.proofs.BatchFacts.{some_batch}
 use Rattle.trace_batches.proofs.StreamFacts.{none_written}
-use Rattle.request_serving.specs.Endings.{EndsAsAsked, EndsBatched, EndsByReport, EndsRefusing, EndsShowing, OfText, Outputs, WritesFaultLine}
+use Rattle.request_serving.specs.Endings.{EndsBatched, EndsByReport, IsPresented, Outputs, WritesFaultLine}
 use Rattle.request_serving.specs.Statuses.{status_of}
 use Rattle.std.proofs.Math.Seq.{take-length}
-use Rattle.request_serving.specs.OpenedFiles.{HasKnown, OpensFirst, OpensNext, reads_input}
+use Rattle.request_serving.specs.OpenedFiles.{HasKnown, OpensFirst, OpensNext}
 
 -- ---- reports of files of which less may be known
 
@@ -24,7 +25,7 @@ known_bytes : (known remaining : Option (List ℕ)) → HasKnown known remaining
 known_bytes None remaining has = inl refl
 known_bytes (Some all) remaining has = inr (sym has)
 
-pub report_of_known : (known remaining : Option (List ℕ)) → HasKnown known remaining → (text : List ℕ) (verdict : Verdict) → IsReportOfReader remaining text verdict → IsReportOfReader known text verdict
+report_of_known : (known remaining : Option (List ℕ)) → HasKnown known remaining → (text : List ℕ) (verdict : Verdict) → IsReportOfReader remaining text verdict → IsReportOfReader known text verdict
 report_of_known None remaining has text verdict report = record { bytes = report.bytes; of_read = report.of_read; of_all = tt }
 report_of_known (Some all) remaining has text verdict report = subst (λ r. IsReportOfReader r text verdict) has report
 
@@ -63,14 +64,6 @@ pub faults_as : (A B : List ℕ → Verdict → Type 0) → ((text : List ℕ) (
 faults_as A B implied old new (Ok verdict) leaves = tt
 faults_as A B implied old new (Err fault) leaves = leaves_as A B implied old new fault leaves
 
-pub file_writes : (known remaining : Option (List ℕ)) → HasKnown known remaining → (old new : Option (List ℕ)) (outcome : Result Verdict Fault) → IfOk outcome (WritesReport remaining old new) →
-    IfOk outcome (WritesReport known old new)
-file_writes known remaining has = writes_as (IsReportOfReader remaining) (IsReportOfReader known) (report_of_known known remaining has)
-
-pub file_leaves : (known remaining : Option (List ℕ)) → HasKnown known remaining → (old new : Option (List ℕ)) (outcome : Result Verdict Fault) → IfErr outcome (LeavesFault remaining old new) →
-    IfErr outcome (LeavesFault known old new)
-file_leaves known remaining has = faults_as (IsReportOfReader remaining) (IsReportOfReader known) (report_of_known known remaining has)
-
 pub files_write : (trace traces cert certs : Option (List ℕ)) → HasKnown trace traces → HasKnown cert certs → (old new : Option (List ℕ)) (outcome : Result Verdict Fault) →
     IfOk outcome (WritesCheckReport traces certs old new) → IfOk outcome (WritesCheckReport trace cert old new)
 files_write trace traces cert certs has has_cert = writes_as (IsCheckReportOfReaders traces certs) (IsCheckReportOfReaders trace cert) (check_of_known trace traces cert certs has has_cert)
@@ -79,9 +72,16 @@ pub files_leave : (trace traces cert certs : Option (List ℕ)) → HasKnown tra
     IfErr outcome (LeavesCheckFault traces certs old new) → IfErr outcome (LeavesCheckFault trace cert old new)
 files_leave trace traces cert certs has has_cert = faults_as (IsCheckReportOfReaders traces certs) (IsCheckReportOfReaders trace cert) (check_of_known trace traces cert certs has has_cert)
 
-pub explanation_of_known : (known remaining : Option (List ℕ)) → HasKnown known remaining → (text : List ℕ) (verdict : Verdict) → IsExplanationOfReader remaining text verdict → IsExplanationOfReader known text verdict
-explanation_of_known None remaining has text verdict explanation = record { bytes = explanation.bytes; of_read = explanation.of_read; of_all = tt }
-explanation_of_known (Some all) remaining has text verdict explanation = subst (λ r. IsExplanationOfReader r text verdict) has explanation
+text_of_known : (said : SaidOfTrace) (refused : SaidOfRefusal) (known remaining : Option (List ℕ)) → HasKnown known remaining → (text : List ℕ) (verdict : Verdict) →
+    IsTextOfReader said refused remaining text verdict → IsTextOfReader said refused known text verdict
+text_of_known said refused None remaining has text verdict is = record { bytes = is.bytes; of_read = is.of_read; of_all = tt }
+text_of_known said refused (Some all) remaining has text verdict is = subst (λ r. IsTextOfReader said refused r text verdict) has is
+
+pub presented_of_known : (presentation : Presentation) (known remaining : Option (List ℕ)) → HasKnown known remaining → (text : List ℕ) (verdict : Verdict) → IsPresented presentation remaining text verdict →
+    IsPresented presentation known text verdict
+presented_of_known Report = report_of_known
+presented_of_known Explanation = text_of_known _ _
+presented_of_known Picture = text_of_known _ _
 
 pub batch_of_known : (quiet : Bool) (known remaining : Option (List ℕ)) → HasKnown known remaining → (text : List ℕ) (verdict : Verdict) → IsBatchOfReader quiet remaining text verdict →
     IsBatchOfReader quiet known text verdict
@@ -134,25 +134,6 @@ pub ends_batched : (quiet : Bool) (remaining : Option (List ℕ)) (o : Outputs) 
 ends_batched quiet remaining o (Ok verdict) status writes left fault told faulty = inl (verdict, writes, told.1, told.0)
 ends_batched quiet remaining o (Err fault) status writes left is_fault told faulty = inr (fault, is_fault, left, faulty)
 
--- it holds of some text
-some_text : (known : Option Text) (Is : Text → Type 0) → OfText known Is → OfText None Is
-some_text None Is holds = holds
-some_text (Some text) Is holds = (text, holds)
-
--- what was done with a known text was done
-pub does_asked : (known : Option Text) (asked : Asked) (input : Option (List ℕ)) (files : List ℕ → Option (List ℕ)) (o : Outputs) (status : ℕ) →
-    EndsAsAsked known asked input files o status → EndsAsAsked None asked input files o status
-does_asked known (judging file workers) input files o status ends = ends
-does_asked known (explaining file workers) input files o status ends = ends
-does_asked known (batching file workers quiet) input files o status ends = ends
-does_asked known (checking trace certificate) input files o status ends = ends
-does_asked known (replaying options program schedule) input files o status ends = ends
-does_asked known (running run) input files o status ends = ends
-does_asked known (making order seed shape) input files o status ends = ends
-does_asked known (campaigning options) input files o status ends = ends
-does_asked known showing input files o status ends = some_text known (λ text. EndsShowing text o status) ends
-does_asked known refusing input files o status ends = some_text known (λ text. EndsRefusing text o status) ends
-
 -- where nothing was opened
 pub opens_none : (old : Option (List (List ℕ))) (names : List (List ℕ)) → OpensFirst old old names
 opens_none None names = (0, omega arith, tt)
@@ -160,18 +141,10 @@ opens_none (Some before) names = (0, omega arith, ap Some (sym (append-nil befor
 
 -- ---- standard input
 
--- it is judged where no file is named
-pub unnamed_read : (file : Option (Bor (List ℕ))) (workers : ℕ) → reads_input (judging (option_map (λ f. f.now) file) workers) ≡ true → file ≡ None
-unnamed_read None workers reads = refl
-unnamed_read (Some name) workers reads = absurd (true≢false (sym reads))
-
-pub unnamed_explained : (file : Option (Bor (List ℕ))) (workers : ℕ) → reads_input (explaining (option_map (λ f. f.now) file) workers) ≡ true → file ≡ None
-unnamed_explained None workers reads = refl
-unnamed_explained (Some name) workers reads = absurd (true≢false (sym reads))
-
-pub unnamed_batch : (file : Option (Bor (List ℕ))) (workers : ℕ) (quiet : Bool) → reads_input (batching (option_map (λ f. f.now) file) workers quiet) ≡ true → file ≡ None
-unnamed_batch None workers quiet reads = refl
-unnamed_batch (Some name) workers quiet reads = absurd (true≢false (sym reads))
+-- it is read where no file is named
+pub unnamed : (file : Option (Bor (List ℕ))) → not (is_some (option_map (λ f. f.now) file)) ≡ true → file ≡ None
+unnamed None reads = refl
+unnamed (Some name) reads = absurd (true≢false (sym reads))
 
 -- a status other than that of a fault is that of a verdict
 pub at_verdict : (outcome : Result Verdict Fault) (status : ℕ) (before errors : Option (List ℕ)) (P : Type 0) → IfErr outcome (λ fault. WritesFaultLine before errors fault × (status ≡ 4))

@@ -1,12 +1,18 @@
 -- No record of a lawful unit is called a violation.
-use Rattle.std.proofs.Common.{◌≡◌, ◌≢◌, ◌&&◌, inl, inr, ℕ, true, List, Option, IfSome, ap, refl, subst, sym, ◌∙◌, arith}
+use Rattle.std.proofs.Common.{◌≡◌, ◌≢◌, ◌&&◌, inl, inr, ℕ, true, List, Option, Some, None, IfSome, ap, refl, subst, sym, ◌∙◌, arith}
 use Rattle.std.proofs.lemmas.Bool.{false≢true}
 use Rattle.tso_ops.specs.Settings.{SettingValue}
-use Rattle.tso_ops.specs.Values.{ProgramValue}
+use Rattle.tso_ops.specs.Values.{ProgramValue, TraceValue}
+use Rattle.tso_cert.specs.declared.steps.Certificate.{Certificate}
+use Rattle.tso_model.specs.Axioms.{IsConsistent}
+use Rattle.explaining.specs.Explained.{IsTraceExplanation}
+use Rattle.explaining.specs.Texts.{verdict_by}
+use Rattle.tso_report.specs.declared.verdicts.Verdict.{Verdict}
+use Rattle.tso_report.specs.declared.verdicts.Verdict.TheVariants.{NoViolation, Violation}
 use Rattle.tso_ops.specs.declared.settings.Order.{Order}
-use Rattle.command_line.specs.Requests.{Asked, Text, batching, explaining, judging, checking, replaying, running, making, campaigning, showing, refusing}
+use Rattle.command_line.specs.Requests.{Asked, replaying, running}
 use Rattle.command_line.specs.declared.options.Printing.{Printing}
-use Rattle.command_line.specs.declared.options.Printing.TheVariants.{Report, Trace}
+use Rattle.command_line.specs.declared.options.Printing.TheVariants.{Report, Trace, Explanation}
 use Rattle.command_line.specs.declared.options.RunOptions.{RunOptions}
 use Rattle.command_line.specs.declared.options.UnitKind.{UnitKind}
 use Rattle.command_line.specs.declared.options.UnitKind.TheVariants.{Serial, Buffer, Partial, Faulty}
@@ -44,11 +50,22 @@ for_file options programs is = λ program reads.
     let same : program.setting ≡ is.program.setting = spelled.0 ∙ sym is.spelled.0 in
     ap (λ (setting : SettingValue). is_lawful_under setting.order (unit_of options)) same ∙ is.lawful
 
+-- an explanation of a trace that has an order is of no violation
+pub explained_silent : (t : TraceValue) (text : List ℕ) (verdict : Verdict) → IsTraceExplanation t text verdict → (verdict ≡ Violation → IsConsistent t → ⊥) → IsConsistent t → verdict ≡ NoViolation
+explained_silent t text verdict explanation no_order consistent = go explanation.certificate explanation.says
+  where
+    go : (certificate : Option Certificate) → verdict ≡ verdict_by certificate → verdict ≡ NoViolation
+    go None says = says
+    go (Some certificate) says = absurd (no_order says consistent)
+
 -- what is printed of a lawful record doesn't end as a violation
 record_status : (printing : Printing) (r : RecordedValue) (account : Account) (text : List ℕ) (status : ℕ) → r.lawful ≡ true → PrintsRecord printing r account text status → status ≢ 3
 record_status Trace r account text status lawful prints = λ three. omega (arith, prints.1, three)
 record_status Report r account text status lawful prints = λ three.
     let ends : status ≡ 0 = prints.5 ∙ ap status_of (prints.3 lawful) in
+    omega (arith, ends, three)
+record_status Explanation r account text status lawful prints = λ three.
+    let ends : status ≡ 0 = prints.3 ∙ ap status_of (prints.2 lawful) in
     omega (arith, ends, three)
 
 run_status : (options : RunOptions) (programs : Option (List ℕ)) (text : List ℕ) (status : ℕ) → IsLawfulForEach options.unit programs → IsRunText options programs text status → status ≢ 3
@@ -87,30 +104,16 @@ ran_status : (options : RunOptions) (programs : Option (List ℕ)) (o : Outputs)
 ran_status options programs o status lawful (inl ends) = text_status _ o status (λ text. run_status options programs text status lawful) ends
 ran_status options programs o status lawful (inr ends) = λ three. omega (arith, ends.1, three)
 
-pub lawful_status : (known : Option Text) (asked : Asked) (input : Option (List ℕ)) (files : List ℕ → Option (List ℕ)) (o : Outputs) (status : ℕ) →
-    EndsAsAsked known asked input files o status → runs_on_lawful_unit asked ≡ true → status ≢ 3
-lawful_status known (judging file workers) input files o status ends lawful = absurd (false≢true lawful)
-lawful_status known (explaining file workers) input files o status ends lawful = absurd (false≢true lawful)
-lawful_status known (batching file workers quiet) input files o status ends lawful = absurd (false≢true lawful)
-lawful_status known (checking trace certificate) input files o status ends lawful = absurd (false≢true lawful)
-lawful_status known (replaying options program schedule) input files o status ends lawful =
+pub lawful_status : (asked : Asked) (input : Option (List ℕ)) (files : List ℕ → Option (List ℕ)) (o : Outputs) (status : ℕ) →
+    EndsAsAsked asked input files o status → runs_on_lawful_unit asked ≡ true → status ≢ 3
+lawful_status (replaying options program schedule) input files o status ends lawful =
     replayed_status options (files program) (files schedule) o status (for_all options.unit (files program) lawful) ends
-lawful_status known (running run) input files o status ends lawful = ran_status run.options (files run.program) o status (for_all run.options.unit (files run.program) lawful) ends
-lawful_status known (making order seed shape) input files o status ends lawful = absurd (false≢true lawful)
-lawful_status known (campaigning options) input files o status ends lawful = absurd (false≢true lawful)
-lawful_status known showing input files o status ends lawful = absurd (false≢true lawful)
-lawful_status known refusing input files o status ends lawful = absurd (false≢true lawful)
+lawful_status (running run) input files o status ends lawful = ran_status run.options (files run.program) o status (for_all run.options.unit (files run.program) lawful) ends
+lawful_status asked input files o status ends lawful = absurd (false≢true lawful)
 
-pub file_status : (known : Option Text) (asked : Asked) (input : Option (List ℕ)) (files : List ℕ → Option (List ℕ)) (o : Outputs) (status : ℕ) →
-    EndsAsAsked known asked input files o status → RunsLawfully asked files → status ≢ 3
-file_status known (judging file workers) input files o status ends lawful = absurd lawful
-file_status known (explaining file workers) input files o status ends lawful = absurd lawful
-file_status known (batching file workers quiet) input files o status ends lawful = absurd lawful
-file_status known (checking trace certificate) input files o status ends lawful = absurd lawful
-file_status known (replaying options program schedule) input files o status ends lawful =
+pub file_status : (asked : Asked) (input : Option (List ℕ)) (files : List ℕ → Option (List ℕ)) (o : Outputs) (status : ℕ) →
+    EndsAsAsked asked input files o status → RunsLawfully asked files → status ≢ 3
+file_status (replaying options program schedule) input files o status ends lawful =
     replayed_status options (files program) (files schedule) o status (for_file options.unit (files program) lawful) ends
-file_status known (running run) input files o status ends lawful = ran_status run.options (files run.program) o status (for_file run.options.unit (files run.program) lawful) ends
-file_status known (making order seed shape) input files o status ends lawful = absurd lawful
-file_status known (campaigning options) input files o status ends lawful = absurd lawful
-file_status known showing input files o status ends lawful = absurd lawful
-file_status known refusing input files o status ends lawful = absurd lawful
+file_status (running run) input files o status ends lawful = ran_status run.options (files run.program) o status (for_file run.options.unit (files run.program) lawful) ends
+file_status asked input files o status ends lawful = absurd lawful

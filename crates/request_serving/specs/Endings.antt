@@ -8,6 +8,7 @@ use Rattle.tso_report.specs.declared.faults.Fault.{Fault}
 use Rattle.tso_report.specs.declared.faults.Fault.TheVariants.{OutOfMemory, Read, Write, NoThread, Missing}
 use Rattle.tso_report.specs.Streams.{AppendsPrefix}
 use Rattle.tso_report.specs.WrittenReports.{IsReportOfReader, LeavesAtFault, LeavesCheckFault, WritesCheckReport, WritesPrefix, WritesWhole}
+use Rattle.explaining.specs.Pictured.{IsPictureOfReader}
 use Rattle.explaining.specs.WrittenExplanations.{IsExplanationOfReader}
 use Rattle.trace_batches.specs.Batches.{IsBatchFault, IsBatchOfReader}
 use Rattle.request_serving.specs.Campaigning.{IsCampaignText, LeavesCampaignText}
@@ -16,6 +17,8 @@ use Rattle.request_serving.specs.Replaying.{IsReplayText}
 use Rattle.request_serving.specs.Running.{IsRunText}
 use Rattle.request_serving.specs.Statuses.{status_of}
 use Rattle.command_line.specs.declared.options.CampaignOptions.{CampaignOptions}
+use Rattle.command_line.specs.declared.options.Presentation.{Presentation}
+use Rattle.command_line.specs.declared.options.Presentation.TheVariants.{Report, Explanation, Picture}
 use Rattle.command_line.specs.declared.options.RunOptions.{RunOptions}
 use Rattle.command_line.specs.declared.options.ShapeNumbers.{ShapeNumbers}
 use Rattle.command_line.specs.declared.requests.Request.{Request}
@@ -23,7 +26,7 @@ use Rattle.command_line.specs.declared.requests.Request.TheVariants.{Show, Refus
 use Rattle.command_line.specs.Commands.{IsAskedFor}
 use Rattle.command_line.specs.Refusals.{Refuses}
 use Rattle.command_line.specs.Spellings.{Asks, AsksHelp}
-use Rattle.command_line.specs.Requests.{Asked, Text, asked_of, judging, explaining, batching, checking, replaying, running, making, campaigning, showing, refusing}
+use Rattle.command_line.specs.Requests.{Asked, Text, judging, batching, checking, replaying, running, making, campaigning, showing, refusing}
 
 -- ---- the lines of faults
 
@@ -62,19 +65,17 @@ EndsByReport is_report o status =
     ((verdict : Verdict) × WritesWhole is_report o.written_before o.written verdict × Keeps o.errors_before o.errors × (status ≡ status_of verdict))
     ⊎ ((fault : Fault) × LeavesAtFault is_report o.written_before o.written fault × EndsByFault fault o status)
 
--- the report of a trace, of which a reader has these bytes
-abbrev pub EndsJudged : Option (List ℕ) → Outputs → ℕ → Type 0
-EndsJudged remaining o status = EndsByReport (IsReportOfReader remaining) o status
+-- the verdict on a trace in this form: its report, its explanation or its picture
+abbrev pub IsPresented : Presentation → Option (List ℕ) → List ℕ → Verdict → Type 0
+IsPresented Report = IsReportOfReader
+IsPresented Explanation = IsExplanationOfReader
+IsPresented Picture = IsPictureOfReader
 
 -- The report of a certificate, of which and of whose trace readers have these bytes. No thread is started for it, so none is refused.
 abbrev pub EndsChecked : Option (List ℕ) → Option (List ℕ) → Outputs → ℕ → Type 0
 EndsChecked traces certs o status =
     ((verdict : Verdict) × WritesCheckReport traces certs o.written_before o.written verdict × Keeps o.errors_before o.errors × (status ≡ status_of verdict))
     ⊎ ((fault : Fault) × (fault ≢ NoThread) × LeavesCheckFault traces certs o.written_before o.written fault × EndsByFault fault o status)
-
--- the explanation of the verdict on a trace, of which a reader has these bytes
-abbrev pub EndsExplained : Option (List ℕ) → Outputs → ℕ → Type 0
-EndsExplained remaining o status = EndsByReport (IsExplanationOfReader remaining) o status
 
 -- The lines of traces that stand one after the other, of which a reader has these bytes, and their last line; or a fault left a prefix of this text.
 abbrev pub EndsBatched : Bool → Option (List ℕ) → Outputs → ℕ → Type 0
@@ -146,42 +147,31 @@ abbrev pub judged_bytes : Option (List ℕ) → Option (List ℕ) → (List ℕ 
 judged_bytes None input files = input
 judged_bytes (Some name) input files = files name
 
--- it holds of the text that is known, or of some text where none is
-abbrev pub OfText : Option Text → (Text → Type 0) → Type 0
-OfText None Is = (text : Text) × Is text
-OfText (Some text) Is = Is text
+-- what was asked for was done, where standard input has these bytes, and the file of each name those
+abbrev pub EndsAsAsked : Asked → Option (List ℕ) → (List ℕ → Option (List ℕ)) → Outputs → ℕ → Type 0
+EndsAsAsked (judging presentation file workers) input files o status = EndsByReport (IsPresented presentation (judged_bytes file input files)) o status
+EndsAsAsked (batching file workers quiet) input files o status = EndsBatched quiet (judged_bytes file input files) o status
+EndsAsAsked (checking trace certificate) input files o status = EndsChecked (files trace) (files certificate) o status
+EndsAsAsked (replaying options program schedule) input files o status = EndsReplayed options (files program) (files schedule) o status
+EndsAsAsked (running run) input files o status = EndsRun run.options (files run.program) o status
+EndsAsAsked (making order seed shape) input files o status = EndsMade order seed shape o status
+EndsAsAsked (campaigning options) input files o status = EndsCampaign options o status
+EndsAsAsked showing input files o status = (text : Text) × EndsShowing text o status
+EndsAsAsked refusing input files o status = (text : Text) × EndsRefusing text o status
 
--- What was asked for was done, where standard input has these bytes, and the file of each name those. A text that was shown, or that refuses, is the one that
--- is known, where one is.
-abbrev pub EndsAsAsked : Option Text → Asked → Option (List ℕ) → (List ℕ → Option (List ℕ)) → Outputs → ℕ → Type 0
-EndsAsAsked known (judging file workers) input files o status = EndsJudged (judged_bytes file input files) o status
-EndsAsAsked known (explaining file workers) input files o status = EndsExplained (judged_bytes file input files) o status
-EndsAsAsked known (batching file workers quiet) input files o status = EndsBatched quiet (judged_bytes file input files) o status
-EndsAsAsked known (checking trace certificate) input files o status = EndsChecked (files trace) (files certificate) o status
-EndsAsAsked known (replaying options program schedule) input files o status = EndsReplayed options (files program) (files schedule) o status
-EndsAsAsked known (running run) input files o status = EndsRun run.options (files run.program) o status
-EndsAsAsked known (making order seed shape) input files o status = EndsMade order seed shape o status
-EndsAsAsked known (campaigning options) input files o status = EndsCampaign options o status
-EndsAsAsked known showing input files o status = OfText known (λ text. EndsShowing text o status)
-EndsAsAsked known refusing input files o status = OfText known (λ text. EndsRefusing text o status)
-
--- the text that a request is to show, or that refuses it
-abbrev pub text_in : Request → Option Text
-text_in (Show text) = Some (string_bytes text)
-text_in (Refuse text) = Some (string_bytes text)
-text_in _ = None
-
--- what the request asks for was done, with the request's own text where it has one
-abbrev pub EndsAs : Request → Option (List ℕ) → (List ℕ → Option (List ℕ)) → Outputs → ℕ → Type 0
-EndsAs request input files o status = EndsAsAsked (text_in request) (asked_of request) input files o status
+-- a request that has a text to show, or one that refuses the arguments, ends with its own
+abbrev pub EndsWithText : Request → Outputs → ℕ → Type 0
+EndsWithText (Show text) o status = EndsShowing (string_bytes text) o status
+EndsWithText (Refuse text) o status = EndsRefusing (string_bytes text) o status
+EndsWithText request o status = Unit {0}
 
 -- what was asked for was done, with any text, or memory ran out while the arguments were read
 abbrev pub Does : Asked → Option (List ℕ) → (List ℕ → Option (List ℕ)) → Outputs → ℕ → Type 0
-Does asked input files o status = EndsAsAsked None asked input files o status ⊎ EndsOutOfMemory o status
+Does asked input files o status = EndsAsAsked asked input files o status ⊎ EndsOutOfMemory o status
 
 -- what clap says that the arguments ask for was done, or memory ran out while they were read
 abbrev pub DoesWhatClapSays : List Text → Option (List ℕ) → (List ℕ → Option (List ℕ)) → Outputs → ℕ → Type 0
-DoesWhatClapSays arguments input files o status = ((asked : Asked) × IsAskedFor arguments asked × EndsAsAsked None asked input files o status) ⊎ EndsOutOfMemory o status
+DoesWhatClapSays arguments input files o status = ((asked : Asked) × IsAskedFor arguments asked × EndsAsAsked asked input files o status) ⊎ EndsOutOfMemory o status
 
 -- What the arguments lead to, where standard input has these bytes, and the file of each name those: in a usual spelling what they ask for was done, a
 -- help or the version shown, or they were refused; and of any arguments what clap says.

@@ -4,10 +4,11 @@ use Rattle.tso_text.specs.declared.faults.Why.{Why}
 use Rattle.tso_text.specs.Printed.{trace_text}
 use Rattle.tso_report.specs.declared.verdicts.Verdict.{Verdict}
 use Rattle.tso_report.specs.declared.verdicts.Verdict.TheVariants.{NoViolation}
+use Rattle.explaining.specs.Explained.{IsTraceExplanation}
 use Rattle.tso_report.specs.AccountTexts.{account_text}
 use Rattle.tso_report.specs.Reports.{IsTraceReport, refusal_text}
 use Rattle.command_line.specs.declared.options.Printing.{Printing}
-use Rattle.command_line.specs.declared.options.Printing.TheVariants.{Report, Trace}
+use Rattle.command_line.specs.declared.options.Printing.TheVariants.{Report, Trace, Explanation}
 use Rattle.command_line.specs.declared.options.UnitOptions.{UnitOptions}
 use Rattle.unit_core.specs.declared.accounts.Account.{Account}
 use Rattle.unit_core.specs.Records.{RecordedValue}
@@ -23,12 +24,15 @@ unit_of options = new_unit (design_of_kind options.kind options.capacity options
 
 -- ---- what is printed of a record
 
--- its trace, with the status of a text that was asked for, or else the report of its trace, which is no violation where the record is lawful, and the account
+-- Its trace, with the status of a text that was asked for; or the report of its trace, and the account; or the explanation of its trace. The verdict is no
+-- violation where the record is lawful.
 abbrev pub PrintsRecord : Printing → RecordedValue → Account → List ℕ → ℕ → Type 0
 PrintsRecord Trace recorded account text status = (text ≡ trace_text recorded.trace) × (status ≡ 0)
 PrintsRecord Report recorded account text status =
     (report : List ℕ) × (verdict : Verdict) × IsTraceReport recorded.trace report verdict × (recorded.lawful ≡ true → verdict ≡ NoViolation) × (text ≡ report ++ account_text account)
     × (status ≡ status_of verdict)
+PrintsRecord Explanation recorded account text status =
+    (verdict : Verdict) × IsTraceExplanation recorded.trace text verdict × (recorded.lawful ≡ true → verdict ≡ NoViolation) × (status ≡ status_of verdict)
 
 -- ---- what is printed of texts
 

@@ -10,16 +10,10 @@ pub use failures::{RunFailure, failure_of};
 pub use files::{NamedFiles, SystemFiles};
 pub use serving::serve;
 
-mod batches;
-mod campaigning;
 mod driving;
 mod endings;
-mod explanations;
 mod failures;
 mod files;
-mod making;
 mod printing;
-mod replaying;
-mod running;
 mod serving;
 mod units;

@@ -4,10 +4,13 @@ ghost use Rattle.tso_report.specs.declared.faults.Fault.{Fault};
 ghost use Rattle.tso_report.specs.Limits.{worker_limit};
 ghost use Rattle.tso_report.specs.Reports.{refusal_text};
 ghost use Rattle.tso_text.specs.declared.faults.Why.{Why};
+ghost use Rattle.command_line.specs.declared.options.Printing.TheVariants.{Explanation};
+ghost use Rattle.unit_core.specs.declared.accounts.Account.{Account as AccountValue};
 ghost use Rattle.request_serving.specs.Printing.{PrintsRecord};
 
 use crate::endings::{DONE, REFUSED, status_of};
 use command_line::{Printing, RunOptions};
+use explaining::explain_trace;
 use std::alloc::Global;
 use std::sync::Wait;
 use std::thread::Threads;
@@ -23,8 +26,8 @@ pub(crate) struct Printed {
     pub status: u8,
 }
 
-/// What is printed of a record: its trace where the options ask for it, else the report of the trace and the account. The
-/// report of a lawful record's trace is never a violation.
+/// What is printed of a record: its trace, the report of the trace and the account, or the trace's explanation. The verdict
+/// on a lawful record is never a violation.
 pub(crate) fn print_record<H: Threads + Wait + AllocGlobal>(
     rt: &H,
     options: &RunOptions,
@@ -48,7 +51,26 @@ pub(crate) fn print_record<H: Threads + Wait + AllocGlobal>(
             text.extend_from_slice(&print_account(rt.alloc(), account)?)?;
             Ok(Printed { text, status })
         }
+        Printing::Explanation => print_explanation(rt, options, recorded),
     }
+}
+
+/// The explanation of a record's trace.
+fn print_explanation<H: Threads + Wait + AllocGlobal>(
+    rt: &H,
+    options: &RunOptions,
+    recorded: &Recorded,
+) -> Result<Printed, Fault>
+    requires some { 1 ≤ options.now.workers }
+    requires most { options.now.workers ≤ worker_limit }
+    ensures text { (account : AccountValue) → IfOk result (λ printed. PrintsRecord Explanation recorded.now account printed.text.items printed.status) }
+    ensures fault { IfErr result (λ fault. (fault ≡ Fault.OutOfMemory) ⊎ (fault ≡ Fault.NoThread)) }
+{
+    let explained = explain_trace(rt, rt.alloc(), recorded.trace(), options.workers)?;
+    Ok(Printed {
+        status: status_of(explained.verdict),
+        text: explained.text.into_bytes(),
+    })
 }
 
 /// The line of the refusal of a text.

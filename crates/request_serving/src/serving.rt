@@ -1,37 +1,43 @@
 //! What the program does for each request.
-ghost use Rattle.std.specs.Prelude.{◌≡◌, ◌≢◌, ◌≤◌, [], ◌∷◌, IfOk, IfErr, OnOk, OnSome, None, true, false, option_to_list, string_bytes};
+ghost use Rattle.std.specs.Prelude.{◌≡◌, ◌≢◌, [], ◌∷◌, IfOk, IfErr, OnOk, true, false};
 ghost use Rattle.command_line.specs.Requests.{HasDrainTurns, HasUnitRanges, HasWorkers, asked_of};
-ghost use Rattle.tso_report.specs.Limits.{trace_read_limit, worker_limit};
-ghost use Rattle.tso_report.specs.Streams.{AppendsPrefix, LosesPrefix};
+ghost use Rattle.tso_report.specs.Limits.{worker_limit};
+ghost use Rattle.tso_report.specs.Streams.{AppendsPrefix};
 ghost use Rattle.tso_report.specs.declared.faults.Fault.TheVariants.{NoThread};
-ghost use Rattle.tso_report.specs.WrittenReports.{LeavesCheckFault, LeavesFault, WritesCheckReport, WritesReport};
-ghost use Rattle.request_serving.specs.Endings.{EndsAs, EndsShowing, judged_bytes, outputs};
+ghost use Rattle.tso_report.specs.WrittenReports.{LeavesCheckFault, WritesCheckReport};
+ghost use Rattle.request_serving.specs.Endings.{EndsAsAsked, EndsShowing, EndsWithText, outputs};
 ghost use Rattle.request_serving.specs.LawfulRequests.{RunsLawfully, runs_on_lawful_unit};
-ghost use Rattle.request_serving.specs.OpenedFiles.{OpensFirst, OpensNext, TakesInput, files_named, name_in, reads_input};
+ghost use Rattle.request_serving.specs.OpenedFiles.{OpensFirst, OpensNext, TakesInput, files_named, reads_input};
 
-use crate::batches::batch_named;
-use crate::campaigning::campaign_by;
 use crate::endings::{DONE, REFUSED, end, end_by, end_run, end_with};
-use crate::explanations::explain_named;
 use crate::files::{NamedFiles, open};
-use crate::making::make;
-use crate::replaying::replay_named;
-use crate::running::run_named;
+use crate::serving::batching::batch_by;
+use crate::serving::campaigning::campaign_by;
+use crate::serving::judging::judge_by;
+use crate::serving::making::make;
+use crate::serving::replaying::replay_named;
+use crate::serving::running::run_named;
 use command_line::Request;
 use std::alloc::Global;
 use std::io::{Read, Write};
 use std::sync::Wait;
 use std::thread::Threads;
-use trace_batches::BatchOptions;
-use tso_report::{Fault, MAX_WORKERS, Verdict, check_texts, judge, write_text};
+use tso_report::{Fault, MAX_WORKERS, Verdict, check_texts, write_text};
+
+mod batching;
+mod campaigning;
+mod judging;
+mod making;
+mod replaying;
+mod running;
 
 /// The command line lets just those numbers of workers through that a trace is judged with.
 const _: () = prove!(command_line::MAX_WORKERS == MAX_WORKERS);
 
 /// Does what a request asks for, and answers the status that the program ends with.
 ///
-/// `Judge` judges the trace in a file, or else what `reader` has, and writes its report to `writer`; `Explain` writes the
-/// verdict's explanation, and `Batch` a line for each of many traces. `Check` checks a certificate against a trace and
+/// `Judge` judges the trace in a file, or else what `reader` has, and writes its report to `writer`, or the explanation of
+/// the verdict; `Batch` writes a line for each of many traces. `Check` checks a certificate against a trace and
 /// writes the report of both. Their status is that of the verdict: 0 where no violation
 /// was found, 2 where a text or the certificate was refused, 3 at a violation or a certificate that holds. `Replay` and
 /// `Run` print what a record gives: never a violation where the unit is lawful for programs of the memory model that the
@@ -50,7 +56,8 @@ pub fn serve<H: Threads + Wait + Sync + AllocGlobal, O: NamedFiles, R: Read, W: 
     requires workers { HasWorkers (asked_of request.now) }
     requires unit { HasUnitRanges (asked_of request.now) }
     requires turns { HasDrainTurns (asked_of request.now) }
-    ensures ends { EndsAs request.now (R.remaining reader.old) (O.bytes files.old) (outputs (W.contents writer.old) (W.contents writer.new) (E.contents errors.old) (E.contents errors.new)) result }
+    ensures ends { EndsAsAsked (asked_of request.now) (R.remaining reader.old) (O.bytes files.old) (outputs (W.contents writer.old) (W.contents writer.new) (E.contents errors.old) (E.contents errors.new)) result }
+    ensures text { EndsWithText request.now (outputs (W.contents writer.old) (W.contents writer.new) (E.contents errors.old) (E.contents errors.new)) result }
     ensures no_false_alarm { runs_on_lawful_unit (asked_of request.now) ≡ true → result ≢ 3 }
     ensures no_false_alarm_of_file { RunsLawfully (asked_of request.now) (O.bytes files.old) → result ≢ 3 }
     ensures first { OpensFirst (O.opened files.old) (O.opened files.new) (files_named (asked_of request.now)) }
@@ -59,28 +66,8 @@ pub fn serve<H: Threads + Wait + Sync + AllocGlobal, O: NamedFiles, R: Read, W: 
     ensures taken { reads_input (asked_of request.now) ≡ true → result ≢ 4 → TakesInput (asked_of request.now) (R.remaining reader.old) (R.remaining reader.new) }
 {
     match request {
-        Request::Judge { file, workers } => end(
-            judge_named(rt, *file, *workers, files, reader, writer),
-            errors,
-        ),
-        Request::Explain { file, workers } => end(
-            explain_named(rt, *file, *workers, files, reader, writer),
-            errors,
-        ),
-        Request::Batch {
-            file,
-            workers,
-            quiet,
-        } => {
-            let options = BatchOptions {
-                workers: *workers,
-                quiet: *quiet,
-            };
-            end(
-                batch_named(rt, *file, options, files, reader, writer),
-                errors,
-            )
-        }
+        Request::Judge(request) => judge_by(rt, request, files, reader, writer, errors),
+        Request::Batch(request) => batch_by(rt, request, files, reader, writer, errors),
         Request::Check { trace, certificate } => {
             let checked = check_files(rt.alloc(), trace, certificate, files, writer);
             end(checked, errors)
@@ -108,47 +95,6 @@ pub fn serve<H: Threads + Wait + Sync + AllocGlobal, O: NamedFiles, R: Read, W: 
         Request::Show(text) => show(text, writer, errors),
         Request::Refuse(text) => refuse(text, errors),
     }
-}
-
-/// Judges the trace in a file, or else what the reader has.
-fn judge_named<H: Threads + Wait + Sync + AllocGlobal, O: NamedFiles, R: Read, W: Write>(
-    rt: &H,
-    file: Option<&str>,
-    workers: usize,
-    files: &mut O,
-    reader: &mut R,
-    writer: &mut W,
-) -> Result<Verdict, Fault>
-    requires some { 1 ≤ workers }
-    requires most { workers ≤ worker_limit }
-    ensures report { let remaining = judged_bytes (name_in file.entry) (R.remaining reader.old) (O.bytes files.old) in IfOk result (WritesReport remaining (W.contents writer.old) (W.contents writer.new)) }
-    ensures fault { let remaining = judged_bytes (name_in file.entry) (R.remaining reader.old) (O.bytes files.old) in IfErr result (LeavesFault remaining (W.contents writer.old) (W.contents writer.new)) }
-    ensures opened { OpensNext (O.opened files.old) (O.opened files.new) (option_to_list (name_in file.entry)) }
-    ensures unread { OnSome file.entry (reader.new ≡ reader.old) }
-    ensures taken { file.entry ≡ None → IfOk result (λ _. LosesPrefix trace_read_limit (R.remaining reader.old) (R.remaining reader.new)) }
-{
-    match file {
-        None => judge(rt, rt.alloc(), reader, writer, workers),
-        Some(name) => judge_file(rt, name, files, writer, workers),
-    }
-}
-
-/// Judges the trace in a file.
-fn judge_file<H: Threads + Wait + Sync + AllocGlobal, O: NamedFiles, W: Write>(
-    rt: &H,
-    name: &str,
-    files: &mut O,
-    writer: &mut W,
-    workers: usize,
-) -> Result<Verdict, Fault>
-    requires some { 1 ≤ workers }
-    requires most { workers ≤ worker_limit }
-    ensures report { IfOk result (WritesReport (O.bytes files.old name.now) (W.contents writer.old) (W.contents writer.new)) }
-    ensures fault { IfErr result (LeavesFault (O.bytes files.old name.now) (W.contents writer.old) (W.contents writer.new)) }
-    ensures opened { OpensNext (O.opened files.old) (O.opened files.new) (name.now ∷ []) }
-{
-    let mut file = open(files, name)?;
-    judge(rt, rt.alloc(), &mut file, writer, workers)
 }
 
 /// Checks the certificate in one file against the trace in another. Both are opened before one is read.

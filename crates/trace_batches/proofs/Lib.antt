@@ -2,3 +2,4 @@ pub mod BatchFacts
 pub mod JobFacts
 pub mod StreamFacts
 pub mod TallyFacts
+mod PieceReports

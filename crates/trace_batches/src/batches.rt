@@ -24,8 +24,9 @@ use tso_text::MAX_TEXT_BYTES;
 /// How many bytes one call of `read` asks for.
 const CHUNK: usize = 262_144;
 
-/// How many pieces for each worker are judged at most before their lines are written.
-const PIECES_PER_WORKER: usize = 16;
+/// How many pieces for each worker are judged at most before their lines are written. Threads are started for each group, so
+/// a group has to be large beside their start.
+const PIECES_PER_WORKER: usize = 256;
 
 /// How a batch is judged and told.
 #[derive(Clone, Copy, Debug)]

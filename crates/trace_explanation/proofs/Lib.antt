@@ -2,7 +2,6 @@ pub mod ClaimFacts
 pub mod SearchFacts
 pub mod LineFacts
 pub mod NameFacts
-pub mod OperationFacts
 pub mod ReferenceFacts
 pub mod StepFacts
 pub mod TextFacts

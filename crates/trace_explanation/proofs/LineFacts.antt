@@ -13,30 +13,11 @@ use Rattle.tso_ops.specs.Settings.{SettingValue}
 use Rattle.tso_ops.specs.Values.{TraceValue}
 use Rattle.tso_text.specs.Grammars.{trace_header}
 use Rattle.tso_text.specs.Printed.{entry_pieces, items_text, model_text, outcome_pieces, processor_text, setting_text, trace_text, whole_text}
-use Rattle.trace_explanation.specs.declared.operations.EventOperation.{EventOperation}
+use Rattle.tso_ops.specs.declared.operations.EventOperation.{EventOperation}
+use Rattle.tso_ops.proofs.PlaceFacts.{get-left, get-right, get-split}
 use Rattle.trace_explanation.specs.Lines.{ended_line, model_line, processor_lines, setting_lines, text_lines}
 use Rattle.trace_explanation.specs.Names.{outcome_text}
-use Rattle.trace_explanation.specs.Operations.{first_list_line, model_lines, operation_at, operations_from, operations_of, operations_of_lists}
-
--- ---- places in joined lists
-
-pub get-left : {X : Type 0} (xs ys : List X) (k : ℕ) (x : X) → slice_get xs k ≡ Some x → slice_get (xs ++ ys) k ≡ Some x
-get-left [] ys k x at = absurd cc
-get-left (y ∷ xs) ys zero x at = at
-get-left (y ∷ xs) ys (suc k) x at = get-left xs ys k x at
-
-pub get-right : {X : Type 0} (xs ys : List X) (i j : ℕ) → i ≡ length xs + j → slice_get (xs ++ ys) i ≡ slice_get ys j
-get-right [] ys i j is = let same : i ≡ j = omega arith in ap (slice_get ys) same
-get-right (x ∷ xs) ys zero j is = absurd (omega arith)
-get-right (x ∷ xs) ys (suc i) j is = get-right xs ys i j (omega arith)
-
-abbrev pub IsLater : {X : Type 0} → List X → List X → ℕ → X → Type 0
-IsLater xs ys k x = (j : ℕ) × (k ≡ length xs + j) × (slice_get ys j ≡ Some x)
-
-pub get-split : {X : Type 0} (xs ys : List X) (k : ℕ) (x : X) → slice_get (xs ++ ys) k ≡ Some x → (slice_get xs k ≡ Some x) ⊎ IsLater xs ys k x
-get-split [] ys k x at = inr (k, omega arith, at)
-get-split (y ∷ xs) ys zero x at = inl at
-get-split (y ∷ xs) ys (suc k) x at = ⊎_elim (λ here. inl here) (λ (j, is, later). inr (j, omega arith, later)) (get-split xs ys k x at)
+use Rattle.tso_ops.specs.Operations.{first_list_line, model_lines, operation_at, operations_from, operations_of, operations_of_lists}
 
 -- ---- the line of an operation among others
 

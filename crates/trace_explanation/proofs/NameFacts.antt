@@ -9,8 +9,8 @@ use Rattle.tso_ops.specs.declared.events.Event.{Event}
 use Rattle.tso_ops.specs.Settings.{first_value}
 use Rattle.tso_ops.specs.Values.{TraceValue}
 use Rattle.tso_ops.specs.Events.{event_at, event_total, events_of, HasSource}
-use Rattle.trace_explanation.specs.declared.operations.EventOperation.{EventOperation}
-use Rattle.trace_explanation.specs.Operations.{operation_at, operations_of}
+use Rattle.tso_ops.specs.declared.operations.EventOperation.{EventOperation}
+use Rattle.tso_ops.specs.Operations.{operation_at, operations_of}
 use Rattle.trace_explanation.specs.Names.{event_name, name_text, writes, source_in, source_of}
 use Rattle.trace_explanation.specs.Searches.{least}
 use Rattle.trace_explanation.specs.Internal.Tables.{text_in, HasNames}

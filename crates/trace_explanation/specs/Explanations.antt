@@ -14,7 +14,7 @@ use Rattle.tso_cert.specs.declared.steps.Certificate.TheVariants.{Unwritten, Cyc
 use Rattle.order_paths.specs.Paths.{last_of}
 use Rattle.trace_explanation.specs.Pieces.{joined}
 use Rattle.trace_explanation.specs.Names.{line_in, name_text, place_text}
-use Rattle.trace_explanation.specs.Operations.{operation_at}
+use Rattle.tso_ops.specs.Operations.{operation_at}
 use Rattle.trace_explanation.specs.Searches.{least}
 use Rattle.trace_explanation.specs.Steps.{is_named, step_number}
 use Rattle.trace_explanation.specs.Words.{reason_short, reason_long}

@@ -3,7 +3,6 @@ pub mod Explanations
 pub mod Internal
 pub mod Lines
 pub mod Names
-pub mod Operations
 pub mod Pieces
 pub mod Refusals
 pub mod Searches

@@ -9,10 +9,10 @@ use Rattle.tso_ops.specs.Values.{TraceValue}
 use Rattle.tso_ops.specs.Events.{event_at, event_total}
 use Rattle.tso_text.specs.Printed.{outcome_pieces}
 use Rattle.trace_explanation.specs.Pieces.{joined}
-use Rattle.trace_explanation.specs.declared.operations.Part.{Part}
-use Rattle.trace_explanation.specs.declared.operations.Part.TheVariants.{Whole, SwapLoad, SwapStore}
-use Rattle.trace_explanation.specs.declared.operations.EventOperation.{EventOperation}
-use Rattle.trace_explanation.specs.Operations.{operation_at}
+use Rattle.tso_ops.specs.declared.operations.Part.{Part}
+use Rattle.tso_ops.specs.declared.operations.Part.TheVariants.{Whole, SwapLoad, SwapStore}
+use Rattle.tso_ops.specs.declared.operations.EventOperation.{EventOperation}
+use Rattle.tso_ops.specs.Operations.{operation_at}
 use Rattle.trace_explanation.specs.Searches.{least}
 
 -- the operation as in the trace's text

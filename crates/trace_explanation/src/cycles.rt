@@ -49,7 +49,7 @@ fn push_head(text: &mut String, order: Order) -> Result<(), AllocError>
 }
 
 /// The name of the memory model.
-pub(crate) fn model_name(order: Order) -> &'static str
+pub fn model_name(order: Order) -> &'static str
     ensures { result.now ≡ model_name order }
 {
     match order {

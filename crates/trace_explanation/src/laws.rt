@@ -3,8 +3,6 @@ ghost use Rattle.std.specs.Prelude.{◌≡◌, ◌≢◌, ◌-◌, ◌<◌, ◌�
 ghost use Rattle.std.specs.List.{flat_map};
 ghost use Rattle.order_paths.specs.Neighbours.{AreNeighbours};
 ghost use Rattle.tso_ops.specs.Values.{TraceValue};
-ghost use Rattle.tso_ops.specs.declared.events.Event.{Event};
-ghost use Rattle.tso_ops.specs.Events.{event_at};
 ghost use Rattle.tso_ops.specs.Limits.{IsTrace};
 ghost use Rattle.tso_cert.specs.declared.rules.BaseRule.{BaseRule};
 ghost use Rattle.tso_cert.specs.declared.rules.InferredRule.{InferredRule};
@@ -14,10 +12,10 @@ ghost use Rattle.tso_model.specs.Axioms.{IsBefore, IsModelOrder};
 ghost use Rattle.tso_model.specs.Rules.{BasePair, InferredBy, IsOwnBy};
 ghost use Rattle.tso_model.specs.Certs.{StepsHold};
 ghost use Rattle.tso_text.specs.Printed.{trace_text};
-ghost use Rattle.trace_explanation.specs.declared.operations.EventOperation.{EventOperation};
+ghost use Rattle.tso_ops.specs.declared.operations.EventOperation.{EventOperation};
 ghost use Rattle.trace_explanation.specs.Lines.{ended_line, text_lines};
 ghost use Rattle.trace_explanation.specs.Names.{outcome_text};
-ghost use Rattle.trace_explanation.specs.Operations.{operation_at, IsOperationOf};
+ghost use Rattle.tso_ops.specs.Operations.{operation_at};
 ghost use Rattle.trace_explanation.specs.Claims.{BaseSays, InferredSays};
 ghost use Rattle.trace_explanation.specs.Steps.{own_load, step_number};
 
@@ -49,9 +47,4 @@ pub fn steps_rest_on_smaller_numbers()
 pub fn operations_stand_on_their_lines()
     ensures lines { (t : TraceValue) → trace_text t ≡ flat_map ended_line (text_lines t) }
     ensures operation { (t : TraceValue) (n : ℕ) (o : EventOperation) → operation_at t n ≡ Some o → (0 < o.line) × (slice_get (text_lines t) (o.line - 1) ≡ Some (outcome_text o.outcome)) }
-{}
-
-/// Each event has an operation, which stands at its place of the event's processor, and the event is that part of it.
-pub fn operations_give_their_events()
-    ensures { (t : TraceValue) (n : ℕ) (e : Event) → event_at t n ≡ Some e → (o : EventOperation) × (operation_at t n ≡ Some o) × IsOperationOf t e o }
 {}

@@ -3,9 +3,14 @@
 //! `explain` writes it by the trace and its certificate. `README.md` says what is proved.
 #![tactic(auto)]
 
+pub use cycles::model_name;
 pub use explanations::explain;
-pub use operations::{EventOperation, Operations, Part};
+pub use loads::step_load;
+pub use names::{address_of, outcome_text, part_text, source_of};
+pub use numbers::NumberedSteps;
+pub use prefixes::first_of;
 pub use refusals::explain_refusal;
+pub use unwritten::list_stores;
 
 mod cycles;
 mod explanations;
@@ -14,7 +19,6 @@ mod loads;
 mod marks;
 mod names;
 mod numbers;
-mod operations;
 mod prefixes;
 mod refusals;
 mod unwritten;

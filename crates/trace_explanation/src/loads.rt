@@ -8,7 +8,7 @@ use tso_cert::{BaseRule, CertStep, Reason};
 use tso_ops::Trace;
 
 /// The load of a step: that of an inferred rule, and the least one that the rule Own can take; None for another base rule.
-pub(crate) fn step_load(trace: &Trace, step: &CertStep) -> Option<usize>
+pub fn step_load(trace: &Trace, step: &CertStep) -> Option<usize>
     ensures { result ≡ step_load trace.now step.now }
 {
     match &step.reason {

@@ -2,15 +2,14 @@
 ghost use Rattle.std.specs.Prelude.{◌≡◌, ◌++◌, suc, Some, string_bytes, IfOk, OnOk};
 ghost use Rattle.tso_ops.specs.Events.{event_at};
 ghost use Rattle.tso_ops.specs.Values.{TraceValue};
-ghost use Rattle.trace_explanation.specs.Operations.{operation_at, operations_of};
+ghost use Rattle.tso_ops.specs.Operations.{operation_at, operations_of};
 ghost use Rattle.trace_explanation.specs.Names.{address_in, also_read, event_name, line_in, name_text, outcome_text, part_text, place_text, read_text, source_of, source_text};
 ghost use Rattle.trace_explanation.specs.Internal.Tables.{HasNames};
 
-use crate::operations::{EventOperation, Operations, Part};
 use std::alloc::{AllocError, Global};
 use std::fmt::Write;
 use std::marker::Model;
-use tso_ops::{Outcome, Trace};
+use tso_ops::{EventOperation, Operations, Outcome, Part, Trace};
 
 /// A trace with the operations of its events and their names.
 #[derive(Debug, Drop)]
@@ -23,7 +22,7 @@ pub(crate) struct NamedTrace<'t> {
 impl<'t> Model for NamedTrace<'t> {
     ghost use Rattle.std.specs.Prelude.{◌≡◌};
     ghost use Rattle.tso_ops.specs.Values.{TraceValue};
-    ghost use Rattle.trace_explanation.specs.Operations.{operations_of};
+    ghost use Rattle.tso_ops.specs.Operations.{operations_of};
     ghost use Rattle.trace_explanation.specs.Internal.Tables.{HasNames};
 
     ghost Value = { TraceValue };
@@ -38,7 +37,7 @@ impl<'t> NamedTrace<'t> {
     pub(crate) fn new(alloc: Global, trace: &'t Trace) -> Result<NamedTrace<'t>, AllocError>
         ensures { IfOk result (λ named. named ≡ trace.now) }
     {
-        let operations = Operations::new(alloc, trace)?;
+        let operations = trace.operations(alloc)?;
         let names = list_names(alloc, &operations)?;
         Ok(NamedTrace {
             trace,
@@ -140,14 +139,14 @@ impl<'t> NamedTrace<'t> {
 }
 
 /// The number of the source of load `l`: 0 for the first value of its address. None where `l` is no load or has no source.
-pub(crate) fn source_of(trace: &Trace, l: usize) -> Option<usize>
+pub fn source_of(trace: &Trace, l: usize) -> Option<usize>
     ensures { result ≡ source_of trace.now l }
 {
     trace.source_number(l)
 }
 
 /// The address of event `n`: 0 where there is no such event.
-fn address_of(trace: &Trace, n: usize) -> u16
+pub fn address_of(trace: &Trace, n: usize) -> u16
     ensures { result ≡ address_in (event_at trace.now n) }
 {
     match trace.event(n) {
@@ -190,7 +189,7 @@ fn event_name(
 
 /// The operation as in the trace's text. OutOfMemory where an allocation was refused.
 #[tactic(auto, unfolding(crate::specs::Names::outcome_text))]
-fn outcome_text(alloc: Global, outcome: Outcome) -> Result<String, AllocError>
+pub fn outcome_text(alloc: Global, outcome: Outcome) -> Result<String, AllocError>
     ensures { IfOk result (λ text. string_bytes text ≡ outcome_text outcome) }
 {
     match outcome {
@@ -203,7 +202,7 @@ fn outcome_text(alloc: Global, outcome: Outcome) -> Result<String, AllocError>
 }
 
 /// Which part of a swap an event is, after a space: nothing where it is the whole operation.
-fn part_text(part: Part) -> &'static str
+pub fn part_text(part: Part) -> &'static str
     ensures { result.now ≡ part_text part }
 {
     match part {

@@ -11,7 +11,7 @@ use tso_cert::CertStep;
 
 /// The steps of a certificate, and for each edge the least number of a step that has it.
 #[derive(Debug, Drop)]
-pub(crate) struct NumberedSteps<'s> {
+pub struct NumberedSteps<'s> {
     steps: &'s [CertStep],
     numbers: BTreeMap<(u64, u64), usize>,
 }
@@ -30,7 +30,7 @@ impl<'s> Model for NumberedSteps<'s> {
 
 impl<'s> NumberedSteps<'s> {
     /// These steps with their numbers, or OutOfMemory where an allocation was refused.
-    pub(crate) fn new(alloc: Global, steps: &'s [CertStep]) -> Result<NumberedSteps<'s>, AllocError>
+    pub fn new(alloc: Global, steps: &'s [CertStep]) -> Result<NumberedSteps<'s>, AllocError>
         ensures { IfOk result (λ numbered. numbered ≡ steps.now) }
     {
         let numbers = list_numbers(alloc, steps)?;
@@ -38,14 +38,14 @@ impl<'s> NumberedSteps<'s> {
     }
 
     /// The steps.
-    pub(crate) fn steps(&self) -> &'s [CertStep]
+    pub fn steps(&self) -> &'s [CertStep]
         ensures { result.now ≡ self.now }
     {
         self.steps
     }
 
     /// The least number of a step that is the edge from `u` to `v`: 0 where there is none.
-    pub(crate) fn number(&self, u: u64, v: u64) -> usize
+    pub fn number(&self, u: u64, v: u64) -> usize
         ensures { result ≡ step_number self.now u v }
     {
         match self.numbers.get(&(u, v)) {

@@ -2,7 +2,7 @@
 ghost use Rattle.std.specs.Prelude.{◌≡◌, take};
 
 /// The first items, as many as `limit` at most.
-pub(crate) fn first_of<T>(items: &[T], limit: usize) -> &[T]
+pub fn first_of<T>(items: &[T], limit: usize) -> &[T]
     ensures { result.now ≡ take limit items.now }
 {
     if items.len() > limit {

@@ -139,8 +139,8 @@ fn stores_to(trace: &Trace, a: u16, m: usize) -> bool
     }
 }
 
-/// The stores to the address, in the order of their numbers.
-fn list_stores(alloc: Global, trace: &Trace, a: u16) -> Result<Vec<usize>, AllocError>
+/// The stores to the address, in the order of their numbers. OutOfMemory where an allocation was refused.
+pub fn list_stores(alloc: Global, trace: &Trace, a: u16) -> Result<Vec<usize>, AllocError>
     ensures { IfOk result (λ stores. stores.items ≡ stores_up_to trace.now a (event_total trace.now)) }
 {
     let mut stores = Vec::new(alloc);

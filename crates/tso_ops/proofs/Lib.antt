@@ -5,6 +5,8 @@ pub mod EventFacts
 pub mod LimitFacts
 pub mod MaskFacts
 pub mod NumberFacts
+pub mod OperationFacts
+pub mod PlaceFacts
 pub mod ProcessorFacts
 pub mod ReadFacts
 pub mod RefusalFacts

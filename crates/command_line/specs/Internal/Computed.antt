@@ -2,8 +2,14 @@
 use Rattle.std.specs.Prelude.{List, [], ◌∷◌, Option, codes, find, option_map, unwrap_or, if◌then◌else◌}
 use Rattle.std.specs.Str.{bytes_eq}
 use Rattle.clap_arguments.specs.Parameters.{Parameter, Values, flag, listed, option, other, range}
-use Rattle.command_line.specs.Requests.{Text}
+use Rattle.clap.specs.Words.{fault_of, subcommand_of}
+use Rattle.command_line.specs.Commands.{IsAskedBy, tsobench_app}
+use Rattle.command_line.specs.Requests.{Text, Asked}
+use Rattle.command_line.specs.declared.options.OptionNames.{OptionNames}
+use Rattle.command_line.specs.Subcommands as s
 use Rattle.command_line.specs.Subcommands.{subcommands}
+use Rattle.command_line.specs.declared.subcommands.Subcommand.{Subcommand}
+use Rattle.command_line.specs.declared.subcommands.Subcommand.TheVariants.{Judge, Explain, Draw, Batch, Check, Replay, Run, Make, Campaign}
 use Rattle.command_line.specs.declared.parameters.NameList.{NameList}
 use Rattle.command_line.specs.declared.parameters.Parameter.{Parameter as Declared}
 use Rattle.command_line.specs.declared.parameters.Parameter.TheVariants as declared
@@ -21,6 +27,19 @@ parameter_of (declared.Option id value_name accepts default help) = option id.no
 parameter_of (declared.Flag id help) = flag id.now
 parameter_of (declared.Other id value_name required help) = other id.now required
 
+-- ---- subcommands as code has them
+
+abbrev pub member_of : Subcommand → s.Subcommand
+member_of Judge = s.judge
+member_of Explain = s.explain
+member_of Draw = s.draw
+member_of Batch = s.batch
+member_of Check = s.check
+member_of Replay = s.replay
+member_of Run = s.run
+member_of Make = s.make
+member_of Campaign = s.campaign
+
 -- ---- the arguments that are parsed
 
 -- the option that asks for the help of the subcommand of this name
@@ -34,3 +53,7 @@ parsed_as (first ∷ []) = if bytes_eq first (codes "help") then codes "--help" 
 parsed_as (first ∷ wanted ∷ []) =
     if bytes_eq first (codes "help") then unwrap_or (help_option_of wanted) (first ∷ wanted ∷ []) else first ∷ wanted ∷ []
 parsed_as (first ∷ second ∷ third ∷ rest) = first ∷ second ∷ third ∷ rest
+
+-- what a parse of the arguments says of what is asked for
+abbrev pub IsFound : OptionNames → List Text → Asked → Type 0
+IsFound names arguments asked = IsAskedBy (fault_of (tsobench_app names) (parsed_as arguments)) (subcommand_of (tsobench_app names) (parsed_as arguments)) asked

@@ -10,7 +10,7 @@ use crate::found::{is_used, workers};
 use crate::help;
 use crate::options::OptionNames;
 use crate::parameters::{Description, Parameter, subcommand_of};
-use crate::requests::Request;
+use crate::requests::{BatchRequest, Request};
 use crate::subcommands::shared;
 use clap::{ArgMatches, Command};
 use std::alloc::{AllocError, Global};
@@ -21,13 +21,13 @@ pub(crate) static HELP_OPTION: [&str; 2] = ["batch", "--help"];
 /// The text of its help after the list of its parameters.
 const HELP: &str = "\
 It reads texts of traces that stand one after the other: each ends with its line
-`end`. For each it prints a line, as soon as it and all before are judged:
-trace 1 NO VIOLATION FOUND, trace 2 VIOLATION or trace 3 REFUSED BadLine line 3,
-with the name and the line that `tsobench judge` gives for the text alone; and
-at last a line as traces 3 violations 1 refused 1. With --quiet the traces
-without a violation get no line. A text of more than 1,048,576 bytes is refused
-as TooLong, and the next one is judged. The lines are the same for each number
-of workers.
+`end`. Those that came together are judged side by side, and before it reads on
+it prints a line for each, in order: trace 1 NO VIOLATION FOUND,
+trace 2 VIOLATION or trace 3 REFUSED BadLine line 3, with the name and the line
+that `tsobench judge` gives for the text alone; and at last a line as
+traces 3 violations 1 refused 1. With --quiet the traces without a violation get
+no line. A text of more than 1,048,576 bytes is refused as TooLong, and the next
+one is judged. The lines are the same for each number of workers.
 
 Exit status:
   0  no violation was found, which proves nothing about the traces
@@ -68,9 +68,9 @@ pub(crate) fn command<'a>(alloc: Global, names: OptionNames<'a>) -> Result<Comma
 pub(crate) fn request<'a>(matches: &ArgMatches<'a>) -> Request<'a>
     ensures { asked_of result ≡ asked_in batch (rows_of (found_of matches.now)) }
 {
-    Request::Batch {
+    Request::Batch(BatchRequest {
         file: matches.get_str("file"),
         workers: workers(matches),
         quiet: is_used(matches, "quiet"),
-    }
+    })
 }

@@ -1,18 +1,14 @@
 //! `explain [--workers N] [FILE]`: explains the verdict on a trace.
 ghost use Rattle.std.specs.Prelude.{◌≡◌, false, IfOk};
-ghost use Rattle.clap.specs.Words.{app_of, found_of, rows_of};
+ghost use Rattle.clap.specs.Words.{app_of};
 ghost use Rattle.clap.specs.declared.builder.command.Command.TheViews.{out-Command as fields_of};
-ghost use Rattle.command_line.specs.Commands.{asked_in, subcommand_app};
-ghost use Rattle.command_line.specs.Requests.{asked_of};
+ghost use Rattle.command_line.specs.Commands.{subcommand_app};
 ghost use Rattle.command_line.specs.Subcommands.{explain};
 
-use crate::found::workers;
-use crate::help;
 use crate::options::OptionNames;
-use crate::parameters::{Description, Parameter, subcommand_of};
-use crate::requests::Request;
+use crate::parameters::Description;
 use crate::subcommands::shared;
-use clap::{ArgMatches, Command};
+use clap::Command;
 use std::alloc::{AllocError, Global};
 
 /// What asks for its help.
@@ -47,24 +43,5 @@ pub(crate) fn command<'a>(alloc: Global, names: OptionNames<'a>) -> Result<Comma
         about: "Explains in words why a trace is a violation",
         help: HELP,
     };
-    let parameters = [
-        shared::workers(help::WORKERS),
-        Parameter::Other {
-            name: "file",
-            value_name: "FILE",
-            required: false,
-            help: "The text of a trace; standard input where none is named",
-        },
-    ];
-    subcommand_of(alloc, names, description, parameters.as_slice())
-}
-
-/// What its matches ask for.
-pub(crate) fn request<'a>(matches: &ArgMatches<'a>) -> Request<'a>
-    ensures { asked_of result ≡ asked_in explain (rows_of (found_of matches.now)) }
-{
-    Request::Explain {
-        file: matches.get_str("file"),
-        workers: workers(matches),
-    }
+    shared::judge_command(alloc, names, description)
 }

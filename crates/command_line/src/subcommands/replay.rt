@@ -1,4 +1,4 @@
-//! `replay --unit UNIT [--capacity C] [--trigger T] [--workers N] [--trace] PROGRAM SCHEDULE`: replays a program by a schedule.
+//! `replay --unit UNIT [--capacity C] [--trigger T] [--workers N] [--trace|--explain] PROGRAM SCHEDULE`: replays a program by a schedule.
 ghost use Rattle.std.specs.Prelude.{◌≡◌, false, IfOk};
 ghost use Rattle.clap.specs.Words.{app_of, found_of, rows_of};
 ghost use Rattle.clap.specs.declared.builder.command.Command.TheViews.{out-Command as fields_of};
@@ -6,7 +6,7 @@ ghost use Rattle.command_line.specs.Commands.{asked_in, subcommand_app};
 ghost use Rattle.command_line.specs.Requests.{asked_of};
 ghost use Rattle.command_line.specs.Subcommands.{replay};
 
-use crate::found::run_options;
+use crate::found::{printing, run_options};
 use crate::help;
 use crate::options::OptionNames;
 use crate::parameters::{Description, subcommand_of};
@@ -25,8 +25,9 @@ the memory unit: each line of the schedule says which processor issues its next
 operation, or drains a waiting store. The trace of what the unit answered is
 recorded and judged. It prints the report of `tsobench judge`, and then a line
 `account loads .. stores .. swaps .. membars .. drains .. closed` with the
-numbers of the unit's steps; with --trace it prints the recorded trace alone. A
-text that is no program or no schedule gets one line that says why.
+numbers of the unit's steps. With --trace it prints the recorded trace alone,
+and with --explain what `tsobench explain` prints of it; one of the two may be
+used. A text that is no program or no schedule gets one line that says why.
 
 --capacity and --trigger are ignored by units that have no use for them. The
 unit `partial` keeps PSO: on it a program without the line `model pso` may give
@@ -57,19 +58,26 @@ pub(crate) fn command<'a>(alloc: Global, names: OptionNames<'a>) -> Result<Comma
         shared::trigger(),
         shared::workers(help::WORKERS),
         shared::trace(),
+        shared::explain(),
         shared::file("program", "PROGRAM", "The text of a program"),
         shared::file("schedule", "SCHEDULE", "The text of a schedule"),
     ];
     subcommand_of(alloc, names, description, parameters.as_slice())
 }
 
-/// What its matches ask for. The command has refused arguments without both files.
-pub(crate) fn request<'a>(matches: &ArgMatches<'a>) -> Request<'a>
-    ensures { asked_of result ≡ asked_in replay (rows_of (found_of matches.now)) }
+/// What its matches ask for: a refusal of both flags, with its text. The command has refused arguments without both files.
+pub(crate) fn request<'a>(
+    alloc: Global,
+    matches: &ArgMatches<'a>,
+) -> Result<Request<'a>, AllocError>
+    ensures { IfOk result (λ request. asked_of request ≡ asked_in replay (rows_of (found_of matches.now))) }
 {
-    Request::Replay {
-        options: run_options(matches),
-        program: matches.get_str("program").unwrap_or(""),
-        schedule: matches.get_str("schedule").unwrap_or(""),
+    match printing(matches) {
+        Some(printing) => Ok(Request::Replay {
+            options: run_options(matches, printing),
+            program: matches.get_str("program").unwrap_or(""),
+            schedule: matches.get_str("schedule").unwrap_or(""),
+        }),
+        None => shared::refuse_both(alloc),
     }
 }

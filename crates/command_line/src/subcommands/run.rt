@@ -1,4 +1,4 @@
-//! `run --unit UNIT [--capacity C] [--trigger T] [--workers N] [--trace] --seed N [--drain-turns T] PROGRAM`: runs a program with a
+//! `run --unit UNIT [--capacity C] [--trigger T] [--workers N] [--trace|--explain] --seed N [--drain-turns T] PROGRAM`: runs a program with a
 //! thread per processor.
 ghost use Rattle.std.specs.Prelude.{◌≡◌, false, IfOk};
 ghost use Rattle.clap.specs.Words.{app_of, found_of, rows_of};
@@ -8,7 +8,7 @@ ghost use Rattle.command_line.specs.Requests.{asked_of};
 ghost use Rattle.command_line.specs.Internal.Computed.{parameter_of};
 ghost use Rattle.command_line.specs.Subcommands.{drain_turns, run};
 
-use crate::found::{drain_turns_of, required_number, run_options};
+use crate::found::{drain_turns_of, printing, required_number, run_options};
 use crate::help;
 use crate::options::{MAX_DRAIN_TURNS, OptionNames};
 use crate::parameters::{Accepted, Description, Parameter, subcommand_of};
@@ -31,8 +31,9 @@ takes T turns, and on turn t, from 0, it drains a store of processor t modulo
 the number of processors, where one waits. The trace of what the unit answered
 is recorded and judged. It prints the report of `tsobench judge`, and then a
 line `account loads .. stores .. swaps .. membars .. drains .. closed` with the
-numbers of the unit's steps; with --trace it prints the recorded trace alone. A
-text that is no program gets one line that says why.
+numbers of the unit's steps. With --trace it prints the recorded trace alone,
+and with --explain what `tsobench explain` prints of it; one of the two may be
+used. A text that is no program gets one line that says why.
 
 The system, and not the seed, says in which order the threads come to the unit:
 two runs of the same arguments may record different traces. To run a program in
@@ -68,6 +69,7 @@ pub(crate) fn command<'a>(alloc: Global, names: OptionNames<'a>) -> Result<Comma
         shared::trigger(),
         shared::workers(help::WORKERS),
         shared::trace(),
+        shared::explain(),
         shared::required(
             "seed",
             "N",
@@ -79,17 +81,22 @@ pub(crate) fn command<'a>(alloc: Global, names: OptionNames<'a>) -> Result<Comma
     subcommand_of(alloc, names, description, parameters.as_slice())
 }
 
-/// What its matches ask for. The command has refused arguments without a seed or a file.
-pub(crate) fn request<'a>(matches: &ArgMatches<'a>) -> Request<'a>
-    ensures { asked_of result ≡ asked_in run (rows_of (found_of matches.now)) }
+/// What its matches ask for: a refusal of both flags, with its text. The command has refused arguments without a seed or a file.
+pub(crate) fn request<'a>(
+    alloc: Global,
+    matches: &ArgMatches<'a>,
+) -> Result<Request<'a>, AllocError>
+    ensures { IfOk result (λ request. asked_of request ≡ asked_in run (rows_of (found_of matches.now))) }
 {
-    let program = matches.get_str("program").unwrap_or("");
-    Request::Run(RunRequest {
-        options: run_options(matches),
-        drain_seed: required_number(matches, "seed"),
-        drain_turns: drain_turns_of(matches),
-        program,
-    })
+    match printing(matches) {
+        Some(printing) => Ok(Request::Run(RunRequest {
+            options: run_options(matches, printing),
+            drain_seed: required_number(matches, "seed"),
+            drain_turns: drain_turns_of(matches),
+            program: matches.get_str("program").unwrap_or(""),
+        })),
+        None => shared::refuse_both(alloc),
+    }
 }
 
 /// `--drain-turns T`; its help tells the limit of turns.

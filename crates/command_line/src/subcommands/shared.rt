@@ -1,11 +1,59 @@
-//! Parameters of several subcommands.
-ghost use Rattle.std.specs.Prelude.{◌≡◌, codes};
+//! What several subcommands have.
+ghost use Rattle.std.specs.Prelude.{◌≡◌, false, codes, IfOk, map};
+ghost use Rattle.clap.specs.Words.{app_of, found_of, rows_of};
+ghost use Rattle.clap.specs.declared.builder.command.Command.TheViews.{out-Command as fields_of};
+ghost use Rattle.clap_arguments.specs.Offered.{text_in};
+ghost use Rattle.clap_arguments.specs.Parameters.{flag, offered_app};
+ghost use Rattle.command_line.specs.Commands.{memory_of};
 ghost use Rattle.command_line.specs.Internal.Computed.{parameter_of};
-ghost use Rattle.command_line.specs.Subcommands.{capacity, file, model, required, trace, trigger, unit, workers};
+ghost use Rattle.command_line.specs.Requests.{asked_of, refusing};
+ghost use Rattle.command_line.specs.Subcommands.{ask_judge, capacity, file, judge_parameters, model, required, trigger, unit, workers};
 
-use crate::help;
-use crate::options::{MAX_CAPACITY, MAX_WORKERS};
-use crate::parameters::{Accepted, NameList, Parameter};
+use crate::options::{MAX_CAPACITY, MAX_WORKERS, OptionNames, Presentation};
+use crate::parameters::{Accepted, Description, NameList, Parameter, subcommand_of};
+use crate::requests::{JudgeRequest, Request};
+use crate::{found, help};
+use clap::{ArgMatches, Command};
+use std::alloc::{AllocError, Global};
+
+/// A subcommand that judges one trace.
+pub(crate) fn judge_command<'a>(
+    alloc: Global,
+    names: OptionNames<'a>,
+    description: Description,
+) -> Result<Command<'a>, AllocError>
+    ensures app { IfOk result (λ command. app_of command ≡ offered_app (memory_of names.entry) description.name.now judge_parameters) }
+    ensures local { IfOk result (λ command. (fields_of command).has_globals ≡ false) }
+{
+    let parameters = [
+        workers(help::WORKERS),
+        Parameter::Other {
+            name: "file",
+            value_name: "FILE",
+            required: false,
+            help: "The text of a trace; standard input where none is named",
+        },
+    ];
+    subcommand_of(alloc, names, description, parameters.as_slice())
+}
+
+/// What the matches of such a subcommand ask for.
+pub(crate) fn judge_request<'a>(matches: &ArgMatches<'a>, presentation: Presentation) -> Request<'a>
+    ensures { asked_of result ≡ ask_judge presentation (map (text_in (rows_of (found_of matches.now))) judge_parameters) }
+{
+    Request::Judge(JudgeRequest {
+        file: matches.get_str("file"),
+        workers: found::workers(matches),
+        presentation,
+    })
+}
+
+/// The refusal of `--trace` beside `--explain`.
+pub(crate) fn refuse_both<'a>(alloc: Global) -> Result<Request<'a>, AllocError>
+    ensures { IfOk result (λ request. asked_of request ≡ refusing) }
+{
+    Ok(Request::Refuse(String::from_str(alloc, help::BOTH)?))
+}
 
 /// `--workers N`, with this help.
 pub(crate) fn workers(help: &'static str) -> Parameter
@@ -61,11 +109,21 @@ pub(crate) fn trigger() -> Parameter
 
 /// `--trace`.
 pub(crate) fn trace() -> Parameter
-    ensures { parameter_of result ≡ trace }
+    ensures { parameter_of result ≡ flag (codes "trace") }
 {
     Parameter::Flag {
         name: "trace",
         help: help::TRACE,
+    }
+}
+
+/// `--explain`.
+pub(crate) fn explain() -> Parameter
+    ensures { parameter_of result ≡ flag (codes "explain") }
+{
+    Parameter::Flag {
+        name: "explain",
+        help: help::EXPLAIN,
     }
 }
 

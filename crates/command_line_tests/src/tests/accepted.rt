@@ -4,34 +4,45 @@ use super::{asked, expect_each};
 use std::test::Fail;
 
 /// Arguments, and what they ask for.
-const ACCEPTED: [(&[&str], &str); 21] = [
-    (&[], "judge standard input with 1"),
-    (&["judge"], "judge standard input with 1"),
-    (&["judge", "a.trace"], "judge \"a.trace\" with 1"),
-    (&["judge", "-"], "judge \"-\" with 1"),
+const ACCEPTED: [(&[&str], &str); 23] = [
+    (&[], "Report of None with 1"),
+    (&["judge"], "Report of None with 1"),
+    (&["judge", "a.trace"], "Report of Some(\"a.trace\") with 1"),
+    (&["judge", "-"], "Report of Some(\"-\") with 1"),
+    (&["judge", "--workers", "64"], "Report of None with 64"),
     (
-        &["judge", "--workers", "64"],
-        "judge standard input with 64",
+        &["judge", "--workers", "7", "a b"],
+        "Report of Some(\"a b\") with 7",
     ),
-    (&["judge", "--workers", "7", "a b"], "judge \"a b\" with 7"),
-    (&["judge", "a b", "--workers", "7"], "judge \"a b\" with 7"),
-    (&["judge", "--workers=2", "--", "-x"], "judge \"-x\" with 2"),
-    (&["judge", "--workers=64", "x"], "judge \"x\" with 64"),
     (
-        &["judge", "--workers", "+007"],
-        "judge standard input with 7",
+        &["judge", "a b", "--workers", "7"],
+        "Report of Some(\"a b\") with 7",
     ),
-    (&["judge", "check"], "judge \"check\" with 1"),
+    (
+        &["judge", "--workers=2", "--", "-x"],
+        "Report of Some(\"-x\") with 2",
+    ),
+    (
+        &["judge", "--workers=64", "x"],
+        "Report of Some(\"x\") with 64",
+    ),
+    (&["judge", "--workers", "+007"], "Report of None with 7"),
+    (&["judge", "check"], "Report of Some(\"check\") with 1"),
     (&["check", "t", "c"], "check \"t\" against \"c\""),
-    (&["explain"], "explain None with 1"),
-    (&["explain", "t"], "explain Some(\"t\") with 1"),
+    (&["explain"], "Explanation of None with 1"),
+    (&["explain", "t"], "Explanation of Some(\"t\") with 1"),
     (
         &["explain", "t", "--workers=64"],
-        "explain Some(\"t\") with 64",
+        "Explanation of Some(\"t\") with 64",
     ),
     (
         &["explain", "--workers", "2", "--", "-x"],
-        "explain Some(\"-x\") with 2",
+        "Explanation of Some(\"-x\") with 2",
+    ),
+    (&["draw"], "Picture of None with 1"),
+    (
+        &["draw", "--workers", "3", "t"],
+        "Picture of Some(\"t\") with 3",
     ),
     (&["batch"], "batch None with 1 quiet false"),
     (&["batch", "--quiet"], "batch None with 1 quiet true"),
@@ -52,7 +63,7 @@ fn accepted_arguments(rt: HostRuntime) -> Result<(), Fail> {
 }
 
 /// Arguments of `replay`, and what they ask for.
-const REPLAYS: [(&[&str], &str); 16] = [
+const REPLAYS: [(&[&str], &str); 17] = [
     (
         &["replay", "--unit", "serial", "p", "s"],
         "replay \"p\" by \"s\" on Serial 8 1 with 1 printing Report",
@@ -113,6 +124,10 @@ const REPLAYS: [(&[&str], &str); 16] = [
         "replay \"-\" by \"a b\" on Serial 8 1 with 1 printing Trace",
     ),
     (
+        &["replay", "--unit", "serial", "p", "--explain", "s"],
+        "replay \"p\" by \"s\" on Serial 8 1 with 1 printing Explanation",
+    ),
+    (
         &["replay", "--unit", "serial", "p", "s", "--trace"],
         "replay \"p\" by \"s\" on Serial 8 1 with 1 printing Trace",
     ),
@@ -143,7 +158,7 @@ fn accepted_replays(rt: HostRuntime) -> Result<(), Fail> {
 }
 
 /// Arguments of `run`, and what they ask for.
-const RUNS: [(&[&str], &str); 22] = [
+const RUNS: [(&[&str], &str); 23] = [
     (
         &["run", "--unit", "serial", "--seed", "1", "p"],
         "run \"p\" seeded 1 and 0 turns on Serial 8 1 with 1 printing Report",
@@ -189,6 +204,10 @@ const RUNS: [(&[&str], &str); 22] = [
     (
         &["run", "--trace", "--unit", "serial", "--seed=7", "-"],
         "run \"-\" seeded 7 and 0 turns on Serial 8 1 with 1 printing Trace",
+    ),
+    (
+        &["run", "--explain", "--unit", "serial", "--seed=7", "p"],
+        "run \"p\" seeded 7 and 0 turns on Serial 8 1 with 1 printing Explanation",
     ),
     (
         &["run", "--unit", "serial", "a b", "--trace", "--seed=7"],

@@ -39,6 +39,18 @@ fn help_on_traces(rt: HostRuntime) -> Result<(), Fail> {
     expect_each(&rt, rt.alloc(), "show ", &OF_TRACES)
 }
 
+/// Those that ask for the help of `draw`.
+const OF_PICTURES: [(&[&str], &str); 3] = [
+    (&["draw", "--help"], DRAW_HELP),
+    (&["draw", "-h"], DRAW_HELP),
+    (&["help", "draw"], DRAW_HELP),
+];
+
+#[test]
+fn help_on_pictures(rt: HostRuntime) -> Result<(), Fail> {
+    expect_each(&rt, rt.alloc(), "show ", &OF_PICTURES)
+}
+
 /// Those that ask for the help of a subcommand that is about programs.
 const OF_PROGRAMS: [(&[&str], &str); 14] = [
     (&["replay", "--help"], REPLAY_HELP),
@@ -70,6 +82,7 @@ Usage: tsobench [COMMAND]
 Commands:
   judge     Judges a trace and prints its report
   explain   Explains in words why a trace is a violation
+  draw      Draws a trace and why it is a violation, for Graphviz
   batch     Judges many traces, with a line for each
   check     Checks a certificate of a violation against its trace
   replay    Replays a program by a schedule, and judges the trace
@@ -167,6 +180,38 @@ Example:
   tsobench explain TRACE
 ";
 
+const DRAW_HELP: &str = "\
+Draws a trace and why it is a violation, for Graphviz
+
+Usage: tsobench draw [OPTIONS] [FILE]
+
+Arguments:
+  [FILE]  The text of a trace; standard input where none is named
+
+Options:
+      --workers <N>  How many workers judge, 1 to 64 [default: 1]
+  -h, --help         Print help
+
+It reads the text of a trace, as `tsobench judge` does, and prints a picture of
+it as a text for Graphviz, whose `dot -Tsvg` makes an SVG file of it. Each
+processor has a column, in program order from above. A blue edge leads from a
+store to a load that read it; a load in a blue box read the first value. Of a
+violation the cycle is red, and other derived edges are dashed; the number at an
+edge is its step in the explanation of `tsobench explain`. Of more than 100
+events only those of the violation are drawn. A text that is no trace gets one
+line, as REFUSED BadLine line 3. The text is the same for each number of
+workers.
+
+Exit status:
+  0  no violation was found, which proves nothing about the trace
+  2  the text is no trace, or the command line was refused
+  3  the trace violates its memory model
+  4  a fault, which one line on standard error names, as FAULT Read
+
+Example:
+  tsobench draw TRACE | dot -Tsvg >TRACE.svg
+";
+
 const BATCH_HELP: &str = "\
 Judges many traces, with a line for each
 
@@ -181,13 +226,13 @@ Options:
   -h, --help         Print help
 
 It reads texts of traces that stand one after the other: each ends with its line
-`end`. For each it prints a line, as soon as it and all before are judged:
-trace 1 NO VIOLATION FOUND, trace 2 VIOLATION or trace 3 REFUSED BadLine line 3,
-with the name and the line that `tsobench judge` gives for the text alone; and
-at last a line as traces 3 violations 1 refused 1. With --quiet the traces
-without a violation get no line. A text of more than 1,048,576 bytes is refused
-as TooLong, and the next one is judged. The lines are the same for each number
-of workers.
+`end`. Those that came together are judged side by side, and before it reads on
+it prints a line for each, in order: trace 1 NO VIOLATION FOUND,
+trace 2 VIOLATION or trace 3 REFUSED BadLine line 3, with the name and the line
+that `tsobench judge` gives for the text alone; and at last a line as
+traces 3 violations 1 refused 1. With --quiet the traces without a violation get
+no line. A text of more than 1,048,576 bytes is refused as TooLong, and the next
+one is judged. The lines are the same for each number of workers.
 
 Exit status:
   0  no violation was found, which proves nothing about the traces
@@ -243,6 +288,7 @@ Options:
       --trigger <T>   From which occasion on a faulty unit deviates, from 1 [default: 1]
       --workers <N>   How many workers judge, 1 to 64 [default: 1]
       --trace         Prints the recorded trace alone
+      --explain       Prints the explanation of the verdict alone
   -h, --help          Print help
 
 It reads the text of a program and that of a schedule, and runs the program on
@@ -250,8 +296,9 @@ the memory unit: each line of the schedule says which processor issues its next
 operation, or drains a waiting store. The trace of what the unit answered is
 recorded and judged. It prints the report of `tsobench judge`, and then a line
 `account loads .. stores .. swaps .. membars .. drains .. closed` with the
-numbers of the unit's steps; with --trace it prints the recorded trace alone. A
-text that is no program or no schedule gets one line that says why.
+numbers of the unit's steps. With --trace it prints the recorded trace alone,
+and with --explain what `tsobench explain` prints of it; one of the two may be
+used. A text that is no program or no schedule gets one line that says why.
 
 --capacity and --trigger are ignored by units that have no use for them. The
 unit `partial` keeps PSO: on it a program without the line `model pso` may give
@@ -281,6 +328,7 @@ Options:
       --trigger <T>      From which occasion on a faulty unit deviates, from 1 [default: 1]
       --workers <N>      How many workers judge, 1 to 64 [default: 1]
       --trace            Prints the recorded trace alone
+      --explain          Prints the explanation of the verdict alone
       --seed <N>         The seed of the drains, 0 to 18446744073709551615
       --drain-turns <T>  How many turns a drainer takes beside the processors, 0 to 1000000 [default: 0]
   -h, --help             Print help
@@ -294,8 +342,9 @@ takes T turns, and on turn t, from 0, it drains a store of processor t modulo
 the number of processors, where one waits. The trace of what the unit answered
 is recorded and judged. It prints the report of `tsobench judge`, and then a
 line `account loads .. stores .. swaps .. membars .. drains .. closed` with the
-numbers of the unit's steps; with --trace it prints the recorded trace alone. A
-text that is no program gets one line that says why.
+numbers of the unit's steps. With --trace it prints the recorded trace alone,
+and with --explain what `tsobench explain` prints of it; one of the two may be
+used. A text that is no program gets one line that says why.
 
 The system, and not the seed, says in which order the threads come to the unit:
 two runs of the same arguments may record different traces. To run a program in

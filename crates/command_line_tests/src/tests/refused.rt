@@ -38,8 +38,12 @@ fn refused_arguments(rt: HostRuntime) -> Result<(), Fail> {
     expect_each(&rt, rt.alloc(), "refuse ", &REFUSED)
 }
 
+/// The refusal of two things to print.
+const BOTH: &str =
+    "error: the argument '--trace' cannot be used with '--explain'\n\nFor more information, try '--help'.\n";
+
 /// Arguments of `replay`, and the text of their refusal.
-const REPLAYS: [(&[&str], &str); 12] = [
+const REPLAYS: [(&[&str], &str); 13] = [
     (
         &["replay"],
         "error: the following required arguments were not provided:\n  --unit <UNIT>\n  <PROGRAM>\n  <SCHEDULE>\n\nUsage: tsobench replay --unit <UNIT> <PROGRAM> <SCHEDULE>\n\nFor more information, try '--help'.\n",
@@ -81,6 +85,18 @@ const REPLAYS: [(&[&str], &str); 12] = [
         "error: invalid value '65' for '--workers <N>': 65 is not in 1..=64\n\nFor more information, try '--help'.\n",
     ),
     (
+        &[
+            "replay",
+            "--trace",
+            "--unit",
+            "serial",
+            "p",
+            "--explain",
+            "s",
+        ],
+        BOTH,
+    ),
+    (
         &["replay", "--unit", "serial", "--trace=yes", "p", "s"],
         "error: unexpected value 'yes' for '--trace' found; no more were expected\n\nUsage: tsobench replay --unit <UNIT> --trace <PROGRAM> <SCHEDULE>\n\nFor more information, try '--help'.\n",
     ),
@@ -96,7 +112,19 @@ fn refused_replays(rt: HostRuntime) -> Result<(), Fail> {
 }
 
 /// Arguments of `run`, and the text of their refusal.
-const RUNS: [(&[&str], &str); 18] = [
+const RUNS: [(&[&str], &str); 19] = [
+    (
+        &[
+            "run",
+            "--unit",
+            "serial",
+            "--explain",
+            "--trace",
+            "--seed=7",
+            "p",
+        ],
+        BOTH,
+    ),
     (
         &["run"],
         "error: the following required arguments were not provided:\n  --unit <UNIT>\n  --seed <N>\n  <PROGRAM>\n\nUsage: tsobench run --unit <UNIT> --seed <N> <PROGRAM>\n\nFor more information, try '--help'.\n",

@@ -3,7 +3,9 @@
 ghost use Rattle.command_line.specs.Requests.{HasDrainTurns, HasUnitRanges, HasWorkers, asked_of};
 
 use super::{Ended, FailingReader, FailingWriter, expect};
-use command_line::{Printing, Request, RunOptions, UnitKind, UnitOptions};
+use command_line::{
+    JudgeRequest, Presentation, Printing, Request, RunOptions, UnitKind, UnitOptions,
+};
 use request_serving::{NamedFiles, end_by, serve};
 use std::alloc::{AllocError, Global};
 use std::io;
@@ -171,21 +173,21 @@ fn outcome(
 
 #[test]
 fn judging(rt: HostRuntime) -> Result<(), Fail> {
-    let named = Request::Judge {
-        file: Some("trace"),
-        workers: 2,
-    };
+    let named = judge(Some("trace"), 2);
     compare(&rt, &named, outcome(&["trace"], 3, JUDGED, ""))?;
-    let missing = Request::Judge {
-        file: Some("other"),
-        workers: 1,
-    };
+    let missing = judge(Some("other"), 1);
     compare(&rt, &missing, outcome(&["other"], 4, "", READ))?;
-    let input = Request::Judge {
-        file: None,
-        workers: 64,
-    };
+    let input = judge(None, 64);
     compare(&rt, &input, outcome(&[], 4, "", READ))
+}
+
+/// A request for the report of a trace.
+fn judge(file: Option<&str>, workers: usize) -> Request<'_> {
+    Request::Judge(JudgeRequest {
+        file,
+        workers,
+        presentation: Presentation::Report,
+    })
 }
 
 #[test]

@@ -1,33 +1,17 @@
-use Rattle.clap.specs.Words.{subcommand_rows_of}
-use Rattle.command_line.specs.Subcommands.{batch, campaign, check, explain, judge, make, replay, run}
-use Rattle.command_line.proofs.AskLemmas.{is_not, none_asked}
+use Rattle.std.proofs.Common.{◌∙◌, None, Some}
+use Rattle.std.proofs.lemmas.Result.{IfOk-weaker}
+use Rattle.command_line.proofs.RequestLemmas.{named_asked, none_asked}
 use Rattle.command_line.proofs.subcommands.request.Goals as goal
+use Rattle.command_line.proofs.subcommands.request.Goals.{in-Some+in_default-subcommand_named, in_default}
+
+pub returns-in-Some-subcommand_named-clause-asked : goal.returns-in-Some-subcommand_named-clause-asked
+returns-in-Some-subcommand_named-clause-asked c =
+    let s = c.in-Some-subcommand_named in
+    IfOk-weaker c.request.result _ _ (λ request is. is ∙ named_asked c.args.matches.now _ _ (Some s.subcommand) c.in-Some.ensures.name c.in-Some.ensures.rows s.ensures) c.request.ensures.asked
 
 pub returns-clause-asked : goal.returns-clause-asked
 returns-clause-asked c =
-    let m = c.args.matches.now in
-    none_asked (subcommand_rows_of m) (
-      is_not _ m judge c.subcommand_matches.ensures.found c.in_default.is,
-      (
-        is_not _ m explain c.subcommand_matches-2.ensures.found c.in_default-subcommand_matches.is,
-        (
-          is_not _ m batch c.subcommand_matches-3.ensures.found c.in_default-subcommand_matches-2.is,
-          (
-            is_not _ m check c.subcommand_matches-4.ensures.found c.in_default-subcommand_matches-3.is,
-            (
-              is_not _ m replay c.subcommand_matches-5.ensures.found c.in_default-subcommand_matches-4.is,
-              (
-                is_not _ m run c.subcommand_matches-6.ensures.found c.in_default-subcommand_matches-5.is,
-                (
-                  is_not _ m make c.subcommand_matches-7.ensures.found c.in_default-subcommand_matches-6.is,
-                  (
-                    is_not _ m campaign c.subcommand_matches-8.ensures.found c.in_default-subcommand_matches-7.is,
-                    tt,
-                  ),
-                ),
-              ),
-            ),
-          ),
-        ),
-      ),
-    )
+    elim c.match-subcommand.branch [
+      | in-Some+in_default-subcommand_named w ↦ named_asked c.args.matches.now _ _ None w.in-Some.ensures.name w.in-Some.ensures.rows w.in_default-subcommand_named.ensures
+      | in_default w ↦ none_asked c.args.matches.now w.in_default.ensures.name
+    ]

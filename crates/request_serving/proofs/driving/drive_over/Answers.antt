@@ -1,9 +1,8 @@
 use Rattle.std.proofs.Common.{◌∙◌, ap, inl, inr, rules, subst, sym, arith}
 use Rattle.command_line.specs.Requests.{asked_of}
-use Rattle.request_serving.specs.Endings.{Does, EndsOutOfMemory, Outputs, outputs, text_in}
+use Rattle.request_serving.specs.Endings.{Does, EndsOutOfMemory, Outputs, outputs}
 use Rattle.request_serving.specs.LawfulRequests.{RunsLawfully, runs_on_lawful_unit}
 use Rattle.request_serving.specs.OpenedFiles.{OpensFirst, TakesInput, files_named, reads_input}
-use Rattle.request_serving.proofs.EndFacts.{does_asked}
 use Rattle.request_serving.proofs.driving.drive_over.Goals as goal
 
 pub returns-in-Ok-clause-ends : goal.returns-in-Ok-clause-ends
@@ -11,7 +10,7 @@ returns-in-Ok-clause-ends g c =
     let o : Outputs = outputs (g.W.Write.contents c.args.writer.now) (g.W.Write.contents c.serve.new.writer) (g.E.Write.contents c.args.errors.now) (g.E.Write.contents c.serve.new.errors) in
     let input = g.R.Read.remaining c.args.reader.now in
     let files = g.O.NamedFiles.bytes c.args.files.now in
-    let done = does_asked (text_in c.in-Ok.request) (asked_of c.in-Ok.request) _ _ o _ c.serve.ensures.ends in
+    let done = c.serve.ensures.ends in
     record {
       asked = λ asked asks. subst (λ a. Does a input files o c.serve.result) (c.in-Ok.ensures.asked asked asks) (inl done);
       helped = λ asks. subst (λ a. Does a input files o c.serve.result) (c.in-Ok.ensures.helped asks) (inl done);

@@ -1,7 +1,7 @@
 use Rattle.std.proofs.Common.{◌≡◌, ℕ, ◌<◌, length, slice_get}
 use Rattle.tso_ops.specs.Values.{TraceValue}
 use Rattle.trace_explanation.specs.Names.{name_text}
-use Rattle.trace_explanation.specs.Operations.{operations_of}
+use Rattle.tso_ops.specs.Operations.{operations_of}
 use Rattle.trace_explanation.specs.Internal.Tables.{text_in}
 use Rattle.trace_explanation.proofs.names.list_names.Given as goal
 

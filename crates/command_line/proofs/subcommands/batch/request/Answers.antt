@@ -1,8 +1,7 @@
-use Rattle.std.proofs.Common.{◌∙◌}
+use Rattle.std.proofs.Common.{◌∙◌, refl}
 use Rattle.clap.specs.Words.{found_of}
 use Rattle.clap.proofs.WalkLemmas.{first_value-rows}
-use Rattle.command_line.proofs.FoundLemmas.{batching_are}
 use Rattle.command_line.proofs.subcommands.batch.request.Goals as goal
 
 pub returns : goal.returns
-returns c = batching_are _ _ _ _ _ _ (c.get_str.ensures ∙ first_value-rows (found_of c.args.matches.now) _) c.workers.ensures.value c.is_used.ensures
+returns c = rw (c.get_str.ensures ∙ first_value-rows (found_of c.args.matches.now) _, c.workers.ensures.value, c.is_used.ensures) refl

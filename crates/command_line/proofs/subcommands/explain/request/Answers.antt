@@ -1,9 +1,0 @@
-use Rattle.std.proofs.Common.{ap₂, ◌∙◌}
-use Rattle.clap.specs.Words.{found_of}
-use Rattle.clap.proofs.WalkLemmas.{first_value-rows}
-use Rattle.command_line.specs.Requests.{explaining}
-use Rattle.command_line.proofs.subcommands.explain.request.Goals as goal
-
-pub returns : goal.returns
-returns c =
-    ap₂ explaining (c.get_str.ensures ∙ first_value-rows (found_of c.args.matches.now) _) c.workers.ensures.value

@@ -1,0 +1,3 @@
+pub mod Restriction
+pub mod SelectionOrders
+pub mod TraceLogs

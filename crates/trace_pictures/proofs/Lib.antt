@@ -1,0 +1,3 @@
+pub mod ChoiceFacts
+pub mod RowFacts
+pub mod WantedFacts

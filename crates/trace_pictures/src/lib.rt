@@ -1,0 +1,21 @@
+//! Pictures of traces: the text of a picture, in the language of Graphviz, that shows what each processor did, which load
+//! read which store, and why a trace is a violation.
+//!
+//! `draw` writes it by the trace and its certificate. `README.md` says what is proved.
+#![tactic(auto)]
+
+pub use pictures::draw;
+pub use rows::Row;
+
+mod captions;
+mod choice;
+mod cycles;
+mod edges;
+mod labels;
+pub mod laws;
+mod members;
+mod nodes;
+mod pictures;
+mod placed;
+mod rows;
+mod wanted;

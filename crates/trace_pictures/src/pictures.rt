@@ -1,0 +1,102 @@
+//! The picture of a trace.
+ghost use Rattle.std.specs.Prelude.{◌≡◌, ◌++◌, length, string_bytes, OnOk};
+ghost use Rattle.trace_pictures.specs.Edges.{cycle_in, steps_in};
+ghost use Rattle.trace_pictures.specs.Pictures.{edges_text, layout_text, nodes_text, picture_of, picture_text};
+
+use crate::captions::push_captions;
+use crate::choice::choose_events;
+use crate::cycles::{LinkedCycle, list_red, steps_in};
+use crate::edges::{list_nodes, push_cycle, push_dashed, push_reads};
+use crate::labels::column_width;
+use crate::nodes::{push_first_values, push_processors};
+use crate::placed::PlacedTrace;
+use std::alloc::{AllocError, Global};
+use trace_explanation::NumberedSteps;
+use tso_cert::Certificate;
+use tso_ops::Trace;
+
+/// Appends the picture of a trace: by its certificate, where it is a violation.
+///
+/// OutOfMemory where an allocation was refused.
+pub fn draw(
+    alloc: Global,
+    text: &mut String,
+    trace: &Trace,
+    certificate: &Option<Certificate>,
+) -> Result<(), AllocError>
+    ensures { OnOk result (string_bytes text.new ≡ string_bytes text.old ++ picture_text trace.now certificate.now) }
+{
+    let placed = PlacedTrace::new(alloc, trace)?;
+    let drawn = choose_events(alloc, &placed, certificate)?;
+    push_picture(alloc, text, &placed, certificate, &drawn)
+}
+
+/// Appends the picture with these drawn events.
+#[tactic(auto, unfolding(crate::specs::Pictures::picture_of))]
+fn push_picture(
+    alloc: Global,
+    text: &mut String,
+    placed: &PlacedTrace<'_>,
+    certificate: &Option<Certificate>,
+    drawn: &[usize],
+) -> Result<(), AllocError>
+    ensures { OnOk result (string_bytes text.new ≡ string_bytes text.old ++ picture_of placed.now certificate.now drawn.now) }
+{
+    let trace = placed.trace();
+    let order = trace.order();
+    push_layout(text)?;
+    push_captions(alloc, text, order, certificate, drawn.len(), trace.events())?;
+    push_nodes(alloc, text, placed, certificate, drawn)?;
+    push_edges(alloc, text, placed, certificate, drawn)?;
+    text.push_str("}\n")
+}
+
+/// Appends how the picture is laid out.
+#[tactic(auto, unfolding(crate::specs::Pictures::layout_text))]
+fn push_layout(text: &mut String) -> Result<(), AllocError>
+    ensures { OnOk result (string_bytes text.new ≡ string_bytes text.old ++ layout_text) }
+{
+    text.push_str(
+        "digraph trace {\n  graph [layout=neato, inputscale=72, splines=true, outputorder=nodesfirst, fontname=\"Helvetica\", fontsize=12, labelloc=t, labeljust=l];\n  node [shape=box, style=filled, fillcolor=\"#ffffff\", fontname=\"Helvetica\", fontsize=12, height=0.34, width=1.2];\n  edge [fontname=\"Helvetica\", fontsize=10, arrowsize=0.7, labeldistance=5, labelangle=18];\n",
+    )
+}
+
+/// Appends the nodes.
+#[tactic(auto, unfolding(crate::specs::Pictures::nodes_text))]
+fn push_nodes(
+    alloc: Global,
+    text: &mut String,
+    placed: &PlacedTrace<'_>,
+    certificate: &Option<Certificate>,
+    drawn: &[usize],
+) -> Result<(), AllocError>
+    ensures { OnOk result (string_bytes text.new ≡ string_bytes text.old ++ nodes_text placed.now certificate.now drawn.now) }
+{
+    let trace = placed.trace();
+    let numbered = NumberedSteps::new(alloc, steps_in(certificate))?;
+    let cycle = LinkedCycle::new(alloc, certificate)?;
+    let red = list_red(alloc, trace, certificate, &numbered, &cycle)?;
+    let width = column_width(alloc, placed, drawn)?;
+    push_first_values(text, width, trace.processors(), cycle.numbers())?;
+    push_processors(alloc, text, placed, drawn, &red, width)
+}
+
+/// Appends the edges.
+#[tactic(auto, unfolding(crate::specs::Pictures::edges_text))]
+fn push_edges(
+    alloc: Global,
+    text: &mut String,
+    placed: &PlacedTrace<'_>,
+    certificate: &Option<Certificate>,
+    drawn: &[usize],
+) -> Result<(), AllocError>
+    ensures { OnOk result (string_bytes text.new ≡ string_bytes text.old ++ edges_text placed.now certificate.now drawn.now) }
+{
+    let steps = steps_in(certificate);
+    let numbered = NumberedSteps::new(alloc, steps)?;
+    let cycle = LinkedCycle::new(alloc, certificate)?;
+    let nodes = list_nodes(alloc, drawn, &cycle)?;
+    push_reads(text, placed.trace(), drawn, &cycle)?;
+    push_dashed(alloc, text, placed, steps, &nodes, &cycle)?;
+    push_cycle(alloc, text, placed, &numbered, &nodes, &cycle)
+}
