@@ -173,21 +173,25 @@ fn outcome(
 
 #[test]
 fn judging(rt: HostRuntime) -> Result<(), Fail> {
-    let named = judge(Some("trace"), 2);
+    let presentation = Presentation::Report;
+    let named = Request::Judge(JudgeRequest {
+        file: Some("trace"),
+        workers: 2,
+        presentation,
+    });
     compare(&rt, &named, outcome(&["trace"], 3, JUDGED, ""))?;
-    let missing = judge(Some("other"), 1);
+    let missing = Request::Judge(JudgeRequest {
+        file: Some("other"),
+        workers: 1,
+        presentation,
+    });
     compare(&rt, &missing, outcome(&["other"], 4, "", READ))?;
-    let input = judge(None, 64);
+    let input = Request::Judge(JudgeRequest {
+        file: None,
+        workers: 64,
+        presentation,
+    });
     compare(&rt, &input, outcome(&[], 4, "", READ))
-}
-
-/// A request for the report of a trace.
-fn judge(file: Option<&str>, workers: usize) -> Request<'_> {
-    Request::Judge(JudgeRequest {
-        file,
-        workers,
-        presentation: Presentation::Report,
-    })
 }
 
 #[test]
