@@ -1,5 +1,6 @@
 -- Which events a picture draws: all of them where there are at most 100, else those that the verdict speaks of, up to 100.
 use Rattle.std.specs.Prelude.{ℕ, zero, suc, ◌+◌, ◌-◌, ◌==◌, ◌&&◌, Bool, not, nat_le, List, [], ◌∷◌, ◌++◌, length, take, Option, None, Some, cond, slice_get}
+use Rattle.std.specs.Option.{option_to_list}
 use Rattle.std.specs.List.{flat_map, list_any}
 use Rattle.tso_ops.specs.Values.{TraceValue}
 use Rattle.tso_ops.specs.Events.{event_at, event_total}
@@ -18,21 +19,16 @@ use Rattle.trace_explanation.specs.Steps.{step_load}
 abbrev pub is_among : ℕ → List ℕ → Bool
 is_among n numbers = list_any (λ m. m == n) numbers
 
--- the number, if there is one
-abbrev pub listed : Option ℕ → List ℕ
-listed None = []
-listed (Some n) = n ∷ []
-
 -- ---- which events are wanted where not all are drawn, the most wanted first
 
 -- a number, and its source if it is a load that has one
 abbrev pub with_source : TraceValue → ℕ → List ℕ
-with_source t n = n ∷ listed (source_of t n)
+with_source t n = n ∷ option_to_list (source_of t n)
 
 -- the ends of a step and its load
 abbrev pub step_numbers : TraceValue → Option CertStep → List ℕ
 step_numbers t None = []
-step_numbers t (Some s) = s.from ∷ s.to ∷ listed (step_load t s)
+step_numbers t (Some s) = s.from ∷ s.to ∷ option_to_list (step_load t s)
 
 -- those of the first `count` steps, of the last step first
 abbrev pub steps_numbers : TraceValue → List CertStep → ℕ → List ℕ

@@ -1,5 +1,6 @@
 -- The lines of a picture's edges: from stores to loads that read them, derived edges, and the cycle.
 use Rattle.std.specs.Prelude.{ℕ, zero, suc, ◌*◌, ◌-◌, ◌==◌, ◌&&◌, Bool, true, false, not, nat_lt, List, [], ◌∷◌, ◌++◌, length, drop, Option, None, Some, cond, slice_get, codes}
+use Rattle.std.specs.Option.{option_to_list}
 use Rattle.std.specs.List.{flat_map, list_any}
 use Rattle.std.specs.Fmt.{decimal}
 use Rattle.tso_ops.specs.declared.operations.EventOperation.{EventOperation}
@@ -18,7 +19,7 @@ use Rattle.order_paths.specs.Paths.{last_of}
 use Rattle.trace_explanation.specs.Names.{source_of}
 use Rattle.trace_explanation.specs.Pieces.{joined}
 use Rattle.trace_explanation.specs.Steps.{step_load, step_number}
-use Rattle.trace_pictures.specs.Choice.{is_among, listed}
+use Rattle.trace_pictures.specs.Choice.{is_among}
 use Rattle.trace_pictures.specs.Labels.{step_label}
 
 -- ---- the cycle
@@ -40,7 +41,7 @@ is_link u v links = list_any (λ link. link.0 == u && link.1 == v) links
 -- the load of the least step that has an edge
 abbrev pub load_at : TraceValue → Option CertStep → List ℕ
 load_at t None = []
-load_at t (Some s) = listed (step_load t s)
+load_at t (Some s) = option_to_list (step_load t s)
 
 abbrev pub load_of_step : TraceValue → List CertStep → ℕ → List ℕ
 load_of_step t steps zero = []
@@ -165,8 +166,8 @@ abbrev pub red_marks : List ℕ
 red_marks = codes "color=\"#c00000\", fontcolor=\"#c00000\", penwidth=2.5"
 
 -- the line of an edge of the cycle
-abbrev pub link_text : TraceValue → List CertStep → List ℕ → ℕ × ℕ → List ℕ
-link_text t steps nodes link =
+abbrev pub cycle_edge_text : TraceValue → List CertStep → List ℕ → ℕ × ℕ → List ℕ
+cycle_edge_text t steps nodes link =
     cond (are_nodes nodes link.0 link.1) (labelled_edge t red_marks (step_label steps (step_number steps link.0 link.1)) link.0 link.1) []
 
 -- what stands at one of the two heads of an edge
@@ -189,6 +190,6 @@ is_two_headed t nodes u v = are_nodes nodes u v && not (column_of t u == column_
 -- the lines of the cycle's edges
 unfoldable pub cycle_edges : TraceValue → List CertStep → List ℕ → List ℕ → List ℕ
 cycle_edges t steps nodes [] = []
-cycle_edges t steps nodes (x ∷ []) = flat_map (link_text t steps nodes) (links_of (x ∷ []))
-cycle_edges t steps nodes (x ∷ (y ∷ [])) = cond (is_two_headed t nodes x y) (two_headed steps x y) (flat_map (link_text t steps nodes) (links_of (x ∷ y ∷ [])))
-cycle_edges t steps nodes (x ∷ (y ∷ (z ∷ rest))) = flat_map (link_text t steps nodes) (links_of (x ∷ y ∷ z ∷ rest))
+cycle_edges t steps nodes (x ∷ []) = flat_map (cycle_edge_text t steps nodes) (links_of (x ∷ []))
+cycle_edges t steps nodes (x ∷ (y ∷ [])) = cond (is_two_headed t nodes x y) (two_headed steps x y) (flat_map (cycle_edge_text t steps nodes) (links_of (x ∷ y ∷ [])))
+cycle_edges t steps nodes (x ∷ (y ∷ (z ∷ rest))) = flat_map (cycle_edge_text t steps nodes) (links_of (x ∷ y ∷ z ∷ rest))

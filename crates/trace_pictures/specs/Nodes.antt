@@ -92,8 +92,8 @@ abbrev pub head_name : ℕ → List ℕ
 head_name p = joined (codes "p" ∷ decimal p ∷ [])
 
 -- the line of a processor's head
-unfoldable pub head_text : ℕ → ℕ → List ℕ
-head_text p x = joined (
+unfoldable pub processor_head_text : ℕ → ℕ → List ℕ
+processor_head_text p x = joined (
     codes "  p" ∷ decimal p ∷ codes " [label=\"P" ∷ decimal p ∷ codes "\", shape=plaintext, fontsize=14, pos=\"" ∷ decimal x ∷ codes ",-70!\"];\n" ∷ [])
 
 -- the height of a processor's rows begins 26 points lower where its number is odd
@@ -102,7 +102,7 @@ first_height p = 70 + 26 * (p % 2)
 
 -- the lines of processor p
 unfoldable pub processor_text : TraceValue → List ℕ → List ℕ → ℕ → ℕ → List ℕ
-processor_text t drawn red width p = head_text p (width * p) ++ rows_text t red p (width * p) (first_height p) (head_name p) (rows_of t drawn p)
+processor_text t drawn red width p = processor_head_text p (width * p) ++ rows_text t red p (width * p) (first_height p) (head_name p) (rows_of t drawn p)
 
 -- the lines of the first `count` processors
 abbrev pub processors_text : TraceValue → List ℕ → List ℕ → ℕ → ℕ → List ℕ

@@ -2,7 +2,7 @@
 ghost use Rattle.std.specs.Prelude.{◌≡◌, ◌++◌, IfOk, OnOk};
 ghost use Rattle.std.specs.List.{flat_map};
 ghost use Rattle.order_paths.specs.Paths.{last_of};
-ghost use Rattle.trace_pictures.specs.Choice.{listed};
+ghost use Rattle.std.specs.Option.{option_to_list};
 ghost use Rattle.trace_pictures.specs.Edges.{cycle_in, link_load, links_from, links_of, red_numbers, steps_in, unwritten_in};
 
 use crate::wanted::{list_cycle, push_listed};
@@ -112,7 +112,7 @@ pub(crate) fn steps_in(certificate: &Option<Certificate>) -> &[CertStep]
 
 /// The unwritten load of a certificate, if it has one.
 fn unwritten_in(certificate: &Option<Certificate>) -> Option<usize>
-    ensures { listed result ≡ unwritten_in certificate.now }
+    ensures { option_to_list result ≡ unwritten_in certificate.now }
 {
     match certificate {
         Some(Certificate::Unwritten(n)) => Some(*n as usize),
@@ -157,7 +157,7 @@ fn push_loads(
 
 /// The load of the least step that has an edge: None where no step has it, or its rule names no load.
 fn link_load(trace: &Trace, numbered: &NumberedSteps<'_>, link: (usize, usize)) -> Option<usize>
-    ensures { listed result ≡ link_load trace.now numbered.now link }
+    ensures { option_to_list result ≡ link_load trace.now numbered.now link }
 {
     let number = numbered.number(link.0 as u64, link.1 as u64);
     if number == 0 {

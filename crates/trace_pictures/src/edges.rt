@@ -7,7 +7,7 @@ ghost use Rattle.tso_cert.specs.Printed.{event_text};
 ghost use Rattle.trace_explanation.specs.Names.{source_of};
 ghost use Rattle.trace_explanation.specs.Steps.{step_number};
 ghost use Rattle.trace_pictures.specs.Choice.{is_among};
-ghost use Rattle.trace_pictures.specs.Edges.{column_of, cycle_edges, dashed_edge, dashed_numbers, dashed_text, head_label, is_dashed, is_derived, is_two_headed, labelled_edge, last_forty, link_text, links_of, node_name, nodes_of, place_across, ports_text, processor_in, read_edge, reads_text, two_headed};
+ghost use Rattle.trace_pictures.specs.Edges.{column_of, cycle_edges, dashed_edge, dashed_numbers, dashed_text, head_label, is_dashed, is_derived, is_two_headed, labelled_edge, last_forty, cycle_edge_text, links_of, node_name, nodes_of, place_across, ports_text, processor_in, read_edge, reads_text, two_headed};
 
 use crate::cycles::LinkedCycle;
 use crate::labels::step_label;
@@ -362,7 +362,7 @@ fn push_links(
     nodes: &[usize],
     links: &[(usize, usize)],
 ) -> Result<(), AllocError>
-    ensures { OnOk result (string_bytes text.new ≡ string_bytes text.old ++ flat_map (link_text placed.now numbered.now nodes.now) links.now) }
+    ensures { OnOk result (string_bytes text.new ≡ string_bytes text.old ++ flat_map (cycle_edge_text placed.now numbered.now nodes.now) links.now) }
 {
     for link in links {
         push_link(alloc, text, placed, numbered, nodes, *link)?;
@@ -379,7 +379,7 @@ fn push_link(
     nodes: &[usize],
     link: (usize, usize),
 ) -> Result<(), AllocError>
-    ensures { OnOk result (string_bytes text.new ≡ string_bytes text.old ++ link_text placed.now numbered.now nodes.now link) }
+    ensures { OnOk result (string_bytes text.new ≡ string_bytes text.old ++ cycle_edge_text placed.now numbered.now nodes.now link) }
 {
     if !are_nodes(nodes, link.0, link.1) {
         return Ok(());

@@ -2,7 +2,7 @@
 ghost use Rattle.std.specs.Prelude.{◌≡◌, ◌++◌, ◌+◌, ◌*◌, ◌^◌, ◌<◌, ◌≤◌, ℕ, string_bytes, IfOk, OnOk};
 ghost use Rattle.tso_ops.specs.Events.{processor_count};
 ghost use Rattle.trace_pictures.specs.Labels.{event_label};
-ghost use Rattle.trace_pictures.specs.Nodes.{close_mark, down_text, first_height, first_mark, first_values_node, first_values_text, head_name, head_text, is_close, is_swap_store, node_text, processor_text, processors_text, red_mark, row_label, row_marks, row_name, row_step, rows_text, stores_swap};
+ghost use Rattle.trace_pictures.specs.Nodes.{close_mark, down_text, first_height, first_mark, first_values_node, first_values_text, head_name, processor_head_text, is_close, is_swap_store, node_text, processor_text, processors_text, red_mark, row_label, row_marks, row_name, row_step, rows_text, stores_swap};
 
 use crate::labels::event_label;
 use crate::members::is_among;
@@ -89,9 +89,9 @@ fn push_processor(
 }
 
 /// Appends a processor's head.
-#[tactic(auto, unfolding(crate::specs::Nodes::head_text))]
+#[tactic(auto, unfolding(crate::specs::Nodes::processor_head_text))]
 fn push_head(text: &mut String, column: Column) -> Result<(), AllocError>
-    ensures { OnOk result (string_bytes text.new ≡ string_bytes text.old ++ head_text column.proc column.x) }
+    ensures { OnOk result (string_bytes text.new ≡ string_bytes text.old ++ processor_head_text column.proc column.x) }
 {
     let proc = column.proc;
     let x = column.x;

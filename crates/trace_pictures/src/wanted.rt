@@ -4,7 +4,8 @@ ghost use Rattle.std.specs.List.{flat_map};
 ghost use Rattle.tso_ops.specs.Events.{event_at, event_total};
 ghost use Rattle.trace_explanation.specs.Explanations.{stores_up_to};
 ghost use Rattle.trace_explanation.specs.Names.{address_in};
-ghost use Rattle.trace_pictures.specs.Choice.{listed, step_numbers, steps_numbers, verdict_numbers, wanted, with_source};
+ghost use Rattle.std.specs.Option.{option_to_list};
+ghost use Rattle.trace_pictures.specs.Choice.{step_numbers, steps_numbers, verdict_numbers, wanted, with_source};
 
 use std::alloc::{AllocError, Global};
 use trace_explanation::{address_of, first_of, list_stores, source_of, step_load};
@@ -44,7 +45,7 @@ fn list_with_sources(
 
 /// Pushes the number, if there is one.
 pub(crate) fn push_listed(numbers: &mut Vec<usize>, number: Option<usize>) -> Result<(), AllocError>
-    ensures { OnOk result (numbers.new.items ≡ numbers.old.items ++ listed number) }
+    ensures { OnOk result (numbers.new.items ≡ numbers.old.items ++ option_to_list number) }
 {
     match number {
         Some(n) => numbers.push(n)?,
