@@ -1,4 +1,5 @@
--- What the sentence of each rule says of a memory order, in the words of the axioms. The laws say that it is true of each order of the trace's model.
+-- What the sentence of each rule says of a memory order, in the words of the axioms. The laws say that it is true of each memory order that meets
+-- the rule's one axiom. Such orders there are of traces, too, that no order of the model explains.
 use Rattle.std.specs.Prelude.{◌≡◌, ◌≢◌, ◌⊎◌, ℕ, suc, List}
 use Rattle.tso_ops.specs.Values.{TraceValue}
 use Rattle.tso_ops.specs.Events.{IsEvent, IsLoad, IsStore, IsSwapLoad, SameAddress, Earlier, HasFewerBarriersBefore, HasFewerStbarsBefore, HasSource, KeepsStores}

@@ -8,7 +8,8 @@ ghost use Rattle.tso_cert.specs.declared.rules.BaseRule.{BaseRule};
 ghost use Rattle.tso_cert.specs.declared.rules.InferredRule.{InferredRule};
 ghost use Rattle.tso_cert.specs.declared.steps.Reason.TheVariants.{Inferred};
 ghost use Rattle.tso_cert.specs.declared.steps.CertStep.{CertStep};
-ghost use Rattle.tso_model.specs.Axioms.{IsBefore, IsModelOrder};
+ghost use Rattle.tso_model.specs.Axioms.{IsBefore, IsMemoryOrder};
+ghost use Rattle.tso_model.specs.RuleAxioms.{BaseAxiom, InferredAxiom};
 ghost use Rattle.tso_model.specs.Rules.{BasePair, InferredBy, IsOwnBy};
 ghost use Rattle.tso_model.specs.Certs.{StepsHold};
 ghost use Rattle.tso_text.specs.Printed.{trace_text};
@@ -19,15 +20,16 @@ ghost use Rattle.tso_ops.specs.Operations.{operation_at};
 ghost use Rattle.trace_explanation.specs.Claims.{BaseSays, InferredSays};
 ghost use Rattle.trace_explanation.specs.Steps.{own_load, step_number};
 
-/// What the sentence of a base rule says of an edge that the rule gives is true of every order of the trace's model.
+/// What the sentence of a base rule says of an edge that the rule gives is true of every memory order that meets the rule's
+/// axiom, whether it meets the others or not: so it is said of violations, too, which no order explains that meets all.
 pub fn base_sentences_are_true()
-    ensures { (t : TraceValue) (order : List ℕ) → IsTrace t → IsModelOrder t order → (rule : BaseRule) (u v l : ℕ) → BasePair t rule u v → (rule ≡ BaseRule.Own → IsOwnBy t l u v) → BaseSays t order rule u v l }
+    ensures { (t : TraceValue) (order : List ℕ) → IsTrace t → IsMemoryOrder t order → (rule : BaseRule) → BaseAxiom t order rule → (u v l : ℕ) → BasePair t rule u v → (rule ≡ BaseRule.Own → IsOwnBy t l u v) → BaseSays t order rule u v l }
 {}
 
-/// What the sentence of an inferred rule says of an edge that the rule gives is true of every order of the trace's model
-/// that puts the first number of its path before the last one.
+/// What the sentence of an inferred rule says of an edge that the rule gives is true of every memory order that meets the
+/// rule's axiom and puts the first number of its path before the last one.
 pub fn inferred_sentences_are_true()
-    ensures { (t : TraceValue) (order : List ℕ) → IsTrace t → IsModelOrder t order → (rule : InferredRule) (l u v x y : ℕ) → InferredBy t rule l u v x y → IsBefore order x y → InferredSays t order rule l u v x y }
+    ensures { (t : TraceValue) (order : List ℕ) → IsTrace t → IsMemoryOrder t order → (rule : InferredRule) → InferredAxiom t order rule → (l u v x y : ℕ) → InferredBy t rule l u v x y → IsBefore order x y → InferredSays t order rule l u v x y }
 {}
 
 /// The load that an Own step's words name is the least one that gives the step's edge by the rule.

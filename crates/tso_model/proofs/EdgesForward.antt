@@ -8,7 +8,8 @@ use Rattle.tso_cert.specs.declared.rules.InferredRule.{InferredRule}
 use Rattle.tso_cert.specs.declared.rules.InferredRule.TheVariants.{LoadPast, StorePast, SwapBefore, SwapAfter}
 use Rattle.order_paths.specs.Paths.{HasCycle}
 use Rattle.order_paths.proofs.RisingNumbers.{Rises, rises_on_path, rises_without_cycle}
-use Rattle.tso_model.specs.Axioms.{place, IsUpTo, IsBefore, IsVisible, ReadsGreatest, IsModelOrder}
+use Rattle.tso_model.specs.Axioms.{place, IsUpTo, IsBefore, IsVisible, ReadsGreatest, IsMemoryOrder, IsModelOrder, MeetsAtomicity, MeetsValue}
+use Rattle.tso_model.specs.RuleAxioms.{BaseAxiom, InferredAxiom}
 use Rattle.tso_model.specs.Rules.{BasePair, InferredBy, IsDerived, HasDerivedCycle}
 use Rattle.tso_model.specs.Ranks.{RankSet}
 use Rattle.tso_ops.proofs.NumberFacts.{HasOwnValues, event_above_zero, load_is_no_store, store_event, load_event, store_source, source_unique}
@@ -29,16 +30,21 @@ pub data SeesSource (t : TraceValue) (order : List ℕ) (l s : ℕ) : Type 0 whe
   nothing : s ≡ 0 → ((other : ℕ) → IsVisible t order other l → ⊥) → SeesSource t order l s
   greatest : IsVisible t order s l → ((other : ℕ) → IsVisible t order other l → IsUpTo order other s) → SeesSource t order l s
 
-module _ (t : TraceValue) (own : HasOwnValues t) (order : List ℕ) (axioms : IsModelOrder t order) where
+module _ (t : TraceValue) (own : HasOwnValues t) (order : List ℕ) (memory : IsMemoryOrder t order) where
   -- a number that stands no later than another, where that is an event, stands before it
   strict : (u v : ℕ) → IsEvent t v → u ≢ v → IsUpTo order u v → IsBefore order u v
   strict u v event other up_to =
-      let once = axioms.memory_order.once v event in
+      let once = memory.once v event in
       before_from_up_to order u v (omega arith) (event_above_zero t v event) other up_to
 
+  -- a program-earlier event that stands no later than the other stands before it
+  earlier_before : (u v : ℕ) → Earlier t u v → IsUpTo order u v → IsBefore order u v
+  earlier_before u v earlier up_to = strict u v (earlier.1, earlier.3) (λ same. omega (arith, earlier.5)) up_to
+
+module _ (t : TraceValue) (own : HasOwnValues t) (order : List ℕ) (memory : IsMemoryOrder t order) (value : MeetsValue t order) where
   -- a load sees its source as the greatest store, or nothing
   sees_source : (l s : ℕ) → HasSource t l s → SeesSource t order l s
-  sees_source l s source = by_cases (axioms.value l (source_load t l s source))
+  sees_source l s source = by_cases (value l (source_load t l s source))
     where
       by_cases : ReadsGreatest t order l → SeesSource t order l s
       by_cases (inl read) = nothing (source_unique t own l s 0 source (source_load t l s source, read.0)) read.1
@@ -53,7 +59,7 @@ module _ (t : TraceValue) (own : HasOwnValues t) (order : List ℕ) (axioms : Is
     where
       by_cases : SeesSource t order l v → IsBefore order u v
       by_cases (nothing none_written none) = absurd (none u visible)
-      by_cases (greatest seen least) = strict u v (store_event t v seen.0) other (least u visible)
+      by_cases (greatest seen least) = strict t own order memory u v (store_event t v seen.0) other (least u visible)
 
   -- a store that isn't program-earlier than a load of it stands before the load
   read_before : (u v : ℕ) → IsStore t u → HasSource t v u → (Earlier t u v → ⊥) → IsBefore order u v
@@ -63,30 +69,13 @@ module _ (t : TraceValue) (own : HasOwnValues t) (order : List ℕ) (axioms : Is
       load = source_load t v u source
 
       by_place : IsUpTo order u v ⊎ Earlier t u v → IsBefore order u v
-      by_place (inl up_to) = strict u v (load_event t v load) (λ same. load_is_no_store t v load (rw same at store)) up_to
+      by_place (inl up_to) = strict t own order memory u v (load_event t v load) (λ same. load_is_no_store t v load (rw same at store)) up_to
       by_place (inr earlier) = absurd (no_earlier earlier)
 
       by_cases : SeesSource t order v u → IsBefore order u v
       by_cases (nothing is_zero none) =
           let above = event_above_zero t u (store_event t u store) in absurd (omega arith)
       by_cases (greatest seen least) = by_place seen.2
-
-  -- a program-earlier event that stands no later than the other stands before it
-  earlier_before : (u v : ℕ) → Earlier t u v → IsUpTo order u v → IsBefore order u v
-  earlier_before u v earlier up_to = strict u v (earlier.1, earlier.3) (λ same. omega (arith, earlier.5)) up_to
-
-  -- each edge of a base rule leads forwards
-  pub base_before : (rule : BaseRule) (u v : ℕ) → BasePair t rule u v → IsBefore order u v
-  base_before Init u v pair =
-      rw pair.0 (zero_before order v (event_above_zero t v pair.1))
-  base_before LoadOp u v pair = earlier_before u v pair.1 (axioms.load_op u v pair.0 pair.1)
-  base_before StoreStore u v pair = earlier_before u v pair.2 (axioms.store_store u v pair.0 pair.1 pair.2 pair.3)
-  base_before Stbar u v pair = earlier_before u v pair.2 (axioms.stbar u v pair.0 pair.1 pair.2 pair.3)
-  base_before Membar u v pair = earlier_before u v pair.2 (axioms.membar u v pair.0 pair.1 pair.2 pair.3)
-  base_before Read u v pair = read_before u v pair.0 pair.1 pair.2
-  base_before Own u v pair =
-      let own_store = pair.1 in
-      before_source pair.0 u v own_store.3 (own_store.0, own_store.1, inr own_store.2) own_store.4
 
   -- a store to a load's address that stands before the load stands before its source, if it is another
   load_past_before : (l u v : ℕ) → IsStore t u → SameAddress t u l → HasSource t l v → u ≢ v → IsBefore order u l → IsBefore order u v
@@ -108,35 +97,74 @@ module _ (t : TraceValue) (own : HasOwnValues t) (order : List ℕ) (axioms : Is
           let back : IsBefore order v x = before_source l v x source (store, address, inl up_to) other in
           omega arith
 
+module _ (t : TraceValue) (own : HasOwnValues t) (order : List ℕ) (memory : IsMemoryOrder t order) (atomicity : MeetsAtomicity t order) where
   -- a store that stands before a swap's store stands before the swap's load
   swap_before_before : (l u : ℕ) → IsSwapLoad t l → IsStore t u → u ≢ suc l → IsBefore order u (suc l) → IsBefore order u l
-  swap_before_before l u swap store other before = by_cases (axioms.atomicity l u swap store other)
+  swap_before_before l u swap store other before = by_cases (atomicity l u swap store other)
     where
       load : IsLoad t l
       load = (swap.0, swap.1, swap.2)
 
       by_cases : IsUpTo order u l ⊎ IsUpTo order (suc l) u → IsBefore order u l
-      by_cases (inl up_to) = strict u l (load_event t l load) (λ same. load_is_no_store t l load (rw same at store)) up_to
+      by_cases (inl up_to) = strict t own order memory u l (load_event t l load) (λ same. load_is_no_store t l load (rw same at store)) up_to
       by_cases (inr up_to) = absurd (before_not_up_to order u (suc l) (event_above_zero t u (store_event t u store)) before up_to)
 
   -- a swap's store stands before each store that the swap's load stands before
   swap_after_before : (l v : ℕ) → IsSwapLoad t l → IsStore t v → v ≢ suc l → IsBefore order l v → IsBefore order (suc l) v
-  swap_after_before l v swap store other before = by_cases (axioms.atomicity l v swap store other)
+  swap_after_before l v swap store other before = by_cases (atomicity l v swap store other)
     where
       by_cases : IsUpTo order v l ⊎ IsUpTo order (suc l) v → IsBefore order (suc l) v
       by_cases (inl up_to) = absurd (before_not_up_to order l v (event_above_zero t l (swap.0, swap.1)) before up_to)
-      by_cases (inr up_to) = strict (suc l) v (store_event t v store) (λ same. other (sym same)) up_to
+      by_cases (inr up_to) = strict t own order memory (suc l) v (store_event t v store) (λ same. other (sym same)) up_to
 
-  -- the edge of an inferred rule leads forwards if its path's ends do
+module _ (t : TraceValue) (own : HasOwnValues t) (order : List ℕ) (memory : IsMemoryOrder t order) where
+  -- an edge of a base rule leads forwards in each memory order that meets the rule's axiom
+  pub base_forwards : (rule : BaseRule) → BaseAxiom t order rule → (u v : ℕ) → BasePair t rule u v → IsBefore order u v
+  base_forwards Init none u v pair = rw pair.0 (zero_before order v (event_above_zero t v pair.1))
+  base_forwards LoadOp load_op u v pair = earlier_before t own order memory u v pair.1 (load_op u v pair.0 pair.1)
+  base_forwards StoreStore store_store u v pair = earlier_before t own order memory u v pair.2 (store_store u v pair.0 pair.1 pair.2 pair.3)
+  base_forwards Stbar stbar u v pair = earlier_before t own order memory u v pair.2 (stbar u v pair.0 pair.1 pair.2 pair.3)
+  base_forwards Membar membar u v pair = earlier_before t own order memory u v pair.2 (membar u v pair.0 pair.1 pair.2 pair.3)
+  base_forwards Read value u v pair = read_before t own order memory value u v pair.0 pair.1 pair.2
+  base_forwards Own value u v pair =
+      let own_store = pair.1 in
+      before_source t own order memory value pair.0 u v own_store.3 (own_store.0, own_store.1, inr own_store.2) own_store.4
+
+  -- an edge of an inferred rule leads forwards if its path's ends do, in each memory order that meets the rule's axiom
+  pub inferred_forwards : (rule : InferredRule) → InferredAxiom t order rule → (l u v x y : ℕ) → InferredBy t rule l u v x y → IsBefore order x y → IsBefore order u v
+  inferred_forwards LoadPast value l u v x y by before =
+      load_past_before t own order memory value l u v by.0 by.1 by.2 by.3 (before_of_same order x y u l by.4 by.5 before)
+  inferred_forwards StorePast value l u v x y by before =
+      rw by.0 (store_past_before t own order memory value l v x by.1 by.2 by.3 by.4 (before_of_same order x y x v refl by.5 before))
+  inferred_forwards SwapBefore atomicity l u v x y by before =
+      rw by.1 (swap_before_before t own order memory atomicity l u by.0 by.2 by.3 (before_of_same order x y u (suc l) by.4 by.5 before))
+  inferred_forwards SwapAfter atomicity l u v x y by before =
+      rw by.1 (swap_after_before t own order memory atomicity l v by.0 by.2 by.3 (before_of_same order x y l v by.4 by.5 before))
+
+module _ (t : TraceValue) (own : HasOwnValues t) (order : List ℕ) (axioms : IsModelOrder t order) where
+  -- an order of the trace's model meets the axiom of each rule
+  pub base_axiom : (rule : BaseRule) → BaseAxiom t order rule
+  base_axiom Init = tt
+  base_axiom LoadOp = axioms.load_op
+  base_axiom StoreStore = axioms.store_store
+  base_axiom Stbar = axioms.stbar
+  base_axiom Membar = axioms.membar
+  base_axiom Read = axioms.value
+  base_axiom Own = axioms.value
+
+  pub inferred_axiom : (rule : InferredRule) → InferredAxiom t order rule
+  inferred_axiom LoadPast = axioms.value
+  inferred_axiom StorePast = axioms.value
+  inferred_axiom SwapBefore = axioms.atomicity
+  inferred_axiom SwapAfter = axioms.atomicity
+
+  -- so each edge of a base rule leads forwards
+  pub base_before : (rule : BaseRule) (u v : ℕ) → BasePair t rule u v → IsBefore order u v
+  base_before rule = base_forwards t own order axioms.memory_order rule (base_axiom rule)
+
+  -- and so does the edge of an inferred rule if its path's ends do
   pub inferred_before : (rule : InferredRule) (l u v x y : ℕ) → InferredBy t rule l u v x y → IsBefore order x y → IsBefore order u v
-  inferred_before LoadPast l u v x y by before =
-      load_past_before l u v by.0 by.1 by.2 by.3 (before_of_same order x y u l by.4 by.5 before)
-  inferred_before StorePast l u v x y by before =
-      rw by.0 (store_past_before l v x by.1 by.2 by.3 by.4 (before_of_same order x y x v refl by.5 before))
-  inferred_before SwapBefore l u v x y by before =
-      rw by.1 (swap_before_before l u by.0 by.2 by.3 (before_of_same order x y u (suc l) by.4 by.5 before))
-  inferred_before SwapAfter l u v x y by before =
-      rw by.1 (swap_after_before l v by.0 by.2 by.3 (before_of_same order x y l v by.4 by.5 before))
+  inferred_before rule = inferred_forwards t own order axioms.memory_order rule (inferred_axiom rule)
 
   -- each edge of a rank set leads forwards
   pub rank_before : (k u v : ℕ) → RankSet t k u v → IsBefore order u v

@@ -43,26 +43,46 @@ ReadsGreatest t order l =
     (HasFirstValue t l × ((s : ℕ) → IsVisible t order s l → ⊥))
     ⊎ ((s : ℕ) × IsVisible t order s l × SameValue t s l × ((other : ℕ) → IsVisible t order other l → IsUpTo order other s))
 
+-- ---- the axioms, each of an order
+
+-- LoadOp (V8, K.2): what a processor does after a load, memory orders after that load.
+abbrev pub MeetsLoadOp : TraceValue → List ℕ → Type 0
+MeetsLoadOp t order = (u v : ℕ) → IsLoad t u → Earlier t u v → IsUpTo order u v
+
+-- StoreStore (V8, K.2; for PSO 6.3 and appendix K): memory keeps the order of a processor's stores. Under TSO this holds of any two of
+-- them, with no barrier; under PSO of two to one address.
+abbrev pub MeetsStoreStore : TraceValue → List ℕ → Type 0
+MeetsStoreStore t order = (u v : ℕ) → IsStore t u → IsStore t v → Earlier t u v → KeepsStores t u v → IsUpTo order u v
+
+-- STBAR (V8, 6.3 and appendix K): under PSO memory keeps the order of two stores with an STBAR between them. A trace under TSO has no STBAR:
+-- its stores are in order without one.
+abbrev pub MeetsStbar : TraceValue → List ℕ → Type 0
+MeetsStbar t order = (u v : ℕ) → IsStore t u → IsStore t v → Earlier t u v → HasFewerStbarsBefore t u v → IsUpTo order u v
+
+-- MEMBAR #StoreLoad (V9, 8.4.3 'The MEMBAR Instruction' and appendix D): memory orders a store before each load after the barrier.
+abbrev pub MeetsMembar : TraceValue → List ℕ → Type 0
+MeetsMembar t order = (u v : ℕ) → IsStore t u → IsLoad t v → Earlier t u v → HasFewerBarriersBefore t u v → IsUpTo order u v
+
+-- Atomicity (V8, K.2): a swap's load comes before its store (the field `swap` below), and no other store, to any address, comes between the two.
+abbrev pub MeetsAtomicity : TraceValue → List ℕ → Type 0
+MeetsAtomicity t order = (l s : ℕ) → IsSwapLoad t l → IsStore t s → s ≢ suc l → IsUpTo order s l ⊎ IsUpTo order (suc l) s
+
+-- Value (V8, K.2): a load returns what the last store that it sees wrote.
+abbrev pub MeetsValue : TraceValue → List ℕ → Type 0
+MeetsValue t order = (l : ℕ) → IsLoad t l → ReadsGreatest t order l
+
 -- The order meets the axioms of the trace's memory model. A swap's load counts as a load in each of them, and its store, whose number is the
 -- next, as a store.
 pub record IsModelOrder (t : TraceValue) (order : List ℕ) : Type 0 where
   -- Order and Termination
   pub memory_order : IsMemoryOrder t order
-  -- LoadOp (V8, K.2): what a processor does after a load, memory orders after that load.
-  pub load_op : (u v : ℕ) → IsLoad t u → Earlier t u v → IsUpTo order u v
-  -- StoreStore (V8, K.2; for PSO 6.3 and appendix K): memory keeps the order of a processor's stores. Under TSO this holds of any two of
-  -- them, with no barrier; under PSO of two to one address.
-  pub store_store : (u v : ℕ) → IsStore t u → IsStore t v → Earlier t u v → KeepsStores t u v → IsUpTo order u v
-  -- STBAR (V8, 6.3 and appendix K): under PSO memory keeps the order of two stores with an STBAR between them. A trace under TSO has no STBAR:
-  -- its stores are in order without one.
-  pub stbar : (u v : ℕ) → IsStore t u → IsStore t v → Earlier t u v → HasFewerStbarsBefore t u v → IsUpTo order u v
-  -- MEMBAR #StoreLoad (V9, 8.4.3 'The MEMBAR Instruction' and appendix D): memory orders a store before each load after the barrier.
-  pub membar : (u v : ℕ) → IsStore t u → IsLoad t v → Earlier t u v → HasFewerBarriersBefore t u v → IsUpTo order u v
-  -- Atomicity (V8, K.2): a swap's load comes before its store, and no other store, to any address, comes between the two.
+  pub load_op : MeetsLoadOp t order
+  pub store_store : MeetsStoreStore t order
+  pub stbar : MeetsStbar t order
+  pub membar : MeetsMembar t order
   pub swap : (l : ℕ) → IsSwapLoad t l → IsUpTo order l (suc l)
-  pub atomicity : (l s : ℕ) → IsSwapLoad t l → IsStore t s → s ≢ suc l → IsUpTo order s l ⊎ IsUpTo order (suc l) s
-  -- Value (V8, K.2): a load returns what the last store that it sees wrote.
-  pub value : (l : ℕ) → IsLoad t l → ReadsGreatest t order l
+  pub atomicity : MeetsAtomicity t order
+  pub value : MeetsValue t order
 
 -- some order meets the axioms of the trace's model
 abbrev pub IsConsistent : TraceValue → Type 0
