@@ -5,6 +5,7 @@ ghost use Rattle.tso_ops.specs.Values.{TraceValue};
 ghost use Rattle.tso_ops.specs.Limits.{IsTrace};
 ghost use Rattle.tso_ops.specs.Events.{IsLoad, HasSource};
 ghost use Rattle.tso_model.specs.Axioms.{IsConsistent};
+ghost use Rattle.log_selections.specs.Cuts.{IsCut};
 ghost use Rattle.log_selections.specs.Logs.{LogValue, HasOrder, log_of};
 ghost use Rattle.log_selections.specs.Selections.{IsSelection};
 
@@ -16,6 +17,16 @@ pub fn selections_keep_orders()
 /// A selection that has no order of its memory model is of a log that has none.
 pub fn violations_of_selections_are_violations()
     ensures { (log : LogValue) (t : TraceValue) → IsSelection log t → (IsConsistent t → ⊥) → HasOrder log → ⊥ }
+{}
+
+/// A trace that is cut out of a log is a selection of it.
+pub fn cuts_are_selections()
+    ensures { (log : LogValue) (t : TraceValue) → IsCut log t → IsSelection log t }
+{}
+
+/// A trace that is cut out of a log and has no order of its memory model is of a log that has none.
+pub fn violations_of_cuts_are_violations()
+    ensures { (log : LogValue) (t : TraceValue) → IsCut log t → (IsConsistent t → ⊥) → HasOrder log → ⊥ }
 {}
 
 /// A trace with the sources of its loads is a log: it has an order exactly where the trace has one, and the trace is a
