@@ -8,7 +8,7 @@ use Rattle.tso_ops.specs.declared.events.Event.{Event}
 use Rattle.tso_ops.specs.Values.{op_of}
 use Rattle.tso_ops.specs.Limits.{event_count, total_events}
 use Rattle.tso_ops.specs.Events.{events_from, events_of_lists}
-use Rattle.log_selections.specs.Cuts.{IsCutFrom, ended, left_out, load, store, swap, membar, stbar, swap_load, swap_store, AreCutFrom, no_more, processor}
+use Rattle.log_selections.specs.Cuts.{IsKept, nothing, load, store, swap, membar, stbar, swap_load, swap_store, IsCutFrom, ended, operation, AreCutFrom, no_more, processor}
 
 -- the event e of the trace is the log's event d, with another address and value
 pub record IsEventFrom (addresses : List ℕ) (d e : Event) : Type 0 where
@@ -228,65 +228,78 @@ module _ (addresses : List ℕ) where
     address = ap (slice_get addresses) a_e ∙ at ∙ ap (λ x. Some x) (sym a_d);
   }
 
-  -- the number after one more operation and more of them
-  number_after : (n : ℕ) (x : Outcome) (xs : List Outcome) (m : ℕ) → m ≡ n + event_count (op_of x) → n + total_events (map op_of (x ∷ xs)) ≡ m + total_events (map op_of xs)
-  number_after n x xs m is = omega (arith, is, sum_by-cons event_count (op_of x) (map op_of xs))
+  -- Barriers of the log stand before, `more` more than of the trace, and `most` more STBARs; at least so many are left out from here on.
+  abbrev AreMore : ℕ → ℕ → ℕ → ℕ → ℕ → ℕ → ℕ → ℕ → Type 0
+  AreMore bars stbars log_bars log_stbars more most low low_st = (low ≤ more) × (low_st ≤ most) × (log_bars ≡ bars + more) × (log_stbars ≡ stbars + most)
 
-  -- The events of what is cut out of a processor's operations, with those of later processors after them. Among the log's operations `more` more
-  -- barriers stand before than among these, and `most` more STBARs.
-  cut_from : (n : ℕ) (xs ys : List Outcome) (here : List ℕ) → IsCutFrom addresses n xs ys here
-      → (p bars stbars log_bars log_stbars more most low low_st : ℕ) (ds es : List Event) (after : List ℕ) → low ≤ more → low_st ≤ most
-      → log_bars ≡ bars + more → log_stbars ≡ stbars + most
-      → AreEventsFrom addresses (suc p) (n + total_events (map op_of xs)) 0 0 ds es after
-      → AreEventsFrom addresses p n low low_st (events_from p log_bars log_stbars xs ++ ds) (events_from p bars stbars ys ++ es) (here ++ after)
-  cut_from n xs ys here (ended n1) p bars stbars log_bars log_stbars more most low low_st ds es after up up_st is is_st rest =
-      next p (suc p) n1 low low_st ds es after (omega arith) (at_number (suc p) (n1 + 0) n1 0 0 ds es after (omega arith) rest)
-  cut_from n xs ys here (left_out n1 x xs1 ys1 here1 cut) p bars stbars log_bars log_stbars more most low low_st ds es after up up_st is is_st rest =
-      let grown = after_up x more most in
-      left_out_events x p n1 low low_st log_bars log_stbars xs1 ds (events_from p bars stbars ys1 ++ es) (here1 ++ after)
-      (cut_from (n1 + event_count (op_of x)) xs1 ys1 here1 cut p bars stbars (bars_after x log_bars) (stbars_after x log_stbars) (bars_after x more) (stbars_after x most) low low_st ds es after
-      (omega (arith, up, grown.0)) (omega (arith, up_st, grown.1)) (after_more x bars more log_bars is).0 (after_more x stbars most log_stbars is_st).1
-      (at_number (suc p) _ _ 0 0 ds es after (number_after n1 x xs1 (n1 + event_count (op_of x)) refl) rest))
-  cut_from n xs ys here (load n1 a b r q xs1 ys1 here1 at cut) p bars stbars log_bars log_stbars more most low low_st ds es after up up_st is is_st rest =
-      take p n1 low low_st more most _ _ _ _ (here1 ++ after) (from_same p a b true at _ _ refl refl refl refl refl refl) refl up up_st is is_st
+  -- the events of operations and of those of the log that they are cut out of, wherever barriers stand before
+  AreRest : ℕ → ℕ → List Outcome → List Outcome → List Event → List Event → List ℕ → Type 0
+  AreRest p n xs ys ds es origins = (bars stbars log_bars log_stbars more most low low_st : ℕ) → AreMore bars stbars log_bars log_stbars more most low low_st
+      → AreEventsFrom addresses p n low low_st (events_from p log_bars log_stbars xs ++ ds) (events_from p bars stbars ys ++ es) origins
+
+  -- the next operation of the log, of this many events, stands before the rest
+  rest_at : (p m n : ℕ) (xs ys : List Outcome) (ds es : List Event) (origins : List ℕ) → m ≡ n → AreRest p m xs ys ds es origins → AreRest p n xs ys ds es origins
+  rest_at p m n xs ys ds es origins same rest = subst (λ x. AreRest p x xs ys ds es origins) same rest
+
+  -- with what is kept of one operation prepended
+  kept_events : (n : ℕ) (x : Outcome) (kept : List Outcome) (here : List ℕ) → IsKept addresses n x kept here
+      → (p : ℕ) (xs ys : List Outcome) (ds es : List Event) (origins after : List ℕ) → AreRest p (n + event_count (op_of x)) xs ys ds es (origins ++ after)
+      → AreRest p n (x ∷ xs) (kept ++ ys) ds es ((here ++ origins) ++ after)
+  unfolding AreRest
+  kept_events n x kept here (nothing n1 x1) p xs ys ds es origins after rest bars stbars log_bars log_stbars more most low low_st (up, up_st, is, is_st) =
+      let grown = after_up x1 more most in
+      left_out_events x1 p n1 low low_st log_bars log_stbars xs ds (events_from p bars stbars ys ++ es) (origins ++ after)
+      (rest bars stbars (bars_after x1 log_bars) (stbars_after x1 log_stbars) (bars_after x1 more) (stbars_after x1 most) low low_st
+      (omega (arith, up, grown.0), omega (arith, up_st, grown.1), (after_more x1 bars more log_bars is).0, (after_more x1 stbars most log_stbars is_st).1))
+  kept_events n x kept here (load n1 a b r q at) p xs ys ds es origins after rest bars stbars log_bars log_stbars more most low low_st (up, up_st, is, is_st) =
+      take p n1 low low_st more most _ _ _ _ (origins ++ after) (from_same p a b true at _ _ refl refl refl refl refl refl) refl up up_st is is_st
       (λ is_load is_swap. absurd (false≢true is_swap))
-      (cut_from (suc n1) xs1 ys1 here1 cut p bars stbars log_bars log_stbars more most more most ds es after (omega arith) (omega arith) is is_st
-      (at_number (suc p) _ _ 0 0 ds es after (number_after n1 (Ld a r) xs1 (suc n1) (omega arith)) rest))
-  cut_from n xs ys here (store n1 a b v w xs1 ys1 here1 at cut) p bars stbars log_bars log_stbars more most low low_st ds es after up up_st is is_st rest =
-      take p n1 low low_st more most _ _ _ _ (here1 ++ after) (from_same p a b false at _ _ refl refl refl refl refl refl) refl up up_st is is_st
+      (rest_at p (n1 + 1) (suc n1) xs ys ds es (origins ++ after) (omega arith) rest bars stbars log_bars log_stbars more most more most (omega arith, omega arith, is, is_st))
+  kept_events n x kept here (store n1 a b v w at) p xs ys ds es origins after rest bars stbars log_bars log_stbars more most low low_st (up, up_st, is, is_st) =
+      take p n1 low low_st more most _ _ _ _ (origins ++ after) (from_same p a b false at _ _ refl refl refl refl refl refl) refl up up_st is is_st
       (λ is_load is_swap. absurd (false≢true is_swap))
-      (cut_from (suc n1) xs1 ys1 here1 cut p bars stbars log_bars log_stbars more most more most ds es after (omega arith) (omega arith) is is_st
-      (at_number (suc p) _ _ 0 0 ds es after (number_after n1 (St a v) xs1 (suc n1) (omega arith)) rest))
-  cut_from n xs ys here (swap n1 a b r v q w xs1 ys1 here1 at cut) p bars stbars log_bars log_stbars more most low low_st ds es after up up_st is is_st rest =
-      take p n1 low low_st more most _ _ _ _ (suc n1 ∷ here1 ++ after) (from_same p a b true at _ _ refl refl refl refl refl refl) refl up up_st is is_st
+      (rest_at p (n1 + 1) (suc n1) xs ys ds es (origins ++ after) (omega arith) rest bars stbars log_bars log_stbars more most more most (omega arith, omega arith, is, is_st))
+  kept_events n x kept here (swap n1 a b r v q w at) p xs ys ds es origins after rest bars stbars log_bars log_stbars more most low low_st (up, up_st, is, is_st) =
+      take p n1 low low_st more most _ _ _ _ (suc n1 ∷ origins ++ after) (from_same p a b true at _ _ refl refl refl refl refl refl) refl up up_st is is_st
       (λ is_load is_swap. (refl, refl))
-      (take p (suc n1) more most more most _ _ _ _ (here1 ++ after) (from_same p a b false at _ _ refl refl refl refl refl refl) refl (omega arith) (omega arith) is is_st
+      (take p (suc n1) more most more most _ _ _ _ (origins ++ after) (from_same p a b false at _ _ refl refl refl refl refl refl) refl (omega arith) (omega arith) is is_st
       (λ is_load is_swap. absurd (false≢true is_load))
-      (cut_from (suc (suc n1)) xs1 ys1 here1 cut p bars stbars log_bars log_stbars more most more most ds es after (omega arith) (omega arith) is is_st
-      (at_number (suc p) _ _ 0 0 ds es after (number_after n1 (Sw a r v) xs1 (suc (suc n1)) (omega arith)) rest)))
-  cut_from n xs ys here (membar n1 xs1 ys1 here1 cut) p bars stbars log_bars log_stbars more most low low_st ds es after up up_st is is_st rest =
-      cut_from n1 xs1 ys1 here1 cut p (suc bars) stbars (suc log_bars) log_stbars more most low low_st ds es after up up_st (omega (arith, is)) is_st
-      (at_number (suc p) _ _ 0 0 ds es after (number_after n1 Mb xs1 n1 (omega arith)) rest)
-  cut_from n xs ys here (stbar n1 xs1 ys1 here1 cut) p bars stbars log_bars log_stbars more most low low_st ds es after up up_st is is_st rest =
-      cut_from n1 xs1 ys1 here1 cut p bars (suc stbars) log_bars (suc log_stbars) more most low low_st ds es after up up_st is (omega (arith, is_st))
-      (at_number (suc p) _ _ 0 0 ds es after (number_after n1 Sb xs1 n1 (omega arith)) rest)
-  cut_from n xs ys here (swap_load n1 a b r v q xs1 ys1 here1 at cut) p bars stbars log_bars log_stbars more most low low_st ds es after up up_st is is_st rest =
-      take p n1 low low_st more most _ _ _ _ (here1 ++ after) (from_same p a b true at _ _ refl refl refl refl refl refl) refl up up_st is is_st
+      (rest_at p (n1 + 2) (suc (suc n1)) xs ys ds es (origins ++ after) (omega arith) rest bars stbars log_bars log_stbars more most more most (omega arith, omega arith, is, is_st)))
+  kept_events n x kept here (membar n1) p xs ys ds es origins after rest bars stbars log_bars log_stbars more most low low_st (up, up_st, is, is_st) =
+      rest_at p (n1 + 0) n1 xs ys ds es (origins ++ after) (omega arith) rest (suc bars) stbars (suc log_bars) log_stbars more most low low_st (up, up_st, omega (arith, is), is_st)
+  kept_events n x kept here (stbar n1) p xs ys ds es origins after rest bars stbars log_bars log_stbars more most low low_st (up, up_st, is, is_st) =
+      rest_at p (n1 + 0) n1 xs ys ds es (origins ++ after) (omega arith) rest bars (suc stbars) log_bars (suc log_stbars) more most low low_st (up, up_st, is, omega (arith, is_st))
+  kept_events n x kept here (swap_load n1 a b r v q at) p xs ys ds es origins after rest bars stbars log_bars log_stbars more most low low_st (up, up_st, is, is_st) =
+      take p n1 low low_st more most _ _ _ _ (origins ++ after) (from_same p a b true at _ _ refl refl refl refl refl refl) refl up up_st is is_st
       (λ is_load is_swap. absurd (false≢true is_swap))
-      (skip p (suc n1) more most _ _ _ (here1 ++ after)
-      (cut_from (suc (suc n1)) xs1 ys1 here1 cut p bars stbars log_bars log_stbars more most more most ds es after (omega arith) (omega arith) is is_st
-      (at_number (suc p) _ _ 0 0 ds es after (number_after n1 (Sw a r v) xs1 (suc (suc n1)) (omega arith)) rest)))
-  cut_from n xs ys here (swap_store n1 a b r v w xs1 ys1 here1 at cut) p bars stbars log_bars log_stbars more most low low_st ds es after up up_st is is_st rest =
-      skip p n1 low low_st _ _ _ (suc n1 ∷ here1 ++ after)
-      (take p (suc n1) low low_st more most _ _ _ _ (here1 ++ after) (from_same p a b false at _ _ refl refl refl refl refl refl) refl up up_st is is_st
+      (skip p (suc n1) more most _ _ _ (origins ++ after)
+      (rest_at p (n1 + 2) (suc (suc n1)) xs ys ds es (origins ++ after) (omega arith) rest bars stbars log_bars log_stbars more most more most (omega arith, omega arith, is, is_st)))
+  kept_events n x kept here (swap_store n1 a b r v w at) p xs ys ds es origins after rest bars stbars log_bars log_stbars more most low low_st (up, up_st, is, is_st) =
+      skip p n1 low low_st _ _ _ (suc n1 ∷ origins ++ after)
+      (take p (suc n1) low low_st more most _ _ _ _ (origins ++ after) (from_same p a b false at _ _ refl refl refl refl refl refl) refl up up_st is is_st
       (λ is_load is_swap. absurd (false≢true is_load))
-      (cut_from (suc (suc n1)) xs1 ys1 here1 cut p bars stbars log_bars log_stbars more most more most ds es after (omega arith) (omega arith) is is_st
-      (at_number (suc p) _ _ 0 0 ds es after (number_after n1 (Sw a r v) xs1 (suc (suc n1)) (omega arith)) rest)))
+      (rest_at p (n1 + 2) (suc (suc n1)) xs ys ds es (origins ++ after) (omega arith) rest bars stbars log_bars log_stbars more most more most (omega arith, omega arith, is, is_st)))
+
+  -- the number after one more operation and more of them
+  number_after : (n : ℕ) (x : Outcome) (xs : List Outcome) → n + total_events (map op_of (x ∷ xs)) ≡ (n + event_count (op_of x)) + total_events (map op_of xs)
+  number_after n x xs = omega (arith, sum_by-cons event_count (op_of x) (map op_of xs))
+
+  -- the events of what is cut out of a processor's operations, with those of later processors after them
+  cut_from : (n : ℕ) (xs ys : List Outcome) (origins : List ℕ) → IsCutFrom addresses n xs ys origins → (p : ℕ) (ds es : List Event) (after : List ℕ)
+      → AreEventsFrom addresses (suc p) (n + total_events (map op_of xs)) 0 0 ds es after → AreRest p n xs ys ds es (origins ++ after)
+  unfolding AreRest
+  cut_from n xs ys origins (ended n1) p ds es after later = λ bars stbars log_bars log_stbars more most low low_st are.
+      next p (suc p) n1 low low_st ds es after (omega arith) (at_number (suc p) (n1 + 0) n1 0 0 ds es after (omega arith) later)
+  cut_from n xs ys origins (operation n1 x kept here xs1 ys1 origins1 is_kept cut) p ds es after later =
+      kept_events n1 x kept here is_kept p xs1 ys1 ds es origins1 after
+      (cut_from (n1 + event_count (op_of x)) xs1 ys1 origins1 cut p ds es after (at_number (suc p) _ _ 0 0 ds es after (number_after n1 x xs1) later))
 
   -- the events of what is cut out of these processors' lists
   pub cut_of_lists : (n : ℕ) (logs lists : List (List Outcome)) (origins : List ℕ) → AreCutFrom addresses n logs lists origins → (p : ℕ)
       → AreEventsFrom addresses p n 0 0 (events_of_lists p logs) (events_of_lists p lists) origins
+  unfolding AreRest
   cut_of_lists n logs lists origins (no_more n1) p = none p n1 0 0
-  cut_of_lists n logs lists origins (processor n1 xs ys logs1 lists1 here after cut others) p =
-      cut_from n1 xs ys here cut p 0 0 0 0 0 0 0 0 (events_of_lists (suc p) logs1) (events_of_lists (suc p) lists1) after (omega arith) (omega arith) (omega arith) (omega arith)
-      (cut_of_lists (n1 + total_events (map op_of xs)) logs1 lists1 after others (suc p))
+  cut_of_lists n logs lists origins (processor n1 xs ys here logs1 lists1 origins1 cut others) p =
+      cut_from n1 xs ys here cut p (events_of_lists (suc p) logs1) (events_of_lists (suc p) lists1) origins1
+      (cut_of_lists (n1 + total_events (map op_of xs)) logs1 lists1 origins1 others (suc p))
+      0 0 0 0 0 0 0 0 (omega arith, omega arith, omega arith, omega arith)

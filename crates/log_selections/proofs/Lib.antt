@@ -1,4 +1,5 @@
 pub mod CutEvents
+pub mod CutGrowth
 pub mod CutSelections
 pub mod Restriction
 pub mod SelectionOrders

@@ -7,34 +7,32 @@ use Rattle.tso_ops.specs.Limits.{event_count, total_events}
 use Rattle.tso_ops.specs.Events.{IsLoad, HasSource}
 use Rattle.log_selections.specs.Logs.{LogValue}
 
--- The operations `ys` are cut out of a processor's operations `xs` of the log, of which the first event has number n. `origins` has the numbers
--- in the log of the events of `ys`. An address b of the trace is the log's address at place b of `addresses`. Values may be any: what
--- they have to be follows from the sources of loads, below.
+-- What is kept of an operation of the log, whose first event has number n, and the numbers in the log of the events that this gives. An address
+-- b of the trace is the log's address at place b of `addresses`. Values may be any: the sources of loads, below, say which are equal.
+pub data IsKept (addresses : List ℕ) : ℕ → Outcome → List Outcome → List ℕ → Type 0 where
+  -- an operation or a barrier is left out
+  nothing : (n : ℕ) (x : Outcome) → IsKept addresses n x [] []
+  -- it is kept
+  load : (n a b r q : ℕ) → slice_get addresses b ≡ Some a → IsKept addresses n (Ld a r) (Ld b q ∷ []) (n ∷ [])
+  store : (n a b v w : ℕ) → slice_get addresses b ≡ Some a → IsKept addresses n (St a v) (St b w ∷ []) (n ∷ [])
+  swap : (n a b r v q w : ℕ) → slice_get addresses b ≡ Some a → IsKept addresses n (Sw a r v) (Sw b q w ∷ []) (n ∷ suc n ∷ [])
+  membar : (n : ℕ) → IsKept addresses n Mb (Mb ∷ []) []
+  stbar : (n : ℕ) → IsKept addresses n Sb (Sb ∷ []) []
+  -- of a swap its load alone is kept, or its store
+  swap_load : (n a b r v q : ℕ) → slice_get addresses b ≡ Some a → IsKept addresses n (Sw a r v) (Ld b q ∷ []) (n ∷ [])
+  swap_store : (n a b r v w : ℕ) → slice_get addresses b ≡ Some a → IsKept addresses n (Sw a r v) (St b w ∷ []) (suc n ∷ [])
+
+-- The same of a processor's operations, the first event of which has number n: what is kept of each, in their order.
 pub data IsCutFrom (addresses : List ℕ) : ℕ → List Outcome → List Outcome → List ℕ → Type 0 where
   ended : (n : ℕ) → IsCutFrom addresses n [] [] []
-  -- an operation or a barrier is left out
-  left_out : (n : ℕ) (x : Outcome) (xs ys : List Outcome) (origins : List ℕ) → IsCutFrom addresses (n + event_count (op_of x)) xs ys origins
-      → IsCutFrom addresses n (x ∷ xs) ys origins
-  -- a load, a store, a swap or a barrier is kept
-  load : (n a b r q : ℕ) (xs ys : List Outcome) (origins : List ℕ) → slice_get addresses b ≡ Some a → IsCutFrom addresses (suc n) xs ys origins
-      → IsCutFrom addresses n (Ld a r ∷ xs) (Ld b q ∷ ys) (n ∷ origins)
-  store : (n a b v w : ℕ) (xs ys : List Outcome) (origins : List ℕ) → slice_get addresses b ≡ Some a → IsCutFrom addresses (suc n) xs ys origins
-      → IsCutFrom addresses n (St a v ∷ xs) (St b w ∷ ys) (n ∷ origins)
-  swap : (n a b r v q w : ℕ) (xs ys : List Outcome) (origins : List ℕ) → slice_get addresses b ≡ Some a → IsCutFrom addresses (suc (suc n)) xs ys origins
-      → IsCutFrom addresses n (Sw a r v ∷ xs) (Sw b q w ∷ ys) (n ∷ suc n ∷ origins)
-  membar : (n : ℕ) (xs ys : List Outcome) (origins : List ℕ) → IsCutFrom addresses n xs ys origins → IsCutFrom addresses n (Mb ∷ xs) (Mb ∷ ys) origins
-  stbar : (n : ℕ) (xs ys : List Outcome) (origins : List ℕ) → IsCutFrom addresses n xs ys origins → IsCutFrom addresses n (Sb ∷ xs) (Sb ∷ ys) origins
-  -- of a swap its load alone is kept, or its store
-  swap_load : (n a b r v q : ℕ) (xs ys : List Outcome) (origins : List ℕ) → slice_get addresses b ≡ Some a → IsCutFrom addresses (suc (suc n)) xs ys origins
-      → IsCutFrom addresses n (Sw a r v ∷ xs) (Ld b q ∷ ys) (n ∷ origins)
-  swap_store : (n a b r v w : ℕ) (xs ys : List Outcome) (origins : List ℕ) → slice_get addresses b ≡ Some a → IsCutFrom addresses (suc (suc n)) xs ys origins
-      → IsCutFrom addresses n (Sw a r v ∷ xs) (St b w ∷ ys) (suc n ∷ origins)
+  operation : (n : ℕ) (x : Outcome) (kept : List Outcome) (here : List ℕ) (xs ys : List Outcome) (origins : List ℕ) → IsKept addresses n x kept here
+      → IsCutFrom addresses (n + event_count (op_of x)) xs ys origins → IsCutFrom addresses n (x ∷ xs) (kept ++ ys) (here ++ origins)
 
--- The same of the lists of processors, one for one. The first event of the log's lists has number n.
+-- The same of the lists of processors, one for one, the first event of which has number n.
 pub data AreCutFrom (addresses : List ℕ) : ℕ → List (List Outcome) → List (List Outcome) → List ℕ → Type 0 where
   no_more : (n : ℕ) → AreCutFrom addresses n [] [] []
-  processor : (n : ℕ) (xs ys : List Outcome) (logs lists : List (List Outcome)) (here after : List ℕ) → IsCutFrom addresses n xs ys here
-      → AreCutFrom addresses (n + total_events (map op_of xs)) logs lists after → AreCutFrom addresses n (xs ∷ logs) (ys ∷ lists) (here ++ after)
+  processor : (n : ℕ) (xs ys : List Outcome) (here : List ℕ) (logs lists : List (List Outcome)) (origins : List ℕ) → IsCutFrom addresses n xs ys here
+      → AreCutFrom addresses (n + total_events (map op_of xs)) logs lists origins → AreCutFrom addresses n (xs ∷ logs) (ys ∷ lists) (here ++ origins)
 
 -- the number in the log of event n of the trace; number 0, the writer of the first values, is itself
 abbrev pub origin_in : List ℕ → ℕ → ℕ

@@ -1,11 +1,13 @@
 //! What is left of a log, and renamed, keeps the log's memory orders.
 
-ghost use Rattle.std.specs.Prelude.{◌↔◌, ℕ};
-ghost use Rattle.tso_ops.specs.Values.{TraceValue};
-ghost use Rattle.tso_ops.specs.Limits.{IsTrace};
+ghost use Rattle.std.specs.Prelude.{◌↔◌, ℕ, ◌+◌, List, [], ◌∷◌, ◌++◌, map};
+ghost use Rattle.std.specs.List.{flat_map};
+ghost use Rattle.tso_ops.specs.declared.ops.Outcome.{Outcome};
+ghost use Rattle.tso_ops.specs.Values.{TraceValue, op_of};
+ghost use Rattle.tso_ops.specs.Limits.{IsTrace, total_events};
 ghost use Rattle.tso_ops.specs.Events.{IsLoad, HasSource};
 ghost use Rattle.tso_model.specs.Axioms.{IsConsistent};
-ghost use Rattle.log_selections.specs.Cuts.{IsCut};
+ghost use Rattle.log_selections.specs.Cuts.{IsKept, IsCutFrom, AreCutFrom, IsCut};
 ghost use Rattle.log_selections.specs.Logs.{LogValue, HasOrder, log_of};
 ghost use Rattle.log_selections.specs.Selections.{IsSelection};
 
@@ -27,6 +29,15 @@ pub fn cuts_are_selections()
 /// A trace that is cut out of a log and has no order of its memory model is of a log that has none.
 pub fn violations_of_cuts_are_violations()
     ensures { (log : LogValue) (t : TraceValue) → IsCut log t → (IsConsistent t → ⊥) → HasOrder log → ⊥ }
+{}
+
+/// What is cut out of a log grows at its end: by what is kept of the next operation of a processor, by the next
+/// processor, and by more addresses.
+pub fn cuts_grow()
+    ensures operation { (addresses : List ℕ) (n : ℕ) (xs ys : List Outcome) (origins : List ℕ) (x : Outcome) (kept : List Outcome) (here : List ℕ) → IsCutFrom addresses n xs ys origins → IsKept addresses (n + total_events (map op_of xs)) x kept here → IsCutFrom addresses n (xs ++ x ∷ []) (ys ++ kept) (origins ++ here) }
+    ensures processor { (addresses : List ℕ) (n : ℕ) (logs lists : List (List Outcome)) (origins : List ℕ) (xs ys : List Outcome) (here : List ℕ) → AreCutFrom addresses n logs lists origins → IsCutFrom addresses (n + total_events (flat_map (map op_of) logs)) xs ys here → AreCutFrom addresses n (logs ++ xs ∷ []) (lists ++ ys ∷ []) (origins ++ here) }
+    ensures more_addresses { (addresses more : List ℕ) (n : ℕ) (xs ys : List Outcome) (origins : List ℕ) → IsCutFrom addresses n xs ys origins → IsCutFrom (addresses ++ more) n xs ys origins }
+    ensures more_addresses_of_lists { (addresses more : List ℕ) (n : ℕ) (logs lists : List (List Outcome)) (origins : List ℕ) → AreCutFrom addresses n logs lists origins → AreCutFrom (addresses ++ more) n logs lists origins }
 {}
 
 /// A trace with the sources of its loads is a log: it has an order exactly where the trace has one, and the trace is a
