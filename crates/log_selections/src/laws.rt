@@ -1,15 +1,16 @@
 //! What is left of a log, and renamed, keeps the log's memory orders.
 
-ghost use Rattle.std.specs.Prelude.{◌↔◌, ℕ, ◌+◌, List, [], ◌∷◌, ◌++◌, map};
+ghost use Rattle.std.specs.Prelude.{◌≡◌, ◌↔◌, ℕ, ◌+◌, List, [], ◌∷◌, ◌++◌, map, Some};
 ghost use Rattle.std.specs.List.{flat_map};
 ghost use Rattle.tso_ops.specs.declared.ops.Outcome.{Outcome};
 ghost use Rattle.tso_ops.specs.Values.{TraceValue, op_of};
 ghost use Rattle.tso_ops.specs.Limits.{IsTrace, total_events};
 ghost use Rattle.tso_ops.specs.Events.{IsLoad, HasSource};
-ghost use Rattle.tso_model.specs.Axioms.{IsConsistent};
+ghost use Rattle.tso_model.specs.Axioms.{IsModelOrder, IsConsistent};
 ghost use Rattle.log_selections.specs.Cuts.{IsKept, IsCutFrom, AreCutFrom, IsCut};
-ghost use Rattle.log_selections.specs.Logs.{LogValue, HasOrder, log_of};
+ghost use Rattle.log_selections.specs.Logs.{LogValue, ReadsFrom, HasOrder, log_of};
 ghost use Rattle.log_selections.specs.Selections.{IsSelection};
+ghost use Rattle.log_selections.specs.Sources.{HasKnownSources};
 
 /// Where the log has an order of its memory model, a selection of it has one too.
 pub fn selections_keep_orders()
@@ -26,9 +27,18 @@ pub fn cuts_are_selections()
     ensures { (log : LogValue) (t : TraceValue) → IsCut log t → IsSelection log t }
 {}
 
-/// A trace that is cut out of a log and has no order of its memory model is of a log that has none.
+/// A trace that is cut out of a log and has no order of its memory model is of a log that has none. Where the log names no
+/// sources but those that the values tell, its operations have none by their values alone.
 pub fn violations_of_cuts_are_violations()
-    ensures { (log : LogValue) (t : TraceValue) → IsCut log t → (IsConsistent t → ⊥) → HasOrder log → ⊥ }
+    ensures log { (log : LogValue) (t : TraceValue) → IsCut log t → (IsConsistent t → ⊥) → HasOrder log → ⊥ }
+    ensures operations { (log : LogValue) (t : TraceValue) → HasKnownSources log → IsCut log t → (IsConsistent t → ⊥) → IsConsistent log.operations → ⊥ }
+{}
+
+/// In each order that meets the axioms, which speak of values, a load reads from the only source that it can have. So a log that
+/// names no other sources has an order exactly where its operations have one.
+pub fn known_sources_are_sources()
+    ensures reads { (log : LogValue) (order : List ℕ) → HasKnownSources log → IsModelOrder log.operations order → (l s : ℕ) → IsLoad log.operations l → log.source l ≡ Some s → ReadsFrom log.operations order l s }
+    ensures orders { (log : LogValue) → HasKnownSources log → HasOrder log ↔ IsConsistent log.operations }
 {}
 
 /// What is cut out of a log grows at its end: by what is kept of the next operation of a processor, by the next
