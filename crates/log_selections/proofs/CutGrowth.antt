@@ -7,7 +7,7 @@ use Rattle.tso_ops.specs.declared.ops.Outcome.{Outcome}
 use Rattle.tso_ops.specs.Values.{op_of}
 use Rattle.tso_ops.specs.Limits.{event_count, total_events}
 use Rattle.tso_ops.proofs.PlaceFacts.{get-left}
-use Rattle.log_selections.specs.Cuts.{IsKept, nothing, load, store, swap, membar, stbar, swap_load, swap_store, IsCutFrom, ended, operation, AreCutFrom, no_more, processor}
+use Rattle.log_selections.specs.Cuts.{IsKept, nothing, load, store, swap, membar, stbar, swap_load, swap_store, IsCutFrom, ended, operation, AreCutFrom, no_more, left_out, processor}
 
 module _ (addresses : List ℕ) where
   kept_at : (m n : ℕ) (x : Outcome) (kept : List Outcome) (here : List ℕ) → m ≡ n → IsKept addresses m x kept here → IsKept addresses n x kept here
@@ -37,11 +37,24 @@ module _ (addresses : List ℕ) where
   cut_push_processor n logs lists origins (no_more n1) xs ys here cut =
       subst (λ os. AreCutFrom addresses n1 (xs ∷ []) (ys ∷ []) os) (append-nil here)
       (processor n1 xs ys here [] [] [] (from_at (n1 + 0) n1 xs ys here (omega arith) cut) (no_more (n1 + total_events (map op_of xs))))
+  cut_push_processor n logs lists origins (left_out n1 xs1 logs1 lists1 origins1 others) xs ys here cut =
+      left_out n1 xs1 (logs1 ++ xs ∷ []) (lists1 ++ ys ∷ []) (origins1 ++ here)
+      (cut_push_processor (n1 + total_events (map op_of xs1)) logs1 lists1 origins1 others xs ys here
+      (from_at _ _ xs ys here (omega (arith, sum_by-append event_count (map op_of xs1) (flat_map (map op_of) logs1))) cut))
   cut_push_processor n logs lists origins (processor n1 xs1 ys1 here1 logs1 lists1 origins1 cut1 others) xs ys here cut =
       subst (λ os. AreCutFrom addresses n1 (xs1 ∷ logs1 ++ xs ∷ []) (ys1 ∷ lists1 ++ ys ∷ []) os) (sym (append_assoc here1 origins1 here))
       (processor n1 xs1 ys1 here1 (logs1 ++ xs ∷ []) (lists1 ++ ys ∷ []) (origins1 ++ here) cut1
       (cut_push_processor (n1 + total_events (map op_of xs1)) logs1 lists1 origins1 others xs ys here
       (from_at _ _ xs ys here (omega (arith, sum_by-append event_count (map op_of xs1) (flat_map (map op_of) logs1))) cut)))
+
+  -- with one more processor of the log, which is left out
+  pub cut_push_left_out : (n : ℕ) (logs lists : List (List Outcome)) (origins : List ℕ) → AreCutFrom addresses n logs lists origins → (xs : List Outcome)
+      → AreCutFrom addresses n (logs ++ xs ∷ []) lists origins
+  cut_push_left_out n logs lists origins (no_more n1) xs = left_out n1 xs [] [] [] (no_more (n1 + total_events (map op_of xs)))
+  cut_push_left_out n logs lists origins (left_out n1 xs1 logs1 lists1 origins1 others) xs =
+      left_out n1 xs1 (logs1 ++ xs ∷ []) lists1 origins1 (cut_push_left_out (n1 + total_events (map op_of xs1)) logs1 lists1 origins1 others xs)
+  cut_push_left_out n logs lists origins (processor n1 xs1 ys1 here1 logs1 lists1 origins1 cut1 others) xs =
+      processor n1 xs1 ys1 here1 (logs1 ++ xs ∷ []) lists1 origins1 cut1 (cut_push_left_out (n1 + total_events (map op_of xs1)) logs1 lists1 origins1 others xs)
 
 module _ (addresses more : List ℕ) where
   -- with more addresses
@@ -63,5 +76,7 @@ module _ (addresses more : List ℕ) where
   pub more_cuts : (n : ℕ) (logs lists : List (List Outcome)) (origins : List ℕ) → AreCutFrom addresses n logs lists origins
       → AreCutFrom (addresses ++ more) n logs lists origins
   more_cuts n logs lists origins (no_more n1) = no_more n1
+  more_cuts n logs lists origins (left_out n1 xs logs1 lists1 origins1 others) =
+      left_out n1 xs logs1 lists1 origins1 (more_cuts (n1 + total_events (map op_of xs)) logs1 lists1 origins1 others)
   more_cuts n logs lists origins (processor n1 xs ys here logs1 lists1 origins1 cut others) =
       processor n1 xs ys here logs1 lists1 origins1 (more_cut n1 xs ys here cut) (more_cuts (n1 + total_events (map op_of xs)) logs1 lists1 origins1 others)

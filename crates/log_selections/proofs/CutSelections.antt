@@ -8,7 +8,8 @@ use Rattle.tso_ops.proofs.NumberFacts.{event_unique}
 use Rattle.log_selections.specs.Logs.{LogValue}
 use Rattle.log_selections.specs.Selections.{IsSelectionBy, IsSelection}
 use Rattle.log_selections.specs.Cuts.{origin_in, IsCutBy, IsCut}
-use Rattle.log_selections.proofs.CutEvents.{IsEventFrom, found_event, found_events, cut_of_lists}
+use Rattle.log_selections.proofs.CutEvents.{IsEventFrom, found_event, found_events}
+use Rattle.log_selections.proofs.CutLists.{cut_events}
 
 -- a number found among the origins
 origin_got : (origins : List ℕ) (k n : ℕ) → slice_get origins k ≡ Some n → get_or origins k 0 ≡ n
@@ -31,7 +32,7 @@ module _ (log : LogValue) (t : TraceValue) (addresses origins : List ℕ) (cut :
   unfolding event_at events_of
   has_origin zero e at = absurd cc
   has_origin (suc k) e at =
-      let found = found_event addresses 0 1 0 0 (events_of log.operations) (events_of t) origins (cut_of_lists addresses 1 log.operations.lists t.lists origins cut.lists 0) k e at in
+      let found = found_event addresses 0 0 1 0 0 (events_of log.operations) (events_of t) origins (cut_events addresses log.operations.lists t.lists origins cut.lists) k e at in
       let here : origin (suc k) ≡ suc found.j = origin_got origins k (1 + found.j) found.origin ∙ omega arith in
       record {
         d = found.d;
@@ -49,6 +50,7 @@ module _ (log : LogValue) (t : TraceValue) (addresses origins : List ℕ) (cut :
     first : event_at log.operations (origin u) ≡ Some c
     second : event_at log.operations (origin v) ≡ Some d
     before : origin u < origin v
+    proc : e.proc ≡ f.proc ↔ c.proc ≡ d.proc
     barriers : e.proc ≡ f.proc → e.bars < f.bars → c.bars < d.bars
     stbars : e.proc ≡ f.proc → e.stbars < f.stbars → c.stbars < d.stbars
 
@@ -57,7 +59,7 @@ module _ (log : LogValue) (t : TraceValue) (addresses origins : List ℕ) (cut :
   have_origins zero v e f before at_u at_v = absurd cc
   have_origins (suc k) zero e f before at_u at_v = absurd (omega arith)
   have_origins (suc k) (suc m) e f before at_u at_v =
-      let found = found_events addresses 0 1 0 0 (events_of log.operations) (events_of t) origins (cut_of_lists addresses 1 log.operations.lists t.lists origins cut.lists 0) k m e f (omega arith) at_u at_v in
+      let found = found_events addresses 0 0 1 0 0 (events_of log.operations) (events_of t) origins (cut_events addresses log.operations.lists t.lists origins cut.lists) k m e f (omega arith) at_u at_v in
       let first : origin (suc k) ≡ suc found.i = origin_got origins k (1 + found.i) found.first_origin ∙ omega arith in
       let second : origin (suc m) ≡ suc found.j = origin_got origins m (1 + found.j) found.second_origin ∙ omega arith in
       let below = found.before in
@@ -67,6 +69,7 @@ module _ (log : LogValue) (t : TraceValue) (addresses origins : List ℕ) (cut :
         first = subst (λ n. event_at log.operations n ≡ Some found.c) (sym first) found.first_at;
         second = subst (λ n. event_at log.operations n ≡ Some found.d) (sym second) found.second_at;
         before = omega (arith, first, second, below);
+        proc = found.proc;
         barriers = found.barriers;
         stbars = found.stbars;
       }
@@ -96,17 +99,15 @@ module _ (log : LogValue) (t : TraceValue) (addresses origins : List ℕ) (cut :
 
   program_order : (u v : ℕ) → IsEvent t u → IsEvent t v → Earlier t u v ↔ Earlier log.operations (origin u) (origin v)
   program_order u v (e, at_u) (f, at_v) = (
-    λ earlier.
-        let first = has_origin u earlier.0 earlier.2 in
-        let second = has_origin v earlier.1 earlier.3 in
-        (first.d, second.d, first.at, second.at, sym first.like.proc ∙ earlier.4 ∙ second.like.proc, origin_below u v (e, at_u) (f, at_v) earlier.5),
-    λ earlier.
-        let first = has_origin u e at_u in
-        let second = has_origin v f at_v in
-        let one = event_unique log.operations (origin u) first.d earlier.0 first.at earlier.2 in
-        let other = event_unique log.operations (origin v) second.d earlier.1 second.at earlier.3 in
-        let proc = first.like.proc ∙ ap (λ (x : Event). x.proc) one ∙ earlier.4 ∙ ap (λ (x : Event). x.proc) (sym other) ∙ sym second.like.proc in
-        (e, f, at_u, at_v, proc, below_of_origins u v (e, at_u) (f, at_v) earlier.5),
+    λ (d1, d2, got_u, got_v, one, before).
+        let pair = have_origins u v d1 d2 before got_u got_v in
+        (pair.c, pair.d, pair.first, pair.second, pair.proc.0 one, pair.before),
+    λ (d1, d2, got_u, got_v, one, below).
+        let before = below_of_origins u v (e, at_u) (f, at_v) below in
+        let pair = have_origins u v e f before at_u at_v in
+        let first = event_unique log.operations (origin u) pair.c d1 pair.first got_u in
+        let second = event_unique log.operations (origin v) pair.d d2 pair.second got_v in
+        (e, f, at_u, at_v, pair.proc.1 (ap (λ (x : Event). x.proc) first ∙ one ∙ ap (λ (x : Event). x.proc) (sym second)), before),
   )
 
   same_addresses : (u v : ℕ) → IsEvent t u → IsEvent t v → SameAddress t u v ↔ SameAddress log.operations (origin u) (origin v)

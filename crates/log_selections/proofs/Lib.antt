@@ -1,5 +1,6 @@
 pub mod CutEvents
 pub mod CutGrowth
+pub mod CutLists
 pub mod CutSelections
 pub mod KnownSources
 pub mod Restriction

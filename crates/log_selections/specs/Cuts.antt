@@ -28,9 +28,11 @@ pub data IsCutFrom (addresses : List ℕ) : ℕ → List Outcome → List Outcom
   operation : (n : ℕ) (x : Outcome) (kept : List Outcome) (here : List ℕ) (xs ys : List Outcome) (origins : List ℕ) → IsKept addresses n x kept here
       → IsCutFrom addresses (n + event_count (op_of x)) xs ys origins → IsCutFrom addresses n (x ∷ xs) (kept ++ ys) (here ++ origins)
 
--- The same of the lists of processors, one for one, the first event of which has number n.
+-- The same of the lists of the log's processors, the first event of which has number n. A processor may be left out; the others keep their order.
 pub data AreCutFrom (addresses : List ℕ) : ℕ → List (List Outcome) → List (List Outcome) → List ℕ → Type 0 where
   no_more : (n : ℕ) → AreCutFrom addresses n [] [] []
+  left_out : (n : ℕ) (xs : List Outcome) (logs lists : List (List Outcome)) (origins : List ℕ)
+      → AreCutFrom addresses (n + total_events (map op_of xs)) logs lists origins → AreCutFrom addresses n (xs ∷ logs) lists origins
   processor : (n : ℕ) (xs ys : List Outcome) (here : List ℕ) (logs lists : List (List Outcome)) (origins : List ℕ) → IsCutFrom addresses n xs ys here
       → AreCutFrom addresses (n + total_events (map op_of xs)) logs lists origins → AreCutFrom addresses n (xs ∷ logs) (ys ∷ lists) (here ++ origins)
 
