@@ -1,6 +1,11 @@
 -- What is cut out of a log is a selection of it.
-use Rattle.std.proofs.Common.{◌≡◌, ◌↔◌, ⊎_elim, ℕ, zero, suc, ◌+◌, ◌<◌, IsTrue, List, [], ◌∷◌, Some, slice_get, get_or, refl, sym, ap, subst, ◌∙◌, arith}
+use Rattle.std.proofs.Common.{◌≡◌, ◌↔◌, ⊎_elim, ℕ, zero, suc, ◌+◌, ◌<◌, IsTrue, List, [], ◌∷◌, Some, slice_get, get_or, false, eqb, refl, sym, ap, subst, ◌∙◌, arith}
+use Rattle.std.specs.List.{IsDistinct, AllByRecursion}
 use Rattle.std.proofs.lemmas.Bool.{cases_lt}
+use Rattle.std.proofs.lemmas.Bool.Decides.{nat_tests}
+use Rattle.std.proofs.lemmas.Map.Keys.{IsDistinct-head, IsDistinct-tail}
+use Rattle.std.proofs.lemmas.Option.{same_Some}
+use Rattle.tso_ops.proofs.EventFacts.{each-at}
 use Rattle.tso_ops.specs.declared.events.Event.{Event}
 use Rattle.tso_ops.specs.Values.{TraceValue}
 use Rattle.tso_ops.specs.Events.{events_of, event_at, IsEvent, IsLoad, IsStore, IsSwapLoad, SameAddress, Earlier, HasFewerBarriersBefore, HasFewerStbarsBefore}
@@ -10,6 +15,21 @@ use Rattle.log_selections.specs.Selections.{IsSelectionBy, IsSelection}
 use Rattle.log_selections.specs.Cuts.{origin_in, IsCutBy, IsCut}
 use Rattle.log_selections.proofs.CutEvents.{IsEventFrom, found_event, found_events}
 use Rattle.log_selections.proofs.CutLists.{cut_events}
+
+-- the first number doesn't stand among the others of such a list
+not_again : (x : ℕ) (xs : List ℕ) → AllByRecursion (λ y. eqb x y ≡ false) xs → (c a : ℕ) → Some x ≡ Some a → slice_get xs c ≡ Some a → ⊥
+not_again x xs others c a first second =
+    let same : x ≡ a = same_Some x a first in
+    let differs : eqb x a ≡ false = each-at (λ y. eqb x y ≡ false) xs c a second others in
+    grind (arith, nat_tests)
+
+-- a number stands at one place of a list that has each once
+one_place : (xs : List ℕ) → IsDistinct eqb xs → (b c a : ℕ) → slice_get xs b ≡ Some a → slice_get xs c ≡ Some a → b ≡ c
+one_place [] distinct b c a first second = absurd cc
+one_place (x ∷ xs) distinct zero zero a first second = refl
+one_place (x ∷ xs) distinct zero (suc c) a first second = absurd (not_again x xs (IsDistinct-head eqb x xs distinct) c a first second)
+one_place (x ∷ xs) distinct (suc b) zero a first second = absurd (not_again x xs (IsDistinct-head eqb x xs distinct) b a second first)
+one_place (x ∷ xs) distinct (suc b) (suc c) a first second = ap suc (one_place xs (IsDistinct-tail eqb x xs distinct) b c a first second)
 
 -- a number found among the origins
 origin_got : (origins : List ℕ) (k n : ℕ) → slice_get origins k ≡ Some n → get_or origins k 0 ≡ n
@@ -123,7 +143,7 @@ module _ (log : LogValue) (t : TraceValue) (addresses origins : List ℕ) (cut :
         let one = event_unique log.operations (origin u) first.d same.0 first.at same.2 in
         let other = event_unique log.operations (origin v) second.d same.1 second.at same.3 in
         let address : second.d.a ≡ first.d.a = ap (λ (x : Event). x.a) other ∙ sym same.4 ∙ ap (λ (x : Event). x.a) (sym one) in
-        (e, f, at_u, at_v, cut.distinct first.d.a e.a f.a first.like.address (second.like.address ∙ ap (λ a. Some a) address)),
+        (e, f, at_u, at_v, one_place addresses cut.distinct e.a f.a first.d.a first.like.address (second.like.address ∙ ap (λ a. Some a) address)),
   )
     where
       same_address : (a b : ℕ) → Some a ≡ Some b → a ≡ b

@@ -1,5 +1,6 @@
 -- Traces that are cut out of a log: some operations of each processor, in their order, with other addresses and values.
-use Rattle.std.specs.Prelude.{◌≡◌, ℕ, suc, ◌+◌, List, [], ◌∷◌, ◌++◌, map, Some, slice_get, get_or}
+use Rattle.std.specs.Prelude.{◌≡◌, ℕ, suc, ◌+◌, List, [], ◌∷◌, ◌++◌, map, Some, slice_get, get_or, nat_eq}
+use Rattle.std.specs.List.{IsDistinct}
 use Rattle.tso_ops.specs.declared.ops.Outcome.{Outcome}
 use Rattle.tso_ops.specs.declared.ops.Outcome.TheVariants.{Ld, St, Sw, Mb, Sb}
 use Rattle.tso_ops.specs.Values.{TraceValue, op_of}
@@ -7,8 +8,8 @@ use Rattle.tso_ops.specs.Limits.{event_count, total_events}
 use Rattle.tso_ops.specs.Events.{IsLoad, HasSource}
 use Rattle.log_selections.specs.Logs.{LogValue}
 
--- What is kept of an operation of the log, whose first event has number n, and the numbers in the log of the events that this gives. An address
--- b of the trace is the log's address at place b of `addresses`. Values may be any: the sources of loads, below, say which are equal.
+-- What is kept of an operation of the log, whose first event has number n, and the numbers in the log of the events that this gives. Address b
+-- of the trace is the log's address at place b of `addresses`. Values may be any: which of them are equal follows from the sources of loads, below.
 pub data IsKept (addresses : List ℕ) : ℕ → Outcome → List Outcome → List ℕ → Type 0 where
   -- an operation or a barrier is left out
   nothing : (n : ℕ) (x : Outcome) → IsKept addresses n x [] []
@@ -40,14 +41,14 @@ pub data AreCutFrom (addresses : List ℕ) : ℕ → List (List Outcome) → Lis
 abbrev pub origin_in : List ℕ → ℕ → ℕ
 origin_in origins n = get_or (0 ∷ origins) n 0
 
--- The trace is cut out of the log, with these addresses of the log for the trace's 0, 1, .. and with these numbers in the log for its events.
+-- The trace is cut out of the log, with these addresses of the log for its addresses 0, 1, .. and these numbers in the log for its events 1, 2, ..
 pub record IsCutBy (log : LogValue) (t : TraceValue) (addresses origins : List ℕ) : Type 0 where
   -- the trace has the log's memory model
   pub model : t.setting.order ≡ log.operations.setting.order
   -- different addresses of the trace are different ones of the log
-  pub distinct : (a b c : ℕ) → slice_get addresses b ≡ Some a → slice_get addresses c ≡ Some a → b ≡ c
+  pub distinct : IsDistinct nat_eq addresses
   pub lists : AreCutFrom addresses 1 log.operations.lists t.lists origins
-  -- Each load, also a swap's, reads in the trace what was cut from the store that it is known to have read in the log, or in both the first value.
+  -- Each load, also a swap's, reads in the trace from the store whose origin it is known to have read in the log, or it reads the first value in both.
   pub sources : (l : ℕ) → IsLoad t l → (s : ℕ) × HasSource t l s × (log.source (origin_in origins l) ≡ Some (origin_in origins s))
 
 -- The trace is cut out of the log.
