@@ -1,2 +1,4 @@
+pub mod Cuts
 pub mod Logs
 pub mod Selections
+pub mod Sources
