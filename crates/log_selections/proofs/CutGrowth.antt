@@ -27,6 +27,14 @@ module _ (addresses : List ℕ) where
       (cut_push (n1 + event_count (op_of y)) xs1 ys1 origins1 cut x kept here
       (kept_at _ _ x kept here (omega (arith, sum_by-cons event_count (op_of y) (map op_of xs1))) is))))
 
+  -- with one more operation of the log, which is left out
+  pub cut_push_nothing : (n : ℕ) (xs ys : List Outcome) (origins : List ℕ) → IsCutFrom addresses n xs ys origins → (x : Outcome)
+      → IsCutFrom addresses n (xs ++ x ∷ []) ys origins
+  cut_push_nothing n xs ys origins cut x =
+      subst (λ zs. IsCutFrom addresses n (xs ++ x ∷ []) zs origins) (append-nil ys)
+      (subst (λ os. IsCutFrom addresses n (xs ++ x ∷ []) (ys ++ []) os) (append-nil origins)
+      (cut_push n xs ys origins cut x [] [] (nothing (n + total_events (map op_of xs)) x)))
+
   from_at : (m n : ℕ) (xs ys : List Outcome) (origins : List ℕ) → m ≡ n → IsCutFrom addresses m xs ys origins → IsCutFrom addresses n xs ys origins
   from_at m n xs ys origins same cut = subst (λ i. IsCutFrom addresses i xs ys origins) same cut
 

@@ -3,6 +3,7 @@ pub mod CutGrowth
 pub mod CutLists
 pub mod CutSelections
 pub mod KnownSources
+pub mod OwnCuts
 pub mod Restriction
 pub mod SelectionOrders
 pub mod TraceLogs

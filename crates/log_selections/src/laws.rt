@@ -41,19 +41,21 @@ pub fn known_sources_are_sources()
     ensures orders { (log : LogValue) → HasKnownSources log → HasOrder log ↔ IsConsistent log.operations }
 {}
 
-/// What is cut out of a log grows at its end: by what is kept of the next operation of a processor, by the next
+/// What is cut out of a log grows at its end: by what is kept of the next operation of a processor, also nothing, by the next
 /// processor, also one that is left out, and by more addresses.
 pub fn cuts_grow()
     ensures operation { (addresses : List ℕ) (n : ℕ) (xs ys : List Outcome) (origins : List ℕ) (x : Outcome) (kept : List Outcome) (here : List ℕ) → IsCutFrom addresses n xs ys origins → IsKept addresses (n + total_events (map op_of xs)) x kept here → IsCutFrom addresses n (xs ++ x ∷ []) (ys ++ kept) (origins ++ here) }
+    ensures left_out_operation { (addresses : List ℕ) (n : ℕ) (xs ys : List Outcome) (origins : List ℕ) (x : Outcome) → IsCutFrom addresses n xs ys origins → IsCutFrom addresses n (xs ++ x ∷ []) ys origins }
     ensures processor { (addresses : List ℕ) (n : ℕ) (logs lists : List (List Outcome)) (origins : List ℕ) (xs ys : List Outcome) (here : List ℕ) → AreCutFrom addresses n logs lists origins → IsCutFrom addresses (n + total_events (flat_map (map op_of) logs)) xs ys here → AreCutFrom addresses n (logs ++ xs ∷ []) (lists ++ ys ∷ []) (origins ++ here) }
-    ensures left_out { (addresses : List ℕ) (n : ℕ) (logs lists : List (List Outcome)) (origins : List ℕ) (xs : List Outcome) → AreCutFrom addresses n logs lists origins → AreCutFrom addresses n (logs ++ xs ∷ []) lists origins }
+    ensures left_out_processor { (addresses : List ℕ) (n : ℕ) (logs lists : List (List Outcome)) (origins : List ℕ) (xs : List Outcome) → AreCutFrom addresses n logs lists origins → AreCutFrom addresses n (logs ++ xs ∷ []) lists origins }
     ensures more_addresses { (addresses more : List ℕ) (n : ℕ) (xs ys : List Outcome) (origins : List ℕ) → IsCutFrom addresses n xs ys origins → IsCutFrom (addresses ++ more) n xs ys origins }
     ensures more_addresses_of_lists { (addresses more : List ℕ) (n : ℕ) (logs lists : List (List Outcome)) (origins : List ℕ) → AreCutFrom addresses n logs lists origins → AreCutFrom (addresses ++ more) n logs lists origins }
 {}
 
 /// A trace with the sources of its loads is a log: it has an order exactly where the trace has one, and the trace is a
-/// selection of it.
+/// selection of it and cut out of it.
 pub fn traces_are_logs()
     ensures orders { (t : TraceValue) (source : ℕ → ℕ) → IsTrace t → ((l : ℕ) → IsLoad t l → HasSource t l (source l)) → HasOrder (log_of t source) ↔ IsConsistent t }
     ensures selection { (t : TraceValue) (source : ℕ → ℕ) → ((l : ℕ) → IsLoad t l → HasSource t l (source l)) → IsSelection (log_of t source) t }
+    ensures cut { (t : TraceValue) (source : ℕ → ℕ) → IsTrace t → ((l : ℕ) → IsLoad t l → HasSource t l (source l)) → IsCut (log_of t source) t }
 {}
