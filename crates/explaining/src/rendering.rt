@@ -3,7 +3,7 @@ ghost use Rattle.std.specs.Prelude.{◌≡◌, ◌≢◌, ◌↔◌, ◌++◌, I
 ghost use Rattle.tso_text.specs.declared.faults.Why.{Why};
 ghost use Rattle.tso_model.specs.Axioms.{IsConsistent};
 ghost use Rattle.tso_report.specs.declared.verdicts.Verdict.{Verdict};
-ghost use Rattle.tso_report.specs.Reports.{head_text, refusal_text};
+ghost use Rattle.tso_report.specs.Reports.{refusal_text};
 ghost use Rattle.tso_report.specs.RoundsAndCertificates.{IsFinding};
 ghost use Rattle.tso_report.specs.Violations.{IsViolation};
 ghost use Rattle.trace_explanation.specs.Refusals.{refusal_explanation};
@@ -17,7 +17,7 @@ use trace_explanation::{explain, explain_refusal};
 use trace_pictures::draw;
 use tso_cert::Certificate;
 use tso_ops::Trace;
-use tso_report::{Finding, Report, Verdict, render_refusal};
+use tso_report::{Finding, Report, Verdict, render_head, render_refusal};
 use tso_text::TextFault;
 
 /// The explanation of a trace, of which this was found, with the verdict of its report. OutOfMemory where an allocation
@@ -32,7 +32,7 @@ pub(crate) fn render_explanation(
     ensures violation { IfOk result (λ explained. (explained.verdict ≡ Verdict.Violation) ↔ IsViolation trace.now) }
     ensures no_order { IfOk result (λ explained. explained.verdict ≡ Verdict.Violation → IsConsistent trace.now → ⊥) }
 {
-    let mut text = head_text(alloc, trace.processors(), trace.events(), finding.rounds)?;
+    let mut text = render_head(alloc, trace.processors(), trace.events(), finding.rounds)?;
     let verdict = push_verdict(&mut text, &finding.certificate)?;
     explain(alloc, &mut text, trace, &finding.certificate)?;
     Ok(Report { verdict, text })
@@ -68,23 +68,6 @@ pub(crate) fn render_refusal_explanation(
     let Report { verdict, mut text } = render_refusal(alloc, fault)?;
     explain_refusal(&mut text, input, fault)?;
     Ok(Report { verdict, text })
-}
-
-/// The first two lines of a report on a trace.
-fn head_text(
-    alloc: Global,
-    processors: usize,
-    events: usize,
-    rounds: u64,
-) -> Result<String, AllocError>
-    ensures { IfOk result (λ text. string_bytes text ≡ head_text processors events rounds) }
-{
-    let mut text = String::from_str(alloc, "TSO REPORT 1\n")?;
-    writeln!(
-        text,
-        "processors {processors} events {events} rounds {rounds}"
-    )?;
-    Ok(text)
 }
 
 /// The verdict that the certificate stands for, or none.

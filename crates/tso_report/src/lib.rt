@@ -15,7 +15,7 @@ pub use faults::Fault;
 pub use findings::{Finding, find_violation};
 pub use judging::{judge, judge_trace};
 pub use record_judging::{judge_recorded, report_of_record};
-pub use rendering::{Report, render_refusal, render_trace};
+pub use rendering::{Report, render_head, render_refusal, render_trace};
 pub use round_pool::MAX_WORKERS;
 pub use streams::reading::read_all;
 pub use streams::writing::write_text;

@@ -30,7 +30,7 @@ pub fn render_trace(alloc: Global, trace: &Trace, finding: &Finding) -> Result<R
     ensures report { IfOk result (λ report. IsTraceReport trace.now (string_bytes report.text) report.verdict) }
     ensures no_order { IfOk result (λ report. report.verdict ≡ Verdict.Violation → IsConsistent trace.now → ⊥) }
 {
-    let mut text = head_text(alloc, trace.processors(), trace.events(), finding.rounds)?;
+    let mut text = render_head(alloc, trace.processors(), trace.events(), finding.rounds)?;
     match &finding.certificate {
         Some(certificate) => {
             let lines = print_cert(alloc, certificate)?;
@@ -66,8 +66,9 @@ pub fn render_refusal(alloc: Global, fault: TextFault) -> Result<Report, OutOfMe
     })
 }
 
-/// The first two lines of a report on a trace.
-fn head_text(
+/// The first two lines of a report on a trace, also of its explanation: how many processors and events it has, and its
+/// rounds number. OutOfMemory where an allocation was refused.
+pub fn render_head(
     alloc: Global,
     processors: usize,
     events: usize,
