@@ -117,8 +117,8 @@ pub(crate) fn why_of(fault: ValueFault) -> Why
     }
 }
 
-/// The refusal at this line, but for OutOfMemory, which is of the whole text.
-pub(crate) fn fault_of(line: usize, why: Why) -> TextFault
+/// The refusal at this line of a text, from 1; OutOfMemory is of the whole text, at line 0.
+pub fn fault_of(line: usize, why: Why) -> TextFault
     ensures why { result.why ≡ why }
     ensures line { why ≢ Why.OutOfMemory → result.line ≡ line }
     ensures memory { why ≡ Why.OutOfMemory → result.line ≡ 0 }

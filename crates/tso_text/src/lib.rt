@@ -3,7 +3,8 @@
 //! A value has one text, and a text spells one value or gets one refusal. `README.md` says what is proved.
 #![tactic(auto)]
 
-pub use faults::{TextFault, Why};
+pub use faults::{TextFault, Why, fault_of};
+pub use numbers::{no_number, three_numbers, two_numbers};
 pub use printers::{print_program, print_schedule, print_trace};
 pub use readers::{MAX_TEXT_BYTES, read_program, read_schedule, read_trace};
 pub use tso_ops::Act;

@@ -24,9 +24,11 @@ pub(crate) fn piece_of(pieces: Option<&[u8]>) -> Result<(&[u8], Option<&[u8]>), 
     }
 }
 
-/// No piece.
+/// Checks that no piece stands after a keyword: `pieces` is what follows the keyword's space, or `None` where no space ends it.
+///
+/// The only error is BadLine, where there is a piece.
 #[tactic(auto, using(line_text::proofs::CutFacts::pieces_after_some), unfolding(crate::specs::Numbers::no_number))]
-pub(crate) fn no_number(pieces: Option<&[u8]>) -> Result<(), Why>
+pub fn no_number(pieces: Option<&[u8]>) -> Result<(), Why>
     ensures is { result ≡ no_number (pieces_after pieces.entry) }
     ensures none { OnOk result (pieces_after pieces.entry ≡ []) }
     ensures some { IfErr result (λ why. SomePiece (pieces_after pieces.entry) × (why ≡ Why.BadLine)) }
@@ -47,9 +49,11 @@ pub(crate) fn one_number(pieces: Option<&[u8]>) -> Result<u64, Why>
     numeral(piece)
 }
 
-/// The numbers of just two pieces.
+/// The numbers of just two pieces after a keyword, which stand in `pieces` as for `no_number`.
+///
+/// Refused as BadLine where there are more or fewer pieces, and else as BadNumber where one of them is no number.
 #[tactic(auto, unfolding(crate::specs::Numbers::two_numbers))]
-pub(crate) fn two_numbers(pieces: Option<&[u8]>) -> Result<(u64, u64), Why>
+pub fn two_numbers(pieces: Option<&[u8]>) -> Result<(u64, u64), Why>
     ensures { result ≡ two_numbers (pieces_after pieces.entry) }
 {
     let (first, rest) = piece_of(pieces)?;
@@ -58,9 +62,9 @@ pub(crate) fn two_numbers(pieces: Option<&[u8]>) -> Result<(u64, u64), Why>
     Ok((numeral(first)?, numeral(second)?))
 }
 
-/// The numbers of just three pieces.
+/// The numbers of just three pieces after a keyword; refused as `two_numbers` refuses.
 #[tactic(auto, unfolding(crate::specs::Numbers::three_numbers))]
-pub(crate) fn three_numbers(pieces: Option<&[u8]>) -> Result<(u64, u64, u64), Why>
+pub fn three_numbers(pieces: Option<&[u8]>) -> Result<(u64, u64, u64), Why>
     ensures { result ≡ three_numbers (pieces_after pieces.entry) }
 {
     let (first, rest) = piece_of(pieces)?;
