@@ -1,0 +1,215 @@
+-- Lemmas on the texts of logs: how far a reader has come, and that a text spells one log or has a refusal.
+use Rattle.std.proofs.Common.{◌≡◌, ◌≢◌, ℕ, suc, ◌+◌, eqb, Bool, false, List, [], ◌∷◌, ◌++◌, length, map, None, Some, Result, Ok, Err, refl, ap, sym, ◌∙◌, arith, append_assoc, ⊎_elim, ◌⊎◌, inl, inr}
+use Rattle.std.proofs.lemmas.Bool.Decides.{nat_tests}
+use Rattle.std.proofs.lemmas.List.{append_cancel_right, length_push, map-append}
+use Rattle.line_text.specs.Lines.{parts_of}
+use Rattle.line_text.proofs.CutFacts.{split_parts}
+use Rattle.tso_ops.specs.Values.{TraceValue}
+use Rattle.tso_text.specs.declared.faults.Why.{Why}
+use Rattle.tso_text.specs.declared.faults.Why.TheVariants.{BadLine, OutOfMemory}
+use Rattle.log_text.specs.declared.lines.LogLine.{LogLine}
+use Rattle.log_text.specs.declared.logs.Log.{Log}
+use Rattle.log_text.specs.LogLines.{line_said}
+use Rattle.log_text.specs.LogTexts.{fault_after, log_of_lines, AreSaid, SpellsLog, IsLogRefusal, IsPartRefused}
+use Rattle.log_text.specs.LogValues.{operations_of}
+use Rattle.log_text.specs.Internal.Readings.{HoldsLines, HasFault, IsTextAccepted, IsTextRefused}
+use Rattle.log_text.proofs.ReadingFacts.{operations_held}
+
+-- ---- lists
+
+-- the last of some elements, or one of those before
+split_push : {X : Type 0} (xs before after : List X) (x y : X) → xs ++ x ∷ [] ≡ before ++ y ∷ after → ((xs ≡ before) × (x ≡ y)) ⊎ ((rest : List X) × (xs ≡ before ++ y ∷ rest))
+split_push [] [] after x y e = inl (refl, cc)
+split_push [] (b ∷ []) after x y e = absurd cc
+split_push [] (b ∷ c ∷ before) after x y e = absurd cc
+split_push (z ∷ xs) [] after x y e = let head : z ≡ y = cc in inr (xs, ap (λ w. w ∷ xs) head)
+split_push {X} (z ∷ xs) (b ∷ before) after x y e =
+    let head : z ≡ b = cc in
+    let tail : xs ++ x ∷ [] ≡ before ++ y ∷ after = cc in
+    ⊎_elim
+    (λ (last : (xs ≡ before) × (x ≡ y)). inl (cc, last.1))
+    (λ (within : (rest : List X) × (xs ≡ before ++ y ∷ rest)). inr (within.0, (let same = within.1 in cc)))
+    (split_push xs before after x y tail)
+
+-- where something follows an element, it is one of those before the last
+split_last : {X : Type 0} (xs before after : List X) (x y z : X) → xs ++ x ∷ [] ≡ before ++ y ∷ z ∷ after → (rest : List X) × (xs ≡ before ++ y ∷ rest)
+split_last [] [] after x y z e = absurd cc
+split_last [] (b ∷ []) after x y z e = absurd cc
+split_last [] (b ∷ c ∷ before) after x y z e = absurd cc
+split_last (w ∷ xs) [] after x y z e = let head : w ≡ y = cc in (xs, ap (λ h. h ∷ xs) head)
+split_last (w ∷ xs) (b ∷ before) after x y z e =
+    let head : w ≡ b = cc in
+    let tail : xs ++ x ∷ [] ≡ before ++ y ∷ z ∷ after = cc in
+    let more = split_last xs before after x y z tail in
+    (more.0, (let same = more.1 in cc))
+
+-- the last elements of equal lists
+same_last : {X : Type 0} (xs ys : List X) (x y : X) → xs ++ x ∷ [] ≡ ys ++ y ∷ [] → x ≡ y
+same_last [] [] x y e = cc
+same_last [] (b ∷ []) x y e = absurd cc
+same_last [] (b ∷ c ∷ ys) x y e = absurd cc
+same_last (a ∷ []) [] x y e = absurd cc
+same_last (a ∷ c ∷ xs) [] x y e = absurd cc
+same_last (a ∷ xs) (b ∷ ys) x y e = same_last xs ys x y cc
+
+-- what the test of a length against 0 says
+pub some_elements : {X : Type 0} (xs : List X) (n : ℕ) (b : Bool) → n ≡ length xs → b ≡ eqb n 0 → b ≡ false → xs ≢ []
+some_elements [] n b count is off none = grind (arith, nat_tests)
+some_elements (x ∷ xs) n b count is off none = absurd cc
+
+-- ---- what lines say
+
+abbrev said_ok : LogLine → Result LogLine Why
+said_ok line = Ok line
+
+-- equal texts say equal lines
+same_said : (lines others : List LogLine) → map said_ok lines ≡ map said_ok others → lines ≡ others
+same_said [] [] e = refl
+same_said [] (other ∷ others) e = absurd cc
+same_said (line ∷ lines) [] e = absurd cc
+same_said (line ∷ lines) (other ∷ others) e =
+    let head : line ≡ other = cc in
+    let tail : lines ≡ others = same_said lines others cc in
+    cc
+
+-- what a text says among others stands in its place among the lines
+said_at : (texts : List (List ℕ)) (text : List ℕ) (after : List (List ℕ)) (lines all : List LogLine) → map line_said texts ≡ map Ok lines → map line_said (texts ++ text ∷ after) ≡ map Ok all →
+    (line : LogLine) × (rest : List LogLine) × (line_said text ≡ Ok line) × (all ≡ lines ++ line ∷ rest)
+said_at [] text after [] [] said whole = absurd cc
+said_at [] text after [] (line ∷ all) said whole = (line, all, cc, refl)
+said_at [] text after (line ∷ lines) all said whole = absurd cc
+said_at (before ∷ texts) text after [] all said whole = absurd cc
+said_at (before ∷ texts) text after (line ∷ lines) [] said whole = absurd cc
+said_at (before ∷ texts) text after (line ∷ lines) (first ∷ all) said whole =
+    let here : said_ok line ≡ said_ok first = cc in
+    let head : first ≡ line = cc in
+    let some : map line_said texts ≡ map Ok lines = cc in
+    let others : map line_said (texts ++ text ∷ after) ≡ map Ok all = cc in
+    let more = said_at texts text after lines all some others in
+    (more.0, more.1, more.2, (let tail = more.3 in cc))
+
+AreSaid-nil : AreSaid [] []
+AreSaid-nil = record { said = refl; clean = none }
+  where
+    none : (before : List LogLine) (line : LogLine) (after : List LogLine) → [] ≡ before ++ line ∷ after → fault_after before line ≡ None
+    none [] line after e = absurd cc
+    none (b ∷ before) line after e = absurd cc
+
+AreSaid-push : (texts : List (List ℕ)) (lines : List LogLine) (text : List ℕ) (line : LogLine) → AreSaid texts lines → line_said text ≡ Ok line → fault_after lines line ≡ None →
+    AreSaid (texts ++ text ∷ []) (lines ++ line ∷ [])
+AreSaid-push texts lines text line are says clean = record {
+  said = map-append line_said texts (text ∷ []) ∙ ap (λ xs. xs ++ line_said text ∷ []) are.said ∙ ap (λ r. map Ok lines ++ r ∷ []) says ∙ sym (map-append Ok lines (line ∷ []));
+  clean = λ before other after parts. ⊎_elim
+      (λ (last : (lines ≡ before) × (line ≡ other)). ap (λ l. fault_after l other) (sym last.0) ∙ ap (fault_after lines) (sym last.1) ∙ clean)
+      (λ (within : (rest : List LogLine) × (lines ≡ before ++ other ∷ rest)). are.clean before other within.0 within.1)
+      (split_push lines before after line other parts);
+}
+
+-- ---- one log or one refusal
+
+-- a text spells one log at most
+pub one_log : (text : List ℕ) (t u : TraceValue) → SpellsLog text t → SpellsLog text u → t ≡ u
+one_log text t u s r =
+    let texts : s.texts ≡ r.texts = append_cancel_right s.texts r.texts ([] ∷ []) (sym s.whole ∙ r.whole) in
+    let lines : s.lines ≡ r.lines = same_said s.lines r.lines (sym s.said.said ∙ ap (map line_said) texts ∙ r.said.said) in
+    s.is ∙ ap log_of_lines lines ∙ sym r.is
+
+not_both : (texts : List (List ℕ)) (lines : List LogLine) (part : List ℕ) (after : List (List ℕ)) (why : Why) (whole : List (List ℕ)) (all : List LogLine) →
+    whole ++ [] ∷ [] ≡ texts ++ part ∷ after → AreSaid texts lines → AreSaid whole all → IsPartRefused lines part after why → ⊥
+not_both texts lines part [] why whole all same said spelled fault = fault.0 (sym (same_last whole texts [] part same))
+not_both texts lines part (next ∷ after) why whole all same said spelled fault =
+    let at = split_last whole texts after [] part next same in
+    let line = said_at texts part at.0 lines all said.said (ap (map line_said) (sym at.1) ∙ spelled.said) in
+    let clean : fault_after lines line.0 ≡ None = spelled.clean lines line.0 line.1 line.3 in
+    ⊎_elim
+    (λ (nothing : line_said part ≡ Err why). let says : line_said part ≡ Ok line.0 = line.2 in absurd cc)
+    (λ (other : (l : LogLine) × (line_said part ≡ Ok l) × (fault_after lines l ≡ Some why)).
+    let both : said_ok line.0 ≡ said_ok other.0 = sym line.2 ∙ other.1 in
+    let one : line.0 ≡ other.0 = cc in
+    let none : None ≡ Some why = sym clean ∙ ap (fault_after lines) one ∙ other.2 in
+    absurd cc)
+    fault
+
+-- a text with a refusal spells no log
+pub never_both : (text : List ℕ) (t : TraceValue) (line : ℕ) (why : Why) → SpellsLog text t → IsLogRefusal text line why → ⊥
+never_both text t line why s r = not_both r.texts r.lines r.part r.after why s.texts s.lines (sym s.whole ∙ r.whole) r.said s.said r.fault
+
+-- ---- the reader
+
+-- The reader is at this line: those before have no fault, and the log holds what they say; `rest` is what stands after them.
+pub record Reached (text : List ℕ) (line : ℕ) (rest : List ℕ) (log : Log) : Type 0 where
+  pub texts : List (List ℕ)
+  pub lines : List LogLine
+  pub whole : parts_of text ≡ texts ++ parts_of rest
+  pub said : AreSaid texts lines
+  pub count : line ≡ suc (length texts)
+  pub holds : HoldsLines log lines
+
+pub Reached-start : (text : List ℕ) (log : Log) → HoldsLines log [] → Reached text 1 text log
+Reached-start text log holds = record { texts = []; lines = []; whole = refl; said = AreSaid-nil; count = refl; holds = holds }
+
+pub Reached-next : (text : List ℕ) (line : ℕ) (rest : List ℕ) (log : Log) (part after : List ℕ) (new : Log) → Reached text line rest log → parts_of rest ≡ part ∷ parts_of after →
+    IsTextAccepted log part new → Reached text (line + 1) after new
+Reached-next text line rest log part after new r cut accepted =
+    let next = accepted r.lines r.holds in
+    record {
+      texts = r.texts ++ part ∷ [];
+      lines = r.lines ++ next.line ∷ [];
+      whole = r.whole ∙ ap (λ x. r.texts ++ x) cut ∙ sym (append_assoc r.texts (part ∷ []) (parts_of after));
+      said = AreSaid-push r.texts r.lines part next.line r.said next.says next.next.clean;
+      count = omega (arith, length_push r.texts part, r.count);
+      holds = next.next.holds;
+    }
+
+-- nothing stands after the last line
+pub Reached-end : (text : List ℕ) (line : ℕ) (rest : List ℕ) (log : Log) → Reached text line rest log → parts_of rest ≡ rest ∷ [] → rest ≡ [] → SpellsLog text (operations_of log)
+Reached-end text line rest log r cut none = record {
+  texts = r.texts;
+  lines = r.lines;
+  whole = r.whole ∙ ap (λ x. r.texts ++ x) (cut ∙ ap (λ x. x ∷ []) none);
+  said = r.said;
+  is = operations_held log r.lines r.holds;
+}
+
+-- the line is refused
+pub line_refused : (text : List ℕ) (line : ℕ) (rest : List ℕ) (log : Log) (part after : List ℕ) (why : Why) → Reached text line rest log → parts_of rest ≡ part ∷ parts_of after →
+    IsTextRefused log part why → (why ≡ OutOfMemory) ⊎ IsLogRefusal text line why
+unfolding parts_of
+line_refused text line rest log part after why r cut refused =
+    let p = split_parts (λ b. eqb b 10) after in
+    ⊎_elim
+    (λ (memory : why ≡ OutOfMemory). inl memory)
+    (λ (fault : HasFault r.lines part why). inr (record {
+      texts = r.texts;
+      lines = r.lines;
+      part = part;
+      after = p.0 ∷ p.1;
+      whole = r.whole ∙ ap (λ x. r.texts ++ x) (cut ∙ ap (λ x. part ∷ x) p.2);
+      said = r.said;
+      is = r.count;
+      fault = fault;
+    }))
+    (refused r.lines r.holds)
+
+-- bytes stand after the last line
+pub unended_refused : (text : List ℕ) (line : ℕ) (rest : List ℕ) (log : Log) → Reached text line rest log → parts_of rest ≡ rest ∷ [] → rest ≢ [] → IsLogRefusal text line BadLine
+unended_refused text line rest log r cut some = record {
+  texts = r.texts;
+  lines = r.lines;
+  part = rest;
+  after = [];
+  whole = r.whole ∙ ap (λ x. r.texts ++ x) cut;
+  said = r.said;
+  is = r.count;
+  fault = (some, refl);
+}
+
+-- the fault that a reader answers is the refusal at its line, unless memory ran out
+pub answered : (text : List ℕ) (line : ℕ) (why : Why) (fault_line : ℕ) (fault_why : Why) → fault_why ≡ why → (why ≢ OutOfMemory → fault_line ≡ line) →
+    (why ≡ OutOfMemory) ⊎ IsLogRefusal text line why → fault_why ≢ OutOfMemory → IsLogRefusal text fault_line fault_why
+answered text line why fault_line fault_why is stands refused other =
+    let not_memory : why ≢ OutOfMemory = λ memory. other (is ∙ memory) in
+    ⊎_elim
+    (λ (memory : why ≡ OutOfMemory). absurd (not_memory memory))
+    (λ (refusal : IsLogRefusal text line why). rw (is, stands not_memory) refusal)
+    refused

@@ -1,0 +1,2 @@
+-- How far the reader of a log has come. No public contract uses these definitions.
+pub mod Readings

@@ -1,0 +1,4 @@
+pub mod Internal
+pub mod LogLines
+pub mod LogTexts
+pub mod LogValues

@@ -1,0 +1,14 @@
+//! The text of a log: what the processors of a machine did, operation by operation, in the order in which each issued them.
+//!
+//! A log has any number of operations, any addresses and values of 64 bits, and values that repeat. `README.md` says what is
+//! proved.
+#![tactic(auto)]
+
+pub use logs::{Log, LogOperation};
+pub use readers::read_log;
+
+pub mod laws;
+mod lines;
+mod logs;
+mod readers;
+mod readings;
