@@ -1,0 +1,5 @@
+mod AccessFacts
+mod KeepingFacts
+mod KnownFacts
+mod SourceFacts
+mod WriterFacts

@@ -1,0 +1,172 @@
+ghost use Rattle.std.specs.Prelude.{◌≡◌, IfOk, IfSome, true, nat_eq};
+ghost use Rattle.std.specs.List.{IsDistinct};
+ghost use Rattle.log_text.specs.LogValues.{operations_of};
+ghost use Rattle.log_pieces.specs.Pieces.{IsCutOf};
+
+use crate::accesses::number_accesses;
+use crate::choosing::drafts::choose;
+use crate::choosing::groups::{Group, group_addresses};
+use crate::choosing::orders::order_by_reads;
+use crate::choosing::windows::{Chart, Window, find_positions, find_windows};
+use crate::keeping::{Kept, keep_lists};
+use crate::source_checks::keeps_sources;
+use crate::sources::{Sources, find_sources};
+use log_text::Log;
+use std::alloc::Global;
+use std::marker::Model;
+use tso_ops::{OutOfMemory, Trace, ValueFault};
+
+/// A log, with the sources of its loads that its values tell.
+#[derive(Drop)]
+pub struct KnownLog {
+    log: Log,
+    numbers: Vec<Vec<usize>>,
+    sources: Sources,
+    groups: Vec<Group>,
+    positions: Vec<usize>,
+}
+
+/// A piece of a log.
+#[derive(Drop)]
+pub struct Piece {
+    /// The trace.
+    pub trace: Trace,
+    /// How many of the log's loads, stores and swaps it keeps.
+    pub operations: usize,
+    /// How many loads it has, those of swaps counted.
+    pub loads: usize,
+}
+
+impl Model for KnownLog {
+    ghost use Rattle.tso_ops.specs.Values.{TraceValue, rows};
+    ghost use Rattle.log_text.specs.LogValues.{operations_of};
+    ghost use Rattle.log_pieces.specs.Internal.Known.{IsKnownLog};
+
+    ghost Value = { TraceValue };
+
+    ghost view = { λ k. operations_of k.log };
+
+    ghost invariant = { λ k. IsKnownLog k.log (rows k.numbers.items) k.sources.numbers.items };
+}
+
+/// What a piece is to keep: addresses of the log, which are the trace's addresses 0, 1, .., and operations of each processor.
+#[derive(Drop)]
+pub(crate) struct Choice {
+    pub(crate) addresses: Vec<u64>,
+    pub(crate) kept: Vec<Vec<Kept>>,
+    /// How many loads, stores and swaps these are.
+    pub(crate) operations: usize,
+    /// How many of them are loads or swaps with their loads.
+    pub(crate) loads: usize,
+}
+
+impl KnownLog {
+    /// Finds the sources of the loads, and how the log is to be cut. OutOfMemory where an allocation was refused.
+    pub fn new(alloc: Global, log: Log) -> Result<KnownLog, OutOfMemory>
+        ensures { IfOk result (λ k. k ≡ operations_of log) }
+    {
+        let numbered = number_accesses(alloc, &log.lists)?;
+        let sources = find_sources(alloc, &log.first, &numbered.accesses)?;
+        let spots = order_by_reads(alloc, &log.lists, &numbered.numbers, &sources.numbers)?;
+        let groups = group_addresses(alloc, &log.lists, &spots)?;
+        let chart = Chart {
+            lists: &log.lists,
+            numbers: &numbered.numbers,
+            sources: &sources.numbers,
+            positions: &[],
+        };
+        let positions = find_positions(alloc, chart, &groups)?;
+        Ok(KnownLog {
+            log,
+            numbers: numbered.numbers,
+            sources,
+            groups,
+            positions,
+        })
+    }
+
+    /// The parts of the log that pieces of at most so many events are to be cut out of. OutOfMemory where an allocation was
+    /// refused.
+    pub fn windows(&self, alloc: Global, events: usize) -> Result<Vec<Window>, OutOfMemory> {
+        find_windows(alloc, self.chart(), &self.groups, events)
+    }
+
+    /// How many loads have a value that several operations may have written, those of swaps counted.
+    pub fn ambiguous_loads(&self) -> usize {
+        self.sources.ambiguous
+    }
+
+    /// How many loads have a value that nothing wrote, those of swaps counted.
+    pub fn unwritten_loads(&self) -> usize {
+        self.sources.unwritten
+    }
+
+    /// The piece of a part of the log, if it has one. OutOfMemory where an allocation was refused.
+    pub fn cut(&self, alloc: Global, window: &Window) -> Result<Option<Piece>, OutOfMemory>
+        ensures { IfOk result (λ found. IfSome found (λ piece. IsCutOf self.now piece.trace)) }
+    {
+        let Some(group) = self.groups.get(window.group) else {
+            return Ok(None);
+        };
+        let choice = choose(alloc, self.chart(), self.log.order, group, window)?;
+        match self.keep(alloc, &choice)? {
+            Some(trace) => Ok(Some(Piece {
+                trace,
+                operations: choice.operations,
+                loads: choice.loads,
+            })),
+            None => Ok(None),
+        }
+    }
+
+    fn chart(&self) -> Chart<'_> {
+        Chart {
+            lists: &self.log.lists,
+            numbers: &self.numbers,
+            sources: &self.sources.numbers,
+            positions: &self.positions,
+        }
+    }
+
+    /// The trace of a choice, if it is a part of the log and within the limits of traces.
+    fn keep(&self, alloc: Global, choice: &Choice) -> Result<Option<Trace>, OutOfMemory>
+        ensures { IfOk result (λ found. IfSome found (IsCutOf self.now)) }
+    {
+        let mut origins = Vec::new(alloc);
+        if !is_distinct(&choice.addresses) {
+            return Ok(None);
+        }
+        let Some(lists) = keep_lists(
+            alloc,
+            &choice.addresses,
+            &self.log.lists,
+            &self.numbers,
+            &choice.kept,
+            &mut origins,
+        )?
+        else {
+            return Ok(None);
+        };
+        let trace = match Trace::with_first(alloc, self.log.order, Vec::new(alloc), lists) {
+            Ok(trace) => trace,
+            Err(refused) if refused.why == ValueFault::OutOfMemory => return Err(OutOfMemory),
+            Err(_) => return Ok(None),
+        };
+        if !keeps_sources(&trace, &origins, &self.sources.numbers) {
+            return Ok(None);
+        }
+        Ok(Some(trace))
+    }
+}
+
+/// Whether no address stands twice.
+fn is_distinct(addresses: &[u64]) -> bool
+    ensures { result ≡ true → IsDistinct nat_eq addresses.now }
+{
+    for k in 0..addresses.len() {
+        if addresses[..k].contains(&addresses[k]) {
+            return false;
+        }
+    }
+    true
+}
