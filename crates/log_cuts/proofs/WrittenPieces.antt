@@ -1,0 +1,136 @@
+-- Lemmas on what is read of a log and on what is written of its pieces.
+use Rattle.std.proofs.Common.{◌≡◌, ◌<◌, ◌≤◌, ◌∙◌, ℕ, ◌+◌, ◌^◌, List, [], ◌∷◌, ◌++◌, All, Err, None, Ok, Some, IfSome, ap, arith, drop, inr, length, refl, subst, sym, take, ⊎_elim}
+use Rattle.std.specs.Prelude.{IfOk, OnErr, Option, Result}
+use Rattle.std.specs.Io.KnownBytes.{Appends, Consumes, Keeps}
+use Rattle.std.specs.List.{flat_map}
+use Rattle.std.proofs.KnownBytes.{Appends-nil, Appends-trans}
+use Rattle.std.proofs.lemmas.Bool.{cases_lt}
+use Rattle.std.proofs.lemmas.Grind.{flat_map-append}
+use Rattle.std.proofs.lemmas.List.{append-nil, drop_at, length-append, length-take-le, take_all, take_at}
+use Rattle.std.proofs.lemmas.List.Elements.{All-append, All-cons, All-nil}
+use Rattle.std.proofs.Math.Seq.{take-add}
+use Rattle.log_cuts.specs.Internal.Written.{WritesPart, WritesStream}
+use Rattle.log_cuts.specs.LogCuts.{IsCutOfReader, IsStreamOf, LeavesCut, WritesCut, WritesRefusal}
+use Rattle.log_pieces.specs.Pieces.{IsCutOf}
+use Rattle.log_pieces.specs.declared.known.Piece.{Piece}
+use Rattle.log_text.specs.LogTexts.{IsLogRefusal, SpellsLog}
+use Rattle.tso_ops.specs.Values.{TraceValue}
+use Rattle.tso_report.specs.Reports.{refusal_text}
+use Rattle.tso_report.specs.Streams.{AppendsPrefix}
+use Rattle.tso_report.specs.declared.faults.Fault.{Fault}
+use Rattle.tso_text.specs.Grammars.{SpellsTrace}
+use Rattle.tso_text.specs.Printed.{trace_text}
+use Rattle.tso_text.specs.declared.faults.Why.{Why}
+
+-- ---- what is read
+
+-- fewer first elements than were asked for are all
+all_taken : (n : ℕ) (all : List ℕ) → length (take n all) < n → take n all ≡ all
+all_taken n all fewer =
+    ⊎_elim
+    (λ (more : n < length all). let count = length-take-le n all (omega (arith, more)) in absurd (omega (arith, count, fewer)))
+    (λ (fits : length all ≤ n). take_all n all fits)
+    (cases_lt n (length all))
+
+-- what was read without passing a limit that no list in memory passes is all there was
+pub all_read : (old : Option (List ℕ)) (bytes : List ℕ) → IfSome old (λ all. bytes ≡ take (2 ^ 64) all) → length bytes < 2 ^ 64 → IfSome old (λ all. bytes ≡ all)
+all_read None bytes is fewer = tt
+all_read (Some all) bytes is fewer = is ∙ all_taken (2 ^ 64) all (subst (λ (l : List ℕ). length l < 2 ^ 64) is fewer)
+
+-- and all of it was taken
+pub all_consumed : (old new : Option (List ℕ)) (bytes : List ℕ) → IfSome old (λ all. bytes ≡ all) → Consumes old new bytes → IfSome old (λ all. Consumes old new all)
+all_consumed None new bytes is taken = tt
+all_consumed (Some all) new bytes is taken = subst (Consumes (Some all) new) is taken
+
+-- ---- what is written
+
+pub kept : (a : Option (List ℕ)) → Keeps a a
+kept None = tt
+kept (Some bytes) = refl
+
+-- all of a text was written
+all_written : (a b : Option (List ℕ)) (text : List ℕ) → Appends a b text → AppendsPrefix a b text
+all_written a b text appends = (length text, omega arith, subst (Appends a b) (sym (take_all (length text) text (omega arith))) appends)
+
+-- a prefix of what follows was written after a text
+prefix_after : (a b c : Option (List ℕ)) (text more : List ℕ) → Appends a b text → AppendsPrefix b c more → AppendsPrefix a c (text ++ more)
+prefix_after a b c text more first second =
+    let count = length-append text more in
+    let within = second.1 in (
+      length text + second.0,
+      omega (arith, count, within),
+      subst (Appends a c) (sym (take_append text more second.0)) (Appends-trans a b c text (take second.0 more) first second.2),
+    )
+  where
+    take_append : (text more : List ℕ) (n : ℕ) → take (length text + n) (text ++ more) ≡ text ++ take n more
+    take_append text more n = take-add (length text) n (text ++ more) ∙ ap (λ l. l ++ take n (drop (length text) (text ++ more))) (take_at text more (length text) refl) ∙ ap (λ l. text ++ take n l) (drop_at text more (length text) refl)
+
+All-one : (P : TraceValue → Type 0) (t : TraceValue) → P t → All P (t ∷ [])
+All-one P t holds = All-cons P t [] holds (All-nil P)
+
+module _ (operations : TraceValue) where
+  no_trace : IsStreamOf operations []
+  no_trace = record { traces = []; cut = All-nil (IsCutOf operations); spelled = All-nil (λ t. SpellsTrace (trace_text t) t); whole = refl }
+
+  one_trace : (stream : List ℕ) (t : TraceValue) → IsStreamOf operations stream → IsCutOf operations t → SpellsTrace (trace_text t) t → IsStreamOf operations (stream ++ trace_text t)
+  one_trace stream t is cut spelled = record {
+    traces = is.traces ++ t ∷ [];
+    cut = All-append (IsCutOf operations) is.traces (t ∷ []) is.cut (All-one (IsCutOf operations) t cut);
+    spelled = All-append (λ t. SpellsTrace (trace_text t) t) is.traces (t ∷ []) is.spelled (All-one (λ t. SpellsTrace (trace_text t) t) t spelled);
+    whole = ap (λ l. l ++ trace_text t) is.whole ∙ ap (λ l. flat_map trace_text is.traces ++ l) (sym (append-nil (trace_text t))) ∙ sym (flat_map-append trace_text is.traces (t ∷ []));
+  }
+
+  pub none_written : (a : Option (List ℕ)) → WritesStream operations a a
+  none_written a = ([], no_trace, Appends-nil a)
+
+  pub some_written : (a b : Option (List ℕ)) → WritesStream operations a b → WritesPart operations a b
+  some_written a b writes = (writes.0, writes.1, all_written a b writes.0 writes.2)
+
+  module _ (a b c : Option (List ℕ)) (t : TraceValue) (bytes text : List ℕ) (before : WritesStream operations a b) (cut : IsCutOf operations t) (spelled : SpellsTrace text t) (lines : text ≡ trace_text t) (same : bytes ≡ text) where
+    more : IsStreamOf operations (before.0 ++ trace_text t)
+    more = one_trace before.0 t before.1 cut (subst (λ (l : List ℕ). SpellsTrace l t) lines spelled)
+
+    pub one_written : Appends b c bytes → WritesStream operations a c
+    one_written appends = (before.0 ++ trace_text t, more, Appends-trans a b c before.0 (trace_text t) before.2 (subst (Appends b c) (same ∙ lines) appends))
+
+    pub part_written : AppendsPrefix b c bytes → WritesPart operations a c
+    part_written appends = (before.0 ++ trace_text t, more, prefix_after a b c before.0 (trace_text t) before.2 (subst (AppendsPrefix b c) (same ∙ lines) appends))
+
+-- the piece that was found is cut out of the log's operations
+pub found_cut : (known operations : TraceValue) (found : Option Piece) (piece : Piece) → known ≡ operations → IfSome found (λ p. IsCutOf known p.trace) → found ≡ Some piece → IsCutOf operations piece.trace
+found_cut known operations found piece same cut is = subst (λ (t : TraceValue). IsCutOf t piece.trace) same (subst (λ (f : Option Piece). IfSome f (λ p. IsCutOf known p.trace)) is cut)
+
+pub on_err : {X : Type 0} (outcome : Result X Fault) {P : Type 0} → P → OnErr outcome P
+on_err (Ok x) holds = tt
+on_err (Err fault) holds = holds
+
+pub on_ok : {X : Type 0} (outcome : Result X Fault) {P : Type 0} → P → IfOk outcome (λ _. P)
+on_ok (Ok x) holds = holds
+on_ok (Err fault) holds = tt
+
+-- what is said of each outcome without fault is said of this one
+pub said_of : {X : Type 0} (outcome : Result X Fault) (x : X) (P : X → Type 0) → outcome ≡ Ok x → IfOk outcome P → P x
+said_of {X = X} outcome x P is said = subst (λ (o : Result X Fault). IfOk o P) is said
+
+-- ---- the whole
+
+module _ (remaining : Option (List ℕ)) (text bytes : List ℕ) (operations : TraceValue) (all : IfSome remaining (λ l. bytes ≡ l)) (same : text ≡ bytes) (spelled : SpellsLog text operations) where
+  of_reader : (stream : List ℕ) → IsStreamOf operations stream → IsCutOfReader remaining stream
+  of_reader stream is = record { text = bytes; all = all; operations = operations; spelled = subst (λ (l : List ℕ). SpellsLog l operations) same spelled; stream_of = is }
+
+  pub cut_written : (before after errors_before errors_after : Option (List ℕ)) (text : List ℕ) → WritesStream operations before after → AppendsPrefix errors_before errors_after text
+      → WritesCut remaining before after errors_before errors_after
+  cut_written before after errors_before errors_after text writes told = record { stream = writes.0; cut = of_reader writes.0 writes.1; written = writes.2; told = (text, told) }
+
+  pub cut_left : (before after : Option (List ℕ)) → WritesPart operations before after → LeavesCut remaining before after
+  cut_left before after writes = inr (writes.0, of_reader writes.0 writes.1, writes.2)
+
+-- the line of a refusal was written to the errors
+pub refusal_written : (remaining written errors_before errors_after : Option (List ℕ)) (text bytes : List ℕ) (line : ℕ) (why : Why) → IfSome remaining (λ l. bytes ≡ l) → text ≡ bytes
+    → IsLogRefusal text line why → AppendsPrefix errors_before errors_after (refusal_text line why) → WritesRefusal remaining written written errors_before errors_after
+refusal_written remaining written errors_before errors_after text bytes line why all same refused told = record {
+  unwritten = kept written;
+  line = refusal_text line why;
+  refused = record { text = bytes; all = all; line = line; why = why; refused = subst (λ (l : List ℕ). IsLogRefusal l line why) same refused; says = refl };
+  told = told;
+}

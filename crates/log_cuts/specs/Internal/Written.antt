@@ -1,0 +1,14 @@
+-- What is written of the pieces of a log.
+use Rattle.std.specs.Prelude.{ℕ, List, Option}
+use Rattle.std.specs.Io.KnownBytes.{Appends}
+use Rattle.tso_ops.specs.Values.{TraceValue}
+use Rattle.tso_report.specs.Streams.{AppendsPrefix}
+use Rattle.log_cuts.specs.LogCuts.{IsStreamOf}
+
+-- The output grows by the texts of traces that are cut out of these operations.
+abbrev pub WritesStream : TraceValue → Option (List ℕ) → Option (List ℕ) → Type 0
+WritesStream operations before after = (stream : List ℕ) × IsStreamOf operations stream × Appends before after stream
+
+-- The output grows by a prefix of such a stream.
+abbrev pub WritesPart : TraceValue → Option (List ℕ) → Option (List ℕ) → Type 0
+WritesPart operations before after = (stream : List ℕ) × IsStreamOf operations stream × AppendsPrefix before after stream

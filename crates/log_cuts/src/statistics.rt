@@ -1,0 +1,55 @@
+//! Lines on the pieces of a log.
+
+use log_pieces::{KnownLog, Piece};
+use std::alloc::Global;
+use std::fmt::Write;
+use tso_ops::OutOfMemory;
+
+/// The line of each piece so far, and their sums. No sum comes near 64 bits, since pieces are printed.
+#[derive(Drop)]
+pub(crate) struct Statistics {
+    lines: String,
+    pieces: usize,
+    operations: usize,
+    loads: usize,
+}
+
+impl Statistics {
+    /// Of no piece yet.
+    pub(crate) fn new(alloc: Global) -> Statistics {
+        Statistics {
+            lines: String::new(alloc),
+            pieces: 0,
+            operations: 0,
+            loads: 0,
+        }
+    }
+
+    /// Counts a piece. OutOfMemory where an allocation was refused.
+    pub(crate) fn count(&mut self, piece: &Piece) -> Result<(), OutOfMemory> {
+        self.pieces = self.pieces.saturating_add(1);
+        self.operations = self.operations.saturating_add(piece.operations);
+        self.loads = self.loads.saturating_add(piece.loads);
+        write!(
+            self.lines,
+            "piece {} operations {} loads {}\n",
+            self.pieces, piece.operations, piece.loads
+        )?;
+        Ok(())
+    }
+
+    /// The lines of all pieces, and a last one with their sums and with the loads that no piece has. OutOfMemory where an
+    /// allocation was refused.
+    pub(crate) fn lines_on(mut self, log: &KnownLog) -> Result<String, OutOfMemory> {
+        write!(
+            self.lines,
+            "pieces {} operations {} loads {} left out: {} ambiguous, {} unwritten\n",
+            self.pieces,
+            self.operations,
+            self.loads,
+            log.ambiguous_loads(),
+            log.unwritten_loads()
+        )?;
+        Ok(self.lines)
+    }
+}
