@@ -11,7 +11,7 @@ use Rattle.command_line.specs.declared.options.Printing.TheVariants.{Report, Tra
 use Rattle.command_line.specs.declared.options.RunOptions.{RunOptions}
 use Rattle.command_line.specs.declared.options.ShapeNumbers.{ShapeNumbers}
 use Rattle.command_line.specs.declared.options.UnitOptions.{UnitOptions}
-use Rattle.command_line.specs.declared.requests.Request.TheVariants.{Judge, Batch, Check, Replay, Run, Make, Campaign, Show, Refuse}
+use Rattle.command_line.specs.declared.requests.Request.TheVariants.{Judge, Batch, Cut, Check, Replay, Run, Make, Campaign, Show, Refuse}
 
 -- the bytes of a text
 abbrev pub Text : Type 0
@@ -43,6 +43,8 @@ pub data Asked : Type 0 where
   -- to judge the traces that stand one after the other in a file, or on standard input where none is named, with so many
   -- workers, and whether the lines of those without a violation are left out
   batching : Option Text → ℕ → Bool → Asked
+  -- to cut the log in a file, or on standard input where none is named, into traces of at most so many events
+  cutting : Option Text → ℕ → Asked
   -- to check against the trace in the first file the certificate in the second
   checking : Text → Text → Asked
   -- to replay the program in the first file by the schedule in the second, with these options
@@ -66,6 +68,7 @@ asked_run run = record { options = run.options; drain_seed = run.drain_seed; dra
 abbrev pub asked_of : Request → Asked
 asked_of (Judge judge) = judging judge.presentation (option_map (λ f. f.now) judge.file) judge.workers
 asked_of (Batch batch) = batching (option_map (λ f. f.now) batch.file) batch.workers batch.quiet
+asked_of (Cut cut) = cutting (option_map (λ f. f.now) cut.file) cut.events
 asked_of (Check trace certificate) = checking trace.now certificate.now
 asked_of (Replay options program schedule) = replaying options program.now schedule.now
 asked_of (Run run) = running (asked_run run)
@@ -81,6 +84,10 @@ capacity_limit = 64
 -- the greatest number of turns of a drainer
 abbrev pub drain_turns_limit : ℕ
 drain_turns_limit = 1000000
+
+-- the greatest number of events of a piece that is cut out of a log
+abbrev pub piece_event_limit : ℕ
+piece_event_limit = 8000
 
 -- the greatest number of 64 bits
 abbrev pub number_limit : ℕ
@@ -99,15 +106,18 @@ pub record Needs : Type 0 where
   pub unit : Option UnitOptions
   -- how many turns a drainer takes beside the processors of a run
   pub turns : Option ℕ
+  -- how many events a piece of a log may have
+  pub events : Option ℕ
   -- the file with the one program that is run
   pub program : Option Text
 
 abbrev pub nothing_needed : Needs
-nothing_needed = record { files = []; input = false; workers = None; unit = None; turns = None; program = None }
+nothing_needed = record { files = []; input = false; workers = None; unit = None; turns = None; events = None; program = None }
 
 abbrev pub needs : Asked → Needs
 needs (judging presentation file workers) = record nothing_needed { files = option_to_list file; input = not (is_some file); workers = Some workers }
 needs (batching file workers quiet) = record nothing_needed { files = option_to_list file; input = not (is_some file); workers = Some workers }
+needs (cutting file events) = record nothing_needed { files = option_to_list file; input = not (is_some file); events = Some events }
 needs (checking trace certificate) = record nothing_needed { files = trace ∷ certificate ∷ [] }
 needs (replaying options program schedule) = record nothing_needed {
   files = program ∷ schedule ∷ [];
@@ -136,3 +146,7 @@ HasUnitRanges asked = IfSome (needs asked).unit (λ unit. (1 ≤ unit.capacity) 
 -- a drainer takes no more turns than it may
 abbrev pub HasDrainTurns : Asked → Type 0
 HasDrainTurns asked = IfSome (needs asked).turns (λ turns. turns ≤ drain_turns_limit)
+
+-- a piece of a log may have an event, and no more than a trace may
+abbrev pub HasPieceEvents : Asked → Type 0
+HasPieceEvents asked = IfSome (needs asked).events (λ events. (1 ≤ events) × (events ≤ piece_event_limit))

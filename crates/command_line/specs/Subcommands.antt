@@ -18,7 +18,7 @@ use Rattle.command_line.specs.declared.options.UnitOptions.{UnitOptions}
 use Rattle.command_line.specs.declared.parameters.NameList.{NameList}
 use Rattle.command_line.specs.declared.parameters.NameList.TheVariants.{Units, Models}
 use Rattle.command_line.specs.Models.{default_model, model_names, model_order}
-use Rattle.command_line.specs.Requests.{Text, Asked, batching, campaigning, capacity_limit, checking, drain_turns_limit, judging, making, number_limit, refusing, replaying, running}
+use Rattle.command_line.specs.Requests.{Text, Asked, batching, campaigning, capacity_limit, checking, cutting, drain_turns_limit, judging, making, number_limit, piece_event_limit, refusing, replaying, running}
 use Rattle.command_line.specs.Units.{default_capacity, default_trigger, trigger_limit, unit_kind, unit_names}
 
 pub record Subcommand : Type 0 where
@@ -131,6 +131,9 @@ order_of text = unwrap_or (option_and_then model_order text) default_model
 abbrev pub turns_of : Option Text → ℕ
 turns_of text = within 0 drain_turns_limit (number_or 0 text)
 
+abbrev pub events_of : Option Text → ℕ
+events_of text = within 1 piece_event_limit (number_or 2000 text)
+
 abbrev pub file_of : Option Text → Text
 file_of text = unwrap_or text []
 
@@ -163,6 +166,18 @@ ask_batch texts = refusing
 
 abbrev pub batch : Subcommand
 batch = record { name = codes "batch"; parameters = workers ∷ flag (codes "quiet") ∷ other (codes "file") false ∷ []; ask = ask_batch }
+
+-- `--events N`: 2000 where it is left out
+abbrev pub events : Parameter NameList
+events = option (codes "events") (range 1 piece_event_limit) (Some (codes "2000"))
+
+-- `cut [--events N] [FILE]`: cuts the log in a file, or on standard input, into traces
+abbrev pub ask_cut : List (Option Text) → Asked
+ask_cut (events_text ∷ file_text ∷ []) = cutting file_text (events_of events_text)
+ask_cut texts = refusing
+
+abbrev pub cut : Subcommand
+cut = record { name = codes "cut"; parameters = events ∷ other (codes "file") false ∷ []; ask = ask_cut }
 
 -- `check TRACE CERT`: checks a certificate against its trace
 abbrev pub ask_check : List (Option Text) → Asked
@@ -241,7 +256,7 @@ campaign = record {
 }
 
 abbrev pub subcommands : List Subcommand
-subcommands = judge ∷ explain ∷ draw ∷ batch ∷ check ∷ replay ∷ run ∷ make ∷ campaign ∷ []
+subcommands = judge ∷ explain ∷ draw ∷ batch ∷ cut ∷ check ∷ replay ∷ run ∷ make ∷ campaign ∷ []
 
 -- it is one of these
 abbrev pub IsAmong : Subcommand → List Subcommand → Type 0

@@ -1,6 +1,6 @@
 //! The texts of `--help` after the list of arguments.
 
-use crate::options::{MAX_CAPACITY, MAX_WORKERS};
+use crate::options::{MAX_CAPACITY, MAX_PIECE_EVENTS, MAX_WORKERS};
 
 /// What the program is for.
 pub(crate) const ABOUT: &str =
@@ -40,6 +40,11 @@ pub(crate) const WORKERS: &str = "How many workers judge, 1 to 64";
 pub(crate) const BATCH_WORKERS: &str = "How many traces are judged side by side, 1 to 64";
 
 const _: () = prove!(MAX_WORKERS == 64);
+
+/// Of `--events`; it tells the limit of events.
+pub(crate) const EVENTS: &str = "How many events each trace has at most, 1 to 8000";
+
+const _: () = prove!(MAX_PIECE_EVENTS == 8_000);
 
 /// Of `--unit`.
 pub(crate) const UNIT: &str = "Which memory unit runs the program";

@@ -16,6 +16,9 @@ pub const MAX_CAPACITY: usize = 64;
 /// The greatest number of turns that a drainer takes beside the issuers of a run.
 pub const MAX_DRAIN_TURNS: u64 = 1_000_000;
 
+/// The greatest number of events of a trace that is cut out of a log.
+pub const MAX_PIECE_EVENTS: usize = 8_000;
+
 /// A kind of memory unit.
 #[derive(Clone, Copy, Debug, PartialEq, Eq)]
 pub enum UnitKind {

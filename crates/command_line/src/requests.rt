@@ -2,7 +2,7 @@
 ghost use Rattle.std.specs.Prelude.{◌≡◌, IfOk, IsErr, map, option_map, unwrap_or};
 ghost use Rattle.clap.specs.Words.{FailsBy, app_of, fault_of, kind_of, subcommand_of, subcommand_rows_of};
 ghost use Rattle.clap.specs.declared.error.kind.ErrorKind.TheVariants.{OutOfMemory};
-ghost use Rattle.command_line.specs.Requests.{Asked, HasDrainTurns, HasUnitRanges, HasWorkers, asked_of, refusing, showing, texts_in};
+ghost use Rattle.command_line.specs.Requests.{Asked, HasDrainTurns, HasPieceEvents, HasUnitRanges, HasWorkers, asked_of, refusing, showing, texts_in};
 ghost use Rattle.command_line.specs.Spellings.{Asks, AsksHelp};
 ghost use Rattle.command_line.specs.Refusals.{Refuses};
 ghost use Rattle.command_line.specs.Commands.{IsAskedFor, asked_at, tsobench_app};
@@ -52,6 +52,15 @@ pub struct BatchRequest<'a> {
     pub quiet: bool,
 }
 
+/// Which log is cut into traces.
+#[derive(Clone, Copy, Debug)]
+pub struct CutRequest<'a> {
+    /// The file with the log; standard input where none is named.
+    pub file: Option<&'a str>,
+    /// How many events a trace has at most, 1 to 8,000.
+    pub events: usize,
+}
+
 /// What the arguments of a command line ask for.
 #[derive(Debug, Drop)]
 pub enum Request<'a> {
@@ -59,6 +68,8 @@ pub enum Request<'a> {
     Judge(JudgeRequest<'a>),
     /// To judge traces that stand one after the other.
     Batch(BatchRequest<'a>),
+    /// To cut a log into traces.
+    Cut(CutRequest<'a>),
     /// To check the certificate in one file against the trace in another.
     Check {
         trace: &'a str,
@@ -101,6 +112,7 @@ pub fn read_arguments<'a>(alloc: Global, arguments: &'a [String]) -> Result<Requ
     ensures workers { IfOk result (λ request. HasWorkers (asked_of request)) }
     ensures unit { IfOk result (λ request. HasUnitRanges (asked_of request)) }
     ensures turns { IfOk result (λ request. HasDrainTurns (asked_of request)) }
+    ensures events { IfOk result (λ request. HasPieceEvents (asked_of request)) }
 {
     request_by(alloc, option_names(), arguments)
 }
@@ -115,6 +127,7 @@ fn request_by<'a>(
     ensures workers { IfOk result (λ request. HasWorkers (asked_of request)) }
     ensures unit { IfOk result (λ request. HasUnitRanges (asked_of request)) }
     ensures turns { IfOk result (λ request. HasDrainTurns (asked_of request)) }
+    ensures events { IfOk result (λ request. HasPieceEvents (asked_of request)) }
 {
     match matches(alloc, names, arguments) {
         Ok(matches) => subcommands::request(alloc, &matches),

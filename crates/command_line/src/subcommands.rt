@@ -3,7 +3,7 @@ ghost use Rattle.std.specs.Prelude.{◌≡◌, ◌∷◌, [], false, codes, find
 ghost use Rattle.std.specs.Str.{bytes_eq};
 ghost use Rattle.clap.specs.Words.{app_of, found_of, rows_of, subcommand_rows_of, with_subcommand};
 ghost use Rattle.clap.specs.declared.builder.command.Command.TheViews.{out-Command as fields_of};
-ghost use Rattle.command_line.specs.Requests.{HasDrainTurns, HasUnitRanges, HasWorkers, asked_of};
+ghost use Rattle.command_line.specs.Requests.{HasDrainTurns, HasPieceEvents, HasUnitRanges, HasWorkers, asked_of};
 ghost use Rattle.command_line.specs.Commands.{asked_by, asked_in, program_app, subcommand_app, tsobench_app};
 ghost use Rattle.command_line.specs.Subcommands.{subcommands};
 ghost use Rattle.command_line.specs.Internal.Computed.{help_option_of, member_of};
@@ -17,6 +17,7 @@ use std::alloc::{AllocError, Global};
 mod batch;
 mod campaign;
 mod check;
+mod cut;
 mod draw;
 mod explain;
 mod judge;
@@ -35,6 +36,7 @@ enum Subcommand {
     Explain,
     Draw,
     Batch,
+    Cut,
     Check,
     Replay,
     Run,
@@ -43,11 +45,12 @@ enum Subcommand {
 }
 
 /// All of them, as the help lists them.
-static SUBCOMMANDS: [Subcommand; 9] = [
+static SUBCOMMANDS: [Subcommand; 10] = [
     Subcommand::Judge,
     Subcommand::Explain,
     Subcommand::Draw,
     Subcommand::Batch,
+    Subcommand::Cut,
     Subcommand::Check,
     Subcommand::Replay,
     Subcommand::Run,
@@ -65,6 +68,7 @@ impl Subcommand {
             Subcommand::Explain => explain::HELP_OPTION.as_slice(),
             Subcommand::Draw => draw::HELP_OPTION.as_slice(),
             Subcommand::Batch => batch::HELP_OPTION.as_slice(),
+            Subcommand::Cut => cut::HELP_OPTION.as_slice(),
             Subcommand::Check => check::HELP_OPTION.as_slice(),
             Subcommand::Replay => replay::HELP_OPTION.as_slice(),
             Subcommand::Run => run::HELP_OPTION.as_slice(),
@@ -90,6 +94,7 @@ impl Subcommand {
             Subcommand::Explain => explain::command(alloc, names),
             Subcommand::Draw => draw::command(alloc, names),
             Subcommand::Batch => batch::command(alloc, names),
+            Subcommand::Cut => cut::command(alloc, names),
             Subcommand::Check => check::command(alloc, names),
             Subcommand::Replay => replay::command(alloc, names),
             Subcommand::Run => run::command(alloc, names),
@@ -104,12 +109,14 @@ impl Subcommand {
         ensures workers { IfOk result (λ request. HasWorkers (asked_of request)) }
         ensures unit { IfOk result (λ request. HasUnitRanges (asked_of request)) }
         ensures turns { IfOk result (λ request. HasDrainTurns (asked_of request)) }
+        ensures events { IfOk result (λ request. HasPieceEvents (asked_of request)) }
     {
         match self {
             Subcommand::Judge => Ok(shared::judge_request(matches, Presentation::Report)),
             Subcommand::Explain => Ok(shared::judge_request(matches, Presentation::Explanation)),
             Subcommand::Draw => Ok(shared::judge_request(matches, Presentation::Picture)),
             Subcommand::Batch => Ok(batch::request(matches)),
+            Subcommand::Cut => Ok(cut::request(matches)),
             Subcommand::Check => Ok(check::request(matches)),
             Subcommand::Replay => replay::request(alloc, matches),
             Subcommand::Run => run::request(alloc, matches),
@@ -172,6 +179,7 @@ pub(crate) fn request<'a>(
     ensures workers { IfOk result (λ request. HasWorkers (asked_of request)) }
     ensures unit { IfOk result (λ request. HasUnitRanges (asked_of request)) }
     ensures turns { IfOk result (λ request. HasDrainTurns (asked_of request)) }
+    ensures events { IfOk result (λ request. HasPieceEvents (asked_of request)) }
 {
     if let Some((name, found)) = matches.subcommand() {
         if let Some(subcommand) = subcommand_named(name) {

@@ -48,6 +48,7 @@ fn described(alloc: Global, request: &Request<'_>) -> Result<String, AllocError>
             "batch {:?} with {} quiet {}",
             batch.file, batch.workers, batch.quiet
         ),
+        Request::Cut(cut) => format!(in alloc; "cut {:?} into {}", cut.file, cut.events),
         Request::Check { trace, certificate } => {
             format!(in alloc; "check {trace:?} against {certificate:?}")
         }

@@ -9,7 +9,7 @@ use Rattle.command_line.specs.declared.options.OptionNames.{OptionNames}
 use Rattle.command_line.specs.Subcommands as s
 use Rattle.command_line.specs.Subcommands.{subcommands}
 use Rattle.command_line.specs.declared.subcommands.Subcommand.{Subcommand}
-use Rattle.command_line.specs.declared.subcommands.Subcommand.TheVariants.{Judge, Explain, Draw, Batch, Check, Replay, Run, Make, Campaign}
+use Rattle.command_line.specs.declared.subcommands.Subcommand.TheVariants.{Judge, Explain, Draw, Batch, Cut, Check, Replay, Run, Make, Campaign}
 use Rattle.command_line.specs.declared.parameters.NameList.{NameList}
 use Rattle.command_line.specs.declared.parameters.Parameter.{Parameter as Declared}
 use Rattle.command_line.specs.declared.parameters.Parameter.TheVariants as declared
@@ -34,6 +34,7 @@ member_of Judge = s.judge
 member_of Explain = s.explain
 member_of Draw = s.draw
 member_of Batch = s.batch
+member_of Cut = s.cut
 member_of Check = s.check
 member_of Replay = s.replay
 member_of Run = s.run

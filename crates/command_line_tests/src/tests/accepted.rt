@@ -4,7 +4,7 @@ use super::{asked, expect_each};
 use std::test::Fail;
 
 /// Arguments, and what they ask for.
-const ACCEPTED: [(&[&str], &str); 23] = [
+const ACCEPTED: [(&[&str], &str); 28] = [
     (&[], "Report of None with 1"),
     (&["judge"], "Report of None with 1"),
     (&["judge", "a.trace"], "Report of Some(\"a.trace\") with 1"),
@@ -55,6 +55,11 @@ const ACCEPTED: [(&[&str], &str); 23] = [
         "batch Some(\"s\") with 64 quiet false",
     ),
     (&["batch", "-"], "batch Some(\"-\") with 1 quiet false"),
+    (&["cut"], "cut None into 2000"),
+    (&["cut", "l"], "cut Some(\"l\") into 2000"),
+    (&["cut", "l", "--events", "1"], "cut Some(\"l\") into 1"),
+    (&["cut", "--events=8000", "l"], "cut Some(\"l\") into 8000"),
+    (&["cut", "-"], "cut Some(\"-\") into 2000"),
 ];
 
 #[test]

@@ -51,6 +51,19 @@ fn help_on_pictures(rt: HostRuntime) -> Result<(), Fail> {
     expect_each(&rt, rt.alloc(), "show ", &OF_PICTURES)
 }
 
+/// Those that ask for the help of `cut`.
+const OF_LOGS: [(&[&str], &str); 4] = [
+    (&["cut", "--help"], CUT_HELP),
+    (&["cut", "-h"], CUT_HELP),
+    (&["help", "cut"], CUT_HELP),
+    (&["cut", "a.log", "-h"], CUT_HELP),
+];
+
+#[test]
+fn help_on_logs(rt: HostRuntime) -> Result<(), Fail> {
+    expect_each(&rt, rt.alloc(), "show ", &OF_LOGS)
+}
+
 /// Those that ask for the help of a subcommand that is about programs.
 const OF_PROGRAMS: [(&[&str], &str); 14] = [
     (&["replay", "--help"], REPLAY_HELP),
@@ -84,6 +97,7 @@ Commands:
   explain   Explains in words why a trace is a violation
   draw      Draws a trace and why it is a violation, for Graphviz
   batch     Judges many traces, with a line for each
+  cut       Cuts a log into traces, which batch judges
   check     Checks a certificate of a violation against its trace
   replay    Replays a program by a schedule, and judges the trace
   run       Runs a program with a thread per processor, and judges the trace
@@ -242,6 +256,50 @@ Exit status:
 
 Example:
   cat *.trace | tsobench batch --workers 4 --quiet
+";
+
+const CUT_HELP: &str = "\
+Cuts a log into traces, which batch judges
+
+Usage: tsobench cut [OPTIONS] [FILE]
+
+Arguments:
+  [FILE]  The text of a log; standard input where none is named
+
+Options:
+      --events <N>  How many events each trace has at most, 1 to 8000 [default: 2000]
+  -h, --help        Print help
+
+It reads a log of what the processors of a machine did, and prints pieces of it
+as texts of traces, one after the other, which `tsobench batch` reads. Each line
+of a log is an operation of a processor P, 0 to 15, and the lines of a processor
+stand in the order of its program:
+
+  P ld A R      it loaded R from address A
+  P st A V      it stored V to address A
+  P sw A R V    it swapped: it loaded R from address A and stored V there
+  P mb          MEMBAR #StoreLoad
+  P stbar       STBAR
+
+Lines of different processors may stand in any order. Addresses and values are
+numbers of 64 bits, and values may repeat. The first line may be `model pso`,
+for Partial Store Order. Lines `init A V`, before all operations and in
+ascending order of A, say what memory has at first: 0 at all other addresses.
+
+The log must have every store and swap of the run from its start: what it leaves
+out may be what a load read. Then a violation of a piece is one of the log; that
+no piece is a violation proves nothing about the log. Loads are left out whose
+value several stores wrote, and those whose value nothing wrote. Standard error
+gets a line for each piece, and a last one with their numbers and those of the
+loads left out; or, of a text that is no log, one as REFUSED BadLine line 3.
+
+Exit status:
+  0  the pieces were printed
+  2  the text is no log, or the command line was refused
+  4  a fault, which one line on standard error names, as FAULT Read
+
+Example:
+  tsobench cut LOG | tsobench batch
 ";
 
 const CHECK_HELP: &str = "\

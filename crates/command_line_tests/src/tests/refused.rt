@@ -4,7 +4,7 @@ use super::expect_each;
 use std::test::Fail;
 
 /// Arguments, and the text of their refusal.
-const REFUSED: [(&[&str], &str); 8] = [
+const REFUSED: [(&[&str], &str); 11] = [
     (&["seek", "judge"], UNKNOWN),
     (&["help", "seek"], UNKNOWN),
     (
@@ -22,6 +22,18 @@ const REFUSED: [(&[&str], &str); 8] = [
     (
         &["judge", "--model", "pso"],
         "error: unexpected argument '--model' found\n\n  tip: to pass '--model' as a value, use '-- --model'\n\nUsage: tsobench judge [OPTIONS] [FILE]\n\nFor more information, try '--help'.\n",
+    ),
+    (
+        &["cut", "--events", "0"],
+        "error: invalid value '0' for '--events <N>': 0 is not in 1..=8000\n\nFor more information, try '--help'.\n",
+    ),
+    (
+        &["cut", "--events=8001", "l"],
+        "error: invalid value '8001' for '--events <N>': 8001 is not in 1..=8000\n\nFor more information, try '--help'.\n",
+    ),
+    (
+        &["cut", "a", "b"],
+        "error: unexpected argument 'b' found\n\nUsage: tsobench cut [OPTIONS] [FILE]\n\nFor more information, try '--help'.\n",
     ),
     (
         &["check", "a"],
