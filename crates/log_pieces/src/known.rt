@@ -1,5 +1,6 @@
-ghost use Rattle.std.specs.Prelude.{◌≡◌, IfOk, IfSome, true, nat_eq};
+ghost use Rattle.std.specs.Prelude.{◌≡◌, ◌≤◌, IfOk, IfSome, true, nat_eq};
 ghost use Rattle.std.specs.List.{IsDistinct};
+ghost use Rattle.tso_ops.specs.Events.{event_total};
 ghost use Rattle.log_text.specs.LogValues.{operations_of};
 ghost use Rattle.log_pieces.specs.Pieces.{IsCutOf};
 
@@ -101,21 +102,22 @@ impl KnownLog {
         self.sources.unwritten
     }
 
-    /// The piece of a part of the log, if it has one. OutOfMemory where an allocation was refused.
+    /// The piece of a part of the log, if it has one of at most so many events. OutOfMemory where an allocation was refused.
     pub fn cut(&self, alloc: Global, window: &Window) -> Result<Option<Piece>, OutOfMemory>
-        ensures { IfOk result (λ found. IfSome found (λ piece. IsCutOf self.now piece.trace)) }
+        ensures cut { IfOk result (λ found. IfSome found (λ piece. IsCutOf self.now piece.trace)) }
+        ensures events { IfOk result (λ found. IfSome found (λ piece. event_total piece.trace ≤ window.now.events)) }
     {
         let Some(group) = self.groups.get(window.group) else {
             return Ok(None);
         };
         let choice = choose(alloc, self.chart(), self.log.order, group, window)?;
         match self.keep(alloc, &choice)? {
-            Some(trace) => Ok(Some(Piece {
+            Some(trace) if trace.events() <= window.events => Ok(Some(Piece {
                 trace,
                 operations: choice.operations,
                 loads: choice.loads,
             })),
-            None => Ok(None),
+            _ => Ok(None),
         }
     }
 

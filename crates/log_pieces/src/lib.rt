@@ -10,6 +10,7 @@ mod accesses;
 mod choosing;
 mod keeping;
 mod known;
+pub mod laws;
 mod source_checks;
 mod sources;
 mod writers;

@@ -8,6 +8,8 @@ use tso_ops::OutOfMemory;
 /// A part of a log that a piece is to be cut out of: operations of a group that stand one after the other there.
 #[derive(Clone, Copy, Debug)]
 pub struct Window {
+    /// How many events its piece may have at most.
+    pub events: usize,
     pub(crate) group: usize,
     pub(crate) from: usize,
     pub(crate) to: usize,
@@ -107,6 +109,7 @@ fn push_windows(
         let mark = windows.len().saturating_add(1);
         let to = window_end(chart, steps, from, events, (&mut *marks, mark)).max(from + 1);
         windows.push(Window {
+            events,
             group: number,
             from,
             to,
