@@ -111,6 +111,9 @@ impl KnownLog {
             return Ok(None);
         };
         let choice = choose(alloc, self.chart(), self.log.order, group, window)?;
+        if choice.operations == 0 {
+            return Ok(None);
+        }
         match self.keep(alloc, &choice)? {
             Some(trace) if trace.events() <= window.events => Ok(Some(Piece {
                 trace,
