@@ -1,5 +1,5 @@
 -- Lemmas on what is printed of campaigns.
-use Rattle.std.proofs.Common.{◌≡◌, ◌∙◌, ℕ, zero, suc, ◌+◌, All, List, [], ◌∷◌, Bool, Option, arith, length, get_or, map, replicate, ap, refl, subst, sym, inr}
+use Rattle.std.proofs.Common.{◌≡◌, ◌∙◌, ℕ, All, List, [], Option, arith, length, get_or, map, replicate, ap, refl, subst, sym, inr}
 use Rattle.std.proofs.lemmas.List.{get_or-map, get_or-replicate, length-map, length-replicate}
 use Rattle.command_line.specs.declared.options.CampaignOptions.{CampaignOptions}
 use Rattle.tso_report.specs.Campaigns.{IsCampaign, LeavesCampaign}

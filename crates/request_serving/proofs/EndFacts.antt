@@ -147,7 +147,7 @@ unnamed None reads = refl
 unnamed (Some name) reads = absurd (true≢false (sym reads))
 
 -- a status other than that of a fault is that of a verdict
-pub at_verdict : (outcome : Result Verdict Fault) (status : ℕ) (before errors : Option (List ℕ)) (P : Type 0) → IfErr outcome (λ fault. WritesFaultLine before errors fault × (status ≡ 4))
+pub at_verdict : {X : Type 0} (outcome : Result X Fault) (status : ℕ) (before errors : Option (List ℕ)) (P : Type 0) → IfErr outcome (λ fault. WritesFaultLine before errors fault × (status ≡ 4))
     → IfOk outcome (λ _. P) → status ≢ 4 → P
 at_verdict (Ok verdict) status before errors P faulty holds other = holds
 at_verdict (Err fault) status before errors P faulty holds other = absurd (other faulty.1)

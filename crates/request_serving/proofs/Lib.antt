@@ -1,4 +1,5 @@
 pub mod CampaigningFacts
+pub mod CuttingFacts
 pub mod EndFacts
 pub mod LawfulFacts
 pub mod PartedLines

@@ -2,7 +2,7 @@
 use Rattle.std.specs.Prelude.{◌≡◌, ℕ, Bool, ◌≤◌, List, ◌++◌, length, take, option_map, Option, Some, IfSome}
 use Rattle.std.specs.Borrow.{Bor}
 use Rattle.std.specs.Io.KnownBytes.{Consumes}
-use Rattle.command_line.specs.Requests.{Asked, batching, needs}
+use Rattle.command_line.specs.Requests.{Asked, batching, cutting, needs}
 use Rattle.tso_report.specs.Limits.{trace_read_limit}
 use Rattle.tso_report.specs.Streams.{LosesPrefix}
 
@@ -14,10 +14,11 @@ HasKnown known remaining = IfSome known (λ all. remaining ≡ Some all)
 abbrev pub reads_input : Asked → Bool
 reads_input asked = (needs asked).input
 
--- What is taken of standard input where it is read: of traces that stand one after the other all bytes, of one trace so many that a text of too many
--- bytes is seen.
+-- What is taken of standard input where it is read: of traces that stand one after the other and of a log all bytes, of one trace so many that a text of
+-- too many bytes is seen.
 abbrev pub TakesInput : Asked → Option (List ℕ) → Option (List ℕ) → Type 0
 TakesInput (batching file workers quiet) old new = IfSome old (λ all. Consumes old new all)
+TakesInput (cutting file events) old new = IfSome old (λ all. Consumes old new all)
 TakesInput asked old new = LosesPrefix trace_read_limit old new
 
 -- the known names of the files opened so far grow by these

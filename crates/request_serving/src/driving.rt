@@ -24,12 +24,13 @@ use tso_report::Fault;
 /// Does what the arguments of a command line ask for, and answers the status that the program ends with.
 ///
 /// Without arguments it judges what the reader has, with one worker, and writes its report; so it does, by the arguments
-/// `judge [--workers N] [FILE]`, for a file; `explain` writes why, `batch` a line for each of many traces. By `check TRACE
-/// CERT` it checks a certificate against a trace. `replay` and `run` execute a program on a memory unit and judge the record, `make` draws a program from a seed, and `campaign`
-/// runs those of many seeds. Status 0: no violation was found, or a text was asked for and written. 2: a text, a
-/// certificate, a shape or seeds were refused, or the arguments were, whose refusal is written to `errors`. 3: a violation,
-/// or a certificate that holds. 4: a fault; one line, as `FAULT Read`, is written to `errors`. All files that the arguments
-/// name are opened, in their order, before one is read. At most 1,048,577 bytes of a trace are read; of many traces all are.
+/// `judge [--workers N] [FILE]`, for a file; `explain` writes why, `batch` a line for each of many traces, and `cut` traces
+/// that are cut out of a log. By `check TRACE CERT` it checks a certificate against a trace. `replay` and `run` execute a
+/// program on a memory unit and judge the record, `make` draws a program from a seed, and `campaign` runs those of many
+/// seeds. Status 0: no violation was found, or a text was asked for and written. 2: a text, a certificate, a shape or seeds
+/// were refused; or a log or the arguments were, whose refusal is written to `errors`. 3: a violation, or a certificate that
+/// holds. 4: a fault; one line, as `FAULT Read`, is written to `errors`. All files that the arguments name are opened, in
+/// their order, before one is read. At most 1,048,577 bytes of a trace are read; of many traces and of a log all are.
 pub fn drive<H: Threads + Wait + Sync + Files + AllocGlobal, R: Read, W: Write, E: Write>(
     rt: &H,
     arguments: &[String],

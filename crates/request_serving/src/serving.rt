@@ -1,6 +1,6 @@
 //! What the program does for each request.
 ghost use Rattle.std.specs.Prelude.{◌≡◌, ◌≢◌, [], ◌∷◌, IfOk, IfErr, OnOk, true, false};
-ghost use Rattle.command_line.specs.Requests.{HasDrainTurns, HasUnitRanges, HasWorkers, asked_of};
+ghost use Rattle.command_line.specs.Requests.{HasDrainTurns, HasPieceEvents, HasUnitRanges, HasWorkers, asked_of};
 ghost use Rattle.tso_report.specs.Limits.{worker_limit};
 ghost use Rattle.tso_report.specs.Streams.{AppendsPrefix};
 ghost use Rattle.tso_report.specs.declared.faults.Fault.TheVariants.{NoThread};
@@ -13,6 +13,7 @@ use crate::endings::{DONE, REFUSED, end, end_by, end_run, end_with};
 use crate::files::{NamedFiles, open};
 use crate::serving::batching::batch_by;
 use crate::serving::campaigning::campaign_by;
+use crate::serving::cutting::cut_by;
 use crate::serving::judging::judge_by;
 use crate::serving::making::make;
 use crate::serving::replaying::replay_named;
@@ -26,6 +27,7 @@ use tso_report::{Fault, MAX_WORKERS, Verdict, check_texts, write_text};
 
 mod batching;
 mod campaigning;
+mod cutting;
 mod judging;
 mod making;
 mod replaying;
@@ -37,8 +39,9 @@ const _: () = prove!(command_line::MAX_WORKERS == MAX_WORKERS);
 /// Does what a request asks for, and answers the status that the program ends with.
 ///
 /// `Judge` judges the trace in a file, or else what `reader` has, and writes its report to `writer`, or the explanation of
-/// the verdict; `Batch` writes a line for each of many traces. `Check` checks a certificate against a trace and
-/// writes the report of both. Their status is that of the verdict: 0 where no violation
+/// the verdict; `Batch` writes a line for each of many traces. `Cut` cuts a log into traces and writes these, with status 0,
+/// or the refusal of the log to `errors`, with status 2. `Check` checks a certificate against a trace and
+/// writes the report of both. The status of those that judge or check is that of the verdict: 0 where no violation
 /// was found, 2 where a text or the certificate was refused, 3 at a violation or a certificate that holds. `Replay` and
 /// `Run` print what a record gives: never a violation where the unit is lawful for programs of the memory model that the
 /// program's text names, so their status isn't 3 there. A run whose request names turns of a drainer, at most 1,000,000,
@@ -56,6 +59,7 @@ pub fn serve<H: Threads + Wait + Sync + AllocGlobal, O: NamedFiles, R: Read, W: 
     requires workers { HasWorkers (asked_of request.now) }
     requires unit { HasUnitRanges (asked_of request.now) }
     requires turns { HasDrainTurns (asked_of request.now) }
+    requires events { HasPieceEvents (asked_of request.now) }
     ensures ends { EndsAsAsked (asked_of request.now) (R.remaining reader.old) (O.bytes files.old) (outputs (W.contents writer.old) (W.contents writer.new) (E.contents errors.old) (E.contents errors.new)) result }
     ensures text { EndsWithText request.now (outputs (W.contents writer.old) (W.contents writer.new) (E.contents errors.old) (E.contents errors.new)) result }
     ensures no_false_alarm { runs_on_lawful_unit (asked_of request.now) ≡ true → result ≢ 3 }
@@ -68,6 +72,7 @@ pub fn serve<H: Threads + Wait + Sync + AllocGlobal, O: NamedFiles, R: Read, W: 
     match request {
         Request::Judge(request) => judge_by(rt, request, files, reader, writer, errors),
         Request::Batch(request) => batch_by(rt, request, files, reader, writer, errors),
+        Request::Cut(request) => cut_by(rt.alloc(), request, files, reader, writer, errors),
         Request::Check { trace, certificate } => {
             let checked = check_files(rt.alloc(), trace, certificate, files, writer);
             end(checked, errors)

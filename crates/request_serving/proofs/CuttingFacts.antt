@@ -1,0 +1,97 @@
+-- Lemmas on the cutting of logs.
+use Rattle.std.proofs.Common.{◌≡◌, ◌∙◌, ℕ, List, ◌++◌, Err, None, Ok, Result, Some, IfErr, IfOk, ap, inl, inr, refl, subst, take}
+use Rattle.std.specs.Prelude.{OnErr, Option}
+use Rattle.std.specs.Io.KnownBytes.{Appends, Keeps}
+use Rattle.log_cuts.specs.LogCuts.{IsCutFault, IsCutOfReader, IsRefusalOfReader, LeavesCut, WritesCut, WritesRefusal}
+use Rattle.log_cuts.specs.declared.cutting.CutVerdict.{CutVerdict}
+use Rattle.log_cuts.specs.declared.cutting.CutVerdict.TheVariants as log
+use Rattle.tso_report.specs.Streams.{AppendsPrefix}
+use Rattle.tso_report.specs.declared.faults.Fault.{Fault}
+use Rattle.tso_report.specs.declared.faults.Fault.TheVariants.{OutOfMemory, Read, Write, NoThread, Missing}
+use Rattle.request_serving.specs.Endings.{EndsCut, Outputs, WritesFaultLine}
+use Rattle.request_serving.specs.OpenedFiles.{HasKnown}
+use Rattle.request_serving.specs.Statuses.{status_of_cut}
+
+-- ---- logs of files of which less may be known
+
+module _ (known remaining : Option (List ℕ)) (has : HasKnown known remaining) where
+  cut_of_known : (stream : List ℕ) → IsCutOfReader remaining stream → IsCutOfReader known stream
+  cut_of_known stream cut = go known has
+    where
+      go : (known : Option (List ℕ)) → HasKnown known remaining → IsCutOfReader known stream
+      go None has = record { text = cut.text; all = tt; operations = cut.operations; spelled = cut.spelled; stream_of = cut.stream_of }
+      go (Some all) has = subst (λ r. IsCutOfReader r stream) has cut
+
+  refusal_of_known : (line : List ℕ) → IsRefusalOfReader remaining line → IsRefusalOfReader known line
+  refusal_of_known line refusal = go known has
+    where
+      go : (known : Option (List ℕ)) → HasKnown known remaining → IsRefusalOfReader known line
+      go None has = record { text = refusal.text; all = tt; line = refusal.line; why = refusal.why; refused = refusal.refused; says = refusal.says }
+      go (Some all) has = subst (λ r. IsRefusalOfReader r line) has refusal
+
+  module _ (before after : Option (List ℕ)) where
+    pub file_cut : (errors_before errors_after : Option (List ℕ)) → WritesCut remaining before after errors_before errors_after → WritesCut known before after errors_before errors_after
+    file_cut errors_before errors_after writes = record { stream = writes.stream; cut = cut_of_known writes.stream writes.cut; written = writes.written; told = writes.told }
+
+    pub file_refused : (errors_before errors_after : Option (List ℕ)) → WritesRefusal remaining before after errors_before errors_after → WritesRefusal known before after errors_before errors_after
+    file_refused errors_before errors_after writes = record { unwritten = writes.unwritten; line = writes.line; refused = refusal_of_known writes.line writes.refused; told = writes.told }
+
+    file_leaves : LeavesCut remaining before after → LeavesCut known before after
+    file_leaves (inl kept) = inl kept
+    file_leaves (inr some) = inr (some.0, cut_of_known some.0 some.1, some.2)
+
+    pub file_left : (outcome : Result CutVerdict Fault) → OnErr outcome (LeavesCut remaining before after) → OnErr outcome (LeavesCut known before after)
+    file_left (Ok verdict) left = tt
+    file_left (Err fault) left = file_leaves left
+
+-- ---- what is written to the errors before and after
+
+prefix_kept : (a b c : Option (List ℕ)) (text : List ℕ) → AppendsPrefix a b text → Keeps b c → AppendsPrefix a c text
+prefix_kept a b c text appends kept = (appends.0, appends.1, go a b c appends.2 kept)
+  where
+    go : (a b c : Option (List ℕ)) → Appends a b (take appends.0 text) → Keeps b c → Appends a c (take appends.0 text)
+    go None b c grown kept = tt
+    go (Some x) None c grown kept = absurd grown
+    go (Some x) (Some y) None grown kept = absurd kept
+    go (Some x) (Some y) (Some z) grown kept = kept ∙ grown
+
+kept_Appends : (a b c : Option (List ℕ)) (text : List ℕ) → Keeps a b → Appends b c text → Appends a c text
+kept_Appends None b c text kept appends = tt
+kept_Appends (Some x) None c text kept appends = absurd kept
+kept_Appends (Some x) (Some y) None text kept appends = absurd appends
+kept_Appends (Some x) (Some y) (Some z) text kept appends = appends ∙ ap (λ l. l ++ text) kept
+
+kept_AppendsPrefix : (a b c : Option (List ℕ)) (text : List ℕ) → Keeps a b → AppendsPrefix b c text → AppendsPrefix a c text
+kept_AppendsPrefix a b c text kept appends = (appends.0, appends.1, kept_Appends a b c (take appends.0 text) kept appends.2)
+
+kept_fault_line : (a b c : Option (List ℕ)) (fault : Fault) → Keeps a b → WritesFaultLine b c fault → WritesFaultLine a c fault
+kept_fault_line a b c OutOfMemory kept = kept_AppendsPrefix a b c _ kept
+kept_fault_line a b c Read kept = kept_AppendsPrefix a b c _ kept
+kept_fault_line a b c Write kept = kept_AppendsPrefix a b c _ kept
+kept_fault_line a b c NoThread kept = kept_AppendsPrefix a b c _ kept
+kept_fault_line a b c (Missing seed) kept = kept_AppendsPrefix a b c _ kept
+
+-- ---- how the cutting of a log ends
+
+-- nothing was written where the file can't be opened
+pub unopened : (known written : Option (List ℕ)) (outcome : Result CutVerdict Fault) → OnErr outcome (LeavesCut known written written)
+unopened known written (Ok verdict) = tt
+unopened known written (Err fault) = inl (kept written)
+  where
+    kept : (a : Option (List ℕ)) → Keeps a a
+    kept None = tt
+    kept (Some x) = refl
+
+pub ends_cut : (remaining mid : Option (List ℕ)) (o : Outputs) (outcome : Result CutVerdict Fault) (status : ℕ)
+    → (outcome ≡ Ok log.Cut → WritesCut remaining o.written_before o.written o.errors_before mid)
+    → (outcome ≡ Ok log.Refused → WritesRefusal remaining o.written_before o.written o.errors_before mid)
+    → OnErr outcome (LeavesCut remaining o.written_before o.written) → OnErr outcome (Keeps o.errors_before mid) → IfErr outcome IsCutFault
+    → IfOk outcome (λ verdict. (status ≡ status_of_cut verdict) × Keeps mid o.errors) → IfErr outcome (λ fault. WritesFaultLine mid o.errors fault × (status ≡ 4))
+    → EndsCut remaining o status
+ends_cut remaining mid o (Ok log.Cut) status cut refused left untold fault told faulty =
+    let w = cut refl in
+    inl (record { stream = w.stream; cut = w.cut; written = w.written; told = (w.told.0, prefix_kept o.errors_before mid o.errors w.told.0 w.told.1 told.1) }, told.0)
+ends_cut remaining mid o (Ok log.Refused) status cut refused left untold fault told faulty =
+    let w = refused refl in
+    inr (inl (record { unwritten = w.unwritten; line = w.line; refused = w.refused; told = prefix_kept o.errors_before mid o.errors w.line w.told told.1 }, told.0))
+ends_cut remaining mid o (Err fault) status cut refused left untold is_fault told faulty = inr (inr (fault, is_fault, left, (kept_fault_line o.errors_before mid o.errors fault untold faulty.0, faulty.1)))
