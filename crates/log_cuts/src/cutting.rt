@@ -10,7 +10,6 @@ ghost use Rattle.tso_report.specs.declared.faults.Fault.{Fault};
 ghost use Rattle.tso_text.specs.declared.faults.Why.{Why};
 
 use crate::statistics::Statistics;
-use crate::streams::write_piece;
 use log_pieces::KnownLog;
 use log_text::{Log, read_log};
 use std::alloc::Global;
@@ -51,6 +50,8 @@ pub fn cut_log<R: Read, W: Write, E: Write>(
     let text = read_all(alloc, reader, usize::MAX)?;
     match read_log(alloc, &text) {
         Ok(log) => {
+            // A long log's text takes memory that its pieces need.
+            drop(text);
             let lines = write_pieces(alloc, events, log, writer)?;
             // The pieces are written: nothing can be done where lines on them can't be.
             let _ = write_text(errors, lines.as_bytes());
@@ -77,7 +78,7 @@ fn write_pieces<W: Write>(
     for window in windows.as_slice() {
         if let Some(piece) = log.cut(alloc, window)? {
             let text = print_trace(alloc, &piece.trace)?;
-            write_piece(writer, text.as_bytes())?;
+            write_text(writer, text.as_bytes())?;
             statistics.count(&piece)?;
         }
     }

@@ -7,4 +7,3 @@ pub use cutting::{CutVerdict, cut_log};
 
 mod cutting;
 mod statistics;
-mod streams;

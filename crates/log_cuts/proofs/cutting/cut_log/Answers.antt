@@ -10,29 +10,29 @@ returns-in_err-lines-in-Ok-clause-left g c =
     on_err c.from_residual-in_err-lines-in-Ok.result
     (cut_left _ _ _ (operations_of c.in-Ok.log) all c.deref.ensures.value c.in-Ok.ensures.found _ _ c.in_err-lines-in-Ok.ensures.part)
 
-pub returns-in-Ok-clause-cut : goal.returns-in-Ok-clause-cut
-returns-in-Ok-clause-cut g c = λ _.
+pub returns-in_ok-lines-in-Ok-clause-cut : goal.returns-in_ok-lines-in-Ok-clause-cut
+returns-in_ok-lines-in-Ok-clause-cut g c = λ _.
     let small = c.in_ok-text.text.small in
     let all = all_read (g.R.Read.remaining c.args.reader.now) c.in_ok-text.text.items c.in_ok-text.ensures.prefix (omega (arith, small)) in
     cut_written _ _ _ (operations_of c.in-Ok.log) all c.deref.ensures.value c.in-Ok.ensures.found _ _ _ _ c.as_bytes.result.now c.in_ok-lines-in-Ok.ensures.whole c.write_text.ensures.prefix
 
-pub returns-in-Ok-clause-taken : goal.returns-in-Ok-clause-taken
-returns-in-Ok-clause-taken g c =
+pub returns-in_ok-lines-in-Ok-clause-taken : goal.returns-in_ok-lines-in-Ok-clause-taken
+returns-in_ok-lines-in-Ok-clause-taken g c =
     let small = c.in_ok-text.text.small in
     all_consumed (g.R.Read.remaining c.args.reader.now) _ _ (all_read (g.R.Read.remaining c.args.reader.now) c.in_ok-text.text.items c.in_ok-text.ensures.prefix (omega (arith, small))) c.in_ok-text.ensures.taken
 
-pub returns-clause-refused : goal.returns-clause-refused
-returns-clause-refused g c = λ is.
+pub returns-in-Err-clause-refused : goal.returns-in-Err-clause-refused
+returns-in-Err-clause-refused g c = λ is.
     let small = c.in_ok-text.text.small in
     let all = all_read (g.R.Read.remaining c.args.reader.now) c.in_ok-text.text.items c.in_ok-text.ensures.prefix (omega (arith, small)) in
     let line = said_of c.refuse.result _ _ is c.refuse.ensures.line in
     refusal_written _ _ _ _ _ _ c.in-Err.fault.line c.in-Err.fault.why all c.deref.ensures.value (c.in-Err.ensures.refused line.1) line.2
 
-pub returns-clause-taken : goal.returns-clause-taken
-returns-clause-taken g c =
+pub returns-in-Err-clause-taken : goal.returns-in-Err-clause-taken
+returns-in-Err-clause-taken g c =
     let small = c.in_ok-text.text.small in
     on_ok c.refuse.result
     (all_consumed (g.R.Read.remaining c.args.reader.now) _ _ (all_read (g.R.Read.remaining c.args.reader.now) c.in_ok-text.text.items c.in_ok-text.ensures.prefix (omega (arith, small))) c.in_ok-text.ensures.taken)
 
-pub returns-clause-left : goal.returns-clause-left
-returns-clause-left g c = on_err c.refuse.result (inl (kept (g.W.Write.contents c.args.writer.now)))
+pub returns-in-Err-clause-left : goal.returns-in-Err-clause-left
+returns-in-Err-clause-left g c = on_err c.refuse.result (inl (kept (g.W.Write.contents c.args.writer.now)))
