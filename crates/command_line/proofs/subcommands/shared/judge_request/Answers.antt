@@ -5,5 +5,4 @@ use Rattle.command_line.specs.Requests.{judging}
 use Rattle.command_line.proofs.subcommands.shared.judge_request.Goals as goal
 
 pub returns : goal.returns
-returns c =
-    ap₂ (judging c.args.presentation) (c.get_str.ensures ∙ first_value-rows (found_of c.args.matches.now) _) c.workers.ensures.value
+returns c = ap₂ (judging c.args.presentation) (c.get_str.ensures ∙ first_value-rows (found_of c.args.matches.now) _) c.workers.ensures.value
