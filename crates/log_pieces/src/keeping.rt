@@ -29,7 +29,7 @@ enum Origins {
 }
 
 /// Keeps these operations of each processor of a log with these lists and the numbers of its operations: nothing where they
-/// are no part of it. The numbers of their events are pushed to `origins`. A processor that keeps nothing is left out.
+/// are no part of it. The numbers of their events are pushed to `origins`. Processors of which nothing is said are left out.
 pub(crate) fn keep_lists(
     alloc: Global,
     addresses: &[u64],
@@ -43,12 +43,12 @@ pub(crate) fn keep_lists(
 {
     let mut outcomes = Vec::new(alloc);
     for (p, list) in lists.iter().enumerate() {
-        let (Some(numbers), Some(kept)) = (numbers.get(p), kept.get(p)) else {
+        let Some(numbers) = numbers.get(p) else {
             return Ok(None);
         };
-        if kept.is_empty() {
+        let Some(kept) = kept.get(p) else {
             continue;
-        }
+        };
         match keep_list(alloc, addresses, list, numbers, kept, origins)? {
             Some(row) => outcomes.push(row)?,
             None => return Ok(None),

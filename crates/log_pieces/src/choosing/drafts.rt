@@ -34,7 +34,7 @@ pub(crate) fn choose(
     draft.add_sources(chart, &group.steps, window)?;
     draft.places.sort_unstable();
     let mut kept = Vec::new(alloc);
-    for _ in 0..chart.lists.len() {
+    for _ in 0..count_processors(chart.lists) {
         kept.push(Vec::new(alloc))?;
     }
     let mut choice = Choice {
@@ -45,6 +45,17 @@ pub(crate) fn choose(
     };
     draft.keep(chart, order, &group.steps, window, &mut choice)?;
     Ok(choice)
+}
+
+/// How many processors a piece has, so that each keeps its number: all up to the last one that has operations.
+fn count_processors(lists: &[Vec<LogOperation>]) -> usize {
+    let mut count = 0;
+    for (p, list) in lists.iter().enumerate() {
+        if !list.is_empty() {
+            count = p + 1;
+        }
+    }
+    count
 }
 
 impl Draft {
