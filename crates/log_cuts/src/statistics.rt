@@ -32,8 +32,8 @@ impl Statistics {
         self.loads = self.loads.saturating_add(piece.loads);
         write!(
             self.lines,
-            "piece {} operations {} loads {}\n",
-            self.pieces, piece.operations, piece.loads
+            "piece {} operations {} loads {} lines {} to {}\n",
+            self.pieces, piece.operations, piece.loads, piece.first_line, piece.last_line
         )?;
         Ok(())
     }
@@ -43,13 +43,17 @@ impl Statistics {
     pub(crate) fn lines_on(mut self, log: &KnownLog) -> Result<String, OutOfMemory> {
         write!(
             self.lines,
-            "pieces {} operations {} loads {} left out: {} ambiguous, {} unwritten\n",
+            "pieces {} operations {} loads {} left out: {} ambiguous, {} unwritten",
             self.pieces,
             self.operations,
             self.loads,
             log.ambiguous_loads(),
             log.unwritten_loads()
         )?;
+        if let Some(line) = log.unwritten_line() {
+            write!(self.lines, ", the first in line {line}")?;
+        }
+        self.lines.push_str("\n")?;
         Ok(self.lines)
     }
 }

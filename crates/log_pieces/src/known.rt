@@ -10,6 +10,7 @@ use crate::choosing::groups::{Group, group_addresses};
 use crate::choosing::orders::order_by_reads;
 use crate::choosing::windows::{Chart, Window, find_positions, find_windows};
 use crate::keeping::{Kept, keep_lists};
+use crate::lines::{line_of, number_lines};
 use crate::source_checks::keeps_sources;
 use crate::sources::{Sources, find_sources};
 use log_text::Log;
@@ -25,6 +26,7 @@ pub struct KnownLog {
     sources: Sources,
     groups: Vec<Group>,
     positions: Vec<usize>,
+    lines: Vec<Vec<usize>>,
 }
 
 /// A piece of a log.
@@ -36,6 +38,10 @@ pub struct Piece {
     pub operations: usize,
     /// How many loads it has, those of swaps counted.
     pub loads: usize,
+    /// The first line of the log's text with an operation that it keeps, stores aside that its loads read from elsewhere.
+    pub first_line: usize,
+    /// The last such line.
+    pub last_line: usize,
 }
 
 impl Model for KnownLog {
@@ -59,6 +65,9 @@ pub(crate) struct Choice {
     pub(crate) operations: usize,
     /// How many of them are loads or swaps with their loads.
     pub(crate) loads: usize,
+    /// The lines of the log's text between which the operations of the window stand that are kept.
+    pub(crate) first_line: usize,
+    pub(crate) last_line: usize,
 }
 
 impl KnownLog {
@@ -75,14 +84,17 @@ impl KnownLog {
             numbers: &numbered.numbers,
             sources: &sources.numbers,
             positions: &[],
+            lines: &[],
         };
         let positions = find_positions(alloc, chart, &groups)?;
+        let lines = number_lines(alloc, &log)?;
         Ok(KnownLog {
             log,
             numbers: numbered.numbers,
             sources,
             groups,
             positions,
+            lines,
         })
     }
 
@@ -102,6 +114,12 @@ impl KnownLog {
         self.sources.unwritten
     }
 
+    /// The line of the log's text with the first load of them, by processors, if there is one.
+    pub fn unwritten_line(&self) -> Option<usize> {
+        let number = self.sources.first_unwritten?;
+        line_of(&self.numbers, &self.lines, number)
+    }
+
     /// The piece of a part of the log, if it has one of at most so many events. OutOfMemory where an allocation was refused.
     pub fn cut(&self, alloc: Global, window: &Window) -> Result<Option<Piece>, OutOfMemory>
         ensures cut { IfOk result (λ found. IfSome found (λ piece. IsCutOf self.now piece.trace)) }
@@ -119,6 +137,8 @@ impl KnownLog {
                 trace,
                 operations: choice.operations,
                 loads: choice.loads,
+                first_line: choice.first_line,
+                last_line: choice.last_line,
             })),
             _ => Ok(None),
         }
@@ -130,6 +150,7 @@ impl KnownLog {
             numbers: &self.numbers,
             sources: &self.sources.numbers,
             positions: &self.positions,
+            lines: &self.lines,
         }
     }
 

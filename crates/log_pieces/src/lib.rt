@@ -11,6 +11,7 @@ mod choosing;
 mod keeping;
 mod known;
 pub mod laws;
+mod lines;
 mod source_checks;
 mod sources;
 mod writers;

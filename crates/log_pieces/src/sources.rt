@@ -28,6 +28,8 @@ pub(crate) struct Sources {
     pub(crate) numbers: Vec<Option<usize>>,
     pub(crate) ambiguous: usize,
     pub(crate) unwritten: usize,
+    /// The number of the first load of a value that nothing wrote.
+    pub(crate) first_unwritten: Option<usize>,
 }
 
 /// Finds the sources of the loads among the accesses of a log with these first values.
@@ -44,12 +46,14 @@ pub(crate) fn find_sources(
         numbers: Vec::new(alloc),
         ambiguous: 0,
         unwritten: 0,
+        first_unwritten: None,
     };
     // Number 0 is no event.
     sources.numbers.push(None)?;
     for access in accesses {
         let number = if access.load {
-            sources.count(source_of(&writers, &values, *access))
+            let load = sources.numbers.len();
+            sources.count(load, source_of(&writers, &values, *access))
         } else {
             None
         };
@@ -59,15 +63,18 @@ pub(crate) fn find_sources(
 }
 
 impl Sources {
-    /// Counts a load: the number of its source, where that is known.
-    fn count(&mut self, found: LoadSource) -> Option<usize>
+    /// Counts the load of this number: the number of its source, where that is known.
+    fn count(&mut self, load: usize, found: LoadSource) -> Option<usize>
         ensures number { result ≡ known_number found }
         ensures kept { self.new.numbers ≡ self.old.numbers }
     {
         match found {
             LoadSource::Known(number) => return Some(number),
             LoadSource::Ambiguous => self.ambiguous = self.ambiguous.saturating_add(1),
-            LoadSource::Unwritten => self.unwritten = self.unwritten.saturating_add(1),
+            LoadSource::Unwritten => {
+                self.unwritten = self.unwritten.saturating_add(1);
+                self.first_unwritten = self.first_unwritten.or(Some(load));
+            }
         }
         None
     }

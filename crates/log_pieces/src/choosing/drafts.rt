@@ -42,6 +42,8 @@ pub(crate) fn choose(
         kept,
         operations: 0,
         loads: 0,
+        first_line: usize::MAX,
+        last_line: 0,
     };
     draft.keep(chart, order, &group.steps, window, &mut choice)?;
     Ok(choice)
@@ -121,6 +123,9 @@ impl Draft {
             };
             let inside = window.from <= *place && *place < window.to;
             if let Some(outcome) = self.outcome_of(chart, *step, inside) {
+                if inside {
+                    choice.note_line(line_at(chart, *step));
+                }
                 choice.push(order, *step, outcome)?;
             }
         }
@@ -154,7 +159,21 @@ impl Draft {
     }
 }
 
+/// The line of an operation, or 0 where it has none.
+fn line_at(chart: Chart<'_>, step: Step) -> usize {
+    match chart.lines.get(step.spot.p) {
+        Some(list) => list.get(step.spot.index).copied().unwrap_or(0),
+        None => 0,
+    }
+}
+
 impl Choice {
+    /// Notes the line of an operation of the window.
+    fn note_line(&mut self, line: usize) {
+        self.first_line = self.first_line.min(line);
+        self.last_line = self.last_line.max(line);
+    }
+
     /// Keeps an operation, and the last barriers before it.
     fn push(&mut self, order: Order, step: Step, outcome: Outcome) -> Result<(), OutOfMemory> {
         if let Some(row) = self.kept.get_mut(step.spot.p) {

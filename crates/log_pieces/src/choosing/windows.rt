@@ -16,13 +16,14 @@ pub struct Window {
 }
 
 /// What windows are chosen by: the lists of the log and the numbers of their operations, the sources of loads, and for the
-/// number of each store where its operation stands in its group.
+/// number of each store where its operation stands in its group; and the lines of operations in the log's text.
 #[derive(Clone, Copy)]
 pub(crate) struct Chart<'a> {
     pub(crate) lists: &'a [Vec<LogOperation>],
     pub(crate) numbers: &'a [Vec<usize>],
     pub(crate) sources: &'a [Option<usize>],
     pub(crate) positions: &'a [usize],
+    pub(crate) lines: &'a [Vec<usize>],
 }
 
 /// Where each store's operation stands in its group, by the store's number.
