@@ -65,6 +65,8 @@ pub(crate) struct Choice {
     pub(crate) operations: usize,
     /// How many of them are loads or swaps with their loads.
     pub(crate) loads: usize,
+    /// How many barriers.
+    pub(crate) barriers: usize,
     /// The lines of the log's text between which the operations of the window stand that are kept.
     pub(crate) first_line: usize,
     pub(crate) last_line: usize,
@@ -120,7 +122,8 @@ impl KnownLog {
         line_of(&self.numbers, &self.lines, number)
     }
 
-    /// The piece of a part of the log, if it has one of at most so many events. OutOfMemory where an allocation was refused.
+    /// The piece of a part of the log, if it has one with a load and of at most so many events: without loads it has an order.
+    /// OutOfMemory where an allocation was refused.
     pub fn cut(&self, alloc: Global, window: &Window) -> Result<Option<Piece>, OutOfMemory>
         ensures cut { IfOk result (λ found. IfSome found (λ piece. IsCutOf self.now piece.trace)) }
         ensures events { IfOk result (λ found. IfSome found (λ piece. event_total piece.trace ≤ window.now.events)) }
@@ -129,7 +132,7 @@ impl KnownLog {
             return Ok(None);
         };
         let choice = choose(alloc, self.chart(), self.log.order, group, window)?;
-        if choice.operations == 0 {
+        if choice.loads == 0 {
             return Ok(None);
         }
         match self.keep(alloc, &choice)? {

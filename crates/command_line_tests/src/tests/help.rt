@@ -286,12 +286,14 @@ numbers of 64 bits, and values may repeat. The first line may be `model pso`,
 for Partial Store Order. Lines `init A V`, before all operations and in
 ascending order of A, say what memory has at first: 0 at all other addresses.
 
-The log must have every store and swap of the run from its start: what it leaves
-out may be what a load read. Then a violation of a piece is one of the log; that
-no piece is a violation proves nothing about the log. Loads are left out whose
-value several stores wrote, and those whose value nothing wrote. Standard error
-gets a line for each piece, and a last one with their numbers and those of the
-loads left out; or, of a text that is no log, one as REFUSED BadLine line 3.
+The log must have every store and swap of the run: what it leaves out may be
+what a load read. Then a violation of a piece is one of the log; that no piece
+is a violation proves nothing about the log. Left out are loads whose value
+several may have written (stores, or a store and the first value), and loads
+whose value nothing wrote, each of which is a violation by itself. Standard
+error gets a line for each piece, and a last one with their numbers and those
+of the loads left out; or, of a text that is no log, one as REFUSED BadLine
+line 3. STBAR says nothing without `model pso`.
 
 Exit status:
   0  the pieces were printed

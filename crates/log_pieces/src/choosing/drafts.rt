@@ -9,6 +9,9 @@ use std::alloc::Global;
 use std::collections::HashMap;
 use tso_ops::{Order, OutOfMemory, Outcome};
 
+/// How many barriers of both kinds a trace may have.
+const MAX_BARRIERS: usize = 8_000;
+
 /// The values that stores are to have in a trace, by their numbers in the log, and the places in the group of the operations
 /// that are to be kept.
 #[derive(Drop)]
@@ -42,6 +45,7 @@ pub(crate) fn choose(
         kept,
         operations: 0,
         loads: 0,
+        barriers: 0,
         first_line: usize::MAX,
         last_line: 0,
     };
@@ -174,15 +178,23 @@ impl Choice {
         self.last_line = self.last_line.max(line);
     }
 
-    /// Keeps an operation, and the last barriers before it.
+    /// Keeps an operation, and the last barriers before it, as long as a trace may have more of them.
     fn push(&mut self, order: Order, step: Step, outcome: Outcome) -> Result<(), OutOfMemory> {
-        if let Some(row) = self.kept.get_mut(step.spot.p) {
-            push_barriers(row, order, step)?;
-            row.push(Kept {
-                index: step.spot.index,
-                outcome,
-            })?;
+        let Some(row) = self.kept.get_mut(step.spot.p) else {
+            return Ok(());
+        };
+        for barrier in barriers_before(row, order, step) {
+            if let Some(kept) = barrier
+                && self.barriers < MAX_BARRIERS
+            {
+                row.push(kept)?;
+                self.barriers += 1;
+            }
         }
+        row.push(Kept {
+            index: step.spot.index,
+            outcome,
+        })?;
         self.operations = self.operations.saturating_add(1);
         if matches!(outcome, Outcome::Ld { .. } | Outcome::Sw { .. }) {
             self.loads = self.loads.saturating_add(1);
@@ -191,10 +203,10 @@ impl Choice {
     }
 }
 
-/// Pushes the last barriers before an operation, where they come after what is kept.
-fn push_barriers(row: &mut Vec<Kept>, order: Order, step: Step) -> Result<(), OutOfMemory> {
+/// The last barriers before an operation, in their order, where they come after what is kept of its processor.
+fn barriers_before(row: &[Kept], order: Order, step: Step) -> [Option<Kept>; 2] {
     let Some(last) = row.last().copied() else {
-        return Ok(());
+        return [None, None];
     };
     let end = last.index.saturating_add(1);
     let membar = (step.membar, Outcome::Mb);
@@ -207,22 +219,17 @@ fn push_barriers(row: &mut Vec<Kept>, order: Order, step: Step) -> Result<(), Ou
     } else {
         (stbar, membar)
     };
-    push_barrier(row, end, first)?;
-    push_barrier(row, end, second)
+    [barrier_at(end, first), barrier_at(end, second)]
 }
 
-/// Pushes a barrier at one less than this index, where it comes after what is kept.
-fn push_barrier(
-    row: &mut Vec<Kept>,
-    end: usize,
-    barrier: (usize, Outcome),
-) -> Result<(), OutOfMemory> {
+/// A barrier at one less than this index, where it comes after what is kept.
+fn barrier_at(end: usize, barrier: (usize, Outcome)) -> Option<Kept> {
     let (next, outcome) = barrier;
-    if next > end {
-        row.push(Kept {
-            index: next - 1,
-            outcome,
-        })?;
+    if next <= end {
+        return None;
     }
-    Ok(())
+    Some(Kept {
+        index: next - 1,
+        outcome,
+    })
 }

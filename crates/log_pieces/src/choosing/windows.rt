@@ -75,13 +75,17 @@ pub(crate) fn known_source(chart: Chart<'_>, step: Step) -> Option<usize> {
     }
 }
 
-/// The windows of all groups, for pieces of at most so many events. Neighbours share a quarter.
+/// How many events a piece has room for at least: those of a swap and of the store that it read.
+const LEAST_EVENTS: usize = 3;
+
+/// The windows of all groups, for pieces of at most so many events, or of 3. Neighbours share about a quarter.
 pub(crate) fn find_windows(
     alloc: Global,
     chart: Chart<'_>,
     groups: &[Group],
     events: usize,
 ) -> Result<Vec<Window>, OutOfMemory> {
+    let events = events.max(LEAST_EVENTS);
     let mut windows = Vec::new(alloc);
     let mut marks = vec![in alloc; 0usize; chart.sources.len()]?;
     for (number, group) in groups.iter().enumerate() {
@@ -106,19 +110,27 @@ fn push_windows(
 ) -> Result<(), OutOfMemory> {
     let (number, steps) = group;
     let mut from = 0;
+    let mut last = 0;
     while from < steps.len() {
         let mark = windows.len().saturating_add(1);
         let to = window_end(chart, steps, from, events, (&mut *marks, mark)).max(from + 1);
+        if to <= last {
+            // Nothing new: loads without a known source take no room.
+            from = last.max(from + 1);
+            continue;
+        }
         windows.push(Window {
             events,
             group: number,
             from,
             to,
         })?;
-        if to >= steps.len() {
-            return Ok(());
-        }
-        from = (to - (to - from) / 4).max(from + 1);
+        last = to;
+        from = if to >= steps.len() {
+            to
+        } else {
+            (to - (to - from) / 4).max(from + 1)
+        };
     }
     Ok(())
 }
