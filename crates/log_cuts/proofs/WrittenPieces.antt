@@ -15,6 +15,7 @@ use Rattle.log_pieces.specs.Pieces.{IsCutOf}
 use Rattle.log_pieces.specs.declared.known.Piece.{Piece}
 use Rattle.log_text.specs.LogTexts.{IsLogRefusal, SpellsLog}
 use Rattle.tso_ops.specs.Values.{TraceValue}
+use Rattle.tso_ops.specs.Events.{event_total}
 use Rattle.tso_report.specs.Reports.{refusal_text}
 use Rattle.tso_report.specs.Streams.{AppendsPrefix}
 use Rattle.tso_report.specs.declared.faults.Fault.{Fault}
@@ -68,37 +69,42 @@ prefix_after a b c text more first second =
 All-one : (P : TraceValue → Type 0) (t : TraceValue) → P t → All P (t ∷ [])
 All-one P t holds = All-cons P t [] holds (All-nil P)
 
-module _ (operations : TraceValue) where
-  no_trace : IsStreamOf operations []
-  no_trace = record { traces = []; cut = All-nil (IsCutOf operations); spelled = All-nil (λ t. SpellsTrace (trace_text t) t); whole = refl }
+module _ (operations : TraceValue) (events : ℕ) where
+  no_trace : IsStreamOf operations events []
+  no_trace = record { traces = []; cut = All-nil (IsCutOf operations); small = All-nil (λ t. event_total t ≤ events); spelled = All-nil (λ t. SpellsTrace (trace_text t) t); whole = refl }
 
-  one_trace : (stream : List ℕ) (t : TraceValue) → IsStreamOf operations stream → IsCutOf operations t → SpellsTrace (trace_text t) t → IsStreamOf operations (stream ++ trace_text t)
-  one_trace stream t is cut spelled = record {
+  one_trace : (stream : List ℕ) (t : TraceValue) → IsStreamOf operations events stream → IsCutOf operations t → event_total t ≤ events → SpellsTrace (trace_text t) t → IsStreamOf operations events (stream ++ trace_text t)
+  one_trace stream t is cut small spelled = record {
     traces = is.traces ++ t ∷ [];
     cut = All-append (IsCutOf operations) is.traces (t ∷ []) is.cut (All-one (IsCutOf operations) t cut);
+    small = All-append (λ t. event_total t ≤ events) is.traces (t ∷ []) is.small (All-one (λ t. event_total t ≤ events) t small);
     spelled = All-append (λ t. SpellsTrace (trace_text t) t) is.traces (t ∷ []) is.spelled (All-one (λ t. SpellsTrace (trace_text t) t) t spelled);
     whole = ap (λ l. l ++ trace_text t) is.whole ∙ ap (λ l. flat_map trace_text is.traces ++ l) (sym (append-nil (trace_text t))) ∙ sym (flat_map-append trace_text is.traces (t ∷ []));
   }
 
-  pub none_written : (a : Option (List ℕ)) → WritesStream operations a a
+  pub none_written : (a : Option (List ℕ)) → WritesStream operations events a a
   none_written a = ([], no_trace, Appends-nil a)
 
-  pub some_written : (a b : Option (List ℕ)) → WritesStream operations a b → WritesPart operations a b
+  pub some_written : (a b : Option (List ℕ)) → WritesStream operations events a b → WritesPart operations events a b
   some_written a b writes = (writes.0, writes.1, all_written a b writes.0 writes.2)
 
-  module _ (a b c : Option (List ℕ)) (t : TraceValue) (bytes text : List ℕ) (before : WritesStream operations a b) (cut : IsCutOf operations t) (spelled : SpellsTrace text t) (lines : text ≡ trace_text t) (same : bytes ≡ text) where
-    more : IsStreamOf operations (before.0 ++ trace_text t)
-    more = one_trace before.0 t before.1 cut (subst (λ (l : List ℕ). SpellsTrace l t) lines spelled)
+  module _ (a b c : Option (List ℕ)) (t : TraceValue) (bytes text : List ℕ) (before : WritesStream operations events a b) (cut : IsCutOf operations t × (event_total t ≤ events)) (spelled : SpellsTrace text t) (lines : text ≡ trace_text t) (same : bytes ≡ text) where
+    more : IsStreamOf operations events (before.0 ++ trace_text t)
+    more = one_trace before.0 t before.1 cut.0 cut.1 (subst (λ (l : List ℕ). SpellsTrace l t) lines spelled)
 
-    pub one_written : Appends b c bytes → WritesStream operations a c
+    pub one_written : Appends b c bytes → WritesStream operations events a c
     one_written appends = (before.0 ++ trace_text t, more, Appends-trans a b c before.0 (trace_text t) before.2 (subst (Appends b c) (same ∙ lines) appends))
 
-    pub part_written : AppendsPrefix b c bytes → WritesPart operations a c
+    pub part_written : AppendsPrefix b c bytes → WritesPart operations events a c
     part_written appends = (before.0 ++ trace_text t, more, prefix_after a b c before.0 (trace_text t) before.2 (subst (AppendsPrefix b c) (same ∙ lines) appends))
 
--- the piece that was found is cut out of the log's operations
-pub found_cut : (known operations : TraceValue) (found : Option Piece) (piece : Piece) → known ≡ operations → IfSome found (λ p. IsCutOf known p.trace) → found ≡ Some piece → IsCutOf operations piece.trace
-found_cut known operations found piece same cut is = subst (λ (t : TraceValue). IsCutOf t piece.trace) same (subst (λ (f : Option Piece). IfSome f (λ p. IsCutOf known p.trace)) is cut)
+-- the piece that was found is cut out of the log's operations, and has at most so many events
+pub found_cut : (known operations : TraceValue) (events : ℕ) (found : Option Piece) (piece : Piece) → known ≡ operations → IfSome found (λ p. IsCutOf known p.trace) → IfSome found (λ p. event_total p.trace ≤ events)
+    → found ≡ Some piece → IsCutOf operations piece.trace × (event_total piece.trace ≤ events)
+found_cut known operations events found piece same cut small is = (
+  subst (λ (t : TraceValue). IsCutOf t piece.trace) same (subst (λ (f : Option Piece). IfSome f (λ p. IsCutOf known p.trace)) is cut),
+  subst (λ (f : Option Piece). IfSome f (λ p. event_total p.trace ≤ events)) is small,
+)
 
 pub on_err : {X : Type 0} (outcome : Result X Fault) {P : Type 0} → P → OnErr outcome P
 on_err (Ok x) holds = tt
@@ -114,15 +120,15 @@ said_of {X = X} outcome x P is said = subst (λ (o : Result X Fault). IfOk o P) 
 
 -- ---- the whole
 
-module _ (remaining : Option (List ℕ)) (text bytes : List ℕ) (operations : TraceValue) (all : IfSome remaining (λ l. bytes ≡ l)) (same : text ≡ bytes) (spelled : SpellsLog text operations) where
-  of_reader : (stream : List ℕ) → IsStreamOf operations stream → IsCutOfReader remaining stream
+module _ (remaining : Option (List ℕ)) (text bytes : List ℕ) (operations : TraceValue) (events : ℕ) (all : IfSome remaining (λ l. bytes ≡ l)) (same : text ≡ bytes) (spelled : SpellsLog text operations) where
+  of_reader : (stream : List ℕ) → IsStreamOf operations events stream → IsCutOfReader remaining events stream
   of_reader stream is = record { text = bytes; all = all; operations = operations; spelled = subst (λ (l : List ℕ). SpellsLog l operations) same spelled; stream_of = is }
 
-  pub cut_written : (before after errors_before errors_after : Option (List ℕ)) (text : List ℕ) → WritesStream operations before after → AppendsPrefix errors_before errors_after text
-      → WritesCut remaining before after errors_before errors_after
+  pub cut_written : (before after errors_before errors_after : Option (List ℕ)) (text : List ℕ) → WritesStream operations events before after → AppendsPrefix errors_before errors_after text
+      → WritesCut remaining events before after errors_before errors_after
   cut_written before after errors_before errors_after text writes told = record { stream = writes.0; cut = of_reader writes.0 writes.1; written = writes.2; told = (text, told) }
 
-  pub cut_left : (before after : Option (List ℕ)) → WritesPart operations before after → LeavesCut remaining before after
+  pub cut_left : (before after : Option (List ℕ)) → WritesPart operations events before after → LeavesCut remaining events before after
   cut_left before after writes = inr (writes.0, of_reader writes.0 writes.1, writes.2)
 
 -- the line of a refusal was written to the errors

@@ -1,5 +1,5 @@
 //! The way of a log: read, cut, print.
-ghost use Rattle.std.specs.Prelude.{◌≡◌, ◌≢◌, ◌≤◌, IfOk, OnErr, OnOk, IfErr, IfSome};
+ghost use Rattle.std.specs.Prelude.{◌≡◌, ◌≢◌, IfOk, OnErr, OnOk, IfErr, IfSome};
 ghost use Rattle.std.specs.Io.KnownBytes.{Consumes, Keeps};
 ghost use Rattle.log_cuts.specs.Internal.Written.{WritesPart, WritesStream};
 ghost use Rattle.log_cuts.specs.LogCuts.{IsCutFault, LeavesCut, WritesCut, WritesRefusal};
@@ -39,11 +39,10 @@ pub fn cut_log<R: Read, W: Write, E: Write>(
     writer: &mut W,
     errors: &mut E,
 ) -> Result<CutVerdict, Fault>
-    requires { 1 ≤ events × events ≤ 8000 }
-    ensures cut { result ≡ Ok CutVerdict.Cut → WritesCut (R.remaining reader.old) (W.contents writer.old) (W.contents writer.new) (E.contents errors.old) (E.contents errors.new) }
+    ensures cut { result ≡ Ok CutVerdict.Cut → WritesCut (R.remaining reader.old) events (W.contents writer.old) (W.contents writer.new) (E.contents errors.old) (E.contents errors.new) }
     ensures refused { result ≡ Ok CutVerdict.Refused → WritesRefusal (R.remaining reader.old) (W.contents writer.old) (W.contents writer.new) (E.contents errors.old) (E.contents errors.new) }
     ensures taken { IfOk result (λ _. IfSome (R.remaining reader.old) (λ all. Consumes (R.remaining reader.old) (R.remaining reader.new) all)) }
-    ensures left { OnErr result (LeavesCut (R.remaining reader.old) (W.contents writer.old) (W.contents writer.new)) }
+    ensures left { OnErr result (LeavesCut (R.remaining reader.old) events (W.contents writer.old) (W.contents writer.new)) }
     ensures untold { OnErr result (Keeps (E.contents errors.old) (E.contents errors.new)) }
     ensures fault { IfErr result IsCutFault }
 {
@@ -68,18 +67,27 @@ fn write_pieces<W: Write>(
     log: Log,
     writer: &mut W,
 ) -> Result<String, Fault>
-    ensures whole { OnOk result (WritesStream (operations_of log) (W.contents writer.old) (W.contents writer.new)) }
-    ensures part { OnErr result (WritesPart (operations_of log) (W.contents writer.old) (W.contents writer.new)) }
+    ensures whole { OnOk result (WritesStream (operations_of log) events (W.contents writer.old) (W.contents writer.new)) }
+    ensures part { OnErr result (WritesPart (operations_of log) events (W.contents writer.old) (W.contents writer.new)) }
     ensures fault { IfErr result IsCutFault }
 {
     let log = KnownLog::new(alloc, log)?;
-    let windows = log.windows(alloc, events)?;
+    let mut windows = log.windows(alloc, events)?;
     let mut statistics = Statistics::new(alloc);
-    for window in windows.as_slice() {
-        if let Some(piece) = log.cut(alloc, window)? {
-            let text = print_trace(alloc, &piece.trace)?;
-            write_text(writer, text.as_bytes())?;
-            statistics.count(&piece)?;
+    for _ in 0..usize::MAX {
+        let Some(window) = windows.pop() else {
+            break;
+        };
+        match log.cut(alloc, window, events)? {
+            Some(piece) => {
+                let text = print_trace(alloc, &piece.trace)?;
+                write_text(writer, text.as_bytes())?;
+                statistics.count(&piece)?;
+            }
+            None => {
+                statistics.count_failure(&log, window);
+                log.push_halves(window, &mut windows)?;
+            }
         }
     }
     Ok(statistics.lines_on(&log)?)

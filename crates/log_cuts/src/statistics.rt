@@ -1,6 +1,6 @@
 //! Lines on the pieces of a log.
 
-use log_pieces::{KnownLog, Piece};
+use log_pieces::{KnownLog, Piece, Window};
 use std::alloc::Global;
 use std::fmt::Write;
 use tso_ops::OutOfMemory;
@@ -12,6 +12,8 @@ pub(crate) struct Statistics {
     pieces: usize,
     operations: usize,
     loads: usize,
+    failures: usize,
+    lost: usize,
 }
 
 impl Statistics {
@@ -22,6 +24,17 @@ impl Statistics {
             pieces: 0,
             operations: 0,
             loads: 0,
+            failures: 0,
+            lost: 0,
+        }
+    }
+
+    /// Counts a window that gave no piece. Its halves are tried in its place, so its loads are lost only if it is of one
+    /// operation.
+    pub(crate) fn count_failure(&mut self, log: &KnownLog, window: Window) {
+        self.failures = self.failures.saturating_add(1);
+        if window.operations() == 1 {
+            self.lost = self.lost.saturating_add(log.loads_in(window));
         }
     }
 
@@ -54,6 +67,13 @@ impl Statistics {
             write!(self.lines, ", the first in line {line}")?;
         }
         self.lines.push_str("\n")?;
+        if self.failures > 0 {
+            write!(
+                self.lines,
+                "windows without a piece {} loads lost {}\n",
+                self.failures, self.lost
+            )?;
+        }
         Ok(self.lines)
     }
 }

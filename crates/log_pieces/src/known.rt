@@ -8,7 +8,9 @@ use crate::accesses::number_accesses;
 use crate::choosing::drafts::choose;
 use crate::choosing::groups::{Group, group_addresses};
 use crate::choosing::orders::order_by_reads;
-use crate::choosing::windows::{Chart, Window, find_positions, find_windows};
+use crate::choosing::windows::{
+    Chart, Window, count_loads, find_positions, find_windows, push_halves,
+};
 use crate::keeping::{Kept, keep_lists};
 use crate::lines::{line_of, number_lines};
 use crate::source_checks::keeps_sources;
@@ -100,10 +102,31 @@ impl KnownLog {
         })
     }
 
-    /// The parts of the log that pieces of at most so many events are to be cut out of. OutOfMemory where an allocation was
-    /// refused.
+    /// The parts of the log that pieces of at most so many events are to be cut out of, the last first: each has a load of
+    /// which the source is known. OutOfMemory where an allocation was refused.
     pub fn windows(&self, alloc: Global, events: usize) -> Result<Vec<Window>, OutOfMemory> {
         find_windows(alloc, self.chart(), &self.groups, events)
+    }
+
+    /// Pushes the halves of a window, the later first, but those without such a load, and none of one operation. OutOfMemory
+    /// where an allocation was refused.
+    pub fn push_halves(
+        &self,
+        window: Window,
+        windows: &mut Vec<Window>,
+    ) -> Result<(), OutOfMemory> {
+        match self.groups.get(window.group) {
+            Some(group) => push_halves(self.chart(), &group.steps, window, windows),
+            None => Ok(()),
+        }
+    }
+
+    /// How many loads of a window have a source that is known.
+    pub fn loads_in(&self, window: Window) -> usize {
+        match self.groups.get(window.group) {
+            Some(group) => count_loads(self.chart(), &group.steps, window),
+            None => 0,
+        }
     }
 
     /// How many loads have a value that several operations may have written, those of swaps counted.
@@ -122,11 +145,16 @@ impl KnownLog {
         line_of(&self.numbers, &self.lines, number)
     }
 
-    /// The piece of a part of the log, if it has one with a load and of at most so many events: without loads it has an order.
-    /// OutOfMemory where an allocation was refused.
-    pub fn cut(&self, alloc: Global, window: &Window) -> Result<Option<Piece>, OutOfMemory>
+    /// The piece of a part of the log: None where it would have no load (then it has an order) or more than so many events,
+    /// or where what was chosen is no part of the log. OutOfMemory where an allocation was refused.
+    pub fn cut(
+        &self,
+        alloc: Global,
+        window: Window,
+        events: usize,
+    ) -> Result<Option<Piece>, OutOfMemory>
         ensures cut { IfOk result (λ found. IfSome found (λ piece. IsCutOf self.now piece.trace)) }
-        ensures events { IfOk result (λ found. IfSome found (λ piece. event_total piece.trace ≤ window.now.events)) }
+        ensures events { IfOk result (λ found. IfSome found (λ piece. event_total piece.trace ≤ events)) }
     {
         let Some(group) = self.groups.get(window.group) else {
             return Ok(None);
@@ -136,7 +164,7 @@ impl KnownLog {
             return Ok(None);
         }
         match self.keep(alloc, &choice)? {
-            Some(trace) if trace.events() <= window.events => Ok(Some(Piece {
+            Some(trace) if trace.events() <= events => Ok(Some(Piece {
                 trace,
                 operations: choice.operations,
                 loads: choice.loads,

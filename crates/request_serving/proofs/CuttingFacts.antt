@@ -15,12 +15,12 @@ use Rattle.request_serving.specs.Statuses.{status_of_cut}
 -- ---- logs of files of which less may be known
 
 module _ (known remaining : Option (List ℕ)) (has : HasKnown known remaining) where
-  cut_of_known : (stream : List ℕ) → IsCutOfReader remaining stream → IsCutOfReader known stream
-  cut_of_known stream cut = go known has
+  cut_of_known : (events : ℕ) (stream : List ℕ) → IsCutOfReader remaining events stream → IsCutOfReader known events stream
+  cut_of_known events stream cut = go known has
     where
-      go : (known : Option (List ℕ)) → HasKnown known remaining → IsCutOfReader known stream
+      go : (known : Option (List ℕ)) → HasKnown known remaining → IsCutOfReader known events stream
       go None has = record { text = cut.text; all = tt; operations = cut.operations; spelled = cut.spelled; stream_of = cut.stream_of }
-      go (Some all) has = subst (λ r. IsCutOfReader r stream) has cut
+      go (Some all) has = subst (λ r. IsCutOfReader r events stream) has cut
 
   refusal_of_known : (line : List ℕ) → IsRefusalOfReader remaining line → IsRefusalOfReader known line
   refusal_of_known line refusal = go known has
@@ -29,18 +29,18 @@ module _ (known remaining : Option (List ℕ)) (has : HasKnown known remaining) 
       go None has = record { text = refusal.text; all = tt; line = refusal.line; why = refusal.why; refused = refusal.refused; says = refusal.says }
       go (Some all) has = subst (λ r. IsRefusalOfReader r line) has refusal
 
-  module _ (before after : Option (List ℕ)) where
-    pub file_cut : (errors_before errors_after : Option (List ℕ)) → WritesCut remaining before after errors_before errors_after → WritesCut known before after errors_before errors_after
-    file_cut errors_before errors_after writes = record { stream = writes.stream; cut = cut_of_known writes.stream writes.cut; written = writes.written; told = writes.told }
+  module _ (events : ℕ) (before after : Option (List ℕ)) where
+    pub file_cut : (errors_before errors_after : Option (List ℕ)) → WritesCut remaining events before after errors_before errors_after → WritesCut known events before after errors_before errors_after
+    file_cut errors_before errors_after writes = record { stream = writes.stream; cut = cut_of_known events writes.stream writes.cut; written = writes.written; told = writes.told }
 
     pub file_refused : (errors_before errors_after : Option (List ℕ)) → WritesRefusal remaining before after errors_before errors_after → WritesRefusal known before after errors_before errors_after
     file_refused errors_before errors_after writes = record { unwritten = writes.unwritten; line = writes.line; refused = refusal_of_known writes.line writes.refused; told = writes.told }
 
-    file_leaves : LeavesCut remaining before after → LeavesCut known before after
+    file_leaves : LeavesCut remaining events before after → LeavesCut known events before after
     file_leaves (inl kept) = inl kept
-    file_leaves (inr some) = inr (some.0, cut_of_known some.0 some.1, some.2)
+    file_leaves (inr some) = inr (some.0, cut_of_known events some.0 some.1, some.2)
 
-    pub file_left : (outcome : Result CutVerdict Fault) → OnErr outcome (LeavesCut remaining before after) → OnErr outcome (LeavesCut known before after)
+    pub file_left : (outcome : Result CutVerdict Fault) → OnErr outcome (LeavesCut remaining events before after) → OnErr outcome (LeavesCut known events before after)
     file_left (Ok verdict) left = tt
     file_left (Err fault) left = file_leaves left
 
@@ -74,24 +74,24 @@ kept_fault_line a b c (Missing seed) kept = kept_AppendsPrefix a b c _ kept
 -- ---- how the cutting of a log ends
 
 -- nothing was written where the file can't be opened
-pub unopened : (known written : Option (List ℕ)) (outcome : Result CutVerdict Fault) → OnErr outcome (LeavesCut known written written)
-unopened known written (Ok verdict) = tt
-unopened known written (Err fault) = inl (kept written)
+pub unopened : (known : Option (List ℕ)) (events : ℕ) (written : Option (List ℕ)) (outcome : Result CutVerdict Fault) → OnErr outcome (LeavesCut known events written written)
+unopened known events written (Ok verdict) = tt
+unopened known events written (Err fault) = inl (kept written)
   where
     kept : (a : Option (List ℕ)) → Keeps a a
     kept None = tt
     kept (Some x) = refl
 
-pub ends_cut : (remaining mid : Option (List ℕ)) (o : Outputs) (outcome : Result CutVerdict Fault) (status : ℕ)
-    → (outcome ≡ Ok log.Cut → WritesCut remaining o.written_before o.written o.errors_before mid)
+pub ends_cut : (events : ℕ) (remaining mid : Option (List ℕ)) (o : Outputs) (outcome : Result CutVerdict Fault) (status : ℕ)
+    → (outcome ≡ Ok log.Cut → WritesCut remaining events o.written_before o.written o.errors_before mid)
     → (outcome ≡ Ok log.Refused → WritesRefusal remaining o.written_before o.written o.errors_before mid)
-    → OnErr outcome (LeavesCut remaining o.written_before o.written) → OnErr outcome (Keeps o.errors_before mid) → IfErr outcome IsCutFault
+    → OnErr outcome (LeavesCut remaining events o.written_before o.written) → OnErr outcome (Keeps o.errors_before mid) → IfErr outcome IsCutFault
     → IfOk outcome (λ verdict. (status ≡ status_of_cut verdict) × Keeps mid o.errors) → IfErr outcome (λ fault. WritesFaultLine mid o.errors fault × (status ≡ 4))
-    → EndsCut remaining o status
-ends_cut remaining mid o (Ok log.Cut) status cut refused left untold fault told faulty =
+    → EndsCut events remaining o status
+ends_cut events remaining mid o (Ok log.Cut) status cut refused left untold fault told faulty =
     let w = cut refl in
     inl (record { stream = w.stream; cut = w.cut; written = w.written; told = (w.told.0, prefix_kept o.errors_before mid o.errors w.told.0 w.told.1 told.1) }, told.0)
-ends_cut remaining mid o (Ok log.Refused) status cut refused left untold fault told faulty =
+ends_cut events remaining mid o (Ok log.Refused) status cut refused left untold fault told faulty =
     let w = refused refl in
     inr (inl (record { unwritten = w.unwritten; line = w.line; refused = w.refused; told = prefix_kept o.errors_before mid o.errors w.line w.told told.1 }, told.0))
-ends_cut remaining mid o (Err fault) status cut refused left untold is_fault told faulty = inr (inr (fault, is_fault, left, (kept_fault_line o.errors_before mid o.errors fault untold faulty.0, faulty.1)))
+ends_cut events remaining mid o (Err fault) status cut refused left untold is_fault told faulty = inr (inr (fault, is_fault, left, (kept_fault_line o.errors_before mid o.errors fault untold faulty.0, faulty.1)))

@@ -84,13 +84,13 @@ EndsBatched quiet remaining o status =
     ((verdict : Verdict) × WritesWhole (IsBatchOfReader quiet remaining) o.written_before o.written verdict × Keeps o.errors_before o.errors × (status ≡ status_of verdict))
     ⊎ ((fault : Fault) × IsBatchFault fault × WritesPrefix (IsBatchOfReader quiet remaining) o.written_before o.written × EndsByFault fault o status)
 
--- The traces that are cut out of the log that a reader's bytes spell, with status 0; or the line of its refusal on the errors, with status 2; or a fault
+-- Traces of at most so many events that are cut out of the log that a reader's bytes spell, with status 0; or the line of its refusal on the errors, with status 2; or a fault
 -- left nothing or a prefix of such traces.
-abbrev pub EndsCut : Option (List ℕ) → Outputs → ℕ → Type 0
-EndsCut remaining o status =
-    (WritesCut remaining o.written_before o.written o.errors_before o.errors × (status ≡ 0))
+abbrev pub EndsCut : ℕ → Option (List ℕ) → Outputs → ℕ → Type 0
+EndsCut events remaining o status =
+    (WritesCut remaining events o.written_before o.written o.errors_before o.errors × (status ≡ 0))
     ⊎ (WritesRefusal remaining o.written_before o.written o.errors_before o.errors × (status ≡ 2))
-    ⊎ ((fault : Fault) × IsCutFault fault × LeavesCut remaining o.written_before o.written × EndsByFault fault o status)
+    ⊎ ((fault : Fault) × IsCutFault fault × LeavesCut remaining events o.written_before o.written × EndsByFault fault o status)
 
 -- known bytes of the output grow by a text of this kind, with this status
 abbrev pub WritesText : (List ℕ → ℕ → Type 0) → Option (List ℕ) → Option (List ℕ) → ℕ → Type 0
@@ -160,7 +160,7 @@ judged_bytes (Some name) input files = files name
 abbrev pub EndsAsAsked : Asked → Option (List ℕ) → (List ℕ → Option (List ℕ)) → Outputs → ℕ → Type 0
 EndsAsAsked (judging presentation file workers) input files o status = EndsByReport (IsPresented presentation (judged_bytes file input files)) o status
 EndsAsAsked (batching file workers quiet) input files o status = EndsBatched quiet (judged_bytes file input files) o status
-EndsAsAsked (cutting file events) input files o status = EndsCut (judged_bytes file input files) o status
+EndsAsAsked (cutting file events) input files o status = EndsCut events (judged_bytes file input files) o status
 EndsAsAsked (checking trace certificate) input files o status = EndsChecked (files trace) (files certificate) o status
 EndsAsAsked (replaying options program schedule) input files o status = EndsReplayed options (files program) (files schedule) o status
 EndsAsAsked (running run) input files o status = EndsRun run.options (files run.program) o status

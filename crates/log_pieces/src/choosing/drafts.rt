@@ -27,7 +27,7 @@ pub(crate) fn choose(
     chart: Chart<'_>,
     order: Order,
     group: &Group,
-    window: &Window,
+    window: Window,
 ) -> Result<Choice, OutOfMemory> {
     let mut draft = Draft {
         values: HashMap::new(alloc),
@@ -70,7 +70,7 @@ impl Draft {
         &mut self,
         chart: Chart<'_>,
         steps: &[Step],
-        window: &Window,
+        window: Window,
     ) -> Result<(), OutOfMemory> {
         for place in window.from..window.to {
             let Some(step) = steps.get(place) else {
@@ -89,7 +89,7 @@ impl Draft {
         &mut self,
         chart: Chart<'_>,
         steps: &[Step],
-        window: &Window,
+        window: Window,
     ) -> Result<(), OutOfMemory> {
         for place in window.from..window.to {
             let Some(step) = steps.get(place) else {
@@ -118,7 +118,7 @@ impl Draft {
         chart: Chart<'_>,
         order: Order,
         steps: &[Step],
-        window: &Window,
+        window: Window,
         choice: &mut Choice,
     ) -> Result<(), OutOfMemory> {
         for place in &self.places {

@@ -8,11 +8,16 @@ use tso_ops::OutOfMemory;
 /// A part of a log that a piece is to be cut out of: operations of a group that stand one after the other there.
 #[derive(Clone, Copy, Debug)]
 pub struct Window {
-    /// How many events its piece may have at most.
-    pub events: usize,
     pub(crate) group: usize,
     pub(crate) from: usize,
     pub(crate) to: usize,
+}
+
+impl Window {
+    /// How many operations of the group the window has.
+    pub fn operations(self) -> usize {
+        self.to.saturating_sub(self.from)
+    }
 }
 
 /// What windows are chosen by: the lists of the log and the numbers of their operations, the sources of loads, and for the
@@ -75,28 +80,23 @@ pub(crate) fn known_source(chart: Chart<'_>, step: Step) -> Option<usize> {
     }
 }
 
-/// How many events a piece has room for at least: those of a swap and of the store that it read.
-const LEAST_EVENTS: usize = 3;
-
-/// The windows of all groups, for pieces of at most so many events, or of 3. Neighbours share about a quarter.
+/// The windows of all groups that have a load of which the source is known, for pieces of at most so many events, the last
+/// window first. Neighbours share about a quarter.
 pub(crate) fn find_windows(
     alloc: Global,
     chart: Chart<'_>,
     groups: &[Group],
     events: usize,
 ) -> Result<Vec<Window>, OutOfMemory> {
-    let events = events.max(LEAST_EVENTS);
     let mut windows = Vec::new(alloc);
-    let mut marks = vec![in alloc; 0usize; chart.sources.len()]?;
-    for (number, group) in groups.iter().enumerate() {
-        push_windows(
-            chart,
-            (number, &group.steps),
-            events,
-            &mut marks,
-            &mut windows,
-        )?;
+    let mut counted = CountedStores {
+        marks: vec![in alloc; 0usize; chart.sources.len()]?,
+        mark: 0,
+    };
+    for (group, Group { steps, .. }) in groups.iter().enumerate() {
+        push_windows(chart, (group, steps), events, &mut counted, &mut windows)?;
     }
+    windows.reverse();
     Ok(windows)
 }
 
@@ -105,26 +105,20 @@ fn push_windows(
     chart: Chart<'_>,
     group: (usize, &[Step]),
     events: usize,
-    marks: &mut [usize],
+    counted: &mut CountedStores,
     windows: &mut Vec<Window>,
 ) -> Result<(), OutOfMemory> {
-    let (number, steps) = group;
+    let (group, steps) = group;
     let mut from = 0;
     let mut last = 0;
     while from < steps.len() {
-        let mark = windows.len().saturating_add(1);
-        let to = window_end(chart, steps, from, events, (&mut *marks, mark)).max(from + 1);
+        let to = window_end(chart, steps, from, events, counted).max(from + 1);
         if to <= last {
             // Nothing new: loads without a known source take no room.
             from = last.max(from + 1);
             continue;
         }
-        windows.push(Window {
-            events,
-            group: number,
-            from,
-            to,
-        })?;
+        push_window(chart, steps, Window { group, from, to }, windows)?;
         last = to;
         from = if to >= steps.len() {
             to
@@ -135,16 +129,67 @@ fn push_windows(
     Ok(())
 }
 
+/// Pushes the halves of a window that have a load of which the source is known, the later first; none of one operation.
+pub(crate) fn push_halves(
+    chart: Chart<'_>,
+    steps: &[Step],
+    window: Window,
+    windows: &mut Vec<Window>,
+) -> Result<(), OutOfMemory> {
+    let Window { group, from, to } = window;
+    let middle = from.saturating_add(to.saturating_sub(from) / 2);
+    if from < middle {
+        let from_middle = Window {
+            group,
+            from: middle,
+            to,
+        };
+        let to_middle = Window {
+            group,
+            from,
+            to: middle,
+        };
+        push_window(chart, steps, from_middle, windows)?;
+        push_window(chart, steps, to_middle, windows)?;
+    }
+    Ok(())
+}
+
+/// Pushes a window if it has a load of which the source is known.
+fn push_window(
+    chart: Chart<'_>,
+    steps: &[Step],
+    window: Window,
+    windows: &mut Vec<Window>,
+) -> Result<(), OutOfMemory> {
+    if count_loads(chart, steps, window) > 0 {
+        windows.push(window)?;
+    }
+    Ok(())
+}
+
+/// How many loads of a window have a source that is known.
+pub(crate) fn count_loads(chart: Chart<'_>, steps: &[Step], window: Window) -> usize {
+    let mut count: usize = 0;
+    for place in window.from..window.to {
+        let source = steps.get(place).and_then(|step| known_source(chart, *step));
+        if source.is_some() {
+            count = count.saturating_add(1);
+        }
+    }
+    count
+}
+
 /// Where a window ends that begins here and has at most so many events, those of stores counted that its loads read and
-/// that stand outside of it. A store that has this mark has been counted.
+/// that stand outside of it.
 fn window_end(
     chart: Chart<'_>,
     steps: &[Step],
     from: usize,
     events: usize,
-    marks: (&mut [usize], usize),
+    counted: &mut CountedStores,
 ) -> usize {
-    let (marks, mark) = marks;
+    counted.forget();
     let mut count: usize = 0;
     for at in from..steps.len() {
         let Some(step) = steps.get(at) else {
@@ -155,7 +200,7 @@ fn window_end(
         }
         if let Some(source) = known_source(chart, *step) {
             count = count.saturating_add(1);
-            if is_outside(chart, source, from, at) && is_new(source, marks, mark) {
+            if is_outside(chart, source, from, at) && counted.add(source) {
                 count = count.saturating_add(1);
             }
         }
@@ -174,14 +219,28 @@ fn is_outside(chart: Chart<'_>, source: usize, from: usize, at: usize) -> bool {
     }
 }
 
-/// Whether the number has another mark. It gets this one.
-fn is_new(number: usize, marks: &mut [usize], mark: usize) -> bool {
-    match marks.get_mut(number) {
-        Some(slot) => {
-            let new = *slot != mark;
-            *slot = mark;
-            new
+/// Stores that were counted for a window: those whose numbers have its mark.
+#[derive(Drop)]
+struct CountedStores {
+    marks: Vec<usize>,
+    mark: usize,
+}
+
+impl CountedStores {
+    /// No store has been counted for the next window: it gets a mark of its own, also where the last one wasn't pushed.
+    fn forget(&mut self) {
+        self.mark = self.mark.saturating_add(1);
+    }
+
+    /// Counts the store of this number: whether it hadn't been.
+    fn add(&mut self, number: usize) -> bool {
+        match self.marks.get_mut(number) {
+            Some(slot) => {
+                let new = *slot != self.mark;
+                *slot = self.mark;
+                new
+            }
+            None => false,
         }
-        None => false,
     }
 }

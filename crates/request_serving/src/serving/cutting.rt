@@ -1,7 +1,7 @@
 //! `cut`: a log, cut into traces.
-ghost use Rattle.std.specs.Prelude.{◌≡◌, ◌≢◌, ◌≤◌, [], ◌∷◌, IfOk, IfErr, IfSome, OnErr, None, Ok, true, false, option_to_list};
+ghost use Rattle.std.specs.Prelude.{◌≡◌, ◌≢◌, [], ◌∷◌, IfOk, IfErr, IfSome, OnErr, None, Ok, true, false, option_to_list};
 ghost use Rattle.std.specs.Io.KnownBytes.{Consumes, Keeps};
-ghost use Rattle.command_line.specs.Requests.{asked_of, piece_event_limit};
+ghost use Rattle.command_line.specs.Requests.{asked_of};
 ghost use Rattle.command_line.specs.declared.requests.Request.TheVariants.{Cut};
 ghost use Rattle.log_cuts.specs.LogCuts.{IsCutFault, LeavesCut, WritesCut, WritesRefusal};
 ghost use Rattle.log_cuts.specs.declared.cutting.CutVerdict.{CutVerdict};
@@ -26,7 +26,6 @@ pub(crate) fn cut_by<O: NamedFiles, R: Read, W: Write, E: Write>(
     writer: &mut W,
     errors: &mut E,
 ) -> u8
-    requires { 1 ≤ request.now.events × request.now.events ≤ piece_event_limit }
     ensures ends { EndsAsAsked (asked_of (Cut request.now)) (R.remaining reader.old) (O.bytes files.old) (outputs (W.contents writer.old) (W.contents writer.new) (E.contents errors.old) (E.contents errors.new)) result }
     ensures first { OpensFirst (O.opened files.old) (O.opened files.new) (files_named (asked_of (Cut request.now))) }
     ensures opened { result ≢ 4 → OpensNext (O.opened files.old) (O.opened files.new) (files_named (asked_of (Cut request.now))) }
@@ -58,10 +57,9 @@ fn cut_named<O: NamedFiles, R: Read, W: Write, E: Write>(
     writer: &mut W,
     errors: &mut E,
 ) -> Result<CutVerdict, Fault>
-    requires { 1 ≤ request.now.events × request.now.events ≤ piece_event_limit }
-    ensures cut { let remaining = judged_bytes (name_in request.now.file) (R.remaining reader.old) (O.bytes files.old) in result ≡ Ok CutVerdict.Cut → WritesCut remaining (W.contents writer.old) (W.contents writer.new) (E.contents errors.old) (E.contents errors.new) }
+    ensures cut { let remaining = judged_bytes (name_in request.now.file) (R.remaining reader.old) (O.bytes files.old) in result ≡ Ok CutVerdict.Cut → WritesCut remaining request.now.events (W.contents writer.old) (W.contents writer.new) (E.contents errors.old) (E.contents errors.new) }
     ensures refused { let remaining = judged_bytes (name_in request.now.file) (R.remaining reader.old) (O.bytes files.old) in result ≡ Ok CutVerdict.Refused → WritesRefusal remaining (W.contents writer.old) (W.contents writer.new) (E.contents errors.old) (E.contents errors.new) }
-    ensures left { let remaining = judged_bytes (name_in request.now.file) (R.remaining reader.old) (O.bytes files.old) in OnErr result (LeavesCut remaining (W.contents writer.old) (W.contents writer.new)) }
+    ensures left { let remaining = judged_bytes (name_in request.now.file) (R.remaining reader.old) (O.bytes files.old) in OnErr result (LeavesCut remaining request.now.events (W.contents writer.old) (W.contents writer.new)) }
     ensures untold { OnErr result (Keeps (E.contents errors.old) (E.contents errors.new)) }
     ensures fault { IfErr result IsCutFault }
     ensures opened { OpensNext (O.opened files.old) (O.opened files.new) (option_to_list (name_in request.now.file)) }
@@ -83,10 +81,9 @@ fn cut_file<O: NamedFiles, W: Write, E: Write>(
     writer: &mut W,
     errors: &mut E,
 ) -> Result<CutVerdict, Fault>
-    requires { 1 ≤ events × events ≤ piece_event_limit }
-    ensures cut { result ≡ Ok CutVerdict.Cut → WritesCut (O.bytes files.old name.now) (W.contents writer.old) (W.contents writer.new) (E.contents errors.old) (E.contents errors.new) }
+    ensures cut { result ≡ Ok CutVerdict.Cut → WritesCut (O.bytes files.old name.now) events (W.contents writer.old) (W.contents writer.new) (E.contents errors.old) (E.contents errors.new) }
     ensures refused { result ≡ Ok CutVerdict.Refused → WritesRefusal (O.bytes files.old name.now) (W.contents writer.old) (W.contents writer.new) (E.contents errors.old) (E.contents errors.new) }
-    ensures left { OnErr result (LeavesCut (O.bytes files.old name.now) (W.contents writer.old) (W.contents writer.new)) }
+    ensures left { OnErr result (LeavesCut (O.bytes files.old name.now) events (W.contents writer.old) (W.contents writer.new)) }
     ensures untold { OnErr result (Keeps (E.contents errors.old) (E.contents errors.new)) }
     ensures fault { IfErr result IsCutFault }
     ensures opened { OpensNext (O.opened files.old) (O.opened files.new) (name.now ∷ []) }

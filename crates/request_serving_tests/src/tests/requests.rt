@@ -1,6 +1,6 @@
 //! Requests over files in memory, which note the names that they are asked to open.
 
-ghost use Rattle.command_line.specs.Requests.{HasDrainTurns, HasPieceEvents, HasUnitRanges, HasWorkers, asked_of};
+ghost use Rattle.command_line.specs.Requests.{HasDrainTurns, HasUnitRanges, HasWorkers, asked_of};
 
 use super::{Ended, FailingReader, FailingWriter, expect};
 use command_line::{
@@ -108,7 +108,6 @@ fn served<H: Threads + Wait + Sync + AllocGlobal>(
     requires workers { HasWorkers (asked_of request.now) }
     requires unit { HasUnitRanges (asked_of request.now) }
     requires turns { HasDrainTurns (asked_of request.now) }
-    requires events { HasPieceEvents (asked_of request.now) }
 {
     let mut written = Vec::new(alloc);
     let mut errors = Vec::new(alloc);
@@ -144,7 +143,6 @@ fn compare<H: Threads + Wait + Sync + AllocGlobal + Abort>(
     requires workers { HasWorkers (asked_of request.now) }
     requires unit { HasUnitRanges (asked_of request.now) }
     requires turns { HasDrainTurns (asked_of request.now) }
-    requires events { HasPieceEvents (asked_of request.now) }
 {
     let Expected {
         names,
@@ -225,7 +223,6 @@ fn replay<'a>(program: &'a str, schedule: &'a str, printing: Printing) -> Reques
     ensures workers { HasWorkers (asked_of result) }
     ensures unit { HasUnitRanges (asked_of result) }
     ensures turns { HasDrainTurns (asked_of result) }
-    ensures events { HasPieceEvents (asked_of result) }
 {
     replay_on(UnitKind::Serial, program, schedule, printing)
 }
@@ -240,7 +237,6 @@ fn replay_on<'a>(
     ensures workers { HasWorkers (asked_of result) }
     ensures unit { HasUnitRanges (asked_of result) }
     ensures turns { HasDrainTurns (asked_of result) }
-    ensures events { HasPieceEvents (asked_of result) }
 {
     let unit = UnitOptions {
         kind,
@@ -344,7 +340,6 @@ fn served_to_a_failing_writer<H: Threads + Wait + Sync + AllocGlobal, E: Write>(
     requires workers { HasWorkers (asked_of request.now) }
     requires unit { HasUnitRanges (asked_of request.now) }
     requires turns { HasDrainTurns (asked_of request.now) }
-    requires events { HasPieceEvents (asked_of request.now) }
 {
     serve(
         rt,
