@@ -23,7 +23,7 @@ complete -c tsobench -n '__fish_seen_subcommand_from draw' -s h -l help -d 'Prin
 complete -c tsobench -n '__fish_seen_subcommand_from batch' -l workers -x -d 'How many traces are judged side by side, 1 to 64'
 complete -c tsobench -n '__fish_seen_subcommand_from batch' -l quiet -d 'Leave out the lines of traces without a violation'
 complete -c tsobench -n '__fish_seen_subcommand_from batch' -s h -l help -d 'Print help'
-complete -c tsobench -n '__fish_seen_subcommand_from cut' -l events -x -d 'How many events each trace has at most, 1 to 8000'
+complete -c tsobench -n '__fish_seen_subcommand_from cut' -l events -x -d 'How many events each trace has at most, 3 to 8000'
 complete -c tsobench -n '__fish_seen_subcommand_from cut' -s h -l help -d 'Print help'
 complete -c tsobench -n '__fish_seen_subcommand_from check' -s h -l help -d 'Print help'
 complete -c tsobench -n '__fish_seen_subcommand_from replay' -l unit -x -a 'serial buffer partial newest-first no-forward stale-load torn-swap idle-membar lost-drain' -d 'Which memory unit runs the program'

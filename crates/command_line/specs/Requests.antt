@@ -89,6 +89,10 @@ drain_turns_limit = 1000000
 abbrev pub piece_event_limit : ℕ
 piece_event_limit = 8000
 
+-- the least number that a piece may be limited to: the events of a swap and of the store that it read
+abbrev pub least_piece_limit : ℕ
+least_piece_limit = 3
+
 -- the greatest number of 64 bits
 abbrev pub number_limit : ℕ
 number_limit = 2 ^ 64 - 1
@@ -147,6 +151,6 @@ HasUnitRanges asked = IfSome (needs asked).unit (λ unit. (1 ≤ unit.capacity) 
 abbrev pub HasDrainTurns : Asked → Type 0
 HasDrainTurns asked = IfSome (needs asked).turns (λ turns. turns ≤ drain_turns_limit)
 
--- a piece of a log may have an event, and no more than a trace may
+-- a piece of a log may have a swap and what it read, and no more events than a trace may
 abbrev pub HasPieceEvents : Asked → Type 0
-HasPieceEvents asked = IfSome (needs asked).events (λ events. (1 ≤ events) × (events ≤ piece_event_limit))
+HasPieceEvents asked = IfSome (needs asked).events (λ events. (least_piece_limit ≤ events) × (events ≤ piece_event_limit))

@@ -18,7 +18,7 @@ use Rattle.command_line.specs.declared.options.UnitOptions.{UnitOptions}
 use Rattle.command_line.specs.declared.parameters.NameList.{NameList}
 use Rattle.command_line.specs.declared.parameters.NameList.TheVariants.{Units, Models}
 use Rattle.command_line.specs.Models.{default_model, model_names, model_order}
-use Rattle.command_line.specs.Requests.{Text, Asked, batching, campaigning, capacity_limit, checking, cutting, drain_turns_limit, judging, making, number_limit, piece_event_limit, refusing, replaying, running}
+use Rattle.command_line.specs.Requests.{Text, Asked, batching, campaigning, capacity_limit, checking, cutting, drain_turns_limit, judging, least_piece_limit, making, number_limit, piece_event_limit, refusing, replaying, running}
 use Rattle.command_line.specs.Units.{default_capacity, default_trigger, trigger_limit, unit_kind, unit_names}
 
 pub record Subcommand : Type 0 where
@@ -132,7 +132,7 @@ abbrev pub turns_of : Option Text → ℕ
 turns_of text = within 0 drain_turns_limit (number_or 0 text)
 
 abbrev pub events_of : Option Text → ℕ
-events_of text = within 1 piece_event_limit (number_or 2000 text)
+events_of text = within least_piece_limit piece_event_limit (number_or 2000 text)
 
 abbrev pub file_of : Option Text → Text
 file_of text = unwrap_or text []
@@ -169,7 +169,7 @@ batch = record { name = codes "batch"; parameters = workers ∷ flag (codes "qui
 
 -- `--events N`: 2000 where it is left out
 abbrev pub events : Parameter NameList
-events = option (codes "events") (range 1 piece_event_limit) (Some (codes "2000"))
+events = option (codes "events") (range least_piece_limit piece_event_limit) (Some (codes "2000"))
 
 -- `cut [--events N] [FILE]`: cuts the log in a file, or on standard input, into traces
 abbrev pub ask_cut : List (Option Text) → Asked

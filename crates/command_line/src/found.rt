@@ -2,13 +2,13 @@
 ghost use Rattle.std.specs.Prelude.{◌≡◌, ◌≤◌, codes};
 ghost use Rattle.clap.specs.Words.{first_of, found_of, one_of, rows_of};
 ghost use Rattle.command_line.specs.Subcommands.{events_of, number_or, order_of, printing_of, is_true, run_of, shape_of, turns_of, unit_of, workers_of, within};
-ghost use Rattle.command_line.specs.Requests.{capacity_limit, piece_event_limit};
+ghost use Rattle.command_line.specs.Requests.{capacity_limit, least_piece_limit, piece_event_limit};
 ghost use Rattle.command_line.specs.Units.{default_capacity, default_trigger, trigger_limit};
 ghost use Rattle.command_line.specs.Workers.{worker_limit};
 
 use crate::options::{
-    MAX_CAPACITY, MAX_DRAIN_TURNS, MAX_PIECE_EVENTS, MAX_WORKERS, Printing, RunOptions,
-    ShapeNumbers, UnitKind, UnitOptions, kind_named, order_named,
+    MAX_CAPACITY, MAX_DRAIN_TURNS, MAX_PIECE_EVENTS, MAX_WORKERS, MIN_PIECE_EVENTS, Printing,
+    RunOptions, ShapeNumbers, UnitKind, UnitOptions, kind_named, order_named,
 };
 use clap::ArgMatches;
 use tso_ops::Order;
@@ -101,9 +101,12 @@ pub(crate) fn workers(matches: &ArgMatches<'_>) -> usize
 /// The greatest number of events of a trace that is cut out of a log, 2,000 where none is named, clamped as the workers are.
 pub(crate) fn piece_events(matches: &ArgMatches<'_>) -> usize
     ensures value { result ≡ events_of (one_of (codes "events") (rows_of (found_of matches.now))) }
-    ensures range { (1 ≤ result) × (result ≤ piece_event_limit) }
+    ensures range { (least_piece_limit ≤ result) × (result ≤ piece_event_limit) }
 {
-    number(matches, "events", 2_000).clamp(1, MAX_PIECE_EVENTS as u64) as usize
+    number(matches, "events", 2_000).clamp(
+        MIN_PIECE_EVENTS as u64,
+        MAX_PIECE_EVENTS as u64,
+    ) as usize
 }
 
 /// The capacity, 8 where none is named, clamped as the workers are.

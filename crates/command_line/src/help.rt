@@ -1,6 +1,6 @@
 //! The texts of `--help` after the list of arguments.
 
-use crate::options::{MAX_CAPACITY, MAX_PIECE_EVENTS, MAX_WORKERS};
+use crate::options::{MAX_CAPACITY, MAX_PIECE_EVENTS, MAX_WORKERS, MIN_PIECE_EVENTS};
 
 /// What the program is for.
 pub(crate) const ABOUT: &str =
@@ -42,9 +42,11 @@ pub(crate) const BATCH_WORKERS: &str = "How many traces are judged side by side,
 const _: () = prove!(MAX_WORKERS == 64);
 
 /// Of `--events`; it tells the limit of events.
-pub(crate) const EVENTS: &str = "How many events each trace has at most, 1 to 8000";
+pub(crate) const EVENTS: &str = "How many events each trace has at most, 3 to 8000";
 
 const _: () = prove!(MAX_PIECE_EVENTS == 8_000);
+
+const _: () = prove!(MIN_PIECE_EVENTS == 3);
 
 /// Of `--unit`.
 pub(crate) const UNIT: &str = "Which memory unit runs the program";

@@ -11,7 +11,7 @@ mod requests;
 mod subcommands;
 
 pub use options::{
-    CampaignOptions, MAX_CAPACITY, MAX_DRAIN_TURNS, MAX_PIECE_EVENTS, MAX_WORKERS, Presentation,
-    Printing, RunOptions, ShapeNumbers, UnitKind, UnitOptions,
+    CampaignOptions, MAX_CAPACITY, MAX_DRAIN_TURNS, MAX_PIECE_EVENTS, MAX_WORKERS,
+    MIN_PIECE_EVENTS, Presentation, Printing, RunOptions, ShapeNumbers, UnitKind, UnitOptions,
 };
 pub use requests::{BatchRequest, CutRequest, JudgeRequest, Request, RunRequest, read_arguments};

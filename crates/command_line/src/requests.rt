@@ -57,7 +57,7 @@ pub struct BatchRequest<'a> {
 pub struct CutRequest<'a> {
     /// The file with the log; standard input where none is named.
     pub file: Option<&'a str>,
-    /// How many events a trace has at most, 1 to 8,000.
+    /// How many events a trace has at most, 3 to 8,000.
     pub events: usize,
 }
 

@@ -8,7 +8,7 @@ ghost use Rattle.command_line.specs.Subcommands.{cut};
 
 use crate::found::piece_events;
 use crate::help;
-use crate::options::{MAX_PIECE_EVENTS, OptionNames};
+use crate::options::{MAX_PIECE_EVENTS, MIN_PIECE_EVENTS, OptionNames};
 use crate::parameters::{Accepted, Description, Parameter, subcommand_of};
 use crate::requests::{CutRequest, Request};
 use clap::{ArgMatches, Command};
@@ -66,7 +66,7 @@ pub(crate) fn command<'a>(alloc: Global, names: OptionNames<'a>) -> Result<Comma
         Parameter::Option {
             name: "events",
             value_name: "N",
-            accepted: Accepted::Number(1, MAX_PIECE_EVENTS as u64),
+            accepted: Accepted::Number(MIN_PIECE_EVENTS as u64, MAX_PIECE_EVENTS as u64),
             default: Some("2000"),
             help: help::EVENTS,
         },

@@ -267,7 +267,7 @@ Arguments:
   [FILE]  The text of a log; standard input where none is named
 
 Options:
-      --events <N>  How many events each trace has at most, 1 to 8000 [default: 2000]
+      --events <N>  How many events each trace has at most, 3 to 8000 [default: 2000]
   -h, --help        Print help
 
 It reads a log of what the processors of a machine did, and prints pieces of it
