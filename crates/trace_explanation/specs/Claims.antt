@@ -1,13 +1,15 @@
 -- What the sentence of each rule says of a memory order, in the words of the axioms. The laws say that it is true of each memory order that meets
--- the rule's one axiom. Such orders there are of traces, too, that no order of the model explains.
+-- the rule's one axiom. Such orders there are of traces, too, that no order of the model explains. There is none where an edge by Own or LoadPast leads
+-- to `init`, since its load sees a store and yet read the first value. What the sentence of such an edge says is stated apart, at the end, and the laws
+-- say that it is true of every memory order in which the path, if there is one, leads forwards.
 use Rattle.std.specs.Prelude.{◌≡◌, ◌≢◌, ◌⊎◌, ℕ, suc, List}
 use Rattle.tso_ops.specs.Values.{TraceValue}
-use Rattle.tso_ops.specs.Events.{IsEvent, IsLoad, IsStore, IsSwapLoad, SameAddress, Earlier, HasFewerBarriersBefore, HasFewerStbarsBefore, HasSource, KeepsStores}
+use Rattle.tso_ops.specs.Events.{IsEvent, IsLoad, IsStore, IsSwapLoad, HasFirstValue, SameAddress, SameValue, Earlier, HasFewerBarriersBefore, HasFewerStbarsBefore, HasSource, KeepsStores}
 use Rattle.tso_cert.specs.declared.rules.BaseRule.{BaseRule}
 use Rattle.tso_cert.specs.declared.rules.BaseRule.TheVariants.{Init, LoadOp, StoreStore, Stbar, Membar, Read, Own}
 use Rattle.tso_cert.specs.declared.rules.InferredRule.{InferredRule}
 use Rattle.tso_cert.specs.declared.rules.InferredRule.TheVariants.{LoadPast, StorePast, SwapBefore, SwapAfter}
-use Rattle.tso_model.specs.Axioms.{IsBefore, IsVisible}
+use Rattle.tso_model.specs.Axioms.{IsBefore, IsVisible, ReadsGreatest}
 
 -- load l read what number s wrote, and each other store that it sees comes before that: it reads the last of the stores that it sees
 abbrev pub ReadsLast : TraceValue → List ℕ → ℕ → ℕ → Type 0
@@ -48,3 +50,20 @@ InferredSays t order StorePast l u v x y =
 InferredSays t order SwapBefore l u v x y = (v ≡ l) × (x ≡ u) × (y ≡ suc l) × IsBefore order u (suc l) × IsAtomic t order l × IsBefore order u l
 -- this store comes after a swap's load by the path, so it comes after both
 InferredSays t order SwapAfter l u v x y = (u ≡ suc l) × (x ≡ l) × (y ≡ v) × IsBefore order l v × IsAtomic t order l × IsBefore order (suc l) v
+
+-- ---- edges to init
+
+-- Load l sees store u, yet it read something else, the first value of its address. A load reads the last of the stores that it sees, and the first
+-- value only where it sees none. So the order doesn't meet Value for load l: it doesn't let the load read what it read.
+abbrev pub SeesStoreButReadFirstValue : TraceValue → List ℕ → ℕ → ℕ → Type 0
+SeesStoreButReadFirstValue t order l u = IsVisible t order u l × (SameValue t u l → ⊥) × HasFirstValue t l × (ReadsGreatest t order l → ⊥)
+
+-- What the sentence of an Own edge from u to `init` says, for load l: the load sees the store, which is earlier on its own processor, and it read the
+-- first value.
+abbrev pub OwnToInitSays : TraceValue → List ℕ → ℕ → ℕ → Type 0
+OwnToInitSays t order l u = Earlier t u l × SeesStoreButReadFirstValue t order l u
+
+-- What the sentence of a LoadPast edge from u to `init` says, for load l, where the path's first number x comes before its last one y: the load sees
+-- the store, which comes before it by the path, and it read the first value.
+abbrev pub LoadPastToInitSays : TraceValue → List ℕ → ℕ → ℕ → ℕ → ℕ → Type 0
+LoadPastToInitSays t order l u x y = (x ≡ u) × (y ≡ l) × IsBefore order u l × SeesStoreButReadFirstValue t order l u

@@ -1,7 +1,7 @@
 -- The words of each rule: in short, on a line of the cycle, and in full, where its step is explained.
 -- What they say of a memory order has a case for each rule in `BaseSays` and `InferredSays` (`Claims`), and the laws `base_sentences_are_true` and
--- `inferred_sentences_are_true` (`src/laws.rt`) prove it for each rule; `own_loads_give_edges` is on the load that an Own step names, and
--- `steps_rest_on_smaller_numbers` on the numbers that its path has.
+-- `inferred_sentences_are_true` (`src/laws.rt`) prove it for each rule, `own_to_init_sentences_are_true` and `load_past_to_init_sentences_are_true` for
+-- edges to `init`; `own_loads_give_edges` is on the load that an Own step names, and `steps_rest_on_smaller_numbers` on the numbers that its path has.
 use Rattle.std.specs.Prelude.{ℕ, suc, List, [], ◌∷◌, ◌++◌, Option, None, Some, codes}
 use Rattle.tso_ops.specs.declared.settings.Order.{Order}
 use Rattle.tso_ops.specs.declared.settings.Order.TheVariants.{Tso, Pso}

@@ -3,4 +3,4 @@ use Rattle.trace_explanation.proofs.ClaimFacts.{inferred_says}
 use Rattle.trace_explanation.proofs.laws.inferred_sentences_are_true.Goals as goal
 
 pub returns : goal.returns
-returns c t order trace memory rule by_axiom l u v x y by path = inferred_says t (own_values t trace) order memory rule by_axiom l u v x y by path
+returns c t order trace memory rule l u v x y by_axiom by path = inferred_says t (own_values t trace) order memory rule l u v x y by_axiom by path

@@ -1,0 +1,6 @@
+use Rattle.tso_ops.proofs.NumberFacts.{own_values}
+use Rattle.trace_explanation.proofs.ClaimFacts.{load_past_to_init_says}
+use Rattle.trace_explanation.proofs.laws.load_past_to_init_sentences_are_true.Goals as goal
+
+pub returns : goal.returns
+returns c t order trace memory l u x y by path = load_past_to_init_says t (own_values t trace) order memory l u x y by path
