@@ -67,11 +67,11 @@ base_long t Stbar u v = codes "program order, with 'stbar' between the two store
 base_long t Membar u v = codes "program order, with 'mb' between the store and the load."
 base_long t Read u v = codes "the load read this store.\n   It sees the store, which is not earlier on its own processor, so the store comes before it."
 base_long t Own u v = joined (
-    codes "a load that sees the store read something else.\n   " ∷ load_name t (own_load t u v) ∷ codes " sees the store, which is earlier on its own processor, and it read " ∷ load_read t (own_load t u v) ∷ codes ".\n   A load reads the last of the stores that it sees, so what it read comes after this store." ∷ [])
+    codes "a load sees the store, yet read something else.\n   " ∷ load_name t (own_load t u v) ∷ codes " sees the store, which is earlier on its own processor, and it read " ∷ load_read t (own_load t u v) ∷ codes ".\n   A load reads the last of the stores that it sees, so what it read comes after this store." ∷ [])
 
 unfoldable pub inferred_long : TraceValue → List CertStep → InferredRule → ℕ → ℕ → ℕ → List ℕ → List ℕ
 inferred_long t steps LoadPast u v l path = joined (
-    codes "a load that sees the store read something else.\n   " ∷ name_text t l ∷ codes " sees the store, which comes before it by " ∷ by_text steps path ∷ codes ", and it read " ∷ read_text t l ∷ codes ".\n   A load reads the last of the stores that it sees, so what it read comes after this store." ∷ [])
+    codes "a load sees the store, yet read something else.\n   " ∷ name_text t l ∷ codes " sees the store, which comes before it by " ∷ by_text steps path ∷ codes ", and it read " ∷ read_text t l ∷ codes ".\n   A load reads the last of the stores that it sees, so what it read comes after this store." ∷ [])
 inferred_long t steps StorePast u v l path = joined (
     codes "the load read something older than the store.\n   It read " ∷ read_text t l ∷ codes ", and the store comes after that by " ∷ by_text steps path ∷ codes ".\n   Had the store come before the load, the load would have read it or a later store." ∷ [])
 inferred_long t steps SwapBefore u v l path = joined (

@@ -129,8 +129,8 @@ fn refusal_sentence(why: Why) -> &'static str
             "A value that is stored, or a first value of an 'init' line, is at least 1.\n",
         Why::RepeatedValue =>
             "Each store writes a value of its own, that no other stores and no 'init' line has.\n",
-        Why::MissingEnd => "The last line is 'end'.\n",
-        Why::AfterEnd => "Nothing stands after the line 'end'.\n",
+        Why::MissingEnd => "The last line must be 'end'.\n",
+        Why::AfterEnd => "Nothing may stand after the line 'end'.\n",
         Why::TooLong => "A text has at most 1048576 bytes.\n",
         Why::ProcessorRange | Why::OutOfMemory => "",
         Why::BadModel => "The model line is 'model pso'; without one the model is TSO.\n",

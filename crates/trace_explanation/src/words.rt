@@ -117,7 +117,7 @@ fn base_long(
             let name = load_name(named, load);
             let read = load_read(alloc, named, load)?;
             format!(in alloc;
-                "a load that sees the store read something else.\n   {name} sees the store, which is earlier on its own processor, and it read {read}.\n   A load reads the last of the stores that it sees, so what it read comes after this store."
+                "a load sees the store, yet read something else.\n   {name} sees the store, which is earlier on its own processor, and it read {read}.\n   A load reads the last of the stores that it sees, so what it read comes after this store."
             )
         },
         _ => String::from_str(alloc, order_words(rule, named.trace().order())),
@@ -166,7 +166,7 @@ fn load_past(
     let name = named.name(l);
     let read = named.read(alloc, l)?;
     format!(in alloc;
-        "a load that sees the store read something else.\n   {name} sees the store, which comes before it by {by}, and it read {read}.\n   A load reads the last of the stores that it sees, so what it read comes after this store."
+        "a load sees the store, yet read something else.\n   {name} sees the store, which comes before it by {by}, and it read {read}.\n   A load reads the last of the stores that it sees, so what it read comes after this store."
     )
 }
 
