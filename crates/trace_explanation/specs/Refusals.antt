@@ -5,23 +5,24 @@ use Rattle.std.specs.Fmt.{decimal}
 use Rattle.line_text.specs.Lines.{parts_of, is_empty}
 use Rattle.tso_text.specs.declared.faults.Why.{Why}
 use Rattle.tso_text.specs.declared.faults.Why.TheVariants.{BadHeader, BadLine, BadNumber, BeforeProc, TooManyProcessors, TooManyEvents, AddressRange, ZeroValue, RepeatedValue, MissingEnd, AfterEnd, TooLong, ProcessorRange, OutOfMemory, BadModel, InitOrder}
+use Rattle.trace_explanation.specs.declared.refusal_sentences.TheConstants.{BAD_HEADER, BAD_LINE, BAD_NUMBER, BEFORE_PROC, TOO_MANY_PROCESSORS, TOO_MANY_EVENTS, ADDRESS_RANGE, ZERO_VALUE, REPEATED_VALUE, MISSING_END, AFTER_END, TOO_LONG, BAD_MODEL, INIT_ORDER}
 
 -- the rule that a text with this refusal breaks
 unfoldable pub refusal_sentence : Why → List ℕ
-refusal_sentence BadHeader = codes "The first line is 'tso trace 1' or 'tso trace 2', ended by a line feed alone.\n"
-refusal_sentence BadLine = codes "Lines are 'proc', 'ld A R', 'st A V', 'sw A R V', 'mb' and 'end', under 'model pso' also 'stbar', with single spaces, ended by a line feed alone.\nIn version 2 'init A V' may stand before the first 'proc', after 'model pso' if there is one.\n"
-refusal_sentence BadNumber = codes "A number has digits alone, no leading zero, and is at most 18446744073709551615.\n"
-refusal_sentence BeforeProc = codes "A processor's operations stand after its line 'proc'.\n"
-refusal_sentence TooManyProcessors = codes "A trace has at most 16 processors.\n"
-refusal_sentence TooManyEvents = codes "A trace of version 1 has at most 2000 events and 2000 barriers, of version 2 at most 8000; a swap is two events.\n"
-refusal_sentence AddressRange = codes "An address is at most 255.\n"
-refusal_sentence ZeroValue = codes "A value that is stored, or a first value of an 'init' line, is at least 1.\n"
-refusal_sentence RepeatedValue = codes "Each store writes a value of its own, that no other stores and no 'init' line has.\n"
-refusal_sentence MissingEnd = codes "The last line must be 'end'.\n"
-refusal_sentence AfterEnd = codes "Nothing may stand after the line 'end'.\n"
-refusal_sentence TooLong = codes "A text has at most 1048576 bytes.\n"
-refusal_sentence BadModel = codes "The model line is 'model pso'; without one the model is TSO.\n"
-refusal_sentence InitOrder = codes "The addresses of 'init' lines rise.\n"
+refusal_sentence BadHeader = BAD_HEADER.now
+refusal_sentence BadLine = BAD_LINE.now
+refusal_sentence BadNumber = BAD_NUMBER.now
+refusal_sentence BeforeProc = BEFORE_PROC.now
+refusal_sentence TooManyProcessors = TOO_MANY_PROCESSORS.now
+refusal_sentence TooManyEvents = TOO_MANY_EVENTS.now
+refusal_sentence AddressRange = ADDRESS_RANGE.now
+refusal_sentence ZeroValue = ZERO_VALUE.now
+refusal_sentence RepeatedValue = REPEATED_VALUE.now
+refusal_sentence MissingEnd = MISSING_END.now
+refusal_sentence AfterEnd = AFTER_END.now
+refusal_sentence TooLong = TOO_LONG.now
+refusal_sentence BadModel = BAD_MODEL.now
+refusal_sentence InitOrder = INIT_ORDER.now
 refusal_sentence ProcessorRange = []
 refusal_sentence OutOfMemory = []
 

@@ -14,6 +14,7 @@ use Rattle.tso_cert.specs.declared.steps.Reason.{Reason}
 use Rattle.tso_cert.specs.declared.steps.Reason.TheVariants.{Base, Inferred}
 use Rattle.tso_cert.specs.declared.steps.CertStep.{CertStep}
 use Rattle.trace_explanation.specs.Pieces.{joined}
+use Rattle.trace_explanation.specs.declared.rule_sentences.TheConstants.{AFTER_BOTH, ATOMIC_SWAP, BEFORE_BOTH, INIT_LONG, INIT_SHORT, LOAD_OP_LONG, MEMBAR_LONG, MEMBAR_SHORT, PROGRAM_ORDER, PSO_STORES_LONG, READS_LAST, READ_LONG, READ_OLDER, READ_SHORT, SEES_ONE_READ_OTHER, SEES_STORE, STBAR_LONG, STBAR_SHORT, TSO_STORES_LONG, WOULD_HAVE_READ}
 use Rattle.trace_explanation.specs.Names.{name_text, read_text}
 use Rattle.trace_explanation.specs.Steps.{by_text, own_load}
 
@@ -31,22 +32,22 @@ load_read t (Some l) = read_text t l
 
 -- a load sees one store and read another
 abbrev pub seen_short : List ℕ → List ℕ
-seen_short load = load ++ codes " sees the former, yet it read the latter"
+seen_short load = load ++ SEES_ONE_READ_OTHER.now
 
 unfoldable pub base_short : TraceValue → BaseRule → ℕ → ℕ → List ℕ
-base_short t Init u v = codes "they come before every event"
-base_short t LoadOp u v = codes "program order"
-base_short t StoreStore u v = codes "program order"
-base_short t Stbar u v = codes "program order, with 'stbar' between"
-base_short t Membar u v = codes "program order, with 'mb' between"
-base_short t Read u v = codes "the load read this store"
+base_short t Init u v = INIT_SHORT.now
+base_short t LoadOp u v = PROGRAM_ORDER.now
+base_short t StoreStore u v = PROGRAM_ORDER.now
+base_short t Stbar u v = STBAR_SHORT.now
+base_short t Membar u v = MEMBAR_SHORT.now
+base_short t Read u v = READ_SHORT.now
 base_short t Own u v = seen_short (load_name t (own_load t u v))
 
 unfoldable pub inferred_short : TraceValue → InferredRule → ℕ → List ℕ
 inferred_short t LoadPast l = seen_short (name_text t l)
-inferred_short t StorePast l = codes "the load read something older than the store"
-inferred_short t SwapBefore l = codes "a swap is atomic"
-inferred_short t SwapAfter l = codes "a swap is atomic"
+inferred_short t StorePast l = READ_OLDER.now
+inferred_short t SwapBefore l = ATOMIC_SWAP.now
+inferred_short t SwapAfter l = ATOMIC_SWAP.now
 
 abbrev pub reason_short : TraceValue → ℕ → ℕ → Reason → List ℕ
 reason_short t u v (Base rule) = base_short t rule u v
@@ -56,28 +57,28 @@ reason_short t u v (Inferred rule load path) = inferred_short t rule load
 
 -- how the memory model keeps the order of stores
 abbrev pub kept_stores : Order → List ℕ
-kept_stores Tso = codes "program order; a processor keeps its stores in order."
-kept_stores Pso = codes "program order; a processor keeps its stores to one address in order."
+kept_stores Tso = TSO_STORES_LONG.now
+kept_stores Pso = PSO_STORES_LONG.now
 
 unfoldable pub base_long : TraceValue → BaseRule → ℕ → ℕ → List ℕ
-base_long t Init u v = codes "they come before every event."
-base_long t LoadOp u v = codes "program order; a load comes before all that follows it on its processor."
+base_long t Init u v = INIT_LONG.now
+base_long t LoadOp u v = LOAD_OP_LONG.now
 base_long t StoreStore u v = kept_stores t.setting.order
-base_long t Stbar u v = codes "program order, with 'stbar' between the two stores."
-base_long t Membar u v = codes "program order, with 'mb' between the store and the load."
-base_long t Read u v = codes "the load read this store.\n   It sees the store, which is not earlier on its own processor, so the store comes before it."
+base_long t Stbar u v = STBAR_LONG.now
+base_long t Membar u v = MEMBAR_LONG.now
+base_long t Read u v = READ_LONG.now
 base_long t Own u v = joined (
-    codes "a load sees the store, yet read something else.\n   " ∷ load_name t (own_load t u v) ∷ codes " sees the store, which is earlier on its own processor, and it read " ∷ load_read t (own_load t u v) ∷ codes ".\n   A load reads the last of the stores that it sees, so what it read comes after this store." ∷ [])
+    SEES_STORE.now ∷ codes "\n   " ∷ load_name t (own_load t u v) ∷ codes " sees the store, which is earlier on its own processor, and it read " ∷ load_read t (own_load t u v) ∷ codes ".\n   " ∷ READS_LAST.now ∷ [])
 
 unfoldable pub inferred_long : TraceValue → List CertStep → InferredRule → ℕ → ℕ → ℕ → List ℕ → List ℕ
 inferred_long t steps LoadPast u v l path = joined (
-    codes "a load sees the store, yet read something else.\n   " ∷ name_text t l ∷ codes " sees the store, which comes before it by " ∷ by_text steps path ∷ codes ", and it read " ∷ read_text t l ∷ codes ".\n   A load reads the last of the stores that it sees, so what it read comes after this store." ∷ [])
+    SEES_STORE.now ∷ codes "\n   " ∷ name_text t l ∷ codes " sees the store, which comes before it by " ∷ by_text steps path ∷ codes ", and it read " ∷ read_text t l ∷ codes ".\n   " ∷ READS_LAST.now ∷ [])
 inferred_long t steps StorePast u v l path = joined (
-    codes "the load read something older than the store.\n   It read " ∷ read_text t l ∷ codes ", and the store comes after that by " ∷ by_text steps path ∷ codes ".\n   Had the store come before the load, the load would have read it or a later store." ∷ [])
+    READ_OLDER.now ∷ codes ".\n   It read " ∷ read_text t l ∷ codes ", and the store comes after that by " ∷ by_text steps path ∷ codes ".\n   " ∷ WOULD_HAVE_READ.now ∷ [])
 inferred_long t steps SwapBefore u v l path = joined (
-    codes "a swap is atomic.\n   " ∷ name_text t u ∷ codes " comes before " ∷ name_text t (suc l) ∷ codes " by " ∷ by_text steps path ∷ codes ".\n   No other store comes between a swap's load and its store, so this store comes before both." ∷ [])
+    ATOMIC_SWAP.now ∷ codes ".\n   " ∷ name_text t u ∷ codes " comes before " ∷ name_text t (suc l) ∷ codes " by " ∷ by_text steps path ∷ codes ".\n   " ∷ BEFORE_BOTH.now ∷ [])
 inferred_long t steps SwapAfter u v l path = joined (
-    codes "a swap is atomic.\n   " ∷ name_text t v ∷ codes " comes after " ∷ name_text t l ∷ codes " by " ∷ by_text steps path ∷ codes ".\n   No other store comes between a swap's load and its store, so this store comes after both." ∷ [])
+    ATOMIC_SWAP.now ∷ codes ".\n   " ∷ name_text t v ∷ codes " comes after " ∷ name_text t l ∷ codes " by " ∷ by_text steps path ∷ codes ".\n   " ∷ AFTER_BOTH.now ∷ [])
 
 abbrev pub reason_long : TraceValue → List CertStep → ℕ → ℕ → Reason → List ℕ
 reason_long t steps u v (Base rule) = base_long t rule u v

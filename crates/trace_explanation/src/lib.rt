@@ -20,6 +20,8 @@ mod marks;
 mod names;
 mod numbers;
 mod prefixes;
+mod refusal_sentences;
 mod refusals;
+mod rule_sentences;
 mod unwritten;
 mod words;

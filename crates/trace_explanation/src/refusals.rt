@@ -6,6 +6,10 @@ ghost use Rattle.line_text.specs.Lines.{parts_of};
 ghost use Rattle.trace_explanation.specs.Refusals.{hex_digit, line_shown, line_there, line_words, refusal_explanation, refusal_sentence, shown_byte, shown_line};
 
 use crate::prefixes::first_of;
+use crate::refusal_sentences::{
+    ADDRESS_RANGE, AFTER_END, BAD_HEADER, BAD_LINE, BAD_MODEL, BAD_NUMBER, BEFORE_PROC, INIT_ORDER,
+    MISSING_END, REPEATED_VALUE, TOO_LONG, TOO_MANY_EVENTS, TOO_MANY_PROCESSORS, ZERO_VALUE,
+};
 use line_text::next_line;
 use std::alloc::{AllocError, Global};
 use std::fmt::Write;
@@ -114,26 +118,20 @@ fn refusal_sentence(why: Why) -> &'static str
     ensures { result.now ≡ refusal_sentence why }
 {
     match why {
-        Why::BadHeader =>
-            "The first line is 'tso trace 1' or 'tso trace 2', ended by a line feed alone.\n",
-        Why::BadLine =>
-            "Lines are 'proc', 'ld A R', 'st A V', 'sw A R V', 'mb' and 'end', under 'model pso' also 'stbar', with single spaces, ended by a line feed alone.\nIn version 2 'init A V' may stand before the first 'proc', after 'model pso' if there is one.\n",
-        Why::BadNumber =>
-            "A number has digits alone, no leading zero, and is at most 18446744073709551615.\n",
-        Why::BeforeProc => "A processor's operations stand after its line 'proc'.\n",
-        Why::TooManyProcessors => "A trace has at most 16 processors.\n",
-        Why::TooManyEvents =>
-            "A trace of version 1 has at most 2000 events and 2000 barriers, of version 2 at most 8000; a swap is two events.\n",
-        Why::AddressRange => "An address is at most 255.\n",
-        Why::ZeroValue =>
-            "A value that is stored, or a first value of an 'init' line, is at least 1.\n",
-        Why::RepeatedValue =>
-            "Each store writes a value of its own, that no other stores and no 'init' line has.\n",
-        Why::MissingEnd => "The last line must be 'end'.\n",
-        Why::AfterEnd => "Nothing may stand after the line 'end'.\n",
-        Why::TooLong => "A text has at most 1048576 bytes.\n",
+        Why::BadHeader => BAD_HEADER,
+        Why::BadLine => BAD_LINE,
+        Why::BadNumber => BAD_NUMBER,
+        Why::BeforeProc => BEFORE_PROC,
+        Why::TooManyProcessors => TOO_MANY_PROCESSORS,
+        Why::TooManyEvents => TOO_MANY_EVENTS,
+        Why::AddressRange => ADDRESS_RANGE,
+        Why::ZeroValue => ZERO_VALUE,
+        Why::RepeatedValue => REPEATED_VALUE,
+        Why::MissingEnd => MISSING_END,
+        Why::AfterEnd => AFTER_END,
+        Why::TooLong => TOO_LONG,
+        Why::BadModel => BAD_MODEL,
+        Why::InitOrder => INIT_ORDER,
         Why::ProcessorRange | Why::OutOfMemory => "",
-        Why::BadModel => "The model line is 'model pso'; without one the model is TSO.\n",
-        Why::InitOrder => "The addresses of 'init' lines rise.\n",
     }
 }

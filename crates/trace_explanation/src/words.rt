@@ -10,6 +10,11 @@ ghost use Rattle.trace_explanation.specs.Words.{base_long, base_short, inferred_
 use crate::loads::own_load;
 use crate::names::NamedTrace;
 use crate::numbers::NumberedSteps;
+use crate::rule_sentences::{
+    AFTER_BOTH, ATOMIC_SWAP, BEFORE_BOTH, INIT_LONG, INIT_SHORT, LOAD_OP_LONG, MEMBAR_LONG,
+    MEMBAR_SHORT, PROGRAM_ORDER, PSO_STORES_LONG, READ_LONG, READ_OLDER, READ_SHORT, READS_LAST,
+    SEES_ONE_READ_OTHER, SEES_STORE, STBAR_LONG, STBAR_SHORT, TSO_STORES_LONG, WOULD_HAVE_READ,
+};
 use std::alloc::{AllocError, Global};
 use tso_cert::{BaseRule, CertStep, InferredRule, Reason};
 use tso_ops::Order;
@@ -40,14 +45,14 @@ fn base_short(
     ensures { IfOk result (λ text. string_bytes text ≡ base_short named.now rule u v) }
 {
     match rule {
-        BaseRule::Init => String::from_str(alloc, "they come before every event"),
-        BaseRule::LoadOp | BaseRule::StoreStore => String::from_str(alloc, "program order"),
-        BaseRule::Stbar => String::from_str(alloc, "program order, with 'stbar' between"),
-        BaseRule::Membar => String::from_str(alloc, "program order, with 'mb' between"),
-        BaseRule::Read => String::from_str(alloc, "the load read this store"),
+        BaseRule::Init => String::from_str(alloc, INIT_SHORT),
+        BaseRule::LoadOp | BaseRule::StoreStore => String::from_str(alloc, PROGRAM_ORDER),
+        BaseRule::Stbar => String::from_str(alloc, STBAR_SHORT),
+        BaseRule::Membar => String::from_str(alloc, MEMBAR_SHORT),
+        BaseRule::Read => String::from_str(alloc, READ_SHORT),
         BaseRule::Own => {
             let load = load_name(named, own_load(named.trace(), u, v));
-            format!(in alloc; "{load} sees the former, yet it read the latter")
+            format!(in alloc; "{load}{SEES_ONE_READ_OTHER}")
         },
     }
 }
@@ -65,14 +70,10 @@ fn inferred_short(
     match rule {
         InferredRule::LoadPast => {
             let load = named.name(l);
-            format!(in alloc; "{load} sees the former, yet it read the latter")
+            format!(in alloc; "{load}{SEES_ONE_READ_OTHER}")
         },
-        InferredRule::StorePast => {
-            String::from_str(alloc, "the load read something older than the store")
-        },
-        InferredRule::SwapBefore | InferredRule::SwapAfter => {
-            String::from_str(alloc, "a swap is atomic")
-        },
+        InferredRule::StorePast => String::from_str(alloc, READ_OLDER),
+        InferredRule::SwapBefore | InferredRule::SwapAfter => String::from_str(alloc, ATOMIC_SWAP),
     }
 }
 
@@ -117,7 +118,7 @@ fn base_long(
             let name = load_name(named, load);
             let read = load_read(alloc, named, load)?;
             format!(in alloc;
-                "a load sees the store, yet read something else.\n   {name} sees the store, which is earlier on its own processor, and it read {read}.\n   A load reads the last of the stores that it sees, so what it read comes after this store."
+                "{SEES_STORE}\n   {name} sees the store, which is earlier on its own processor, and it read {read}.\n   {READS_LAST}"
             )
         },
         _ => String::from_str(alloc, order_words(rule, named.trace().order())),
@@ -131,14 +132,12 @@ fn order_words(rule: BaseRule, order: Order) -> &'static str
     ensures { (t : TraceValue) (u v : ℕ) → t.setting.order ≡ order → result.now ≡ base_long t rule u v }
 {
     match rule {
-        BaseRule::Init => "they come before every event.",
-        BaseRule::LoadOp =>
-            "program order; a load comes before all that follows it on its processor.",
+        BaseRule::Init => INIT_LONG,
+        BaseRule::LoadOp => LOAD_OP_LONG,
         BaseRule::StoreStore => kept_stores(order),
-        BaseRule::Stbar => "program order, with 'stbar' between the two stores.",
-        BaseRule::Membar => "program order, with 'mb' between the store and the load.",
-        BaseRule::Read =>
-            "the load read this store.\n   It sees the store, which is not earlier on its own processor, so the store comes before it.",
+        BaseRule::Stbar => STBAR_LONG,
+        BaseRule::Membar => MEMBAR_LONG,
+        BaseRule::Read => READ_LONG,
         BaseRule::Own => "",
     }
 }
@@ -148,8 +147,8 @@ fn kept_stores(order: Order) -> &'static str
     ensures { result.now ≡ kept_stores order }
 {
     match order {
-        Order::Tso => "program order; a processor keeps its stores in order.",
-        Order::Pso => "program order; a processor keeps its stores to one address in order.",
+        Order::Tso => TSO_STORES_LONG,
+        Order::Pso => PSO_STORES_LONG,
     }
 }
 
@@ -166,7 +165,7 @@ fn load_past(
     let name = named.name(l);
     let read = named.read(alloc, l)?;
     format!(in alloc;
-        "a load sees the store, yet read something else.\n   {name} sees the store, which comes before it by {by}, and it read {read}.\n   A load reads the last of the stores that it sees, so what it read comes after this store."
+        "{SEES_STORE}\n   {name} sees the store, which comes before it by {by}, and it read {read}.\n   {READS_LAST}"
     )
 }
 
@@ -182,7 +181,7 @@ fn store_past(
 {
     let read = named.read(alloc, l)?;
     format!(in alloc;
-        "the load read something older than the store.\n   It read {read}, and the store comes after that by {by}.\n   Had the store come before the load, the load would have read it or a later store."
+        "{READ_OLDER}.\n   It read {read}, and the store comes after that by {by}.\n   {WOULD_HAVE_READ}"
     )
 }
 
@@ -200,7 +199,7 @@ fn swap_before(
     let store = named.name(u);
     let swap_store = named.name_after(l);
     format!(in alloc;
-        "a swap is atomic.\n   {store} comes before {swap_store} by {by}.\n   No other store comes between a swap's load and its store, so this store comes before both."
+        "{ATOMIC_SWAP}.\n   {store} comes before {swap_store} by {by}.\n   {BEFORE_BOTH}"
     )
 }
 
@@ -218,7 +217,7 @@ fn swap_after(
     let store = named.name(v);
     let swap_load = named.name(l);
     format!(in alloc;
-        "a swap is atomic.\n   {store} comes after {swap_load} by {by}.\n   No other store comes between a swap's load and its store, so this store comes after both."
+        "{ATOMIC_SWAP}.\n   {store} comes after {swap_load} by {by}.\n   {AFTER_BOTH}"
     )
 }
 
