@@ -3,3 +3,4 @@ pub mod JobFacts
 pub mod StreamFacts
 pub mod TallyFacts
 mod PieceReports
+mod TracePieces

@@ -1,11 +1,15 @@
 //! What the definition of batches says, proved of all streams.
-ghost use Rattle.std.specs.Prelude.{◌≡◌, ◌<◌, ◌↔◌, ℕ, Bool, List, length, take};
+ghost use Rattle.std.specs.Prelude.{◌≡◌, ◌<◌, ◌↔◌, ◌++◌, ℕ, Bool, List, length, map, take};
+ghost use Rattle.std.specs.List.{flat_map};
+ghost use Rattle.stream_pieces.specs.Pieces.{ArePieces};
+ghost use Rattle.tso_ops.specs.Values.{TraceValue};
 ghost use Rattle.tso_report.specs.Limits.{trace_read_limit};
 ghost use Rattle.tso_report.specs.Reports.{IsReport, refusal_text};
 ghost use Rattle.tso_report.specs.declared.verdicts.Verdict.{Verdict};
+ghost use Rattle.tso_text.specs.Printed.{trace_text};
 ghost use Rattle.tso_text.specs.Spelling.{text_byte_limit};
 ghost use Rattle.tso_text.specs.declared.faults.Why.{Why};
-ghost use Rattle.trace_batches.specs.Batches.{IsBatch};
+ghost use Rattle.trace_batches.specs.Batches.{AreReports, IsBatch, ReportValue, total_line, trace_lines};
 
 /// Each stream has one text and one verdict, quiet or not.
 pub fn batches()
@@ -18,4 +22,11 @@ pub fn batches()
 pub fn long_pieces()
     ensures refused { (piece text : List ℕ) (verdict : Verdict) → text_byte_limit < length piece → IsReport piece text verdict ↔ ((text ≡ refusal_text 0 Why.TooLong) × (verdict ≡ Verdict.Refused)) }
     ensures kept { (piece text : List ℕ) (verdict : Verdict) → IsReport (take trace_read_limit piece) text verdict ↔ IsReport piece text verdict }
+{}
+
+/// The pieces of the texts of traces one after another, as `cut` prints them, are these texts: the K-th line of a batch that
+/// isn't quiet is that of the K-th trace.
+pub fn printed_traces()
+    ensures pieces { (traces : List TraceValue) (pieces : List (List ℕ)) → ArePieces (flat_map trace_text traces) pieces ↔ (pieces ≡ map trace_text traces) }
+    ensures lines { (quiet : Bool) (traces : List TraceValue) (text : List ℕ) (verdict : Verdict) → IsBatch quiet (flat_map trace_text traces) text verdict → (reports : List ReportValue) × AreReports (map trace_text traces) reports × (text ≡ trace_lines quiet 1 reports ++ total_line reports) }
 {}
