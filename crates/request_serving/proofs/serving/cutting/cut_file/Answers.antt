@@ -14,4 +14,4 @@ returns-clause-left g c =
     file_left (g.O.NamedFiles.bytes c.args.files.now c.args.name.now) _ c.in_ok-file.ensures.known c.args.events _ _ c.cut_log.result c.cut_log.ensures.left
 
 pub returns-in_err-file-clause-left : goal.returns-in_err-file-clause-left
-returns-in_err-file-clause-left g c = unopened (g.O.NamedFiles.bytes c.args.files.now c.args.name.now) (g.W.Write.contents c.args.writer.now) c.from_residual.result
+returns-in_err-file-clause-left g c = unopened (g.O.NamedFiles.bytes c.args.files.now c.args.name.now) c.args.events (g.W.Write.contents c.args.writer.now) c.from_residual.result
