@@ -2,6 +2,7 @@ pub mod ClaimFacts
 pub mod SearchFacts
 pub mod LineFacts
 pub mod NameFacts
+pub mod OrderFacts
 pub mod ReferenceFacts
 pub mod StepFacts
 pub mod TextFacts

@@ -3,6 +3,7 @@ ghost use Rattle.std.specs.Prelude.{◌≡◌, ◌≢◌, ◌-◌, ◌<◌, ◌�
 ghost use Rattle.std.specs.List.{flat_map};
 ghost use Rattle.order_paths.specs.Neighbours.{AreNeighbours};
 ghost use Rattle.tso_ops.specs.Values.{TraceValue};
+ghost use Rattle.tso_ops.specs.Events.{IsEvent};
 ghost use Rattle.tso_ops.specs.Limits.{IsTrace};
 ghost use Rattle.tso_cert.specs.declared.rules.BaseRule.{BaseRule};
 ghost use Rattle.tso_cert.specs.declared.rules.InferredRule.{InferredRule};
@@ -48,6 +49,12 @@ pub fn own_to_init_sentences_are_true()
 /// of its address. So no memory order in which the events of the path stand in order lets the load read what it read.
 pub fn load_past_to_init_sentences_are_true()
     ensures { (t : TraceValue) (order : List ℕ) → IsTrace t → IsMemoryOrder t order → (l u x y : ℕ) → InferredBy t InferredRule.LoadPast l u 0 x y → IsBefore order x y → LoadPastToInitSays t order l u x y }
+{}
+
+/// Of any two events of a trace, some memory order puts the first before the second. So the laws on edges to `init` speak of
+/// orders that exist, also the one on LoadPast, whose path leads from a store to a load.
+pub fn memory_orders_put_either_event_first()
+    ensures { (t : TraceValue) (u v : ℕ) → IsEvent t u → IsEvent t v → u ≢ v → (order : List ℕ) × IsMemoryOrder t order × IsBefore order u v }
 {}
 
 /// The load that an Own step's words name is the least one that gives the step's edge by the rule.
