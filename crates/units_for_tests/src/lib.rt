@@ -1,4 +1,4 @@
-//! Memory units for tests, a way to run a program on one, and what the tests of units share. `README.md` says what is
+//! Memory units for tests, a way to run a program on one, a gate, and what the tests of units share. `README.md` says what is
 //! proved.
 #![tactic(auto)]
 
@@ -6,6 +6,7 @@ pub use accounts::{OTHER_ACCOUNT, closed_account};
 pub use answers::{Answered, first_unanswered};
 pub use counting::{CallCounts, CountingUnit, drops_of, new_counts, numbers_of};
 pub use forwarding::{Call, CallLog, ForwardingUnit, new_log};
+pub use gates::AfterDrain;
 pub use inventing::{INVENTED, InventingUnit};
 pub use issuing::issue_program;
 pub use passes::are_passes_of;
@@ -16,6 +17,7 @@ mod accounts;
 mod answers;
 mod counting;
 mod forwarding;
+mod gates;
 mod inventing;
 mod issuing;
 mod passes;

@@ -8,17 +8,16 @@ use issue_desk::{
 };
 use std::alloc::Global;
 use std::process::Abort;
-use std::sync::atomic::{AtomicBool, AtomicU64, Ordering};
 use std::sync::{Arc, Wait};
 use std::test::Fail;
-use std::thread::{Threads, yield_now};
+use std::thread::Threads;
 use traces_for_tests::program_of;
 use tso_ops::{Op, Order, OutOfMemory, ValueFault};
 use unit_core::{Account, MemoryUnit, Recorded};
 use unit_kinds::StoreBufferUnit;
 use units_for_tests::{
-    CallCounts, CountingUnit, ForwardingUnit, OTHER_ACCOUNT, RefusingUnit, closed_account,
-    drops_of, new_counts, new_log,
+    AfterDrain, CallCounts, CountingUnit, ForwardingUnit, OTHER_ACCOUNT, RefusingUnit,
+    closed_account, drops_of, new_counts, new_log,
 };
 
 /// Issuers that pass this gate, and a drainer with so many turns.
@@ -68,55 +67,6 @@ fn turns_drain_the_processors_in_order(rt: HostRuntime) -> Result<(), Fail> {
         expect_equal(&rt, turns, found.as_slice(), expected);
     }
     Ok(())
-}
-
-/// How often an issuer looks for a drain.
-const LOOKS: u64 = 100_000;
-
-/// A gate at which the first call of each issuer waits for the first drain.
-#[derive(Drop)]
-struct AfterDrain {
-    counts: Arc<CallCounts, Global>,
-    gave_up: AtomicBool,
-    /// How many drains had come when processor 0 had done one operation.
-    drains: AtomicU64,
-}
-
-impl Gate for AfterDrain {
-    fn before(&self, p: usize, done: usize) {
-        if done == 0 {
-            self.wait_for_drain();
-        }
-        if p == 0 && done == 1 {
-            let drains = self.counts.drains.load(Ordering::SeqCst);
-            self.drains.store(drains, Ordering::SeqCst);
-        }
-    }
-}
-
-impl AfterDrain {
-    fn new(counts: Arc<CallCounts, Global>) -> AfterDrain {
-        AfterDrain {
-            counts,
-            gave_up: AtomicBool::new(false),
-            drains: AtomicU64::new(0),
-        }
-    }
-
-    fn wait_for_drain(&self) {
-        for _ in 0..LOOKS {
-            if self.counts.drains.load(Ordering::SeqCst) > 0 {
-                return;
-            }
-            yield_now();
-        }
-        self.gave_up.store(true, Ordering::SeqCst);
-    }
-
-    /// Whether no issuer gave up.
-    fn has_waited(&self) -> bool {
-        !self.gave_up.load(Ordering::SeqCst)
-    }
 }
 
 /// How a run ended: its answer, the account, and how many units were dropped.
@@ -225,7 +175,7 @@ fn is_between_turns<H: Threads + Wait + Sync>(rt: &H, alloc: Global) -> Result<b
     let gate = AfterDrain::new(Arc::try_clone(&counts)?);
     let threads = threads_at(&gate, MANY_TURNS);
     let ended = run_counted(rt, alloc, &LOAD, 0, threads, &counts)?;
-    let is_before_last = gate.drains.load(Ordering::SeqCst) < MANY_TURNS;
+    let is_before_last = gate.drains() < MANY_TURNS;
     Ok(ended.answer.is_ok() && gate.has_waited() && is_before_last)
 }
 

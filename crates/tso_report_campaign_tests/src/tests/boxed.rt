@@ -19,7 +19,9 @@ use tso_report::{CampaignPrograms, Fault, Verdict, campaign, seeded_program};
 use unit_core::MemoryUnit;
 use unit_faulty::{FaultKind, FaultyUnit};
 use unit_kinds::SerialUnit;
-use units_for_tests::{CallCounts, CountingUnit, InventingUnit, RefusingUnit, new_counts};
+use units_for_tests::{
+    CallCounts, CountingUnit, InventingUnit, RefusingUnit, drops_of, new_counts,
+};
 
 /// A unit in a box. A box is made of a concrete type, in the test.
 type Boxed = Box<dyn MemoryUnit + Send>;
@@ -324,6 +326,17 @@ impl ThreeCounts {
         let third = serial_unit(alloc, &self.third)?;
         list_of(alloc, first, second, third)
     }
+
+    /// A unit that refuses its seventh call and then two that refuse none.
+    fn units_past_a_refusal(&self, alloc: Global) -> Result<Vec<Boxed>, OutOfMemory>
+        ensures seeds { IfOk result (λ units. length units.items ≤ 3) }
+        ensures untouched { IfOk result (λ units. All (λ unit. (value_of unit).steps ≡ []) units.items) }
+    {
+        let first = refusing_unit(alloc, 7, &self.first)?;
+        let second = serial_unit(alloc, &self.second)?;
+        let third = serial_unit(alloc, &self.third)?;
+        list_of(alloc, first, second, third)
+    }
 }
 
 /// What is written where the first of three units alone invents its answers.
@@ -406,31 +419,35 @@ fn boxed_campaigns_overlap(rt: HostRuntime) -> Result<(), Fail> {
     Ok(())
 }
 
-/// Three units whose calls are counted together, of which the second refuses its seventh.
-fn refusing_units(
+/// Runs a campaign on units of which the first refuses its seventh call, and compares the calls of the others: a worker goes
+/// on after the seed that fails. Nothing is written, and each unit is dropped.
+fn serve_past_a_refusal<H: Threads + Wait + Sync + Abort>(
+    rt: &H,
     alloc: Global,
-    counts: &Arc<CallCounts, Global>,
-) -> Result<Vec<Boxed>, OutOfMemory>
-    ensures seeds { IfOk result (λ units. length units.items ≤ 3) }
-    ensures untouched { IfOk result (λ units. All (λ unit. (value_of unit).steps ≡ []) units.items) }
+    workers: usize,
+) -> Result<(), Fail>
+    requires some { 1 ≤ workers }
+    requires most { workers ≤ worker_limit }
 {
-    let first = serial_unit(alloc, counts)?;
-    let second = refusing_unit(alloc, 7, counts)?;
-    let third = serial_unit(alloc, counts)?;
-    list_of(alloc, first, second, third)
+    let shape = shape_of((1, 20, 4))?;
+    let counts = ThreeCounts::new(alloc)?;
+    let units = counts.units_past_a_refusal(alloc)?;
+    let told = (Err(Fault::OutOfMemory), "");
+    let ThreeCounts {
+        first,
+        second,
+        third,
+    } = &counts;
+    let served: [Served<'_>; 2] = [(second, &[2]), (third, &[3])];
+    expect_served(rt, alloc, (shape, workers), units, told, &served)?;
+    expect_equal(rt, "drops", drops_of(first), 1);
+    Ok(())
 }
 
-/// The seventh call of the second unit is refused: nothing is written, and each unit is dropped.
 #[test]
 fn boxed_campaign_on_a_unit_that_refuses(rt: HostRuntime) -> Result<(), Fail> {
-    let shape = shape_of((1, 20, 4))?;
-    let counts = new_counts(rt.alloc())?;
-    let units = refusing_units(rt.alloc(), &counts)?;
-    let told = (Err(Fault::OutOfMemory), "");
-    let is_ran = is_ran(&rt, rt.alloc(), (shape, 2), units, told);
-    let drops = counts.drops.load(Ordering::SeqCst);
-    expect_equal(&rt, "refused", (is_ran, drops), (true, 3));
-    Ok(())
+    serve_past_a_refusal(&rt, rt.alloc(), 1)?;
+    serve_past_a_refusal(&rt, rt.alloc(), 2)
 }
 
 #[test]

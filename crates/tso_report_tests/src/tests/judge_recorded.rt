@@ -5,18 +5,19 @@ ghost use Rattle.round_pool.specs.Workers.{worker_limit};
 
 use super::readers_and_writers::{Full, ShortWriter};
 use super::{Ended, expect, expect_bytes, expect_equal, expect_said};
-use issue_desk::{Issuers, OpenGate, run_over};
+use issue_desk::{Gate, Issuers, OpenGate, RunThreads, run_over, run_with_drainer_over};
 use std::alloc::Global;
 use std::io::ErrorKind;
 use std::process::Abort;
-use std::sync::Wait;
+use std::sync::{Arc, Wait};
 use std::test::Fail;
 use std::thread::Threads;
+use tso_ops::Outcome;
 use tso_report::{Fault, Verdict, judge_recorded};
 use tso_text::{Act, read_program};
 use unit_core::{Account, MemoryUnit, Recorded, replay_over};
-use unit_kinds::SerialUnit;
-use units_for_tests::InventingUnit;
+use unit_kinds::{SerialUnit, StoreBufferUnit};
+use units_for_tests::{AfterDrain, CallCounts, CountingUnit, InventingUnit, is_record, new_counts};
 
 /// Message passing: the text of its program.
 const PROGRAM: &str = "tso program 1\nproc\nst 1 1\nst 2 2\nproc\nld 2\nld 1\nend\n";
@@ -86,9 +87,12 @@ fn record_without_a_violation(rt: HostRuntime) -> Result<(), Fail> {
     Ok(())
 }
 
+/// The text of a program that stores and loads what it stored.
+const STORE_AND_LOAD: &str = "tso program 1\nproc\nst 1 1\nld 1\nend\n";
+
 /// A program whose load is answered what nobody wrote, and its report.
 const INVENTED: (&str, &str) = (
-    "tso program 1\nproc\nst 1 1\nld 1\nend\n",
+    STORE_AND_LOAD,
     "TSO REPORT 1\nprocessors 1 events 2 rounds 0\nVIOLATION\nunwritten 2\n",
 );
 
@@ -142,6 +146,48 @@ fn run_of_invented_answers(rt: HostRuntime) -> Result<(), Fail> {
     let unit = InventingUnit::new(rt.alloc())?;
     let recorded = ran(&rt, rt.alloc(), unit, INVENTED.0)?;
     expect_invented(&rt, rt.alloc(), &recorded);
+    Ok(())
+}
+
+/// The run of `STORE_AND_LOAD` past this gate, beside a drainer of 1,000 turns, on a store-buffer unit whose calls are
+/// counted.
+fn ran_beside_a_drainer<H: Threads + Wait + Sync, G: Gate + Sync>(
+    rt: &H,
+    alloc: Global,
+    gate: &G,
+    counts: &Arc<CallCounts, Global>,
+) -> Result<Recorded, Fail> {
+    let program = read_program(alloc, STORE_AND_LOAD.as_bytes())?;
+    let unit = CountingUnit::new(StoreBufferUnit::new(alloc, 8)?, Arc::try_clone(counts)?);
+    let issuers = Issuers {
+        gate,
+        drain_seed: 1,
+    };
+    let threads = RunThreads {
+        issuers,
+        turns: 1_000,
+    };
+    let mut account = Account::new();
+    Ok(run_with_drainer_over(rt, alloc, &program, unit, threads, &mut account)?)
+}
+
+/// What the processor of `STORE_AND_LOAD` has done and read, and its report: it reads its own store, drained or not.
+const STORED_AND_LOADED: ([&[Outcome]; 1], &[u8]) = (
+    [&[Outcome::St { a: 1, v: 1 }, Outcome::Ld { a: 1, r: 1 }]],
+    b"TSO REPORT 1\nprocessors 1 events 2 rounds 0\nNO VIOLATION FOUND\n",
+);
+
+/// The issuer waits, before its first operation, for the drainer's first call.
+#[test]
+fn run_that_waits_for_its_drainer(rt: HostRuntime) -> Result<(), Fail> {
+    let counts = new_counts(rt.alloc())?;
+    let gate = AfterDrain::new(Arc::try_clone(&counts)?);
+    let recorded = ran_beside_a_drainer(&rt, rt.alloc(), &gate, &counts)?;
+    let (rows, report) = STORED_AND_LOADED;
+    let is_record = is_record(&recorded, true, &rows);
+    expect_equal(&rt, "run", (is_record, gate.has_waited()), (true, true));
+    let ended = judged(&rt, rt.alloc(), &recorded, 1);
+    expect(&rt, "report", &ended, Ok(Verdict::NoViolation), report);
     Ok(())
 }
 
