@@ -5,7 +5,7 @@ use Rattle.std.proofs.lemmas.Option.{slice_get_cases}
 use Rattle.tso_ops.specs.Values.{TraceValue}
 use Rattle.tso_ops.specs.Events.{events_of, event_total, event_at, IsEvent}
 use Rattle.tso_ops.proofs.NumberFacts.{event_at-within, event_above_zero}
-use Rattle.tso_model.specs.Axioms.{occurrences, place, IsBefore, IsMemoryOrder}
+use Rattle.tso_model.specs.Axioms.{occurrences, IsBefore, IsMemoryOrder}
 use Rattle.tso_model.proofs.Places.{place-here, place-later, occurrences-later}
 
 -- each number from 1 to the number of events is one of an event
