@@ -51,8 +51,8 @@ impl Statistics {
         Ok(())
     }
 
-    /// The lines of all pieces, and a last one with their sums and with the loads that no piece has. OutOfMemory where an
-    /// allocation was refused.
+    /// The lines of all pieces, one with their sums and with the loads left out, and, where windows gave no piece, a last one
+    /// with their number. OutOfMemory where an allocation was refused.
     pub(crate) fn lines_on(mut self, log: &KnownLog) -> Result<String, OutOfMemory> {
         write!(
             self.lines,

@@ -1,7 +1,7 @@
 -- What the sentence of each rule says of a memory order, in the words of the axioms. The laws say that it is true of each memory order that meets
--- the rule's one axiom. Such orders there are of traces, too, that no order of the model explains. There is none where an edge by Own or LoadPast leads
--- to `init`, since its load sees a store and yet read the first value. What the sentence of such an edge says is stated apart, at the end, and the laws
--- say that it is true of every memory order in which the path, if there is one, leads forwards.
+-- the rule's one axiom. Such orders there are of traces, too, that no order of the model explains. There is none where an Own edge
+-- leads to `init`, since its load sees a store and yet read the first value; and where a LoadPast edge does, there is none in which the path leads
+-- forwards. What the sentence of such an edge says is stated apart, at the end.
 use Rattle.std.specs.Prelude.{◌≡◌, ◌≢◌, ◌⊎◌, ℕ, suc, List}
 use Rattle.tso_ops.specs.Values.{TraceValue}
 use Rattle.tso_ops.specs.Events.{IsEvent, IsLoad, IsStore, IsSwapLoad, HasFirstValue, SameAddress, SameValue, Earlier, HasFewerBarriersBefore, HasFewerStbarsBefore, HasSource, KeepsStores}
@@ -58,12 +58,13 @@ InferredSays t order SwapAfter l u v x y = (u ≡ suc l) × (x ≡ l) × (y ≡ 
 abbrev pub SeesStoreButReadFirstValue : TraceValue → List ℕ → ℕ → ℕ → Type 0
 SeesStoreButReadFirstValue t order l u = IsVisible t order u l × (SameValue t u l → ⊥) × HasFirstValue t l × (ReadsGreatest t order l → ⊥)
 
--- What the sentence of an Own edge from u to `init` says, for load l: the load sees the store, which is earlier on its own processor, and it read the
--- first value.
+-- What the sentence of an Own edge from u to `init` says, for load l, but for its last words: the load sees the store, which is earlier on its own
+-- processor, and it read the first value. The last words, that what it read comes after the store, are true of no order, since `init` comes before
+-- all; they would follow if an order let the load read the first value, and none does.
 abbrev pub OwnToInitSays : TraceValue → List ℕ → ℕ → ℕ → Type 0
 OwnToInitSays t order l u = Earlier t u l × SeesStoreButReadFirstValue t order l u
 
--- What the sentence of a LoadPast edge from u to `init` says, for load l, where the path's first number x comes before its last one y: the load sees
--- the store, which comes before it by the path, and it read the first value.
+-- What the sentence of a LoadPast edge from u to `init` says, for load l, but for the same last words, where the path's first number x comes before its
+-- last one y: the load sees the store, which comes before it by the path, and it read the first value.
 abbrev pub LoadPastToInitSays : TraceValue → List ℕ → ℕ → ℕ → ℕ → ℕ → Type 0
 LoadPastToInitSays t order l u x y = (x ≡ u) × (y ≡ l) × IsBefore order u l × SeesStoreButReadFirstValue t order l u

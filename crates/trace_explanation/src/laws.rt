@@ -23,30 +23,32 @@ ghost use Rattle.trace_explanation.specs.Steps.{own_load, step_number};
 
 /// What the sentence of a base rule says of an edge that the rule gives is true of every memory order that meets the rule's
 /// axiom, whether it meets the others or not: so it is said of violations, too, which no order explains that meets all. Value
-/// is asked of the edge's load alone. If an Own edge leads to `init`, no order meets that, and what its sentence says is the
-/// law `own_to_init_sentences_are_true`.
+/// is asked of the edge's load alone. If an Own edge leads to `init`, no order meets that, and the law on its sentence is
+/// `own_to_init_sentences_are_true`.
 pub fn base_sentences_are_true()
     ensures { (t : TraceValue) (order : List ℕ) → IsTrace t → IsMemoryOrder t order → (rule : BaseRule) (u v l : ℕ) → BaseAxiom t order rule v l → BasePair t rule u v → (rule ≡ BaseRule.Own → IsOwnBy t l u v) → BaseSays t order rule u v l }
 {}
 
 /// What the sentence of an inferred rule says of an edge that the rule gives is true of every memory order that meets the
 /// rule's axiom and puts the first number of its path before the last one. Value is asked of the edge's load alone. If a
-/// LoadPast edge leads to `init`, no such order meets that, and what its sentence says is the law
+/// LoadPast edge leads to `init`, there is no such order, and the law on its sentence is
 /// `load_past_to_init_sentences_are_true`.
 pub fn inferred_sentences_are_true()
     ensures { (t : TraceValue) (order : List ℕ) → IsTrace t → IsMemoryOrder t order → (rule : InferredRule) (l u v x y : ℕ) → InferredAxiom t order rule l → InferredBy t rule l u v x y → IsBefore order x y → InferredSays t order rule l u v x y }
 {}
 
-/// If an Own edge leads to `init`, what its sentence says is true of every memory order: the load sees the store, which is
-/// earlier on its own processor, yet the load read something else, the first value of its address. So no memory order lets the
-/// load read what it read.
+/// If an Own edge leads to `init`, what its sentence says but for its last words is true of every memory order: the load sees
+/// the store, which is earlier on its own processor, yet the load read something else, the first value of its address. So no
+/// memory order lets the load read what it read. The last words, that what it read comes after the store, are true of no order,
+/// since `init` comes before all.
 pub fn own_to_init_sentences_are_true()
     ensures { (t : TraceValue) (order : List ℕ) → IsTrace t → IsMemoryOrder t order → (l u : ℕ) → IsOwnBy t l u 0 → OwnToInitSays t order l u }
 {}
 
-/// If a LoadPast edge leads to `init`, what its sentence says is true of every memory order that puts the first number of its
-/// path, the store, before the last one, the load: the load sees the store, yet the load read something else, the first value
-/// of its address. So no memory order in which the events of the path stand in order lets the load read what it read.
+/// If a LoadPast edge leads to `init`, what its sentence says but for the same last words is true of every memory order that
+/// puts the first number of its path, the store, before the last one, the load: the load sees the store, yet the load read
+/// something else, the first value of its address. So no memory order in which the events of the path stand in order lets the
+/// load read what it read.
 pub fn load_past_to_init_sentences_are_true()
     ensures { (t : TraceValue) (order : List ℕ) → IsTrace t → IsMemoryOrder t order → (l u x y : ℕ) → InferredBy t InferredRule.LoadPast l u 0 x y → IsBefore order x y → LoadPastToInitSays t order l u x y }
 {}

@@ -81,7 +81,7 @@ pub(crate) fn known_source(chart: Chart<'_>, step: Step) -> Option<usize> {
 }
 
 /// The windows of all groups that have a load of which the source is known, for pieces of at most so many events, the last
-/// window first. Neighbours share about a quarter.
+/// window first. Neighbours share about a quarter, where the later one then has something new.
 pub(crate) fn find_windows(
     alloc: Global,
     chart: Chart<'_>,
@@ -114,7 +114,8 @@ fn push_windows(
     while from < steps.len() {
         let to = window_end(chart, steps, from, events, counted).max(from + 1);
         if to <= last {
-            // Nothing new: loads without a known source take no room.
+            // Nothing new: what the last window ends with, and the stores outside of it that its loads read, are as many
+            // events as fit.
             from = last.max(from + 1);
             continue;
         }

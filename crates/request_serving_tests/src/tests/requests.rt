@@ -4,7 +4,7 @@ ghost use Rattle.command_line.specs.Requests.{HasDrainTurns, HasUnitRanges, HasW
 
 use super::{Ended, FailingReader, FailingWriter, expect};
 use command_line::{
-    JudgeRequest, Presentation, Printing, Request, RunOptions, UnitKind, UnitOptions,
+    CutRequest, JudgeRequest, Presentation, Printing, Request, RunOptions, UnitKind, UnitOptions,
 };
 use request_serving::{NamedFiles, end_by, serve};
 use std::alloc::{AllocError, Global};
@@ -52,11 +52,12 @@ impl NamedFiles for MemoryFiles {
     }
 }
 
-const TEXTS: [(&str, &str); 7] = [
+const TEXTS: [(&str, &str); 8] = [
     ("trace", "tso trace 1\nproc\nld 1 9\nend\n"),
     ("certificate", "unwritten 1\n"),
     ("program", "tso program 1\nproc\nst 1 1\nld 1\nend\n"),
     ("schedule", "tso schedule 1\nend\n"),
+    ("log", "0 st 1 1\n1 ld 1 1\n"),
     (
         "pso_stores",
         "tso program 1\nmodel pso\nproc\nst 1 1\nst 2 2\nproc\nld 2\nld 1\nend\n",
@@ -192,6 +193,20 @@ fn judging(rt: HostRuntime) -> Result<(), Fail> {
         presentation,
     });
     compare(&rt, &input, outcome(&[], 4, "", READ))
+}
+
+/// What is told of a log whose one window of a load gives no piece.
+const WITHOUT_PIECE: &str =
+    "pieces 0 operations 0 loads 0 left out: 0 ambiguous, 0 unwritten\nwindows without a piece 1 loads lost 1\n";
+
+// One event is too few for a load and the store that it read.
+#[test]
+fn cutting_into_pieces_of_one_event(rt: HostRuntime) -> Result<(), Fail> {
+    let cut = Request::Cut(CutRequest {
+        file: Some("log"),
+        events: 1,
+    });
+    compare(&rt, &cut, outcome(&["log"], 0, "", WITHOUT_PIECE))
 }
 
 #[test]
