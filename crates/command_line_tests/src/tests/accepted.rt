@@ -57,7 +57,7 @@ const ACCEPTED: [(&[&str], &str); 28] = [
     (&["batch", "-"], "batch Some(\"-\") with 1 quiet false"),
     (&["cut"], "cut None into 2000"),
     (&["cut", "l"], "cut Some(\"l\") into 2000"),
-    (&["cut", "l", "--events", "1"], "cut Some(\"l\") into 1"),
+    (&["cut", "l", "--events", "3"], "cut Some(\"l\") into 3"),
     (&["cut", "--events=8000", "l"], "cut Some(\"l\") into 8000"),
     (&["cut", "-"], "cut Some(\"-\") into 2000"),
 ];

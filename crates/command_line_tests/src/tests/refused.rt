@@ -24,12 +24,12 @@ const REFUSED: [(&[&str], &str); 11] = [
         "error: unexpected argument '--model' found\n\n  tip: to pass '--model' as a value, use '-- --model'\n\nUsage: tsobench judge [OPTIONS] [FILE]\n\nFor more information, try '--help'.\n",
     ),
     (
-        &["cut", "--events", "0"],
-        "error: invalid value '0' for '--events <N>': 0 is not in 1..=8000\n\nFor more information, try '--help'.\n",
+        &["cut", "--events", "2"],
+        "error: invalid value '2' for '--events <N>': 2 is not in 3..=8000\n\nFor more information, try '--help'.\n",
     ),
     (
         &["cut", "--events=8001", "l"],
-        "error: invalid value '8001' for '--events <N>': 8001 is not in 1..=8000\n\nFor more information, try '--help'.\n",
+        "error: invalid value '8001' for '--events <N>': 8001 is not in 3..=8000\n\nFor more information, try '--help'.\n",
     ),
     (
         &["cut", "a", "b"],
