@@ -1,12 +1,12 @@
 -- What the values found for an argument stand for.
-use Rattle.std.proofs.Common.{◌≡◌, ◌∙◌, ◌≤◌, ◌^◌, ◌-◌, ap, refl, arith, ℕ, Bool, true, false, [], Option, Some, None, Result, Ok, Err, unwrap_or, option_map, codes}
+use Rattle.std.proofs.Common.{◌≡◌, ◌∙◌, ◌≤◌, ◌^◌, ◌-◌, ap, refl, sym, arith, ℕ, Bool, true, false, Option, Some, None, Result, Ok, Err, unwrap_or, option_map, codes, if◌then◌else◌, List, IfOk, subst}
 use Rattle.std.specs.Borrow.{Bor}
 use Rattle.std.specs.Option.{option_map_or}
 use Rattle.std.specs.Str.{bytes_eq}
 use Rattle.std.proofs.lemmas.Slice.Eq.{bytes_eq-Decides}
 use Rattle.std.specs.Str.Parse.{ParsesBool, ParsesUnsigned, digits_value, without_leading_plus}
 use Rattle.clap.specs.ValueTests.{is_unsigned_in}
-use Rattle.clap.specs.Words.{ReadsOne, first_of, first_value, one_of, one_text, rows_of}
+use Rattle.clap.specs.Words.{ReadsOne, Row, first_of, first_value, one_of, one_text, rows_of}
 use Rattle.clap.specs.declared.parser.matches.Found.{Found}
 use Rattle.clap.specs.declared.builder.value_parser.ValueParser.TheVariants as parser
 use Rattle.clap.proofs.ValueTestLemmas.{accepts-Accepts, Accepts-accepts}
@@ -15,18 +15,25 @@ use Rattle.command_line.specs.declared.options.CampaignOptions.{CampaignOptions}
 use Rattle.command_line.specs.declared.options.RunOptions.{RunOptions}
 use Rattle.command_line.specs.declared.options.ShapeNumbers.{ShapeNumbers}
 use Rattle.command_line.specs.declared.options.UnitOptions.{UnitOptions}
-use Rattle.command_line.specs.Requests.{Text, AskedRun, replaying, running}
-use Rattle.command_line.specs.Subcommands.{is_true, number_in, number_or}
+use Rattle.command_line.specs.Requests.{Text, Asked, AskedRun, asked_of, capacity_limit, refusing, replaying, running}
+use Rattle.command_line.specs.declared.options.Printing.{Printing}
+use Rattle.command_line.specs.declared.parameters.NameList.{NameList}
+use Rattle.command_line.specs.declared.requests.Request.{Request}
+use Rattle.command_line.specs.Workers.{worker_limit}
+use Rattle.command_line.specs.Subcommands.{capacity, file, file_of, is_true, number_in, number_or, of_pair, pair_of, printed, printing_of, replay, run_of, trigger, unit, unit_of, workers}
+use Rattle.clap_arguments.specs.Offered.{text_in}
+use Rattle.clap_arguments.specs.Parameters.{flag}
+use Rattle.command_line.specs.Commands.{asked_in}
 
-unwrap_or-text : (got : Option (Bor Text)) (empty : Bor Text) → empty.now ≡ [] → (unwrap_or got empty).now ≡ unwrap_or (option_map (λ s. s.now) got) []
-unwrap_or-text None empty is = is
-unwrap_or-text (Some text) empty is = refl
+-- the file that a value names which was asked for by its id, by whether it is a hyphen
+module _ (f : Found) (id : Text) (got : Option (Bor Text)) (found : option_map (λ s. s.now) got ≡ first_value f id) where
+  pub file_found : (text : Bor Text) → got ≡ Some text → (is_hyphen : Bool) → is_hyphen ≡ bytes_eq text.now (codes "-")
+      → (if is_hyphen then None else Some text.now) ≡ file_of (first_of id (rows_of f))
+  file_found text is is_hyphen tells =
+      ap (λ b. if b then None else Some text.now) tells ∙ ap file_of (sym (ap (option_map (λ s. s.now)) is) ∙ found ∙ first_value-rows f id)
 
--- a value that was asked for by its id, or the empty text
-pub value_or_empty : (f : Found) (id : Text) (got : Option (Bor Text)) (text empty : Bor Text) → text ≡ unwrap_or got empty → empty.now ≡ []
-    → option_map (λ s. s.now) got ≡ first_value f id → text.now ≡ unwrap_or (first_of id (rows_of f)) []
-value_or_empty f id got text empty is none found =
-    ap (λ (s : Bor Text). s.now) is ∙ unwrap_or-text got empty none ∙ ap (λ o. unwrap_or o []) (found ∙ first_value-rows f id)
+  pub no_file_found : got ≡ None → None ≡ file_of (first_of id (rows_of f))
+  no_file_found is = ap file_of (sym (ap (option_map (λ s. s.now)) is) ∙ found ∙ first_value-rows f id)
 
 module _ (other : ℕ) where
   unwrap_or-number : {E : Type 0} (gives : Text → Result ℕ E → Type 0) (t : Text) (r : Option ℕ)
@@ -95,10 +102,31 @@ module _ (options wanted : CampaignOptions) (unit : options.unit ≡ wanted.unit
   pub campaign_options_are : options ≡ wanted
   campaign_options_are = rw (unit, workers, order, first, count, shape) refl
 
-module _ (options wanted : RunOptions) (program wanted_program schedule wanted_schedule : Text) where
-  pub replaying_are : options ≡ wanted → program ≡ wanted_program → schedule ≡ wanted_schedule → replaying options program schedule ≡ replaying wanted wanted_program wanted_schedule
-  replaying_are is program_is schedule_is = rw (is, program_is, schedule_is) refl
-
 module _ (run wanted : AskedRun) where
   pub running_are : run.options ≡ wanted.options → run.drain_seed ≡ wanted.drain_seed → run.drain_turns ≡ wanted.drain_turns → run.program ≡ wanted.program → running run ≡ running wanted
   running_are options_are seed_is turns_are program_is = rw (options_are, seed_is, turns_are, program_is) refl
+
+-- what holds of a refusal, and of a replay of any files, holds of what is asked for of two of them
+of_any_pair : (P : Asked → Type 0) (ask : Option Text → Option Text → Asked) → P refusing → ((first second : Option Text) → P (ask first second))
+    → (pair : Option (Option Text × Option Text)) → P (of_pair ask pair)
+of_any_pair P ask refused asked None = refused
+of_any_pair P ask refused asked (Some pair) = asked pair.0 pair.1
+
+of_any_printing : (P : Asked → Type 0) (ask : Printing → Asked) → P refusing → ((printing : Printing) → P (ask printing)) → (printing : Option Printing) → P (printed ask printing)
+of_any_printing P ask refused asked None = refused
+of_any_printing P ask refused asked (Some printing) = asked printing
+
+-- what holds of a refusal, and of each replay whose options are in their ranges, holds of what `replay` asks for
+pub of_replay : (P : Asked → Type 0) → P refusing
+    → ((options : RunOptions) (first second : Option Text) → 1 ≤ options.workers → options.workers ≤ worker_limit → 1 ≤ options.unit.capacity → options.unit.capacity ≤ capacity_limit → 1 ≤ options.unit.trigger → P (replaying options first second))
+    → (rows : List Row) → P (asked_in replay rows)
+of_replay P refused asked rows =
+    let options : Printing → RunOptions = λ printing. run_of (unit_of (text_in rows unit) (text_in rows capacity) (text_in rows trigger)) (text_in rows workers) printing in
+    let pair = pair_of (file_of (text_in rows (file (codes "program")))) (file_of (text_in rows (file (codes "schedule")))) in
+    of_any_printing P (λ printing. of_pair (replaying (options printing)) pair) refused
+    (λ printing. of_any_pair P (replaying (options printing)) refused (λ first second. asked (options printing) first second (omega arith) (omega arith) (omega arith) (omega arith) (omega arith)) pair)
+    (printing_of (text_in {N = NameList} rows (flag (codes "trace"))) (text_in {N = NameList} rows (flag (codes "explain"))))
+
+pub of_request : {E : Type 0} (P : Asked → Type 0) (asked : Asked) → P asked → (result : Result Request E) → IfOk result (λ request. asked_of request ≡ asked) → IfOk result (λ request. P (asked_of request))
+of_request P asked has (Ok request) is = subst P (sym is) has
+of_request P asked has (Err error) is = tt

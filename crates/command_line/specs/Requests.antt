@@ -1,9 +1,11 @@
 -- What the arguments of a command line may ask for.
-use Rattle.std.specs.Prelude.{◌≤◌, ◌^◌, ◌-◌, ℕ, Bool, true, false, not, List, [], ◌∷◌, map, Option, Some, None, IfSome, is_some, option_map, option_to_list, String, string_bytes}
+use Rattle.std.specs.Prelude.{◌≤◌, ◌^◌, ◌-◌, ◌&&◌, ℕ, Bool, true, false, not, List, [], ◌++◌, map, Option, Some, None, IfSome, is_some, option_map, option_to_list, String, string_bytes}
 use Rattle.tso_ops.specs.declared.settings.Order.{Order}
 use Rattle.command_line.specs.Workers.{worker_limit}
 use Rattle.command_line.specs.declared.requests.Request.{Request}
 use Rattle.command_line.specs.declared.requests.RunRequest.{RunRequest}
+use Rattle.command_line.specs.declared.requests.TextPair.{TextPair}
+use Rattle.command_line.specs.declared.requests.TextPair.TheVariants.{Files, InputAndFile, FileAndInput}
 use Rattle.command_line.specs.declared.options.CampaignOptions.{CampaignOptions}
 use Rattle.command_line.specs.declared.options.Presentation.{Presentation}
 use Rattle.command_line.specs.declared.options.Printing.{Printing}
@@ -28,27 +30,27 @@ prints_trace Report = false
 prints_trace Trace = true
 prints_trace Explanation = false
 
--- a run of the program in a file with a thread per processor, with these options and this seed of the drains, beside a
--- drainer that takes so many turns
+-- a run of the program in a file, or on standard input where none is named, with a thread per processor, with these
+-- options and this seed of the drains, beside a drainer that takes so many turns
 pub record AskedRun : Type 0 where
   pub options : RunOptions
   pub drain_seed : ℕ
   pub drain_turns : ℕ
-  pub program : Text
+  pub program : Option Text
 
--- what is asked for
+-- what is asked for; a text for which no file is named is on standard input
 pub data Asked : Type 0 where
-  -- to judge the trace in a file, or on standard input where none is named, with so many workers, and to present the verdict in this form
+  -- to judge a trace with so many workers, and to present the verdict in this form
   judging : Presentation → Option Text → ℕ → Asked
-  -- to judge the traces that stand one after the other in a file, or on standard input where none is named, with so many
-  -- workers, and whether the lines of those without a violation are left out
+  -- to judge traces that stand one after the other with so many workers, and whether the lines of those without a
+  -- violation are left out
   batching : Option Text → ℕ → Bool → Asked
-  -- to cut the log in a file, or on standard input where none is named, into traces of at most so many events
+  -- to cut a log into traces of at most so many events
   cutting : Option Text → ℕ → Asked
-  -- to check against the trace in the first file the certificate in the second
-  checking : Text → Text → Asked
-  -- to replay the program in the first file by the schedule in the second, with these options
-  replaying : RunOptions → Text → Text → Asked
+  -- to check against a trace, the first text, a certificate, the second
+  checking : Option Text → Option Text → Asked
+  -- to replay a program, the first text, by a schedule, the second, with these options
+  replaying : RunOptions → Option Text → Option Text → Asked
   -- to run a program with a thread per processor
   running : AskedRun → Asked
   -- to print the program of this memory model made from this seed in this shape
@@ -62,15 +64,21 @@ pub data Asked : Type 0 where
 
 -- the run that a request asks for
 abbrev pub asked_run : RunRequest → AskedRun
-asked_run run = record { options = run.options; drain_seed = run.drain_seed; drain_turns = run.drain_turns; program = run.program.now }
+asked_run run = record { options = run.options; drain_seed = run.drain_seed; drain_turns = run.drain_turns; program = option_map (λ f. f.now) run.program }
+
+-- the files of two texts, none for one on standard input
+abbrev pub files_of : TextPair → Option Text × Option Text
+files_of (Files first second) = (Some first.now, Some second.now)
+files_of (InputAndFile second) = (None, Some second.now)
+files_of (FileAndInput first) = (Some first.now, None)
 
 -- what a request asks for
 abbrev pub asked_of : Request → Asked
 asked_of (Judge judge) = judging judge.presentation (option_map (λ f. f.now) judge.file) judge.workers
 asked_of (Batch batch) = batching (option_map (λ f. f.now) batch.file) batch.workers batch.quiet
 asked_of (Cut cut) = cutting (option_map (λ f. f.now) cut.file) cut.events
-asked_of (Check trace certificate) = checking trace.now certificate.now
-asked_of (Replay options program schedule) = replaying options program.now schedule.now
+asked_of (Check texts) = checking (files_of texts).0 (files_of texts).1
+asked_of (Replay options texts) = replaying options (files_of texts).0 (files_of texts).1
 asked_of (Run run) = running (asked_run run)
 asked_of (Make order seed shape) = making order seed shape
 asked_of (Campaign options) = campaigning options
@@ -112,8 +120,8 @@ pub record Needs : Type 0 where
   pub turns : Option ℕ
   -- how many events a piece of a log may have
   pub events : Option ℕ
-  -- the file with the one program that is run
-  pub program : Option Text
+  -- where the one program that is run comes from: a file, or standard input where none is named
+  pub program : Option (Option Text)
 
 abbrev pub nothing_needed : Needs
 nothing_needed = record { files = []; input = false; workers = None; unit = None; turns = None; events = None; program = None }
@@ -122,15 +130,20 @@ abbrev pub needs : Asked → Needs
 needs (judging presentation file workers) = record nothing_needed { files = option_to_list file; input = not (is_some file); workers = Some workers }
 needs (batching file workers quiet) = record nothing_needed { files = option_to_list file; input = not (is_some file); workers = Some workers }
 needs (cutting file events) = record nothing_needed { files = option_to_list file; input = not (is_some file); events = Some events }
-needs (checking trace certificate) = record nothing_needed { files = trace ∷ certificate ∷ [] }
+needs (checking trace certificate) = record nothing_needed {
+  files = option_to_list trace ++ option_to_list certificate;
+  input = not (is_some trace && is_some certificate);
+}
 needs (replaying options program schedule) = record nothing_needed {
-  files = program ∷ schedule ∷ [];
+  files = option_to_list program ++ option_to_list schedule;
+  input = not (is_some program && is_some schedule);
   workers = Some options.workers;
   unit = Some options.unit;
   program = Some program;
 }
 needs (running run) = record nothing_needed {
-  files = run.program ∷ [];
+  files = option_to_list run.program;
+  input = not (is_some run.program);
   workers = Some run.options.workers;
   unit = Some run.options.unit;
   turns = Some run.drain_turns;

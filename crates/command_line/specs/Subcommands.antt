@@ -134,14 +134,25 @@ turns_of text = within 0 drain_turns_limit (number_or 0 text)
 abbrev pub events_of : Option Text → ℕ
 events_of text = within least_piece_limit piece_event_limit (number_or 2000 text)
 
-abbrev pub file_of : Option Text → Text
-file_of text = unwrap_or text []
+-- the file that a text names; none where there is no text, or it is `-`: then standard input is meant
+abbrev pub file_of : Option Text → Option Text
+file_of text = option_and_then (λ t. if bytes_eq t (codes "-") then None else Some t) text
+
+-- two texts, each in a file or on standard input; none where both would be there, which can be read once
+abbrev pub pair_of : Option Text → Option Text → Option (Option Text × Option Text)
+pair_of None None = None
+pair_of None (Some second) = Some (None, Some second)
+pair_of (Some first) second = Some (Some first, second)
+
+-- what is asked for of two texts: nothing, where they can't be had
+abbrev pub of_pair : (Option Text → Option Text → Asked) → Option (Option Text × Option Text) → Asked
+of_pair ask pair = option_map_or (λ p. ask p.0 p.1) pair refusing
 
 -- ---- the subcommands: each with its own number of parameters, so that other lists of texts don't come
 
 -- `NAME [--workers N] [FILE]`: judges a file, or standard input, and presents the verdict in this form
 abbrev pub ask_judge : Presentation → List (Option Text) → Asked
-ask_judge presentation (number_text ∷ file_text ∷ []) = judging presentation file_text (workers_of number_text)
+ask_judge presentation (number_text ∷ file_text ∷ []) = judging presentation (file_of file_text) (workers_of number_text)
 ask_judge presentation texts = refusing
 
 abbrev pub judge_parameters : List (Parameter NameList)
@@ -161,7 +172,7 @@ draw = judge_as (codes "draw") form.Picture
 
 -- `batch [--workers N] [--quiet] [FILE]`: judges the traces that stand one after the other in a file, or on standard input
 abbrev pub ask_batch : List (Option Text) → Asked
-ask_batch (number_text ∷ quiet_text ∷ file_text ∷ []) = batching file_text (workers_of number_text) (is_true quiet_text)
+ask_batch (number_text ∷ quiet_text ∷ file_text ∷ []) = batching (file_of file_text) (workers_of number_text) (is_true quiet_text)
 ask_batch texts = refusing
 
 abbrev pub batch : Subcommand
@@ -173,7 +184,7 @@ events = option (codes "events") (range least_piece_limit piece_event_limit) (So
 
 -- `cut [--events N] [FILE]`: cuts the log in a file, or on standard input, into traces
 abbrev pub ask_cut : List (Option Text) → Asked
-ask_cut (events_text ∷ file_text ∷ []) = cutting file_text (events_of events_text)
+ask_cut (events_text ∷ file_text ∷ []) = cutting (file_of file_text) (events_of events_text)
 ask_cut texts = refusing
 
 abbrev pub cut : Subcommand
@@ -181,7 +192,7 @@ cut = record { name = codes "cut"; parameters = events ∷ other (codes "file") 
 
 -- `check TRACE CERT`: checks a certificate against its trace
 abbrev pub ask_check : List (Option Text) → Asked
-ask_check (trace_text ∷ cert_text ∷ []) = checking (file_of trace_text) (file_of cert_text)
+ask_check (trace_text ∷ cert_text ∷ []) = of_pair checking (pair_of (file_of trace_text) (file_of cert_text))
 ask_check texts = refusing
 
 abbrev pub check : Subcommand
@@ -190,7 +201,7 @@ check = record { name = codes "check"; parameters = file (codes "trace") ∷ fil
 -- `replay --unit UNIT [--capacity C] [--trigger T] [--workers N] [--trace|--explain] PROGRAM SCHEDULE`: replays a program by a schedule
 abbrev pub ask_replay : List (Option Text) → Asked
 ask_replay (unit_text ∷ capacity_text ∷ trigger_text ∷ workers_text ∷ trace_text ∷ explain_text ∷ program_text ∷ schedule_text ∷ []) =
-    printed (λ printing. replaying (run_of (unit_of unit_text capacity_text trigger_text) workers_text printing) (file_of program_text) (file_of schedule_text))
+    printed (λ printing. of_pair (replaying (run_of (unit_of unit_text capacity_text trigger_text) workers_text printing)) (pair_of (file_of program_text) (file_of schedule_text)))
     (printing_of trace_text explain_text)
 ask_replay texts = refusing
 

@@ -1,8 +1,8 @@
-//! What the matches of a subcommand say of the options that several have.
-ghost use Rattle.std.specs.Prelude.{◌≡◌, ◌≤◌, codes};
+//! What the matches of a subcommand say of the files and options that several have.
+ghost use Rattle.std.specs.Prelude.{◌≡◌, ◌≤◌, codes, option_map};
 ghost use Rattle.clap.specs.Words.{first_of, found_of, one_of, rows_of};
-ghost use Rattle.command_line.specs.Subcommands.{events_of, number_or, order_of, printing_of, is_true, run_of, shape_of, turns_of, unit_of, workers_of, within};
-ghost use Rattle.command_line.specs.Requests.{capacity_limit, least_piece_limit, piece_event_limit};
+ghost use Rattle.command_line.specs.Subcommands.{events_of, file_of, number_or, order_of, pair_of, printing_of, is_true, run_of, shape_of, turns_of, unit_of, workers_of, within};
+ghost use Rattle.command_line.specs.Requests.{capacity_limit, files_of, least_piece_limit, piece_event_limit};
 ghost use Rattle.command_line.specs.Units.{default_capacity, default_trigger, trigger_limit};
 ghost use Rattle.command_line.specs.Workers.{worker_limit};
 
@@ -10,8 +10,39 @@ use crate::options::{
     MAX_CAPACITY, MAX_DRAIN_TURNS, MAX_PIECE_EVENTS, MAX_WORKERS, MIN_PIECE_EVENTS, Printing,
     RunOptions, ShapeNumbers, UnitKind, UnitOptions, kind_named, order_named,
 };
+use crate::requests::TextPair;
 use clap::ArgMatches;
 use tso_ops::Order;
+
+/// What stands for standard input in place of the name of a file.
+const STANDARD_INPUT: &str = "-";
+
+/// The file that an argument names; none where it is left out or a hyphen, which stand for standard input.
+pub(crate) fn file<'a>(matches: &ArgMatches<'a>, name: &str) -> Option<&'a str>
+    ensures { option_map (λ file. file.now) result ≡ file_of (first_of name.now (rows_of (found_of matches.now))) }
+{
+    let named = matches.get_str(name)?;
+    if named == STANDARD_INPUT {
+        return None;
+    }
+    Some(named)
+}
+
+/// The two texts that arguments name; none where standard input would be both.
+pub(crate) fn text_pair<'a>(
+    matches: &ArgMatches<'a>,
+    first: &str,
+    second: &str,
+) -> Option<TextPair<'a>>
+    ensures { let rows = rows_of (found_of matches.now) in option_map files_of result ≡ pair_of (file_of (first_of first.now rows)) (file_of (first_of second.now rows)) }
+{
+    match (file(matches, first), file(matches, second)) {
+        (Some(first), Some(second)) => Some(TextPair::Files(first, second)),
+        (None, Some(second)) => Some(TextPair::InputAndFile(second)),
+        (Some(first), None) => Some(TextPair::FileAndInput(first)),
+        (None, None) => None,
+    }
+}
 
 /// The memory model: TSO where none is named.
 pub(crate) fn order(matches: &ArgMatches<'_>) -> Order

@@ -8,7 +8,8 @@ pub(crate) const ABOUT: &str =
 
 /// Of the program.
 pub(crate) const PROGRAM: &str = "\
-Without arguments it judges the trace on standard input, with one worker.
+Without arguments it judges the trace on standard input, with one worker. In
+place of a file - stands for standard input; a file of that name is ./-.
 
 A trace says what each processor loaded, stored and swapped, and the values
 that it read:
@@ -76,6 +77,13 @@ pub(crate) const TRACE: &str = "Prints the recorded trace alone";
 
 /// Of `--explain`.
 pub(crate) const EXPLAIN: &str = "Prints the explanation of the verdict alone";
+
+/// The refusal of two texts on standard input.
+pub(crate) const TWO_INPUTS: &str = "\
+error: one of the two files may be '-', and not both: standard input is read once
+
+For more information, try '--help'.
+";
 
 /// The refusal of both.
 pub(crate) const BOTH: &str = "\

@@ -14,4 +14,6 @@ pub use options::{
     CampaignOptions, MAX_CAPACITY, MAX_DRAIN_TURNS, MAX_PIECE_EVENTS, MAX_WORKERS,
     MIN_PIECE_EVENTS, Presentation, Printing, RunOptions, ShapeNumbers, UnitKind, UnitOptions,
 };
-pub use requests::{BatchRequest, CutRequest, JudgeRequest, Request, RunRequest, read_arguments};
+pub use requests::{
+    BatchRequest, CutRequest, JudgeRequest, Request, RunRequest, TextPair, read_arguments,
+};

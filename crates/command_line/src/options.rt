@@ -19,7 +19,7 @@ pub const MAX_DRAIN_TURNS: u64 = 1_000_000;
 /// The greatest number of events of a trace that is cut out of a log.
 pub const MAX_PIECE_EVENTS: usize = 8_000;
 
-/// The least number that these may be limited to: the events of a swap and of the store that it read.
+/// The least limit of the events of a trace that is cut out of a log: those of a swap and of the store that it read.
 pub const MIN_PIECE_EVENTS: usize = 3;
 
 /// A kind of memory unit.

@@ -26,14 +26,25 @@ pub struct RunRequest<'a> {
     pub drain_seed: u64,
     /// How many turns a drainer takes beside the processors, 0, where there is none, to 1,000,000.
     pub drain_turns: u64,
-    /// The file of the program.
-    pub program: &'a str,
+    /// The file of the program; standard input where none is named.
+    pub program: Option<&'a str>,
+}
+
+/// Where two texts are read from. Standard input can be read once, so it has at most one of them.
+#[derive(Clone, Copy, Debug)]
+pub enum TextPair<'a> {
+    /// Each is in the file of its name.
+    Files(&'a str, &'a str),
+    /// The first is on standard input, the second in this file.
+    InputAndFile(&'a str),
+    /// The first is in this file, the second on standard input.
+    FileAndInput(&'a str),
 }
 
 /// Which trace is judged, and how the verdict is presented.
 #[derive(Clone, Copy, Debug)]
 pub struct JudgeRequest<'a> {
-    /// The file with the trace; standard input where none is named. A file `-` is a file of that name.
+    /// The file with the trace; standard input where none is named.
     pub file: Option<&'a str>,
     /// The number of workers, 1 to 64.
     pub workers: usize,
@@ -70,16 +81,12 @@ pub enum Request<'a> {
     Batch(BatchRequest<'a>),
     /// To cut a log into traces.
     Cut(CutRequest<'a>),
-    /// To check the certificate in one file against the trace in another.
-    Check {
-        trace: &'a str,
-        certificate: &'a str,
-    },
-    /// To replay the program in one file, by the schedule in another.
+    /// To check against a trace, the first text, a certificate, the second.
+    Check(TextPair<'a>),
+    /// To replay a program, the first text, by a schedule, the second.
     Replay {
         options: RunOptions,
-        program: &'a str,
-        schedule: &'a str,
+        texts: TextPair<'a>,
     },
     /// To run a program with a thread per processor.
     Run(RunRequest<'a>),

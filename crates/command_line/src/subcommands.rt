@@ -27,7 +27,7 @@ mod run;
 mod shared;
 
 /// The version of the program.
-const VERSION: &str = "0.1.0";
+const VERSION: &str = "0.9.0";
 
 /// A subcommand.
 #[derive(Clone, Copy)]
@@ -117,7 +117,7 @@ impl Subcommand {
             Subcommand::Draw => Ok(shared::judge_request(matches, Presentation::Picture)),
             Subcommand::Batch => Ok(batch::request(matches)),
             Subcommand::Cut => Ok(cut::request(matches)),
-            Subcommand::Check => Ok(check::request(matches)),
+            Subcommand::Check => check::request(alloc, matches),
             Subcommand::Replay => replay::request(alloc, matches),
             Subcommand::Run => run::request(alloc, matches),
             Subcommand::Make => Ok(make::request(matches)),

@@ -1,6 +1,8 @@
 //! What arguments ask for, and the texts of help and of refusals.
 
-use command_line::{CampaignOptions, Request, RunOptions, ShapeNumbers, read_arguments};
+use command_line::{
+    CampaignOptions, Request, RunOptions, ShapeNumbers, TextPair, read_arguments,
+};
 use std::alloc::{AllocError, Global};
 use std::process::Abort;
 use std::test::Fail;
@@ -37,6 +39,15 @@ fn described_campaign(alloc: Global, options: &CampaignOptions) -> Result<String
     )
 }
 
+/// Where two texts are, with a word between them.
+fn described_texts(alloc: Global, texts: TextPair<'_>, word: &str) -> Result<String, AllocError> {
+    match texts {
+        TextPair::Files(first, second) => format!(in alloc; "{first:?} {word} {second:?}"),
+        TextPair::InputAndFile(second) => format!(in alloc; "standard input {word} {second:?}"),
+        TextPair::FileAndInput(first) => format!(in alloc; "{first:?} {word} standard input"),
+    }
+}
+
 /// What a request is, as one line of text with the texts that it shows.
 fn described(alloc: Global, request: &Request<'_>) -> Result<String, AllocError> {
     match request {
@@ -49,21 +60,20 @@ fn described(alloc: Global, request: &Request<'_>) -> Result<String, AllocError>
             batch.file, batch.workers, batch.quiet
         ),
         Request::Cut(cut) => format!(in alloc; "cut {:?} into {}", cut.file, cut.events),
-        Request::Check { trace, certificate } => {
-            format!(in alloc; "check {trace:?} against {certificate:?}")
+        Request::Check(texts) => {
+            let texts = described_texts(alloc, *texts, "against")?;
+            format!(in alloc; "check {texts}")
         }
-        Request::Replay {
-            options,
-            program,
-            schedule,
-        } => {
+        Request::Replay { options, texts } => {
+            let texts = described_texts(alloc, *texts, "by")?;
             let options = described_options(alloc, options)?;
-            format!(in alloc; "replay {program:?} by {schedule:?} {options}")
+            format!(in alloc; "replay {texts} {options}")
         }
         Request::Run(run) => {
             let options = described_options(alloc, &run.options)?;
             let seeded = format!(in alloc; "{} and {} turns", run.drain_seed, run.drain_turns)?;
-            format!(in alloc; "run {:?} seeded {seeded} {options}", run.program)
+            let program = run.program.unwrap_or("standard input");
+            format!(in alloc; "run {program:?} seeded {seeded} {options}")
         }
         Request::Make { order, seed, shape } => {
             let shape = described_shape(alloc, shape)?;

@@ -21,6 +21,11 @@ use Rattle.request_serving.specs.OpenedFiles.{HasKnown, OpensFirst, OpensNext}
 
 -- ---- reports of files of which less may be known
 
+-- a reader's bytes are known of itself
+pub knows_itself : (remaining : Option (List ℕ)) → HasKnown remaining remaining
+knows_itself None = tt
+knows_itself (Some all) = refl
+
 known_bytes : (known remaining : Option (List ℕ)) → HasKnown known remaining → (known ≡ None) ⊎ (known ≡ remaining)
 known_bytes None remaining has = inl refl
 known_bytes (Some all) remaining has = inr (sym has)
@@ -51,7 +56,7 @@ pub writes_as : (A B : List ℕ → Verdict → Type 0) → ((text : List ℕ) (
 writes_as A B implied old new (Ok verdict) writes = (writes.0, implied writes.0 verdict writes.1, writes.2)
 writes_as A B implied old new (Err fault) writes = tt
 
-leaves_as : (A B : List ℕ → Verdict → Type 0) → ((text : List ℕ) (verdict : Verdict) → A text verdict → B text verdict) → (old new : Option (List ℕ)) (fault : Fault) →
+pub leaves_as : (A B : List ℕ → Verdict → Type 0) → ((text : List ℕ) (verdict : Verdict) → A text verdict → B text verdict) → (old new : Option (List ℕ)) (fault : Fault) →
     LeavesAtFault A old new fault → LeavesAtFault B old new fault
 leaves_as A B implied old new OutOfMemory leaves = leaves
 leaves_as A B implied old new Read leaves = leaves

@@ -24,6 +24,7 @@ use Rattle.unit_core.specs.Records.{RecordedValue, is_within}
 use Rattle.request_serving.specs.BenchUnits.{is_lawful_kind, is_lawful_under_all, order_of_kind}
 use Rattle.request_serving.specs.Endings.{EndsAsAsked, EndsByText, EndsReplayed, EndsRun, Outputs}
 use Rattle.request_serving.specs.LawfulRequests.{RunsLawfully, SpellsForLawfulUnit, runs_on_lawful_unit}
+use Rattle.request_serving.specs.OpenedFiles.{text_bytes}
 use Rattle.request_serving.specs.Printing.{PrintsRecord, ReadsAs, unit_of}
 use Rattle.request_serving.specs.Replaying.{IsReplayText, IsScheduledText}
 use Rattle.request_serving.specs.Running.{IsRunText}
@@ -44,8 +45,8 @@ for_all : (options : UnitOptions) (programs : Option (List ℕ)) → is_lawful_u
 for_all options programs lawful = λ program spelled. kind_lawful options.kind program.setting.order lawful
 
 -- the bytes spell one program
-for_file : (options : UnitOptions) (programs : Option (List ℕ)) → SpellsForLawfulUnit options programs → IsLawfulForEach options programs
-for_file options programs is = λ program reads.
+for_text : (options : UnitOptions) (programs : Option (List ℕ)) → SpellsForLawfulUnit options programs → IsLawfulForEach options programs
+for_text options programs is = λ program reads.
     let spelled : SpellsProgram is.bytes program = subst (λ known. IfSome known (λ bytes. SpellsProgram bytes program)) is.has reads.of_all in
     let same : program.setting ≡ is.program.setting = spelled.0 ∙ sym is.spelled.0 in
     ap (λ (setting : SettingValue). is_lawful_under setting.order (unit_of options)) same ∙ is.lawful
@@ -95,7 +96,7 @@ text_status : (is_text : List ℕ → ℕ → Type 0) (o : Outputs) (status : �
 text_status is_text o status each (inl written) = each written.0.0 written.0.1
 text_status is_text o status each (inr fault) = λ three. omega (arith, fault.2.1, three)
 
--- a replay or a run on a unit that is lawful for each program that the file may have
+-- a replay or a run on a unit that is lawful for each program that the text may be
 replayed_status : (options : RunOptions) (programs schedules : Option (List ℕ)) (o : Outputs) (status : ℕ) → IsLawfulForEach options.unit programs → EndsReplayed options programs schedules o status →
     status ≢ 3
 replayed_status options programs schedules o status lawful ends = text_status _ o status (λ text. replay_status options programs schedules text status lawful) ends
@@ -107,13 +108,19 @@ ran_status options programs o status lawful (inr ends) = λ three. omega (arith,
 pub lawful_status : (asked : Asked) (input : Option (List ℕ)) (files : List ℕ → Option (List ℕ)) (o : Outputs) (status : ℕ) →
     EndsAsAsked asked input files o status → runs_on_lawful_unit asked ≡ true → status ≢ 3
 lawful_status (replaying options program schedule) input files o status ends lawful =
-    replayed_status options (files program) (files schedule) o status (for_all options.unit (files program) lawful) ends
-lawful_status (running run) input files o status ends lawful = ran_status run.options (files run.program) o status (for_all run.options.unit (files run.program) lawful) ends
+    let programs = text_bytes program input files in
+    replayed_status options programs (text_bytes schedule input files) o status (for_all options.unit programs lawful) ends
+lawful_status (running run) input files o status ends lawful =
+    let programs = text_bytes run.program input files in
+    ran_status run.options programs o status (for_all run.options.unit programs lawful) ends
 lawful_status asked input files o status ends lawful = absurd (false≢true lawful)
 
-pub file_status : (asked : Asked) (input : Option (List ℕ)) (files : List ℕ → Option (List ℕ)) (o : Outputs) (status : ℕ) →
-    EndsAsAsked asked input files o status → RunsLawfully asked files → status ≢ 3
-file_status (replaying options program schedule) input files o status ends lawful =
-    replayed_status options (files program) (files schedule) o status (for_file options.unit (files program) lawful) ends
-file_status (running run) input files o status ends lawful = ran_status run.options (files run.program) o status (for_file run.options.unit (files run.program) lawful) ends
-file_status asked input files o status ends lawful = absurd lawful
+pub known_status : (asked : Asked) (input : Option (List ℕ)) (files : List ℕ → Option (List ℕ)) (o : Outputs) (status : ℕ) →
+    EndsAsAsked asked input files o status → RunsLawfully asked input files → status ≢ 3
+known_status (replaying options program schedule) input files o status ends lawful =
+    let programs = text_bytes program input files in
+    replayed_status options programs (text_bytes schedule input files) o status (for_text options.unit programs lawful) ends
+known_status (running run) input files o status ends lawful =
+    let programs = text_bytes run.program input files in
+    ran_status run.options programs o status (for_text run.options.unit programs lawful) ends
+known_status asked input files o status ends lawful = absurd lawful

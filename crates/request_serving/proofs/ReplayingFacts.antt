@@ -17,6 +17,7 @@ use Rattle.tso_report.specs.WrittenReports.{LeavesAtFault}
 use Rattle.tso_report.proofs.InputFacts.{holds_of_prefix, lists_past, lists_of_prefix, text_refusal_of_prefix}
 use Rattle.request_serving.specs.Endings.{EndsByText, IsPrintable, Outputs, WritesFaultLine, WritesText}
 use Rattle.request_serving.specs.OpenedFiles.{HasKnown}
+use Rattle.request_serving.proofs.EndFacts.{leaves_as}
 use Rattle.request_serving.specs.Printing.{IsRefusalOf, ReadsAs}
 use Rattle.request_serving.specs.Replaying.{IsReplayText, IsScheduledText}
 use Rattle.request_serving.specs.Running.{IsRunText}
@@ -89,6 +90,25 @@ pub known_run : (options : RunOptions) (program programs : Option (List ℕ)) �
 known_run options program programs has text status (inl refusal) = inl (known_refusal IsProgramRefusal program programs has text status refusal)
 known_run options program programs has text status (inr run) =
     inr (record { program = run.program; spelled = known_reads program programs has (λ bytes. SpellsProgram bytes run.program) run.spelled; run = run.run })
+
+-- what is written of one kind of text is written of any kind that it is
+pub texts_as : (A B : List ℕ → ℕ → Type 0) → ((text : List ℕ) (status : ℕ) → A text status → B text status) → (old new : Option (List ℕ)) {E : Type 0} (outcome : Result ℕ E) →
+    IfOk outcome (WritesText A old new) → IfOk outcome (WritesText B old new)
+texts_as A B implied old new (Ok status) writes = (writes.0, implied writes.0 status writes.1, writes.2)
+texts_as A B implied old new (Err error) writes = tt
+
+pub left_as : (A B : List ℕ → ℕ → Type 0) → ((text : List ℕ) (status : ℕ) → A text status → B text status) → (old new : Option (List ℕ)) (fault : Fault) →
+    LeavesAtFault (IsPrintable A) old new fault → LeavesAtFault (IsPrintable B) old new fault
+left_as A B implied = leaves_as (IsPrintable A) (IsPrintable B) (λ text verdict is. (is.0, implied text is.0 is.1))
+
+module _ (options : RunOptions) (program programs schedule schedules : Option (List ℕ)) (has : HasKnown program programs) (also : HasKnown schedule schedules) (old new : Option (List ℕ)) where
+  pub replay_writes : (outcome : Result ℕ Fault) → IfOk outcome (WritesText (IsReplayText options programs schedules) old new) → IfOk outcome (WritesText (IsReplayText options program schedule) old new)
+  replay_writes = texts_as (IsReplayText options programs schedules) (IsReplayText options program schedule) (known_replay options program programs schedule schedules has also) old new
+
+  pub replay_leaves : (outcome : Result ℕ Fault) → IfErr outcome (LeavesAtFault (IsPrintable (IsReplayText options programs schedules)) old new)
+      → IfErr outcome (LeavesAtFault (IsPrintable (IsReplayText options program schedule)) old new)
+  replay_leaves (Ok status) leaves = tt
+  replay_leaves (Err fault) leaves = left_as (IsReplayText options programs schedules) (IsReplayText options program schedule) (known_replay options program programs schedule schedules has also) old new fault leaves
 
 -- ---- what a fault leaves
 

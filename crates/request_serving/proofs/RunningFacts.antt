@@ -4,6 +4,9 @@ use Rattle.std.proofs.lemmas.Result.{IfOk-at_ok}
 use Rattle.std.specs.Prelude.{Option}
 use Rattle.std.specs.Io.KnownBytes.{Keeps}
 use Rattle.std.specs.Result.{MatchResult, is_ok}
+use Rattle.command_line.specs.declared.options.RunOptions.{RunOptions}
+use Rattle.request_serving.specs.OpenedFiles.{HasKnown}
+use Rattle.request_serving.specs.Running.{IsRunText}
 use Rattle.issue_desk.specs.declared.faults.RunFault.{RunFault}
 use Rattle.unit_core.specs.Records.{RecordedValue}
 use Rattle.request_serving.specs.declared.failures.RunFailure.{RunFailure}
@@ -12,7 +15,7 @@ use Rattle.request_serving.specs.Endings.{EndsByText, EndsUnrecorded, IsPrintabl
 use Rattle.request_serving.specs.Failures.{WritesFailureLine}
 use Rattle.tso_report.specs.declared.faults.Fault.TheVariants.{OutOfMemory, Read, NoThread}
 use Rattle.request_serving.specs.Internal.Runs.{LeavesAtFailure, OnFault}
-use Rattle.request_serving.proofs.ReplayingFacts.{leaves_nothing}
+use Rattle.request_serving.proofs.ReplayingFacts.{known_run, leaves_nothing, left_as, texts_as}
 
 -- What holds of a run's answer holds of the record, where only its failure was told in another way.
 pub run_recorded : (P : Result RecordedValue RunFault → Type 0) (ran : Result RecordedValue RunFault) (told : Result RecordedValue RunFailure) (Q : RunFault → Type 0) (recorded : RecordedValue) →
@@ -26,6 +29,17 @@ pub failure_leaves_nothing : (is_text : List ℕ → ℕ → Type 0) (old : Opti
 failure_leaves_nothing is_text old (ByFault fault) before keeps = leaves_nothing (IsPrintable is_text) old fault before keeps
 failure_leaves_nothing is_text old (Torn p) before keeps = keeps
 failure_leaves_nothing is_text old OtherProgram before keeps = keeps
+
+-- a program of which less may be known than its reader has
+module _ (options : RunOptions) (program programs : Option (List ℕ)) (has : HasKnown program programs) (old new : Option (List ℕ)) where
+  pub run_writes : (outcome : Result ℕ RunFailure) → IfOk outcome (WritesText (IsRunText options programs) old new) → IfOk outcome (WritesText (IsRunText options program) old new)
+  run_writes = texts_as (IsRunText options programs) (IsRunText options program) (known_run options program programs has) old new
+
+  pub run_leaves : (outcome : Result ℕ RunFailure) → IfErr outcome (LeavesAtFailure (IsRunText options programs) old new) → IfErr outcome (LeavesAtFailure (IsRunText options program) old new)
+  run_leaves (Ok status) leaves = tt
+  run_leaves (Err (ByFault fault)) leaves = left_as (IsRunText options programs) (IsRunText options program) (known_run options program programs has) old new fault leaves
+  run_leaves (Err (Torn p)) leaves = leaves
+  run_leaves (Err OtherProgram) leaves = leaves
 
 pub ends_run : (is_text : List ℕ → ℕ → Type 0) (o : Outputs) (outcome : Result ℕ RunFailure) (status : ℕ) → IfOk outcome (WritesText is_text o.written_before o.written) →
     IfErr outcome (LeavesAtFailure is_text o.written_before o.written) → IfOk outcome (λ told. (status ≡ told) × Keeps o.errors_before o.errors) →

@@ -14,6 +14,7 @@ use Rattle.trace_batches.specs.Batches.{IsBatchFault, IsBatchOfReader}
 use Rattle.log_cuts.specs.LogCuts.{IsCutFault, LeavesCut, WritesCut, WritesRefusal}
 use Rattle.request_serving.specs.Campaigning.{IsCampaignText, LeavesCampaignText}
 use Rattle.request_serving.specs.Making.{IsMadeText, LeavesMadeText}
+use Rattle.request_serving.specs.OpenedFiles.{text_bytes}
 use Rattle.request_serving.specs.Replaying.{IsReplayText}
 use Rattle.request_serving.specs.Running.{IsRunText}
 use Rattle.request_serving.specs.Statuses.{status_of}
@@ -84,8 +85,8 @@ EndsBatched quiet remaining o status =
     ((verdict : Verdict) × WritesWhole (IsBatchOfReader quiet remaining) o.written_before o.written verdict × Keeps o.errors_before o.errors × (status ≡ status_of verdict))
     ⊎ ((fault : Fault) × IsBatchFault fault × WritesPrefix (IsBatchOfReader quiet remaining) o.written_before o.written × EndsByFault fault o status)
 
--- Traces of at most so many events that are cut out of the log that a reader's bytes spell, with status 0; or the line of its refusal on the errors, with status 2; or a fault
--- left nothing or a prefix of such traces.
+-- Traces of at most so many events that are cut out of the log that a reader's bytes spell, with status 0; or the line of its refusal on the errors, with
+-- status 2; or a fault left nothing or a prefix of such traces.
 abbrev pub EndsCut : ℕ → Option (List ℕ) → Outputs → ℕ → Type 0
 EndsCut events remaining o status =
     (WritesCut remaining events o.written_before o.written o.errors_before o.errors × (status ≡ 0))
@@ -151,19 +152,14 @@ EndsOutOfMemory o status = Keeps o.written_before o.written × EndsByFault OutOf
 
 -- ---- what requests and arguments lead to
 
--- the bytes that are judged: those of the file that is named, else those of standard input
-abbrev pub judged_bytes : Option (List ℕ) → Option (List ℕ) → (List ℕ → Option (List ℕ)) → Option (List ℕ)
-judged_bytes None input files = input
-judged_bytes (Some name) input files = files name
-
 -- what was asked for was done, where standard input has these bytes, and the file of each name those
 abbrev pub EndsAsAsked : Asked → Option (List ℕ) → (List ℕ → Option (List ℕ)) → Outputs → ℕ → Type 0
-EndsAsAsked (judging presentation file workers) input files o status = EndsByReport (IsPresented presentation (judged_bytes file input files)) o status
-EndsAsAsked (batching file workers quiet) input files o status = EndsBatched quiet (judged_bytes file input files) o status
-EndsAsAsked (cutting file events) input files o status = EndsCut events (judged_bytes file input files) o status
-EndsAsAsked (checking trace certificate) input files o status = EndsChecked (files trace) (files certificate) o status
-EndsAsAsked (replaying options program schedule) input files o status = EndsReplayed options (files program) (files schedule) o status
-EndsAsAsked (running run) input files o status = EndsRun run.options (files run.program) o status
+EndsAsAsked (judging presentation file workers) input files o status = EndsByReport (IsPresented presentation (text_bytes file input files)) o status
+EndsAsAsked (batching file workers quiet) input files o status = EndsBatched quiet (text_bytes file input files) o status
+EndsAsAsked (cutting file events) input files o status = EndsCut events (text_bytes file input files) o status
+EndsAsAsked (checking trace certificate) input files o status = EndsChecked (text_bytes trace input files) (text_bytes certificate input files) o status
+EndsAsAsked (replaying options program schedule) input files o status = EndsReplayed options (text_bytes program input files) (text_bytes schedule input files) o status
+EndsAsAsked (running run) input files o status = EndsRun run.options (text_bytes run.program input files) o status
 EndsAsAsked (making order seed shape) input files o status = EndsMade order seed shape o status
 EndsAsAsked (campaigning options) input files o status = EndsCampaign options o status
 EndsAsAsked showing input files o status = (text : Text) × EndsShowing text o status

@@ -7,9 +7,10 @@ use Rattle.tso_ops.specs.Values.{ProgramValue}
 use Rattle.tso_report.specs.Campaigns.{is_lawful_under}
 use Rattle.tso_text.specs.Grammars.{SpellsProgram}
 use Rattle.request_serving.specs.BenchUnits.{is_lawful_under_all}
+use Rattle.request_serving.specs.OpenedFiles.{text_bytes}
 use Rattle.request_serving.specs.Printing.{unit_of}
 
--- Whatever its file has, a program is replayed, or run with a thread per processor, on a unit that is lawful for it: one that is lawful for programs of each
+-- Whatever its text is, a program is replayed, or run with a thread per processor, on a unit that is lawful for it: one that is lawful for programs of each
 -- memory model.
 abbrev pub runs_on_lawful_unit : Asked → Bool
 runs_on_lawful_unit asked = is_some (needs asked).program && option_map_or (λ unit. is_lawful_under_all unit.kind) (needs asked).unit false
@@ -23,10 +24,11 @@ pub record SpellsForLawfulUnit (options : UnitOptions) (known : Option (List ℕ
   pub lawful : is_lawful_under program.setting.order (unit_of options) ≡ true
 
 -- such bytes are had of the program that is run on the unit
-abbrev pub RunsLawfullyOn : Option UnitOptions → Option (List ℕ) → (List ℕ → Option (List ℕ)) → Type 0
-RunsLawfullyOn (Some unit) (Some program) files = SpellsForLawfulUnit unit (files program)
-RunsLawfullyOn unit program files = ⊥
+abbrev pub RunsLawfullyOn : Option UnitOptions → Option (Option (List ℕ)) → Option (List ℕ) → (List ℕ → Option (List ℕ)) → Type 0
+RunsLawfullyOn (Some unit) (Some program) input files = SpellsForLawfulUnit unit (text_bytes program input files)
+RunsLawfullyOn unit program input files = ⊥
 
--- The file of each name has these bytes, and the program in its file is replayed, or run with a thread per processor, on a unit that is lawful for it.
-abbrev pub RunsLawfully : Asked → (List ℕ → Option (List ℕ)) → Type 0
-RunsLawfully asked files = RunsLawfullyOn (needs asked).unit (needs asked).program files
+-- Standard input has these bytes, and the file of each name those, and the program is replayed, or run with a thread per processor, on a unit that is
+-- lawful for it.
+abbrev pub RunsLawfully : Asked → Option (List ℕ) → (List ℕ → Option (List ℕ)) → Type 0
+RunsLawfully asked input files = RunsLawfullyOn (needs asked).unit (needs asked).program input files

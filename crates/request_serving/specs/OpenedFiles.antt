@@ -1,24 +1,31 @@
 -- Files that are opened by their names, as far as they are known.
-use Rattle.std.specs.Prelude.{◌≡◌, ℕ, Bool, ◌≤◌, List, ◌++◌, length, take, option_map, Option, Some, IfSome}
+use Rattle.std.specs.Prelude.{◌≡◌, ◌⊎◌, ℕ, Bool, ◌≤◌, List, ◌++◌, length, take, option_map, Option, Some, None, IfSome}
 use Rattle.std.specs.Borrow.{Bor}
 use Rattle.std.specs.Io.KnownBytes.{Consumes}
-use Rattle.command_line.specs.Requests.{Asked, batching, cutting, needs}
-use Rattle.tso_report.specs.Limits.{trace_read_limit}
+use Rattle.command_line.specs.Requests.{Asked, batching, checking, cutting, needs, replaying}
+use Rattle.tso_report.specs.Limits.{certificate_read_limit, trace_read_limit}
 use Rattle.tso_report.specs.Streams.{LosesPrefix}
 
 -- an opened file has the bytes that are known of its name
 abbrev pub HasKnown : Option (List ℕ) → Option (List ℕ) → Type 0
 HasKnown known remaining = IfSome known (λ all. remaining ≡ Some all)
 
+-- the bytes of a text: those of the file that is named, else those of standard input
+abbrev pub text_bytes : Option (List ℕ) → Option (List ℕ) → (List ℕ → Option (List ℕ)) → Option (List ℕ)
+text_bytes None input files = input
+text_bytes (Some name) input files = files name
+
 -- standard input is read
 abbrev pub reads_input : Asked → Bool
 reads_input asked = (needs asked).input
 
--- What is taken of standard input where it is read: of traces that stand one after the other and of a log all bytes, of one trace so many that a text of
--- too many bytes is seen.
+-- What is taken of standard input where it is read: of traces that stand one after the other and of a log all bytes, of another text so many that one of
+-- too many bytes is seen; or nothing of a certificate or of a schedule, where the trace or the program before it was refused.
 abbrev pub TakesInput : Asked → Option (List ℕ) → Option (List ℕ) → Type 0
 TakesInput (batching file workers quiet) old new = IfSome old (λ all. Consumes old new all)
 TakesInput (cutting file events) old new = IfSome old (λ all. Consumes old new all)
+TakesInput (checking (Some trace) certificate) old new = (new ≡ old) ⊎ LosesPrefix certificate_read_limit old new
+TakesInput (replaying options (Some program) schedule) old new = (new ≡ old) ⊎ LosesPrefix trace_read_limit old new
 TakesInput asked old new = LosesPrefix trace_read_limit old new
 
 -- the known names of the files opened so far grow by these

@@ -24,13 +24,14 @@ use tso_report::Fault;
 /// Does what the arguments of a command line ask for, and answers the status that the program ends with.
 ///
 /// Without arguments it judges what the reader has, with one worker, and writes its report; so it does, by the arguments
-/// `judge [--workers N] [FILE]`, for a file; `explain` writes why, `batch` a line for each of many traces, and `cut` traces
-/// that are cut out of a log. By `check TRACE CERT` it checks a certificate against a trace. `replay` and `run` execute a
-/// program on a memory unit and judge the record, `make` draws a program from a seed, and `campaign` runs those of many
-/// seeds. Status 0: no violation was found, or a text was asked for and written. 2: a text, a certificate, a shape or seeds
+/// `judge [--workers N] [FILE]`, for a file; `explain` writes why, `draw` a picture, `batch` a line for each of many traces,
+/// and `cut` traces that are cut out of a log. By `check TRACE CERT` it checks a certificate against a trace. `replay` and
+/// `run` execute a program on a memory unit and judge the record, `make` draws a program from a seed, and `campaign` runs
+/// those of many seeds. A file `-` is what the reader has. Status 0: no violation was found, or a text was asked for and written. 2: a text, a certificate, a shape or seeds
 /// were refused; or a log or the arguments were, whose refusal is written to `errors`. 3: a violation, or a certificate that
 /// holds. 4: a fault; one line, as `FAULT Read`, is written to `errors`. All files that the arguments name are opened, in
-/// their order, before one is read. At most 1,048,577 bytes of a trace are read; of many traces and of a log all are.
+/// their order, before one is read. At most 1,048,577 bytes of a trace, of a program and of a schedule are read, 67,108,865 of
+/// a certificate; of many traces and of a log all are.
 pub fn drive<H: Threads + Wait + Sync + Files + AllocGlobal, R: Read, W: Write, E: Write>(
     rt: &H,
     arguments: &[String],
@@ -40,6 +41,7 @@ pub fn drive<H: Threads + Wait + Sync + Files + AllocGlobal, R: Read, W: Write, 
 ) -> u8
     ensures ends { LeadTo (texts_in arguments.now) (R.remaining reader.old) (λ _. None) (outputs (W.contents writer.old) (W.contents writer.new) (E.contents errors.old) (E.contents errors.new)) result }
     ensures no_false_alarm { (asked : Asked) → Asks (texts_in arguments.now) asked → runs_on_lawful_unit asked ≡ true → result ≢ 3 }
+    ensures no_false_alarm_of_text { (asked : Asked) → Asks (texts_in arguments.now) asked → RunsLawfully asked (R.remaining reader.old) (λ _. None) → result ≢ 3 }
     ensures unread { (asked : Asked) → Asks (texts_in arguments.now) asked → reads_input asked ≡ false → reader.new ≡ reader.old }
     ensures unread_help { AsksHelp (texts_in arguments.now) → reader.new ≡ reader.old }
     ensures unread_refusal { Refuses (texts_in arguments.now) → reader.new ≡ reader.old }
@@ -59,7 +61,7 @@ pub fn drive_over<
 >(rt: &H, arguments: &[String], files: &mut O, reader: &mut R, writer: &mut W, errors: &mut E) -> u8
     ensures ends { LeadTo (texts_in arguments.now) (R.remaining reader.old) (O.bytes files.old) (outputs (W.contents writer.old) (W.contents writer.new) (E.contents errors.old) (E.contents errors.new)) result }
     ensures no_false_alarm { (asked : Asked) → Asks (texts_in arguments.now) asked → runs_on_lawful_unit asked ≡ true → result ≢ 3 }
-    ensures no_false_alarm_of_file { (asked : Asked) → Asks (texts_in arguments.now) asked → RunsLawfully asked (O.bytes files.old) → result ≢ 3 }
+    ensures no_false_alarm_of_text { (asked : Asked) → Asks (texts_in arguments.now) asked → RunsLawfully asked (R.remaining reader.old) (O.bytes files.old) → result ≢ 3 }
     ensures opened { (asked : Asked) → Asks (texts_in arguments.now) asked → OpensFirst (O.opened files.old) (O.opened files.new) (files_named asked) }
     ensures unread { (asked : Asked) → Asks (texts_in arguments.now) asked → reads_input asked ≡ false → reader.new ≡ reader.old }
     ensures unread_help { AsksHelp (texts_in arguments.now) → reader.new ≡ reader.old }

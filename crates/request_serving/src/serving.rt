@@ -1,32 +1,31 @@
 //! What the program does for each request.
-ghost use Rattle.std.specs.Prelude.{◌≡◌, ◌≢◌, [], ◌∷◌, IfOk, IfErr, OnOk, true, false};
+ghost use Rattle.std.specs.Prelude.{◌≡◌, ◌≢◌, true, false};
 ghost use Rattle.command_line.specs.Requests.{HasDrainTurns, HasUnitRanges, HasWorkers, asked_of};
 ghost use Rattle.tso_report.specs.Limits.{worker_limit};
 ghost use Rattle.tso_report.specs.Streams.{AppendsPrefix};
-ghost use Rattle.tso_report.specs.declared.faults.Fault.TheVariants.{NoThread};
-ghost use Rattle.tso_report.specs.WrittenReports.{LeavesCheckFault, WritesCheckReport};
 ghost use Rattle.request_serving.specs.Endings.{EndsAsAsked, EndsShowing, EndsWithText, outputs};
 ghost use Rattle.request_serving.specs.LawfulRequests.{RunsLawfully, runs_on_lawful_unit};
 ghost use Rattle.request_serving.specs.OpenedFiles.{OpensFirst, OpensNext, TakesInput, files_named, reads_input};
 
 use crate::endings::{DONE, REFUSED, end, end_by, end_run, end_with};
-use crate::files::{NamedFiles, open};
+use crate::files::NamedFiles;
 use crate::serving::batching::batch_by;
 use crate::serving::campaigning::campaign_by;
+use crate::serving::checking::check_named;
 use crate::serving::cutting::cut_by;
 use crate::serving::judging::judge_by;
 use crate::serving::making::make;
 use crate::serving::replaying::replay_named;
 use crate::serving::running::run_named;
 use command_line::Request;
-use std::alloc::Global;
 use std::io::{Read, Write};
 use std::sync::Wait;
 use std::thread::Threads;
-use tso_report::{Fault, MAX_WORKERS, Verdict, check_texts, write_text};
+use tso_report::{Fault, MAX_WORKERS, write_text};
 
 mod batching;
 mod campaigning;
+mod checking;
 mod cutting;
 mod judging;
 mod making;
@@ -62,7 +61,7 @@ pub fn serve<H: Threads + Wait + Sync + AllocGlobal, O: NamedFiles, R: Read, W: 
     ensures ends { EndsAsAsked (asked_of request.now) (R.remaining reader.old) (O.bytes files.old) (outputs (W.contents writer.old) (W.contents writer.new) (E.contents errors.old) (E.contents errors.new)) result }
     ensures text { EndsWithText request.now (outputs (W.contents writer.old) (W.contents writer.new) (E.contents errors.old) (E.contents errors.new)) result }
     ensures no_false_alarm { runs_on_lawful_unit (asked_of request.now) ≡ true → result ≢ 3 }
-    ensures no_false_alarm_of_file { RunsLawfully (asked_of request.now) (O.bytes files.old) → result ≢ 3 }
+    ensures no_false_alarm_of_text { RunsLawfully (asked_of request.now) (R.remaining reader.old) (O.bytes files.old) → result ≢ 3 }
     ensures first { OpensFirst (O.opened files.old) (O.opened files.new) (files_named (asked_of request.now)) }
     ensures opened { result ≢ 4 → OpensNext (O.opened files.old) (O.opened files.new) (files_named (asked_of request.now)) }
     ensures unread { reads_input (asked_of request.now) ≡ false → reader.new ≡ reader.old }
@@ -72,20 +71,16 @@ pub fn serve<H: Threads + Wait + Sync + AllocGlobal, O: NamedFiles, R: Read, W: 
         Request::Judge(request) => judge_by(rt, request, files, reader, writer, errors),
         Request::Batch(request) => batch_by(rt, request, files, reader, writer, errors),
         Request::Cut(request) => cut_by(rt.alloc(), request, files, reader, writer, errors),
-        Request::Check { trace, certificate } => {
-            let checked = check_files(rt.alloc(), trace, certificate, files, writer);
+        Request::Check(texts) => {
+            let checked = check_named(rt.alloc(), *texts, files, reader, writer);
             end(checked, errors)
         }
-        Request::Replay {
-            options,
-            program,
-            schedule,
-        } => {
-            let replayed = replay_named(rt, options, program, schedule, files, writer);
+        Request::Replay { options, texts } => {
+            let replayed = replay_named(rt, options, *texts, files, reader, writer);
             end_with(replayed, errors)
         }
         Request::Run(run_request) => {
-            let ran = run_named(rt, run_request, files, writer);
+            let ran = run_named(rt, run_request, files, reader, writer);
             end_run(ran, errors)
         }
         Request::Make { order, seed, shape } => {
@@ -99,25 +94,6 @@ pub fn serve<H: Threads + Wait + Sync + AllocGlobal, O: NamedFiles, R: Read, W: 
         Request::Show(text) => show(text, writer, errors),
         Request::Refuse(text) => refuse(text, errors),
     }
-}
-
-/// Checks the certificate in one file against the trace in another. Both are opened before one is read.
-fn check_files<O: NamedFiles, W: Write>(
-    alloc: Global,
-    trace: &str,
-    certificate: &str,
-    files: &mut O,
-    writer: &mut W,
-) -> Result<Verdict, Fault>
-    ensures report { IfOk result (WritesCheckReport (O.bytes files.old trace.now) (O.bytes files.old certificate.now) (W.contents writer.old) (W.contents writer.new)) }
-    ensures fault { IfErr result (LeavesCheckFault (O.bytes files.old trace.now) (O.bytes files.old certificate.now) (W.contents writer.old) (W.contents writer.new)) }
-    ensures no_thread { IfErr result (λ fault. fault ≢ NoThread) }
-    ensures first { OpensFirst (O.opened files.old) (O.opened files.new) (trace.now ∷ certificate.now ∷ []) }
-    ensures opened { OnOk result (OpensNext (O.opened files.old) (O.opened files.new) (trace.now ∷ certificate.now ∷ [])) }
-{
-    let mut trace = open(files, trace)?;
-    let mut certificate = open(files, certificate)?;
-    check_texts(alloc, &mut trace, &mut certificate, writer)
 }
 
 /// Writes a text that was asked for.

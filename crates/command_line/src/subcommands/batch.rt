@@ -6,7 +6,7 @@ ghost use Rattle.command_line.specs.Commands.{asked_in, subcommand_app};
 ghost use Rattle.command_line.specs.Requests.{asked_of};
 ghost use Rattle.command_line.specs.Subcommands.{batch};
 
-use crate::found::{is_used, workers};
+use crate::found::{file, is_used, workers};
 use crate::help;
 use crate::options::OptionNames;
 use crate::parameters::{Description, Parameter, subcommand_of};
@@ -58,7 +58,7 @@ pub(crate) fn command<'a>(alloc: Global, names: OptionNames<'a>) -> Result<Comma
             name: "file",
             value_name: "FILE",
             required: false,
-            help: "The texts of traces; standard input where none is named",
+            help: "The texts of traces; standard input where it is - or left out",
         },
     ];
     subcommand_of(alloc, names, description, parameters.as_slice())
@@ -69,7 +69,7 @@ pub(crate) fn request<'a>(matches: &ArgMatches<'a>) -> Request<'a>
     ensures { asked_of result ≡ asked_in batch (rows_of (found_of matches.now)) }
 {
     Request::Batch(BatchRequest {
-        file: matches.get_str("file"),
+        file: file(matches, "file"),
         workers: workers(matches),
         quiet: is_used(matches, "quiet"),
     })

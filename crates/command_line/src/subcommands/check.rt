@@ -6,6 +6,8 @@ ghost use Rattle.command_line.specs.Commands.{asked_in, subcommand_app};
 ghost use Rattle.command_line.specs.Requests.{asked_of};
 ghost use Rattle.command_line.specs.Subcommands.{check};
 
+use crate::found::text_pair;
+use crate::help;
 use crate::options::OptionNames;
 use crate::parameters::{Description, subcommand_of};
 use crate::requests::Request;
@@ -23,7 +25,7 @@ bytes, as it stands in a report after the line VIOLATION. It prints one line:
 CERTIFICATE HOLDS, which proves that no order of the trace meets its memory
 model, or CERTIFICATE REFUSED and why. A text that is no trace gets a line as
 REFUSED BadLine line 3, and the certificate isn't read. Both files are opened
-before one is read.
+before one is read. One of the two may be -, which is standard input.
 
 Exit status:
   2  the trace, the certificate or the command line was refused
@@ -51,12 +53,16 @@ pub(crate) fn command<'a>(alloc: Global, names: OptionNames<'a>) -> Result<Comma
     subcommand_of(alloc, names, description, parameters.as_slice())
 }
 
-/// What its matches ask for. The command has refused arguments without both files.
-pub(crate) fn request<'a>(matches: &ArgMatches<'a>) -> Request<'a>
-    ensures { asked_of result ≡ asked_in check (rows_of (found_of matches.now)) }
+/// What its matches ask for: a refusal, with its text, where both would be standard input. The command has refused
+/// arguments without both.
+pub(crate) fn request<'a>(
+    alloc: Global,
+    matches: &ArgMatches<'a>,
+) -> Result<Request<'a>, AllocError>
+    ensures { IfOk result (λ request. asked_of request ≡ asked_in check (rows_of (found_of matches.now))) }
 {
-    Request::Check {
-        trace: matches.get_str("trace").unwrap_or(""),
-        certificate: matches.get_str("cert").unwrap_or(""),
+    match text_pair(matches, "trace", "cert") {
+        Some(texts) => Ok(Request::Check(texts)),
+        None => shared::refuse(alloc, help::TWO_INPUTS),
     }
 }

@@ -6,7 +6,7 @@ ghost use Rattle.command_line.specs.Commands.{asked_in, subcommand_app};
 ghost use Rattle.command_line.specs.Requests.{asked_of};
 ghost use Rattle.command_line.specs.Subcommands.{cut};
 
-use crate::found::piece_events;
+use crate::found::{file, piece_events};
 use crate::help;
 use crate::options::{MAX_PIECE_EVENTS, MIN_PIECE_EVENTS, OptionNames};
 use crate::parameters::{Accepted, Description, Parameter, subcommand_of};
@@ -74,7 +74,7 @@ pub(crate) fn command<'a>(alloc: Global, names: OptionNames<'a>) -> Result<Comma
             name: "file",
             value_name: "FILE",
             required: false,
-            help: "The text of a log; standard input where none is named",
+            help: "The text of a log; standard input where it is - or left out",
         },
     ];
     subcommand_of(alloc, names, description, parameters.as_slice())
@@ -85,7 +85,7 @@ pub(crate) fn request<'a>(matches: &ArgMatches<'a>) -> Request<'a>
     ensures { asked_of result ≡ asked_in cut (rows_of (found_of matches.now)) }
 {
     Request::Cut(CutRequest {
-        file: matches.get_str("file"),
+        file: file(matches, "file"),
         events: piece_events(matches),
     })
 }

@@ -20,8 +20,7 @@ It reads the text of a trace, at most 1,048,576 bytes, and prints its report:
 two lines with the numbers of processors, events and rounds, and then
 NO VIOLATION FOUND, or VIOLATION and the certificate, which `tsobench check`
 can check. A text that is no trace gets one line, as REFUSED BadLine line 3.
-The report is the same for each number of workers. A FILE that is a hyphen
-alone is a file of that name.
+The report is the same for each number of workers.
 
 Exit status:
   0  no violation was found, which proves nothing about the trace

@@ -6,7 +6,7 @@ ghost use Rattle.command_line.specs.Commands.{asked_in, subcommand_app};
 ghost use Rattle.command_line.specs.Requests.{asked_of};
 ghost use Rattle.command_line.specs.Subcommands.{replay};
 
-use crate::found::{printing, run_options};
+use crate::found::{printing, run_options, text_pair};
 use crate::help;
 use crate::options::OptionNames;
 use crate::parameters::{Description, subcommand_of};
@@ -28,6 +28,7 @@ recorded and judged. It prints the report of `tsobench judge`, and then a line
 numbers of the unit's steps. With --trace it prints the recorded trace alone,
 and with --explain what `tsobench explain` prints of it; one of the two may be
 used. A text that is no program or no schedule gets one line that says why.
+PROGRAM or SCHEDULE, but not both, may be -, which is standard input.
 
 --capacity and --trigger are ignored by units that have no use for them. The
 unit `partial` keeps PSO: on it a program without the line `model pso` may give
@@ -65,19 +66,22 @@ pub(crate) fn command<'a>(alloc: Global, names: OptionNames<'a>) -> Result<Comma
     subcommand_of(alloc, names, description, parameters.as_slice())
 }
 
-/// What its matches ask for: a refusal of both flags, with its text. The command has refused arguments without both files.
+/// What its matches ask for: a refusal, with its text, of both flags, or where both texts would be standard input. The
+/// command has refused arguments without both.
 pub(crate) fn request<'a>(
     alloc: Global,
     matches: &ArgMatches<'a>,
 ) -> Result<Request<'a>, AllocError>
     ensures { IfOk result (λ request. asked_of request ≡ asked_in replay (rows_of (found_of matches.now))) }
 {
-    match printing(matches) {
-        Some(printing) => Ok(Request::Replay {
-            options: run_options(matches, printing),
-            program: matches.get_str("program").unwrap_or(""),
-            schedule: matches.get_str("schedule").unwrap_or(""),
-        }),
-        None => shared::refuse_both(alloc),
-    }
+    let Some(printing) = printing(matches) else {
+        return shared::refuse(alloc, help::BOTH);
+    };
+    let Some(texts) = text_pair(matches, "program", "schedule") else {
+        return shared::refuse(alloc, help::TWO_INPUTS);
+    };
+    Ok(Request::Replay {
+        options: run_options(matches, printing),
+        texts,
+    })
 }

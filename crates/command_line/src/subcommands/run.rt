@@ -8,7 +8,7 @@ ghost use Rattle.command_line.specs.Requests.{asked_of};
 ghost use Rattle.command_line.specs.Internal.Computed.{parameter_of};
 ghost use Rattle.command_line.specs.Subcommands.{drain_turns, run};
 
-use crate::found::{drain_turns_of, printing, required_number, run_options};
+use crate::found::{drain_turns_of, file, printing, required_number, run_options};
 use crate::help;
 use crate::options::{MAX_DRAIN_TURNS, OptionNames};
 use crate::parameters::{Accepted, Description, Parameter, subcommand_of};
@@ -76,7 +76,11 @@ pub(crate) fn command<'a>(alloc: Global, names: OptionNames<'a>) -> Result<Comma
             "The seed of the drains, 0 to 18446744073709551615",
         ),
         drain_turns(),
-        shared::file("program", "PROGRAM", "The text of a program"),
+        shared::file(
+            "program",
+            "PROGRAM",
+            "The text of a program; standard input where it is -",
+        ),
     ];
     subcommand_of(alloc, names, description, parameters.as_slice())
 }
@@ -93,9 +97,9 @@ pub(crate) fn request<'a>(
             options: run_options(matches, printing),
             drain_seed: required_number(matches, "seed"),
             drain_turns: drain_turns_of(matches),
-            program: matches.get_str("program").unwrap_or(""),
+            program: file(matches, "program"),
         })),
-        None => shared::refuse_both(alloc),
+        None => shared::refuse(alloc, help::BOTH),
     }
 }
 

@@ -31,7 +31,7 @@ pub(crate) fn judge_command<'a>(
             name: "file",
             value_name: "FILE",
             required: false,
-            help: "The text of a trace; standard input where none is named",
+            help: "The text of a trace; standard input where it is - or left out",
         },
     ];
     subcommand_of(alloc, names, description, parameters.as_slice())
@@ -42,17 +42,17 @@ pub(crate) fn judge_request<'a>(matches: &ArgMatches<'a>, presentation: Presenta
     ensures { asked_of result ≡ ask_judge presentation (map (text_in (rows_of (found_of matches.now))) judge_parameters) }
 {
     Request::Judge(JudgeRequest {
-        file: matches.get_str("file"),
+        file: found::file(matches, "file"),
         workers: found::workers(matches),
         presentation,
     })
 }
 
-/// The refusal of `--trace` beside `--explain`.
-pub(crate) fn refuse_both<'a>(alloc: Global) -> Result<Request<'a>, AllocError>
+/// A refusal with this text.
+pub(crate) fn refuse<'a>(alloc: Global, text: &str) -> Result<Request<'a>, AllocError>
     ensures { IfOk result (λ request. asked_of request ≡ refusing) }
 {
-    Ok(Request::Refuse(String::from_str(alloc, help::BOTH)?))
+    Ok(Request::Refuse(String::from_str(alloc, text)?))
 }
 
 /// `--workers N`, with this help.

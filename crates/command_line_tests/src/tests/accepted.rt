@@ -4,11 +4,14 @@ use super::{asked, expect_each};
 use std::test::Fail;
 
 /// Arguments, and what they ask for.
-const ACCEPTED: [(&[&str], &str); 28] = [
+const ACCEPTED: [(&[&str], &str); 36] = [
     (&[], "Report of None with 1"),
     (&["judge"], "Report of None with 1"),
     (&["judge", "a.trace"], "Report of Some(\"a.trace\") with 1"),
-    (&["judge", "-"], "Report of Some(\"-\") with 1"),
+    (&["judge", "-"], "Report of None with 1"),
+    (&["judge", "./-"], "Report of Some(\"./-\") with 1"),
+    (&["judge", "--", "-"], "Report of None with 1"),
+    (&["judge", "--", "--"], "Report of Some(\"--\") with 1"),
     (&["judge", "--workers", "64"], "Report of None with 64"),
     (
         &["judge", "--workers", "7", "a b"],
@@ -29,6 +32,11 @@ const ACCEPTED: [(&[&str], &str); 28] = [
     (&["judge", "--workers", "+007"], "Report of None with 7"),
     (&["judge", "check"], "Report of Some(\"check\") with 1"),
     (&["check", "t", "c"], "check \"t\" against \"c\""),
+    (&["check", "-", "c"], "check standard input against \"c\""),
+    (&["check", "t", "-"], "check \"t\" against standard input"),
+    (&["check", "./-", "-"], "check \"./-\" against standard input"),
+    (&["explain", "-"], "Explanation of None with 1"),
+    (&["draw", "-"], "Picture of None with 1"),
     (&["explain"], "Explanation of None with 1"),
     (&["explain", "t"], "Explanation of Some(\"t\") with 1"),
     (
@@ -54,12 +62,12 @@ const ACCEPTED: [(&[&str], &str); 28] = [
         &["batch", "--workers=64", "s"],
         "batch Some(\"s\") with 64 quiet false",
     ),
-    (&["batch", "-"], "batch Some(\"-\") with 1 quiet false"),
+    (&["batch", "-"], "batch None with 1 quiet false"),
     (&["cut"], "cut None into 2000"),
     (&["cut", "l"], "cut Some(\"l\") into 2000"),
     (&["cut", "l", "--events", "3"], "cut Some(\"l\") into 3"),
     (&["cut", "--events=8000", "l"], "cut Some(\"l\") into 8000"),
-    (&["cut", "-"], "cut Some(\"-\") into 2000"),
+    (&["cut", "-"], "cut None into 2000"),
 ];
 
 #[test]
@@ -68,7 +76,11 @@ fn accepted_arguments(rt: HostRuntime) -> Result<(), Fail> {
 }
 
 /// Arguments of `replay`, and what they ask for.
-const REPLAYS: [(&[&str], &str); 17] = [
+const REPLAYS: [(&[&str], &str); 18] = [
+    (
+        &["replay", "--unit", "serial", "p", "-"],
+        "replay \"p\" by standard input on Serial 8 1 with 1 printing Report",
+    ),
     (
         &["replay", "--unit", "serial", "p", "s"],
         "replay \"p\" by \"s\" on Serial 8 1 with 1 printing Report",
@@ -126,7 +138,7 @@ const REPLAYS: [(&[&str], &str); 17] = [
     ),
     (
         &["replay", "--trace", "--unit", "serial", "-", "a b"],
-        "replay \"-\" by \"a b\" on Serial 8 1 with 1 printing Trace",
+        "replay standard input by \"a b\" on Serial 8 1 with 1 printing Trace",
     ),
     (
         &["replay", "--unit", "serial", "p", "--explain", "s"],
@@ -208,7 +220,7 @@ const RUNS: [(&[&str], &str); 23] = [
     ),
     (
         &["run", "--trace", "--unit", "serial", "--seed=7", "-"],
-        "run \"-\" seeded 7 and 0 turns on Serial 8 1 with 1 printing Trace",
+        "run \"standard input\" seeded 7 and 0 turns on Serial 8 1 with 1 printing Trace",
     ),
     (
         &["run", "--explain", "--unit", "serial", "--seed=7", "p"],

@@ -8,8 +8,8 @@ const OF_THE_PROGRAM: [(&[&str], &str); 5] = [
     (&["--help"], PROGRAM_HELP),
     (&["-h"], PROGRAM_HELP),
     (&["help"], PROGRAM_HELP),
-    (&["--version"], "tsobench 0.1.0\n"),
-    (&["-V"], "tsobench 0.1.0\n"),
+    (&["--version"], "tsobench 0.9.0\n"),
+    (&["-V"], "tsobench 0.9.0\n"),
 ];
 
 #[test]
@@ -109,7 +109,8 @@ Options:
   -h, --help     Print help
   -V, --version  Print version
 
-Without arguments it judges the trace on standard input, with one worker.
+Without arguments it judges the trace on standard input, with one worker. In
+place of a file - stands for standard input; a file of that name is ./-.
 
 A trace says what each processor loaded, stored and swapped, and the values
 that it read:
@@ -141,7 +142,7 @@ Judges a trace and prints its report
 Usage: tsobench judge [OPTIONS] [FILE]
 
 Arguments:
-  [FILE]  The text of a trace; standard input where none is named
+  [FILE]  The text of a trace; standard input where it is - or left out
 
 Options:
       --workers <N>  How many workers judge, 1 to 64 [default: 1]
@@ -151,8 +152,7 @@ It reads the text of a trace, at most 1,048,576 bytes, and prints its report:
 two lines with the numbers of processors, events and rounds, and then
 NO VIOLATION FOUND, or VIOLATION and the certificate, which `tsobench check`
 can check. A text that is no trace gets one line, as REFUSED BadLine line 3.
-The report is the same for each number of workers. A FILE that is a hyphen
-alone is a file of that name.
+The report is the same for each number of workers.
 
 Exit status:
   0  no violation was found, which proves nothing about the trace
@@ -170,7 +170,7 @@ Explains in words why a trace is a violation
 Usage: tsobench explain [OPTIONS] [FILE]
 
 Arguments:
-  [FILE]  The text of a trace; standard input where none is named
+  [FILE]  The text of a trace; standard input where it is - or left out
 
 Options:
       --workers <N>  How many workers judge, 1 to 64 [default: 1]
@@ -200,7 +200,7 @@ Draws a trace and why it is a violation, for Graphviz
 Usage: tsobench draw [OPTIONS] [FILE]
 
 Arguments:
-  [FILE]  The text of a trace; standard input where none is named
+  [FILE]  The text of a trace; standard input where it is - or left out
 
 Options:
       --workers <N>  How many workers judge, 1 to 64 [default: 1]
@@ -232,7 +232,7 @@ Judges many traces, with a line for each
 Usage: tsobench batch [OPTIONS] [FILE]
 
 Arguments:
-  [FILE]  The texts of traces; standard input where none is named
+  [FILE]  The texts of traces; standard input where it is - or left out
 
 Options:
       --workers <N>  How many traces are judged side by side, 1 to 64 [default: 1]
@@ -264,7 +264,7 @@ Cuts a log into traces, which batch judges
 Usage: tsobench cut [OPTIONS] [FILE]
 
 Arguments:
-  [FILE]  The text of a log; standard input where none is named
+  [FILE]  The text of a log; standard input where it is - or left out
 
 Options:
       --events <N>  How many events each trace has at most, 3 to 8000 [default: 2000]
@@ -321,7 +321,7 @@ bytes, as it stands in a report after the line VIOLATION. It prints one line:
 CERTIFICATE HOLDS, which proves that no order of the trace meets its memory
 model, or CERTIFICATE REFUSED and why. A text that is no trace gets a line as
 REFUSED BadLine line 3, and the certificate isn't read. Both files are opened
-before one is read.
+before one is read. One of the two may be -, which is standard input.
 
 Exit status:
   2  the trace, the certificate or the command line was refused
@@ -359,6 +359,7 @@ recorded and judged. It prints the report of `tsobench judge`, and then a line
 numbers of the unit's steps. With --trace it prints the recorded trace alone,
 and with --explain what `tsobench explain` prints of it; one of the two may be
 used. A text that is no program or no schedule gets one line that says why.
+PROGRAM or SCHEDULE, but not both, may be -, which is standard input.
 
 --capacity and --trigger are ignored by units that have no use for them. The
 unit `partial` keeps PSO: on it a program without the line `model pso` may give
@@ -380,7 +381,7 @@ Runs a program with a thread per processor, and judges the trace
 Usage: tsobench run [OPTIONS] --unit <UNIT> --seed <N> <PROGRAM>
 
 Arguments:
-  <PROGRAM>  The text of a program
+  <PROGRAM>  The text of a program; standard input where it is -
 
 Options:
       --unit <UNIT>      Which memory unit runs the program [possible values: serial, buffer, partial, newest-first, no-forward, stale-load, torn-swap, idle-membar, lost-drain]

@@ -3,8 +3,14 @@
 use super::expect_each;
 use std::test::Fail;
 
+/// The refusal of two texts on standard input.
+const TWO_INPUTS: &str =
+    "error: one of the two files may be '-', and not both: standard input is read once\n\nFor more information, try '--help'.\n";
+
 /// Arguments, and the text of their refusal.
-const REFUSED: [(&[&str], &str); 11] = [
+const REFUSED: [(&[&str], &str); 13] = [
+    (&["check", "-", "-"], TWO_INPUTS),
+    (&["check", "--", "-", "-"], TWO_INPUTS),
     (&["seek", "judge"], UNKNOWN),
     (&["help", "seek"], UNKNOWN),
     (
@@ -55,7 +61,12 @@ const BOTH: &str =
     "error: the argument '--trace' cannot be used with '--explain'\n\nFor more information, try '--help'.\n";
 
 /// Arguments of `replay`, and the text of their refusal.
-const REPLAYS: [(&[&str], &str); 13] = [
+const REPLAYS: [(&[&str], &str); 15] = [
+    (&["replay", "--unit", "serial", "-", "-"], TWO_INPUTS),
+    (
+        &["replay", "--trace", "--unit", "serial", "-", "--explain", "-"],
+        BOTH,
+    ),
     (
         &["replay"],
         "error: the following required arguments were not provided:\n  --unit <UNIT>\n  <PROGRAM>\n  <SCHEDULE>\n\nUsage: tsobench replay --unit <UNIT> <PROGRAM> <SCHEDULE>\n\nFor more information, try '--help'.\n",

@@ -5,8 +5,8 @@ ghost use Rattle.command_line.specs.Requests.{asked_of};
 ghost use Rattle.command_line.specs.declared.requests.Request.TheVariants.{Batch};
 ghost use Rattle.trace_batches.specs.Batches.{IsBatchFault, IsBatchOfReader};
 ghost use Rattle.tso_report.specs.WrittenReports.{WritesPrefix, WritesWhole};
-ghost use Rattle.request_serving.specs.Endings.{EndsAsAsked, judged_bytes, outputs};
-ghost use Rattle.request_serving.specs.OpenedFiles.{OpensFirst, OpensNext, TakesInput, files_named, name_in, reads_input};
+ghost use Rattle.request_serving.specs.Endings.{EndsAsAsked, outputs};
+ghost use Rattle.request_serving.specs.OpenedFiles.{OpensFirst, OpensNext, TakesInput, files_named, name_in, reads_input, text_bytes};
 
 use crate::endings::end;
 use crate::files::{NamedFiles, open};
@@ -52,8 +52,8 @@ fn batch_named<H: Threads + Wait + Sync + AllocGlobal, O: NamedFiles, R: Read, W
     writer: &mut W,
 ) -> Result<Verdict, Fault>
     requires { 1 ≤ request.now.workers }
-    ensures whole { let remaining = judged_bytes (name_in request.now.file) (R.remaining reader.old) (O.bytes files.old) in IfOk result (WritesWhole (IsBatchOfReader request.now.quiet remaining) (W.contents writer.old) (W.contents writer.new)) }
-    ensures left { let remaining = judged_bytes (name_in request.now.file) (R.remaining reader.old) (O.bytes files.old) in OnErr result (WritesPrefix (IsBatchOfReader request.now.quiet remaining) (W.contents writer.old) (W.contents writer.new)) }
+    ensures whole { let remaining = text_bytes (name_in request.now.file) (R.remaining reader.old) (O.bytes files.old) in IfOk result (WritesWhole (IsBatchOfReader request.now.quiet remaining) (W.contents writer.old) (W.contents writer.new)) }
+    ensures left { let remaining = text_bytes (name_in request.now.file) (R.remaining reader.old) (O.bytes files.old) in OnErr result (WritesPrefix (IsBatchOfReader request.now.quiet remaining) (W.contents writer.old) (W.contents writer.new)) }
     ensures fault { IfErr result IsBatchFault }
     ensures opened { OpensNext (O.opened files.old) (O.opened files.new) (option_to_list (name_in request.now.file)) }
     ensures unread { IfSome request.now.file (λ _. reader.new ≡ reader.old) }

@@ -5,8 +5,8 @@ ghost use Rattle.command_line.specs.Requests.{asked_of};
 ghost use Rattle.command_line.specs.declared.requests.Request.TheVariants.{Cut};
 ghost use Rattle.log_cuts.specs.LogCuts.{IsCutFault, LeavesCut, WritesCut, WritesRefusal};
 ghost use Rattle.log_cuts.specs.declared.cutting.CutVerdict.{CutVerdict};
-ghost use Rattle.request_serving.specs.Endings.{EndsAsAsked, WritesFaultLine, judged_bytes, outputs};
-ghost use Rattle.request_serving.specs.OpenedFiles.{OpensFirst, OpensNext, TakesInput, files_named, name_in, reads_input};
+ghost use Rattle.request_serving.specs.Endings.{EndsAsAsked, WritesFaultLine, outputs};
+ghost use Rattle.request_serving.specs.OpenedFiles.{OpensFirst, OpensNext, TakesInput, files_named, name_in, reads_input, text_bytes};
 ghost use Rattle.request_serving.specs.Statuses.{status_of_cut};
 
 use crate::endings::{DONE, REFUSED, end_by};
@@ -57,9 +57,9 @@ fn cut_named<O: NamedFiles, R: Read, W: Write, E: Write>(
     writer: &mut W,
     errors: &mut E,
 ) -> Result<CutVerdict, Fault>
-    ensures cut { let remaining = judged_bytes (name_in request.now.file) (R.remaining reader.old) (O.bytes files.old) in result ≡ Ok CutVerdict.Cut → WritesCut remaining request.now.events (W.contents writer.old) (W.contents writer.new) (E.contents errors.old) (E.contents errors.new) }
-    ensures refused { let remaining = judged_bytes (name_in request.now.file) (R.remaining reader.old) (O.bytes files.old) in result ≡ Ok CutVerdict.Refused → WritesRefusal remaining (W.contents writer.old) (W.contents writer.new) (E.contents errors.old) (E.contents errors.new) }
-    ensures left { let remaining = judged_bytes (name_in request.now.file) (R.remaining reader.old) (O.bytes files.old) in OnErr result (LeavesCut remaining request.now.events (W.contents writer.old) (W.contents writer.new)) }
+    ensures cut { let remaining = text_bytes (name_in request.now.file) (R.remaining reader.old) (O.bytes files.old) in result ≡ Ok CutVerdict.Cut → WritesCut remaining request.now.events (W.contents writer.old) (W.contents writer.new) (E.contents errors.old) (E.contents errors.new) }
+    ensures refused { let remaining = text_bytes (name_in request.now.file) (R.remaining reader.old) (O.bytes files.old) in result ≡ Ok CutVerdict.Refused → WritesRefusal remaining (W.contents writer.old) (W.contents writer.new) (E.contents errors.old) (E.contents errors.new) }
+    ensures left { let remaining = text_bytes (name_in request.now.file) (R.remaining reader.old) (O.bytes files.old) in OnErr result (LeavesCut remaining request.now.events (W.contents writer.old) (W.contents writer.new)) }
     ensures untold { OnErr result (Keeps (E.contents errors.old) (E.contents errors.new)) }
     ensures fault { IfErr result IsCutFault }
     ensures opened { OpensNext (O.opened files.old) (O.opened files.new) (option_to_list (name_in request.now.file)) }

@@ -5,8 +5,8 @@ ghost use Rattle.command_line.specs.declared.requests.Request.TheVariants.{Judge
 ghost use Rattle.tso_report.specs.Limits.{trace_read_limit, worker_limit};
 ghost use Rattle.tso_report.specs.Streams.{LosesPrefix};
 ghost use Rattle.tso_report.specs.WrittenReports.{LeavesAtFault, WritesWhole};
-ghost use Rattle.request_serving.specs.Endings.{EndsAsAsked, IsPresented, judged_bytes, outputs};
-ghost use Rattle.request_serving.specs.OpenedFiles.{OpensFirst, OpensNext, TakesInput, files_named, name_in, reads_input};
+ghost use Rattle.request_serving.specs.Endings.{EndsAsAsked, IsPresented, outputs};
+ghost use Rattle.request_serving.specs.OpenedFiles.{OpensFirst, OpensNext, TakesInput, files_named, name_in, reads_input, text_bytes};
 
 use crate::endings::end;
 use crate::files::{NamedFiles, open};
@@ -54,8 +54,8 @@ fn judge_named<H: Threads + Wait + Sync + AllocGlobal, O: NamedFiles, R: Read, W
 ) -> Result<Verdict, Fault>
     requires some { 1 ≤ request.now.workers }
     requires most { request.now.workers ≤ worker_limit }
-    ensures presented { let remaining = judged_bytes (name_in request.now.file) (R.remaining reader.old) (O.bytes files.old) in IfOk result (WritesWhole (IsPresented request.now.presentation remaining) (W.contents writer.old) (W.contents writer.new)) }
-    ensures fault { let remaining = judged_bytes (name_in request.now.file) (R.remaining reader.old) (O.bytes files.old) in IfErr result (LeavesAtFault (IsPresented request.now.presentation remaining) (W.contents writer.old) (W.contents writer.new)) }
+    ensures presented { let remaining = text_bytes (name_in request.now.file) (R.remaining reader.old) (O.bytes files.old) in IfOk result (WritesWhole (IsPresented request.now.presentation remaining) (W.contents writer.old) (W.contents writer.new)) }
+    ensures fault { let remaining = text_bytes (name_in request.now.file) (R.remaining reader.old) (O.bytes files.old) in IfErr result (LeavesAtFault (IsPresented request.now.presentation remaining) (W.contents writer.old) (W.contents writer.new)) }
     ensures opened { OpensNext (O.opened files.old) (O.opened files.new) (option_to_list (name_in request.now.file)) }
     ensures unread { IfSome request.now.file (λ _. reader.new ≡ reader.old) }
     ensures taken { request.now.file ≡ None → IfOk result (λ _. LosesPrefix trace_read_limit (R.remaining reader.old) (R.remaining reader.new)) }

@@ -1,18 +1,19 @@
 //! The way of a replay: read the program, then the schedule, run the one by the other, judge or print, write.
-ghost use Rattle.std.specs.Prelude.{◌≡◌, ◌⊎◌, ◌≤◌, [], ◌∷◌, IfOk, IfErr, OnOk};
-ghost use Rattle.command_line.specs.Requests.{capacity_limit};
+ghost use Rattle.std.specs.Prelude.{◌≡◌, ◌⊎◌, ◌≤◌, [], ◌∷◌, IfOk, IfErr, OnOk, true, false};
+ghost use Rattle.command_line.specs.Requests.{capacity_limit, files_of, replaying};
 ghost use Rattle.tso_report.specs.declared.faults.Fault.{Fault};
-ghost use Rattle.tso_report.specs.Limits.{worker_limit};
+ghost use Rattle.tso_report.specs.Limits.{trace_read_limit, worker_limit};
+ghost use Rattle.tso_report.specs.Streams.{LosesPrefix};
 ghost use Rattle.tso_report.specs.WrittenReports.{LeavesAtFault};
 ghost use Rattle.request_serving.specs.Endings.{IsPrintable, WritesText};
-ghost use Rattle.request_serving.specs.OpenedFiles.{OpensFirst, OpensNext};
+ghost use Rattle.request_serving.specs.OpenedFiles.{OpensFirst, OpensNext, TakesInput, files_named, reads_input, text_bytes};
 ghost use Rattle.request_serving.specs.Printing.{unit_of};
 ghost use Rattle.request_serving.specs.Replaying.{IsReplayOf, IsReplayText, IsScheduledText};
 
 use crate::files::{NamedFiles, open};
 use crate::printing::{Printed, print_record, print_refusal};
 use crate::units::make_unit;
-use command_line::RunOptions;
+use command_line::{RunOptions, TextPair};
 use std::io::{Read, Write};
 use std::sync::Wait;
 use std::thread::Threads;
@@ -21,9 +22,44 @@ use tso_report::{Fault, read_all, write_text};
 use tso_text::{Act, MAX_TEXT_BYTES, read_program, read_schedule};
 use unit_core::{Account, MemoryUnit, replay};
 
-/// Replays the program in one file by the schedule in another, and writes what the options ask for: the status. Both
-/// are opened before one is read.
-pub(crate) fn replay_named<H: Threads + Wait + AllocGlobal, O: NamedFiles, W: Write>(
+/// Replays a program, the first text, by a schedule, the second, and writes what the options ask for: the status. Their
+/// files are opened before one is read.
+pub(crate) fn replay_named<H: Threads + Wait + AllocGlobal, O: NamedFiles, R: Read, W: Write>(
+    rt: &H,
+    options: &RunOptions,
+    texts: TextPair<'_>,
+    files: &mut O,
+    reader: &mut R,
+    writer: &mut W,
+) -> Result<u8, Fault>
+    requires some { 1 ≤ options.now.workers }
+    requires most { options.now.workers ≤ worker_limit }
+    requires capacity { (1 ≤ options.now.unit.capacity) × (options.now.unit.capacity ≤ capacity_limit) }
+    requires trigger { 1 ≤ options.now.unit.trigger }
+    ensures text { let programs = text_bytes (files_of texts).0 (R.remaining reader.old) (O.bytes files.old) in let schedules = text_bytes (files_of texts).1 (R.remaining reader.old) (O.bytes files.old) in IfOk result (WritesText (IsReplayText options.now programs schedules) (W.contents writer.old) (W.contents writer.new)) }
+    ensures fault { let programs = text_bytes (files_of texts).0 (R.remaining reader.old) (O.bytes files.old) in let schedules = text_bytes (files_of texts).1 (R.remaining reader.old) (O.bytes files.old) in IfErr result (LeavesAtFault (IsPrintable (IsReplayText options.now programs schedules)) (W.contents writer.old) (W.contents writer.new)) }
+    ensures first { OpensFirst (O.opened files.old) (O.opened files.new) (files_named (replaying options.now (files_of texts).0 (files_of texts).1)) }
+    ensures opened { OnOk result (OpensNext (O.opened files.old) (O.opened files.new) (files_named (replaying options.now (files_of texts).0 (files_of texts).1))) }
+    ensures unread { reads_input (replaying options.now (files_of texts).0 (files_of texts).1) ≡ false → reader.new ≡ reader.old }
+    ensures taken { reads_input (replaying options.now (files_of texts).0 (files_of texts).1) ≡ true → OnOk result (TakesInput (replaying options.now (files_of texts).0 (files_of texts).1) (R.remaining reader.old) (R.remaining reader.new)) }
+{
+    match texts {
+        TextPair::Files(program, schedule) => {
+            replay_files(rt, options, program, schedule, files, writer)
+        }
+        TextPair::InputAndFile(schedule) => {
+            let mut schedule = open(files, schedule)?;
+            write_replay(rt, options, reader, &mut schedule, writer)
+        }
+        TextPair::FileAndInput(program) => {
+            let mut program = open(files, program)?;
+            write_replay(rt, options, &mut program, reader, writer)
+        }
+    }
+}
+
+/// Replays the program in one file by the schedule in another. Both are opened before one is read.
+fn replay_files<H: Threads + Wait + AllocGlobal, O: NamedFiles, W: Write>(
     rt: &H,
     options: &RunOptions,
     program: &str,
@@ -42,7 +78,27 @@ pub(crate) fn replay_named<H: Threads + Wait + AllocGlobal, O: NamedFiles, W: Wr
 {
     let mut program = open(files, program)?;
     let mut schedule = open(files, schedule)?;
-    let printed = replay_texts(rt, options, &mut program, &mut schedule)?;
+    write_replay(rt, options, &mut program, &mut schedule, writer)
+}
+
+/// Replays the program that one reader has by the schedule that another has, and writes what the options ask for.
+fn write_replay<H: Threads + Wait + AllocGlobal, P: Read, S: Read, W: Write>(
+    rt: &H,
+    options: &RunOptions,
+    programs: &mut P,
+    schedules: &mut S,
+    writer: &mut W,
+) -> Result<u8, Fault>
+    requires some { 1 ≤ options.now.workers }
+    requires most { options.now.workers ≤ worker_limit }
+    requires capacity { (1 ≤ options.now.unit.capacity) × (options.now.unit.capacity ≤ capacity_limit) }
+    requires trigger { 1 ≤ options.now.unit.trigger }
+    ensures text { IfOk result (WritesText (IsReplayText options.now (P.remaining programs.old) (S.remaining schedules.old)) (W.contents writer.old) (W.contents writer.new)) }
+    ensures fault { IfErr result (LeavesAtFault (IsPrintable (IsReplayText options.now (P.remaining programs.old) (S.remaining schedules.old))) (W.contents writer.old) (W.contents writer.new)) }
+    ensures taken { IfOk result (λ _. LosesPrefix trace_read_limit (P.remaining programs.old) (P.remaining programs.new)) }
+    ensures taken_after { IfOk result (λ _. schedules.new ≡ schedules.old ⊎ LosesPrefix trace_read_limit (S.remaining schedules.old) (S.remaining schedules.new)) }
+{
+    let printed = replay_texts(rt, options, programs, schedules)?;
     write_text(writer, &printed.text)?;
     Ok(printed.status)
 }
@@ -60,6 +116,8 @@ fn replay_texts<H: Threads + Wait + AllocGlobal, P: Read, S: Read>(
     requires capacity { (1 ≤ options.now.unit.capacity) × (options.now.unit.capacity ≤ capacity_limit) }
     requires trigger { 1 ≤ options.now.unit.trigger }
     ensures text { IfOk result (λ printed. IsReplayText options.now (P.remaining programs.old) (S.remaining schedules.old) printed.text.items printed.status) }
+    ensures taken { IfOk result (λ _. LosesPrefix trace_read_limit (P.remaining programs.old) (P.remaining programs.new)) }
+    ensures taken_after { IfOk result (λ _. schedules.new ≡ schedules.old ⊎ LosesPrefix trace_read_limit (S.remaining schedules.old) (S.remaining schedules.new)) }
     ensures fault { IfErr result (λ fault. (fault ≡ Fault.OutOfMemory) ⊎ ((fault ≡ Fault.Read) ⊎ (fault ≡ Fault.NoThread))) }
 {
     let input = read_all(rt.alloc(), programs, MAX_TEXT_BYTES)?;
@@ -81,6 +139,7 @@ fn replay_program<H: Threads + Wait + AllocGlobal, S: Read>(
     requires capacity { (1 ≤ options.now.unit.capacity) × (options.now.unit.capacity ≤ capacity_limit) }
     requires trigger { 1 ≤ options.now.unit.trigger }
     ensures text { IfOk result (λ printed. IsScheduledText options.now program.now (S.remaining schedules.old) printed.text.items printed.status) }
+    ensures taken { IfOk result (λ _. LosesPrefix trace_read_limit (S.remaining schedules.old) (S.remaining schedules.new)) }
     ensures fault { IfErr result (λ fault. (fault ≡ Fault.OutOfMemory) ⊎ ((fault ≡ Fault.Read) ⊎ (fault ≡ Fault.NoThread))) }
 {
     let input = read_all(rt.alloc(), schedules, MAX_TEXT_BYTES)?;

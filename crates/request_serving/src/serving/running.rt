@@ -1,11 +1,12 @@
 //! The way of a run: read the program, run it with a thread per processor and a drainer, judge or print, write.
-ghost use Rattle.std.specs.Prelude.{◌≡◌, ◌⊎◌, ◌≤◌, [], ◌∷◌, IfOk, IfErr, OnOk};
+ghost use Rattle.std.specs.Prelude.{◌≡◌, ◌⊎◌, ◌≤◌, [], ◌∷◌, IfOk, IfErr, IfSome, None, option_to_list};
 ghost use Rattle.command_line.specs.Requests.{capacity_limit, drain_turns_limit};
 ghost use Rattle.tso_report.specs.declared.faults.Fault.{Fault};
-ghost use Rattle.tso_report.specs.Limits.{worker_limit};
+ghost use Rattle.tso_report.specs.Limits.{trace_read_limit, worker_limit};
+ghost use Rattle.tso_report.specs.Streams.{LosesPrefix};
 ghost use Rattle.request_serving.specs.Endings.{WritesText};
 ghost use Rattle.request_serving.specs.Internal.Runs.{LeavesAtFailure, OnFault};
-ghost use Rattle.request_serving.specs.OpenedFiles.{OpensNext};
+ghost use Rattle.request_serving.specs.OpenedFiles.{OpensNext, name_in, text_bytes};
 ghost use Rattle.request_serving.specs.Printing.{unit_of};
 ghost use Rattle.request_serving.specs.Running.{IsRunPrinted, IsRunText};
 
@@ -23,10 +24,36 @@ use tso_report::{read_all, write_text};
 use tso_text::{MAX_TEXT_BYTES, read_program};
 use unit_core::{Account, MemoryUnit};
 
-/// Runs the program in a file, and writes what the request's options ask for: the status.
-pub(crate) fn run_named<H: Threads + Wait + Sync + AllocGlobal, O: NamedFiles, W: Write>(
+/// Runs the program in a file, or else what the reader has, and writes what the request's options ask for: the status.
+pub(crate) fn run_named<H: Threads + Wait + Sync + AllocGlobal, O: NamedFiles, R: Read, W: Write>(
     rt: &H,
     request: &RunRequest<'_>,
+    files: &mut O,
+    reader: &mut R,
+    writer: &mut W,
+) -> Result<u8, RunFailure>
+    requires some { 1 ≤ request.now.options.workers }
+    requires most { request.now.options.workers ≤ worker_limit }
+    requires capacity { (1 ≤ request.now.options.unit.capacity) × (request.now.options.unit.capacity ≤ capacity_limit) }
+    requires trigger { 1 ≤ request.now.options.unit.trigger }
+    requires turns { request.now.drain_turns ≤ drain_turns_limit }
+    ensures text { let programs = text_bytes (name_in request.now.program) (R.remaining reader.old) (O.bytes files.old) in IfOk result (WritesText (IsRunText request.now.options programs) (W.contents writer.old) (W.contents writer.new)) }
+    ensures fault { let programs = text_bytes (name_in request.now.program) (R.remaining reader.old) (O.bytes files.old) in IfErr result (LeavesAtFailure (IsRunText request.now.options programs) (W.contents writer.old) (W.contents writer.new)) }
+    ensures opened { OpensNext (O.opened files.old) (O.opened files.new) (option_to_list (name_in request.now.program)) }
+    ensures unread { IfSome request.now.program (λ _. reader.new ≡ reader.old) }
+    ensures taken { request.now.program ≡ None → IfOk result (λ _. LosesPrefix trace_read_limit (R.remaining reader.old) (R.remaining reader.new)) }
+{
+    match request.program {
+        None => write_run(rt, request, reader, writer),
+        Some(name) => run_file(rt, request, name, files, writer),
+    }
+}
+
+/// Runs the program in the file of this name.
+fn run_file<H: Threads + Wait + Sync + AllocGlobal, O: NamedFiles, W: Write>(
+    rt: &H,
+    request: &RunRequest<'_>,
+    name: &str,
     files: &mut O,
     writer: &mut W,
 ) -> Result<u8, RunFailure>
@@ -35,12 +62,31 @@ pub(crate) fn run_named<H: Threads + Wait + Sync + AllocGlobal, O: NamedFiles, W
     requires capacity { (1 ≤ request.now.options.unit.capacity) × (request.now.options.unit.capacity ≤ capacity_limit) }
     requires trigger { 1 ≤ request.now.options.unit.trigger }
     requires turns { request.now.drain_turns ≤ drain_turns_limit }
-    ensures text { IfOk result (WritesText (IsRunText request.now.options (O.bytes files.old request.now.program.now)) (W.contents writer.old) (W.contents writer.new)) }
-    ensures fault { IfErr result (LeavesAtFailure (IsRunText request.now.options (O.bytes files.old request.now.program.now)) (W.contents writer.old) (W.contents writer.new)) }
-    ensures opened { OpensNext (O.opened files.old) (O.opened files.new) (request.now.program.now ∷ []) }
+    ensures text { IfOk result (WritesText (IsRunText request.now.options (O.bytes files.old name.now)) (W.contents writer.old) (W.contents writer.new)) }
+    ensures fault { IfErr result (LeavesAtFailure (IsRunText request.now.options (O.bytes files.old name.now)) (W.contents writer.old) (W.contents writer.new)) }
+    ensures opened { OpensNext (O.opened files.old) (O.opened files.new) (name.now ∷ []) }
 {
-    let mut program = open(files, request.program)?;
-    let printed = run_text(rt, request, &mut program)?;
+    let mut program = open(files, name)?;
+    write_run(rt, request, &mut program, writer)
+}
+
+/// Runs the program that a reader has.
+fn write_run<H: Threads + Wait + Sync + AllocGlobal, P: Read, W: Write>(
+    rt: &H,
+    request: &RunRequest<'_>,
+    programs: &mut P,
+    writer: &mut W,
+) -> Result<u8, RunFailure>
+    requires some { 1 ≤ request.now.options.workers }
+    requires most { request.now.options.workers ≤ worker_limit }
+    requires capacity { (1 ≤ request.now.options.unit.capacity) × (request.now.options.unit.capacity ≤ capacity_limit) }
+    requires trigger { 1 ≤ request.now.options.unit.trigger }
+    requires turns { request.now.drain_turns ≤ drain_turns_limit }
+    ensures text { IfOk result (WritesText (IsRunText request.now.options (P.remaining programs.old)) (W.contents writer.old) (W.contents writer.new)) }
+    ensures fault { IfErr result (LeavesAtFailure (IsRunText request.now.options (P.remaining programs.old)) (W.contents writer.old) (W.contents writer.new)) }
+    ensures taken { IfOk result (λ _. LosesPrefix trace_read_limit (P.remaining programs.old) (P.remaining programs.new)) }
+{
+    let printed = run_text(rt, request, programs)?;
     write_text(writer, &printed.text)?;
     Ok(printed.status)
 }
@@ -57,6 +103,7 @@ fn run_text<H: Threads + Wait + Sync + AllocGlobal, P: Read>(
     requires trigger { 1 ≤ request.now.options.unit.trigger }
     requires turns { request.now.drain_turns ≤ drain_turns_limit }
     ensures text { IfOk result (λ printed. IsRunText request.now.options (P.remaining programs.old) printed.text.items printed.status) }
+    ensures taken { IfOk result (λ _. LosesPrefix trace_read_limit (P.remaining programs.old) (P.remaining programs.new)) }
     ensures fault { IfErr result (OnFault (λ fault. (fault ≡ Fault.OutOfMemory) ⊎ ((fault ≡ Fault.Read) ⊎ (fault ≡ Fault.NoThread)))) }
 {
     let input = read_all(rt.alloc(), programs, MAX_TEXT_BYTES)?;

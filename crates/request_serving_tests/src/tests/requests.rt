@@ -4,7 +4,8 @@ ghost use Rattle.command_line.specs.Requests.{HasDrainTurns, HasUnitRanges, HasW
 
 use super::{Ended, FailingReader, FailingWriter, expect};
 use command_line::{
-    CutRequest, JudgeRequest, Presentation, Printing, Request, RunOptions, UnitKind, UnitOptions,
+    CutRequest, JudgeRequest, Presentation, Printing, Request, RunOptions, TextPair, UnitKind,
+    UnitOptions,
 };
 use request_serving::{NamedFiles, end_by, serve};
 use std::alloc::{AllocError, Global};
@@ -211,26 +212,29 @@ fn cutting_into_pieces_of_one_event(rt: HostRuntime) -> Result<(), Fail> {
 
 #[test]
 fn checking(rt: HostRuntime) -> Result<(), Fail> {
-    let both = Request::Check {
-        trace: "trace",
-        certificate: "certificate",
-    };
+    let both = Request::Check(TextPair::Files("trace", "certificate"));
     let holds = outcome(&["trace", "certificate"], 3, "CERTIFICATE HOLDS\n", "");
     compare(&rt, &both, holds)?;
-    let no_trace = Request::Check {
-        trace: "other",
-        certificate: "certificate",
-    };
+    let no_trace = Request::Check(TextPair::Files("other", "certificate"));
     compare(&rt, &no_trace, outcome(&["other"], 4, "", READ))?;
-    let no_certificate = Request::Check {
-        trace: "certificate",
-        certificate: "other",
-    };
+    let no_certificate = Request::Check(TextPair::Files("certificate", "other"));
     compare(
         &rt,
         &no_certificate,
         outcome(&["certificate", "other"], 4, "", READ),
     )
+}
+
+/// A certificate on standard input isn't read where the trace is refused; a trace is read first.
+#[test]
+fn checking_with_standard_input(rt: HostRuntime) -> Result<(), Fail> {
+    let unread = Request::Check(TextPair::FileAndInput("certificate"));
+    let refused = outcome(&["certificate"], 2, "REFUSED BadHeader line 1\n", "");
+    compare(&rt, &unread, refused)?;
+    let certificate = Request::Check(TextPair::FileAndInput("trace"));
+    compare(&rt, &certificate, outcome(&["trace"], 4, "", READ))?;
+    let trace = Request::Check(TextPair::InputAndFile("certificate"));
+    compare(&rt, &trace, outcome(&["certificate"], 4, "", READ))
 }
 
 /// The request to replay these files on a serial unit.
@@ -265,8 +269,7 @@ fn replay_on<'a>(
     };
     Request::Replay {
         options,
-        program,
-        schedule,
+        texts: TextPair::Files(program, schedule),
     }
 }
 

@@ -57,6 +57,6 @@ fn arguments_without_a_request(rt: HostRuntime) -> Result<(), Fail> {
     let refused = ended(&rt, rt.alloc(), "", "judge a b")?;
     expect(&rt, "two files", &refused, 2, "", SECOND_FILE);
     let version = ended(&rt, rt.alloc(), "", "--version")?;
-    expect(&rt, "version", &version, 0, "tsobench 0.1.0\n", "");
+    expect(&rt, "version", &version, 0, "tsobench 0.9.0\n", "");
     Ok(())
 }

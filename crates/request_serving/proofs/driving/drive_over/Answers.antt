@@ -49,9 +49,9 @@ returns-in-Ok-clause-no_false_alarm g c = λ asked asks lawful.
 pub returns-in-Err-clause-no_false_alarm : goal.returns-in-Err-clause-no_false_alarm
 returns-in-Err-clause-no_false_alarm g c = λ asked asks lawful three. omega (arith, c.end_by.ensures.status, three)
 
-pub returns-in-Ok-clause-no_false_alarm_of_file : goal.returns-in-Ok-clause-no_false_alarm_of_file
-returns-in-Ok-clause-no_false_alarm_of_file g c = λ asked asks lawful.
-    c.serve.ensures.no_false_alarm_of_file (subst (λ a. RunsLawfully a (g.O.NamedFiles.bytes c.args.files.now)) (sym (c.in-Ok.ensures.asked asked asks)) lawful)
+pub returns-in-Ok-clause-no_false_alarm_of_text : goal.returns-in-Ok-clause-no_false_alarm_of_text
+returns-in-Ok-clause-no_false_alarm_of_text g c = λ asked asks lawful.
+    c.serve.ensures.no_false_alarm_of_text (subst (λ a. RunsLawfully a (g.R.Read.remaining c.args.reader.now) (g.O.NamedFiles.bytes c.args.files.now)) (sym (c.in-Ok.ensures.asked asked asks)) lawful)
 
-pub returns-in-Err-clause-no_false_alarm_of_file : goal.returns-in-Err-clause-no_false_alarm_of_file
-returns-in-Err-clause-no_false_alarm_of_file g c = λ asked asks lawful three. omega (arith, c.end_by.ensures.status, three)
+pub returns-in-Err-clause-no_false_alarm_of_text : goal.returns-in-Err-clause-no_false_alarm_of_text
+returns-in-Err-clause-no_false_alarm_of_text g c = λ asked asks lawful three. omega (arith, c.end_by.ensures.status, three)

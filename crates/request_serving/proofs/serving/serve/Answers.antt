@@ -5,7 +5,7 @@ use Rattle.request_serving.proofs.EndFacts.{opens_all}
 use Rattle.request_serving.proofs.ReplayingFacts.{at_text, ends_by_text}
 use Rattle.request_serving.proofs.RunningFacts.{ends_run}
 use Rattle.request_serving.specs.Running.{IsRunText}
-use Rattle.request_serving.proofs.LawfulFacts.{file_status, lawful_status}
+use Rattle.request_serving.proofs.LawfulFacts.{known_status, lawful_status}
 use Rattle.request_serving.proofs.serving.serve.Goals as goal
 
 pub returns-in-Replay-clause-ends : goal.returns-in-Replay-clause-ends
@@ -36,8 +36,8 @@ returns-in-Replay-clause-no_false_alarm g c = λ lawful. lawful_status (asked_of
 pub returns-in-Run-clause-no_false_alarm : goal.returns-in-Run-clause-no_false_alarm
 returns-in-Run-clause-no_false_alarm g c = λ lawful. lawful_status (asked_of c.args.request.now) _ _ _ _ (returns-in-Run-clause-ends g c) lawful
 
-pub returns-in-Replay-clause-no_false_alarm_of_file : goal.returns-in-Replay-clause-no_false_alarm_of_file
-returns-in-Replay-clause-no_false_alarm_of_file g c = λ lawful. file_status (asked_of c.args.request.now) _ _ _ _ (returns-in-Replay-clause-ends g c) lawful
+pub returns-in-Replay-clause-no_false_alarm_of_text : goal.returns-in-Replay-clause-no_false_alarm_of_text
+returns-in-Replay-clause-no_false_alarm_of_text g c = λ lawful. known_status (asked_of c.args.request.now) _ _ _ _ (returns-in-Replay-clause-ends g c) lawful
 
-pub returns-in-Run-clause-no_false_alarm_of_file : goal.returns-in-Run-clause-no_false_alarm_of_file
-returns-in-Run-clause-no_false_alarm_of_file g c = λ lawful. file_status (asked_of c.args.request.now) _ _ _ _ (returns-in-Run-clause-ends g c) lawful
+pub returns-in-Run-clause-no_false_alarm_of_text : goal.returns-in-Run-clause-no_false_alarm_of_text
+returns-in-Run-clause-no_false_alarm_of_text g c = λ lawful. known_status (asked_of c.args.request.now) _ _ _ _ (returns-in-Run-clause-ends g c) lawful

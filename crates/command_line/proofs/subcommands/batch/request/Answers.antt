@@ -1,7 +1,5 @@
-use Rattle.std.proofs.Common.{◌∙◌, refl}
-use Rattle.clap.specs.Words.{found_of}
-use Rattle.clap.proofs.WalkLemmas.{first_value-rows}
+use Rattle.std.proofs.Common.{refl}
 use Rattle.command_line.proofs.subcommands.batch.request.Goals as goal
 
 pub returns : goal.returns
-returns c = rw (c.get_str.ensures ∙ first_value-rows (found_of c.args.matches.now) _, c.workers.ensures.value, c.is_used.ensures) refl
+returns c = rw (c.file.ensures, c.workers.ensures.value, c.is_used.ensures) refl

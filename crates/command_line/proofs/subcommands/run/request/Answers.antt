@@ -1,13 +1,9 @@
-use Rattle.std.proofs.Common.{◌∙◌, refl, sym}
-use Rattle.clap.specs.Words.{found_of}
-use Rattle.command_line.proofs.FoundLemmas.{running_are, value_or_empty}
+use Rattle.std.proofs.Common.{◌∙◌, sym}
+use Rattle.command_line.proofs.FoundLemmas.{running_are}
 use Rattle.command_line.proofs.subcommands.run.request.Goals as goal
 
 pub returns-in-Some : goal.returns-in-Some
-returns-in-Some c =
-    let found = found_of c.args.matches.now in
-    rw (sym c.printing.ensures ∙ c.in-Some.is) (running_are _ _ c.run_options.ensures c.required_number.ensures c.drain_turns_of.ensures
-    (value_or_empty found _ c.get_str.result c.unwrap_or.result _ c.unwrap_or.ensures refl c.get_str.ensures))
+returns-in-Some c = rw (sym c.printing.ensures ∙ c.in-Some.is) (running_are _ _ c.run_options.ensures c.required_number.ensures c.drain_turns_of.ensures c.file.ensures)
 
 pub returns-in-None : goal.returns-in-None
-returns-in-None c = rw (sym c.printing.ensures ∙ c.in-None.is) c.refuse_both.ensures
+returns-in-None c = rw (sym c.printing.ensures ∙ c.in-None.is) c.refuse.ensures

@@ -1,0 +1,17 @@
+use Rattle.clap.specs.Words.{found_of, rows_of}
+use Rattle.command_line.specs.Requests.{HasDrainTurns, HasUnitRanges, HasWorkers}
+use Rattle.command_line.proofs.FoundLemmas.{of_replay, of_request}
+use Rattle.command_line.proofs.subcommands.Subcommand.request.Goals as goal
+
+pub returns-in-Replay-clause-workers : goal.returns-in-Replay-clause-workers
+returns-in-Replay-clause-workers c =
+    of_request HasWorkers _ (of_replay HasWorkers tt (λ options first second some most capacity capacity_most trigger. (some, most)) (rows_of (found_of c.args.matches.now))) _ c.request-in-Replay.ensures
+
+pub returns-in-Replay-clause-unit : goal.returns-in-Replay-clause-unit
+returns-in-Replay-clause-unit c =
+    of_request HasUnitRanges _ (of_replay HasUnitRanges tt (λ options first second some most capacity capacity_most trigger. (capacity, capacity_most, trigger)) (rows_of (found_of c.args.matches.now))) _
+    c.request-in-Replay.ensures
+
+pub returns-in-Replay-clause-turns : goal.returns-in-Replay-clause-turns
+returns-in-Replay-clause-turns c =
+    of_request HasDrainTurns _ (of_replay HasDrainTurns tt (λ options first second some most capacity capacity_most trigger. tt) (rows_of (found_of c.args.matches.now))) _ c.request-in-Replay.ensures

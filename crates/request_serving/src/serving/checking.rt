@@ -1,0 +1,62 @@
+//! `check`: a certificate against its trace.
+ghost use Rattle.std.specs.Prelude.{◌≡◌, ◌≢◌, [], ◌∷◌, ◌++◌, IfOk, IfErr, OnOk, true, false, option_to_list};
+ghost use Rattle.command_line.specs.Requests.{checking, files_of};
+ghost use Rattle.tso_report.specs.declared.faults.Fault.TheVariants.{NoThread};
+ghost use Rattle.tso_report.specs.WrittenReports.{LeavesCheckFault, WritesCheckReport};
+ghost use Rattle.request_serving.specs.OpenedFiles.{OpensFirst, OpensNext, TakesInput, files_named, reads_input, text_bytes};
+
+use crate::files::{NamedFiles, open};
+use command_line::TextPair;
+use std::alloc::Global;
+use std::io::{Read, Write};
+use tso_report::{Fault, Verdict, check_texts};
+
+/// Checks a certificate, the second text, against a trace, the first. Their files are opened before one is read.
+pub(crate) fn check_named<O: NamedFiles, R: Read, W: Write>(
+    alloc: Global,
+    texts: TextPair<'_>,
+    files: &mut O,
+    reader: &mut R,
+    writer: &mut W,
+) -> Result<Verdict, Fault>
+    ensures report { let traces = text_bytes (files_of texts).0 (R.remaining reader.old) (O.bytes files.old) in let certificates = text_bytes (files_of texts).1 (R.remaining reader.old) (O.bytes files.old) in IfOk result (WritesCheckReport traces certificates (W.contents writer.old) (W.contents writer.new)) }
+    ensures fault { let traces = text_bytes (files_of texts).0 (R.remaining reader.old) (O.bytes files.old) in let certificates = text_bytes (files_of texts).1 (R.remaining reader.old) (O.bytes files.old) in IfErr result (LeavesCheckFault traces certificates (W.contents writer.old) (W.contents writer.new)) }
+    ensures no_thread { IfErr result (λ fault. fault ≢ NoThread) }
+    ensures first { OpensFirst (O.opened files.old) (O.opened files.new) (files_named (checking (files_of texts).0 (files_of texts).1)) }
+    ensures opened { OnOk result (OpensNext (O.opened files.old) (O.opened files.new) (files_named (checking (files_of texts).0 (files_of texts).1))) }
+    ensures unread { reads_input (checking (files_of texts).0 (files_of texts).1) ≡ false → reader.new ≡ reader.old }
+    ensures taken { reads_input (checking (files_of texts).0 (files_of texts).1) ≡ true → OnOk result (TakesInput (checking (files_of texts).0 (files_of texts).1) (R.remaining reader.old) (R.remaining reader.new)) }
+{
+    match texts {
+        TextPair::Files(trace, certificate) => {
+            check_files(alloc, trace, certificate, files, writer)
+        }
+        TextPair::InputAndFile(certificate) => {
+            let mut certificate = open(files, certificate)?;
+            check_texts(alloc, reader, &mut certificate, writer)
+        }
+        TextPair::FileAndInput(trace) => {
+            let mut trace = open(files, trace)?;
+            check_texts(alloc, &mut trace, reader, writer)
+        }
+    }
+}
+
+/// Checks the certificate in one file against the trace in another. Both are opened before one is read.
+fn check_files<O: NamedFiles, W: Write>(
+    alloc: Global,
+    trace: &str,
+    certificate: &str,
+    files: &mut O,
+    writer: &mut W,
+) -> Result<Verdict, Fault>
+    ensures report { IfOk result (WritesCheckReport (O.bytes files.old trace.now) (O.bytes files.old certificate.now) (W.contents writer.old) (W.contents writer.new)) }
+    ensures fault { IfErr result (LeavesCheckFault (O.bytes files.old trace.now) (O.bytes files.old certificate.now) (W.contents writer.old) (W.contents writer.new)) }
+    ensures no_thread { IfErr result (λ fault. fault ≢ NoThread) }
+    ensures first { OpensFirst (O.opened files.old) (O.opened files.new) (trace.now ∷ certificate.now ∷ []) }
+    ensures opened { OnOk result (OpensNext (O.opened files.old) (O.opened files.new) (trace.now ∷ certificate.now ∷ [])) }
+{
+    let mut trace = open(files, trace)?;
+    let mut certificate = open(files, certificate)?;
+    check_texts(alloc, &mut trace, &mut certificate, writer)
+}
