@@ -19,13 +19,13 @@ pub(crate) fn check_named<O: NamedFiles, R: Read, W: Write>(
     reader: &mut R,
     writer: &mut W,
 ) -> Result<Verdict, Fault>
-    ensures report { let traces = text_bytes (files_of texts).0 (R.remaining reader.old) (O.bytes files.old) in let certificates = text_bytes (files_of texts).1 (R.remaining reader.old) (O.bytes files.old) in IfOk result (WritesCheckReport traces certificates (W.contents writer.old) (W.contents writer.new)) }
-    ensures fault { let traces = text_bytes (files_of texts).0 (R.remaining reader.old) (O.bytes files.old) in let certificates = text_bytes (files_of texts).1 (R.remaining reader.old) (O.bytes files.old) in IfErr result (LeavesCheckFault traces certificates (W.contents writer.old) (W.contents writer.new)) }
+    ensures report { let traces = text_bytes (files_of texts.entry).0 (R.remaining reader.old) (O.bytes files.old) in let certificates = text_bytes (files_of texts.entry).1 (R.remaining reader.old) (O.bytes files.old) in IfOk result (WritesCheckReport traces certificates (W.contents writer.old) (W.contents writer.new)) }
+    ensures fault { let traces = text_bytes (files_of texts.entry).0 (R.remaining reader.old) (O.bytes files.old) in let certificates = text_bytes (files_of texts.entry).1 (R.remaining reader.old) (O.bytes files.old) in IfErr result (LeavesCheckFault traces certificates (W.contents writer.old) (W.contents writer.new)) }
     ensures no_thread { IfErr result (λ fault. fault ≢ NoThread) }
-    ensures first { OpensFirst (O.opened files.old) (O.opened files.new) (files_named (checking (files_of texts).0 (files_of texts).1)) }
-    ensures opened { OnOk result (OpensNext (O.opened files.old) (O.opened files.new) (files_named (checking (files_of texts).0 (files_of texts).1))) }
-    ensures unread { reads_input (checking (files_of texts).0 (files_of texts).1) ≡ false → reader.new ≡ reader.old }
-    ensures taken { reads_input (checking (files_of texts).0 (files_of texts).1) ≡ true → OnOk result (TakesInput (checking (files_of texts).0 (files_of texts).1) (R.remaining reader.old) (R.remaining reader.new)) }
+    ensures first { OpensFirst (O.opened files.old) (O.opened files.new) (files_named (checking (files_of texts.entry).0 (files_of texts.entry).1)) }
+    ensures opened { OnOk result (OpensNext (O.opened files.old) (O.opened files.new) (files_named (checking (files_of texts.entry).0 (files_of texts.entry).1))) }
+    ensures unread { reads_input (checking (files_of texts.entry).0 (files_of texts.entry).1) ≡ false → reader.new ≡ reader.old }
+    ensures taken { reads_input (checking (files_of texts.entry).0 (files_of texts.entry).1) ≡ true → OnOk result (TakesInput (checking (files_of texts.entry).0 (files_of texts.entry).1) (R.remaining reader.old) (R.remaining reader.new)) }
 {
     match texts {
         TextPair::Files(trace, certificate) => {

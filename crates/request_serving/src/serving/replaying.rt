@@ -36,12 +36,12 @@ pub(crate) fn replay_named<H: Threads + Wait + AllocGlobal, O: NamedFiles, R: Re
     requires most { options.now.workers ≤ worker_limit }
     requires capacity { (1 ≤ options.now.unit.capacity) × (options.now.unit.capacity ≤ capacity_limit) }
     requires trigger { 1 ≤ options.now.unit.trigger }
-    ensures text { let programs = text_bytes (files_of texts).0 (R.remaining reader.old) (O.bytes files.old) in let schedules = text_bytes (files_of texts).1 (R.remaining reader.old) (O.bytes files.old) in IfOk result (WritesText (IsReplayText options.now programs schedules) (W.contents writer.old) (W.contents writer.new)) }
-    ensures fault { let programs = text_bytes (files_of texts).0 (R.remaining reader.old) (O.bytes files.old) in let schedules = text_bytes (files_of texts).1 (R.remaining reader.old) (O.bytes files.old) in IfErr result (LeavesAtFault (IsPrintable (IsReplayText options.now programs schedules)) (W.contents writer.old) (W.contents writer.new)) }
-    ensures first { OpensFirst (O.opened files.old) (O.opened files.new) (files_named (replaying options.now (files_of texts).0 (files_of texts).1)) }
-    ensures opened { OnOk result (OpensNext (O.opened files.old) (O.opened files.new) (files_named (replaying options.now (files_of texts).0 (files_of texts).1))) }
-    ensures unread { reads_input (replaying options.now (files_of texts).0 (files_of texts).1) ≡ false → reader.new ≡ reader.old }
-    ensures taken { reads_input (replaying options.now (files_of texts).0 (files_of texts).1) ≡ true → OnOk result (TakesInput (replaying options.now (files_of texts).0 (files_of texts).1) (R.remaining reader.old) (R.remaining reader.new)) }
+    ensures text { let programs = text_bytes (files_of texts.entry).0 (R.remaining reader.old) (O.bytes files.old) in let schedules = text_bytes (files_of texts.entry).1 (R.remaining reader.old) (O.bytes files.old) in IfOk result (WritesText (IsReplayText options.now programs schedules) (W.contents writer.old) (W.contents writer.new)) }
+    ensures fault { let programs = text_bytes (files_of texts.entry).0 (R.remaining reader.old) (O.bytes files.old) in let schedules = text_bytes (files_of texts.entry).1 (R.remaining reader.old) (O.bytes files.old) in IfErr result (LeavesAtFault (IsPrintable (IsReplayText options.now programs schedules)) (W.contents writer.old) (W.contents writer.new)) }
+    ensures first { OpensFirst (O.opened files.old) (O.opened files.new) (files_named (replaying options.now (files_of texts.entry).0 (files_of texts.entry).1)) }
+    ensures opened { OnOk result (OpensNext (O.opened files.old) (O.opened files.new) (files_named (replaying options.now (files_of texts.entry).0 (files_of texts.entry).1))) }
+    ensures unread { reads_input (replaying options.now (files_of texts.entry).0 (files_of texts.entry).1) ≡ false → reader.new ≡ reader.old }
+    ensures taken { reads_input (replaying options.now (files_of texts.entry).0 (files_of texts.entry).1) ≡ true → OnOk result (TakesInput (replaying options.now (files_of texts.entry).0 (files_of texts.entry).1) (R.remaining reader.old) (R.remaining reader.new)) }
 {
     match texts {
         TextPair::Files(program, schedule) => {

@@ -1,5 +1,6 @@
-use Rattle.command_line.specs.Requests.{asked_of}
+use Rattle.command_line.specs.Requests.{asked_of, files_of}
 use Rattle.request_serving.specs.Endings.{Outputs, outputs}
+use Rattle.request_serving.specs.OpenedFiles.{name_in, text_bytes}
 use Rattle.request_serving.specs.Replaying.{IsReplayText}
 use Rattle.request_serving.proofs.EndFacts.{opens_all}
 use Rattle.request_serving.proofs.ReplayingFacts.{at_text, ends_by_text}
@@ -11,7 +12,9 @@ use Rattle.request_serving.proofs.serving.serve.Goals as goal
 pub returns-in-Replay-clause-ends : goal.returns-in-Replay-clause-ends
 returns-in-Replay-clause-ends g c =
     let o : Outputs = outputs (g.W.Write.contents c.args.writer.now) (g.W.Write.contents c.replay_named-replayed.new.writer) (g.E.Write.contents c.args.errors.now) (g.E.Write.contents c.end_with.new.errors) in
-    let is_text = IsReplayText c.in-Replay.options (g.O.NamedFiles.bytes c.args.files.now c.in-Replay.program.now) (g.O.NamedFiles.bytes c.args.files.now c.in-Replay.schedule.now) in
+    let input = g.R.Read.remaining c.args.reader.now in
+    let files = g.O.NamedFiles.bytes c.args.files.now in
+    let is_text = IsReplayText c.in-Replay.options (text_bytes (files_of c.in-Replay.texts).0 input files) (text_bytes (files_of c.in-Replay.texts).1 input files) in
     rw c.in-Replay.is (ends_by_text is_text o c.replay_named-replayed.result c.end_with.result c.replay_named-replayed.ensures.text c.replay_named-replayed.ensures.fault c.end_with.ensures.status c.end_with.ensures.fault)
 
 pub returns-in-Replay-clause-first : goal.returns-in-Replay-clause-first
@@ -24,7 +27,7 @@ returns-in-Replay-clause-opened g c = λ other.
 pub returns-in-Run-clause-ends : goal.returns-in-Run-clause-ends
 returns-in-Run-clause-ends g c =
     let o : Outputs = outputs (g.W.Write.contents c.args.writer.now) (g.W.Write.contents c.run_named-ran.new.writer) (g.E.Write.contents c.args.errors.now) (g.E.Write.contents c.end_run.new.errors) in
-    let is_text = IsRunText c.in-Run.run_request.options (g.O.NamedFiles.bytes c.args.files.now c.in-Run.run_request.program.now) in
+    let is_text = IsRunText c.in-Run.run_request.options (text_bytes (name_in c.in-Run.run_request.program) (g.R.Read.remaining c.args.reader.now) (g.O.NamedFiles.bytes c.args.files.now)) in
     rw c.in-Run.is (ends_run is_text o c.run_named-ran.result c.end_run.result c.run_named-ran.ensures.text c.run_named-ran.ensures.fault c.end_run.ensures.status c.end_run.ensures.failure)
 
 pub returns-in-Run-clause-first : goal.returns-in-Run-clause-first
