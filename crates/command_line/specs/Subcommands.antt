@@ -125,8 +125,8 @@ abbrev pub shape_of : Option Text → Option Text → Option Text → ShapeNumbe
 shape_of processors operations addresses =
     record { processors = number_or 0 processors; operations = number_or 0 operations; addresses = number_or 0 addresses }
 
-abbrev pub order_of : Option Text → Order
-order_of text = unwrap_or (option_and_then model_order text) default_model
+abbrev pub chosen_order : Option Text → Order
+chosen_order text = unwrap_or (option_and_then model_order text) default_model
 
 abbrev pub turns_of : Option Text → ℕ
 turns_of text = within 0 drain_turns_limit (number_or 0 text)
@@ -238,7 +238,7 @@ run = record {
 -- `make [--model MODEL] --seed N --procs P --ops O --addrs A`: prints the program that a seed draws
 abbrev pub ask_make : List (Option Text) → Asked
 ask_make (model_text ∷ seed_text ∷ procs_text ∷ ops_text ∷ addrs_text ∷ []) =
-    making (order_of model_text) (number_or 0 seed_text) (shape_of procs_text ops_text addrs_text)
+    making (chosen_order model_text) (number_or 0 seed_text) (shape_of procs_text ops_text addrs_text)
 ask_make texts = refusing
 
 abbrev pub make : Subcommand
@@ -252,7 +252,7 @@ ask_campaign
     campaigning (record {
       unit = unit_of unit_text capacity_text trigger_text;
       workers = workers_of workers_text;
-      order = order_of model_text;
+      order = chosen_order model_text;
       first = number_or 0 first_text;
       count = number_or 0 count_text;
       shape = shape_of procs_text ops_text addrs_text;

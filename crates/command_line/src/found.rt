@@ -1,7 +1,7 @@
 //! What the matches of a subcommand say of the files and options that several have.
 ghost use Rattle.std.specs.Prelude.{◌≡◌, ◌≤◌, codes, option_map};
 ghost use Rattle.clap.specs.Words.{first_of, found_of, one_of, rows_of};
-ghost use Rattle.command_line.specs.Subcommands.{events_of, file_of, number_or, order_of, pair_of, printing_of, is_true, run_of, shape_of, turns_of, unit_of, workers_of, within};
+ghost use Rattle.command_line.specs.Subcommands.{events_of, file_of, number_or, chosen_order, pair_of, printing_of, is_true, run_of, shape_of, turns_of, unit_of, workers_of, within};
 ghost use Rattle.command_line.specs.Requests.{capacity_limit, files_of, least_piece_limit, piece_event_limit};
 ghost use Rattle.command_line.specs.Units.{default_capacity, default_trigger, trigger_limit};
 ghost use Rattle.command_line.specs.Workers.{worker_limit};
@@ -46,7 +46,7 @@ pub(crate) fn text_pair<'a>(
 
 /// The memory model: TSO where none is named.
 pub(crate) fn order(matches: &ArgMatches<'_>) -> Order
-    ensures { result ≡ order_of (first_of (codes "model") (rows_of (found_of matches.now))) }
+    ensures { result ≡ chosen_order (first_of (codes "model") (rows_of (found_of matches.now))) }
 {
     let named = matches.get_str("model").and_then(order_named);
     named.unwrap_or(Order::Tso)

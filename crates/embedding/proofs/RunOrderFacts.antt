@@ -12,7 +12,7 @@ use Rattle.tso_ops.proofs.NumberFacts.{load_event, own_values, store_event}
 use Rattle.unit_core.specs.declared.steps.Step.{Step}
 use Rattle.unit_core.specs.Machine.{IsCompleteRun, IsFirstMemory, after, buffer_of, first_state, outcomes_of, stbars_of, trace_of}
 use Rattle.unit_core.proofs.RunFacts.{first-empty}
-use Rattle.embedding.specs.RunOrder.{Numbering, first_numberings, order_of}
+use Rattle.embedding.specs.RunOrder.{Numbering, first_numberings, memory_order_of}
 use Rattle.embedding.proofs.Buffers.{waiting-none}
 use Rattle.embedding.proofs.Kept.{IsPlaced, after_load, of_stores, past_membar, past_stbar, placed_where_taken}
 use Rattle.embedding.proofs.LoadedValues.{KeepsAddresses, reads_where_taken}
@@ -48,7 +48,7 @@ module _ (setting : SettingValue) (count : ℕ) (steps : List Step) (run : IsCom
   t = trace_of setting count steps
 
   abbrev whole : List ℕ
-  whole = order_of count run.memory steps
+  whole = memory_order_of count run.memory steps
 
   at_first : IsMoment t count (past_of count steps) (first_numberings count steps) (first_state run.memory) [] steps
   at_first = first_moment setting count steps run.memory run.first

@@ -55,5 +55,5 @@ abbrev pub first_numberings : ℕ → List Step → ℕ → Numbering
 first_numberings count steps p = record { following = suc (events_before 0 count steps p); waiting = [] }
 
 -- The order of a run of so many processors from this memory.
-abbrev pub order_of : ℕ → List ℕ → List Step → List ℕ
-order_of count memory steps = order_from (first_numberings count steps) (first_state memory) steps
+abbrev pub memory_order_of : ℕ → List ℕ → List Step → List ℕ
+memory_order_of count memory steps = order_from (first_numberings count steps) (first_state memory) steps

@@ -8,12 +8,12 @@ ghost use Rattle.tso_model.specs.Axioms.{IsConsistent, IsModelOrder};
 ghost use Rattle.tso_model.specs.Rules.{HasDerivedCycle};
 ghost use Rattle.unit_core.specs.declared.steps.Step.{Step};
 ghost use Rattle.unit_core.specs.Machine.{IsCompleteRun, trace_of};
-ghost use Rattle.embedding.specs.RunOrder.{order_of};
+ghost use Rattle.embedding.specs.RunOrder.{memory_order_of};
 
 /// A complete run of either memory model, from any first values, gives an order that meets the axioms of its trace's model.
 pub fn complete_runs_have_orders()
     ensures order { (setting : SettingValue) (count : ℕ) (steps : List Step) (run : IsCompleteRun setting count steps) →
-        IsModelOrder (trace_of setting count steps) (order_of count run.memory steps) }
+        IsModelOrder (trace_of setting count steps) (memory_order_of count run.memory steps) }
     ensures consistent { (setting : SettingValue) (count : ℕ) (steps : List Step) → IsCompleteRun setting count steps → IsConsistent (trace_of setting count steps) }
 {}
 

@@ -4,7 +4,7 @@ use Rattle.std.specs.List.{slice_split, join_with_byte, onto_first, position, po
 use Rattle.std.proofs.lemmas.Bool.Decides.{nat_tests}
 use Rattle.std.proofs.lemmas.List.Splits.{slice_split_first, slice_split_none, join_with_byte-slice_split, slice_split-cons_yes, slice_split-cons_no}
 use Rattle.std.proofs.lemmas.List.Sums.{fails_before_first}
-use Rattle.line_text.specs.Lines.{SomePiece, pieces_after, pieces_of, parts_of, is_empty}
+use Rattle.line_text.specs.Lines.{SomeToken, tokens_after, tokens_of, parts_of, is_empty}
 
 some_place : (b : Bool) (n i : ℕ) → cond b (Some n) None ≡ Some i → (b ≡ true) × (n ≡ i)
 some_place true n i e = (refl, cc)
@@ -39,18 +39,18 @@ split_parts p [] = ([], [], refl)
 split_parts p (x ∷ xs) = elim (p x) as (λ b. (first : List _) × (others : List (List _)) × (cond b ([] ∷ slice_split p xs) (onto_first x (slice_split p xs)) ≡ first ∷ others))
     [ true ↦ ([], slice_split p xs, refl) | false ↦ onto_first_parts x (slice_split p xs) ]
 
--- there is a piece after a space
-pub pieces_after_some : (pieces : Option (Bor (List ℕ))) (rest : Bor (List ℕ)) → pieces ≡ Some rest → SomePiece (pieces_after pieces)
-unfolding pieces_of
-pieces_after_some pieces rest is =
+-- there is a token after a space
+pub tokens_after_some : (tokens : Option (Bor (List ℕ))) (rest : Bor (List ℕ)) → tokens ≡ Some rest → SomeToken (tokens_after tokens)
+unfolding tokens_of
+tokens_after_some tokens rest is =
     let p = split_parts (λ b. eqb b 32) rest.now in
     rw is record { first = p.0; others = p.1; parts = p.2 }
 
 -- bytes leave a part that isn't empty
-pub some_part : (pieces_after first : List ℕ) (others : List (List ℕ)) → slice_split (λ b. eqb b 10) pieces_after ≡ first ∷ others → (length pieces_after ≡ 0 → ⊥) → not (is_empty others && is_empty first) ≡ true
-some_part pieces_after [] [] parts some = absurd (some (ap length (sym (join_with_byte-slice_split 10 pieces_after) ∙ ap (join_with_byte 10) parts)))
-some_part pieces_after (b ∷ first) [] parts some = refl
-some_part pieces_after first (next ∷ others) parts some = refl
+pub some_part : (tokens_after first : List ℕ) (others : List (List ℕ)) → slice_split (λ b. eqb b 10) tokens_after ≡ first ∷ others → (length tokens_after ≡ 0 → ⊥) → not (is_empty others && is_empty first) ≡ true
+some_part tokens_after [] [] parts some = absurd (some (ap length (sym (join_with_byte-slice_split 10 tokens_after) ∙ ap (join_with_byte 10) parts)))
+some_part tokens_after (b ∷ first) [] parts some = refl
+some_part tokens_after first (next ∷ others) parts some = refl
 
 -- a text has no line, or a first one
 pub record HasLine (text : List ℕ) : Type 0 where

@@ -14,12 +14,12 @@ use Rattle.line_text.specs.Numbers.{is_canonical, is_numeral, number}
 pub digits_model : IsNumeralModel (λ ds. list_all is_ascii_digit ds ≡ true) (digits_value 10)
 digits_model = numerals_by_value _ (search rules)
 
--- a piece that is not canonical spells no number
-pub number-not_canonical : (piece : List ℕ) → is_canonical piece ≡ false → number piece ≡ None
+-- a token that is not canonical spells no number
+pub number-not_canonical : (token : List ℕ) → is_canonical token ≡ false → number token ≡ None
 unfolding number
-number-not_canonical piece off = rw off (elim (list_all is_ascii_digit piece) as (λ b. cond (b && false && ltb (digits_value 10 piece) (2 ^ 64)) (Some (digits_value 10 piece)) None ≡ None) [ true ↦ refl | false ↦ refl ])
+number-not_canonical token off = rw off (elim (list_all is_ascii_digit token) as (λ b. cond (b && false && ltb (digits_value 10 token) (2 ^ 64)) (Some (digits_value 10 token)) None ≡ None) [ true ↦ refl | false ↦ refl ])
 
-pub length-canonical : (piece : List ℕ) → is_canonical piece ≡ true → 0 < length piece
+pub length-canonical : (token : List ℕ) → is_canonical token ≡ true → 0 < length token
 length-canonical [] canonical = absurd cc
 length-canonical (d ∷ ds) canonical = omega arith
 
@@ -49,9 +49,9 @@ number-by_parts : (a b : Bool) (n : ℕ) → cond ((a && true) && b) (Some n) No
 number-by_parts true b n = refl
 number-by_parts false b n = refl
 
-pub number-canonical : (piece : List ℕ) → is_canonical piece ≡ true → number piece ≡ number_after 0 piece
+pub number-canonical : (token : List ℕ) → is_canonical token ≡ true → number token ≡ number_after 0 token
 unfolding number number_after
-number-canonical piece canonical = rw canonical (number-by_parts (list_all is_ascii_digit piece) (ltb (digits_value 10 piece) (2 ^ 64)) (digits_value 10 piece))
+number-canonical token canonical = rw canonical (number-by_parts (list_all is_ascii_digit token) (ltb (digits_value 10 token) (2 ^ 64)) (digits_value 10 token))
 
 pub number_after-nil : (n : ℕ) → n < 2 ^ 64 → number_after n [] ≡ Some n
 unfolding number_after

@@ -1,4 +1,4 @@
--- Numbers in texts: which pieces of a line are one.
+-- Numbers in texts: which tokens of a line are one.
 use Rattle.std.specs.Prelude.{ℕ, ◌^◌, ◌==◌, ◌&&◌, Bool, true, false, not, nat_lt, List, [], ◌∷◌, Option, Some, None, if◌then◌else◌}
 use Rattle.std.specs.List.{list_all}
 use Rattle.std.specs.Char.{is_ascii_digit}
@@ -12,8 +12,8 @@ is_canonical (d ∷ e ∷ ds) = not (d == 48)
 
 -- digits without a leading zero, of a value that 64 bits hold
 abbrev pub is_numeral : List ℕ → Bool
-is_numeral piece = list_all is_ascii_digit piece && is_canonical piece && nat_lt (digits_value 10 piece) (2 ^ 64)
+is_numeral token = list_all is_ascii_digit token && is_canonical token && nat_lt (digits_value 10 token) (2 ^ 64)
 
--- the number that a piece spells
+-- the number that a token spells
 unfoldable pub number : List ℕ → Option ℕ
-number piece = if is_numeral piece then Some (digits_value 10 piece) else None
+number token = if is_numeral token then Some (digits_value 10 token) else None

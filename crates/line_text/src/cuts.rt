@@ -1,12 +1,12 @@
 ghost use Rattle.std.specs.Prelude.{◌≡◌, [], ◌∷◌, ◌==◌, ◌<◌, length, IfSome, IfNone, position};
 ghost use Rattle.std.specs.List.{slice_split};
-ghost use Rattle.line_text.specs.Lines.{parts_of, pieces_of, pieces_after};
+ghost use Rattle.line_text.specs.Lines.{parts_of, tokens_of, tokens_after};
 ghost use Rattle.line_text.specs.Internal.Cuts.{parts_after};
 
 /// The byte that ends a line.
 const LINE_END: u8 = 10;
 
-/// The byte between the pieces of a line.
+/// The byte between the tokens of a line.
 const SPACE: u8 = 32;
 
 /// The first line, without its line end, and what follows it; nothing where no byte ends a line.
@@ -22,10 +22,10 @@ pub fn next_line(text: &[u8]) -> Option<(&[u8], &[u8])>
     }
 }
 
-/// The first piece of a line, and what stands after its space, if a space ends it.
-#[tactic(auto, unfolding(crate::specs::Lines::pieces_of))]
-pub fn next_piece(line: &[u8]) -> (&[u8], Option<&[u8]>)
-    ensures pieces { pieces_of line.now ≡ result.0.now ∷ pieces_after result.1 }
+/// The first token of a line, and what stands after its space, if a space ends it.
+#[tactic(auto, unfolding(crate::specs::Lines::tokens_of))]
+pub fn next_token(line: &[u8]) -> (&[u8], Option<&[u8]>)
+    ensures tokens { tokens_of line.now ≡ result.0.now ∷ tokens_after result.1 }
     ensures shorter { IfSome result.1 (λ rest. length rest.now < length line.now) }
 {
     cut(line, SPACE)

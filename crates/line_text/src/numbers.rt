@@ -2,15 +2,15 @@ ghost use Rattle.std.specs.Prelude.{◌≡◌, ◌+◌, ◌*◌, ◌^◌, ◌&&�
 ghost use Rattle.std.specs.Char.{is_ascii_digit, digit_value};
 ghost use Rattle.line_text.specs.Numbers.{is_canonical, number};
 
-/// The number that a piece spells: digits without a leading zero, within 64 bits.
-pub fn number_of(piece: &[u8]) -> Option<u64>
-    ensures { result ≡ number piece.now }
+/// The number that a token spells: digits without a leading zero, within 64 bits.
+pub fn number_of(token: &[u8]) -> Option<u64>
+    ensures { result ≡ number token.now }
 {
-    if !is_canonical(piece) {
+    if !is_canonical(token) {
         return None;
     }
     let mut value: u64 = 0;
-    for byte in piece {
+    for byte in token {
         value = with_digit(value, *byte)?;
     }
     Some(value)
@@ -28,11 +28,11 @@ fn with_digit(prefix: u64, byte: u8) -> Option<u64>
     prefix.checked_mul(10)?.checked_add(u64::from(byte - 48))
 }
 
-/// Whether a piece isn't empty and has no 0 before another byte.
-fn is_canonical(piece: &[u8]) -> bool
-    ensures { result ≡ is_canonical piece.now }
+/// Whether a token isn't empty and has no 0 before another byte.
+fn is_canonical(token: &[u8]) -> bool
+    ensures { result ≡ is_canonical token.now }
 {
-    match piece {
+    match token {
         [] => false,
         [_] => true,
         [first, _, ..] => *first != 48,

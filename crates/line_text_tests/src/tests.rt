@@ -1,6 +1,6 @@
 //! Lines, the parts between their spaces, and numbers.
 
-use line_text::{next_line, next_piece, number_of};
+use line_text::{next_line, next_token, number_of};
 use std::test::Fail;
 
 #[test]
@@ -25,7 +25,7 @@ fn lines_and_what_follows_them(rt: HostRuntime) -> Result<(), Fail> {
 }
 
 #[test]
-fn pieces_and_what_follows_them(rt: HostRuntime) -> Result<(), Fail> {
+fn tokens_and_what_follows_them(rt: HostRuntime) -> Result<(), Fail> {
     let cases: [(&[u8], &[u8], Option<&[u8]>); 5] = [
         (
             b"ld 1 0".as_slice(),
@@ -41,14 +41,14 @@ fn pieces_and_what_follows_them(rt: HostRuntime) -> Result<(), Fail> {
         (b"mb ".as_slice(), b"mb".as_slice(), Some(b"".as_slice())),
         (b"mb".as_slice(), b"mb".as_slice(), None),
     ];
-    for (line, piece, rest) in cases {
-        assert_eq!(rt; next_piece(line), (piece, rest));
+    for (line, token, rest) in cases {
+        assert_eq!(rt; next_token(line), (token, rest));
     }
     Ok(())
 }
 
 #[test]
-fn numbers_and_pieces_that_are_none(rt: HostRuntime) -> Result<(), Fail> {
+fn numbers_and_tokens_that_are_none(rt: HostRuntime) -> Result<(), Fail> {
     let cases: [(&[u8], Option<u64>); 9] = [
         (b"0".as_slice(), Some(0)),
         (b"70".as_slice(), Some(70)),
@@ -60,8 +60,8 @@ fn numbers_and_pieces_that_are_none(rt: HostRuntime) -> Result<(), Fail> {
         (b"".as_slice(), None),
         (b"\xd9\xa3".as_slice(), None),
     ];
-    for (piece, number) in cases {
-        assert_eq!(rt; number_of(piece), number);
+    for (token, number) in cases {
+        assert_eq!(rt; number_of(token), number);
     }
     Ok(())
 }

@@ -1,6 +1,6 @@
 -- What a line of a log says.
 use Rattle.std.specs.Prelude.{ℕ, List, [], ◌∷◌, Option, None, Some, Result, Ok, Err, codes, if◌then◌else◌}
-use Rattle.line_text.specs.Lines.{pieces_of}
+use Rattle.line_text.specs.Lines.{tokens_of}
 use Rattle.line_text.specs.Numbers.{number}
 use Rattle.line_text.specs.Results.{◌>>=◌}
 use Rattle.tso_text.specs.Numbers.{is_word, no_number, two_numbers, three_numbers}
@@ -11,30 +11,30 @@ use Rattle.log_text.specs.declared.logs.LogOperation.TheVariants.{Ld, St, Sw, Mb
 use Rattle.log_text.specs.declared.lines.LogLine.{LogLine}
 use Rattle.log_text.specs.declared.lines.LogLine.TheVariants.{Pso, First, Issued}
 
--- what the pieces after the processor say: `ld A R`, `st A V`, `sw A R V`, `mb` or `stbar`
+-- what the tokens after the processor say: `ld A R`, `st A V`, `sw A R V`, `mb` or `stbar`
 unfoldable pub operation_said : List (List ℕ) → Result LogOperation Why
 operation_said [] = Err BadLine
-operation_said (word ∷ pieces) =
-    if is_word word (codes "ld") then two_numbers pieces >>= (λ n. Ok (Ld n.0 n.1))
-    else if is_word word (codes "st") then two_numbers pieces >>= (λ n. Ok (St n.0 n.1))
-    else if is_word word (codes "sw") then three_numbers pieces >>= (λ n. Ok (Sw n.0 n.1 n.2))
-    else if is_word word (codes "mb") then no_number pieces >>= (λ _. Ok Mb)
-    else if is_word word (codes "stbar") then no_number pieces >>= (λ _. Ok Sb)
+operation_said (word ∷ tokens) =
+    if is_word word (codes "ld") then two_numbers tokens >>= (λ n. Ok (Ld n.0 n.1))
+    else if is_word word (codes "st") then two_numbers tokens >>= (λ n. Ok (St n.0 n.1))
+    else if is_word word (codes "sw") then three_numbers tokens >>= (λ n. Ok (Sw n.0 n.1 n.2))
+    else if is_word word (codes "mb") then no_number tokens >>= (λ _. Ok Mb)
+    else if is_word word (codes "stbar") then no_number tokens >>= (λ _. Ok Sb)
     else Err BadLine
 
--- the processor that the first piece of a line is, or its fault
+-- the processor that the first token of a line is, or its fault
 abbrev pub processor_said : Option ℕ → Result ℕ Why
 processor_said None = Err BadLine
 processor_said (Some p) = Ok p
 
--- what the pieces of a line say: `init A V`, or a processor and an operation
-unfoldable pub pieces_said : List (List ℕ) → Result LogLine Why
-pieces_said [] = Err BadLine
-pieces_said (word ∷ pieces) =
-    if is_word word (codes "init") then two_numbers pieces >>= (λ n. Ok (First n.0 n.1))
+-- what the tokens of a line say: `init A V`, or a processor and an operation
+unfoldable pub tokens_said : List (List ℕ) → Result LogLine Why
+tokens_said [] = Err BadLine
+tokens_said (word ∷ tokens) =
+    if is_word word (codes "init") then two_numbers tokens >>= (λ n. Ok (First n.0 n.1))
     else if is_word word (codes "model") then Err BadModel
-    else processor_said (number word) >>= λ p. operation_said pieces >>= λ x. Ok (Issued p x)
+    else processor_said (number word) >>= λ p. operation_said tokens >>= λ x. Ok (Issued p x)
 
 -- what a line says, or its fault: the one memory model that has a line is PSO
 unfoldable pub line_said : List ℕ → Result LogLine Why
-line_said line = if is_word line (codes "model pso") then Ok Pso else pieces_said (pieces_of line)
+line_said line = if is_word line (codes "model pso") then Ok Pso else tokens_said (tokens_of line)

@@ -1,10 +1,10 @@
 ghost use Rattle.std.specs.Prelude.{◌≡◌};
-ghost use Rattle.line_text.specs.Lines.{pieces_after};
+ghost use Rattle.line_text.specs.Lines.{tokens_after};
 ghost use Rattle.line_text.specs.Numbers.{number};
 ghost use Rattle.log_text.specs.LogLines.{line_said, operation_said, processor_said};
 
 use crate::logs::LogOperation;
-use line_text::{next_piece, number_of};
+use line_text::{next_token, number_of};
 use tso_text::{Why, no_number, three_numbers, two_numbers};
 
 /// What a line of a log says.
@@ -20,58 +20,58 @@ pub(crate) enum LogLine {
 
 /// What a line says, without its line end.
 ///
-/// Refused as BadLine where it is no line of a log, as BadNumber where a piece after a keyword is no number, and as BadModel
-/// where its first piece is `model` and it isn't `model pso`.
-#[tactic(auto, unfolding(crate::specs::LogLines::line_said, crate::specs::LogLines::pieces_said))]
+/// Refused as BadLine where it is no line of a log, as BadNumber where a token after a keyword is no number, and as BadModel
+/// where its first token is `model` and it isn't `model pso`.
+#[tactic(auto, unfolding(crate::specs::LogLines::line_said, crate::specs::LogLines::tokens_said))]
 pub(crate) fn line_said(line: &[u8]) -> Result<LogLine, Why>
     ensures { result ≡ line_said line.now }
 {
     if line == b"model pso".as_slice() {
         return Ok(LogLine::Pso);
     }
-    let (word, pieces) = next_piece(line);
+    let (word, tokens) = next_token(line);
     if word == b"init".as_slice() {
-        let (a, v) = two_numbers(pieces)?;
+        let (a, v) = two_numbers(tokens)?;
         Ok(LogLine::First { a, v })
     } else if word == b"model".as_slice() {
         Err(Why::BadModel)
     } else {
         let p = processor_said(word)?;
-        let x = operation_said(pieces)?;
+        let x = operation_said(tokens)?;
         Ok(LogLine::Issued { p, x })
     }
 }
 
-/// The processor that the first piece of a line is; BadLine where it is no number.
+/// The processor that the first token of a line is; BadLine where it is no number.
 fn processor_said(word: &[u8]) -> Result<u64, Why>
     ensures { result ≡ processor_said (number word.now) }
 {
     number_of(word).ok_or(Why::BadLine)
 }
 
-/// The operation that the pieces after the processor say, refused as a line is.
+/// The operation that the tokens after the processor say, refused as a line is.
 #[tactic(auto, unfolding(crate::specs::LogLines::operation_said))]
-fn operation_said(pieces: Option<&[u8]>) -> Result<LogOperation, Why>
-    ensures { result ≡ operation_said (pieces_after pieces.entry) }
+fn operation_said(tokens: Option<&[u8]>) -> Result<LogOperation, Why>
+    ensures { result ≡ operation_said (tokens_after tokens.entry) }
 {
-    let Some(rest) = pieces else {
+    let Some(rest) = tokens else {
         return Err(Why::BadLine);
     };
-    let (word, pieces) = next_piece(rest);
+    let (word, tokens) = next_token(rest);
     if word == b"ld".as_slice() {
-        let (a, r) = two_numbers(pieces)?;
+        let (a, r) = two_numbers(tokens)?;
         Ok(LogOperation::Ld { a, r })
     } else if word == b"st".as_slice() {
-        let (a, v) = two_numbers(pieces)?;
+        let (a, v) = two_numbers(tokens)?;
         Ok(LogOperation::St { a, v })
     } else if word == b"sw".as_slice() {
-        let (a, r, v) = three_numbers(pieces)?;
+        let (a, r, v) = three_numbers(tokens)?;
         Ok(LogOperation::Sw { a, r, v })
     } else if word == b"mb".as_slice() {
-        no_number(pieces)?;
+        no_number(tokens)?;
         Ok(LogOperation::Mb)
     } else if word == b"stbar".as_slice() {
-        no_number(pieces)?;
+        no_number(tokens)?;
         Ok(LogOperation::Sb)
     } else {
         Err(Why::BadLine)

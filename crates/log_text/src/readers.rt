@@ -21,8 +21,8 @@ use tso_text::{TextFault, Why, fault_of};
 ///
 /// - BadLine: a line of another form, as with a processor that is no number of 64 bits; a line without a line end; an `init`
 ///   after an operation.
-/// - BadNumber: a piece after `init`, `ld`, `st` or `sw` is no number of 64 bits.
-/// - BadModel: a line `model pso` that isn't the first, or another line whose first piece is `model`.
+/// - BadNumber: a token after `init`, `ld`, `st` or `sw` is no number of 64 bits.
+/// - BadModel: a line `model pso` that isn't the first, or another line whose first token is `model`.
 /// - InitOrder: an `init` of an address that isn't above those before.
 /// - ProcessorRange: a processor above 15.
 ///

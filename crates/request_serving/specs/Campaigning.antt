@@ -1,7 +1,7 @@
 -- What the program prints of campaigns.
 use Rattle.std.specs.Prelude.{◌≡◌, ◌⊎◌, ℕ, ◌+◌, ◌<◌, ◌≤◌, ◌^◌, List, [], ◌∷◌, ◌++◌, codes, replicate, Option}
 use Rattle.std.specs.Io.KnownBytes.{Keeps}
-use Rattle.tso_ops.specs.Making.{IsShape}
+use Rattle.tso_ops.specs.MadePrograms.{IsShape}
 use Rattle.command_line.specs.declared.options.CampaignOptions.{CampaignOptions}
 use Rattle.tso_report.specs.Campaigns.{IsCampaign}
 use Rattle.tso_report.specs.declared.campaigns.CampaignPrograms.{CampaignPrograms}
@@ -11,7 +11,7 @@ use Rattle.tso_report.specs.Streams.{AppendsPrefix}
 use Rattle.tso_report.specs.Limits.{seed_count_limit}
 use Rattle.tso_report.specs.declared.verdicts.Verdict.{Verdict}
 use Rattle.unit_core.specs.Units.{UnitValue}
-use Rattle.request_serving.specs.Making.{IsShapeRefusal, asked_shape}
+use Rattle.request_serving.specs.MadePrograms.{IsShapeRefusal, asked_shape}
 use Rattle.request_serving.specs.Printing.{unit_of}
 use Rattle.request_serving.specs.Statuses.{status_of}
 

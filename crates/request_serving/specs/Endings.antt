@@ -13,7 +13,7 @@ use Rattle.explaining.specs.WrittenExplanations.{IsExplanationOfReader}
 use Rattle.trace_batches.specs.Batches.{IsBatchFault, IsBatchOfReader}
 use Rattle.log_cuts.specs.LogCuts.{IsCutFault, LeavesCut, WritesCut, WritesRefusal}
 use Rattle.request_serving.specs.Campaigning.{IsCampaignText, LeavesCampaignText}
-use Rattle.request_serving.specs.Making.{IsMadeText, LeavesMadeText}
+use Rattle.request_serving.specs.MadePrograms.{IsMadeText, LeavesMadeText}
 use Rattle.request_serving.specs.OpenedFiles.{text_bytes}
 use Rattle.request_serving.specs.Replaying.{IsReplayText}
 use Rattle.request_serving.specs.Running.{IsRunText}

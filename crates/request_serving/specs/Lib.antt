@@ -4,7 +4,7 @@ pub mod Endings
 pub mod Failures
 pub mod Internal
 pub mod LawfulRequests
-pub mod Making
+pub mod MadePrograms
 pub mod OpenedFiles
 pub mod Printing
 pub mod Replaying

@@ -51,7 +51,7 @@ pub fn drive<H: Threads + Wait + Sync + Files + AllocGlobal, R: Read, W: Write, 
     drive_over(rt, arguments, &mut files, reader, writer, errors)
 }
 
-/// Does so with these files in place of the system's.
+/// Does the same over these files, which need not be the system's.
 pub fn drive_over<
     H: Threads + Wait + Sync + AllocGlobal,
     O: NamedFiles,

@@ -4,7 +4,7 @@ use Rattle.std.specs.Global.{Vec}
 use Rattle.std.proofs.lemmas.List.{append-nil, length-take, take_all, take_more, map-append}
 use Rattle.std.proofs.lemmas.List.Elements.{All-cons, All-nil}
 use Rattle.stream_pieces.specs.Cutters.{Accepts, CutterValue, Cuts, IsAt}
-use Rattle.stream_pieces.specs.Pieces.{EndsWithin, IsCut, IsEnded, end_line}
+use Rattle.stream_pieces.specs.Pieces.{EndsWithin, IsSplit, IsEnded, end_line}
 use Rattle.stream_pieces.proofs.PieceFacts.{cut_joined, ends_at_start, ends_later, ends_line, ends_piece}
 
 -- the cutter's first bytes with one more
@@ -66,12 +66,12 @@ pub cuts_later : (old mid new : CutterValue) (bytes chunk : List ℕ) (byte : �
 cuts_later old mid new bytes chunk byte pieces before limit accepts =
     let now = accepts before.rest before.now in
     let last = before.rest ++ byte ∷ [] in
-    let after : IsCut last [] last = record { each = All-nil IsEnded; no_end = (now.part, now.ends); whole = refl } in
+    let after : IsSplit last [] last = record { each = All-nil IsEnded; no_end = (now.part, now.ends); whole = refl } in
     let joined = cut_joined (bytes ++ chunk) (byte ∷ []) before.rest last before.ended [] before.cut after in
     record {
       ended = before.ended;
       rest = last;
-      cut = subst (λ s. IsCut s before.ended last) (append_assoc bytes chunk (byte ∷ [])) (subst (λ e. IsCut ((bytes ++ chunk) ++ byte ∷ []) e last) (append-nil before.ended) joined);
+      cut = subst (λ s. IsSplit s before.ended last) (append_assoc bytes chunk (byte ∷ [])) (subst (λ e. IsSplit ((bytes ++ chunk) ++ byte ∷ []) e last) (append-nil before.ended) joined);
       kept = before.kept;
       limit = limit ∙ before.limit;
       now = now;
@@ -83,7 +83,7 @@ pub cuts_piece : (old mid new : CutterValue) (bytes chunk : List ℕ) (byte : �
 cuts_piece old mid new bytes chunk byte pieces piece before limit accepts =
     let now = accepts before.rest before.now in
     let whole = before.rest ++ byte ∷ [] in
-    let after : IsCut whole (whole ∷ []) [] = record {
+    let after : IsSplit whole (whole ∷ []) [] = record {
       each = All-cons IsEnded whole [] now.0 (All-nil IsEnded);
       no_end = (now.2.part, now.2.ends);
       whole = sym (append-nil whole) ∙ sym (append-nil (whole ++ []));
@@ -93,7 +93,7 @@ cuts_piece old mid new bytes chunk byte pieces piece before limit accepts =
     record {
       ended = before.ended ++ whole ∷ [];
       rest = [];
-      cut = subst (λ s. IsCut s (before.ended ++ whole ∷ []) []) (append_assoc bytes chunk (byte ∷ [])) joined;
+      cut = subst (λ s. IsSplit s (before.ended ++ whole ∷ []) []) (append_assoc bytes chunk (byte ∷ [])) joined;
       kept =
           map-append (λ (row : Vec ℕ). row.items) pieces (piece ∷ []) ∙ ap (λ rs. rs ++ piece.items ∷ []) before.kept
           ∙ ap (λ r. map first before.ended ++ r ∷ []) (now.1 ∙ ap (λ n. take n whole) before.limit) ∙ sym (map-append first before.ended (whole ∷ []));

@@ -7,7 +7,7 @@ use Rattle.std.proofs.lemmas.List.Elements.{All-nil, All-cons, All-push, All-hea
 use Rattle.std.proofs.lemmas.List.Splits.{slice_split_none, slice_split_at, length-slice_split}
 use Rattle.std.proofs.lemmas.Slice.Eq.{bytes_eq-Decides}
 use Rattle.std.specs.Str.{bytes_eq}
-use Rattle.stream_pieces.specs.Pieces.{ArePieces, EndsWithin, HasNoEnd, IsCut, IsEnded, IsOtherLine, IsWithinLine, end_line, last_piece, lines_text}
+use Rattle.stream_pieces.specs.Pieces.{ArePieces, EndsWithin, HasNoEnd, IsSplit, IsEnded, IsOtherLine, IsWithinLine, end_line, last_piece, lines_text}
 
 -- ---- byte by byte
 
@@ -56,11 +56,11 @@ concat-append [] ys = refl
 concat-append (x ∷ xs) ys = ap (λ t. x ++ t) (concat-append xs ys) ∙ sym (append_assoc x (concat xs) (concat ys))
 
 -- nothing
-pub cut_at_start : IsCut [] [] []
+pub cut_at_start : IsSplit [] [] []
 cut_at_start = record { each = All-nil IsEnded; no_end = ([], ends_at_start); whole = refl }
 
 -- what follows is cut from the last piece on
-pub cut_joined : (xs ys rest last : List ℕ) (ended more : List (List ℕ)) → IsCut xs ended rest → IsCut (rest ++ ys) more last → IsCut (xs ++ ys) (ended ++ more) last
+pub cut_joined : (xs ys rest last : List ℕ) (ended more : List (List ℕ)) → IsSplit xs ended rest → IsSplit (rest ++ ys) more last → IsSplit (xs ++ ys) (ended ++ more) last
 cut_joined xs ys rest last ended more first second = record {
   each = All-append IsEnded ended more first.each second.each;
   no_end = second.no_end;
@@ -86,16 +86,16 @@ is_end_line part =
 snoc : (bytes ys : List ℕ) (b : ℕ) → (bytes ++ b ∷ []) ++ ys ≡ bytes ++ b ∷ ys
 snoc bytes ys b = append_assoc bytes (b ∷ []) ys
 
-pub some_cut : (ys bytes part : List ℕ) → EndsWithin bytes part → (ended : List (List ℕ)) × (rest : List ℕ) × IsCut (bytes ++ ys) ended rest
+pub some_cut : (ys bytes part : List ℕ) → EndsWithin bytes part → (ended : List (List ℕ)) × (rest : List ℕ) × IsSplit (bytes ++ ys) ended rest
 some_cut [] bytes part e = ([], bytes, record { each = All-nil IsEnded; no_end = (part, e); whole = append-nil bytes })
 some_cut (b ∷ ys) bytes part e = elim (cases_eq b 10) [
   | inr other ↦
       let more = some_cut ys (bytes ++ b ∷ []) (part ++ b ∷ []) (ends_later bytes part b other e) in
-      (more.0, more.1, subst (λ t. IsCut t more.0 more.1) (snoc bytes ys b) more.2)
+      (more.0, more.1, subst (λ t. IsSplit t more.0 more.1) (snoc bytes ys b) more.2)
   | inl at ↦ elim (is_end_line part) [
     | inr other ↦
         let more = some_cut ys (bytes ++ b ∷ []) [] (subst (λ c. EndsWithin (bytes ++ c ∷ []) []) (sym at) (ends_line bytes part other e)) in
-        (more.0, more.1, subst (λ t. IsCut t more.0 more.1) (snoc bytes ys b) more.2)
+        (more.0, more.1, subst (λ t. IsSplit t more.0 more.1) (snoc bytes ys b) more.2)
     | inl is ↦
         let more = some_cut ys [] [] ends_at_start in
         let piece = subst (λ c. IsEnded (bytes ++ c ∷ [])) (sym at) (ends_piece bytes part is e) in (
@@ -198,7 +198,7 @@ one_cut_of (a ∷ ls) (b ∷ ms) rest last p q r l same =
     let others = one_cut_of ls ms rest last (All-tail IsEnded a ls p) (All-tail IsEnded b ms q) r l first.1 in
     (ap (λ x. x ∷ ls) first.0 ∙ ap (λ xs. b ∷ xs) others.0, others.1)
 
-pub one_cut : (stream rest last : List ℕ) (ended others : List (List ℕ)) → IsCut stream ended rest → IsCut stream others last → (ended ≡ others) × (rest ≡ last)
+pub one_cut : (stream rest last : List ℕ) (ended others : List (List ℕ)) → IsSplit stream ended rest → IsSplit stream others last → (ended ≡ others) × (rest ≡ last)
 one_cut stream rest last ended others p q = one_cut_of ended others rest last p.each q.each p.no_end q.no_end (sym p.whole ∙ q.whole)
 
 pub one_list_of_pieces : (stream : List ℕ) (ps qs : List (List ℕ)) → ArePieces stream ps → ArePieces stream qs → ps ≡ qs

@@ -1,7 +1,7 @@
 -- What a cutter keeps of a stream, and which pieces it gives.
 use Rattle.std.specs.Prelude.{◌≡◌, ℕ, List, [], ◌∷◌, ◌++◌, map, take, Option, None, Some}
 use Rattle.std.specs.Global.{Vec}
-use Rattle.stream_pieces.specs.Pieces.{EndsWithin, IsCut, IsEnded, last_piece}
+use Rattle.stream_pieces.specs.Pieces.{EndsWithin, IsSplit, IsEnded, last_piece}
 
 -- of a piece the first bytes, as many as the limit, and of a line the first 4
 pub record CutterValue : Type 0 where
@@ -29,7 +29,7 @@ rows vectors = map (λ (row : Vec ℕ). row.items) vectors
 pub record Cuts (old new : CutterValue) (bytes chunk : List ℕ) (pieces : List (Vec ℕ)) : Type 0 where
   pub ended : List (List ℕ)
   pub rest : List ℕ
-  pub cut : IsCut (bytes ++ chunk) ended rest
+  pub cut : IsSplit (bytes ++ chunk) ended rest
   pub kept : rows pieces ≡ map (λ piece. take old.limit piece) ended
   pub limit : new.limit ≡ old.limit
   pub now : IsAt new rest

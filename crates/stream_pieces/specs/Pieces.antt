@@ -37,7 +37,7 @@ abbrev pub HasNoEnd : List ℕ → Type 0
 HasNoEnd bytes = (part : List ℕ) × EndsWithin bytes part
 
 -- The stream is these pieces, each of which ends with its first line `end`, and then these bytes, of which no line is `end`.
-pub record IsCut (stream : List ℕ) (ended : List (List ℕ)) (rest : List ℕ) : Type 0 where
+pub record IsSplit (stream : List ℕ) (ended : List (List ℕ)) (rest : List ℕ) : Type 0 where
   pub each : All IsEnded ended
   pub no_end : HasNoEnd rest
   pub whole : stream ≡ concat ended ++ rest
@@ -51,5 +51,5 @@ last_piece (b ∷ rest) = (b ∷ rest) ∷ []
 pub record ArePieces (stream : List ℕ) (pieces : List (List ℕ)) : Type 0 where
   pub ended : List (List ℕ)
   pub rest : List ℕ
-  pub cut : IsCut stream ended rest
+  pub cut : IsSplit stream ended rest
   pub pieces_are : pieces ≡ ended ++ last_piece rest

@@ -6,7 +6,7 @@ use Rattle.std.specs.Io.KnownBytes.{Appends, Consumes, IsAtEnd, prepend_known}
 use Rattle.std.proofs.KnownBytes.{Appends-nil, Appends-trans, Consumes-nil, Consumes-trans, Consumes-whole}
 use Rattle.std.proofs.lemmas.List.{append-nil, take-append-drop, take-map}
 use Rattle.stream_pieces.specs.Cutters.{CutterValue, Cuts, IsAt, rows}
-use Rattle.stream_pieces.specs.Pieces.{ArePieces, IsCut, last_piece}
+use Rattle.stream_pieces.specs.Pieces.{ArePieces, IsSplit, last_piece}
 use Rattle.stream_pieces.proofs.PieceFacts.{cut_at_start, cut_joined, one_list_of_pieces, some_cut, some_pieces}
 use Rattle.tso_report.specs.declared.verdicts.Verdict.{Verdict}
 use Rattle.tso_report.specs.Limits.{trace_read_limit}
@@ -102,7 +102,7 @@ later_of (Some all) None bytes taken = absurd taken
 later_of (Some all) (Some rest) bytes taken = (rest, sym taken)
 
 left_of_reader : (quiet : Bool) (remaining now old new : Option (List ℕ)) (bytes rest : List ℕ) (told untold : List (List ℕ)) (reports : List ReportValue) → Consumes remaining now bytes →
-    IsCut bytes (told ++ untold) rest → AreReports told reports → AppendsPrefix old new (trace_lines quiet 1 reports) → WritesPrefix (IsBatchOfReader quiet remaining) old new
+    IsSplit bytes (told ++ untold) rest → AreReports told reports → AppendsPrefix old new (trace_lines quiet 1 reports) → WritesPrefix (IsBatchOfReader quiet remaining) old new
 left_of_reader quiet remaining now old new bytes rest told untold reports taken cut are_reports written =
     let later = later_of remaining now bytes taken in
     let more = some_cut later.0 rest cut.no_end.0 cut.no_end.1 in
@@ -135,7 +135,7 @@ stands_at_start quiet remaining old cutter tally limit at counts = record {
 pub stands_left : (quiet : Bool) (remaining now old new : Option (List ℕ)) (cutter : CutterValue) (tally : Tally) → Stands quiet remaining now old new cutter tally →
     WritesPrefix (IsBatchOfReader quiet remaining) old new
 stands_left quiet remaining now old new cutter tally s =
-    left_of_reader quiet remaining now old new s.bytes s.rest s.ended [] s.reports s.taken (subst (λ es. IsCut s.bytes es s.rest) (sym (append-nil s.ended)) s.cut) s.are_reports
+    left_of_reader quiet remaining now old new s.bytes s.rest s.ended [] s.reports s.taken (subst (λ es. IsSplit s.bytes es s.rest) (sym (append-nil s.ended)) s.cut) s.are_reports
     (all_written old new (trace_lines quiet 1 s.reports) s.lines)
 
 -- the number of the next line
@@ -194,7 +194,7 @@ chunk_left quiet remaining before now old mid new cutter after tally chunk piece
     let untold = drop wrote.count c.ended in
     let same : s.ended ++ c.ended ≡ (s.ended ++ told) ++ untold = ap (λ es. s.ended ++ es) (sym (take-append-drop wrote.count c.ended)) ∙ sym (append_assoc s.ended told untold) in
     left_of_reader quiet remaining now old new (s.bytes ++ chunk) c.rest (s.ended ++ told) untold (s.reports ++ wrote.reports) (Consumes-trans remaining before now s.bytes chunk s.taken taken)
-    (subst (λ es. IsCut (s.bytes ++ chunk) es c.rest) same (cut_joined s.bytes chunk s.rest c.rest s.ended c.ended s.cut c.cut))
+    (subst (λ es. IsSplit (s.bytes ++ chunk) es c.rest) same (cut_joined s.bytes chunk s.rest c.rest s.ended c.ended s.cut c.cut))
     (AreReports-append s.ended told s.reports wrote.reports s.are_reports (some_of_firsts cutter.limit wrote.count pieces c.ended wrote.reports s.limit c.kept wrote.are_reports))
     (subst (AppendsPrefix old new) (lines_after quiet tally s.reports wrote.reports s.counts)
     (prefix_after old mid new (trace_lines quiet 1 s.reports) (trace_lines quiet (suc tally.traces) wrote.reports) s.lines wrote.lines))
@@ -254,7 +254,7 @@ pub all_taken : (quiet : Bool) (remaining now old new : Option (List ℕ)) (cutt
     IfSome remaining (λ all. Consumes remaining now all)
 all_taken quiet remaining now old new cutter tally s end = Consumes-whole remaining now s.bytes (λ all. Consumes remaining now all) s.taken end s.taken
 
-pieces_at_end : (stream rest : List ℕ) (ended : List (List ℕ)) → IsCut stream ended rest → ArePieces stream (ended ++ last_piece rest)
+pieces_at_end : (stream rest : List ℕ) (ended : List (List ℕ)) → IsSplit stream ended rest → ArePieces stream (ended ++ last_piece rest)
 pieces_at_end stream rest ended cut = record { ended = ended; rest = rest; cut = cut; pieces_are = refl }
 
 -- the last piece was told

@@ -18,7 +18,7 @@ use Rattle.tso_ops.specs.declared.settings.Version.TheVariants.{One, Two}
 use Rattle.tso_ops.specs.Settings.{SettingValue}
 use Rattle.tso_ops.specs.Values.{TraceValue}
 use Rattle.tso_text.specs.Grammars.{trace_header}
-use Rattle.tso_text.specs.Printed.{entry_pieces, items_text, model_text, outcome_pieces, processor_text, setting_text, trace_text, whole_text}
+use Rattle.tso_text.specs.Printed.{entry_tokens, items_text, model_text, outcome_tokens, processor_text, setting_text, trace_text, whole_text}
 use Rattle.tso_report.specs.declared.verdicts.Verdict.{Verdict}
 use Rattle.trace_batches.specs.Batches.{AreReports, IsBatch, ReportValue, total_line, trace_lines}
 
@@ -96,31 +96,31 @@ word_line first word (n ∷ ns) other all =
 
 -- ---- the texts of traces
 
-outcome_line : (outcome : Outcome) → AreOthers (join_with_byte 32 (outcome_pieces outcome) ++ 10 ∷ [])
+outcome_line : (outcome : Outcome) → AreOthers (join_with_byte 32 (outcome_tokens outcome) ++ 10 ∷ [])
 outcome_line (Ld a r) = word_line 108 (100 ∷ []) (a ∷ r ∷ []) (λ e. omega (arith, e)) refl
 outcome_line (St a v) = word_line 115 (116 ∷ []) (a ∷ v ∷ []) (λ e. omega (arith, e)) refl
 outcome_line (Sw a r v) = word_line 115 (119 ∷ []) (a ∷ r ∷ v ∷ []) (λ e. omega (arith, e)) refl
 outcome_line Mb = word_line 109 (98 ∷ []) [] (λ e. omega (arith, e)) refl
 outcome_line Sb = word_line 115 (116 ∷ 98 ∷ 97 ∷ 114 ∷ []) [] (λ e. omega (arith, e)) refl
 
-processor_lines : (outcomes : List Outcome) → AreOthers (processor_text outcome_pieces outcomes)
+processor_lines : (outcomes : List Outcome) → AreOthers (processor_text outcome_tokens outcomes)
 unfolding processor_text items_text
 processor_lines outcomes =
-    more_lines (codes "proc" ++ 10 ∷ []) (items_text outcome_pieces outcomes) (word_line 112 (114 ∷ 111 ∷ 99 ∷ []) [] (λ e. omega (arith, e)) refl)
-    (lines_of_each (λ outcome. join_with_byte 32 (outcome_pieces outcome) ++ 10 ∷ []) outcome_line outcomes)
+    more_lines (codes "proc" ++ 10 ∷ []) (items_text outcome_tokens outcomes) (word_line 112 (114 ∷ 111 ∷ 99 ∷ []) [] (λ e. omega (arith, e)) refl)
+    (lines_of_each (λ outcome. join_with_byte 32 (outcome_tokens outcome) ++ 10 ∷ []) outcome_line outcomes)
 
 model_lines : (order : Order) → AreOthers (model_text order)
 model_lines Tso = no_lines
 model_lines Pso = next_line 109 (111 ∷ 100 ∷ 101 ∷ 108 ∷ 32 ∷ 112 ∷ 115 ∷ 111 ∷ []) [] (λ e. omega (arith, e)) (word_within (codes "model pso") refl) no_lines
 
-entry_line : (entry : ℕ × ℕ) → AreOthers (join_with_byte 32 (entry_pieces entry) ++ 10 ∷ [])
+entry_line : (entry : ℕ × ℕ) → AreOthers (join_with_byte 32 (entry_tokens entry) ++ 10 ∷ [])
 entry_line entry = word_line 105 (110 ∷ 105 ∷ 116 ∷ []) (entry.0 ∷ entry.1 ∷ []) (λ e. omega (arith, e)) refl
 
 setting_lines : (setting : SettingValue) → AreOthers (setting_text setting)
 unfolding setting_text items_text
 setting_lines setting =
-    more_lines (model_text setting.order) (items_text entry_pieces setting.first) (model_lines setting.order)
-    (lines_of_each (λ entry. join_with_byte 32 (entry_pieces entry) ++ 10 ∷ []) entry_line setting.first)
+    more_lines (model_text setting.order) (items_text entry_tokens setting.first) (model_lines setting.order)
+    (lines_of_each (λ entry. join_with_byte 32 (entry_tokens entry) ++ 10 ∷ []) entry_line setting.first)
 
 header_line : (version : Version) (rest : List ℕ) → AreOthers rest → AreOthers (trace_header version ++ 10 ∷ rest)
 header_line One rest after = next_line 116 (115 ∷ 111 ∷ 32 ∷ 116 ∷ 114 ∷ 97 ∷ 99 ∷ 101 ∷ 32 ∷ 49 ∷ []) rest (λ e. omega (arith, e)) (word_within (codes "tso trace 1") refl) after
@@ -137,10 +137,10 @@ ended bytes before = record {
 ended_text : (t : TraceValue) → IsEnded (trace_text t)
 unfolding trace_text whole_text
 ended_text t =
-    let lists = flat_map (processor_text outcome_pieces) t.lists in
+    let lists = flat_map (processor_text outcome_tokens) t.lists in
     let setting = setting_text t.setting in
     ended (trace_header t.setting.version ++ 10 ∷ (setting ++ lists))
-    (header_line t.setting.version (setting ++ lists) (more_lines setting lists (setting_lines t.setting) (lines_of_each (processor_text outcome_pieces) processor_lines t.lists)))
+    (header_line t.setting.version (setting ++ lists) (more_lines setting lists (setting_lines t.setting) (lines_of_each (processor_text outcome_tokens) processor_lines t.lists)))
 
 -- ---- the pieces
 

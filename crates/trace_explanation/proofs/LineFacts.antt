@@ -12,7 +12,7 @@ use Rattle.tso_ops.specs.declared.settings.Order.TheVariants.{Tso, Pso}
 use Rattle.tso_ops.specs.Settings.{SettingValue}
 use Rattle.tso_ops.specs.Values.{TraceValue}
 use Rattle.tso_text.specs.Grammars.{trace_header}
-use Rattle.tso_text.specs.Printed.{entry_pieces, items_text, model_text, outcome_pieces, processor_text, setting_text, trace_text, whole_text}
+use Rattle.tso_text.specs.Printed.{entry_tokens, items_text, model_text, outcome_tokens, processor_text, setting_text, trace_text, whole_text}
 use Rattle.tso_ops.specs.declared.operations.EventOperation.{EventOperation}
 use Rattle.tso_ops.proofs.PlaceFacts.{get-left, get-right, get-split}
 use Rattle.trace_explanation.specs.Lines.{ended_line, model_line, processor_lines, setting_lines, text_lines}
@@ -60,10 +60,10 @@ line_of_lists p line (ops ∷ lists) k o at =
 setting_count : (setting : SettingValue) → suc (length (setting_lines setting)) ≡ first_list_line setting
 setting_count setting = by_order setting.order
   where
-    count : length (map (λ (entry : ℕ × ℕ). join_with_byte 32 (entry_pieces entry)) setting.first) ≡ length setting.first
-    count = length-map setting.first (λ entry. join_with_byte 32 (entry_pieces entry))
+    count : length (map (λ (entry : ℕ × ℕ). join_with_byte 32 (entry_tokens entry)) setting.first) ≡ length setting.first
+    count = length-map setting.first (λ entry. join_with_byte 32 (entry_tokens entry))
 
-    by_order : (order : Order) → suc (length ((trace_header setting.version ∷ model_line order) ++ map (λ (entry : ℕ × ℕ). join_with_byte 32 (entry_pieces entry)) setting.first)) ≡ 2 + model_lines order + length setting.first
+    by_order : (order : Order) → suc (length ((trace_header setting.version ∷ model_line order) ++ map (λ (entry : ℕ × ℕ). join_with_byte 32 (entry_tokens entry)) setting.first)) ≡ 2 + model_lines order + length setting.first
     by_order Tso = omega (arith, count)
     by_order Pso = omega (arith, count)
 
@@ -83,33 +83,33 @@ ended_map : {X : Type 0} (f : X → List ℕ) (xs : List X) → flat_map ended_l
 ended_map f [] = refl
 ended_map f (x ∷ xs) = ap (λ rest. ended_line (f x) ++ rest) (ended_map f xs)
 
-outcomes_ended : (ops : List Outcome) → flat_map ended_line (map outcome_text ops) ≡ items_text outcome_pieces ops
+outcomes_ended : (ops : List Outcome) → flat_map ended_line (map outcome_text ops) ≡ items_text outcome_tokens ops
 unfolding outcome_text items_text
 outcomes_ended ops = ended_map outcome_text ops
 
-lists_ended : (lists : List (List Outcome)) → flat_map ended_line (flat_map processor_lines lists) ≡ flat_map (processor_text outcome_pieces) lists
+lists_ended : (lists : List (List Outcome)) → flat_map ended_line (flat_map processor_lines lists) ≡ flat_map (processor_text outcome_tokens) lists
 unfolding processor_text
 lists_ended [] = refl
 lists_ended (ops ∷ lists) =
     flat_map-append ended_line (processor_lines ops) (flat_map processor_lines lists)
     ∙ ap (λ rest. (ended_line (codes "proc") ++ flat_map ended_line (map outcome_text ops)) ++ rest) (lists_ended lists)
-    ∙ ap (λ said. (ended_line (codes "proc") ++ said) ++ flat_map (processor_text outcome_pieces) lists) (outcomes_ended ops)
+    ∙ ap (λ said. (ended_line (codes "proc") ++ said) ++ flat_map (processor_text outcome_tokens) lists) (outcomes_ended ops)
 
 model_ended : (order : Order) → flat_map ended_line (model_line order) ≡ model_text order
 model_ended Tso = refl
 model_ended Pso = refl
 
-entries_ended : (first : List (ℕ × ℕ)) → flat_map ended_line (map (λ entry. join_with_byte 32 (entry_pieces entry)) first) ≡ items_text entry_pieces first
+entries_ended : (first : List (ℕ × ℕ)) → flat_map ended_line (map (λ entry. join_with_byte 32 (entry_tokens entry)) first) ≡ items_text entry_tokens first
 unfolding items_text
-entries_ended first = ended_map (λ entry. join_with_byte 32 (entry_pieces entry)) first
+entries_ended first = ended_map (λ entry. join_with_byte 32 (entry_tokens entry)) first
 
 setting_ended : (setting : SettingValue) → flat_map ended_line (setting_lines setting) ≡ (trace_header setting.version ++ 10 ∷ []) ++ setting_text setting
 unfolding setting_text
 setting_ended setting =
-    flat_map-append ended_line (trace_header setting.version ∷ model_line setting.order) (map (λ entry. join_with_byte 32 (entry_pieces entry)) setting.first)
+    flat_map-append ended_line (trace_header setting.version ∷ model_line setting.order) (map (λ entry. join_with_byte 32 (entry_tokens entry)) setting.first)
     ∙ ap (λ rest. (ended_line (trace_header setting.version) ++ flat_map ended_line (model_line setting.order)) ++ rest) (entries_ended setting.first)
-    ∙ ap (λ model. (ended_line (trace_header setting.version) ++ model) ++ items_text entry_pieces setting.first) (model_ended setting.order)
-    ∙ append_assoc (ended_line (trace_header setting.version)) (model_text setting.order) (items_text entry_pieces setting.first)
+    ∙ ap (λ model. (ended_line (trace_header setting.version) ++ model) ++ items_text entry_tokens setting.first) (model_ended setting.order)
+    ∙ append_assoc (ended_line (trace_header setting.version)) (model_text setting.order) (items_text entry_tokens setting.first)
 
 -- the text is its lines, each with its line feed
 pub text_is : (t : TraceValue) → trace_text t ≡ flat_map ended_line (text_lines t)
@@ -117,7 +117,7 @@ unfolding trace_text whole_text text_lines
 text_is t =
     let header = trace_header t.setting.version in
     let setting = setting_text t.setting in
-    let lists = flat_map (processor_text outcome_pieces) t.lists in
+    let lists = flat_map (processor_text outcome_tokens) t.lists in
     let end = line_text (codes "end" ∷ []) in
     let front : flat_map ended_line (setting_lines t.setting) ≡ (header ++ 10 ∷ []) ++ setting = setting_ended t.setting in
     let back : flat_map ended_line (flat_map processor_lines t.lists ++ codes "end" ∷ []) ≡ lists ++ end =

@@ -11,7 +11,7 @@ use Rattle.tso_ops.specs.Values.{TraceValue}
 use Rattle.tso_cert.specs.declared.steps.CertStep.{CertStep}
 use Rattle.trace_explanation.specs.Explanations.{more_text, step_text, step_text_at, steps_text, stores_text, places_text}
 use Rattle.trace_explanation.specs.Names.{place_text}
-use Rattle.trace_explanation.specs.Pieces.{joined}
+use Rattle.trace_explanation.specs.JoinedTexts.{joined}
 use Rattle.trace_explanation.specs.Refusals.{line_there}
 use Rattle.trace_explanation.specs.Steps.{is_named}
 

@@ -12,7 +12,7 @@ use Rattle.tso_cert.specs.declared.steps.CertStep.{CertStep}
 use Rattle.tso_cert.specs.declared.steps.Certificate.{Certificate}
 use Rattle.tso_cert.specs.declared.steps.Certificate.TheVariants.{Unwritten, Cycle}
 use Rattle.order_paths.specs.Paths.{last_of}
-use Rattle.trace_explanation.specs.Pieces.{joined}
+use Rattle.trace_explanation.specs.JoinedTexts.{joined}
 use Rattle.trace_explanation.specs.Names.{line_in, name_text, place_text}
 use Rattle.tso_ops.specs.Operations.{operation_at}
 use Rattle.trace_explanation.specs.Searches.{least}

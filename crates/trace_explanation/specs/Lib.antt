@@ -3,7 +3,7 @@ pub mod Explanations
 pub mod Internal
 pub mod Lines
 pub mod Names
-pub mod Pieces
+pub mod JoinedTexts
 pub mod Refusals
 pub mod Searches
 pub mod Steps

@@ -7,7 +7,7 @@ use Rattle.tso_ops.specs.declared.settings.Order.TheVariants.{Tso, Pso}
 use Rattle.tso_ops.specs.Settings.{SettingValue}
 use Rattle.tso_ops.specs.Values.{TraceValue}
 use Rattle.tso_text.specs.Grammars.{trace_header}
-use Rattle.tso_text.specs.Printed.{entry_pieces}
+use Rattle.tso_text.specs.Printed.{entry_tokens}
 use Rattle.trace_explanation.specs.Names.{outcome_text}
 
 -- a line with its line feed
@@ -21,7 +21,7 @@ model_line Pso = codes "model pso" ∷ []
 
 -- the lines before those of the processors
 abbrev pub setting_lines : SettingValue → List (List ℕ)
-setting_lines setting = (trace_header setting.version ∷ model_line setting.order) ++ map (λ entry. join_with_byte 32 (entry_pieces entry)) setting.first
+setting_lines setting = (trace_header setting.version ∷ model_line setting.order) ++ map (λ entry. join_with_byte 32 (entry_tokens entry)) setting.first
 
 -- the lines of a processor
 abbrev pub processor_lines : List Outcome → List (List ℕ)

@@ -7,8 +7,8 @@ use Rattle.tso_ops.specs.declared.events.Event.{Event}
 use Rattle.tso_ops.specs.Settings.{first_value}
 use Rattle.tso_ops.specs.Values.{TraceValue}
 use Rattle.tso_ops.specs.Events.{event_at, event_total}
-use Rattle.tso_text.specs.Printed.{outcome_pieces}
-use Rattle.trace_explanation.specs.Pieces.{joined}
+use Rattle.tso_text.specs.Printed.{outcome_tokens}
+use Rattle.trace_explanation.specs.JoinedTexts.{joined}
 use Rattle.tso_ops.specs.declared.operations.Part.{Part}
 use Rattle.tso_ops.specs.declared.operations.Part.TheVariants.{Whole, SwapLoad, SwapStore}
 use Rattle.tso_ops.specs.declared.operations.EventOperation.{EventOperation}
@@ -17,7 +17,7 @@ use Rattle.trace_explanation.specs.Searches.{least}
 
 -- the operation as in the trace's text
 unfoldable pub outcome_text : Outcome → List ℕ
-outcome_text outcome = join_with_byte 32 (outcome_pieces outcome)
+outcome_text outcome = join_with_byte 32 (outcome_tokens outcome)
 
 -- which part of a swap an event is
 abbrev pub part_text : Part → List ℕ

@@ -13,7 +13,7 @@ use Rattle.tso_cert.specs.declared.rules.InferredRule.TheVariants.{LoadPast, Sto
 use Rattle.tso_cert.specs.declared.steps.Reason.{Reason}
 use Rattle.tso_cert.specs.declared.steps.Reason.TheVariants.{Base, Inferred}
 use Rattle.tso_cert.specs.declared.steps.CertStep.{CertStep}
-use Rattle.trace_explanation.specs.Pieces.{joined}
+use Rattle.trace_explanation.specs.JoinedTexts.{joined}
 use Rattle.trace_explanation.specs.declared.rule_sentences.TheConstants.{AFTER_BOTH, ATOMIC_SWAP, BEFORE_BOTH, INIT_LONG, INIT_SHORT, LOAD_OP_LONG, MEMBAR_LONG, MEMBAR_SHORT, PROGRAM_ORDER, PSO_STORES_LONG, READS_LAST, READ_LONG, READ_OLDER, READ_SHORT, SEES_ONE_READ_OTHER, SEES_STORE, STBAR_LONG, STBAR_SHORT, TSO_STORES_LONG, WOULD_HAVE_READ}
 use Rattle.trace_explanation.specs.Names.{name_text, read_text}
 use Rattle.trace_explanation.specs.Steps.{by_text, own_load}

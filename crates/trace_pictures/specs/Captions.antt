@@ -5,7 +5,7 @@ use Rattle.tso_ops.specs.declared.settings.Order.{Order}
 use Rattle.tso_cert.specs.declared.steps.Certificate.{Certificate}
 use Rattle.tso_cert.specs.declared.steps.Certificate.TheVariants.{Unwritten, Cycle}
 use Rattle.trace_explanation.specs.Explanations.{model_name}
-use Rattle.trace_explanation.specs.Pieces.{joined}
+use Rattle.trace_explanation.specs.JoinedTexts.{joined}
 
 abbrev pub verdict_words : Option Certificate → List ℕ
 verdict_words None = codes ", no violation found\\l"

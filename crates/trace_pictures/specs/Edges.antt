@@ -17,7 +17,7 @@ use Rattle.tso_cert.specs.declared.steps.Certificate.TheVariants.{Unwritten, Cyc
 use Rattle.tso_cert.specs.Printed.{event_text}
 use Rattle.order_paths.specs.Paths.{last_of}
 use Rattle.trace_explanation.specs.Names.{source_of}
-use Rattle.trace_explanation.specs.Pieces.{joined}
+use Rattle.trace_explanation.specs.JoinedTexts.{joined}
 use Rattle.trace_explanation.specs.Steps.{step_load, step_number}
 use Rattle.trace_pictures.specs.Choice.{is_among}
 use Rattle.trace_pictures.specs.Labels.{step_label}

@@ -9,7 +9,7 @@ use Rattle.tso_cert.specs.declared.steps.Reason.TheVariants.{Base, Inferred}
 use Rattle.tso_cert.specs.declared.steps.CertStep.{CertStep}
 use Rattle.tso_cert.specs.Printed.{base_name, inferred_name}
 use Rattle.trace_explanation.specs.Names.{outcome_text, part_text}
-use Rattle.trace_explanation.specs.Pieces.{joined}
+use Rattle.trace_explanation.specs.JoinedTexts.{joined}
 
 -- an event, by its operation: the operation, the part of a swap, the number
 unfoldable pub event_label : ℕ → Option EventOperation → List ℕ

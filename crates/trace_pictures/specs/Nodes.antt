@@ -7,7 +7,7 @@ use Rattle.tso_ops.specs.declared.operations.EventOperation.{EventOperation}
 use Rattle.tso_ops.specs.Values.{TraceValue}
 use Rattle.tso_ops.specs.Operations.{operation_at}
 use Rattle.trace_explanation.specs.Names.{outcome_text, source_of}
-use Rattle.trace_explanation.specs.Pieces.{joined}
+use Rattle.trace_explanation.specs.JoinedTexts.{joined}
 use Rattle.trace_pictures.specs.declared.rows.Row.{Row}
 use Rattle.trace_pictures.specs.declared.rows.Row.TheVariants.{Event, Barrier, Gap}
 use Rattle.trace_pictures.specs.Choice.{is_among}

@@ -1,6 +1,6 @@
 pub mod NamedFacts
 pub mod LineFacts
-pub mod PieceFacts
+pub mod TokenFacts
 pub mod PrintFacts
 pub mod PrintedFacts
 pub mod ReadersFacts

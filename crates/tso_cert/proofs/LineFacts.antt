@@ -13,7 +13,7 @@ use Rattle.tso_cert.specs.declared.lines.Line.{Line}
 use Rattle.tso_cert.specs.declared.lines.Line.TheVariants.{Step, Cycle, Unwritten}
 use Rattle.tso_cert.specs.declared.faults.Why.{Why}
 use Rattle.tso_cert.specs.declared.faults.Why.TheVariants.{BadLine, BadNumber, BadRule, NoCycle, AfterCycle, OutOfMemory}
-use Rattle.tso_cert.specs.Printed.{event_text, reason_pieces, ReasonFits, step_pieces, cycle_pieces, unwritten_pieces, Fits, StepFits}
+use Rattle.tso_cert.specs.Printed.{event_text, reason_tokens, ReasonFits, step_tokens, cycle_tokens, unwritten_tokens, Fits, StepFits}
 use Rattle.tso_cert.specs.Spelling.{are_events, is_rule, is_last_line, is_bad_line, has_bad_number, has_bad_rule, cert_line_fault, cert_fault_number}
 use Rattle.line_text.specs.Results.{◌>>=◌}
 use Rattle.tso_cert.specs.Internal.LineValues.{event, events, reason_said, step_said, unwritten_said, cert_line_said, IsFirstCertFault}
@@ -69,11 +69,11 @@ first_rule k ps line number rule = record { fault = rule; least = none }
 
 -- ---- what is said
 
--- the pieces of the line of this number that says this
-abbrev pub line_pieces : ℕ → Line → List (List ℕ)
-line_pieces k (Step s) = step_pieces k s
-line_pieces k (Cycle ns) = cycle_pieces ns
-line_pieces k (Unwritten n) = unwritten_pieces n
+-- the tokens of the line of this number that says this
+abbrev pub line_tokens : ℕ → Line → List (List ℕ)
+line_tokens k (Step s) = step_tokens k s
+line_tokens k (Cycle ns) = cycle_tokens ns
+line_tokens k (Unwritten n) = unwritten_tokens n
 
 -- it is the last of a certificate
 abbrev pub ends : Line → Bool
@@ -87,9 +87,9 @@ LineFits k (Step s) = StepFits s
 LineFits k (Cycle ns) = All Fits ns
 LineFits k (Unwritten n) = Fits n × (k ≡ 1)
 
--- the pieces are those of the line, and have no fault
+-- the tokens are those of the line, and have no fault
 pub record Told (k : ℕ) (ps : List (List ℕ)) (l : Line) : Type 0 where
-  pub says : ps ≡ line_pieces k l
+  pub says : ps ≡ line_tokens k l
   pub fits : LineFits k l
   pub last : is_last_line ps ≡ ends l
   pub faultless : (w : Why) → cert_line_fault k ps w ≡ false
@@ -130,7 +130,7 @@ unwritten_line : (k : ℕ) (word : List ℕ) (ps : List (List ℕ)) → bytes_eq
     (is_last_line (word ∷ ps) ≡ true) × (is_bad_line k (word ∷ ps) ≡ not (eqb k 1 && eqb (length (word ∷ ps)) 2)) × (has_bad_number k (word ∷ ps) ≡ not (are_events ps)) × (has_bad_rule (word ∷ ps) ≡ false)
 unwritten_line k word ps other is = rw (other, is) (refl, refl, refl, refl)
 
--- just one piece on line 1, or a bad line
+-- just one token on line 1, or a bad line
 unwritten_first : (k : ℕ) (ps : List (List ℕ)) (n : ℕ) → unwritten_said k ps ≡ Ok n → (p : List ℕ) × (ps ≡ p ∷ []) × (k ≡ 1) × (event p ≡ Ok n)
 unfolding unwritten_said
 unwritten_first k [] n e = absurd cc
@@ -182,12 +182,12 @@ unwritten_refused k word (p ∷ q ∷ ps) why other is e =
 
 -- ---- the line of a step
 
--- the first piece is that of no last line
+-- the first token is that of no last line
 abbrev NoWord : List ℕ → Type 0
 NoWord word = (bytes_eq word (codes "cycle") ≡ false) × (bytes_eq word (codes "unwritten") ≡ false)
 
-few_pieces : (k : ℕ) (word : List ℕ) (ps : List (List ℕ)) → NoWord word → length ps < 3 → IsFirstCertFault (cert_line_fault k (word ∷ ps)) BadLine
-few_pieces k word ps other few =
+few_tokens : (k : ℕ) (word : List ℕ) (ps : List (List ℕ)) → NoWord word → length ps < 3 → IsFirstCertFault (cert_line_fault k (word ∷ ps)) BadLine
+few_tokens k word ps other few =
     let low : ltb (suc (length ps)) 4 ≡ true = grind (arith, nat_tests) in
     let is : is_bad_line k (word ∷ ps) ≡ true = rw (other.0, other.1) low in
     first_line k (word ∷ ps) is
@@ -231,9 +231,9 @@ step_told k word (from ∷ to ∷ name ∷ ps) s other e =
 
 step_refused : (k : ℕ) (word : List ℕ) (ps : List (List ℕ)) (why : Why) → NoWord word → step_said k (word ∷ ps) ≡ Err why → IsFirstCertFault (cert_line_fault k (word ∷ ps)) why
 unfolding step_said
-step_refused k word [] why other e = let s : BadLine ≡ why = cc in rw (← s) (few_pieces k word [] other (omega arith))
-step_refused k word (p ∷ []) why other e = let s : BadLine ≡ why = cc in rw (← s) (few_pieces k word (p ∷ []) other (omega arith))
-step_refused k word (p ∷ q ∷ []) why other e = let s : BadLine ≡ why = cc in rw (← s) (few_pieces k word (p ∷ q ∷ []) other (omega arith))
+step_refused k word [] why other e = let s : BadLine ≡ why = cc in rw (← s) (few_tokens k word [] other (omega arith))
+step_refused k word (p ∷ []) why other e = let s : BadLine ≡ why = cc in rw (← s) (few_tokens k word (p ∷ []) other (omega arith))
+step_refused k word (p ∷ q ∷ []) why other e = let s : BadLine ≡ why = cc in rw (← s) (few_tokens k word (p ∷ q ∷ []) other (omega arith))
 step_refused k word (from ∷ to ∷ name ∷ ps) why other e =
     let facts = step_line k word from to name ps other in
     let bad : (why ≡ BadNumber) → (bytes_eq word (decimal k) && are_events (from ∷ to ∷ []) && are_events ps) ≡ false → IsFirstCertFault (cert_line_fault k (word ∷ from ∷ to ∷ name ∷ ps)) why =
@@ -306,17 +306,17 @@ refused k (word ∷ ps) why e =
     (cases (bytes_eq word (codes "unwritten"))))
     (cases (bytes_eq word (codes "cycle")))
 
--- the pieces of a step say it
-pub step_said-pieces : (k u v : ℕ) (r : Reason) → Fits u → Fits v → ReasonFits r → step_said k (decimal k ∷ event_text u ∷ event_text v ∷ reason_pieces r) ≡ Ok (record { from = u; to = v; reason = r })
+-- the tokens of a step say it
+pub step_said-tokens : (k u v : ℕ) (r : Reason) → Fits u → Fits v → ReasonFits r → step_said k (decimal k ∷ event_text u ∷ event_text v ∷ reason_tokens r) ≡ Ok (record { from = u; to = v; reason = r })
 unfolding step_said
-step_said-pieces k u v (Base rule) from to fits = rw ((bytes_eq-Decides (decimal k) (decimal k)).1 refl, event-text u from, event-text v to, base_said rule) refl
-step_said-pieces k u v (Inferred rule load path) from to fits =
+step_said-tokens k u v (Base rule) from to fits = rw ((bytes_eq-Decides (decimal k) (decimal k)).1 refl, event-text u from, event-text v to, base_said rule) refl
+step_said-tokens k u v (Inferred rule load path) from to fits =
     rw ((bytes_eq-Decides (decimal k) (decimal k)).1 refl, event-text u from, event-text v to, inferred_said rule load path fits.0 fits.1) refl
 
--- a line of these pieces says this
-pub cert_line_said-pieces : (k : ℕ) (l : Line) → Fits k → LineFits k l → cert_line_said k (line_pieces k l) ≡ Ok l
+-- a line of these tokens says this
+pub cert_line_said-tokens : (k : ℕ) (l : Line) → Fits k → LineFits k l → cert_line_said k (line_tokens k l) ≡ Ok l
 unfolding cert_line_said unwritten_said
-cert_line_said-pieces k (Step s) low fits =
-    rw (decimal_differs k (codes "cycle") low refl, decimal_differs k (codes "unwritten") low refl, step_said-pieces k s.from s.to s.reason fits.0 fits.1 fits.2) refl
-cert_line_said-pieces k (Cycle ns) low fits = rw (events-text ns fits) refl
-cert_line_said-pieces k (Unwritten n) low fits = rw (fits.1, event-text n fits.0) refl
+cert_line_said-tokens k (Step s) low fits =
+    rw (decimal_differs k (codes "cycle") low refl, decimal_differs k (codes "unwritten") low refl, step_said-tokens k s.from s.to s.reason fits.0 fits.1 fits.2) refl
+cert_line_said-tokens k (Cycle ns) low fits = rw (events-text ns fits) refl
+cert_line_said-tokens k (Unwritten n) low fits = rw (fits.1, event-text n fits.0) refl

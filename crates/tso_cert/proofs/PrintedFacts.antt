@@ -3,7 +3,7 @@ use Rattle.std.proofs.Common.{◌≡◌, ℕ, zero, suc, ◌+◌, ◌<◌, ◌^�
 use Rattle.std.specs.Prelude.{codes, All, IfOk, IfErr, MatchResult, ◌≢◌}
 use Rattle.std.specs.Fmt.{decimal}
 use Rattle.std.specs.List.{flat_map, slice_split, join_with_byte}
-use Rattle.line_text.specs.Lines.{line_text, parts_of, pieces_of}
+use Rattle.line_text.specs.Lines.{line_text, parts_of, tokens_of}
 use Rattle.line_text.proofs.SplitFacts.{has_byte, has_byte_in, split_part, split_joined, joined_without, decimal_without}
 use Rattle.tso_cert.specs.declared.rules.BaseRule.{BaseRule}
 use Rattle.tso_cert.specs.declared.rules.BaseRule.TheVariants.{Init, LoadOp, StoreStore, Stbar, Membar, Read, Own}
@@ -19,18 +19,18 @@ use Rattle.tso_cert.specs.declared.lines.Line.TheVariants.{Step, Cycle, Unwritte
 use Rattle.tso_cert.specs.declared.faults.Why.{Why}
 use Rattle.tso_cert.specs.declared.faults.Why.TheVariants.{BadLine, BadNumber, BadRule, NoCycle, AfterCycle, OutOfMemory}
 use Rattle.tso_cert.specs.declared.faults.TextFault.{TextFault}
-use Rattle.tso_cert.specs.Printed.{base_name, inferred_name, event_text, reason_pieces, step_pieces, steps_pieces, cycle_pieces, unwritten_pieces, cert_pieces, cert_text, Fits, ReasonFits, StepFits, CertFits, step_count}
+use Rattle.tso_cert.specs.Printed.{base_name, inferred_name, event_text, reason_tokens, step_tokens, steps_tokens, cycle_tokens, unwritten_tokens, cert_tokens, cert_text, Fits, ReasonFits, StepFits, CertFits, step_count}
 use Rattle.tso_cert.specs.Spelling.{SpellsCertificate, IsCertTextRefusal}
 use Rattle.tso_cert.specs.Internal.LineValues.{cert_line_said, step_said, events}
-use Rattle.tso_cert.proofs.LineFacts.{told, line_pieces, ends, LineFits, step_said-pieces, cert_line_said-pieces}
+use Rattle.tso_cert.proofs.LineFacts.{told, line_tokens, ends, LineFits, step_said-tokens, cert_line_said-tokens}
 use Rattle.tso_cert.proofs.SayingFacts.{all_first, all_after, events-text}
 use Rattle.tso_cert.proofs.ReadersFacts.{Reached, AcceptsCertLine, Reached-start, Reached-next, Reached-end}
 use Rattle.tso_cert.proofs.SpellingFacts.{not_both}
 use Rattle.tso_cert.proofs.StepFacts.{accepts}
 
--- ---- the bytes of pieces
+-- ---- the bytes of tokens
 
--- a byte that parts lines or pieces
+-- a byte that parts lines or tokens
 IsBreak : ℕ → Type 0
 IsBreak c = (c ≡ 10) ⊎ (c ≡ 32)
 
@@ -67,105 +67,105 @@ inferred_without c StorePast is = word_without c (codes "StorePast") is refl ref
 inferred_without c SwapBefore is = word_without c (codes "SwapBefore") is refl refl
 inferred_without c SwapAfter is = word_without c (codes "SwapAfter") is refl refl
 
-reason_without : (c : ℕ) (r : Reason) → IsBreak c → ReasonFits r → has_byte_in c (reason_pieces r) ≡ false
+reason_without : (c : ℕ) (r : Reason) → IsBreak c → ReasonFits r → has_byte_in c (reason_tokens r) ≡ false
 reason_without c (Base rule) is fits = rw (base_without c rule is) refl
 reason_without c (Inferred rule load path) is fits = rw (inferred_without c rule is, event_without c load is fits.0) (events_without c path is fits.1)
 
-line_without : (c k : ℕ) (l : Line) → IsBreak c → Fits k → LineFits k l → has_byte_in c (line_pieces k l) ≡ false
+line_without : (c k : ℕ) (l : Line) → IsBreak c → Fits k → LineFits k l → has_byte_in c (line_tokens k l) ≡ false
 line_without c k (Step s) is low fits = rw (decimal_without c k (low_break c is) low, event_without c s.from is fits.0, event_without c s.to is fits.1) (reason_without c s.reason is fits.2)
 line_without c k (Cycle ns) is low fits = rw (word_without c (codes "cycle") is refl refl) (events_without c ns is fits)
 line_without c k (Unwritten n) is low fits = rw (word_without c (codes "unwritten") is refl refl, event_without c n is fits.0) refl
 
 -- ---- printed lines
 
--- a line always has a piece
-line_first : (k : ℕ) (l : Line) → (first : List ℕ) × (others : List (List ℕ)) × (line_pieces k l ≡ first ∷ others)
+-- a line always has a token
+line_first : (k : ℕ) (l : Line) → (first : List ℕ) × (others : List (List ℕ)) × (line_tokens k l ≡ first ∷ others)
 line_first k (Step s) = (decimal k, _, refl)
 line_first k (Cycle ns) = (codes "cycle", _, refl)
 line_first k (Unwritten n) = (codes "unwritten", _, refl)
 
--- a printed line has just its pieces
-line_cut : (k : ℕ) (l : Line) → Fits k → LineFits k l → pieces_of (join_with_byte 32 (line_pieces k l)) ≡ line_pieces k l
-unfolding pieces_of IsBreak
+-- a printed line has just its tokens
+line_cut : (k : ℕ) (l : Line) → Fits k → LineFits k l → tokens_of (join_with_byte 32 (line_tokens k l)) ≡ line_tokens k l
+unfolding tokens_of IsBreak
 line_cut k l low fits =
     let p = line_first k l in
     let none : has_byte_in 32 (p.0 ∷ p.1) ≡ false = ap (has_byte_in 32) (sym p.2) ∙ line_without 32 k l (inr refl) low fits in
     subst (λ ps. slice_split (λ b. eqb b 32) (join_with_byte 32 ps) ≡ ps) (sym p.2) (split_joined 32 p.0 p.1 none)
 
 -- a printed line ends at its line end
-line_parts : (k : ℕ) (l : Line) (rest : List ℕ) → Fits k → LineFits k l → parts_of (line_text (line_pieces k l) ++ rest) ≡ join_with_byte 32 (line_pieces k l) ∷ parts_of rest
+line_parts : (k : ℕ) (l : Line) (rest : List ℕ) → Fits k → LineFits k l → parts_of (line_text (line_tokens k l) ++ rest) ≡ join_with_byte 32 (line_tokens k l) ∷ parts_of rest
 unfolding parts_of IsBreak
 line_parts k l rest low fits =
-    let none : has_byte 10 (join_with_byte 32 (line_pieces k l)) ≡ false = joined_without 10 32 (line_pieces k l) refl (line_without 10 k l (inl refl) low fits) in
-    ap (slice_split (λ b. eqb b 10)) (append_assoc (join_with_byte 32 (line_pieces k l)) (10 ∷ []) rest) ∙ split_part 10 (join_with_byte 32 (line_pieces k l)) rest none
+    let none : has_byte 10 (join_with_byte 32 (line_tokens k l)) ≡ false = joined_without 10 32 (line_tokens k l) refl (line_without 10 k l (inl refl) low fits) in
+    ap (slice_split (λ b. eqb b 10)) (append_assoc (join_with_byte 32 (line_tokens k l)) (10 ∷ []) rest) ∙ split_part 10 (join_with_byte 32 (line_tokens k l)) rest none
 
 -- a printed line is accepted
-line_accepted : (k : ℕ) (l : Line) → Fits k → LineFits k l → AcceptsCertLine k (join_with_byte 32 (line_pieces k l)) (ends l) (line_pieces k l)
-line_accepted k l low fits = accepts k (join_with_byte 32 (line_pieces k l)) l (told k _ l (ap (cert_line_said k) (line_cut k l low fits) ∙ cert_line_said-pieces k l low fits))
+line_accepted : (k : ℕ) (l : Line) → Fits k → LineFits k l → AcceptsCertLine k (join_with_byte 32 (line_tokens k l)) (ends l) (line_tokens k l)
+line_accepted k l low fits = accepts k (join_with_byte 32 (line_tokens k l)) l (told k _ l (ap (cert_line_said k) (line_cut k l low fits) ∙ cert_line_said-tokens k l low fits))
 
 -- ---- the printed text
 
--- the lines that are left, after i lines of these pieces, make the certificate
+-- the lines that are left, after i lines of these tokens, make the certificate
 printed_from : (text : List ℕ) (i : ℕ) (prefix : List (List (List ℕ))) (steps : List CertStep) (cycle : List ℕ) (c : Certificate) →
-    Reached text i (flat_map line_text (steps_pieces (suc i) steps ++ cycle_pieces cycle ∷ [])) prefix → All StepFits steps → All Fits cycle → suc (i + length steps) < 2 ^ 64 →
-    prefix ++ (steps_pieces (suc i) steps ++ cycle_pieces cycle ∷ []) ≡ cert_pieces c → CertFits c → SpellsCertificate text c
+    Reached text i (flat_map line_text (steps_tokens (suc i) steps ++ cycle_tokens cycle ∷ [])) prefix → All StepFits steps → All Fits cycle → suc (i + length steps) < 2 ^ 64 →
+    prefix ++ (steps_tokens (suc i) steps ++ cycle_tokens cycle ∷ []) ≡ cert_tokens c → CertFits c → SpellsCertificate text c
 printed_from text i prefix [] cycle c reached steps_fit cycle_fits few whole fits =
-    Reached-end text i _ prefix (join_with_byte 32 (cycle_pieces cycle)) [] (cycle_pieces cycle) c reached (line_parts (suc i) (Cycle cycle) [] (omega (arith, few)) cycle_fits)
+    Reached-end text i _ prefix (join_with_byte 32 (cycle_tokens cycle)) [] (cycle_tokens cycle) c reached (line_parts (suc i) (Cycle cycle) [] (omega (arith, few)) cycle_fits)
     (line_accepted (suc i) (Cycle cycle) (omega (arith, few)) cycle_fits) whole fits refl
 printed_from text i prefix (s ∷ steps) cycle c reached steps_fit cycle_fits few whole fits =
     let low : Fits (suc i) = omega (arith, few) in
     let fits_first : StepFits s = all_first StepFits s steps steps_fit in
-    printed_from text (suc i) (prefix ++ step_pieces (suc i) s ∷ []) steps cycle c
-    (Reached-next text i _ prefix (join_with_byte 32 (step_pieces (suc i) s)) (flat_map line_text (steps_pieces (suc (suc i)) steps ++ cycle_pieces cycle ∷ [])) (step_pieces (suc i) s) reached
+    printed_from text (suc i) (prefix ++ step_tokens (suc i) s ∷ []) steps cycle c
+    (Reached-next text i _ prefix (join_with_byte 32 (step_tokens (suc i) s)) (flat_map line_text (steps_tokens (suc (suc i)) steps ++ cycle_tokens cycle ∷ [])) (step_tokens (suc i) s) reached
     (line_parts (suc i) (Step s) _ low fits_first) (line_accepted (suc i) (Step s) low fits_first))
-    (all_after StepFits s steps steps_fit) cycle_fits (omega (arith, few)) (append_assoc prefix (step_pieces (suc i) s ∷ []) _ ∙ whole) fits
+    (all_after StepFits s steps steps_fit) cycle_fits (omega (arith, few)) (append_assoc prefix (step_tokens (suc i) s ∷ []) _ ∙ whole) fits
 
 -- the printed text of a certificate spells it
 pub printed : (c : Certificate) → CertFits c → suc (step_count c) < 2 ^ 64 → SpellsCertificate (cert_text c) c
 unfolding cert_text
 printed (UnwrittenLoad n) fits few =
     let low : Fits 1 = omega arith in
-    Reached-end _ 0 _ [] (join_with_byte 32 (unwritten_pieces n)) [] (unwritten_pieces n) (UnwrittenLoad n) (Reached-start _) (line_parts 1 (Unwritten n) [] low (fits, refl)) (line_accepted 1 (Unwritten n) low (fits, refl)) refl fits refl
+    Reached-end _ 0 _ [] (join_with_byte 32 (unwritten_tokens n)) [] (unwritten_tokens n) (UnwrittenLoad n) (Reached-start _) (line_parts 1 (Unwritten n) [] low (fits, refl)) (line_accepted 1 (Unwritten n) low (fits, refl)) refl fits refl
 printed (CycleOf steps cycle) fits few = printed_from _ 0 [] steps cycle (CycleOf steps cycle) (Reached-start _) fits.0 fits.1 (omega (arith, few)) refl fits
 
 -- ---- one certificate
 
--- lines of the same pieces say the same
-same_line : (k : ℕ) (l m : Line) → Fits k → LineFits k l → LineFits k m → line_pieces k l ≡ line_pieces k m → l ≡ m
-same_line k l m low one other same = let s : Ok l ≡ Ok m = sym (cert_line_said-pieces k l low one) ∙ ap (cert_line_said k) same ∙ cert_line_said-pieces k m low other in cc
+-- lines of the same tokens say the same
+same_line : (k : ℕ) (l m : Line) → Fits k → LineFits k l → LineFits k m → line_tokens k l ≡ line_tokens k m → l ≡ m
+same_line k l m low one other same = let s : Ok l ≡ Ok m = sym (cert_line_said-tokens k l low one) ∙ ap (cert_line_said k) same ∙ cert_line_said-tokens k m low other in cc
 
 uncons : {X : Type 0} (x y : X) (xs ys : List X) → x ∷ xs ≡ y ∷ ys → (x ≡ y) × (xs ≡ ys)
 uncons x y xs ys e = (cc, cc)
 
-same_step : (k : ℕ) (s r : CertStep) → StepFits s → StepFits r → step_pieces k s ≡ step_pieces k r → s ≡ r
+same_step : (k : ℕ) (s r : CertStep) → StepFits s → StepFits r → step_tokens k s ≡ step_tokens k r → s ≡ r
 same_step k s r one other same =
-    let e : Ok s ≡ Ok r = sym (step_said-pieces k s.from s.to s.reason one.0 one.1 one.2) ∙ ap (step_said k) same ∙ step_said-pieces k r.from r.to r.reason other.0 other.1 other.2 in
+    let e : Ok s ≡ Ok r = sym (step_said-tokens k s.from s.to s.reason one.0 one.1 one.2) ∙ ap (step_said k) same ∙ step_said-tokens k r.from r.to r.reason other.0 other.1 other.2 in
     cc
 
-same_cycle : (cycle other : List ℕ) → All Fits cycle → All Fits other → cycle_pieces cycle ≡ cycle_pieces other → cycle ≡ other
+same_cycle : (cycle other : List ℕ) → All Fits cycle → All Fits other → cycle_tokens cycle ≡ cycle_tokens other → cycle ≡ other
 same_cycle cycle other one more same = let e : Ok cycle ≡ Ok other = sym (events-text cycle one) ∙ ap events (uncons _ _ _ _ same).1 ∙ events-text other more in cc
 
--- the pieces of a step come before those of a cycle
-more_lines : (k : ℕ) (s : CertStep) (steps : List CertStep) (cycle : List ℕ) (last : List (List ℕ)) → last ∷ [] ≡ steps_pieces k (s ∷ steps) ++ cycle_pieces cycle ∷ [] → ⊥
-more_lines k s steps cycle last same = omega (arith, ap length same, length-append (steps_pieces (suc k) steps) (cycle_pieces cycle ∷ []))
+-- the tokens of a step come before those of a cycle
+more_lines : (k : ℕ) (s : CertStep) (steps : List CertStep) (cycle : List ℕ) (last : List (List ℕ)) → last ∷ [] ≡ steps_tokens k (s ∷ steps) ++ cycle_tokens cycle ∷ [] → ⊥
+more_lines k s steps cycle last same = omega (arith, ap length same, length-append (steps_tokens (suc k) steps) (cycle_tokens cycle ∷ []))
 
 same_steps : (k : ℕ) (steps others : List CertStep) (cycle other : List ℕ) → All StepFits steps → All StepFits others → All Fits cycle → All Fits other →
-    steps_pieces k steps ++ cycle_pieces cycle ∷ [] ≡ steps_pieces k others ++ cycle_pieces other ∷ [] → (steps ≡ others) × (cycle ≡ other)
+    steps_tokens k steps ++ cycle_tokens cycle ∷ [] ≡ steps_tokens k others ++ cycle_tokens other ∷ [] → (steps ≡ others) × (cycle ≡ other)
 same_steps k [] [] cycle other sf of cf tf same = (refl, same_cycle cycle other cf tf (uncons _ _ _ _ same).0)
-same_steps k [] (r ∷ others) cycle other sf of cf tf same = absurd (more_lines k r others other (cycle_pieces cycle) same)
-same_steps k (s ∷ steps) [] cycle other sf of cf tf same = absurd (more_lines k s steps cycle (cycle_pieces other) (sym same))
+same_steps k [] (r ∷ others) cycle other sf of cf tf same = absurd (more_lines k r others other (cycle_tokens cycle) same)
+same_steps k (s ∷ steps) [] cycle other sf of cf tf same = absurd (more_lines k s steps cycle (cycle_tokens other) (sym same))
 same_steps k (s ∷ steps) (r ∷ others) cycle other sf of cf tf same =
     let parts = uncons _ _ _ _ same in
     let first = same_step k s r (all_first StepFits s steps sf) (all_first StepFits r others of) parts.0 in
     let rest = same_steps (suc k) steps others cycle other (all_after StepFits s steps sf) (all_after StepFits r others of) cf tf parts.1 in
     (ap (λ t. t ∷ steps) first ∙ ap (λ ts. r ∷ ts) rest.0, rest.1)
 
-same_cert : (c d : Certificate) → CertFits c → CertFits d → cert_pieces c ≡ cert_pieces d → c ≡ d
+same_cert : (c d : Certificate) → CertFits c → CertFits d → cert_tokens c ≡ cert_tokens d → c ≡ d
 same_cert (UnwrittenLoad n) (UnwrittenLoad m) cf df same = let l = same_line 1 (Unwritten n) (Unwritten m) (omega arith) (cf, refl) (df, refl) (uncons _ _ _ _ same).0 in cc
 same_cert (UnwrittenLoad n) (CycleOf [] other) cf df same = absurd (let l = same_line 1 (Unwritten n) (Cycle other) (omega arith) (cf, refl) df.1 (uncons _ _ _ _ same).0 in cc)
-same_cert (UnwrittenLoad n) (CycleOf (r ∷ others) other) cf df same = absurd (more_lines 1 r others other (unwritten_pieces n) same)
+same_cert (UnwrittenLoad n) (CycleOf (r ∷ others) other) cf df same = absurd (more_lines 1 r others other (unwritten_tokens n) same)
 same_cert (CycleOf [] cycle) (UnwrittenLoad m) cf df same = absurd (let l = same_line 1 (Cycle cycle) (Unwritten m) (omega arith) cf.1 (df, refl) (uncons _ _ _ _ same).0 in cc)
-same_cert (CycleOf (s ∷ steps) cycle) (UnwrittenLoad m) cf df same = absurd (more_lines 1 s steps cycle (unwritten_pieces m) (sym same))
+same_cert (CycleOf (s ∷ steps) cycle) (UnwrittenLoad m) cf df same = absurd (more_lines 1 s steps cycle (unwritten_tokens m) (sym same))
 same_cert (CycleOf steps cycle) (CycleOf others other) cf df same =
     let parts = same_steps 1 steps others cycle other cf.0 df.0 cf.1 df.1 same in
     ap (λ l. CycleOf l cycle) parts.0 ∙ ap (λ l. CycleOf others l) parts.1

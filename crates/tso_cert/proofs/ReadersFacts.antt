@@ -5,12 +5,12 @@ use Rattle.std.proofs.lemmas.Bool.{cases_lt, or_parts}
 use Rattle.std.proofs.Math.Bool.{and-false, and-true}
 use Rattle.std.proofs.lemmas.Bool.Decides.{nat_tests}
 use Rattle.std.proofs.lemmas.List.{take_at, take-append-le, get_or_at, get_or_append_left, append_assoc, map-append}
-use Rattle.line_text.specs.Lines.{parts_of, pieces_of, is_empty}
+use Rattle.line_text.specs.Lines.{parts_of, tokens_of, is_empty}
 use Rattle.line_text.proofs.CutFacts.{split_parts, some_part}
 use Rattle.tso_cert.specs.declared.steps.Certificate.{Certificate}
 use Rattle.tso_cert.specs.declared.faults.Why.{Why}
 use Rattle.tso_cert.specs.declared.faults.Why.TheVariants.{AfterCycle}
-use Rattle.tso_cert.specs.Printed.{CertFits, cert_pieces}
+use Rattle.tso_cert.specs.Printed.{CertFits, cert_tokens}
 use Rattle.tso_cert.specs.Spelling.{SpellsCertificate, IsCertTextRefusal, cert_fault_at, cert_part_fault, cert_line_fault, has_last_line, is_last_line, unended_cert_fault, same_cert_fault}
 use Rattle.tso_cert.specs.Internal.LineValues.{IsFirstCertFault}
 
@@ -22,16 +22,16 @@ list_any-push p (y ∷ xs) x none =
     let parts = or_parts (p y) (list_any p xs) none in
     ap (λ b. b || list_any p (xs ++ x ∷ [])) parts.0 ∙ list_any-push p xs x parts.1
 
-has_last_line-push : (prefix : List (List ℕ)) (line : List ℕ) → has_last_line prefix ≡ false → has_last_line (prefix ++ line ∷ []) ≡ is_last_line (pieces_of line)
+has_last_line-push : (prefix : List (List ℕ)) (line : List ℕ) → has_last_line prefix ≡ false → has_last_line (prefix ++ line ∷ []) ≡ is_last_line (tokens_of line)
 unfolding has_last_line
-has_last_line-push prefix line none = list_any-push (λ line. is_last_line (pieces_of line)) prefix line none
+has_last_line-push prefix line none = list_any-push (λ line. is_last_line (tokens_of line)) prefix line none
 
 -- the lines before have no fault
 abbrev pub IsClean : List (List ℕ) → Type 0
 IsClean prefix = (i : ℕ) (w : Why) → i < length prefix → cert_part_fault (take i prefix) (get_or prefix i []) false w ≡ false
 
 -- a line before the last
-pub cert_part_fault-open : (prefix : List (List ℕ)) (part : List ℕ) (w : Why) → has_last_line prefix ≡ false → cert_part_fault prefix part false w ≡ cert_line_fault (suc (length prefix)) (pieces_of part) w
+pub cert_part_fault-open : (prefix : List (List ℕ)) (part : List ℕ) (w : Why) → has_last_line prefix ≡ false → cert_part_fault prefix part false w ≡ cert_line_fault (suc (length prefix)) (tokens_of part) w
 unfolding cert_part_fault
 cert_part_fault-open prefix part w running = rw running refl
 
@@ -62,21 +62,21 @@ IsClean-push prefix line clean at_line i w low =
 
 -- ---- the place in the text
 
--- The reader is after i lines: these have no fault and none of them is a last line; `rest` is what follows them, and `pieces` are
--- their pieces.
-pub record Reached (text : List ℕ) (i : ℕ) (rest : List ℕ) (pieces : List (List (List ℕ))) : Type 0 where
+-- The reader is after i lines: these have no fault and none of them is a last line; `rest` is what follows them, and `tokens` are
+-- their tokens.
+pub record Reached (text : List ℕ) (i : ℕ) (rest : List ℕ) (tokens : List (List (List ℕ))) : Type 0 where
   pub prefix : List (List ℕ)
   pub body : parts_of text ≡ prefix ++ parts_of rest
   pub count : length prefix ≡ i
   pub clean : IsClean prefix
   pub running : has_last_line prefix ≡ false
-  pub says : map pieces_of prefix ≡ pieces
+  pub says : map tokens_of prefix ≡ tokens
 
--- the line of this number is accepted: it has no fault, and its first piece says whether it is the last
-pub record AcceptsCertLine (number : ℕ) (line : List ℕ) (ended : Bool) (pieces : List (List ℕ)) : Type 0 where
-  pub faultless : (w : Why) → cert_line_fault number (pieces_of line) w ≡ false
-  pub ends : is_last_line (pieces_of line) ≡ ended
-  pub says : pieces_of line ≡ pieces
+-- the line of this number is accepted: it has no fault, and its first token says whether it is the last
+pub record AcceptsCertLine (number : ℕ) (line : List ℕ) (ended : Bool) (tokens : List (List ℕ)) : Type 0 where
+  pub faultless : (w : Why) → cert_line_fault number (tokens_of line) w ≡ false
+  pub ends : is_last_line (tokens_of line) ≡ ended
+  pub says : tokens_of line ≡ tokens
 
 last_place : (prefix : List (List ℕ)) (part : List ℕ) (after : List (List ℕ)) (i : ℕ) → length prefix ≡ i → eqb (suc i) (length (prefix ++ part ∷ after)) ≡ is_empty after
 last_place prefix part [] i count = let whole = length-append prefix (part ∷ []) in grind (arith, nat_tests)
@@ -147,67 +147,67 @@ IsFirstCertFault-same : {p q : Why → Bool} (why : Why) → ((w : Why) → p w 
 IsFirstCertFault-same why same first = record { fault = same why ∙ first.fault; least = λ w less. same w ∙ first.least w less }
 
 -- a line with a fault
-pub line_refused : (text : List ℕ) (i : ℕ) (rest : List ℕ) (pieces : List (List (List ℕ))) (line after : List ℕ) (why : Why) → Reached text i rest pieces →
-    parts_of rest ≡ line ∷ parts_of after → IsFirstCertFault (cert_line_fault (suc i) (pieces_of line)) why → IsCertTextRefusal text (suc i) why
+pub line_refused : (text : List ℕ) (i : ℕ) (rest : List ℕ) (tokens : List (List (List ℕ))) (line after : List ℕ) (why : Why) → Reached text i rest tokens →
+    parts_of rest ≡ line ∷ parts_of after → IsFirstCertFault (cert_line_fault (suc i) (tokens_of line)) why → IsCertTextRefusal text (suc i) why
 unfolding parts_of
-line_refused text i rest pieces line after why r parts first =
+line_refused text i rest tokens line after why r parts first =
     let p = split_parts (λ b. eqb b 10) after in
     let body : parts_of text ≡ r.prefix ++ line ∷ (p.0 ∷ p.1) = r.body ∙ ap (λ x. r.prefix ++ x) (parts ∙ ap (λ x. line ∷ x) p.2) in
     let at : IsFirstCertFault (cert_part_fault r.prefix line false) why =
-    IsFirstCertFault-same why (λ w. cert_part_fault-open r.prefix line w r.running ∙ ap (λ n. cert_line_fault (suc n) (pieces_of line) w) r.count) first in
+    IsFirstCertFault-same why (λ w. cert_part_fault-open r.prefix line w r.running ∙ ap (λ n. cert_line_fault (suc n) (tokens_of line) w) r.count) first in
     subst (λ n. IsCertTextRefusal text (suc n) why) r.count (refused_at text r.prefix line (p.0 ∷ p.1) why r.clean body at)
 
 -- no line end, and no last line before
-pub unended_refused : (text : List ℕ) (i : ℕ) (rest : List ℕ) (pieces : List (List (List ℕ))) (why : Why) → Reached text i rest pieces →
+pub unended_refused : (text : List ℕ) (i : ℕ) (rest : List ℕ) (tokens : List (List (List ℕ))) (why : Why) → Reached text i rest tokens →
     parts_of rest ≡ rest ∷ [] → why ≡ unended_cert_fault rest → IsCertTextRefusal text (suc i) why
-unended_refused text i rest pieces why r parts is =
+unended_refused text i rest tokens why r parts is =
     let body : parts_of text ≡ r.prefix ++ rest ∷ [] = r.body ∙ ap (λ x. r.prefix ++ x) parts in
     let at : IsFirstCertFault (cert_part_fault r.prefix rest true) (unended_cert_fault rest) =
     IsFirstCertFault-same (unended_cert_fault rest) (λ w. cert_part_fault-last r.prefix rest w r.running) (same_cert_fault-first (unended_cert_fault rest)) in
     rw is (subst (λ n. IsCertTextRefusal text (suc n) (unended_cert_fault rest)) r.count (refused_at text r.prefix rest [] (unended_cert_fault rest) r.clean body at))
 
 -- a line that is accepted has no fault
-line_clean : (text : List ℕ) (i : ℕ) (rest : List ℕ) (pieces : List (List (List ℕ))) (line : List ℕ) (ended : Bool) (said : List (List ℕ)) →
-    (r : Reached text i rest pieces) → AcceptsCertLine (suc i) line ended said → (w : Why) → cert_part_fault r.prefix line false w ≡ false
-line_clean text i rest pieces line ended said r accepts w =
-    cert_part_fault-open r.prefix line w r.running ∙ ap (λ n. cert_line_fault (suc n) (pieces_of line) w) r.count ∙ accepts.faultless w
+line_clean : (text : List ℕ) (i : ℕ) (rest : List ℕ) (tokens : List (List (List ℕ))) (line : List ℕ) (ended : Bool) (said : List (List ℕ)) →
+    (r : Reached text i rest tokens) → AcceptsCertLine (suc i) line ended said → (w : Why) → cert_part_fault r.prefix line false w ≡ false
+line_clean text i rest tokens line ended said r accepts w =
+    cert_part_fault-open r.prefix line w r.running ∙ ap (λ n. cert_line_fault (suc n) (tokens_of line) w) r.count ∙ accepts.faultless w
 
-line_says : (text : List ℕ) (i : ℕ) (rest : List ℕ) (pieces : List (List (List ℕ))) (line : List ℕ) (ended : Bool) (said : List (List ℕ)) →
-    (r : Reached text i rest pieces) → AcceptsCertLine (suc i) line ended said → map pieces_of (r.prefix ++ line ∷ []) ≡ pieces ++ said ∷ []
-line_says text i rest pieces line ended said r accepts =
-    map-append pieces_of r.prefix (line ∷ []) ∙ ap (λ p. p ++ pieces_of line ∷ []) r.says ∙ ap (λ l. pieces ++ l ∷ []) accepts.says
+line_says : (text : List ℕ) (i : ℕ) (rest : List ℕ) (tokens : List (List (List ℕ))) (line : List ℕ) (ended : Bool) (said : List (List ℕ)) →
+    (r : Reached text i rest tokens) → AcceptsCertLine (suc i) line ended said → map tokens_of (r.prefix ++ line ∷ []) ≡ tokens ++ said ∷ []
+line_says text i rest tokens line ended said r accepts =
+    map-append tokens_of r.prefix (line ∷ []) ∙ ap (λ p. p ++ tokens_of line ∷ []) r.says ∙ ap (λ l. tokens ++ l ∷ []) accepts.says
 
-line_ends : (text : List ℕ) (i : ℕ) (rest : List ℕ) (pieces : List (List (List ℕ))) (line : List ℕ) (ended : Bool) (said : List (List ℕ)) →
-    (r : Reached text i rest pieces) → AcceptsCertLine (suc i) line ended said → has_last_line (r.prefix ++ line ∷ []) ≡ ended
-line_ends text i rest pieces line ended said r accepts = has_last_line-push r.prefix line r.running ∙ accepts.ends
+line_ends : (text : List ℕ) (i : ℕ) (rest : List ℕ) (tokens : List (List (List ℕ))) (line : List ℕ) (ended : Bool) (said : List (List ℕ)) →
+    (r : Reached text i rest tokens) → AcceptsCertLine (suc i) line ended said → has_last_line (r.prefix ++ line ∷ []) ≡ ended
+line_ends text i rest tokens line ended said r accepts = has_last_line-push r.prefix line r.running ∙ accepts.ends
 
 -- the reader continues after a line
-pub Reached-next : (text : List ℕ) (i : ℕ) (rest : List ℕ) (pieces : List (List (List ℕ))) (line after : List ℕ) (said : List (List ℕ)) →
-    Reached text i rest pieces → parts_of rest ≡ line ∷ parts_of after → AcceptsCertLine (suc i) line false said → Reached text (suc i) after (pieces ++ said ∷ [])
-Reached-next text i rest pieces line after said r parts accepts = record {
+pub Reached-next : (text : List ℕ) (i : ℕ) (rest : List ℕ) (tokens : List (List (List ℕ))) (line after : List ℕ) (said : List (List ℕ)) →
+    Reached text i rest tokens → parts_of rest ≡ line ∷ parts_of after → AcceptsCertLine (suc i) line false said → Reached text (suc i) after (tokens ++ said ∷ [])
+Reached-next text i rest tokens line after said r parts accepts = record {
   prefix = r.prefix ++ line ∷ [];
   body = r.body ∙ ap (λ x. r.prefix ++ x) parts ∙ sym (append_assoc r.prefix (line ∷ []) (parts_of after));
   count = omega (arith, length-append r.prefix (line ∷ []), r.count);
-  clean = IsClean-push r.prefix line r.clean (line_clean text i rest pieces line false said r accepts);
-  running = line_ends text i rest pieces line false said r accepts;
-  says = line_says text i rest pieces line false said r accepts;
+  clean = IsClean-push r.prefix line r.clean (line_clean text i rest tokens line false said r accepts);
+  running = line_ends text i rest tokens line false said r accepts;
+  says = line_says text i rest tokens line false said r accepts;
 }
 
 -- a byte after the last line
-pub ended_refused : (text : List ℕ) (i : ℕ) (rest : List ℕ) (pieces : List (List (List ℕ))) (line after : List ℕ) (said : List (List ℕ)) →
-    Reached text i rest pieces → parts_of rest ≡ line ∷ parts_of after → AcceptsCertLine (suc i) line true said → (length after ≡ 0 → ⊥) → IsCertTextRefusal text (suc (suc i)) AfterCycle
+pub ended_refused : (text : List ℕ) (i : ℕ) (rest : List ℕ) (tokens : List (List (List ℕ))) (line after : List ℕ) (said : List (List ℕ)) →
+    Reached text i rest tokens → parts_of rest ≡ line ∷ parts_of after → AcceptsCertLine (suc i) line true said → (length after ≡ 0 → ⊥) → IsCertTextRefusal text (suc (suc i)) AfterCycle
 unfolding parts_of
-ended_refused text i rest pieces line after said r parts accepts some =
+ended_refused text i rest tokens line after said r parts accepts some =
     let p = split_parts (λ b. eqb b 10) after in
     let body : parts_of text ≡ (r.prefix ++ line ∷ []) ++ p.0 ∷ p.1 = r.body ∙ ap (λ x. r.prefix ++ x) (parts ∙ ap (λ x. line ∷ x) p.2) ∙ sym (append_assoc r.prefix (line ∷ []) (p.0 ∷ p.1)) in
     let stands : not (is_empty p.1 && is_empty p.0) ≡ true = some_part after p.0 p.1 p.2 some in
     let at : IsFirstCertFault (cert_part_fault (r.prefix ++ line ∷ []) p.0 (is_empty p.1)) AfterCycle =
     IsFirstCertFault-same AfterCycle
-    (λ w. cert_part_fault-ended (r.prefix ++ line ∷ []) p.0 (is_empty p.1) w (line_ends text i rest pieces line true said r accepts) ∙ ap (λ b. same_cert_fault AfterCycle w && b) stands ∙ and-true (same_cert_fault AfterCycle w))
+    (λ w. cert_part_fault-ended (r.prefix ++ line ∷ []) p.0 (is_empty p.1) w (line_ends text i rest tokens line true said r accepts) ∙ ap (λ b. same_cert_fault AfterCycle w && b) stands ∙ and-true (same_cert_fault AfterCycle w))
     (same_cert_fault-first AfterCycle) in
     let n : length (r.prefix ++ line ∷ []) ≡ suc i = omega (arith, length-append r.prefix (line ∷ []), r.count) in
     subst (λ n. IsCertTextRefusal text (suc n) AfterCycle) n
-    (refused_at text (r.prefix ++ line ∷ []) p.0 p.1 AfterCycle (IsClean-push r.prefix line r.clean (line_clean text i rest pieces line true said r accepts)) body at)
+    (refused_at text (r.prefix ++ line ∷ []) p.0 p.1 AfterCycle (IsClean-push r.prefix line r.clean (line_clean text i rest tokens line true said r accepts)) body at)
 
 spelled_after : (text : List ℕ) (lines : List (List ℕ)) (k : ℕ) (w : Why) → has_last_line lines ≡ true → parts_of text ≡ lines ++ [] ∷ [] →
     suc (length lines) ≤ k → cert_fault_at text k w ≡ false
@@ -220,8 +220,8 @@ spelled_after text lines (suc k) w ended body high =
     (λ (past : suc (length lines) ≤ k). cert_fault_at-past text (suc k) w (omega (arith, ap length body, length-append lines ([] ∷ []))))
     (cases_lt k (suc (length lines)))
 
--- clean lines with a last line, and nothing after them, spell the certificate that has their pieces
-pub spelled : (text : List ℕ) (lines : List (List ℕ)) (c : Certificate) → IsClean lines → has_last_line lines ≡ true → map pieces_of lines ≡ cert_pieces c → CertFits c →
+-- clean lines with a last line, and nothing after them, spell the certificate that has their tokens
+pub spelled : (text : List ℕ) (lines : List (List ℕ)) (c : Certificate) → IsClean lines → has_last_line lines ≡ true → map tokens_of lines ≡ cert_tokens c → CertFits c →
     parts_of text ≡ lines ++ [] ∷ [] → SpellsCertificate text c
 spelled text lines c clean ended says fits body = record {
   clean = λ k w. ⊎_elim
@@ -236,16 +236,16 @@ spelled text lines c clean ended says fits body = record {
 }
 
 -- nothing after the last line: the text spells the certificate of the lines
-pub Reached-end : (text : List ℕ) (i : ℕ) (rest : List ℕ) (pieces : List (List (List ℕ))) (line after : List ℕ) (said : List (List ℕ)) (c : Certificate) →
-    Reached text i rest pieces → parts_of rest ≡ line ∷ parts_of after → AcceptsCertLine (suc i) line true said → pieces ++ said ∷ [] ≡ cert_pieces c → CertFits c →
+pub Reached-end : (text : List ℕ) (i : ℕ) (rest : List ℕ) (tokens : List (List (List ℕ))) (line after : List ℕ) (said : List (List ℕ)) (c : Certificate) →
+    Reached text i rest tokens → parts_of rest ≡ line ∷ parts_of after → AcceptsCertLine (suc i) line true said → tokens ++ said ∷ [] ≡ cert_tokens c → CertFits c →
     length after ≡ 0 → SpellsCertificate text c
 unfolding parts_of
-Reached-end text i rest pieces line [] said c r parts accepts whole fits none =
+Reached-end text i rest tokens line [] said c r parts accepts whole fits none =
     spelled text (r.prefix ++ line ∷ []) c
-    (IsClean-push r.prefix line r.clean (line_clean text i rest pieces line true said r accepts))
-    (line_ends text i rest pieces line true said r accepts) (line_says text i rest pieces line true said r accepts ∙ whole) fits
+    (IsClean-push r.prefix line r.clean (line_clean text i rest tokens line true said r accepts))
+    (line_ends text i rest tokens line true said r accepts) (line_says text i rest tokens line true said r accepts ∙ whole) fits
     (r.body ∙ ap (λ x. r.prefix ++ x) parts ∙ sym (append_assoc r.prefix (line ∷ []) ([] ∷ [])))
-Reached-end text i rest pieces line (b ∷ after) said c r parts accepts whole fits none = absurd (omega arith)
+Reached-end text i rest tokens line (b ∷ after) said c r parts accepts whole fits none = absurd (omega arith)
 
 -- before the first line
 pub Reached-start : (text : List ℕ) → Reached text 0 text []

@@ -1,4 +1,4 @@
--- What the pieces of a line say, and its faults: a line that says something is written in one way and has no fault; the fault of another is its
+-- What the tokens of a line say, and its faults: a line that says something is written in one way and has no fault; the fault of another is its
 -- first.
 use Rattle.std.proofs.Common.{◌≡◌, ℕ, zero, suc, Bool, true, false, cond, ◌&&◌, ◌||◌, List, [], ◌∷◌, map, Option, Some, None, Result, Ok, Err, refl, ap, sym, ◌∙◌, arith, inl, inr, ⊎_elim, ◌⊎◌}
 use Rattle.std.specs.Prelude.{codes, is_some, All}
@@ -21,7 +21,7 @@ use Rattle.tso_cert.specs.declared.steps.Reason.{Reason}
 use Rattle.tso_cert.specs.declared.steps.Reason.TheVariants.{Base, Inferred}
 use Rattle.tso_cert.specs.declared.faults.Why.{Why}
 use Rattle.tso_cert.specs.declared.faults.Why.TheVariants.{BadNumber, BadRule}
-use Rattle.tso_cert.specs.Printed.{base_name, inferred_name, event_text, reason_pieces, Fits, ReasonFits}
+use Rattle.tso_cert.specs.Printed.{base_name, inferred_name, event_text, reason_tokens, Fits, ReasonFits}
 use Rattle.tso_cert.specs.Spelling.{above_zero, event_number, are_events, base_rules, inferred_rules, is_name, is_rule}
 use Rattle.line_text.specs.Results.{◌>>=◌}
 use Rattle.tso_cert.specs.Internal.LineValues.{or_bad_event, event, events, named, base_rule, inferred_rule, reason_said}
@@ -185,9 +185,9 @@ inferred_rule-name SwapAfter = refl
 
 -- ---- reasons
 
--- the name of a rule and the pieces after it are those of the reason
+-- the name of a rule and the tokens after it are those of the reason
 pub record ReasonTold (name : List ℕ) (ps : List (List ℕ)) (r : Reason) : Type 0 where
-  pub says : name ∷ ps ≡ reason_pieces r
+  pub says : name ∷ ps ≡ reason_tokens r
   pub fits : ReasonFits r
   pub events : are_events ps ≡ true
   pub rule : is_rule name ps ≡ true
@@ -214,7 +214,7 @@ reason_told name (load ∷ path) r e =
       rule = n.1;
     }
 
--- a piece after the name is no event number; or the name is that of no rule with these pieces
+-- a token after the name is no event number; or the name is that of no rule with these tokens
 abbrev pub reason_faults : List ℕ → List (List ℕ) → Why → Type 0
 reason_faults name ps why = ((why ≡ BadNumber) × (are_events ps ≡ false)) ⊎ ((why ≡ BadRule) × (are_events ps ≡ true) × (is_rule name ps ≡ false))
 
@@ -241,7 +241,7 @@ reason_refused name (load ∷ path) why e =
     (bind_err (events path) _ why l.2))
     (bind_err (event load) _ why e)
 
--- what a reason's pieces say
+-- what a reason's tokens say
 pub base_said : (rule : BaseRule) → reason_said (base_name rule) [] ≡ Ok (Base rule)
 unfolding reason_said
 base_said rule = rw (base_rule-name rule) refl

@@ -5,7 +5,7 @@ use Rattle.std.proofs.lemmas.Bool.{false≢true, cases_lt}
 use Rattle.std.proofs.lemmas.List.{append-nil}
 use Rattle.std.proofs.lemmas.List.Concat.{flat_map-append}
 use Rattle.std.proofs.lemmas.List.Splits.{join_with_byte-slice_split}
-use Rattle.line_text.specs.Lines.{line_text, parts_of, pieces_of}
+use Rattle.line_text.specs.Lines.{line_text, parts_of, tokens_of}
 use Rattle.line_text.proofs.CutFacts.{HasLine, first_line}
 use Rattle.tso_cert.specs.declared.steps.CertStep.{CertStep}
 use Rattle.tso_cert.specs.declared.steps.Certificate.{Certificate}
@@ -14,12 +14,12 @@ use Rattle.tso_cert.specs.declared.lines.Line.{Line}
 use Rattle.tso_cert.specs.declared.lines.Line.TheVariants.{Step, Cycle, Unwritten}
 use Rattle.tso_cert.specs.declared.faults.Why.{Why}
 use Rattle.tso_cert.specs.declared.faults.Why.TheVariants.{BadLine, BadNumber, BadRule, NoCycle, AfterCycle, OutOfMemory}
-use Rattle.tso_cert.specs.Printed.{step_pieces, steps_pieces, cert_pieces, cert_text}
+use Rattle.tso_cert.specs.Printed.{step_tokens, steps_tokens, cert_tokens, cert_text}
 use Rattle.tso_cert.specs.Spelling.{SpellsCertificate, IsCertTextRefusal, cert_fault_number, unended_cert_fault}
 use Rattle.tso_cert.specs.Internal.LineValues.{cert_line_said}
-use Rattle.tso_cert.proofs.LineFacts.{told, line_pieces, ends}
+use Rattle.tso_cert.proofs.LineFacts.{told, line_tokens, ends}
 use Rattle.tso_cert.proofs.ReadersFacts.{unended_refused}
-use Rattle.tso_cert.proofs.StepFacts.{IsRead, IsRead-start, IsRead-next, read_refused, read_after, read_cycle, read_unwritten, unwritten_alone, steps_pieces-next}
+use Rattle.tso_cert.proofs.StepFacts.{IsRead, IsRead-start, IsRead-next, read_refused, read_after, read_cycle, read_unwritten, unwritten_alone, steps_tokens-next}
 
 -- ---- the refusals by their numbers
 
@@ -52,19 +52,19 @@ IsJudged text = ((c : Certificate) × SpellsCertificate text c × (text ≡ cert
 -- How far a text was walked through: after its steps so far, with their bytes.
 record Walked (text rest : List ℕ) (steps : List CertStep) : Type 0 where
   read : IsRead text rest steps
-  bytes : text ≡ flat_map line_text (steps_pieces 1 steps) ++ rest
+  bytes : text ≡ flat_map line_text (steps_tokens 1 steps) ++ rest
 
-line_bytes : (line : List ℕ) (pieces : List (List ℕ)) → pieces_of line ≡ pieces → line ≡ join_with_byte 32 pieces
-unfolding pieces_of
-line_bytes line pieces is = sym (join_with_byte-slice_split 32 line) ∙ ap (join_with_byte 32) is
+line_bytes : (line : List ℕ) (tokens : List (List ℕ)) → tokens_of line ≡ tokens → line ≡ join_with_byte 32 tokens
+unfolding tokens_of
+line_bytes line tokens is = sym (join_with_byte-slice_split 32 line) ∙ ap (join_with_byte 32) is
 
 -- the bytes of one more line
-bytes-push : (text rest line after : List ℕ) (prefix : List (List (List ℕ))) (pieces : List (List ℕ)) → text ≡ flat_map line_text prefix ++ rest → rest ≡ line ++ 10 ∷ after → pieces_of line ≡ pieces →
-    text ≡ flat_map line_text (prefix ++ pieces ∷ []) ++ after
-bytes-push text rest line after prefix pieces whole cut is =
-    whole ∙ ap (λ r. flat_map line_text prefix ++ r) (cut ∙ ap (λ l. l ++ 10 ∷ after) (line_bytes line pieces is) ∙ sym (append_assoc (join_with_byte 32 pieces) (10 ∷ []) after))
-    ∙ sym (append_assoc (flat_map line_text prefix) (line_text pieces) after) ∙ ap (λ t. (flat_map line_text prefix ++ t) ++ after) (sym (append-nil (line_text pieces)))
-    ∙ ap (λ t. t ++ after) (sym (flat_map-append line_text prefix (pieces ∷ [])))
+bytes-push : (text rest line after : List ℕ) (prefix : List (List (List ℕ))) (tokens : List (List ℕ)) → text ≡ flat_map line_text prefix ++ rest → rest ≡ line ++ 10 ∷ after → tokens_of line ≡ tokens →
+    text ≡ flat_map line_text (prefix ++ tokens ∷ []) ++ after
+bytes-push text rest line after prefix tokens whole cut is =
+    whole ∙ ap (λ r. flat_map line_text prefix ++ r) (cut ∙ ap (λ l. l ++ 10 ∷ after) (line_bytes line tokens is) ∙ sym (append_assoc (join_with_byte 32 tokens) (10 ∷ []) after))
+    ∙ sym (append_assoc (flat_map line_text prefix) (line_text tokens) after) ∙ ap (λ t. (flat_map line_text prefix ++ t) ++ after) (sym (append-nil (line_text tokens)))
+    ∙ ap (λ t. t ++ after) (sym (flat_map-append line_text prefix (tokens ∷ [])))
 
 shorter : (text line rest : List ℕ) → text ≡ line ++ 10 ∷ rest → suc (length rest) ≤ length text
 shorter text line rest is = omega (arith, ap length is, length-append line (10 ∷ rest))
@@ -74,43 +74,43 @@ no_bytes [] none = refl
 no_bytes (b ∷ bytes) none = absurd (omega arith)
 
 -- after one more step
-walked_step : (text rest : List ℕ) (steps : List CertStep) (s : CertStep) → Walked text rest steps → (cut : HasLine rest) → cert_line_said (suc (length steps)) (pieces_of cut.line) ≡ Ok (Step s) → Walked text cut.rest (steps ++ s ∷ [])
+walked_step : (text rest : List ℕ) (steps : List CertStep) (s : CertStep) → Walked text rest steps → (cut : HasLine rest) → cert_line_said (suc (length steps)) (tokens_of cut.line) ≡ Ok (Step s) → Walked text cut.rest (steps ++ s ∷ [])
 walked_step text rest steps s w cut is = record {
   read = IsRead-next text rest steps s cut.line cut.rest w.read cut.parts is;
-  bytes = bytes-push text rest cut.line cut.rest (steps_pieces 1 steps) (step_pieces (suc (length steps)) s) w.bytes cut.bytes (told (suc (length steps)) (pieces_of cut.line) (Step s) is).says
-      ∙ ap (λ p. flat_map line_text p ++ cut.rest) (sym (steps_pieces-next steps s));
+  bytes = bytes-push text rest cut.line cut.rest (steps_tokens 1 steps) (step_tokens (suc (length steps)) s) w.bytes cut.bytes (told (suc (length steps)) (tokens_of cut.line) (Step s) is).says
+      ∙ ap (λ p. flat_map line_text p ++ cut.rest) (sym (steps_tokens-next steps s));
 }
 
 -- after a last line, which makes this certificate where nothing stands after it
-judged_last : (text rest : List ℕ) (steps : List CertStep) (l : Line) (c : Certificate) → Walked text rest steps → (cut : HasLine rest) → cert_line_said (suc (length steps)) (pieces_of cut.line) ≡ Ok l → ends l ≡ true →
-    steps_pieces 1 steps ++ line_pieces (suc (length steps)) l ∷ [] ≡ cert_pieces c → (length cut.rest ≡ 0 → SpellsCertificate text c) → IsJudged text
+judged_last : (text rest : List ℕ) (steps : List CertStep) (l : Line) (c : Certificate) → Walked text rest steps → (cut : HasLine rest) → cert_line_said (suc (length steps)) (tokens_of cut.line) ≡ Ok l → ends l ≡ true →
+    steps_tokens 1 steps ++ line_tokens (suc (length steps)) l ∷ [] ≡ cert_tokens c → (length cut.rest ≡ 0 → SpellsCertificate text c) → IsJudged text
 unfolding cert_text
 judged_last text rest steps l c w cut is last whole spells =
     ⊎_elim
     (λ (none : length cut.rest < 1).
     let empty : length cut.rest ≡ 0 = omega arith in
-    let says = (told (suc (length steps)) (pieces_of cut.line) l is).says in
+    let says = (told (suc (length steps)) (tokens_of cut.line) l is).says in
     inl (
       c,
       spells empty,
-      bytes-push text rest cut.line cut.rest (steps_pieces 1 steps) (line_pieces (suc (length steps)) l) w.bytes cut.bytes says
-          ∙ ap (λ r. flat_map line_text (steps_pieces 1 steps ++ line_pieces (suc (length steps)) l ∷ []) ++ r) (no_bytes cut.rest empty)
-          ∙ append-nil (flat_map line_text (steps_pieces 1 steps ++ line_pieces (suc (length steps)) l ∷ [])) ∙ ap (flat_map line_text) whole,
+      bytes-push text rest cut.line cut.rest (steps_tokens 1 steps) (line_tokens (suc (length steps)) l) w.bytes cut.bytes says
+          ∙ ap (λ r. flat_map line_text (steps_tokens 1 steps ++ line_tokens (suc (length steps)) l ∷ []) ++ r) (no_bytes cut.rest empty)
+          ∙ append-nil (flat_map line_text (steps_tokens 1 steps ++ line_tokens (suc (length steps)) l ∷ [])) ∙ ap (flat_map line_text) whole,
     ))
     (λ (some : 1 ≤ length cut.rest). inr (suc (suc (length steps)), AfterCycle, read_after text rest steps l cut.line cut.rest w.read cut.parts is last (λ none. omega arith)))
     (cases_lt (length cut.rest) 1)
 
 walked_line : (text rest : List ℕ) (steps : List CertStep) → Walked text rest steps → (cut : HasLine rest) → ((s : CertStep) → Walked text cut.rest (steps ++ s ∷ []) → IsJudged text) →
-    (r : Result Line Why) → cert_line_said (suc (length steps)) (pieces_of cut.line) ≡ r → IsJudged text
+    (r : Result Line Why) → cert_line_said (suc (length steps)) (tokens_of cut.line) ≡ r → IsJudged text
 walked_line text rest steps w cut go (Err why) is = inr (suc (length steps), why, read_refused text rest steps cut.line cut.rest why w.read cut.parts is)
 walked_line text rest steps w cut go (Ok (Step s)) is = go s (walked_step text rest steps s w cut is)
 walked_line text rest steps w cut go (Ok (Cycle ns)) is =
     judged_last text rest steps (Cycle ns) (CycleOf steps ns) w cut is refl refl (λ none. read_cycle text rest steps ns cut.line cut.rest w.read cut.parts is none)
 walked_line text rest steps w cut go (Ok (Unwritten n)) is =
-    judged_last text rest steps (Unwritten n) (UnwrittenLoad n) w cut is refl (unwritten_alone steps (pieces_of cut.line) n is) (λ none. read_unwritten text rest steps n cut.line cut.rest w.read cut.parts is none)
+    judged_last text rest steps (Unwritten n) (UnwrittenLoad n) w cut is refl (unwritten_alone steps (tokens_of cut.line) n is) (λ none. read_unwritten text rest steps n cut.line cut.rest w.read cut.parts is none)
 
 judged_end : (text rest : List ℕ) (steps : List CertStep) → Walked text rest steps → parts_of rest ≡ rest ∷ [] → IsJudged text
-judged_end text rest steps w none = inr (suc (length steps), unended_cert_fault rest, unended_refused text (length steps) rest (steps_pieces 1 steps) (unended_cert_fault rest) w.read.reached none refl)
+judged_end text rest steps w none = inr (suc (length steps), unended_cert_fault rest, unended_refused text (length steps) rest (steps_tokens 1 steps) (unended_cert_fault rest) w.read.reached none refl)
 
 -- from a place on, with at most n bytes left
 walk : (n : ℕ) (text rest : List ℕ) (steps : List CertStep) → length rest ≤ n → Walked text rest steps → IsJudged text
@@ -121,7 +121,7 @@ walk (suc n) text rest steps few w =
     (λ (none : parts_of rest ≡ rest ∷ []). judged_end text rest steps w none)
     (λ (cut : HasLine rest).
     walked_line text rest steps w cut (λ s more. walk n text cut.rest (steps ++ s ∷ []) (omega (arith, few, shorter rest cut.line cut.rest cut.bytes)) more)
-    (cert_line_said (suc (length steps)) (pieces_of cut.line)) refl)
+    (cert_line_said (suc (length steps)) (tokens_of cut.line)) refl)
     (first_line rest)
 
 pub judged : (text : List ℕ) → IsJudged text

@@ -33,35 +33,35 @@ abbrev pub event_text : ℕ → List ℕ
 event_text zero = codes "init"
 event_text (suc n) = decimal (suc n)
 
-abbrev pub reason_pieces : Reason → List (List ℕ)
-reason_pieces (Base rule) = base_name rule ∷ []
-reason_pieces (Inferred rule load path) = inferred_name rule ∷ event_text load ∷ map event_text path
+abbrev pub reason_tokens : Reason → List (List ℕ)
+reason_tokens (Base rule) = base_name rule ∷ []
+reason_tokens (Inferred rule load path) = inferred_name rule ∷ event_text load ∷ map event_text path
 
--- the pieces of the step with this number
-abbrev pub step_pieces : ℕ → CertStep → List (List ℕ)
-step_pieces number s = decimal number ∷ event_text s.from ∷ event_text s.to ∷ reason_pieces s.reason
+-- the tokens of the step with this number
+abbrev pub step_tokens : ℕ → CertStep → List (List ℕ)
+step_tokens number s = decimal number ∷ event_text s.from ∷ event_text s.to ∷ reason_tokens s.reason
 
--- the pieces of the lines of these steps, of which the first has this number
-abbrev pub steps_pieces : ℕ → List CertStep → List (List (List ℕ))
-steps_pieces number [] = []
-steps_pieces number (s ∷ steps) = step_pieces number s ∷ steps_pieces (suc number) steps
+-- the tokens of the lines of these steps, of which the first has this number
+abbrev pub steps_tokens : ℕ → List CertStep → List (List (List ℕ))
+steps_tokens number [] = []
+steps_tokens number (s ∷ steps) = step_tokens number s ∷ steps_tokens (suc number) steps
 
--- the pieces of the line of a cycle
-abbrev pub cycle_pieces : List ℕ → List (List ℕ)
-cycle_pieces cycle = codes "cycle" ∷ map event_text cycle
+-- the tokens of the line of a cycle
+abbrev pub cycle_tokens : List ℕ → List (List ℕ)
+cycle_tokens cycle = codes "cycle" ∷ map event_text cycle
 
--- the pieces of the line of an unwritten load
-abbrev pub unwritten_pieces : ℕ → List (List ℕ)
-unwritten_pieces n = codes "unwritten" ∷ event_text n ∷ []
+-- the tokens of the line of an unwritten load
+abbrev pub unwritten_tokens : ℕ → List (List ℕ)
+unwritten_tokens n = codes "unwritten" ∷ event_text n ∷ []
 
--- the pieces of the lines of a certificate
-abbrev pub cert_pieces : Certificate → List (List (List ℕ))
-cert_pieces (Unwritten n) = unwritten_pieces n ∷ []
-cert_pieces (Cycle steps cycle) = steps_pieces 1 steps ++ cycle_pieces cycle ∷ []
+-- the tokens of the lines of a certificate
+abbrev pub cert_tokens : Certificate → List (List (List ℕ))
+cert_tokens (Unwritten n) = unwritten_tokens n ∷ []
+cert_tokens (Cycle steps cycle) = steps_tokens 1 steps ++ cycle_tokens cycle ∷ []
 
 -- the text of a certificate
 unfoldable pub cert_text : Certificate → List ℕ
-cert_text c = flat_map line_text (cert_pieces c)
+cert_text c = flat_map line_text (cert_tokens c)
 
 -- ---- numbers that 64 bits hold
 

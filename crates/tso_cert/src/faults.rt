@@ -11,12 +11,12 @@ pub use std::alloc::AllocError as OutOfMemory;
 #[derive(Clone, Copy, Debug, PartialEq, Eq, Error)]
 #[error("{}", self.name())]
 pub enum Why {
-    /// A line with no line end; `unwritten` on another line than the first, or not with just one piece after it; or a
-    /// step line of fewer than four pieces.
+    /// A line with no line end; `unwritten` on another line than the first, or not with just one token after it; or a
+    /// step line of fewer than four tokens.
     BadLine,
-    /// A step that isn't numbered as its line is, or a piece that should be an event number and is none.
+    /// A step that isn't numbered as its line is, or a token that should be an event number and is none.
     BadNumber,
-    /// The name of no rule, a base rule with pieces after it, or an inferred rule with none.
+    /// The name of no rule, a base rule with tokens after it, or an inferred rule with none.
     BadRule,
     /// The text ends after a whole line, or is empty, and no line `cycle` or `unwritten` came.
     NoCycle,

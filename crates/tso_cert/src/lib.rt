@@ -14,7 +14,7 @@ mod faults;
 pub mod laws;
 mod lines;
 mod lists;
-mod pieces;
+mod tokens;
 mod printers;
 mod readers;
 mod rules;

@@ -1,13 +1,13 @@
 ghost use Rattle.std.specs.Prelude.{◌≡◌, ◌≢◌, [], ◌∷◌, Result, IfOk, IfErr};
-ghost use Rattle.line_text.specs.Lines.{pieces_of, pieces_after};
+ghost use Rattle.line_text.specs.Lines.{tokens_of, tokens_after};
 ghost use Rattle.tso_cert.specs.Internal.LineValues.{cert_line_said, step_said, unwritten_said, reason_said};
 ghost use Rattle.tso_cert.specs.declared.faults.Why.{Why};
 
 use crate::faults::Why;
 use crate::lists::NumList;
-use crate::pieces::{base_rule, event, events, inferred_rule, is_decimal, piece_of};
+use crate::tokens::{base_rule, event, events, inferred_rule, is_decimal, token_of};
 use crate::steps::{CertStep, Reason};
-use line_text::next_piece;
+use line_text::next_token;
 use std::alloc::Global;
 
 /// What a line of a certificate says.
@@ -21,49 +21,49 @@ pub(crate) enum Line {
 /// What the line of this number says, or its fault.
 #[tactic(auto, unfolding(crate::specs::Internal::LineValues::cert_line_said))]
 pub(crate) fn read_line(alloc: Global, number: usize, line: &[u8]) -> Result<Line, Why>
-    ensures found { IfOk result (λ l. cert_line_said number (pieces_of line.now) ≡ Result.Ok l) }
-    ensures refused { IfErr result (λ why. why ≢ Why.OutOfMemory → cert_line_said number (pieces_of line.now) ≡ Result.Err why) }
+    ensures found { IfOk result (λ l. cert_line_said number (tokens_of line.now) ≡ Result.Ok l) }
+    ensures refused { IfErr result (λ why. why ≢ Why.OutOfMemory → cert_line_said number (tokens_of line.now) ≡ Result.Err why) }
 {
-    let (word, pieces) = next_piece(line);
+    let (word, tokens) = next_token(line);
     if word == b"cycle".as_slice() {
-        let cycle = events(alloc, pieces)?;
+        let cycle = events(alloc, tokens)?;
         Ok(Line::Cycle(NumList::new(cycle)))
     } else if word == b"unwritten".as_slice() {
-        let n = read_unwritten(number, pieces)?;
+        let n = read_unwritten(number, tokens)?;
         Ok(Line::Unwritten(n))
     } else {
-        let step = read_step(alloc, number, word, pieces)?;
+        let step = read_step(alloc, number, word, tokens)?;
         Ok(Line::Step(step))
     }
 }
 
-/// The load of a line `unwritten`, of the pieces after the keyword.
+/// The load of a line `unwritten`, of the tokens after the keyword.
 #[tactic(auto, unfolding(crate::specs::Internal::LineValues::unwritten_said))]
-fn read_unwritten(number: usize, pieces: Option<&[u8]>) -> Result<u64, Why>
-    ensures { result ≡ unwritten_said number (pieces_after pieces.entry) }
+fn read_unwritten(number: usize, tokens: Option<&[u8]>) -> Result<u64, Why>
+    ensures { result ≡ unwritten_said number (tokens_after tokens.entry) }
 {
-    let (piece, rest) = piece_of(pieces)?;
+    let (token, rest) = token_of(tokens)?;
     match rest {
-        None if number == 1 => event(piece),
+        None if number == 1 => event(token),
         None => Err(Why::BadLine),
         Some(_) => Err(Why::BadLine),
     }
 }
 
-/// The step of a line, of its first piece and the pieces after it.
+/// The step of a line, of its first token and the tokens after it.
 #[tactic(auto, unfolding(crate::specs::Internal::LineValues::step_said))]
 fn read_step(
     alloc: Global,
     number: usize,
     first: &[u8],
-    pieces: Option<&[u8]>,
+    tokens: Option<&[u8]>,
 ) -> Result<CertStep, Why>
-    ensures found { IfOk result (λ step. step_said number (first.now ∷ pieces_after pieces.entry) ≡ Result.Ok step) }
-    ensures refused { IfErr result (λ why. why ≢ Why.OutOfMemory → step_said number (first.now ∷ pieces_after pieces.entry) ≡ Result.Err why) }
+    ensures found { IfOk result (λ step. step_said number (first.now ∷ tokens_after tokens.entry) ≡ Result.Ok step) }
+    ensures refused { IfErr result (λ why. why ≢ Why.OutOfMemory → step_said number (first.now ∷ tokens_after tokens.entry) ≡ Result.Err why) }
 {
-    let (from, rest) = piece_of(pieces)?;
-    let (to, rest) = piece_of(rest)?;
-    let (rule, rest) = piece_of(rest)?;
+    let (from, rest) = token_of(tokens)?;
+    let (to, rest) = token_of(rest)?;
+    let (rule, rest) = token_of(rest)?;
     if !is_decimal(first, number) {
         return Err(Why::BadNumber);
     }
@@ -73,17 +73,17 @@ fn read_step(
     Ok(CertStep { from, to, reason })
 }
 
-/// The reason of the name of a rule and the pieces after it.
+/// The reason of the name of a rule and the tokens after it.
 #[tactic(auto, unfolding(crate::specs::Internal::LineValues::reason_said))]
-fn read_reason(alloc: Global, name: &[u8], pieces: Option<&[u8]>) -> Result<Reason, Why>
-    ensures found { IfOk result (λ reason. reason_said name.now (pieces_after pieces.entry) ≡ Result.Ok reason) }
-    ensures refused { IfErr result (λ why. why ≢ Why.OutOfMemory → reason_said name.now (pieces_after pieces.entry) ≡ Result.Err why) }
+fn read_reason(alloc: Global, name: &[u8], tokens: Option<&[u8]>) -> Result<Reason, Why>
+    ensures found { IfOk result (λ reason. reason_said name.now (tokens_after tokens.entry) ≡ Result.Ok reason) }
+    ensures refused { IfErr result (λ why. why ≢ Why.OutOfMemory → reason_said name.now (tokens_after tokens.entry) ≡ Result.Err why) }
 {
-    let Some(line) = pieces else {
+    let Some(line) = tokens else {
         let rule = base_rule(name)?;
         return Ok(Reason::Base(rule));
     };
-    let (load, rest) = next_piece(line);
+    let (load, rest) = next_token(line);
     let load = event(load)?;
     let path = NumList::new(events(alloc, rest)?);
     let rule = inferred_rule(name)?;

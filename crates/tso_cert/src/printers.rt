@@ -1,7 +1,7 @@
 ghost use Rattle.std.specs.Prelude.{◌≡◌, ◌++◌, ◌∷◌, suc, All, length, string_bytes, OnOk, IfOk};
 ghost use Rattle.std.specs.List.{flat_map};
 ghost use Rattle.line_text.specs.Lines.{line_text};
-ghost use Rattle.tso_cert.specs.Printed.{base_name, inferred_name, event_text, reason_pieces, step_pieces, steps_pieces, cert_text, Fits, ReasonFits, StepFits, CertFits, step_count};
+ghost use Rattle.tso_cert.specs.Printed.{base_name, inferred_name, event_text, reason_tokens, step_tokens, steps_tokens, cert_text, Fits, ReasonFits, StepFits, CertFits, step_count};
 ghost use Rattle.tso_cert.specs.Spelling.{SpellsCertificate};
 
 use crate::faults::OutOfMemory;
@@ -43,7 +43,7 @@ fn print_lines(text: &mut String, certificate: &Certificate) -> Result<(), OutOf
 
 /// Appends the lines of steps.
 fn print_steps(text: &mut String, steps: &[CertStep]) -> Result<(), OutOfMemory>
-    ensures lines { OnOk result (string_bytes text.new ≡ string_bytes text.old ++ flat_map line_text (steps_pieces 1 steps.now)) }
+    ensures lines { OnOk result (string_bytes text.new ≡ string_bytes text.old ++ flat_map line_text (steps_tokens 1 steps.now)) }
     ensures fits { OnOk result (All StepFits steps.now) }
     ensures count { Fits (suc (length steps.now)) }
 {
@@ -55,7 +55,7 @@ fn print_steps(text: &mut String, steps: &[CertStep]) -> Result<(), OutOfMemory>
 
 /// Appends the line of the step with this number.
 fn print_step(text: &mut String, number: usize, step: &CertStep) -> Result<(), OutOfMemory>
-    ensures line { OnOk result (string_bytes text.new ≡ string_bytes text.old ++ line_text (step_pieces number step.now)) }
+    ensures line { OnOk result (string_bytes text.new ≡ string_bytes text.old ++ line_text (step_tokens number step.now)) }
     ensures fits { OnOk result (StepFits step.now) }
 {
     write!(text, "{number}")?;
@@ -65,9 +65,9 @@ fn print_step(text: &mut String, number: usize, step: &CertStep) -> Result<(), O
     text.push_str("\n")
 }
 
-/// Appends the pieces of a reason, each after a space.
+/// Appends the tokens of a reason, each after a space.
 fn print_reason(text: &mut String, reason: &Reason) -> Result<(), OutOfMemory>
-    ensures pieces { OnOk result (string_bytes text.new ≡ string_bytes text.old ++ flat_map (λ piece. 32 ∷ piece) (reason_pieces reason.now)) }
+    ensures tokens { OnOk result (string_bytes text.new ≡ string_bytes text.old ++ flat_map (λ token. 32 ∷ token) (reason_tokens reason.now)) }
     ensures fits { OnOk result (ReasonFits reason.now) }
 {
     match reason {
@@ -82,7 +82,7 @@ fn print_reason(text: &mut String, reason: &Reason) -> Result<(), OutOfMemory>
 
 /// Appends a space and the event number, for each of them.
 fn print_events(text: &mut String, numbers: &[u64]) -> Result<(), OutOfMemory>
-    ensures pieces { OnOk result (string_bytes text.new ≡ string_bytes text.old ++ flat_map (λ n. 32 ∷ event_text n) numbers.now) }
+    ensures tokens { OnOk result (string_bytes text.new ≡ string_bytes text.old ++ flat_map (λ n. 32 ∷ event_text n) numbers.now) }
     ensures fits { OnOk result (All Fits numbers.now) }
 {
     for number in numbers {
@@ -93,7 +93,7 @@ fn print_events(text: &mut String, numbers: &[u64]) -> Result<(), OutOfMemory>
 
 /// Appends a space and the event number.
 fn print_event(text: &mut String, number: u64) -> Result<(), OutOfMemory>
-    ensures piece { OnOk result (string_bytes text.new ≡ string_bytes text.old ++ 32 ∷ event_text number) }
+    ensures token { OnOk result (string_bytes text.new ≡ string_bytes text.old ++ 32 ∷ event_text number) }
     ensures fits { Fits number }
 {
     match number {

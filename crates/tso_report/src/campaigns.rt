@@ -39,7 +39,7 @@ pub struct CampaignPrograms {
 }
 
 impl CampaignPrograms {
-    /// The same programs, for who hands them on more than once: what is proved of `Copy` hands a value with a shape on once.
+    /// The same programs, to be handed on again: what is proved of `Copy` allows that once for a value with a shape.
     pub(crate) fn copy(&self) -> CampaignPrograms
         ensures { result ≡ self.now }
     {

@@ -1,4 +1,4 @@
--- A line that says something is written in one way: its pieces are those that the printers give.
+-- A line that says something is written in one way: its tokens are those that the printers give.
 use Rattle.std.proofs.Common.{◌≡◌, ℕ, ◌≤◌, Bool, true, false, cond, ltb, List, [], ◌∷◌, Option, Some, None, Result, Ok, Err, refl, ap, ◌∙◌, arith, inl, inr, ◌⊎◌}
 use Rattle.std.specs.Prelude.{codes, IfOk}
 use Rattle.std.specs.Fmt.{decimal}
@@ -71,11 +71,11 @@ three_is (p ∷ q ∷ r ∷ s ∷ ps) n e = absurd cc
 
 -- ---- lines
 
--- the pieces of a line
-abbrev pub pieces_by : {X : Type 0} → (X → List (List ℕ)) → Line X → List (List ℕ)
-pieces_by pieces Proc = codes "proc" ∷ []
-pieces_by pieces (Item x) = pieces x
-pieces_by pieces End = codes "end" ∷ []
+-- the tokens of a line
+abbrev pub tokens_by : {X : Type 0} → (X → List (List ℕ)) → Line X → List (List ℕ)
+tokens_by tokens Proc = codes "proc" ∷ []
+tokens_by tokens (Item x) = tokens x
+tokens_by tokens End = codes "end" ∷ []
 
 pub cond_parts : {X : Type 0} (b : Bool) (r s : Result (Line X) Why) (l : Line X) → cond b r s ≡ Ok l → ((b ≡ true) × (r ≡ Ok l)) ⊎ ((b ≡ false) × (s ≡ Ok l))
 cond_parts true r s l e = inl (refl, e)

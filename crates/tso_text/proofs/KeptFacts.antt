@@ -46,17 +46,17 @@ program_kept setting lists is kept = record { processors = kept.few; version_one
 abbrev BeginsNoList : Line Act → Type 0
 BeginsNoList l = l ≡ Proc → ⊥
 
-begins_no_list : (pieces : List (List ℕ)) → IfOk (schedule_line pieces) BeginsNoList
+begins_no_list : (tokens : List (List ℕ)) → IfOk (schedule_line tokens) BeginsNoList
 unfolding schedule_line
 begins_no_list [] = tt
-begins_no_list (word ∷ pieces) =
-    if_cond _ (is_word word (codes "i")) _ _ (if_bind BeginsNoList (one_number pieces) _ (λ n is e. absurd cc))
-    (if_cond _ (is_word word (codes "d")) _ _ (if_bind BeginsNoList (one_number pieces) _ (λ n is e. absurd cc))
-    (if_cond _ (is_word word (codes "end")) _ _ (if_bind BeginsNoList (no_number pieces) _ (λ u is e. absurd cc)) tt))
+begins_no_list (word ∷ tokens) =
+    if_cond _ (is_word word (codes "i")) _ _ (if_bind BeginsNoList (one_number tokens) _ (λ n is e. absurd cc))
+    (if_cond _ (is_word word (codes "d")) _ _ (if_bind BeginsNoList (one_number tokens) _ (λ n is e. absurd cc))
+    (if_cond _ (is_word word (codes "end")) _ _ (if_bind BeginsNoList (no_number tokens) _ (λ u is e. absurd cc)) tt))
 
 -- no line of a schedule begins a list
-pub not_proc : (pieces : List (List ℕ)) → schedule_line pieces ≡ Ok Proc → ⊥
-not_proc pieces e = IfOk-at_ok BeginsNoList e (begins_no_list pieces) refl
+pub not_proc : (tokens : List (List ℕ)) → schedule_line tokens ≡ Ok Proc → ⊥
+not_proc tokens e = IfOk-at_ok BeginsNoList e (begins_no_list tokens) refl
 
 one_more : (row : List Act) (r : Result (Line Act) Why) → (r ≡ Ok Proc → ⊥) → (next : List Act) × (with_said (row ∷ []) r ≡ next ∷ [])
 one_more row (Err why) not = (row, refl)

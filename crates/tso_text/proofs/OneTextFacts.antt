@@ -25,9 +25,9 @@ use Rattle.tso_text.specs.Grammars.{trace_format, program_format, schedule_forma
 use Rattle.tso_text.specs.Preambles.{header_of, setting_preamble}
 use Rattle.line_text.specs.Results.{◌>>=◌}
 use Rattle.tso_text.specs.Numbers.{is_word, address, no_number, one_number, two_numbers, three_numbers}
-use Rattle.tso_text.specs.Printed.{items_text, processor_text, setting_text, whole_text, outcome_pieces, op_pieces, act_pieces, trace_text, program_text, schedule_text}
+use Rattle.tso_text.specs.Printed.{items_text, processor_text, setting_text, whole_text, outcome_tokens, op_tokens, act_tokens, trace_text, program_text, schedule_text}
 use Rattle.tso_text.specs.Spelling.{Grammar, Format, SpellsLists, preamble_of, grammar_of, body_of, whole_lines, line_fault, items_of, with_line, push_last, is_end}
-use Rattle.tso_text.proofs.CanonicalFacts.{bind_ok, none_is, one_is, two_is, three_is, pieces_by, cond_parts, word_is, in_range, IsSound, sound}
+use Rattle.tso_text.proofs.CanonicalFacts.{bind_ok, none_is, one_is, two_is, three_is, tokens_by, cond_parts, word_is, in_range, IsSound, sound}
 use Rattle.tso_text.proofs.KeptFacts.{not_proc}
 use Rattle.tso_text.proofs.LineFacts.{items_of-push_last}
 use Rattle.tso_text.proofs.PrintedFacts.{Prints, spelled_parts}
@@ -37,24 +37,24 @@ use Rattle.tso_text.proofs.TextFacts.{body_spells}
 -- ---- one way to write a line
 
 -- a word alone
-single_word_line : {X : Type 0} (p : X → List (List ℕ)) (word text : List ℕ) (pieces : List (List ℕ)) (m l : Line X) → is_word word text ≡ true → text ∷ [] ≡ pieces_by p m →
-    (no_number pieces >>= λ _. Ok m) ≡ Ok l → word ∷ pieces ≡ pieces_by p l
-single_word_line p word text pieces m l is shows e =
-    let b = bind_ok (no_number pieces) _ l e in
+single_word_line : {X : Type 0} (p : X → List (List ℕ)) (word text : List ℕ) (tokens : List (List ℕ)) (m l : Line X) → is_word word text ≡ true → text ∷ [] ≡ tokens_by p m →
+    (no_number tokens >>= λ _. Ok m) ≡ Ok l → word ∷ tokens ≡ tokens_by p l
+single_word_line p word text tokens m l is shows e =
+    let b = bind_ok (no_number tokens) _ l e in
     let says = b.2 in
     let same : m ≡ l = cc in
-    ap (λ w. w ∷ pieces) (word_is word text is) ∙ ap (λ q. text ∷ q) (none_is pieces b.0 b.1) ∙ shows ∙ ap (pieces_by p) same
+    ap (λ w. w ∷ tokens) (word_is word text is) ∙ ap (λ q. text ∷ q) (none_is tokens b.0 b.1) ∙ shows ∙ ap (tokens_by p) same
 
 -- a word with numbers
-args_line : {X N : Type 0} (g : Grammar X) (lists : List (List X)) (p : X → List (List ℕ)) (r : Result N Why) (f : N → X) (word text : List ℕ) (pieces : List (List ℕ)) (shown : N → List (List ℕ)) (l : Line X) →
-    is_word word text ≡ true → ((n : N) → r ≡ Ok n → pieces ≡ shown n) → ((n : N) → IsSound g lists (f n) → text ∷ shown n ≡ p (f n)) →
-    ((w : Why) → line_fault g lists l w ≡ false) → (r >>= λ n. Ok (Item (f n))) ≡ Ok l → word ∷ pieces ≡ pieces_by p l
-args_line g lists p r f word text pieces shown l is reads shows clean e =
+args_line : {X N : Type 0} (g : Grammar X) (lists : List (List X)) (p : X → List (List ℕ)) (r : Result N Why) (f : N → X) (word text : List ℕ) (tokens : List (List ℕ)) (shown : N → List (List ℕ)) (l : Line X) →
+    is_word word text ≡ true → ((n : N) → r ≡ Ok n → tokens ≡ shown n) → ((n : N) → IsSound g lists (f n) → text ∷ shown n ≡ p (f n)) →
+    ((w : Why) → line_fault g lists l w ≡ false) → (r >>= λ n. Ok (Item (f n))) ≡ Ok l → word ∷ tokens ≡ tokens_by p l
+args_line g lists p r f word text tokens shown l is reads shows clean e =
     let b = bind_ok r _ l e in
     let says = b.2 in
     let same : Item (f b.0) ≡ l = cc in
     let clean_item : (w : Why) → line_fault g lists (Item (f b.0)) w ≡ false = λ w. ap (λ m. line_fault g lists m w) same ∙ clean w in
-    ap (λ w. w ∷ pieces) (word_is word text is) ∙ ap (λ q. text ∷ q) (reads b.0 b.1) ∙ shows b.0 (sound g lists (f b.0) clean_item) ∙ ap (pieces_by p) same
+    ap (λ w. w ∷ tokens) (word_is word text is) ∙ ap (λ q. text ∷ q) (reads b.0 b.1) ∙ shows b.0 (sound g lists (f b.0) clean_item) ∙ ap (tokens_by p) same
 
 outcome_range : (setting : SettingValue) (lists : List (List Outcome)) (x : Outcome) (n : ℕ) → IsSound (trace_grammar setting) lists x → address_of (op_of x) ≡ Some (address n) → n ≡ address n
 unfolding outcome_fault
@@ -64,20 +64,20 @@ op_range : (setting : SettingValue) (lists : List (List Op)) (x : Op) (n : ℕ) 
 unfolding program_op_fault
 op_range setting lists x n s at = in_range n (rw at at (s.clean AddressRange))
 
-trace_canonical : (setting : SettingValue) (lists : List (List Outcome)) (ps : List (List ℕ)) (l : Line Outcome) → trace_line setting.order ps ≡ Ok l → ((w : Why) → line_fault (trace_grammar setting) lists l w ≡ false) → ps ≡ pieces_by outcome_pieces l
+trace_canonical : (setting : SettingValue) (lists : List (List Outcome)) (ps : List (List ℕ)) (l : Line Outcome) → trace_line setting.order ps ≡ Ok l → ((w : Why) → line_fault (trace_grammar setting) lists l w ≡ false) → ps ≡ tokens_by outcome_tokens l
 unfolding trace_line
 trace_canonical setting lists [] l e clean = absurd cc
-trace_canonical setting lists (word ∷ pieces) l e clean =
-    ⊎_elim (λ h. single_word_line outcome_pieces word (codes "proc") pieces Proc l h.0 refl h.1) (λ h.
-    ⊎_elim (λ h. args_line (trace_grammar setting) lists outcome_pieces (two_numbers pieces) (λ n. Ld (address n.0) n.1) word (codes "ld") pieces (λ n. decimal n.0 ∷ decimal n.1 ∷ []) l h.0 (two_is pieces)
+trace_canonical setting lists (word ∷ tokens) l e clean =
+    ⊎_elim (λ h. single_word_line outcome_tokens word (codes "proc") tokens Proc l h.0 refl h.1) (λ h.
+    ⊎_elim (λ h. args_line (trace_grammar setting) lists outcome_tokens (two_numbers tokens) (λ n. Ld (address n.0) n.1) word (codes "ld") tokens (λ n. decimal n.0 ∷ decimal n.1 ∷ []) l h.0 (two_is tokens)
     (λ n s. ap (λ a. codes "ld" ∷ decimal a ∷ decimal n.1 ∷ []) (outcome_range setting lists (Ld (address n.0) n.1) n.0 s refl)) clean h.1) (λ h.
-    ⊎_elim (λ h. args_line (trace_grammar setting) lists outcome_pieces (two_numbers pieces) (λ n. St (address n.0) n.1) word (codes "st") pieces (λ n. decimal n.0 ∷ decimal n.1 ∷ []) l h.0 (two_is pieces)
+    ⊎_elim (λ h. args_line (trace_grammar setting) lists outcome_tokens (two_numbers tokens) (λ n. St (address n.0) n.1) word (codes "st") tokens (λ n. decimal n.0 ∷ decimal n.1 ∷ []) l h.0 (two_is tokens)
     (λ n s. ap (λ a. codes "st" ∷ decimal a ∷ decimal n.1 ∷ []) (outcome_range setting lists (St (address n.0) n.1) n.0 s refl)) clean h.1) (λ h.
-    ⊎_elim (λ h. args_line (trace_grammar setting) lists outcome_pieces (three_numbers pieces) (λ n. Sw (address n.0) n.1 n.2) word (codes "sw") pieces (λ n. decimal n.0 ∷ decimal n.1 ∷ decimal n.2 ∷ []) l h.0 (three_is pieces)
+    ⊎_elim (λ h. args_line (trace_grammar setting) lists outcome_tokens (three_numbers tokens) (λ n. Sw (address n.0) n.1 n.2) word (codes "sw") tokens (λ n. decimal n.0 ∷ decimal n.1 ∷ decimal n.2 ∷ []) l h.0 (three_is tokens)
     (λ n s. ap (λ a. codes "sw" ∷ decimal a ∷ decimal n.1 ∷ decimal n.2 ∷ []) (outcome_range setting lists (Sw (address n.0) n.1 n.2) n.0 s refl)) clean h.1) (λ h.
-    ⊎_elim (λ h. single_word_line outcome_pieces word (codes "mb") pieces (Item Mb) l h.0 refl h.1) (λ h.
-    ⊎_elim (λ h. single_word_line outcome_pieces word (codes "stbar") pieces (Item Sb) l (and_parts (is_word word (codes "stbar")) (has_stbar setting.order) h.0).0 refl h.1) (λ h.
-    ⊎_elim (λ h. single_word_line outcome_pieces word (codes "end") pieces End l h.0 refl h.1) (λ h. absurd (let bad = h.1 in cc))
+    ⊎_elim (λ h. single_word_line outcome_tokens word (codes "mb") tokens (Item Mb) l h.0 refl h.1) (λ h.
+    ⊎_elim (λ h. single_word_line outcome_tokens word (codes "stbar") tokens (Item Sb) l (and_parts (is_word word (codes "stbar")) (has_stbar setting.order) h.0).0 refl h.1) (λ h.
+    ⊎_elim (λ h. single_word_line outcome_tokens word (codes "end") tokens End l h.0 refl h.1) (λ h. absurd (let bad = h.1 in cc))
     (cond_parts (is_word word (codes "end")) _ _ l h.1))
     (cond_parts (is_word word (codes "stbar") && has_stbar setting.order) _ _ l h.1))
     (cond_parts (is_word word (codes "mb")) _ _ l h.1))
@@ -86,20 +86,20 @@ trace_canonical setting lists (word ∷ pieces) l e clean =
     (cond_parts (is_word word (codes "ld")) _ _ l h.1))
     (cond_parts (is_word word (codes "proc")) _ _ l e)
 
-program_canonical : (setting : SettingValue) (lists : List (List Op)) (ps : List (List ℕ)) (l : Line Op) → program_line setting.order ps ≡ Ok l → ((w : Why) → line_fault (program_grammar setting) lists l w ≡ false) → ps ≡ pieces_by op_pieces l
+program_canonical : (setting : SettingValue) (lists : List (List Op)) (ps : List (List ℕ)) (l : Line Op) → program_line setting.order ps ≡ Ok l → ((w : Why) → line_fault (program_grammar setting) lists l w ≡ false) → ps ≡ tokens_by op_tokens l
 unfolding program_line
 program_canonical setting lists [] l e clean = absurd cc
-program_canonical setting lists (word ∷ pieces) l e clean =
-    ⊎_elim (λ h. single_word_line op_pieces word (codes "proc") pieces Proc l h.0 refl h.1) (λ h.
-    ⊎_elim (λ h. args_line (program_grammar setting) lists op_pieces (one_number pieces) (λ n. OpLd (address n)) word (codes "ld") pieces (λ n. decimal n ∷ []) l h.0 (one_is pieces)
+program_canonical setting lists (word ∷ tokens) l e clean =
+    ⊎_elim (λ h. single_word_line op_tokens word (codes "proc") tokens Proc l h.0 refl h.1) (λ h.
+    ⊎_elim (λ h. args_line (program_grammar setting) lists op_tokens (one_number tokens) (λ n. OpLd (address n)) word (codes "ld") tokens (λ n. decimal n ∷ []) l h.0 (one_is tokens)
     (λ n s. ap (λ a. codes "ld" ∷ decimal a ∷ []) (op_range setting lists (OpLd (address n)) n s refl)) clean h.1) (λ h.
-    ⊎_elim (λ h. args_line (program_grammar setting) lists op_pieces (two_numbers pieces) (λ n. OpSt (address n.0) n.1) word (codes "st") pieces (λ n. decimal n.0 ∷ decimal n.1 ∷ []) l h.0 (two_is pieces)
+    ⊎_elim (λ h. args_line (program_grammar setting) lists op_tokens (two_numbers tokens) (λ n. OpSt (address n.0) n.1) word (codes "st") tokens (λ n. decimal n.0 ∷ decimal n.1 ∷ []) l h.0 (two_is tokens)
     (λ n s. ap (λ a. codes "st" ∷ decimal a ∷ decimal n.1 ∷ []) (op_range setting lists (OpSt (address n.0) n.1) n.0 s refl)) clean h.1) (λ h.
-    ⊎_elim (λ h. args_line (program_grammar setting) lists op_pieces (two_numbers pieces) (λ n. OpSw (address n.0) n.1) word (codes "sw") pieces (λ n. decimal n.0 ∷ decimal n.1 ∷ []) l h.0 (two_is pieces)
+    ⊎_elim (λ h. args_line (program_grammar setting) lists op_tokens (two_numbers tokens) (λ n. OpSw (address n.0) n.1) word (codes "sw") tokens (λ n. decimal n.0 ∷ decimal n.1 ∷ []) l h.0 (two_is tokens)
     (λ n s. ap (λ a. codes "sw" ∷ decimal a ∷ decimal n.1 ∷ []) (op_range setting lists (OpSw (address n.0) n.1) n.0 s refl)) clean h.1) (λ h.
-    ⊎_elim (λ h. single_word_line op_pieces word (codes "mb") pieces (Item OpMb) l h.0 refl h.1) (λ h.
-    ⊎_elim (λ h. single_word_line op_pieces word (codes "stbar") pieces (Item OpSb) l (and_parts (is_word word (codes "stbar")) (has_stbar setting.order) h.0).0 refl h.1) (λ h.
-    ⊎_elim (λ h. single_word_line op_pieces word (codes "end") pieces End l h.0 refl h.1) (λ h. absurd (let bad = h.1 in cc))
+    ⊎_elim (λ h. single_word_line op_tokens word (codes "mb") tokens (Item OpMb) l h.0 refl h.1) (λ h.
+    ⊎_elim (λ h. single_word_line op_tokens word (codes "stbar") tokens (Item OpSb) l (and_parts (is_word word (codes "stbar")) (has_stbar setting.order) h.0).0 refl h.1) (λ h.
+    ⊎_elim (λ h. single_word_line op_tokens word (codes "end") tokens End l h.0 refl h.1) (λ h. absurd (let bad = h.1 in cc))
     (cond_parts (is_word word (codes "end")) _ _ l h.1))
     (cond_parts (is_word word (codes "stbar") && has_stbar setting.order) _ _ l h.1))
     (cond_parts (is_word word (codes "mb")) _ _ l h.1))
@@ -108,13 +108,13 @@ program_canonical setting lists (word ∷ pieces) l e clean =
     (cond_parts (is_word word (codes "ld")) _ _ l h.1))
     (cond_parts (is_word word (codes "proc")) _ _ l e)
 
-schedule_canonical : (lists : List (List Act)) (ps : List (List ℕ)) (l : Line Act) → schedule_line ps ≡ Ok l → ((w : Why) → line_fault schedule_grammar lists l w ≡ false) → ps ≡ pieces_by act_pieces l
+schedule_canonical : (lists : List (List Act)) (ps : List (List ℕ)) (l : Line Act) → schedule_line ps ≡ Ok l → ((w : Why) → line_fault schedule_grammar lists l w ≡ false) → ps ≡ tokens_by act_tokens l
 unfolding schedule_line
 schedule_canonical lists [] l e clean = absurd cc
-schedule_canonical lists (word ∷ pieces) l e clean =
-    ⊎_elim (λ h. args_line schedule_grammar lists act_pieces (one_number pieces) (λ n. Issue n) word (codes "i") pieces (λ n. decimal n ∷ []) l h.0 (one_is pieces) (λ n s. refl) clean h.1) (λ h.
-    ⊎_elim (λ h. args_line schedule_grammar lists act_pieces (one_number pieces) (λ n. Drain n) word (codes "d") pieces (λ n. decimal n ∷ []) l h.0 (one_is pieces) (λ n s. refl) clean h.1) (λ h.
-    ⊎_elim (λ h. single_word_line act_pieces word (codes "end") pieces End l h.0 refl h.1) (λ h. absurd (let bad = h.1 in cc))
+schedule_canonical lists (word ∷ tokens) l e clean =
+    ⊎_elim (λ h. args_line schedule_grammar lists act_tokens (one_number tokens) (λ n. Issue n) word (codes "i") tokens (λ n. decimal n ∷ []) l h.0 (one_is tokens) (λ n s. refl) clean h.1) (λ h.
+    ⊎_elim (λ h. args_line schedule_grammar lists act_tokens (one_number tokens) (λ n. Drain n) word (codes "d") tokens (λ n. decimal n ∷ []) l h.0 (one_is tokens) (λ n s. refl) clean h.1) (λ h.
+    ⊎_elim (λ h. single_word_line act_tokens word (codes "end") tokens End l h.0 refl h.1) (λ h. absurd (let bad = h.1 in cc))
     (cond_parts (is_word word (codes "end")) _ _ l h.1))
     (cond_parts (is_word word (codes "d")) _ _ l h.1))
     (cond_parts (is_word word (codes "i")) _ _ l e)
@@ -142,18 +142,18 @@ flat_map-Item f [] = refl
 flat_map-Item f (x ∷ row) = ap (λ r. f (Item x) ++ r) (flat_map-Item f row)
 
 -- the text of these lines
-pub made_by-text : {X : Type 0} (p : X → List (List ℕ)) (lists : List (List X)) → flat_map (λ l. line_text (pieces_by p l)) (made_by lists) ≡ flat_map (processor_text p) lists
+pub made_by-text : {X : Type 0} (p : X → List (List ℕ)) (lists : List (List X)) → flat_map (λ l. line_text (tokens_by p l)) (made_by lists) ≡ flat_map (processor_text p) lists
 unfolding processor_text items_text
 made_by-text p [] = refl
 made_by-text p (row ∷ lists) =
-    flat_map-append (λ l. line_text (pieces_by p l)) (Proc ∷ map Item row) (made_by lists)
-    ∙ ap (λ r. (line_text (codes "proc" ∷ []) ++ r) ++ flat_map (λ l. line_text (pieces_by p l)) (made_by lists)) (flat_map-Item (λ l. line_text (pieces_by p l)) row)
+    flat_map-append (λ l. line_text (tokens_by p l)) (Proc ∷ map Item row) (made_by lists)
+    ∙ ap (λ r. (line_text (codes "proc" ∷ []) ++ r) ++ flat_map (λ l. line_text (tokens_by p l)) (made_by lists)) (flat_map-Item (λ l. line_text (tokens_by p l)) row)
     ∙ ap (λ r. (line_text (codes "proc" ∷ []) ++ flat_map (λ x. line_text (p x)) row) ++ r) (made_by-text p lists)
 
-prints_trace : (setting : SettingValue) → Prints (trace_grammar setting) made_by (pieces_by outcome_pieces)
+prints_trace : (setting : SettingValue) → Prints (trace_grammar setting) made_by (tokens_by outcome_tokens)
 prints_trace setting = record { start = refl; canonical = trace_canonical setting; more = λ lists ps l says clean running. made_by-more (trace_grammar setting) lists l clean running }
 
-prints_program : (setting : SettingValue) → Prints (program_grammar setting) made_by (pieces_by op_pieces)
+prints_program : (setting : SettingValue) → Prints (program_grammar setting) made_by (tokens_by op_tokens)
 prints_program setting = record { start = refl; canonical = program_canonical setting; more = λ lists ps l says clean running. made_by-more (program_grammar setting) lists l clean running }
 
 -- the text of a preamble and of the lines after it
@@ -163,25 +163,25 @@ whole header setting lines text is =
     is ∙ sym (append_assoc (header ++ 10 ∷ setting) lines (line_text (codes "end" ∷ []))) ∙ ap (λ b. b ++ line_text (codes "end" ∷ [])) (append_assoc header (10 ∷ setting) lines)
 
 -- the text of a setting and of lists
-spelled_whole : {X : Type 0} (f : Format X) (one two : List ℕ) (p : X → List (List ℕ)) (text : List ℕ) (lists : List (List X)) → preamble_of f text ≡ setting_preamble one two (whole_lines (parts_of text)) → Prints (grammar_of f text) made_by (pieces_by p) → SpellsLists f text lists →
+spelled_whole : {X : Type 0} (f : Format X) (one two : List ℕ) (p : X → List (List ℕ)) (text : List ℕ) (lists : List (List X)) → preamble_of f text ≡ setting_preamble one two (whole_lines (parts_of text)) → Prints (grammar_of f text) made_by (tokens_by p) → SpellsLists f text lists →
     text ≡ whole_text (header_of one two (preamble_of f text).setting.version) (setting_text (preamble_of f text).setting ++ flat_map (processor_text p) lists)
 spelled_whole f one two p text lists is prints spells =
     let setting = (preamble_of f text).setting in
     let printed = setting_printed f one two text lists is spells in
     let body : join_with_byte 10 (body_of f text) ≡ flat_map (processor_text p) lists ++ line_text (codes "end" ∷ []) =
-    spelled_parts (grammar_of f text) made_by (pieces_by p) prints (body_of f text) lists printed.some (body_spells f text lists spells) ∙ ap (λ ls. ls ++ line_text (codes "end" ∷ [])) (made_by-text p lists) in
+    spelled_parts (grammar_of f text) made_by (tokens_by p) prints (body_of f text) lists printed.some (body_spells f text lists spells) ∙ ap (λ ls. ls ++ line_text (codes "end" ∷ [])) (made_by-text p lists) in
     whole (header_of one two setting.version) (setting_text setting) (flat_map (processor_text p) lists) text
     (printed.text_is ∙ ap (λ b. (header_of one two setting.version ++ 10 ∷ setting_text setting) ++ b) body)
 
 pub trace_printed : (text : List ℕ) (t : TraceValue) → SpellsTrace text t → text ≡ trace_text t
 unfolding trace_text
 trace_printed text t spells =
-    rw spells.0 (spelled_whole trace_format (trace_header One) (trace_header Two) outcome_pieces text t.lists refl (prints_trace (preamble_of trace_format text).setting) spells.1)
+    rw spells.0 (spelled_whole trace_format (trace_header One) (trace_header Two) outcome_tokens text t.lists refl (prints_trace (preamble_of trace_format text).setting) spells.1)
 
 pub program_printed : (text : List ℕ) (p : ProgramValue) → SpellsProgram text p → text ≡ program_text p
 unfolding program_text
 program_printed text p spells =
-    rw spells.0 (spelled_whole program_format (program_header One) (program_header Two) op_pieces text p.lists refl (prints_program (preamble_of program_format text).setting) spells.1)
+    rw spells.0 (spelled_whole program_format (program_header One) (program_header Two) op_tokens text p.lists refl (prints_program (preamble_of program_format text).setting) spells.1)
 
 -- ---- schedules
 
@@ -194,15 +194,15 @@ acts_made-more [] ps (Item x) says clean running = absurd (let e = (sound schedu
 acts_made-more (row ∷ lists) ps (Item x) says clean running = ap (map Item) (items_of-push_last (row ∷ lists) x (omega arith)) ∙ map-append Item (items_of (row ∷ lists)) (x ∷ [])
 acts_made-more lists ps End says clean running = absurd cc
 
-prints_schedule : Prints schedule_grammar acts_made (pieces_by act_pieces)
+prints_schedule : Prints schedule_grammar acts_made (tokens_by act_tokens)
 prints_schedule = record { start = refl; canonical = schedule_canonical; more = acts_made-more }
 
 pub schedule_printed : (text : List ℕ) (acts : List Act) → SpellsSchedule text acts → text ≡ schedule_text acts
 unfolding schedule_text items_text
 schedule_printed text acts spells =
     let printed = header_printed schedule_format schedule_header text (acts ∷ []) refl spells in
-    let lines : flat_map (λ l. line_text (pieces_by act_pieces l)) (acts_made (acts ∷ [])) ≡ flat_map (λ x. line_text (act_pieces x)) acts =
-    flat_map-Item (λ l. line_text (pieces_by act_pieces l)) (acts ++ []) ∙ ap (flat_map (λ x. line_text (act_pieces x))) (append-nil acts) in
-    let body : join_with_byte 10 (body_of schedule_format text) ≡ flat_map (λ x. line_text (act_pieces x)) acts ++ line_text (codes "end" ∷ []) =
-    spelled_parts schedule_grammar acts_made (pieces_by act_pieces) prints_schedule (body_of schedule_format text) (acts ∷ []) printed.some (body_spells schedule_format text (acts ∷ []) spells) ∙ ap (λ ls. ls ++ line_text (codes "end" ∷ [])) lines in
-    whole schedule_header [] (flat_map (λ x. line_text (act_pieces x)) acts) text (printed.text_is ∙ ap (λ b. (schedule_header ++ 10 ∷ []) ++ b) body)
+    let lines : flat_map (λ l. line_text (tokens_by act_tokens l)) (acts_made (acts ∷ [])) ≡ flat_map (λ x. line_text (act_tokens x)) acts =
+    flat_map-Item (λ l. line_text (tokens_by act_tokens l)) (acts ++ []) ∙ ap (flat_map (λ x. line_text (act_tokens x))) (append-nil acts) in
+    let body : join_with_byte 10 (body_of schedule_format text) ≡ flat_map (λ x. line_text (act_tokens x)) acts ++ line_text (codes "end" ∷ []) =
+    spelled_parts schedule_grammar acts_made (tokens_by act_tokens) prints_schedule (body_of schedule_format text) (acts ∷ []) printed.some (body_spells schedule_format text (acts ∷ []) spells) ∙ ap (λ ls. ls ++ line_text (codes "end" ∷ [])) lines in
+    whole schedule_header [] (flat_map (λ x. line_text (act_tokens x)) acts) text (printed.text_is ∙ ap (λ b. (schedule_header ++ 10 ∷ []) ++ b) body)

@@ -6,7 +6,7 @@ use Rattle.std.specs.Str.{bytes_eq}
 use Rattle.std.proofs.Math.Bool.{and-false}
 use Rattle.std.proofs.Math.Seq.{drop-append_seam}
 use Rattle.std.proofs.lemmas.List.{append-nil, length-map}
-use Rattle.line_text.specs.Lines.{parts_of, pieces_of}
+use Rattle.line_text.specs.Lines.{parts_of, tokens_of}
 use Rattle.line_text.proofs.CutFacts.{split_parts}
 use Rattle.tso_ops.specs.declared.settings.Order.{Order}
 use Rattle.tso_ops.specs.declared.settings.Order.TheVariants.{Tso, Pso}
@@ -45,12 +45,12 @@ take_while-no p x xs fails = rw fails refl
 
 -- ---- keywords
 
-pub keyword_is : (word line piece : List ℕ) (pieces : List (List ℕ)) → pieces_of line ≡ piece ∷ pieces → has_keyword word line ≡ bytes_eq piece word
+pub keyword_is : (word line token : List ℕ) (tokens : List (List ℕ)) → tokens_of line ≡ token ∷ tokens → has_keyword word line ≡ bytes_eq token word
 unfolding has_keyword
-keyword_is word line piece pieces cut = rw cut refl
+keyword_is word line token tokens cut = rw cut refl
 
-pub after_keyword-is : (line piece : List ℕ) (pieces : List (List ℕ)) → pieces_of line ≡ piece ∷ pieces → after_keyword line ≡ pieces
-after_keyword-is line piece pieces cut = ap (drop 1) cut
+pub after_keyword-is : (line token : List ℕ) (tokens : List (List ℕ)) → tokens_of line ≡ token ∷ tokens → after_keyword line ≡ tokens
+after_keyword-is line token tokens cut = ap (drop 1) cut
 
 -- ---- the header
 
@@ -72,14 +72,14 @@ no_line one two text cut = rw cut refl
 
 -- ---- the memory model
 
-pub model_read : (text line rest word : List ℕ) (pieces : List (List ℕ)) → parts_of text ≡ line ∷ parts_of rest → pieces_of line ≡ word ∷ pieces → bytes_eq word (codes "model") ≡ true → model_said pieces ≡ Ok tt → length rest < length text →
+pub model_read : (text line rest word : List ℕ) (tokens : List (List ℕ)) → parts_of text ≡ line ∷ parts_of rest → tokens_of line ≡ word ∷ tokens → bytes_eq word (codes "model") ≡ true → model_said tokens ≡ Ok tt → length rest < length text →
     HasModel text Pso 1 rest
-model_read text line rest word pieces cut piece is says shorter = record {
+model_read text line rest word tokens cut token is says shorter = record {
   model = line ∷ [];
-  is = rw (cut, whole_lines-parts line rest, keyword_is (codes "model") line word pieces piece, is) refl;
+  is = rw (cut, whole_lines-parts line rest, keyword_is (codes "model") line word tokens token, is) refl;
   says = refl;
   count = refl;
-  clean = (λ w. rw (after_keyword-is line word pieces piece, says) refl, tt);
+  clean = (λ w. rw (after_keyword-is line word tokens token, says) refl, tt);
   parts = cut;
   room = omega (arith, shorter);
 }
@@ -87,18 +87,18 @@ model_read text line rest word pieces cut piece is says shorter = record {
 same_fault_refused : (why : Why) → IsRefusedFor (same_text_fault why) why
 same_fault_refused why = inr (same_text_fault-first why)
 
-pub model_refused : (text line rest word : List ℕ) (pieces : List (List ℕ)) (why : Why) → parts_of text ≡ line ∷ parts_of rest → pieces_of line ≡ word ∷ pieces → bytes_eq word (codes "model") ≡ true → model_said pieces ≡ Err why →
+pub model_refused : (text line rest word : List ℕ) (tokens : List (List ℕ)) (why : Why) → parts_of text ≡ line ∷ parts_of rest → tokens_of line ≡ word ∷ tokens → bytes_eq word (codes "model") ≡ true → model_said tokens ≡ Err why →
     HasBadModel text why
-model_refused text line rest word pieces why cut piece is says = record {
+model_refused text line rest word tokens why cut token is says = record {
   line = line;
-  is = rw (cut, whole_lines-parts line rest, keyword_is (codes "model") line word pieces piece, is) refl;
-  refused = subst (λ r. IsRefusedFor (result_fault r) why) (sym (ap model_said (after_keyword-is line word pieces piece) ∙ says)) (same_fault_refused why);
+  is = rw (cut, whole_lines-parts line rest, keyword_is (codes "model") line word tokens token, is) refl;
+  refused = subst (λ r. IsRefusedFor (result_fault r) why) (sym (ap model_said (after_keyword-is line word tokens token) ∙ says)) (same_fault_refused why);
 }
 
-pub model_other : (text line rest word : List ℕ) (pieces : List (List ℕ)) → parts_of text ≡ line ∷ parts_of rest → pieces_of line ≡ word ∷ pieces → bytes_eq word (codes "model") ≡ false → HasModel text Tso 0 text
-model_other text line rest word pieces cut piece not = record {
+pub model_other : (text line rest word : List ℕ) (tokens : List (List ℕ)) → parts_of text ≡ line ∷ parts_of rest → tokens_of line ≡ word ∷ tokens → bytes_eq word (codes "model") ≡ false → HasModel text Tso 0 text
+model_other text line rest word tokens cut token not = record {
   model = [];
-  is = rw (cut, whole_lines-parts line rest, keyword_is (codes "model") line word pieces piece, not) refl;
+  is = rw (cut, whole_lines-parts line rest, keyword_is (codes "model") line word tokens token, not) refl;
   says = refl;
   count = refl;
   clean = tt;
@@ -129,11 +129,11 @@ length-entry_faults before (line ∷ lines) = ap suc (length-entry_faults (with_
 pub entries_start : (text : List ℕ) → HasEntries text [] 0 text
 entries_start text = record { done = []; is = refl; says = refl; count = refl; clean = tt; parts = refl; room = omega arith }
 
-pub entries_next : (text : List ℕ) (first : List (ℕ × ℕ)) (lines : ℕ) (rest line after word : List ℕ) (pieces : List (List ℕ)) (entry : ℕ × ℕ) → HasEntries text first lines rest → parts_of rest ≡ line ∷ parts_of after →
-    pieces_of line ≡ word ∷ pieces → bytes_eq word (codes "init") ≡ true → entry_by pieces ≡ Ok entry → ((w : Why) → entry_fault first entry w ≡ false) → length after < length rest → HasEntries text (first ++ entry ∷ []) (lines + 1) after
-entries_next text first lines rest line after word pieces entry read cut piece is says clean shorter =
-    let keyword : is_entry_line line ≡ true = keyword_is (codes "init") line word pieces piece ∙ is in
-    let said : entry_said line ≡ Ok entry = ap entry_by (after_keyword-is line word pieces piece) ∙ says in
+pub entries_next : (text : List ℕ) (first : List (ℕ × ℕ)) (lines : ℕ) (rest line after word : List ℕ) (tokens : List (List ℕ)) (entry : ℕ × ℕ) → HasEntries text first lines rest → parts_of rest ≡ line ∷ parts_of after →
+    tokens_of line ≡ word ∷ tokens → bytes_eq word (codes "init") ≡ true → entry_by tokens ≡ Ok entry → ((w : Why) → entry_fault first entry w ≡ false) → length after < length rest → HasEntries text (first ++ entry ∷ []) (lines + 1) after
+entries_next text first lines rest line after word tokens entry read cut token is says clean shorter =
+    let keyword : is_entry_line line ≡ true = keyword_is (codes "init") line word tokens token ∙ is in
+    let said : entry_said line ≡ Ok entry = ap entry_by (after_keyword-is line word tokens token) ∙ says in
     let here : take_while is_entry_line (whole_lines (parts_of rest)) ≡ line ∷ take_while is_entry_line (whole_lines (parts_of after)) =
     ap (λ ps. take_while is_entry_line (whole_lines ps)) cut ∙ ap (take_while is_entry_line) (whole_lines-parts line after) ∙ take_while-yes is_entry_line line (whole_lines (parts_of after)) keyword in
     record {
@@ -151,19 +151,19 @@ entries_next text first lines rest line after word pieces entry read cut piece i
 pub entries_none : (text : List ℕ) (first : List (ℕ × ℕ)) (lines : ℕ) (rest : List ℕ) → HasEntries text first lines rest → parts_of rest ≡ rest ∷ [] → HasAllEntries text first lines rest
 entries_none text first lines rest read cut = record { read = read; none = rw cut refl }
 
-pub entries_other : (text : List ℕ) (first : List (ℕ × ℕ)) (lines : ℕ) (rest line after word : List ℕ) (pieces : List (List ℕ)) → HasEntries text first lines rest → parts_of rest ≡ line ∷ parts_of after →
-    pieces_of line ≡ word ∷ pieces → bytes_eq word (codes "init") ≡ false → HasAllEntries text first lines rest
-entries_other text first lines rest line after word pieces read cut piece not = record {
+pub entries_other : (text : List ℕ) (first : List (ℕ × ℕ)) (lines : ℕ) (rest line after word : List ℕ) (tokens : List (List ℕ)) → HasEntries text first lines rest → parts_of rest ≡ line ∷ parts_of after →
+    tokens_of line ≡ word ∷ tokens → bytes_eq word (codes "init") ≡ false → HasAllEntries text first lines rest
+entries_other text first lines rest line after word tokens read cut token not = record {
   read = read;
   none =
       ap (λ ps. take_while is_entry_line (whole_lines ps)) cut ∙ ap (take_while is_entry_line) (whole_lines-parts line after)
-      ∙ take_while-no is_entry_line line (whole_lines (parts_of after)) (keyword_is (codes "init") line word pieces piece ∙ not);
+      ∙ take_while-no is_entry_line line (whole_lines (parts_of after)) (keyword_is (codes "init") line word tokens token ∙ not);
 }
 
-pub entries_refused : (text : List ℕ) (first : List (ℕ × ℕ)) (lines : ℕ) (rest line after word : List ℕ) (pieces : List (List ℕ)) (why : Why) → HasEntries text first lines rest → parts_of rest ≡ line ∷ parts_of after →
-    pieces_of line ≡ word ∷ pieces → bytes_eq word (codes "init") ≡ true → IsEntryRefused first pieces why → HasBadEntry text lines why
-entries_refused text first lines rest line after word pieces why read cut piece is refused =
-    let keyword : is_entry_line line ≡ true = keyword_is (codes "init") line word pieces piece ∙ is in
+pub entries_refused : (text : List ℕ) (first : List (ℕ × ℕ)) (lines : ℕ) (rest line after word : List ℕ) (tokens : List (List ℕ)) (why : Why) → HasEntries text first lines rest → parts_of rest ≡ line ∷ parts_of after →
+    tokens_of line ≡ word ∷ tokens → bytes_eq word (codes "init") ≡ true → IsEntryRefused first tokens why → HasBadEntry text lines why
+entries_refused text first lines rest line after word tokens why read cut token is refused =
+    let keyword : is_entry_line line ≡ true = keyword_is (codes "init") line word tokens token ∙ is in
     let here : take_while is_entry_line (whole_lines (parts_of rest)) ≡ line ∷ take_while is_entry_line (whole_lines (parts_of after)) =
     ap (λ ps. take_while is_entry_line (whole_lines ps)) cut ∙ ap (take_while is_entry_line) (whole_lines-parts line after) ∙ take_while-yes is_entry_line line (whole_lines (parts_of after)) keyword in
     record {
@@ -173,7 +173,7 @@ entries_refused text first lines rest line after word pieces why read cut piece 
       is = read.is ∙ ap (λ ls. read.done ++ ls) here;
       count = read.count;
       clean = read.clean;
-      refused = rw (read.says, after_keyword-is line word pieces piece) refused;
+      refused = rw (read.says, after_keyword-is line word tokens token) refused;
       room = omega (arith, read.room);
     }
 

@@ -6,10 +6,10 @@ use Rattle.std.proofs.lemmas.List.{append-nil}
 use Rattle.tso_text.specs.declared.faults.Why.{Why}
 use Rattle.tso_text.specs.declared.lines.Line.{Line}
 use Rattle.tso_text.specs.declared.lines.Line.TheVariants.{End}
-use Rattle.line_text.specs.Lines.{line_text, parts_of, pieces_of}
+use Rattle.line_text.specs.Lines.{line_text, parts_of, tokens_of}
 use Rattle.tso_text.specs.Spelling.{Grammar, said, said_fault, line_fault, lists_of, with_line, with_said, has_end_line, is_end}
 use Rattle.tso_text.specs.Internal.Begun.{SpellsBody}
-use Rattle.tso_text.proofs.CanonicalFacts.{pieces_by}
+use Rattle.tso_text.proofs.CanonicalFacts.{tokens_by}
 use Rattle.tso_text.proofs.ReadersFacts.{IsClean, IsClean-push, part_fault-open, lists_of-push, has_end_line-push, spelled}
 use Rattle.line_text.proofs.SplitFacts.{has_byte, has_byte_in, split_part, split_joined, joined_without}
 
@@ -17,30 +17,30 @@ use Rattle.line_text.proofs.SplitFacts.{has_byte, has_byte_in, split_part, split
 
 -- the bytes of a line, without its line end
 abbrev pub line_of : {X : Type 0} → (X → List (List ℕ)) → Line X → List ℕ
-line_of p l = join_with_byte 32 (pieces_by p l)
+line_of p l = join_with_byte 32 (tokens_by p l)
 
--- The pieces of the line say it; there is a piece, no piece has a space or a line end, and the line isn't long.
+-- The tokens of the line say it; there is a token, no token has a space or a line end, and the line isn't long.
 pub record IsReadBack {X : Type 0} (g : Grammar X) (p : X → List (List ℕ)) (l : Line X) : Type 0 where
-  pub says : g.said_by (pieces_by p l) ≡ Ok l
+  pub says : g.said_by (tokens_by p l) ≡ Ok l
   pub word : List ℕ
   pub others : List (List ℕ)
-  pub some : pieces_by p l ≡ word ∷ others
-  pub no_space : has_byte_in 32 (pieces_by p l) ≡ false
-  pub no_end : has_byte_in 10 (pieces_by p l) ≡ false
+  pub some : tokens_by p l ≡ word ∷ others
+  pub no_space : has_byte_in 32 (tokens_by p l) ≡ false
+  pub no_end : has_byte_in 10 (tokens_by p l) ≡ false
   pub short : length (line_of p l) < 50
 
 -- a printed line is read as what it was printed from
 said-line_of : {X : Type 0} (g : Grammar X) (p : X → List (List ℕ)) (l : Line X) → IsReadBack g p l → said g (line_of p l) ≡ Ok l
-unfolding pieces_of
+unfolding tokens_of
 said-line_of g p l back =
     let none : has_byte_in 32 (back.word ∷ back.others) ≡ false = ap (has_byte_in 32) (sym back.some) ∙ back.no_space in
-    let pieces : slice_split (λ b. eqb b 32) (join_with_byte 32 (pieces_by p l)) ≡ pieces_by p l =
+    let tokens : slice_split (λ b. eqb b 32) (join_with_byte 32 (tokens_by p l)) ≡ tokens_by p l =
     ap (λ ps. slice_split (λ b. eqb b 32) (join_with_byte 32 ps)) back.some ∙ split_joined 32 back.word back.others none ∙ sym back.some in
-    ap (g.said_by) pieces ∙ back.says
+    ap (g.said_by) tokens ∙ back.says
 
 -- a printed line has no line end within
 line_of-whole : {X : Type 0} (g : Grammar X) (p : X → List (List ℕ)) (l : Line X) → IsReadBack g p l → has_byte 10 (line_of p l) ≡ false
-line_of-whole g p l back = joined_without 10 32 (pieces_by p l) refl back.no_end
+line_of-whole g p l back = joined_without 10 32 (tokens_by p l) refl back.no_end
 
 -- ---- lines that are accepted one after another
 
@@ -57,10 +57,10 @@ AreAccepted g p first (l ∷ ls) last = (accepted : IsAccepted g p first l) × A
 
 -- the bytes of these lines before a rest are cut into the lines and the parts of the rest
 parts-lines : {X : Type 0} (g : Grammar X) (p : X → List (List ℕ)) (first : List (List X)) (ls : List (Line X)) (last : List (List X)) (rest : List ℕ) → AreAccepted g p first ls last →
-    slice_split (λ b. eqb b 10) (flat_map (λ l. line_text (pieces_by p l)) ls ++ rest) ≡ map (line_of p) ls ++ slice_split (λ b. eqb b 10) rest
+    slice_split (λ b. eqb b 10) (flat_map (λ l. line_text (tokens_by p l)) ls ++ rest) ≡ map (line_of p) ls ++ slice_split (λ b. eqb b 10) rest
 parts-lines g p first [] last rest accepted = refl
 parts-lines g p first (l ∷ ls) last rest accepted =
-    let after = flat_map (λ l. line_text (pieces_by p l)) ls in
+    let after = flat_map (λ l. line_text (tokens_by p l)) ls in
     let bytes : ((line_of p l ++ 10 ∷ []) ++ after) ++ rest ≡ line_of p l ++ 10 ∷ (after ++ rest) =
     append_assoc (line_of p l ++ 10 ∷ []) after rest ∙ append_assoc (line_of p l) (10 ∷ []) (after ++ rest) in
     ap (slice_split (λ b. eqb b 10)) bytes
@@ -69,12 +69,12 @@ parts-lines g p first (l ∷ ls) last rest accepted =
 
 -- the lines are as long as their number allows
 pub length-lines : {X : Type 0} (g : Grammar X) (p : X → List (List ℕ)) (first : List (List X)) (ls : List (Line X)) (last : List (List X)) → AreAccepted g p first ls last →
-    length (flat_map (λ l. line_text (pieces_by p l)) ls) ≤ 50 * length ls
+    length (flat_map (λ l. line_text (tokens_by p l)) ls) ≤ 50 * length ls
 length-lines g p first [] last accepted = omega arith
 length-lines g p first (l ∷ ls) last accepted =
     let short = accepted.0.back.short in
     let rest = length-lines g p (with_line first l) ls last accepted.1 in
-    omega (arith, short, rest, length-append (line_text (pieces_by p l)) (flat_map (λ l. line_text (pieces_by p l)) ls), length-append (line_of p l) (10 ∷ []))
+    omega (arith, short, rest, length-append (line_text (tokens_by p l)) (flat_map (λ l. line_text (tokens_by p l)) ls), length-append (line_of p l) (10 ∷ []))
 
 -- the prefix is without a fault, no line of it ends the text, and it says these lists
 record Stands {X : Type 0} (g : Grammar X) (prefix : List (List ℕ)) (lists : List (List X)) : Type 0 where
@@ -104,7 +104,7 @@ unfolding has_end_line lists_of
 nothing_before g = record { clean = λ i w low. absurd (omega arith); running = refl; says = refl }
 
 -- lines that are accepted, and `end`, spell what the lines make
-pub printed_parts : {X : Type 0} (g : Grammar X) (p : X → List (List ℕ)) (ls : List (Line X)) (last : List (List X)) (lines : List ℕ) → IsReadBack g p End → AreAccepted g p g.start ls last → flat_map (λ l. line_text (pieces_by p l)) ls ≡ lines →
+pub printed_parts : {X : Type 0} (g : Grammar X) (p : X → List (List ℕ)) (ls : List (Line X)) (last : List (List X)) (lines : List ℕ) → IsReadBack g p End → AreAccepted g p g.start ls last → flat_map (λ l. line_text (tokens_by p l)) ls ≡ lines →
     SpellsBody g (parts_of (lines ++ line_text (codes "end" ∷ []))) last
 unfolding parts_of
 printed_parts {X} g p ls last lines end accepted bytes =

@@ -27,12 +27,12 @@ use Rattle.tso_text.specs.declared.lines.Line.{Line}
 use Rattle.tso_text.specs.declared.lines.Line.TheVariants.{Proc, Item, End}
 use Rattle.tso_text.specs.Grammars.{trace_format, program_format, schedule_format, trace_grammar, program_grammar, schedule_grammar, schedule_header, has_stbar, trace_line, program_line, schedule_line, trace_header, program_header, outcome_fault, program_op_fault, processor_of, SpellsTrace, SpellsProgram, SpellsSchedule}
 use Rattle.tso_text.specs.Numbers.{no_number}
-use Rattle.tso_text.specs.Printed.{items_text, processor_text, entry_pieces, model_text, setting_text, whole_text, outcome_pieces, op_pieces, act_pieces, trace_text, program_text, schedule_text}
+use Rattle.tso_text.specs.Printed.{items_text, processor_text, entry_tokens, model_text, setting_text, whole_text, outcome_tokens, op_tokens, act_tokens, trace_text, program_text, schedule_text}
 use Rattle.line_text.specs.Lines.{line_text, parts_of}
 use Rattle.tso_text.specs.Preambles.{header_of, setting_preamble}
 use Rattle.tso_text.specs.Spelling.{Grammar, Format, SpellsLists, preamble_of, whole_lines, items_of, text_byte_limit}
 use Rattle.tso_text.specs.Internal.Begun.{IsSetting, HasBegun}
-use Rattle.tso_text.proofs.CanonicalFacts.{pieces_by}
+use Rattle.tso_text.proofs.CanonicalFacts.{tokens_by}
 use Rattle.tso_text.proofs.FaultFacts.{op_clean, act_clean}
 use Rattle.tso_text.proofs.LineFacts.{items_of-map}
 use Rattle.tso_text.proofs.OneTextFacts.{made_by, made_by-text, flat_map-Item}
@@ -48,13 +48,13 @@ use Rattle.tso_text.proofs.PrintedNumbers.{Fit64, numbers_without, one-decimal, 
 length-decimal : (n : ℕ) → n < 2 ^ 64 → length (decimal n) ≤ 20
 length-decimal n fits = length-decimal-le 20 n (omega arith) (omega arith) fits
 
-length-pieces : (word : List ℕ) (ns : List ℕ) → Fit64 ns → length (join_with_byte 32 (word ∷ map decimal ns)) ≤ length word + 21 * length ns
-length-pieces word [] fit = omega arith
-length-pieces word (n ∷ ns) fit =
-    omega (arith, length-append word (32 ∷ join_with_byte 32 (decimal n ∷ map decimal ns)), length-pieces (decimal n) ns fit.1, length-decimal n fit.0)
+length-tokens : (word : List ℕ) (ns : List ℕ) → Fit64 ns → length (join_with_byte 32 (word ∷ map decimal ns)) ≤ length word + 21 * length ns
+length-tokens word [] fit = omega arith
+length-tokens word (n ∷ ns) fit =
+    omega (arith, length-append word (32 ∷ join_with_byte 32 (decimal n ∷ map decimal ns)), length-tokens (decimal n) ns fit.1, length-decimal n fit.0)
 
 -- a line of a word and numbers that is short
-short_back : {X : Type 0} (g : Grammar X) (p : X → List (List ℕ)) (l : Line X) (word : List ℕ) (ns : List ℕ) → pieces_by p l ≡ word ∷ map decimal ns →
+short_back : {X : Type 0} (g : Grammar X) (p : X → List (List ℕ)) (l : Line X) (word : List ℕ) (ns : List ℕ) → tokens_by p l ≡ word ∷ map decimal ns →
     has_byte 32 word ≡ false → has_byte 10 word ≡ false → length (join_with_byte 32 (word ∷ map decimal ns)) < 50 → Fit64 ns → g.said_by (word ∷ map decimal ns) ≡ Ok l → IsReadBack g p l
 short_back g p l word ns shape space end short fit says = record {
   says = ap (g.said_by) shape ∙ says;
@@ -67,16 +67,16 @@ short_back g p l word ns shape space end short fit says = record {
 }
 
 -- a line of a word and up to two numbers
-read_back : {X : Type 0} (g : Grammar X) (p : X → List (List ℕ)) (l : Line X) (word : List ℕ) (ns : List ℕ) → pieces_by p l ≡ word ∷ map decimal ns →
+read_back : {X : Type 0} (g : Grammar X) (p : X → List (List ℕ)) (l : Line X) (word : List ℕ) (ns : List ℕ) → tokens_by p l ≡ word ∷ map decimal ns →
     has_byte 32 word ≡ false → has_byte 10 word ≡ false → length word ≤ 5 → length ns ≤ 2 → Fit64 ns → g.said_by (word ∷ map decimal ns) ≡ Ok l → IsReadBack g p l
 read_back g p l word ns shape space end short few fit says =
-    short_back g p l word ns shape space end (let bound = length-pieces word ns fit in omega (arith, bound, short, few)) fit says
+    short_back g p l word ns shape space end (let bound = length-tokens word ns fit in omega (arith, bound, short, few)) fit says
 
 -- a line of a word, an address and two numbers
 length-swap : (a r v : ℕ) → a < 256 → Fit64 (a ∷ r ∷ v ∷ []) → length (join_with_byte 32 (codes "sw" ∷ map decimal (a ∷ r ∷ v ∷ []))) < 50
 length-swap a r v low fit =
     let address : length (decimal a) ≤ 3 = length-decimal-le 3 a (omega arith) (omega (arith, low)) (omega (arith, low)) in
-    let rest = length-pieces (decimal a) (r ∷ v ∷ []) fit.1 in
+    let rest = length-tokens (decimal a) (r ∷ v ∷ []) fit.1 in
     omega (arith, address, rest, length-append (codes "sw") (32 ∷ join_with_byte 32 (decimal a ∷ decimal r ∷ decimal v ∷ [])))
 
 -- where an STBAR is none under TSO, texts have the keyword
@@ -86,41 +86,41 @@ order_has_stbar Pso none = refl
 
 -- ---- the lines of traces
 
-trace_end : (setting : SettingValue) → IsReadBack (trace_grammar setting) outcome_pieces End
+trace_end : (setting : SettingValue) → IsReadBack (trace_grammar setting) outcome_tokens End
 unfolding trace_line no_number
-trace_end setting = read_back (trace_grammar setting) outcome_pieces End (codes "end") [] refl refl refl (omega arith) (omega arith) tt refl
+trace_end setting = read_back (trace_grammar setting) outcome_tokens End (codes "end") [] refl refl refl (omega arith) (omega arith) tt refl
 
-trace_proc : (setting : SettingValue) → IsReadBack (trace_grammar setting) outcome_pieces Proc
+trace_proc : (setting : SettingValue) → IsReadBack (trace_grammar setting) outcome_tokens Proc
 unfolding trace_line no_number
-trace_proc setting = read_back (trace_grammar setting) outcome_pieces Proc (codes "proc") [] refl refl refl (omega arith) (omega arith) tt refl
+trace_proc setting = read_back (trace_grammar setting) outcome_tokens Proc (codes "proc") [] refl refl refl (omega arith) (omega arith) tt refl
 
 outcome_back : (setting : SettingValue) (x : Outcome) → ((a : ℕ) → address_of (op_of x) ≡ Some a → a < 256) → ((v : ℕ) → stored_by (op_of x) ≡ Some v → v < 2 ^ 64) → ReadFits x →
-    is_stbar_in_tso setting.order (op_of x) ≡ false → IsReadBack (trace_grammar setting) outcome_pieces (Item x)
+    is_stbar_in_tso setting.order (op_of x) ≡ false → IsReadBack (trace_grammar setting) outcome_tokens (Item x)
 unfolding trace_line no_number
 outcome_back setting (Ld a r) within writes reads no_stbar =
     let low = within a refl in
     let fits : a < 2 ^ 64 = omega (arith, low) in
-    read_back (trace_grammar setting) outcome_pieces (Item (Ld a r)) (codes "ld") (a ∷ r ∷ []) refl refl refl (omega arith) (omega arith) (fits, (reads, tt))
+    read_back (trace_grammar setting) outcome_tokens (Item (Ld a r)) (codes "ld") (a ∷ r ∷ []) refl refl refl (omega arith) (omega arith) (fits, (reads, tt))
     (rw (two-decimal a r fits reads) (ap (λ b. Ok (Item (Ld b r))) (address-within a low)))
 outcome_back setting (St a v) within writes reads no_stbar =
     let low = within a refl in
     let fits : a < 2 ^ 64 = omega (arith, low) in
     let value = writes v refl in
-    read_back (trace_grammar setting) outcome_pieces (Item (St a v)) (codes "st") (a ∷ v ∷ []) refl refl refl (omega arith) (omega arith) (fits, (value, tt))
+    read_back (trace_grammar setting) outcome_tokens (Item (St a v)) (codes "st") (a ∷ v ∷ []) refl refl refl (omega arith) (omega arith) (fits, (value, tt))
     (rw (two-decimal a v fits value) (ap (λ b. Ok (Item (St b v))) (address-within a low)))
 outcome_back setting (Sw a r v) within writes reads no_stbar =
     let low = within a refl in
     let fits : a < 2 ^ 64 = omega (arith, low) in
     let value = writes v refl in
-    short_back (trace_grammar setting) outcome_pieces (Item (Sw a r v)) (codes "sw") (a ∷ r ∷ v ∷ []) refl refl refl (length-swap a r v low (fits, (reads, (value, tt)))) (fits, (reads, (value, tt)))
+    short_back (trace_grammar setting) outcome_tokens (Item (Sw a r v)) (codes "sw") (a ∷ r ∷ v ∷ []) refl refl refl (length-swap a r v low (fits, (reads, (value, tt)))) (fits, (reads, (value, tt)))
     (rw (three-decimal a r v fits reads value) (ap (λ b. Ok (Item (Sw b r v))) (address-within a low)))
-outcome_back setting Mb within writes reads no_stbar = read_back (trace_grammar setting) outcome_pieces (Item Mb) (codes "mb") [] refl refl refl (omega arith) (omega arith) tt refl
-outcome_back setting Sb within writes reads no_stbar = read_back (trace_grammar setting) outcome_pieces (Item Sb) (codes "stbar") [] refl refl refl (omega arith) (omega arith) tt (rw (order_has_stbar setting.order no_stbar) refl)
+outcome_back setting Mb within writes reads no_stbar = read_back (trace_grammar setting) outcome_tokens (Item Mb) (codes "mb") [] refl refl refl (omega arith) (omega arith) tt refl
+outcome_back setting Sb within writes reads no_stbar = read_back (trace_grammar setting) outcome_tokens (Item Sb) (codes "stbar") [] refl refl refl (omega arith) (omega arith) tt (rw (order_has_stbar setting.order no_stbar) refl)
 
 middle_limits : (setting : SettingValue) (items before : List Outcome) (x : Outcome) (after : List Outcome) → KeepsLimits setting (map op_of items) → items ≡ before ++ x ∷ after → KeepsLimits setting (map op_of before ++ op_of x ∷ map op_of after)
 middle_limits setting items before x after limits at = subst (KeepsLimits setting) (ap (map op_of) at ∙ map-append op_of before (x ∷ after)) limits
 
-outcomes_fit : (setting : SettingValue) (items : List Outcome) → KeepsLimits setting (map op_of items) → All ReadFits items → AreFit (trace_grammar setting) outcome_pieces items
+outcomes_fit : (setting : SettingValue) (items : List Outcome) → KeepsLimits setting (map op_of items) → All ReadFits items → AreFit (trace_grammar setting) outcome_tokens items
 unfolding outcome_fault
 outcomes_fit setting items limits reads = record {
   back = λ before x after at.
@@ -145,22 +145,22 @@ short_lines g p lists last accepted few some =
 -- the lines of lists and `end` don't begin with a keyword of the preamble
 body_begins : {X : Type 0} (p : X → List (List ℕ)) (lists : List (List X)) → BeginsBody (flat_map (processor_text p) lists ++ line_text (codes "end" ∷ []))
 unfolding processor_text
-body_begins p [] = record { word = codes "end"; pieces = []; rest = []; begins = printed_line (codes "end") [] [] refl refl; no_model = refl; no_entry = refl }
+body_begins p [] = record { word = codes "end"; tokens = []; rest = []; begins = printed_line (codes "end") [] [] refl refl; no_model = refl; no_entry = refl }
 body_begins p (row ∷ lists) =
     let rest = flat_map (processor_text p) lists in
     let last = line_text (codes "end" ∷ []) in
     let same : ((line_text (codes "proc" ∷ []) ++ items_text p row) ++ rest) ++ last ≡ line_text (codes "proc" ∷ []) ++ ((items_text p row ++ rest) ++ last) =
     ap (λ b. b ++ last) (append_assoc (line_text (codes "proc" ∷ [])) (items_text p row) rest) ∙ append_assoc (line_text (codes "proc" ∷ [])) (items_text p row ++ rest) last in
-    rw same (record { word = codes "proc"; pieces = []; rest = (items_text p row ++ rest) ++ last; begins = printed_line (codes "proc") [] ((items_text p row ++ rest) ++ last) refl refl; no_model = refl; no_entry = refl })
+    rw same (record { word = codes "proc"; tokens = []; rest = (items_text p row ++ rest) ++ last; begins = printed_line (codes "proc") [] ((items_text p row ++ rest) ++ last) refl refl; no_model = refl; no_entry = refl })
 
-entries_length : (first : List (ℕ × ℕ)) → AllByRecursion (λ entry. entry.0 < 256) first → AllByRecursion (λ entry. entry.1 < 2 ^ 64) first → length (items_text entry_pieces first) ≤ 50 * length first
+entries_length : (first : List (ℕ × ℕ)) → AllByRecursion (λ entry. entry.0 < 256) first → AllByRecursion (λ entry. entry.1 < 2 ^ 64) first → length (items_text entry_tokens first) ≤ 50 * length first
 unfolding items_text
 entries_length [] low fits = omega arith
 entries_length (entry ∷ first) low fits =
     let address : entry.0 < 2 ^ 64 = omega (arith, low.0) in
-    let line = length-pieces (codes "init") (entry.0 ∷ entry.1 ∷ []) (address, (fits.0, tt)) in
+    let line = length-tokens (codes "init") (entry.0 ∷ entry.1 ∷ []) (address, (fits.0, tt)) in
     let rest = entries_length first low.1 fits.1 in
-    omega (arith, line, rest, length-append (line_text (entry_pieces entry)) (items_text entry_pieces first), length-append (join_with_byte 32 (entry_pieces entry)) (10 ∷ []))
+    omega (arith, line, rest, length-append (line_text (entry_tokens entry)) (items_text entry_tokens first), length-append (join_with_byte 32 (entry_tokens entry)) (10 ∷ []))
 
 model_length : (order : Order) → length (model_text order) ≤ 10
 model_length Tso = omega arith
@@ -170,7 +170,7 @@ setting_length : (setting : SettingValue) → IsSetting setting → length (sett
 unfolding setting_text
 setting_length setting is =
     let entries = entries_length setting.first (recursion_from_All _ _ is.entries.addresses) (recursion_from_All _ _ is.entries.fits) in
-    omega (arith, length-append (model_text setting.order) (items_text entry_pieces setting.first), model_length setting.order, entries, KeepsEntries-few setting.first is.entries)
+    omega (arith, length-append (model_text setting.order) (items_text entry_tokens setting.first), model_length setting.order, entries, KeepsEntries-few setting.first is.entries)
 
 length-whole : (header setting lines : List ℕ) → length header ≤ 20 → length setting ≤ 12810 → length lines ≤ 800800 → length (whole_text header (setting ++ lines)) ≤ text_byte_limit
 unfolding whole_text
@@ -214,45 +214,45 @@ printed_trace_spells t trace =
     let limits : KeepsLimits setting (map op_of (items_of t.lists)) = subst (KeepsLimits setting) (items_of-map op_of t.lists) trace.program.limits in
     let few : length t.lists ≤ 16 = omega (arith, length-map t.lists (map op_of), trace.program.processors) in
     let fit = outcomes_fit setting (items_of t.lists) limits trace.reads in
-    let accepted = lists_accepted (trace_grammar setting) outcome_pieces (items_of t.lists) fit (trace_proc setting) [] t.lists (omega (arith, few)) refl in
+    let accepted = lists_accepted (trace_grammar setting) outcome_tokens (items_of t.lists) fit (trace_proc setting) [] t.lists (omega (arith, few)) refl in
     let some : length (items_of t.lists) ≤ 16000 = few_items setting.version (length (items_of t.lists)) (omega (arith, kept_few setting (map op_of (items_of t.lists)) limits, length-map (items_of t.lists) op_of)) in
-    let short = length-whole (trace_header setting.version) (setting_text setting) (flat_map (processor_text outcome_pieces) t.lists) (length-header (trace_header One) (trace_header Two) setting.version (omega arith) (omega arith)) (setting_length setting is)
-    (short_lines (trace_grammar setting) outcome_pieces t.lists t.lists accepted few some) in
-    whole_spells trace_format (trace_header One) (trace_header Two) outcome_pieces setting t.lists (λ text. refl) trace_headers is (trace_end setting) accepted short
+    let short = length-whole (trace_header setting.version) (setting_text setting) (flat_map (processor_text outcome_tokens) t.lists) (length-header (trace_header One) (trace_header Two) setting.version (omega arith) (omega arith)) (setting_length setting is)
+    (short_lines (trace_grammar setting) outcome_tokens t.lists t.lists accepted few some) in
+    whole_spells trace_format (trace_header One) (trace_header Two) outcome_tokens setting t.lists (λ text. refl) trace_headers is (trace_end setting) accepted short
 
 -- ---- the lines of programs
 
-program_end : (setting : SettingValue) → IsReadBack (program_grammar setting) op_pieces End
+program_end : (setting : SettingValue) → IsReadBack (program_grammar setting) op_tokens End
 unfolding program_line no_number
-program_end setting = read_back (program_grammar setting) op_pieces End (codes "end") [] refl refl refl (omega arith) (omega arith) tt refl
+program_end setting = read_back (program_grammar setting) op_tokens End (codes "end") [] refl refl refl (omega arith) (omega arith) tt refl
 
-program_proc : (setting : SettingValue) → IsReadBack (program_grammar setting) op_pieces Proc
+program_proc : (setting : SettingValue) → IsReadBack (program_grammar setting) op_tokens Proc
 unfolding program_line no_number
-program_proc setting = read_back (program_grammar setting) op_pieces Proc (codes "proc") [] refl refl refl (omega arith) (omega arith) tt refl
+program_proc setting = read_back (program_grammar setting) op_tokens Proc (codes "proc") [] refl refl refl (omega arith) (omega arith) tt refl
 
-op_back : (setting : SettingValue) (x : Op) → ((a : ℕ) → address_of x ≡ Some a → a < 256) → ((v : ℕ) → stored_by x ≡ Some v → v < 2 ^ 64) → is_stbar_in_tso setting.order x ≡ false → IsReadBack (program_grammar setting) op_pieces (Item x)
+op_back : (setting : SettingValue) (x : Op) → ((a : ℕ) → address_of x ≡ Some a → a < 256) → ((v : ℕ) → stored_by x ≡ Some v → v < 2 ^ 64) → is_stbar_in_tso setting.order x ≡ false → IsReadBack (program_grammar setting) op_tokens (Item x)
 unfolding program_line no_number
 op_back setting (OpLd a) within writes no_stbar =
     let low = within a refl in
     let fits : a < 2 ^ 64 = omega (arith, low) in
-    read_back (program_grammar setting) op_pieces (Item (OpLd a)) (codes "ld") (a ∷ []) refl refl refl (omega arith) (omega arith) (fits, tt)
+    read_back (program_grammar setting) op_tokens (Item (OpLd a)) (codes "ld") (a ∷ []) refl refl refl (omega arith) (omega arith) (fits, tt)
     (rw (one-decimal a fits) (ap (λ b. Ok (Item (OpLd b))) (address-within a low)))
 op_back setting (OpSt a v) within writes no_stbar =
     let low = within a refl in
     let fits : a < 2 ^ 64 = omega (arith, low) in
     let value = writes v refl in
-    read_back (program_grammar setting) op_pieces (Item (OpSt a v)) (codes "st") (a ∷ v ∷ []) refl refl refl (omega arith) (omega arith) (fits, (value, tt))
+    read_back (program_grammar setting) op_tokens (Item (OpSt a v)) (codes "st") (a ∷ v ∷ []) refl refl refl (omega arith) (omega arith) (fits, (value, tt))
     (rw (two-decimal a v fits value) (ap (λ b. Ok (Item (OpSt b v))) (address-within a low)))
 op_back setting (OpSw a v) within writes no_stbar =
     let low = within a refl in
     let fits : a < 2 ^ 64 = omega (arith, low) in
     let value = writes v refl in
-    read_back (program_grammar setting) op_pieces (Item (OpSw a v)) (codes "sw") (a ∷ v ∷ []) refl refl refl (omega arith) (omega arith) (fits, (value, tt))
+    read_back (program_grammar setting) op_tokens (Item (OpSw a v)) (codes "sw") (a ∷ v ∷ []) refl refl refl (omega arith) (omega arith) (fits, (value, tt))
     (rw (two-decimal a v fits value) (ap (λ b. Ok (Item (OpSw b v))) (address-within a low)))
-op_back setting OpMb within writes no_stbar = read_back (program_grammar setting) op_pieces (Item OpMb) (codes "mb") [] refl refl refl (omega arith) (omega arith) tt refl
-op_back setting OpSb within writes no_stbar = read_back (program_grammar setting) op_pieces (Item OpSb) (codes "stbar") [] refl refl refl (omega arith) (omega arith) tt (rw (order_has_stbar setting.order no_stbar) refl)
+op_back setting OpMb within writes no_stbar = read_back (program_grammar setting) op_tokens (Item OpMb) (codes "mb") [] refl refl refl (omega arith) (omega arith) tt refl
+op_back setting OpSb within writes no_stbar = read_back (program_grammar setting) op_tokens (Item OpSb) (codes "stbar") [] refl refl refl (omega arith) (omega arith) tt (rw (order_has_stbar setting.order no_stbar) refl)
 
-ops_fit : (setting : SettingValue) (items : List Op) → KeepsLimits setting items → AreFit (program_grammar setting) op_pieces items
+ops_fit : (setting : SettingValue) (items : List Op) → KeepsLimits setting items → AreFit (program_grammar setting) op_tokens items
 unfolding program_op_fault
 ops_fit setting items limits = record {
   back = λ before x after at.
@@ -267,28 +267,28 @@ printed_program_spells p program =
     let setting = p.setting in
     let is = setting_of_program p program in
     let fit = ops_fit setting (items_of p.lists) program.limits in
-    let accepted = lists_accepted (program_grammar setting) op_pieces (items_of p.lists) fit (program_proc setting) [] p.lists (omega (arith, program.processors)) refl in
+    let accepted = lists_accepted (program_grammar setting) op_tokens (items_of p.lists) fit (program_proc setting) [] p.lists (omega (arith, program.processors)) refl in
     let some = few_items setting.version (length (items_of p.lists)) (kept_few setting (items_of p.lists) program.limits) in
-    let short = length-whole (program_header setting.version) (setting_text setting) (flat_map (processor_text op_pieces) p.lists) (length-header (program_header One) (program_header Two) setting.version (omega arith) (omega arith)) (setting_length setting is)
-    (short_lines (program_grammar setting) op_pieces p.lists p.lists accepted program.processors some) in
-    whole_spells program_format (program_header One) (program_header Two) op_pieces setting p.lists (λ text. refl) program_headers is (program_end setting) accepted short
+    let short = length-whole (program_header setting.version) (setting_text setting) (flat_map (processor_text op_tokens) p.lists) (length-header (program_header One) (program_header Two) setting.version (omega arith) (omega arith)) (setting_length setting is)
+    (short_lines (program_grammar setting) op_tokens p.lists p.lists accepted program.processors some) in
+    whole_spells program_format (program_header One) (program_header Two) op_tokens setting p.lists (λ text. refl) program_headers is (program_end setting) accepted short
 
 -- ---- the lines of schedules
 
-schedule_end : IsReadBack schedule_grammar act_pieces End
+schedule_end : IsReadBack schedule_grammar act_tokens End
 unfolding schedule_line no_number
-schedule_end = read_back schedule_grammar act_pieces End (codes "end") [] refl refl refl (omega arith) (omega arith) tt refl
+schedule_end = read_back schedule_grammar act_tokens End (codes "end") [] refl refl refl (omega arith) (omega arith) tt refl
 
-act_back : (x : Act) → processor_of x ≤ 15 → IsReadBack schedule_grammar act_pieces (Item x)
+act_back : (x : Act) → processor_of x ≤ 15 → IsReadBack schedule_grammar act_tokens (Item x)
 unfolding schedule_line
 act_back (Issue p) low =
     let fits : p < 2 ^ 64 = omega (arith, low) in
-    read_back schedule_grammar act_pieces (Item (Issue p)) (codes "i") (p ∷ []) refl refl refl (omega arith) (omega arith) (fits, tt) (rw (one-decimal p fits) refl)
+    read_back schedule_grammar act_tokens (Item (Issue p)) (codes "i") (p ∷ []) refl refl refl (omega arith) (omega arith) (fits, tt) (rw (one-decimal p fits) refl)
 act_back (Drain p) low =
     let fits : p < 2 ^ 64 = omega (arith, low) in
-    read_back schedule_grammar act_pieces (Item (Drain p)) (codes "d") (p ∷ []) refl refl refl (omega arith) (omega arith) (fits, tt) (rw (one-decimal p fits) refl)
+    read_back schedule_grammar act_tokens (Item (Drain p)) (codes "d") (p ∷ []) refl refl refl (omega arith) (omega arith) (fits, tt) (rw (one-decimal p fits) refl)
 
-acts_fit : (acts : List Act) → All (λ x. processor_of x ≤ 15) acts → AreFit schedule_grammar act_pieces acts
+acts_fit : (acts : List Act) → All (λ x. processor_of x ≤ 15) acts → AreFit schedule_grammar act_tokens acts
 acts_fit acts within = record {
   back = λ before x after at. act_back x (each-middle (λ x. processor_of x ≤ 15) before x after (subst (AllByRecursion (λ x. processor_of x ≤ 15)) at (recursion_from_All _ _ within)));
   clean = λ before x after at w. act_clean before x (each-middle (λ x. processor_of x ≤ 15) before x after (subst (AllByRecursion (λ x. processor_of x ≤ 15)) at (recursion_from_All _ _ within))) w;
@@ -297,11 +297,11 @@ acts_fit acts within = record {
 pub printed_schedule_spells : (acts : List Act) → All (λ x. processor_of x ≤ 15) acts → length (schedule_text acts) ≤ text_byte_limit → SpellsSchedule (schedule_text acts) acts
 unfolding schedule_text items_text whole_text
 printed_schedule_spells acts within short =
-    let lines = flat_map (λ x. line_text (act_pieces x)) acts in
+    let lines = flat_map (λ x. line_text (act_tokens x)) acts in
     let last = line_text (codes "end" ∷ []) in
     let same : (schedule_header ++ 10 ∷ lines) ++ last ≡ schedule_header ++ 10 ∷ (lines ++ last) = append_assoc schedule_header (10 ∷ lines) last in
     let begun = header_read schedule_header (lines ++ last) refl refl in
-    let body = printed_parts schedule_grammar act_pieces (map Item acts) (acts ∷ []) lines schedule_end (items_accepted schedule_grammar act_pieces acts (acts_fit acts within)) (flat_map-Item (λ l. line_text (pieces_by act_pieces l)) acts) in
+    let body = printed_parts schedule_grammar act_tokens (map Item acts) (acts ∷ []) lines schedule_end (items_accepted schedule_grammar act_tokens acts (acts_fit acts within)) (flat_map-Item (λ l. line_text (tokens_by act_tokens l)) acts) in
     rw same (begun_spells schedule_format (schedule_header ++ 10 ∷ (lines ++ last)) version_one_tso 1 (lines ++ last) (acts ∷ []) (subst (λ t. length t ≤ text_byte_limit) same short) begun body)
 
 -- ---- what a printer answers

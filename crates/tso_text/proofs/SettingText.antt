@@ -7,7 +7,7 @@ use Rattle.std.proofs.lemmas.Bool.{false≢true}
 use Rattle.std.proofs.lemmas.List.{append-nil, length-map}
 use Rattle.std.proofs.lemmas.List.Splits.{join_with_byte-slice_split}
 use Rattle.std.proofs.Math.Seq.{drop-append_seam}
-use Rattle.line_text.specs.Lines.{parts_of, pieces_of, SomePiece}
+use Rattle.line_text.specs.Lines.{parts_of, tokens_of, SomeToken}
 use Rattle.tso_ops.specs.declared.settings.Version.{Version}
 use Rattle.tso_ops.specs.declared.settings.Version.TheVariants.{One, Two}
 use Rattle.tso_ops.specs.Limits.{KeepsEntries}
@@ -16,7 +16,7 @@ use Rattle.tso_text.specs.declared.faults.Why.{Why}
 use Rattle.tso_text.specs.declared.faults.Why.TheVariants.{BadHeader, AddressRange}
 use Rattle.tso_text.specs.Numbers.{is_word, address, two_numbers}
 use Rattle.tso_text.specs.Preambles.{begins_with, header_alone, has_keyword, after_keyword, model_lines, model_said, model_fault, result_fault, order_of_lines, entry_lines, entry_said, entry_fault, said_entry_fault, with_said_entry, entries_after, entry_faults, header_of, version_of, setting_preamble}
-use Rattle.tso_text.specs.Printed.{items_text, model_text, entry_pieces, setting_text}
+use Rattle.tso_text.specs.Printed.{items_text, model_text, entry_tokens, setting_text}
 use Rattle.tso_text.specs.Spelling.{Format, SpellsLists, Preamble, preamble_of, body_of, whole_lines, same_text_fault}
 use Rattle.tso_text.specs.Internal.Begun.{AreFaultless, IsSetting}
 use Rattle.tso_text.proofs.CanonicalFacts.{bind_ok, two_is, word_is, in_range}
@@ -33,26 +33,26 @@ abbrev bytes_of : List (List ℕ) → List ℕ
 bytes_of lines = flat_map (λ line. line ++ 10 ∷ []) lines
 
 -- lines and the parts after them
-join-lines : (lines parts : List (List ℕ)) → SomePiece parts → join_with_byte 10 (lines ++ parts) ≡ bytes_of lines ++ join_with_byte 10 parts
+join-lines : (lines parts : List (List ℕ)) → SomeToken parts → join_with_byte 10 (lines ++ parts) ≡ bytes_of lines ++ join_with_byte 10 parts
 join-lines [] parts some = refl
 join-lines (line ∷ []) parts some = rw some.parts (ap (λ b. b) (sym (append_assoc line (10 ∷ []) (join_with_byte 10 (some.first ∷ some.others))) ∙ ap (λ l. l ++ join_with_byte 10 (some.first ∷ some.others)) (sym (append-nil (line ++ 10 ∷ [])))))
 join-lines (line ∷ next ∷ lines) parts some =
     ap (λ b. line ++ 10 ∷ b) (join-lines (next ∷ lines) parts some)
     ∙ sym (append_assoc line (10 ∷ []) (bytes_of (next ∷ lines) ++ join_with_byte 10 parts)) ∙ sym (append_assoc (line ++ 10 ∷ []) (bytes_of (next ∷ lines)) (join_with_byte 10 parts))
 
--- the pieces of a line with a keyword
-keyword_first : (word : List ℕ) (pieces : List (List ℕ)) → begins_with (λ piece. is_word piece word) pieces ≡ true → pieces ≡ word ∷ drop 1 pieces
+-- the tokens of a line with a keyword
+keyword_first : (word : List ℕ) (tokens : List (List ℕ)) → begins_with (λ token. is_word token word) tokens ≡ true → tokens ≡ word ∷ drop 1 tokens
 keyword_first word [] e = absurd (false≢true e)
-keyword_first word (piece ∷ pieces) e = ap (λ p. p ∷ pieces) (word_is piece word e)
+keyword_first word (token ∷ tokens) e = ap (λ p. p ∷ tokens) (word_is token word e)
 
-keyword_pieces : (word line : List ℕ) → has_keyword word line ≡ true → pieces_of line ≡ word ∷ after_keyword line
+keyword_tokens : (word line : List ℕ) → has_keyword word line ≡ true → tokens_of line ≡ word ∷ after_keyword line
 unfolding has_keyword
-keyword_pieces word line e = keyword_first word (pieces_of line) e
+keyword_tokens word line e = keyword_first word (tokens_of line) e
 
--- a line is its pieces
-line_is : (line : List ℕ) (pieces : List (List ℕ)) → pieces_of line ≡ pieces → line ≡ join_with_byte 32 pieces
-unfolding pieces_of
-line_is line pieces same = sym (join_with_byte-slice_split 32 line) ∙ ap (join_with_byte 32) same
+-- a line is its tokens
+line_is : (line : List ℕ) (tokens : List (List ℕ)) → tokens_of line ≡ tokens → line ≡ join_with_byte 32 tokens
+unfolding tokens_of
+line_is line tokens same = sym (join_with_byte-slice_split 32 line) ∙ ap (join_with_byte 32) same
 
 -- what has no fault is read
 result_ok : {A : Type 0} (r : Result A Why) → ((w : Why) → result_fault r w ≡ false) → (a : A) × (r ≡ Ok a)
@@ -61,7 +61,7 @@ result_ok (Err why) clean = absurd (false≢true (sym (clean why) ∙ same_text_
 
 -- ---- the memory model
 
-model_name : (pieces : List (List ℕ)) (u : Unit {0}) → model_said pieces ≡ Ok u → pieces ≡ codes "pso" ∷ []
+model_name : (tokens : List (List ℕ)) (u : Unit {0}) → model_said tokens ≡ Ok u → tokens ≡ codes "pso" ∷ []
 unfolding model_said
 model_name [] u e = absurd cc
 model_name (name ∷ []) u e = named (is_word name (codes "pso")) refl
@@ -69,22 +69,22 @@ model_name (name ∷ []) u e = named (is_word name (codes "pso")) refl
     named : (b : Bool) → is_word name (codes "pso") ≡ b → name ∷ [] ≡ codes "pso" ∷ []
     named true is = ap (λ n. n ∷ []) (word_is name (codes "pso") is)
     named false is = absurd (let off = rw is at e in cc)
-model_name (name ∷ next ∷ pieces) u e = absurd cc
+model_name (name ∷ next ∷ tokens) u e = absurd cc
 
 -- The parts begin with these lines, and some parts follow.
 record Splits (parts lines : List (List ℕ)) : Type 0 where
   rest : List (List ℕ)
   are : parts ≡ lines ++ rest
-  some : SomePiece rest
+  some : SomeToken rest
   after : whole_lines parts ≡ lines ++ whole_lines rest
 
-split_none : (parts : List (List ℕ)) → SomePiece parts → Splits parts []
+split_none : (parts : List (List ℕ)) → SomeToken parts → Splits parts []
 split_none parts some = record { rest = parts; are = refl; some = some; after = refl }
 
 split_one : (part next : List ℕ) (parts : List (List ℕ)) → Splits (part ∷ next ∷ parts) (part ∷ [])
 split_one part next parts = record { rest = next ∷ parts; are = refl; some = record { first = next; others = parts; parts = refl }; after = refl }
 
-model_splits : (parts : List (List ℕ)) → SomePiece parts → Splits parts (model_lines (whole_lines parts))
+model_splits : (parts : List (List ℕ)) → SomeToken parts → Splits parts (model_lines (whole_lines parts))
 model_splits [] some = absurd (let none = some.parts in cc)
 model_splits (part ∷ []) some = split_none (part ∷ []) some
 model_splits (part ∷ next ∷ parts) some = decided (has_keyword (codes "model") part) refl
@@ -102,8 +102,8 @@ model_bytes (line ∷ lines) clean = decided (has_keyword (codes "model") line) 
     decided true is =
         let here : AreFaultless (map model_fault (line ∷ [])) = rw is at clean in
         let read = result_ok (model_said (after_keyword line)) here.0 in
-        let pieces : pieces_of line ≡ codes "model" ∷ codes "pso" ∷ [] = keyword_pieces (codes "model") line is ∙ ap (λ ps. codes "model" ∷ ps) (model_name (after_keyword line) read.0 read.1) in
-        rw is (append-nil (line ++ 10 ∷ []) ∙ ap (λ l. l ++ 10 ∷ []) (line_is line _ pieces))
+        let tokens : tokens_of line ≡ codes "model" ∷ codes "pso" ∷ [] = keyword_tokens (codes "model") line is ∙ ap (λ ps. codes "model" ∷ ps) (model_name (after_keyword line) read.0 read.1) in
+        rw is (append-nil (line ++ 10 ∷ []) ∙ ap (λ l. l ++ 10 ∷ []) (line_is line _ tokens))
 
 -- ---- first values
 
@@ -131,12 +131,12 @@ entries_decided part next parts rest false is =
     subst (SplitsEntries (part ∷ next ∷ parts)) (sym (take_while-no (has_keyword (codes "init")) part (whole_lines (next ∷ parts)) is))
     (record { splits = split_none (part ∷ next ∷ parts) (record { first = part; others = next ∷ parts; parts = refl }); all = tt })
 
-entries_split : (parts : List (List ℕ)) → SomePiece parts → SplitsEntries parts (take_while (has_keyword (codes "init")) (whole_lines parts))
+entries_split : (parts : List (List ℕ)) → SomeToken parts → SplitsEntries parts (take_while (has_keyword (codes "init")) (whole_lines parts))
 entries_split [] some = absurd (let none = some.parts in cc)
 entries_split (part ∷ []) some = record { splits = split_none (part ∷ []) some; all = tt }
 entries_split (part ∷ next ∷ parts) some = entries_decided part next parts (entries_split (next ∷ parts) (record { first = next; others = parts; parts = refl })) (has_keyword (codes "init") part) refl
 
-version_entries : (version : Version) (parts : List (List ℕ)) → SomePiece parts → SplitsEntries parts (entry_lines version (whole_lines parts))
+version_entries : (version : Version) (parts : List (List ℕ)) → SomeToken parts → SplitsEntries parts (entry_lines version (whole_lines parts))
 version_entries One parts some = record { splits = split_none parts some; all = tt }
 version_entries Two parts some = entries_split parts some
 
@@ -145,7 +145,7 @@ record SaysEntry (before : List (ℕ × ℕ)) (line : List ℕ) : Type 0 where
   entry : ℕ × ℕ
   says : entry_said line ≡ Ok entry
   clean : (w : Why) → entry_fault before entry w ≡ false
-  bytes : line ≡ join_with_byte 32 (entry_pieces entry)
+  bytes : line ≡ join_with_byte 32 (entry_tokens entry)
   fits : entry.1 < 2 ^ 64
 
 entry_read : (before : List (ℕ × ℕ)) (line : List ℕ) → has_keyword (codes "init") line ≡ true → ((w : Why) → said_entry_fault before (entry_said line) w ≡ false) → SaysEntry before line
@@ -155,13 +155,13 @@ entry_read before line is clean =
     let says = b.2 in
     let same : (address b.0.0, b.0.1) ≡ read.0 = cc in
     let low : b.0.0 ≡ address b.0.0 = in_range b.0.0 (ap (λ (e : ℕ × ℕ). entry_fault before e AddressRange) same ∙ read.2 AddressRange) in
-    let pieces : pieces_of line ≡ entry_pieces read.0 =
-    keyword_pieces (codes "init") line is ∙ ap (λ ps. codes "init" ∷ ps) (two_is (after_keyword line) b.0 b.1) ∙ ap (λ a. codes "init" ∷ decimal a ∷ decimal b.0.1 ∷ []) low ∙ ap entry_pieces same in
+    let tokens : tokens_of line ≡ entry_tokens read.0 =
+    keyword_tokens (codes "init") line is ∙ ap (λ ps. codes "init" ∷ ps) (two_is (after_keyword line) b.0 b.1) ∙ ap (λ a. codes "init" ∷ decimal a ∷ decimal b.0.1 ∷ []) low ∙ ap entry_tokens same in
     record {
       entry = read.0;
       says = read.1;
       clean = read.2;
-      bytes = line_is line _ pieces;
+      bytes = line_is line _ tokens;
       fits = subst (λ (e : ℕ × ℕ). e.1 < 2 ^ 64) same (two_fit (after_keyword line) b.0 b.1).1;
     }
   where
@@ -173,7 +173,7 @@ entry_read before line is clean =
 record SayEntries (before : List (ℕ × ℕ)) (lines : List (List ℕ)) : Type 0 where
   added : List (ℕ × ℕ)
   are : entries_after before lines ≡ before ++ added
-  bytes : bytes_of lines ≡ items_text entry_pieces added
+  bytes : bytes_of lines ≡ items_text entry_tokens added
   keeps : KeepsEntries before → KeepsEntries (entries_after before lines)
 
 entries_say : (before : List (ℕ × ℕ)) (lines : List (List ℕ)) → AllEntries lines → AreFaultless (entry_faults before lines) → SayEntries before lines
@@ -186,7 +186,7 @@ entries_say before (line ∷ lines) all clean =
     record {
       added = line_says.entry ∷ rest.added;
       are = rest.are ∙ ap (λ b. b ++ rest.added) next ∙ append_assoc before (line_says.entry ∷ []) rest.added;
-      bytes = ap (λ b. (line ++ 10 ∷ []) ++ b) rest.bytes ∙ ap (λ l. (l ++ 10 ∷ []) ++ items_text entry_pieces rest.added) line_says.bytes;
+      bytes = ap (λ b. (line ++ 10 ∷ []) ++ b) rest.bytes ∙ ap (λ l. (l ++ 10 ∷ []) ++ items_text entry_tokens rest.added) line_says.bytes;
       keeps = λ keeps. rest.keeps (subst KeepsEntries (sym next) (KeepsEntries-clean before line_says.entry keeps (entry_clean_back before line_says.entry line_says.clean) line_says.fits));
     }
 
@@ -197,7 +197,7 @@ record IsPreambleText (one two : List ℕ) (p : Preamble) (parts : List (List �
   lines : List (List ℕ)
   rest : List (List ℕ)
   are : parts ≡ lines ++ rest
-  some : SomePiece rest
+  some : SomeToken rest
   count : length lines ≡ length p.faults
   bytes : bytes_of lines ≡ header_of one two p.setting.version ++ 10 ∷ setting_text p.setting
   setting : IsSetting p.setting
@@ -241,9 +241,9 @@ preamble_text_by one two line next parts clean =
       some = entries.splits.some;
       count = omega (arith, length-append (model_lines lines) entry, length-append (map model_fault (model_lines lines)) (entry_faults [] entry), length-map (model_lines lines) model_fault, length-entry_faults [] entry);
       bytes =
-          ap (λ b. (line ++ 10 ∷ []) ++ b) (bytes_of-append (model_lines lines) entry ∙ ap (λ b. b ++ bytes_of entry) (model_bytes lines both.0) ∙ ap (λ b. model_text (order_of_lines (model_lines lines)) ++ b) (say.bytes ∙ ap (items_text entry_pieces) (sym say.are)))
-          ∙ ap (λ l. (l ++ 10 ∷ []) ++ (model_text (order_of_lines (model_lines lines)) ++ items_text entry_pieces (entries_after [] entry))) (header_bytes one two line header)
-          ∙ append_assoc (header_of one two version) (10 ∷ []) (model_text (order_of_lines (model_lines lines)) ++ items_text entry_pieces (entries_after [] entry));
+          ap (λ b. (line ++ 10 ∷ []) ++ b) (bytes_of-append (model_lines lines) entry ∙ ap (λ b. b ++ bytes_of entry) (model_bytes lines both.0) ∙ ap (λ b. model_text (order_of_lines (model_lines lines)) ++ b) (say.bytes ∙ ap (items_text entry_tokens) (sym say.are)))
+          ∙ ap (λ l. (l ++ 10 ∷ []) ++ (model_text (order_of_lines (model_lines lines)) ++ items_text entry_tokens (entries_after [] entry))) (header_bytes one two line header)
+          ∙ append_assoc (header_of one two version) (10 ∷ []) (model_text (order_of_lines (model_lines lines)) ++ items_text entry_tokens (entries_after [] entry));
       setting = record { entries = say.keeps KeepsEntries-nil; version_one = no_entries_of_one version (drop (length (model_lines lines)) lines) };
     }
   where
@@ -263,9 +263,9 @@ preamble_text one two (line ∷ next ∷ parts) clean = preamble_text_by one two
 -- The text is this preamble and these parts after it.
 pub record IsPrinted (preamble text : List ℕ) (body : List (List ℕ)) : Type 0 where
   pub text_is : text ≡ preamble ++ join_with_byte 10 body
-  pub some : SomePiece body
+  pub some : SomeToken body
 
-text_by_parts : (text : List ℕ) (n : ℕ) (lines rest : List (List ℕ)) (bytes : List ℕ) → parts_of text ≡ lines ++ rest → SomePiece rest → length lines ≡ n → bytes_of lines ≡ bytes → IsPrinted bytes text (drop n (parts_of text))
+text_by_parts : (text : List ℕ) (n : ℕ) (lines rest : List (List ℕ)) (bytes : List ℕ) → parts_of text ≡ lines ++ rest → SomeToken rest → length lines ≡ n → bytes_of lines ≡ bytes → IsPrinted bytes text (drop n (parts_of text))
 unfolding parts_of
 text_by_parts text n lines rest bytes are some count is =
     let body : drop n (parts_of text) ≡ rest = ap (λ m. drop m (parts_of text)) (sym count) ∙ ap (drop (length lines)) are ∙ drop-append_seam lines rest in
@@ -288,7 +288,7 @@ setting_kept f one two text lists is spells =
     let clean = subst (λ (p : Preamble). AreFaultless p.faults) is (preamble_clean f text lists spells) in
     rw is (preamble_text one two (parts_of text) clean).setting
 
-header_line : (header : List ℕ) (parts : List (List ℕ)) → begins_with (λ line. is_word line header) (whole_lines parts) ≡ true → (lines : List (List ℕ)) × (rest : List (List ℕ)) × (parts ≡ lines ++ rest) × SomePiece rest × (length lines ≡ 1) × (bytes_of lines ≡ header ++ 10 ∷ [])
+header_line : (header : List ℕ) (parts : List (List ℕ)) → begins_with (λ line. is_word line header) (whole_lines parts) ≡ true → (lines : List (List ℕ)) × (rest : List (List ℕ)) × (parts ≡ lines ++ rest) × SomeToken rest × (length lines ≡ 1) × (bytes_of lines ≡ header ++ 10 ∷ [])
 header_line header [] e = absurd (false≢true e)
 header_line header (line ∷ []) e = absurd (false≢true e)
 header_line header (line ∷ next ∷ parts) e = (line ∷ [], next ∷ parts, refl, record { first = next; others = parts; parts = refl }, refl, append-nil (line ++ 10 ∷ []) ∙ ap (λ l. l ++ 10 ∷ []) (word_is line header e))

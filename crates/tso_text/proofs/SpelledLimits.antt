@@ -191,14 +191,14 @@ stbar_fits order has = record { read = tt; write = λ v at. absurd cc; no_stbar 
 trace_line_fits : (order : Order) (ps : List (List ℕ)) → IfOk (trace_line order ps) (OutcomeLineFits order)
 unfolding trace_line
 trace_line_fits order [] = tt
-trace_line_fits order (word ∷ pieces) =
-    if_cond _ (is_word word (codes "proc")) _ _ (if_bind (OutcomeLineFits order) (no_number pieces) _ (λ u is. tt))
-    (if_cond _ (is_word word (codes "ld")) _ _ (if_bind (OutcomeLineFits order) (two_numbers pieces) _ (λ n is. load_fits order _ n.1 (two_fit pieces n is).1))
-    (if_cond _ (is_word word (codes "st")) _ _ (if_bind (OutcomeLineFits order) (two_numbers pieces) _ (λ n is. store_fits order _ n.1 (two_fit pieces n is).1))
-    (if_cond _ (is_word word (codes "sw")) _ _ (if_bind (OutcomeLineFits order) (three_numbers pieces) _ (λ n is. swap_fits order _ n.1 n.2 (three_fit pieces n is).1 (three_fit pieces n is).2))
-    (if_cond _ (is_word word (codes "mb")) _ _ (if_bind (OutcomeLineFits order) (no_number pieces) _ (λ u is. barrier_fits order))
-    (if_cond_on _ (is_word word (codes "stbar") && has_stbar order) _ _ (λ on. if_bind (OutcomeLineFits order) (no_number pieces) _ (λ u is. stbar_fits order (and_parts (is_word word (codes "stbar")) (has_stbar order) on).1))
-    (if_cond _ (is_word word (codes "end")) _ _ (if_bind (OutcomeLineFits order) (no_number pieces) _ (λ u is. tt)) tt))))))
+trace_line_fits order (word ∷ tokens) =
+    if_cond _ (is_word word (codes "proc")) _ _ (if_bind (OutcomeLineFits order) (no_number tokens) _ (λ u is. tt))
+    (if_cond _ (is_word word (codes "ld")) _ _ (if_bind (OutcomeLineFits order) (two_numbers tokens) _ (λ n is. load_fits order _ n.1 (two_fit tokens n is).1))
+    (if_cond _ (is_word word (codes "st")) _ _ (if_bind (OutcomeLineFits order) (two_numbers tokens) _ (λ n is. store_fits order _ n.1 (two_fit tokens n is).1))
+    (if_cond _ (is_word word (codes "sw")) _ _ (if_bind (OutcomeLineFits order) (three_numbers tokens) _ (λ n is. swap_fits order _ n.1 n.2 (three_fit tokens n is).1 (three_fit tokens n is).2))
+    (if_cond _ (is_word word (codes "mb")) _ _ (if_bind (OutcomeLineFits order) (no_number tokens) _ (λ u is. barrier_fits order))
+    (if_cond_on _ (is_word word (codes "stbar") && has_stbar order) _ _ (λ on. if_bind (OutcomeLineFits order) (no_number tokens) _ (λ u is. stbar_fits order (and_parts (is_word word (codes "stbar")) (has_stbar order) on).1))
+    (if_cond _ (is_word word (codes "end")) _ _ (if_bind (OutcomeLineFits order) (no_number tokens) _ (λ u is. tt)) tt))))))
 
 -- what a line says is no STBAR under TSO
 pub outcome_no_stbar : (setting : SettingValue) (x : Outcome) → CanSay (trace_grammar setting) (Item x) → is_stbar_in_tso setting.order (op_of x) ≡ false
@@ -245,14 +245,14 @@ OpLineFits order End = Unit {0}
 program_line_fits : (order : Order) (ps : List (List ℕ)) → IfOk (program_line order ps) (OpLineFits order)
 unfolding program_line
 program_line_fits order [] = tt
-program_line_fits order (word ∷ pieces) =
-    if_cond _ (is_word word (codes "proc")) _ _ (if_bind (OpLineFits order) (no_number pieces) _ (λ u is. tt))
-    (if_cond _ (is_word word (codes "ld")) _ _ (if_bind (OpLineFits order) (one_number pieces) _ (λ n is. record { write = λ v at. absurd cc; no_stbar = load_no_stbar order _ }))
-    (if_cond _ (is_word word (codes "st")) _ _ (if_bind (OpLineFits order) (two_numbers pieces) _ (λ n is. record { write = value_fits n.1 (two_fit pieces n is).1; no_stbar = store_no_stbar order _ n.1 }))
-    (if_cond _ (is_word word (codes "sw")) _ _ (if_bind (OpLineFits order) (two_numbers pieces) _ (λ n is. record { write = value_fits n.1 (two_fit pieces n is).1; no_stbar = swap_no_stbar order _ n.1 }))
-    (if_cond _ (is_word word (codes "mb")) _ _ (if_bind (OpLineFits order) (no_number pieces) _ (λ u is. record { write = λ v at. absurd cc; no_stbar = membar_no_stbar order }))
-    (if_cond_on _ (is_word word (codes "stbar") && has_stbar order) _ _ (λ on. if_bind (OpLineFits order) (no_number pieces) _ (λ u is. record { write = λ v at. absurd cc; no_stbar = pso_stbar order (and_parts (is_word word (codes "stbar")) (has_stbar order) on).1 }))
-    (if_cond _ (is_word word (codes "end")) _ _ (if_bind (OpLineFits order) (no_number pieces) _ (λ u is. tt)) tt))))))
+program_line_fits order (word ∷ tokens) =
+    if_cond _ (is_word word (codes "proc")) _ _ (if_bind (OpLineFits order) (no_number tokens) _ (λ u is. tt))
+    (if_cond _ (is_word word (codes "ld")) _ _ (if_bind (OpLineFits order) (one_number tokens) _ (λ n is. record { write = λ v at. absurd cc; no_stbar = load_no_stbar order _ }))
+    (if_cond _ (is_word word (codes "st")) _ _ (if_bind (OpLineFits order) (two_numbers tokens) _ (λ n is. record { write = value_fits n.1 (two_fit tokens n is).1; no_stbar = store_no_stbar order _ n.1 }))
+    (if_cond _ (is_word word (codes "sw")) _ _ (if_bind (OpLineFits order) (two_numbers tokens) _ (λ n is. record { write = value_fits n.1 (two_fit tokens n is).1; no_stbar = swap_no_stbar order _ n.1 }))
+    (if_cond _ (is_word word (codes "mb")) _ _ (if_bind (OpLineFits order) (no_number tokens) _ (λ u is. record { write = λ v at. absurd cc; no_stbar = membar_no_stbar order }))
+    (if_cond_on _ (is_word word (codes "stbar") && has_stbar order) _ _ (λ on. if_bind (OpLineFits order) (no_number tokens) _ (λ u is. record { write = λ v at. absurd cc; no_stbar = pso_stbar order (and_parts (is_word word (codes "stbar")) (has_stbar order) on).1 }))
+    (if_cond _ (is_word word (codes "end")) _ _ (if_bind (OpLineFits order) (no_number tokens) _ (λ u is. tt)) tt))))))
 
 pub op_no_stbar : (setting : SettingValue) (op : Op) → CanSay (program_grammar setting) (Item op) → is_stbar_in_tso setting.order op ≡ false
 op_no_stbar setting op said = (IfOk-at_ok (OpLineFits setting.order) said.1 (program_line_fits setting.order said.0)).no_stbar

@@ -32,14 +32,14 @@ has_stbar Pso = true
 
 unfoldable pub trace_line : Order → List (List ℕ) → Result (Line Outcome) Why
 trace_line order [] = Err BadLine
-trace_line order (word ∷ pieces) =
-    if is_word word (codes "proc") then no_number pieces >>= (λ _. Ok Proc)
-    else if is_word word (codes "ld") then two_numbers pieces >>= (λ n. Ok (Item (Ld (address n.0) n.1)))
-    else if is_word word (codes "st") then two_numbers pieces >>= (λ n. Ok (Item (St (address n.0) n.1)))
-    else if is_word word (codes "sw") then three_numbers pieces >>= (λ n. Ok (Item (Sw (address n.0) n.1 n.2)))
-    else if is_word word (codes "mb") then no_number pieces >>= (λ _. Ok (Item Mb))
-    else if is_word word (codes "stbar") && has_stbar order then no_number pieces >>= (λ _. Ok (Item Sb))
-    else if is_word word (codes "end") then no_number pieces >>= (λ _. Ok End)
+trace_line order (word ∷ tokens) =
+    if is_word word (codes "proc") then no_number tokens >>= (λ _. Ok Proc)
+    else if is_word word (codes "ld") then two_numbers tokens >>= (λ n. Ok (Item (Ld (address n.0) n.1)))
+    else if is_word word (codes "st") then two_numbers tokens >>= (λ n. Ok (Item (St (address n.0) n.1)))
+    else if is_word word (codes "sw") then three_numbers tokens >>= (λ n. Ok (Item (Sw (address n.0) n.1 n.2)))
+    else if is_word word (codes "mb") then no_number tokens >>= (λ _. Ok (Item Mb))
+    else if is_word word (codes "stbar") && has_stbar order then no_number tokens >>= (λ _. Ok (Item Sb))
+    else if is_word word (codes "end") then no_number tokens >>= (λ _. Ok End)
     else Err BadLine
 
 -- the fault of an operation in a text of the setting
@@ -67,14 +67,14 @@ trace_format = record { preamble = setting_preamble (trace_header One) (trace_he
 
 unfoldable pub program_line : Order → List (List ℕ) → Result (Line Op) Why
 program_line order [] = Err BadLine
-program_line order (word ∷ pieces) =
-    if is_word word (codes "proc") then no_number pieces >>= (λ _. Ok Proc)
-    else if is_word word (codes "ld") then one_number pieces >>= (λ n. Ok (Item (OpLd (address n))))
-    else if is_word word (codes "st") then two_numbers pieces >>= (λ n. Ok (Item (OpSt (address n.0) n.1)))
-    else if is_word word (codes "sw") then two_numbers pieces >>= (λ n. Ok (Item (OpSw (address n.0) n.1)))
-    else if is_word word (codes "mb") then no_number pieces >>= (λ _. Ok (Item OpMb))
-    else if is_word word (codes "stbar") && has_stbar order then no_number pieces >>= (λ _. Ok (Item OpSb))
-    else if is_word word (codes "end") then no_number pieces >>= (λ _. Ok End)
+program_line order (word ∷ tokens) =
+    if is_word word (codes "proc") then no_number tokens >>= (λ _. Ok Proc)
+    else if is_word word (codes "ld") then one_number tokens >>= (λ n. Ok (Item (OpLd (address n))))
+    else if is_word word (codes "st") then two_numbers tokens >>= (λ n. Ok (Item (OpSt (address n.0) n.1)))
+    else if is_word word (codes "sw") then two_numbers tokens >>= (λ n. Ok (Item (OpSw (address n.0) n.1)))
+    else if is_word word (codes "mb") then no_number tokens >>= (λ _. Ok (Item OpMb))
+    else if is_word word (codes "stbar") && has_stbar order then no_number tokens >>= (λ _. Ok (Item OpSb))
+    else if is_word word (codes "end") then no_number tokens >>= (λ _. Ok End)
     else Err BadLine
 
 unfoldable pub program_op_fault : SettingValue → List Op → Op → Why → Bool
@@ -94,10 +94,10 @@ program_format = record { preamble = setting_preamble (program_header One) (prog
 
 unfoldable pub schedule_line : List (List ℕ) → Result (Line Act) Why
 schedule_line [] = Err BadLine
-schedule_line (word ∷ pieces) =
-    if is_word word (codes "i") then one_number pieces >>= (λ n. Ok (Item (Issue n)))
-    else if is_word word (codes "d") then one_number pieces >>= (λ n. Ok (Item (Drain n)))
-    else if is_word word (codes "end") then no_number pieces >>= (λ _. Ok End)
+schedule_line (word ∷ tokens) =
+    if is_word word (codes "i") then one_number tokens >>= (λ n. Ok (Item (Issue n)))
+    else if is_word word (codes "d") then one_number tokens >>= (λ n. Ok (Item (Drain n)))
+    else if is_word word (codes "end") then no_number tokens >>= (λ _. Ok End)
     else Err BadLine
 
 -- the processor that the act names

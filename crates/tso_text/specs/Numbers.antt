@@ -6,9 +6,9 @@ use Rattle.line_text.specs.Results.{◌>>=◌}
 use Rattle.tso_text.specs.declared.faults.Why.{Why}
 use Rattle.tso_text.specs.declared.faults.Why.TheVariants.{BadLine, BadNumber}
 
--- the piece is this keyword
+-- the token is this keyword
 abbrev pub is_word : List ℕ → List ℕ → Bool
-is_word piece word = bytes_eq piece word
+is_word token word = bytes_eq token word
 
 -- An address of 16 bits. A greater number counts as the greatest of them, which is past the range as well.
 abbrev pub address : ℕ → ℕ
@@ -19,27 +19,27 @@ abbrev pub or_bad_number : Option ℕ → Result ℕ Why
 or_bad_number None = Err BadNumber
 or_bad_number (Some n) = Ok n
 
--- the number of a piece, or its fault
+-- the number of a token, or its fault
 abbrev pub numeral : List ℕ → Result ℕ Why
-numeral piece = or_bad_number (number piece)
+numeral token = or_bad_number (number token)
 
--- no piece after the keyword
+-- no token after the keyword
 unfoldable pub no_number : List (List ℕ) → Result (Unit {0}) Why
 no_number [] = Ok tt
-no_number (piece ∷ pieces) = Err BadLine
+no_number (token ∷ tokens) = Err BadLine
 
 -- one number after the keyword
 unfoldable pub one_number : List (List ℕ) → Result ℕ Why
 one_number [] = Err BadLine
 one_number (m ∷ []) = numeral m
-one_number (m ∷ n ∷ pieces) = Err BadLine
+one_number (m ∷ n ∷ tokens) = Err BadLine
 
 -- two numbers after the keyword
 unfoldable pub two_numbers : List (List ℕ) → Result (ℕ × ℕ) Why
 two_numbers [] = Err BadLine
 two_numbers (m ∷ []) = Err BadLine
 two_numbers (m ∷ n ∷ []) = numeral m >>= λ a. numeral n >>= λ b. Ok (a, b)
-two_numbers (m ∷ n ∷ o ∷ pieces) = Err BadLine
+two_numbers (m ∷ n ∷ o ∷ tokens) = Err BadLine
 
 -- three numbers after the keyword
 unfoldable pub three_numbers : List (List ℕ) → Result (ℕ × ℕ × ℕ) Why
@@ -47,4 +47,4 @@ three_numbers [] = Err BadLine
 three_numbers (m ∷ []) = Err BadLine
 three_numbers (m ∷ n ∷ []) = Err BadLine
 three_numbers (m ∷ n ∷ o ∷ []) = numeral m >>= λ a. numeral n >>= λ b. numeral o >>= λ c. Ok (a, b, c)
-three_numbers (m ∷ n ∷ o ∷ p ∷ pieces) = Err BadLine
+three_numbers (m ∷ n ∷ o ∷ p ∷ tokens) = Err BadLine

@@ -1,7 +1,7 @@
 -- What texts begin with: a header, and in traces and programs the memory model and the first values.
 use Rattle.std.specs.Prelude.{ℕ, ◌&&◌, ◌||◌, Bool, false, not, List, [], ◌∷◌, ◌++◌, length, map, drop, Result, Ok, Err, codes, if◌then◌else◌}
 use Rattle.std.specs.List.{take_while}
-use Rattle.line_text.specs.Lines.{pieces_of}
+use Rattle.line_text.specs.Lines.{tokens_of}
 use Rattle.line_text.specs.Results.{◌>>=◌}
 use Rattle.tso_ops.specs.declared.faults.ValueFault.TheVariants.{AddressRange as PastAddresses, ZeroValue as ZeroStored, InitOrder as NotAscending}
 use Rattle.tso_ops.specs.declared.settings.Order.{Order}
@@ -32,13 +32,13 @@ header_alone header lines = record { setting = version_one_tso; faults = header_
 
 -- ---- the memory model
 
--- the line's first piece is this keyword
+-- the line's first token is this keyword
 unfoldable pub has_keyword : List ℕ → List ℕ → Bool
-has_keyword word line = begins_with (λ piece. is_word piece word) (pieces_of line)
+has_keyword word line = begins_with (λ token. is_word token word) (tokens_of line)
 
--- the pieces after the keyword
+-- the tokens after the keyword
 abbrev pub after_keyword : List ℕ → List (List ℕ)
-after_keyword line = drop 1 (pieces_of line)
+after_keyword line = drop 1 (tokens_of line)
 
 -- the first of these lines, where it is a line `model`
 abbrev pub model_lines : List (List ℕ) → List (List ℕ)
@@ -49,7 +49,7 @@ model_lines (line ∷ lines) = if has_keyword (codes "model") line then line ∷
 unfoldable pub model_said : List (List ℕ) → Result (Unit {0}) Why
 model_said [] = Err BadLine
 model_said (name ∷ []) = if is_word name (codes "pso") then Ok tt else Err BadModel
-model_said (name ∷ next ∷ pieces) = Err BadLine
+model_said (name ∷ next ∷ tokens) = Err BadLine
 
 -- what could not be read has its fault
 abbrev pub result_fault : {A : Type 0} → Result A Why → Why → Bool
@@ -73,7 +73,7 @@ entry_lines Two lines = take_while (has_keyword (codes "init")) lines
 
 -- what a line `init` says after its keyword, address and first value, or its fault
 abbrev pub entry_by : List (List ℕ) → Result (ℕ × ℕ) Why
-entry_by pieces = two_numbers pieces >>= λ n. Ok (address n.0, n.1)
+entry_by tokens = two_numbers tokens >>= λ n. Ok (address n.0, n.1)
 
 abbrev pub entry_said : List ℕ → Result (ℕ × ℕ) Why
 entry_said line = entry_by (after_keyword line)

@@ -15,53 +15,53 @@ use Rattle.tso_ops.specs.declared.acts.Act.{Act}
 use Rattle.tso_ops.specs.declared.acts.Act.TheVariants.{Issue, Drain}
 use Rattle.tso_text.specs.Grammars.{trace_header, program_header, schedule_header}
 
-abbrev pub outcome_pieces : Outcome → List (List ℕ)
-outcome_pieces (Ld a r) = codes "ld" ∷ decimal a ∷ decimal r ∷ []
-outcome_pieces (St a v) = codes "st" ∷ decimal a ∷ decimal v ∷ []
-outcome_pieces (Sw a r v) = codes "sw" ∷ decimal a ∷ decimal r ∷ decimal v ∷ []
-outcome_pieces Mb = codes "mb" ∷ []
-outcome_pieces Sb = codes "stbar" ∷ []
+abbrev pub outcome_tokens : Outcome → List (List ℕ)
+outcome_tokens (Ld a r) = codes "ld" ∷ decimal a ∷ decimal r ∷ []
+outcome_tokens (St a v) = codes "st" ∷ decimal a ∷ decimal v ∷ []
+outcome_tokens (Sw a r v) = codes "sw" ∷ decimal a ∷ decimal r ∷ decimal v ∷ []
+outcome_tokens Mb = codes "mb" ∷ []
+outcome_tokens Sb = codes "stbar" ∷ []
 
-abbrev pub op_pieces : Op → List (List ℕ)
-op_pieces (OpLd a) = codes "ld" ∷ decimal a ∷ []
-op_pieces (OpSt a v) = codes "st" ∷ decimal a ∷ decimal v ∷ []
-op_pieces (OpSw a v) = codes "sw" ∷ decimal a ∷ decimal v ∷ []
-op_pieces OpMb = codes "mb" ∷ []
-op_pieces OpSb = codes "stbar" ∷ []
+abbrev pub op_tokens : Op → List (List ℕ)
+op_tokens (OpLd a) = codes "ld" ∷ decimal a ∷ []
+op_tokens (OpSt a v) = codes "st" ∷ decimal a ∷ decimal v ∷ []
+op_tokens (OpSw a v) = codes "sw" ∷ decimal a ∷ decimal v ∷ []
+op_tokens OpMb = codes "mb" ∷ []
+op_tokens OpSb = codes "stbar" ∷ []
 
-abbrev pub act_pieces : Act → List (List ℕ)
-act_pieces (Issue p) = codes "i" ∷ decimal p ∷ []
-act_pieces (Drain p) = codes "d" ∷ decimal p ∷ []
+abbrev pub act_tokens : Act → List (List ℕ)
+act_tokens (Issue p) = codes "i" ∷ decimal p ∷ []
+act_tokens (Drain p) = codes "d" ∷ decimal p ∷ []
 
 -- the lines of these items
 unfoldable pub items_text : {X : Type 0} → (X → List (List ℕ)) → List X → List ℕ
-items_text pieces items = flat_map (λ x. line_text (pieces x)) items
+items_text tokens items = flat_map (λ x. line_text (tokens x)) items
 
 -- the lines of a processor
 unfoldable pub processor_text : {X : Type 0} → (X → List (List ℕ)) → List X → List ℕ
-processor_text pieces items = line_text (codes "proc" ∷ []) ++ items_text pieces items
+processor_text tokens items = line_text (codes "proc" ∷ []) ++ items_text tokens items
 
 -- the line that says the memory model: TSO has none
 abbrev pub model_text : Order → List ℕ
 model_text Tso = []
 model_text Pso = line_text (codes "model" ∷ codes "pso" ∷ [])
 
-abbrev pub entry_pieces : ℕ × ℕ → List (List ℕ)
-entry_pieces entry = codes "init" ∷ decimal entry.0 ∷ decimal entry.1 ∷ []
+abbrev pub entry_tokens : ℕ × ℕ → List (List ℕ)
+entry_tokens entry = codes "init" ∷ decimal entry.0 ∷ decimal entry.1 ∷ []
 
 -- the lines that say the memory model and the first values
 unfoldable pub setting_text : SettingValue → List ℕ
-setting_text setting = model_text setting.order ++ items_text entry_pieces setting.first
+setting_text setting = model_text setting.order ++ items_text entry_tokens setting.first
 
 -- a text with this header and these lines
 unfoldable pub whole_text : List ℕ → List ℕ → List ℕ
 whole_text header lines = header ++ 10 ∷ lines ++ line_text (codes "end" ∷ [])
 
 unfoldable pub trace_text : TraceValue → List ℕ
-trace_text t = whole_text (trace_header t.setting.version) (setting_text t.setting ++ flat_map (processor_text outcome_pieces) t.lists)
+trace_text t = whole_text (trace_header t.setting.version) (setting_text t.setting ++ flat_map (processor_text outcome_tokens) t.lists)
 
 unfoldable pub program_text : ProgramValue → List ℕ
-program_text p = whole_text (program_header p.setting.version) (setting_text p.setting ++ flat_map (processor_text op_pieces) p.lists)
+program_text p = whole_text (program_header p.setting.version) (setting_text p.setting ++ flat_map (processor_text op_tokens) p.lists)
 
 unfoldable pub schedule_text : List Act → List ℕ
-schedule_text acts = whole_text schedule_header (items_text act_pieces acts)
+schedule_text acts = whole_text schedule_header (items_text act_tokens acts)

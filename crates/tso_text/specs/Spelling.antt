@@ -1,7 +1,7 @@
 -- What a text spells, and how it is refused: over the whole text, by its lines, for any format of texts.
 use Rattle.std.specs.Prelude.{◌≡◌, ℕ, zero, suc, ◌-◌, ◌<◌, ◌==◌, ◌&&◌, Bool, true, false, not, nat_lt, List, [], ◌∷◌, ◌++◌, length, take, drop, get_or, Result, Ok, Err, if◌then◌else◌}
 use Rattle.std.specs.List.{flat_map, list_any}
-use Rattle.line_text.specs.Lines.{parts_of, pieces_of, is_empty}
+use Rattle.line_text.specs.Lines.{parts_of, tokens_of, is_empty}
 use Rattle.tso_ops.specs.Settings.{SettingValue}
 use Rattle.tso_text.specs.declared.faults.Why.{Why}
 use Rattle.tso_text.specs.declared.faults.Why.TheVariants.{BadHeader, BadLine, BadNumber, BeforeProc, TooManyProcessors, TooManyEvents, AddressRange, ZeroValue, RepeatedValue, MissingEnd, AfterEnd, TooLong, ProcessorRange, OutOfMemory, BadModel, InitOrder}
@@ -40,7 +40,7 @@ pub record Preamble : Type 0 where
 -- A grammar of lines that make lists of items. A text that has no lines for lists has its one list from the start.
 pub record Grammar (X : Type 0) : Type 0 where
   pub start : List (List X)
-  -- what the pieces of a line say, or their fault: BadLine or BadNumber
+  -- what the tokens of a line say, or their fault: BadLine or BadNumber
   pub said_by : List (List ℕ) → Result (Line X) Why
   -- the item has the fault, after these items in file order
   pub item_fault : List X → X → Why → Bool
@@ -76,7 +76,7 @@ grammar_of f text = f.grammar (preamble_of f text).setting
 -- ---- what lines say
 
 abbrev pub said : {X : Type 0} → Grammar X → List ℕ → Result (Line X) Why
-said g line = g.said_by (pieces_of line)
+said g line = g.said_by (tokens_of line)
 
 -- the lists with one more item in the last of them
 abbrev pub push_last : {X : Type 0} → List (List X) → X → List (List X)

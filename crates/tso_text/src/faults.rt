@@ -14,9 +14,9 @@ use tso_ops::ValueFault;
 pub enum Why {
     /// The text doesn't begin with a header line and its line end.
     BadHeader,
-    /// A line with no line end, whose first piece is no keyword, or with another number of pieces than its keyword has.
+    /// A line with no line end, whose first token is no keyword, or with another number of tokens than its keyword has.
     BadLine,
-    /// A piece after the first is no number.
+    /// A token after the first is no number.
     BadNumber,
     /// An operation before the first `proc`.
     BeforeProc,
@@ -40,7 +40,7 @@ pub enum Why {
     ProcessorRange,
     /// An allocation was refused.
     OutOfMemory,
-    /// Line 2 is `model` with one more piece that isn't `pso`.
+    /// Line 2 is `model` with one more token that isn't `pso`.
     BadModel,
     /// An address of an `init` line that isn't above that of the one before.
     InitOrder,

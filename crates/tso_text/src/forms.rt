@@ -5,7 +5,7 @@ ghost use Rattle.tso_ops.specs.Settings.{SettingValue, setting_of};
 ghost use Rattle.tso_ops.specs.Tally.{Admitted};
 ghost use Rattle.tso_ops.specs.Values.{rows, op_of, ReadFits};
 ghost use Rattle.tso_text.specs.Grammars.{trace_format, program_format, schedule_format, has_stbar, processor_of};
-ghost use Rattle.tso_text.specs.Printed.{outcome_pieces, op_pieces, act_pieces};
+ghost use Rattle.tso_text.specs.Printed.{outcome_tokens, op_tokens, act_tokens};
 ghost use Rattle.tso_text.specs.Spelling.{Format, preamble_of, said, items_of, text_byte_limit};
 ghost use Rattle.tso_text.specs.Internal.Accepted.{CanSay, IsItemRefusedFor};
 ghost use Rattle.tso_text.specs.Internal.Begun.{HasBegun, IsPreambleRefusal};
@@ -16,7 +16,7 @@ use crate::faults::{TextFault, Why, why_of};
 use crate::lines::Line;
 use crate::numbers::{address, no_number, one_number, three_numbers, two_numbers};
 use crate::preambles::{read_header, read_setting};
-use line_text::next_piece;
+use line_text::next_token;
 use std::alloc::{AllocError, Global};
 use tso_ops::{Act, Op, Order, Outcome, Setting, Tally};
 
@@ -29,7 +29,7 @@ pub(crate) trait Form: Copy {
 
     ghost keeps: { SettingValue → Tally → List Self → Type 0 };
 
-    ghost pieces: { Self → List (List ℕ) };
+    ghost tokens: { Self → List (List ℕ) };
 
     /// Reads the preamble: its setting, the number of its lines, and what stands after it.
     fn read_preamble(alloc: Global, text: &[u8]) -> Result<(Setting, usize, &[u8]), TextFault>
@@ -51,7 +51,7 @@ pub(crate) trait Form: Copy {
 
     /// Appends the line of the item.
     fn print(self, text: &mut String) -> Result<(), AllocError>
-        ensures { OnOk result (string_bytes text.new ≡ string_bytes text.old ++ line_text (pieces self)) };
+        ensures { OnOk result (string_bytes text.new ≡ string_bytes text.old ++ line_text (tokens self)) };
 
     /// Admits the item that a line says, after those admitted before, or refuses it for its first fault.
     fn admit(self, setting: &Setting, tally: &mut Tally) -> Result<(), Why>
@@ -67,7 +67,7 @@ impl Form for Outcome {
 
     ghost keeps = { λ setting tally items. Admitted setting tally (map op_of items) × All ReadFits items };
 
-    ghost pieces = { outcome_pieces };
+    ghost tokens = { outcome_tokens };
 
     fn read_preamble(alloc: Global, text: &[u8]) -> Result<(Setting, usize, &[u8]), TextFault> {
         read_setting(alloc, b"tso trace 1", b"tso trace 2", text)
@@ -79,31 +79,31 @@ impl Form for Outcome {
 
     #[tactic(auto, unfolding(crate::specs::Grammars::trace_line))]
     fn said_by(order: Order, line: &[u8]) -> Result<Line<Outcome>, Why> {
-        let (word, pieces) = next_piece(line);
+        let (word, tokens) = next_token(line);
         if word == b"proc".as_slice() {
-            no_number(pieces)?;
+            no_number(tokens)?;
             Ok(Line::Proc)
         } else if word == b"ld".as_slice() {
-            let (a, r) = two_numbers(pieces)?;
+            let (a, r) = two_numbers(tokens)?;
             Ok(Line::Item(Outcome::Ld { a: address(a), r }))
         } else if word == b"st".as_slice() {
-            let (a, v) = two_numbers(pieces)?;
+            let (a, v) = two_numbers(tokens)?;
             Ok(Line::Item(Outcome::St { a: address(a), v }))
         } else if word == b"sw".as_slice() {
-            let (a, r, v) = three_numbers(pieces)?;
+            let (a, r, v) = three_numbers(tokens)?;
             Ok(Line::Item(Outcome::Sw {
                 a: address(a),
                 r,
                 v,
             }))
         } else if word == b"mb".as_slice() {
-            no_number(pieces)?;
+            no_number(tokens)?;
             Ok(Line::Item(Outcome::Mb))
         } else if word == b"stbar".as_slice() && has_stbar(order) {
-            no_number(pieces)?;
+            no_number(tokens)?;
             Ok(Line::Item(Outcome::Sb))
         } else if word == b"end".as_slice() {
-            no_number(pieces)?;
+            no_number(tokens)?;
             Ok(Line::End)
         } else {
             Err(Why::BadLine)
@@ -133,7 +133,7 @@ impl Form for Op {
 
     ghost keeps = { λ setting tally items. Admitted setting tally items };
 
-    ghost pieces = { op_pieces };
+    ghost tokens = { op_tokens };
 
     fn read_preamble(alloc: Global, text: &[u8]) -> Result<(Setting, usize, &[u8]), TextFault> {
         read_setting(alloc, b"tso program 1", b"tso program 2", text)
@@ -145,27 +145,27 @@ impl Form for Op {
 
     #[tactic(auto, unfolding(crate::specs::Grammars::program_line))]
     fn said_by(order: Order, line: &[u8]) -> Result<Line<Op>, Why> {
-        let (word, pieces) = next_piece(line);
+        let (word, tokens) = next_token(line);
         if word == b"proc".as_slice() {
-            no_number(pieces)?;
+            no_number(tokens)?;
             Ok(Line::Proc)
         } else if word == b"ld".as_slice() {
-            let a = one_number(pieces)?;
+            let a = one_number(tokens)?;
             Ok(Line::Item(Op::Ld { a: address(a) }))
         } else if word == b"st".as_slice() {
-            let (a, v) = two_numbers(pieces)?;
+            let (a, v) = two_numbers(tokens)?;
             Ok(Line::Item(Op::St { a: address(a), v }))
         } else if word == b"sw".as_slice() {
-            let (a, v) = two_numbers(pieces)?;
+            let (a, v) = two_numbers(tokens)?;
             Ok(Line::Item(Op::Sw { a: address(a), v }))
         } else if word == b"mb".as_slice() {
-            no_number(pieces)?;
+            no_number(tokens)?;
             Ok(Line::Item(Op::Mb))
         } else if word == b"stbar".as_slice() && has_stbar(order) {
-            no_number(pieces)?;
+            no_number(tokens)?;
             Ok(Line::Item(Op::Sb))
         } else if word == b"end".as_slice() {
-            no_number(pieces)?;
+            no_number(tokens)?;
             Ok(Line::End)
         } else {
             Err(Why::BadLine)
@@ -195,7 +195,7 @@ impl Form for Act {
 
     ghost keeps = { λ setting tally items. Unit {0} };
 
-    ghost pieces = { act_pieces };
+    ghost tokens = { act_tokens };
 
     fn read_preamble(alloc: Global, text: &[u8]) -> Result<(Setting, usize, &[u8]), TextFault> {
         read_header(alloc, b"tso schedule 1", text)
@@ -209,15 +209,15 @@ impl Form for Act {
 
     #[tactic(auto, unfolding(crate::specs::Grammars::schedule_line))]
     fn said_by(_order: Order, line: &[u8]) -> Result<Line<Act>, Why> {
-        let (word, pieces) = next_piece(line);
+        let (word, tokens) = next_token(line);
         if word == b"i".as_slice() {
-            let p = one_number(pieces)?;
+            let p = one_number(tokens)?;
             Ok(Line::Item(Act::Issue(p as usize)))
         } else if word == b"d".as_slice() {
-            let p = one_number(pieces)?;
+            let p = one_number(tokens)?;
             Ok(Line::Item(Act::Drain(p as usize)))
         } else if word == b"end".as_slice() {
-            no_number(pieces)?;
+            no_number(tokens)?;
             Ok(Line::End)
         } else {
             Err(Why::BadLine)

@@ -1,75 +1,75 @@
 ghost use Rattle.std.specs.Prelude.{◌≡◌, [], ◌∷◌, IfOk, OnOk, IfErr};
-ghost use Rattle.line_text.specs.Lines.{pieces_after, SomePiece};
+ghost use Rattle.line_text.specs.Lines.{tokens_after, SomeToken};
 ghost use Rattle.tso_text.specs.declared.faults.Why.{Why};
 ghost use Rattle.tso_text.specs.Numbers.{address, numeral, no_number, one_number, two_numbers, three_numbers};
 
 use crate::faults::Why;
-use line_text::{next_piece, number_of};
+use line_text::{next_token, number_of};
 
-/// The number that a piece spells, or BadNumber.
-fn numeral(piece: &[u8]) -> Result<u64, Why>
-    ensures { result ≡ numeral piece.now }
+/// The number that a token spells, or BadNumber.
+fn numeral(token: &[u8]) -> Result<u64, Why>
+    ensures { result ≡ numeral token.now }
 {
-    number_of(piece).ok_or(Why::BadNumber)
+    number_of(token).ok_or(Why::BadNumber)
 }
 
-/// The next piece, and what stands after its space; BadLine where there is none.
-pub(crate) fn piece_of(pieces: Option<&[u8]>) -> Result<(&[u8], Option<&[u8]>), Why>
-    ensures found { IfOk result (λ found. pieces_after pieces.entry ≡ found.0.now ∷ pieces_after found.1) }
-    ensures none { IfErr result (λ why. (pieces_after pieces.entry ≡ []) × (why ≡ Why.BadLine)) }
+/// The next token, and what stands after its space; BadLine where there is none.
+pub(crate) fn token_of(tokens: Option<&[u8]>) -> Result<(&[u8], Option<&[u8]>), Why>
+    ensures found { IfOk result (λ found. tokens_after tokens.entry ≡ found.0.now ∷ tokens_after found.1) }
+    ensures none { IfErr result (λ why. (tokens_after tokens.entry ≡ []) × (why ≡ Why.BadLine)) }
 {
-    match pieces {
+    match tokens {
         None => Err(Why::BadLine),
-        Some(line) => Ok(next_piece(line)),
+        Some(line) => Ok(next_token(line)),
     }
 }
 
-/// Checks that no piece stands after a keyword: `pieces` is what follows the keyword's space, or `None` where no space ends it.
+/// Checks that no token stands after a keyword: `tokens` is what follows the keyword's space, or `None` where no space ends it.
 ///
-/// The only error is BadLine, where there is a piece.
-#[tactic(auto, using(line_text::proofs::CutFacts::pieces_after_some), unfolding(crate::specs::Numbers::no_number))]
-pub fn no_number(pieces: Option<&[u8]>) -> Result<(), Why>
-    ensures is { result ≡ no_number (pieces_after pieces.entry) }
-    ensures none { OnOk result (pieces_after pieces.entry ≡ []) }
-    ensures some { IfErr result (λ why. SomePiece (pieces_after pieces.entry) × (why ≡ Why.BadLine)) }
+/// The only error is BadLine, where there is a token.
+#[tactic(auto, using(line_text::proofs::CutFacts::tokens_after_some), unfolding(crate::specs::Numbers::no_number))]
+pub fn no_number(tokens: Option<&[u8]>) -> Result<(), Why>
+    ensures is { result ≡ no_number (tokens_after tokens.entry) }
+    ensures none { OnOk result (tokens_after tokens.entry ≡ []) }
+    ensures some { IfErr result (λ why. SomeToken (tokens_after tokens.entry) × (why ≡ Why.BadLine)) }
 {
-    match pieces {
+    match tokens {
         None => Ok(()),
         Some(_) => Err(Why::BadLine),
     }
 }
 
-/// The number of the only piece.
+/// The number of the only token.
 #[tactic(auto, unfolding(crate::specs::Numbers::one_number))]
-pub(crate) fn one_number(pieces: Option<&[u8]>) -> Result<u64, Why>
-    ensures { result ≡ one_number (pieces_after pieces.entry) }
+pub(crate) fn one_number(tokens: Option<&[u8]>) -> Result<u64, Why>
+    ensures { result ≡ one_number (tokens_after tokens.entry) }
 {
-    let (piece, rest) = piece_of(pieces)?;
+    let (token, rest) = token_of(tokens)?;
     no_number(rest)?;
-    numeral(piece)
+    numeral(token)
 }
 
-/// The numbers of just two pieces after a keyword, which stand in `pieces` as for `no_number`.
+/// The numbers of just two tokens after a keyword, which stand in `tokens` as for `no_number`.
 ///
-/// Refused as BadLine where there are more or fewer pieces, and else as BadNumber where one of them is no number.
+/// Refused as BadLine where there are more or fewer tokens, and else as BadNumber where one of them is no number.
 #[tactic(auto, unfolding(crate::specs::Numbers::two_numbers))]
-pub fn two_numbers(pieces: Option<&[u8]>) -> Result<(u64, u64), Why>
-    ensures { result ≡ two_numbers (pieces_after pieces.entry) }
+pub fn two_numbers(tokens: Option<&[u8]>) -> Result<(u64, u64), Why>
+    ensures { result ≡ two_numbers (tokens_after tokens.entry) }
 {
-    let (first, rest) = piece_of(pieces)?;
-    let (second, rest) = piece_of(rest)?;
+    let (first, rest) = token_of(tokens)?;
+    let (second, rest) = token_of(rest)?;
     no_number(rest)?;
     Ok((numeral(first)?, numeral(second)?))
 }
 
-/// The numbers of just three pieces after a keyword; refused as `two_numbers` refuses.
+/// The numbers of just three tokens after a keyword; refused as `two_numbers` refuses.
 #[tactic(auto, unfolding(crate::specs::Numbers::three_numbers))]
-pub fn three_numbers(pieces: Option<&[u8]>) -> Result<(u64, u64, u64), Why>
-    ensures { result ≡ three_numbers (pieces_after pieces.entry) }
+pub fn three_numbers(tokens: Option<&[u8]>) -> Result<(u64, u64, u64), Why>
+    ensures { result ≡ three_numbers (tokens_after tokens.entry) }
 {
-    let (first, rest) = piece_of(pieces)?;
-    let (second, rest) = piece_of(rest)?;
-    let (third, rest) = piece_of(rest)?;
+    let (first, rest) = token_of(tokens)?;
+    let (second, rest) = token_of(rest)?;
+    let (third, rest) = token_of(rest)?;
     no_number(rest)?;
     Ok((numeral(first)?, numeral(second)?, numeral(third)?))
 }

@@ -1,6 +1,6 @@
 //! How texts begin: their header, memory model and first values.
 ghost use Rattle.std.specs.Prelude.{◌≡◌, ◌≢◌, ◌∷◌, [], ◌≤◌, length, codes, OnOk, IfOk, IfErr};
-ghost use Rattle.line_text.specs.Lines.{parts_of, pieces_after};
+ghost use Rattle.line_text.specs.Lines.{parts_of, tokens_after};
 ghost use Rattle.tso_ops.specs.Limits.{KeepsEntries};
 ghost use Rattle.tso_ops.specs.Settings.{setting_of};
 ghost use Rattle.tso_text.specs.Preambles.{header_alone, model_said, setting_preamble};
@@ -10,8 +10,8 @@ ghost use Rattle.tso_text.specs.declared.faults.Why.{Why};
 
 use crate::faults::{TextFault, Why, fault_of, why_of};
 use crate::lines::next_line;
-use crate::numbers::{address, no_number, piece_of, two_numbers};
-use line_text::next_piece;
+use crate::numbers::{address, no_number, token_of, two_numbers};
+use line_text::next_token;
 use std::alloc::Global;
 use tso_ops::{Order, Setting, Version};
 
@@ -94,9 +94,9 @@ fn read_model(text: &[u8]) -> Result<(Order, usize, &[u8]), Why>
 {
     match next_line(text) {
         Ok((line, rest)) => {
-            let (word, pieces) = next_piece(line);
+            let (word, tokens) = next_token(line);
             if word == b"model".as_slice() {
-                model_name(pieces)?;
+                model_name(tokens)?;
                 Ok((Order::Pso, 1, rest))
             } else {
                 Ok((Order::Tso, 0, text))
@@ -108,10 +108,10 @@ fn read_model(text: &[u8]) -> Result<(Order, usize, &[u8]), Why>
 
 /// Reads the name of a memory model, which is `pso`.
 #[tactic(auto, unfolding(crate::specs::Preambles::model_said))]
-fn model_name(pieces: Option<&[u8]>) -> Result<(), Why>
-    ensures { result ≡ model_said (pieces_after pieces.entry) }
+fn model_name(tokens: Option<&[u8]>) -> Result<(), Why>
+    ensures { result ≡ model_said (tokens_after tokens.entry) }
 {
-    let (name, rest) = piece_of(pieces)?;
+    let (name, rest) = token_of(tokens)?;
     no_number(rest)?;
     if name == b"pso".as_slice() {
         Ok(())
@@ -135,12 +135,12 @@ fn read_entries<'a>(setting: &mut Setting, text: &'a [u8]) -> Result<(usize, &'a
         let Ok((line, after)) = next_line(rest) else {
             return Ok((lines, rest));
         };
-        let (word, pieces) = next_piece(line);
+        let (word, tokens) = next_token(line);
         let is_entry = word == b"init".as_slice();
         if !is_entry {
             return Ok((lines, rest));
         }
-        if let Err(why) = read_entry(setting, pieces) {
+        if let Err(why) = read_entry(setting, tokens) {
             return Err(TextFault { line: lines, why });
         }
         rest = after;
@@ -148,14 +148,14 @@ fn read_entries<'a>(setting: &mut Setting, text: &'a [u8]) -> Result<(usize, &'a
     }
 }
 
-/// Appends the first value that these pieces say.
-fn read_entry(setting: &mut Setting, pieces: Option<&[u8]>) -> Result<(), Why>
+/// Appends the first value that these tokens say.
+fn read_entry(setting: &mut Setting, tokens: Option<&[u8]>) -> Result<(), Why>
     requires { KeepsEntries setting.old.first.items }
-    ensures read { OnOk result (IsEntryRead (setting_of setting.old) (pieces_after pieces.entry) (setting_of setting.new)) }
+    ensures read { OnOk result (IsEntryRead (setting_of setting.old) (tokens_after tokens.entry) (setting_of setting.new)) }
     ensures kept { OnOk result (KeepsEntries setting.new.first.items) }
-    ensures refused { IfErr result (IsEntryRefused setting.old.first.items (pieces_after pieces.entry)) }
+    ensures refused { IfErr result (IsEntryRefused setting.old.first.items (tokens_after tokens.entry)) }
 {
-    let (a, v) = two_numbers(pieces)?;
+    let (a, v) = two_numbers(tokens)?;
     match setting.push_first(address(a), v) {
         Ok(()) => Ok(()),
         Err(fault) => Err(why_of(fault)),

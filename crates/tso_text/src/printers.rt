@@ -2,7 +2,7 @@ ghost use Rattle.std.specs.Prelude.{◌≡◌, ◌++◌, ◌≤◌, All, length,
 ghost use Rattle.line_text.specs.Lines.{line_text};
 ghost use Rattle.tso_ops.specs.Settings.{setting_of};
 ghost use Rattle.tso_text.specs.Grammars.{processor_of, SpellsTrace, SpellsProgram, SpellsSchedule};
-ghost use Rattle.tso_text.specs.Printed.{entry_pieces, items_text, model_text, processor_text, setting_text, trace_text, program_text, schedule_text};
+ghost use Rattle.tso_text.specs.Printed.{entry_tokens, items_text, model_text, processor_text, setting_text, trace_text, program_text, schedule_text};
 ghost use Rattle.tso_text.specs.Spelling.{text_byte_limit};
 
 use crate::forms::Form;
@@ -76,7 +76,7 @@ fn print_model(text: &mut String, order: Order) -> Result<(), OutOfMemory>
 
 /// Appends the lines of first values.
 fn print_entries(text: &mut String, first: &[(u16, u64)]) -> Result<(), OutOfMemory>
-    ensures { OnOk result (string_bytes text.new ≡ string_bytes text.old ++ items_text entry_pieces first.now) }
+    ensures { OnOk result (string_bytes text.new ≡ string_bytes text.old ++ items_text entry_tokens first.now) }
 {
     for entry in first {
         print_entry(text, entry.0, entry.1)?;
@@ -86,14 +86,14 @@ fn print_entries(text: &mut String, first: &[(u16, u64)]) -> Result<(), OutOfMem
 
 /// Appends the line of a first value.
 fn print_entry(text: &mut String, a: u16, v: u64) -> Result<(), AllocError>
-    ensures { OnOk result (string_bytes text.new ≡ string_bytes text.old ++ line_text (entry_pieces (a, v))) }
+    ensures { OnOk result (string_bytes text.new ≡ string_bytes text.old ++ line_text (entry_tokens (a, v))) }
 {
     writeln!(text, "init {a} {v}")
 }
 
 /// Appends the lines of a processor.
 fn print_processor<T: Form>(text: &mut String, items: &[T]) -> Result<(), OutOfMemory>
-    ensures { OnOk result (string_bytes text.new ≡ string_bytes text.old ++ processor_text T.pieces items.now) }
+    ensures { OnOk result (string_bytes text.new ≡ string_bytes text.old ++ processor_text T.tokens items.now) }
 {
     text.push_str("proc\n")?;
     print_items(text, items)
@@ -101,7 +101,7 @@ fn print_processor<T: Form>(text: &mut String, items: &[T]) -> Result<(), OutOfM
 
 /// Appends the lines of items.
 fn print_items<T: Form>(text: &mut String, items: &[T]) -> Result<(), OutOfMemory>
-    ensures { OnOk result (string_bytes text.new ≡ string_bytes text.old ++ items_text T.pieces items.now) }
+    ensures { OnOk result (string_bytes text.new ≡ string_bytes text.old ++ items_text T.tokens items.now) }
 {
     for item in items {
         item.print(text)?;

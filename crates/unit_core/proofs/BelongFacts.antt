@@ -6,7 +6,7 @@ use Rattle.tso_ops.specs.declared.acts.Act.{Act}
 use Rattle.unit_core.specs.Internal.Replays.{FollowsActs, left_from}
 use Rattle.unit_core.specs.Machine.{State, IsRunFrom, after, buffer_of, first_state}
 use Rattle.unit_core.specs.Records.{AreOpsOf, EmptiesBelow}
-use Rattle.unit_core.specs.Schedule.{ArePieces, BelongsTo, issues_of}
+use Rattle.unit_core.specs.Schedule.{AreStepsOfActs, BelongsTo, issues_of}
 use Rattle.unit_core.specs.Units.{UnitValue, AreDrains, IsUnit, TakesDrains}
 use Rattle.unit_core.proofs.CountFacts.{run-entries}
 use Rattle.unit_core.proofs.LastDrainFacts.{last_drains, run_parts}
@@ -34,11 +34,11 @@ belongs program schedule none first second u0 u1 u2 new zero fresh scheduled res
   left = left_from 0 first program.lists;
   none = left_from 0 second program.lists;
   by_schedule =
-      subst (λ l. ArePieces start l schedule scheduled.taken (left_from 0 first program.lists)) (ap (λ i. left_from 0 i program.lists) zero ∙ all_left 0 program.lists)
-      (subst (λ s. ArePieces s (left_from 0 none program.lists) schedule scheduled.taken (left_from 0 first program.lists)) at_start (scheduled.pieces lawful0));
+      subst (λ l. AreStepsOfActs start l schedule scheduled.taken (left_from 0 first program.lists)) (ap (λ i. left_from 0 i program.lists) zero ∙ all_left 0 program.lists)
+      (subst (λ s. AreStepsOfActs s (left_from 0 none program.lists) schedule scheduled.taken (left_from 0 first program.lists)) at_start (scheduled.parts lawful0));
   by_program =
-      subst (λ s. ArePieces s (left_from 0 first program.lists) (issues_of 0 (left_from 0 first program.lists)) rest.taken (left_from 0 second program.lists)) after_schedule
-      (rest.pieces (scheduled.kept.lawful ∙ lawful0));
+      subst (λ s. AreStepsOfActs s (left_from 0 first program.lists) (issues_of 0 (left_from 0 first program.lists)) rest.taken (left_from 0 second program.lists)) after_schedule
+      (rest.parts (scheduled.kept.lawful ∙ lawful0));
   by_end = last_drains new.order 0 program.lists (after start (scheduled.taken ++ rest.taken)) drains.drained wide
       (subst (λ past. AreDrains 0 past drains.drained) (omega arith) drains.drains) runs.1
       (λ q. ap (λ s. buffer_of s q) (sym ended) ∙ ends_empty program new kept lawful empty ops q);

@@ -16,25 +16,25 @@ use Rattle.unit_core.proofs.RunFacts.{after-append, after-drains}
 
 -- the drains of the least processor come first
 record Parted (p past : ℕ) (steps : List Step) : Type 0 where
-  piece : List Step
+  part : List Step
   rest : List Step
-  is : steps ≡ piece ++ rest
-  drains : AreDrainsOf p piece
+  is : steps ≡ part ++ rest
+  drains : AreDrainsOf p part
   others : AreDrains (suc p) past rest
 
 parted : (p past : ℕ) (steps : List Step) → AreDrains p past steps → Parted p past steps
-parted p past [] drains = record { piece = []; rest = []; is = refl; drains = tt; others = tt }
+parted p past [] drains = record { part = []; rest = []; is = refl; drains = tt; others = tt }
 parted p past (step ∷ steps) drains = elim (cases_eq (proc_of step) p) [
   | inl e ↦
       let tail = parted p past steps (subst (λ q. AreDrains q past steps) e drains.3) in
       record {
-        piece = step ∷ tail.piece;
+        part = step ∷ tail.part;
         rest = tail.rest;
         is = ap (λ xs. step ∷ xs) tail.is;
-        drains = (drains.0, drains.1, omega (arith, e), subst (λ q. AreDrains q (suc p) tail.piece) (sym e) tail.drains);
+        drains = (drains.0, drains.1, omega (arith, e), subst (λ q. AreDrains q (suc p) tail.part) (sym e) tail.drains);
         others = tail.others;
       }
-  | inr other ↦ record { piece = []; rest = step ∷ steps; is = refl; drains = tt; others = (drains.0, omega (arith, drains.1, other), drains.2, drains.3) }
+  | inr other ↦ record { part = []; rest = step ∷ steps; is = refl; drains = tt; others = (drains.0, omega (arith, drains.1, other), drains.2, drains.3) }
 ]
 
 pub run_parts : (order : Order) (s : State) (xs ys : List Step) → IsRunFrom order s (xs ++ ys) → IsRunFrom order s xs × IsRunFrom order (after s xs) ys
@@ -60,14 +60,14 @@ drain_leaves order s (Swap p a r v) wide drain allowed = absurd cc
 drain_leaves order s (Membar p) wide drain allowed = absurd cc
 drain_leaves order s (Stbar p) wide drain allowed = absurd cc
 
-drains_leave : (order : Order) (s : State) (p : ℕ) (piece : List Step) → length s.buffers ≡ 16 → AreDrainsOf p piece → IsRunFrom order s piece →
-    (length piece + length (buffer_of (after s piece) p) ≡ length (buffer_of s p)) × (length (after s piece).buffers ≡ 16)
+drains_leave : (order : Order) (s : State) (p : ℕ) (part : List Step) → length s.buffers ≡ 16 → AreDrainsOf p part → IsRunFrom order s part →
+    (length part + length (buffer_of (after s part) p) ≡ length (buffer_of s p)) × (length (after s part).buffers ≡ 16)
 drains_leave order s p [] wide drains run = (omega arith, wide)
-drains_leave order s p (step ∷ piece) wide drains run =
+drains_leave order s p (step ∷ part) wide drains run =
     let e : proc_of step ≡ p = omega (arith, drains.1, drains.2) in
     let first = drain_leaves order s step wide drains.0 run.0 in
     let here : suc (length (buffer_of (next s step) p)) ≡ length (buffer_of s p) = subst (λ q. suc (length (buffer_of (next s step) q)) ≡ length (buffer_of s q)) e first.0 in
-    let rest = drains_leave order (next s step) p piece first.1 (subst (λ q. AreDrains q (suc p) piece) e drains.3) run.1 in
+    let rest = drains_leave order (next s step) p part first.1 (subst (λ q. AreDrains q (suc p) part) e drains.3) run.1 in
     (omega (arith, here, rest.0), rest.1)
 
 no_drains : (p : ℕ) (steps : List Step) → AreDrains p p steps → steps ≡ []
@@ -79,17 +79,17 @@ pub last_drains : (order : Order) (p : ℕ) (lists : List (List Op)) (s : State)
 last_drains order p [] s steps wide drains run empty = no_drains p steps (subst (λ past. AreDrains p past steps) (omega arith) drains)
 last_drains order p (ops ∷ lists) s steps wide drains run empty =
     let parts = parted p (p + suc (length lists)) steps drains in
-    let runs = run_parts order s parts.piece parts.rest (rw parts.is at run) in
-    let left = drains_leave order s p parts.piece wide parts.drains runs.0 in
-    let state : after s steps ≡ after (after s parts.piece) parts.rest = ap (after s) parts.is ∙ after-append s parts.piece parts.rest in
-    let same : buffer_of (after s parts.piece) p ≡ [] =
-    sym (after-drains (after s parts.piece) (suc p) (p + suc (length lists)) p parts.rest parts.others (omega arith))
+    let runs = run_parts order s parts.part parts.rest (rw parts.is at run) in
+    let left = drains_leave order s p parts.part wide parts.drains runs.0 in
+    let state : after s steps ≡ after (after s parts.part) parts.rest = ap (after s) parts.is ∙ after-append s parts.part parts.rest in
+    let same : buffer_of (after s parts.part) p ≡ [] =
+    sym (after-drains (after s parts.part) (suc p) (p + suc (length lists)) p parts.rest parts.others (omega arith))
     ∙ ap (λ t. buffer_of t p) (sym state) ∙ empty p in (
-      parts.piece,
+      parts.part,
       parts.rest,
       parts.is,
       parts.drains,
       omega (arith, left.0, ap length same),
-      last_drains order (suc p) lists (after s parts.piece) parts.rest left.1 (subst (λ past. AreDrains (suc p) past parts.rest) (omega arith) parts.others) runs.1
+      last_drains order (suc p) lists (after s parts.part) parts.rest left.1 (subst (λ past. AreDrains (suc p) past parts.rest) (omega arith) parts.others) runs.1
           (λ q. ap (λ t. buffer_of t q) (sym state) ∙ empty q),
     )

@@ -1,4 +1,4 @@
--- Lemmas on replays: pieces of one act after the other, and the operations that are left.
+-- Lemmas on replays: parts of one act after the other, and the operations that are left.
 use Rattle.std.proofs.Common.{◌≡◌, ◌≢◌, ◌∙◌, sym, ap, refl, subst, ℕ, zero, suc, ◌+◌, ◌-◌, ◌<◌, ◌≤◌, inl, inr, Bool, true, false, Some, List, [], ◌∷◌, ◌++◌, length, get_or, set, slice_get, take, drop, map, replicate, append_assoc, length-set, add-one, arith}
 use Rattle.std.proofs.Math.Seq.{drop-nil, drop-cons, take-length, take-nil}
 use Rattle.std.proofs.Math.ListN.{drop_of_length-le}
@@ -13,7 +13,7 @@ use Rattle.tso_ops.specs.declared.acts.Act.TheVariants.{Issue, Drain}
 use Rattle.unit_core.specs.declared.steps.Step.{Step}
 use Rattle.unit_core.specs.Issues.{step_of}
 use Rattle.unit_core.specs.Machine.{State, Entry, after, buffer_of, first_state, outcomes_of}
-use Rattle.unit_core.specs.Schedule.{issues_of, ArePieces, IsPiece, IsDrained}
+use Rattle.unit_core.specs.Schedule.{issues_of, AreStepsOfActs, AreStepsOfAct, IsDrained}
 use Rattle.unit_core.specs.Units.{UnitValue, AnswersDrain, AreDrainsOf, IsUnit, KeepsMachine, Takes, TakesDrains}
 use Rattle.unit_core.specs.Internal.Replays.{FollowsActs, HasIssued, left_from, rest_of}
 use Rattle.unit_core.specs.Records.{AreOpsOf}
@@ -61,26 +61,26 @@ pub left-here : (p n : ℕ) (issued : List ℕ) (lists : List (List Op)) → p <
 left-here p n issued lists below within =
     left-set 0 p n issued lists below (omega arith) ∙ ap (λ i. left_from 0 (set issued i n) lists) (omega arith)
 
--- ---- pieces
+-- ---- parts
 
-pub pieces-one : (s : State) (left : List (List Op)) (act : Act) (piece : List Step) (others : List (List Op)) → IsPiece s left act piece others →
-    ArePieces s left (act ∷ []) piece others
-pieces-one s left act piece others is = (piece, [], others, sym (append-nil piece), is, (refl, refl))
+pub steps-of-one : (s : State) (left : List (List Op)) (act : Act) (part : List Step) (others : List (List Op)) → AreStepsOfAct s left act part others →
+    AreStepsOfActs s left (act ∷ []) part others
+steps-of-one s left act part others is = (part, [], others, sym (append-nil part), is, (refl, refl))
 
-pub pieces-append : (s : State) (left : List (List Op)) (xs ys : List Act) (steps more : List Step) (between others : List (List Op)) → ArePieces s left xs steps between →
-    ArePieces (after s steps) between ys more others → ArePieces s left (xs ++ ys) (steps ++ more) others
-pieces-append s left [] ys steps more between others first second =
-    rw (first.0) (subst (λ l. ArePieces s l ys more others) first.1 (subst (λ xs. ArePieces (after s xs) between ys more others) first.0 second))
-pieces-append s left (x ∷ xs) ys steps more between others first second =
-    let piece = first.0 in
+pub steps-of-append : (s : State) (left : List (List Op)) (xs ys : List Act) (steps more : List Step) (between others : List (List Op)) → AreStepsOfActs s left xs steps between →
+    AreStepsOfActs (after s steps) between ys more others → AreStepsOfActs s left (xs ++ ys) (steps ++ more) others
+steps-of-append s left [] ys steps more between others first second =
+    rw (first.0) (subst (λ l. AreStepsOfActs s l ys more others) first.1 (subst (λ xs. AreStepsOfActs (after s xs) between ys more others) first.0 second))
+steps-of-append s left (x ∷ xs) ys steps more between others first second =
+    let part = first.0 in
     let rest = first.1 in
-    let state : after s steps ≡ after (after s piece) rest = ap (after s) first.3 ∙ after-append s piece rest in (
-      piece,
+    let state : after s steps ≡ after (after s part) rest = ap (after s) first.3 ∙ after-append s part rest in (
+      part,
       rest ++ more,
       first.2,
-      ap (λ zs. zs ++ more) first.3 ∙ append_assoc piece rest more,
+      ap (λ zs. zs ++ more) first.3 ∙ append_assoc part rest more,
       first.4,
-      pieces-append (after s piece) first.2 xs ys rest more between others first.5 (subst (λ t. ArePieces t between ys more others) state second),
+      steps-of-append (after s part) first.2 xs ys rest more between others first.5 (subst (λ t. AreStepsOfActs t between ys more others) state second),
     )
 
 pub FollowsActs-none : (program : ProgramValue) (issued : List ℕ) (u : UnitValue) → FollowsActs program [] issued issued u u
@@ -88,7 +88,7 @@ FollowsActs-none program issued u = record {
   taken = [];
   steps = sym (append-nil u.steps);
   kept = record { design = refl; lawful = refl; order = refl; first = refl };
-  pieces = λ lawful. (refl, refl);
+  parts = λ lawful. (refl, refl);
 }
 
 pub FollowsActs-then : (program : ProgramValue) (xs ys : List Act) (i j k : List ℕ) (a b c : UnitValue) → FollowsActs program xs i j a b → FollowsActs program ys j k b c →
@@ -97,25 +97,25 @@ FollowsActs-then program xs ys i j k a b c first second = record {
   taken = first.taken ++ second.taken;
   steps = second.steps ∙ ap (λ zs. zs ++ second.taken) first.steps ∙ append_assoc a.steps first.taken second.taken;
   kept = KeepsMachine-then a b c first.kept second.kept;
-  pieces = λ lawful.
+  parts = λ lawful.
       let start = first_state a.first in
       let state : after (first_state b.first) b.steps ≡ after (after start a.steps) first.taken =
       ap (λ m. after (first_state m) b.steps) first.kept.first ∙ ap (after start) first.steps ∙ after-append start a.steps first.taken in
-      pieces-append (after start a.steps) (left_from 0 i program.lists) xs ys first.taken second.taken (left_from 0 j program.lists) (left_from 0 k program.lists)
-      (first.pieces lawful)
-      (subst (λ s. ArePieces s (left_from 0 j program.lists) ys second.taken (left_from 0 k program.lists)) state (second.pieces (first.kept.lawful ∙ lawful)));
+      steps-of-append (after start a.steps) (left_from 0 i program.lists) xs ys first.taken second.taken (left_from 0 j program.lists) (left_from 0 k program.lists)
+      (first.parts lawful)
+      (subst (λ s. AreStepsOfActs s (left_from 0 j program.lists) ys second.taken (left_from 0 k program.lists)) state (second.parts (first.kept.lawful ∙ lawful)));
 }
 
 -- an act for which the unit takes no step
 FollowsActs-no_step : (program : ProgramValue) (act : Act) (issued : List ℕ) (u : UnitValue) →
-    (u.lawful ≡ true → IsPiece (after (first_state u.first) u.steps) (left_from 0 issued program.lists) act [] (left_from 0 issued program.lists)) →
+    (u.lawful ≡ true → AreStepsOfAct (after (first_state u.first) u.steps) (left_from 0 issued program.lists) act [] (left_from 0 issued program.lists)) →
     FollowsActs program (act ∷ []) issued issued u u
 FollowsActs-no_step program act issued u is = record {
   taken = [];
   steps = sym (append-nil u.steps);
   kept = record { design = refl; lawful = refl; order = refl; first = refl };
-  pieces = λ lawful.
-      let left = left_from 0 issued program.lists in pieces-one (after (first_state u.first) u.steps) left act [] left (is lawful);
+  parts = λ lawful.
+      let left = left_from 0 issued program.lists in steps-of-one (after (first_state u.first) u.steps) left act [] left (is lawful);
 }
 
 -- ---- one operation
@@ -136,13 +136,13 @@ FollowsActs-issue program issued p op outcome old new below counts few read answ
   taken = takes.before ++ step_of p outcome ∷ takes.after;
   steps = takes.steps;
   kept = takes.kept;
-  pieces = λ lawful.
+  parts = λ lawful.
       let n = get_or issued p 0 in
       let ops = ops_at program p in
       let left = left_from 0 issued program.lists in
       let first : get_or left p [] ≡ op ∷ drop (suc n) ops =
       left_here p issued program.lists ∙ drop-cons ops n op (slice_get_within ops n op read) ∙ ap (λ o. o ∷ drop (suc n) ops) (read_is ops n op read) in
-      pieces-one (after (first_state old.first) old.steps) left (Issue p) (takes.before ++ step_of p outcome ∷ takes.after) (left_from 0 (set issued p (n + 1)) program.lists) (
+      steps-of-one (after (first_state old.first) old.steps) left (Issue p) (takes.before ++ step_of p outcome ∷ takes.after) (left_from 0 (set issued p (n + 1)) program.lists) (
         drop (suc n) ops,
         rw first (
           record {
@@ -221,10 +221,10 @@ FollowsActs-drain program issued p true old new below kept answer = record {
   taken = answer.step ∷ [];
   steps = answer.steps;
   kept = answer.kept;
-  pieces = λ lawful.
+  parts = λ lawful.
       let s = after (first_state old.first) old.steps in
       let left = left_from 0 issued program.lists in
-      pieces-one s left (Drain p) (answer.step ∷ []) left (
+      steps-of-one s left (Drain p) (answer.step ∷ []) left (
         inl (omega (arith, below, length-left 0 issued program.lists), drained_one p (buffer_of s p) answer.step answer.drain (omega (arith, kept.waiting lawful p, answer.one))),
         refl,
       );

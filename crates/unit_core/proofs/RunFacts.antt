@@ -1,4 +1,4 @@
--- Lemmas on runs of the store-buffer machine: their pieces, and which buffers they leave empty.
+-- Lemmas on runs of the store-buffer machine: their parts in order, and which buffers they leave empty.
 use Rattle.std.proofs.Common.{◌≡◌, ◌∙◌, sym, ap, refl, subst, ℕ, zero, suc, ◌<◌, ◌≤◌, inl, inr, cond, Option, None, Some, List, [], ◌∷◌, ◌++◌, get_or, replicate, slice_get, eq-eqb, arith}
 use Rattle.std.specs.List.{remove, cons_option}
 use Rattle.std.proofs.lemmas.List.{get_or-set_other}

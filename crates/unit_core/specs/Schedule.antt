@@ -20,27 +20,27 @@ pub record IsIssueOf (p : ℕ) (op : Op) (steps : List Step) : Type 0 where
   pub drains_before : AreDrainsOf p before
   pub drains_after : AreDrainsOf p after
 
--- The piece of an Issue on processor p, where these operations of it are left: that of the first of them, and the others stay left.
+-- The steps are those of an Issue on processor p, where these operations of it are left: the steps of the first of them, and the others stay left.
 abbrev pub IsIssued : ℕ → List Op → List Step → List Op → Type 0
-IsIssued p [] piece rest = (piece ≡ []) × (rest ≡ [])
-IsIssued p (op ∷ ops) piece rest = IsIssueOf p op piece × (rest ≡ ops)
+IsIssued p [] part rest = (part ≡ []) × (rest ≡ [])
+IsIssued p (op ∷ ops) part rest = IsIssueOf p op part × (rest ≡ ops)
 
--- The piece of a Drain on a processor with this buffer: one drain of either kind, or none where no entry waits.
+-- The steps are those of a Drain on a processor with this buffer: one drain of either kind, or none where no entry waits.
 abbrev pub IsDrained : ℕ → List Entry → List Step → Type 0
-IsDrained p [] piece = piece ≡ []
-IsDrained p (e ∷ rest) piece = (step : Step) × (piece ≡ step ∷ []) × AreDrainsOf p (step ∷ [])
+IsDrained p [] part = part ≡ []
+IsDrained p (e ∷ rest) part = (step : Step) × (part ≡ step ∷ []) × AreDrainsOf p (step ∷ [])
 
--- The steps are the piece of the act, in this state and with these operations left, by processor; afterwards the others are left.
-abbrev pub IsPiece : State → List (List Op) → Act → List Step → List (List Op) → Type 0
-IsPiece s left (Issue p) piece others = (rest : List Op) × IsIssued p (get_or left p []) piece rest × (others ≡ set left p rest)
-IsPiece s left (Drain p) piece others =
-    (((p < length left) × IsDrained p (buffer_of s p) piece) ⊎ ((length left ≤ p) × (piece ≡ []))) × (others ≡ left)
+-- The steps are those of the act, in this state and with these operations left, by processor; afterwards the others are left.
+abbrev pub AreStepsOfAct : State → List (List Op) → Act → List Step → List (List Op) → Type 0
+AreStepsOfAct s left (Issue p) part others = (rest : List Op) × IsIssued p (get_or left p []) part rest × (others ≡ set left p rest)
+AreStepsOfAct s left (Drain p) part others =
+    (((p < length left) × IsDrained p (buffer_of s p) part) ⊎ ((length left ≤ p) × (part ≡ []))) × (others ≡ left)
 
--- The steps part into a piece for each act.
-abbrev pub ArePieces : State → List (List Op) → List Act → List Step → List (List Op) → Type 0
-ArePieces s left [] steps others = (steps ≡ []) × (others ≡ left)
-ArePieces s left (act ∷ acts) steps others = (piece : List Step) × (rest : List Step) × (between : List (List Op)) ×
-    (steps ≡ piece ++ rest) × IsPiece s left act piece between × ArePieces (after s piece) between acts rest others
+-- The steps are those of the acts, one act after the other.
+abbrev pub AreStepsOfActs : State → List (List Op) → List Act → List Step → List (List Op) → Type 0
+AreStepsOfActs s left [] steps others = (steps ≡ []) × (others ≡ left)
+AreStepsOfActs s left (act ∷ acts) steps others = (part : List Step) × (rest : List Step) × (between : List (List Op)) ×
+    (steps ≡ part ++ rest) × AreStepsOfAct s left act part between × AreStepsOfActs (after s part) between acts rest others
 
 -- one Issue for each operation that is left, processor by processor from p on
 abbrev pub issues_of : ℕ → List (List Op) → List Act
@@ -50,10 +50,10 @@ issues_of p (ops ∷ lists) = replicate (length ops) (Issue p) ++ issues_of (suc
 -- The steps are drains until each buffer is empty, for each of the lists' processors from p on.
 abbrev pub AreLastDrains : ℕ → List (List Op) → State → List Step → Type 0
 AreLastDrains p [] s steps = steps ≡ []
-AreLastDrains p (ops ∷ lists) s steps = (piece : List Step) × (rest : List Step) × (steps ≡ piece ++ rest) × AreDrainsOf p piece ×
-    (length piece ≡ length (buffer_of s p)) × AreLastDrains (suc p) lists (after s piece) rest
+AreLastDrains p (ops ∷ lists) s steps = (part : List Step) × (rest : List Step) × (steps ≡ part ++ rest) × AreDrainsOf p part ×
+    (length part ≡ length (buffer_of s p)) × AreLastDrains (suc p) lists (after s part) rest
 
--- The run, from this memory, is one of the schedule's with the program: pieces of its acts, of the Issues that are left, and of the last drains.
+-- The run, from this memory, is one of the schedule's with the program: steps of its acts, of the Issues that are left, and of the last drains.
 pub record BelongsTo (memory : List ℕ) (program : List (List Op)) (schedule : List Act) (steps : List Step) : Type 0 where
   pub scheduled : List Step
   pub remaining : List Step
@@ -61,6 +61,6 @@ pub record BelongsTo (memory : List ℕ) (program : List (List Op)) (schedule : 
   pub is : steps ≡ scheduled ++ (remaining ++ last)
   pub left : List (List Op)
   pub none : List (List Op)
-  pub by_schedule : ArePieces (first_state memory) program schedule scheduled left
-  pub by_program : ArePieces (after (first_state memory) scheduled) left (issues_of 0 left) remaining none
+  pub by_schedule : AreStepsOfActs (first_state memory) program schedule scheduled left
+  pub by_program : AreStepsOfActs (after (first_state memory) scheduled) left (issues_of 0 left) remaining none
   pub by_end : AreLastDrains 0 program (after (first_state memory) (scheduled ++ remaining)) last

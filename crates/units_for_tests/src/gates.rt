@@ -12,6 +12,7 @@ const LOOKS: u64 = 100_000;
 #[derive(Drop)]
 pub struct AfterDrain {
     counts: Arc<CallCounts, Global>,
+    has_seen_a_drain: AtomicBool,
     gave_up: AtomicBool,
     drains: AtomicU64,
 }
@@ -33,6 +34,7 @@ impl AfterDrain {
     pub fn new(counts: Arc<CallCounts, Global>) -> AfterDrain {
         AfterDrain {
             counts,
+            has_seen_a_drain: AtomicBool::new(false),
             gave_up: AtomicBool::new(false),
             drains: AtomicU64::new(0),
         }
@@ -41,6 +43,7 @@ impl AfterDrain {
     fn wait_for_drain(&self) {
         for _ in 0..LOOKS {
             if self.counts.drains.load(Ordering::SeqCst) > 0 {
+                self.has_seen_a_drain.store(true, Ordering::SeqCst);
                 return;
             }
             yield_now();
@@ -48,9 +51,9 @@ impl AfterDrain {
         self.gave_up.store(true, Ordering::SeqCst);
     }
 
-    /// Whether no issuer gave up.
+    /// Whether an issuer waited until a drain came, and none gave up.
     pub fn has_waited(&self) -> bool {
-        !self.gave_up.load(Ordering::SeqCst)
+        self.has_seen_a_drain.load(Ordering::SeqCst) && !self.gave_up.load(Ordering::SeqCst)
     }
 
     /// How many drains had come when processor 0 had done one operation.

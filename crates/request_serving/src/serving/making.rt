@@ -1,8 +1,8 @@
 //! Prints the program that is made from a seed.
 ghost use Rattle.std.specs.Prelude.{◌≡◌, ◌⊎◌, IfOk, IfErr, MatchOption};
-ghost use Rattle.tso_ops.specs.Making.{IsShape};
+ghost use Rattle.tso_ops.specs.MadePrograms.{IsShape};
 ghost use Rattle.request_serving.specs.Endings.{WritesText};
-ghost use Rattle.request_serving.specs.Making.{IsMadeText, LeavesMadeText, asked_shape};
+ghost use Rattle.request_serving.specs.MadePrograms.{IsMadeText, LeavesMadeText, asked_shape};
 
 use crate::endings::{DONE, REFUSED};
 use crate::printing::Printed;

@@ -3,7 +3,7 @@ use Rattle.std.specs.Prelude.{◌≡◌, ℕ, suc, ◌+◌, ◌<◌, Bool, List,
 use Rattle.std.specs.Io.KnownBytes.{Appends, Consumes}
 use Rattle.std.specs.List.{count_by}
 use Rattle.stream_pieces.specs.Cutters.{CutterValue, IsAt}
-use Rattle.stream_pieces.specs.Pieces.{ArePieces, IsCut}
+use Rattle.stream_pieces.specs.Pieces.{ArePieces, IsSplit}
 use Rattle.tso_report.specs.declared.faults.Fault.{Fault}
 use Rattle.tso_report.specs.declared.rendering.Report.{Report}
 use Rattle.tso_report.specs.Limits.{trace_read_limit}
@@ -59,7 +59,7 @@ pub record Stands (quiet : Bool) (remaining now old new : Option (List ℕ)) (cu
   pub taken : Consumes remaining now bytes
   pub ended : List (List ℕ)
   pub rest : List ℕ
-  pub cut : IsCut bytes ended rest
+  pub cut : IsSplit bytes ended rest
   pub limit : cutter.limit ≡ trace_read_limit
   pub at : IsAt cutter rest
   pub reports : List ReportValue

@@ -19,14 +19,14 @@ abbrev pub or_bad_event : Option ℕ → Result ℕ Why
 or_bad_event None = Err BadNumber
 or_bad_event (Some n) = Ok n
 
--- the event number of a piece, or its fault
+-- the event number of a token, or its fault
 abbrev pub event : List ℕ → Result ℕ Why
-event piece = or_bad_event (event_number piece)
+event token = or_bad_event (event_number token)
 
--- the event numbers of pieces, or their fault
+-- the event numbers of tokens, or their fault
 abbrev pub events : List (List ℕ) → Result (List ℕ) Why
 events [] = Ok []
-events (piece ∷ pieces) = event piece >>= λ n. events pieces >>= λ ns. Ok (n ∷ ns)
+events (token ∷ tokens) = event token >>= λ n. events tokens >>= λ ns. Ok (n ∷ ns)
 
 -- the first of these rules that has the name
 abbrev pub named : {R : Type 0} → (R → List ℕ) → List R → List ℕ → Result R Why
@@ -41,35 +41,35 @@ base_rule name = named base_name base_rules name
 unfoldable pub inferred_rule : List ℕ → Result InferredRule Why
 inferred_rule name = named inferred_name inferred_rules name
 
--- the reason of the fourth piece and the pieces after it
+-- the reason of the fourth token and the tokens after it
 unfoldable pub reason_said : List ℕ → List (List ℕ) → Result Reason Why
 reason_said name [] = base_rule name >>= λ rule. Ok (Base rule)
 reason_said name (load ∷ path) = event load >>= λ l. events path >>= λ p. inferred_rule name >>= λ rule. Ok (Inferred rule l p)
 
--- the step of a line's number and pieces
+-- the step of a line's number and tokens
 unfoldable pub step_said : ℕ → List (List ℕ) → Result CertStep Why
 step_said number [] = Err BadLine
 step_said number (k ∷ []) = Err BadLine
 step_said number (k ∷ from ∷ []) = Err BadLine
 step_said number (k ∷ from ∷ to ∷ []) = Err BadLine
-step_said number (k ∷ from ∷ to ∷ name ∷ pieces) =
+step_said number (k ∷ from ∷ to ∷ name ∷ tokens) =
     if bytes_eq k (decimal number)
-    then (event from >>= λ u. event to >>= λ v. reason_said name pieces >>= λ r. Ok (record { from = u; to = v; reason = r }))
+    then (event from >>= λ u. event to >>= λ v. reason_said name tokens >>= λ r. Ok (record { from = u; to = v; reason = r }))
     else Err BadNumber
 
--- the load of a line `unwritten` with this number, and these pieces after the keyword
+-- the load of a line `unwritten` with this number, and these tokens after the keyword
 unfoldable pub unwritten_said : ℕ → List (List ℕ) → Result ℕ Why
 unwritten_said number [] = Err BadLine
 unwritten_said number (n ∷ []) = if number == 1 then event n else Err BadLine
-unwritten_said number (n ∷ m ∷ pieces) = Err BadLine
+unwritten_said number (n ∷ m ∷ tokens) = Err BadLine
 
--- What the line of this number and these pieces says, or its fault of the least number.
+-- What the line of this number and these tokens says, or its fault of the least number.
 unfoldable pub cert_line_said : ℕ → List (List ℕ) → Result Line Why
 cert_line_said number [] = Err BadLine
-cert_line_said number (word ∷ pieces) =
-    if bytes_eq word (codes "cycle") then (events pieces >>= λ cycle. Ok (Cycle cycle))
-    else if bytes_eq word (codes "unwritten") then (unwritten_said number pieces >>= λ n. Ok (Unwritten n))
-    else step_said number (word ∷ pieces) >>= λ step. Ok (Step step)
+cert_line_said number (word ∷ tokens) =
+    if bytes_eq word (codes "cycle") then (events tokens >>= λ cycle. Ok (Cycle cycle))
+    else if bytes_eq word (codes "unwritten") then (unwritten_said number tokens >>= λ n. Ok (Unwritten n))
+    else step_said number (word ∷ tokens) >>= λ step. Ok (Step step)
 
 -- the fault of the least number, of those that a test finds
 pub record IsFirstCertFault (has : Why → Bool) (why : Why) : Type 0 where

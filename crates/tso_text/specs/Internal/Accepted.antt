@@ -19,9 +19,9 @@ IsWhyOf NoMemory why = why ≡ OutOfMemory
 IsWhyOf StbarInTso why = ⊥
 IsWhyOf NotAscending why = why ≡ InitOrder
 
--- some pieces say the line
+-- some tokens say the line
 abbrev pub CanSay : {X : Type 0} → Grammar X → Line X → Type 0
-CanSay g line = (pieces : List (List ℕ)) × (g.said_by pieces ≡ Ok line)
+CanSay g line = (tokens : List (List ℕ)) × (g.said_by tokens ≡ Ok line)
 
 -- the fault of the least number, of those that a test finds
 pub record IsFirstTextFault (has : Why → Bool) (why : Why) : Type 0 where

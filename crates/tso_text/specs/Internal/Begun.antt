@@ -85,16 +85,16 @@ pub record HasAllEntries (text : List ℕ) (first : List (ℕ × ℕ)) (lines : 
   pub read : HasEntries text first lines rest
   pub none : take_while (has_keyword (codes "init")) (whole_lines (parts_of rest)) ≡ []
 
--- These pieces after `init` say an entry that has no fault after those of the old setting; the new one has it as well.
-pub record IsEntryRead (old : SettingValue) (pieces : List (List ℕ)) (new : SettingValue) : Type 0 where
+-- These tokens after `init` say an entry that has no fault after those of the old setting; the new one has it as well.
+pub record IsEntryRead (old : SettingValue) (tokens : List (List ℕ)) (new : SettingValue) : Type 0 where
   pub entry : ℕ × ℕ
-  pub says : entry_by pieces ≡ Ok entry
+  pub says : entry_by tokens ≡ Ok entry
   pub clean : (w : Why) → entry_fault old.first entry w ≡ false
   pub is : new ≡ with_entry old entry
 
 -- They are refused for this, after these entries.
 abbrev pub IsEntryRefused : List (ℕ × ℕ) → List (List ℕ) → Why → Type 0
-IsEntryRefused before pieces why = IsRefusedFor (said_entry_fault before (entry_by pieces)) why
+IsEntryRefused before tokens why = IsRefusedFor (said_entry_fault before (entry_by tokens)) why
 
 -- After so many lines `init` without a fault there is one that is refused for this.
 pub record HasBadEntry (text : List ℕ) (lines : ℕ) (why : Why) : Type 0 where

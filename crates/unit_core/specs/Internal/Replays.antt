@@ -6,7 +6,7 @@ use Rattle.tso_ops.specs.declared.acts.Act.{Act}
 use Rattle.tso_ops.specs.declared.acts.Act.TheVariants.{Issue}
 use Rattle.unit_core.specs.declared.steps.Step.{Step}
 use Rattle.unit_core.specs.Machine.{after, first_state, outcomes_of}
-use Rattle.unit_core.specs.Schedule.{ArePieces}
+use Rattle.unit_core.specs.Schedule.{AreStepsOfActs}
 use Rattle.unit_core.specs.Units.{UnitValue, KeepsMachine}
 
 -- the operations that are left, where so many of each processor from p on were issued
@@ -20,12 +20,12 @@ pub record HasIssued (program : ProgramValue) (issued : List ℕ) (u : UnitValue
   pub within : (p : ℕ) → get_or issued p 0 ≤ length (ops_at program p)
   pub ops : (p : ℕ) → map op_of (outcomes_of p u.steps) ≡ take (get_or issued p 0) (ops_at program p)
 
--- The unit took the pieces of these acts, before which so many operations of each processor were issued, and after which so many.
+-- The unit took the steps of these acts, before which so many operations of each processor were issued, and after which so many.
 pub record FollowsActs (program : ProgramValue) (acts : List Act) (earlier later : List ℕ) (old new : UnitValue) : Type 0 where
   pub taken : List Step
   pub steps : new.steps ≡ old.steps ++ taken
   pub kept : KeepsMachine old new
-  pub pieces : old.lawful ≡ true → ArePieces (after (first_state old.first) old.steps) (left_from 0 earlier program.lists) acts taken (left_from 0 later program.lists)
+  pub parts : old.lawful ≡ true → AreStepsOfActs (after (first_state old.first) old.steps) (left_from 0 earlier program.lists) acts taken (left_from 0 later program.lists)
 
 -- one Issue for each operation that is left of processor p
 abbrev pub rest_of : ProgramValue → List ℕ → ℕ → List Act

@@ -1,4 +1,4 @@
-use Rattle.embedding.specs.RunOrder.{order_of}
+use Rattle.embedding.specs.RunOrder.{memory_order_of}
 use Rattle.embedding.proofs.RunOrderFacts.{run_order}
 use Rattle.embedding.proofs.laws.complete_runs_have_orders.Goals as goal
 
@@ -6,4 +6,4 @@ pub returns-clause-order : goal.returns-clause-order
 returns-clause-order c = run_order
 
 pub returns-clause-consistent : goal.returns-clause-consistent
-returns-clause-consistent c setting count steps run = (order_of count run.memory steps, run_order setting count steps run)
+returns-clause-consistent c setting count steps run = (memory_order_of count run.memory steps, run_order setting count steps run)

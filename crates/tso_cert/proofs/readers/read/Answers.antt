@@ -2,7 +2,7 @@ use Rattle.std.proofs.Common.{arith, refl, ap, ◌∙◌, length, suc, ◌+◌, 
 use Rattle.tso_cert.proofs.StepFacts.{IsRead-start, IsRead-next, read_refused, read_after, read_cycle, read_unwritten, answered, ended_found, ended_not}
 use Rattle.tso_cert.proofs.ReadersFacts.{unended_refused}
 use Rattle.tso_cert.specs.declared.lines.Line.TheVariants.{Cycle, Unwritten}
-use Rattle.tso_cert.specs.Printed.{steps_pieces}
+use Rattle.tso_cert.specs.Printed.{steps_tokens}
 use Rattle.tso_cert.proofs.readers.read.Goals as goal
 
 pub lines-init : goal.lines-init
@@ -16,7 +16,7 @@ pub returns-in_default-clause-refused : goal.returns-in_default-clause-refused
 returns-in_default-clause-refused c =
     let at = c.lines.invariant in
     answered c.args.text.now (suc (length c.lines.steps.items)) c.unended.result c.fault_of.result.line c.fault_of.result.why c.fault_of.ensures.why (λ other. c.fault_of.ensures.line other ∙ at.count)
-    (λ _. unended_refused c.args.text.now (length c.lines.steps.items) c.lines.rest.now (steps_pieces 1 c.lines.steps.items) c.unended.result at.read.reached c.in_default.ensures.none c.unended.ensures)
+    (λ _. unended_refused c.args.text.now (length c.lines.steps.items) c.lines.rest.now (steps_tokens 1 c.lines.steps.items) c.unended.result at.read.reached c.in_default.ensures.none c.unended.ensures)
 
 pub returns-in-Err-clause-refused : goal.returns-in-Err-clause-refused
 returns-in-Err-clause-refused c =

@@ -1,7 +1,7 @@
 use Rattle.std.proofs.Common.{sym}
-use Rattle.line_text.proofs.CutFacts.{pieces_after_some}
+use Rattle.line_text.proofs.CutFacts.{tokens_after_some}
 use Rattle.tso_text.proofs.CutFacts.{no_number-some}
 use Rattle.tso_text.proofs.numbers.no_number.Goals as goal
 
 pub returns-in-Some-clause-is : goal.returns-in-Some-clause-is
-returns-in-Some-clause-is c = sym (no_number-some _ (pieces_after_some c.args.pieces c.in-Some.field-0 c.in-Some.is))
+returns-in-Some-clause-is c = sym (no_number-some _ (tokens_after_some c.args.tokens c.in-Some.field-0 c.in-Some.is))

@@ -1,5 +1,5 @@
 use Rattle.std.proofs.Common.{◌≡◌, ℕ, Ok, sym, ◌∙◌, ap, subst}
-use Rattle.line_text.specs.Lines.{pieces_after}
+use Rattle.line_text.specs.Lines.{tokens_after}
 use Rattle.line_text.specs.Results.{◌>>=◌}
 use Rattle.tso_text.specs.Numbers.{address}
 use Rattle.tso_text.specs.Preambles.{entry_by, said_entry_fault}
@@ -9,13 +9,13 @@ use Rattle.tso_text.proofs.preambles.read_entry.Goals as goal
 
 pub returns-in-Ok-clause-read : goal.returns-in-Ok-clause-read
 returns-in-Ok-clause-read c =
-    let says : entry_by (pieces_after c.args.pieces) ≡ Ok (c.address.result, c.in_ok-a.v) =
+    let says : entry_by (tokens_after c.args.tokens) ≡ Ok (c.address.result, c.in_ok-a.v) =
     ap (λ r. r >>= λ (n : ℕ × ℕ). Ok (address n.0, n.1)) (sym c.in_ok-a.ensures) ∙ ap (λ a. Ok (a, c.in_ok-a.v)) (sym c.address.ensures) in
     record { entry = (c.address.result, c.in_ok-a.v); says = says; clean = entry_clean _ _ c.in-Ok.ensures.clean; is = c.in-Ok.ensures.appended }
 
 pub returns-in-Err-clause-refused : goal.returns-in-Err-clause-refused
 returns-in-Err-clause-refused c =
-    let says : entry_by (pieces_after c.args.pieces) ≡ Ok (c.address.result, c.in_ok-a.v) =
+    let says : entry_by (tokens_after c.args.tokens) ≡ Ok (c.address.result, c.in_ok-a.v) =
     ap (λ r. r >>= λ (n : ℕ × ℕ). Ok (address n.0, n.1)) (sym c.in_ok-a.ensures) ∙ ap (λ a. Ok (a, c.in_ok-a.v)) (sym c.address.ensures) in
     subst (λ r. IsRefusedFor (said_entry_fault c.args.setting.now.first.items r) c.why_of.result) (sym says)
     (entry_refused_for c.args.setting.now.first.items (c.address.result, c.in_ok-a.v) c.in-Err.fault c.why_of.result c.why_of.ensures c.in-Err.ensures.refused)

@@ -3,4 +3,4 @@ use Rattle.tso_text.specs.Printed.{items_text}
 use Rattle.tso_text.proofs.printers.print_items.Given as goal
 
 abbrev pub invariant-loop-item : goal.invariant-loop-item
-invariant-loop-item g l = string_bytes l.text ≡ string_bytes l.fn.text ++ items_text g.T.Form.pieces (take l.item-index l.items)
+invariant-loop-item g l = string_bytes l.text ≡ string_bytes l.fn.text ++ items_text g.T.Form.tokens (take l.item-index l.items)

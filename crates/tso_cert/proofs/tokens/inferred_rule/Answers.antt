@@ -4,7 +4,7 @@ use Rattle.tso_cert.specs.Spelling.{inferred_rules}
 use Rattle.tso_cert.specs.Internal.LineValues.{inferred_rule}
 use Rattle.tso_cert.specs.declared.rules.InferredRule.TheVariants.{LoadPast}
 use Rattle.tso_cert.proofs.NamedFacts.{named_here, named_after, named_none}
-use Rattle.tso_cert.proofs.pieces.inferred_rule.Goals as goal
+use Rattle.tso_cert.proofs.tokens.inferred_rule.Goals as goal
 
 pub loop-k-init : goal.loop-k-init
 loop-k-init c = refl
