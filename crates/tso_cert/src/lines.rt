@@ -5,8 +5,8 @@ ghost use Rattle.tso_cert.specs.declared.faults.Why.{Why};
 
 use crate::faults::Why;
 use crate::lists::NumList;
-use crate::tokens::{base_rule, event, events, inferred_rule, is_decimal, token_of};
 use crate::steps::{CertStep, Reason};
+use crate::tokens::{base_rule, event, events, inferred_rule, is_decimal, token_of};
 use line_text::next_token;
 use std::alloc::Global;
 
