@@ -1,12 +1,12 @@
 -- Lemmas on what is printed of a replay.
-use Rattle.std.proofs.Common.{◌≡◌, ◌⊎◌, ℕ, List, [], ◌∷◌, take, Ok, Err, Result, IfOk, IfErr, Some, None, IfSome, subst, sym, inl, inr}
+use Rattle.std.proofs.Common.{◌≡◌, ◌⊎◌, ℕ, List, [], ◌∷◌, take, Ok, Err, Result, IfOk, IfErr, Some, None, IfSome, is_some, unwrap_or, true≢false, ap, subst, sym, inl, inr}
 use Rattle.std.specs.Prelude.{◌≢◌, OnOk, Option}
 use Rattle.std.specs.Io.KnownBytes.{Keeps}
 use Rattle.command_line.specs.declared.options.RunOptions.{RunOptions}
 use Rattle.tso_ops.specs.Values.{ProgramValue}
 use Rattle.tso_ops.specs.declared.acts.Act.{Act}
 use Rattle.tso_text.specs.declared.faults.Why.{Why}
-use Rattle.tso_text.specs.Grammars.{IsProgramRefusal, IsScheduleRefusal, SpellsProgram, SpellsSchedule, program_format, schedule_format}
+use Rattle.tso_text.specs.Grammars.{IsProgramRefusal, IsRefusedProgram, IsScheduleRefusal, SpellsProgram, SpellsSchedule, program_format, schedule_format}
 use Rattle.tso_report.specs.declared.verdicts.Verdict.{Verdict}
 use Rattle.tso_report.specs.declared.verdicts.Verdict.TheVariants.{NoViolation}
 use Rattle.tso_report.specs.declared.faults.Fault.{Fault}
@@ -17,6 +17,7 @@ use Rattle.tso_report.specs.WrittenReports.{LeavesAtFault}
 use Rattle.tso_report.proofs.InputFacts.{holds_of_prefix, lists_past, lists_of_prefix, text_refusal_of_prefix}
 use Rattle.request_serving.specs.Endings.{EndsByText, IsPrintable, Outputs, WritesFaultLine, WritesText}
 use Rattle.request_serving.specs.OpenedFiles.{HasKnown}
+use Rattle.tso_text.proofs.SpellingFacts.{not_both}
 use Rattle.request_serving.proofs.EndFacts.{leaves_as}
 use Rattle.request_serving.specs.Printing.{IsRefusalOf, ReadsAs}
 use Rattle.request_serving.specs.Replaying.{IsReplayText, IsScheduledText}
@@ -51,7 +52,18 @@ module _ (remaining : Option (List ℕ)) (bytes seen : List ℕ) (prefix : IfSom
       let Is : List ℕ → Type 0 = λ b. IsScheduleRefusal b line why in
       reads_as Is (λ input is. text_refusal_of_prefix schedule_format input line why is) remaining bytes prefix (subst Is same refused)
 
+-- what spells a program isn't refused
+pub not_refused_program : (X : Type 0) (remaining : Option (List ℕ)) (program : ProgramValue) → ReadsAs remaining (λ b. SpellsProgram b program) → IfSome remaining (λ all. IsRefusedProgram all → X)
+not_refused_program X None program reads = tt
+not_refused_program X (Some all) program reads = λ refused. absurd (not_both program_format all program.lists refused.0 refused.1 reads.of_all.1 refused.2)
+
 -- ---- files of which less may be known than of their readers
+
+-- what follows of all bytes of a reader follows where they are known to be these
+pub of_known : (known remaining : Option (List ℕ)) → HasKnown known remaining → (Is : List ℕ → Type 0) (X : Type 0) → IfSome remaining (λ all. Is all → X) → (text : List ℕ) × (known ≡ Some text) × Is text → X
+of_known None remaining has Is X follows (text, is, holds) = absurd (true≢false (sym (ap (λ o. is_some o) is)))
+of_known (Some all) remaining has Is X follows (text, is, holds) =
+    subst (λ r. IfSome r (λ all. Is all → X)) has follows (subst Is (sym (ap (λ o. unwrap_or o []) is)) holds)
 
 known_reads : (known remaining : Option (List ℕ)) → HasKnown known remaining → (Is : List ℕ → Type 0) → ReadsAs remaining Is → ReadsAs known Is
 known_reads None remaining has Is reads = record { bytes = reads.bytes; of_read = reads.of_read; of_all = tt }

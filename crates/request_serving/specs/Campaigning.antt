@@ -1,7 +1,7 @@
 -- What the program prints of campaigns.
 use Rattle.std.specs.Prelude.{◌≡◌, ◌⊎◌, ℕ, ◌+◌, ◌<◌, ◌≤◌, ◌^◌, List, [], ◌∷◌, ◌++◌, codes, replicate, Option}
 use Rattle.std.specs.Io.KnownBytes.{Keeps}
-use Rattle.tso_ops.specs.MadePrograms.{IsShape}
+use Rattle.tso_ops.specs.Making.{IsShape}
 use Rattle.command_line.specs.declared.options.CampaignOptions.{CampaignOptions}
 use Rattle.tso_report.specs.Campaigns.{IsCampaign}
 use Rattle.tso_report.specs.declared.campaigns.CampaignPrograms.{CampaignPrograms}

@@ -1,7 +1,7 @@
 -- What the program prints of the program that is made from a seed.
 use Rattle.std.specs.Prelude.{◌≡◌, ◌⊎◌, ℕ, List, [], ◌∷◌, ◌++◌, codes, Option}
 use Rattle.std.specs.Io.KnownBytes.{Keeps}
-use Rattle.tso_ops.specs.MadePrograms.{IsShape, ShapeValue, shape_of}
+use Rattle.tso_ops.specs.Making.{IsShape, ShapeValue, shape_of}
 use Rattle.tso_ops.specs.declared.settings.Order.{Order}
 use Rattle.tso_text.specs.Printed.{program_text}
 use Rattle.command_line.specs.declared.options.ShapeNumbers.{ShapeNumbers}

@@ -8,7 +8,7 @@ ghost use Rattle.tso_report.specs.Streams.{AppendsPrefix};
 ghost use Rattle.tso_report.specs.declared.faults.Fault.TheVariants.{OutOfMemory};
 ghost use Rattle.request_serving.specs.Endings.{LeadTo, WritesFaultLine, invalid_utf8_line, outputs};
 ghost use Rattle.request_serving.specs.LawfulRequests.{RunsLawfully, runs_on_lawful_unit};
-ghost use Rattle.request_serving.specs.OpenedFiles.{OpensFirst, TakesInput, files_named, reads_input};
+ghost use Rattle.request_serving.specs.OpenedFiles.{IsRefusedFirst, OpensFirst, TakesInput, files_named, reads_input};
 
 use crate::endings::end_by;
 use crate::files::{NamedFiles, SystemFiles};
@@ -64,6 +64,7 @@ pub fn drive_over<
     ensures no_false_alarm_of_text { (asked : Asked) → Asks (texts_in arguments.now) asked → RunsLawfully asked (R.remaining reader.old) (O.bytes files.old) → result ≢ 3 }
     ensures opened { (asked : Asked) → Asks (texts_in arguments.now) asked → OpensFirst (O.opened files.old) (O.opened files.new) (files_named asked) }
     ensures unread { (asked : Asked) → Asks (texts_in arguments.now) asked → reads_input asked ≡ false → reader.new ≡ reader.old }
+    ensures unread_after_refusal { (asked : Asked) → Asks (texts_in arguments.now) asked → IsRefusedFirst asked (O.bytes files.old) → reader.new ≡ reader.old }
     ensures unread_help { AsksHelp (texts_in arguments.now) → reader.new ≡ reader.old }
     ensures unread_refusal { Refuses (texts_in arguments.now) → reader.new ≡ reader.old }
     ensures taken { (asked : Asked) → Asks (texts_in arguments.now) asked → reads_input asked ≡ true → result ≢ 4 → TakesInput asked (R.remaining reader.old) (R.remaining reader.new) }

@@ -5,9 +5,9 @@ use Rattle.std.specs.Global.{Vec}
 use Rattle.std.specs.Io.KnownBytes.{Appends, Consumes, IsAtEnd, prepend_known}
 use Rattle.std.proofs.KnownBytes.{Appends-nil, Appends-trans, Consumes-nil, Consumes-trans, Consumes-whole}
 use Rattle.std.proofs.lemmas.List.{append-nil, take-append-drop, take-map}
-use Rattle.stream_pieces.specs.Cutters.{CutterValue, Cuts, IsAt, rows}
-use Rattle.stream_pieces.specs.Pieces.{ArePieces, IsSplit, last_piece}
-use Rattle.stream_pieces.proofs.PieceFacts.{cut_at_start, cut_joined, one_list_of_pieces, some_cut, some_pieces}
+use Rattle.trace_batches.specs.Internal.Cutters.{CutterValue, Cuts, IsAt, rows}
+use Rattle.trace_batches.specs.Pieces.{ArePieces, IsSplit, last_piece}
+use Rattle.trace_batches.proofs.PieceFacts.{cut_at_start, cut_joined, one_list_of_pieces, some_cut, some_pieces}
 use Rattle.tso_report.specs.declared.verdicts.Verdict.{Verdict}
 use Rattle.tso_report.specs.Limits.{trace_read_limit}
 use Rattle.tso_report.specs.Streams.{AppendsPrefix}

@@ -6,7 +6,7 @@ use Rattle.std.proofs.KnownBytes.{Appends-nil, Appends-trans}
 use Rattle.std.specs.Global.{Vec}
 use Rattle.std.proofs.Math.Seq.{take-append_seam}
 use Rattle.std.proofs.lemmas.List.{append-nil, length-map, length_push, take_more}
-use Rattle.stream_pieces.specs.Cutters.{rows}
+use Rattle.trace_batches.specs.Internal.Cutters.{rows}
 use Rattle.tso_report.specs.declared.faults.Fault.TheVariants.{NoThread}
 use Rattle.tso_report.specs.Reports.{IsReport}
 use Rattle.tso_report.specs.Streams.{AppendsPrefix}

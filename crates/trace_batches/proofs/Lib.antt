@@ -1,5 +1,7 @@
 pub mod BatchFacts
+pub mod CutterFacts
 pub mod JobFacts
+pub mod PieceFacts
 pub mod StreamFacts
 pub mod TallyFacts
 mod PieceReports

@@ -7,8 +7,8 @@ use Rattle.std.proofs.lemmas.Bool.Decides.{nat_tests}
 use Rattle.std.proofs.lemmas.List.{append-nil}
 use Rattle.std.proofs.lemmas.List.Elements.{All-append, All-cons, All-nil, All-weaker}
 use Rattle.std.proofs.lemmas.List.Sums.{AllPass-from_list_all}
-use Rattle.stream_pieces.specs.Pieces.{ArePieces, IsEnded, IsOtherLine, IsWithinLine, end_line, lines_text}
-use Rattle.stream_pieces.proofs.PieceFacts.{ends_at_start, lines_text-append, one_list_of_pieces}
+use Rattle.trace_batches.specs.Pieces.{ArePieces, IsEnded, IsOtherLine, IsWithinLine, end_line, lines_text}
+use Rattle.trace_batches.proofs.PieceFacts.{ends_at_start, lines_text-append, one_list_of_pieces}
 use Rattle.tso_ops.specs.declared.ops.Outcome.{Outcome}
 use Rattle.tso_ops.specs.declared.ops.Outcome.TheVariants.{Ld, St, Sw, Mb, Sb}
 use Rattle.tso_ops.specs.declared.settings.Order.{Order}

@@ -1,1 +1,2 @@
+pub mod Cutters
 pub mod Progress

@@ -1,2 +1,3 @@
 pub mod Batches
+pub mod Pieces
 pub mod Internal

@@ -1,13 +1,14 @@
 //! The way of a batch: read, cut, judge, write.
 ghost use Rattle.std.specs.Prelude.{◌≡◌, ◌≤◌, ◌+◌, ◌∷◌, ◌++◌, [], List, ℕ, Option, map, take, IfSome, IfOk, IfErr, OnOk, OnErr};
 ghost use Rattle.std.specs.Io.KnownBytes.{Appends, Consumes, IsAtEnd, prepend_known};
-ghost use Rattle.stream_pieces.specs.Cutters.{IsAt, rows};
-ghost use Rattle.stream_pieces.specs.Pieces.{last_piece};
+ghost use Rattle.trace_batches.specs.Internal.Cutters.{IsAt, rows};
+ghost use Rattle.trace_batches.specs.Pieces.{last_piece};
 ghost use Rattle.tso_report.specs.Streams.{AppendsPrefix};
 ghost use Rattle.tso_report.specs.WrittenReports.{WritesPrefix, WritesWhole};
 ghost use Rattle.trace_batches.specs.Batches.{IsBatchFault, IsBatchOfReader, ReportValue, written_line};
 ghost use Rattle.trace_batches.specs.Internal.Progress.{AreJudged, Counts, Stands, WroteAll, WroteSome, value_of};
 
+use crate::cutters::Cutter;
 use crate::jobs::{Job, judge_all};
 use crate::lines::{total_line, written_line};
 use crate::streams::{read_some, write_line};
@@ -16,7 +17,6 @@ use std::alloc::Global;
 use std::io::{Read, Write};
 use std::sync::Wait;
 use std::thread::Threads;
-use stream_pieces::Cutter;
 use tso_ops::OutOfMemory;
 use tso_report::{Fault, Report, Verdict};
 use tso_text::MAX_TEXT_BYTES;

@@ -1,6 +1,6 @@
 //! Pieces of a batch, judged side by side.
 ghost use Rattle.std.specs.Prelude.{◌≡◌, ◌≤◌, IfOk, IfErr, string_bytes, map};
-ghost use Rattle.stream_pieces.specs.Cutters.{rows};
+ghost use Rattle.trace_batches.specs.Internal.Cutters.{rows};
 ghost use Rattle.tso_report.specs.Reports.{IsReport};
 ghost use Rattle.trace_batches.specs.Batches.{IsBatchFault};
 ghost use Rattle.trace_batches.specs.Internal.Progress.{AreJudged, IsOutcome};

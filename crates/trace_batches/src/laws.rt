@@ -1,7 +1,7 @@
-//! What the definition of batches says, proved of all streams.
+//! What the definitions of pieces and batches say, proved of all streams.
 ghost use Rattle.std.specs.Prelude.{◌≡◌, ◌<◌, ◌↔◌, ◌++◌, ℕ, Bool, List, length, map, take};
-ghost use Rattle.std.specs.List.{flat_map};
-ghost use Rattle.stream_pieces.specs.Pieces.{ArePieces};
+ghost use Rattle.std.specs.List.{concat, flat_map};
+ghost use Rattle.trace_batches.specs.Pieces.{ArePieces};
 ghost use Rattle.tso_ops.specs.Values.{TraceValue};
 ghost use Rattle.tso_report.specs.Limits.{trace_read_limit};
 ghost use Rattle.tso_report.specs.Reports.{IsReport, refusal_text};
@@ -10,6 +10,13 @@ ghost use Rattle.tso_text.specs.Printed.{trace_text};
 ghost use Rattle.tso_text.specs.Spelling.{text_byte_limit};
 ghost use Rattle.tso_text.specs.declared.faults.Why.{Why};
 ghost use Rattle.trace_batches.specs.Batches.{AreReports, IsBatch, ReportValue, total_line, trace_lines};
+
+/// Each stream has one list of pieces, which joined are the stream.
+pub fn pieces()
+    ensures exists { (stream : List ℕ) → (pieces : List (List ℕ)) × ArePieces stream pieces }
+    ensures one { (stream : List ℕ) (pieces others : List (List ℕ)) → ArePieces stream pieces → ArePieces stream others → pieces ≡ others }
+    ensures joined { (stream : List ℕ) (pieces : List (List ℕ)) → ArePieces stream pieces → stream ≡ concat pieces }
+{}
 
 /// Each stream has one text and one verdict, quiet or not.
 pub fn batches()

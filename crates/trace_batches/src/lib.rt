@@ -6,6 +6,7 @@
 pub use batches::{BatchOptions, judge_batch};
 
 mod batches;
+mod cutters;
 mod jobs;
 pub mod laws;
 mod lines;

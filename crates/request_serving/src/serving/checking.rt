@@ -3,7 +3,7 @@ ghost use Rattle.std.specs.Prelude.{◌≡◌, ◌≢◌, [], ◌∷◌, ◌++�
 ghost use Rattle.command_line.specs.Requests.{checking, files_of};
 ghost use Rattle.tso_report.specs.declared.faults.Fault.TheVariants.{NoThread};
 ghost use Rattle.tso_report.specs.WrittenReports.{LeavesCheckFault, WritesCheckReport};
-ghost use Rattle.request_serving.specs.OpenedFiles.{OpensFirst, OpensNext, TakesInput, files_named, reads_input, text_bytes};
+ghost use Rattle.request_serving.specs.OpenedFiles.{IsRefusedFirst, OpensFirst, OpensNext, TakesInput, files_named, reads_input, text_bytes};
 
 use crate::files::{NamedFiles, open};
 use command_line::TextPair;
@@ -25,6 +25,7 @@ pub(crate) fn check_named<O: NamedFiles, R: Read, W: Write>(
     ensures first { OpensFirst (O.opened files.old) (O.opened files.new) (files_named (checking (files_of texts.entry).0 (files_of texts.entry).1)) }
     ensures opened { OnOk result (OpensNext (O.opened files.old) (O.opened files.new) (files_named (checking (files_of texts.entry).0 (files_of texts.entry).1))) }
     ensures unread { reads_input (checking (files_of texts.entry).0 (files_of texts.entry).1) ≡ false → reader.new ≡ reader.old }
+    ensures unread_after_refusal { IsRefusedFirst (checking (files_of texts.entry).0 (files_of texts.entry).1) (O.bytes files.old) → reader.new ≡ reader.old }
     ensures taken { reads_input (checking (files_of texts.entry).0 (files_of texts.entry).1) ≡ true → OnOk result (TakesInput (checking (files_of texts.entry).0 (files_of texts.entry).1) (R.remaining reader.old) (R.remaining reader.new)) }
 {
     match texts {

@@ -1,6 +1,6 @@
 //! Prints the program that is made from a seed.
 ghost use Rattle.std.specs.Prelude.{◌≡◌, ◌⊎◌, IfOk, IfErr, MatchOption};
-ghost use Rattle.tso_ops.specs.MadePrograms.{IsShape};
+ghost use Rattle.tso_ops.specs.Making.{IsShape};
 ghost use Rattle.request_serving.specs.Endings.{WritesText};
 ghost use Rattle.request_serving.specs.MadePrograms.{IsMadeText, LeavesMadeText, asked_shape};
 

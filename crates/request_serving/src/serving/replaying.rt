@@ -1,12 +1,13 @@
 //! The way of a replay: read the program, then the schedule, run the one by the other, judge or print, write.
-ghost use Rattle.std.specs.Prelude.{◌≡◌, ◌⊎◌, ◌≤◌, [], ◌∷◌, IfOk, IfErr, OnOk, true, false};
+ghost use Rattle.std.specs.Prelude.{◌≡◌, ◌⊎◌, ◌≤◌, [], ◌∷◌, IfOk, IfErr, IfSome, OnOk, true, false};
 ghost use Rattle.command_line.specs.Requests.{capacity_limit, files_of, replaying};
 ghost use Rattle.tso_report.specs.declared.faults.Fault.{Fault};
 ghost use Rattle.tso_report.specs.Limits.{trace_read_limit, worker_limit};
 ghost use Rattle.tso_report.specs.Streams.{LosesPrefix};
 ghost use Rattle.tso_report.specs.WrittenReports.{LeavesAtFault};
+ghost use Rattle.tso_text.specs.Grammars.{IsRefusedProgram};
 ghost use Rattle.request_serving.specs.Endings.{IsPrintable, WritesText};
-ghost use Rattle.request_serving.specs.OpenedFiles.{OpensFirst, OpensNext, TakesInput, files_named, reads_input, text_bytes};
+ghost use Rattle.request_serving.specs.OpenedFiles.{IsRefusedFirst, OpensFirst, OpensNext, TakesInput, files_named, reads_input, text_bytes};
 ghost use Rattle.request_serving.specs.Printing.{unit_of};
 ghost use Rattle.request_serving.specs.Replaying.{IsReplayOf, IsReplayText, IsScheduledText};
 
@@ -41,6 +42,7 @@ pub(crate) fn replay_named<H: Threads + Wait + AllocGlobal, O: NamedFiles, R: Re
     ensures first { OpensFirst (O.opened files.old) (O.opened files.new) (files_named (replaying options.now (files_of texts.entry).0 (files_of texts.entry).1)) }
     ensures opened { OnOk result (OpensNext (O.opened files.old) (O.opened files.new) (files_named (replaying options.now (files_of texts.entry).0 (files_of texts.entry).1))) }
     ensures unread { reads_input (replaying options.now (files_of texts.entry).0 (files_of texts.entry).1) ≡ false → reader.new ≡ reader.old }
+    ensures unread_after_refusal { IsRefusedFirst (replaying options.now (files_of texts.entry).0 (files_of texts.entry).1) (O.bytes files.old) → reader.new ≡ reader.old }
     ensures taken { reads_input (replaying options.now (files_of texts.entry).0 (files_of texts.entry).1) ≡ true → OnOk result (TakesInput (replaying options.now (files_of texts.entry).0 (files_of texts.entry).1) (R.remaining reader.old) (R.remaining reader.new)) }
 {
     match texts {
@@ -96,6 +98,7 @@ fn write_replay<H: Threads + Wait + AllocGlobal, P: Read, S: Read, W: Write>(
     ensures text { IfOk result (WritesText (IsReplayText options.now (P.remaining programs.old) (S.remaining schedules.old)) (W.contents writer.old) (W.contents writer.new)) }
     ensures fault { IfErr result (LeavesAtFault (IsPrintable (IsReplayText options.now (P.remaining programs.old) (S.remaining schedules.old))) (W.contents writer.old) (W.contents writer.new)) }
     ensures taken { IfOk result (λ _. LosesPrefix trace_read_limit (P.remaining programs.old) (P.remaining programs.new)) }
+    ensures unread { IfSome (P.remaining programs.old) (λ program. IsRefusedProgram program → schedules.new ≡ schedules.old) }
     ensures taken_after { IfOk result (λ _. schedules.new ≡ schedules.old ⊎ LosesPrefix trace_read_limit (S.remaining schedules.old) (S.remaining schedules.new)) }
 {
     let printed = replay_texts(rt, options, programs, schedules)?;
@@ -117,6 +120,7 @@ fn replay_texts<H: Threads + Wait + AllocGlobal, P: Read, S: Read>(
     requires trigger { 1 ≤ options.now.unit.trigger }
     ensures text { IfOk result (λ printed. IsReplayText options.now (P.remaining programs.old) (S.remaining schedules.old) printed.text.items printed.status) }
     ensures taken { IfOk result (λ _. LosesPrefix trace_read_limit (P.remaining programs.old) (P.remaining programs.new)) }
+    ensures unread { IfSome (P.remaining programs.old) (λ program. IsRefusedProgram program → schedules.new ≡ schedules.old) }
     ensures taken_after { IfOk result (λ _. schedules.new ≡ schedules.old ⊎ LosesPrefix trace_read_limit (S.remaining schedules.old) (S.remaining schedules.new)) }
     ensures fault { IfErr result (λ fault. (fault ≡ Fault.OutOfMemory) ⊎ ((fault ≡ Fault.Read) ⊎ (fault ≡ Fault.NoThread))) }
 {

@@ -2,8 +2,8 @@
 use Rattle.std.specs.Prelude.{◌≡◌, ℕ, suc, ◌+◌, ◌<◌, Bool, List, [], ◌++◌, length, get_or, take, Option, IfSome, Result, Ok, Err, string_bytes}
 use Rattle.std.specs.Io.KnownBytes.{Appends, Consumes}
 use Rattle.std.specs.List.{count_by}
-use Rattle.stream_pieces.specs.Cutters.{CutterValue, IsAt}
-use Rattle.stream_pieces.specs.Pieces.{ArePieces, IsSplit}
+use Rattle.trace_batches.specs.Internal.Cutters.{CutterValue, IsAt}
+use Rattle.trace_batches.specs.Pieces.{ArePieces, IsSplit}
 use Rattle.tso_report.specs.declared.faults.Fault.{Fault}
 use Rattle.tso_report.specs.declared.rendering.Report.{Report}
 use Rattle.tso_report.specs.Limits.{trace_read_limit}

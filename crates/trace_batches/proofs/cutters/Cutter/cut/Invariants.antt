@@ -1,6 +1,6 @@
 use Rattle.std.proofs.Common.{ℕ, List, ◌<◌, length, take}
-use Rattle.stream_pieces.specs.Cutters.{Cuts, IsAt}
-use Rattle.stream_pieces.proofs.cutters.Cutter.cut.Given as goal
+use Rattle.trace_batches.specs.Internal.Cutters.{Cuts, IsAt}
+use Rattle.trace_batches.proofs.cutters.Cutter.cut.Given as goal
 
 abbrev pub invariant-loop-i : goal.invariant-loop-i
 invariant-loop-i l = record {

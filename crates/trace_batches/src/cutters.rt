@@ -1,6 +1,7 @@
+//! Streams, cut into pieces.
 ghost use Rattle.std.specs.Prelude.{◌≡◌, ◌∷◌, ◌++◌, [], List, ℕ, ◌+◌, ◌<◌, ◌≤◌, Decides, IfOk, length, take};
-ghost use Rattle.stream_pieces.specs.Cutters.{Accepts, Cuts, IsAt, IsLastPiece};
-ghost use Rattle.stream_pieces.specs.Pieces.{end_line};
+ghost use Rattle.trace_batches.specs.Internal.Cutters.{Accepts, Cuts, IsAt, IsLastPiece};
+ghost use Rattle.trace_batches.specs.Pieces.{end_line};
 
 use std::alloc::{AllocError, Global};
 use std::marker::Model;
@@ -17,7 +18,7 @@ const LINE_LIMIT: usize = 4;
 ///
 /// Of each piece it keeps the first bytes, as many as a limit says, and no others.
 #[derive(Drop)]
-pub struct Cutter {
+pub(crate) struct Cutter {
     alloc: Global,
     limit: usize,
     /// The first bytes of the piece so far.
@@ -28,7 +29,7 @@ pub struct Cutter {
 
 impl Model for Cutter {
     ghost use Rattle.std.specs.Prelude.{◌≤◌};
-    ghost use Rattle.stream_pieces.specs.Cutters.{CutterValue};
+    ghost use Rattle.trace_batches.specs.Internal.Cutters.{CutterValue};
 
     ghost Value = { CutterValue };
 
@@ -39,7 +40,7 @@ impl Model for Cutter {
 
 impl Cutter {
     /// A cutter at the start of a stream, which keeps at most `limit` bytes of each piece, 1 or more.
-    pub fn new(alloc: Global, limit: usize) -> Cutter
+    pub(crate) fn new(alloc: Global, limit: usize) -> Cutter
         requires { 1 ≤ limit }
         ensures limit { result.limit ≡ limit }
         ensures at { IsAt result [] }
@@ -55,7 +56,11 @@ impl Cutter {
     /// Cuts the next bytes of the stream: the first bytes of each piece that ends in them, in order, up to `most` pieces, and
     /// how many bytes were cut. All are, unless there are `most` pieces: then those up to the last one's end. An error where
     /// an allocation was refused: then the cutter is not to be used again.
-    pub fn cut(&mut self, chunk: &[u8], most: usize) -> Result<(Vec<Vec<u8>>, usize), AllocError>
+    pub(crate) fn cut(
+        &mut self,
+        chunk: &[u8],
+        most: usize,
+    ) -> Result<(Vec<Vec<u8>>, usize), AllocError>
         requires { 1 ≤ most }
         ensures cut { IfOk result (λ cut. (bytes : List ℕ) → IsAt self.old bytes → Cuts self.old self.new bytes (take cut.1 chunk.now) cut.0.items) }
         ensures within { IfOk result (λ cut. cut.1 ≤ length chunk.now) }
@@ -97,7 +102,7 @@ impl Cutter {
     }
 
     /// The first bytes of the last piece, at the end of the stream; None where no byte follows the last line `end`.
-    pub fn last(self) -> Option<Vec<u8>>
+    pub(crate) fn last(self) -> Option<Vec<u8>>
         ensures { (bytes : List ℕ) → IsAt self bytes → IsLastPiece self bytes result }
     {
         let Cutter { kept, .. } = self;

@@ -3,9 +3,9 @@ use Rattle.std.proofs.Common.{◌≡◌, ◌≢◌, ℕ, ◌++◌, List, [], ◌
 use Rattle.std.specs.Global.{Vec}
 use Rattle.std.proofs.lemmas.List.{append-nil, length-take, take_all, take_more, map-append}
 use Rattle.std.proofs.lemmas.List.Elements.{All-cons, All-nil}
-use Rattle.stream_pieces.specs.Cutters.{Accepts, CutterValue, Cuts, IsAt}
-use Rattle.stream_pieces.specs.Pieces.{EndsWithin, IsSplit, IsEnded, end_line}
-use Rattle.stream_pieces.proofs.PieceFacts.{cut_joined, ends_at_start, ends_later, ends_line, ends_piece}
+use Rattle.trace_batches.specs.Internal.Cutters.{Accepts, CutterValue, Cuts, IsAt}
+use Rattle.trace_batches.specs.Pieces.{EndsWithin, IsSplit, IsEnded, end_line}
+use Rattle.trace_batches.proofs.PieceFacts.{cut_joined, ends_at_start, ends_later, ends_line, ends_piece}
 
 -- the cutter's first bytes with one more
 abbrev pub Grows : ℕ → List ℕ → List ℕ → ℕ → Type 0

@@ -1,10 +1,10 @@
 use Rattle.std.proofs.Common.{◌≡◌, ◌∙◌, ◌++◌, ◌∷◌, [], ℕ, ap, subst, sym, take}
 use Rattle.std.proofs.lemmas.Bool.{both_ways}
 use Rattle.std.specs.Global.{Vec}
-use Rattle.stream_pieces.specs.Cutters.{CutterValue, IsAt}
-use Rattle.stream_pieces.specs.Pieces.{end_line}
-use Rattle.stream_pieces.proofs.CutterFacts.{Grows, at_later, at_line_end, at_piece_end}
-use Rattle.stream_pieces.proofs.cutters.Cutter.accept.Goals as goal
+use Rattle.trace_batches.specs.Internal.Cutters.{CutterValue, IsAt}
+use Rattle.trace_batches.specs.Pieces.{end_line}
+use Rattle.trace_batches.proofs.CutterFacts.{Grows, at_later, at_line_end, at_piece_end}
+use Rattle.trace_batches.proofs.cutters.Cutter.accept.Goals as goal
 
 pub returns-then-byte-ne-LINE_END-clause-piece : goal.returns-then-byte-ne-LINE_END-clause-piece
 returns-then-byte-ne-LINE_END-clause-piece c = λ bytes at.

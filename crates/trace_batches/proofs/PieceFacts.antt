@@ -7,7 +7,7 @@ use Rattle.std.proofs.lemmas.List.Elements.{All-nil, All-cons, All-push, All-hea
 use Rattle.std.proofs.lemmas.List.Splits.{slice_split_none, slice_split_at, length-slice_split}
 use Rattle.std.proofs.lemmas.Slice.Eq.{bytes_eq-Decides}
 use Rattle.std.specs.Str.{bytes_eq}
-use Rattle.stream_pieces.specs.Pieces.{ArePieces, EndsWithin, HasNoEnd, IsSplit, IsEnded, IsOtherLine, IsWithinLine, end_line, last_piece, lines_text}
+use Rattle.trace_batches.specs.Pieces.{ArePieces, EndsWithin, HasNoEnd, IsSplit, IsEnded, IsOtherLine, IsWithinLine, end_line, last_piece, lines_text}
 
 -- ---- byte by byte
 

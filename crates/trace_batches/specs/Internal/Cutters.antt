@@ -1,7 +1,7 @@
 -- What a cutter keeps of a stream, and which pieces it gives.
 use Rattle.std.specs.Prelude.{◌≡◌, ℕ, List, [], ◌∷◌, ◌++◌, map, take, Option, None, Some}
 use Rattle.std.specs.Global.{Vec}
-use Rattle.stream_pieces.specs.Pieces.{EndsWithin, IsSplit, IsEnded, last_piece}
+use Rattle.trace_batches.specs.Pieces.{EndsWithin, IsSplit, IsEnded, last_piece}
 
 -- of a piece the first bytes, as many as the limit, and of a line the first 4
 pub record CutterValue : Type 0 where

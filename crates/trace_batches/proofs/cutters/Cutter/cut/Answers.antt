@@ -1,10 +1,10 @@
 use Rattle.std.proofs.Common.{◌≡◌, ◌∙◌, ◌+◌, ◌<◌, [], ℕ, ap, arith, length, subst, sym, take}
 use Rattle.std.specs.Global.{Vec}
 use Rattle.std.proofs.lemmas.List.{length_push, take_all}
-use Rattle.stream_pieces.specs.Cutters.{Cuts}
-use Rattle.stream_pieces.proofs.CutterFacts.{cuts_on, cuts_one, cuts_start}
-use Rattle.stream_pieces.proofs.cutters.Cutter.cut.Goals as goal
-use Rattle.stream_pieces.proofs.cutters.Cutter.cut.Goals.{in-Some+in_ok-push-in-Some+else-len-most, in-None}
+use Rattle.trace_batches.specs.Internal.Cutters.{Cuts}
+use Rattle.trace_batches.proofs.CutterFacts.{cuts_on, cuts_one, cuts_start}
+use Rattle.trace_batches.proofs.cutters.Cutter.cut.Goals as goal
+use Rattle.trace_batches.proofs.cutters.Cutter.cut.Goals.{in-Some+in_ok-push-in-Some+else-len-most, in-None}
 
 pub loop-i-init : goal.loop-i-init
 loop-i-init c = record {

@@ -1,2 +1,0 @@
-pub mod CutterFacts
-pub mod PieceFacts

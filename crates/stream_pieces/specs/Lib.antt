@@ -1,2 +1,0 @@
-pub mod Cutters
-pub mod Pieces
