@@ -1,8 +1,6 @@
 //! What arguments ask for, and the texts of help and of refusals.
 
-use command_line::{
-    CampaignOptions, Request, RunOptions, ShapeNumbers, TextPair, read_arguments,
-};
+use command_line::{CampaignOptions, Request, RunOptions, ShapeNumbers, TextPair, read_arguments};
 use std::alloc::{AllocError, Global};
 use std::process::Abort;
 use std::test::Fail;

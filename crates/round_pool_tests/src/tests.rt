@@ -10,7 +10,7 @@ mod refused_allocations;
 mod rounds_by_hand;
 
 use order_graph::Graph;
-use plain_rounds::{has_edge, has_unwritten_load, rank_set, rounds_number};
+use reference_rounds::{has_edge, has_unwritten_load, rank_set, rounds_number};
 use round_pool::{Edge, MAX_WORKERS, PoolFault, PoolGate, Ranked, rounds};
 use std::alloc::{AllocError, Global};
 use std::fmt::Debug;
@@ -66,7 +66,7 @@ fn has(graph: &Graph, u: usize, v: usize) -> bool {
     u < graph.nodes() && v < graph.nodes() && graph.has(u, v)
 }
 
-/// The rank sets of a trace by the plain program, up to the last.
+/// The rank sets of a trace by the reference program, up to the last.
 #[derive(Drop)]
 struct Plain {
     ranks: Vec<Vec<(usize, usize)>>,
@@ -106,7 +106,7 @@ impl Plain {
     }
 }
 
-/// Fails unless rounds number, ranks and graphs are those of the plain program.
+/// Fails unless rounds number, ranks and graphs are those of the reference program.
 fn compare(
     rt: &impl Abort,
     alloc: Global,

@@ -1,4 +1,4 @@
-//! Edges and reasons of small traces, by hand, and drawn traces beside the plain program of the model.
+//! Edges and reasons of small traces, by hand, and drawn traces beside the reference program of the model.
 
 mod affected;
 mod at_limits;

@@ -34,7 +34,10 @@ const ACCEPTED: [(&[&str], &str); 36] = [
     (&["check", "t", "c"], "check \"t\" against \"c\""),
     (&["check", "-", "c"], "check standard input against \"c\""),
     (&["check", "t", "-"], "check \"t\" against standard input"),
-    (&["check", "./-", "-"], "check \"./-\" against standard input"),
+    (
+        &["check", "./-", "-"],
+        "check \"./-\" against standard input",
+    ),
     (&["explain", "-"], "Explanation of None with 1"),
     (&["draw", "-"], "Picture of None with 1"),
     (&["explain"], "Explanation of None with 1"),

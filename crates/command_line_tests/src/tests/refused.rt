@@ -64,7 +64,15 @@ const BOTH: &str =
 const REPLAYS: [(&[&str], &str); 15] = [
     (&["replay", "--unit", "serial", "-", "-"], TWO_INPUTS),
     (
-        &["replay", "--trace", "--unit", "serial", "-", "--explain", "-"],
+        &[
+            "replay",
+            "--trace",
+            "--unit",
+            "serial",
+            "-",
+            "--explain",
+            "-",
+        ],
         BOTH,
     ),
     (

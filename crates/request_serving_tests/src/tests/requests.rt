@@ -4,8 +4,8 @@ ghost use Rattle.command_line.specs.Requests.{HasDrainTurns, HasUnitRanges, HasW
 
 use super::{Ended, FailingReader, FailingWriter, expect};
 use command_line::{
-    CutRequest, JudgeRequest, Presentation, Printing, Request, RunOptions, TextPair, UnitKind,
-    UnitOptions,
+    CutRequest, JudgeRequest, Presentation, Printing, Request, RunOptions, RunRequest, TextPair,
+    UnitKind, UnitOptions,
 };
 use request_serving::{NamedFiles, end_by, serve};
 use std::alloc::{AllocError, Global};
@@ -303,6 +303,45 @@ fn replaying(rt: HostRuntime) -> Result<(), Fail> {
         &refused_schedule,
         outcome(&["program", "trace"], 2, "REFUSED BadHeader line 1\n", ""),
     )
+}
+
+/// A serial unit, two workers, and the report.
+const SERIAL: RunOptions = RunOptions {
+    unit: UnitOptions {
+        kind: UnitKind::Serial,
+        capacity: 8,
+        trigger: 1,
+    },
+    workers: 2,
+    printing: Printing::Report,
+};
+
+/// A schedule on standard input isn't read where the program is refused; a program is read first.
+#[test]
+fn programs_and_schedules_on_standard_input(rt: HostRuntime) -> Result<(), Fail> {
+    let unread = Request::Replay {
+        options: SERIAL,
+        texts: TextPair::FileAndInput("trace"),
+    };
+    let refused = outcome(&["trace"], 2, "REFUSED BadHeader line 1\n", "");
+    compare(&rt, &unread, refused)?;
+    let schedule = Request::Replay {
+        options: SERIAL,
+        texts: TextPair::FileAndInput("program"),
+    };
+    compare(&rt, &schedule, outcome(&["program"], 4, "", READ))?;
+    let program = Request::Replay {
+        options: SERIAL,
+        texts: TextPair::InputAndFile("schedule"),
+    };
+    compare(&rt, &program, outcome(&["schedule"], 4, "", READ))?;
+    let run = Request::Run(RunRequest {
+        options: SERIAL,
+        drain_seed: 1,
+        drain_turns: 0,
+        program: None,
+    });
+    compare(&rt, &run, outcome(&[], 4, "", READ))
 }
 
 /// The report of the example `pso_message_passing`, and the account.

@@ -1,7 +1,7 @@
-//! Drawn traces: rounds number, ranks and graphs are those of the plain program.
+//! Drawn traces: rounds number, ranks and graphs are those of the reference program.
 
 use super::{Plain, expect, made};
-use plain_rounds::has_unwritten_load;
+use reference_rounds::has_unwritten_load;
 use round_pool::OpenPoolGate;
 use std::alloc::AllocGlobal;
 use std::process::Abort;
@@ -15,7 +15,7 @@ use traces_for_tests::{
 /// How many traces are compared.
 const TRACES: u64 = 200;
 
-/// Compares drawn traces without unwritten loads with the plain program.
+/// Compares drawn traces without unwritten loads with the reference program.
 fn compare_drawn<H: Threads + Wait + AllocGlobal + Abort>(
     rt: &H,
     drawn: Drawn,

@@ -20,7 +20,7 @@ fn ranked_by<H: Threads + Wait + AllocGlobal>(
     Ok(made(rt, rt.alloc(), trace, workers, &OpenPoolGate)?)
 }
 
-/// Compares the rounds number of the trace, and its ranks and graphs with those of the plain program.
+/// Compares the rounds number of the trace, and its ranks and graphs with those of the reference program.
 fn expect_rounds<H: Threads + Wait + AllocGlobal + Abort>(
     rt: &H,
     trace: &Trace,

@@ -1,7 +1,7 @@
 //! Certificates of whole traces, with the expected text of each.
 
 use super::expect_equal;
-use plain_rounds::has_unwritten_load;
+use reference_rounds::has_unwritten_load;
 use round_pool::{OpenPoolGate, rounds};
 use std::alloc::Global;
 use std::process::Abort;

@@ -1,9 +1,9 @@
 //! Drawn programs by drawn schedules on units with store buffers, each of its own memory model: no violation is found, as by the
-//! plain program of the model.
+//! reference program of the model.
 ghost use Rattle.std.specs.Prelude.{◌≡◌, []};
 
 use super::{Ended, expect, expect_equal, report_without_violation};
-use plain_rounds::{has_cycle, has_unwritten_load, new_edges, rank_set};
+use reference_rounds::{has_cycle, has_unwritten_load, new_edges, rank_set};
 use std::alloc::{AllocError, AllocGlobal, Global};
 use std::process::Abort;
 use std::sync::Wait;
@@ -83,7 +83,7 @@ fn drawn_record(alloc: Global, order: Order, seed: u64) -> Result<Recorded, Fail
     }
 }
 
-/// Whether the plain program finds no violation of the trace, whose order needs so many rounds.
+/// Whether the reference program finds no violation of the trace, whose order needs so many rounds.
 fn has_no_violation(alloc: Global, trace: &Trace, rounds: usize) -> Result<bool, OutOfMemory> {
     let edges = rank_set(alloc, trace, rounds)?;
     let is_whole = new_edges(alloc, trace, &edges)?.is_empty();
@@ -98,7 +98,7 @@ fn judged<H: Threads + Wait + Sync>(rt: &H, alloc: Global, recorded: &Recorded) 
     Ended { said, written }
 }
 
-/// Compares what is found of a record with what the plain program finds: the rounds number.
+/// Compares what is found of a record with what the reference program finds: the rounds number.
 fn compare<H: Threads + Wait + Sync + AllocGlobal + Abort>(
     rt: &H,
     recorded: &Recorded,

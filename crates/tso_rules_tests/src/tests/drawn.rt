@@ -1,4 +1,4 @@
-//! Drawn traces: every row is what the model's plain program finds.
+//! Drawn traces: every row is what the model's reference program finds.
 ghost use Rattle.std.specs.Prelude.{ℕ};
 ghost use Rattle.order_graph.specs.Digraphs.{IsEdge};
 ghost use Rattle.tso_model.specs.Ranks.{RankSet};
@@ -6,7 +6,7 @@ ghost use Rattle.tso_model.specs.Ranks.{RankSet};
 use super::graph_of;
 use super::over_base::rank_graph;
 use order_graph::Graph;
-use plain_rounds::{base_edges, has_edge, is_inferred_pair, new_edges, rank_set};
+use reference_rounds::{base_edges, has_edge, is_inferred_pair, new_edges, rank_set};
 use std::alloc::{AllocError, Global};
 use std::process::Abort;
 use std::test::Fail;
@@ -93,7 +93,7 @@ fn goes_along(edges: &[(usize, usize)], path: &[u64]) -> bool {
     path.len() > 1
 }
 
-/// Compares the justification of each pair over a graph of the rank set with the plain program: whether it is a base
+/// Compares the justification of each pair over a graph of the rank set with the reference program: whether it is a base
 /// rule, and which, or an inferred rule, or none.
 fn compare_reasons(
     rt: &impl Abort,
@@ -166,7 +166,7 @@ fn rows_with_both_as_by_the_plain_program(rt: HostRuntime) -> Result<(), Fail> {
     compare_drawn(&rt, rt.alloc(), UNDER_PSO_WITH_FIRST_VALUES)
 }
 
-/// How many traces have their justifications compared: each pair of numbers asks the plain program for all paths.
+/// How many traces have their justifications compared: each pair of numbers asks the reference program for all paths.
 const REASONED: u64 = 30;
 
 /// Compares the justifications of drawn traces.

@@ -3,11 +3,11 @@ ghost use Rattle.std.specs.Prelude.{ℕ, suc, IfOk};
 ghost use Rattle.order_graph.specs.Digraphs.{IsEdge};
 ghost use Rattle.tso_ops.specs.Events.{event_total};
 ghost use Rattle.tso_model.specs.Ranks.{RankSet};
-ghost use Rattle.plain_rounds.specs.EdgeLists.{HasPair, AreEdgesBelow};
+ghost use Rattle.reference_rounds.specs.EdgeLists.{HasPair, AreEdgesBelow};
 
 use super::expect_row;
 use order_graph::Graph;
-use plain_rounds::base_edges;
+use reference_rounds::base_edges;
 use std::alloc::{AllocError, Global};
 use std::test::Fail;
 use traces_for_tests::trace_of;

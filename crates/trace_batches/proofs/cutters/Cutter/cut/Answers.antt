@@ -1,6 +1,6 @@
-use Rattle.std.proofs.Common.{◌≡◌, ◌∙◌, ◌+◌, ◌<◌, [], ℕ, ap, arith, length, subst, sym, take}
+use Rattle.std.proofs.Common.{◌∙◌, ◌+◌, ◌<◌, [], ℕ, ap, arith, length, subst, sym, take}
 use Rattle.std.specs.Global.{Vec}
-use Rattle.std.proofs.lemmas.List.{length_push, take_all}
+use Rattle.std.proofs.lemmas.List.{take_all}
 use Rattle.trace_batches.specs.Internal.Cutters.{Cuts}
 use Rattle.trace_batches.proofs.CutterFacts.{cuts_on, cuts_one, cuts_start}
 use Rattle.trace_batches.proofs.cutters.Cutter.cut.Goals as goal

@@ -1,5 +1,5 @@
 use Rattle.std.proofs.Common.{sym, subst, arith}
-use Rattle.plain_rounds.specs.EdgeLists.{HasPair}
+use Rattle.reference_rounds.specs.EdgeLists.{HasPair}
 use Rattle.tso_model.proofs.LastRankSet.{RankSet-mono}
 use Rattle.tso_rules_tests.proofs.tests.drawn.compare_round.Goals as goal
 

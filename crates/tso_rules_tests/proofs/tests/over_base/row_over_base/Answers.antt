@@ -1,5 +1,5 @@
 use Rattle.std.proofs.Common.{sym, subst}
-use Rattle.plain_rounds.specs.EdgeLists.{HasPair}
+use Rattle.reference_rounds.specs.EdgeLists.{HasPair}
 use Rattle.tso_rules_tests.proofs.tests.over_base.row_over_base.Goals as goal
 
 pub rank_graph-requires-clause-base : goal.rank_graph-requires-clause-base
