@@ -20,7 +20,7 @@ use Rattle.command_line.specs.declared.options.Printing.{Printing}
 use Rattle.command_line.specs.declared.parameters.NameList.{NameList}
 use Rattle.command_line.specs.declared.requests.Request.{Request}
 use Rattle.command_line.specs.Workers.{worker_limit}
-use Rattle.command_line.specs.Subcommands.{capacity, file, file_of, is_true, number_in, number_or, of_pair, pair_of, printed, printing_of, replay, run_of, trigger, unit, unit_of, workers}
+use Rattle.command_line.specs.Subcommands.{capacity, file, file_of, is_true, number_in, number_or, of_value, pair_of, printing_of, replay, run_of, trigger, unit, unit_of, workers}
 use Rattle.clap_arguments.specs.Offered.{text_in}
 use Rattle.clap_arguments.specs.Parameters.{flag}
 use Rattle.command_line.specs.Commands.{asked_in}
@@ -106,15 +106,10 @@ module _ (run wanted : AskedRun) where
   pub running_are : run.options ≡ wanted.options → run.drain_seed ≡ wanted.drain_seed → run.drain_turns ≡ wanted.drain_turns → run.program ≡ wanted.program → running run ≡ running wanted
   running_are options_are seed_is turns_are program_is = rw (options_are, seed_is, turns_are, program_is) refl
 
--- what holds of a refusal, and of a replay of any files, holds of what is asked for of two of them
-of_any_pair : (P : Asked → Type 0) (ask : Option Text → Option Text → Asked) → P refusing → ((first second : Option Text) → P (ask first second))
-    → (pair : Option (Option Text × Option Text)) → P (of_pair ask pair)
-of_any_pair P ask refused asked None = refused
-of_any_pair P ask refused asked (Some pair) = asked pair.0 pair.1
-
-of_any_printing : (P : Asked → Type 0) (ask : Printing → Asked) → P refusing → ((printing : Printing) → P (ask printing)) → (printing : Option Printing) → P (printed ask printing)
-of_any_printing P ask refused asked None = refused
-of_any_printing P ask refused asked (Some printing) = asked printing
+-- what holds of a refusal, and of what is asked for of each value, holds where there may be none
+of_any : {X : Type 0} (P : Asked → Type 0) (ask : X → Asked) → P refusing → ((x : X) → P (ask x)) → (value : Option X) → P (of_value ask value)
+of_any P ask refused asked None = refused
+of_any P ask refused asked (Some value) = asked value
 
 -- what holds of a refusal, and of each replay whose options are in their ranges, holds of what `replay` asks for
 pub of_replay : (P : Asked → Type 0) → P refusing
@@ -123,8 +118,9 @@ pub of_replay : (P : Asked → Type 0) → P refusing
 of_replay P refused asked rows =
     let options : Printing → RunOptions = λ printing. run_of (unit_of (text_in rows unit) (text_in rows capacity) (text_in rows trigger)) (text_in rows workers) printing in
     let pair = pair_of (file_of (text_in rows (file (codes "program")))) (file_of (text_in rows (file (codes "schedule")))) in
-    of_any_printing P (λ printing. of_pair (replaying (options printing)) pair) refused
-    (λ printing. of_any_pair P (replaying (options printing)) refused (λ first second. asked (options printing) first second (omega arith) (omega arith) (omega arith) (omega arith) (omega arith)) pair)
+    let ask : Printing → Option Text × Option Text → Asked = λ printing texts. replaying (options printing) texts.0 texts.1 in
+    of_any P (λ printing. of_value (ask printing) pair) refused
+    (λ printing. of_any P (ask printing) refused (λ texts. asked (options printing) texts.0 texts.1 (omega arith) (omega arith) (omega arith) (omega arith) (omega arith)) pair)
     (printing_of (text_in {N = NameList} rows (flag (codes "trace"))) (text_in {N = NameList} rows (flag (codes "explain"))))
 
 pub of_request : {E : Type 0} (P : Asked → Type 0) (asked : Asked) → P asked → (result : Result Request E) → IfOk result (λ request. asked_of request ≡ asked) → IfOk result (λ request. P (asked_of request))

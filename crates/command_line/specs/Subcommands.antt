@@ -117,9 +117,9 @@ printing_of trace_text explain_text = printing_by (is_true trace_text) (is_true 
 abbrev pub run_of : UnitOptions → Option Text → Printing → RunOptions
 run_of options workers_text printing = record { unit = options; workers = workers_of workers_text; printing = printing }
 
--- what is asked for by what is printed: nothing, where that can't be
-abbrev pub printed : (Printing → Asked) → Option Printing → Asked
-printed ask printing = option_map_or ask printing refusing
+-- what is asked for of a value: nothing, where there can be none
+abbrev pub of_value : {X : Type 0} → (X → Asked) → Option X → Asked
+of_value ask value = option_map_or ask value refusing
 
 abbrev pub shape_of : Option Text → Option Text → Option Text → ShapeNumbers
 shape_of processors operations addresses =
@@ -143,10 +143,6 @@ abbrev pub pair_of : Option Text → Option Text → Option (Option Text × Opti
 pair_of None None = None
 pair_of None (Some second) = Some (None, Some second)
 pair_of (Some first) second = Some (Some first, second)
-
--- what is asked for of two texts: nothing, where they can't be had
-abbrev pub of_pair : (Option Text → Option Text → Asked) → Option (Option Text × Option Text) → Asked
-of_pair ask pair = option_map_or (λ p. ask p.0 p.1) pair refusing
 
 -- ---- the subcommands: each with its own number of parameters, so that other lists of texts don't come
 
@@ -192,7 +188,7 @@ cut = record { name = codes "cut"; parameters = events ∷ other (codes "file") 
 
 -- `check TRACE CERT`: checks a certificate against its trace
 abbrev pub ask_check : List (Option Text) → Asked
-ask_check (trace_text ∷ cert_text ∷ []) = of_pair checking (pair_of (file_of trace_text) (file_of cert_text))
+ask_check (trace_text ∷ cert_text ∷ []) = of_value (λ texts. checking texts.0 texts.1) (pair_of (file_of trace_text) (file_of cert_text))
 ask_check texts = refusing
 
 abbrev pub check : Subcommand
@@ -201,7 +197,9 @@ check = record { name = codes "check"; parameters = file (codes "trace") ∷ fil
 -- `replay --unit UNIT [--capacity C] [--trigger T] [--workers N] [--trace|--explain] PROGRAM SCHEDULE`: replays a program by a schedule
 abbrev pub ask_replay : List (Option Text) → Asked
 ask_replay (unit_text ∷ capacity_text ∷ trigger_text ∷ workers_text ∷ trace_text ∷ explain_text ∷ program_text ∷ schedule_text ∷ []) =
-    printed (λ printing. of_pair (replaying (run_of (unit_of unit_text capacity_text trigger_text) workers_text printing)) (pair_of (file_of program_text) (file_of schedule_text)))
+    of_value (λ printing.
+    let options = run_of (unit_of unit_text capacity_text trigger_text) workers_text printing in
+    of_value (λ texts. replaying options texts.0 texts.1) (pair_of (file_of program_text) (file_of schedule_text)))
     (printing_of trace_text explain_text)
 ask_replay texts = refusing
 
@@ -220,7 +218,7 @@ drain_turns = option (codes "drain-turns") (range 0 drain_turns_limit) (Some (co
 -- processor
 abbrev pub ask_run : List (Option Text) → Asked
 ask_run (unit_text ∷ capacity_text ∷ trigger_text ∷ workers_text ∷ trace_text ∷ explain_text ∷ seed_text ∷ turns_text ∷ program_text ∷ []) =
-    printed (λ printing. running (record {
+    of_value (λ printing. running (record {
       options = run_of (unit_of unit_text capacity_text trigger_text) workers_text printing;
       drain_seed = number_or 0 seed_text;
       drain_turns = turns_of turns_text;

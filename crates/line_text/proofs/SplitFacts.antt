@@ -1,13 +1,12 @@
 -- Lemmas on joined parts: a text that is joined of parts without the byte between them is cut into these parts.
-use Rattle.std.proofs.Common.{◌≡◌, ℕ, ◌<◌, ◌^◌, Bool, true, false, eqb, List, [], ◌∷◌, ◌++◌, refl, ap, ◌∙◌, arith}
+use Rattle.std.proofs.Common.{◌≡◌, ℕ, ◌<◌, ◌/◌, ◌%◌, zero, suc, cond, ltb, Bool, true, false, eqb, List, [], ◌∷◌, ◌++◌, refl, ap, ◌∙◌, arith}
 use Rattle.std.specs.Char.{is_ascii_digit}
-use Rattle.std.specs.Fmt.{decimal}
+use Rattle.std.specs.Fmt.{decimal, digits, digits_onto, digit_glyph}
 use Rattle.std.specs.List.{list_any, list_all, slice_split, onto_first, join_with_byte}
 use Rattle.std.proofs.lemmas.Bool.{or_parts}
 use Rattle.std.proofs.lemmas.Bool.Decides.{nat_tests}
-use Rattle.std.proofs.lemmas.Fmt.{digits_decimal}
 use Rattle.std.proofs.lemmas.List.Splits.{slice_split-cons_yes, slice_split-cons_no}
-use Rattle.line_text.proofs.NumberFacts.{and_parts, digits_model}
+use Rattle.line_text.proofs.NumberFacts.{and_parts}
 
 -- the byte stands among these
 abbrev pub has_byte : ℕ → List ℕ → Bool
@@ -72,6 +71,24 @@ digits_without c (d ∷ ds) low digits =
     let parts = and_parts (is_ascii_digit d) (list_all is_ascii_digit ds) digits in
     rw (digit_other d c parts.0 low) (digits_without c ds low parts.1)
 
--- a number in decimal has none of the bytes below the digits
-pub decimal_without : (c n : ℕ) → c < 48 → n < 2 ^ 64 → has_byte c (decimal n) ≡ false
-decimal_without c n low fits = digits_without c (decimal n) low (digits_decimal digits_model n fits)
+digit_glyph-digit : (d : ℕ) → d < 10 → is_ascii_digit (digit_glyph false d) ≡ true
+digit_glyph-digit d low = let small : ltb d 10 ≡ true = grind (arith, nat_tests) in rw small (grind (arith, nat_tests))
+
+digits_onto-digits : (k n : ℕ) (after : List ℕ) → list_all is_ascii_digit after ≡ true → list_all is_ascii_digit (digits_onto k 10 false n after) ≡ true
+digits_onto-digits zero n after all = all
+digits_onto-digits (suc k) n after all =
+    let more : list_all is_ascii_digit (digit_glyph false (n % 10) ∷ after) ≡ true = rw (digit_glyph-digit (n % 10) (omega arith)) all in
+    either (eqb (n / 10) 0) (digit_glyph false (n % 10) ∷ after) (digits_onto k 10 false (n / 10) (digit_glyph false (n % 10) ∷ after)) more (digits_onto-digits k (n / 10) (digit_glyph false (n % 10) ∷ after) more)
+  where
+    either : (b : Bool) (xs ys : List ℕ) → list_all is_ascii_digit xs ≡ true → list_all is_ascii_digit ys ≡ true → list_all is_ascii_digit (cond b xs ys) ≡ true
+    either true xs ys all more = all
+    either false xs ys all more = more
+
+-- a number in decimal has digits alone
+pub decimal_digits : (n : ℕ) → list_all is_ascii_digit (decimal n) ≡ true
+unfolding digits
+decimal_digits n = digits_onto-digits 64 n [] refl
+
+-- and so none of the bytes below the digits
+pub decimal_without : (c n : ℕ) → c < 48 → has_byte c (decimal n) ≡ false
+decimal_without c n low = digits_without c (decimal n) low (decimal_digits n)

@@ -16,10 +16,10 @@ use Rattle.log_pieces.specs.declared.known.Piece.{Piece}
 use Rattle.log_text.specs.LogTexts.{IsLogRefusal, SpellsLog}
 use Rattle.tso_ops.specs.Values.{TraceValue}
 use Rattle.tso_ops.specs.Events.{event_total}
-use Rattle.tso_report.specs.Reports.{refusal_text}
+use Rattle.trace_reports.specs.Reports.{refusal_text}
 use Rattle.tso_report.specs.Streams.{AppendsPrefix}
 use Rattle.tso_report.specs.declared.faults.Fault.{Fault}
-use Rattle.tso_text.specs.Grammars.{SpellsTrace}
+use Rattle.tso_text.specs.Texts.{SpellsTrace}
 use Rattle.tso_text.specs.Printed.{trace_text}
 use Rattle.tso_text.specs.declared.faults.Why.{Why}
 

@@ -4,12 +4,12 @@ use Rattle.std.specs.List.{flat_map}
 use Rattle.std.specs.Io.KnownBytes.{Appends, Keeps}
 use Rattle.tso_ops.specs.Values.{TraceValue}
 use Rattle.tso_ops.specs.Events.{event_total}
-use Rattle.tso_text.specs.Grammars.{SpellsTrace}
+use Rattle.tso_text.specs.Texts.{SpellsTrace}
 use Rattle.tso_text.specs.Printed.{trace_text}
 use Rattle.tso_text.specs.declared.faults.Why.{Why}
 use Rattle.tso_report.specs.declared.faults.Fault.{Fault}
 use Rattle.tso_report.specs.declared.faults.Fault.TheVariants.{OutOfMemory, Read, Write, NoThread, Missing}
-use Rattle.tso_report.specs.Reports.{refusal_text}
+use Rattle.trace_reports.specs.Reports.{refusal_text}
 use Rattle.tso_report.specs.Streams.{AppendsPrefix}
 use Rattle.log_pieces.specs.Pieces.{IsCutOf}
 use Rattle.log_text.specs.LogTexts.{IsLogRefusal, SpellsLog}

@@ -3,8 +3,8 @@ ghost use Rattle.std.specs.Prelude.{◌≡◌, ◌≢◌, IfOk, OnErr, OnOk, IfE
 ghost use Rattle.std.specs.Io.KnownBytes.{Consumes, Keeps};
 ghost use Rattle.log_cuts.specs.Internal.Written.{WritesPart, WritesStream};
 ghost use Rattle.log_cuts.specs.LogCuts.{IsCutFault, LeavesCut, WritesCut, WritesRefusal};
-ghost use Rattle.log_text.specs.LogValues.{operations_of};
-ghost use Rattle.tso_report.specs.Reports.{refusal_text};
+ghost use Rattle.log_text.specs.LogValues.{log_operations};
+ghost use Rattle.trace_reports.specs.Reports.{refusal_text};
 ghost use Rattle.tso_report.specs.Streams.{AppendsPrefix};
 ghost use Rattle.tso_report.specs.declared.faults.Fault.{Fault};
 ghost use Rattle.tso_text.specs.declared.faults.Why.{Why};
@@ -67,8 +67,8 @@ fn write_pieces<W: Write>(
     log: Log,
     writer: &mut W,
 ) -> Result<String, Fault>
-    ensures whole { OnOk result (WritesStream (operations_of log) events (W.contents writer.old) (W.contents writer.new)) }
-    ensures part { OnErr result (WritesPart (operations_of log) events (W.contents writer.old) (W.contents writer.new)) }
+    ensures whole { OnOk result (WritesStream (log_operations log) events (W.contents writer.old) (W.contents writer.new)) }
+    ensures part { OnErr result (WritesPart (log_operations log) events (W.contents writer.old) (W.contents writer.new)) }
     ensures fault { IfErr result IsCutFault }
 {
     let log = KnownLog::new(alloc, log)?;

@@ -11,7 +11,7 @@ use Rattle.log_selections.specs.Sources.{HasKnownSources, IsOnlySource}
 use Rattle.log_text.specs.declared.logs.Log.{Log}
 use Rattle.log_text.specs.declared.logs.LogOperation.{LogOperation}
 use Rattle.log_text.specs.declared.logs.LogOperation.TheVariants.{Ld, St, Sw, Mb, Sb}
-use Rattle.log_text.specs.LogValues.{operations_of, outcomes_of}
+use Rattle.log_text.specs.LogValues.{log_operations, outcomes_of}
 use Rattle.log_pieces.specs.declared.accesses.Access.{Access}
 use Rattle.log_pieces.specs.Internal.Accesses.{accesses_of_list, accesses_of_lists}
 use Rattle.log_pieces.specs.Internal.Known.{AreSources, IsKnownSource, IsOnlyWriter, log_with}
@@ -44,27 +44,27 @@ module _ (log : Log) where
   accesses : List Access
   accesses = accesses_of_lists (rows log.lists.items)
 
-  access_at : (k : ℕ) → slice_get accesses k ≡ option_map access_of (event_at (operations_of log) (suc k))
+  access_at : (k : ℕ) → slice_get accesses k ≡ option_map access_of (event_at (log_operations log) (suc k))
   unfolding accesses event_at events_of
   access_at k = ap (λ ys. slice_get ys k) (sym (lists_accesses 0 (rows log.lists.items))) ∙ slice_get-map access_of (events_of_lists 0 (map outcomes_of (rows log.lists.items))) k
 
   -- an event of the log is an access
-  event_access : (k : ℕ) (e : Event) → event_at (operations_of log) (suc k) ≡ Some e → slice_get accesses k ≡ Some (access_of e)
+  event_access : (k : ℕ) (e : Event) → event_at (log_operations log) (suc k) ≡ Some e → slice_get accesses k ≡ Some (access_of e)
   event_access k e at = access_at k ∙ ap (option_map access_of) at
 
   -- the other way round
-  access_event : (k : ℕ) (x : Access) → slice_get accesses k ≡ Some x → (e : Event) × (event_at (operations_of log) (suc k) ≡ Some e) × (access_of e ≡ x)
-  access_event k x at = some_of (event_at (operations_of log) (suc k)) refl
+  access_event : (k : ℕ) (x : Access) → slice_get accesses k ≡ Some x → (e : Event) × (event_at (log_operations log) (suc k) ≡ Some e) × (access_of e ≡ x)
+  access_event k x at = some_of (event_at (log_operations log) (suc k)) refl
     where
-      some_of : (found : Option Event) → event_at (operations_of log) (suc k) ≡ found → (e : Event) × (event_at (operations_of log) (suc k) ≡ Some e) × (access_of e ≡ x)
+      some_of : (found : Option Event) → event_at (log_operations log) (suc k) ≡ found → (e : Event) × (event_at (log_operations log) (suc k) ≡ Some e) × (access_of e ≡ x)
       some_of None is = let none : None ≡ Some x = ap (option_map access_of) (sym is) ∙ sym (access_at k) ∙ at in absurd (none-some x none)
       some_of (Some e) is = let same : Some (access_of e) ≡ Some x = ap (option_map access_of) (sym is) ∙ sym (access_at k) ∙ at in (e, is, injective (access_of e) x same)
 
-  same_event : (n : ℕ) (d e : Event) → event_at (operations_of log) n ≡ Some d → event_at (operations_of log) n ≡ Some e → d ≡ e
+  same_event : (n : ℕ) (d e : Event) → event_at (log_operations log) n ≡ Some d → event_at (log_operations log) n ≡ Some e → d ≡ e
   same_event n d e at_d at_e = injective d e (sym at_d ∙ at_e)
 
   -- a store that a load can have read is an access that wrote its value
-  store_access : (j n : ℕ) (e : Event) → event_at (operations_of log) n ≡ Some e → HasSource (operations_of log) n (suc j) → IsStoreOf accesses (e.a, e.value) j
+  store_access : (j n : ℕ) (e : Event) → event_at (log_operations log) n ≡ Some e → HasSource (log_operations log) n (suc j) → IsStoreOf accesses (e.a, e.value) j
   unfolding access_of
   store_access j n e at (load, (d, at_d, is_store), (d1, e1, at_d1, at_e1, same_a), (d2, e2, at_d2, at_e2, same_v)) = (
     access_of d,
@@ -75,7 +75,7 @@ module _ (log : Log) where
   )
 
   -- the other way round
-  access_store : (j n : ℕ) (e : Event) → event_at (operations_of log) n ≡ Some e → IsLoad (operations_of log) n → IsStoreOf accesses (e.a, e.value) j → HasSource (operations_of log) n (suc j)
+  access_store : (j n : ℕ) (e : Event) → event_at (log_operations log) n ≡ Some e → IsLoad (log_operations log) n → IsStoreOf accesses (e.a, e.value) j → HasSource (log_operations log) n (suc j)
   unfolding access_of
   access_store j n e at load (x, at_x, is_store, same_a, same_v) =
       let (d, at_d, is) = access_event j x at_x in (
@@ -86,15 +86,15 @@ module _ (log : Log) where
       )
 
   -- the only writer of what a load read is its only source
-  only_source : (n : ℕ) (e : Event) (s : ℕ) → event_at (operations_of log) n ≡ Some e → IsLoad (operations_of log) n → IsOnlyWriter log.first.items accesses (e.a, e.value) s → IsOnlySource (operations_of log) n s
+  only_source : (n : ℕ) (e : Event) (s : ℕ) → event_at (log_operations log) n ≡ Some e → IsLoad (log_operations log) n → IsOnlyWriter log.first.items accesses (e.a, e.value) s → IsOnlySource (log_operations log) n s
   only_source n e zero at load (first, none) = ((load, (e, at, sym first)), unique)
     where
-      unique : (other : ℕ) → HasSource (operations_of log) n other → other ≡ 0
+      unique : (other : ℕ) → HasSource (log_operations log) n other → other ≡ 0
       unique zero source = refl
       unique (suc j) source = absurd (none j (store_access j n e at source))
   only_source n e (suc k) at load (written, store, only) = (access_store k n e at load store, unique)
     where
-      unique : (other : ℕ) → HasSource (operations_of log) n other → other ≡ suc k
+      unique : (other : ℕ) → HasSource (log_operations log) n other → other ≡ suc k
       unique zero (is_load, (e1, at_e1, first)) =
           absurd (written (sym (ap (λ (x : Event). x.value) (same_event n e e1 at at_e1) ∙ first ∙ ap (λ (x : Event). first_value log.first.items x.a) (same_event n e1 e at_e1 at))))
       unique (suc j) source = ap suc (only j (store_access j n e at source))
@@ -105,5 +105,5 @@ module _ (log : Log) where
   known_sources numbers are l s load is =
       let (k, number, x, at_x, is_load, only) = are l s is in
       let (e, at_e, same) = access_event k x at_x in
-      let at : event_at (operations_of log) l ≡ Some e = ap (event_at (operations_of log)) number ∙ at_e in
+      let at : event_at (log_operations log) l ≡ Some e = ap (event_at (log_operations log)) number ∙ at_e in
       only_source l e s at load (subst (λ (y : Access). IsOnlyWriter log.first.items accesses (y.a, y.value) s) (sym same) only)

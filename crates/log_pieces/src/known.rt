@@ -1,7 +1,7 @@
 ghost use Rattle.std.specs.Prelude.{◌≡◌, ◌≤◌, IfOk, IfSome, true, nat_eq};
 ghost use Rattle.std.specs.List.{IsDistinct};
 ghost use Rattle.tso_ops.specs.Events.{event_total};
-ghost use Rattle.log_text.specs.LogValues.{operations_of};
+ghost use Rattle.log_text.specs.LogValues.{log_operations};
 ghost use Rattle.log_pieces.specs.Pieces.{IsCutOf};
 
 use crate::accesses::number_accesses;
@@ -48,12 +48,12 @@ pub struct Piece {
 
 impl Model for KnownLog {
     ghost use Rattle.tso_ops.specs.Values.{TraceValue, rows};
-    ghost use Rattle.log_text.specs.LogValues.{operations_of};
+    ghost use Rattle.log_text.specs.LogValues.{log_operations};
     ghost use Rattle.log_pieces.specs.Internal.Known.{IsKnownLog};
 
     ghost Value = { TraceValue };
 
-    ghost view = { λ k. operations_of k.log };
+    ghost view = { λ k. log_operations k.log };
 
     ghost invariant = { λ k. IsKnownLog k.log (rows k.numbers.items) k.sources.numbers.items };
 }
@@ -77,7 +77,7 @@ pub(crate) struct Choice {
 impl KnownLog {
     /// Finds the sources of the loads, and how the log is to be cut. OutOfMemory where an allocation was refused.
     pub fn new(alloc: Global, log: Log) -> Result<KnownLog, OutOfMemory>
-        ensures { IfOk result (λ k. k ≡ operations_of log) }
+        ensures { IfOk result (λ k. k ≡ log_operations log) }
     {
         let numbered = number_accesses(alloc, &log.lists)?;
         let sources = find_sources(alloc, &log.first, &numbered.accesses)?;

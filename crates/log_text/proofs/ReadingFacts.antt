@@ -19,7 +19,7 @@ use Rattle.log_text.specs.declared.lines.LogLine.TheVariants.{Pso, First, Issued
 use Rattle.log_text.specs.declared.logs.Log.{Log}
 use Rattle.log_text.specs.declared.logs.LogOperation.{LogOperation}
 use Rattle.log_text.specs.LogTexts.{order_of, entries_in, issued_in, issued_by, is_operation, is_not_below, fault_after, log_of_lines}
-use Rattle.log_text.specs.LogValues.{outcome_of, outcomes_of, operations_of}
+use Rattle.log_text.specs.LogValues.{outcome_of, outcomes_of, log_operations}
 use Rattle.log_text.specs.Internal.Readings.{has_not_below, IsLastGreatest, HoldsLines, IsNext}
 
 or_true : (b : Bool) → (b || true) ≡ true
@@ -173,7 +173,7 @@ rows-push_at lists k old new x (Ok u) inside is pushed = rows-set lists k old ne
 rows-push_at lists k old new x (Err e) inside is pushed = tt
 
 -- the operations of the log are those of the lines that it holds
-pub operations_held : (log : Log) (lines : List LogLine) → HoldsLines log lines → operations_of log ≡ log_of_lines lines
+pub operations_held : (log : Log) (lines : List LogLine) → HoldsLines log lines → log_operations log ≡ log_of_lines lines
 operations_held log lines holds =
     let lists : map outcomes_of (rows log.lists.items) ≡ map (issued_by lines) (range_with_len 0 16) =
     same_lists (map outcomes_of (rows log.lists.items)) (map (issued_by lines) (range_with_len 0 16)) (length-map (rows log.lists.items) outcomes_of ∙ holds.count ∙ sym (length-map-range_with_len (issued_by lines) 0 16))

@@ -11,7 +11,7 @@ use Rattle.log_text.specs.declared.lines.LogLine.{LogLine}
 use Rattle.log_text.specs.declared.logs.Log.{Log}
 use Rattle.log_text.specs.LogLines.{line_said}
 use Rattle.log_text.specs.LogTexts.{fault_after, log_of_lines, AreSaid, SpellsLog, IsLogRefusal, IsPartRefused}
-use Rattle.log_text.specs.LogValues.{operations_of}
+use Rattle.log_text.specs.LogValues.{log_operations}
 use Rattle.log_text.specs.Internal.Readings.{HoldsLines, HasFault, IsTextAccepted, IsTextRefused}
 use Rattle.log_text.proofs.ReadingFacts.{operations_held}
 
@@ -162,7 +162,7 @@ Reached-next text line rest log part after new r cut accepted =
     }
 
 -- nothing stands after the last line
-pub Reached-end : (text : List ℕ) (line : ℕ) (rest : List ℕ) (log : Log) → Reached text line rest log → parts_of rest ≡ rest ∷ [] → rest ≡ [] → SpellsLog text (operations_of log)
+pub Reached-end : (text : List ℕ) (line : ℕ) (rest : List ℕ) (log : Log) → Reached text line rest log → parts_of rest ≡ rest ∷ [] → rest ≡ [] → SpellsLog text (log_operations log)
 Reached-end text line rest log r cut none = record {
   texts = r.texts;
   lines = r.lines;

@@ -20,5 +20,5 @@ abbrev pub outcomes_of : List LogOperation → List Outcome
 outcomes_of operations = map outcome_of operations
 
 -- The log's memory model and first values, and the operations of each processor. No limit of a trace holds of them.
-abbrev pub operations_of : Log → TraceValue
-operations_of log = trace_of_lists (setting_of_first log.order log.first.items) (map outcomes_of (rows log.lists.items))
+abbrev pub log_operations : Log → TraceValue
+log_operations log = trace_of_lists (setting_of_first log.order log.first.items) (map outcomes_of (rows log.lists.items))

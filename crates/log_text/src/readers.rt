@@ -2,7 +2,7 @@ ghost use Rattle.std.specs.Prelude.{◌≡◌, ◌≢◌, IfOk, IfErr, MatchResu
 ghost use Rattle.tso_ops.specs.Values.{TraceValue};
 ghost use Rattle.tso_text.specs.declared.faults.Why.{Why};
 ghost use Rattle.log_text.specs.LogTexts.{SpellsLog, IsLogRefusal};
-ghost use Rattle.log_text.specs.LogValues.{operations_of};
+ghost use Rattle.log_text.specs.LogValues.{log_operations};
 
 use crate::logs::Log;
 use line_text::next_line;
@@ -29,8 +29,8 @@ use tso_text::{TextFault, Why, fault_of};
 /// Of several faults of a line, that of its form counts before that of a number, and both before the others. OutOfMemory,
 /// where an allocation was refused, has line 0.
 pub fn read_log(alloc: Global, text: &[u8]) -> Result<Log, TextFault>
-    ensures found { IfOk result (λ log. SpellsLog text.now (operations_of log)) }
-    ensures only { (t : TraceValue) → SpellsLog text.now t → MatchResult result (λ log. operations_of log ≡ t) (λ fault. fault.why ≡ Why.OutOfMemory) }
+    ensures found { IfOk result (λ log. SpellsLog text.now (log_operations log)) }
+    ensures only { (t : TraceValue) → SpellsLog text.now t → MatchResult result (λ log. log_operations log ≡ t) (λ fault. fault.why ≡ Why.OutOfMemory) }
     ensures refused { IfErr result (λ fault. fault.why ≢ Why.OutOfMemory → IsLogRefusal text.now fault.line fault.why) }
     ensures memory { IfErr result (λ fault. fault.why ≡ Why.OutOfMemory → fault.line ≡ 0) }
 {

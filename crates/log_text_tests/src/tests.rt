@@ -6,8 +6,6 @@ mod refused_allocations;
 
 use log_text::{LogOperation, read_log};
 use std::alloc::Global;
-use std::fmt::Debug;
-use std::process::Abort;
 use tso_text::Why;
 
 /// A first line, and an operation of each kind by two processors.
@@ -41,9 +39,4 @@ fn fault_of(alloc: Global, text: &str) -> Option<(usize, Why)> {
         Ok(_) => None,
         Err(fault) => Some((fault.line, fault.why)),
     }
-}
-
-/// Compares what a call gave with what it has to give.
-fn expect<T: Debug + PartialEq>(rt: &impl Abort, name: &str, found: &T, wanted: &T) {
-    assert_eq!(rt; found, wanted, "{name}");
 }

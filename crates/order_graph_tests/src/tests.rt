@@ -13,20 +13,8 @@ mod paths_and_cycles;
 use bitsets::set_bit;
 use order_graph::{EdgeRows, Graph};
 use std::alloc::{AllocError, Global};
-use std::fmt::Debug;
-use std::process::Abort;
-use traces_for_tests::next_word;
-
-/// Compares what a call gave in this case with what it has to give. An assertion costs the check of a function many times
-/// what a call of this one costs it.
-fn expect<C: Copy + Debug, T: Copy + Debug + PartialEq>(
-    rt: &impl Abort,
-    case: C,
-    found: T,
-    wanted: T,
-) {
-    assert_eq!(rt; found, wanted, "{case:?}");
-}
+use std::test::Fail;
+use traces_for_tests::{expect_equal, next_word};
 
 /// The edge from u to v, for numbers of the graph.
 fn join(graph: &mut Graph, u: usize, v: usize) {
@@ -120,22 +108,15 @@ fn numbers_of(found: &Option<Vec<usize>>) -> &[usize] {
 }
 
 /// Compares the least path between the two with the numbers expected, of which none means that there is no path.
-fn expect_path(
-    rt: &impl Abort,
-    graph: &Graph,
-    ends: (usize, usize),
-    expected: &[usize],
-) -> Result<(), AllocError> {
+fn expect_path(graph: &Graph, ends: (usize, usize), expected: &[usize]) -> Result<(), Fail> {
     let found = least_path(graph, ends.0, ends.1)?;
-    expect(rt, ends, numbers_of(&found), expected);
-    Ok(())
+    expect_equal(ends, numbers_of(&found), expected)
 }
 
 /// Compares the least cycle with the numbers expected, of which none means that there is no cycle.
-fn expect_cycle(rt: &impl Abort, graph: &Graph, expected: &[usize]) -> Result<(), AllocError> {
+fn expect_cycle(graph: &Graph, expected: &[usize]) -> Result<(), Fail> {
     let found = graph.least_cycle()?;
-    expect(rt, "the least cycle", numbers_of(&found), expected);
-    Ok(())
+    expect_equal("the least cycle", numbers_of(&found), expected)
 }
 
 /// The number below the bound that the next word draws.
@@ -165,6 +146,6 @@ fn least_cycle(graph: &Graph) -> Result<Option<Vec<usize>>, AllocError> {
 }
 
 /// Compares the words of the row of paths from u.
-fn expect_words(rt: &impl Abort, graph: &Graph, u: usize, words: &[u64]) {
-    expect(rt, u, path_words(graph, u), words);
+fn expect_words(graph: &Graph, u: usize, words: &[u64]) -> Result<(), Fail> {
+    expect_equal(u, path_words(graph, u), words)
 }

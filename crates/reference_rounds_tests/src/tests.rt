@@ -4,38 +4,26 @@ use reference_rounds::{
     base_edges, has_cycle, has_edge, has_path, is_inferred_pair, new_edges, rank_set, rounds_number,
 };
 use std::alloc::Global;
-use std::fmt::Debug;
-use std::process::Abort;
 use std::test::Fail;
 use traces_for_tests::{
     Example, INDEPENDENT_READS, LOAD_BEFORE_ITS_STORE, MESSAGE_PASSING_STALE,
     ONE_LOCATION_BACKWARDS, OWN_STORE_MISSED, STORE_BUFFERING, STORE_BUFFERING_WITH_BARRIERS,
-    SWAP_READS_ITSELF, TWO_SWAPS_BOTH_FIRST, TWO_SWAPS_EDGES, UNWRITTEN_LOAD, store_buffering,
-    trace_of, two_swaps_both_first,
+    SWAP_READS_ITSELF, TWO_SWAPS_BOTH_FIRST, TWO_SWAPS_EDGES, UNWRITTEN_LOAD, expect_equal,
+    store_buffering, trace_of, two_swaps_both_first,
 };
 use tso_ops::Outcome::{Ld, St};
 use tso_ops::{Order, Outcome};
 
 mod settings;
 
-/// Compares what a call gave in this case with what it has to give. An assertion costs the check of a function many times
-/// what a call of this one costs it.
-fn expect<C: Copy + Debug, T: Copy + Debug + PartialEq>(
-    rt: &impl Abort,
-    case: C,
-    found: T,
-    wanted: T,
-) {
-    assert_eq!(rt; found, wanted, "{case:?}");
-}
-
 /// Fails unless the edges between numbers below `n` are the wanted ones.
-fn assert_edges(rt: &impl Abort, n: usize, edges: &[(usize, usize)], wanted: &[(usize, usize)]) {
+fn assert_edges(n: usize, edges: &[(usize, usize)], wanted: &[(usize, usize)]) -> Result<(), Fail> {
     for u in 0..n {
         for v in 0..n {
-            expect(rt, (u, v), has_edge(edges, u, v), has_edge(wanted, u, v));
+            expect_equal((u, v), has_edge(edges, u, v), has_edge(wanted, u, v))?;
         }
     }
+    Ok(())
 }
 
 #[test]
@@ -43,12 +31,12 @@ fn rank_sets_of_two_swaps(rt: HostRuntime) -> Result<(), Fail> {
     let alloc = rt.alloc();
     let trace = two_swaps_both_first(alloc)?;
     let wanted = &TWO_SWAPS_EDGES;
-    assert_edges(&rt, 5, &rank_set(alloc, &trace, 0)?, &wanted[..6]);
-    assert_edges(&rt, 5, &rank_set(alloc, &trace, 1)?, &wanted[..8]);
+    assert_edges(5, &rank_set(alloc, &trace, 0)?, &wanted[..6])?;
+    assert_edges(5, &rank_set(alloc, &trace, 1)?, &wanted[..8])?;
     let edges = rank_set(alloc, &trace, 2)?;
-    assert_edges(&rt, 5, &edges, wanted);
+    assert_edges(5, &edges, wanted)?;
     let has_cycle = has_cycle(alloc, &edges, trace.node_count())?;
-    expect(&rt, "a cycle", has_cycle, true);
+    expect_equal("a cycle", has_cycle, true)?;
     Ok(())
 }
 
@@ -58,20 +46,15 @@ fn first_round_of_store_buffering(rt: HostRuntime) -> Result<(), Fail> {
     let trace = store_buffering(alloc)?;
     let n = trace.node_count();
     let edges = base_edges(alloc, &trace)?;
-    expect(&rt, "a cycle", has_cycle(alloc, &edges, n)?, false);
-    expect(&rt, "a path", has_path(alloc, &edges, n, 0, 4)?, true);
-    expect(&rt, "no path", has_path(alloc, &edges, n, 1, 2)?, false);
+    expect_equal("a cycle", has_cycle(alloc, &edges, n)?, false)?;
+    expect_equal("a path", has_path(alloc, &edges, n, 0, 4)?, true)?;
+    expect_equal("no path", has_path(alloc, &edges, n, 1, 2)?, false)?;
     let pairs = [
         is_inferred_pair(alloc, &trace, &edges, 2, 3)?,
         is_inferred_pair(alloc, &trace, &edges, 1, 3)?,
     ];
-    expect(&rt, "inferred pairs", pairs, [true, false]);
-    assert_edges(
-        &rt,
-        5,
-        &new_edges(alloc, &trace, &edges)?,
-        &[(2, 3), (4, 1)],
-    );
+    expect_equal("inferred pairs", pairs, [true, false])?;
+    assert_edges(5, &new_edges(alloc, &trace, &edges)?, &[(2, 3), (4, 1)])?;
     Ok(())
 }
 
@@ -82,13 +65,9 @@ fn rounds_of(alloc: Global, rows: &[&[Outcome]]) -> Result<usize, Fail> {
 }
 
 /// Compares the rounds numbers of examples.
-fn expect_rounds(
-    rt: &impl Abort,
-    alloc: Global,
-    examples: &[(Example, usize)],
-) -> Result<(), Fail> {
+fn expect_rounds(alloc: Global, examples: &[(Example, usize)]) -> Result<(), Fail> {
     for (example, rounds) in examples {
-        expect(rt, example.name, rounds_of(alloc, example.rows)?, *rounds);
+        expect_equal(example.name, rounds_of(alloc, example.rows)?, *rounds)?;
     }
     Ok(())
 }
@@ -110,20 +89,15 @@ const FORWARDED: [&[Outcome]; 2] = [
 #[test]
 fn rounds_of_two_processors(rt: HostRuntime) -> Result<(), Fail> {
     let alloc = rt.alloc();
-    expect_rounds(&rt, alloc, &TWO_PROCESSORS)?;
-    expect(
-        &rt,
-        "store buffering",
-        rounds_of(alloc, &STORE_BUFFERING)?,
-        1,
-    );
-    expect(&rt, "forwarded", rounds_of(alloc, &FORWARDED)?, 1);
+    expect_rounds(alloc, &TWO_PROCESSORS)?;
+    expect_equal("store buffering", rounds_of(alloc, &STORE_BUFFERING)?, 1)?;
+    expect_equal("forwarded", rounds_of(alloc, &FORWARDED)?, 1)?;
     Ok(())
 }
 
 #[test]
 fn rounds_of_independent_reads(rt: HostRuntime) -> Result<(), Fail> {
-    expect_rounds(&rt, rt.alloc(), &[(INDEPENDENT_READS, 1)])
+    expect_rounds(rt.alloc(), &[(INDEPENDENT_READS, 1)])
 }
 
 /// Examples whose base edges leave no rule anything to add.
@@ -140,8 +114,8 @@ const OWN_LOAD: [&[Outcome]; 1] = [&[St { a: 1, v: 1 }, Ld { a: 1, r: 1 }]];
 #[test]
 fn no_rounds(rt: HostRuntime) -> Result<(), Fail> {
     let alloc = rt.alloc();
-    expect_rounds(&rt, alloc, &BASE_ALONE)?;
-    expect(&rt, "own load", rounds_of(alloc, &OWN_LOAD)?, 0);
-    expect(&rt, "no processor", rounds_of(alloc, &[])?, 0);
+    expect_rounds(alloc, &BASE_ALONE)?;
+    expect_equal("own load", rounds_of(alloc, &OWN_LOAD)?, 0)?;
+    expect_equal("no processor", rounds_of(alloc, &[])?, 0)?;
     Ok(())
 }

@@ -6,7 +6,7 @@ use Rattle.tso_report.specs.Campaigns.{IsCampaign, LeavesCampaign}
 use Rattle.tso_report.specs.declared.campaigns.CampaignPrograms.{CampaignPrograms}
 use Rattle.tso_report.specs.declared.faults.Fault.{Fault}
 use Rattle.tso_report.specs.declared.faults.Fault.TheVariants.{OutOfMemory, Read, Write, NoThread, Missing}
-use Rattle.tso_report.specs.declared.verdicts.Verdict.{Verdict}
+use Rattle.trace_reports.specs.declared.verdicts.Verdict.{Verdict}
 use Rattle.unit_core.specs.Units.{UnitValue}
 use Rattle.request_serving.specs.Campaigning.{AreProgramsOf, IsCampaignOf, LeavesCampaignText, units_of}
 use Rattle.request_serving.specs.Printing.{unit_of}

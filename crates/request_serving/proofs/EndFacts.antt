@@ -4,17 +4,16 @@ use Rattle.std.specs.Prelude.{Bool, OnErr, Option, ◌≢◌, is_some, not, opti
 use Rattle.std.specs.Borrow.{Bor}
 use Rattle.std.specs.Io.KnownBytes.{Keeps}
 use Rattle.command_line.specs.declared.options.Presentation.{Presentation}
-use Rattle.command_line.specs.declared.options.Presentation.TheVariants.{Report, Explanation, Picture}
 use Rattle.std.proofs.lemmas.List.{append-nil}
-use Rattle.tso_report.specs.declared.verdicts.Verdict.{Verdict}
+use Rattle.trace_reports.specs.declared.verdicts.Verdict.{Verdict}
 use Rattle.tso_report.specs.declared.faults.Fault.{Fault}
 use Rattle.tso_report.specs.declared.faults.Fault.TheVariants.{OutOfMemory, Read, Write, NoThread, Missing}
-use Rattle.tso_report.specs.WrittenReports.{IsCheckReportOfReaders, IsReportOfReader, LeavesAtFault, LeavesCheckFault, WritesCheckReport, WritesPrefix, WritesWhole}
-use Rattle.explaining.specs.Texts.{IsTextOfReader, SaidOfRefusal, SaidOfTrace}
+use Rattle.tso_report.specs.WrittenReports.{IsCheckReportOfReaders, LeavesAtFault, LeavesCheckFault, WritesCheckReport, WritesPrefix, WritesWhole}
+use Rattle.trace_reports.specs.Renderings.{IsTextOfReader, SaidOfRefusal, SaidOfTrace}
 use Rattle.trace_batches.specs.Batches.{IsBatchFault, IsBatchOfReader}
 use Rattle.trace_batches.proofs.BatchFacts.{some_batch}
 use Rattle.trace_batches.proofs.StreamFacts.{none_written}
-use Rattle.request_serving.specs.Endings.{EndsBatched, EndsByReport, IsPresented, Outputs, WritesFaultLine}
+use Rattle.request_serving.specs.Endings.{EndsBatched, EndsByReport, IsPresented, Outputs, WritesFaultLine, refused_as, said_as}
 use Rattle.request_serving.specs.Statuses.{status_of}
 use Rattle.std.proofs.Math.Seq.{take-length}
 use Rattle.request_serving.specs.OpenedFiles.{HasKnown, OpensFirst, OpensNext}
@@ -29,10 +28,6 @@ knows_itself (Some all) = refl
 known_bytes : (known remaining : Option (List ℕ)) → HasKnown known remaining → (known ≡ None) ⊎ (known ≡ remaining)
 known_bytes None remaining has = inl refl
 known_bytes (Some all) remaining has = inr (sym has)
-
-report_of_known : (known remaining : Option (List ℕ)) → HasKnown known remaining → (text : List ℕ) (verdict : Verdict) → IsReportOfReader remaining text verdict → IsReportOfReader known text verdict
-report_of_known None remaining has text verdict report = record { bytes = report.bytes; of_read = report.of_read; of_all = tt }
-report_of_known (Some all) remaining has text verdict report = subst (λ r. IsReportOfReader r text verdict) has report
 
 first_known : (known remaining certs : Option (List ℕ)) → HasKnown known remaining → (text : List ℕ) (verdict : Verdict) → IsCheckReportOfReaders remaining certs text verdict →
     IsCheckReportOfReaders known certs text verdict
@@ -84,9 +79,7 @@ text_of_known said refused (Some all) remaining has text verdict is = subst (λ 
 
 pub presented_of_known : (presentation : Presentation) (known remaining : Option (List ℕ)) → HasKnown known remaining → (text : List ℕ) (verdict : Verdict) → IsPresented presentation remaining text verdict →
     IsPresented presentation known text verdict
-presented_of_known Report = report_of_known
-presented_of_known Explanation = text_of_known _ _
-presented_of_known Picture = text_of_known _ _
+presented_of_known presentation = text_of_known (said_as presentation) (refused_as presentation)
 
 pub batch_of_known : (quiet : Bool) (known remaining : Option (List ℕ)) → HasKnown known remaining → (text : List ℕ) (verdict : Verdict) → IsBatchOfReader quiet remaining text verdict →
     IsBatchOfReader quiet known text verdict

@@ -1,14 +1,7 @@
 -- No record of a lawful unit is called a violation.
-use Rattle.std.proofs.Common.{◌≡◌, ◌≢◌, ◌&&◌, inl, inr, ℕ, true, List, Option, Some, None, IfSome, ap, refl, subst, sym, ◌∙◌, arith}
+use Rattle.std.proofs.Common.{◌≡◌, ◌≢◌, ◌&&◌, inl, inr, ℕ, true, List, Option, IfSome, ap, refl, subst, ◌∙◌, arith}
 use Rattle.std.proofs.lemmas.Bool.{false≢true}
-use Rattle.tso_ops.specs.Settings.{SettingValue}
-use Rattle.tso_ops.specs.Values.{ProgramValue, TraceValue}
-use Rattle.tso_cert.specs.declared.steps.Certificate.{Certificate}
-use Rattle.tso_model.specs.Axioms.{IsConsistent}
-use Rattle.explaining.specs.Explained.{IsTraceExplanation}
-use Rattle.explaining.specs.Texts.{verdict_by}
-use Rattle.tso_report.specs.declared.verdicts.Verdict.{Verdict}
-use Rattle.tso_report.specs.declared.verdicts.Verdict.TheVariants.{NoViolation, Violation}
+use Rattle.tso_ops.specs.Values.{ProgramValue}
 use Rattle.tso_ops.specs.declared.settings.Order.{Order}
 use Rattle.command_line.specs.Requests.{Asked, replaying, running}
 use Rattle.command_line.specs.declared.options.Printing.{Printing}
@@ -18,7 +11,8 @@ use Rattle.command_line.specs.declared.options.UnitKind.{UnitKind}
 use Rattle.command_line.specs.declared.options.UnitKind.TheVariants.{Serial, Buffer, Partial, Faulty}
 use Rattle.command_line.specs.declared.options.UnitOptions.{UnitOptions}
 use Rattle.tso_report.specs.Campaigns.{is_lawful_under}
-use Rattle.tso_text.specs.Grammars.{SpellsProgram}
+use Rattle.tso_text.specs.Texts.{SpellsProgram}
+use Rattle.tso_text.proofs.TextLaws.{program_laws}
 use Rattle.unit_core.specs.declared.accounts.Account.{Account}
 use Rattle.unit_core.specs.Records.{RecordedValue, is_within}
 use Rattle.request_serving.specs.BenchUnits.{is_lawful_kind, is_lawful_under_all, order_of_kind}
@@ -48,16 +42,8 @@ for_all options programs lawful = λ program spelled. kind_lawful options.kind p
 for_text : (options : UnitOptions) (programs : Option (List ℕ)) → SpellsForLawfulUnit options programs → IsLawfulForEach options programs
 for_text options programs is = λ program reads.
     let spelled : SpellsProgram is.bytes program = subst (λ known. IfSome known (λ bytes. SpellsProgram bytes program)) is.has reads.of_all in
-    let same : program.setting ≡ is.program.setting = spelled.0 ∙ sym is.spelled.0 in
-    ap (λ (setting : SettingValue). is_lawful_under setting.order (unit_of options)) same ∙ is.lawful
-
--- an explanation of a trace that has an order is of no violation
-pub explained_silent : (t : TraceValue) (text : List ℕ) (verdict : Verdict) → IsTraceExplanation t text verdict → (verdict ≡ Violation → IsConsistent t → ⊥) → IsConsistent t → verdict ≡ NoViolation
-explained_silent t text verdict explanation no_order consistent = go explanation.certificate explanation.says
-  where
-    go : (certificate : Option Certificate) → verdict ≡ verdict_by certificate → verdict ≡ NoViolation
-    go None says = says
-    go (Some certificate) says = absurd (no_order says consistent)
+    let same = program_laws.one_value is.bytes program is.program spelled is.spelled in
+    ap (λ (p : ProgramValue). is_lawful_under p.setting.order (unit_of options)) same ∙ is.lawful
 
 -- what is printed of a lawful record doesn't end as a violation
 record_status : (printing : Printing) (r : RecordedValue) (account : Account) (text : List ℕ) (status : ℕ) → r.lawful ≡ true → PrintsRecord printing r account text status → status ≢ 3

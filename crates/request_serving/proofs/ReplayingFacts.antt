@@ -1,23 +1,24 @@
 -- Lemmas on what is printed of a replay.
-use Rattle.std.proofs.Common.{◌≡◌, ◌⊎◌, ℕ, List, [], ◌∷◌, take, Ok, Err, Result, IfOk, IfErr, Some, None, IfSome, is_some, unwrap_or, true≢false, ap, subst, sym, inl, inr}
+use Rattle.std.proofs.Common.{◌≡◌, ◌⊎◌, ℕ, List, [], take, Ok, Err, Result, IfOk, IfErr, Some, None, IfSome, is_some, unwrap_or, true≢false, ap, subst, sym, inl, inr}
 use Rattle.std.specs.Prelude.{◌≢◌, OnOk, Option}
 use Rattle.std.specs.Io.KnownBytes.{Keeps}
 use Rattle.command_line.specs.declared.options.RunOptions.{RunOptions}
 use Rattle.tso_ops.specs.Values.{ProgramValue}
 use Rattle.tso_ops.specs.declared.acts.Act.{Act}
 use Rattle.tso_text.specs.declared.faults.Why.{Why}
-use Rattle.tso_text.specs.Grammars.{IsProgramRefusal, IsRefusedProgram, IsScheduleRefusal, SpellsProgram, SpellsSchedule, program_format, schedule_format}
-use Rattle.tso_report.specs.declared.verdicts.Verdict.{Verdict}
-use Rattle.tso_report.specs.declared.verdicts.Verdict.TheVariants.{NoViolation}
+use Rattle.tso_text.specs.Refusals.{IsProgramRefusal, IsRefusedProgram, IsScheduleRefusal}
+use Rattle.tso_text.specs.Texts.{SpellsProgram, SpellsSchedule}
+use Rattle.trace_reports.specs.declared.verdicts.Verdict.{Verdict}
+use Rattle.trace_reports.specs.declared.verdicts.Verdict.TheVariants.{NoViolation}
 use Rattle.tso_report.specs.declared.faults.Fault.{Fault}
 use Rattle.tso_report.specs.declared.faults.Fault.TheVariants.{OutOfMemory, Read, Write, NoThread}
 use Rattle.tso_report.specs.Limits.{trace_read_limit}
 use Rattle.tso_report.specs.Streams.{AppendsPrefix}
 use Rattle.tso_report.specs.WrittenReports.{LeavesAtFault}
-use Rattle.tso_report.proofs.InputFacts.{holds_of_prefix, lists_past, lists_of_prefix, text_refusal_of_prefix}
+use Rattle.tso_report.proofs.InputFacts.{refused_of_prefix, spelled_of_prefix}
 use Rattle.request_serving.specs.Endings.{EndsByText, IsPrintable, Outputs, WritesFaultLine, WritesText}
 use Rattle.request_serving.specs.OpenedFiles.{HasKnown}
-use Rattle.tso_text.proofs.SpellingFacts.{not_both}
+use Rattle.tso_text.proofs.TextLaws.{program_laws, schedule_laws}
 use Rattle.request_serving.proofs.EndFacts.{leaves_as}
 use Rattle.request_serving.specs.Printing.{IsRefusalOf, ReadsAs}
 use Rattle.request_serving.specs.Replaying.{IsReplayText, IsScheduledText}
@@ -35,27 +36,27 @@ module _ (remaining : Option (List ℕ)) (bytes seen : List ℕ) (prefix : IfSom
   pub program_read : (program : ProgramValue) → SpellsProgram seen program → ReadsAs remaining (λ b. SpellsProgram b program)
   program_read program spells =
       let Is : List ℕ → Type 0 = λ b. SpellsProgram b program in
-      reads_as Is (λ input is. holds_of_prefix Is input (λ b long spelled. lists_past program_format b program.lists long spelled.1) is) remaining bytes prefix (subst Is same spells)
+      reads_as Is (λ input is. spelled_of_prefix program_laws input program is) remaining bytes prefix (subst Is same spells)
 
   pub schedule_read : (schedule : List Act) → SpellsSchedule seen schedule → ReadsAs remaining (λ b. SpellsSchedule b schedule)
   schedule_read schedule spells =
       let Is : List ℕ → Type 0 = λ b. SpellsSchedule b schedule in
-      reads_as Is (λ input is. lists_of_prefix schedule_format input (schedule ∷ []) is) remaining bytes prefix (subst Is same spells)
+      reads_as Is (λ input is. spelled_of_prefix schedule_laws input schedule is) remaining bytes prefix (subst Is same spells)
 
   pub program_refused : (line : ℕ) (why : Why) → IsProgramRefusal seen line why → ReadsAs remaining (λ b. IsProgramRefusal b line why)
   program_refused line why refused =
       let Is : List ℕ → Type 0 = λ b. IsProgramRefusal b line why in
-      reads_as Is (λ input is. text_refusal_of_prefix program_format input line why is) remaining bytes prefix (subst Is same refused)
+      reads_as Is (λ input is. refused_of_prefix program_laws input line why is) remaining bytes prefix (subst Is same refused)
 
   pub schedule_refused : (line : ℕ) (why : Why) → IsScheduleRefusal seen line why → ReadsAs remaining (λ b. IsScheduleRefusal b line why)
   schedule_refused line why refused =
       let Is : List ℕ → Type 0 = λ b. IsScheduleRefusal b line why in
-      reads_as Is (λ input is. text_refusal_of_prefix schedule_format input line why is) remaining bytes prefix (subst Is same refused)
+      reads_as Is (λ input is. refused_of_prefix schedule_laws input line why is) remaining bytes prefix (subst Is same refused)
 
 -- what spells a program isn't refused
 pub not_refused_program : (X : Type 0) (remaining : Option (List ℕ)) (program : ProgramValue) → ReadsAs remaining (λ b. SpellsProgram b program) → IfSome remaining (λ all. IsRefusedProgram all → X)
 not_refused_program X None program reads = tt
-not_refused_program X (Some all) program reads = λ refused. absurd (not_both program_format all program.lists refused.0 refused.1 reads.of_all.1 refused.2)
+not_refused_program X (Some all) program reads = λ refused. absurd (program_laws.not_both all program refused.0 refused.1 reads.of_all refused.2)
 
 -- ---- files of which less may be known than of their readers
 

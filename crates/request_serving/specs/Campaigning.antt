@@ -9,7 +9,7 @@ use Rattle.tso_report.specs.declared.faults.Fault.{Fault}
 use Rattle.tso_report.specs.declared.faults.Fault.TheVariants.{OutOfMemory, Read, Write, NoThread, Missing}
 use Rattle.tso_report.specs.Streams.{AppendsPrefix}
 use Rattle.tso_report.specs.Limits.{seed_count_limit}
-use Rattle.tso_report.specs.declared.verdicts.Verdict.{Verdict}
+use Rattle.trace_reports.specs.declared.verdicts.Verdict.{Verdict}
 use Rattle.unit_core.specs.Units.{UnitValue}
 use Rattle.request_serving.specs.MadePrograms.{IsShapeRefusal, asked_shape}
 use Rattle.request_serving.specs.Printing.{unit_of}

@@ -3,13 +3,15 @@ use Rattle.std.specs.Prelude.{◌≡◌, ◌≢◌, ◌⊎◌, ℕ, Bool, List, 
 use Rattle.std.specs.Fmt.{decimal}
 use Rattle.std.specs.Io.KnownBytes.{Appends, Keeps}
 use Rattle.tso_ops.specs.declared.settings.Order.{Order}
-use Rattle.tso_report.specs.declared.verdicts.Verdict.{Verdict}
+use Rattle.trace_reports.specs.declared.verdicts.Verdict.{Verdict}
 use Rattle.tso_report.specs.declared.faults.Fault.{Fault}
 use Rattle.tso_report.specs.declared.faults.Fault.TheVariants.{OutOfMemory, Read, Write, NoThread, Missing}
 use Rattle.tso_report.specs.Streams.{AppendsPrefix}
-use Rattle.tso_report.specs.WrittenReports.{IsReportOfReader, LeavesAtFault, LeavesCheckFault, WritesCheckReport, WritesPrefix, WritesWhole}
-use Rattle.explaining.specs.Pictured.{IsPictureOfReader}
-use Rattle.explaining.specs.WrittenExplanations.{IsExplanationOfReader}
+use Rattle.tso_report.specs.WrittenReports.{LeavesAtFault, LeavesCheckFault, WritesCheckReport, WritesPrefix, WritesWhole}
+use Rattle.trace_explanation.specs.Explained.{explained, refusal_explained}
+use Rattle.trace_pictures.specs.Pictured.{pictured}
+use Rattle.trace_reports.specs.Renderings.{IsTextOfReader, SaidOfRefusal, SaidOfTrace}
+use Rattle.trace_reports.specs.Reports.{refusal_shown, reported}
 use Rattle.trace_batches.specs.Batches.{IsBatchFault, IsBatchOfReader}
 use Rattle.log_cuts.specs.LogCuts.{IsCutFault, LeavesCut, WritesCut, WritesRefusal}
 use Rattle.request_serving.specs.Campaigning.{IsCampaignText, LeavesCampaignText}
@@ -67,11 +69,20 @@ EndsByReport is_report o status =
     ((verdict : Verdict) × WritesWhole is_report o.written_before o.written verdict × Keeps o.errors_before o.errors × (status ≡ status_of verdict))
     ⊎ ((fault : Fault) × LeavesAtFault is_report o.written_before o.written fault × EndsByFault fault o status)
 
--- the verdict on a trace in this form: its report, its explanation or its picture
+-- what is said of a trace in this form, and of an input that is refused
+abbrev pub said_as : Presentation → SaidOfTrace
+said_as Report = reported
+said_as Explanation = explained
+said_as Picture = pictured
+
+abbrev pub refused_as : Presentation → SaidOfRefusal
+refused_as Report = refusal_shown
+refused_as Explanation = refusal_explained
+refused_as Picture = refusal_shown
+
+-- the verdict on a trace in this form
 abbrev pub IsPresented : Presentation → Option (List ℕ) → List ℕ → Verdict → Type 0
-IsPresented Report = IsReportOfReader
-IsPresented Explanation = IsExplanationOfReader
-IsPresented Picture = IsPictureOfReader
+IsPresented presentation remaining text verdict = IsTextOfReader (said_as presentation) (refused_as presentation) remaining text verdict
 
 -- The report of a certificate, of which and of whose trace readers have these bytes. No thread is started for it, so none is refused.
 abbrev pub EndsChecked : Option (List ℕ) → Option (List ℕ) → Outputs → ℕ → Type 0

@@ -1,2 +1,3 @@
 -- For private functions alone.
+pub mod Ranges
 pub mod Runs

@@ -5,7 +5,7 @@ use Rattle.command_line.specs.declared.options.UnitOptions.{UnitOptions}
 use Rattle.command_line.specs.Requests.{Asked, needs}
 use Rattle.tso_ops.specs.Values.{ProgramValue}
 use Rattle.tso_report.specs.Campaigns.{is_lawful_under}
-use Rattle.tso_text.specs.Grammars.{SpellsProgram}
+use Rattle.tso_text.specs.Texts.{SpellsProgram}
 use Rattle.request_serving.specs.BenchUnits.{is_lawful_under_all}
 use Rattle.request_serving.specs.OpenedFiles.{text_bytes}
 use Rattle.request_serving.specs.Printing.{unit_of}

@@ -5,7 +5,7 @@ use Rattle.std.specs.Io.KnownBytes.{Consumes}
 use Rattle.command_line.specs.Requests.{Asked, batching, checking, cutting, needs, replaying}
 use Rattle.tso_report.specs.Limits.{certificate_read_limit, trace_read_limit}
 use Rattle.tso_report.specs.Streams.{LosesPrefix}
-use Rattle.tso_text.specs.Grammars.{IsRefusedProgram, IsRefusedTrace}
+use Rattle.tso_text.specs.Refusals.{IsRefusedProgram, IsRefusedTrace}
 
 -- an opened file has the bytes that are known of its name
 abbrev pub HasKnown : Option (List ℕ) → Option (List ℕ) → Type 0
@@ -30,10 +30,10 @@ TakesInput (replaying options (Some program) schedule) old new = (new ≡ old) �
 TakesInput asked old new = LosesPrefix trace_read_limit old new
 
 -- The first of two texts is in a file that is known, and is refused: it is no trace, or no program. Then the second isn't read.
-abbrev pub IsRefusedFirst : Asked → (List ℕ → Option (List ℕ)) → Type 0
-IsRefusedFirst (checking (Some trace) certificate) files = (text : List ℕ) × (files trace ≡ Some text) × IsRefusedTrace text
-IsRefusedFirst (replaying options (Some program) schedule) files = (text : List ℕ) × (files program ≡ Some text) × IsRefusedProgram text
-IsRefusedFirst asked files = ⊥
+abbrev pub HasRefusedFirstText : Asked → (List ℕ → Option (List ℕ)) → Type 0
+HasRefusedFirstText (checking (Some trace) certificate) files = (text : List ℕ) × (files trace ≡ Some text) × IsRefusedTrace text
+HasRefusedFirstText (replaying options (Some program) schedule) files = (text : List ℕ) × (files program ≡ Some text) × IsRefusedProgram text
+HasRefusedFirstText asked files = ⊥
 
 -- the known names of the files opened so far grow by these
 abbrev pub OpensNext : Option (List (List ℕ)) → Option (List (List ℕ)) → List (List ℕ) → Type 0

@@ -2,11 +2,11 @@
 use Rattle.std.specs.Prelude.{◌≡◌, ℕ, List, ◌++◌, true, Option, IfSome}
 use Rattle.tso_text.specs.declared.faults.Why.{Why}
 use Rattle.tso_text.specs.Printed.{trace_text}
-use Rattle.tso_report.specs.declared.verdicts.Verdict.{Verdict}
-use Rattle.tso_report.specs.declared.verdicts.Verdict.TheVariants.{NoViolation}
-use Rattle.explaining.specs.Explained.{IsTraceExplanation}
+use Rattle.trace_reports.specs.declared.verdicts.Verdict.{Verdict}
+use Rattle.trace_reports.specs.declared.verdicts.Verdict.TheVariants.{NoViolation}
+use Rattle.trace_explanation.specs.Explained.{IsTraceExplanation}
 use Rattle.tso_report.specs.AccountTexts.{account_text}
-use Rattle.tso_report.specs.Reports.{IsTraceReport, refusal_text}
+use Rattle.trace_reports.specs.Reports.{IsTraceReport, refusal_text}
 use Rattle.command_line.specs.declared.options.Printing.{Printing}
 use Rattle.command_line.specs.declared.options.Printing.TheVariants.{Report, Trace, Explanation}
 use Rattle.command_line.specs.declared.options.UnitOptions.{UnitOptions}

@@ -2,7 +2,8 @@
 use Rattle.std.specs.Prelude.{◌⊎◌, ℕ, List, Option, Ok}
 use Rattle.tso_ops.specs.Values.{ProgramValue}
 use Rattle.tso_ops.specs.declared.acts.Act.{Act}
-use Rattle.tso_text.specs.Grammars.{IsProgramRefusal, IsScheduleRefusal, SpellsProgram, SpellsSchedule}
+use Rattle.tso_text.specs.Refusals.{IsProgramRefusal, IsScheduleRefusal}
+use Rattle.tso_text.specs.Texts.{SpellsProgram, SpellsSchedule}
 use Rattle.command_line.specs.declared.options.RunOptions.{RunOptions}
 use Rattle.unit_core.specs.declared.accounts.Account.{Account}
 use Rattle.unit_core.specs.Records.{RecordedValue}

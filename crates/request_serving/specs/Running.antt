@@ -1,7 +1,8 @@
 -- What the program prints of a run with a thread per processor.
 use Rattle.std.specs.Prelude.{◌⊎◌, ℕ, List, Option, Ok}
 use Rattle.tso_ops.specs.Values.{ProgramValue}
-use Rattle.tso_text.specs.Grammars.{IsProgramRefusal, SpellsProgram}
+use Rattle.tso_text.specs.Refusals.{IsProgramRefusal}
+use Rattle.tso_text.specs.Texts.{SpellsProgram}
 use Rattle.command_line.specs.declared.options.RunOptions.{RunOptions}
 use Rattle.issue_desk.specs.Running.{Runs}
 use Rattle.unit_core.specs.declared.accounts.Account.{Account}

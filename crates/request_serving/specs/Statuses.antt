@@ -2,8 +2,8 @@
 use Rattle.std.specs.Prelude.{ℕ}
 use Rattle.log_cuts.specs.declared.cutting.CutVerdict.{CutVerdict}
 use Rattle.log_cuts.specs.declared.cutting.CutVerdict.TheVariants as log
-use Rattle.tso_report.specs.declared.verdicts.Verdict.{Verdict}
-use Rattle.tso_report.specs.declared.verdicts.Verdict.TheVariants.{NoViolation, Violation, Refused}
+use Rattle.trace_reports.specs.declared.verdicts.Verdict.{Verdict}
+use Rattle.trace_reports.specs.declared.verdicts.Verdict.TheVariants.{NoViolation, Violation, Refused}
 
 abbrev pub status_of : Verdict → ℕ
 status_of NoViolation = 0

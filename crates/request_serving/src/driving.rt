@@ -8,7 +8,7 @@ ghost use Rattle.tso_report.specs.Streams.{AppendsPrefix};
 ghost use Rattle.tso_report.specs.declared.faults.Fault.TheVariants.{OutOfMemory};
 ghost use Rattle.request_serving.specs.Endings.{LeadTo, WritesFaultLine, invalid_utf8_line, outputs};
 ghost use Rattle.request_serving.specs.LawfulRequests.{RunsLawfully, runs_on_lawful_unit};
-ghost use Rattle.request_serving.specs.OpenedFiles.{IsRefusedFirst, OpensFirst, TakesInput, files_named, reads_input};
+ghost use Rattle.request_serving.specs.OpenedFiles.{HasRefusedFirstText, OpensFirst, TakesInput, files_named, reads_input};
 
 use crate::endings::end_by;
 use crate::files::{NamedFiles, SystemFiles};
@@ -27,8 +27,10 @@ use tso_report::Fault;
 /// `judge [--workers N] [FILE]`, for a file; `explain` writes why, `draw` a picture, `batch` a line for each of many traces,
 /// and `cut` traces that are cut out of a log. By `check TRACE CERT` it checks a certificate against a trace. `replay` and
 /// `run` execute a program on a memory unit and judge the record, `make` draws a program from a seed, and `campaign` runs
-/// those of many seeds. A file `-` is what the reader has. Status 0: no violation was found, or a text was asked for and written. 2: a text, a certificate, a shape or seeds
-/// were refused; or a log or the arguments were, whose refusal is written to `errors`. 3: a violation, or a certificate that
+/// those of many seeds. A file `-` is what the reader has.
+///
+/// Status 0: no violation was found, or a text was asked for and written. 2: a text, a certificate, a shape or seeds were
+/// refused; or a log or the arguments were, whose refusal is written to `errors`. 3: a violation, or a certificate that
 /// holds. 4: a fault; one line, as `FAULT Read`, is written to `errors`. All files that the arguments name are opened, in
 /// their order, before one is read. At most 1,048,577 bytes of a trace, of a program and of a schedule are read, 67,108,865 of
 /// a certificate; of many traces and of a log all are.
@@ -64,7 +66,7 @@ pub fn drive_over<
     ensures no_false_alarm_of_text { (asked : Asked) → Asks (texts_in arguments.now) asked → RunsLawfully asked (R.remaining reader.old) (O.bytes files.old) → result ≢ 3 }
     ensures opened { (asked : Asked) → Asks (texts_in arguments.now) asked → OpensFirst (O.opened files.old) (O.opened files.new) (files_named asked) }
     ensures unread { (asked : Asked) → Asks (texts_in arguments.now) asked → reads_input asked ≡ false → reader.new ≡ reader.old }
-    ensures unread_after_refusal { (asked : Asked) → Asks (texts_in arguments.now) asked → IsRefusedFirst asked (O.bytes files.old) → reader.new ≡ reader.old }
+    ensures unread_after_refusal { (asked : Asked) → Asks (texts_in arguments.now) asked → HasRefusedFirstText asked (O.bytes files.old) → reader.new ≡ reader.old }
     ensures unread_help { AsksHelp (texts_in arguments.now) → reader.new ≡ reader.old }
     ensures unread_refusal { Refuses (texts_in arguments.now) → reader.new ≡ reader.old }
     ensures taken { (asked : Asked) → Asks (texts_in arguments.now) asked → reads_input asked ≡ true → result ≢ 4 → TakesInput asked (R.remaining reader.old) (R.remaining reader.new) }

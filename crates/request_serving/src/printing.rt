@@ -1,21 +1,21 @@
 //! What is printed of records and of refused texts.
 ghost use Rattle.std.specs.Prelude.{◌≡◌, ◌≢◌, ◌⊎◌, ◌≤◌, IfOk, IfErr};
 ghost use Rattle.tso_report.specs.declared.faults.Fault.{Fault};
-ghost use Rattle.tso_report.specs.Limits.{worker_limit};
-ghost use Rattle.tso_report.specs.Reports.{refusal_text};
+ghost use Rattle.trace_reports.specs.Reports.{refusal_text};
 ghost use Rattle.tso_text.specs.declared.faults.Why.{Why};
 ghost use Rattle.command_line.specs.declared.options.Printing.TheVariants.{Explanation};
 ghost use Rattle.unit_core.specs.declared.accounts.Account.{Account as AccountValue};
+ghost use Rattle.request_serving.specs.Internal.Ranges.{HasWorkerRange};
 ghost use Rattle.request_serving.specs.Printing.{PrintsRecord};
 
 use crate::endings::{DONE, REFUSED, status_of};
 use command_line::{Printing, RunOptions};
-use explaining::explain_trace;
 use std::alloc::Global;
 use std::sync::Wait;
 use std::thread::Threads;
+use trace_explanation::AsExplanation;
 use tso_ops::OutOfMemory;
-use tso_report::{Fault, print_account, render_refusal, report_of_record};
+use tso_report::{Fault, print_account, render_refusal, render_trace, report_of_record};
 use tso_text::{TextFault, print_trace};
 use unit_core::{Account, Recorded};
 
@@ -34,8 +34,7 @@ pub(crate) fn print_record<H: Threads + Wait + AllocGlobal>(
     recorded: &Recorded,
     account: &Account,
 ) -> Result<Printed, Fault>
-    requires some { 1 ≤ options.now.workers }
-    requires most { options.now.workers ≤ worker_limit }
+    requires workers { HasWorkerRange options.now.workers }
     ensures text { IfOk result (λ printed. PrintsRecord options.now.printing recorded.now account.now printed.text.items printed.status) }
     ensures fault { IfErr result (λ fault. (fault ≡ Fault.OutOfMemory) ⊎ (fault ≡ Fault.NoThread)) }
 {
@@ -61,12 +60,17 @@ fn print_explanation<H: Threads + Wait + AllocGlobal>(
     options: &RunOptions,
     recorded: &Recorded,
 ) -> Result<Printed, Fault>
-    requires some { 1 ≤ options.now.workers }
-    requires most { options.now.workers ≤ worker_limit }
+    requires workers { HasWorkerRange options.now.workers }
     ensures text { (account : AccountValue) → IfOk result (λ printed. PrintsRecord Explanation recorded.now account printed.text.items printed.status) }
     ensures fault { IfErr result (λ fault. (fault ≡ Fault.OutOfMemory) ⊎ (fault ≡ Fault.NoThread)) }
 {
-    let explained = explain_trace(rt, rt.alloc(), recorded.trace(), options.workers)?;
+    let explained = render_trace(
+        rt,
+        rt.alloc(),
+        recorded.trace(),
+        options.workers,
+        &AsExplanation,
+    )?;
     Ok(Printed {
         status: status_of(explained.verdict),
         text: explained.text.into_bytes(),

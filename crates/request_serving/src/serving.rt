@@ -5,7 +5,7 @@ ghost use Rattle.tso_report.specs.Limits.{worker_limit};
 ghost use Rattle.tso_report.specs.Streams.{AppendsPrefix};
 ghost use Rattle.request_serving.specs.Endings.{EndsAsAsked, EndsShowing, EndsWithText, outputs};
 ghost use Rattle.request_serving.specs.LawfulRequests.{RunsLawfully, runs_on_lawful_unit};
-ghost use Rattle.request_serving.specs.OpenedFiles.{IsRefusedFirst, OpensFirst, OpensNext, TakesInput, files_named, reads_input};
+ghost use Rattle.request_serving.specs.OpenedFiles.{HasRefusedFirstText, OpensFirst, OpensNext, TakesInput, files_named, reads_input};
 
 use crate::endings::{DONE, REFUSED, end, end_by, end_run, end_with};
 use crate::files::NamedFiles;
@@ -65,7 +65,7 @@ pub fn serve<H: Threads + Wait + Sync + AllocGlobal, O: NamedFiles, R: Read, W: 
     ensures first { OpensFirst (O.opened files.old) (O.opened files.new) (files_named (asked_of request.now)) }
     ensures opened { result ≢ 4 → OpensNext (O.opened files.old) (O.opened files.new) (files_named (asked_of request.now)) }
     ensures unread { reads_input (asked_of request.now) ≡ false → reader.new ≡ reader.old }
-    ensures unread_after_refusal { IsRefusedFirst (asked_of request.now) (O.bytes files.old) → reader.new ≡ reader.old }
+    ensures unread_after_refusal { HasRefusedFirstText (asked_of request.now) (O.bytes files.old) → reader.new ≡ reader.old }
     ensures taken { reads_input (asked_of request.now) ≡ true → result ≢ 4 → TakesInput (asked_of request.now) (R.remaining reader.old) (R.remaining reader.new) }
 {
     match request {

@@ -8,11 +8,13 @@ use Rattle.std.proofs.lemmas.List.{append-nil, take-append-drop, take-map}
 use Rattle.trace_batches.specs.Internal.Cutters.{CutterValue, Cuts, IsAt, rows}
 use Rattle.trace_batches.specs.Pieces.{ArePieces, IsSplit, last_piece}
 use Rattle.trace_batches.proofs.PieceFacts.{cut_at_start, cut_joined, one_list_of_pieces, some_cut, some_pieces}
-use Rattle.tso_report.specs.declared.verdicts.Verdict.{Verdict}
+use Rattle.trace_reports.specs.declared.verdicts.Verdict.{Verdict}
 use Rattle.tso_report.specs.Limits.{trace_read_limit}
 use Rattle.tso_report.specs.Streams.{AppendsPrefix}
 use Rattle.tso_report.specs.WrittenReports.{WritesPrefix, WritesWhole}
-use Rattle.tso_report.proofs.InputFacts.{one_report, report_of_prefix, some_report}
+use Rattle.trace_reports.specs.Reports.{refusal_shown, reported}
+use Rattle.trace_reports.proofs.RenderingFacts.{one_text, some_text}
+use Rattle.tso_report.proofs.ReaderFacts.{report_of_prefix}
 use Rattle.trace_batches.specs.declared.tallies.Tally.{Tally}
 use Rattle.trace_batches.specs.Batches.{AreReports, IsBatch, IsBatchOfReader, ReportValue, batch_verdict, total_line, total_text, trace_lines}
 use Rattle.trace_batches.specs.Internal.Progress.{Counts, Stands, Told, WroteAll, WroteSome}
@@ -35,7 +37,7 @@ reports_of_firsts (p ∷ ps) (r ∷ rs) are = (report_of_prefix p r.text r.verdi
 pub some_reports : (pieces : List (List ℕ)) → (reports : List ReportValue) × AreReports pieces reports
 some_reports [] = ([], tt)
 some_reports (p ∷ ps) =
-    let one = some_report p in
+    let one = some_text reported refusal_shown p in
     let more = some_reports ps in
     (record { text = one.0; verdict = one.1 } ∷ more.0, (one.2, more.1))
 
@@ -51,7 +53,7 @@ one_list_of_reports [] [] (s ∷ ss) first second = absurd second
 one_list_of_reports (p ∷ ps) [] ss first second = absurd first
 one_list_of_reports (p ∷ ps) (r ∷ rs) [] first second = absurd second
 one_list_of_reports (p ∷ ps) (r ∷ rs) (s ∷ ss) first second =
-    let same = one_report p r.text s.text r.verdict s.verdict first.0 second.0 in
+    let same = one_text reported refusal_shown p r.text s.text r.verdict s.verdict first.0 second.0 in
     ap (λ x. x ∷ rs) (same_report r s same.0 same.1) ∙ ap (λ xs. s ∷ xs) (one_list_of_reports ps rs ss first.1 second.1)
 
 -- ---- one text

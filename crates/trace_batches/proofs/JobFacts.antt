@@ -1,19 +1,21 @@
 -- Lemmas on the reports and the lines of pieces, one piece more.
-use Rattle.std.proofs.Common.{◌≡◌, ℕ, suc, ◌+◌, ◌<◌, Bool, List, [], ◌∷◌, ◌++◌, length, map, take, drop, get_or, refl, ap, sym, subst, ◌∙◌, arith, append_assoc, Err}
+use Rattle.std.proofs.Common.{◌≡◌, ◌⊎◌, inl, inr, Ok, Result, IfOk, IfErr, string_bytes, ℕ, suc, ◌+◌, ◌<◌, Bool, List, [], ◌∷◌, ◌++◌, length, map, take, drop, get_or, refl, ap, sym, subst, ◌∙◌, arith, append_assoc, Err}
 use Rattle.std.specs.Prelude.{Option}
 use Rattle.std.specs.Io.KnownBytes.{Appends}
 use Rattle.std.proofs.KnownBytes.{Appends-nil, Appends-trans}
 use Rattle.std.specs.Global.{Vec}
 use Rattle.std.proofs.Math.Seq.{take-append_seam}
-use Rattle.std.proofs.lemmas.List.{append-nil, length-map, length_push, take_more}
+use Rattle.std.proofs.lemmas.List.{append-nil, get_or-map, length-map, length_push, take_more}
 use Rattle.trace_batches.specs.Internal.Cutters.{rows}
-use Rattle.tso_report.specs.declared.faults.Fault.TheVariants.{NoThread}
-use Rattle.tso_report.specs.Reports.{IsReport}
+use Rattle.tso_report.specs.declared.faults.Fault.{Fault}
+use Rattle.tso_report.specs.declared.faults.Fault.TheVariants.{OutOfMemory, NoThread}
+use Rattle.trace_reports.specs.declared.renderings.Report.{Report}
+use Rattle.trace_reports.specs.Reports.{IsReport}
 use Rattle.tso_report.specs.Streams.{AppendsPrefix}
 use Rattle.trace_batches.specs.declared.jobs.Job.{Job}
 use Rattle.trace_batches.specs.declared.tallies.Tally.{Tally}
-use Rattle.trace_batches.specs.Batches.{AreReports, ReportValue, trace_lines, written_line}
-use Rattle.trace_batches.specs.Internal.Progress.{AreJudged, Counts, WroteAll, WroteSome}
+use Rattle.trace_batches.specs.Batches.{AreReports, IsBatchFault, ReportValue, trace_lines, written_line}
+use Rattle.trace_batches.specs.Internal.Progress.{AreJudged, Counts, IsOutcome, WroteAll, WroteSome}
 use Rattle.trace_batches.proofs.StreamFacts.{all_written, prefix_after}
 
 -- ---- reports
@@ -110,4 +112,25 @@ wrote_some quiet before mid pieces i report a b c inside so_far is line =
       lines =
           subst (AppendsPrefix a c) (ap (λ n. trace_lines quiet (suc before.traces) so_far.reports ++ written_line quiet n report) (sym number) ∙ sym (trace_lines-push quiet (suc before.traces) so_far.reports report))
           (prefix_after a b c (trace_lines quiet (suc before.traces) so_far.reports) (written_line quiet (mid.traces + 1) report) so_far.lines line);
+    }
+
+-- ---- the outcome of a job
+
+-- what is rendered of a piece is its report, and a fault of that is one of a batch
+pub outcome_of : (piece : List ℕ) (outcome : Result Report Fault) → IfOk outcome (λ report. IsReport piece (string_bytes report.text) report.verdict) →
+    IfErr outcome (λ fault. (fault ≡ OutOfMemory) ⊎ (fault ≡ NoThread)) → IsOutcome piece outcome
+outcome_of piece (Ok report) said fault = said
+outcome_of piece (Err why) said (inl e) = subst IsBatchFault (sym e) tt
+outcome_of piece (Err why) said (inr e) = subst IsBatchFault (sym e) tt
+
+-- what came of each job came of its piece
+pub judged_each : (old new : List Job) → length new ≡ length old → ((i : ℕ) (d : Job) → i < length old → IsOutcome (get_or old i d).piece.items (get_or new i d).outcome) →
+    AreJudged (map (λ (job : Job). job.piece.items) old) new
+judged_each old new same each =
+    let piece_in : Job → List ℕ = λ job. job.piece.items in
+    record {
+      one_each = same ∙ sym (length-map old piece_in);
+      each = λ i d below.
+          let within = subst (λ n. i < n) (length-map old piece_in) below in
+          subst (λ piece. IsOutcome piece (get_or new i d).outcome) (sym (get_or-map piece_in old i d [] within)) (each i d within);
     }

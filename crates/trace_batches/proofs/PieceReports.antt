@@ -1,32 +1,32 @@
 -- Lemmas on the report of a piece past the limit, and of what is kept of a piece.
 use Rattle.std.proofs.Common.{◌≡◌, ◌↔◌, ℕ, ◌<◌, List, length, take, refl, sym, subst, inr}
-use Rattle.tso_report.specs.declared.verdicts.Verdict.{Verdict}
-use Rattle.tso_report.specs.declared.verdicts.Verdict.TheVariants.{Refused}
+use Rattle.trace_reports.specs.declared.verdicts.Verdict.{Verdict}
+use Rattle.trace_reports.specs.declared.verdicts.Verdict.TheVariants.{Refused}
 use Rattle.tso_report.specs.Limits.{trace_read_limit}
-use Rattle.tso_report.specs.Reports.{IsReport, refusal_text}
-use Rattle.tso_report.proofs.InputFacts.{one_report, report_of_prefix, some_report}
+use Rattle.trace_reports.specs.Reports.{IsReport, refusal_shown, refusal_text, reported}
+use Rattle.trace_reports.proofs.RenderingFacts.{one_text, some_text}
+use Rattle.tso_report.proofs.ReaderFacts.{report_of_prefix}
 use Rattle.tso_text.specs.declared.faults.Why.TheVariants.{TooLong}
-use Rattle.tso_text.specs.Grammars.{trace_format}
-use Rattle.tso_text.specs.Spelling.{text_byte_limit}
-use Rattle.tso_text.proofs.TextFacts.{too_long}
+use Rattle.tso_text.specs.Texts.{text_byte_limit}
+use Rattle.tso_text.proofs.TextLaws.{trace_laws}
 
 -- a report with this text and this verdict
 with_both : (piece : List ℕ) (a b : List ℕ) (v w : Verdict) → a ≡ b → v ≡ w → IsReport piece a v → IsReport piece b w
 with_both piece a b v w text verdict report = subst (λ x. IsReport piece b x) verdict (subst (λ t. IsReport piece t v) text report)
 
 refusal_of_long : (piece : List ℕ) → text_byte_limit < length piece → IsReport piece (refusal_text 0 TooLong) Refused
-refusal_of_long piece long = inr (0, TooLong, too_long trace_format piece long, refl, refl)
+refusal_of_long piece long = inr (0, TooLong, trace_laws.too_long piece long, refl, refl)
 
 pub long_report : (piece text : List ℕ) (verdict : Verdict) → text_byte_limit < length piece → IsReport piece text verdict ↔ ((text ≡ refusal_text 0 TooLong) × (verdict ≡ Refused))
 long_report piece text verdict long =
     let refusal = refusal_of_long piece long in
-    (λ report. one_report piece text (refusal_text 0 TooLong) verdict Refused report refusal, λ says. with_both piece (refusal_text 0 TooLong) text Refused verdict (sym says.0) (sym says.1) refusal)
+    (λ report. one_text reported refusal_shown piece text (refusal_text 0 TooLong) verdict Refused report refusal, λ says. with_both piece (refusal_text 0 TooLong) text Refused verdict (sym says.0) (sym says.1) refusal)
 
 -- what is kept of a piece has its report
 kept_report : (piece text : List ℕ) (verdict : Verdict) → IsReport piece text verdict → IsReport (take trace_read_limit piece) text verdict
 kept_report piece text verdict report =
-    let kept = some_report (take trace_read_limit piece) in
-    let same = one_report piece kept.0 text kept.1 verdict (report_of_prefix piece kept.0 kept.1 kept.2) report in
+    let kept = some_text reported refusal_shown (take trace_read_limit piece) in
+    let same = one_text reported refusal_shown piece kept.0 text kept.1 verdict (report_of_prefix piece kept.0 kept.1 kept.2) report in
     with_both (take trace_read_limit piece) kept.0 text kept.1 verdict same.0 same.1 kept.2
 
 pub same_reports : (piece text : List ℕ) (verdict : Verdict) → IsReport (take trace_read_limit piece) text verdict ↔ IsReport piece text verdict

@@ -3,7 +3,7 @@ use Rattle.std.proofs.Common.{◌≡◌, ℕ, ◌+◌, ◌<◌, ◌≤◌, Bool,
 use Rattle.std.specs.List.{count_by, list_any}
 use Rattle.std.proofs.lemmas.Bool.{cond-false, cond-true, le-ltb, lt-ltb}
 use Rattle.std.proofs.lemmas.List.Sums.{sum_by-cons}
-use Rattle.tso_report.specs.declared.verdicts.Verdict.TheVariants.{NoViolation, Refused, Violation}
+use Rattle.trace_reports.specs.declared.verdicts.Verdict.TheVariants.{NoViolation, Refused, Violation}
 use Rattle.trace_batches.specs.declared.tallies.Tally.{Tally}
 use Rattle.trace_batches.specs.Batches.{ReportValue, batch_verdict, is_refused, is_violation, total_line, total_text}
 use Rattle.trace_batches.specs.Internal.Progress.{Counts}

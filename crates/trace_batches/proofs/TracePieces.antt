@@ -17,9 +17,8 @@ use Rattle.tso_ops.specs.declared.settings.Version.{Version}
 use Rattle.tso_ops.specs.declared.settings.Version.TheVariants.{One, Two}
 use Rattle.tso_ops.specs.Settings.{SettingValue}
 use Rattle.tso_ops.specs.Values.{TraceValue}
-use Rattle.tso_text.specs.Grammars.{trace_header}
-use Rattle.tso_text.specs.Printed.{entry_tokens, items_text, model_text, outcome_tokens, processor_text, setting_text, trace_text, whole_text}
-use Rattle.tso_report.specs.declared.verdicts.Verdict.{Verdict}
+use Rattle.tso_text.specs.Printed.{trace_header, entry_tokens, items_text, model_text, outcome_tokens, processor_text, setting_text, trace_text, whole_text}
+use Rattle.trace_reports.specs.declared.verdicts.Verdict.{Verdict}
 use Rattle.trace_batches.specs.Batches.{AreReports, IsBatch, ReportValue, total_line, trace_lines}
 
 -- ---- bytes that end no line

@@ -5,9 +5,9 @@ use Rattle.std.specs.List.{count_by, list_any}
 use Rattle.trace_batches.specs.Pieces.{ArePieces}
 use Rattle.tso_report.specs.declared.faults.Fault.{Fault}
 use Rattle.tso_report.specs.declared.faults.Fault.TheVariants.{OutOfMemory, Read, Write, NoThread, Missing}
-use Rattle.tso_report.specs.declared.verdicts.Verdict.{Verdict}
-use Rattle.tso_report.specs.declared.verdicts.Verdict.TheVariants.{NoViolation, Violation, Refused}
-use Rattle.tso_report.specs.Reports.{IsReport, no_violation_text, violation_text}
+use Rattle.trace_reports.specs.declared.verdicts.Verdict.{Verdict}
+use Rattle.trace_reports.specs.declared.verdicts.Verdict.TheVariants.{NoViolation, Violation, Refused}
+use Rattle.trace_reports.specs.Reports.{IsReport, no_violation_text, violation_text}
 
 -- ---- the reports of pieces
 

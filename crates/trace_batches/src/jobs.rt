@@ -1,8 +1,6 @@
 //! Pieces of a batch, judged side by side.
-ghost use Rattle.std.specs.Prelude.{◌≡◌, ◌≤◌, IfOk, IfErr, string_bytes, map};
+ghost use Rattle.std.specs.Prelude.{◌≡◌, ◌≤◌, IfOk, map};
 ghost use Rattle.trace_batches.specs.Internal.Cutters.{rows};
-ghost use Rattle.tso_report.specs.Reports.{IsReport};
-ghost use Rattle.trace_batches.specs.Batches.{IsBatchFault};
 ghost use Rattle.trace_batches.specs.Internal.Progress.{AreJudged, IsOutcome};
 
 use std::alloc::Global;
@@ -10,8 +8,7 @@ use std::sync::Wait;
 use std::thread;
 use std::thread::Threads;
 use tso_ops::OutOfMemory;
-use tso_report::{Fault, Report, judge_trace, render_refusal};
-use tso_text::read_trace;
+use tso_report::{AsReport, Fault, Report, render_text};
 
 /// A piece of a stream, and its report.
 #[derive(Drop)]
@@ -35,7 +32,7 @@ impl Job {
     fn judge<H: Threads + Wait>(&mut self, rt: &H, alloc: Global)
         ensures { IsOutcome self.old.piece.items self.new.outcome }
     {
-        self.outcome = report_of(rt, alloc, &self.piece);
+        self.outcome = render_text(rt, alloc, &self.piece, 1, &AsReport);
     }
 }
 
@@ -70,17 +67,8 @@ fn judge_each<H: Threads + Wait + Sync>(rt: &H, alloc: Global, jobs: &mut [Job],
     requires { 1 ≤ workers }
     ensures { AreJudged (map (λ job. job.piece.items) jobs.old) jobs.new }
 {
-    thread::for_each_mut(rt, jobs, workers, &|_, job| job.judge(rt, alloc));
-}
-
-/// The report of a piece, judged with one worker. OutOfMemory where an allocation was refused, NoThread where the system
-/// refused a thread.
-fn report_of<H: Threads + Wait>(rt: &H, alloc: Global, piece: &[u8]) -> Result<Report, Fault>
-    ensures report { IfOk result (λ report. IsReport piece.now (string_bytes report.text) report.verdict) }
-    ensures fault { IfErr result IsBatchFault }
-{
-    match read_trace(alloc, piece) {
-        Ok(trace) => judge_trace(rt, alloc, &trace, 1),
-        Err(fault) => Ok(render_refusal(alloc, fault)?),
-    }
+    let judge = |_: usize, job: &mut Job|
+        ensures { IsOutcome job.entry.now.piece.items job.exit.now.outcome }
+    { job.judge(rt, alloc) };
+    thread::for_each_mut(rt, jobs, workers, &judge);
 }

@@ -4,10 +4,10 @@ ghost use Rattle.std.specs.List.{concat, flat_map};
 ghost use Rattle.trace_batches.specs.Pieces.{ArePieces};
 ghost use Rattle.tso_ops.specs.Values.{TraceValue};
 ghost use Rattle.tso_report.specs.Limits.{trace_read_limit};
-ghost use Rattle.tso_report.specs.Reports.{IsReport, refusal_text};
-ghost use Rattle.tso_report.specs.declared.verdicts.Verdict.{Verdict};
+ghost use Rattle.trace_reports.specs.Reports.{IsReport, refusal_text};
+ghost use Rattle.trace_reports.specs.declared.verdicts.Verdict.{Verdict};
 ghost use Rattle.tso_text.specs.Printed.{trace_text};
-ghost use Rattle.tso_text.specs.Spelling.{text_byte_limit};
+ghost use Rattle.tso_text.specs.Texts.{text_byte_limit};
 ghost use Rattle.tso_text.specs.declared.faults.Why.{Why};
 ghost use Rattle.trace_batches.specs.Batches.{AreReports, IsBatch, ReportValue, total_line, trace_lines};
 

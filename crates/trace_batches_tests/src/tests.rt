@@ -6,12 +6,12 @@ mod pieces;
 mod refused_allocations;
 
 use std::alloc::Global;
-use std::fmt::Debug;
 use std::io::{Read, Write};
-use std::process::Abort;
 use std::sync::Wait;
+use std::test::Fail;
 use std::thread::Threads;
 use trace_batches::{BatchOptions, judge_batch};
+use traces_for_tests::expect_equal;
 use tso_report::{Fault, Verdict};
 
 /// A trace without a violation, a violation and a refused text.
@@ -22,27 +22,16 @@ const STREAM: &[u8] =
 const TEXT: &[u8] =
     b"trace 1 NO VIOLATION FOUND\ntrace 2 VIOLATION\ntrace 3 REFUSED BadNumber line 3\ntraces 3 violations 1 refused 1\n";
 
-/// Compares what a call gave in this case.
-fn expect_equal<H: Abort, C: Copy + Debug, T: Copy + Debug + PartialEq>(
-    rt: &H,
-    case: C,
-    found: T,
-    expected: T,
-) {
-    assert_eq!(rt; found, expected, "{case:?}");
-}
-
 /// Compares what a batch came to, and what it wrote, where it was to write the first bytes of its text.
-fn expect<H: Abort>(
-    rt: &H,
+fn expect(
     case: usize,
     said: Result<Verdict, Fault>,
     expected: Result<Verdict, Fault>,
     written: &[u8],
     text: &[u8],
-) {
-    expect_equal(rt, case, said, expected);
-    expect_equal(rt, case, written, text);
+) -> Result<(), Fail> {
+    expect_equal(case, said, expected)?;
+    expect_equal(case, written, text)
 }
 
 /// Judges a batch with one worker, and writes all lines.

@@ -11,8 +11,7 @@ use Rattle.tso_ops.specs.declared.settings.Order.{Order}
 use Rattle.tso_ops.specs.declared.settings.Order.TheVariants.{Tso, Pso}
 use Rattle.tso_ops.specs.Settings.{SettingValue}
 use Rattle.tso_ops.specs.Values.{TraceValue}
-use Rattle.tso_text.specs.Grammars.{trace_header}
-use Rattle.tso_text.specs.Printed.{entry_tokens, items_text, model_text, outcome_tokens, processor_text, setting_text, trace_text, whole_text}
+use Rattle.tso_text.specs.Printed.{trace_header, entry_tokens, items_text, model_text, outcome_tokens, processor_text, setting_text, trace_text, whole_text}
 use Rattle.tso_ops.specs.declared.operations.EventOperation.{EventOperation}
 use Rattle.tso_ops.proofs.PlaceFacts.{get-left, get-right, get-split}
 use Rattle.trace_explanation.specs.Lines.{ended_line, model_line, processor_lines, setting_lines, text_lines}

@@ -1,4 +1,5 @@
 pub mod Claims
+pub mod Explained
 pub mod Explanations
 pub mod Internal
 pub mod Lines

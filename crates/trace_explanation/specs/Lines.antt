@@ -6,8 +6,7 @@ use Rattle.tso_ops.specs.declared.settings.Order.{Order}
 use Rattle.tso_ops.specs.declared.settings.Order.TheVariants.{Tso, Pso}
 use Rattle.tso_ops.specs.Settings.{SettingValue}
 use Rattle.tso_ops.specs.Values.{TraceValue}
-use Rattle.tso_text.specs.Grammars.{trace_header}
-use Rattle.tso_text.specs.Printed.{entry_tokens}
+use Rattle.tso_text.specs.Printed.{trace_header, entry_tokens}
 use Rattle.trace_explanation.specs.Names.{outcome_text}
 
 -- a line with its line feed

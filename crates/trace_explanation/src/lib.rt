@@ -1,6 +1,7 @@
 //! The explanation of a trace: the text that says to a reader who knows no rule why a trace is a violation.
 //!
-//! `explain` writes it by the trace and its certificate. `README.md` says what is proved.
+//! `explain` writes it by the trace and its certificate; `AsExplanation` is the rendering for `tso_report::present`.
+//! `README.md` says what is proved.
 #![tactic(auto)]
 
 pub use cycles::model_name;
@@ -10,6 +11,7 @@ pub use names::{address_of, outcome_text, part_text, source_of};
 pub use numbers::NumberedSteps;
 pub use prefixes::first_of;
 pub use refusals::explain_refusal;
+pub use rendering::AsExplanation;
 pub use unwritten::list_stores;
 
 mod cycles;
@@ -22,6 +24,7 @@ mod numbers;
 mod prefixes;
 mod refusal_sentences;
 mod refusals;
+mod rendering;
 mod rule_sentences;
 mod unwritten;
 mod words;

@@ -1,10 +1,12 @@
 //! Pictures of traces: the text of a picture, in the language of Graphviz, that shows what each processor did, which load
 //! read which store, and why a trace is a violation.
 //!
-//! `draw` writes it by the trace and its certificate. `README.md` says what is proved.
+//! `draw` writes it by the trace and its certificate; `AsPicture` is the rendering for `tso_report::present`. `README.md`
+//! says what is proved.
 #![tactic(auto)]
 
 pub use pictures::draw;
+pub use rendering::AsPicture;
 pub use rows::Row;
 
 mod captions;
@@ -17,5 +19,6 @@ mod members;
 mod nodes;
 mod pictures;
 mod placed;
+mod rendering;
 mod rows;
 mod wanted;

@@ -314,9 +314,9 @@ step_said-tokens k u v (Inferred rule load path) from to fits =
     rw ((bytes_eq-Decides (decimal k) (decimal k)).1 refl, event-text u from, event-text v to, inferred_said rule load path fits.0 fits.1) refl
 
 -- a line of these tokens says this
-pub cert_line_said-tokens : (k : ℕ) (l : Line) → Fits k → LineFits k l → cert_line_said k (line_tokens k l) ≡ Ok l
+pub cert_line_said-tokens : (k : ℕ) (l : Line) → LineFits k l → cert_line_said k (line_tokens k l) ≡ Ok l
 unfolding cert_line_said unwritten_said
-cert_line_said-tokens k (Step s) low fits =
-    rw (decimal_differs k (codes "cycle") low refl, decimal_differs k (codes "unwritten") low refl, step_said-tokens k s.from s.to s.reason fits.0 fits.1 fits.2) refl
-cert_line_said-tokens k (Cycle ns) low fits = rw (events-text ns fits) refl
-cert_line_said-tokens k (Unwritten n) low fits = rw (fits.1, event-text n fits.0) refl
+cert_line_said-tokens k (Step s) fits =
+    rw (decimal_differs k (codes "cycle") refl, decimal_differs k (codes "unwritten") refl, step_said-tokens k s.from s.to s.reason fits.0 fits.1 fits.2) refl
+cert_line_said-tokens k (Cycle ns) fits = rw (events-text ns fits) refl
+cert_line_said-tokens k (Unwritten n) fits = rw (fits.1, event-text n fits.0) refl

@@ -1,5 +1,6 @@
 -- The printed text of a certificate spells it, and spells no other.
-use Rattle.std.proofs.Common.{◌≡◌, ℕ, zero, suc, ◌+◌, ◌<◌, ◌^◌, false, eqb, List, [], ◌∷◌, ◌++◌, length, map, Result, Ok, Err, refl, ap, sym, ◌∙◌, subst, arith, inl, inr, ⊎_elim, ◌⊎◌, append_assoc, length-append}
+use Rattle.std.proofs.Common.{◌≡◌, ℕ, zero, suc, ◌<◌, false, eqb, List, [], ◌∷◌, ◌++◌, length, map, Result, Ok, Err, refl, ap, sym, ◌∙◌, subst, arith, inl, inr, ⊎_elim, ◌⊎◌, append_assoc, length-append}
+use Rattle.std.proofs.lemmas.Bool.{false≢true}
 use Rattle.std.specs.Prelude.{codes, All, IfOk, IfErr, MatchResult, ◌≢◌}
 use Rattle.std.specs.Fmt.{decimal}
 use Rattle.std.specs.List.{flat_map, slice_split, join_with_byte}
@@ -19,13 +20,14 @@ use Rattle.tso_cert.specs.declared.lines.Line.TheVariants.{Step, Cycle, Unwritte
 use Rattle.tso_cert.specs.declared.faults.Why.{Why}
 use Rattle.tso_cert.specs.declared.faults.Why.TheVariants.{BadLine, BadNumber, BadRule, NoCycle, AfterCycle, OutOfMemory}
 use Rattle.tso_cert.specs.declared.faults.TextFault.{TextFault}
-use Rattle.tso_cert.specs.Printed.{base_name, inferred_name, event_text, reason_tokens, step_tokens, steps_tokens, cycle_tokens, unwritten_tokens, cert_tokens, cert_text, Fits, ReasonFits, StepFits, CertFits, step_count}
+use Rattle.tso_cert.specs.Printed.{base_name, inferred_name, event_text, reason_tokens, step_tokens, steps_tokens, cycle_tokens, unwritten_tokens, cert_tokens, cert_text, Fits, ReasonFits, StepFits, CertFits}
 use Rattle.tso_cert.specs.Spelling.{SpellsCertificate, IsCertTextRefusal}
+use Rattle.tso_cert.specs.Internal.CertLines.{HasCertLines}
 use Rattle.tso_cert.specs.Internal.LineValues.{cert_line_said, step_said, events}
 use Rattle.tso_cert.proofs.LineFacts.{told, line_tokens, ends, LineFits, step_said-tokens, cert_line_said-tokens}
 use Rattle.tso_cert.proofs.SayingFacts.{all_first, all_after, events-text}
 use Rattle.tso_cert.proofs.ReadersFacts.{Reached, AcceptsCertLine, Reached-start, Reached-next, Reached-end}
-use Rattle.tso_cert.proofs.SpellingFacts.{not_both}
+use Rattle.tso_cert.proofs.SpellingFacts.{spelled_or_refused}
 use Rattle.tso_cert.proofs.StepFacts.{accepts}
 
 -- ---- the bytes of tokens
@@ -46,7 +48,7 @@ word_without c word is ten space = either (λ d. has_byte d word ≡ false) c is
 
 event_without : (c n : ℕ) → IsBreak c → Fits n → has_byte c (event_text n) ≡ false
 event_without c zero is fits = word_without c (codes "init") is refl refl
-event_without c (suc n) is fits = decimal_without c (suc n) (low_break c is) fits
+event_without c (suc n) is fits = decimal_without c (suc n) (low_break c is)
 
 events_without : (c : ℕ) (ns : List ℕ) → IsBreak c → All Fits ns → has_byte_in c (map event_text ns) ≡ false
 events_without c [] is fits = refl
@@ -71,10 +73,10 @@ reason_without : (c : ℕ) (r : Reason) → IsBreak c → ReasonFits r → has_b
 reason_without c (Base rule) is fits = rw (base_without c rule is) refl
 reason_without c (Inferred rule load path) is fits = rw (inferred_without c rule is, event_without c load is fits.0) (events_without c path is fits.1)
 
-line_without : (c k : ℕ) (l : Line) → IsBreak c → Fits k → LineFits k l → has_byte_in c (line_tokens k l) ≡ false
-line_without c k (Step s) is low fits = rw (decimal_without c k (low_break c is) low, event_without c s.from is fits.0, event_without c s.to is fits.1) (reason_without c s.reason is fits.2)
-line_without c k (Cycle ns) is low fits = rw (word_without c (codes "cycle") is refl refl) (events_without c ns is fits)
-line_without c k (Unwritten n) is low fits = rw (word_without c (codes "unwritten") is refl refl, event_without c n is fits.0) refl
+line_without : (c k : ℕ) (l : Line) → IsBreak c → LineFits k l → has_byte_in c (line_tokens k l) ≡ false
+line_without c k (Step s) is fits = rw (decimal_without c k (low_break c is), event_without c s.from is fits.0, event_without c s.to is fits.1) (reason_without c s.reason is fits.2)
+line_without c k (Cycle ns) is fits = rw (word_without c (codes "cycle") is refl refl) (events_without c ns is fits)
+line_without c k (Unwritten n) is fits = rw (word_without c (codes "unwritten") is refl refl, event_without c n is fits.0) refl
 
 -- ---- printed lines
 
@@ -85,54 +87,60 @@ line_first k (Cycle ns) = (codes "cycle", _, refl)
 line_first k (Unwritten n) = (codes "unwritten", _, refl)
 
 -- a printed line has just its tokens
-line_cut : (k : ℕ) (l : Line) → Fits k → LineFits k l → tokens_of (join_with_byte 32 (line_tokens k l)) ≡ line_tokens k l
+line_cut : (k : ℕ) (l : Line) → LineFits k l → tokens_of (join_with_byte 32 (line_tokens k l)) ≡ line_tokens k l
 unfolding tokens_of IsBreak
-line_cut k l low fits =
+line_cut k l fits =
     let p = line_first k l in
-    let none : has_byte_in 32 (p.0 ∷ p.1) ≡ false = ap (has_byte_in 32) (sym p.2) ∙ line_without 32 k l (inr refl) low fits in
+    let none : has_byte_in 32 (p.0 ∷ p.1) ≡ false = ap (has_byte_in 32) (sym p.2) ∙ line_without 32 k l (inr refl) fits in
     subst (λ ps. slice_split (λ b. eqb b 32) (join_with_byte 32 ps) ≡ ps) (sym p.2) (split_joined 32 p.0 p.1 none)
 
 -- a printed line ends at its line end
-line_parts : (k : ℕ) (l : Line) (rest : List ℕ) → Fits k → LineFits k l → parts_of (line_text (line_tokens k l) ++ rest) ≡ join_with_byte 32 (line_tokens k l) ∷ parts_of rest
+line_parts : (k : ℕ) (l : Line) (rest : List ℕ) → LineFits k l → parts_of (line_text (line_tokens k l) ++ rest) ≡ join_with_byte 32 (line_tokens k l) ∷ parts_of rest
 unfolding parts_of IsBreak
-line_parts k l rest low fits =
-    let none : has_byte 10 (join_with_byte 32 (line_tokens k l)) ≡ false = joined_without 10 32 (line_tokens k l) refl (line_without 10 k l (inl refl) low fits) in
+line_parts k l rest fits =
+    let none : has_byte 10 (join_with_byte 32 (line_tokens k l)) ≡ false = joined_without 10 32 (line_tokens k l) refl (line_without 10 k l (inl refl) fits) in
     ap (slice_split (λ b. eqb b 10)) (append_assoc (join_with_byte 32 (line_tokens k l)) (10 ∷ []) rest) ∙ split_part 10 (join_with_byte 32 (line_tokens k l)) rest none
 
 -- a printed line is accepted
-line_accepted : (k : ℕ) (l : Line) → Fits k → LineFits k l → AcceptsCertLine k (join_with_byte 32 (line_tokens k l)) (ends l) (line_tokens k l)
-line_accepted k l low fits = accepts k (join_with_byte 32 (line_tokens k l)) l (told k _ l (ap (cert_line_said k) (line_cut k l low fits) ∙ cert_line_said-tokens k l low fits))
+line_accepted : (k : ℕ) (l : Line) → LineFits k l → AcceptsCertLine k (join_with_byte 32 (line_tokens k l)) (ends l) (line_tokens k l)
+line_accepted k l fits = accepts k (join_with_byte 32 (line_tokens k l)) l (told k _ l (ap (cert_line_said k) (line_cut k l fits) ∙ cert_line_said-tokens k l fits))
 
 -- ---- the printed text
 
 -- the lines that are left, after i lines of these tokens, make the certificate
 printed_from : (text : List ℕ) (i : ℕ) (prefix : List (List (List ℕ))) (steps : List CertStep) (cycle : List ℕ) (c : Certificate) →
-    Reached text i (flat_map line_text (steps_tokens (suc i) steps ++ cycle_tokens cycle ∷ [])) prefix → All StepFits steps → All Fits cycle → suc (i + length steps) < 2 ^ 64 →
-    prefix ++ (steps_tokens (suc i) steps ++ cycle_tokens cycle ∷ []) ≡ cert_tokens c → CertFits c → SpellsCertificate text c
-printed_from text i prefix [] cycle c reached steps_fit cycle_fits few whole fits =
-    Reached-end text i _ prefix (join_with_byte 32 (cycle_tokens cycle)) [] (cycle_tokens cycle) c reached (line_parts (suc i) (Cycle cycle) [] (omega (arith, few)) cycle_fits)
-    (line_accepted (suc i) (Cycle cycle) (omega (arith, few)) cycle_fits) whole fits refl
-printed_from text i prefix (s ∷ steps) cycle c reached steps_fit cycle_fits few whole fits =
-    let low : Fits (suc i) = omega (arith, few) in
+    Reached text i (flat_map line_text (steps_tokens (suc i) steps ++ cycle_tokens cycle ∷ [])) prefix → All StepFits steps → All Fits cycle →
+    prefix ++ (steps_tokens (suc i) steps ++ cycle_tokens cycle ∷ []) ≡ cert_tokens c → CertFits c → HasCertLines text c
+printed_from text i prefix [] cycle c reached steps_fit cycle_fits whole fits =
+    Reached-end text i _ prefix (join_with_byte 32 (cycle_tokens cycle)) [] (cycle_tokens cycle) c reached (line_parts (suc i) (Cycle cycle) [] cycle_fits)
+    (line_accepted (suc i) (Cycle cycle) cycle_fits) whole fits refl
+printed_from text i prefix (s ∷ steps) cycle c reached steps_fit cycle_fits whole fits =
     let fits_first : StepFits s = all_first StepFits s steps steps_fit in
     printed_from text (suc i) (prefix ++ step_tokens (suc i) s ∷ []) steps cycle c
     (Reached-next text i _ prefix (join_with_byte 32 (step_tokens (suc i) s)) (flat_map line_text (steps_tokens (suc (suc i)) steps ++ cycle_tokens cycle ∷ [])) (step_tokens (suc i) s) reached
-    (line_parts (suc i) (Step s) _ low fits_first) (line_accepted (suc i) (Step s) low fits_first))
-    (all_after StepFits s steps steps_fit) cycle_fits (omega (arith, few)) (append_assoc prefix (step_tokens (suc i) s ∷ []) _ ∙ whole) fits
+    (line_parts (suc i) (Step s) _ fits_first) (line_accepted (suc i) (Step s) fits_first))
+    (all_after StepFits s steps steps_fit) cycle_fits (append_assoc prefix (step_tokens (suc i) s ∷ []) _ ∙ whole) fits
 
 -- the printed text of a certificate spells it
-pub printed : (c : Certificate) → CertFits c → suc (step_count c) < 2 ^ 64 → SpellsCertificate (cert_text c) c
+printed : (c : Certificate) → CertFits c → HasCertLines (cert_text c) c
 unfolding cert_text
-printed (UnwrittenLoad n) fits few =
-    let low : Fits 1 = omega arith in
-    Reached-end _ 0 _ [] (join_with_byte 32 (unwritten_tokens n)) [] (unwritten_tokens n) (UnwrittenLoad n) (Reached-start _) (line_parts 1 (Unwritten n) [] low (fits, refl)) (line_accepted 1 (Unwritten n) low (fits, refl)) refl fits refl
-printed (CycleOf steps cycle) fits few = printed_from _ 0 [] steps cycle (CycleOf steps cycle) (Reached-start _) fits.0 fits.1 (omega (arith, few)) refl fits
+printed (UnwrittenLoad n) fits =
+    Reached-end _ 0 _ [] (join_with_byte 32 (unwritten_tokens n)) [] (unwritten_tokens n) (UnwrittenLoad n) (Reached-start _) (line_parts 1 (Unwritten n) [] (fits, refl)) (line_accepted 1 (Unwritten n) (fits, refl)) refl fits refl
+printed (CycleOf steps cycle) fits = printed_from _ 0 [] steps cycle (CycleOf steps cycle) (Reached-start _) fits.0 fits.1 refl fits
+
+-- a text has the lines of the certificate that it spells
+pub cert_lines_of : (text : List ℕ) (c : Certificate) → SpellsCertificate text c → HasCertLines text c
+cert_lines_of text c spells = subst (λ t. HasCertLines t c) (sym spells.1) (printed c spells.0)
+
+-- never both
+pub not_both : (text : List ℕ) (c : Certificate) (line : ℕ) (why : Why) → SpellsCertificate text c → IsCertTextRefusal text line why → ⊥
+not_both text c line why spells refusal = false≢true (sym ((cert_lines_of text c spells).clean line why) ∙ refusal.fault)
 
 -- ---- one certificate
 
 -- lines of the same tokens say the same
-same_line : (k : ℕ) (l m : Line) → Fits k → LineFits k l → LineFits k m → line_tokens k l ≡ line_tokens k m → l ≡ m
-same_line k l m low one other same = let s : Ok l ≡ Ok m = sym (cert_line_said-tokens k l low one) ∙ ap (cert_line_said k) same ∙ cert_line_said-tokens k m low other in cc
+same_line : (k : ℕ) (l m : Line) → LineFits k l → LineFits k m → line_tokens k l ≡ line_tokens k m → l ≡ m
+same_line k l m one other same = let s : Ok l ≡ Ok m = sym (cert_line_said-tokens k l one) ∙ ap (cert_line_said k) same ∙ cert_line_said-tokens k m other in cc
 
 uncons : {X : Type 0} (x y : X) (xs ys : List X) → x ∷ xs ≡ y ∷ ys → (x ≡ y) × (xs ≡ ys)
 uncons x y xs ys e = (cc, cc)
@@ -161,10 +169,10 @@ same_steps k (s ∷ steps) (r ∷ others) cycle other sf of cf tf same =
     (ap (λ t. t ∷ steps) first ∙ ap (λ ts. r ∷ ts) rest.0, rest.1)
 
 same_cert : (c d : Certificate) → CertFits c → CertFits d → cert_tokens c ≡ cert_tokens d → c ≡ d
-same_cert (UnwrittenLoad n) (UnwrittenLoad m) cf df same = let l = same_line 1 (Unwritten n) (Unwritten m) (omega arith) (cf, refl) (df, refl) (uncons _ _ _ _ same).0 in cc
-same_cert (UnwrittenLoad n) (CycleOf [] other) cf df same = absurd (let l = same_line 1 (Unwritten n) (Cycle other) (omega arith) (cf, refl) df.1 (uncons _ _ _ _ same).0 in cc)
+same_cert (UnwrittenLoad n) (UnwrittenLoad m) cf df same = let l = same_line 1 (Unwritten n) (Unwritten m) (cf, refl) (df, refl) (uncons _ _ _ _ same).0 in cc
+same_cert (UnwrittenLoad n) (CycleOf [] other) cf df same = absurd (let l = same_line 1 (Unwritten n) (Cycle other) (cf, refl) df.1 (uncons _ _ _ _ same).0 in cc)
 same_cert (UnwrittenLoad n) (CycleOf (r ∷ others) other) cf df same = absurd (more_lines 1 r others other (unwritten_tokens n) same)
-same_cert (CycleOf [] cycle) (UnwrittenLoad m) cf df same = absurd (let l = same_line 1 (Cycle cycle) (Unwritten m) (omega arith) cf.1 (df, refl) (uncons _ _ _ _ same).0 in cc)
+same_cert (CycleOf [] cycle) (UnwrittenLoad m) cf df same = absurd (let l = same_line 1 (Cycle cycle) (Unwritten m) cf.1 (df, refl) (uncons _ _ _ _ same).0 in cc)
 same_cert (CycleOf (s ∷ steps) cycle) (UnwrittenLoad m) cf df same = absurd (more_lines 1 s steps cycle (unwritten_tokens m) (sym same))
 same_cert (CycleOf steps cycle) (CycleOf others other) cf df same =
     let parts = same_steps 1 steps others cycle other cf.0 df.0 cf.1 df.1 same in
@@ -172,7 +180,21 @@ same_cert (CycleOf steps cycle) (CycleOf others other) cf df same =
 
 -- one certificate for a text
 pub one_value : (text : List ℕ) (c d : Certificate) → SpellsCertificate text c → SpellsCertificate text d → c ≡ d
-one_value text c d spells also = same_cert c d spells.fits also.fits (sym spells.says ∙ also.says)
+one_value text c d spells also = same_cert c d spells.0 also.0 (sym (cert_lines_of text c spells).says ∙ (cert_lines_of text d also).says)
+
+-- a text with the lines of a certificate spells it
+cert_spelled : (text : List ℕ) (c : Certificate) → HasCertLines text c → SpellsCertificate text c
+cert_spelled text c has =
+    ⊎_elim
+    (λ (s : (d : Certificate) × SpellsCertificate text d).
+    let same : s.0 ≡ c = same_cert s.0 c s.1.0 has.fits (sym (cert_lines_of text s.0 s.1).says ∙ has.says) in
+    subst (SpellsCertificate text) same s.1)
+    (λ (r : (line : ℕ) × (why : Why) × IsCertTextRefusal text line why). absurd (false≢true (sym (has.clean r.0 r.1) ∙ r.2.fault)))
+    (spelled_or_refused text)
+
+pub found_spelled : (text : List ℕ) (r : Result Certificate TextFault) → IfOk r (HasCertLines text) → IfOk r (SpellsCertificate text)
+found_spelled text (Ok c) has = cert_spelled text c has
+found_spelled text (Err fault) has = tt
 
 or_memory : (why : Why) → (why ≡ OutOfMemory) ⊎ (why ≢ OutOfMemory)
 or_memory BadLine = inr (λ e. absurd cc)

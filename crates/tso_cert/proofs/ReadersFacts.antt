@@ -11,7 +11,8 @@ use Rattle.tso_cert.specs.declared.steps.Certificate.{Certificate}
 use Rattle.tso_cert.specs.declared.faults.Why.{Why}
 use Rattle.tso_cert.specs.declared.faults.Why.TheVariants.{AfterCycle}
 use Rattle.tso_cert.specs.Printed.{CertFits, cert_tokens}
-use Rattle.tso_cert.specs.Spelling.{SpellsCertificate, IsCertTextRefusal, cert_fault_at, cert_part_fault, cert_line_fault, has_last_line, is_last_line, unended_cert_fault, same_cert_fault}
+use Rattle.tso_cert.specs.Internal.CertLines.{HasCertLines}
+use Rattle.tso_cert.specs.Spelling.{IsCertTextRefusal, cert_fault_at, cert_part_fault, cert_line_fault, has_last_line, is_last_line, unended_cert_fault, same_cert_fault}
 use Rattle.tso_cert.specs.Internal.LineValues.{IsFirstCertFault}
 
 -- ---- parts before
@@ -222,7 +223,7 @@ spelled_after text lines (suc k) w ended body high =
 
 -- clean lines with a last line, and nothing after them, spell the certificate that has their tokens
 pub spelled : (text : List ℕ) (lines : List (List ℕ)) (c : Certificate) → IsClean lines → has_last_line lines ≡ true → map tokens_of lines ≡ cert_tokens c → CertFits c →
-    parts_of text ≡ lines ++ [] ∷ [] → SpellsCertificate text c
+    parts_of text ≡ lines ++ [] ∷ [] → HasCertLines text c
 spelled text lines c clean ended says fits body = record {
   clean = λ k w. ⊎_elim
       (λ (low : k < suc (length lines)). cert_fault_at-before text lines [] [] clean body k w low)
@@ -238,7 +239,7 @@ spelled text lines c clean ended says fits body = record {
 -- nothing after the last line: the text spells the certificate of the lines
 pub Reached-end : (text : List ℕ) (i : ℕ) (rest : List ℕ) (tokens : List (List (List ℕ))) (line after : List ℕ) (said : List (List ℕ)) (c : Certificate) →
     Reached text i rest tokens → parts_of rest ≡ line ∷ parts_of after → AcceptsCertLine (suc i) line true said → tokens ++ said ∷ [] ≡ cert_tokens c → CertFits c →
-    length after ≡ 0 → SpellsCertificate text c
+    length after ≡ 0 → HasCertLines text c
 unfolding parts_of
 Reached-end text i rest tokens line [] said c r parts accepts whole fits none =
     spelled text (r.prefix ++ line ∷ []) c

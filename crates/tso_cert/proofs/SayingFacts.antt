@@ -8,11 +8,11 @@ use Rattle.std.specs.Str.{bytes_eq}
 use Rattle.std.specs.Char.{is_ascii_digit}
 use Rattle.std.proofs.lemmas.Bool.{false≢true}
 use Rattle.std.proofs.Math.Bool.{and-false}
-use Rattle.std.proofs.lemmas.Fmt.{digits_decimal}
 use Rattle.std.proofs.lemmas.List.Elements.{All-nil, All-cons}
 use Rattle.std.proofs.lemmas.Slice.Eq.{bytes_eq-Decides}
 use Rattle.line_text.specs.Numbers.{number}
-use Rattle.line_text.proofs.NumberFacts.{digits_model, number_is, number_fits, number-decimal}
+use Rattle.line_text.proofs.SplitFacts.{decimal_digits}
+use Rattle.line_text.proofs.NumberFacts.{number_is, number_fits, number-decimal}
 use Rattle.tso_cert.specs.declared.rules.BaseRule.{BaseRule}
 use Rattle.tso_cert.specs.declared.rules.BaseRule.TheVariants.{Init, LoadOp, StoreStore, Stbar, Membar, Read, Own}
 use Rattle.tso_cert.specs.declared.rules.InferredRule.{InferredRule}
@@ -82,12 +82,12 @@ digits_differ p word digits letters =
     (λ (other : bytes_eq p word ≡ false). other)
     (cases (bytes_eq p word))
 
-pub decimal_differs : (n : ℕ) (word : List ℕ) → Fits n → list_all is_ascii_digit word ≡ false → bytes_eq (decimal n) word ≡ false
-decimal_differs n word fits letters = digits_differ (decimal n) word (digits_decimal digits_model n fits) letters
+pub decimal_differs : (n : ℕ) (word : List ℕ) → list_all is_ascii_digit word ≡ false → bytes_eq (decimal n) word ≡ false
+decimal_differs n word letters = digits_differ (decimal n) word (decimal_digits n) letters
 
 event_number-text : (n : ℕ) → Fits n → event_number (event_text n) ≡ Some n
 event_number-text zero fits = refl
-event_number-text (suc n) fits = rw (decimal_differs (suc n) (codes "init") fits refl, number-decimal (suc n) fits) refl
+event_number-text (suc n) fits = rw (decimal_differs (suc n) (codes "init") refl, number-decimal (suc n) fits) refl
 
 or_bad_ok : (o : Option ℕ) (n : ℕ) → or_bad_event o ≡ Ok n → o ≡ Some n
 or_bad_ok None n e = absurd cc

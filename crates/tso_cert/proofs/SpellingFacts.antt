@@ -15,6 +15,7 @@ use Rattle.tso_cert.specs.declared.lines.Line.TheVariants.{Step, Cycle, Unwritte
 use Rattle.tso_cert.specs.declared.faults.Why.{Why}
 use Rattle.tso_cert.specs.declared.faults.Why.TheVariants.{BadLine, BadNumber, BadRule, NoCycle, AfterCycle, OutOfMemory}
 use Rattle.tso_cert.specs.Printed.{step_tokens, steps_tokens, cert_tokens, cert_text}
+use Rattle.tso_cert.specs.Internal.CertLines.{HasCertLines}
 use Rattle.tso_cert.specs.Spelling.{SpellsCertificate, IsCertTextRefusal, cert_fault_number, unended_cert_fault}
 use Rattle.tso_cert.specs.Internal.LineValues.{cert_line_said}
 use Rattle.tso_cert.proofs.LineFacts.{told, line_tokens, ends}
@@ -45,9 +46,9 @@ same_number v w e = sym (why_at-number_of v) ∙ ap (λ n. why_at (n - 1)) e ∙
 
 -- ---- spelled or refused
 
--- the text spells a certificate, whose text it is; or it is refused
+-- the text spells a certificate, or it is refused
 abbrev pub IsJudged : List ℕ → Type 0
-IsJudged text = ((c : Certificate) × SpellsCertificate text c × (text ≡ cert_text c)) ⊎ ((line : ℕ) × (why : Why) × IsCertTextRefusal text line why)
+IsJudged text = ((c : Certificate) × SpellsCertificate text c) ⊎ ((line : ℕ) × (why : Why) × IsCertTextRefusal text line why)
 
 -- How far a text was walked through: after its steps so far, with their bytes.
 record Walked (text rest : List ℕ) (steps : List CertStep) : Type 0 where
@@ -83,7 +84,7 @@ walked_step text rest steps s w cut is = record {
 
 -- after a last line, which makes this certificate where nothing stands after it
 judged_last : (text rest : List ℕ) (steps : List CertStep) (l : Line) (c : Certificate) → Walked text rest steps → (cut : HasLine rest) → cert_line_said (suc (length steps)) (tokens_of cut.line) ≡ Ok l → ends l ≡ true →
-    steps_tokens 1 steps ++ line_tokens (suc (length steps)) l ∷ [] ≡ cert_tokens c → (length cut.rest ≡ 0 → SpellsCertificate text c) → IsJudged text
+    steps_tokens 1 steps ++ line_tokens (suc (length steps)) l ∷ [] ≡ cert_tokens c → (length cut.rest ≡ 0 → HasCertLines text c) → IsJudged text
 unfolding cert_text
 judged_last text rest steps l c w cut is last whole spells =
     ⊎_elim
@@ -92,10 +93,12 @@ judged_last text rest steps l c w cut is last whole spells =
     let says = (told (suc (length steps)) (tokens_of cut.line) l is).says in
     inl (
       c,
-      spells empty,
-      bytes-push text rest cut.line cut.rest (steps_tokens 1 steps) (line_tokens (suc (length steps)) l) w.bytes cut.bytes says
-          ∙ ap (λ r. flat_map line_text (steps_tokens 1 steps ++ line_tokens (suc (length steps)) l ∷ []) ++ r) (no_bytes cut.rest empty)
-          ∙ append-nil (flat_map line_text (steps_tokens 1 steps ++ line_tokens (suc (length steps)) l ∷ [])) ∙ ap (flat_map line_text) whole,
+      (
+        (spells empty).fits,
+        bytes-push text rest cut.line cut.rest (steps_tokens 1 steps) (line_tokens (suc (length steps)) l) w.bytes cut.bytes says
+            ∙ ap (λ r. flat_map line_text (steps_tokens 1 steps ++ line_tokens (suc (length steps)) l ∷ []) ++ r) (no_bytes cut.rest empty)
+            ∙ append-nil (flat_map line_text (steps_tokens 1 steps ++ line_tokens (suc (length steps)) l ∷ [])) ∙ ap (flat_map line_text) whole,
+      ),
     ))
     (λ (some : 1 ≤ length cut.rest). inr (suc (suc (length steps)), AfterCycle, read_after text rest steps l cut.line cut.rest w.read cut.parts is last (λ none. omega arith)))
     (cases_lt (length cut.rest) 1)
@@ -124,28 +127,8 @@ walk (suc n) text rest steps few w =
     (cert_line_said (suc (length steps)) (tokens_of cut.line)) refl)
     (first_line rest)
 
-pub judged : (text : List ℕ) → IsJudged text
-judged text = walk (length text) text text [] (omega arith) (record { read = IsRead-start text; bytes = refl })
-
-pub spelled_or_refused : (text : List ℕ) → ((c : Certificate) × SpellsCertificate text c) ⊎ ((line : ℕ) × (why : Why) × IsCertTextRefusal text line why)
-spelled_or_refused text =
-    ⊎_elim
-    (λ (s : (c : Certificate) × SpellsCertificate text c × (text ≡ cert_text c)). inl (s.0, s.1))
-    (λ (r : (line : ℕ) × (why : Why) × IsCertTextRefusal text line why). inr r)
-    (judged text)
-
--- never both
-pub not_both : (text : List ℕ) (c : Certificate) (line : ℕ) (why : Why) → SpellsCertificate text c → IsCertTextRefusal text line why → ⊥
-not_both text c line why spells refusal = false≢true (sym (spells.clean line why) ∙ refusal.fault)
-
--- what spells a certificate is its text
-pub one_text : (text : List ℕ) (c : Certificate) → SpellsCertificate text c → text ≡ cert_text c
-unfolding cert_text
-one_text text c spells =
-    ⊎_elim
-    (λ (s : (d : Certificate) × SpellsCertificate text d × (text ≡ cert_text d)). s.2 ∙ ap (flat_map line_text) (sym s.1.says ∙ spells.says))
-    (λ (r : (line : ℕ) × (why : Why) × IsCertTextRefusal text line why). absurd (not_both text c r.0 r.1 spells r.2))
-    (judged text)
+pub spelled_or_refused : (text : List ℕ) → IsJudged text
+spelled_or_refused text = walk (length text) text text [] (omega arith) (record { read = IsRead-start text; bytes = refl })
 
 -- one refusal for a text
 pub one_refusal : (text : List ℕ) (j k : ℕ) (v w : Why) → IsCertTextRefusal text j v → IsCertTextRefusal text k w → (j ≡ k) × (v ≡ w)

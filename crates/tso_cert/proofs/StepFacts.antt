@@ -12,7 +12,8 @@ use Rattle.tso_cert.specs.declared.faults.Why.{Why}
 use Rattle.tso_cert.specs.declared.faults.Why.TheVariants.{AfterCycle, OutOfMemory}
 use Rattle.tso_cert.specs.declared.faults.TextFault.{TextFault}
 use Rattle.tso_cert.specs.Printed.{step_tokens, steps_tokens, unwritten_tokens, cert_tokens, StepFits}
-use Rattle.tso_cert.specs.Spelling.{SpellsCertificate, IsCertTextRefusal}
+use Rattle.tso_cert.specs.Internal.CertLines.{HasCertLines}
+use Rattle.tso_cert.specs.Spelling.{IsCertTextRefusal}
 use Rattle.tso_cert.specs.Internal.LineValues.{cert_line_said}
 use Rattle.tso_cert.proofs.LineFacts.{Told, told, refused, line_tokens, ends}
 use Rattle.tso_cert.proofs.PrintFacts.{steps_tokens-push}
@@ -59,7 +60,7 @@ read_after text rest steps l line remaining r parts is last some =
 
 -- the line of a cycle is the last
 pub read_cycle : (text rest : List ℕ) (steps : List CertStep) (cycle : List ℕ) (line remaining : List ℕ) → IsRead text rest steps → parts_of rest ≡ line ∷ parts_of remaining →
-    cert_line_said (suc (length steps)) (tokens_of line) ≡ Ok (Cycle cycle) → length remaining ≡ 0 → SpellsCertificate text (CycleOf steps cycle)
+    cert_line_said (suc (length steps)) (tokens_of line) ≡ Ok (Cycle cycle) → length remaining ≡ 0 → HasCertLines text (CycleOf steps cycle)
 read_cycle text rest steps cycle line remaining r parts is none =
     Reached-end text (length steps) rest (steps_tokens 1 steps) line remaining (line_tokens (suc (length steps)) (Cycle cycle)) (CycleOf steps cycle) r.reached parts
     (last_accepted (suc (length steps)) line (Cycle cycle) is refl) refl (r.fits, (told (suc (length steps)) (tokens_of line) (Cycle cycle) is).fits) none
@@ -74,7 +75,7 @@ unwritten_alone steps tokens n is = ap (λ p. p ++ unwritten_tokens n ∷ []) (n
 
 -- the line of an unwritten load is the last
 pub read_unwritten : (text rest : List ℕ) (steps : List CertStep) (n : ℕ) (line remaining : List ℕ) → IsRead text rest steps → parts_of rest ≡ line ∷ parts_of remaining →
-    cert_line_said (suc (length steps)) (tokens_of line) ≡ Ok (Unwritten n) → length remaining ≡ 0 → SpellsCertificate text (UnwrittenLoad n)
+    cert_line_said (suc (length steps)) (tokens_of line) ≡ Ok (Unwritten n) → length remaining ≡ 0 → HasCertLines text (UnwrittenLoad n)
 read_unwritten text rest steps n line remaining r parts is none =
     Reached-end text (length steps) rest (steps_tokens 1 steps) line remaining (line_tokens (suc (length steps)) (Unwritten n)) (UnwrittenLoad n) r.reached parts
     (last_accepted (suc (length steps)) line (Unwritten n) is refl) (unwritten_alone steps (tokens_of line) n is) (told (suc (length steps)) (tokens_of line) (Unwritten n) is).fits.0 none
@@ -90,7 +91,7 @@ answered text line why fault_line fault_why is stands refusal other =
     rw (is, place) (refusal not_memory)
 
 -- what is answered after a last line: the certificate, where nothing stands after it
-pub ended_found : (text : List ℕ) (r : Result Certificate TextFault) (c : Certificate) (left : ℕ) → IfOk r (λ d. (d ≡ c) × (left ≡ 0)) → (left ≡ 0 → SpellsCertificate text c) → IfOk r (SpellsCertificate text)
+pub ended_found : (text : List ℕ) (r : Result Certificate TextFault) (c : Certificate) (left : ℕ) → IfOk r (λ d. (d ≡ c) × (left ≡ 0)) → (left ≡ 0 → HasCertLines text c) → IfOk r (HasCertLines text)
 ended_found text (Ok d) c left found spells = rw found.0 (spells found.1)
 ended_found text (Err fault) c left found spells = tt
 

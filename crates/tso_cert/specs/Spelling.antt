@@ -1,5 +1,5 @@
 -- What the text of a certificate spells, and how it is refused: over the whole text, by its lines.
-use Rattle.std.specs.Prelude.{◌≡◌, ℕ, zero, suc, ◌-◌, ◌<◌, ◌==◌, ◌&&◌, ◌||◌, Bool, true, false, not, nat_lt, List, [], ◌∷◌, length, take, drop, get_or, map, Option, Some, None, is_some, codes, if◌then◌else◌}
+use Rattle.std.specs.Prelude.{◌≡◌, ℕ, zero, suc, ◌<◌, ◌==◌, ◌&&◌, ◌||◌, Bool, true, false, not, nat_lt, List, [], ◌∷◌, length, take, drop, get_or, Option, Some, None, is_some, codes, if◌then◌else◌}
 use Rattle.std.specs.List.{list_all, list_any}
 use Rattle.std.specs.Str.{bytes_eq}
 use Rattle.std.specs.Fmt.{decimal}
@@ -12,7 +12,7 @@ use Rattle.tso_cert.specs.declared.rules.InferredRule.TheVariants.{LoadPast, Sto
 use Rattle.tso_cert.specs.declared.steps.Certificate.{Certificate}
 use Rattle.tso_cert.specs.declared.faults.Why.{Why}
 use Rattle.tso_cert.specs.declared.faults.Why.TheVariants.{BadLine, BadNumber, BadRule, NoCycle, AfterCycle, OutOfMemory}
-use Rattle.tso_cert.specs.Printed.{base_name, inferred_name, cert_tokens, CertFits}
+use Rattle.tso_cert.specs.Printed.{base_name, inferred_name, cert_text, CertFits}
 
 -- the number of the refusal: of two on one line the lesser counts
 abbrev pub cert_fault_number : Why → ℕ
@@ -95,10 +95,6 @@ cert_line_fault number tokens OutOfMemory = false
 
 -- ---- the faults of a text
 
--- the lines: the parts that a line end follows
-abbrev pub cert_lines : List ℕ → List (List ℕ)
-cert_lines text = take (length (parts_of text) - 1) (parts_of text)
-
 -- one of these lines is the last of a certificate
 unfoldable pub has_last_line : List (List ℕ) → Bool
 has_last_line lines = list_any (λ line. is_last_line (tokens_of line)) lines
@@ -127,11 +123,9 @@ pub record IsCertTextRefusal (text : List ℕ) (line : ℕ) (why : Why) : Type 0
   pub first : (j : ℕ) (w : Why) → j < line → cert_fault_at text j w ≡ false
   pub least : (w : Why) → cert_fault_number w < cert_fault_number why → cert_fault_at text line w ≡ false
 
--- The text spells the certificate: it has no fault, its lines have the certificate's tokens, and 64 bits hold each number.
-pub record SpellsCertificate (text : List ℕ) (c : Certificate) : Type 0 where
-  pub clean : (line : ℕ) (w : Why) → cert_fault_at text line w ≡ false
-  pub says : map tokens_of (cert_lines text) ≡ cert_tokens c
-  pub fits : CertFits c
+-- The text spells the certificate: it is its text, and 64 bits hold each number.
+abbrev pub SpellsCertificate : List ℕ → Certificate → Type 0
+SpellsCertificate text c = CertFits c × (text ≡ cert_text c)
 
 -- some certificate, some refusal
 abbrev pub IsSpelled : List ℕ → Type 0

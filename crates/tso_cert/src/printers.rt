@@ -24,7 +24,6 @@ pub fn print_cert(alloc: Global, certificate: &Certificate) -> Result<String, Ou
 fn print_lines(text: &mut String, certificate: &Certificate) -> Result<(), OutOfMemory>
     ensures lines { OnOk result (string_bytes text.new ≡ string_bytes text.old ++ cert_text certificate.now) }
     ensures fits { OnOk result (CertFits certificate.now) }
-    ensures count { OnOk result (Fits (suc (step_count certificate.now))) }
 {
     match certificate {
         Certificate::Unwritten(n) => {
@@ -45,7 +44,6 @@ fn print_lines(text: &mut String, certificate: &Certificate) -> Result<(), OutOf
 fn print_steps(text: &mut String, steps: &[CertStep]) -> Result<(), OutOfMemory>
     ensures lines { OnOk result (string_bytes text.new ≡ string_bytes text.old ++ flat_map line_text (steps_tokens 1 steps.now)) }
     ensures fits { OnOk result (All StepFits steps.now) }
-    ensures count { Fits (suc (length steps.now)) }
 {
     for (k, step) in steps.iter().enumerate() {
         print_step(text, k + 1, step)?;

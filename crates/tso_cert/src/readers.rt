@@ -1,5 +1,6 @@
 ghost use Rattle.std.specs.Prelude.{◌≡◌, ◌≢◌, ◌++◌, ◌∷◌, [], length, MatchResult, OnOk, IfOk, IfErr};
 ghost use Rattle.tso_cert.specs.Spelling.{SpellsCertificate, IsCertTextRefusal, unended_cert_fault};
+ghost use Rattle.tso_cert.specs.Internal.CertLines.{HasCertLines};
 ghost use Rattle.tso_cert.specs.declared.faults.Why.{Why};
 ghost use Rattle.tso_cert.specs.declared.steps.Certificate.{Certificate};
 
@@ -24,7 +25,7 @@ pub fn read_cert(alloc: Global, text: &[u8]) -> Result<Certificate, TextFault>
 
 /// The certificate that a text spells, or its refusal.
 fn read(alloc: Global, text: &[u8]) -> Result<Certificate, TextFault>
-    ensures found { IfOk result (SpellsCertificate text.now) }
+    ensures found { IfOk result (HasCertLines text.now) }
     ensures refused { IfErr result (λ fault. fault.why ≢ Why.OutOfMemory → IsCertTextRefusal text.now fault.line fault.why) }
     ensures memory { IfErr result (λ fault. fault.why ≡ Why.OutOfMemory → fault.line ≡ 0) }
 {

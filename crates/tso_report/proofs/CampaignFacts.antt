@@ -1,5 +1,5 @@
 -- Lemmas on campaigns: verdicts as they come in, and the lines of seeds.
-use Rattle.std.proofs.Common.{◌≡◌, ℕ, suc, ◌+◌, ◌<◌, ◌≤◌, ◌^◌, inl, inr, Bool, true, false, ◌&&◌, List, [], ◌∷◌, ◌++◌, length, map, take, set, get_or, replicate, Option, None, Some, unwrap_or, is_some, true≢false, refl, ap, sym, subst, ◌∙◌, arith, append_assoc, codes, length-set}
+use Rattle.std.proofs.Common.{◌≡◌, ◌⊎◌, ℕ, suc, ◌+◌, ◌<◌, ◌≤◌, ◌^◌, inl, inr, Bool, true, false, ◌&&◌, List, [], ◌∷◌, ◌++◌, length, map, take, set, get_or, replicate, Option, None, Some, unwrap_or, is_some, true≢false, refl, ap, sym, subst, ◌∙◌, arith, append_assoc, codes, length-set}
 use Rattle.std.specs.Fmt.{decimal}
 use Rattle.std.proofs.lemmas.Bool.{cases_eq}
 use Rattle.std.proofs.lemmas.List.{append-nil, length-take-le, take_more, get_or-map, get_or-replicate, get_or-set_other, get_or-set_same, length-map, length-replicate}
@@ -12,12 +12,12 @@ use Rattle.unit_core.specs.Records.{RecordedValue, is_within}
 use Rattle.unit_core.specs.Units.{UnitValue}
 use Rattle.issue_desk.specs.Running.{IsRunOf}
 use Rattle.tso_report.specs.declared.campaigns.CampaignPrograms.{CampaignPrograms}
-use Rattle.tso_report.specs.declared.verdicts.Verdict.{Verdict}
-use Rattle.tso_report.specs.declared.verdicts.Verdict.TheVariants.{NoViolation, Violation, Refused}
+use Rattle.trace_reports.specs.declared.verdicts.Verdict.{Verdict}
+use Rattle.trace_reports.specs.declared.verdicts.Verdict.TheVariants.{NoViolation, Violation, Refused}
 use Rattle.tso_report.specs.Campaigns.{AreVerdicts, IsVerdictOfSeed, campaign_program, program_of_seed_with_order, seed_line, seed_lines, verdict_line, verdict_of}
 use Rattle.tso_report.specs.Internal.Gathering.{AreUnitsFrom, GatheredValue, IsGathered, KeepsSeeds, is_violation}
-use Rattle.tso_report.specs.Reports.{IsTraceReport}
-use Rattle.tso_report.proofs.InputFacts.{consistent_verdict}
+use Rattle.trace_reports.specs.Reports.{IsTraceReport}
+use Rattle.trace_reports.proofs.RenderingFacts.{consistent_verdict, trace_verdict}
 use Rattle.tso_report.proofs.LawfulRecords.{lawful_consistent}
 
 -- the lines of one more seed
@@ -103,10 +103,14 @@ came-all programs units unit_of old new violations is kept are came =
 -- ---- a seed
 
 -- the verdict on a trace, as a violation or not
+says_violation : (v : Verdict) → (v ≡ Violation) ⊎ (v ≡ NoViolation) → v ≡ verdict_of (is_violation v)
+says_violation NoViolation either = refl
+says_violation Violation either = refl
+says_violation Refused (inl e) = e ∙ ap (λ v. verdict_of (is_violation v)) (sym e)
+says_violation Refused (inr e) = e ∙ ap (λ v. verdict_of (is_violation v)) (sym e)
+
 report_says : (t : TraceValue) (text : List ℕ) (v : Verdict) → IsTraceReport t text v → IsTraceReport t text (verdict_of (is_violation v))
-report_says t text NoViolation report = report
-report_says t text Violation report = report
-report_says t text Refused report = absurd report.says
+report_says t text v report = subst (IsTraceReport t text) (says_violation v (trace_verdict t text v report)) report
 
 -- the programs of seeds are of their memory model
 of_order : (order : Order) (shape : ShapeValue) (seed : ℕ) → (program_of_seed_with_order order shape seed).setting.order ≡ order

@@ -3,14 +3,14 @@ use Rattle.std.proofs.Common.{◌≡◌, ◌⊎◌, ◌↔◌, ℕ, ◌<◌, ◌
 use Rattle.std.proofs.lemmas.Bool.{false≢true, cases_lt}
 use Rattle.std.proofs.lemmas.List.{take_all, length-take-le}
 use Rattle.std.specs.Prelude.{Option}
-use Rattle.tso_ops.specs.Values.{TraceValue, trace_of_lists}
+use Rattle.tso_ops.specs.Values.{TraceValue}
 use Rattle.tso_ops.specs.Limits.{IsTrace}
 use Rattle.tso_text.specs.declared.faults.Why.{Why}
-use Rattle.tso_text.specs.Spelling.{preamble_of}
-use Rattle.tso_text.specs.Grammars.{trace_format, SpellsTrace, IsRefusedTrace, IsTraceRefusal}
-use Rattle.tso_text.proofs.SpellingFacts.{not_both, spelled_or_refused}
-use Rattle.tso_cert.proofs.SpellingFacts.{not_both as cert_not_both, one_refusal as one_unread, spelled_or_refused as spelled_or_unread}
-use Rattle.tso_cert.proofs.PrintedFacts.{one_value}
+use Rattle.tso_text.specs.Texts.{SpellsTrace}
+use Rattle.tso_text.specs.Refusals.{IsRefusedTrace, IsTraceRefusal}
+use Rattle.tso_text.proofs.TextLaws.{trace_laws}
+use Rattle.tso_cert.proofs.SpellingFacts.{one_refusal as one_unread, spelled_or_refused as spelled_or_unread}
+use Rattle.tso_cert.proofs.PrintedFacts.{not_both as cert_not_both, one_value}
 use Rattle.tso_model.specs.Certs.{Holds}
 use Rattle.tso_model.specs.Axioms.{IsConsistent}
 use Rattle.tso_model.proofs.CertificateHolds.{not_consistent}
@@ -18,13 +18,14 @@ use Rattle.tso_ops.proofs.NumberFacts.{own_values}
 use Rattle.cert_check.specs.Refusals.{IsCertRefusal}
 use Rattle.cert_check.proofs.RefusalExists.{holds_or_refused}
 use Rattle.cert_check.proofs.RefusalFacts.{not_refused, one_refusal}
-use Rattle.tso_report.specs.declared.verdicts.Verdict.{Verdict}
-use Rattle.tso_report.specs.declared.verdicts.Verdict.TheVariants.{NoViolation, Violation, Refused}
-use Rattle.tso_report.specs.Reports.{refusal_text}
+use Rattle.trace_reports.specs.declared.verdicts.Verdict.{Verdict}
+use Rattle.trace_reports.specs.declared.verdicts.Verdict.TheVariants.{NoViolation, Violation, Refused}
+use Rattle.trace_reports.specs.Reports.{refusal_shown, refusal_text}
 use Rattle.tso_report.specs.Checks.{holds_text, fails_text, unread_text, SpellsHolding, SpellHolding, IsFailureReport, IsUnreadReport, IsCertReport, IsCertReportOfReader, IsCheckReport}
 use Rattle.tso_report.specs.Limits.{certificate_byte_limit, certificate_read_limit, trace_read_limit}
 use Rattle.tso_report.specs.WrittenReports.{IsCheckReportOfReaders}
-use Rattle.tso_report.proofs.InputFacts.{one_refused_input, one_trace, refusal_of_prefix, spells_of_prefix}
+use Rattle.tso_report.proofs.InputFacts.{refusal_of_prefix, spells_of_prefix}
+use Rattle.trace_reports.proofs.RenderingFacts.{one_of_refusal}
 
 -- ---- what is read
 
@@ -74,7 +75,7 @@ pub not_refused_trace : (X : Type 0) (traces : Option (List ℕ)) (bytes seen : 
     SpellsTrace seen t → IfSome traces (λ all. IsRefusedTrace all → X)
 not_refused_trace X None bytes seen t prefix same spells = tt
 not_refused_trace X (Some all) bytes seen t prefix same spells =
-    λ refused. absurd (not_both trace_format all t.lists refused.0 refused.1 (spells_of_prefix all t (subst (λ b. SpellsTrace b t) (same ∙ prefix) spells)).1 refused.2)
+    λ refused. absurd (trace_laws.not_both all t refused.0 refused.1 (spells_of_prefix all t (subst (λ b. SpellsTrace b t) (same ∙ prefix) spells)) refused.2)
 
 -- ---- what the verdict says
 
@@ -100,9 +101,9 @@ cert_violation t cert text v (inr p) = (λ e. absurd (violation_not_refused v p.
 pub check_violation : (trace cert text : List ℕ) (v : Verdict) → IsCheckReport trace cert text v → (v ≡ Violation) ↔ SpellHolding trace cert
 check_violation trace cert text v (inl p) =
     let said = cert_violation p.0 cert text v p.3 in
-    (λ e. (p.0, p.1, said.0 e), λ s. said.1 (subst (λ t. SpellsHolding t cert) (one_trace trace s.0 p.0 s.1 p.1) s.2))
+    (λ e. (p.0, p.1, said.0 e), λ s. said.1 (subst (λ t. SpellsHolding t cert) (trace_laws.one_value trace s.0 p.0 s.1 p.1) s.2))
 check_violation trace cert text v (inr p) =
-    (λ e. absurd (violation_not_refused v p.4 e), λ s. absurd (not_both trace_format trace s.0.lists p.0 p.1 s.1.1 p.2))
+    (λ e. absurd (violation_not_refused v p.4 e), λ s. absurd (trace_laws.not_both trace s.0 p.0 p.1 s.1 p.2))
 
 pub violation_of_readers : (traces certs : Option (List ℕ)) (text : List ℕ) (v : Verdict) → IsCheckReportOfReaders traces certs text v →
     IfSome traces (λ trace. IfSome certs (λ cert. (v ≡ Violation) ↔ SpellHolding trace cert))
@@ -126,7 +127,7 @@ no_order_of_readers None certs bytes seen text v t prefix same spells trace repo
 no_order_of_readers (Some all) certs bytes seen text v t prefix same spells trace report e =
     let whole = spells_of_prefix all t (subst (λ b. SpellsTrace b t) (same ∙ prefix) spells) in
     let none = no_order_of_holding t report.cert trace ((cert_violation t report.cert text v report.is_report).0 e) in
-    λ u s consistent. none (subst IsConsistent (one_trace all u t s whole) consistent)
+    λ u s consistent. none (subst IsConsistent (trace_laws.one_value all u t s whole) consistent)
 
 -- ---- one report
 
@@ -146,10 +147,10 @@ one_cert_report t cert a b v w (inr p) (inl q) = absurd (holding_not_refused t c
 one_cert_report t cert a b v w (inr p) (inr q) = (one_refused_report t cert a b p.0 q.0, p.1 ∙ sym q.1)
 
 pub one_check_report : (trace cert a b : List ℕ) (v w : Verdict) → IsCheckReport trace cert a v → IsCheckReport trace cert b w → (a ≡ b) × (v ≡ w)
-one_check_report trace cert a b v w (inl p) (inl q) = one_cert_report q.0 cert a b v w (subst (λ t. IsCertReport t cert a v) (one_trace trace p.0 q.0 p.1 q.1) p.3) q.3
-one_check_report trace cert a b v w (inl p) (inr q) = absurd (not_both trace_format trace p.0.lists q.0 q.1 p.1.1 q.2)
-one_check_report trace cert a b v w (inr p) (inl q) = absurd (not_both trace_format trace q.0.lists p.0 p.1 q.1.1 p.2)
-one_check_report trace cert a b v w (inr p) (inr q) = one_refused_input trace a b v w p q
+one_check_report trace cert a b v w (inl p) (inl q) = one_cert_report q.0 cert a b v w (subst (λ t. IsCertReport t cert a v) (trace_laws.one_value trace p.0 q.0 p.1 q.1) p.3) q.3
+one_check_report trace cert a b v w (inl p) (inr q) = absurd (trace_laws.not_both trace p.0 q.0 q.1 p.1 q.2)
+one_check_report trace cert a b v w (inr p) (inl q) = absurd (trace_laws.not_both trace q.0 p.0 p.1 q.1 p.2)
+one_check_report trace cert a b v w (inr p) (inr q) = one_of_refusal refusal_shown trace a b v w p q
 
 -- ---- some report
 
@@ -163,7 +164,7 @@ some_cert_report t cert = elim (spelled_or_unread cert) [
 ]
 
 pub some_check_report : (trace cert : List ℕ) → length cert ≤ certificate_byte_limit → (text : List ℕ) × (v : Verdict) × IsCheckReport trace cert text v
-some_check_report trace cert within = elim (spelled_or_refused trace_format trace) [
-  | inl spelled ↦ (let t = trace_of_lists (preamble_of trace_format trace).setting spelled.0 in let report = some_cert_report t cert in (report.0, report.1, inl (t, (refl, spelled.1), within, report.2)))
+some_check_report trace cert within = elim (trace_laws.either trace) [
+  | inl spelled ↦ (let report = some_cert_report spelled.0 cert in (report.0, report.1, inl (spelled.0, spelled.1, within, report.2)))
   | inr refused ↦ (refusal_text refused.0 refused.1, Refused, inr (refused.0, refused.1, refused.2, refl, refl))
 ]

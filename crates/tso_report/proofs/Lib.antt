@@ -4,6 +4,7 @@ pub mod CollectFacts
 pub mod InputFacts
 pub mod LawfulRecords
 pub mod Neighbours
+pub mod ReaderFacts
 pub mod ReportFacts
 pub mod RoundSteps
 pub mod StreamFacts

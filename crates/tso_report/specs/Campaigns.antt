@@ -17,9 +17,9 @@ use Rattle.unit_core.specs.Units.{UnitValue, new_unit}
 use Rattle.tso_report.specs.declared.campaigns.CampaignPrograms.{CampaignPrograms}
 use Rattle.tso_report.specs.declared.faults.Fault.{Fault}
 use Rattle.tso_report.specs.declared.faults.Fault.TheVariants.{OutOfMemory, Read, Write, NoThread, Missing}
-use Rattle.tso_report.specs.declared.verdicts.Verdict.{Verdict}
-use Rattle.tso_report.specs.declared.verdicts.Verdict.TheVariants.{NoViolation, Violation}
-use Rattle.tso_report.specs.Reports.{IsTraceReport, no_violation_text}
+use Rattle.trace_reports.specs.declared.verdicts.Verdict.{Verdict}
+use Rattle.trace_reports.specs.declared.verdicts.Verdict.TheVariants.{NoViolation, Violation}
+use Rattle.trace_reports.specs.Reports.{IsTraceReport, no_violation_text}
 use Rattle.tso_report.specs.WrittenReports.{WritesPrefix}
 
 -- ---- the program of a seed

@@ -2,7 +2,7 @@
 use Rattle.std.specs.Prelude.{◌≡◌, ◌⊎◌, ℕ, ◌≤◌, List, [], ◌∷◌, ◌++◌, length, codes, Option, IfSome}
 use Rattle.std.specs.Fmt.{decimal}
 use Rattle.tso_ops.specs.Values.{TraceValue}
-use Rattle.tso_text.specs.Grammars.{SpellsTrace}
+use Rattle.tso_text.specs.Texts.{SpellsTrace}
 use Rattle.tso_cert.specs.declared.faults.Why.{Why}
 use Rattle.tso_cert.specs.RefusalNames.{certificate_refusal_name}
 use Rattle.tso_cert.specs.declared.steps.Certificate.{Certificate}
@@ -11,10 +11,11 @@ use Rattle.tso_model.specs.Certs.{Holds}
 use Rattle.cert_check.specs.declared.faults.CertFault.{CertFault}
 use Rattle.cert_check.specs.declared.faults.CertFault.TheVariants.{EventRange, NotUnwritten, BaseRefused, SideRefused, PathUnlisted, CycleUnlisted, EmptyCycle}
 use Rattle.cert_check.specs.Refusals.{IsCertRefusal}
-use Rattle.tso_report.specs.declared.verdicts.Verdict.{Verdict}
-use Rattle.tso_report.specs.declared.verdicts.Verdict.TheVariants.{Violation, Refused}
+use Rattle.trace_reports.specs.declared.verdicts.Verdict.{Verdict}
+use Rattle.trace_reports.specs.declared.verdicts.Verdict.TheVariants.{Violation, Refused}
 use Rattle.tso_report.specs.Limits.{certificate_byte_limit}
-use Rattle.tso_report.specs.Reports.{IsRefusalReport}
+use Rattle.trace_reports.specs.Renderings.{IsTextOfRefusal}
+use Rattle.trace_reports.specs.Reports.{refusal_shown}
 
 -- ---- texts
 
@@ -65,7 +66,7 @@ IsCertReport t input text verdict =
 -- The text is the report of both: that of the certificate's text, which keeps its limit, on the trace that the first spells; or
 -- that of the first one's refusal.
 abbrev pub IsCheckReport : List ℕ → List ℕ → List ℕ → Verdict → Type 0
-IsCheckReport trace cert text verdict = ((t : TraceValue) × SpellsTrace trace t × (length cert ≤ certificate_byte_limit) × IsCertReport t cert text verdict) ⊎ IsRefusalReport trace text verdict
+IsCheckReport trace cert text verdict = ((t : TraceValue) × SpellsTrace trace t × (length cert ≤ certificate_byte_limit) × IsCertReport t cert text verdict) ⊎ IsTextOfRefusal refusal_shown trace text verdict
 
 -- the texts are those of a trace and of a certificate that holds for it
 abbrev pub SpellHolding : List ℕ → List ℕ → Type 0

@@ -1,7 +1,7 @@
 -- The limits on what is read, on the number of workers, and on a campaign's seeds.
 pub use Rattle.round_pool.specs.Workers.{worker_limit}
 use Rattle.std.specs.Prelude.{ℕ, suc}
-use Rattle.tso_text.specs.Spelling.{text_byte_limit}
+use Rattle.tso_text.specs.Texts.{text_byte_limit}
 
 -- how many bytes of a trace's text are read at most: one past the limit shows that it is too long
 abbrev pub trace_read_limit : ℕ

@@ -1,11 +1,12 @@
 -- What a call writes of a report, and what a fault leaves of it.
 use Rattle.std.specs.Prelude.{◌≡◌, ℕ, List, Option, IfSome}
 use Rattle.std.specs.Io.KnownBytes.{Appends, Keeps}
-use Rattle.tso_report.specs.declared.verdicts.Verdict.{Verdict}
+use Rattle.trace_reports.specs.declared.verdicts.Verdict.{Verdict}
 use Rattle.tso_report.specs.declared.faults.Fault.{Fault}
 use Rattle.tso_report.specs.declared.faults.Fault.TheVariants.{OutOfMemory, Read, Write, NoThread, Missing}
 use Rattle.tso_report.specs.Checks.{IsCheckReport}
-use Rattle.tso_report.specs.Reports.{IsReport}
+use Rattle.trace_reports.specs.Renderings.{IsTextOfReader}
+use Rattle.trace_reports.specs.Reports.{refusal_shown, reported}
 use Rattle.tso_report.specs.Streams.{AppendsPrefix}
 
 -- ---- over any kind of report
@@ -29,10 +30,8 @@ LeavesAtFault is_report old new (Missing seed) = ⊥
 -- ---- the report of an input
 
 -- The text is the report of some bytes, and of all bytes of the reader where these are known.
-pub record IsReportOfReader (remaining : Option (List ℕ)) (text : List ℕ) (verdict : Verdict) : Type 0 where
-  pub bytes : List ℕ
-  pub of_read : IsReport bytes text verdict
-  pub of_all : IfSome remaining (λ all. IsReport all text verdict)
+abbrev pub IsReportOfReader : Option (List ℕ) → List ℕ → Verdict → Type 0
+IsReportOfReader remaining text verdict = IsTextOfReader reported refusal_shown remaining text verdict
 
 -- known bytes of the writer grow by the report of the reader's bytes, with this verdict
 abbrev pub WritesReport : Option (List ℕ) → Option (List ℕ) → Option (List ℕ) → Verdict → Type 0

@@ -9,7 +9,6 @@ ghost use Rattle.tso_report.specs.WrittenReports.{WritesWhole};
 
 use crate::faults::Fault;
 use crate::streams::writing::write_text;
-use crate::verdicts::Verdict;
 use gathering::Gathered;
 use seeds::SeedUnits;
 use std::alloc::Global;
@@ -17,6 +16,7 @@ use std::io::Write;
 use std::marker::Brand;
 use std::sync::Wait;
 use std::thread::Threads;
+use trace_reports::Verdict;
 use tso_ops::{Order, Shape};
 use unit_core::MemoryUnit;
 use workers::gather;

@@ -3,10 +3,9 @@ ghost use Rattle.std.specs.Prelude.{◌≡◌, ◌≢◌, IfOk, string_bytes};
 ghost use Rattle.tso_cert.specs.declared.faults.Why.{Why};
 ghost use Rattle.tso_report.specs.Checks.{IsCertReport, fails_text, unread_text};
 
-use crate::rendering::Report;
-use crate::verdicts::Verdict;
 use cert_check::{CertFault, check_with_table};
 use std::alloc::Global;
+use trace_reports::{Report, Verdict};
 use tso_cert::{TextFault, Why, read_cert};
 use tso_ops::{OutOfMemory, Trace};
 

@@ -1,10 +1,11 @@
 //! The way of a trace and a certificate: read and parse the one, then the other, check, render, write.
 ghost use Rattle.std.specs.Prelude.{◌≡◌, ◌≢◌, ◌⊎◌, ◌↔◌, ◌≤◌, length, take, string_bytes, IfSome, IfOk, IfErr};
 ghost use Rattle.tso_ops.specs.Values.{TraceValue};
-ghost use Rattle.tso_text.specs.Grammars.{IsRefusedTrace, SpellsTrace};
+ghost use Rattle.tso_text.specs.Refusals.{IsRefusedTrace};
+ghost use Rattle.tso_text.specs.Texts.{SpellsTrace};
 ghost use Rattle.tso_model.specs.Axioms.{IsConsistent};
 ghost use Rattle.tso_report.specs.declared.faults.Fault.{Fault};
-ghost use Rattle.tso_report.specs.declared.verdicts.Verdict.{Verdict};
+ghost use Rattle.trace_reports.specs.declared.verdicts.Verdict.{Verdict};
 ghost use Rattle.tso_report.specs.Checks.{IsCertReportOfReader, SpellHolding};
 ghost use Rattle.tso_report.specs.Limits.{certificate_byte_limit, certificate_read_limit, trace_read_limit};
 ghost use Rattle.tso_report.specs.Streams.{LosesPrefix};
@@ -12,12 +13,11 @@ ghost use Rattle.tso_report.specs.WrittenReports.{IsCheckReportOfReaders, Leaves
 
 use crate::cert_rendering::render_check;
 use crate::faults::Fault;
-use crate::rendering::{Report, render_refusal};
 use crate::streams::reading::read_all;
 use crate::streams::writing::write_text;
-use crate::verdicts::Verdict;
 use std::alloc::Global;
 use std::io::{Read, Write};
+use trace_reports::{Report, Verdict, render_refusal};
 use tso_ops::Trace;
 use tso_text::{MAX_TEXT_BYTES, read_trace};
 

@@ -5,7 +5,7 @@ ghost use Rattle.tso_ops.specs.Events.{IsUnwritten};
 ghost use Rattle.tso_cert.specs.declared.steps.Certificate.TheVariants.{Unwritten};
 ghost use Rattle.tso_model.specs.Certs.{IsCertificateOf};
 ghost use Rattle.tso_report.specs.declared.faults.Fault.{Fault};
-ghost use Rattle.tso_report.specs.RoundsAndCertificates.{IsFinding};
+ghost use Rattle.trace_reports.specs.Findings.{IsFinding};
 
 use crate::certificates::build_cert;
 use crate::faults::Fault;
@@ -13,17 +13,9 @@ use round_pool::{OpenPoolGate, rounds};
 use std::alloc::Global;
 use std::sync::Wait;
 use std::thread::Threads;
+use trace_reports::Finding;
 use tso_cert::Certificate;
 use tso_ops::Trace;
-
-/// What is found of a trace.
-#[derive(Drop)]
-pub struct Finding {
-    /// The trace's rounds number; 0 where a load is unwritten.
-    pub rounds: u64,
-    /// The trace's certificate where it is a violation, else None.
-    pub certificate: Option<Certificate>,
-}
 
 /// Finds out whether a trace is a violation, on `workers` workers (1 to 64): its least load whose value nothing wrote,
 /// or else its rounds, and the certificate where the last rank set has a cycle.

@@ -4,20 +4,19 @@ ghost use Rattle.std.specs.Io.KnownBytes.{Appends};
 ghost use Rattle.round_pool.specs.Workers.{worker_limit};
 ghost use Rattle.tso_model.specs.Axioms.{IsConsistent};
 ghost use Rattle.tso_report.specs.declared.faults.Fault.{Fault};
-ghost use Rattle.tso_report.specs.declared.verdicts.Verdict.{Verdict};
-ghost use Rattle.tso_report.specs.Violations.{IsViolation};
-ghost use Rattle.tso_report.specs.Reports.{IsTraceReport, ShowsNoViolationOf, ShowsViolationOf};
+ghost use Rattle.trace_reports.specs.declared.verdicts.Verdict.{Verdict};
+ghost use Rattle.trace_reports.specs.Violations.{IsViolation};
+ghost use Rattle.trace_reports.specs.Reports.{IsTraceReport, ShowsNoViolationOf, ShowsViolationOf};
 ghost use Rattle.tso_report.specs.WrittenReports.{LeavesAtFault, WritesWhole};
 
 use crate::faults::Fault;
-use crate::judging::judge_trace;
-use crate::rendering::Report;
+use crate::presenting::render_trace;
 use crate::streams::writing::write_text;
-use crate::verdicts::Verdict;
 use std::alloc::Global;
 use std::io::Write;
 use std::sync::Wait;
 use std::thread::Threads;
+use trace_reports::{AsReport, Report, Verdict};
 use unit_core::Recorded;
 
 /// Judges the trace of a unit's record on `workers` workers (1 to 64), builds its whole report, and then writes it.
@@ -67,6 +66,6 @@ pub fn report_of_record<H: Threads + Wait>(
     ensures no_false_alarm { IfOk result (λ report. recorded.now.lawful ≡ true → report.verdict ≡ Verdict.NoViolation) }
     ensures fault { IfErr result (λ fault. (fault ≡ Fault.OutOfMemory) ⊎ (fault ≡ Fault.NoThread)) }
 {
-    let report = judge_trace(rt, alloc, recorded.trace(), workers)?;
+    let report = render_trace(rt, alloc, recorded.trace(), workers, &AsReport)?;
     Ok(report)
 }

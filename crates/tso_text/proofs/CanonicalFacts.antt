@@ -1,28 +1,33 @@
 -- A line that says something is written in one way: its tokens are those that the printers give.
-use Rattle.std.proofs.Common.{◌≡◌, ℕ, ◌≤◌, Bool, true, false, cond, ltb, List, [], ◌∷◌, Option, Some, None, Result, Ok, Err, refl, ap, ◌∙◌, arith, inl, inr, ◌⊎◌}
+use Rattle.std.proofs.Common.{◌≡◌, ℕ, ◌≤◌, Bool, true, false, cond, ltb, List, [], ◌∷◌, Some, None, Result, Ok, Err, refl, ap, ◌∙◌, arith, inl, inr, ◌⊎◌}
 use Rattle.std.specs.Prelude.{codes, IfOk}
 use Rattle.std.specs.Fmt.{decimal}
 use Rattle.std.proofs.lemmas.Bool.Decides.{nat_tests}
 use Rattle.std.proofs.lemmas.Slice.Eq.{bytes_eq-Decides}
 use Rattle.line_text.specs.Lines.{is_empty}
-use Rattle.line_text.specs.Numbers.{number}
+use Rattle.std.specs.Str.Parse.{digits_value}
+use Rattle.line_text.specs.Numbers.{is_numeral, number}
 use Rattle.line_text.proofs.NumberFacts.{number_is}
 use Rattle.tso_text.specs.declared.faults.Why.{Why}
-use Rattle.tso_text.specs.declared.faults.Why.TheVariants.{BeforeProc}
+use Rattle.tso_text.specs.declared.faults.Why.TheVariants.{BadNumber, BeforeProc}
 use Rattle.tso_text.specs.declared.lines.Line.{Line}
 use Rattle.tso_text.specs.declared.lines.Line.TheVariants.{Proc, Item, End}
 use Rattle.line_text.specs.Results.{◌>>=◌}
-use Rattle.tso_text.specs.Numbers.{is_word, address, numeral, or_bad_number, no_number, one_number, two_numbers, three_numbers}
-use Rattle.tso_text.specs.Spelling.{Grammar, line_fault, items_of}
+use Rattle.tso_text.specs.Numbers.{is_word, address, numeral, no_number, one_number, two_numbers, three_numbers}
+use Rattle.tso_text.specs.Internal.Spelling.{Grammar, line_fault, items_of}
 
 -- ---- numbers
 
-pub or_bad_ok : (o : Option ℕ) (n : ℕ) → or_bad_number o ≡ Ok n → o ≡ Some n
-or_bad_ok None n e = absurd cc
-or_bad_ok (Some m) n e = cc
+pub numeral_ok : (p : List ℕ) (n : ℕ) → numeral p ≡ Ok n → number p ≡ Some n
+unfolding number
+numeral_ok p n e = by (is_numeral p) (digits_value 10 p) e
+  where
+    by : (b : Bool) (m : ℕ) → cond b (Ok m) (Err BadNumber) ≡ Ok n → cond b (Some m) None ≡ Some n
+    by true m is = cc
+    by false m is = absurd cc
 
 numeral_is : (p : List ℕ) (n : ℕ) → numeral p ≡ Ok n → p ≡ decimal n
-numeral_is p n e = number_is p n (or_bad_ok (number p) n e)
+numeral_is p n e = number_is p n (numeral_ok p n e)
 
 pub bind_ok : {A B : Type 0} (r : Result A Why) (f : A → Result B Why) (b : B) → (r >>= f) ≡ Ok b → (a : A) × (r ≡ Ok a) × (f a ≡ Ok b)
 bind_ok (Ok a) f b e = (a, refl, e)

@@ -1,7 +1,7 @@
 -- Lemmas on parts and tokens that a line has no use for.
 use Rattle.std.proofs.Common.{◌≡◌, ℕ, List, [], ◌∷◌, length, Err, refl}
 use Rattle.line_text.specs.Lines.{SomeToken}
-use Rattle.tso_text.specs.Spelling.{unended_text_fault}
+use Rattle.tso_text.specs.Internal.Spelling.{unended_text_fault}
 use Rattle.tso_text.specs.Numbers.{no_number}
 use Rattle.tso_text.specs.declared.faults.Why.TheVariants.{BadLine}
 

@@ -1,77 +1,100 @@
 -- The faults of lines in texts, from those of operations and of first values in values.
-use Rattle.std.proofs.Common.{◌≡◌, ℕ, ◌+◌, ◌<◌, ◌≤◌, true, false, ltb, List, [], ◌∷◌, ◌++◌, map, refl, sym, ◌∙◌, ap, arith, inl, inr, ⊎_elim, subst}
+use Rattle.std.proofs.Common.{◌≡◌, ℕ, ◌<◌, ◌≤◌, true, false, ltb, List, [], ◌∷◌, ◌++◌, map, refl, sym, ◌∙◌, ap, arith, inl, inr, ⊎_elim, subst, ◌||◌, eqb, cond, Bool, Option, Some, None}
 use Rattle.std.proofs.lemmas.Bool.{false≢true}
 use Rattle.std.proofs.Math.Bool.{and-false}
 use Rattle.std.proofs.lemmas.Bool.Decides.{nat_tests}
+use Rattle.std.specs.List.{list_any}
 use Rattle.tso_ops.specs.declared.ops.Op.{Op}
+use Rattle.tso_ops.specs.declared.ops.Op.TheVariants.{Ld, St, Sw, Mb, Sb}
 use Rattle.tso_ops.specs.declared.ops.Outcome.{Outcome}
 use Rattle.tso_ops.specs.declared.faults.ValueFault.{ValueFault}
 use Rattle.tso_ops.specs.declared.faults.ValueFault.TheVariants.{TooManyProcessors as ManyProcessors, TooManyEvents as ManyEvents, AddressRange as PastAddresses, ZeroValue as ZeroStored, RepeatedValue as Repeated, OutOfMemory as NoMemory, StbarInTso, InitOrder as NotAscending}
-use Rattle.tso_ops.specs.Settings.{SettingValue}
-use Rattle.tso_ops.specs.Limits.{has_fault, has_entry_fault, is_stbar_in_tso, fault_number, IsFaultless, IsEntryRefusal, IsFirstFault as IsFirstOfOp}
+use Rattle.tso_ops.specs.Settings.{SettingValue, values_of}
+use Rattle.tso_ops.specs.Limits.{stored_values, has_fault, has_entry_fault, is_stbar_in_tso, IsFaultless, IsEntryRefusal, IsFirstFault as IsFirstOfOp}
 use Rattle.tso_ops.specs.Tally.{IsAdmitRefusal as IsOpRefusedFor}
 use Rattle.tso_ops.specs.Values.{op_of}
 use Rattle.tso_ops.specs.declared.acts.Act.{Act}
 use Rattle.tso_text.specs.declared.faults.Why.{Why}
-use Rattle.tso_text.specs.declared.faults.Why.TheVariants.{BadHeader, BadLine, BadNumber, BeforeProc, TooManyProcessors, TooManyEvents, AddressRange, ZeroValue, RepeatedValue, MissingEnd, AfterEnd, TooLong, ProcessorRange, OutOfMemory, BadModel, InitOrder}
-use Rattle.tso_text.specs.Grammars.{op_fault, outcome_fault, program_op_fault, act_fault, processor_of}
-use Rattle.tso_text.specs.Preambles.{entry_fault}
-use Rattle.tso_text.specs.Spelling.{text_fault_number, same_text_fault}
-use Rattle.tso_text.specs.Internal.Accepted.{IsFirstTextFault, IsRefusedFor, IsWhyOf}
+use Rattle.tso_text.specs.declared.faults.Why.TheVariants.{TooManyEvents, AddressRange, ZeroValue, RepeatedValue, ProcessorRange, InitOrder}
+use Rattle.tso_text.specs.Internal.Grammars.{op_fault, outcome_fault, program_op_fault, act_fault}
+use Rattle.tso_text.specs.Texts.{processor_of}
+use Rattle.tso_text.specs.Internal.Preambles.{entry_fault}
+use Rattle.tso_text.specs.Internal.Spelling.{same_text_fault, found_by}
+use Rattle.tso_text.specs.Refusals.{op_fault_after, entry_fault_after}
+use Rattle.tso_text.proofs.FirstFacts.{found_first, found_none}
+use Rattle.tso_text.specs.Internal.Accepted.{IsRefusedFor, IsWhyOf}
 
 -- ---- operations
 
+-- the first of these tests that finds its fault
+abbrev op_found : Bool → Bool → Bool → Bool → Option Why
+op_found many past zero repeated = cond many (Some TooManyEvents) (cond past (Some AddressRange) (cond zero (Some ZeroValue) (cond repeated (Some RepeatedValue) None)))
+
+or_false : (b : Bool) → (b || false) ≡ b
+or_false true = refl
+or_false false = refl
+
+same_zero : (v : ℕ) → eqb 0 v ≡ eqb v 0
+same_zero v = grind (arith, nat_tests)
+
+-- the fault of an operation by the tests of values
+by_tests : (setting : SettingValue) (before : List Op) (op : Op) →
+    op_fault_after setting before op ≡ op_found (has_fault setting before op ManyEvents) (has_fault setting before op PastAddresses) (has_fault setting before op ZeroStored) (has_fault setting before op Repeated)
+by_tests setting before (Ld a) = rw (or_false (ltb 255 a)) refl
+by_tests setting before (St a v) = rw (or_false (ltb 255 a), or_false (eqb 0 v), same_zero v, or_false (list_any (eqb v) (values_of setting.first ++ stored_values before))) refl
+by_tests setting before (Sw a v) = rw (or_false (ltb 255 a), or_false (eqb 0 v), same_zero v, or_false (list_any (eqb v) (values_of setting.first ++ stored_values before))) refl
+by_tests setting before Mb = refl
+by_tests setting before Sb = refl
+
+-- what no test of an operation finds
+pub record PassesTests (setting : SettingValue) (before : List Op) (op : Op) : Type 0 where
+  pub many : has_fault setting before op ManyEvents ≡ false
+  pub past : has_fault setting before op PastAddresses ≡ false
+  pub zero : has_fault setting before op ZeroStored ≡ false
+  pub repeated : has_fault setting before op Repeated ≡ false
+
+pub op_passes : (setting : SettingValue) (before : List Op) (op : Op) → ((w : Why) → op_fault setting before op w ≡ false) → PassesTests setting before op
+op_passes setting before op clean =
+    let t = none_of _ _ _ _ (sym (by_tests setting before op) ∙ found_none (op_fault_after setting before op) clean) in record { many = t.0; past = t.1; zero = t.2; repeated = t.3 }
+  where
+    none_of : (a b c d : Bool) → op_found a b c d ≡ None → (a ≡ false) × (b ≡ false) × (c ≡ false) × (d ≡ false)
+    none_of false false false false e = (refl, refl, refl, refl)
+    none_of true b c d e = absurd cc
+    none_of false true c d e = absurd cc
+    none_of false false true d e = absurd cc
+    none_of false false false true e = absurd cc
+
 -- an operation without a fault has none in a text
 pub op_clean : (setting : SettingValue) (before : List Op) (op : Op) → ((why : ValueFault) → has_fault setting before op why ≡ false) → (w : Why) → op_fault setting before op w ≡ false
-op_clean setting before op none BadHeader = refl
-op_clean setting before op none BadLine = refl
-op_clean setting before op none BadNumber = refl
-op_clean setting before op none BeforeProc = refl
-op_clean setting before op none TooManyProcessors = refl
-op_clean setting before op none TooManyEvents = none ManyEvents
-op_clean setting before op none AddressRange = none PastAddresses
-op_clean setting before op none ZeroValue = none ZeroStored
-op_clean setting before op none RepeatedValue = none Repeated
-op_clean setting before op none MissingEnd = refl
-op_clean setting before op none AfterEnd = refl
-op_clean setting before op none TooLong = refl
-op_clean setting before op none ProcessorRange = refl
-op_clean setting before op none OutOfMemory = refl
-op_clean setting before op none BadModel = refl
-op_clean setting before op none InitOrder = refl
+op_clean setting before op none w =
+    let many : has_fault setting before op ManyEvents ≡ false = none ManyEvents in
+    let past : has_fault setting before op PastAddresses ≡ false = none PastAddresses in
+    let zero : has_fault setting before op ZeroStored ≡ false = none ZeroStored in
+    let repeated : has_fault setting before op Repeated ≡ false = none Repeated in
+    let is : op_fault_after setting before op ≡ None = by_tests setting before op ∙ rw (many, past, zero, repeated) refl in
+    ap (λ o. found_by o w) is
 
--- below the fault of an operation there is none, in a text as in a value
-op_least : (setting : SettingValue) (before : List Op) (op : Op) (n : ℕ) → ((other : ValueFault) → fault_number other < n → has_fault setting before op other ≡ false) →
-    (w : Why) → text_fault_number w < n + 4 → op_fault setting before op w ≡ false
-op_least setting before op n least BadHeader less = refl
-op_least setting before op n least BadLine less = refl
-op_least setting before op n least BadNumber less = refl
-op_least setting before op n least BeforeProc less = refl
-op_least setting before op n least TooManyProcessors less = refl
-op_least setting before op n least TooManyEvents less = least ManyEvents (omega arith)
-op_least setting before op n least AddressRange less = least PastAddresses (omega arith)
-op_least setting before op n least ZeroValue less = least ZeroStored (omega arith)
-op_least setting before op n least RepeatedValue less = least Repeated (omega arith)
-op_least setting before op n least MissingEnd less = refl
-op_least setting before op n least AfterEnd less = refl
-op_least setting before op n least TooLong less = refl
-op_least setting before op n least ProcessorRange less = refl
-op_least setting before op n least OutOfMemory less = refl
-op_least setting before op n least BadModel less = refl
-op_least setting before op n least InitOrder less = refl
-
-op_first : (setting : SettingValue) (before : List Op) (op : Op) (fault : ValueFault) (why : Why) → IsWhyOf fault why → IsFirstOfOp (has_fault setting) before op fault → IsFirstTextFault (op_fault setting before op) why
+-- its first fault is that in a text
+op_first : (setting : SettingValue) (before : List Op) (op : Op) (fault : ValueFault) (why : Why) → IsWhyOf fault why → IsFirstOfOp (has_fault setting) before op fault → op_fault_after setting before op ≡ Some why
 op_first setting before op ManyProcessors why is first = absurd (false≢true first.fault)
-op_first setting before op ManyEvents why is first = rw is (record { fault = first.fault; least = λ w less. op_least setting before op 2 first.least w less })
-op_first setting before op PastAddresses why is first = rw is (record { fault = first.fault; least = λ w less. op_least setting before op 3 first.least w less })
-op_first setting before op ZeroStored why is first = rw is (record { fault = first.fault; least = λ w less. op_least setting before op 4 first.least w less })
-op_first setting before op Repeated why is first = rw is (record { fault = first.fault; least = λ w less. op_least setting before op 5 first.least w less })
+op_first setting before op ManyEvents why is first = rw is (by_tests setting before op ∙ rw first.fault refl)
+op_first setting before op PastAddresses why is first = let many : has_fault setting before op ManyEvents ≡ false = first.least ManyEvents (omega arith) in rw is (by_tests setting before op ∙ rw (many, first.fault) refl)
+op_first setting before op ZeroStored why is first =
+    let many : has_fault setting before op ManyEvents ≡ false = first.least ManyEvents (omega arith) in
+    let past : has_fault setting before op PastAddresses ≡ false = first.least PastAddresses (omega arith) in
+    rw is (by_tests setting before op ∙ rw (many, past, first.fault) refl)
+op_first setting before op Repeated why is first =
+    let many : has_fault setting before op ManyEvents ≡ false = first.least ManyEvents (omega arith) in
+    let past : has_fault setting before op PastAddresses ≡ false = first.least PastAddresses (omega arith) in
+    let zero : has_fault setting before op ZeroStored ≡ false = first.least ZeroStored (omega arith) in
+    rw is (by_tests setting before op ∙ rw (many, past, zero, first.fault) refl)
 op_first setting before op NoMemory why is first = absurd (false≢true first.fault)
 op_first setting before op StbarInTso why is first = absurd is
 op_first setting before op NotAscending why is first = absurd (false≢true first.fault)
 
 op_refused_for : (setting : SettingValue) (before : List Op) (op : Op) (fault : ValueFault) (why : Why) → IsWhyOf fault why → IsOpRefusedFor setting before op fault → IsRefusedFor (op_fault setting before op) why
-op_refused_for setting before op fault why is away = ⊎_elim (λ memory. inl (subst (λ f. IsWhyOf f why) memory is)) (λ first. inr (op_first setting before op fault why is first)) away
+op_refused_for setting before op fault why is away =
+    ⊎_elim (λ memory. inl (subst (λ f. IsWhyOf f why) memory is)) (λ first. inr (found_first (op_fault_after setting before op) why (op_first setting before op fault why is first))) away
 
 -- no operation is refused for an STBAR that isn't one under TSO
 pub not_stbar : (setting : SettingValue) (before : List Op) (op : Op) (fault : ValueFault) → is_stbar_in_tso setting.order op ≡ false → IsOpRefusedFor setting before op fault → fault ≡ StbarInTso → ⊥
@@ -105,102 +128,48 @@ outcome_refused_for setting items x op fault why same is away = op_refused_for s
 
 -- an entry without a fault has none in a text
 pub entry_clean : (before : List (ℕ × ℕ)) (entry : ℕ × ℕ) → ((why : ValueFault) → has_entry_fault before entry why ≡ false) → (w : Why) → entry_fault before entry w ≡ false
-entry_clean before entry none BadHeader = refl
-entry_clean before entry none BadLine = refl
-entry_clean before entry none BadNumber = refl
-entry_clean before entry none BeforeProc = refl
-entry_clean before entry none TooManyProcessors = refl
-entry_clean before entry none TooManyEvents = refl
-entry_clean before entry none AddressRange = none PastAddresses
-entry_clean before entry none ZeroValue = none ZeroStored
-entry_clean before entry none RepeatedValue = refl
-entry_clean before entry none MissingEnd = refl
-entry_clean before entry none AfterEnd = refl
-entry_clean before entry none TooLong = refl
-entry_clean before entry none ProcessorRange = refl
-entry_clean before entry none OutOfMemory = refl
-entry_clean before entry none BadModel = refl
-entry_clean before entry none InitOrder = none NotAscending
+entry_clean before entry none w =
+    let past : has_entry_fault before entry PastAddresses ≡ false = none PastAddresses in
+    let zero : has_entry_fault before entry ZeroStored ≡ false = none ZeroStored in
+    let order : has_entry_fault before entry NotAscending ≡ false = none NotAscending in
+    rw (past, zero, order) refl
 
 -- and the other way round
 pub entry_clean_back : (before : List (ℕ × ℕ)) (entry : ℕ × ℕ) → ((w : Why) → entry_fault before entry w ≡ false) → (why : ValueFault) → has_entry_fault before entry why ≡ false
-entry_clean_back before entry none ManyProcessors = refl
-entry_clean_back before entry none ManyEvents = refl
-entry_clean_back before entry none PastAddresses = none AddressRange
-entry_clean_back before entry none ZeroStored = none ZeroValue
-entry_clean_back before entry none Repeated = refl
-entry_clean_back before entry none NoMemory = refl
-entry_clean_back before entry none StbarInTso = refl
-entry_clean_back before entry none NotAscending = none InitOrder
+entry_clean_back before entry clean = by (none_of _ _ _ (found_none (entry_fault_after before entry) clean))
+  where
+    none_of : (a b c : Bool) → cond a (Some AddressRange) (cond b (Some ZeroValue) (cond c (Some InitOrder) None)) ≡ None → (a ≡ false) × (b ≡ false) × (c ≡ false)
+    none_of false false false e = (refl, refl, refl)
+    none_of true b c e = absurd cc
+    none_of false true c e = absurd cc
+    none_of false false true e = absurd cc
 
--- below the fault of an entry there is none, in a text as in a value
-least_address : (before : List (ℕ × ℕ)) (entry : ℕ × ℕ) → ((other : ValueFault) → fault_number other < fault_number PastAddresses → has_entry_fault before entry other ≡ false) → (w : Why) → text_fault_number w < text_fault_number AddressRange → entry_fault before entry w ≡ false
-least_address before entry least BadHeader less = refl
-least_address before entry least BadLine less = refl
-least_address before entry least BadNumber less = refl
-least_address before entry least BeforeProc less = refl
-least_address before entry least TooManyProcessors less = refl
-least_address before entry least TooManyEvents less = refl
-least_address before entry least AddressRange less = absurd (omega (arith, less))
-least_address before entry least ZeroValue less = absurd (omega (arith, less))
-least_address before entry least RepeatedValue less = refl
-least_address before entry least MissingEnd less = refl
-least_address before entry least AfterEnd less = refl
-least_address before entry least TooLong less = refl
-least_address before entry least ProcessorRange less = refl
-least_address before entry least OutOfMemory less = refl
-least_address before entry least BadModel less = refl
-least_address before entry least InitOrder less = absurd (omega (arith, less))
+    by : (has_entry_fault before entry PastAddresses ≡ false) × (has_entry_fault before entry ZeroStored ≡ false) × (has_entry_fault before entry NotAscending ≡ false) → (why : ValueFault) → has_entry_fault before entry why ≡ false
+    by t ManyProcessors = refl
+    by t ManyEvents = refl
+    by t PastAddresses = t.0
+    by t ZeroStored = t.1
+    by t Repeated = refl
+    by t NoMemory = refl
+    by t StbarInTso = refl
+    by t NotAscending = t.2
 
-least_zero : (before : List (ℕ × ℕ)) (entry : ℕ × ℕ) → ((other : ValueFault) → fault_number other < fault_number ZeroStored → has_entry_fault before entry other ≡ false) → (w : Why) → text_fault_number w < text_fault_number ZeroValue → entry_fault before entry w ≡ false
-least_zero before entry least BadHeader less = refl
-least_zero before entry least BadLine less = refl
-least_zero before entry least BadNumber less = refl
-least_zero before entry least BeforeProc less = refl
-least_zero before entry least TooManyProcessors less = refl
-least_zero before entry least TooManyEvents less = refl
-least_zero before entry least AddressRange less = least PastAddresses (omega arith)
-least_zero before entry least ZeroValue less = absurd (omega (arith, less))
-least_zero before entry least RepeatedValue less = refl
-least_zero before entry least MissingEnd less = refl
-least_zero before entry least AfterEnd less = refl
-least_zero before entry least TooLong less = refl
-least_zero before entry least ProcessorRange less = refl
-least_zero before entry least OutOfMemory less = refl
-least_zero before entry least BadModel less = refl
-least_zero before entry least InitOrder less = absurd (omega (arith, less))
-
-least_order : (before : List (ℕ × ℕ)) (entry : ℕ × ℕ) → ((other : ValueFault) → fault_number other < fault_number NotAscending → has_entry_fault before entry other ≡ false) → (w : Why) → text_fault_number w < text_fault_number InitOrder → entry_fault before entry w ≡ false
-least_order before entry least BadHeader less = refl
-least_order before entry least BadLine less = refl
-least_order before entry least BadNumber less = refl
-least_order before entry least BeforeProc less = refl
-least_order before entry least TooManyProcessors less = refl
-least_order before entry least TooManyEvents less = refl
-least_order before entry least AddressRange less = least PastAddresses (omega arith)
-least_order before entry least ZeroValue less = least ZeroStored (omega arith)
-least_order before entry least RepeatedValue less = refl
-least_order before entry least MissingEnd less = refl
-least_order before entry least AfterEnd less = refl
-least_order before entry least TooLong less = refl
-least_order before entry least ProcessorRange less = refl
-least_order before entry least OutOfMemory less = refl
-least_order before entry least BadModel less = refl
-least_order before entry least InitOrder less = absurd (omega (arith, less))
-
-entry_first : (before : List (ℕ × ℕ)) (entry : ℕ × ℕ) (fault : ValueFault) (why : Why) → IsWhyOf fault why → IsFirstOfOp has_entry_fault before entry fault → IsFirstTextFault (entry_fault before entry) why
+entry_first : (before : List (ℕ × ℕ)) (entry : ℕ × ℕ) (fault : ValueFault) (why : Why) → IsWhyOf fault why → IsFirstOfOp has_entry_fault before entry fault → entry_fault_after before entry ≡ Some why
 entry_first before entry ManyProcessors why is first = absurd (false≢true first.fault)
 entry_first before entry ManyEvents why is first = absurd (false≢true first.fault)
-entry_first before entry PastAddresses why is first = rw is (record { fault = first.fault; least = least_address before entry first.least })
-entry_first before entry ZeroStored why is first = rw is (record { fault = first.fault; least = least_zero before entry first.least })
+entry_first before entry PastAddresses why is first = rw is (rw first.fault refl)
+entry_first before entry ZeroStored why is first = let past : has_entry_fault before entry PastAddresses ≡ false = first.least PastAddresses (omega arith) in rw is (rw (past, first.fault) refl)
 entry_first before entry Repeated why is first = absurd (false≢true first.fault)
 entry_first before entry NoMemory why is first = absurd (false≢true first.fault)
 entry_first before entry StbarInTso why is first = absurd is
-entry_first before entry NotAscending why is first = rw is (record { fault = first.fault; least = least_order before entry first.least })
+entry_first before entry NotAscending why is first =
+    let past : has_entry_fault before entry PastAddresses ≡ false = first.least PastAddresses (omega arith) in
+    let zero : has_entry_fault before entry ZeroStored ≡ false = first.least ZeroStored (omega arith) in
+    rw is (rw (past, zero, first.fault) refl)
 
 -- an entry that is refused is refused in a text
 pub entry_refused_for : (before : List (ℕ × ℕ)) (entry : ℕ × ℕ) (fault : ValueFault) (why : Why) → IsWhyOf fault why → IsEntryRefusal before entry fault → IsRefusedFor (entry_fault before entry) why
-entry_refused_for before entry fault why is away = ⊎_elim (λ memory. inl (subst (λ f. IsWhyOf f why) memory is)) (λ first. inr (entry_first before entry fault why is first)) away
+entry_refused_for before entry fault why is away = ⊎_elim (λ memory. inl (subst (λ f. IsWhyOf f why) memory is)) (λ first. inr (found_first (entry_fault_after before entry) why (entry_first before entry fault why is first))) away
 
 -- no entry is refused for an STBAR
 pub entry_not_stbar : (before : List (ℕ × ℕ)) (entry : ℕ × ℕ) (fault : ValueFault) → IsEntryRefusal before entry fault → fault ≡ StbarInTso → ⊥

@@ -6,18 +6,19 @@ use Rattle.std.specs.Option.{unwrap_or}
 use Rattle.std.proofs.lemmas.List.{length-map}
 use Rattle.std.proofs.lemmas.Result.{IfOk-at_ok}
 use Rattle.tso_ops.specs.declared.ops.Outcome.{Outcome}
-use Rattle.tso_ops.specs.declared.ops.Op.{Op}
 use Rattle.tso_ops.specs.Settings.{SettingValue}
-use Rattle.tso_ops.specs.Values.{op_of, ReadFits, trace_of_lists, program_of_lists, rows}
+use Rattle.tso_ops.specs.Values.{op_of, ReadFits, trace_of_lists, rows}
 use Rattle.tso_ops.specs.declared.acts.Act.{Act}
 use Rattle.tso_text.specs.declared.faults.Why.{Why}
 use Rattle.tso_text.specs.declared.lines.Line.{Line}
 use Rattle.tso_text.specs.declared.lines.Line.TheVariants.{Proc, Item, End}
-use Rattle.tso_text.specs.Grammars.{schedule_format, schedule_grammar, schedule_line}
+use Rattle.tso_text.specs.Internal.Grammars.{schedule_format, schedule_grammar}
+use Rattle.tso_text.specs.Lines.{schedule_line, whole_lines}
 use Rattle.tso_text.specs.Numbers.{is_word, no_number, one_number}
-use Rattle.tso_ops.specs.Limits.{IsTrace, IsProgram, KeepsLimits}
+use Rattle.tso_ops.specs.Limits.{IsTrace, KeepsLimits}
 use Rattle.tso_ops.specs.Tally.{Admitted}
-use Rattle.tso_text.specs.Spelling.{SpellsLists, with_said, said, lists_of, lists_after, whole_lines, body_of, items_of}
+use Rattle.tso_text.specs.Internal.Spelling.{with_said, said, lists_of, lists_after, body_of, items_of}
+use Rattle.tso_text.specs.Internal.Spelled.{SpellsLists}
 use Rattle.tso_text.specs.Internal.Accepted.{IsKept}
 use Rattle.tso_text.specs.Internal.Begun.{IsSetting}
 use Rattle.tso_text.proofs.CanonicalFacts.{if_bind, if_cond}
@@ -37,9 +38,6 @@ trace_within setting lists is few limits reads = record {
 
 pub trace_kept : (setting : SettingValue) (lists : List (List Outcome)) → IsSetting setting → IsKept (λ tally items. Admitted setting tally (map op_of items) × All ReadFits items) lists → IsTrace (trace_of_lists setting lists)
 trace_kept setting lists is kept = trace_within setting lists is kept.few kept.keeps_items.0.limits kept.keeps_items.1
-
-pub program_kept : (setting : SettingValue) (lists : List (List Op)) → IsSetting setting → IsKept (λ tally items. Admitted setting tally items) lists → IsProgram (program_of_lists setting lists)
-program_kept setting lists is kept = record { processors = kept.few; version_one = is.version_one; entries = is.entries; limits = kept.keeps_items.limits }
 
 -- ---- a schedule is one list
 
@@ -91,7 +89,3 @@ pub schedule_popped : (text : List ℕ) (lists : List (Vec Act)) (n : ℕ) (o : 
 schedule_popped text lists n o d r spells count pops is =
     let one = one_list (whole_lines (body_of schedule_format text)) in
     subst (SpellsLists schedule_format text) (only_vector lists one.0 n o d r (sym spells.says ∙ one.1) count pops is) spells
-
--- what a text of a schedule spells is one list
-pub schedule_spelled : (text : List ℕ) (lists : List (List Act)) → SpellsLists schedule_format text lists → (acts : List Act) × SpellsLists schedule_format text (acts ∷ [])
-schedule_spelled text lists spells = let one = one_list (whole_lines (body_of schedule_format text)) in (one.0, subst (SpellsLists schedule_format text) (sym spells.says ∙ one.1) spells)

@@ -1,8 +1,12 @@
 pub mod CanonicalFacts
 pub mod CutFacts
 pub mod FaultFacts
+pub mod FirstFacts
 pub mod KeptFacts
+pub mod KindFacts
 pub mod LineFacts
+pub mod NextLines
+pub mod NextOfLists
 pub mod NumberLimits
 pub mod OneTextFacts
 pub mod PreambleFacts
@@ -14,7 +18,9 @@ pub mod PrintedNumbers
 pub mod PrintedSetting
 pub mod PrintedSpelling
 pub mod ReadersFacts
+pub mod RefusedTexts
 pub mod SettingText
 pub mod SpelledLimits
 pub mod SpellingFacts
 pub mod TextFacts
+pub mod TextLaws

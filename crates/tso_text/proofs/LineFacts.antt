@@ -5,7 +5,7 @@ use Rattle.std.specs.Result.{is_ok, OnOk}
 use Rattle.std.proofs.lemmas.List.{append-nil, map-append}
 use Rattle.std.proofs.lemmas.Bool.Decides.{nat_tests}
 use Rattle.tso_ops.specs.Values.{rows}
-use Rattle.tso_text.specs.Spelling.{push_last, items_of}
+use Rattle.tso_text.specs.Internal.Spelling.{push_last, items_of}
 
 -- one more item in the last list
 pub items_of-push_last : {X : Type 0} (lists : List (List X)) (x : X) → 0 < length lists → items_of (push_last lists x) ≡ items_of lists ++ x ∷ []

@@ -2,17 +2,16 @@
 use Rattle.std.proofs.Common.{◌≡◌, ℕ, ◌<◌, ◌^◌, List, [], ◌∷◌, Ok}
 use Rattle.std.specs.Prelude.{IfOk}
 use Rattle.std.proofs.lemmas.Result.{IfOk-at_ok}
-use Rattle.line_text.specs.Numbers.{number}
 use Rattle.line_text.proofs.NumberFacts.{number_fits}
 use Rattle.tso_text.specs.Numbers.{numeral, two_numbers, three_numbers}
-use Rattle.tso_text.proofs.CanonicalFacts.{or_bad_ok, if_bind}
+use Rattle.tso_text.proofs.CanonicalFacts.{numeral_ok, if_bind}
 
 -- a number of 64 bits
 abbrev pub Fits : ℕ → Type 0
 Fits n = n < 2 ^ 64
 
 numeral_fits : (p : List ℕ) (n : ℕ) → numeral p ≡ Ok n → Fits n
-numeral_fits p n says = number_fits p n (or_bad_ok (number p) n says)
+numeral_fits p n says = number_fits p n (numeral_ok p n says)
 
 pub two_fit : (ps : List (List ℕ)) (n : ℕ × ℕ) → two_numbers ps ≡ Ok n → Fits n.0 × Fits n.1
 unfolding two_numbers

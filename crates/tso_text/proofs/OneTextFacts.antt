@@ -1,38 +1,35 @@
--- Each value has one text: what a text spells is printed as that text.
+-- Each line of a text is written in one way, and the lines of lists are their printed text.
 use Rattle.std.proofs.Common.{◌≡◌, ℕ, ◌&&◌, true, false, List, [], ◌∷◌, ◌++◌, map, Some, Result, Ok, refl, ap, sym, ◌∙◌, arith, append_assoc, ⊎_elim}
 use Rattle.std.specs.Prelude.{codes}
 use Rattle.std.specs.Fmt.{decimal}
-use Rattle.std.specs.List.{flat_map, join_with_byte}
+use Rattle.std.specs.List.{flat_map}
 use Rattle.std.proofs.lemmas.List.{append-nil, map-append}
 use Rattle.std.proofs.lemmas.List.Concat.{flat_map-append}
-use Rattle.line_text.specs.Lines.{line_text, is_empty, parts_of}
+use Rattle.line_text.specs.Lines.{line_text, is_empty}
 use Rattle.line_text.proofs.NumberFacts.{and_parts}
 use Rattle.tso_ops.specs.declared.ops.Op.{Op}
 use Rattle.tso_ops.specs.declared.ops.Op.TheVariants.{Ld as OpLd, St as OpSt, Sw as OpSw, Mb as OpMb, Sb as OpSb}
 use Rattle.tso_ops.specs.declared.ops.Outcome.{Outcome}
 use Rattle.tso_ops.specs.declared.ops.Outcome.TheVariants.{Ld, St, Sw, Mb, Sb}
-use Rattle.tso_ops.specs.declared.settings.Version.TheVariants.{One, Two}
 use Rattle.tso_ops.specs.Settings.{SettingValue}
 use Rattle.tso_ops.specs.Limits.{address_of}
-use Rattle.tso_ops.specs.Values.{TraceValue, ProgramValue, op_of}
+use Rattle.tso_ops.specs.Values.{op_of}
 use Rattle.tso_ops.specs.declared.acts.Act.{Act}
 use Rattle.tso_ops.specs.declared.acts.Act.TheVariants.{Issue, Drain}
 use Rattle.tso_text.specs.declared.faults.Why.{Why}
-use Rattle.tso_text.specs.declared.faults.Why.TheVariants.{AddressRange}
 use Rattle.tso_text.specs.declared.lines.Line.{Line}
 use Rattle.tso_text.specs.declared.lines.Line.TheVariants.{Proc, Item, End}
-use Rattle.tso_text.specs.Grammars.{trace_format, program_format, schedule_format, trace_grammar, program_grammar, schedule_grammar, trace_line, program_line, schedule_line, has_stbar, outcome_fault, program_op_fault, SpellsTrace, SpellsProgram, SpellsSchedule, trace_header, program_header, schedule_header}
-use Rattle.tso_text.specs.Preambles.{header_of, setting_preamble}
+use Rattle.tso_text.specs.Internal.Grammars.{trace_grammar, program_grammar, schedule_grammar, outcome_fault, program_op_fault}
+use Rattle.tso_text.specs.Lines.{trace_line, program_line, schedule_line, has_stbar}
+use Rattle.tso_text.specs.Printed.{items_text, processor_text, outcome_tokens, op_tokens, act_tokens}
 use Rattle.line_text.specs.Results.{◌>>=◌}
 use Rattle.tso_text.specs.Numbers.{is_word, address, no_number, one_number, two_numbers, three_numbers}
-use Rattle.tso_text.specs.Printed.{items_text, processor_text, setting_text, whole_text, outcome_tokens, op_tokens, act_tokens, trace_text, program_text, schedule_text}
-use Rattle.tso_text.specs.Spelling.{Grammar, Format, SpellsLists, preamble_of, grammar_of, body_of, whole_lines, line_fault, items_of, with_line, push_last, is_end}
+use Rattle.tso_text.specs.Internal.Spelling.{Grammar, line_fault, items_of, with_line, push_last, is_end}
 use Rattle.tso_text.proofs.CanonicalFacts.{bind_ok, none_is, one_is, two_is, three_is, tokens_by, cond_parts, word_is, in_range, IsSound, sound}
+use Rattle.tso_text.proofs.FaultFacts.{op_passes}
 use Rattle.tso_text.proofs.KeptFacts.{not_proc}
 use Rattle.tso_text.proofs.LineFacts.{items_of-push_last}
-use Rattle.tso_text.proofs.PrintedFacts.{Prints, spelled_parts}
-use Rattle.tso_text.proofs.SettingText.{setting_printed, header_printed}
-use Rattle.tso_text.proofs.TextFacts.{body_spells}
+use Rattle.tso_text.proofs.PrintedFacts.{Prints}
 
 -- ---- one way to write a line
 
@@ -58,11 +55,11 @@ args_line g lists p r f word text tokens shown l is reads shows clean e =
 
 outcome_range : (setting : SettingValue) (lists : List (List Outcome)) (x : Outcome) (n : ℕ) → IsSound (trace_grammar setting) lists x → address_of (op_of x) ≡ Some (address n) → n ≡ address n
 unfolding outcome_fault
-outcome_range setting lists x n s at = in_range n (rw at at (s.clean AddressRange))
+outcome_range setting lists x n s at = in_range n (rw at at (op_passes setting (map op_of (items_of lists)) (op_of x) s.clean).past)
 
 op_range : (setting : SettingValue) (lists : List (List Op)) (x : Op) (n : ℕ) → IsSound (program_grammar setting) lists x → address_of x ≡ Some (address n) → n ≡ address n
 unfolding program_op_fault
-op_range setting lists x n s at = in_range n (rw at at (s.clean AddressRange))
+op_range setting lists x n s at = in_range n (rw at at (op_passes setting (items_of lists) x s.clean).past)
 
 trace_canonical : (setting : SettingValue) (lists : List (List Outcome)) (ps : List (List ℕ)) (l : Line Outcome) → trace_line setting.order ps ≡ Ok l → ((w : Why) → line_fault (trace_grammar setting) lists l w ≡ false) → ps ≡ tokens_by outcome_tokens l
 unfolding trace_line
@@ -150,42 +147,15 @@ made_by-text p (row ∷ lists) =
     ∙ ap (λ r. (line_text (codes "proc" ∷ []) ++ r) ++ flat_map (λ l. line_text (tokens_by p l)) (made_by lists)) (flat_map-Item (λ l. line_text (tokens_by p l)) row)
     ∙ ap (λ r. (line_text (codes "proc" ∷ []) ++ flat_map (λ x. line_text (p x)) row) ++ r) (made_by-text p lists)
 
-prints_trace : (setting : SettingValue) → Prints (trace_grammar setting) made_by (tokens_by outcome_tokens)
+pub prints_trace : (setting : SettingValue) → Prints (trace_grammar setting) made_by (tokens_by outcome_tokens)
 prints_trace setting = record { start = refl; canonical = trace_canonical setting; more = λ lists ps l says clean running. made_by-more (trace_grammar setting) lists l clean running }
 
-prints_program : (setting : SettingValue) → Prints (program_grammar setting) made_by (tokens_by op_tokens)
+pub prints_program : (setting : SettingValue) → Prints (program_grammar setting) made_by (tokens_by op_tokens)
 prints_program setting = record { start = refl; canonical = program_canonical setting; more = λ lists ps l says clean running. made_by-more (program_grammar setting) lists l clean running }
-
--- the text of a preamble and of the lines after it
-whole : (header setting lines : List ℕ) (text : List ℕ) → text ≡ (header ++ 10 ∷ setting) ++ (lines ++ line_text (codes "end" ∷ [])) → text ≡ whole_text header (setting ++ lines)
-unfolding whole_text
-whole header setting lines text is =
-    is ∙ sym (append_assoc (header ++ 10 ∷ setting) lines (line_text (codes "end" ∷ []))) ∙ ap (λ b. b ++ line_text (codes "end" ∷ [])) (append_assoc header (10 ∷ setting) lines)
-
--- the text of a setting and of lists
-spelled_whole : {X : Type 0} (f : Format X) (one two : List ℕ) (p : X → List (List ℕ)) (text : List ℕ) (lists : List (List X)) → preamble_of f text ≡ setting_preamble one two (whole_lines (parts_of text)) → Prints (grammar_of f text) made_by (tokens_by p) → SpellsLists f text lists →
-    text ≡ whole_text (header_of one two (preamble_of f text).setting.version) (setting_text (preamble_of f text).setting ++ flat_map (processor_text p) lists)
-spelled_whole f one two p text lists is prints spells =
-    let setting = (preamble_of f text).setting in
-    let printed = setting_printed f one two text lists is spells in
-    let body : join_with_byte 10 (body_of f text) ≡ flat_map (processor_text p) lists ++ line_text (codes "end" ∷ []) =
-    spelled_parts (grammar_of f text) made_by (tokens_by p) prints (body_of f text) lists printed.some (body_spells f text lists spells) ∙ ap (λ ls. ls ++ line_text (codes "end" ∷ [])) (made_by-text p lists) in
-    whole (header_of one two setting.version) (setting_text setting) (flat_map (processor_text p) lists) text
-    (printed.text_is ∙ ap (λ b. (header_of one two setting.version ++ 10 ∷ setting_text setting) ++ b) body)
-
-pub trace_printed : (text : List ℕ) (t : TraceValue) → SpellsTrace text t → text ≡ trace_text t
-unfolding trace_text
-trace_printed text t spells =
-    rw spells.0 (spelled_whole trace_format (trace_header One) (trace_header Two) outcome_tokens text t.lists refl (prints_trace (preamble_of trace_format text).setting) spells.1)
-
-pub program_printed : (text : List ℕ) (p : ProgramValue) → SpellsProgram text p → text ≡ program_text p
-unfolding program_text
-program_printed text p spells =
-    rw spells.0 (spelled_whole program_format (program_header One) (program_header Two) op_tokens text p.lists refl (prints_program (preamble_of program_format text).setting) spells.1)
 
 -- ---- schedules
 
-abbrev acts_made : List (List Act) → List (Line Act)
+abbrev pub acts_made : List (List Act) → List (Line Act)
 acts_made lists = map Item (items_of lists)
 
 acts_made-more : (lists : List (List Act)) (ps : List (List ℕ)) (l : Line Act) → schedule_line ps ≡ Ok l → ((w : Why) → line_fault schedule_grammar lists l w ≡ false) → is_end (Ok l) ≡ false → acts_made (with_line lists l) ≡ acts_made lists ++ l ∷ []
@@ -194,15 +164,5 @@ acts_made-more [] ps (Item x) says clean running = absurd (let e = (sound schedu
 acts_made-more (row ∷ lists) ps (Item x) says clean running = ap (map Item) (items_of-push_last (row ∷ lists) x (omega arith)) ∙ map-append Item (items_of (row ∷ lists)) (x ∷ [])
 acts_made-more lists ps End says clean running = absurd cc
 
-prints_schedule : Prints schedule_grammar acts_made (tokens_by act_tokens)
+pub prints_schedule : Prints schedule_grammar acts_made (tokens_by act_tokens)
 prints_schedule = record { start = refl; canonical = schedule_canonical; more = acts_made-more }
-
-pub schedule_printed : (text : List ℕ) (acts : List Act) → SpellsSchedule text acts → text ≡ schedule_text acts
-unfolding schedule_text items_text
-schedule_printed text acts spells =
-    let printed = header_printed schedule_format schedule_header text (acts ∷ []) refl spells in
-    let lines : flat_map (λ l. line_text (tokens_by act_tokens l)) (acts_made (acts ∷ [])) ≡ flat_map (λ x. line_text (act_tokens x)) acts =
-    flat_map-Item (λ l. line_text (tokens_by act_tokens l)) (acts ++ []) ∙ ap (flat_map (λ x. line_text (act_tokens x))) (append-nil acts) in
-    let body : join_with_byte 10 (body_of schedule_format text) ≡ flat_map (λ x. line_text (act_tokens x)) acts ++ line_text (codes "end" ∷ []) =
-    spelled_parts schedule_grammar acts_made (tokens_by act_tokens) prints_schedule (body_of schedule_format text) (acts ∷ []) printed.some (body_spells schedule_format text (acts ∷ []) spells) ∙ ap (λ ls. ls ++ line_text (codes "end" ∷ [])) lines in
-    whole schedule_header [] (flat_map (λ x. line_text (act_tokens x)) acts) text (printed.text_is ∙ ap (λ b. (schedule_header ++ 10 ∷ []) ++ b) body)

@@ -18,8 +18,9 @@ use Rattle.tso_ops.proofs.EntryFacts.{KeepsEntries-nil}
 use Rattle.tso_text.specs.declared.faults.Why.{Why}
 use Rattle.tso_text.specs.declared.faults.Why.TheVariants.{BadHeader, OutOfMemory}
 use Rattle.tso_text.specs.Numbers.{is_word}
-use Rattle.tso_text.specs.Preambles.{begins_with, header_fault, header_alone, has_keyword, after_keyword, model_lines, model_said, model_fault, result_fault, entry_lines, entry_by, entry_said, entry_fault, said_entry_fault, with_said_entry, entries_after, entry_faults, version_of, setting_lines, preamble_by, setting_preamble}
-use Rattle.tso_text.specs.Spelling.{whole_lines, same_text_fault}
+use Rattle.tso_text.specs.Lines.{begins_with, has_keyword, model_lines, model_said, entry_by, whole_lines}
+use Rattle.tso_text.specs.Internal.Preambles.{header_fault, header_alone, after_keyword, model_fault, result_fault, entry_lines, entry_said, entry_fault, said_entry_fault, with_said_entry, entries_after, entry_faults, version_of, setting_lines, preamble_by, setting_preamble}
+use Rattle.tso_text.specs.Internal.Spelling.{same_text_fault}
 use Rattle.tso_text.specs.Internal.Accepted.{IsFirstTextFault, IsRefusedFor}
 use Rattle.tso_text.specs.Internal.Begun.{AreFaultless, IsSetting, HasBegun, IsPreambleRefusal, HasHeader, HasNoHeader, HasModel, HasBadModel, HasEntries, HasAllEntries, HasBadEntry, IsEntryRefused}
 use Rattle.tso_text.proofs.ReadersFacts.{and_true, first_fault, same_text_fault-first, IsFirstTextFault-same}
@@ -129,16 +130,19 @@ length-entry_faults before (line ∷ lines) = ap suc (length-entry_faults (with_
 pub entries_start : (text : List ℕ) → HasEntries text [] 0 text
 entries_start text = record { done = []; is = refl; says = refl; count = refl; clean = tt; parts = refl; room = omega arith }
 
+pub entry_here : (rest line after word : List ℕ) (tokens : List (List ℕ)) → parts_of rest ≡ line ∷ parts_of after → tokens_of line ≡ word ∷ tokens → bytes_eq word (codes "init") ≡ true →
+    take_while is_entry_line (whole_lines (parts_of rest)) ≡ line ∷ take_while is_entry_line (whole_lines (parts_of after))
+entry_here rest line after word tokens cut token is =
+    ap (λ ps. take_while is_entry_line (whole_lines ps)) cut ∙ ap (take_while is_entry_line) (whole_lines-parts line after)
+    ∙ take_while-yes is_entry_line line (whole_lines (parts_of after)) (keyword_is (codes "init") line word tokens token ∙ is)
+
 pub entries_next : (text : List ℕ) (first : List (ℕ × ℕ)) (lines : ℕ) (rest line after word : List ℕ) (tokens : List (List ℕ)) (entry : ℕ × ℕ) → HasEntries text first lines rest → parts_of rest ≡ line ∷ parts_of after →
     tokens_of line ≡ word ∷ tokens → bytes_eq word (codes "init") ≡ true → entry_by tokens ≡ Ok entry → ((w : Why) → entry_fault first entry w ≡ false) → length after < length rest → HasEntries text (first ++ entry ∷ []) (lines + 1) after
 entries_next text first lines rest line after word tokens entry read cut token is says clean shorter =
-    let keyword : is_entry_line line ≡ true = keyword_is (codes "init") line word tokens token ∙ is in
     let said : entry_said line ≡ Ok entry = ap entry_by (after_keyword-is line word tokens token) ∙ says in
-    let here : take_while is_entry_line (whole_lines (parts_of rest)) ≡ line ∷ take_while is_entry_line (whole_lines (parts_of after)) =
-    ap (λ ps. take_while is_entry_line (whole_lines ps)) cut ∙ ap (take_while is_entry_line) (whole_lines-parts line after) ∙ take_while-yes is_entry_line line (whole_lines (parts_of after)) keyword in
     record {
       done = read.done ++ line ∷ [];
-      is = read.is ∙ ap (λ ls. read.done ++ ls) here ∙ sym (append_assoc read.done (line ∷ []) (take_while is_entry_line (whole_lines (parts_of after))));
+      is = read.is ∙ ap (λ ls. read.done ++ ls) (entry_here rest line after word tokens cut token is) ∙ sym (append_assoc read.done (line ∷ []) (take_while is_entry_line (whole_lines (parts_of after))));
       says = entries_after-push [] read.done line ∙ ap (λ r. with_said_entry (entries_after [] read.done) r) said ∙ ap (λ f. f ++ entry ∷ []) read.says;
       count = omega (arith, length-append read.done (line ∷ []), read.count);
       clean =
@@ -148,29 +152,24 @@ entries_next text first lines rest line after word tokens entry read cut token i
       room = omega (arith, read.room, shorter);
     }
 
-pub entries_none : (text : List ℕ) (first : List (ℕ × ℕ)) (lines : ℕ) (rest : List ℕ) → HasEntries text first lines rest → parts_of rest ≡ rest ∷ [] → HasAllEntries text first lines rest
-entries_none text first lines rest read cut = record { read = read; none = rw cut refl }
+pub no_entry_line : (rest line after word : List ℕ) (tokens : List (List ℕ)) → parts_of rest ≡ line ∷ parts_of after → tokens_of line ≡ word ∷ tokens → bytes_eq word (codes "init") ≡ false →
+    take_while is_entry_line (whole_lines (parts_of rest)) ≡ []
+no_entry_line rest line after word tokens cut token not =
+    ap (λ ps. take_while is_entry_line (whole_lines ps)) cut ∙ ap (take_while is_entry_line) (whole_lines-parts line after)
+    ∙ take_while-no is_entry_line line (whole_lines (parts_of after)) (keyword_is (codes "init") line word tokens token ∙ not)
 
 pub entries_other : (text : List ℕ) (first : List (ℕ × ℕ)) (lines : ℕ) (rest line after word : List ℕ) (tokens : List (List ℕ)) → HasEntries text first lines rest → parts_of rest ≡ line ∷ parts_of after →
     tokens_of line ≡ word ∷ tokens → bytes_eq word (codes "init") ≡ false → HasAllEntries text first lines rest
-entries_other text first lines rest line after word tokens read cut token not = record {
-  read = read;
-  none =
-      ap (λ ps. take_while is_entry_line (whole_lines ps)) cut ∙ ap (take_while is_entry_line) (whole_lines-parts line after)
-      ∙ take_while-no is_entry_line line (whole_lines (parts_of after)) (keyword_is (codes "init") line word tokens token ∙ not);
-}
+entries_other text first lines rest line after word tokens read cut token not = record { read = read; none = no_entry_line rest line after word tokens cut token not }
 
 pub entries_refused : (text : List ℕ) (first : List (ℕ × ℕ)) (lines : ℕ) (rest line after word : List ℕ) (tokens : List (List ℕ)) (why : Why) → HasEntries text first lines rest → parts_of rest ≡ line ∷ parts_of after →
     tokens_of line ≡ word ∷ tokens → bytes_eq word (codes "init") ≡ true → IsEntryRefused first tokens why → HasBadEntry text lines why
 entries_refused text first lines rest line after word tokens why read cut token is refused =
-    let keyword : is_entry_line line ≡ true = keyword_is (codes "init") line word tokens token ∙ is in
-    let here : take_while is_entry_line (whole_lines (parts_of rest)) ≡ line ∷ take_while is_entry_line (whole_lines (parts_of after)) =
-    ap (λ ps. take_while is_entry_line (whole_lines ps)) cut ∙ ap (take_while is_entry_line) (whole_lines-parts line after) ∙ take_while-yes is_entry_line line (whole_lines (parts_of after)) keyword in
     record {
       done = read.done;
       line = line;
       after = take_while is_entry_line (whole_lines (parts_of after));
-      is = read.is ∙ ap (λ ls. read.done ++ ls) here;
+      is = read.is ∙ ap (λ ls. read.done ++ ls) (entry_here rest line after word tokens cut token is);
       count = read.count;
       clean = read.clean;
       refused = rw (read.says, after_keyword-is line word tokens token) refused;
@@ -262,37 +261,48 @@ lines_refused one two (line ∷ lines) none = record { before = []; has = _; aft
 pub header_refused : (one two text : List ℕ) → HasNoHeader one two text → IsPreambleRefusal (setting_preamble one two (whole_lines (parts_of text))) 1 BadHeader
 header_refused one two text none = lines_refused one two (whole_lines (parts_of text)) none
 
-pub model_answered : (one two text : List ℕ) (version : Version) (after : List ℕ) (why : Why) → HasHeader one two text version after → HasBadModel after why → (why ≡ OutOfMemory → ⊥) →
+pub model_refusal : (one two text : List ℕ) (version : Version) (after line : List ℕ) (why : Why) → HasHeader one two text version after → model_lines (whole_lines (parts_of after)) ≡ line ∷ [] → IsFirstTextFault (model_fault line) why →
     IsPreambleRefusal (setting_preamble one two (whole_lines (parts_of text))) 2 why
-model_answered one two text version after why header bad other =
+model_refusal one two text version after line why header is first =
     let entries = entry_faults [] (entry_lines (version_of two header.line) (drop (length (model_lines (whole_lines (parts_of after)))) (whole_lines (parts_of after)))) in
     rw (preamble_after one two text version after header) record {
       before = header_fault (header_test one two) (header.line ∷ whole_lines (parts_of after)) ∷ [];
-      has = model_fault bad.line;
+      has = model_fault line;
       after = entries;
-      parts = ap (λ lines. header_fault (header_test one two) (header.line ∷ whole_lines (parts_of after)) ∷ map model_fault lines ++ entries) bad.is;
+      parts = ap (λ lines. header_fault (header_test one two) (header.line ∷ whole_lines (parts_of after)) ∷ map model_fault lines ++ entries) is;
       clean = (header_clean one two text version after header (whole_lines (parts_of after)), tt);
       at = refl;
-      refused = first_fault (model_fault bad.line) why bad.refused other;
+      refused = first;
+    }
+
+pub model_answered : (one two text : List ℕ) (version : Version) (after : List ℕ) (why : Why) → HasHeader one two text version after → HasBadModel after why → (why ≡ OutOfMemory → ⊥) →
+    IsPreambleRefusal (setting_preamble one two (whole_lines (parts_of text))) 2 why
+model_answered one two text version after why header bad other = model_refusal one two text version after bad.line why header bad.is (first_fault (model_fault bad.line) why bad.refused other)
+
+pub entry_refusal : (one two text : List ℕ) (order : Order) (lines : ℕ) (after rest : List ℕ) (why : Why) → HasHeader one two text Two after → HasModel after order lines rest → (done : List (List ℕ)) (line : List ℕ) (more : List (List ℕ)) →
+    take_while is_entry_line (whole_lines (parts_of rest)) ≡ done ++ line ∷ more → AreFaultless (entry_faults [] done) → IsFirstTextFault (said_entry_fault (entries_after [] done) (entry_said line)) why →
+    IsPreambleRefusal (setting_preamble one two (whole_lines (parts_of text))) (lines + 2 + length done) why
+entry_refusal one two text order lines after rest why header model done line more at clean first =
+    let test = header_fault (header_test one two) (header.line ∷ whole_lines (parts_of after)) in
+    let is = found_preamble one two text Two order lines after rest (record { header = header; said = model }) (done ++ line ∷ more) at in
+    rw is record {
+      before = test ∷ (map model_fault model.model ++ entry_faults [] done);
+      has = said_entry_fault (entries_after [] done) (entry_said line);
+      after = entry_faults (with_said_entry (entries_after [] done) (entry_said line)) more;
+      parts =
+          ap (λ tests. test ∷ tests)
+          (ap (λ tests. map model_fault model.model ++ tests) (entry_faults-append [] done (line ∷ more))
+          ∙ sym (append_assoc (map model_fault model.model) (entry_faults [] done) (entry_faults (entries_after [] done) (line ∷ more))));
+      clean = (header_clean one two text Two after header (whole_lines (parts_of after)), AreFaultless-append (map model_fault model.model) (entry_faults [] done) model.clean clean);
+      at = omega (arith, length-faults test model.model done, model.count);
+      refused = first;
     }
 
 pub entry_answered : (one two text : List ℕ) (order : Order) (lines : ℕ) (after rest : List ℕ) (entries : ℕ) (why : Why) → HasHeader one two text Two after → HasModel after order lines rest → HasBadEntry rest entries why → (why ≡ OutOfMemory → ⊥) →
     IsPreambleRefusal (setting_preamble one two (whole_lines (parts_of text))) (lines + 2 + entries) why
 entry_answered one two text order lines after rest entries why header model bad other =
-    let test = header_fault (header_test one two) (header.line ∷ whole_lines (parts_of after)) in
-    let is = found_preamble one two text Two order lines after rest (record { header = header; said = model }) (bad.done ++ bad.line ∷ bad.after) bad.is in
-    rw is record {
-      before = test ∷ (map model_fault model.model ++ entry_faults [] bad.done);
-      has = said_entry_fault (entries_after [] bad.done) (entry_said bad.line);
-      after = entry_faults (with_said_entry (entries_after [] bad.done) (entry_said bad.line)) bad.after;
-      parts =
-          ap (λ tests. test ∷ tests)
-          (ap (λ tests. map model_fault model.model ++ tests) (entry_faults-append [] bad.done (bad.line ∷ bad.after))
-          ∙ sym (append_assoc (map model_fault model.model) (entry_faults [] bad.done) (entry_faults (entries_after [] bad.done) (bad.line ∷ bad.after))));
-      clean = (header_clean one two text Two after header (whole_lines (parts_of after)), AreFaultless-append (map model_fault model.model) (entry_faults [] bad.done) model.clean bad.clean);
-      at = omega (arith, length-faults test model.model bad.done, model.count, bad.count);
-      refused = first_fault (said_entry_fault (entries_after [] bad.done) (entry_said bad.line)) why bad.refused other;
-    }
+    subst (λ n. IsPreambleRefusal (setting_preamble one two (whole_lines (parts_of text))) (lines + 2 + n) why) bad.count
+    (entry_refusal one two text order lines after rest why header model bad.done bad.line bad.after bad.is bad.clean (first_fault (said_entry_fault (entries_after [] bad.done) (entry_said bad.line)) why bad.refused other))
 
 -- ---- a header alone
 

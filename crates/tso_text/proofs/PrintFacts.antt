@@ -8,8 +8,7 @@ use Rattle.std.specs.Result.{OnOk}
 use Rattle.std.proofs.lemmas.List.{append-nil, take_all}
 use Rattle.line_text.specs.Lines.{line_text}
 use Rattle.line_text.proofs.PrintFacts.{flat_map-take_more}
-use Rattle.tso_text.specs.Grammars.{trace_header, program_header, schedule_header}
-use Rattle.tso_text.specs.Printed.{items_text, processor_text, entry_tokens, model_text, setting_text, whole_text, outcome_tokens, op_tokens, act_tokens, trace_text, program_text, schedule_text}
+use Rattle.tso_text.specs.Printed.{trace_header, program_header, schedule_header, items_text, processor_text, entry_tokens, model_text, setting_text, whole_text, outcome_tokens, op_tokens, act_tokens, trace_text, program_text, schedule_text}
 
 -- the text after one more item
 pub items_text-more : {X : Type 0} (tokens : X → List (List ℕ)) (start old new : List ℕ) (items : List X) (i : ℕ) (x d : X) → i < length items → x ≡ get_or items i d →

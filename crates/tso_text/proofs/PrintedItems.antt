@@ -8,7 +8,7 @@ use Rattle.tso_text.specs.declared.faults.Why.TheVariants.{TooManyProcessors}
 use Rattle.tso_text.specs.declared.lines.Line.{Line}
 use Rattle.tso_text.specs.declared.lines.Line.TheVariants.{Proc, Item}
 use Rattle.line_text.specs.Lines.{is_empty}
-use Rattle.tso_text.specs.Spelling.{Grammar, push_last, items_of, same_text_fault}
+use Rattle.tso_text.specs.Internal.Spelling.{Grammar, push_last, items_of, same_text_fault}
 use Rattle.tso_text.proofs.LineFacts.{items_of-push_last}
 use Rattle.tso_text.proofs.OneTextFacts.{made_by}
 use Rattle.std.proofs.Math.Bool.{and-false}

@@ -7,7 +7,7 @@ use Rattle.tso_text.specs.declared.faults.Why.{Why}
 use Rattle.tso_text.specs.declared.lines.Line.{Line}
 use Rattle.tso_text.specs.declared.lines.Line.TheVariants.{End}
 use Rattle.line_text.specs.Lines.{line_text, parts_of, tokens_of}
-use Rattle.tso_text.specs.Spelling.{Grammar, said, said_fault, line_fault, lists_of, with_line, with_said, has_end_line, is_end}
+use Rattle.tso_text.specs.Internal.Spelling.{Grammar, said, said_fault, line_fault, lists_of, with_line, with_said, has_end_line, is_end}
 use Rattle.tso_text.specs.Internal.Begun.{SpellsBody}
 use Rattle.tso_text.proofs.CanonicalFacts.{tokens_by}
 use Rattle.tso_text.proofs.ReadersFacts.{IsClean, IsClean-push, part_fault-open, lists_of-push, has_end_line-push, spelled}
@@ -30,7 +30,7 @@ pub record IsReadBack {X : Type 0} (g : Grammar X) (p : X → List (List ℕ)) (
   pub short : length (line_of p l) < 50
 
 -- a printed line is read as what it was printed from
-said-line_of : {X : Type 0} (g : Grammar X) (p : X → List (List ℕ)) (l : Line X) → IsReadBack g p l → said g (line_of p l) ≡ Ok l
+pub said-line_of : {X : Type 0} (g : Grammar X) (p : X → List (List ℕ)) (l : Line X) → IsReadBack g p l → said g (line_of p l) ≡ Ok l
 unfolding tokens_of
 said-line_of g p l back =
     let none : has_byte_in 32 (back.word ∷ back.others) ≡ false = ap (has_byte_in 32) (sym back.some) ∙ back.no_space in
@@ -56,7 +56,7 @@ AreAccepted g p first [] last = first ≡ last
 AreAccepted g p first (l ∷ ls) last = (accepted : IsAccepted g p first l) × AreAccepted g p (with_line first l) ls last
 
 -- the bytes of these lines before a rest are cut into the lines and the parts of the rest
-parts-lines : {X : Type 0} (g : Grammar X) (p : X → List (List ℕ)) (first : List (List X)) (ls : List (Line X)) (last : List (List X)) (rest : List ℕ) → AreAccepted g p first ls last →
+pub parts-lines : {X : Type 0} (g : Grammar X) (p : X → List (List ℕ)) (first : List (List X)) (ls : List (Line X)) (last : List (List X)) (rest : List ℕ) → AreAccepted g p first ls last →
     slice_split (λ b. eqb b 10) (flat_map (λ l. line_text (tokens_by p l)) ls ++ rest) ≡ map (line_of p) ls ++ slice_split (λ b. eqb b 10) rest
 parts-lines g p first [] last rest accepted = refl
 parts-lines g p first (l ∷ ls) last rest accepted =
@@ -77,10 +77,10 @@ length-lines g p first (l ∷ ls) last accepted =
     omega (arith, short, rest, length-append (line_text (tokens_by p l)) (flat_map (λ l. line_text (tokens_by p l)) ls), length-append (line_of p l) (10 ∷ []))
 
 -- the prefix is without a fault, no line of it ends the text, and it says these lists
-record Stands {X : Type 0} (g : Grammar X) (prefix : List (List ℕ)) (lists : List (List X)) : Type 0 where
-  clean : IsClean g prefix
-  running : has_end_line g prefix ≡ false
-  says : lists_of g prefix ≡ lists
+pub record Stands {X : Type 0} (g : Grammar X) (prefix : List (List ℕ)) (lists : List (List X)) : Type 0 where
+  pub clean : IsClean g prefix
+  pub running : has_end_line g prefix ≡ false
+  pub says : lists_of g prefix ≡ lists
 
 stands-push : {X : Type 0} (g : Grammar X) (p : X → List (List ℕ)) (prefix : List (List ℕ)) (lists : List (List X)) (l : Line X) → Stands g prefix lists → IsAccepted g p lists l →
     Stands g (prefix ++ line_of p l ∷ []) (with_line lists l)
@@ -92,14 +92,14 @@ stands-push g p prefix lists l stands accepted =
       says = lists_of-push g prefix (line_of p l) ∙ ap (λ ls. with_said ls (said g (line_of p l))) stands.says ∙ ap (with_said lists) is;
     }
 
-stands-lines : {X : Type 0} (g : Grammar X) (p : X → List (List ℕ)) (prefix : List (List ℕ)) (first : List (List X)) (ls : List (Line X)) (last : List (List X)) → Stands g prefix first → AreAccepted g p first ls last →
+pub stands-lines : {X : Type 0} (g : Grammar X) (p : X → List (List ℕ)) (prefix : List (List ℕ)) (first : List (List X)) (ls : List (Line X)) (last : List (List X)) → Stands g prefix first → AreAccepted g p first ls last →
     Stands g (prefix ++ map (line_of p) ls) last
 stands-lines {X} g p prefix first [] last stands accepted = subst (λ (f : List (List ℕ)). Stands g f last) (sym (append-nil prefix)) (subst (Stands g prefix) accepted stands)
 stands-lines g p prefix first (l ∷ ls) last stands accepted =
     subst (λ f. Stands g f last) (append_assoc prefix (line_of p l ∷ []) (map (line_of p) ls))
     (stands-lines g p (prefix ++ line_of p l ∷ []) (with_line first l) ls last (stands-push g p prefix first l stands accepted.0) accepted.1)
 
-nothing_before : {X : Type 0} (g : Grammar X) → Stands g [] g.start
+pub nothing_before : {X : Type 0} (g : Grammar X) → Stands g [] g.start
 unfolding has_end_line lists_of
 nothing_before g = record { clean = λ i w low. absurd (omega arith); running = refl; says = refl }
 

@@ -2,7 +2,7 @@
 use Rattle.std.proofs.Common.{◌≡◌, ◌||◌, ℕ, ◌+◌, ◌<◌, ◌^◌, Bool, true, false, eqb, List, [], ◌∷◌, ◌++◌, length, Ok, refl, ap, sym, ◌∙◌, subst, arith, append_assoc, length-append}
 use Rattle.std.specs.Prelude.{codes}
 use Rattle.std.specs.Fmt.{decimal}
-use Rattle.std.specs.List.{slice_split, join_with_byte}
+use Rattle.std.specs.List.{slice_split, join_with_byte, take_while}
 use Rattle.std.specs.Str.{bytes_eq}
 use Rattle.std.proofs.lemmas.List.{append-nil}
 use Rattle.std.proofs.lemmas.List.Elements.{recursion_from_All}
@@ -17,12 +17,13 @@ use Rattle.tso_ops.specs.Limits.{KeepsEntries}
 use Rattle.tso_ops.proofs.RefusalFacts.{each-middle, kept_entry}
 use Rattle.tso_text.specs.declared.faults.Why.{Why}
 use Rattle.tso_text.specs.Numbers.{is_word}
-use Rattle.tso_text.specs.Preambles.{SettingLines, entry_by, entry_lines, header_fault, model_lines, model_said, header_alone, header_of, preamble_by, setting_lines, setting_preamble}
-use Rattle.tso_text.specs.Printed.{items_text, model_text, entry_tokens, setting_text, whole_text}
-use Rattle.tso_text.specs.Spelling.{Preamble, whole_lines}
-use Rattle.tso_text.specs.Internal.Begun.{IsSetting, HasBegun, HasHeader, HasModel, HasEntries, HasAllEntries}
+use Rattle.tso_text.specs.Internal.Preambles.{SettingLines, entry_lines, header_fault, header_alone, preamble_by, setting_lines, setting_preamble}
+use Rattle.tso_text.specs.Lines.{entry_by, has_keyword, model_lines, model_said, whole_lines}
+use Rattle.tso_text.specs.Printed.{header_of, items_text, model_text, entry_tokens, setting_text}
+use Rattle.tso_text.specs.Internal.Spelling.{Preamble}
+use Rattle.tso_text.specs.Internal.Begun.{IsSetting, HasBegun, HasHeader, HasModel, HasEntries}
 use Rattle.tso_text.proofs.FaultFacts.{entry_clean}
-use Rattle.tso_text.proofs.PreambleFacts.{header_one, header_two, model_read, model_other, entries_start, entries_next, entries_other, begun_one, begun_two, alone_begun, preamble_after}
+use Rattle.tso_text.proofs.PreambleFacts.{header_one, header_two, model_read, model_other, entries_start, entries_next, no_entry_line, begun_one, begun_two, alone_begun, preamble_after}
 use Rattle.tso_text.proofs.PrintedNumbers.{numbers_without, two-decimal, address-within}
 
 -- ---- the first line of bytes
@@ -57,6 +58,17 @@ pub record BeginsBody (text : List ℕ) : Type 0 where
   pub no_model : bytes_eq word (codes "model") ≡ false
   pub no_entry : bytes_eq word (codes "init") ≡ false
 
+-- What follows the lines of the setting in a text is none of them.
+pub record Follows (setting : SettingValue) (body : List ℕ) : Type 0 where
+  pub no_model : setting.order ≡ Tso → setting.first ≡ [] → HasModel body Tso 0 body
+  pub no_entry : setting.version ≡ Two → take_while (has_keyword (codes "init")) (whole_lines (parts_of body)) ≡ []
+
+pub body_follows : (setting : SettingValue) (body : List ℕ) → BeginsBody body → Follows setting body
+body_follows setting body b = record {
+  no_model = λ _ _. model_other body b.begins.line b.rest b.word b.tokens b.begins.parts b.begins.cut b.no_model;
+  no_entry = λ _. no_entry_line body b.begins.line b.rest b.word b.tokens b.begins.parts b.begins.cut b.no_entry;
+}
+
 numbers_fit : (first before : List (ℕ × ℕ)) (entry : ℕ × ℕ) (after : List (ℕ × ℕ)) → KeepsEntries first → first ≡ before ++ entry ∷ after → (entry.0 < 256) × (entry.1 < 2 ^ 64)
 numbers_fit first before entry after keeps at =
     let whole : KeepsEntries (before ++ entry ∷ after) = subst KeepsEntries at keeps in (
@@ -65,31 +77,28 @@ numbers_fit first before entry after keeps at =
     )
 
 -- the line of an entry
-entry_line : (entry : ℕ × ℕ) (rest : List ℕ) → entry.0 < 256 → entry.1 < 2 ^ 64 → BeginsWith (line_text (entry_tokens entry) ++ rest) (codes "init") (decimal entry.0 ∷ decimal entry.1 ∷ []) rest
-entry_line entry rest low fits =
-    let address : entry.0 < 2 ^ 64 = omega (arith, low) in
-    printed_line (codes "init") (decimal entry.0 ∷ decimal entry.1 ∷ []) rest (numbers_without 32 (entry.0 ∷ entry.1 ∷ []) (omega arith) (address, (fits, tt))) (numbers_without 10 (entry.0 ∷ entry.1 ∷ []) (omega arith) (address, (fits, tt)))
+entry_line : (entry : ℕ × ℕ) (rest : List ℕ) → BeginsWith (line_text (entry_tokens entry) ++ rest) (codes "init") (decimal entry.0 ∷ decimal entry.1 ∷ []) rest
+entry_line entry rest = printed_line (codes "init") (decimal entry.0 ∷ decimal entry.1 ∷ []) rest (numbers_without 32 (entry.0 ∷ entry.1 ∷ []) (omega arith)) (numbers_without 10 (entry.0 ∷ entry.1 ∷ []) (omega arith))
 
 -- entries and what follows them don't begin with the line `model`
-entries_begin : (first : List (ℕ × ℕ)) (body : List ℕ) → KeepsEntries first → BeginsBody body → HasModel (items_text entry_tokens first ++ body) Tso 0 (items_text entry_tokens first ++ body)
+entries_begin : (first : List (ℕ × ℕ)) (body : List ℕ) → KeepsEntries first → (first ≡ [] → HasModel body Tso 0 body) → HasModel (items_text entry_tokens first ++ body) Tso 0 (items_text entry_tokens first ++ body)
 unfolding items_text
-entries_begin [] body keeps b = model_other body b.begins.line b.rest b.word b.tokens b.begins.parts b.begins.cut b.no_model
-entries_begin (entry ∷ first) body keeps b =
-    let fit = numbers_fit (entry ∷ first) [] entry first keeps refl in
+entries_begin [] body keeps none = none refl
+entries_begin (entry ∷ first) body keeps none =
     let after = items_text entry_tokens first ++ body in
-    let line = entry_line entry after fit.0 fit.1 in
+    let line = entry_line entry after in
     subst (λ t. HasModel t Tso 0 t) (sym (append_assoc (line_text (entry_tokens entry)) (items_text entry_tokens first) body))
     (model_other (line_text (entry_tokens entry) ++ after) line.line after (codes "init") (decimal entry.0 ∷ decimal entry.1 ∷ []) line.parts line.cut refl)
 
 -- how many lines say the memory model
-abbrev model_count : Order → ℕ
+abbrev pub model_count : Order → ℕ
 model_count Tso = 0
 model_count Pso = 1
 
-model_back : (order : Order) (first : List (ℕ × ℕ)) (body : List ℕ) → KeepsEntries first → BeginsBody body → HasModel (model_text order ++ (items_text entry_tokens first ++ body)) order (model_count order) (items_text entry_tokens first ++ body)
+pub model_back : (order : Order) (first : List (ℕ × ℕ)) (body : List ℕ) → KeepsEntries first → (order ≡ Tso → first ≡ [] → HasModel body Tso 0 body) → HasModel (model_text order ++ (items_text entry_tokens first ++ body)) order (model_count order) (items_text entry_tokens first ++ body)
 unfolding model_said
-model_back Tso first body keeps b = entries_begin first body keeps b
-model_back Pso first body keeps b =
+model_back Tso first body keeps none = entries_begin first body keeps (none refl)
+model_back Pso first body keeps none =
     let rest = items_text entry_tokens first ++ body in
     let line = printed_line (codes "model") (codes "pso" ∷ []) rest refl refl in
     model_read (model_text Pso ++ rest) line.line rest (codes "model") (codes "pso" ∷ []) line.parts line.cut refl refl line.shorter
@@ -105,18 +114,15 @@ entries_read first before (entry ∷ after) text body lines keeps at read =
     let fit = numbers_fit first before entry after keeps at in
     let address : entry.0 < 2 ^ 64 = omega (arith, fit.0) in
     let rest = items_text entry_tokens after ++ body in
-    let line = entry_line entry rest fit.0 fit.1 in
+    let line = entry_line entry rest in
     let here : HasEntries text before lines (line_text (entry_tokens entry) ++ rest) = subst (HasEntries text before lines) (append_assoc (line_text (entry_tokens entry)) (items_text entry_tokens after) body) read in
     let says : entry_by (decimal entry.0 ∷ decimal entry.1 ∷ []) ≡ Ok entry = rw (two-decimal entry.0 entry.1 address fit.1) (ap (λ a. Ok (a, entry.1)) (address-within entry.0 fit.0)) in
     let clean = entry_clean before entry (kept_entry before entry after (subst KeepsEntries at keeps)) in
     entries_read first (before ++ entry ∷ []) after text body (lines + 1) keeps (at ∙ sym (append_assoc before (entry ∷ []) after))
     (entries_next text before lines (line_text (entry_tokens entry) ++ rest) line.line rest (codes "init") (decimal entry.0 ∷ decimal entry.1 ∷ []) entry here line.parts line.cut refl says clean line.shorter)
 
-entries_back : (first : List (ℕ × ℕ)) (body : List ℕ) → KeepsEntries first → BeginsBody body → (n : ℕ) × HasAllEntries (items_text entry_tokens first ++ body) first n body
-entries_back first body keeps b =
-    let text = items_text entry_tokens first ++ body in
-    let read = entries_read first [] first text body 0 keeps refl (entries_start text) in
-    (read.0, entries_other text first read.0 body b.begins.line b.rest b.word b.tokens read.1 b.begins.parts b.begins.cut b.no_entry)
+pub entries_back : (first : List (ℕ × ℕ)) (body : List ℕ) → KeepsEntries first → (n : ℕ) × HasEntries (items_text entry_tokens first ++ body) first n body
+entries_back first body keeps = let text = items_text entry_tokens first ++ body in entries_read first [] first text body 0 keeps refl (entries_start text)
 
 -- ---- the whole preamble
 
@@ -128,7 +134,7 @@ pub record AreHeaders (one two : List ℕ) : Type 0 where
   pub whole_one : has_byte 10 one ≡ false
   pub whole_two : has_byte 10 two ≡ false
 
-header_back : (one two : List ℕ) (version : Version) (rest : List ℕ) → AreHeaders one two → HasHeader one two (header_of one two version ++ 10 ∷ rest) version rest
+pub header_back : (one two : List ℕ) (version : Version) (rest : List ℕ) → AreHeaders one two → HasHeader one two (header_of one two version ++ 10 ∷ rest) version rest
 unfolding parts_of
 header_back one two One rest h =
     header_one one two (one ++ 10 ∷ rest) one rest (split_part 10 one rest h.whole_one) h.differ h.same_one (omega (arith, length-append one (10 ∷ rest)))
@@ -139,34 +145,37 @@ header_back one two Two rest h =
 abbrev pub IsReadPreamble : List ℕ → List ℕ → List ℕ → SettingValue → List ℕ → Type 0
 IsReadPreamble one two text setting body = (lines : ℕ) × HasBegun (setting_preamble one two (whole_lines (parts_of text))) text setting lines body
 
-by_version : (one two : List ℕ) (version : Version) (order : Order) (first : List (ℕ × ℕ)) (body : List ℕ) → AreHeaders one two → KeepsEntries first → (version ≡ One → first ≡ []) → BeginsBody body →
-    IsReadPreamble one two (header_of one two version ++ 10 ∷ (model_text order ++ (items_text entry_tokens first ++ body))) (record { version = version; order = order; first = first }) body
+by_version : (one two : List ℕ) (setting : SettingValue) (body : List ℕ) → AreHeaders one two → IsSetting setting → Follows setting body → (version : Version) → setting.version ≡ version →
+    IsReadPreamble one two (header_of one two version ++ 10 ∷ (model_text setting.order ++ (items_text entry_tokens setting.first ++ body))) (record { version = version; order = setting.order; first = setting.first }) body
 unfolding items_text
-by_version one two Two order first body h keeps none b =
-    let rest = items_text entry_tokens first ++ body in
-    let all = entries_back first body keeps b in
-    (model_count order + all.0 + 1, begun_two one two (two ++ 10 ∷ (model_text order ++ rest)) order (model_count order) (model_text order ++ rest) rest first all.0 body (header_back one two Two (model_text order ++ rest) h) (model_back order first body keeps b) all.1 keeps)
-by_version one two One order first body h keeps none b =
-    let empty : first ≡ [] = none refl in
-    subst (λ f. IsReadPreamble one two (one ++ 10 ∷ (model_text order ++ (items_text entry_tokens f ++ body))) (record { version = One; order = order; first = f }) body) (sym empty) (
-      model_count order + 1,
-      begun_one one two (one ++ 10 ∷ (model_text order ++ body)) order (model_count order) (model_text order ++ body) body (header_back one two One (model_text order ++ body) h)
-          (model_back order [] body (subst KeepsEntries empty keeps) b),
+by_version one two setting body h is follows Two at =
+    let rest = items_text entry_tokens setting.first ++ body in
+    let model = model_back setting.order setting.first body is.entries follows.no_model in
+    let all = entries_back setting.first body is.entries in
+    (model_count setting.order + all.0 + 1, begun_two one two (two ++ 10 ∷ (model_text setting.order ++ rest)) setting.order (model_count setting.order) (model_text setting.order ++ rest) rest setting.first all.0 body (header_back one two Two (model_text setting.order ++ rest) h) model (record { read = all.1; none = follows.no_entry at }) is.entries)
+by_version one two setting body h is follows One at =
+    let empty : setting.first ≡ [] = is.version_one at in
+    subst (λ f. IsReadPreamble one two (one ++ 10 ∷ (model_text setting.order ++ (items_text entry_tokens f ++ body))) (record { version = One; order = setting.order; first = f }) body) (sym empty) (
+      model_count setting.order + 1,
+      begun_one one two (one ++ 10 ∷ (model_text setting.order ++ body)) setting.order (model_count setting.order) (model_text setting.order ++ body) body (header_back one two One (model_text setting.order ++ body) h)
+          (model_back setting.order [] body (subst KeepsEntries empty is.entries) (λ tso _. follows.no_model tso empty)),
     )
 
--- the printed text of a setting and of a body
-pub setting_back : (one two : List ℕ) (setting : SettingValue) (lines : List ℕ) → AreHeaders one two → IsSetting setting → BeginsBody (lines ++ line_text (codes "end" ∷ [])) →
-    IsReadPreamble one two (whole_text (header_of one two setting.version) (setting_text setting ++ lines)) setting (lines ++ line_text (codes "end" ∷ []))
-unfolding whole_text setting_text
-setting_back one two setting lines h is b =
-    let header = header_of one two setting.version in
+-- the lines of a setting by their parts
+pub setting_parts : (header : List ℕ) (setting : SettingValue) (lines rest : List ℕ) →
+    (header ++ 10 ∷ (setting_text setting ++ lines)) ++ rest ≡ header ++ 10 ∷ (model_text setting.order ++ (items_text entry_tokens setting.first ++ (lines ++ rest)))
+unfolding setting_text
+setting_parts header setting lines rest =
     let model = model_text setting.order in
     let entries = items_text entry_tokens setting.first in
-    let last = line_text (codes "end" ∷ []) in
-    let same : (header ++ 10 ∷ ((model ++ entries) ++ lines)) ++ last ≡ header ++ 10 ∷ (model ++ (entries ++ (lines ++ last))) =
-    append_assoc header (10 ∷ ((model ++ entries) ++ lines)) last
-    ∙ ap (λ b. header ++ 10 ∷ b) (append_assoc (model ++ entries) lines last ∙ append_assoc model entries (lines ++ last)) in
-    rw same (by_version one two setting.version setting.order setting.first (lines ++ last) h is.entries is.version_one b)
+    append_assoc header (10 ∷ ((model ++ entries) ++ lines)) rest
+    ∙ ap (λ b. header ++ 10 ∷ b) (append_assoc (model ++ entries) lines rest ∙ append_assoc model entries (lines ++ rest))
+
+-- the printed text of a setting, and what follows it
+pub setting_back : (one two : List ℕ) (setting : SettingValue) (lines rest : List ℕ) → AreHeaders one two → IsSetting setting → Follows setting (lines ++ rest) →
+    IsReadPreamble one two ((header_of one two setting.version ++ 10 ∷ (setting_text setting ++ lines)) ++ rest) setting (lines ++ rest)
+setting_back one two setting lines rest h is follows =
+    subst (λ t. IsReadPreamble one two t setting (lines ++ rest)) (sym (setting_parts (header_of one two setting.version) setting lines rest)) (by_version one two setting (lines ++ rest) h is follows setting.version refl)
 
 -- a text that begins with its one header
 pub header_read : (header body : List ℕ) → has_byte 10 header ≡ false → bytes_eq header header ≡ true → HasBegun (header_alone header (whole_lines (parts_of (header ++ 10 ∷ body)))) (header ++ 10 ∷ body) version_one_tso 1 body

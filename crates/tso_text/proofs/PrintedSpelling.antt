@@ -25,12 +25,15 @@ use Rattle.tso_ops.specs.declared.acts.Act.{Act}
 use Rattle.tso_ops.specs.declared.acts.Act.TheVariants.{Issue, Drain}
 use Rattle.tso_text.specs.declared.lines.Line.{Line}
 use Rattle.tso_text.specs.declared.lines.Line.TheVariants.{Proc, Item, End}
-use Rattle.tso_text.specs.Grammars.{trace_format, program_format, schedule_format, trace_grammar, program_grammar, schedule_grammar, schedule_header, has_stbar, trace_line, program_line, schedule_line, trace_header, program_header, outcome_fault, program_op_fault, processor_of, SpellsTrace, SpellsProgram, SpellsSchedule}
+use Rattle.tso_text.specs.Internal.Grammars.{trace_format, program_format, schedule_format, trace_grammar, program_grammar, schedule_grammar, outcome_fault, program_op_fault}
+use Rattle.tso_text.specs.Lines.{has_stbar, trace_line, program_line, schedule_line, whole_lines}
+use Rattle.tso_text.specs.Printed.{schedule_header, trace_header, program_header, items_text, processor_text, entry_tokens, model_text, setting_text, whole_text, outcome_tokens, op_tokens, act_tokens, trace_text, program_text, schedule_text, header_of}
+use Rattle.tso_text.specs.Texts.{processor_of, text_byte_limit}
 use Rattle.tso_text.specs.Numbers.{no_number}
-use Rattle.tso_text.specs.Printed.{items_text, processor_text, entry_tokens, model_text, setting_text, whole_text, outcome_tokens, op_tokens, act_tokens, trace_text, program_text, schedule_text}
 use Rattle.line_text.specs.Lines.{line_text, parts_of}
-use Rattle.tso_text.specs.Preambles.{header_of, setting_preamble}
-use Rattle.tso_text.specs.Spelling.{Grammar, Format, SpellsLists, preamble_of, whole_lines, items_of, text_byte_limit}
+use Rattle.tso_text.specs.Internal.Preambles.{setting_preamble}
+use Rattle.tso_text.specs.Internal.Spelling.{Grammar, Format, preamble_of, items_of}
+use Rattle.tso_text.specs.Internal.Spelled.{SpellsLists, HasTraceLines, HasProgramLines, HasScheduleLines}
 use Rattle.tso_text.specs.Internal.Begun.{IsSetting, HasBegun}
 use Rattle.tso_text.proofs.CanonicalFacts.{tokens_by}
 use Rattle.tso_text.proofs.FaultFacts.{op_clean, act_clean}
@@ -38,7 +41,7 @@ use Rattle.tso_text.proofs.LineFacts.{items_of-map}
 use Rattle.tso_text.proofs.OneTextFacts.{made_by, made_by-text, flat_map-Item}
 use Rattle.tso_text.proofs.PrintedItems.{AreFit, lists_accepted, items_accepted, length-made_by}
 use Rattle.tso_text.proofs.PrintedLines.{IsReadBack, AreAccepted, length-lines, printed_parts}
-use Rattle.tso_text.proofs.PrintedSetting.{AreHeaders, BeginsBody, printed_line, setting_back, header_read}
+use Rattle.tso_text.proofs.PrintedSetting.{AreHeaders, BeginsBody, printed_line, body_follows, setting_back, header_read}
 use Rattle.tso_text.proofs.TextFacts.{begun_spells}
 use Rattle.line_text.proofs.SplitFacts.{has_byte, has_byte_in}
 use Rattle.tso_text.proofs.PrintedNumbers.{Fit64, numbers_without, one-decimal, two-decimal, three-decimal, address-within}
@@ -61,8 +64,8 @@ short_back g p l word ns shape space end short fit says = record {
   word = word;
   others = map decimal ns;
   some = shape;
-  no_space = ap (has_byte_in 32) shape ∙ rw space (numbers_without 32 ns (omega arith) fit);
-  no_end = ap (has_byte_in 10) shape ∙ rw end (numbers_without 10 ns (omega arith) fit);
+  no_space = ap (has_byte_in 32) shape ∙ rw space (numbers_without 32 ns (omega arith));
+  no_end = ap (has_byte_in 10) shape ∙ rw end (numbers_without 10 ns (omega arith));
   short = rw shape short;
 }
 
@@ -86,7 +89,7 @@ order_has_stbar Pso none = refl
 
 -- ---- the lines of traces
 
-trace_end : (setting : SettingValue) → IsReadBack (trace_grammar setting) outcome_tokens End
+pub trace_end : (setting : SettingValue) → IsReadBack (trace_grammar setting) outcome_tokens End
 unfolding trace_line no_number
 trace_end setting = read_back (trace_grammar setting) outcome_tokens End (codes "end") [] refl refl refl (omega arith) (omega arith) tt refl
 
@@ -143,15 +146,17 @@ short_lines g p lists last accepted few some =
 -- ---- whole texts
 
 -- the lines of lists and `end` don't begin with a keyword of the preamble
-body_begins : {X : Type 0} (p : X → List (List ℕ)) (lists : List (List X)) → BeginsBody (flat_map (processor_text p) lists ++ line_text (codes "end" ∷ []))
+pub lists_begin : {X : Type 0} (p : X → List (List ℕ)) (row : List X) (lists : List (List X)) (last : List ℕ) → BeginsBody (flat_map (processor_text p) (row ∷ lists) ++ last)
 unfolding processor_text
-body_begins p [] = record { word = codes "end"; tokens = []; rest = []; begins = printed_line (codes "end") [] [] refl refl; no_model = refl; no_entry = refl }
-body_begins p (row ∷ lists) =
+lists_begin p row lists last =
     let rest = flat_map (processor_text p) lists in
-    let last = line_text (codes "end" ∷ []) in
     let same : ((line_text (codes "proc" ∷ []) ++ items_text p row) ++ rest) ++ last ≡ line_text (codes "proc" ∷ []) ++ ((items_text p row ++ rest) ++ last) =
     ap (λ b. b ++ last) (append_assoc (line_text (codes "proc" ∷ [])) (items_text p row) rest) ∙ append_assoc (line_text (codes "proc" ∷ [])) (items_text p row ++ rest) last in
     rw same (record { word = codes "proc"; tokens = []; rest = (items_text p row ++ rest) ++ last; begins = printed_line (codes "proc") [] ((items_text p row ++ rest) ++ last) refl refl; no_model = refl; no_entry = refl })
+
+pub body_begins : {X : Type 0} (p : X → List (List ℕ)) (lists : List (List X)) (rest : List ℕ) → BeginsBody (flat_map (processor_text p) lists ++ (line_text (codes "end" ∷ []) ++ rest))
+body_begins p [] rest = record { word = codes "end"; tokens = []; rest = rest; begins = printed_line (codes "end") [] rest refl refl; no_model = refl; no_entry = refl }
+body_begins p (row ∷ lists) rest = lists_begin p row lists (line_text (codes "end" ∷ []) ++ rest)
 
 entries_length : (first : List (ℕ × ℕ)) → AllByRecursion (λ entry. entry.0 < 256) first → AllByRecursion (λ entry. entry.1 < 2 ^ 64) first → length (items_text entry_tokens first) ≤ 50 * length first
 unfolding items_text
@@ -186,14 +191,15 @@ whole_spells : {X : Type 0} (f : Format X) (one two : List ℕ) (p : X → List 
     ((text : List ℕ) → preamble_of f text ≡ setting_preamble one two (whole_lines (parts_of text))) → AreHeaders one two → IsSetting setting → IsReadBack (f.grammar setting) p End → AreAccepted (f.grammar setting) p (f.grammar setting).start (made_by lists) lists →
     length (whole_text (header_of one two setting.version) (setting_text setting ++ flat_map (processor_text p) lists)) ≤ text_byte_limit →
     (setting ≡ (preamble_of f (whole_text (header_of one two setting.version) (setting_text setting ++ flat_map (processor_text p) lists))).setting) × SpellsLists f (whole_text (header_of one two setting.version) (setting_text setting ++ flat_map (processor_text p) lists)) lists
+unfolding whole_text
 whole_spells f one two p setting lists by headers is end accepted short =
     let lines = flat_map (processor_text p) lists in
     let text = whole_text (header_of one two setting.version) (setting_text setting ++ lines) in
-    let read = setting_back one two setting lines headers is (body_begins p lists) in
+    let read = setting_back one two setting lines (line_text (codes "end" ∷ [])) headers is (body_follows setting (lines ++ line_text (codes "end" ∷ [])) (body_begins p lists [])) in
     let begun : HasBegun (preamble_of f text) text setting read.0 (lines ++ line_text (codes "end" ∷ [])) = subst (λ q. HasBegun q text setting read.0 (lines ++ line_text (codes "end" ∷ []))) (sym (by text)) read.1 in
     (sym begun.says, begun_spells f text setting read.0 (lines ++ line_text (codes "end" ∷ [])) lists short begun (printed_parts (f.grammar setting) p (made_by lists) lists lines end accepted (made_by-text p lists)))
 
-setting_of_program : (p : ProgramValue) → IsProgram p → IsSetting p.setting
+pub setting_of_program : (p : ProgramValue) → IsProgram p → IsSetting p.setting
 setting_of_program p program = record { entries = program.entries; version_one = program.version_one }
 
 few_items : (version : Version) (n : ℕ) → n ≤ event_limit version + barrier_limit version → n ≤ 16000
@@ -206,15 +212,24 @@ trace_headers = record { differ = refl; same_one = refl; same_two = refl; whole_
 pub program_headers : AreHeaders (program_header One) (program_header Two)
 program_headers = record { differ = refl; same_one = refl; same_two = refl; whole_one = refl; whole_two = refl }
 
-pub printed_trace_spells : (t : TraceValue) → IsTrace t → SpellsTrace (trace_text t) t
+pub trace_limits : (t : TraceValue) → IsTrace t → KeepsLimits t.setting (map op_of (items_of t.lists))
+trace_limits t trace = subst (KeepsLimits t.setting) (items_of-map op_of t.lists) trace.program.limits
+
+pub few_lists : (t : TraceValue) → IsTrace t → length t.lists ≤ 16
+few_lists t trace = omega (arith, length-map t.lists (map op_of), trace.program.processors)
+
+pub trace_accepted : (t : TraceValue) → IsTrace t → AreAccepted (trace_grammar t.setting) outcome_tokens [] (made_by t.lists) t.lists
+trace_accepted t trace =
+    lists_accepted (trace_grammar t.setting) outcome_tokens (items_of t.lists) (outcomes_fit t.setting (items_of t.lists) (trace_limits t trace) trace.reads) (trace_proc t.setting) [] t.lists (omega (arith, few_lists t trace)) refl
+
+pub printed_trace_spells : (t : TraceValue) → IsTrace t → HasTraceLines (trace_text t) t
 unfolding trace_text
 printed_trace_spells t trace =
     let setting = t.setting in
     let is = setting_of_program (program_of t) trace.program in
-    let limits : KeepsLimits setting (map op_of (items_of t.lists)) = subst (KeepsLimits setting) (items_of-map op_of t.lists) trace.program.limits in
-    let few : length t.lists ≤ 16 = omega (arith, length-map t.lists (map op_of), trace.program.processors) in
-    let fit = outcomes_fit setting (items_of t.lists) limits trace.reads in
-    let accepted = lists_accepted (trace_grammar setting) outcome_tokens (items_of t.lists) fit (trace_proc setting) [] t.lists (omega (arith, few)) refl in
+    let limits = trace_limits t trace in
+    let few = few_lists t trace in
+    let accepted = trace_accepted t trace in
     let some : length (items_of t.lists) ≤ 16000 = few_items setting.version (length (items_of t.lists)) (omega (arith, kept_few setting (map op_of (items_of t.lists)) limits, length-map (items_of t.lists) op_of)) in
     let short = length-whole (trace_header setting.version) (setting_text setting) (flat_map (processor_text outcome_tokens) t.lists) (length-header (trace_header One) (trace_header Two) setting.version (omega arith) (omega arith)) (setting_length setting is)
     (short_lines (trace_grammar setting) outcome_tokens t.lists t.lists accepted few some) in
@@ -222,7 +237,7 @@ printed_trace_spells t trace =
 
 -- ---- the lines of programs
 
-program_end : (setting : SettingValue) → IsReadBack (program_grammar setting) op_tokens End
+pub program_end : (setting : SettingValue) → IsReadBack (program_grammar setting) op_tokens End
 unfolding program_line no_number
 program_end setting = read_back (program_grammar setting) op_tokens End (codes "end") [] refl refl refl (omega arith) (omega arith) tt refl
 
@@ -261,13 +276,16 @@ ops_fit setting items limits = record {
   clean = λ before x after at w. op_clean setting before x (kept_faultless setting before x after (subst (KeepsLimits setting) at limits)) w;
 }
 
-pub printed_program_spells : (p : ProgramValue) → IsProgram p → SpellsProgram (program_text p) p
+pub program_accepted : (p : ProgramValue) → IsProgram p → AreAccepted (program_grammar p.setting) op_tokens [] (made_by p.lists) p.lists
+program_accepted p program =
+    lists_accepted (program_grammar p.setting) op_tokens (items_of p.lists) (ops_fit p.setting (items_of p.lists) program.limits) (program_proc p.setting) [] p.lists (omega (arith, program.processors)) refl
+
+pub printed_program_spells : (p : ProgramValue) → IsProgram p → HasProgramLines (program_text p) p
 unfolding program_text
 printed_program_spells p program =
     let setting = p.setting in
     let is = setting_of_program p program in
-    let fit = ops_fit setting (items_of p.lists) program.limits in
-    let accepted = lists_accepted (program_grammar setting) op_tokens (items_of p.lists) fit (program_proc setting) [] p.lists (omega (arith, program.processors)) refl in
+    let accepted = program_accepted p program in
     let some = few_items setting.version (length (items_of p.lists)) (kept_few setting (items_of p.lists) program.limits) in
     let short = length-whole (program_header setting.version) (setting_text setting) (flat_map (processor_text op_tokens) p.lists) (length-header (program_header One) (program_header Two) setting.version (omega arith) (omega arith)) (setting_length setting is)
     (short_lines (program_grammar setting) op_tokens p.lists p.lists accepted program.processors some) in
@@ -275,7 +293,7 @@ printed_program_spells p program =
 
 -- ---- the lines of schedules
 
-schedule_end : IsReadBack schedule_grammar act_tokens End
+pub schedule_end : IsReadBack schedule_grammar act_tokens End
 unfolding schedule_line no_number
 schedule_end = read_back schedule_grammar act_tokens End (codes "end") [] refl refl refl (omega arith) (omega arith) tt refl
 
@@ -294,23 +312,15 @@ acts_fit acts within = record {
   clean = λ before x after at w. act_clean before x (each-middle (λ x. processor_of x ≤ 15) before x after (subst (AllByRecursion (λ x. processor_of x ≤ 15)) at (recursion_from_All _ _ within))) w;
 }
 
-pub printed_schedule_spells : (acts : List Act) → All (λ x. processor_of x ≤ 15) acts → length (schedule_text acts) ≤ text_byte_limit → SpellsSchedule (schedule_text acts) acts
+pub acts_accepted : (acts : List Act) → All (λ x. processor_of x ≤ 15) acts → AreAccepted schedule_grammar act_tokens ([] ∷ []) (map Item acts) (acts ∷ [])
+acts_accepted acts within = items_accepted schedule_grammar act_tokens acts (acts_fit acts within)
+
+pub printed_schedule_spells : (acts : List Act) → All (λ x. processor_of x ≤ 15) acts → length (schedule_text acts) ≤ text_byte_limit → HasScheduleLines (schedule_text acts) acts
 unfolding schedule_text items_text whole_text
 printed_schedule_spells acts within short =
     let lines = flat_map (λ x. line_text (act_tokens x)) acts in
     let last = line_text (codes "end" ∷ []) in
     let same : (schedule_header ++ 10 ∷ lines) ++ last ≡ schedule_header ++ 10 ∷ (lines ++ last) = append_assoc schedule_header (10 ∷ lines) last in
     let begun = header_read schedule_header (lines ++ last) refl refl in
-    let body = printed_parts schedule_grammar act_tokens (map Item acts) (acts ∷ []) lines schedule_end (items_accepted schedule_grammar act_tokens acts (acts_fit acts within)) (flat_map-Item (λ l. line_text (tokens_by act_tokens l)) acts) in
+    let body = printed_parts schedule_grammar act_tokens (map Item acts) (acts ∷ []) lines schedule_end (acts_accepted acts within) (flat_map-Item (λ l. line_text (tokens_by act_tokens l)) acts) in
     rw same (begun_spells schedule_format (schedule_header ++ 10 ∷ (lines ++ last)) version_one_tso 1 (lines ++ last) (acts ∷ []) (subst (λ t. length t ≤ text_byte_limit) same short) begun body)
-
--- ---- what a printer answers
-
-pub trace_answered : (t : TraceValue) (bytes : List ℕ) → IsTrace t → bytes ≡ trace_text t → SpellsTrace bytes t
-trace_answered t bytes kept is = subst (λ b. SpellsTrace b t) (sym is) (printed_trace_spells t kept)
-
-pub program_answered : (p : ProgramValue) (bytes : List ℕ) → IsProgram p → bytes ≡ program_text p → SpellsProgram bytes p
-program_answered p bytes kept is = subst (λ b. SpellsProgram b p) (sym is) (printed_program_spells p kept)
-
-pub schedule_answered : (acts : List Act) (bytes : List ℕ) → bytes ≡ schedule_text acts → All (λ x. processor_of x ≤ 15) acts → length bytes ≤ text_byte_limit → SpellsSchedule bytes acts
-schedule_answered acts bytes is within short = subst (λ b. SpellsSchedule b acts) (sym is) (printed_schedule_spells acts within (subst (λ b. length b ≤ text_byte_limit) is short))

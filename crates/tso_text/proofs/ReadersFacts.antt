@@ -9,7 +9,8 @@ use Rattle.line_text.specs.Lines.{is_empty, parts_of}
 use Rattle.line_text.proofs.CutFacts.{split_parts, some_part}
 use Rattle.tso_text.specs.declared.faults.Why.{Why}
 use Rattle.tso_text.specs.declared.faults.Why.TheVariants.{AfterEnd, OutOfMemory}
-use Rattle.tso_text.specs.Spelling.{Grammar, body_fault, part_fault, said_fault, said, lists_of, lists_after, whole_lines, with_said, has_end_line, is_end, unended_text_fault, same_text_fault}
+use Rattle.tso_text.specs.Internal.Spelling.{Grammar, body_fault, part_fault, said_fault, said, lists_of, lists_after, with_said, has_end_line, is_end, unended_text_fault, same_text_fault}
+use Rattle.tso_text.specs.Lines.{whole_lines}
 use Rattle.tso_text.specs.Internal.Accepted.{IsFirstTextFault, IsRefusedFor, AcceptsLine}
 use Rattle.tso_text.specs.Internal.Begun.{SpellsBody, IsBodyRefusal, IsRefusedAfter}
 

@@ -1,11 +1,11 @@
--- What a text spells keeps the limits of its value.
-use Rattle.std.proofs.Common.{◌≡◌, ℕ, ◌+◌, ◌<◌, ◌≤◌, ◌&&◌, Bool, true, false, ltb, List, [], ◌∷◌, ◌++◌, length, map, All, Some, Result, Ok, Err, refl, sym, ◌∙◌, subst, arith, append_assoc, length-append}
+-- Lines without a fault keep the limits of their value.
+use Rattle.std.proofs.Common.{◌≡◌, ℕ, ◌+◌, ◌<◌, ◌≤◌, ◌&&◌, true, false, ltb, List, [], ◌∷◌, ◌++◌, length, map, All, Some, Ok, refl, sym, ◌∙◌, subst, arith, length-append}
 use Rattle.std.specs.Prelude.{codes, IfOk}
 use Rattle.std.proofs.lemmas.Bool.{false≢true, or_parts}
 use Rattle.std.proofs.lemmas.Bool.Decides.{nat_tests}
 use Rattle.std.proofs.lemmas.List.{append-nil, map-append}
 use Rattle.std.proofs.lemmas.List.Concat.{flat_map-append}
-use Rattle.std.proofs.lemmas.List.Elements.{All-nil, All-push}
+use Rattle.std.proofs.lemmas.List.Elements.{All-push}
 use Rattle.std.proofs.lemmas.Result.{IfOk-at_ok}
 use Rattle.line_text.specs.Lines.{is_empty}
 use Rattle.line_text.proofs.NumberFacts.{and_parts}
@@ -13,41 +13,38 @@ use Rattle.tso_ops.specs.declared.ops.Op.{Op}
 use Rattle.tso_ops.specs.declared.ops.Op.TheVariants.{Ld as OpLd, St as OpSt, Sw as OpSw, Mb as OpMb, Sb as OpSb}
 use Rattle.tso_ops.specs.declared.settings.Order.{Order}
 use Rattle.tso_ops.specs.declared.settings.Order.TheVariants.{Tso, Pso}
-use Rattle.tso_ops.specs.declared.settings.Version.TheVariants.{One, Two}
 use Rattle.tso_ops.specs.declared.ops.Outcome.{Outcome}
 use Rattle.tso_ops.specs.declared.ops.Outcome.TheVariants.{Ld, St, Sw, Mb, Sb}
-use Rattle.tso_ops.specs.Limits.{KeepsLimits, IsProgram, IsTrace, event_count, barrier_count, total_events, total_barriers, stored_by, is_stbar_in_tso}
-use Rattle.tso_ops.specs.Values.{TraceValue, ProgramValue, ReadFits, op_of, trace_of_lists, program_of_lists}
+use Rattle.tso_ops.specs.Limits.{KeepsLimits, event_count, barrier_count, total_events, total_barriers, stored_by, is_stbar_in_tso}
+use Rattle.tso_ops.specs.Values.{ReadFits, op_of}
 use Rattle.tso_ops.specs.Settings.{SettingValue, event_limit, barrier_limit}
-use Rattle.tso_ops.proofs.LimitFacts.{KeepsLimits-nil, KeepsLimits-push}
+use Rattle.tso_ops.proofs.LimitFacts.{KeepsLimits-push}
 use Rattle.tso_text.specs.declared.faults.Why.{Why}
-use Rattle.tso_text.specs.declared.faults.Why.TheVariants.{TooManyProcessors, TooManyEvents, AddressRange, ZeroValue, RepeatedValue, AfterEnd}
+use Rattle.tso_text.specs.declared.faults.Why.TheVariants.{TooManyProcessors, ProcessorRange}
 use Rattle.tso_text.specs.declared.lines.Line.{Line}
 use Rattle.tso_text.specs.declared.lines.Line.TheVariants.{Proc, Item, End}
-use Rattle.tso_text.specs.Grammars.{trace_format, program_format, trace_header, program_header, trace_grammar, program_grammar, trace_line, program_line, has_stbar, op_fault, outcome_fault, program_op_fault, SpellsTrace, SpellsProgram}
+use Rattle.tso_text.specs.Internal.Grammars.{trace_grammar, program_grammar, schedule_grammar, op_fault, outcome_fault, program_op_fault, act_fault}
+use Rattle.tso_text.specs.Lines.{trace_line, program_line, has_stbar}
 use Rattle.tso_text.specs.Numbers.{is_word, no_number, one_number, two_numbers, three_numbers}
-use Rattle.tso_text.specs.Spelling.{Grammar, preamble_of, body_of, said_fault, line_fault, said, lists_of, whole_lines, with_line, with_said, has_end_line, items_of}
+use Rattle.tso_text.specs.Internal.Spelling.{Grammar, line_fault, said, with_line, items_of}
+use Rattle.tso_text.specs.Texts.{processor_of}
 use Rattle.tso_text.specs.Internal.Accepted.{CanSay}
-use Rattle.tso_text.specs.Internal.Begun.{SpellsBody}
 use Rattle.tso_text.proofs.CanonicalFacts.{if_bind, if_cond, if_cond_on, sound}
-use Rattle.tso_text.proofs.KeptFacts.{trace_within}
+use Rattle.tso_text.proofs.FaultFacts.{op_passes}
 use Rattle.tso_text.proofs.LineFacts.{items_of-push_last, length-push_last}
 use Rattle.tso_text.proofs.NumberLimits.{Fits, two_fit, three_fit}
-use Rattle.tso_text.proofs.ReadersFacts.{part_fault-open, part_fault-ended, body_fault-place, whole_lines-place, lists_of-push}
-use Rattle.tso_text.proofs.SettingText.{setting_kept}
-use Rattle.tso_text.proofs.TextFacts.{body_spells}
 
 -- ---- from line to line
 
 -- What is said of items is said as well with one more, where a line says it and it has no fault after them.
-abbrev IsKeptByItems : {X : Type 0} → Grammar X → (List X → Type 0) → Type 0
+abbrev pub IsKeptByItems : {X : Type 0} → Grammar X → (List X → Type 0) → Type 0
 IsKeptByItems {X} g keeps =
     (items : List X) (x : X) (ps : List (List ℕ)) → g.said_by ps ≡ Ok (Item x) → ((w : Why) → g.item_fault items x w ≡ false) → keeps items → keeps (items ++ x ∷ [])
 
 -- There are at most 16 lists, and this is said of their items.
-record KeepsLists {X : Type 0} (keeps : List X → Type 0) (lists : List (List X)) : Type 0 where
-  few : length lists ≤ 16
-  items : keeps (items_of lists)
+pub record KeepsLists {X : Type 0} (keeps : List X → Type 0) (lists : List (List X)) : Type 0 where
+  pub few : length lists ≤ 16
+  pub items : keeps (items_of lists)
 
 -- a list that begins has no items
 items_of-begun : {X : Type 0} (lists : List (List X)) → items_of (lists ++ [] ∷ []) ≡ items_of lists
@@ -57,7 +54,7 @@ above_zero : {X : Type 0} (lists : List (List X)) → is_empty lists ≡ false �
 above_zero [] some = absurd cc
 above_zero (row ∷ lists) some = omega arith
 
-line_kept : {X : Type 0} (g : Grammar X) (keeps : List X → Type 0) → IsKeptByItems g keeps → (lists : List (List X)) (ps : List (List ℕ)) (l : Line X) → g.said_by ps ≡ Ok l →
+pub line_kept : {X : Type 0} (g : Grammar X) (keeps : List X → Type 0) → IsKeptByItems g keeps → (lists : List (List X)) (ps : List (List ℕ)) (l : Line X) → g.said_by ps ≡ Ok l →
     ((w : Why) → line_fault g lists l w ≡ false) → KeepsLists keeps lists → KeepsLists keeps (with_line lists l)
 line_kept g keeps more lists ps Proc says clean kept =
     let off : ltb 15 (length lists) ≡ false = clean TooManyProcessors in
@@ -71,50 +68,6 @@ line_kept g keeps more lists ps (Item x) says clean kept =
     }
 line_kept g keeps more lists ps End says clean kept = kept
 
-said_kept : {X : Type 0} (g : Grammar X) (keeps : List X → Type 0) → IsKeptByItems g keeps → (lists : List (List X)) (ps : List (List ℕ)) (r : Result (Line X) Why) → g.said_by ps ≡ r →
-    ((w : Why) → said_fault g lists r w ≡ false) → KeepsLists keeps lists → KeepsLists keeps (with_said lists r)
-said_kept g keeps more lists ps (Err why) says clean kept = kept
-said_kept g keeps more lists ps (Ok l) says clean kept = line_kept g keeps more lists ps l says clean kept
-
--- before a line of a spelled text there is no `end`
-not_ended : {X : Type 0} (g : Grammar X) (whole : List (List ℕ)) (last : List (List X)) (prefix : List (List ℕ)) (part next : List ℕ) (parts : List (List ℕ)) → SpellsBody g whole last →
-    whole ≡ prefix ++ part ∷ next ∷ parts → has_end_line g prefix ≡ false
-not_ended g whole last prefix part next parts spells body = decided (has_end_line g prefix) refl
-  where
-    decided : (b : Bool) → has_end_line g prefix ≡ b → b ≡ false
-    decided false running = refl
-    decided true ended =
-        absurd (false≢true (sym (spells.clean (length prefix) AfterEnd)
-        ∙ body_fault-place g whole prefix part (next ∷ parts) (length prefix) AfterEnd body refl ∙ part_fault-ended g prefix part false AfterEnd ended))
-
--- a line of a spelled text has no fault after those before it
-line_clean : {X : Type 0} (g : Grammar X) (whole : List (List ℕ)) (last : List (List X)) (prefix : List (List ℕ)) (part next : List ℕ) (parts : List (List ℕ)) → SpellsBody g whole last →
-    whole ≡ prefix ++ part ∷ next ∷ parts → (w : Why) → said_fault g (lists_of g prefix) (said g part) w ≡ false
-line_clean g whole last prefix part next parts spells body w =
-    sym (part_fault-open g prefix part w (not_ended g whole last prefix part next parts spells body))
-    ∙ sym (body_fault-place g whole prefix part (next ∷ parts) (length prefix) w body refl) ∙ spells.clean (length prefix) w
-
--- from a line on, the lines of a spelled text keep what is said
-lines_kept : {X : Type 0} (g : Grammar X) (keeps : List X → Type 0) → IsKeptByItems g keeps → (whole : List (List ℕ)) (last : List (List X)) → SpellsBody g whole last →
-    (prefix : List (List ℕ)) (part : List ℕ) (parts : List (List ℕ)) → whole ≡ prefix ++ part ∷ parts → KeepsLists keeps (lists_of g prefix) → KeepsLists keeps (lists_of g (whole_lines whole))
-lines_kept g keeps more whole last spells prefix part [] body kept = rw (body, whole_lines-place prefix part) kept
-lines_kept g keeps more whole last spells prefix part (next ∷ parts) body kept =
-    let after : KeepsLists keeps (lists_of g (prefix ++ part ∷ [])) =
-    rw (lists_of-push g prefix part) (said_kept g keeps more (lists_of g prefix) _ (said g part) refl (line_clean g whole last prefix part next parts spells body) kept) in
-    lines_kept g keeps more whole last spells (prefix ++ part ∷ []) next parts (body ∙ sym (append_assoc prefix (part ∷ []) (next ∷ parts))) after
-
-body_kept : {X : Type 0} (g : Grammar X) (keeps : List X → Type 0) → IsKeptByItems g keeps → (whole : List (List ℕ)) (last : List (List X)) → SpellsBody g whole last →
-    (parts : List (List ℕ)) → whole ≡ parts → KeepsLists keeps g.start → KeepsLists keeps (lists_of g (whole_lines whole))
-unfolding lists_of
-body_kept g keeps more whole last spells [] body kept = rw body kept
-body_kept g keeps more whole last spells (part ∷ parts) body kept = lines_kept g keeps more whole last spells [] part parts body kept
-
--- what is said of the items at the start, and kept by each line, is said of what a text spells
-spelled_kept : {X : Type 0} (g : Grammar X) (keeps : List X → Type 0) → IsKeptByItems g keeps → length g.start ≤ 16 → keeps (items_of g.start) → (parts : List (List ℕ)) (lists : List (List X)) → SpellsBody g parts lists →
-    KeepsLists keeps lists
-spelled_kept g keeps more few start parts lists spells =
-    subst (KeepsLists keeps) spells.says (body_kept g keeps more parts lists spells parts refl (record { few = few; items = start }))
-
 -- ---- operations
 
 -- the value that the operation writes, if it writes one, has 64 bits
@@ -124,14 +77,15 @@ WriteFits op = (v : ℕ) → stored_by op ≡ Some v → Fits v
 -- one more operation without a fault keeps the limits
 limits_kept : (setting : SettingValue) (ops : List Op) (op : Op) → ((w : Why) → op_fault setting ops op w ≡ false) → WriteFits op → is_stbar_in_tso setting.order op ≡ false → KeepsLimits setting ops → KeepsLimits setting (ops ++ op ∷ [])
 limits_kept setting ops op clean fits no_stbar limits =
-    let many = or_parts (ltb (event_limit setting.version) (total_events ops + event_count op)) (ltb (barrier_limit setting.version) (total_barriers ops + barrier_count op)) (clean TooManyEvents) in
+    let passes = op_passes setting ops op clean in
+    let many = or_parts (ltb (event_limit setting.version) (total_events ops + event_count op)) (ltb (barrier_limit setting.version) (total_barriers ops + barrier_count op)) passes.many in
     let events : total_events ops + event_count op ≤ event_limit setting.version = let off = many.0 in grind (arith, nat_tests) in
     let barriers : total_barriers ops + barrier_count op ≤ barrier_limit setting.version = let off = many.1 in grind (arith, nat_tests) in
     KeepsLimits-push setting ops op limits record {
       few_events = events;
       few_barriers = barriers;
-      in_range = clean AddressRange;
-      storable = record { non_zero = clean ZeroValue; new = clean RepeatedValue; fits = fits };
+      in_range = passes.past;
+      storable = record { non_zero = passes.zero; new = passes.repeated; fits = fits };
       no_stbar = no_stbar;
     }
 
@@ -209,11 +163,11 @@ pub outcome_read_fits : (setting : SettingValue) (x : Outcome) → CanSay (trace
 outcome_read_fits setting x said = (IfOk-at_ok (OutcomeLineFits setting.order) said.1 (trace_line_fits setting.order said.0)).read
 
 -- the outcomes keep the limits, and what they read has 64 bits
-record AreLawful (setting : SettingValue) (items : List Outcome) : Type 0 where
-  limits : KeepsLimits setting (map op_of items)
-  reads : All ReadFits items
+pub record AreLawful (setting : SettingValue) (items : List Outcome) : Type 0 where
+  pub limits : KeepsLimits setting (map op_of items)
+  pub reads : All ReadFits items
 
-trace_items : (setting : SettingValue) → IsKeptByItems (trace_grammar setting) (AreLawful setting)
+pub trace_items : (setting : SettingValue) → IsKeptByItems (trace_grammar setting) (AreLawful setting)
 unfolding outcome_fault
 trace_items setting items x ps says clean kept =
     let fits = IfOk-at_ok (OutcomeLineFits setting.order) says (trace_line_fits setting.order ps) in
@@ -221,14 +175,6 @@ trace_items setting items x ps says clean kept =
       limits = rw (map-append op_of items (x ∷ [])) (limits_kept setting (map op_of items) (op_of x) clean fits.write fits.no_stbar kept.limits);
       reads = All-push ReadFits items x kept.reads fits.read;
     }
-
--- what a text spells as a trace is a trace
-pub spelled_trace : (text : List ℕ) (t : TraceValue) → SpellsTrace text t → IsTrace t
-spelled_trace text t spells =
-    let setting = (preamble_of trace_format text).setting in
-    let kept = spelled_kept (trace_grammar setting) (AreLawful setting) (trace_items setting) (omega arith) (record { limits = KeepsLimits-nil setting; reads = All-nil _ }) (body_of trace_format text) t.lists (body_spells trace_format text t.lists spells.1) in
-    subst (λ s. IsTrace (trace_of_lists s t.lists)) (sym spells.0)
-    (trace_within setting t.lists (setting_kept trace_format (trace_header One) (trace_header Two) text t.lists refl spells.1) kept.few kept.items.limits kept.items.reads)
 
 -- ---- programs
 
@@ -257,17 +203,17 @@ program_line_fits order (word ∷ tokens) =
 pub op_no_stbar : (setting : SettingValue) (op : Op) → CanSay (program_grammar setting) (Item op) → is_stbar_in_tso setting.order op ≡ false
 op_no_stbar setting op said = (IfOk-at_ok (OpLineFits setting.order) said.1 (program_line_fits setting.order said.0)).no_stbar
 
-program_items : (setting : SettingValue) → IsKeptByItems (program_grammar setting) (KeepsLimits setting)
+pub program_items : (setting : SettingValue) → IsKeptByItems (program_grammar setting) (KeepsLimits setting)
 unfolding program_op_fault
 program_items setting items op ps says clean kept =
     let fits = IfOk-at_ok (OpLineFits setting.order) says (program_line_fits setting.order ps) in
     limits_kept setting items op clean fits.write fits.no_stbar kept
 
--- what a text spells as a program is a program
-pub spelled_program : (text : List ℕ) (p : ProgramValue) → SpellsProgram text p → IsProgram p
-spelled_program text p spells =
-    let setting = (preamble_of program_format text).setting in
-    let kept = spelled_kept (program_grammar setting) (KeepsLimits setting) (program_items setting) (omega arith) (KeepsLimits-nil setting) (body_of program_format text) p.lists (body_spells program_format text p.lists spells.1) in
-    let is = setting_kept program_format (program_header One) (program_header Two) text p.lists refl spells.1 in
-    let program : IsProgram (program_of_lists setting p.lists) = record { processors = kept.few; version_one = is.version_one; entries = is.entries; limits = kept.items } in
-    subst (λ s. IsProgram (program_of_lists s p.lists)) (sym spells.0) program
+-- ---- schedules
+
+pub act_items : IsKeptByItems schedule_grammar (All (λ act. processor_of act ≤ 15))
+unfolding act_fault
+act_items items x ps says clean kept =
+    let off : ltb 15 (processor_of x) ≡ false = clean ProcessorRange in
+    let low : processor_of x ≤ 15 = grind (arith, nat_tests) in
+    All-push (λ act. processor_of act ≤ 15) items x kept low

@@ -1,12 +1,12 @@
 -- Laws on spelling: each text is spelled or refused, and only once.
-use Rattle.std.proofs.Common.{◌≡◌, ℕ, zero, suc, ◌+◌, ◌<◌, ◌≤◌, ◌-◌, Bool, true, false, List, [], ◌∷◌, length, get_or, refl, ap, sym, ◌∙◌, arith, inl, inr, ⊎_elim, subst, ◌⊎◌}
+use Rattle.std.proofs.Common.{◌≡◌, ℕ, zero, suc, ◌+◌, ◌<◌, ◌≤◌, ◌-◌, Bool, false, List, [], ◌∷◌, get_or, refl, ap, sym, ◌∙◌, arith, inl, inr, ⊎_elim, subst, ◌⊎◌}
 use Rattle.std.proofs.lemmas.Bool.{false≢true, cases_lt}
 use Rattle.line_text.proofs.LeastFacts.{IsLeast, least}
 use Rattle.tso_text.specs.declared.faults.Why.{Why}
 use Rattle.tso_text.specs.declared.faults.Why.TheVariants.{BadHeader, BadLine, BadNumber, BeforeProc, TooManyProcessors, TooManyEvents, AddressRange, ZeroValue, RepeatedValue, MissingEnd, AfterEnd, TooLong, ProcessorRange, OutOfMemory, BadModel, InitOrder}
-use Rattle.tso_text.specs.Spelling.{Format, SpellsLists, IsTextRefusal, fault_at, text_fault_number, lists_of, whole_lines, preamble_lines, grammar_of, body_of}
-use Rattle.tso_text.proofs.ReadersFacts.{body_fault-past}
-use Rattle.tso_text.proofs.TextFacts.{fault_at-body}
+use Rattle.tso_text.specs.Internal.Spelling.{Format, IsTextRefusal, text_fault_number}
+use Rattle.tso_text.specs.Internal.Spelled.{SpellsLists}
+use Rattle.tso_text.specs.Internal.Accepted.{IsFirstTextFault}
 
 -- ---- the refusals by their numbers
 
@@ -58,6 +58,18 @@ text_fault_number-within InitOrder = (omega arith, omega arith)
 pub same_number : (v w : Why) → text_fault_number v ≡ text_fault_number w → v ≡ w
 same_number v w e = sym (why_at-number_of v) ∙ ap (λ n. why_at (n - 1)) e ∙ why_at-number_of w
 
+-- what can't be another refusal is that of memory
+pub only_memory : (why : Why) → ((why ≡ OutOfMemory → ⊥) → ⊥) → why ≡ OutOfMemory
+only_memory why none =
+    ⊎_elim
+    (λ (less : text_fault_number why < 14). absurd (none (λ e. let n = ap text_fault_number e in omega (arith, less, n))))
+    (λ (not_less : 14 ≤ text_fault_number why).
+    ⊎_elim
+    (λ (more : 14 < text_fault_number why). absurd (none (λ e. let n = ap text_fault_number e in omega (arith, more, n))))
+    (λ (not_more : text_fault_number why ≤ 14). same_number why OutOfMemory (omega (arith, not_less, not_more)))
+    (cases_lt 14 (text_fault_number why)))
+    (cases_lt (text_fault_number why) 14)
+
 text_fault_number-why_at : (k : ℕ) → k < 16 → text_fault_number (why_at k) ≡ k + 1
 unfolding whys why_at
 text_fault_number-why_at zero low = refl
@@ -78,60 +90,24 @@ text_fault_number-why_at (suc (suc (suc (suc (suc (suc (suc (suc (suc (suc (suc 
 text_fault_number-why_at (suc (suc (suc (suc (suc (suc (suc (suc (suc (suc (suc (suc (suc (suc (suc zero))))))))))))))) low = refl
 text_fault_number-why_at (suc (suc (suc (suc (suc (suc (suc (suc (suc (suc (suc (suc (suc (suc (suc (suc k)))))))))))))))) low = absurd (omega arith)
 
--- the fault of the least number, of those that a test finds
-pub record HasFirst (has : Why → Bool) : Type 0 where
-  pub why : Why
-  pub fault : has why ≡ true
-  pub least_one : (w : Why) → text_fault_number w < text_fault_number why → has w ≡ false
-
-first_why : (has : Why → Bool) → HasFirst has ⊎ ((w : Why) → has w ≡ false)
+-- the first fault that a test finds, or none
+pub first_why : (has : Why → Bool) → ((why : Why) × IsFirstTextFault has why) ⊎ ((w : Why) → has w ≡ false)
 first_why has =
     ⊎_elim
-    (λ (found : (k : ℕ) × IsLeast (λ k. has (why_at k)) 16 k). inl record {
-      why = why_at found.0;
-      fault = found.1.passes;
-      least_one = λ w less.
-          let within = text_fault_number-within w in
-          let at = text_fault_number-why_at found.0 found.1.low in
-          ap has (sym (why_at-number_of w)) ∙ found.1.before (text_fault_number w - 1) (omega (arith, within.0, at));
-    })
+    (λ (found : (k : ℕ) × IsLeast (λ k. has (why_at k)) 16 k). inl (
+      why_at found.0,
+      record {
+        fault = found.1.passes;
+        least = λ w less.
+            let within = text_fault_number-within w in
+            let at = text_fault_number-why_at found.0 found.1.low in
+            ap has (sym (why_at-number_of w)) ∙ found.1.before (text_fault_number w - 1) (omega (arith, within.0, at));
+      },
+    ))
     (λ (none : (k : ℕ) → k < 16 → has (why_at k) ≡ false). inr (λ w. let within = text_fault_number-within w in ap has (sym (why_at-number_of w)) ∙ none (text_fault_number w - 1) (omega (arith, within.0, within.1))))
     (least (λ k. has (why_at k)) 16)
 
--- ---- spelled or refused
-
--- no line before the n-th has a fault, or the least of those that have one
-lines_searched : {X : Type 0} (f : Format X) (text : List ℕ) (n : ℕ) → ((line : ℕ) × (why : Why) × IsTextRefusal f text line why) ⊎ ((j : ℕ) (w : Why) → j < n → fault_at f text j w ≡ false)
-lines_searched f text zero = inr (λ j w low. absurd (omega arith))
-lines_searched {X} f text (suc n) =
-    ⊎_elim
-    (λ (found : (line : ℕ) × (why : Why) × IsTextRefusal f text line why). inl found)
-    (λ (none : (j : ℕ) (w : Why) → j < n → fault_at f text j w ≡ false).
-    ⊎_elim
-    (λ (found : HasFirst (fault_at f text n)). inl (n, found.why, record { fault = found.fault; first = none; least = found.least_one }))
-    (λ (clean : (w : Why) → fault_at f text n w ≡ false). inr (λ j w low. ⊎_elim (λ (less : j < n). none j w less) (λ (at : n ≤ j). let same : j ≡ n = omega arith in rw same (clean w)) (cases_lt j n)))
-    (first_why (fault_at f text n)))
-    (lines_searched f text n)
-
-fault_at-after : {X : Type 0} (f : Format X) (text : List ℕ) (j : ℕ) (w : Why) → preamble_lines f text + length (body_of f text) + 1 ≤ j → fault_at f text j w ≡ false
-fault_at-after f text zero w past = absurd (omega arith)
-fault_at-after f text (suc k) w past =
-    let at : k ≡ preamble_lines f text + (k - preamble_lines f text) = omega (arith, past) in
-    ap (λ n. fault_at f text (suc n) w) at ∙ fault_at-body f text (k - preamble_lines f text) w ∙ body_fault-past (grammar_of f text) (body_of f text) (k - preamble_lines f text) w (omega (arith, past))
-
-pub spelled_or_refused : {X : Type 0} (f : Format X) (text : List ℕ) → ((lists : List (List X)) × SpellsLists f text lists) ⊎ ((line : ℕ) × (why : Why) × IsTextRefusal f text line why)
-spelled_or_refused {X} f text =
-    let last = preamble_lines f text + length (body_of f text) + 1 in
-    ⊎_elim
-    (λ (found : (line : ℕ) × (why : Why) × IsTextRefusal f text line why). inr found)
-    (λ (none : (j : ℕ) (w : Why) → j < last → fault_at f text j w ≡ false). inl (
-      lists_of (grammar_of f text) (whole_lines (body_of f text)),
-      record {
-        clean = λ j w. ⊎_elim (λ (low : j < last). none j w low) (λ (past : last ≤ j). fault_at-after f text j w past) (cases_lt j last);
-        says = refl;
-      },
-    ))
-    (lines_searched f text last)
+-- ---- one value or one refusal
 
 -- never both
 pub not_both : {X : Type 0} (f : Format X) (text : List ℕ) (lists : List (List X)) (line : ℕ) (why : Why) → SpellsLists f text lists → IsTextRefusal f text line why → ⊥

@@ -6,7 +6,9 @@ use Rattle.std.proofs.lemmas.Bool.Decides.{nat_tests}
 use Rattle.tso_ops.specs.Settings.{SettingValue}
 use Rattle.tso_text.specs.declared.faults.Why.{Why}
 use Rattle.tso_text.specs.declared.faults.Why.TheVariants.{TooLong}
-use Rattle.tso_text.specs.Spelling.{Format, SpellsLists, IsTextRefusal, text_byte_limit, fault_at, body_fault, no_fault, preamble_of, preamble_lines, grammar_of, body_of, same_text_fault}
+use Rattle.tso_text.specs.Internal.Spelling.{Format, IsTextRefusal, fault_at, body_fault, no_fault, preamble_of, preamble_lines, grammar_of, body_of, same_text_fault}
+use Rattle.tso_text.specs.Internal.Spelled.{SpellsLists}
+use Rattle.tso_text.specs.Texts.{text_byte_limit}
 use Rattle.tso_text.specs.Internal.Accepted.{IsFirstTextFault}
 use Rattle.tso_text.specs.Internal.Begun.{AreFaultless, HasBegun, IsPreambleRefusal, SpellsBody, IsBodyRefusal, IsRefusedAfter}
 use Rattle.line_text.specs.Lines.{parts_of}
@@ -22,15 +24,6 @@ no_fault_of (has ∷ tests) clean (suc i) w = no_fault_of tests clean.1 i w
 pub AreFaultless-append : (tests more : List (Why → Bool)) → AreFaultless tests → AreFaultless more → AreFaultless (tests ++ more)
 AreFaultless-append [] more clean also = also
 AreFaultless-append (has ∷ tests) more clean also = (clean.0, AreFaultless-append tests more clean.1 also)
-
--- tests of which none finds a fault at its place
-pub AreFaultless-by : (tests : List (Why → Bool)) → ((i : ℕ) (w : Why) → i < length tests → get_or tests i no_fault w ≡ false) → AreFaultless tests
-AreFaultless-by [] clean = tt
-AreFaultless-by (has ∷ tests) clean = (λ w. clean 0 w (omega arith), AreFaultless-by tests (λ i w low. clean (suc i) w (omega (arith, low))))
-
-pub AreFaultless-parts : (tests more : List (Why → Bool)) → AreFaultless (tests ++ more) → AreFaultless tests × AreFaultless more
-AreFaultless-parts [] more clean = (tt, clean)
-AreFaultless-parts (has ∷ tests) more clean = let rest = AreFaultless-parts tests more clean.1 in ((clean.0, rest.0), rest.1)
 
 before_at : (before : List (Why → Bool)) (has : Why → Bool) (after : List (Why → Bool)) (w : Why) → get_or (before ++ has ∷ after) (length before) no_fault w ≡ has w
 before_at [] has after w = refl
@@ -63,11 +56,6 @@ after_preamble : {X : Type 0} (f : Format X) (text : List ℕ) (i : ℕ) (w : Wh
 after_preamble f text i w high =
     let at : i ≡ preamble_lines f text + (i - preamble_lines f text) = omega arith in
     ap (λ n. fault_at f text (suc n) w) at ∙ fault_at-body f text (i - preamble_lines f text) w
-
--- no line of a preamble without a fault has one
-clean_preamble : {X : Type 0} (f : Format X) (text : List ℕ) → length text ≤ text_byte_limit → AreFaultless (preamble_of f text).faults → (j : ℕ) (w : Why) → j < suc (preamble_lines f text) → fault_at f text j w ≡ false
-clean_preamble f text short clean zero w low = fault_at-whole f text w short
-clean_preamble f text short clean (suc i) w low = fault_at-preamble f text i w (omega arith) ∙ no_fault_of (preamble_of f text).faults clean i w
 
 -- ---- from parts to the text
 
@@ -127,13 +115,6 @@ text_spells f text lists short clean body = record { clean = none; says = body.s
         (λ (inside : j < preamble_lines f text). fault_at-preamble f text j w inside ∙ no_fault_of (preamble_of f text).faults clean j w)
         (λ (past : preamble_lines f text ≤ j). after_preamble f text j w past ∙ body.clean (j - preamble_lines f text) w)
         (cases_lt j (preamble_lines f text))
-
--- and the other way round
-pub body_spells : {X : Type 0} (f : Format X) (text : List ℕ) (lists : List (List X)) → SpellsLists f text lists → SpellsBody (grammar_of f text) (body_of f text) lists
-body_spells f text lists spells = record { clean = λ i w. sym (fault_at-body f text i w) ∙ spells.clean (suc (preamble_lines f text + i)) w; says = spells.says }
-
-pub preamble_clean : {X : Type 0} (f : Format X) (text : List ℕ) (lists : List (List X)) → SpellsLists f text lists → AreFaultless (preamble_of f text).faults
-preamble_clean f text lists spells = AreFaultless-by (preamble_of f text).faults (λ i w low. sym (fault_at-preamble f text i w low) ∙ spells.clean (suc i) w)
 
 -- ---- what a reader has found
 

@@ -1,3 +1,7 @@
--- What private tables keep and how far loops have come. No public contract uses these definitions.
+-- The lines of texts by a grammar, what private tables keep and how far loops have come. No public contract uses these definitions.
 pub mod Accepted
 pub mod Begun
+pub mod Grammars
+pub mod Preambles
+pub mod Spelled
+pub mod Spelling

@@ -1,7 +1,7 @@
-pub mod Grammars
 pub mod Internal
+pub mod Lines
 pub mod Numbers
-pub mod Preambles
 pub mod Printed
 pub mod RefusalNames
-pub mod Spelling
+pub mod Refusals
+pub mod Texts

@@ -1,7 +1,8 @@
 -- The keyword of a line, and the numbers after it or their fault.
-use Rattle.std.specs.Prelude.{ℕ, Bool, List, [], ◌∷◌, min, Option, Some, None, Result, Ok, Err}
+use Rattle.std.specs.Prelude.{ℕ, Bool, List, [], ◌∷◌, min, Result, Ok, Err, if◌then◌else◌}
 use Rattle.std.specs.Str.{bytes_eq}
-use Rattle.line_text.specs.Numbers.{number}
+use Rattle.std.specs.Str.Parse.{digits_value}
+use Rattle.line_text.specs.Numbers.{is_numeral}
 use Rattle.line_text.specs.Results.{◌>>=◌}
 use Rattle.tso_text.specs.declared.faults.Why.{Why}
 use Rattle.tso_text.specs.declared.faults.Why.TheVariants.{BadLine, BadNumber}
@@ -14,14 +15,9 @@ is_word token word = bytes_eq token word
 abbrev pub address : ℕ → ℕ
 address n = min n 65535
 
--- a number, or its fault
-abbrev pub or_bad_number : Option ℕ → Result ℕ Why
-or_bad_number None = Err BadNumber
-or_bad_number (Some n) = Ok n
-
 -- the number of a token, or its fault
 abbrev pub numeral : List ℕ → Result ℕ Why
-numeral token = or_bad_number (number token)
+numeral token = if is_numeral token then Ok (digits_value 10 token) else Err BadNumber
 
 -- no token after the keyword
 unfoldable pub no_number : List (List ℕ) → Result (Unit {0}) Why
@@ -30,21 +26,15 @@ no_number (token ∷ tokens) = Err BadLine
 
 -- one number after the keyword
 unfoldable pub one_number : List (List ℕ) → Result ℕ Why
-one_number [] = Err BadLine
 one_number (m ∷ []) = numeral m
-one_number (m ∷ n ∷ tokens) = Err BadLine
+one_number _ = Err BadLine
 
 -- two numbers after the keyword
 unfoldable pub two_numbers : List (List ℕ) → Result (ℕ × ℕ) Why
-two_numbers [] = Err BadLine
-two_numbers (m ∷ []) = Err BadLine
 two_numbers (m ∷ n ∷ []) = numeral m >>= λ a. numeral n >>= λ b. Ok (a, b)
-two_numbers (m ∷ n ∷ o ∷ tokens) = Err BadLine
+two_numbers _ = Err BadLine
 
 -- three numbers after the keyword
 unfoldable pub three_numbers : List (List ℕ) → Result (ℕ × ℕ × ℕ) Why
-three_numbers [] = Err BadLine
-three_numbers (m ∷ []) = Err BadLine
-three_numbers (m ∷ n ∷ []) = Err BadLine
 three_numbers (m ∷ n ∷ o ∷ []) = numeral m >>= λ a. numeral n >>= λ b. numeral o >>= λ c. Ok (a, b, c)
-three_numbers (m ∷ n ∷ o ∷ p ∷ tokens) = Err BadLine
+three_numbers _ = Err BadLine

@@ -9,11 +9,26 @@ use Rattle.tso_ops.specs.declared.ops.Outcome.{Outcome}
 use Rattle.tso_ops.specs.declared.ops.Outcome.TheVariants.{Ld, St, Sw, Mb, Sb}
 use Rattle.tso_ops.specs.declared.settings.Order.{Order}
 use Rattle.tso_ops.specs.declared.settings.Order.TheVariants.{Tso, Pso}
+use Rattle.tso_ops.specs.declared.settings.Version.{Version}
+use Rattle.tso_ops.specs.declared.settings.Version.TheVariants.{One, Two}
 use Rattle.tso_ops.specs.Settings.{SettingValue}
 use Rattle.tso_ops.specs.Values.{TraceValue, ProgramValue}
 use Rattle.tso_ops.specs.declared.acts.Act.{Act}
 use Rattle.tso_ops.specs.declared.acts.Act.TheVariants.{Issue, Drain}
-use Rattle.tso_text.specs.Grammars.{trace_header, program_header, schedule_header}
+
+-- the header of this version, of those of version 1 and version 2
+abbrev pub header_of : List ℕ → List ℕ → Version → List ℕ
+header_of one two One = one
+header_of one two Two = two
+
+abbrev pub trace_header : Version → List ℕ
+trace_header version = header_of (codes "tso trace 1") (codes "tso trace 2") version
+
+abbrev pub program_header : Version → List ℕ
+program_header version = header_of (codes "tso program 1") (codes "tso program 2") version
+
+abbrev pub schedule_header : List ℕ
+schedule_header = codes "tso schedule 1"
 
 abbrev pub outcome_tokens : Outcome → List (List ℕ)
 outcome_tokens (Ld a r) = codes "ld" ∷ decimal a ∷ decimal r ∷ []
@@ -57,11 +72,18 @@ setting_text setting = model_text setting.order ++ items_text entry_tokens setti
 unfoldable pub whole_text : List ℕ → List ℕ → List ℕ
 whole_text header lines = header ++ 10 ∷ lines ++ line_text (codes "end" ∷ [])
 
+-- the lines of a trace between its header and `end`
+abbrev pub trace_lines : TraceValue → List ℕ
+trace_lines t = setting_text t.setting ++ flat_map (processor_text outcome_tokens) t.lists
+
 unfoldable pub trace_text : TraceValue → List ℕ
-trace_text t = whole_text (trace_header t.setting.version) (setting_text t.setting ++ flat_map (processor_text outcome_tokens) t.lists)
+trace_text t = whole_text (trace_header t.setting.version) (trace_lines t)
+
+abbrev pub program_lines : ProgramValue → List ℕ
+program_lines p = setting_text p.setting ++ flat_map (processor_text op_tokens) p.lists
 
 unfoldable pub program_text : ProgramValue → List ℕ
-program_text p = whole_text (program_header p.setting.version) (setting_text p.setting ++ flat_map (processor_text op_tokens) p.lists)
+program_text p = whole_text (program_header p.setting.version) (program_lines p)
 
 unfoldable pub schedule_text : List Act → List ℕ
 schedule_text acts = whole_text schedule_header (items_text act_tokens acts)

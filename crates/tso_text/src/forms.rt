@@ -4,9 +4,11 @@ ghost use Rattle.tso_ops.specs.declared.limits.Tally.{Tally};
 ghost use Rattle.tso_ops.specs.Settings.{SettingValue, setting_of};
 ghost use Rattle.tso_ops.specs.Tally.{Admitted};
 ghost use Rattle.tso_ops.specs.Values.{rows, op_of, ReadFits};
-ghost use Rattle.tso_text.specs.Grammars.{trace_format, program_format, schedule_format, has_stbar, processor_of};
+ghost use Rattle.tso_text.specs.Internal.Grammars.{trace_format, program_format, schedule_format};
+ghost use Rattle.tso_text.specs.Lines.{has_stbar};
+ghost use Rattle.tso_text.specs.Texts.{processor_of, text_byte_limit};
 ghost use Rattle.tso_text.specs.Printed.{outcome_tokens, op_tokens, act_tokens};
-ghost use Rattle.tso_text.specs.Spelling.{Format, preamble_of, said, items_of, text_byte_limit};
+ghost use Rattle.tso_text.specs.Internal.Spelling.{Format, preamble_of, said, items_of};
 ghost use Rattle.tso_text.specs.Internal.Accepted.{CanSay, IsItemRefusedFor};
 ghost use Rattle.tso_text.specs.Internal.Begun.{HasBegun, IsPreambleRefusal};
 ghost use Rattle.tso_text.specs.declared.lines.Line.TheVariants.{Item};
@@ -77,7 +79,7 @@ impl Form for Outcome {
         Ok((Vec::new(alloc), Tally::of_setting(alloc, setting)?))
     }
 
-    #[tactic(auto, unfolding(crate::specs::Grammars::trace_line))]
+    #[tactic(auto, unfolding(crate::specs::Lines::trace_line))]
     fn said_by(order: Order, line: &[u8]) -> Result<Line<Outcome>, Why> {
         let (word, tokens) = next_token(line);
         if word == b"proc".as_slice() {
@@ -143,7 +145,7 @@ impl Form for Op {
         Ok((Vec::new(alloc), Tally::of_setting(alloc, setting)?))
     }
 
-    #[tactic(auto, unfolding(crate::specs::Grammars::program_line))]
+    #[tactic(auto, unfolding(crate::specs::Lines::program_line))]
     fn said_by(order: Order, line: &[u8]) -> Result<Line<Op>, Why> {
         let (word, tokens) = next_token(line);
         if word == b"proc".as_slice() {
@@ -207,7 +209,7 @@ impl Form for Act {
         Ok((lists, Tally::new(alloc)))
     }
 
-    #[tactic(auto, unfolding(crate::specs::Grammars::schedule_line))]
+    #[tactic(auto, unfolding(crate::specs::Lines::schedule_line))]
     fn said_by(_order: Order, line: &[u8]) -> Result<Line<Act>, Why> {
         let (word, tokens) = next_token(line);
         if word == b"i".as_slice() {

@@ -6,10 +6,10 @@ ghost use Rattle.tso_ops.specs.declared.settings.Version.TheVariants.{One};
 ghost use Rattle.tso_ops.specs.Settings.{version_one_tso};
 ghost use Rattle.tso_ops.specs.Limits.{IsTrace, IsProgram};
 ghost use Rattle.tso_ops.specs.Values.{TraceValue, ProgramValue};
-ghost use Rattle.tso_text.specs.Grammars.{processor_of, program_header, trace_header, SpellsTrace, SpellsProgram, SpellsSchedule, IsTraceRefusal, IsProgramRefusal, IsScheduleRefusal, IsSpelledTrace, IsRefusedTrace, IsSpelledProgram, IsRefusedProgram, IsSpelledSchedule, IsRefusedSchedule};
-ghost use Rattle.tso_text.specs.Printed.{trace_text, program_text, schedule_text};
-ghost use Rattle.tso_text.specs.Preambles.{model_lines};
-ghost use Rattle.tso_text.specs.Spelling.{text_byte_limit, whole_lines};
+ghost use Rattle.tso_text.specs.Texts.{processor_of, SpellsTrace, SpellsProgram, SpellsSchedule, IsSpelledTrace, IsSpelledProgram, IsSpelledSchedule, text_byte_limit};
+ghost use Rattle.tso_text.specs.Printed.{program_header, trace_header, trace_text, program_text, schedule_text};
+ghost use Rattle.tso_text.specs.Refusals.{IsTraceRefusal, IsProgramRefusal, IsScheduleRefusal, IsRefusedTrace, IsRefusedProgram, IsRefusedSchedule};
+ghost use Rattle.tso_text.specs.Lines.{model_lines, whole_lines};
 ghost use Rattle.tso_ops.specs.declared.acts.Act.{Act};
 ghost use Rattle.tso_text.specs.declared.faults.Why.{Why};
 

@@ -1,6 +1,6 @@
 ghost use Rattle.std.specs.Prelude.{◌≡◌, [], ◌∷◌, ◌<◌, length, IfOk, IfErr, OnErr};
 ghost use Rattle.line_text.specs.Lines.{parts_of};
-ghost use Rattle.tso_text.specs.Spelling.{unended_text_fault};
+ghost use Rattle.tso_text.specs.Internal.Spelling.{unended_text_fault};
 
 use crate::faults::Why;
 

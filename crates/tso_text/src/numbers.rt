@@ -7,6 +7,7 @@ use crate::faults::Why;
 use line_text::{next_token, number_of};
 
 /// The number that a token spells, or BadNumber.
+#[tactic(auto, unfolding(line_text::specs::Numbers::number))]
 fn numeral(token: &[u8]) -> Result<u64, Why>
     ensures { result ≡ numeral token.now }
 {

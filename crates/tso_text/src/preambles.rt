@@ -3,8 +3,9 @@ ghost use Rattle.std.specs.Prelude.{◌≡◌, ◌≢◌, ◌∷◌, [], ◌≤�
 ghost use Rattle.line_text.specs.Lines.{parts_of, tokens_after};
 ghost use Rattle.tso_ops.specs.Limits.{KeepsEntries};
 ghost use Rattle.tso_ops.specs.Settings.{setting_of};
-ghost use Rattle.tso_text.specs.Preambles.{header_alone, model_said, setting_preamble};
-ghost use Rattle.tso_text.specs.Spelling.{text_byte_limit, whole_lines};
+ghost use Rattle.tso_text.specs.Internal.Preambles.{header_alone, setting_preamble};
+ghost use Rattle.tso_text.specs.Lines.{model_said, whole_lines};
+ghost use Rattle.tso_text.specs.Texts.{text_byte_limit};
 ghost use Rattle.tso_text.specs.Internal.Begun.{HasAllEntries, HasBadEntry, HasBadModel, HasBegun, HasHeader, HasModel, HasNoHeader, IsEntryRead, IsEntryRefused, IsPreambleRefusal};
 ghost use Rattle.tso_text.specs.declared.faults.Why.{Why};
 
@@ -107,7 +108,7 @@ fn read_model(text: &[u8]) -> Result<(Order, usize, &[u8]), Why>
 }
 
 /// Reads the name of a memory model, which is `pso`.
-#[tactic(auto, unfolding(crate::specs::Preambles::model_said))]
+#[tactic(auto, unfolding(crate::specs::Lines::model_said))]
 fn model_name(tokens: Option<&[u8]>) -> Result<(), Why>
     ensures { result ≡ model_said (tokens_after tokens.entry) }
 {

@@ -1,9 +1,8 @@
 ghost use Rattle.std.specs.Prelude.{◌≡◌, ◌++◌, ◌≤◌, All, length, string_bytes, OnOk, IfOk};
 ghost use Rattle.line_text.specs.Lines.{line_text};
 ghost use Rattle.tso_ops.specs.Settings.{setting_of};
-ghost use Rattle.tso_text.specs.Grammars.{processor_of, SpellsTrace, SpellsProgram, SpellsSchedule};
+ghost use Rattle.tso_text.specs.Texts.{processor_of, SpellsTrace, SpellsProgram, SpellsSchedule, text_byte_limit};
 ghost use Rattle.tso_text.specs.Printed.{entry_tokens, items_text, model_text, processor_text, setting_text, trace_text, program_text, schedule_text};
-ghost use Rattle.tso_text.specs.Spelling.{text_byte_limit};
 
 use crate::forms::Form;
 use std::alloc::{AllocError, Global};

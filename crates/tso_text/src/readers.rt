@@ -2,8 +2,10 @@ ghost use Rattle.std.specs.Prelude.{◌≡◌, ◌≢◌, ◌∷◌, [], List, �
 ghost use Rattle.line_text.specs.Lines.{parts_of};
 ghost use Rattle.tso_ops.specs.Settings.{setting_of};
 ghost use Rattle.tso_ops.specs.Values.{TraceValue, ProgramValue, rows};
-ghost use Rattle.tso_text.specs.Grammars.{SpellsTrace, SpellsProgram, SpellsSchedule, IsTraceRefusal, IsProgramRefusal, IsScheduleRefusal};
-ghost use Rattle.tso_text.specs.Spelling.{text_byte_limit, preamble_of, SpellsLists, IsTextRefusal};
+ghost use Rattle.tso_text.specs.Texts.{SpellsTrace, SpellsProgram, SpellsSchedule, text_byte_limit};
+ghost use Rattle.tso_text.specs.Refusals.{IsTraceRefusal, IsProgramRefusal, IsScheduleRefusal};
+ghost use Rattle.tso_text.specs.Internal.Spelling.{preamble_of, IsTextRefusal};
+ghost use Rattle.tso_text.specs.Internal.Spelled.{SpellsLists};
 ghost use Rattle.tso_text.specs.Internal.Accepted.{IsKept};
 ghost use Rattle.tso_text.specs.Internal.Begun.{IsSetting, SpellsBody, IsRefusedAfter};
 ghost use Rattle.tso_ops.specs.declared.acts.Act.{Act};

@@ -1,7 +1,7 @@
 ghost use Rattle.std.specs.Prelude.{◌≡◌, ◌<◌, ◌≤◌, length, OnOk, IfOk, IfErr, vec_len};
 ghost use Rattle.tso_ops.specs.Settings.{setting_of};
 ghost use Rattle.tso_ops.specs.Values.{rows};
-ghost use Rattle.tso_text.specs.Spelling.{push_last, items_of};
+ghost use Rattle.tso_text.specs.Internal.Spelling.{push_last, items_of};
 ghost use Rattle.tso_text.specs.Internal.Accepted.{AcceptsLine, AcceptsSaid, CanSay, IsLineRefusedFor, IsSaidRefusedFor};
 ghost use Rattle.tso_text.specs.declared.faults.Why.{Why};
 

@@ -8,37 +8,30 @@ use bitsets::{
     word_above, word_at, word_below, word_without,
 };
 use std::alloc::{AllocError, Global};
-use std::fmt::Debug;
-use std::process::Abort;
 use std::test::Fail;
+use traces_for_tests::expect_equal;
 
-/// Compares what a call gave with what it has to give. An assertion costs the check of a function many times what a call of
-/// this one costs it.
-fn expect<T: Copy + Debug + PartialEq>(rt: &impl Abort, case: &str, found: T, wanted: T) {
-    assert_eq!(rt; found, wanted, "{case}");
+#[test]
+fn words(_rt: HostRuntime) -> Result<(), Fail> {
+    expect_equal("bit 66 of word 1", with_bit(1, 1, 66), 5)?;
+    expect_equal("bit 66 of word 0", with_bit(1, 0, 66), 1)?;
+    expect_equal("word 0 above 70", word_above(70, 0), 0)?;
+    expect_equal("word 1 above 70", word_above(70, 1), u64::MAX << 7)?;
+    expect_equal("word 2 above 70", word_above(70, 2), u64::MAX)?;
+    expect_equal("word 1 without 65", word_without(7, 1, 65), 5)?;
+    expect_equal("word 0 without 65", word_without(7, 0, 65), 7)
 }
 
 #[test]
-fn words(rt: HostRuntime) {
-    expect(&rt, "bit 66 of word 1", with_bit(1, 1, 66), 5);
-    expect(&rt, "bit 66 of word 0", with_bit(1, 0, 66), 1);
-    expect(&rt, "word 0 above 70", word_above(70, 0), 0);
-    expect(&rt, "word 1 above 70", word_above(70, 1), u64::MAX << 7);
-    expect(&rt, "word 2 above 70", word_above(70, 2), u64::MAX);
-    expect(&rt, "word 1 without 65", word_without(7, 1, 65), 5);
-    expect(&rt, "word 0 without 65", word_without(7, 0, 65), 7);
-}
-
-#[test]
-fn rows_that_are_read(rt: HostRuntime) {
+fn rows_that_are_read(_rt: HostRuntime) -> Result<(), Fail> {
     let row: [u64; 2] = [1 << 63, 5];
-    expect(&rt, "word 1", word_at(&row, 1), 5);
-    expect(&rt, "word 2", word_at(&row, 2), 0);
-    expect(&rt, "66", has_number(&row, 66), true);
-    expect(&rt, "65", has_number(&row, 65), false);
-    expect(&rt, "128", has_number(&row, 128), false);
-    expect(&rt, "below word 0", word_below(&row, 0), 1 << 62 | 1 << 63);
-    expect(&rt, "below word 1", word_below(&row, 1), 2);
+    expect_equal("word 1", word_at(&row, 1), 5)?;
+    expect_equal("word 2", word_at(&row, 2), 0)?;
+    expect_equal("66", has_number(&row, 66), true)?;
+    expect_equal("65", has_number(&row, 65), false)?;
+    expect_equal("128", has_number(&row, 128), false)?;
+    expect_equal("below word 0", word_below(&row, 0), 1 << 62 | 1 << 63)?;
+    expect_equal("below word 1", word_below(&row, 1), 2)
 }
 
 #[test]
@@ -49,9 +42,9 @@ fn rows_that_grow(rt: HostRuntime) -> Result<(), Fail> {
     mark_if_some(&mut row, None)?;
     mark_word(&mut row, 1, 1)?;
     mark_word(&mut row, 5, 0)?;
-    expect(&rt, "marked", row.as_slice(), [8, 5].as_slice());
+    expect_equal("marked", row.as_slice(), [8, 5].as_slice())?;
     mark_row(&mut row, [1, 0, 2].as_slice())?;
-    expect(&rt, "a row marked", row.as_slice(), [9, 5, 2].as_slice());
+    expect_equal("a row marked", row.as_slice(), [9, 5, 2].as_slice())?;
     Ok(())
 }
 
@@ -67,7 +60,7 @@ fn list_of(alloc: Global, number: usize) -> Result<Vec<usize>, AllocError>
 #[test]
 fn lists(rt: HostRuntime) -> Result<(), Fail> {
     let list = list_of(rt.alloc(), 66)?;
-    expect(&rt, "list", list.as_slice(), [66].as_slice());
+    expect_equal("list", list.as_slice(), [66].as_slice())?;
     Ok(())
 }
 
@@ -95,23 +88,23 @@ fn table_of(alloc: Global) -> Result<Vec<u64>, AllocError> {
 #[test]
 fn tables(rt: HostRuntime) -> Result<(), Fail> {
     let table = table_of(rt.alloc())?;
-    expect(&rt, "word 0", word_at(&table, 0), 7);
-    expect(&rt, "word 1", word_at(&table, 1), 48);
-    expect(&rt, "word 2", word_at(&table, 2), 0);
-    expect(&rt, "word 3", word_at(&table, 3), 10);
+    expect_equal("word 0", word_at(&table, 0), 7)?;
+    expect_equal("word 1", word_at(&table, 1), 48)?;
+    expect_equal("word 2", word_at(&table, 2), 0)?;
+    expect_equal("word 3", word_at(&table, 3), 10)?;
     Ok(())
 }
 
 #[test]
-fn columns_of_two_rows(rt: HostRuntime) {
+fn columns_of_two_rows(_rt: HostRuntime) -> Result<(), Fail> {
     let words: [u64; 4] = [3, 6, 4, 12];
     let table = BitTable {
         words: words.as_slice(),
         width: 2,
     };
-    expect(&rt, "bit 66", bit(table, 1, 66), true);
-    expect(&rt, "bit 64", bit(table, 1, 64), false);
-    expect(&rt, "used words", used_words(table, 1), (0, 2));
+    expect_equal("bit 66", bit(table, 1, 66), true)?;
+    expect_equal("bit 64", bit(table, 1, 64), false)?;
+    expect_equal("used words", used_words(table, 1), (0, 2))?;
     let shared = first_shared(table, 0, words.as_slice(), 1, 0, 2);
-    expect(&rt, "shared", shared, Some(66));
+    expect_equal("shared", shared, Some(66))
 }

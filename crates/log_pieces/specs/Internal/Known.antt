@@ -6,7 +6,7 @@ use Rattle.tso_ops.specs.Settings.{first_value}
 use Rattle.log_selections.specs.Sources.{HasKnownSources}
 use Rattle.log_selections.specs.Logs.{LogValue}
 use Rattle.log_text.specs.declared.logs.Log.{Log}
-use Rattle.log_text.specs.LogValues.{operations_of}
+use Rattle.log_text.specs.LogValues.{log_operations}
 use Rattle.tso_ops.specs.Values.{rows}
 use Rattle.log_pieces.specs.declared.accesses.Access.{Access}
 use Rattle.log_pieces.specs.declared.sources.LoadSource.{LoadSource}
@@ -47,7 +47,7 @@ AreSources first accesses numbers = (n s : ℕ) → source_in numbers n ≡ Some
 
 -- the log's operations with the sources that the table has
 abbrev pub log_with : Log → List (Option ℕ) → LogValue
-log_with log numbers = record { operations = operations_of log; source = source_in numbers }
+log_with log numbers = record { operations = log_operations log; source = source_in numbers }
 
 -- What `KnownLog` keeps: the numbers of the operations, and known sources.
 pub record IsKnownLog (log : Log) (numbers : List (List ℕ)) (sources : List (Option ℕ)) : Type 0 where

@@ -1,6 +1,8 @@
 //! Texts that are refused, with the line of the fault.
 
-use super::{expect, fault_of};
+use super::fault_of;
+use std::test::Fail;
+use traces_for_tests::expect_equal;
 use tso_text::Why;
 
 /// Texts of logs, and the line and the kind of their fault.
@@ -33,8 +35,9 @@ const REFUSED: [(&str, usize, Why); 25] = [
 ];
 
 #[test]
-fn refusals(rt: HostRuntime) {
+fn refusals(rt: HostRuntime) -> Result<(), Fail> {
     for (text, line, why) in &REFUSED {
-        expect(&rt, text, &fault_of(rt.alloc(), text), &Some((*line, *why)));
+        expect_equal(text, &fault_of(rt.alloc(), text), &Some((*line, *why)))?;
     }
+    Ok(())
 }

@@ -1,10 +1,11 @@
 //! Allocations refused in turn: `rt try --test --fail-alloc N` refuses the Nth of each test.
 //!
 //! The call that meets it answers OutOfMemory, at line 0, and the next call the ordinary answer.
-use super::{WHOLE, expect};
+use super::WHOLE;
 use log_text::{Log, read_log};
 use std::alloc::Global;
 use std::test::Fail;
+use traces_for_tests::expect_equal;
 use tso_text::{TextFault, Why};
 
 /// The refusal of an allocation.
@@ -23,6 +24,6 @@ fn log_of(alloc: Global) -> Result<Log, TextFault> {
 #[test]
 fn refused_allocations_of_a_log(rt: HostRuntime) -> Result<(), Fail> {
     let log = log_of(rt.alloc())?;
-    expect(&rt, "operations", &log.issuers.len(), &6);
+    expect_equal("operations", &log.issuers.len(), &6)?;
     Ok(())
 }

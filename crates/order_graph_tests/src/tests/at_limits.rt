@@ -1,11 +1,11 @@
 //! Graphs of as many numbers as those of the longest traces of the two versions have: 2,000 and 8,000 events, and 0.
 
 use super::edge_sets::{remove, set_least_path, set_of, set_reached, set_reaches};
-use super::{expect, expect_cycle, expect_path, graph_of, graph_of_rows, numbers_of, reached};
+use super::{expect_cycle, expect_path, graph_of, graph_of_rows, numbers_of, reached};
 use order_graph::{EdgeSet, Graph};
 use std::alloc::{AllocError, Global};
-use std::process::Abort;
 use std::test::Fail;
+use traces_for_tests::expect_equal;
 
 /// How many numbers a graph has, and of them the ring: each of the first 201 multiples of this one has an edge to the
 /// next, and the last, the graph's last number, has one to 0.
@@ -41,69 +41,54 @@ fn count_of(reached: &[bool]) -> usize {
     reached.iter().filter(|is_reached| **is_reached).count()
 }
 
-fn expect_grown(rt: &impl Abort, graph: &Graph, numbers: &[usize]) -> Result<(), AllocError> {
+fn expect_grown(graph: &Graph, numbers: &[usize]) -> Result<(), Fail> {
     let grown = graph.grown()?;
-    expect(rt, "grown", grown.as_slice(), numbers);
-    Ok(())
+    expect_equal("grown", grown.as_slice(), numbers)
 }
 
 /// Compares paths and cycle with the ring.
-fn expect_ring(
-    rt: &impl Abort,
-    alloc: Global,
-    graph: &Graph,
-    ring: &[usize],
-    last: usize,
-) -> Result<(), AllocError> {
-    expect_path(rt, graph, (0, last), ring)?;
-    expect_cycle(rt, graph, ring)?;
+fn expect_ring(alloc: Global, graph: &Graph, ring: &[usize], last: usize) -> Result<(), Fail> {
+    expect_path(graph, (0, last), ring)?;
+    expect_cycle(graph, ring)?;
     let from_last = reached(alloc, graph, last)?;
-    expect(rt, "reached", count_of(&from_last), ring.len());
-    Ok(())
+    expect_equal("reached", count_of(&from_last), ring.len())
 }
 
 /// Removes the edge from the last number to 0, and compares paths before and after.
 fn expect_opened(
-    rt: &impl Abort,
     alloc: Global,
     set: &mut EdgeSet,
     ring: &[usize],
     last: usize,
-) -> Result<(), AllocError> {
+) -> Result<(), Fail> {
     let closed = set_reaches(set, last, 0)?;
     remove(set, last, 0);
     let opened = set_reaches(set, last, 0)?;
-    expect(rt, "back", [closed, opened], [true, false]);
+    expect_equal("back", [closed, opened], [true, false])?;
     let path = set_least_path(set, 0, last)?;
-    expect(rt, "path", numbers_of(&path), ring);
+    expect_equal("path", numbers_of(&path), ring)?;
     let from_0 = set_reached(alloc, set, 0)?;
-    expect(
-        rt,
-        "reached",
-        count_of(&from_0),
-        ring.len().saturating_sub(1),
-    );
-    Ok(())
+    expect_equal("reached", count_of(&from_0), ring.len().saturating_sub(1))
 }
 
 /// Compares what each call answers of such a graph, made in each way.
-fn expect_all(rt: &impl Abort, alloc: Global, nodes: usize, step: usize) -> Result<(), AllocError> {
+fn expect_all(alloc: Global, nodes: usize, step: usize) -> Result<(), Fail> {
     let last = nodes.saturating_sub(1);
     let ring = ring_of(alloc, nodes, step)?;
     let edges = edges_of(alloc, &ring, (last, 0))?;
     let made = graph_of_rows(alloc, nodes, &edges)?;
-    expect_ring(rt, alloc, &made, &ring, last)?;
-    expect_grown(rt, &made, &[])?;
+    expect_ring(alloc, &made, &ring, last)?;
+    expect_grown(&made, &[])?;
     let added = graph_of(alloc, nodes, &edges)?;
-    expect_ring(rt, alloc, &added, &ring, last)?;
-    expect_grown(rt, &added, &ring)?;
-    expect_opened(rt, alloc, &mut set_of(added)?, &ring, last)
+    expect_ring(alloc, &added, &ring, last)?;
+    expect_grown(&added, &ring)?;
+    expect_opened(alloc, &mut set_of(added)?, &ring, last)
 }
 
 #[test]
 fn graphs_of_the_most_numbers(rt: HostRuntime) -> Result<(), Fail> {
     for (nodes, step) in SIZES {
-        expect_all(&rt, rt.alloc(), nodes, step)?;
+        expect_all(rt.alloc(), nodes, step)?;
     }
     Ok(())
 }

@@ -1,13 +1,13 @@
 //! Small graphs beside a program over lists of edges.
 
 use super::{
-    drawn_edges, expect, expect_cycle, expect_path, graph_of, graph_of_rows, has, nodes_of,
-    reached, reaches,
+    drawn_edges, expect_cycle, expect_path, graph_of, graph_of_rows, has, nodes_of, reached,
+    reaches,
 };
 use order_graph::Graph;
 use std::alloc::{AllocError, Global};
-use std::process::Abort;
 use std::test::Fail;
+use traces_for_tests::expect_equal;
 
 /// Of the paths from u to v with this many numbers between them, the least.
 fn listed_way(
@@ -75,12 +75,11 @@ fn listed_cycle(
 
 /// Compares each call on the graph and the number u with the lists.
 fn compare_from(
-    rt: &impl Abort,
     alloc: Global,
     graph: &Graph,
     edges: &[(usize, usize)],
     u: usize,
-) -> Result<(), AllocError> {
+) -> Result<(), Fail> {
     let nodes = nodes_of(graph);
     let reached = reached(alloc, graph, u)?;
     for v in 0..nodes {
@@ -93,24 +92,19 @@ fn compare_from(
             reaches(graph, u, v),
         );
         let wanted = (Some(is_path), is_edge, is_path);
-        expect(rt, (u, v, edges), found, wanted);
-        expect_path(rt, graph, (u, v), &path)?;
+        expect_equal((u, v, edges), found, wanted)?;
+        expect_path(graph, (u, v), &path)?;
     }
     Ok(())
 }
 
 /// Compares each call on the graph with the lists.
-fn compare(
-    rt: &impl Abort,
-    alloc: Global,
-    graph: &Graph,
-    edges: &[(usize, usize)],
-) -> Result<(), AllocError> {
+fn compare(alloc: Global, graph: &Graph, edges: &[(usize, usize)]) -> Result<(), Fail> {
     let nodes = nodes_of(graph);
     for u in 0..nodes {
-        compare_from(rt, alloc, graph, edges, u)?;
+        compare_from(alloc, graph, edges, u)?;
     }
-    expect_cycle(rt, graph, &listed_cycle(alloc, edges, nodes)?)
+    expect_cycle(graph, &listed_cycle(alloc, edges, nodes)?)
 }
 
 #[test]
@@ -122,9 +116,9 @@ fn small_graphs_as_by_lists(rt: HostRuntime) -> Result<(), Fail> {
         let edges = drawn_edges(alloc, &mut word, nodes, number % 11)?;
         let added = graph_of(alloc, nodes, &edges)?;
         let made = graph_of_rows(alloc, nodes, &edges)?;
-        expect(&rt, number, [nodes_of(&added), nodes_of(&made)], [nodes; 2]);
-        compare(&rt, alloc, &added, &edges)?;
-        compare(&rt, alloc, &made, &edges)?;
+        expect_equal(number, [nodes_of(&added), nodes_of(&made)], [nodes; 2])?;
+        compare(alloc, &added, &edges)?;
+        compare(alloc, &made, &edges)?;
     }
     Ok(())
 }

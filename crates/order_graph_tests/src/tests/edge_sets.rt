@@ -1,11 +1,11 @@
 //! Sets of edges, from which edges are removed, beside a program over lists of edges.
 
 use super::by_lists::listed_path;
-use super::{drawn_edges, expect, graph_of, numbers_of};
+use super::{drawn_edges, graph_of, numbers_of};
 use order_graph::{EdgeSet, Graph};
 use std::alloc::{AllocError, Global};
-use std::process::Abort;
 use std::test::Fail;
+use traces_for_tests::expect_equal;
 
 fn set_has(set: &EdgeSet, u: usize, v: usize) -> bool {
     u < set.nodes() && v < set.nodes() && set.has(u, v)
@@ -55,12 +55,11 @@ pub(super) fn remove(set: &mut EdgeSet, u: usize, v: usize) {
 
 /// Compares each call on the set of edges and the number u with the lists.
 fn compare_set_from(
-    rt: &impl Abort,
     alloc: Global,
     set: &EdgeSet,
     edges: &[(usize, usize)],
     u: usize,
-) -> Result<(), AllocError> {
+) -> Result<(), Fail> {
     let nodes = set_nodes(set);
     let reached = set_reached(alloc, set, u)?;
     for v in 0..nodes {
@@ -75,22 +74,17 @@ fn compare_set_from(
             Some(!path.is_empty()),
             !path.is_empty(),
         );
-        expect(rt, (u, v, edges), found, wanted);
+        expect_equal((u, v, edges), found, wanted)?;
         let found = set_least_path(set, u, v)?;
-        expect(rt, (u, v, edges), numbers_of(&found), path.as_slice());
+        expect_equal((u, v, edges), numbers_of(&found), path.as_slice())?;
     }
     Ok(())
 }
 
 /// Compares each call on the set of edges with the lists.
-fn compare_set(
-    rt: &impl Abort,
-    alloc: Global,
-    set: &EdgeSet,
-    edges: &[(usize, usize)],
-) -> Result<(), AllocError> {
+fn compare_set(alloc: Global, set: &EdgeSet, edges: &[(usize, usize)]) -> Result<(), Fail> {
     for u in 0..set_nodes(set) {
-        compare_set_from(rt, alloc, set, edges, u)?;
+        compare_set_from(alloc, set, edges, u)?;
     }
     Ok(())
 }
@@ -111,19 +105,14 @@ fn edges_left(
 }
 
 /// Removes the edges from the last to the first, and compares what is left with the lists.
-fn compare_removing(
-    rt: &impl Abort,
-    alloc: Global,
-    edges: &[(usize, usize)],
-    nodes: usize,
-) -> Result<(), AllocError> {
+fn compare_removing(alloc: Global, edges: &[(usize, usize)], nodes: usize) -> Result<(), Fail> {
     let mut set = set_of(graph_of(alloc, nodes, edges)?)?;
-    compare_set(rt, alloc, &set, edges)?;
+    compare_set(alloc, &set, edges)?;
     for k in (0..edges.len()).rev() {
         let (u, v) = edges[k];
         remove(&mut set, u, v);
         let left = edges_left(alloc, &edges[..k], &edges[k..])?;
-        compare_set(rt, alloc, &set, &left)?;
+        compare_set(alloc, &set, &left)?;
     }
     Ok(())
 }
@@ -134,7 +123,7 @@ fn edges_removed_as_by_lists(rt: HostRuntime) -> Result<(), Fail> {
     for number in 0usize..60 {
         let nodes = number % 5 + 1;
         let edges = drawn_edges(rt.alloc(), &mut word, nodes, number % 9)?;
-        compare_removing(&rt, rt.alloc(), &edges, nodes)?;
+        compare_removing(rt.alloc(), &edges, nodes)?;
     }
     Ok(())
 }

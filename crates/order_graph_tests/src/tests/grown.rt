@@ -1,21 +1,20 @@
 //! Which numbers have come to reach more since a graph was settled.
-use super::{drawn_edges, drawn_number, expect, graph_of, graph_of_rows, join, reaches};
+use super::{drawn_edges, drawn_number, graph_of, graph_of_rows, join, reaches};
 use order_graph::Graph;
-use std::alloc::{AllocError, Global};
-use std::process::Abort;
+use std::alloc::Global;
 use std::test::Fail;
-use traces_for_tests::next_word;
+use traces_for_tests::{expect_equal, next_word};
 
 /// Whether u has come to reach more; false for what is no number of the graph.
 fn grew(graph: &Graph, u: usize) -> bool {
     u < graph.nodes() && graph.grew(u)
 }
 
-fn expect_grown(rt: &impl Abort, graph: &Graph, expected: &[usize]) -> Result<(), AllocError> {
+fn expect_grown(graph: &Graph, expected: &[usize]) -> Result<(), Fail> {
     let grown = graph.grown()?;
-    expect(rt, "grown", grown.as_slice(), expected);
+    expect_equal("grown", grown.as_slice(), expected)?;
     for u in 0..graph.nodes() {
-        expect(rt, u, grew(graph, u), expected.contains(&u));
+        expect_equal(u, grew(graph, u), expected.contains(&u))?;
     }
     Ok(())
 }
@@ -23,30 +22,30 @@ fn expect_grown(rt: &impl Abort, graph: &Graph, expected: &[usize]) -> Result<()
 #[test]
 fn edges_one_after_another(rt: HostRuntime) -> Result<(), Fail> {
     let mut graph = graph_of_rows(rt.alloc(), 130, &[(1, 64), (64, 129)])?;
-    expect_grown(&rt, &graph, &[])?;
+    expect_grown(&graph, &[])?;
     join(&mut graph, 129, 2);
-    expect_grown(&rt, &graph, &[1, 64, 129])?;
+    expect_grown(&graph, &[1, 64, 129])?;
     join(&mut graph, 0, 3);
-    expect_grown(&rt, &graph, &[0, 1, 64, 129])?;
+    expect_grown(&graph, &[0, 1, 64, 129])?;
     graph.settle();
-    expect_grown(&rt, &graph, &[])?;
+    expect_grown(&graph, &[])?;
     join(&mut graph, 1, 129);
     join(&mut graph, 0, 3);
-    expect_grown(&rt, &graph, &[])?;
+    expect_grown(&graph, &[])?;
     join(&mut graph, 3, 2);
-    expect_grown(&rt, &graph, &[0, 3])?;
+    expect_grown(&graph, &[0, 3])?;
     Ok(())
 }
 
 #[test]
 fn new_graphs_are_settled(rt: HostRuntime) -> Result<(), Fail> {
     let graph = graph_of(rt.alloc(), 65, &[])?;
-    expect_grown(&rt, &graph, &[])?;
+    expect_grown(&graph, &[])?;
     let mut graph = graph_of(rt.alloc(), 65, &[(64, 0), (0, 64)])?;
-    expect_grown(&rt, &graph, &[0, 64])?;
+    expect_grown(&graph, &[0, 64])?;
     graph.settle();
     join(&mut graph, 64, 64);
-    expect_grown(&rt, &graph, &[])?;
+    expect_grown(&graph, &[])?;
     Ok(())
 }
 
@@ -56,12 +55,7 @@ fn count_reached(graph: &Graph, nodes: usize, u: usize) -> usize {
 }
 
 /// Adds edges to a settled graph, and compares what grew with what each number reached before.
-fn compare_growing(
-    rt: &impl Abort,
-    alloc: Global,
-    word: &mut u64,
-    nodes: usize,
-) -> Result<(), AllocError> {
+fn compare_growing(alloc: Global, word: &mut u64, nodes: usize) -> Result<(), Fail> {
     let first = drawn_edges(alloc, word, nodes, nodes)?;
     let mut graph = graph_of(alloc, nodes, &first)?;
     graph.settle();
@@ -77,7 +71,7 @@ fn compare_growing(
     }
     for (u, count) in before.iter().enumerate() {
         let has_more = count_reached(&graph, nodes, u) > *count;
-        expect(rt, u, grew(&graph, u), has_more);
+        expect_equal(u, grew(&graph, u), has_more)?;
     }
     Ok(())
 }
@@ -86,7 +80,7 @@ fn compare_growing(
 fn drawn_graphs(rt: HostRuntime) -> Result<(), Fail> {
     let mut word = next_word(7);
     for nodes in 1..20 {
-        compare_growing(&rt, rt.alloc(), &mut word, nodes)?;
+        compare_growing(rt.alloc(), &mut word, nodes)?;
     }
     Ok(())
 }

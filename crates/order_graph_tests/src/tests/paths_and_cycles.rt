@@ -1,58 +1,58 @@
 //! Least paths and least cycles of graphs by hand.
 
 use super::{
-    expect, expect_cycle, expect_path, expect_words, graph_of, has, join, join_all, least_cycle,
+    expect_cycle, expect_path, expect_words, graph_of, has, join, join_all, least_cycle,
     least_path, nodes_of, reaches,
 };
 use order_graph::Graph;
 use std::alloc::{AllocError, Global};
-use std::process::Abort;
 use std::test::Fail;
+use traces_for_tests::expect_equal;
 
 #[test]
 fn diamond_graph(rt: HostRuntime) -> Result<(), Fail> {
     let graph = graph_of(rt.alloc(), 4, &[(0, 1), (0, 2), (1, 3), (2, 3), (3, 0)])?;
-    expect_path(&rt, &graph, (0, 3), &[0, 1, 3])?;
-    expect_cycle(&rt, &graph, &[0, 1, 3])?;
+    expect_path(&graph, (0, 3), &[0, 1, 3])?;
+    expect_cycle(&graph, &[0, 1, 3])?;
     Ok(())
 }
 
 #[test]
 fn loop_edge(rt: HostRuntime) -> Result<(), Fail> {
     let graph = graph_of(rt.alloc(), 3, &[(0, 1), (1, 1), (1, 2)])?;
-    expect(&rt, "1 to 1", reaches(&graph, 1, 1), true);
-    expect(&rt, "0 to 0", reaches(&graph, 0, 0), false);
-    expect_path(&rt, &graph, (1, 1), &[1, 1])?;
-    expect_path(&rt, &graph, (0, 2), &[0, 1, 2])?;
-    expect_cycle(&rt, &graph, &[1])?;
+    expect_equal("1 to 1", reaches(&graph, 1, 1), true)?;
+    expect_equal("0 to 0", reaches(&graph, 0, 0), false)?;
+    expect_path(&graph, (1, 1), &[1, 1])?;
+    expect_path(&graph, (0, 2), &[0, 1, 2])?;
+    expect_cycle(&graph, &[1])?;
     Ok(())
 }
 
 #[test]
 fn words_of_paths(rt: HostRuntime) -> Result<(), Fail> {
     let graph = graph_of(rt.alloc(), 66, &[(1, 2), (2, 65), (0, 1)])?;
-    expect_words(&rt, &graph, 0, &[6, 2]);
-    expect_words(&rt, &graph, 2, &[0, 2]);
-    expect_words(&rt, &graph, 65, &[0, 0]);
+    expect_words(&graph, 0, &[6, 2])?;
+    expect_words(&graph, 2, &[0, 2])?;
+    expect_words(&graph, 65, &[0, 0])?;
     Ok(())
 }
 
 #[test]
 fn path_to_itself(rt: HostRuntime) -> Result<(), Fail> {
     let graph = graph_of(rt.alloc(), 4, &[(0, 1), (1, 2), (2, 0), (2, 3)])?;
-    expect_path(&rt, &graph, (1, 1), &[1, 2, 0, 1])?;
-    expect_path(&rt, &graph, (3, 3), &[])?;
-    expect_cycle(&rt, &graph, &[0, 1, 2])?;
+    expect_path(&graph, (1, 1), &[1, 2, 0, 1])?;
+    expect_path(&graph, (3, 3), &[])?;
+    expect_cycle(&graph, &[0, 1, 2])?;
     Ok(())
 }
 
 /// Sees that a graph of so many numbers has no edge, no path and no cycle.
-fn expect_empty(rt: &impl Abort, alloc: Global, nodes: usize) -> Result<(), AllocError> {
+fn expect_empty(alloc: Global, nodes: usize) -> Result<(), Fail> {
     let graph = graph_of(alloc, nodes, &[])?;
     let found = (nodes_of(&graph), has(&graph, 0, 0), reaches(&graph, 0, 0));
-    expect(rt, nodes, found, (nodes, false, false));
-    expect_path(rt, &graph, (0, 0), &[])?;
-    expect_cycle(rt, &graph, &[])
+    expect_equal(nodes, found, (nodes, false, false))?;
+    expect_path(&graph, (0, 0), &[])?;
+    expect_cycle(&graph, &[])
 }
 
 const SIZES: [usize; 5] = [0, 1, 64, 65, 8001];
@@ -60,10 +60,10 @@ const SIZES: [usize; 5] = [0, 1, 64, 65, 8001];
 #[test]
 fn empty_graphs(rt: HostRuntime) -> Result<(), Fail> {
     for nodes in SIZES {
-        expect_empty(&rt, rt.alloc(), nodes)?;
+        expect_empty(rt.alloc(), nodes)?;
     }
     let is_refused = graph_of(rt.alloc(), usize::MAX, &[]).is_err();
-    expect(&rt, "refused", is_refused, true);
+    expect_equal("refused", is_refused, true)?;
     Ok(())
 }
 
@@ -82,15 +82,15 @@ fn is_round(graph: &Graph, nodes: usize) -> bool {
 }
 
 /// Closes a ring of so many numbers, and compares paths and cycles before and after.
-fn expect_ring(rt: &impl Abort, alloc: Global, nodes: usize) -> Result<(), AllocError> {
+fn expect_ring(alloc: Global, nodes: usize) -> Result<(), Fail> {
     let mut graph = open_ring(alloc, nodes)?;
-    expect_cycle(rt, &graph, &[])?;
+    expect_cycle(&graph, &[])?;
     let last = nodes.saturating_sub(1);
-    expect(rt, nodes, nodes > 1 && reaches(&graph, last, 0), false);
+    expect_equal(nodes, nodes > 1 && reaches(&graph, last, 0), false)?;
     join(&mut graph, last, 0);
     let ring: Vec<usize> = (0..nodes).collect(alloc)?;
-    expect(rt, nodes, is_round(&graph, nodes), true);
-    expect_cycle(rt, &graph, &ring)
+    expect_equal(nodes, is_round(&graph, nodes), true)?;
+    expect_cycle(&graph, &ring)
 }
 
 const RING_SIZES: [usize; 6] = [1, 2, 63, 64, 65, 129];
@@ -99,7 +99,7 @@ const RING_SIZES: [usize; 6] = [1, 2, 63, 64, 65, 129];
 #[test]
 fn rings(rt: HostRuntime) -> Result<(), Fail> {
     for nodes in RING_SIZES {
-        expect_ring(&rt, rt.alloc(), nodes)?;
+        expect_ring(rt.alloc(), nodes)?;
     }
     Ok(())
 }
@@ -116,10 +116,10 @@ const FAR_EDGES: [(usize, usize); 6] = [
 #[test]
 fn many_numbers(rt: HostRuntime) -> Result<(), Fail> {
     let graph = graph_of(rt.alloc(), 8001, &FAR_EDGES)?;
-    expect(&rt, "8000 to 127", reaches(&graph, 8000, 127), true);
-    expect(&rt, "0 to 127", reaches(&graph, 0, 127), false);
-    expect_path(&rt, &graph, (63, 8000), &[63, 64, 127, 8000])?;
-    expect_cycle(&rt, &graph, &[63, 64, 127, 8000])?;
+    expect_equal("8000 to 127", reaches(&graph, 8000, 127), true)?;
+    expect_equal("0 to 127", reaches(&graph, 0, 127), false)?;
+    expect_path(&graph, (63, 8000), &[63, 64, 127, 8000])?;
+    expect_cycle(&graph, &[63, 64, 127, 8000])?;
     Ok(())
 }
 
@@ -131,11 +131,11 @@ fn short_cycle_after_a_long_one(rt: HostRuntime) -> Result<(), Fail> {
         join(&mut graph, u, u + 1);
     }
     join_all(&mut graph, &[(99, 0), (160, 161), (161, 162), (162, 160)]);
-    expect_cycle(&rt, &graph, &[160, 161, 162])?;
+    expect_cycle(&graph, &[160, 161, 162])?;
     join_all(&mut graph, &[(150, 70), (70, 199), (199, 150)]);
-    expect_cycle(&rt, &graph, &[70, 199, 150])?;
+    expect_cycle(&graph, &[70, 199, 150])?;
     join(&mut graph, 199, 199);
-    expect_cycle(&rt, &graph, &[199])?;
+    expect_cycle(&graph, &[199])?;
     Ok(())
 }
 
@@ -189,8 +189,8 @@ fn ring_with_edges_to_three_places(rt: HostRuntime) -> Result<(), Fail> {
     for step in STEPS {
         let (cycle, path) = ring_lists(rt.alloc(), step)?;
         let found = (cycle.len(), cycle.first().copied(), path.len());
-        expect(&rt, step, found, (44, Some(0), 45));
-        expect(&rt, step, path.starts_with(&cycle), true);
+        expect_equal(step, found, (44, Some(0), 45))?;
+        expect_equal(step, path.starts_with(&cycle), true)?;
     }
     Ok(())
 }

@@ -1,9 +1,8 @@
 //! The reference program on traces under partial store order, and on traces with first values.
-use super::expect;
 use reference_rounds::{has_cycle, has_unwritten_load, rank_set, rounds_number};
 use std::alloc::Global;
 use std::test::Fail;
-use traces_for_tests::{trace_from, trace_of};
+use traces_for_tests::{expect_equal, trace_from, trace_of};
 use tso_ops::Outcome::{Ld, Sb, St};
 use tso_ops::{Order, Outcome, Trace};
 
@@ -45,7 +44,7 @@ const UNDER_PSO: [Case; 3] = [
 fn message_passing_under_partial_store_order(rt: HostRuntime) -> Result<(), Fail> {
     for (rows, answer) in UNDER_PSO {
         let trace = trace_of(rt.alloc(), Order::Pso, rows)?;
-        expect(&rt, rows, rounds_and_cycle(rt.alloc(), &trace)?, answer);
+        expect_equal(rows, rounds_and_cycle(rt.alloc(), &trace)?, answer)?;
     }
     Ok(())
 }
@@ -76,9 +75,9 @@ const WITH_FIRST: [(&[(u16, u64)], Case); 3] = [
 fn first_values_of_memory(rt: HostRuntime) -> Result<(), Fail> {
     for (first, (rows, answer)) in WITH_FIRST {
         let trace = trace_from(rt.alloc(), first, rows)?;
-        expect(&rt, rows, rounds_and_cycle(rt.alloc(), &trace)?, answer);
+        expect_equal(rows, rounds_and_cycle(rt.alloc(), &trace)?, answer)?;
     }
     let zero = trace_from(rt.alloc(), &[(1, 7)], &[&[Ld { a: 1, r: 0 }]])?;
-    expect(&rt, "unwritten", has_unwritten_load(&zero), true);
+    expect_equal("unwritten", has_unwritten_load(&zero), true)?;
     Ok(())
 }

@@ -1,7 +1,6 @@
 //! Runs a campaign: a program from each of many seeds, on a unit of its own.
 ghost use Rattle.std.specs.Prelude.{◌≡◌, ◌⊎◌, ◌≤◌, Decides, IfOk, IfErr, map, replicate};
-ghost use Rattle.command_line.specs.Requests.{capacity_limit};
-ghost use Rattle.tso_report.specs.Limits.{worker_limit};
+ghost use Rattle.request_serving.specs.Internal.Ranges.{HasWorkerRange, IsCampaignInRange};
 ghost use Rattle.request_serving.specs.Campaigning.{AreProgramsOf, AreSeeds, IsCampaignText, LeavesCampaignText};
 ghost use Rattle.request_serving.specs.Endings.{WritesText};
 ghost use Rattle.request_serving.specs.Printing.{unit_of};
@@ -50,10 +49,7 @@ pub(crate) fn campaign_by<H: Threads + Wait + Sync + AllocGlobal, W: Write>(
     options: &CampaignOptions,
     writer: &mut W,
 ) -> Result<u8, Fault>
-    requires some { 1 ≤ options.now.workers }
-    requires most { options.now.workers ≤ worker_limit }
-    requires capacity { (1 ≤ options.now.unit.capacity) × (options.now.unit.capacity ≤ capacity_limit) }
-    requires trigger { 1 ≤ options.now.unit.trigger }
+    requires ranges { IsCampaignInRange options.now }
     ensures text { IfOk result (WritesText (IsCampaignText options.now) (W.contents writer.old) (W.contents writer.new)) }
     ensures fault { IfErr result (LeavesCampaignText options.now (W.contents writer.old) (W.contents writer.new)) }
 {
@@ -74,10 +70,7 @@ fn campaign_over_programs<H: Threads + Wait + Sync + AllocGlobal, W: Write>(
     writer: &mut W,
 ) -> Result<u8, Fault>
     requires programs { AreProgramsOf options.now programs }
-    requires some { 1 ≤ options.now.workers }
-    requires most { options.now.workers ≤ worker_limit }
-    requires capacity { (1 ≤ options.now.unit.capacity) × (options.now.unit.capacity ≤ capacity_limit) }
-    requires trigger { 1 ≤ options.now.unit.trigger }
+    requires ranges { IsCampaignInRange options.now }
     ensures text { IfOk result (WritesText (IsCampaignText options.now) (W.contents writer.old) (W.contents writer.new)) }
     ensures fault { IfErr result (LeavesCampaignText options.now (W.contents writer.old) (W.contents writer.new)) }
 {
@@ -95,8 +88,7 @@ fn campaign_on<H: Threads + Wait + Sync + AllocGlobal, U: MemoryUnit + Send, W: 
 ) -> Result<u8, Fault>
     requires programs { AreProgramsOf options.now programs }
     requires units { map (λ unit. U.value_of unit) units.items ≡ replicate options.now.count (unit_of options.now.unit) }
-    requires some { 1 ≤ options.now.workers }
-    requires most { options.now.workers ≤ worker_limit }
+    requires workers { HasWorkerRange options.now.workers }
     ensures text { IfOk result (WritesText (IsCampaignText options.now) (W.contents writer.old) (W.contents writer.new)) }
     ensures fault { IfErr result (LeavesCampaignText options.now (W.contents writer.old) (W.contents writer.new)) }
 {

@@ -1,9 +1,10 @@
 //! `check`: a certificate against its trace.
 ghost use Rattle.std.specs.Prelude.{◌≡◌, ◌≢◌, [], ◌∷◌, ◌++◌, IfOk, IfErr, OnOk, true, false, option_to_list};
-ghost use Rattle.command_line.specs.Requests.{checking, files_of};
+ghost use Rattle.command_line.specs.Requests.{asked_of, files_of};
+ghost use Rattle.command_line.specs.declared.requests.Request.TheVariants.{Check};
 ghost use Rattle.tso_report.specs.declared.faults.Fault.TheVariants.{NoThread};
 ghost use Rattle.tso_report.specs.WrittenReports.{LeavesCheckFault, WritesCheckReport};
-ghost use Rattle.request_serving.specs.OpenedFiles.{IsRefusedFirst, OpensFirst, OpensNext, TakesInput, files_named, reads_input, text_bytes};
+ghost use Rattle.request_serving.specs.OpenedFiles.{HasRefusedFirstText, OpensFirst, OpensNext, TakesInput, files_named, reads_input, text_bytes};
 
 use crate::files::{NamedFiles, open};
 use command_line::TextPair;
@@ -22,11 +23,11 @@ pub(crate) fn check_named<O: NamedFiles, R: Read, W: Write>(
     ensures report { let traces = text_bytes (files_of texts.entry).0 (R.remaining reader.old) (O.bytes files.old) in let certificates = text_bytes (files_of texts.entry).1 (R.remaining reader.old) (O.bytes files.old) in IfOk result (WritesCheckReport traces certificates (W.contents writer.old) (W.contents writer.new)) }
     ensures fault { let traces = text_bytes (files_of texts.entry).0 (R.remaining reader.old) (O.bytes files.old) in let certificates = text_bytes (files_of texts.entry).1 (R.remaining reader.old) (O.bytes files.old) in IfErr result (LeavesCheckFault traces certificates (W.contents writer.old) (W.contents writer.new)) }
     ensures no_thread { IfErr result (λ fault. fault ≢ NoThread) }
-    ensures first { OpensFirst (O.opened files.old) (O.opened files.new) (files_named (checking (files_of texts.entry).0 (files_of texts.entry).1)) }
-    ensures opened { OnOk result (OpensNext (O.opened files.old) (O.opened files.new) (files_named (checking (files_of texts.entry).0 (files_of texts.entry).1))) }
-    ensures unread { reads_input (checking (files_of texts.entry).0 (files_of texts.entry).1) ≡ false → reader.new ≡ reader.old }
-    ensures unread_after_refusal { IsRefusedFirst (checking (files_of texts.entry).0 (files_of texts.entry).1) (O.bytes files.old) → reader.new ≡ reader.old }
-    ensures taken { reads_input (checking (files_of texts.entry).0 (files_of texts.entry).1) ≡ true → OnOk result (TakesInput (checking (files_of texts.entry).0 (files_of texts.entry).1) (R.remaining reader.old) (R.remaining reader.new)) }
+    ensures first { OpensFirst (O.opened files.old) (O.opened files.new) (files_named (asked_of (Check texts.entry))) }
+    ensures opened { OnOk result (OpensNext (O.opened files.old) (O.opened files.new) (files_named (asked_of (Check texts.entry)))) }
+    ensures unread { reads_input (asked_of (Check texts.entry)) ≡ false → reader.new ≡ reader.old }
+    ensures unread_after_refusal { HasRefusedFirstText (asked_of (Check texts.entry)) (O.bytes files.old) → reader.new ≡ reader.old }
+    ensures taken { reads_input (asked_of (Check texts.entry)) ≡ true → OnOk result (TakesInput (asked_of (Check texts.entry)) (R.remaining reader.old) (R.remaining reader.new)) }
 {
     match texts {
         TextPair::Files(trace, certificate) => {

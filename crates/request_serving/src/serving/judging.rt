@@ -2,20 +2,22 @@
 ghost use Rattle.std.specs.Prelude.{◌≡◌, ◌≢◌, ◌≤◌, [], ◌∷◌, IfOk, IfErr, IfSome, None, true, false, option_to_list};
 ghost use Rattle.command_line.specs.Requests.{asked_of};
 ghost use Rattle.command_line.specs.declared.requests.Request.TheVariants.{Judge};
-ghost use Rattle.tso_report.specs.Limits.{trace_read_limit, worker_limit};
+ghost use Rattle.tso_report.specs.Limits.{trace_read_limit};
 ghost use Rattle.tso_report.specs.Streams.{LosesPrefix};
 ghost use Rattle.tso_report.specs.WrittenReports.{LeavesAtFault, WritesWhole};
+ghost use Rattle.request_serving.specs.Internal.Ranges.{HasWorkerRange};
 ghost use Rattle.request_serving.specs.Endings.{EndsAsAsked, IsPresented, outputs};
 ghost use Rattle.request_serving.specs.OpenedFiles.{OpensFirst, OpensNext, TakesInput, files_named, name_in, reads_input, text_bytes};
 
 use crate::endings::end;
 use crate::files::{NamedFiles, open};
 use command_line::{JudgeRequest, Presentation};
-use explaining::{draw, explain};
 use std::io::{Read, Write};
 use std::sync::Wait;
 use std::thread::Threads;
-use tso_report::{Fault, Verdict, judge};
+use trace_explanation::AsExplanation;
+use trace_pictures::AsPicture;
+use tso_report::{Fault, Verdict, judge, present};
 
 /// Judges the trace in a file, or else in what the reader has, and presents the verdict: the status.
 pub(crate) fn judge_by<
@@ -32,8 +34,7 @@ pub(crate) fn judge_by<
     writer: &mut W,
     errors: &mut E,
 ) -> u8
-    requires some { 1 ≤ request.now.workers }
-    requires most { request.now.workers ≤ worker_limit }
+    requires { HasWorkerRange request.now.workers }
     ensures ends { EndsAsAsked (asked_of (Judge request.now)) (R.remaining reader.old) (O.bytes files.old) (outputs (W.contents writer.old) (W.contents writer.new) (E.contents errors.old) (E.contents errors.new)) result }
     ensures first { OpensFirst (O.opened files.old) (O.opened files.new) (files_named (asked_of (Judge request.now))) }
     ensures opened { result ≢ 4 → OpensNext (O.opened files.old) (O.opened files.new) (files_named (asked_of (Judge request.now))) }
@@ -52,8 +53,7 @@ fn judge_named<H: Threads + Wait + Sync + AllocGlobal, O: NamedFiles, R: Read, W
     reader: &mut R,
     writer: &mut W,
 ) -> Result<Verdict, Fault>
-    requires some { 1 ≤ request.now.workers }
-    requires most { request.now.workers ≤ worker_limit }
+    requires { HasWorkerRange request.now.workers }
     ensures presented { let remaining = text_bytes (name_in request.now.file) (R.remaining reader.old) (O.bytes files.old) in IfOk result (WritesWhole (IsPresented request.now.presentation remaining) (W.contents writer.old) (W.contents writer.new)) }
     ensures fault { let remaining = text_bytes (name_in request.now.file) (R.remaining reader.old) (O.bytes files.old) in IfErr result (LeavesAtFault (IsPresented request.now.presentation remaining) (W.contents writer.old) (W.contents writer.new)) }
     ensures opened { OpensNext (O.opened files.old) (O.opened files.new) (option_to_list (name_in request.now.file)) }
@@ -61,7 +61,7 @@ fn judge_named<H: Threads + Wait + Sync + AllocGlobal, O: NamedFiles, R: Read, W
     ensures taken { request.now.file ≡ None → IfOk result (λ _. LosesPrefix trace_read_limit (R.remaining reader.old) (R.remaining reader.new)) }
 {
     match request.file {
-        None => present(rt, request, reader, writer),
+        None => judge_reader(rt, request, reader, writer),
         Some(name) => judge_file(rt, request, name, files, writer),
     }
 }
@@ -74,25 +74,23 @@ fn judge_file<H: Threads + Wait + Sync + AllocGlobal, O: NamedFiles, W: Write>(
     files: &mut O,
     writer: &mut W,
 ) -> Result<Verdict, Fault>
-    requires some { 1 ≤ request.now.workers }
-    requires most { request.now.workers ≤ worker_limit }
+    requires { HasWorkerRange request.now.workers }
     ensures presented { IfOk result (WritesWhole (IsPresented request.now.presentation (O.bytes files.old name.now)) (W.contents writer.old) (W.contents writer.new)) }
     ensures fault { IfErr result (LeavesAtFault (IsPresented request.now.presentation (O.bytes files.old name.now)) (W.contents writer.old) (W.contents writer.new)) }
     ensures opened { OpensNext (O.opened files.old) (O.opened files.new) (name.now ∷ []) }
 {
     let mut file = open(files, name)?;
-    present(rt, request, &mut file, writer)
+    judge_reader(rt, request, &mut file, writer)
 }
 
 /// Judges the trace that a reader has, and writes the verdict in the form that the request asks for.
-fn present<H: Threads + Wait + Sync + AllocGlobal, R: Read, W: Write>(
+fn judge_reader<H: Threads + Wait + Sync + AllocGlobal, R: Read, W: Write>(
     rt: &H,
     request: &JudgeRequest<'_>,
     reader: &mut R,
     writer: &mut W,
 ) -> Result<Verdict, Fault>
-    requires some { 1 ≤ request.now.workers }
-    requires most { request.now.workers ≤ worker_limit }
+    requires { HasWorkerRange request.now.workers }
     ensures presented { IfOk result (WritesWhole (IsPresented request.now.presentation (R.remaining reader.old)) (W.contents writer.old) (W.contents writer.new)) }
     ensures fault { IfErr result (LeavesAtFault (IsPresented request.now.presentation (R.remaining reader.old)) (W.contents writer.old) (W.contents writer.new)) }
     ensures taken { IfOk result (λ _. LosesPrefix trace_read_limit (R.remaining reader.old) (R.remaining reader.new)) }
@@ -100,7 +98,9 @@ fn present<H: Threads + Wait + Sync + AllocGlobal, R: Read, W: Write>(
     let alloc = rt.alloc();
     match request.presentation {
         Presentation::Report => judge(rt, alloc, reader, writer, request.workers),
-        Presentation::Explanation => explain(rt, alloc, reader, writer, request.workers),
-        Presentation::Picture => draw(rt, alloc, reader, writer, request.workers),
+        Presentation::Explanation => {
+            present(rt, alloc, reader, writer, request.workers, &AsExplanation)
+        }
+        Presentation::Picture => { present(rt, alloc, reader, writer, request.workers, &AsPicture) }
     }
 }

@@ -1,13 +1,15 @@
 //! The way of a replay: read the program, then the schedule, run the one by the other, judge or print, write.
 ghost use Rattle.std.specs.Prelude.{◌≡◌, ◌⊎◌, ◌≤◌, [], ◌∷◌, IfOk, IfErr, IfSome, OnOk, true, false};
-ghost use Rattle.command_line.specs.Requests.{capacity_limit, files_of, replaying};
+ghost use Rattle.command_line.specs.Requests.{asked_of, files_of};
+ghost use Rattle.command_line.specs.declared.requests.Request.TheVariants.{Replay};
 ghost use Rattle.tso_report.specs.declared.faults.Fault.{Fault};
-ghost use Rattle.tso_report.specs.Limits.{trace_read_limit, worker_limit};
+ghost use Rattle.tso_report.specs.Limits.{trace_read_limit};
 ghost use Rattle.tso_report.specs.Streams.{LosesPrefix};
 ghost use Rattle.tso_report.specs.WrittenReports.{LeavesAtFault};
-ghost use Rattle.tso_text.specs.Grammars.{IsRefusedProgram};
+ghost use Rattle.tso_text.specs.Refusals.{IsRefusedProgram};
+ghost use Rattle.request_serving.specs.Internal.Ranges.{AreInRange, HasWorkerRange};
 ghost use Rattle.request_serving.specs.Endings.{IsPrintable, WritesText};
-ghost use Rattle.request_serving.specs.OpenedFiles.{IsRefusedFirst, OpensFirst, OpensNext, TakesInput, files_named, reads_input, text_bytes};
+ghost use Rattle.request_serving.specs.OpenedFiles.{HasRefusedFirstText, OpensFirst, OpensNext, TakesInput, files_named, reads_input, text_bytes};
 ghost use Rattle.request_serving.specs.Printing.{unit_of};
 ghost use Rattle.request_serving.specs.Replaying.{IsReplayOf, IsReplayText, IsScheduledText};
 
@@ -33,17 +35,14 @@ pub(crate) fn replay_named<H: Threads + Wait + AllocGlobal, O: NamedFiles, R: Re
     reader: &mut R,
     writer: &mut W,
 ) -> Result<u8, Fault>
-    requires some { 1 ≤ options.now.workers }
-    requires most { options.now.workers ≤ worker_limit }
-    requires capacity { (1 ≤ options.now.unit.capacity) × (options.now.unit.capacity ≤ capacity_limit) }
-    requires trigger { 1 ≤ options.now.unit.trigger }
+    requires ranges { AreInRange options.now }
     ensures text { let programs = text_bytes (files_of texts.entry).0 (R.remaining reader.old) (O.bytes files.old) in let schedules = text_bytes (files_of texts.entry).1 (R.remaining reader.old) (O.bytes files.old) in IfOk result (WritesText (IsReplayText options.now programs schedules) (W.contents writer.old) (W.contents writer.new)) }
     ensures fault { let programs = text_bytes (files_of texts.entry).0 (R.remaining reader.old) (O.bytes files.old) in let schedules = text_bytes (files_of texts.entry).1 (R.remaining reader.old) (O.bytes files.old) in IfErr result (LeavesAtFault (IsPrintable (IsReplayText options.now programs schedules)) (W.contents writer.old) (W.contents writer.new)) }
-    ensures first { OpensFirst (O.opened files.old) (O.opened files.new) (files_named (replaying options.now (files_of texts.entry).0 (files_of texts.entry).1)) }
-    ensures opened { OnOk result (OpensNext (O.opened files.old) (O.opened files.new) (files_named (replaying options.now (files_of texts.entry).0 (files_of texts.entry).1))) }
-    ensures unread { reads_input (replaying options.now (files_of texts.entry).0 (files_of texts.entry).1) ≡ false → reader.new ≡ reader.old }
-    ensures unread_after_refusal { IsRefusedFirst (replaying options.now (files_of texts.entry).0 (files_of texts.entry).1) (O.bytes files.old) → reader.new ≡ reader.old }
-    ensures taken { reads_input (replaying options.now (files_of texts.entry).0 (files_of texts.entry).1) ≡ true → OnOk result (TakesInput (replaying options.now (files_of texts.entry).0 (files_of texts.entry).1) (R.remaining reader.old) (R.remaining reader.new)) }
+    ensures first { OpensFirst (O.opened files.old) (O.opened files.new) (files_named (asked_of (Replay options.now texts.entry))) }
+    ensures opened { OnOk result (OpensNext (O.opened files.old) (O.opened files.new) (files_named (asked_of (Replay options.now texts.entry)))) }
+    ensures unread { reads_input (asked_of (Replay options.now texts.entry)) ≡ false → reader.new ≡ reader.old }
+    ensures unread_after_refusal { HasRefusedFirstText (asked_of (Replay options.now texts.entry)) (O.bytes files.old) → reader.new ≡ reader.old }
+    ensures taken { reads_input (asked_of (Replay options.now texts.entry)) ≡ true → OnOk result (TakesInput (asked_of (Replay options.now texts.entry)) (R.remaining reader.old) (R.remaining reader.new)) }
 {
     match texts {
         TextPair::Files(program, schedule) => {
@@ -69,10 +68,7 @@ fn replay_files<H: Threads + Wait + AllocGlobal, O: NamedFiles, W: Write>(
     files: &mut O,
     writer: &mut W,
 ) -> Result<u8, Fault>
-    requires some { 1 ≤ options.now.workers }
-    requires most { options.now.workers ≤ worker_limit }
-    requires capacity { (1 ≤ options.now.unit.capacity) × (options.now.unit.capacity ≤ capacity_limit) }
-    requires trigger { 1 ≤ options.now.unit.trigger }
+    requires ranges { AreInRange options.now }
     ensures text { IfOk result (WritesText (IsReplayText options.now (O.bytes files.old program.now) (O.bytes files.old schedule.now)) (W.contents writer.old) (W.contents writer.new)) }
     ensures fault { IfErr result (LeavesAtFault (IsPrintable (IsReplayText options.now (O.bytes files.old program.now) (O.bytes files.old schedule.now))) (W.contents writer.old) (W.contents writer.new)) }
     ensures first { OpensFirst (O.opened files.old) (O.opened files.new) (program.now ∷ schedule.now ∷ []) }
@@ -91,10 +87,7 @@ fn write_replay<H: Threads + Wait + AllocGlobal, P: Read, S: Read, W: Write>(
     schedules: &mut S,
     writer: &mut W,
 ) -> Result<u8, Fault>
-    requires some { 1 ≤ options.now.workers }
-    requires most { options.now.workers ≤ worker_limit }
-    requires capacity { (1 ≤ options.now.unit.capacity) × (options.now.unit.capacity ≤ capacity_limit) }
-    requires trigger { 1 ≤ options.now.unit.trigger }
+    requires ranges { AreInRange options.now }
     ensures text { IfOk result (WritesText (IsReplayText options.now (P.remaining programs.old) (S.remaining schedules.old)) (W.contents writer.old) (W.contents writer.new)) }
     ensures fault { IfErr result (LeavesAtFault (IsPrintable (IsReplayText options.now (P.remaining programs.old) (S.remaining schedules.old))) (W.contents writer.old) (W.contents writer.new)) }
     ensures taken { IfOk result (λ _. LosesPrefix trace_read_limit (P.remaining programs.old) (P.remaining programs.new)) }
@@ -114,10 +107,7 @@ fn replay_texts<H: Threads + Wait + AllocGlobal, P: Read, S: Read>(
     programs: &mut P,
     schedules: &mut S,
 ) -> Result<Printed, Fault>
-    requires some { 1 ≤ options.now.workers }
-    requires most { options.now.workers ≤ worker_limit }
-    requires capacity { (1 ≤ options.now.unit.capacity) × (options.now.unit.capacity ≤ capacity_limit) }
-    requires trigger { 1 ≤ options.now.unit.trigger }
+    requires ranges { AreInRange options.now }
     ensures text { IfOk result (λ printed. IsReplayText options.now (P.remaining programs.old) (S.remaining schedules.old) printed.text.items printed.status) }
     ensures taken { IfOk result (λ _. LosesPrefix trace_read_limit (P.remaining programs.old) (P.remaining programs.new)) }
     ensures unread { IfSome (P.remaining programs.old) (λ program. IsRefusedProgram program → schedules.new ≡ schedules.old) }
@@ -138,10 +128,7 @@ fn replay_program<H: Threads + Wait + AllocGlobal, S: Read>(
     program: &Program,
     schedules: &mut S,
 ) -> Result<Printed, Fault>
-    requires some { 1 ≤ options.now.workers }
-    requires most { options.now.workers ≤ worker_limit }
-    requires capacity { (1 ≤ options.now.unit.capacity) × (options.now.unit.capacity ≤ capacity_limit) }
-    requires trigger { 1 ≤ options.now.unit.trigger }
+    requires ranges { AreInRange options.now }
     ensures text { IfOk result (λ printed. IsScheduledText options.now program.now (S.remaining schedules.old) printed.text.items printed.status) }
     ensures taken { IfOk result (λ _. LosesPrefix trace_read_limit (S.remaining schedules.old) (S.remaining schedules.new)) }
     ensures fault { IfErr result (λ fault. (fault ≡ Fault.OutOfMemory) ⊎ ((fault ≡ Fault.Read) ⊎ (fault ≡ Fault.NoThread))) }
@@ -160,10 +147,7 @@ fn replay_by<H: Threads + Wait + AllocGlobal>(
     program: &Program,
     schedule: &[Act],
 ) -> Result<Printed, Fault>
-    requires some { 1 ≤ options.now.workers }
-    requires most { options.now.workers ≤ worker_limit }
-    requires capacity { (1 ≤ options.now.unit.capacity) × (options.now.unit.capacity ≤ capacity_limit) }
-    requires trigger { 1 ≤ options.now.unit.trigger }
+    requires ranges { AreInRange options.now }
     ensures text { IfOk result (λ printed. IsReplayOf options.now program.now schedule.now printed.text.items printed.status) }
     ensures fault { IfErr result (λ fault. (fault ≡ Fault.OutOfMemory) ⊎ (fault ≡ Fault.NoThread)) }
 {
@@ -181,8 +165,7 @@ fn replay_on<H: Threads + Wait + AllocGlobal>(
     schedule: &[Act],
 ) -> Result<Printed, Fault>
     requires unit { value_of unit ≡ unit_of options.now.unit }
-    requires some { 1 ≤ options.now.workers }
-    requires most { options.now.workers ≤ worker_limit }
+    requires workers { HasWorkerRange options.now.workers }
     ensures text { IfOk result (λ printed. IsReplayOf options.now program.now schedule.now printed.text.items printed.status) }
     ensures fault { IfErr result (λ fault. (fault ≡ Fault.OutOfMemory) ⊎ (fault ≡ Fault.NoThread)) }
 {

@@ -1,9 +1,10 @@
 //! The way of a run: read the program, run it with a thread per processor and a drainer, judge or print, write.
 ghost use Rattle.std.specs.Prelude.{◌≡◌, ◌⊎◌, ◌≤◌, [], ◌∷◌, IfOk, IfErr, IfSome, None, option_to_list};
-ghost use Rattle.command_line.specs.Requests.{capacity_limit, drain_turns_limit};
+ghost use Rattle.command_line.specs.Requests.{drain_turns_limit};
 ghost use Rattle.tso_report.specs.declared.faults.Fault.{Fault};
-ghost use Rattle.tso_report.specs.Limits.{trace_read_limit, worker_limit};
+ghost use Rattle.tso_report.specs.Limits.{trace_read_limit};
 ghost use Rattle.tso_report.specs.Streams.{LosesPrefix};
+ghost use Rattle.request_serving.specs.Internal.Ranges.{AreInRange, HasWorkerRange};
 ghost use Rattle.request_serving.specs.Endings.{WritesText};
 ghost use Rattle.request_serving.specs.Internal.Runs.{LeavesAtFailure, OnFault};
 ghost use Rattle.request_serving.specs.OpenedFiles.{OpensNext, name_in, text_bytes};
@@ -32,10 +33,7 @@ pub(crate) fn run_named<H: Threads + Wait + Sync + AllocGlobal, O: NamedFiles, R
     reader: &mut R,
     writer: &mut W,
 ) -> Result<u8, RunFailure>
-    requires some { 1 ≤ request.now.options.workers }
-    requires most { request.now.options.workers ≤ worker_limit }
-    requires capacity { (1 ≤ request.now.options.unit.capacity) × (request.now.options.unit.capacity ≤ capacity_limit) }
-    requires trigger { 1 ≤ request.now.options.unit.trigger }
+    requires ranges { AreInRange request.now.options }
     requires turns { request.now.drain_turns ≤ drain_turns_limit }
     ensures text { let programs = text_bytes (name_in request.now.program) (R.remaining reader.old) (O.bytes files.old) in IfOk result (WritesText (IsRunText request.now.options programs) (W.contents writer.old) (W.contents writer.new)) }
     ensures fault { let programs = text_bytes (name_in request.now.program) (R.remaining reader.old) (O.bytes files.old) in IfErr result (LeavesAtFailure (IsRunText request.now.options programs) (W.contents writer.old) (W.contents writer.new)) }
@@ -57,10 +55,7 @@ fn run_file<H: Threads + Wait + Sync + AllocGlobal, O: NamedFiles, W: Write>(
     files: &mut O,
     writer: &mut W,
 ) -> Result<u8, RunFailure>
-    requires some { 1 ≤ request.now.options.workers }
-    requires most { request.now.options.workers ≤ worker_limit }
-    requires capacity { (1 ≤ request.now.options.unit.capacity) × (request.now.options.unit.capacity ≤ capacity_limit) }
-    requires trigger { 1 ≤ request.now.options.unit.trigger }
+    requires ranges { AreInRange request.now.options }
     requires turns { request.now.drain_turns ≤ drain_turns_limit }
     ensures text { IfOk result (WritesText (IsRunText request.now.options (O.bytes files.old name.now)) (W.contents writer.old) (W.contents writer.new)) }
     ensures fault { IfErr result (LeavesAtFailure (IsRunText request.now.options (O.bytes files.old name.now)) (W.contents writer.old) (W.contents writer.new)) }
@@ -77,10 +72,7 @@ fn write_run<H: Threads + Wait + Sync + AllocGlobal, P: Read, W: Write>(
     programs: &mut P,
     writer: &mut W,
 ) -> Result<u8, RunFailure>
-    requires some { 1 ≤ request.now.options.workers }
-    requires most { request.now.options.workers ≤ worker_limit }
-    requires capacity { (1 ≤ request.now.options.unit.capacity) × (request.now.options.unit.capacity ≤ capacity_limit) }
-    requires trigger { 1 ≤ request.now.options.unit.trigger }
+    requires ranges { AreInRange request.now.options }
     requires turns { request.now.drain_turns ≤ drain_turns_limit }
     ensures text { IfOk result (WritesText (IsRunText request.now.options (P.remaining programs.old)) (W.contents writer.old) (W.contents writer.new)) }
     ensures fault { IfErr result (LeavesAtFailure (IsRunText request.now.options (P.remaining programs.old)) (W.contents writer.old) (W.contents writer.new)) }
@@ -97,10 +89,7 @@ fn run_text<H: Threads + Wait + Sync + AllocGlobal, P: Read>(
     request: &RunRequest<'_>,
     programs: &mut P,
 ) -> Result<Printed, RunFailure>
-    requires some { 1 ≤ request.now.options.workers }
-    requires most { request.now.options.workers ≤ worker_limit }
-    requires capacity { (1 ≤ request.now.options.unit.capacity) × (request.now.options.unit.capacity ≤ capacity_limit) }
-    requires trigger { 1 ≤ request.now.options.unit.trigger }
+    requires ranges { AreInRange request.now.options }
     requires turns { request.now.drain_turns ≤ drain_turns_limit }
     ensures text { IfOk result (λ printed. IsRunText request.now.options (P.remaining programs.old) printed.text.items printed.status) }
     ensures taken { IfOk result (λ _. LosesPrefix trace_read_limit (P.remaining programs.old) (P.remaining programs.new)) }
@@ -119,10 +108,7 @@ fn run_program<H: Threads + Wait + Sync + AllocGlobal>(
     request: &RunRequest<'_>,
     program: &Program,
 ) -> Result<Printed, RunFailure>
-    requires some { 1 ≤ request.now.options.workers }
-    requires most { request.now.options.workers ≤ worker_limit }
-    requires capacity { (1 ≤ request.now.options.unit.capacity) × (request.now.options.unit.capacity ≤ capacity_limit) }
-    requires trigger { 1 ≤ request.now.options.unit.trigger }
+    requires ranges { AreInRange request.now.options }
     requires turns { request.now.drain_turns ≤ drain_turns_limit }
     ensures text { IfOk result (λ printed. IsRunPrinted request.now.options program.now printed.text.items printed.status) }
     ensures fault { IfErr result (OnFault (λ fault. (fault ≡ Fault.OutOfMemory) ⊎ (fault ≡ Fault.NoThread))) }
@@ -141,8 +127,7 @@ fn run_on<H: Threads + Wait + Sync + AllocGlobal>(
     program: &Program,
 ) -> Result<Printed, RunFailure>
     requires unit { value_of unit ≡ unit_of request.now.options.unit }
-    requires some { 1 ≤ request.now.options.workers }
-    requires most { request.now.options.workers ≤ worker_limit }
+    requires workers { HasWorkerRange request.now.options.workers }
     requires turns { request.now.drain_turns ≤ drain_turns_limit }
     ensures text { IfOk result (λ printed. IsRunPrinted request.now.options program.now printed.text.items printed.status) }
     ensures fault { IfErr result (OnFault (λ fault. (fault ≡ Fault.OutOfMemory) ⊎ (fault ≡ Fault.NoThread))) }

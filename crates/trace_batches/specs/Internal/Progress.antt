@@ -5,9 +5,9 @@ use Rattle.std.specs.List.{count_by}
 use Rattle.trace_batches.specs.Internal.Cutters.{CutterValue, IsAt}
 use Rattle.trace_batches.specs.Pieces.{ArePieces, IsSplit}
 use Rattle.tso_report.specs.declared.faults.Fault.{Fault}
-use Rattle.tso_report.specs.declared.rendering.Report.{Report}
+use Rattle.trace_reports.specs.declared.renderings.Report.{Report}
 use Rattle.tso_report.specs.Limits.{trace_read_limit}
-use Rattle.tso_report.specs.Reports.{IsReport}
+use Rattle.trace_reports.specs.Reports.{IsReport}
 use Rattle.tso_report.specs.Streams.{AppendsPrefix}
 use Rattle.trace_batches.specs.declared.jobs.Job.{Job}
 use Rattle.trace_batches.specs.declared.tallies.Tally.{Tally}

@@ -3,8 +3,8 @@ ghost use Rattle.std.specs.Prelude.{◌≤◌};
 
 use super::{STREAM, TEXT, expect, judged_by};
 use std::alloc::Global;
-use std::process::Abort;
 use std::sync::Wait;
+use std::test::Fail;
 use std::thread::Threads;
 use trace_batches::{BatchOptions, judge_batch};
 use tso_report::Verdict;
@@ -70,24 +70,25 @@ const CASES: [Case; 9] = [
 ];
 
 /// Compares what a batch of one worker comes to.
-fn expect_batch<H: Threads + Wait + Sync + Abort>(
+fn expect_batch<H: Threads + Wait + Sync>(
     rt: &H,
     alloc: Global,
     case: usize,
     quiet: bool,
     (stream, verdict, text): Case,
-) {
+) -> Result<(), Fail> {
     let mut written = Vec::new(alloc);
     let options = BatchOptions { workers: 1, quiet };
     let said = judge_batch(rt, alloc, options, &mut stream.as_bytes(), &mut written);
-    expect(rt, case, said, Ok(verdict), &written, text.as_bytes());
+    expect(case, said, Ok(verdict), &written, text.as_bytes())
 }
 
 #[test]
-fn streams_are_cut_at_their_end_lines(rt: HostRuntime) {
+fn streams_are_cut_at_their_end_lines(rt: HostRuntime) -> Result<(), Fail> {
     for (case, stream) in CASES.iter().enumerate() {
-        expect_batch(&rt, rt.alloc(), case, false, *stream);
+        expect_batch(&rt, rt.alloc(), case, false, *stream)?;
     }
+    Ok(())
 }
 
 /// What quiet batches write.
@@ -105,26 +106,31 @@ const QUIET: [Case; 2] = [
 ];
 
 #[test]
-fn quiet_batches(rt: HostRuntime) {
+fn quiet_batches(rt: HostRuntime) -> Result<(), Fail> {
     for (case, stream) in QUIET.iter().enumerate() {
-        expect_batch(&rt, rt.alloc(), case, true, *stream);
+        expect_batch(&rt, rt.alloc(), case, true, *stream)?;
     }
+    Ok(())
 }
 
 /// Compares what a batch of so many workers comes to.
-fn expect_workers<H: Threads + Wait + Sync + Abort>(rt: &H, alloc: Global, workers: usize)
+fn expect_workers<H: Threads + Wait + Sync>(
+    rt: &H,
+    alloc: Global,
+    workers: usize,
+) -> Result<(), Fail>
     requires { 1 ≤ workers }
 {
     let mut written = Vec::new(alloc);
     let mut reader = STREAM;
     let said = judged_by(rt, alloc, &mut reader, &mut written, workers);
-    expect(rt, workers, said, Ok(Verdict::Violation), &written, TEXT);
+    expect(workers, said, Ok(Verdict::Violation), &written, TEXT)
 }
 
 #[test]
-fn each_number_of_workers(rt: HostRuntime) {
-    expect_workers(&rt, rt.alloc(), 1);
-    expect_workers(&rt, rt.alloc(), 2);
-    expect_workers(&rt, rt.alloc(), 7);
-    expect_workers(&rt, rt.alloc(), 64);
+fn each_number_of_workers(rt: HostRuntime) -> Result<(), Fail> {
+    expect_workers(&rt, rt.alloc(), 1)?;
+    expect_workers(&rt, rt.alloc(), 2)?;
+    expect_workers(&rt, rt.alloc(), 7)?;
+    expect_workers(&rt, rt.alloc(), 64)
 }

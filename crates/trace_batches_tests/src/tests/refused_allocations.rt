@@ -2,10 +2,12 @@
 //!
 //! The batch that meets it answers OutOfMemory and wrote the first bytes of its text; the next batch writes the whole text.
 
-use super::{STREAM, TEXT, expect, expect_equal, judged};
+use super::{STREAM, TEXT, expect, judged};
 use std::alloc::Global;
 use std::sync::Wait;
+use std::test::Fail;
 use std::thread::Threads;
+use traces_for_tests::expect_equal;
 use tso_report::{Fault, Verdict};
 
 /// The room that a text gets.
@@ -24,17 +26,17 @@ fn judged_into<H: Threads + Wait + Sync>(
 }
 
 #[test]
-fn refused_allocations_of_a_batch(rt: HostRuntime) {
+fn refused_allocations_of_a_batch(rt: HostRuntime) -> Result<(), Fail> {
     let mut bytes = [0u8; ROOM];
     let (mut said, mut left) = judged_into(&rt, rt.alloc(), &mut bytes);
     if said == Err(Fault::OutOfMemory) {
         let count = ROOM.saturating_sub(left);
         let written = bytes.get(..count).unwrap_or(STREAM);
-        expect_equal(&rt, count, written, TEXT.get(..count).unwrap_or(TEXT));
+        expect_equal(count, written, TEXT.get(..count).unwrap_or(TEXT))?;
         bytes = [0u8; ROOM];
         (said, left) = judged_into(&rt, rt.alloc(), &mut bytes);
     }
     let count = ROOM.saturating_sub(left);
     let written = bytes.get(..count).unwrap_or(STREAM);
-    expect(&rt, count, said, Ok(Verdict::Violation), written, TEXT);
+    expect(count, said, Ok(Verdict::Violation), written, TEXT)
 }

@@ -1,8 +1,8 @@
 -- What is known of a campaign's seeds while their results come in.
 use Rattle.std.specs.Prelude.{◌≡◌, ℕ, ◌+◌, ◌<◌, ◌≤◌, ◌^◌, Bool, true, false, List, length, get_or, Option, None, Some}
 use Rattle.tso_report.specs.declared.campaigns.CampaignPrograms.{CampaignPrograms}
-use Rattle.tso_report.specs.declared.verdicts.Verdict.{Verdict}
-use Rattle.tso_report.specs.declared.verdicts.Verdict.TheVariants.{NoViolation, Violation, Refused}
+use Rattle.trace_reports.specs.declared.verdicts.Verdict.{Verdict}
+use Rattle.trace_reports.specs.declared.verdicts.Verdict.TheVariants.{NoViolation, Violation, Refused}
 use Rattle.issue_desk.specs.declared.faults.RunFault.{RunFault}
 use Rattle.issue_desk.specs.declared.faults.RunFault.TheVariants as run
 use Rattle.tso_report.specs.declared.faults.Fault.{Fault}

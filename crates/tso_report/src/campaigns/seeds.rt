@@ -6,8 +6,7 @@ ghost use Rattle.tso_report.specs.Internal.Gathering.{fault_of_seed, is_violatio
 
 use super::CampaignPrograms;
 use crate::faults::Fault;
-use crate::judging::judge_trace;
-use crate::verdicts::Verdict;
+use crate::presenting::render_trace;
 use issue_desk::{Issuers, OpenGate, RunFault, run_over};
 use rand_core::SeedableRng;
 use rand_pcg::Pcg64;
@@ -15,6 +14,7 @@ use std::alloc::Global;
 use std::marker::{Brand, Model, PhantomData};
 use std::sync::Wait;
 use std::thread::Threads;
+use trace_reports::{AsReport, Verdict};
 use tso_ops::{Order, OutOfMemory, Program, Shape, Trace, make_program_with_order};
 use unit_core::{Account, MemoryUnit};
 
@@ -160,7 +160,7 @@ fn judge_seed<S: SeedUnits, U: MemoryUnit + Send, R: Threads + Wait + Sync>(
         Ok(recorded) => recorded,
         Err(fault) => return Err(fault_of_seed(seed, fault)),
     };
-    let verdict = judge_trace(rt, alloc, recorded.trace(), 1)?.verdict;
+    let verdict = render_trace(rt, alloc, recorded.trace(), 1, &AsReport)?.verdict;
     Ok(Judged {
         seed,
         programs,

@@ -10,7 +10,7 @@ use traces_for_tests::{Machine, trace_from, trace_of};
 use tso_cert::Certificate;
 use tso_ops::Outcome::{Ld, Sb, St};
 use tso_ops::{Order, Outcome, Trace, ValueFault};
-use tso_report::{Finding, Report, Verdict, find_violation, render_trace};
+use tso_report::{AsReport, Finding, Report, Verdict, find_violation, render};
 
 /// What each processor did, the verdict and the report.
 type Case = (&'static [&'static [Outcome]], Verdict, &'static str);
@@ -103,7 +103,7 @@ fn reported<H: Threads + Wait>(
     trace: &Trace,
 ) -> Result<(Finding, Report), Fail> {
     let finding = find_violation(rt, alloc, trace, 2)?;
-    let report = render_trace(alloc, trace, &finding)?;
+    let report = render(alloc, trace, &finding, &AsReport)?;
     Ok((finding, report))
 }
 

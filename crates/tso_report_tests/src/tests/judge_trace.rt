@@ -11,7 +11,7 @@ use std::thread::Threads;
 use traces_for_tests::{STORE_BUFFERING_WITH_BARRIERS, trace_of};
 use tso_ops::Outcome::{Ld, St};
 use tso_ops::{Order, Outcome, Trace};
-use tso_report::{Fault, Report, Verdict, judge_trace, render_refusal};
+use tso_report::{AsReport, Fault, Report, Verdict, render_refusal, render_trace};
 use tso_text::{TextFault, read_program, read_schedule};
 
 /// The report of a trace.
@@ -24,7 +24,7 @@ fn judged<H: Threads + Wait>(
     requires some { 1 ≤ workers }
     requires most { workers ≤ worker_limit }
 {
-    judge_trace(rt, alloc, trace, workers)
+    render_trace(rt, alloc, trace, workers, &AsReport)
 }
 
 /// Compares the report of a trace on several numbers of workers.

@@ -8,7 +8,7 @@ use std::test::Fail;
 use std::thread::Threads;
 use traces_for_tests::Machine;
 use tso_ops::{Order, Trace};
-use tso_report::judge_trace;
+use tso_report::{AsReport, render_trace};
 
 /// The report of the trace, by so many workers, from 1 to 64.
 fn report_by<H: Threads + Wait>(
@@ -17,7 +17,8 @@ fn report_by<H: Threads + Wait>(
     trace: &Trace,
     workers: usize,
 ) -> Result<String, Fail> {
-    Ok(judge_trace(rt, alloc, trace, workers.clamp(1, 64))?.text)
+    let report = render_trace(rt, alloc, trace, workers.clamp(1, 64), &AsReport)?;
+    Ok(report.text)
 }
 
 /// Compares the reports of a run on 2 and 3 workers with that on one.

@@ -6,7 +6,7 @@ use Rattle.tso_ops.specs.declared.faults.ValueFault.TheVariants.{TooManyProcesso
 use Rattle.tso_text.specs.declared.faults.Why.{Why}
 use Rattle.tso_text.specs.declared.faults.Why.TheVariants.{TooManyProcessors, TooManyEvents, AddressRange, ZeroValue, RepeatedValue, OutOfMemory, InitOrder}
 use Rattle.tso_text.specs.declared.lines.Line.{Line}
-use Rattle.tso_text.specs.Spelling.{Grammar, said, said_fault, line_fault, with_line, is_end, items_of, text_fault_number}
+use Rattle.tso_text.specs.Internal.Spelling.{Grammar, said, said_fault, line_fault, with_line, is_end, items_of, text_fault_number}
 
 -- The refusal of a value is this one of a text. No text is refused for an STBAR under TSO, which is no keyword there.
 abbrev pub IsWhyOf : ValueFault → Why → Type 0

@@ -9,8 +9,9 @@ use Rattle.tso_ops.specs.Settings.{SettingValue, with_entry}
 use Rattle.tso_ops.specs.Limits.{KeepsEntries}
 use Rattle.tso_text.specs.declared.faults.Why.{Why}
 use Rattle.tso_text.specs.Numbers.{is_word}
-use Rattle.tso_text.specs.Preambles.{begins_with, version_of, entry_by, entry_fault, model_lines, model_fault, order_of_lines, has_keyword, entries_after, entry_faults, entry_said, said_entry_fault}
-use Rattle.tso_text.specs.Spelling.{Preamble, Grammar, body_fault, lists_of, whole_lines, text_fault_number}
+use Rattle.tso_text.specs.Lines.{begins_with, entry_by, model_lines, has_keyword, whole_lines}
+use Rattle.tso_text.specs.Internal.Preambles.{version_of, entry_fault, model_fault, order_of_lines, entries_after, entry_faults, entry_said, said_entry_fault}
+use Rattle.tso_text.specs.Internal.Spelling.{Preamble, Grammar, body_fault, lists_of, text_fault_number}
 use Rattle.tso_text.specs.Internal.Accepted.{IsFirstTextFault, IsRefusedFor}
 
 -- none of these tests finds a fault

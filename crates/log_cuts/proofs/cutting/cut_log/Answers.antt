@@ -1,5 +1,5 @@
 use Rattle.std.proofs.Common.{arith, inl}
-use Rattle.log_text.specs.LogValues.{operations_of}
+use Rattle.log_text.specs.LogValues.{log_operations}
 use Rattle.log_cuts.proofs.WrittenPieces.{all_consumed, all_read, cut_left, cut_written, kept, on_err, on_ok, refusal_written, said_of}
 use Rattle.log_cuts.proofs.cutting.cut_log.Goals as goal
 
@@ -8,13 +8,13 @@ returns-in_err-lines-in-Ok-clause-left g c =
     let small = c.in_ok-text.text.small in
     let all = all_read (g.R.Read.remaining c.args.reader.now) c.in_ok-text.text.items c.in_ok-text.ensures.prefix (omega (arith, small)) in
     on_err c.from_residual-in_err-lines-in-Ok.result
-    (cut_left _ _ _ (operations_of c.in-Ok.log) c.args.events all c.deref.ensures.value c.in-Ok.ensures.found _ _ c.in_err-lines-in-Ok.ensures.part)
+    (cut_left _ _ _ (log_operations c.in-Ok.log) c.args.events all c.deref.ensures.value c.in-Ok.ensures.found _ _ c.in_err-lines-in-Ok.ensures.part)
 
 pub returns-in_ok-lines-in-Ok-clause-cut : goal.returns-in_ok-lines-in-Ok-clause-cut
 returns-in_ok-lines-in-Ok-clause-cut g c = λ _.
     let small = c.in_ok-text.text.small in
     let all = all_read (g.R.Read.remaining c.args.reader.now) c.in_ok-text.text.items c.in_ok-text.ensures.prefix (omega (arith, small)) in
-    cut_written _ _ _ (operations_of c.in-Ok.log) c.args.events all c.deref.ensures.value c.in-Ok.ensures.found _ _ _ _ c.as_bytes.result.now c.in_ok-lines-in-Ok.ensures.whole c.write_text.ensures.prefix
+    cut_written _ _ _ (log_operations c.in-Ok.log) c.args.events all c.deref.ensures.value c.in-Ok.ensures.found _ _ _ _ c.as_bytes.result.now c.in_ok-lines-in-Ok.ensures.whole c.write_text.ensures.prefix
 
 pub returns-in_ok-lines-in-Ok-clause-taken : goal.returns-in_ok-lines-in-Ok-clause-taken
 returns-in_ok-lines-in-Ok-clause-taken g c =

@@ -2,7 +2,7 @@ use Rattle.std.proofs.Common.{◌∙◌, ap, inl, inr, rules, subst, sym, arith}
 use Rattle.command_line.specs.Requests.{asked_of}
 use Rattle.request_serving.specs.Endings.{Does, EndsOutOfMemory, Outputs, outputs}
 use Rattle.request_serving.specs.LawfulRequests.{RunsLawfully, runs_on_lawful_unit}
-use Rattle.request_serving.specs.OpenedFiles.{IsRefusedFirst, OpensFirst, TakesInput, files_named, reads_input}
+use Rattle.request_serving.specs.OpenedFiles.{HasRefusedFirstText, OpensFirst, TakesInput, files_named, reads_input}
 use Rattle.request_serving.proofs.driving.drive_over.Goals as goal
 
 pub returns-in-Ok-clause-ends : goal.returns-in-Ok-clause-ends
@@ -58,4 +58,4 @@ returns-in-Err-clause-no_false_alarm_of_text g c = λ asked asks lawful three. o
 
 pub returns-in-Ok-clause-unread_after_refusal : goal.returns-in-Ok-clause-unread_after_refusal
 returns-in-Ok-clause-unread_after_refusal g c = λ asked asks refused.
-    c.serve.ensures.unread_after_refusal (subst (λ a. IsRefusedFirst a (g.O.NamedFiles.bytes c.args.files.now)) (sym (c.in-Ok.ensures.asked asked asks)) refused)
+    c.serve.ensures.unread_after_refusal (subst (λ a. HasRefusedFirstText a (g.O.NamedFiles.bytes c.args.files.now)) (sym (c.in-Ok.ensures.asked asked asks)) refused)

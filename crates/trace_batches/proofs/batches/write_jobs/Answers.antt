@@ -2,7 +2,7 @@ use Rattle.std.proofs.Common.{◌≡◌, ◌<◌, ◌∙◌, ℕ, List, [], Ok, 
 use Rattle.std.specs.Prelude.{Result}
 use Rattle.std.proofs.lemmas.List.{take_more}
 use Rattle.tso_report.specs.declared.faults.Fault.{Fault}
-use Rattle.tso_report.specs.declared.rendering.Report.{Report}
+use Rattle.trace_reports.specs.declared.renderings.Report.{Report}
 use Rattle.trace_batches.specs.declared.jobs.Job.{Job}
 use Rattle.trace_batches.specs.Internal.Progress.{AreJudged, IsOutcome, WroteAll, value_of}
 use Rattle.trace_batches.proofs.JobFacts.{wrote_before, wrote_more, wrote_some}

@@ -1,5 +1,6 @@
-use Rattle.tso_cert.proofs.SpellingFacts.{spelled_or_refused, not_both, one_text, one_refusal}
-use Rattle.tso_cert.proofs.PrintedFacts.{printed, one_value}
+use Rattle.std.proofs.Common.{refl}
+use Rattle.tso_cert.proofs.SpellingFacts.{spelled_or_refused, one_refusal}
+use Rattle.tso_cert.proofs.PrintedFacts.{not_both, one_value}
 use Rattle.tso_cert.proofs.laws.certificates.Goals as goal
 
 pub returns : goal.returns
@@ -7,7 +8,7 @@ returns c = record {
   spelled_or_refused = spelled_or_refused;
   never_both = λ text s r. not_both text s.0 r.0 r.1 s.1 r.2;
   one_value = one_value;
-  one_text = one_text;
+  one_text = λ text c spells. spells.1;
   one_refusal = one_refusal;
-  printed = printed;
+  printed = λ c fits count. (fits, refl);
 }

@@ -1,4 +1,4 @@
-use Rattle.std.proofs.Common.{◌≡◌, ◌∙◌, rules, ap, arith, length, map, refl, string_bytes, sym}
+use Rattle.std.proofs.Common.{◌∙◌, rules, ap, arith, length, map, refl, string_bytes, sym}
 use Rattle.std.proofs.lemmas.List.{length-map}
 use Rattle.std.specs.List.{list_any}
 use Rattle.tso_report.specs.Campaigns.{AreVerdicts, IsCampaign, LeavesCampaign, campaign_text, verdict_of}

@@ -1,56 +1,5 @@
-use Rattle.std.proofs.Common.{inl, inr, rules, string_bytes, subst, sym}
-use Rattle.tso_report.specs.declared.rendering.Report.{Report}
-use Rattle.tso_report.specs.Limits.{trace_read_limit}
-use Rattle.tso_report.specs.Reports.{IsReport}
-use Rattle.tso_report.specs.WrittenReports.{IsReportOfReader}
-use Rattle.tso_report.proofs.InputFacts.{leaves_prefix, no_order_of_reader, report_of_reader, shows_violation_of_reader, violation_of_reader}
-use Rattle.tso_report.proofs.StreamFacts.{loses_prefix}
-use Rattle.tso_report.proofs.judging.judge.Given as given
+use Rattle.tso_report.proofs.ReaderFacts.{shows_violation_written}
 use Rattle.tso_report.proofs.judging.judge.Goals as goal
-use Rattle.tso_report.proofs.judging.judge.Goals.{in-Ok+in_ok-report-in-Ok, in-Err+in_ok-report-in-Err}
-
--- what was rendered is the report of what was read, and so of what the reader has
-rendered : (g : given.Over) (c : goal.After-drop-input-2 g) → IsReport c.deref.result.now (string_bytes c.match-read_trace.report.text) c.match-read_trace.report.verdict
-rendered g c =
-    let input = c.deref.result.now in
-    let IsRendered : Report → Type 0 = λ report. IsReport input (string_bytes report.text) report.verdict in
-    elim c.match-read_trace.branch [
-      | in-Ok+in_ok-report-in-Ok w ↦ subst IsRendered (sym w.report-is) (inl (_, w.in-Ok.ensures.found, w.in_ok-report-in-Ok.ensures.report))
-      | in-Err+in_ok-report-in-Err w ↦
-          let refused = w.in_ok-report-in-Err.ensures.refused in
-          subst IsRendered (sym w.report-is) (inr (w.in-Err.fault.line, w.in-Err.fault.why, w.in-Err.ensures.refused refused.0, refused.1, refused.2))
-    ]
-
-of_reader : (g : given.Over) (c : goal.After-drop-input-2 g) → IsReportOfReader (g.R.Read.remaining c.args.reader.now) (string_bytes c.match-read_trace.report.text) c.match-read_trace.report.verdict
-of_reader g c = report_of_reader (g.R.Read.remaining c.args.reader.now) _ c.deref.result.now _ _ c.in_ok-input.ensures.prefix c.deref.ensures.value (rendered g c)
-
-pub returns-in_err-write_text-clause-fault : goal.returns-in_err-write_text-clause-fault
-returns-in_err-write_text-clause-fault g c =
-    let input = c.deref.result.now in
-    let IsRendered : Report → Type 0 = λ report. IsReport input (string_bytes report.text) report.verdict in
-    let whole : IsRendered c.match-read_trace.report = elim c.match-read_trace.branch [
-      | in-Ok+in_ok-report-in-Ok w ↦ subst IsRendered (sym w.report-is) (inl (_, w.in-Ok.ensures.found, w.in_ok-report-in-Ok.ensures.report))
-      | in-Err+in_ok-report-in-Err w ↦
-          let refused = w.in_ok-report-in-Err.ensures.refused in
-          subst IsRendered (sym w.report-is) (inr (w.in-Err.fault.line, w.in-Err.fault.why, w.in-Err.ensures.refused refused.0, refused.1, refused.2))
-    ] in
-    let report = report_of_reader (g.R.Read.remaining c.args.reader.now) _ input _ _ c.in_ok-input.ensures.prefix c.deref.ensures.value whole in
-    let leaves = leaves_prefix (IsReportOfReader (g.R.Read.remaining c.args.reader.now)) (g.W.Write.contents c.args.writer.now) (g.W.Write.contents c.write_text.new.writer) _ _ _
-    c.in_err-write_text.field-0.0 report c.as_bytes.ensures.value c.in_err-write_text.ensures.prefix c.in_err-write_text.ensures.fault in
-    search (rules, leaves)
-
-pub returns-clause-report : goal.returns-clause-report
-returns-clause-report g c = (string_bytes c.match-read_trace.report.text, of_reader g c, rw (← c.as_bytes.ensures.value) c.in_ok-write_text.ensures.whole)
-
-pub returns-clause-violation : goal.returns-clause-violation
-returns-clause-violation g c = violation_of_reader (g.R.Read.remaining c.args.reader.now) _ _ (of_reader g c)
-
-pub returns-clause-no_order : goal.returns-clause-no_order
-returns-clause-no_order g c = no_order_of_reader (g.R.Read.remaining c.args.reader.now) _ _ (of_reader g c)
 
 pub returns-clause-holds : goal.returns-clause-holds
-returns-clause-holds g c = λ violation.
-    shows_violation_of_reader (g.R.Read.remaining c.args.reader.now) _ _ _ _ (of_reader g c) (rw (← c.as_bytes.ensures.value) c.in_ok-write_text.ensures.whole) violation
-
-pub returns-clause-taken : goal.returns-clause-taken
-returns-clause-taken g c = loses_prefix (g.R.Read.remaining c.args.reader.now) _ _ trace_read_limit c.in_ok-input.ensures.prefix c.in_ok-input.ensures.taken
+returns-clause-holds g c = shows_violation_written (g.R.Read.remaining c.args.reader.now) _ _ c.present.result c.present.ensures.said

@@ -1,7 +1,15 @@
-use Rattle.tso_report.proofs.InputFacts.{no_order, one_report, refused_exactly, shows_violation, some_report, violation_exactly}
 use Rattle.std.proofs.Common.{refl}
-use Rattle.tso_report.specs.declared.verdicts.Verdict.TheVariants.{Violation}
+use Rattle.trace_reports.specs.declared.verdicts.Verdict.TheVariants.{Violation}
+use Rattle.trace_reports.specs.Reports.{refusal_shown, reported}
+use Rattle.trace_reports.proofs.RenderingFacts.{no_order, one_text, refused_exactly, shows_violation, some_text, violation_exactly}
 use Rattle.tso_report.proofs.laws.reports.Goals as goal
 
 pub returns : goal.returns
-returns c = record { exists = some_report; one = one_report; violation = violation_exactly; no_order = no_order; holds = λ input text report. shows_violation input text Violation report refl; refused = refused_exactly }
+returns c = record {
+  exists = some_text reported refusal_shown;
+  one = one_text reported refusal_shown;
+  violation = violation_exactly reported refusal_shown;
+  no_order = λ input text report. no_order reported refusal_shown input text Violation report refl;
+  holds = λ input text report. shows_violation input text Violation report refl;
+  refused = refused_exactly reported refusal_shown;
+}

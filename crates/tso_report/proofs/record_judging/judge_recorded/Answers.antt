@@ -1,5 +1,5 @@
 use Rattle.std.proofs.Common.{string_bytes}
-use Rattle.tso_report.proofs.InputFacts.{shows_no_violation_of, shows_violation_of, trace_violation}
+use Rattle.trace_reports.proofs.RenderingFacts.{shows_no_violation_of, shows_violation_of, trace_violation}
 use Rattle.tso_report.proofs.record_judging.judge_recorded.Goals as goal
 
 -- what was rendered is the report of the record's trace

@@ -3,8 +3,8 @@ use Rattle.tso_text.proofs.PreambleFacts.{alone_begun, alone_refused, alone_othe
 use Rattle.tso_text.proofs.preambles.read_header.Goals as goal
 use Rattle.tso_text.proofs.preambles.read_header.Goals.{in_default-via-in-Ok+else-eq, in_default-via-in_default}
 use Rattle.line_text.specs.Lines.{parts_of}
-use Rattle.tso_text.specs.Preambles.{header_alone}
-use Rattle.tso_text.specs.Spelling.{whole_lines}
+use Rattle.tso_text.specs.Internal.Preambles.{header_alone}
+use Rattle.tso_text.specs.Lines.{whole_lines}
 use Rattle.tso_text.specs.Internal.Begun.{HasBegun}
 
 pub returns-in-Ok-clause-begun : goal.returns-in-Ok-clause-begun

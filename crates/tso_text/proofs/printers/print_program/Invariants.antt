@@ -1,7 +1,6 @@
 use Rattle.std.proofs.Common.{◌≡◌, ◌++◌, ◌∷◌, take, string_bytes}
 use Rattle.std.specs.List.{flat_map}
-use Rattle.tso_text.specs.Grammars.{program_header}
-use Rattle.tso_text.specs.Printed.{processor_text, setting_text, op_tokens}
+use Rattle.tso_text.specs.Printed.{program_header, processor_text, setting_text, op_tokens}
 use Rattle.tso_text.proofs.printers.print_program.Given as goal
 
 abbrev pub invariant-loop-p : goal.invariant-loop-p

@@ -1,8 +1,7 @@
 use Rattle.tso_text.proofs.PrintFacts.{trace_text-parts}
-use Rattle.tso_text.proofs.PrintedSpelling.{trace_answered}
 use Rattle.tso_text.proofs.printers.print_trace.Goals as goal
 
 pub returns : goal.returns
 returns c =
     let text = trace_text-parts c.args.trace.now c.loop-p.p c.processors-p-end.result _ _ c.processors-p-end.ensures.count c.loop-p-test.false c.loop-p.invariant c.in_ok-push_str.ensures.bytes in
-    record { lines = text; spelled = trace_answered c.args.trace.now _ c.processors-p-end.ensures.kept text }
+    record { lines = text; spelled = (c.processors-p-end.ensures.kept, text) }

@@ -1,7 +1,6 @@
 use Rattle.std.proofs.Common.{◌≡◌, ◌++◌, ◌∷◌, take, string_bytes}
 use Rattle.std.specs.List.{flat_map}
-use Rattle.tso_text.specs.Grammars.{trace_header}
-use Rattle.tso_text.specs.Printed.{processor_text, setting_text, outcome_tokens}
+use Rattle.tso_text.specs.Printed.{trace_header, processor_text, setting_text, outcome_tokens}
 use Rattle.tso_text.proofs.printers.print_trace.Given as goal
 
 abbrev pub invariant-loop-p : goal.invariant-loop-p

@@ -2,7 +2,7 @@ use Rattle.std.proofs.Common.{◌≡◌, ℕ, ◌+◌, ◌≤◌, length}
 use Rattle.line_text.specs.Lines.{parts_of}
 use Rattle.tso_ops.specs.Settings.{setting_of}
 use Rattle.tso_ops.specs.Values.{rows}
-use Rattle.tso_text.specs.Spelling.{items_of}
+use Rattle.tso_text.specs.Internal.Spelling.{items_of}
 use Rattle.tso_text.proofs.ReadersFacts.{Reached}
 use Rattle.tso_text.proofs.readers.read_body.Given as goal
 

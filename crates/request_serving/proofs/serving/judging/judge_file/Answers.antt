@@ -6,10 +6,10 @@ pub returns-clause-presented : goal.returns-clause-presented
 returns-clause-presented g c =
     let known = g.O.NamedFiles.bytes c.args.files.now c.args.name.now in
     let presentation = c.args.request.now.presentation in
-    writes_as (IsPresented presentation _) (IsPresented presentation known) (presented_of_known presentation known _ c.in_ok-file.ensures.known) _ _ c.present.result c.present.ensures.presented
+    writes_as (IsPresented presentation _) (IsPresented presentation known) (presented_of_known presentation known _ c.in_ok-file.ensures.known) _ _ c.judge_reader.result c.judge_reader.ensures.presented
 
 pub returns-clause-fault : goal.returns-clause-fault
 returns-clause-fault g c =
     let known = g.O.NamedFiles.bytes c.args.files.now c.args.name.now in
     let presentation = c.args.request.now.presentation in
-    faults_as (IsPresented presentation _) (IsPresented presentation known) (presented_of_known presentation known _ c.in_ok-file.ensures.known) _ _ c.present.result c.present.ensures.fault
+    faults_as (IsPresented presentation _) (IsPresented presentation known) (presented_of_known presentation known _ c.in_ok-file.ensures.known) _ _ c.judge_reader.result c.judge_reader.ensures.fault

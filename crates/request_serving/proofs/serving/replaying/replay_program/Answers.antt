@@ -1,6 +1,6 @@
 use Rattle.std.proofs.Common.{inl, inr, subst, sym}
 use Rattle.std.proofs.lemmas.Result.{IfOk-weaker}
-use Rattle.tso_text.specs.Grammars.{SpellsSchedule}
+use Rattle.tso_text.specs.Texts.{SpellsSchedule}
 use Rattle.request_serving.proofs.ReplayingFacts.{schedule_read, schedule_refused}
 use Rattle.request_serving.proofs.serving.replaying.replay_program.Goals as goal
 

@@ -1,4 +1,4 @@
-use Rattle.std.proofs.Common.{◌≡◌, ◌∙◌, suc, length, ap, arith}
+use Rattle.std.proofs.Common.{◌∙◌, suc, length, ap, arith}
 use Rattle.tso_report.proofs.campaigns.workers.send_jobs.Goals as goal
 
 -- one job less is left

@@ -1,2 +1,0 @@
-pub mod ExplanationFacts
-pub mod TextFacts

@@ -1,4 +1,0 @@
-pub mod Explained
-pub mod Pictured
-pub mod Texts
-pub mod WrittenExplanations

@@ -1,0 +1,47 @@
+//! Explanations as a rendering of what is found of a trace.
+ghost use Rattle.trace_explanation.specs.Explained.{explained, refusal_explained, whole_explained};
+
+use crate::explanations::explain;
+use crate::refusals::explain_refusal;
+use std::alloc::Global;
+use trace_reports::{AsReport, Finding, Rendering, render_head};
+use tso_ops::{OutOfMemory, Trace};
+use tso_text::TextFault;
+
+/// The explanation: the report up to its verdict, and what explains it; or the line of a refusal, and what is said of it.
+#[derive(Clone, Copy)]
+pub struct AsExplanation;
+
+impl Rendering for AsExplanation {
+    ghost said = { explained };
+
+    ghost refused = { refusal_explained };
+
+    fn trace_text(
+        &self,
+        alloc: Global,
+        trace: &Trace,
+        finding: &Finding,
+    ) -> Result<String, OutOfMemory> {
+        let mut text = render_head(alloc, trace.processors(), trace.events(), finding.rounds)?;
+        match finding.certificate {
+            Some(_) => text.push_str("VIOLATION\n")?,
+            None => text.push_str("NO VIOLATION FOUND\n")?,
+        }
+        explain(alloc, &mut text, trace, &finding.certificate)?;
+        Ok(text)
+    }
+
+    fn refusal_text(
+        &self,
+        alloc: Global,
+        input: &[u8],
+        fault: TextFault,
+    ) -> Result<String, OutOfMemory> {
+        let mut text = AsReport.refusal_text(alloc, input, fault)?;
+        explain_refusal(&mut text, input, fault)?;
+        Ok(text)
+    }
+
+    ghost whole = { whole_explained };
+}

@@ -1,0 +1,42 @@
+//! Pictures as a rendering of what is found of a trace.
+ghost use Rattle.std.specs.Prelude.{refl};
+ghost use Rattle.trace_reports.specs.Reports.{refusal_shown};
+ghost use Rattle.trace_pictures.specs.Pictured.{pictured};
+
+use crate::pictures::draw;
+use std::alloc::Global;
+use trace_reports::{AsReport, Finding, Rendering};
+use tso_ops::{OutOfMemory, Trace};
+use tso_text::TextFault;
+
+/// The picture of a trace; or the line of a refusal.
+#[derive(Clone, Copy)]
+pub struct AsPicture;
+
+impl Rendering for AsPicture {
+    ghost said = { pictured };
+
+    ghost refused = { refusal_shown };
+
+    fn trace_text(
+        &self,
+        alloc: Global,
+        trace: &Trace,
+        finding: &Finding,
+    ) -> Result<String, OutOfMemory> {
+        let mut text = String::new(alloc);
+        draw(alloc, &mut text, trace, &finding.certificate)?;
+        Ok(text)
+    }
+
+    fn refusal_text(
+        &self,
+        alloc: Global,
+        input: &[u8],
+        fault: TextFault,
+    ) -> Result<String, OutOfMemory> {
+        AsReport.refusal_text(alloc, input, fault)
+    }
+
+    ghost whole = { λ a b why. refl };
+}

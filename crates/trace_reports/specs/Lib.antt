@@ -1,0 +1,4 @@
+pub mod Findings
+pub mod Renderings
+pub mod Reports
+pub mod Violations

@@ -1,0 +1,15 @@
+//! Reports on traces, and other texts that follow from what is found of a trace.
+//!
+//! A `Rendering` says what is written of a trace by its `Finding`, and of a text that is no trace: `AsReport` is that of
+//! reports. `render` gives the text and its verdict. `README.md` says what is proved.
+#![tactic(auto)]
+
+pub use findings::Finding;
+pub use renderings::{Rendering, Report, render, render_refused};
+pub use reports::{AsReport, render_head, render_refusal};
+pub use verdicts::Verdict;
+
+mod findings;
+mod renderings;
+mod reports;
+mod verdicts;
