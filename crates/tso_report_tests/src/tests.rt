@@ -9,14 +9,13 @@ mod judge_recorded;
 mod judge_trace;
 mod judge_violations;
 mod print_account;
-mod readers_and_writers;
 mod refused_allocations;
 mod stream_faults;
 mod workers;
 
 use std::alloc::{AllocError, Global};
-use std::fmt::Debug;
-use std::process::Abort;
+use std::test::Fail;
+use traces_for_tests::expect_equal;
 use tso_report::{Fault, Verdict};
 
 /// What a call came to, and what was written.
@@ -26,47 +25,34 @@ struct Ended {
     written: Vec<u8>,
 }
 
-/// Compares what a call gave in this case. An assertion costs the check of a function many times what a call of this one
-/// costs it.
-fn expect_equal<H: Abort, C: Copy + Debug, T: Copy + Debug + PartialEq>(
-    rt: &H,
-    case: C,
-    found: T,
-    expected: T,
-) {
-    assert_eq!(rt; found, expected, "{case:?}");
-}
-
 /// Compares the bytes of this case.
-fn expect_bytes<H: Abort>(rt: &H, case: &str, found: &[u8], expected: &[u8]) {
-    expect_equal(rt, case, found, expected);
+fn expect_bytes(case: &str, found: &[u8], expected: &[u8]) -> Result<(), Fail> {
+    expect_equal(case, found, expected)
 }
 
 /// Compares what a call of this case came to.
-fn expect_said<H: Abort>(
-    rt: &H,
+fn expect_said(
     case: &str,
     said: Result<Verdict, Fault>,
     expected: Result<Verdict, Fault>,
-) {
-    expect_equal(rt, case, said, expected);
+) -> Result<(), Fail> {
+    expect_equal(case, said, expected)
 }
 
 /// Compares a number of this case, of calls or of bytes.
-fn expect_count<H: Abort>(rt: &H, case: &str, found: usize, expected: usize) {
-    expect_equal(rt, case, found, expected);
+fn expect_count(case: &str, found: usize, expected: usize) -> Result<(), Fail> {
+    expect_equal(case, found, expected)
 }
 
 /// Compares what a call of this case came to, and what it wrote.
-fn expect<H: Abort>(
-    rt: &H,
+fn expect(
     case: &str,
     ended: &Ended,
     said: Result<Verdict, Fault>,
     written: &[u8],
-) {
-    expect_said(rt, case, ended.said, said);
-    expect_bytes(rt, case, &ended.written, written);
+) -> Result<(), Fail> {
+    expect_said(case, ended.said, said)?;
+    expect_bytes(case, &ended.written, written)
 }
 
 /// The report on so many processors, events and rounds without a violation.

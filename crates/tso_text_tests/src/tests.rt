@@ -12,8 +12,8 @@ mod setting_examples;
 
 use std::alloc::Global;
 use std::fmt::Debug;
-use std::process::Abort;
 use std::test::Fail;
+use traces_for_tests::expect_equal;
 use tso_ops::{Program, Trace};
 use tso_text::{
     Act, TextFault, Why, print_program, print_schedule, print_trace, read_program, read_schedule,
@@ -66,17 +66,12 @@ fn schedule_text(alloc: Global, acts: &[Act]) -> Result<String, Fail> {
     Ok(print_schedule(alloc, acts)?)
 }
 
-/// Compares what a call gave with what it has to give.
-fn expect<T: Copy + Debug + PartialEq>(rt: &impl Abort, name: &str, found: T, wanted: T) {
-    assert_eq!(rt; found, wanted, "{name}");
+fn expect_text(name: &str, found: &str, wanted: &str) -> Result<(), Fail> {
+    expect_equal(name, found, wanted)
 }
 
-fn expect_text(rt: &impl Abort, name: &str, found: &str, wanted: &str) {
-    assert_eq!(rt; found, wanted, "{name}");
-}
-
-fn expect_list<T: Copy + Debug + PartialEq>(rt: &impl Abort, found: &[T], wanted: &[T]) {
-    assert_eq!(rt; found, wanted);
+fn expect_list<T: Copy + Debug + PartialEq>(found: &[T], wanted: &[T]) -> Result<(), Fail> {
+    expect_equal("a list", found, wanted)
 }
 
 /// What is before the operations of a trace's first processor.

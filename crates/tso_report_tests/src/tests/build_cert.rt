@@ -1,16 +1,14 @@
 //! Certificates of whole traces, with the expected text of each.
 
-use super::expect_equal;
 use reference_rounds::has_unwritten_load;
 use round_pool::{OpenPoolGate, rounds};
 use std::alloc::Global;
-use std::process::Abort;
 use std::sync::Wait;
 use std::test::Fail;
 use std::thread::Threads;
 use traces_for_tests::{
     Example, INDEPENDENT_READS, OWN_STORE_MISSED, STORE_BUFFERING_WITH_BARRIERS,
-    TWO_SWAPS_BOTH_FIRST,
+    TWO_SWAPS_BOTH_FIRST, expect_equal,
 };
 use tso_cert::print_cert;
 use tso_ops::Trace;
@@ -41,7 +39,7 @@ fn certificate_of<H: Threads + Wait>(
 }
 
 /// Compares the text of the certificate of a trace, None where there is none.
-fn expect_certificate<H: Threads + Wait + Abort>(
+fn expect_certificate<H: Threads + Wait>(
     rt: &H,
     alloc: Global,
     text: &str,
@@ -50,8 +48,7 @@ fn expect_certificate<H: Threads + Wait + Abort>(
 ) -> Result<(), Fail> {
     let trace = trace_of(alloc, text)?;
     let printed = certificate_of(rt, alloc, &trace, workers)?;
-    expect_equal(rt, text, printed.as_deref(), expected);
-    Ok(())
+    expect_equal(text, printed.as_deref(), expected)
 }
 
 /// Traces that have a certificate.

@@ -1,15 +1,13 @@
 //! Reports on certificates, with the expected bytes of each.
 
-use super::readers_and_writers::{
-    EndedReader, FailingReader, Full, ShortWriter, SlowReader, SlowWriter,
-};
 use super::{Ended, expect, expect_bytes, expect_count, expect_said};
 use std::alloc::Global;
 use std::io;
 use std::io::{ErrorKind, Read, Write};
-use std::process::Abort;
+use std::test::Fail;
 use traces_for_tests::{
-    Example, INDEPENDENT_READS as READS, STORE_BUFFERING_WITH_BARRIERS as BARRIERS, UNWRITTEN_LOAD,
+    EndedReader, Example, FailingReader, Full, INDEPENDENT_READS as READS,
+    STORE_BUFFERING_WITH_BARRIERS as BARRIERS, ShortWriter, SlowReader, SlowWriter, UNWRITTEN_LOAD,
 };
 use tso_report::{Fault, Verdict, check_texts};
 
@@ -152,32 +150,22 @@ fn checked_to<W: Write>(alloc: Global, writer: &mut W) -> Result<Verdict, Fault>
 
 /// A reader that fails at its first call.
 fn failing() -> FailingReader {
-    FailingReader {
-        kind: ErrorKind::Other,
-        calls: 0,
-    }
+    FailingReader::new(ErrorKind::Other)
 }
 
 /// A reader of this text that fails after its end.
 fn ended(text: &str) -> EndedReader<'_> {
-    EndedReader {
-        rest: text.as_bytes(),
-        ended: false,
-        calls: 0,
-    }
+    EndedReader::new(text.as_bytes())
 }
 
 /// A reader of one byte of this text a call.
 fn slow(text: &str) -> SlowReader<&[u8]> {
-    SlowReader {
-        inner: text.as_bytes(),
-        interrupted: false,
-    }
+    SlowReader::new(text.as_bytes(), 1)
 }
 
 /// A body that is always_a_fault meets the contract of `check_texts`, but not this.
 #[test]
-fn certificates_that_hold(rt: HostRuntime) {
+fn certificates_that_hold(rt: HostRuntime) -> Result<(), Fail> {
     for example in [READS, UNWRITTEN_LOAD] {
         let Example {
             trace,
@@ -185,50 +173,53 @@ fn certificates_that_hold(rt: HostRuntime) {
             ..
         } = example;
         let ended = checked_texts(rt.alloc(), trace, certificate);
-        expect(&rt, trace, &ended, Ok(Verdict::Violation), HOLDS.as_bytes());
+        expect(trace, &ended, Ok(Verdict::Violation), HOLDS.as_bytes())?;
     }
+    Ok(())
 }
 
 #[test]
-fn certificates_refused(rt: HostRuntime) {
+fn certificates_refused(rt: HostRuntime) -> Result<(), Fail> {
     for (example, certificate, report) in REFUSED {
         let ended = checked_texts(rt.alloc(), example.trace, certificate);
-        expect(&rt, report, &ended, Ok(Verdict::Refused), report.as_bytes());
+        expect(report, &ended, Ok(Verdict::Refused), report.as_bytes())?;
     }
+    Ok(())
 }
 
 /// swap_after_itself
 #[test]
-fn a_swap_after_itself_is_refused(rt: HostRuntime) {
+fn a_swap_after_itself_is_refused(rt: HostRuntime) -> Result<(), Fail> {
     let trace = "tso trace 1\nproc\nsw 1 0 5\nend\n";
     let certificate = "1 1 2 LoadOp\n2 2 2 SwapAfter 1 1 2\ncycle 2\n";
     let report = b"CERTIFICATE REFUSED SideRefused step 2\n";
     let ended = checked_texts(rt.alloc(), trace, certificate);
-    expect(&rt, trace, &ended, Ok(Verdict::Refused), report);
+    expect(trace, &ended, Ok(Verdict::Refused), report)
 }
 
 /// Where the trace is refused, the certificate isn't read.
 #[test]
-fn refused_traces(rt: HostRuntime) {
+fn refused_traces(rt: HostRuntime) -> Result<(), Fail> {
     for (trace, report) in REFUSED_TRACES {
         let mut certificate = failing();
         let ended = checked(rt.alloc(), &mut trace.as_bytes(), &mut certificate);
-        expect(&rt, trace, &ended, Ok(Verdict::Refused), report.as_bytes());
-        expect_count(&rt, trace, certificate.calls, 0);
+        expect(trace, &ended, Ok(Verdict::Refused), report.as_bytes())?;
+        expect_count(trace, certificate.calls, 0)?;
     }
+    Ok(())
 }
 
 #[test]
-fn readers_fail(rt: HostRuntime) {
+fn readers_fail(rt: HostRuntime) -> Result<(), Fail> {
     let Example {
         trace,
         certificate,
         ..
     } = READS;
     let first = checked(rt.alloc(), &mut failing(), &mut certificate.as_bytes());
-    expect(&rt, "of the trace", &first, Err(Fault::Read), b"");
+    expect("of the trace", &first, Err(Fault::Read), b"")?;
     let second = checked(rt.alloc(), &mut trace.as_bytes(), &mut failing());
-    expect(&rt, "of the certificate", &second, Err(Fault::Read), b"");
+    expect("of the certificate", &second, Err(Fault::Read), b"")
 }
 
 /// Checks a certificate of so many bytes `x`.
@@ -239,39 +230,36 @@ fn checked_bytes(alloc: Global, count: u64) -> Ended {
 
 /// 67,108,864 bytes are read, and one more is a fault.
 #[test]
-fn bytes_of_a_certificate_at_their_limit(rt: HostRuntime) {
+fn bytes_of_a_certificate_at_their_limit(rt: HostRuntime) -> Result<(), Fail> {
     let long = checked_bytes(rt.alloc(), 67_108_865);
-    expect(&rt, "a byte too many", &long, Err(Fault::Read), b"");
+    expect("a byte too many", &long, Err(Fault::Read), b"")?;
     let longest = checked_bytes(rt.alloc(), 67_108_864);
     let report = b"CERTIFICATE REFUSED BadLine line 1\n";
-    expect(&rt, "at the limit", &longest, Ok(Verdict::Refused), report);
+    expect("at the limit", &longest, Ok(Verdict::Refused), report)
 }
 
 /// Readers and a writer of one byte a call, each interrupted once before it.
 #[test]
-fn slow_readers_and_writer(rt: HostRuntime) {
+fn slow_readers_and_writer(rt: HostRuntime) -> Result<(), Fail> {
     let Example {
         trace,
         certificate,
         ..
     } = READS;
-    let mut writer = SlowWriter {
-        taken: Vec::new(rt.alloc()),
-        interrupted: false,
-    };
+    let mut writer = SlowWriter::new(rt.alloc());
     let said = check_texts(
         rt.alloc(),
         &mut slow(trace),
         &mut slow(certificate),
         &mut writer,
     );
-    expect_said(&rt, trace, said, Ok(Verdict::Violation));
-    expect_bytes(&rt, trace, &writer.taken, HOLDS.as_bytes());
+    expect_said(trace, said, Ok(Verdict::Violation))?;
+    expect_bytes(trace, &writer.taken, HOLDS.as_bytes())
 }
 
 /// Neither text is read after its end, which is seen once.
 #[test]
-fn nothing_read_after_either_end(rt: HostRuntime) {
+fn nothing_read_after_either_end(rt: HostRuntime) -> Result<(), Fail> {
     let Example {
         trace,
         certificate,
@@ -280,29 +268,25 @@ fn nothing_read_after_either_end(rt: HostRuntime) {
     let mut trace_reader = ended(trace);
     let mut certificate_reader = ended(certificate);
     let ended = checked(rt.alloc(), &mut trace_reader, &mut certificate_reader);
-    expect(&rt, trace, &ended, Ok(Verdict::Violation), HOLDS.as_bytes());
-    expect_count(&rt, "trace", trace_reader.calls, 2);
-    expect_count(&rt, "certificate", certificate_reader.calls, 2);
+    expect(trace, &ended, Ok(Verdict::Violation), HOLDS.as_bytes())?;
+    expect_count("trace", trace_reader.calls, 2)?;
+    expect_count("certificate", certificate_reader.calls, 2)
 }
 
 /// Compares what a writer with so much room is left with.
-fn expect_short<H: Abort>(rt: &H, alloc: Global, room: usize, full: Full) {
-    let mut writer = ShortWriter {
-        taken: Vec::new(alloc),
-        room,
-        full,
-        calls: 0,
-    };
+fn expect_short(alloc: Global, room: usize, full: Full) -> Result<(), Fail> {
+    let mut writer = ShortWriter::new(alloc, room, full);
     let said = checked_to(alloc, &mut writer);
-    expect_said(rt, HOLDS, said, Err(Fault::Write));
+    expect_said(HOLDS, said, Err(Fault::Write))?;
     let prefix = HOLDS.as_bytes().get(..room).unwrap_or(b"");
-    expect_bytes(rt, HOLDS, &writer.taken, prefix);
+    expect_bytes(HOLDS, &writer.taken, prefix)
 }
 
 #[test]
-fn writer_stops_short(rt: HostRuntime) {
+fn writer_stops_short(rt: HostRuntime) -> Result<(), Fail> {
     for room in 0..HOLDS.len() {
-        expect_short(&rt, rt.alloc(), room, Full::Fails(ErrorKind::Other));
-        expect_short(&rt, rt.alloc(), room, Full::TakesNothing);
+        expect_short(rt.alloc(), room, Full::Fails(ErrorKind::Other))?;
+        expect_short(rt.alloc(), room, Full::TakesNothing)?;
     }
+    Ok(())
 }

@@ -2,14 +2,13 @@
 //! reference program of the model.
 ghost use Rattle.std.specs.Prelude.{◌≡◌, []};
 
-use super::{Ended, expect, expect_equal, report_without_violation};
+use super::{Ended, expect, report_without_violation};
 use reference_rounds::{has_cycle, has_unwritten_load, new_edges, rank_set};
 use std::alloc::{AllocError, AllocGlobal, Global};
-use std::process::Abort;
 use std::sync::Wait;
 use std::test::Fail;
 use std::thread::Threads;
-use traces_for_tests::{empty_lists, next_word};
+use traces_for_tests::{empty_lists, expect_equal, next_word};
 use tso_ops::{Op, Order, OutOfMemory, Program, Trace};
 use tso_report::{Verdict, find_violation, judge_recorded};
 use tso_text::Act;
@@ -99,40 +98,33 @@ fn judged<H: Threads + Wait + Sync>(rt: &H, alloc: Global, recorded: &Recorded) 
 }
 
 /// Compares what is found of a record with what the reference program finds: the rounds number.
-fn compare<H: Threads + Wait + Sync + AllocGlobal + Abort>(
+fn compare<H: Threads + Wait + Sync + AllocGlobal>(
     rt: &H,
     recorded: &Recorded,
 ) -> Result<usize, Fail> {
     let alloc = rt.alloc();
     let trace = recorded.trace();
     let rounds = find_violation(rt, alloc, trace, 1)?.rounds as usize;
-    expect_equal(rt, "plain", has_no_violation(alloc, trace, rounds)?, true);
+    expect_equal("plain", has_no_violation(alloc, trace, rounds)?, true)?;
     let (processors, events) = (trace.processors(), trace.events());
     let report = report_without_violation(alloc, processors, events, rounds as u64)?;
     let ended = judged(rt, alloc, recorded);
-    expect(
-        rt,
-        &report,
-        &ended,
-        Ok(Verdict::NoViolation),
-        report.as_bytes(),
-    );
+    expect(&report, &ended, Ok(Verdict::NoViolation), report.as_bytes())?;
     Ok(rounds)
 }
 
 /// Compares the records of the drawn programs of a memory model, some of which need two rounds.
-fn compare_records<H: Threads + Wait + Sync + AllocGlobal + Abort>(
+fn compare_records<H: Threads + Wait + Sync + AllocGlobal>(
     rt: &H,
     order: Order,
 ) -> Result<(), Fail> {
     let mut most = 0;
     for seed in 0..PROGRAMS {
         let recorded = drawn_record(rt.alloc(), order, seed)?;
-        expect_equal(rt, seed, recorded.lawful(), true);
+        expect_equal(seed, recorded.lawful(), true)?;
         most = most.max(compare(rt, &recorded)?);
     }
-    expect_equal(rt, most, most >= 2, true);
-    Ok(())
+    expect_equal(most, most >= 2, true)
 }
 
 #[test]

@@ -1,12 +1,11 @@
 //! Reports of traces under PSO and with first values, made by value, with the expected bytes of each.
 
-use super::{expect_bytes, expect_count, expect_equal, report_without_violation};
+use super::{expect_bytes, expect_count, report_without_violation};
 use std::alloc::{AllocError, Global};
-use std::process::Abort;
 use std::sync::Wait;
 use std::test::Fail;
 use std::thread::Threads;
-use traces_for_tests::{Machine, trace_from, trace_of};
+use traces_for_tests::{Machine, expect_equal, trace_from, trace_of};
 use tso_cert::Certificate;
 use tso_ops::Outcome::{Ld, Sb, St};
 use tso_ops::{Order, Outcome, Trace, ValueFault};
@@ -108,9 +107,9 @@ fn reported<H: Threads + Wait>(
 }
 
 /// Compares a report with this verdict and this text.
-pub(super) fn expect_report<H: Abort>(rt: &H, report: &Report, verdict: Verdict, text: &str) {
-    expect_bytes(rt, text, report.text.as_bytes(), text.as_bytes());
-    expect_equal(rt, text, report.verdict, verdict);
+pub(super) fn expect_report(report: &Report, verdict: Verdict, text: &str) -> Result<(), Fail> {
+    expect_bytes(text, report.text.as_bytes(), text.as_bytes())?;
+    expect_equal(text, report.verdict, verdict)
 }
 
 /// Whether the checker accepts the certificate, or the verdict is that of a trace without one.
@@ -122,7 +121,7 @@ fn is_accepted(trace: &Trace, certificate: &Option<Certificate>, verdict: Verdic
 }
 
 /// Compares the report of the trace, and sees that the checker accepts the certificate, if there is one.
-fn expect_reported<H: Threads + Wait + Abort>(
+fn expect_reported<H: Threads + Wait>(
     rt: &H,
     alloc: Global,
     trace: &Trace,
@@ -130,10 +129,9 @@ fn expect_reported<H: Threads + Wait + Abort>(
     text: &str,
 ) -> Result<(), Fail> {
     let (finding, report) = reported(rt, alloc, trace)?;
-    expect_report(rt, &report, verdict, text);
+    expect_report(&report, verdict, text)?;
     let accepted = is_accepted(trace, &finding.certificate, verdict);
-    expect_equal(rt, text, accepted, true);
-    Ok(())
+    expect_equal(text, accepted, true)
 }
 
 #[test]
@@ -165,18 +163,17 @@ fn a_report_of_8000_events(rt: HostRuntime) -> Result<(), Fail> {
 }
 
 /// The report of what the machine's processors did, on which no violation is found.
-fn expect_drawn<H: Threads + Wait + Abort>(
+fn expect_drawn<H: Threads + Wait>(
     rt: &H,
     alloc: Global,
     trace: &Trace,
     processors: usize,
     events: usize,
 ) -> Result<(), Fail> {
-    expect_count(rt, "events", trace.events(), events);
+    expect_count("events", trace.events(), events)?;
     let (finding, report) = reported(rt, alloc, trace)?;
     let text = report_without_violation(alloc, processors, events, finding.rounds)?;
-    expect_report(rt, &report, Verdict::NoViolation, &text);
-    Ok(())
+    expect_report(&report, Verdict::NoViolation, &text)
 }
 
 /// What four processors did at 16 addresses, up to this many events.
@@ -194,12 +191,7 @@ fn a_report_of_8000_drawn_events(rt: HostRuntime) -> Result<(), Fail> {
     let mut lists = drawn(alloc, Order::Tso, 8_000)?;
     lists.push([Ld { a: 0, r: 0 }].to_vec(alloc)?)?;
     let refused = made_from(alloc, Vec::new(alloc), lists).err();
-    expect_equal(
-        &rt,
-        "refused",
-        refused,
-        Some((ValueFault::TooManyEvents, 5)),
-    );
+    expect_equal("refused", refused, Some((ValueFault::TooManyEvents, 5)))?;
     Ok(())
 }
 

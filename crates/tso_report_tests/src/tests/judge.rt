@@ -3,8 +3,7 @@ ghost use Rattle.std.specs.Prelude.{◌≤◌};
 ghost use Rattle.round_pool.specs.Workers.{worker_limit};
 
 use super::{Ended, expect, expect_bytes, expect_count};
-use std::alloc::{AllocError, Global};
-use std::process::Abort;
+use std::alloc::Global;
 use std::sync::Wait;
 use std::test::Fail;
 use std::thread::Threads;
@@ -128,46 +127,40 @@ fn judged<H: Threads + Wait + Sync>(rt: &H, alloc: Global, input: &[u8], workers
 }
 
 /// Compares the verdict and the report of an input on several numbers of workers.
-pub(super) fn expect_judged<H: Threads + Wait + Sync + Abort>(
+pub(super) fn expect_judged<H: Threads + Wait + Sync>(
     rt: &H,
     alloc: Global,
     input: &str,
     verdict: Verdict,
     report: &str,
-) {
+) -> Result<(), Fail> {
     let (bytes, report) = (input.as_bytes(), report.as_bytes());
-    expect(rt, input, &judged(rt, alloc, bytes, 1), Ok(verdict), report);
-    expect(rt, input, &judged(rt, alloc, bytes, 2), Ok(verdict), report);
-    expect(rt, input, &judged(rt, alloc, bytes, 7), Ok(verdict), report);
-    expect(
-        rt,
-        input,
-        &judged(rt, alloc, bytes, 64),
-        Ok(verdict),
-        report,
-    );
+    expect(input, &judged(rt, alloc, bytes, 1), Ok(verdict), report)?;
+    expect(input, &judged(rt, alloc, bytes, 2), Ok(verdict), report)?;
+    expect(input, &judged(rt, alloc, bytes, 7), Ok(verdict), report)?;
+    expect(input, &judged(rt, alloc, bytes, 64), Ok(verdict), report)
 }
 
 /// A body that is always_a_fault meets the contract of `judge`, but not this.
 #[test]
-fn traces(rt: HostRuntime) {
+fn traces(rt: HostRuntime) -> Result<(), Fail> {
     for (input, verdict, report) in TRACES {
-        expect_judged(&rt, rt.alloc(), input, verdict, report);
+        expect_judged(&rt, rt.alloc(), input, verdict, report)?;
     }
+    Ok(())
 }
 
 /// Compares the report of so many loads, and what follows them.
-fn expect_loads<H: Threads + Wait + Sync + Abort>(
+fn expect_loads<H: Threads + Wait + Sync>(
     rt: &H,
     alloc: Global,
     count: usize,
     back: &str,
     report: &str,
-) -> Result<(), AllocError> {
+) -> Result<(), Fail> {
     let text = repeated(alloc, "tso trace 1\nproc\n", "ld 0 0\n", count, back)?;
     let ended = judged(rt, alloc, text.as_bytes(), 1);
-    expect_bytes(rt, report, &ended.written, report.as_bytes());
-    Ok(())
+    expect_bytes(report, &ended.written, report.as_bytes())
 }
 
 #[test]
@@ -179,48 +172,43 @@ fn events_at_their_limit(rt: HostRuntime) -> Result<(), Fail> {
 }
 
 /// Compares the refusal of bytes that are no trace.
-fn expect_refused<H: Threads + Wait + Sync + Abort>(
+fn expect_refused<H: Threads + Wait + Sync>(
     rt: &H,
     alloc: Global,
     bytes: &[u8],
     report: &str,
-) {
+) -> Result<(), Fail> {
     let ended = judged(rt, alloc, bytes, 1);
-    expect(rt, report, &ended, Ok(Verdict::Refused), report.as_bytes());
+    expect(report, &ended, Ok(Verdict::Refused), report.as_bytes())
 }
 
 #[test]
-fn refusals(rt: HostRuntime) {
+fn refusals(rt: HostRuntime) -> Result<(), Fail> {
     for (input, report) in REFUSALS {
-        expect_refused(&rt, rt.alloc(), input.as_bytes(), report);
+        expect_refused(&rt, rt.alloc(), input.as_bytes(), report)?;
     }
-}
-
-/// Compares the refusals of so many bytes, one more than a text has at most, and of all but the first of them.
-fn expect_too_long<H: Threads + Wait + Sync + Abort>(
-    rt: &H,
-    alloc: Global,
-    byte: u8,
-) -> Result<(), AllocError> {
-    let bytes = vec![in alloc; byte; 1_048_577]?;
-    expect_refused(rt, alloc, &bytes, "REFUSED TooLong line 0\n");
-    let rest = bytes.get(1..).unwrap_or(b"");
-    expect_refused(rt, alloc, rest, "REFUSED BadHeader line 1\n");
     Ok(())
 }
 
+/// Compares the refusals of so many bytes, one more than a text has at most, and of all but the first of them.
+fn expect_too_long<H: Threads + Wait + Sync>(rt: &H, alloc: Global, byte: u8) -> Result<(), Fail> {
+    let bytes = vec![in alloc; byte; 1_048_577]?;
+    expect_refused(rt, alloc, &bytes, "REFUSED TooLong line 0\n")?;
+    let rest = bytes.get(1..).unwrap_or(b"");
+    expect_refused(rt, alloc, rest, "REFUSED BadHeader line 1\n")
+}
+
 /// Compares the report of a trace with so many bytes after it.
-fn expect_after_end<H: Threads + Wait + Sync + Abort>(
+fn expect_after_end<H: Threads + Wait + Sync>(
     rt: &H,
     alloc: Global,
     count: usize,
     report: &str,
-) -> Result<(), AllocError> {
+) -> Result<(), Fail> {
     let text = repeated(alloc, "tso trace 1\nend\n", "x", count, "")?;
-    expect_count(rt, report, text.len(), count.saturating_add(16));
+    expect_count(report, text.len(), count.saturating_add(16))?;
     let ended = judged(rt, alloc, text.as_bytes(), 1);
-    expect_bytes(rt, report, &ended.written, report.as_bytes());
-    Ok(())
+    expect_bytes(report, &ended.written, report.as_bytes())
 }
 
 /// oversized: whatever the bytes are, a good trace before them included

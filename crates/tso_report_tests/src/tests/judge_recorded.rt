@@ -3,15 +3,14 @@
 ghost use Rattle.std.specs.Prelude.{◌≡◌, ◌≤◌, []};
 ghost use Rattle.round_pool.specs.Workers.{worker_limit};
 
-use super::readers_and_writers::{Full, ShortWriter};
-use super::{Ended, expect, expect_bytes, expect_equal, expect_said};
+use super::{Ended, expect, expect_bytes, expect_said};
 use issue_desk::{Gate, Issuers, OpenGate, RunThreads, run_over, run_with_drainer_over};
 use std::alloc::Global;
 use std::io::ErrorKind;
-use std::process::Abort;
 use std::sync::{Arc, Wait};
 use std::test::Fail;
 use std::thread::Threads;
+use traces_for_tests::{Full, ShortWriter, expect_equal};
 use tso_ops::Outcome;
 use tso_report::{Fault, Verdict, judge_recorded};
 use tso_text::{Act, read_program};
@@ -78,12 +77,12 @@ fn record_without_a_violation(rt: HostRuntime) -> Result<(), Fail> {
     let alloc = rt.alloc();
     let mut account = Account::new();
     let recorded = serial_record(alloc, &mut account)?;
-    expect_equal(&rt, "account", &account, &ACCOUNT);
+    expect_equal("account", &account, &ACCOUNT)?;
     let (said, report) = (Ok(Verdict::NoViolation), REPORT.as_bytes());
-    expect(&rt, "1", &judged(&rt, alloc, &recorded, 1), said, report);
-    expect(&rt, "2", &judged(&rt, alloc, &recorded, 2), said, report);
-    expect(&rt, "7", &judged(&rt, alloc, &recorded, 7), said, report);
-    expect(&rt, "64", &judged(&rt, alloc, &recorded, 64), said, report);
+    expect("1", &judged(&rt, alloc, &recorded, 1), said, report)?;
+    expect("2", &judged(&rt, alloc, &recorded, 2), said, report)?;
+    expect("7", &judged(&rt, alloc, &recorded, 7), said, report)?;
+    expect("64", &judged(&rt, alloc, &recorded, 64), said, report)?;
     Ok(())
 }
 
@@ -109,17 +108,21 @@ fn invented_record(alloc: Global) -> Result<Recorded, Fail> {
 }
 
 /// Compares the report of a record of invented answers.
-fn expect_invented<H: Threads + Wait + Sync + Abort>(rt: &H, alloc: Global, recorded: &Recorded) {
+fn expect_invented<H: Threads + Wait + Sync>(
+    rt: &H,
+    alloc: Global,
+    recorded: &Recorded,
+) -> Result<(), Fail> {
     let (case, report) = INVENTED;
-    expect_equal(rt, case, recorded.lawful(), false);
+    expect_equal(case, recorded.lawful(), false)?;
     let ended = judged(rt, alloc, recorded, 1);
-    expect(rt, case, &ended, Ok(Verdict::Violation), report.as_bytes());
+    expect(case, &ended, Ok(Verdict::Violation), report.as_bytes())
 }
 
 #[test]
 fn record_of_invented_answers(rt: HostRuntime) -> Result<(), Fail> {
     let recorded = invented_record(rt.alloc())?;
-    expect_invented(&rt, rt.alloc(), &recorded);
+    expect_invented(&rt, rt.alloc(), &recorded)?;
     Ok(())
 }
 
@@ -145,7 +148,7 @@ fn ran<H: Threads + Wait + Sync, U: MemoryUnit + Send>(
 fn run_of_invented_answers(rt: HostRuntime) -> Result<(), Fail> {
     let unit = InventingUnit::new(rt.alloc())?;
     let recorded = ran(&rt, rt.alloc(), unit, INVENTED.0)?;
-    expect_invented(&rt, rt.alloc(), &recorded);
+    expect_invented(&rt, rt.alloc(), &recorded)?;
     Ok(())
 }
 
@@ -185,9 +188,9 @@ fn run_that_waits_for_its_drainer(rt: HostRuntime) -> Result<(), Fail> {
     let recorded = ran_beside_a_drainer(&rt, rt.alloc(), &gate, &counts)?;
     let (rows, report) = STORED_AND_LOADED;
     let is_record = is_record(&recorded, true, &rows);
-    expect_equal(&rt, "run", (is_record, gate.has_waited()), (true, true));
+    expect_equal("run", (is_record, gate.has_waited()), (true, true))?;
     let ended = judged(&rt, rt.alloc(), &recorded, 1);
-    expect(&rt, "report", &ended, Ok(Verdict::NoViolation), report);
+    expect("report", &ended, Ok(Verdict::NoViolation), report)?;
     Ok(())
 }
 
@@ -196,18 +199,13 @@ fn run_that_waits_for_its_drainer(rt: HostRuntime) -> Result<(), Fail> {
 fn record_that_cannot_be_written(rt: HostRuntime) -> Result<(), Fail> {
     let alloc = rt.alloc();
     let recorded = serial_record(alloc, &mut Account::new())?;
-    let mut full = ShortWriter {
-        taken: Vec::new(alloc),
-        room: 0,
-        full: Full::Fails(ErrorKind::BrokenPipe),
-        calls: 0,
-    };
+    let mut full = ShortWriter::new(alloc, 0, Full::Fails(ErrorKind::BrokenPipe));
     let failed = judge_recorded(&rt, alloc, &recorded, &mut full, 1);
-    expect_said(&rt, "failed", failed, Err(Fault::Write));
+    expect_said("failed", failed, Err(Fault::Write))?;
     let mut bytes = [0u8; 13];
     let mut writer = bytes.as_mut_slice();
     let answer = judge_recorded(&rt, alloc, &recorded, &mut writer, 1);
-    expect_said(&rt, "13 bytes", answer, Err(Fault::Write));
-    expect_bytes(&rt, "13 bytes", &bytes, b"TSO REPORT 1\n");
+    expect_said("13 bytes", answer, Err(Fault::Write))?;
+    expect_bytes("13 bytes", &bytes, b"TSO REPORT 1\n")?;
     Ok(())
 }

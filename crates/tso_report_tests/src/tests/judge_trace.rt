@@ -4,7 +4,6 @@ ghost use Rattle.round_pool.specs.Workers.{worker_limit};
 
 use super::find_violation::expect_report;
 use std::alloc::{AllocError, Global};
-use std::process::Abort;
 use std::sync::Wait;
 use std::test::Fail;
 use std::thread::Threads;
@@ -28,18 +27,17 @@ fn judged<H: Threads + Wait>(
 }
 
 /// Compares the report of a trace on several numbers of workers.
-fn expect_reports<H: Threads + Wait + Abort>(
+fn expect_reports<H: Threads + Wait>(
     rt: &H,
     alloc: Global,
     trace: &Trace,
     verdict: Verdict,
     text: &str,
-) -> Result<(), Fault> {
-    expect_report(rt, &judged(rt, alloc, trace, 1)?, verdict, text);
-    expect_report(rt, &judged(rt, alloc, trace, 2)?, verdict, text);
-    expect_report(rt, &judged(rt, alloc, trace, 7)?, verdict, text);
-    expect_report(rt, &judged(rt, alloc, trace, 64)?, verdict, text);
-    Ok(())
+) -> Result<(), Fail> {
+    expect_report(&judged(rt, alloc, trace, 1)?, verdict, text)?;
+    expect_report(&judged(rt, alloc, trace, 2)?, verdict, text)?;
+    expect_report(&judged(rt, alloc, trace, 7)?, verdict, text)?;
+    expect_report(&judged(rt, alloc, trace, 64)?, verdict, text)
 }
 
 /// store_forwarded
@@ -80,21 +78,11 @@ fn refusals_of_other_texts(rt: HostRuntime) -> Result<(), Fail> {
     let alloc = rt.alloc();
     let torn = program_fault(alloc, b"tso program 1\nproc\n").ok_or("a program without its end")?;
     let report = refusal(alloc, torn)?;
-    expect_report(
-        &rt,
-        &report,
-        Verdict::Refused,
-        "REFUSED MissingEnd line 3\n",
-    );
+    expect_report(&report, Verdict::Refused, "REFUSED MissingEnd line 3\n")?;
     let sixteen = schedule_fault(alloc, b"tso schedule 1\ni 0\nd 16\nend\n").ok_or(
         "a schedule of processor 16",
     )?;
     let report = refusal(alloc, sixteen)?;
-    expect_report(
-        &rt,
-        &report,
-        Verdict::Refused,
-        "REFUSED ProcessorRange line 3\n",
-    );
+    expect_report(&report, Verdict::Refused, "REFUSED ProcessorRange line 3\n")?;
     Ok(())
 }

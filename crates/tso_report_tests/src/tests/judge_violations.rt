@@ -1,6 +1,7 @@
 //! Reports of traces that the rules decide, with the expected bytes of each.
 
 use super::judge::expect_judged;
+use std::test::Fail;
 use traces_for_tests::EXAMPLES;
 use tso_report::Verdict;
 
@@ -24,16 +25,18 @@ const OTHERS: [(&str, &str); 3] = [
 ];
 
 #[test]
-fn violations_on_each_number_of_workers(rt: HostRuntime) {
+fn violations_on_each_number_of_workers(rt: HostRuntime) -> Result<(), Fail> {
     for example in &EXAMPLES {
         let verdict = Verdict::Violation;
-        expect_judged(&rt, rt.alloc(), example.trace, verdict, example.report);
+        expect_judged(&rt, rt.alloc(), example.trace, verdict, example.report)?;
     }
+    Ok(())
 }
 
 #[test]
-fn no_violation_on_each_number_of_workers(rt: HostRuntime) {
+fn no_violation_on_each_number_of_workers(rt: HostRuntime) -> Result<(), Fail> {
     for (input, report) in OTHERS {
-        expect_judged(&rt, rt.alloc(), input, Verdict::NoViolation, report);
+        expect_judged(&rt, rt.alloc(), input, Verdict::NoViolation, report)?;
     }
+    Ok(())
 }

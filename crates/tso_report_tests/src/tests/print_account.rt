@@ -2,27 +2,19 @@
 
 use super::expect_bytes;
 use std::alloc::Global;
-use std::process::Abort;
 use std::test::Fail;
 use tso_report::print_account;
 use unit_core::Account;
 
 /// Compares the text of an account.
-fn expect_text<H: Abort>(
-    rt: &H,
-    alloc: Global,
-    account: &Account,
-    expected: &str,
-) -> Result<(), Fail> {
+fn expect_text(alloc: Global, account: &Account, expected: &str) -> Result<(), Fail> {
     let text = print_account(alloc, account)?;
-    expect_bytes(rt, expected, text.as_slice(), expected.as_bytes());
-    Ok(())
+    expect_bytes(expected, text.as_slice(), expected.as_bytes())
 }
 
 #[test]
 fn open_account_of_no_steps(rt: HostRuntime) -> Result<(), Fail> {
     expect_text(
-        &rt,
         rt.alloc(),
         &Account::new(),
         "account loads 0 stores 0 swaps 0 membars 0 drains 0 open\n",
@@ -40,7 +32,6 @@ fn closed_account(rt: HostRuntime) -> Result<(), Fail> {
         closed: true,
     };
     expect_text(
-        &rt,
         rt.alloc(),
         &account,
         "account loads 1 stores 20 swaps 300 membars 4000 drains 50000 closed\n",
@@ -58,7 +49,6 @@ fn greatest_numbers(rt: HostRuntime) -> Result<(), Fail> {
         closed: true,
     };
     expect_text(
-        &rt,
         rt.alloc(),
         &account,
         "account loads 18446744073709551615 stores 18446744073709551615 swaps 18446744073709551615 membars 18446744073709551615 drains 18446744073709551615 closed\n",

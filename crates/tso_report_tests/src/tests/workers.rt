@@ -2,7 +2,6 @@
 
 use super::expect_bytes;
 use std::alloc::{AllocGlobal, Global};
-use std::process::Abort;
 use std::sync::Wait;
 use std::test::Fail;
 use std::thread::Threads;
@@ -22,7 +21,7 @@ fn report_by<H: Threads + Wait>(
 }
 
 /// Compares the reports of a run on 2 and 3 workers with that on one.
-fn compare_run<H: Threads + Wait + AllocGlobal + Abort>(
+fn compare_run<H: Threads + Wait + AllocGlobal>(
     rt: &H,
     processors: usize,
     addresses: u16,
@@ -34,7 +33,7 @@ fn compare_run<H: Threads + Wait + AllocGlobal + Abort>(
     let one = report_by(rt, alloc, &trace, 1)?;
     for workers in [2, 3] {
         let report = report_by(rt, alloc, &trace, workers)?;
-        expect_bytes(rt, "a run", report.as_bytes(), one.as_bytes());
+        expect_bytes("a run", report.as_bytes(), one.as_bytes())?;
     }
     Ok(())
 }

@@ -1,11 +1,11 @@
 //! The worked examples of texts: each is refused with its line, or read and printed back.
 use super::{
-    At, PREFIX, expect, expect_text, program_of, program_text, schedule_of, schedule_text,
-    trace_fault, trace_of, trace_text,
+    At, PREFIX, expect_text, program_of, program_text, schedule_of, schedule_text, trace_fault,
+    trace_of, trace_text,
 };
 use std::alloc::Global;
 use std::test::Fail;
-use traces_for_tests::{EXAMPLES, repeated};
+use traces_for_tests::{EXAMPLES, expect_equal, repeated};
 use tso_text::Why;
 
 /// Reads the text of a trace and prints it back.
@@ -104,15 +104,11 @@ const REFUSED: [(&str, &str, usize, Why); 16] = [
 ];
 
 #[test]
-fn refused(rt: HostRuntime) {
+fn refused(rt: HostRuntime) -> Result<(), Fail> {
     for (name, text, line, why) in &REFUSED {
-        expect(
-            &rt,
-            name,
-            trace_fault(rt.alloc(), text),
-            Some((*line, *why)),
-        );
+        expect_equal(name, trace_fault(rt.alloc(), text), Some((*line, *why)))?;
     }
+    Ok(())
 }
 
 /// Traces beside `EXAMPLES`.
@@ -181,11 +177,11 @@ const TRACES: [(&str, &str); 17] = [
 #[test]
 fn traces_printed_back(rt: HostRuntime) -> Result<(), Fail> {
     for (name, text) in &TRACES {
-        expect_text(&rt, name, &trace_back(rt.alloc(), text)?, text);
+        expect_text(name, &trace_back(rt.alloc(), text)?, text)?;
     }
     for example in &EXAMPLES {
         let text = example.trace;
-        expect_text(&rt, example.name, &trace_back(rt.alloc(), text)?, text);
+        expect_text(example.name, &trace_back(rt.alloc(), text)?, text)?;
     }
     Ok(())
 }
@@ -246,7 +242,7 @@ const PROGRAMS: [(&str, &str); 13] = [
 #[test]
 fn programs_printed_back(rt: HostRuntime) -> Result<(), Fail> {
     for (name, text) in &PROGRAMS {
-        expect_text(&rt, name, &program_back(rt.alloc(), text)?, text);
+        expect_text(name, &program_back(rt.alloc(), text)?, text)?;
     }
     Ok(())
 }
@@ -280,7 +276,7 @@ const SCHEDULES: [(&str, &str); 10] = [
 #[test]
 fn schedules_printed_back(rt: HostRuntime) -> Result<(), Fail> {
     for (name, text) in &SCHEDULES {
-        expect_text(&rt, name, &schedule_back(rt.alloc(), text)?, text);
+        expect_text(name, &schedule_back(rt.alloc(), text)?, text)?;
     }
     Ok(())
 }
@@ -303,10 +299,10 @@ fn events_at_their_limit(rt: HostRuntime) -> Result<(), Fail> {
     let alloc = rt.alloc();
     for (loads, back, bytes, fault) in &LIMITS {
         let text = repeated(alloc, PREFIX, "ld 0 0\n", *loads, back)?;
-        expect(&rt, "bytes", text.len(), *bytes);
-        expect(&rt, back, trace_fault(alloc, &text), *fault);
+        expect_equal("bytes", text.len(), *bytes)?;
+        expect_equal(back, trace_fault(alloc, &text), *fault)?;
     }
     let full = repeated(alloc, PREFIX, "ld 0 0\n", 2_000, "end\n")?;
-    expect_text(&rt, "full_trace", &trace_back(alloc, &full)?, &full);
+    expect_text("full_trace", &trace_back(alloc, &full)?, &full)?;
     Ok(())
 }

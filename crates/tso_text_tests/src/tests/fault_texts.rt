@@ -35,7 +35,7 @@ const KINDS: [(Why, &str); 16] = [
 #[test]
 fn texts_of_refusals(rt: HostRuntime) -> Result<(), Fail> {
     for (why, text) in &KINDS {
-        expect_text(&rt, text, &text_of_kind(rt.alloc(), *why)?, text);
+        expect_text(text, &text_of_kind(rt.alloc(), *why)?, text)?;
     }
     Ok(())
 }
@@ -48,7 +48,7 @@ fn a_refusal_is_written_with_its_line(rt: HostRuntime) -> Result<(), Fail> {
         (2_019, Why::TooManyEvents, "TooManyEvents line 2019"),
     ] {
         let fault = TextFault { line, why };
-        expect_text(&rt, text, &text_of_fault(rt.alloc(), fault)?, text);
+        expect_text(text, &text_of_fault(rt.alloc(), fault)?, text)?;
     }
     Ok(())
 }

@@ -1,12 +1,12 @@
 //! Counts and bytes at their limits.
 
 use super::{
-    At, PREFIX, expect, expect_text, program_of, program_text, schedule_fault, schedule_of,
-    schedule_text, trace_fault, trace_of, trace_text,
+    At, PREFIX, expect_text, program_of, program_text, schedule_fault, schedule_of, schedule_text,
+    trace_fault, trace_of, trace_text,
 };
 use std::alloc::{AllocError, Global};
 use std::test::Fail;
-use traces_for_tests::repeated;
+use traces_for_tests::{expect_equal, repeated};
 use tso_text::Why;
 
 /// Of each text its prefix, a line, how often it comes, the end and the fault.
@@ -97,7 +97,7 @@ const COUNTS: [(&str, &str, usize, &str, At); 14] = [
 fn counts_at_their_limits(rt: HostRuntime) -> Result<(), Fail> {
     for (prefix, line, count, back, fault) in &COUNTS {
         let text = repeated(rt.alloc(), prefix, line, *count, back)?;
-        expect(&rt, line, trace_fault(rt.alloc(), &text), *fault);
+        expect_equal(line, trace_fault(rt.alloc(), &text), *fault)?;
     }
     Ok(())
 }
@@ -130,7 +130,7 @@ fn full_texts_are_printed_back(rt: HostRuntime) -> Result<(), Fail> {
     for (kind, prefix, line, count) in &FULL {
         let head = format!(in alloc; "{kind}{prefix}")?;
         let text = repeated(alloc, &head, line, *count, "end\n")?;
-        expect_text(&rt, &head, &printed_back(alloc, kind, &text)?, &text);
+        expect_text(&head, &printed_back(alloc, kind, &text)?, &text)?;
     }
     Ok(())
 }
@@ -144,14 +144,14 @@ fn long_schedule(alloc: Global, back: &str) -> Result<String, AllocError> {
 fn bytes_at_their_limit(rt: HostRuntime) -> Result<(), Fail> {
     let alloc = rt.alloc();
     let whole = long_schedule(alloc, "d 15\nend\n")?;
-    expect(&rt, "bytes", whole.len(), 1_048_576);
+    expect_equal("bytes", whole.len(), 1_048_576)?;
     let acts = schedule_of(alloc, &whole)?;
-    expect(&rt, "acts", acts.len(), 262_139);
-    expect_text(&rt, "back", &schedule_text(alloc, &acts)?, &whole);
+    expect_equal("acts", acts.len(), 262_139)?;
+    expect_text("back", &schedule_text(alloc, &acts)?, &whole)?;
     let longer = long_schedule(alloc, "d 15\nend\nx")?;
-    expect(&rt, "bytes", longer.len(), 1_048_577);
+    expect_equal("bytes", longer.len(), 1_048_577)?;
     let fault = Some((0, Why::TooLong));
-    expect(&rt, "schedule", schedule_fault(alloc, &longer), fault);
-    expect(&rt, "trace", trace_fault(alloc, &longer), fault);
+    expect_equal("schedule", schedule_fault(alloc, &longer), fault)?;
+    expect_equal("trace", trace_fault(alloc, &longer), fault)?;
     Ok(())
 }

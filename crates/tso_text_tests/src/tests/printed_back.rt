@@ -1,10 +1,11 @@
 //! Texts that are read and printed back.
 
 use super::{
-    expect, expect_list, expect_text, program_of, program_text, schedule_fault, schedule_of,
-    schedule_text, trace_of, trace_text,
+    expect_list, expect_text, program_of, program_text, schedule_fault, schedule_of, schedule_text,
+    trace_of, trace_text,
 };
 use std::test::Fail;
+use traces_for_tests::expect_equal;
 use tso_ops::{Outcome, Program, Trace};
 use tso_text::{Act, Why};
 
@@ -12,16 +13,16 @@ use tso_text::{Act, Why};
 fn schedules(rt: HostRuntime) -> Result<(), Fail> {
     let alloc = rt.alloc();
     let acts = schedule_of(alloc, "tso schedule 1\ni 0\nd 15\nend\n")?;
-    expect_list(&rt, &acts, &[Act::Issue(0), Act::Drain(15)]);
-    expect_list(&rt, &schedule_of(alloc, "tso schedule 1\nend\n")?, &[]);
+    expect_list(&acts, &[Act::Issue(0), Act::Drain(15)])?;
+    expect_list(&schedule_of(alloc, "tso schedule 1\nend\n")?, &[])?;
     for (text, why) in [
         ("tso schedule 1\ni 16\nend\n", Why::ProcessorRange),
         ("tso schedule 1\nproc\nend\n", Why::BadLine),
     ] {
-        expect(&rt, text, schedule_fault(alloc, text), Some((2, why)));
+        expect_equal(text, schedule_fault(alloc, text), Some((2, why)))?;
     }
     let odd = schedule_text(alloc, &[Act::Drain(16)])?;
-    expect_text(&rt, "odd", &odd, "tso schedule 1\nd 16\nend\n");
+    expect_text("odd", &odd, "tso schedule 1\nd 16\nend\n")?;
     Ok(())
 }
 
@@ -58,15 +59,15 @@ const LAST: [Outcome; 1] = [Outcome::Sw {
 fn texts_are_printed_back(rt: HostRuntime) -> Result<(), Fail> {
     let alloc = rt.alloc();
     let program = program_of(alloc, PROGRAM)?;
-    expect(&rt, "processors", processors_of(&program), 2);
-    expect_text(&rt, "program", &program_text(alloc, &program)?, PROGRAM);
+    expect_equal("processors", processors_of(&program), 2)?;
+    expect_text("program", &program_text(alloc, &program)?, PROGRAM)?;
     let acts = schedule_of(alloc, SCHEDULE)?;
-    expect_text(&rt, "schedule", &schedule_text(alloc, &acts)?, SCHEDULE);
+    expect_text("schedule", &schedule_text(alloc, &acts)?, SCHEDULE)?;
     let trace = trace_of(alloc, TRACE)?;
-    expect(&rt, "counts", counts_of(&trace), (2, 4));
-    expect_list(&rt, ops_of(&trace, 1), &LAST);
-    expect_text(&rt, "trace", &trace_text(alloc, &trace)?, TRACE);
+    expect_equal("counts", counts_of(&trace), (2, 4))?;
+    expect_list(ops_of(&trace, 1), &LAST)?;
+    expect_text("trace", &trace_text(alloc, &trace)?, TRACE)?;
     let idle = trace_of(alloc, "tso trace 1\nproc\nproc\nend\n")?;
-    expect(&rt, "idle", counts_of(&idle), (2, 0));
+    expect_equal("idle", counts_of(&idle), (2, 0))?;
     Ok(())
 }

@@ -1,6 +1,8 @@
 //! Texts that are refused, with the line of the fault.
 
-use super::{expect, program_fault, trace_fault};
+use super::{program_fault, trace_fault};
+use std::test::Fail;
+use traces_for_tests::expect_equal;
 use tso_text::Why;
 
 /// Texts of traces, and the line and the kind of their fault.
@@ -44,19 +46,15 @@ const REFUSED: [(&str, usize, Why); 24] = [
 ];
 
 #[test]
-fn refusals_of_traces(rt: HostRuntime) {
+fn refusals_of_traces(rt: HostRuntime) -> Result<(), Fail> {
     for (text, line, why) in &REFUSED {
-        expect(
-            &rt,
-            text,
-            trace_fault(rt.alloc(), text),
-            Some((*line, *why)),
-        );
+        expect_equal(text, trace_fault(rt.alloc(), text), Some((*line, *why)))?;
     }
+    Ok(())
 }
 
 #[test]
-fn refusals_of_programs(rt: HostRuntime) {
+fn refusals_of_programs(rt: HostRuntime) -> Result<(), Fail> {
     for (text, line, why) in [
         ("tso trace 1\nend\n", 1, Why::BadHeader),
         ("tso program 1\nproc\nld 1 0\nend\n", 3, Why::BadLine),
@@ -66,11 +64,7 @@ fn refusals_of_programs(rt: HostRuntime) {
             Why::RepeatedValue,
         ),
     ] {
-        expect(
-            &rt,
-            text,
-            program_fault(rt.alloc(), text),
-            Some((line, why)),
-        );
+        expect_equal(text, program_fault(rt.alloc(), text), Some((line, why)))?;
     }
+    Ok(())
 }

@@ -54,7 +54,7 @@ fn text_of_trace(alloc: Global, trace: &Trace) -> Result<String, AllocError> {
 fn refused_allocations_of_a_trace(rt: HostRuntime) -> Result<(), Fail> {
     let alloc = rt.alloc();
     let trace = trace_of(alloc)?;
-    expect_text(&rt, "trace", &text_of_trace(alloc, &trace)?, TRACE);
+    expect_text("trace", &text_of_trace(alloc, &trace)?, TRACE)?;
     Ok(())
 }
 
@@ -69,7 +69,7 @@ fn text_of_program(alloc: Global, program: &Program) -> Result<String, AllocErro
 fn refused_allocations_of_a_program(rt: HostRuntime) -> Result<(), Fail> {
     let alloc = rt.alloc();
     let program = program_of(alloc)?;
-    expect_text(&rt, "program", &text_of_program(alloc, &program)?, PROGRAM);
+    expect_text("program", &text_of_program(alloc, &program)?, PROGRAM)?;
     Ok(())
 }
 
@@ -84,6 +84,6 @@ fn text_of_schedule(alloc: Global, acts: &[Act]) -> Result<String, AllocError> {
 fn refused_allocations_of_a_schedule(rt: HostRuntime) -> Result<(), Fail> {
     let alloc = rt.alloc();
     let acts = schedule_of(alloc)?;
-    expect_text(&rt, "schedule", &text_of_schedule(alloc, &acts)?, SCHEDULE);
+    expect_text("schedule", &text_of_schedule(alloc, &acts)?, SCHEDULE)?;
     Ok(())
 }

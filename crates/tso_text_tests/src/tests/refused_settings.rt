@@ -1,8 +1,9 @@
 //! Refused texts of both versions and memory models: each fault of a preamble at its line.
 
-use super::{expect, program_fault, trace_fault};
+use super::{program_fault, trace_fault};
 use std::alloc::{AllocError, Global};
 use std::test::Fail;
+use traces_for_tests::expect_equal;
 use tso_text::Why;
 
 /// What follows the first words of the header of a text, and the line and the kind of its fault: as a trace and as a
@@ -72,18 +73,16 @@ fn faults_of_preambles(rt: HostRuntime) -> Result<(), Fail> {
     let alloc = rt.alloc();
     for (rest, line, why) in &REFUSED {
         let fault = Some((*line, *why));
-        expect(
-            &rt,
+        expect_equal(
             rest,
             trace_fault(alloc, &text_of(alloc, "trace", rest)?),
             fault,
-        );
-        expect(
-            &rt,
+        )?;
+        expect_equal(
             rest,
             program_fault(alloc, &text_of(alloc, "program", rest)?),
             fault,
-        );
+        )?;
     }
     Ok(())
 }
@@ -104,13 +103,9 @@ const TRACES: [(&str, usize, Why); 3] = [
 ];
 
 #[test]
-fn faults_after_preambles(rt: HostRuntime) {
+fn faults_after_preambles(rt: HostRuntime) -> Result<(), Fail> {
     for (text, line, why) in &TRACES {
-        expect(
-            &rt,
-            text,
-            trace_fault(rt.alloc(), text),
-            Some((*line, *why)),
-        );
+        expect_equal(text, trace_fault(rt.alloc(), text), Some((*line, *why)))?;
     }
+    Ok(())
 }

@@ -2,8 +2,9 @@
 //! printed back.
 
 use super::examples::{program_back, trace_back};
-use super::{expect, expect_text, trace_fault};
+use super::{expect_text, trace_fault};
 use std::test::Fail;
+use traces_for_tests::expect_equal;
 use tso_text::Why;
 
 /// Traces.
@@ -41,7 +42,7 @@ const TRACES: [(&str, &str); 7] = [
 #[test]
 fn traces_printed_back(rt: HostRuntime) -> Result<(), Fail> {
     for (name, text) in &TRACES {
-        expect_text(&rt, name, &trace_back(rt.alloc(), text)?, text);
+        expect_text(name, &trace_back(rt.alloc(), text)?, text)?;
     }
     Ok(())
 }
@@ -78,8 +79,8 @@ const REPLAYED: [(&str, &str, &str); 5] = [
 #[test]
 fn programs_and_records_printed_back(rt: HostRuntime) -> Result<(), Fail> {
     for (name, program, recorded) in &REPLAYED {
-        expect_text(&rt, name, &program_back(rt.alloc(), program)?, program);
-        expect_text(&rt, name, &trace_back(rt.alloc(), recorded)?, recorded);
+        expect_text(name, &program_back(rt.alloc(), program)?, program)?;
+        expect_text(name, &trace_back(rt.alloc(), recorded)?, recorded)?;
     }
     Ok(())
 }
@@ -149,13 +150,9 @@ const REFUSED: [(&str, &str, usize, Why); 10] = [
 ];
 
 #[test]
-fn refused(rt: HostRuntime) {
+fn refused(rt: HostRuntime) -> Result<(), Fail> {
     for (name, text, line, why) in &REFUSED {
-        expect(
-            &rt,
-            name,
-            trace_fault(rt.alloc(), text),
-            Some((*line, *why)),
-        );
+        expect_equal(name, trace_fault(rt.alloc(), text), Some((*line, *why)))?;
     }
+    Ok(())
 }
