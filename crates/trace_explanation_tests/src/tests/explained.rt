@@ -1,21 +1,9 @@
-//! Explanations of whole inputs, with the expected bytes of each, also where an allocation is refused: `rt try --test
-//! --fail-alloc N` refuses the Nth of each test.
-//!
-//! The call that meets it answers OutOfMemory, or NoThread where the allocation was that of a thread's start, and writes
-//! nothing, and the next call writes the ordinary explanation.
-ghost use Rattle.std.specs.Prelude.{◌≤◌};
-ghost use Rattle.round_pool.specs.Workers.{worker_limit};
+//! Explanations of whole inputs, with the expected bytes of each.
 
-use super::{expect_bytes, expect_said};
-use std::alloc::Global;
-use std::sync::Wait;
+use super::{Case, expect_presented};
 use std::test::Fail;
-use std::thread::Threads;
 use trace_explanation::AsExplanation;
-use tso_report::{Fault, Verdict, present};
-
-/// An input and its explanation.
-type Case = (&'static str, &'static str);
+use tso_report::Verdict;
 
 /// A cycle of two through the first values.
 const CYCLE: Case = (
@@ -53,68 +41,74 @@ const REFUSED: Case = (
     "REFUSED BadNumber line 3\n\nLine 3 is 'ld 01 0'.\nA number has digits alone, no leading zero, and is at most 18446744073709551615.\n",
 );
 
-/// Explains an input, once more where an allocation was refused, and compares what was written.
-fn explains<H: Threads + Wait + Sync>(
-    rt: &H,
-    alloc: Global,
-    case: Case,
-    verdict: Verdict,
-    workers: usize,
-) -> Result<(), Fail>
-    requires some { 1 ≤ workers }
-    requires most { workers ≤ worker_limit }
-{
-    let (input, expected) = case;
-    let mut written = Vec::new(alloc);
-    let mut said = present(
-        rt,
-        alloc,
-        &mut input.as_bytes(),
-        &mut written,
-        workers,
-        &AsExplanation,
-    );
-    if said == Err(Fault::OutOfMemory) || said == Err(Fault::NoThread) {
-        expect_bytes(input, &written, &[])?;
-        said = present(
-            rt,
-            alloc,
-            &mut input.as_bytes(),
-            &mut written,
-            workers,
-            &AsExplanation,
-        );
-    }
-    expect_said(input, said, Ok(verdict))?;
-    expect_bytes(input, &written, expected.as_bytes())
-}
-
 #[test]
 fn cycle(rt: HostRuntime) -> Result<(), Fail> {
-    explains(&rt, rt.alloc(), CYCLE, Verdict::Violation, 1)
+    expect_presented(
+        &rt,
+        rt.alloc(),
+        CYCLE,
+        Verdict::Violation,
+        1,
+        &AsExplanation,
+    )
 }
 
 #[test]
 fn swaps(rt: HostRuntime) -> Result<(), Fail> {
-    explains(&rt, rt.alloc(), SWAPS, Verdict::Violation, 2)
+    expect_presented(
+        &rt,
+        rt.alloc(),
+        SWAPS,
+        Verdict::Violation,
+        2,
+        &AsExplanation,
+    )
 }
 
 #[test]
 fn unwritten_load(rt: HostRuntime) -> Result<(), Fail> {
-    explains(&rt, rt.alloc(), UNWRITTEN, Verdict::Violation, 1)
+    expect_presented(
+        &rt,
+        rt.alloc(),
+        UNWRITTEN,
+        Verdict::Violation,
+        1,
+        &AsExplanation,
+    )
 }
 
 #[test]
 fn value_stored_elsewhere(rt: HostRuntime) -> Result<(), Fail> {
-    explains(&rt, rt.alloc(), ELSEWHERE, Verdict::Violation, 1)
+    expect_presented(
+        &rt,
+        rt.alloc(),
+        ELSEWHERE,
+        Verdict::Violation,
+        1,
+        &AsExplanation,
+    )
 }
 
 #[test]
 fn no_violation(rt: HostRuntime) -> Result<(), Fail> {
-    explains(&rt, rt.alloc(), SILENT, Verdict::NoViolation, 1)
+    expect_presented(
+        &rt,
+        rt.alloc(),
+        SILENT,
+        Verdict::NoViolation,
+        1,
+        &AsExplanation,
+    )
 }
 
 #[test]
 fn refusal(rt: HostRuntime) -> Result<(), Fail> {
-    explains(&rt, rt.alloc(), REFUSED, Verdict::Refused, 1)
+    expect_presented(
+        &rt,
+        rt.alloc(),
+        REFUSED,
+        Verdict::Refused,
+        1,
+        &AsExplanation,
+    )
 }

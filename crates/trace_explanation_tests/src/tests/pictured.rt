@@ -1,21 +1,9 @@
-//! Pictures of whole inputs, with the expected bytes of each, also where an allocation is refused: `rt try --test
-//! --fail-alloc N` refuses the Nth of each test.
-//!
-//! The call that meets it answers OutOfMemory, or NoThread where the allocation was that of a thread's start, and writes
-//! nothing, and the next call writes the ordinary picture.
-ghost use Rattle.std.specs.Prelude.{◌≤◌};
-ghost use Rattle.round_pool.specs.Workers.{worker_limit};
+//! Pictures of whole inputs, with the expected bytes of each.
 
-use super::{expect_bytes, expect_said};
-use std::alloc::Global;
-use std::sync::Wait;
+use super::{Case, expect_bytes, expect_presented, presented};
 use std::test::Fail;
-use std::thread::Threads;
 use trace_pictures::AsPicture;
-use tso_report::{Fault, Verdict, present};
-
-/// An input and its picture.
-type Case = (&'static str, &'static str);
+use tso_report::Verdict;
 
 /// A cycle of two through the first values, with first values of its own.
 const FIRST_VALUES: Case = (
@@ -83,111 +71,109 @@ const ALL_DRAWN: Case = (
     "digraph trace {\n  graph [layout=neato, inputscale=72, splines=true, outputorder=nodesfirst, fontname=\"Helvetica\", fontsize=12, labelloc=t, labeljust=l];\n  node [shape=box, style=filled, fillcolor=\"#ffffff\", fontname=\"Helvetica\", fontsize=12, height=0.34, width=1.2];\n  edge [fontname=\"Helvetica\", fontsize=10, arrowsize=0.7, labeldistance=5, labelangle=18];\n  label=\"TSO, no violation found\\lblue edge: from a store to a load that read it\\lblue box: a load that read the first value of its address\\l\";\n  p0 [label=\"P0\", shape=plaintext, fontsize=14, pos=\"0,-70!\"];\n  e1 [label=\"ld 1 0 (1)\", pos=\"0,-122!\", fillcolor=\"#d8e6f8\"];\n  p0 -> e1 [color=\"#b0b0b0\", arrowhead=none];\n",
 );
 
-/// The picture of an input that has this verdict, drawn once more where an allocation was refused.
-fn picture<H: Threads + Wait + Sync>(
-    rt: &H,
-    alloc: Global,
-    input: &str,
-    verdict: Verdict,
-    workers: usize,
-) -> Result<Vec<u8>, Fail>
-    requires some { 1 ≤ workers }
-    requires most { workers ≤ worker_limit }
-{
-    let mut written = Vec::new(alloc);
-    let mut said = present(
-        rt,
-        alloc,
-        &mut input.as_bytes(),
-        &mut written,
-        workers,
-        &AsPicture,
-    );
-    if said == Err(Fault::OutOfMemory) || said == Err(Fault::NoThread) {
-        expect_bytes(input, &written, &[])?;
-        said = present(
-            rt,
-            alloc,
-            &mut input.as_bytes(),
-            &mut written,
-            workers,
-            &AsPicture,
-        );
-    }
-    expect_said(input, said, Ok(verdict))?;
-    Ok(written)
-}
-
-/// Draws an input and compares what was written.
-fn draws<H: Threads + Wait + Sync>(
-    rt: &H,
-    alloc: Global,
-    case: Case,
-    verdict: Verdict,
-    workers: usize,
-) -> Result<(), Fail>
-    requires some { 1 ≤ workers }
-    requires most { workers ≤ worker_limit }
-{
-    let (input, expected) = case;
-    let written = picture(rt, alloc, input, verdict, workers)?;
-    expect_bytes(input, &written, expected.as_bytes())
-}
-
 #[test]
 fn first_values(rt: HostRuntime) -> Result<(), Fail> {
-    draws(&rt, rt.alloc(), FIRST_VALUES, Verdict::Violation, 1)
+    expect_presented(
+        &rt,
+        rt.alloc(),
+        FIRST_VALUES,
+        Verdict::Violation,
+        1,
+        &AsPicture,
+    )
 }
 
 #[test]
 fn swaps(rt: HostRuntime) -> Result<(), Fail> {
-    draws(&rt, rt.alloc(), SWAPS, Verdict::Violation, 2)
+    expect_presented(&rt, rt.alloc(), SWAPS, Verdict::Violation, 2, &AsPicture)
 }
 
 #[test]
 fn one_column(rt: HostRuntime) -> Result<(), Fail> {
-    draws(&rt, rt.alloc(), ONE_COLUMN, Verdict::Violation, 1)
+    expect_presented(
+        &rt,
+        rt.alloc(),
+        ONE_COLUMN,
+        Verdict::Violation,
+        1,
+        &AsPicture,
+    )
 }
 
 #[test]
 fn stbar(rt: HostRuntime) -> Result<(), Fail> {
-    draws(&rt, rt.alloc(), STBAR, Verdict::Violation, 1)
+    expect_presented(&rt, rt.alloc(), STBAR, Verdict::Violation, 1, &AsPicture)
 }
 
 #[test]
 fn store_buffering(rt: HostRuntime) -> Result<(), Fail> {
-    draws(&rt, rt.alloc(), STORE_BUFFERING, Verdict::Violation, 1)
+    expect_presented(
+        &rt,
+        rt.alloc(),
+        STORE_BUFFERING,
+        Verdict::Violation,
+        1,
+        &AsPicture,
+    )
 }
 
 #[test]
 fn unwritten_load(rt: HostRuntime) -> Result<(), Fail> {
-    draws(&rt, rt.alloc(), UNWRITTEN, Verdict::Violation, 1)
+    expect_presented(
+        &rt,
+        rt.alloc(),
+        UNWRITTEN,
+        Verdict::Violation,
+        1,
+        &AsPicture,
+    )
 }
 
 #[test]
 fn seventeen_stores(rt: HostRuntime) -> Result<(), Fail> {
-    draws(&rt, rt.alloc(), SEVENTEEN_STORES, Verdict::Violation, 1)
+    expect_presented(
+        &rt,
+        rt.alloc(),
+        SEVENTEEN_STORES,
+        Verdict::Violation,
+        1,
+        &AsPicture,
+    )
 }
 
 #[test]
 fn barriers(rt: HostRuntime) -> Result<(), Fail> {
-    draws(&rt, rt.alloc(), BARRIERS, Verdict::NoViolation, 1)
+    expect_presented(
+        &rt,
+        rt.alloc(),
+        BARRIERS,
+        Verdict::NoViolation,
+        1,
+        &AsPicture,
+    )
 }
 
 #[test]
 fn nothing_drawn(rt: HostRuntime) -> Result<(), Fail> {
-    draws(&rt, rt.alloc(), NOTHING_DRAWN, Verdict::NoViolation, 1)
+    expect_presented(
+        &rt,
+        rt.alloc(),
+        NOTHING_DRAWN,
+        Verdict::NoViolation,
+        1,
+        &AsPicture,
+    )
 }
 
 #[test]
 fn refusal(rt: HostRuntime) -> Result<(), Fail> {
-    draws(&rt, rt.alloc(), REFUSED, Verdict::Refused, 1)
+    expect_presented(&rt, rt.alloc(), REFUSED, Verdict::Refused, 1, &AsPicture)
 }
 
 #[test]
 fn all_drawn(rt: HostRuntime) -> Result<(), Fail> {
     let (input, expected) = ALL_DRAWN;
-    let written = picture(&rt, rt.alloc(), input, Verdict::NoViolation, 1)?;
+    let written = presented(&rt, rt.alloc(), input, Verdict::NoViolation, 1, &AsPicture)?;
     expect_bytes(
         "100 events",
         prefix(&written, expected.len()),
