@@ -11,19 +11,13 @@ use Rattle.clap.specs.declared.parser.matches.Found.{Found}
 use Rattle.clap.specs.declared.builder.value_parser.ValueParser.TheVariants as parser
 use Rattle.clap.proofs.ValueTestLemmas.{accepts-Accepts, Accepts-accepts}
 use Rattle.clap.proofs.WalkLemmas.{first_value-rows, one_text-rows}
-use Rattle.command_line.specs.declared.options.CampaignOptions.{CampaignOptions}
 use Rattle.command_line.specs.declared.options.RunOptions.{RunOptions}
-use Rattle.command_line.specs.declared.options.ShapeNumbers.{ShapeNumbers}
 use Rattle.command_line.specs.declared.options.UnitOptions.{UnitOptions}
-use Rattle.command_line.specs.Requests.{Text, Asked, AskedRun, asked_of, capacity_limit, refusing, replaying, running}
+use Rattle.command_line.specs.Requests.{Text, Asked, asked_of, capacity_limit, drain_turns_limit, number_limit, refusing, replaying, running, worker_limit}
 use Rattle.command_line.specs.declared.options.Printing.{Printing}
-use Rattle.command_line.specs.declared.parameters.NameList.{NameList}
 use Rattle.command_line.specs.declared.requests.Request.{Request}
-use Rattle.command_line.specs.Workers.{worker_limit}
-use Rattle.command_line.specs.Subcommands.{capacity, file, file_of, is_true, number_in, number_or, of_value, pair_of, printing_of, replay, run_of, trigger, unit, unit_of, workers}
-use Rattle.clap_arguments.specs.Offered.{text_in}
-use Rattle.clap_arguments.specs.Parameters.{flag}
-use Rattle.command_line.specs.Commands.{asked_in}
+use Rattle.command_line.specs.Subcommands.{file_of, is_true, number_or, pair_of, printing_of, replay, run, run_of, run_parameters, unit_of, within, workers_of}
+use Rattle.command_line.specs.Commands.{asked_in, given_in}
 
 -- the file that a value names which was asked for by its id, by whether it is a hyphen
 module _ (f : Found) (id : Text) (got : Option (Bor Text)) (found : option_map (λ s. s.now) got ≡ first_value f id) where
@@ -34,6 +28,10 @@ module _ (f : Found) (id : Text) (got : Option (Bor Text)) (found : option_map (
 
   pub no_file_found : got ≡ None → None ≡ file_of (first_of id (rows_of f))
   no_file_found is = ap file_of (sym (ap (option_map (λ s. s.now)) is) ∙ found ∙ first_value-rows f id)
+
+-- the number that a text spells, and `default` where it spells none
+abbrev number_in : ℕ → Text → ℕ
+number_in default text = if is_unsigned_in 0 number_limit text then digits_value 10 (without_leading_plus text) else default
 
 module _ (other : ℕ) where
   unwrap_or-number : {E : Type 0} (gives : Text → Result ℕ E → Type 0) (t : Text) (r : Option ℕ)
@@ -84,44 +82,48 @@ pub flag_found : (E : Type 0) (f : Found) (name : Text) (r : Option Bool) → (o
 flag_found E f name r none some =
     flag_or_false E (one_text f name) r none some ∙ ap (λ o. option_map_or (λ text. bytes_eq text (codes "true")) o false) (one_text-rows f name)
 
--- options of which each is known
-module _ (unit wanted : UnitOptions) (kind : unit.kind ≡ wanted.kind) (capacity : unit.capacity ≡ wanted.capacity) (trigger : unit.trigger ≡ wanted.trigger) where
-  pub unit_options_are : unit ≡ wanted
-  unit_options_are = rw (kind, capacity, trigger) refl
+pub run_options_found : (given : Text → Option Text) (unit : UnitOptions) (workers : ℕ) (printing : Option Printing) → unit ≡ unit_of given → workers ≡ workers_of given
+    → printing ≡ printing_of (is_true (given (codes "trace"))) (is_true (given (codes "explain")))
+    → option_map (λ (p : Printing). record { unit = unit; workers = workers; printing = p }) printing ≡ run_of given
+run_options_found given unit workers printing unit_is workers_are printing_is = rw (unit_is, workers_are, printing_is) refl
 
-module _ (options wanted : RunOptions) (unit : options.unit ≡ wanted.unit) (workers : options.workers ≡ wanted.workers) (printing : options.printing ≡ wanted.printing) where
-  pub run_options_are : options ≡ wanted
-  run_options_are = rw (unit, workers, printing) refl
+-- what a run asks for with these options, where there are any, and these texts
+pub run_asked : (rows : List Row) (options : Option RunOptions) → options ≡ run_of (given_in run_parameters rows) → (seed turns : ℕ) (program : Option Text)
+    → seed ≡ number_or 0 (one_of (codes "seed") rows) → turns ≡ within 0 drain_turns_limit (number_or 0 (one_of (codes "drain-turns") rows))
+    → program ≡ file_of (first_of (codes "program") rows) → option_map_or (λ o. running o seed turns program) options refusing ≡ asked_in run rows
+run_asked rows options options_are seed turns program seed_is turns_are program_is = rw (options_are, seed_is, turns_are, program_is) refl
 
-module _ (shape wanted : ShapeNumbers) (processors : shape.processors ≡ wanted.processors) (operations : shape.operations ≡ wanted.operations) (addresses : shape.addresses ≡ wanted.addresses) where
-  pub shape_numbers_are : shape ≡ wanted
-  shape_numbers_are = rw (processors, operations, addresses) refl
+-- what holds of a refusal, and of what is asked for with options in their ranges, holds of what `replay` and `run` ask for
+module _ (P : Asked → Type 0) (refused : P refusing) where
+  of_any : {X : Type 0} (ask : X → Asked) → ((x : X) → P (ask x)) → (value : Option X) → P (option_map_or ask value refusing)
+  of_any ask asked None = refused
+  of_any ask asked (Some value) = asked value
 
-module _ (options wanted : CampaignOptions) (unit : options.unit ≡ wanted.unit) (workers : options.workers ≡ wanted.workers) (order : options.order ≡ wanted.order)
-    (first : options.first ≡ wanted.first) (count : options.count ≡ wanted.count) (shape : options.shape ≡ wanted.shape) where
-  pub campaign_options_are : options ≡ wanted
-  campaign_options_are = rw (unit, workers, order, first, count, shape) refl
+  of_options : (ask : RunOptions → Asked) (given : Text → Option Text)
+      → ((options : RunOptions) → 1 ≤ options.workers → options.workers ≤ worker_limit → 1 ≤ options.unit.capacity → options.unit.capacity ≤ capacity_limit → 1 ≤ options.unit.trigger → P (ask options))
+      → P (option_map_or ask (run_of given) refusing)
+  of_options ask given asked = go (printing_of (is_true (given (codes "trace"))) (is_true (given (codes "explain"))))
+    where
+      options : Printing → RunOptions
+      options printing = record { unit = unit_of given; workers = workers_of given; printing = printing }
 
-module _ (run wanted : AskedRun) where
-  pub running_are : run.options ≡ wanted.options → run.drain_seed ≡ wanted.drain_seed → run.drain_turns ≡ wanted.drain_turns → run.program ≡ wanted.program → running run ≡ running wanted
-  running_are options_are seed_is turns_are program_is = rw (options_are, seed_is, turns_are, program_is) refl
+      go : (printing : Option Printing) → P (option_map_or ask (option_map options printing) refusing)
+      go None = refused
+      go (Some printing) = asked (options printing) (omega arith) (omega arith) (omega arith) (omega arith) (omega arith)
 
--- what holds of a refusal, and of what is asked for of each value, holds where there may be none
-of_any : {X : Type 0} (P : Asked → Type 0) (ask : X → Asked) → P refusing → ((x : X) → P (ask x)) → (value : Option X) → P (of_value ask value)
-of_any P ask refused asked None = refused
-of_any P ask refused asked (Some value) = asked value
+  pub of_replay : ((options : RunOptions) (first second : Option Text) → 1 ≤ options.workers → options.workers ≤ worker_limit → 1 ≤ options.unit.capacity → options.unit.capacity ≤ capacity_limit
+      → 1 ≤ options.unit.trigger → P (replaying options first second))
+      → (rows : List Row) → P (asked_in replay rows)
+  of_replay asked rows =
+      of_options _ (given_in replay.parameters rows) (λ options some most capacity capacity_most trigger.
+      of_any _ (λ texts. asked options texts.0 texts.1 some most capacity capacity_most trigger)
+      (pair_of (file_of (first_of (codes "program") rows)) (file_of (first_of (codes "schedule") rows))))
 
--- what holds of a refusal, and of each replay whose options are in their ranges, holds of what `replay` asks for
-pub of_replay : (P : Asked → Type 0) → P refusing
-    → ((options : RunOptions) (first second : Option Text) → 1 ≤ options.workers → options.workers ≤ worker_limit → 1 ≤ options.unit.capacity → options.unit.capacity ≤ capacity_limit → 1 ≤ options.unit.trigger → P (replaying options first second))
-    → (rows : List Row) → P (asked_in replay rows)
-of_replay P refused asked rows =
-    let options : Printing → RunOptions = λ printing. run_of (unit_of (text_in rows unit) (text_in rows capacity) (text_in rows trigger)) (text_in rows workers) printing in
-    let pair = pair_of (file_of (text_in rows (file (codes "program")))) (file_of (text_in rows (file (codes "schedule")))) in
-    let ask : Printing → Option Text × Option Text → Asked = λ printing texts. replaying (options printing) texts.0 texts.1 in
-    of_any P (λ printing. of_value (ask printing) pair) refused
-    (λ printing. of_any P (ask printing) refused (λ texts. asked (options printing) texts.0 texts.1 (omega arith) (omega arith) (omega arith) (omega arith) (omega arith)) pair)
-    (printing_of (text_in {N = NameList} rows (flag (codes "trace"))) (text_in {N = NameList} rows (flag (codes "explain"))))
+  pub of_run : ((options : RunOptions) (seed turns : ℕ) (program : Option Text) → 1 ≤ options.workers → options.workers ≤ worker_limit → 1 ≤ options.unit.capacity → options.unit.capacity ≤ capacity_limit
+      → 1 ≤ options.unit.trigger → turns ≤ drain_turns_limit → P (running options seed turns program))
+      → (rows : List Row) → P (asked_in run rows)
+  of_run asked rows =
+      of_options _ (given_in run.parameters rows) (λ options some most capacity capacity_most trigger. asked options _ _ _ some most capacity capacity_most trigger (omega arith))
 
 pub of_request : {E : Type 0} (P : Asked → Type 0) (asked : Asked) → P asked → (result : Result Request E) → IfOk result (λ request. asked_of request ≡ asked) → IfOk result (λ request. P (asked_of request))
 of_request P asked has (Ok request) is = subst P (sym is) has

@@ -1,23 +1,18 @@
 -- What the kinds of error of a parse stand for.
-use Rattle.std.proofs.Common.{◌≡◌, ◌∙◌, ap, sym, true≢false, inl, inr, List, [], ◌∷◌, Option, Result, Ok, Err, IfOk, IsErr}
+use Rattle.std.proofs.Common.{◌≡◌, sym, true≢false, inl, inr, List, [], ◌∷◌, Option, Result, Ok, Err, IfOk, IsErr}
 use Rattle.std.specs.declared.alloc.AllocError.{AllocError}
 use Rattle.clap.specs.Words.{HasKind, IsAmong, Kinds, Row, kind_of}
 use Rattle.clap.specs.declared.error.Error.{Error}
 use Rattle.clap.specs.declared.error.kind.ErrorKind.{ErrorKind}
 use Rattle.clap.specs.declared.error.kind.ErrorKind.TheVariants.{OutOfMemory}
 use Rattle.command_line.specs.Requests.{Text, Asked, asked_of}
-use Rattle.command_line.specs.Commands.{IsAskedAtOne, IsAskedBy, asked_at}
+use Rattle.command_line.specs.Commands.{IsAskedBy, asked_at}
 use Rattle.command_line.specs.declared.requests.Request.{Request}
-
-asked_at_one : (kinds : Kinds) (kind : ErrorKind) (asked : Asked) → IsAmong kind kinds → asked ≡ asked_at kind → IsAskedAtOne kinds asked
-asked_at_one [] kind asked among is = absurd among
-asked_at_one (x ∷ xs) kind asked (inl same) is = inl (is ∙ ap asked_at same)
-asked_at_one (x ∷ xs) kind asked (inr among) is = inr (asked_at_one xs kind asked among is)
 
 asked_among : (kinds : Kinds) (kind : ErrorKind) (found : Option (Text × List Row)) (asked : Asked) → IsAmong kind kinds → asked ≡ asked_at kind
     → IsAskedBy kinds found asked
 asked_among [] kind found asked among is = absurd among
-asked_among (x ∷ xs) kind found asked among is = asked_at_one (x ∷ xs) kind asked among is
+asked_among (x ∷ xs) kind found asked among is = (kind, among, is)
 
 -- a request that an error stands for, where out of memory stands for none
 pub asked_by_error : (r : Result Request AllocError) (kinds : Kinds) (found : Option (Text × List Row)) (e : Error) → HasKind kinds e

@@ -1,3 +1,10 @@
+pub mod ValueTexts
+pub mod Walks
+pub mod Rows
+pub mod Uses
+pub mod Refused
+pub mod GivenParameters
+pub mod Built
 pub mod FoundLemmas
 pub mod KindLemmas
 pub mod ParseLemmas

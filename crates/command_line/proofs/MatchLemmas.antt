@@ -31,7 +31,7 @@ module _ (names : OptionNames) where
 
   -- `help` may show its text or be refused
   shown : (arguments : List Text) (asked : Asked) → fault_of (tsobench_app names) arguments ≡ DisplayHelp ∷ InvalidSubcommand ∷ [] → asked ≡ showing → IsAskedBelow arguments asked
-  shown arguments asked kinds is = subst (λ (k : Kinds). IsAskedBy k (subcommand_of (tsobench_app names) arguments) asked) (sym kinds) (inl is)
+  shown arguments asked kinds is = subst (λ (k : Kinds). IsAskedBy k (subcommand_of (tsobench_app names) arguments) asked) (sym kinds) (DisplayHelp, inl refl, is)
 
   one_asked : (first : Text) (asked : Asked) → IsFound names (first ∷ []) asked → IsAskedBelow (first ∷ []) asked
   one_asked first asked is = go (bytes_eq first (codes "help")) refl

@@ -1,8 +1,9 @@
 -- What holds of each subcommand, since it is computed of all of them at once.
-use Rattle.std.proofs.Common.{◌≡◌, ◌∙◌, ◌||◌, ap, ap₂, refl, sym, inl, inr, true≢false, Bool, true, false, cond, List, [], ◌∷◌, ◌++◌, Option, Some, None, codes, map, is_some}
+use Rattle.std.proofs.Common.{◌≡◌, ◌∙◌, ap, ap₂, refl, sym, arith, zero, suc, Contains, drop, get_or, true≢false, Bool, true, false, cond, List, [], ◌∷◌, ◌++◌, Option, Some, None, codes, map, is_some}
 use Rattle.std.specs.List.{find, fold, list_all, list_any}
 use Rattle.std.specs.Option.{option_map, option_map_or}
 use Rattle.std.specs.Str.{bytes_eq}
+use Rattle.std.proofs.lemmas.Bool.{or_parts}
 use Rattle.clap.specs.Faults.{check_fault, defaults_fault, entered_fault, level_fault, other_fault, settle_fault, step_fault, turn_fault, walk_fault}
 use Rattle.clap.specs.Kinds.{Kinds, or_else}
 use Rattle.clap.specs.Simple.{Shape, built_leaf, entered, inherited, label_of, marked_built, names_of, rows_at, with_leaf_noted}
@@ -11,44 +12,36 @@ use Rattle.clap.specs.Words.{built, fault_of, subcommand_of}
 use Rattle.clap.specs.declared.error.kind.ErrorKind.TheVariants.{DisplayHelp, DisplayVersion, InvalidSubcommand, UnknownArgument}
 use Rattle.clap.proofs.OnLiterals.{clap_on_literals}
 use Rattle.clap.proofs.WalkLemmas.{walk_stopped}
-use Rattle.clap_arguments.specs.Offered.{Offers, built_rules, found_of_rule, is_long_name, itself, read_as_long, are_distinct}
-use Rattle.clap_arguments.specs.Parameters.{id_of, takes_default}
-use Rattle.clap_arguments.proofs.ValueTexts.{IsValue, other_order}
-use Rattle.clap_arguments.proofs.Walks.{standing}
-use Rattle.command_line.specs.Commands.{asked_by, asked_in, memory_of, program_app, subcommand_app, tsobench_app}
+use Rattle.command_line.specs.Offered.{Offers, built_rules, found_of_rule, is_long_name, itself, read_as_long, are_distinct}
+use Rattle.command_line.specs.Parameters.{id_of, offered_app, takes_default}
+use Rattle.command_line.proofs.ValueTexts.{IsValue, other_order}
+use Rattle.command_line.proofs.Walks.{standing}
+use Rattle.command_line.specs.Commands.{asked_by, asked_in, memory_of, program_app, tsobench_app}
 use Rattle.command_line.specs.Internal.Computed.{help_option_of, parsed_as}
 use Rattle.command_line.specs.Refusals.{is_subcommand}
 use Rattle.command_line.specs.Requests.{Text, judging}
-use Rattle.command_line.specs.Subcommands.{IsAmong, Subcommand, known_names, subcommands}
+use Rattle.command_line.specs.Subcommands.{Subcommand, known_names, subcommands}
 use Rattle.command_line.specs.declared.options.OptionNames.{OptionNames}
 use Rattle.command_line.specs.declared.options.Presentation.TheVariants.{Report}
 
-abbrev first_or : {X : Type 0} → X → List X → X
-first_or x [] = x
-first_or x (y ∷ ys) = y
-
-abbrev others_of : {X : Type 0} → List X → List X
-others_of [] = []
-others_of (x ∷ xs) = xs
-
 -- what is the same of each of a list is the same of one of them
-each_same : {X : Type 0} (f g : Subcommand → X) (cs : List Subcommand) → map f cs ≡ map g cs → (c : Subcommand) → IsAmong c cs → f c ≡ g c
-each_same f g [] same c among = absurd among
-each_same f g (d ∷ ds) same c (inl is) = ap f is ∙ ap (first_or (f d)) same ∙ ap g (sym is)
-each_same f g (d ∷ ds) same c (inr among) = each_same f g ds (ap others_of same) c among
+each_same : {X : Type 0} (f g : Subcommand → X) (cs : List Subcommand) → map f cs ≡ map g cs → (c : Subcommand) → Contains cs c → f c ≡ g c
+each_same f g [] same c (k, inside, is) = absurd (omega (arith, inside))
+each_same f g (d ∷ ds) same c (zero, inside, is) = ap f (sym is) ∙ ap (λ xs. get_or xs 0 (f d)) same ∙ ap g is
+each_same f g (d ∷ ds) same c (suc k, inside, is) = each_same f g ds (ap (drop 1) same) c (k, omega (arith, inside), is)
 
 -- the first of a list for which a test answers true
-pub found_among : (p : Subcommand → Bool) (cs : List Subcommand) (c : Subcommand) → find p cs ≡ Some c → (p c ≡ true) × IsAmong c cs
+pub found_among : (p : Subcommand → Bool) (cs : List Subcommand) (c : Subcommand) → find p cs ≡ Some c → (p c ≡ true) × Contains cs c
 found_among p [] c is = absurd (true≢false (ap (λ o. is_some o) (sym is)))
 found_among p (d ∷ ds) c is = go (p d) refl is (λ same. found_among p ds c same)
   where
-    go : (b : Bool) → p d ≡ b → cond b (Some d) (find p ds) ≡ Some c → (find p ds ≡ Some c → (p c ≡ true) × IsAmong c ds) → (p c ≡ true) × IsAmong c (d ∷ ds)
+    go : (b : Bool) → p d ≡ b → cond b (Some d) (find p ds) ≡ Some c → (find p ds ≡ Some c → (p c ≡ true) × Contains ds c) → (p c ≡ true) × Contains (d ∷ ds) c
     go true e same later =
         let this : d ≡ c = cc in
-        (ap p (sym this) ∙ e, inl (sym this))
+        (ap p (sym this) ∙ e, (0, omega arith, this))
     go false e same later =
         let one = later same in
-        (one.0, inr one.1)
+        (one.0, (suc one.1.0, omega (arith, one.1.1), one.1.2))
 
 -- the program as a subcommand sees it when it is built
 abbrev program : Shape
@@ -57,7 +50,7 @@ program = with_leaf_noted (marked_built (record program_app.top { is_leaf = fals
 module _ (names : OptionNames) where
   -- a subcommand as the program's build leaves it
   abbrev pub shape : Subcommand → Shape
-  shape c = built_leaf (inherited program (subcommand_app names c).top)
+  shape c = built_leaf (inherited program (offered_app (memory_of names) c.name c.parameters).top)
 
   abbrev top : Shape
   top = (built (tsobench_app names)).top
@@ -85,7 +78,7 @@ module _ (names : OptionNames) where
 
   -- ---- by the name of a subcommand
 
-  module _ (c : Subcommand) (among : IsAmong c subcommands) where
+  module _ (c : Subcommand) (among : Contains subcommands c) where
     met : walked top.rules labels (walk_from nothing_held) c.name ≡ stopped_at c.name []
     unfolding clap_on_literals
     met = each_same (λ d. walked top.rules labels (walk_from nothing_held) d.name) (λ d. stopped_at d.name []) subcommands refl c among
@@ -182,15 +175,11 @@ module _ (names : OptionNames) where
   -- ---- a first argument that is no subcommand and no option
 
   module _ (word : Text) (is : IsValue word) (unknown : is_subcommand word ≡ false) where
-    either : (a b : Bool) → (a || b) ≡ false → (a ≡ false) × (b ≡ false)
-    either false b e = (refl, e)
-    either true b e = absurd (true≢false e)
-
     none_answers : (cs : List Subcommand) → list_any (λ c. bytes_eq c.name word) cs ≡ false
         → find (answers_to word) (map (λ c. (c.name, [])) cs ++ (codes "help", []) ∷ []) ≡ None
-    none_answers [] none = rw (either (list_any (λ c. bytes_eq c.name word) subcommands) (bytes_eq (codes "help") word) unknown).1 refl
+    none_answers [] none = rw (or_parts (list_any (λ c. bytes_eq c.name word) subcommands) (bytes_eq (codes "help") word) unknown).1 refl
     none_answers (c ∷ cs) none =
-        let parts = either (bytes_eq c.name word) (list_any (λ c. bytes_eq c.name word) cs) none in
+        let parts = or_parts (bytes_eq c.name word) (list_any (λ c. bytes_eq c.name word) cs) none in
         rw parts.0 (none_answers cs parts.1)
 
     -- what fails at the word, by the subcommand that it names
@@ -205,7 +194,7 @@ module _ (names : OptionNames) where
 
     word_fault : turn_fault top labels (walk_from nothing_held) word ≡ UnknownArgument ∷ InvalidSubcommand ∷ []
     word_fault =
-        let none = none_answers subcommands (either (list_any (λ c. bytes_eq c.name word) subcommands) (bytes_eq (codes "help") word) unknown).0 in
+        let none = none_answers subcommands (or_parts (list_any (λ c. bytes_eq c.name word) subcommands) (bytes_eq (codes "help") word) unknown).0 in
         ap (λ o. word_fails (option_map (λ s. s.0) o)) none ∙ no_step
 
     pub unknown_refused : (rest : List Text) → fault_of (tsobench_app names) (word ∷ rest) ≡ UnknownArgument ∷ InvalidSubcommand ∷ []
@@ -213,7 +202,7 @@ module _ (names : OptionNames) where
     unknown_refused rest = ap (λ kinds. level_of (walk top.rules labels nothing_held (word ∷ rest)) (or_else kinds (walk_fault top labels (walked top.rules labels (walk_from nothing_held) word) rest))) word_fault
 
     unknown_no_help : bytes_eq word (codes "help") ≡ false
-    unknown_no_help = other_order (codes "help") word (either (list_any (λ c. bytes_eq c.name word) subcommands) (bytes_eq (codes "help") word) unknown).1
+    unknown_no_help = other_order (codes "help") word (or_parts (list_any (λ c. bytes_eq c.name word) subcommands) (bytes_eq (codes "help") word) unknown).1
 
     pub unknown_itself : (rest : List Text) → parsed_as (word ∷ rest) ≡ word ∷ rest
     unknown_itself [] = rw unknown_no_help refl

@@ -4,8 +4,8 @@ use Rattle.std.specs.Borrow.{Bor}
 use Rattle.std.proofs.lemmas.List.{drop_more, map-append, take_more}
 use Rattle.clap.specs.Simple.{new_shape}
 use Rattle.clap.specs.Words.{App, Rule, with_rule, with_subcommand}
-use Rattle.clap_arguments.specs.Parameters.{offered_app, offered_rule}
-use Rattle.command_line.specs.Commands.{subcommand_app}
+use Rattle.command_line.specs.Parameters.{offered_app, offered_rule}
+use Rattle.command_line.specs.Commands.{memory_of}
 use Rattle.command_line.specs.Internal.Computed.{member_of, parameter_of}
 use Rattle.command_line.specs.Requests.{Text}
 use Rattle.command_line.specs.declared.options.OptionNames.{OptionNames}
@@ -27,8 +27,8 @@ module _ (memory : NameList → Bor (List (Bor Text))) (name : Text) (parameters
 
 module _ (names : OptionNames) (list : List Subcommand) (i : ℕ) (default : Subcommand) (inside : i < length list) where
   abbrev pub with_each : App → List Subcommand → App
-  with_each app subcommands = fold (λ a c. with_subcommand a (subcommand_app names c).top) app (map member_of subcommands)
+  with_each app subcommands = fold (λ a c. with_subcommand a (offered_app (memory_of names) c.name c.parameters).top) app (map member_of subcommands)
 
-  pub one_more_subcommand : (old new : App) → new ≡ with_subcommand old (subcommand_app names (member_of (get_or list i default))).top
+  pub one_more_subcommand : (old new : App) → new ≡ with_subcommand old (offered_app (memory_of names) (member_of (get_or list i default)).name (member_of (get_or list i default)).parameters).top
       → with_each old (drop i list) ≡ with_each new (drop (i + 1) list)
   one_more_subcommand old new is = ap (with_each old) (drop_more list i default inside) ∙ ap (λ a. with_each a (drop (i + 1) list)) (sym is)

@@ -5,9 +5,9 @@ use Rattle.clap.specs.Values.{refused_kind}
 use Rattle.clap.specs.Words.{Kinds, Row, fault_of, subcommand_of}
 use Rattle.clap.specs.declared.error.kind.ErrorKind.{ErrorKind}
 use Rattle.clap.specs.declared.error.kind.ErrorKind.TheVariants.{InvalidSubcommand, UnknownArgument}
-use Rattle.clap_arguments.specs.Parameters.{Values, listed, parser_of, range}
-use Rattle.clap_arguments.proofs.GivenParameters.{give_taken, give_texts, left_out_refused, wrong_value_refused}
-use Rattle.clap_arguments.proofs.ValueTexts.{value_is}
+use Rattle.command_line.specs.Parameters.{Values, listed, parser_of, range}
+use Rattle.command_line.proofs.GivenParameters.{give_taken, give_texts, left_out_refused, wrong_value_refused}
+use Rattle.command_line.proofs.ValueTexts.{value_is}
 use Rattle.command_line.specs.Commands.{HasKnownNames, IsAskedBy, asked_at, asked_by, memory_of, tsobench_app}
 use Rattle.command_line.specs.Internal.Computed.{IsFound, parsed_as}
 use Rattle.command_line.specs.Refusals.{Refuses}
@@ -15,7 +15,7 @@ use Rattle.command_line.specs.Refusals as refuses
 use Rattle.command_line.specs.Requests.{Text, Asked, refusing, showing}
 use Rattle.command_line.specs.Spellings.{Asks, AsksHelp}
 use Rattle.command_line.specs.Spellings as asks
-use Rattle.command_line.specs.Subcommands.{known_names}
+use Rattle.command_line.specs.Subcommands.{known_names, text_by_name}
 use Rattle.command_line.specs.declared.options.OptionNames.{OptionNames}
 use Rattle.command_line.specs.declared.parameters.NameList.{NameList}
 use Rattle.command_line.proofs.MemberLemmas.{asked_by_name, defaults_taken, help_option, help_shown, nothing_taken, offers, options_shown, parsed_itself, shape, short_shown, subcommand_fault, subcommand_found, unknown_itself, unknown_refused}
@@ -27,8 +27,8 @@ module _ (found : Option (Text × List Row)) (asked : Asked) where
   by_matches kinds none is = subst (λ (k : Kinds). IsAskedBy k found asked) none is
 
   one_kind : (kind : ErrorKind) → IsAskedBy (kind ∷ []) found asked → asked ≡ asked_at kind
-  one_kind kind (inl is) = is
-  one_kind kind (inr is) = absurd is
+  one_kind kind (k, inl same, is) = is ∙ ap asked_at same
+  one_kind kind (k, inr among, is) = absurd among
 
   pub by_kind : (kind : ErrorKind) (kinds : Kinds) → kinds ≡ kind ∷ [] → IsAskedBy kinds found asked → asked ≡ asked_at kind
   by_kind kind kinds only is = one_kind kind (subst (λ (k : Kinds). IsAskedBy k found asked) only is)
@@ -37,9 +37,9 @@ module _ (found : Option (Text × List Row)) (asked : Asked) where
   stray_kinds kinds only is = go (subst (λ (k : Kinds). IsAskedBy k found asked) only is)
     where
       go : IsAskedBy (UnknownArgument ∷ InvalidSubcommand ∷ []) found asked → asked ≡ refusing
-      go (inl at) = at
-      go (inr (inl at)) = at
-      go (inr (inr at)) = absurd at
+      go (k, inl same, at) = at ∙ ap asked_at same
+      go (k, inr (inl same), at) = at ∙ ap asked_at same
+      go (k, inr (inr among), at) = absurd among
 
 -- a wrong value is refused
 wrong_is_refused : (names : OptionNames) (values : Values NameList) → asked_at (refused_kind (parser_of (memory_of names) values)) ≡ refusing
@@ -61,7 +61,7 @@ module _ (names : OptionNames) where
       ∙ ap (λ kinds. or_else kinds []) (give_taken (memory_of names) known_names are (shape names c) c.parameters (offers names c among) (defaults_taken names c among) rest texts give) in
       by_matches _ asked _ taken (unchanged (c.name ∷ rest) asked (parsed_itself names c among rest) is)
       ∙ ap asked_by (subcommand_found names c among rest) ∙ asked_by_name names c among _
-      ∙ ap c.ask (give_texts (memory_of names) known_names are (shape names c) c.parameters (offers names c among) (defaults_taken names c among) rest texts give)
+      ∙ ap (λ texts. c.ask (text_by_name c.parameters texts)) (give_texts (memory_of names) known_names are (shape names c) c.parameters (offers names c among) (defaults_taken names c among) rest texts give)
 
   pub help_is : (arguments : List Text) (asked : Asked) → AsksHelp arguments → IsFound names arguments asked → asked ≡ showing
   help_is arguments asked asks.help is = by_kind _ asked _ _ (options_shown names).0 is

@@ -1,20 +1,20 @@
 -- What any arguments ask for, in the terms of `clap`: the command line that is offered, and what its matches and its kinds of error stand for.
-use Rattle.std.specs.Prelude.{◌≡◌, ◌⊎◌, true, List, [], ◌∷◌, Option, Some, None, codes, find, fold, map}
+use Rattle.std.specs.Prelude.{◌≡◌, true, List, [], Option, Some, None, codes, find, fold, map}
 use Rattle.std.specs.Borrow.{Bor}
 use Rattle.std.specs.Option.{option_map_or}
 use Rattle.std.specs.Str.{bytes_eq}
 use Rattle.clap.specs.Simple.{App, on_top}
-use Rattle.clap.specs.Words.{Kinds, Row, fault_of, new_app, subcommand_of, with_subcommand}
+use Rattle.clap.specs.Words.{IsAmong, Kinds, Row, fault_of, new_app, subcommand_of, with_subcommand}
 use Rattle.clap.specs.declared.error.kind.ErrorKind.{ErrorKind}
 use Rattle.clap.specs.declared.error.kind.ErrorKind.TheVariants.{DisplayHelp, DisplayVersion}
-use Rattle.clap_arguments.specs.Offered.{text_in}
-use Rattle.clap_arguments.specs.Parameters.{offered_app}
+use Rattle.command_line.specs.Offered.{text_in}
+use Rattle.command_line.specs.Parameters.{Parameter, offered_app}
 use Rattle.command_line.specs.declared.options.OptionNames.{OptionNames}
 use Rattle.command_line.specs.declared.options.Presentation.TheVariants.{Report}
 use Rattle.command_line.specs.declared.parameters.NameList.{NameList}
 use Rattle.command_line.specs.declared.parameters.NameList.TheVariants.{Units, Models}
 use Rattle.command_line.specs.Requests.{Text, Asked, judging, refusing, showing}
-use Rattle.command_line.specs.Subcommands.{Subcommand, known_names, subcommands}
+use Rattle.command_line.specs.Subcommands.{Subcommand, known_names, subcommands, text_by_name}
 
 -- ---- the command line
 
@@ -27,22 +27,22 @@ memory_of names Models = names.models
 abbrev pub HasKnownNames : OptionNames → Type 0
 HasKnownNames names = (list : NameList) → map (λ name. name.now) (memory_of names list).now ≡ known_names list
 
--- a subcommand as it is offered
-abbrev pub subcommand_app : OptionNames → Subcommand → App
-subcommand_app names c = offered_app (memory_of names) c.name c.parameters
-
 -- the program, before its subcommands; the name of the program is none of its arguments
 abbrev pub program_app : App
 program_app = on_top (λ s. record s { no_binary_name = true; has_version = true }) (new_app (codes "tsobench"))
 
 abbrev pub tsobench_app : OptionNames → App
-tsobench_app names = fold (λ app c. with_subcommand app (subcommand_app names c).top) program_app subcommands
+tsobench_app names = fold (λ app c. with_subcommand app (offered_app (memory_of names) c.name c.parameters).top) program_app subcommands
 
 -- ---- what the matches stand for
 
+-- the text of the parameter of each name in the rows of a parse
+abbrev pub given_in : List (Parameter NameList) → List Row → Text → Option Text
+given_in parameters rows = text_by_name parameters (map (text_in rows) parameters)
+
 -- what a subcommand asks for whose parse left these rows
 abbrev pub asked_in : Subcommand → List Row → Asked
-asked_in c rows = c.ask (map (text_in rows) c.parameters)
+asked_in c rows = c.ask (given_in c.parameters rows)
 
 -- by the subcommand's name and its rows; without a subcommand standard input is judged, with one worker
 abbrev pub asked_by : Option (Text × List Row) → Asked
@@ -56,14 +56,10 @@ asked_at DisplayHelp = showing
 asked_at DisplayVersion = showing
 asked_at _ = refusing
 
-abbrev pub IsAskedAtOne : Kinds → Asked → Type 0
-IsAskedAtOne [] asked = ⊥
-IsAskedAtOne (kind ∷ others) asked = (asked ≡ asked_at kind) ⊎ IsAskedAtOne others asked
-
 -- with no kind of error the matches say what is asked for, else one of the kinds does
 abbrev pub IsAskedBy : Kinds → Option (Text × List Row) → Asked → Type 0
 IsAskedBy [] found asked = asked ≡ asked_by found
-IsAskedBy (kind ∷ others) found asked = IsAskedAtOne (kind ∷ others) asked
+IsAskedBy kinds found asked = (kind : ErrorKind) × IsAmong kind kinds × (asked ≡ asked_at kind)
 
 -- what `clap` says that the arguments ask for, where `--unit` takes the names of the units, and `--model` those of the
 -- memory models

@@ -1,7 +1,9 @@
+pub mod Given
+pub mod Parameters
+pub mod Spelled
+pub mod Offered
 pub mod Requests
-pub mod Workers
-pub mod Units
-pub mod Models
+pub mod Names
 pub mod Subcommands
 pub mod Spellings
 pub mod Refusals

@@ -1,9 +1,7 @@
 -- What the arguments of a command line may ask for.
-use Rattle.std.specs.Prelude.{◌≤◌, ◌^◌, ◌-◌, ◌&&◌, ℕ, Bool, true, false, not, List, [], ◌++◌, map, Option, Some, None, IfSome, is_some, option_map, option_to_list, String, string_bytes}
+use Rattle.std.specs.Prelude.{◌≤◌, ◌^◌, ◌-◌, ℕ, Bool, true, false, List, [], ◌∷◌, map, Option, Some, None, IfSome, option_map, String, string_bytes}
 use Rattle.tso_ops.specs.declared.settings.Order.{Order}
-use Rattle.command_line.specs.Workers.{worker_limit}
 use Rattle.command_line.specs.declared.requests.Request.{Request}
-use Rattle.command_line.specs.declared.requests.RunRequest.{RunRequest}
 use Rattle.command_line.specs.declared.requests.TextPair.{TextPair}
 use Rattle.command_line.specs.declared.requests.TextPair.TheVariants.{Files, InputAndFile, FileAndInput}
 use Rattle.command_line.specs.declared.options.CampaignOptions.{CampaignOptions}
@@ -30,14 +28,6 @@ prints_trace Report = false
 prints_trace Trace = true
 prints_trace Explanation = false
 
--- a run of the program in a file, or on standard input where none is named, with a thread per processor, with these
--- options and this seed of the drains, beside a drainer that takes so many turns
-pub record AskedRun : Type 0 where
-  pub options : RunOptions
-  pub drain_seed : ℕ
-  pub drain_turns : ℕ
-  pub program : Option Text
-
 -- what is asked for; a text for which no file is named is on standard input
 pub data Asked : Type 0 where
   -- to judge a trace with so many workers, and to present the verdict in this form
@@ -51,8 +41,9 @@ pub data Asked : Type 0 where
   checking : Option Text → Option Text → Asked
   -- to replay a program, the first text, by a schedule, the second, with these options
   replaying : RunOptions → Option Text → Option Text → Asked
-  -- to run a program with a thread per processor
-  running : AskedRun → Asked
+  -- to run a program with a thread per processor, with these options and this seed of the drains, beside a drainer that
+  -- takes so many turns
+  running : RunOptions → ℕ → ℕ → Option Text → Asked
   -- to print the program of this memory model made from this seed in this shape
   making : Order → ℕ → ShapeNumbers → Asked
   -- to run the programs made from the seeds of a campaign, and to judge the trace of each
@@ -61,10 +52,6 @@ pub data Asked : Type 0 where
   showing : Asked
   -- nothing that the program does: the arguments are refused
   refusing : Asked
-
--- the run that a request asks for
-abbrev pub asked_run : RunRequest → AskedRun
-asked_run run = record { options = run.options; drain_seed = run.drain_seed; drain_turns = run.drain_turns; program = option_map (λ f. f.now) run.program }
 
 -- the files of two texts, none for one on standard input
 abbrev pub files_of : TextPair → Option Text × Option Text
@@ -79,11 +66,15 @@ asked_of (Batch batch) = batching (option_map (λ f. f.now) batch.file) batch.wo
 asked_of (Cut cut) = cutting (option_map (λ f. f.now) cut.file) cut.events
 asked_of (Check texts) = checking (files_of texts).0 (files_of texts).1
 asked_of (Replay options texts) = replaying options (files_of texts).0 (files_of texts).1
-asked_of (Run run) = running (asked_run run)
+asked_of (Run run) = running run.options run.drain_seed run.drain_turns (option_map (λ f. f.now) run.program)
 asked_of (Make order seed shape) = making order seed shape
 asked_of (Campaign options) = campaigning options
 asked_of (Show text) = showing
 asked_of (Refuse text) = refusing
+
+-- the greatest number of workers
+abbrev pub worker_limit : ℕ
+worker_limit = 64
 
 -- the greatest capacity of a store buffer, in entries
 abbrev pub capacity_limit : ℕ
@@ -108,47 +99,30 @@ number_limit = 2 ^ 64 - 1
 -- ---- what is needed to do what is asked for
 
 pub record Needs : Type 0 where
-  -- the files that are opened, in their order
-  pub files : List Text
-  -- standard input is read
-  pub input : Bool
+  -- the texts that are read, in their order: each in a file, or on standard input where none is named
+  pub texts : List (Option Text)
   -- how many workers judge, or share the seeds of a campaign
   pub workers : Option ℕ
   -- the memory unit on which programs are run
   pub unit : Option UnitOptions
-  -- how many turns a drainer takes beside the processors of a run
-  pub turns : Option ℕ
-  -- how many events a piece of a log may have
-  pub events : Option ℕ
   -- where the one program that is run comes from: a file, or standard input where none is named
   pub program : Option (Option Text)
 
 abbrev pub nothing_needed : Needs
-nothing_needed = record { files = []; input = false; workers = None; unit = None; turns = None; events = None; program = None }
+nothing_needed = record { texts = []; workers = None; unit = None; program = None }
 
 abbrev pub needs : Asked → Needs
-needs (judging presentation file workers) = record nothing_needed { files = option_to_list file; input = not (is_some file); workers = Some workers }
-needs (batching file workers quiet) = record nothing_needed { files = option_to_list file; input = not (is_some file); workers = Some workers }
-needs (cutting file events) = record nothing_needed { files = option_to_list file; input = not (is_some file); events = Some events }
-needs (checking trace certificate) = record nothing_needed {
-  files = option_to_list trace ++ option_to_list certificate;
-  input = not (is_some trace && is_some certificate);
-}
-needs (replaying options program schedule) = record nothing_needed {
-  files = option_to_list program ++ option_to_list schedule;
-  input = not (is_some program && is_some schedule);
+needs (judging presentation file workers) = record nothing_needed { texts = file ∷ []; workers = Some workers }
+needs (batching file workers quiet) = record nothing_needed { texts = file ∷ []; workers = Some workers }
+needs (cutting file events) = record nothing_needed { texts = file ∷ [] }
+needs (checking trace certificate) = record nothing_needed { texts = trace ∷ certificate ∷ [] }
+needs (replaying options program schedule) = record {
+  texts = program ∷ schedule ∷ [];
   workers = Some options.workers;
   unit = Some options.unit;
   program = Some program;
 }
-needs (running run) = record nothing_needed {
-  files = option_to_list run.program;
-  input = not (is_some run.program);
-  workers = Some run.options.workers;
-  unit = Some run.options.unit;
-  turns = Some run.drain_turns;
-  program = Some run.program;
-}
+needs (running options seed turns program) = record { texts = program ∷ []; workers = Some options.workers; unit = Some options.unit; program = Some program }
 needs (campaigning options) = record nothing_needed { workers = Some options.workers; unit = Some options.unit }
 needs asked = nothing_needed
 
@@ -162,8 +136,10 @@ HasUnitRanges asked = IfSome (needs asked).unit (λ unit. (1 ≤ unit.capacity) 
 
 -- a drainer takes no more turns than it may
 abbrev pub HasDrainTurns : Asked → Type 0
-HasDrainTurns asked = IfSome (needs asked).turns (λ turns. turns ≤ drain_turns_limit)
+HasDrainTurns (running options seed turns program) = turns ≤ drain_turns_limit
+HasDrainTurns asked = Unit {0}
 
 -- a piece of a log may have a swap and what it read, and no more events than a trace may
 abbrev pub HasPieceEvents : Asked → Type 0
-HasPieceEvents asked = IfSome (needs asked).events (λ events. (least_piece_limit ≤ events) × (events ≤ piece_event_limit))
+HasPieceEvents (cutting file events) = (least_piece_limit ≤ events) × (events ≤ piece_event_limit)
+HasPieceEvents asked = Unit {0}

@@ -1,25 +1,25 @@
 -- The usual spellings of requests: which arguments ask for what.
-use Rattle.std.specs.Prelude.{List, [], ◌∷◌, Option, None, codes}
-use Rattle.clap_arguments.specs.Spelled.{Give}
+use Rattle.std.specs.Prelude.{Contains, List, [], ◌∷◌, Option, None, codes}
+use Rattle.command_line.specs.Spelled.{Give}
 use Rattle.command_line.specs.declared.options.Presentation.TheVariants.{Report}
 use Rattle.command_line.specs.Requests.{Text, Asked, judging}
-use Rattle.command_line.specs.Subcommands.{IsAmong, Subcommand, known_names, subcommands}
+use Rattle.command_line.specs.Subcommands.{Subcommand, known_names, subcommands, text_by_name}
 
 -- the arguments ask for this
 pub data Asks : List Text → Asked → Type 0 where
   -- no arguments: standard input, with one worker
   nothing : Asks [] (judging Report None 1)
   -- the name of a subcommand, and then its parameters in a usual spelling and any order
-  subcommand : (c : Subcommand) (rest : List Text) (texts : List (Option Text)) → IsAmong c subcommands → Give known_names c.parameters rest texts
-      → Asks (c.name ∷ rest) (c.ask texts)
+  subcommand : (c : Subcommand) (rest : List Text) (texts : List (Option Text)) → Contains subcommands c → Give known_names c.parameters rest texts
+      → Asks (c.name ∷ rest) (c.ask (text_by_name c.parameters texts))
 
 -- the arguments ask for the help or for the version
 pub data AsksHelp : List Text → Type 0 where
   help : AsksHelp (codes "help" ∷ [])
   help_option : AsksHelp (codes "--help" ∷ [])
   help_short : AsksHelp (codes "-h" ∷ [])
-  help_of : (c : Subcommand) → IsAmong c subcommands → AsksHelp (codes "help" ∷ c.name ∷ [])
-  option_of : (c : Subcommand) → IsAmong c subcommands → AsksHelp (c.name ∷ codes "--help" ∷ [])
-  short_of : (c : Subcommand) → IsAmong c subcommands → AsksHelp (c.name ∷ codes "-h" ∷ [])
+  help_of : (c : Subcommand) → Contains subcommands c → AsksHelp (codes "help" ∷ c.name ∷ [])
+  option_of : (c : Subcommand) → Contains subcommands c → AsksHelp (c.name ∷ codes "--help" ∷ [])
+  short_of : (c : Subcommand) → Contains subcommands c → AsksHelp (c.name ∷ codes "-h" ∷ [])
   version_option : AsksHelp (codes "--version" ∷ [])
   version_short : AsksHelp (codes "-V" ∷ [])

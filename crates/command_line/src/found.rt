@@ -1,24 +1,129 @@
-//! What the matches of a subcommand say of the files and options that several have.
-ghost use Rattle.std.specs.Prelude.{◌≡◌, ◌≤◌, codes, option_map};
+//! What the matches of a subcommand ask for. The command has refused arguments without what may not be left out.
+ghost use Rattle.std.specs.Prelude.{◌≡◌, ◌≤◌, codes, option_map, IfOk};
 ghost use Rattle.clap.specs.Words.{first_of, found_of, one_of, rows_of};
-ghost use Rattle.command_line.specs.Subcommands.{events_of, file_of, number_or, chosen_order, pair_of, printing_of, is_true, run_of, shape_of, turns_of, unit_of, workers_of, within};
-ghost use Rattle.command_line.specs.Requests.{capacity_limit, files_of, least_piece_limit, piece_event_limit};
-ghost use Rattle.command_line.specs.Units.{default_capacity, default_trigger, trigger_limit};
-ghost use Rattle.command_line.specs.Workers.{worker_limit};
+ghost use Rattle.command_line.specs.Commands.{asked_in, given_in};
+ghost use Rattle.command_line.specs.Requests.{asked_of, files_of, refusing, worker_limit};
+ghost use Rattle.command_line.specs.Subcommands.{batch, campaign, check, chosen_order, cut, file_of, is_true, judge_as, make, model, number_or, pair_of, printing_of, replay, run, run_of, run_parameters, shape_of, shape_parameters, unit_of, unit_parameters, within};
 
+use crate::help;
 use crate::options::{
-    MAX_CAPACITY, MAX_DRAIN_TURNS, MAX_PIECE_EVENTS, MAX_WORKERS, MIN_PIECE_EVENTS, Printing,
-    RunOptions, ShapeNumbers, UnitKind, UnitOptions, kind_named, order_named,
+    CampaignOptions, MAX_CAPACITY, MAX_DRAIN_TURNS, MAX_PIECE_EVENTS, MAX_WORKERS,
+    MIN_PIECE_EVENTS, Presentation, Printing, RunOptions, ShapeNumbers, UnitKind, UnitOptions,
+    kind_named, order_named,
 };
-use crate::requests::TextPair;
+use crate::requests::{BatchRequest, CutRequest, JudgeRequest, Request, RunRequest, TextPair};
 use clap::ArgMatches;
+use std::alloc::{AllocError, Global};
 use tso_ops::Order;
 
 /// What stands for standard input in place of the name of a file.
 const STANDARD_INPUT: &str = "-";
 
+/// Of `judge`, `explain` and `draw`, which present the verdict in this form.
+pub(crate) fn judge<'a>(matches: &ArgMatches<'a>, presentation: Presentation) -> Request<'a>
+    ensures { asked_of result ≡ asked_in (judge_as (codes "judge") presentation) (rows_of (found_of matches.now)) }
+{
+    Request::Judge(JudgeRequest {
+        file: file(matches, "file"),
+        workers: workers(matches),
+        presentation,
+    })
+}
+
+/// Of `batch`.
+pub(crate) fn batch<'a>(matches: &ArgMatches<'a>) -> Request<'a>
+    ensures { asked_of result ≡ asked_in batch (rows_of (found_of matches.now)) }
+{
+    Request::Batch(BatchRequest {
+        file: file(matches, "file"),
+        workers: workers(matches),
+        quiet: is_used(matches, "quiet"),
+    })
+}
+
+/// Of `cut`.
+pub(crate) fn cut<'a>(matches: &ArgMatches<'a>) -> Request<'a>
+    ensures { asked_of result ≡ asked_in cut (rows_of (found_of matches.now)) }
+{
+    let (least, most) = (MIN_PIECE_EVENTS as u64, MAX_PIECE_EVENTS as u64);
+    Request::Cut(CutRequest {
+        file: file(matches, "file"),
+        events: number_within(matches, "events", 2_000, least, most) as usize,
+    })
+}
+
+/// Of `check`: a refusal where both texts would be standard input.
+pub(crate) fn check<'a>(alloc: Global, matches: &ArgMatches<'a>) -> Result<Request<'a>, AllocError>
+    ensures { IfOk result (λ request. asked_of request ≡ asked_in check (rows_of (found_of matches.now))) }
+{
+    match text_pair(matches, "trace", "cert") {
+        Some(texts) => Ok(Request::Check(texts)),
+        None => refuse(alloc, help::TWO_INPUTS),
+    }
+}
+
+/// Of `replay`: a refusal of both flags, or where both texts would be standard input.
+pub(crate) fn replay<'a>(alloc: Global, matches: &ArgMatches<'a>) -> Result<Request<'a>, AllocError>
+    ensures { IfOk result (λ request. asked_of request ≡ asked_in replay (rows_of (found_of matches.now))) }
+{
+    let Some(options) = run_options(matches) else {
+        return refuse(alloc, help::BOTH);
+    };
+    match text_pair(matches, "program", "schedule") {
+        Some(texts) => Ok(Request::Replay { options, texts }),
+        None => refuse(alloc, help::TWO_INPUTS),
+    }
+}
+
+/// Of `run`: a refusal of both flags.
+pub(crate) fn run<'a>(alloc: Global, matches: &ArgMatches<'a>) -> Result<Request<'a>, AllocError>
+    ensures { IfOk result (λ request. asked_of request ≡ asked_in run (rows_of (found_of matches.now))) }
+{
+    match run_options(matches) {
+        Some(options) => Ok(Request::Run(RunRequest {
+            options,
+            drain_seed: number(matches, "seed", 0),
+            drain_turns: number_within(matches, "drain-turns", 0, 0, MAX_DRAIN_TURNS),
+            program: file(matches, "program"),
+        })),
+        None => refuse(alloc, help::BOTH),
+    }
+}
+
+/// Of `make`.
+pub(crate) fn make<'a>(matches: &ArgMatches<'a>) -> Request<'a>
+    ensures { asked_of result ≡ asked_in make (rows_of (found_of matches.now)) }
+{
+    Request::Make {
+        order: order(matches),
+        seed: number(matches, "seed", 0),
+        shape: shape_numbers(matches),
+    }
+}
+
+/// Of `campaign`.
+pub(crate) fn campaign<'a>(matches: &ArgMatches<'a>) -> Request<'a>
+    ensures { asked_of result ≡ asked_in campaign (rows_of (found_of matches.now)) }
+{
+    Request::Campaign(CampaignOptions {
+        unit: unit_options(matches),
+        workers: workers(matches),
+        order: order(matches),
+        first: number(matches, "first", 0),
+        count: number(matches, "count", 0),
+        shape: shape_numbers(matches),
+    })
+}
+
+/// A refusal with this text.
+fn refuse<'a>(alloc: Global, text: &str) -> Result<Request<'a>, AllocError>
+    ensures { IfOk result (λ request. asked_of request ≡ refusing) }
+{
+    Ok(Request::Refuse(String::from_str(alloc, text)?))
+}
+
 /// The file that an argument names; none where it is left out or a hyphen, which stand for standard input.
-pub(crate) fn file<'a>(matches: &ArgMatches<'a>, name: &str) -> Option<&'a str>
+fn file<'a>(matches: &ArgMatches<'a>, name: &str) -> Option<&'a str>
     ensures { option_map (λ file. file.now) result ≡ file_of (first_of name.now (rows_of (found_of matches.now))) }
 {
     let named = matches.get_str(name)?;
@@ -29,11 +134,7 @@ pub(crate) fn file<'a>(matches: &ArgMatches<'a>, name: &str) -> Option<&'a str>
 }
 
 /// The two texts that arguments name; none where standard input would be both.
-pub(crate) fn text_pair<'a>(
-    matches: &ArgMatches<'a>,
-    first: &str,
-    second: &str,
-) -> Option<TextPair<'a>>
+fn text_pair<'a>(matches: &ArgMatches<'a>, first: &str, second: &str) -> Option<TextPair<'a>>
     ensures { let rows = rows_of (found_of matches.now) in option_map files_of result ≡ pair_of (file_of (first_of first.now rows)) (file_of (first_of second.now rows)) }
 {
     match (file(matches, first), file(matches, second)) {
@@ -45,7 +146,7 @@ pub(crate) fn text_pair<'a>(
 }
 
 /// The memory model: TSO where none is named.
-pub(crate) fn order(matches: &ArgMatches<'_>) -> Order
+fn order(matches: &ArgMatches<'_>) -> Order
     ensures { result ≡ chosen_order (first_of (codes "model") (rows_of (found_of matches.now))) }
 {
     let named = matches.get_str("model").and_then(order_named);
@@ -53,45 +154,31 @@ pub(crate) fn order(matches: &ArgMatches<'_>) -> Order
 }
 
 /// What the options say of a shape.
-pub(crate) fn shape_numbers(matches: &ArgMatches<'_>) -> ShapeNumbers
-    ensures { let rows = rows_of (found_of matches.now) in result ≡ shape_of (one_of (codes "procs") rows) (one_of (codes "ops") rows) (one_of (codes "addrs") rows) }
+fn shape_numbers(matches: &ArgMatches<'_>) -> ShapeNumbers
+    ensures { result ≡ shape_of (given_in shape_parameters (rows_of (found_of matches.now))) }
 {
     ShapeNumbers {
-        processors: required_number(matches, "procs"),
-        operations: required_number(matches, "ops"),
-        addresses: required_number(matches, "addrs"),
+        processors: number(matches, "procs", 0),
+        operations: number(matches, "ops", 0),
+        addresses: number(matches, "addrs", 0),
     }
 }
 
-/// The number of the option of this name. The command has refused arguments without one.
-pub(crate) fn required_number(matches: &ArgMatches<'_>, name: &str) -> u64
-    ensures { result ≡ number_or 0 (one_of name.now (rows_of (found_of matches.now))) }
+/// What the options say of a run; none with both flags, of trace and of explanation.
+fn run_options(matches: &ArgMatches<'_>) -> Option<RunOptions>
+    ensures { result ≡ run_of (given_in run_parameters (rows_of (found_of matches.now))) }
 {
-    number(matches, name, 0)
-}
-
-/// The number of the option of this name, and the default where there is none.
-fn number(matches: &ArgMatches<'_>, name: &str, default: u64) -> u64
-    ensures { result ≡ number_or default (one_of name.now (rows_of (found_of matches.now))) }
-{
-    let named: Option<u64> = matches.get_one(name);
-    named.unwrap_or(default)
-}
-
-/// What the options say of a run, of which this is printed.
-pub(crate) fn run_options(matches: &ArgMatches<'_>, printing: Printing) -> RunOptions
-    ensures { let rows = rows_of (found_of matches.now) in result ≡ run_of (unit_of (first_of (codes "unit") rows) (one_of (codes "capacity") rows) (one_of (codes "trigger") rows)) (one_of (codes "workers") rows) printing }
-{
-    RunOptions {
+    let printing = printing(matches)?;
+    Some(RunOptions {
         unit: unit_options(matches),
         workers: workers(matches),
         printing,
-    }
+    })
 }
 
 /// What is to be printed: the report without the flags of trace and explanation, and nothing with both.
-pub(crate) fn printing(matches: &ArgMatches<'_>) -> Option<Printing>
-    ensures { let rows = rows_of (found_of matches.now) in result ≡ printing_of (one_of (codes "trace") rows) (one_of (codes "explain") rows) }
+fn printing(matches: &ArgMatches<'_>) -> Option<Printing>
+    ensures { let rows = rows_of (found_of matches.now) in result ≡ printing_of (is_true (one_of (codes "trace") rows)) (is_true (one_of (codes "explain") rows)) }
 {
     match (is_used(matches, "trace"), is_used(matches, "explain")) {
         (false, false) => Some(Printing::Report),
@@ -101,62 +188,46 @@ pub(crate) fn printing(matches: &ArgMatches<'_>) -> Option<Printing>
     }
 }
 
+/// What the options say of a unit.
+fn unit_options(matches: &ArgMatches<'_>) -> UnitOptions
+    ensures { result ≡ unit_of (given_in unit_parameters (rows_of (found_of matches.now))) }
+{
+    let kind = matches.get_str("unit").and_then(kind_named);
+    UnitOptions {
+        kind: kind.unwrap_or(UnitKind::Serial),
+        capacity: number_within(matches, "capacity", 8, 1, MAX_CAPACITY as u64) as usize,
+        trigger: number_within(matches, "trigger", 1, 1, u64::MAX),
+    }
+}
+
+/// The number of workers, 1 where none is named.
+fn workers(matches: &ArgMatches<'_>) -> usize
+    ensures { result ≡ within 1 worker_limit (number_or 1 (one_of (codes "workers") (rows_of (found_of matches.now)))) }
+{
+    number_within(matches, "workers", 1, 1, MAX_WORKERS as u64) as usize
+}
+
 /// Whether the flag of this name is used.
-pub(crate) fn is_used(matches: &ArgMatches<'_>, name: &str) -> bool
+fn is_used(matches: &ArgMatches<'_>, name: &str) -> bool
     ensures { result ≡ is_true (one_of name.now (rows_of (found_of matches.now))) }
 {
     matches.get_one(name).unwrap_or(false)
 }
 
-/// What the options say of a unit. The command has refused arguments without a unit.
-pub(crate) fn unit_options(matches: &ArgMatches<'_>) -> UnitOptions
-    ensures { let rows = rows_of (found_of matches.now) in result ≡ unit_of (first_of (codes "unit") rows) (one_of (codes "capacity") rows) (one_of (codes "trigger") rows) }
+/// The number of the option of this name, and the default where there is none, clamped: the command has refused numbers
+/// out of range, but what `clap` promises of the values of a subcommand doesn't say so.
+fn number_within(matches: &ArgMatches<'_>, name: &str, default: u64, least: u64, most: u64) -> u64
+    requires { least ≤ most }
+    ensures value { result ≡ within least most (number_or default (one_of name.now (rows_of (found_of matches.now)))) }
+    ensures range { (least ≤ result) × (result ≤ most) }
 {
-    let kind = matches.get_str("unit").and_then(kind_named);
-    UnitOptions {
-        kind: kind.unwrap_or(UnitKind::Serial),
-        capacity: capacity(matches),
-        trigger: trigger(matches),
-    }
+    number(matches, name, default).clamp(least, most)
 }
 
-/// The number of workers, 1 where none is named. The command has refused numbers out of range; what `clap` promises of
-/// the values of a subcommand doesn't say so, hence the clamp.
-pub(crate) fn workers(matches: &ArgMatches<'_>) -> usize
-    ensures value { result ≡ workers_of (one_of (codes "workers") (rows_of (found_of matches.now))) }
-    ensures range { (1 ≤ result) × (result ≤ worker_limit) }
+/// The number of the option of this name, and the default where there is none.
+fn number(matches: &ArgMatches<'_>, name: &str, default: u64) -> u64
+    ensures { result ≡ number_or default (one_of name.now (rows_of (found_of matches.now))) }
 {
-    number(matches, "workers", 1).clamp(1, MAX_WORKERS as u64) as usize
-}
-
-/// The greatest number of events of a trace that is cut out of a log, 2,000 where none is named, clamped as the workers are.
-pub(crate) fn piece_events(matches: &ArgMatches<'_>) -> usize
-    ensures value { result ≡ events_of (one_of (codes "events") (rows_of (found_of matches.now))) }
-    ensures range { (least_piece_limit ≤ result) × (result ≤ piece_event_limit) }
-{
-    number(matches, "events", 2_000).clamp(
-        MIN_PIECE_EVENTS as u64,
-        MAX_PIECE_EVENTS as u64,
-    ) as usize
-}
-
-/// The capacity, 8 where none is named, clamped as the workers are.
-fn capacity(matches: &ArgMatches<'_>) -> usize
-    ensures { result ≡ within 1 capacity_limit (number_or default_capacity (one_of (codes "capacity") (rows_of (found_of matches.now)))) }
-{
-    number(matches, "capacity", 8).clamp(1, MAX_CAPACITY as u64) as usize
-}
-
-/// The trigger, 1 where none is named, clamped as the workers are.
-fn trigger(matches: &ArgMatches<'_>) -> u64
-    ensures { result ≡ within 1 trigger_limit (number_or default_trigger (one_of (codes "trigger") (rows_of (found_of matches.now)))) }
-{
-    number(matches, "trigger", 1).max(1)
-}
-
-/// The turns of a drainer, 0 where none are named, clamped as the workers are.
-pub(crate) fn drain_turns_of(matches: &ArgMatches<'_>) -> u64
-    ensures { result ≡ turns_of (one_of (codes "drain-turns") (rows_of (found_of matches.now))) }
-{
-    number(matches, "drain-turns", 0).min(MAX_DRAIN_TURNS)
+    let named: Option<u64> = matches.get_one(name);
+    named.unwrap_or(default)
 }

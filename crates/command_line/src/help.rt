@@ -1,6 +1,4 @@
-//! The texts of `--help` after the list of arguments.
-
-use crate::options::{MAX_CAPACITY, MAX_PIECE_EVENTS, MAX_WORKERS, MIN_PIECE_EVENTS};
+//! What the program is for and the text of its help, and the texts of refusals.
 
 /// What the program is for.
 pub(crate) const ABOUT: &str =
@@ -34,50 +32,6 @@ Exit status:
 Example:
   tsobench < TRACE";
 
-/// Of `--workers`; it tells the limit of workers.
-pub(crate) const WORKERS: &str = "How many workers judge, 1 to 64";
-
-/// Of `--workers`, where each judges a trace of its own.
-pub(crate) const BATCH_WORKERS: &str = "How many traces are judged side by side, 1 to 64";
-
-const _: () = prove!(MAX_WORKERS == 64);
-
-/// Of `--events`; it tells the limit of events.
-pub(crate) const EVENTS: &str = "How many events each trace has at most, 3 to 8000";
-
-const _: () = prove!(MAX_PIECE_EVENTS == 8_000);
-
-const _: () = prove!(MIN_PIECE_EVENTS == 3);
-
-/// Of `--unit`.
-pub(crate) const UNIT: &str = "Which memory unit runs the program";
-
-/// Of `--capacity`; it tells the limit of capacities.
-pub(crate) const CAPACITY: &str = "How many stores each store buffer of the unit holds, 1 to 64";
-
-const _: () = prove!(MAX_CAPACITY == 64);
-
-/// Of `--trigger`.
-pub(crate) const TRIGGER: &str = "From which occasion on a faulty unit deviates, from 1";
-
-/// Of `--procs`.
-pub(crate) const PROCESSORS: &str = "How many processors the program has, 1 to 16";
-
-/// Of `--ops`.
-pub(crate) const OPERATIONS: &str = "How many operations each processor has, at most 1000 over all";
-
-/// Of `--addrs`.
-pub(crate) const ADDRESSES: &str = "How many addresses are drawn from, 1 to 256";
-
-/// Of `--model`.
-pub(crate) const MODEL: &str = "The memory model of the program, tso or pso";
-
-/// Of `--trace`.
-pub(crate) const TRACE: &str = "Prints the recorded trace alone";
-
-/// Of `--explain`.
-pub(crate) const EXPLAIN: &str = "Prints the explanation of the verdict alone";
-
 /// The refusal of two texts on standard input.
 pub(crate) const TWO_INPUTS: &str = "\
 error: one of the two files may be '-', and not both: standard input is read once
@@ -85,7 +39,7 @@ error: one of the two files may be '-', and not both: standard input is read onc
 For more information, try '--help'.
 ";
 
-/// The refusal of both.
+/// The refusal of `--trace` with `--explain`.
 pub(crate) const BOTH: &str = "\
 error: the argument '--trace' cannot be used with '--explain'
 

@@ -5,6 +5,7 @@
 
 mod found;
 mod help;
+pub mod laws;
 mod options;
 mod parameters;
 mod requests;

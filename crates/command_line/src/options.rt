@@ -1,8 +1,8 @@
 //! What options say of a run on a memory unit, and of drawn programs.
 ghost use Rattle.std.specs.Prelude.{◌≡◌};
+ghost use Rattle.command_line.specs.Given.{value_named};
 ghost use Rattle.command_line.specs.Commands.{HasKnownNames};
-ghost use Rattle.command_line.specs.Models.{model_order};
-ghost use Rattle.command_line.specs.Units.{unit_kind};
+ghost use Rattle.command_line.specs.Names.{models, units};
 
 use tso_ops::Order;
 use unit_faulty::FaultKind;
@@ -51,7 +51,7 @@ static UNIT_NAMES: [&str; 9] = [
 
 /// The kind of this name.
 pub(crate) fn kind_named(name: &str) -> Option<UnitKind>
-    ensures { result ≡ unit_kind name.now }
+    ensures { result ≡ value_named name.now units }
 {
     match name {
         "serial" => Some(UnitKind::Serial),
@@ -72,7 +72,7 @@ static MODEL_NAMES: [&str; 2] = ["tso", "pso"];
 
 /// The memory model of this name.
 pub(crate) fn order_named(name: &str) -> Option<Order>
-    ensures { result ≡ model_order name.now }
+    ensures { result ≡ value_named name.now models }
 {
     match name {
         "tso" => Some(Order::Tso),

@@ -2,7 +2,7 @@
 ghost use Rattle.std.specs.Prelude.{◌≡◌, false, IfOk, map};
 ghost use Rattle.clap.specs.Words.{app_of, rule_of};
 ghost use Rattle.clap.specs.declared.builder.command.Command.TheViews.{out-Command as fields_of};
-ghost use Rattle.clap_arguments.specs.Parameters.{offered_app, offered_rule, parser_of};
+ghost use Rattle.command_line.specs.Parameters.{offered_app, offered_rule, parser_of};
 ghost use Rattle.command_line.specs.Commands.{memory_of};
 ghost use Rattle.command_line.specs.Internal.Computed.{parameter_of, values_of};
 
@@ -57,28 +57,30 @@ pub(crate) enum Parameter {
 /// What is told of a subcommand.
 #[derive(Clone, Copy)]
 pub(crate) struct Description {
-    /// Its name.
-    pub(crate) name: &'static str,
+    /// Its name, and the option that asks for its help.
+    pub(crate) help_option: [&'static str; 2],
     /// What it does, in a line.
     pub(crate) about: &'static str,
     /// The text after the list of its parameters.
     pub(crate) help: &'static str,
+    /// What may stand after its name.
+    pub(crate) parameters: &'static [Parameter],
 }
 
-/// The subcommand with these parameters.
+/// The subcommand of this name and this description.
 pub(crate) fn subcommand_of<'a>(
     alloc: Global,
     names: OptionNames<'a>,
-    description: Description,
-    parameters: &[Parameter],
+    name: &'static str,
+    description: &'static Description,
 ) -> Result<Command<'a>, AllocError>
-    ensures app { IfOk result (λ command. app_of command ≡ offered_app (memory_of names.entry) description.name.now (map parameter_of parameters.now)) }
+    ensures app { IfOk result (λ command. app_of command ≡ offered_app (memory_of names.entry) name.now (map parameter_of description.now.parameters.now)) }
     ensures local { IfOk result (λ command. (fields_of command).has_globals ≡ false) }
 {
-    let mut command = Command::new(alloc, description.name)
+    let mut command = Command::new(alloc, name)
         .about(description.about)
         .after_help(description.help);
-    for parameter in parameters {
+    for parameter in description.parameters {
         command = command.arg(argument(alloc, names, *parameter))?;
     }
     Ok(command)

@@ -4,13 +4,15 @@ ghost use Rattle.std.specs.Str.{bytes_eq};
 ghost use Rattle.clap.specs.Words.{app_of, found_of, rows_of, subcommand_rows_of, with_subcommand};
 ghost use Rattle.clap.specs.declared.builder.command.Command.TheViews.{out-Command as fields_of};
 ghost use Rattle.command_line.specs.Requests.{HasDrainTurns, HasPieceEvents, HasUnitRanges, HasWorkers, asked_of};
-ghost use Rattle.command_line.specs.Commands.{asked_by, asked_in, program_app, subcommand_app, tsobench_app};
+ghost use Rattle.command_line.specs.Parameters.{offered_app};
+ghost use Rattle.command_line.specs.Commands.{asked_by, asked_in, memory_of, program_app, tsobench_app};
 ghost use Rattle.command_line.specs.Subcommands.{subcommands};
-ghost use Rattle.command_line.specs.Internal.Computed.{help_option_of, member_of};
+ghost use Rattle.command_line.specs.Internal.Computed.{help_option_of, member_of, parameter_of};
 
-use crate::help;
 use crate::options::{OptionNames, Presentation};
+use crate::parameters::{Description, subcommand_of};
 use crate::requests::{JudgeRequest, Request};
+use crate::{found, help};
 use clap::{ArgMatches, Command};
 use std::alloc::{AllocError, Global};
 
@@ -59,48 +61,38 @@ static SUBCOMMANDS: [Subcommand; 10] = [
 ];
 
 impl Subcommand {
-    /// Its name, and the option that asks for its help.
-    fn help_option(self) -> &'static [&'static str]
-        ensures { map (λ word. word.now) result.now ≡ (member_of self).name ∷ codes "--help" ∷ [] }
+    /// What is told of it.
+    fn description(self) -> &'static Description
+        ensures name { map (λ word. word.now) result.now.help_option ≡ (member_of self).name ∷ codes "--help" ∷ [] }
+        ensures parameters { map parameter_of result.now.parameters.now ≡ (member_of self).parameters }
     {
         match self {
-            Subcommand::Judge => judge::HELP_OPTION.as_slice(),
-            Subcommand::Explain => explain::HELP_OPTION.as_slice(),
-            Subcommand::Draw => draw::HELP_OPTION.as_slice(),
-            Subcommand::Batch => batch::HELP_OPTION.as_slice(),
-            Subcommand::Cut => cut::HELP_OPTION.as_slice(),
-            Subcommand::Check => check::HELP_OPTION.as_slice(),
-            Subcommand::Replay => replay::HELP_OPTION.as_slice(),
-            Subcommand::Run => run::HELP_OPTION.as_slice(),
-            Subcommand::Make => make::HELP_OPTION.as_slice(),
-            Subcommand::Campaign => campaign::HELP_OPTION.as_slice(),
+            Subcommand::Judge => &judge::JUDGE,
+            Subcommand::Explain => &explain::EXPLAIN,
+            Subcommand::Draw => &draw::DRAW,
+            Subcommand::Batch => &batch::BATCH,
+            Subcommand::Cut => &cut::CUT,
+            Subcommand::Check => &check::CHECK,
+            Subcommand::Replay => &replay::REPLAY,
+            Subcommand::Run => &run::RUN,
+            Subcommand::Make => &make::MAKE,
+            Subcommand::Campaign => &campaign::CAMPAIGN,
         }
     }
 
-    /// Whether this is its name.
-    fn is_named(self, name: &str) -> bool
-        ensures { result ≡ bytes_eq (member_of self).name name.now }
+    /// Its name.
+    fn name(self) -> &'static str
+        ensures { result.now ≡ (member_of self).name }
     {
-        self.help_option()[0] == name
+        self.description().help_option[0]
     }
 
     /// The subcommand as it is offered.
     fn command<'a>(self, alloc: Global, names: OptionNames<'a>) -> Result<Command<'a>, AllocError>
-        ensures app { IfOk result (λ command. app_of command ≡ subcommand_app names.entry (member_of self)) }
+        ensures app { IfOk result (λ command. app_of command ≡ offered_app (memory_of names.entry) (member_of self).name (member_of self).parameters) }
         ensures local { IfOk result (λ command. (fields_of command).has_globals ≡ false) }
     {
-        match self {
-            Subcommand::Judge => judge::command(alloc, names),
-            Subcommand::Explain => explain::command(alloc, names),
-            Subcommand::Draw => draw::command(alloc, names),
-            Subcommand::Batch => batch::command(alloc, names),
-            Subcommand::Cut => cut::command(alloc, names),
-            Subcommand::Check => check::command(alloc, names),
-            Subcommand::Replay => replay::command(alloc, names),
-            Subcommand::Run => run::command(alloc, names),
-            Subcommand::Make => make::command(alloc, names),
-            Subcommand::Campaign => campaign::command(alloc, names),
-        }
+        subcommand_of(alloc, names, self.name(), self.description())
     }
 
     /// What its matches ask for.
@@ -112,16 +104,16 @@ impl Subcommand {
         ensures events { IfOk result (λ request. HasPieceEvents (asked_of request)) }
     {
         match self {
-            Subcommand::Judge => Ok(shared::judge_request(matches, Presentation::Report)),
-            Subcommand::Explain => Ok(shared::judge_request(matches, Presentation::Explanation)),
-            Subcommand::Draw => Ok(shared::judge_request(matches, Presentation::Picture)),
-            Subcommand::Batch => Ok(batch::request(matches)),
-            Subcommand::Cut => Ok(cut::request(matches)),
-            Subcommand::Check => check::request(alloc, matches),
-            Subcommand::Replay => replay::request(alloc, matches),
-            Subcommand::Run => run::request(alloc, matches),
-            Subcommand::Make => Ok(make::request(matches)),
-            Subcommand::Campaign => Ok(campaign::request(matches)),
+            Subcommand::Judge => Ok(found::judge(matches, Presentation::Report)),
+            Subcommand::Explain => Ok(found::judge(matches, Presentation::Explanation)),
+            Subcommand::Draw => Ok(found::judge(matches, Presentation::Picture)),
+            Subcommand::Batch => Ok(found::batch(matches)),
+            Subcommand::Cut => Ok(found::cut(matches)),
+            Subcommand::Check => found::check(alloc, matches),
+            Subcommand::Replay => found::replay(alloc, matches),
+            Subcommand::Run => found::run(alloc, matches),
+            Subcommand::Make => Ok(found::make(matches)),
+            Subcommand::Campaign => Ok(found::campaign(matches)),
         }
     }
 }
@@ -160,7 +152,7 @@ fn with_subcommands<'a>(
     list: &[Subcommand],
 ) -> Result<Command<'a>, AllocError>
     requires { (fields_of program).has_globals ≡ false }
-    ensures app { IfOk result (λ command. app_of command ≡ fold (λ app c. with_subcommand app (subcommand_app names.entry c).top) (app_of program.entry) (map member_of list.now)) }
+    ensures app { IfOk result (λ command. app_of command ≡ fold (λ app c. with_subcommand app (offered_app (memory_of names.entry) c.name c.parameters).top) (app_of program.entry) (map member_of list.now)) }
     ensures local { IfOk result (λ command. (fields_of command).has_globals ≡ false) }
 {
     for subcommand in list {
@@ -205,7 +197,7 @@ fn first_named(name: &str, list: &[Subcommand]) -> Option<Subcommand>
     ensures { option_map member_of result ≡ find (λ c. bytes_eq c.name name.now) (map member_of list.now) }
 {
     for subcommand in list {
-        if subcommand.is_named(name) {
+        if subcommand.name() == name {
             return Some(*subcommand);
         }
     }
@@ -216,5 +208,5 @@ fn first_named(name: &str, list: &[Subcommand]) -> Option<Subcommand>
 pub(crate) fn help_option(name: &str) -> Option<&'static [&'static str]>
     ensures { option_map (λ option. map (λ word. word.now) option.now) result ≡ help_option_of name.now }
 {
-    Some(subcommand_named(name)?.help_option())
+    Some(subcommand_named(name)?.description().help_option.as_slice())
 }

@@ -1,4 +1,5 @@
 pub mod Internal
 pub mod Lines
 pub mod Numbers
+pub mod Refusals
 pub mod Results

@@ -1,9 +1,9 @@
 -- Lemmas on what is read of a log and on what is written of its pieces.
 use Rattle.std.proofs.Common.{◌≡◌, ◌<◌, ◌≤◌, ◌∙◌, ℕ, ◌+◌, ◌^◌, List, [], ◌∷◌, ◌++◌, All, Err, None, Ok, Some, IfSome, ap, arith, drop, inr, length, refl, subst, sym, take, ⊎_elim}
 use Rattle.std.specs.Prelude.{IfOk, OnErr, Option, Result}
-use Rattle.std.specs.Io.KnownBytes.{Appends, Consumes, Keeps}
+use Rattle.std.specs.Io.KnownBytes.{Appends, Consumes}
 use Rattle.std.specs.List.{flat_map}
-use Rattle.std.proofs.KnownBytes.{Appends-nil, Appends-trans}
+use Rattle.std.proofs.KnownBytes.{Appends-nil, Appends-trans, Keeps-refl}
 use Rattle.std.proofs.lemmas.Bool.{cases_lt}
 use Rattle.std.proofs.lemmas.Grind.{flat_map-append}
 use Rattle.std.proofs.lemmas.List.{append-nil, drop_at, length-append, length-take-le, take_all, take_at}
@@ -17,8 +17,8 @@ use Rattle.log_text.specs.LogTexts.{IsLogRefusal, SpellsLog}
 use Rattle.tso_ops.specs.Values.{TraceValue}
 use Rattle.tso_ops.specs.Events.{event_total}
 use Rattle.trace_reports.specs.Reports.{refusal_text}
-use Rattle.tso_report.specs.Streams.{AppendsPrefix}
-use Rattle.tso_report.specs.declared.faults.Fault.{Fault}
+use Rattle.trace_judging.specs.Streams.{AppendsPrefix}
+use Rattle.trace_judging.specs.declared.faults.Fault.{Fault}
 use Rattle.tso_text.specs.Texts.{SpellsTrace}
 use Rattle.tso_text.specs.Printed.{trace_text}
 use Rattle.tso_text.specs.declared.faults.Why.{Why}
@@ -44,10 +44,6 @@ all_consumed None new bytes is taken = tt
 all_consumed (Some all) new bytes is taken = subst (Consumes (Some all) new) is taken
 
 -- ---- what is written
-
-pub kept : (a : Option (List ℕ)) → Keeps a a
-kept None = tt
-kept (Some bytes) = refl
 
 -- all of a text was written
 all_written : (a b : Option (List ℕ)) (text : List ℕ) → Appends a b text → AppendsPrefix a b text
@@ -135,7 +131,7 @@ module _ (remaining : Option (List ℕ)) (text bytes : List ℕ) (operations : T
 pub refusal_written : (remaining written errors_before errors_after : Option (List ℕ)) (text bytes : List ℕ) (line : ℕ) (why : Why) → IfSome remaining (λ l. bytes ≡ l) → text ≡ bytes
     → IsLogRefusal text line why → AppendsPrefix errors_before errors_after (refusal_text line why) → WritesRefusal remaining written written errors_before errors_after
 refusal_written remaining written errors_before errors_after text bytes line why all same refused told = record {
-  unwritten = kept written;
+  unwritten = Keeps-refl written;
   line = refusal_text line why;
   refused = record { text = bytes; all = all; line = line; why = why; refused = subst (λ (l : List ℕ). IsLogRefusal l line why) same refused; says = refl };
   told = told;

@@ -7,10 +7,10 @@ use Rattle.tso_ops.specs.Events.{event_total}
 use Rattle.tso_text.specs.Texts.{SpellsTrace}
 use Rattle.tso_text.specs.Printed.{trace_text}
 use Rattle.tso_text.specs.declared.faults.Why.{Why}
-use Rattle.tso_report.specs.declared.faults.Fault.{Fault}
-use Rattle.tso_report.specs.declared.faults.Fault.TheVariants.{OutOfMemory, Read, Write, NoThread, Missing}
+use Rattle.trace_judging.specs.declared.faults.Fault.{Fault}
+use Rattle.trace_judging.specs.declared.faults.Fault.TheVariants.{OutOfMemory, Read, Write, NoThread, Missing}
 use Rattle.trace_reports.specs.Reports.{refusal_text}
-use Rattle.tso_report.specs.Streams.{AppendsPrefix}
+use Rattle.trace_judging.specs.Streams.{AppendsPrefix}
 use Rattle.log_pieces.specs.Pieces.{IsCutOf}
 use Rattle.log_text.specs.LogTexts.{IsLogRefusal, SpellsLog}
 

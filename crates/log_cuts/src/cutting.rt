@@ -5,8 +5,8 @@ ghost use Rattle.log_cuts.specs.Internal.Written.{WritesPart, WritesStream};
 ghost use Rattle.log_cuts.specs.LogCuts.{IsCutFault, LeavesCut, WritesCut, WritesRefusal};
 ghost use Rattle.log_text.specs.LogValues.{log_operations};
 ghost use Rattle.trace_reports.specs.Reports.{refusal_text};
-ghost use Rattle.tso_report.specs.Streams.{AppendsPrefix};
-ghost use Rattle.tso_report.specs.declared.faults.Fault.{Fault};
+ghost use Rattle.trace_judging.specs.Streams.{AppendsPrefix};
+ghost use Rattle.trace_judging.specs.declared.faults.Fault.{Fault};
 ghost use Rattle.tso_text.specs.declared.faults.Why.{Why};
 
 use crate::statistics::Statistics;
@@ -14,7 +14,7 @@ use log_pieces::KnownLog;
 use log_text::{Log, read_log};
 use std::alloc::Global;
 use std::io::{Read, Write};
-use tso_report::{Fault, read_all, render_refusal, write_text};
+use trace_judging::{Fault, read_all, render_refusal, write_text};
 use tso_text::{TextFault, print_trace};
 
 /// How the cutting of a log ended.

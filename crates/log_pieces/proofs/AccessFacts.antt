@@ -36,11 +36,8 @@ numbers-next done numbers row rest =
 
 -- how many events an operation gives
 event_count-accesses : (x : LogOperation) → event_count (op_of (outcome_of x)) ≡ length (accesses_of x)
-event_count-accesses (Ld a r) = refl
-event_count-accesses (St a v) = refl
 event_count-accesses (Sw a r v) = refl
-event_count-accesses Mb = refl
-event_count-accesses Sb = refl
+event_count-accesses x = refl
 
 -- a processor's events are its accesses
 pub total_events-accesses : (xs : List LogOperation) → total_events (map op_of (outcomes_of xs)) ≡ length (accesses_of_list xs)

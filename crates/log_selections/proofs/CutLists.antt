@@ -13,34 +13,23 @@ use Rattle.log_selections.proofs.CutEvents.{IsEventFrom, AreEventsFrom, none, sk
 
 -- how many barriers or STBARs stand after the operation, with so many before it
 abbrev bars_after : Outcome → ℕ → ℕ
-bars_after (Ld a r) bars = bars
-bars_after (St a v) bars = bars
-bars_after (Sw a r v) bars = bars
 bars_after Mb bars = suc bars
-bars_after Sb bars = bars
+bars_after _ bars = bars
 
 abbrev stbars_after : Outcome → ℕ → ℕ
-stbars_after (Ld a r) stbars = stbars
-stbars_after (St a v) stbars = stbars
-stbars_after (Sw a r v) stbars = stbars
-stbars_after Mb stbars = stbars
 stbars_after Sb stbars = suc stbars
+stbars_after _ stbars = stbars
 
 after_up : (x : Outcome) (bars stbars : ℕ) → (bars ≤ bars_after x bars) × (stbars ≤ stbars_after x stbars)
-after_up (Ld a r) bars stbars = (omega arith, omega arith)
-after_up (St a v) bars stbars = (omega arith, omega arith)
-after_up (Sw a r v) bars stbars = (omega arith, omega arith)
 after_up Mb bars stbars = (omega arith, omega arith)
-after_up Sb bars stbars = (omega arith, omega arith)
+after_up x bars stbars = (omega arith, omega arith)
 
 -- as many more where more stand before it
 after_more : (x : Outcome) (bars more log_bars : ℕ) → log_bars ≡ bars + more →
     (bars_after x log_bars ≡ bars + bars_after x more) × (stbars_after x log_bars ≡ bars + stbars_after x more)
-after_more (Ld a r) bars more log_bars is = (is, is)
-after_more (St a v) bars more log_bars is = (is, is)
-after_more (Sw a r v) bars more log_bars is = (is, is)
 after_more Mb bars more log_bars is = (omega arith, is)
 after_more Sb bars more log_bars is = (is, omega arith)
+after_more x bars more log_bars is = (is, is)
 
 -- the number after one more operation and more of them
 number_after : (n : ℕ) (x : Outcome) (xs : List Outcome) → n + total_events (map op_of (x ∷ xs)) ≡ (n + event_count (op_of x)) + total_events (map op_of xs)

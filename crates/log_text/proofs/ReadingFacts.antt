@@ -66,16 +66,14 @@ entries_not_below a (Issued p x ∷ lines) = entries_not_below a lines
 -- ---- one more line
 
 order_of-entry : (lines : List LogLine) (a v : ℕ) → order_of (lines ++ First a v ∷ []) ≡ order_of lines
-order_of-entry [] a v = refl
-order_of-entry (Pso ∷ lines) a v = refl
 order_of-entry (First b w ∷ lines) a v = order_of-entry lines a v
 order_of-entry (Issued p x ∷ lines) a v = order_of-entry lines a v
+order_of-entry lines a v = refl
 
 order_of-operation : (lines : List LogLine) (p : ℕ) (x : LogOperation) → order_of (lines ++ Issued p x ∷ []) ≡ order_of lines
-order_of-operation [] p x = refl
-order_of-operation (Pso ∷ lines) p x = refl
 order_of-operation (First b w ∷ lines) p x = order_of-operation lines p x
 order_of-operation (Issued q y ∷ lines) p x = order_of-operation lines p x
+order_of-operation lines p x = refl
 
 issued_by-push : (lines : List LogLine) (line : LogLine) (p : ℕ) → issued_by (lines ++ line ∷ []) p ≡ issued_by lines p ++ issued_in p line
 issued_by-push lines line p = flat_map-append (issued_in p) lines (line ∷ []) ∙ ap (λ xs. issued_by lines p ++ xs) (append-nil (issued_in p line))

@@ -65,21 +65,16 @@ said_ok line = Ok line
 -- equal texts say equal lines
 same_said : (lines others : List LogLine) → map said_ok lines ≡ map said_ok others → lines ≡ others
 same_said [] [] e = refl
-same_said [] (other ∷ others) e = absurd cc
-same_said (line ∷ lines) [] e = absurd cc
 same_said (line ∷ lines) (other ∷ others) e =
     let head : line ≡ other = cc in
     let tail : lines ≡ others = same_said lines others cc in
     cc
+same_said lines others e = absurd cc
 
 -- what a text says among others stands in its place among the lines
 said_at : (texts : List (List ℕ)) (text : List ℕ) (after : List (List ℕ)) (lines all : List LogLine) → map line_said texts ≡ map Ok lines → map line_said (texts ++ text ∷ after) ≡ map Ok all →
     (line : LogLine) × (rest : List LogLine) × (line_said text ≡ Ok line) × (all ≡ lines ++ line ∷ rest)
-said_at [] text after [] [] said whole = absurd cc
 said_at [] text after [] (line ∷ all) said whole = (line, all, cc, refl)
-said_at [] text after (line ∷ lines) all said whole = absurd cc
-said_at (before ∷ texts) text after [] all said whole = absurd cc
-said_at (before ∷ texts) text after (line ∷ lines) [] said whole = absurd cc
 said_at (before ∷ texts) text after (line ∷ lines) (first ∷ all) said whole =
     let here : said_ok line ≡ said_ok first = cc in
     let head : first ≡ line = cc in
@@ -87,6 +82,7 @@ said_at (before ∷ texts) text after (line ∷ lines) (first ∷ all) said whol
     let others : map line_said (texts ++ text ∷ after) ≡ map Ok all = cc in
     let more = said_at texts text after lines all some others in
     (more.0, more.1, more.2, (let tail = more.3 in cc))
+said_at texts text after lines all said whole = absurd cc
 
 AreSaid-nil : AreSaid [] []
 AreSaid-nil = record { said = refl; clean = none }

@@ -1,9 +1,10 @@
 -- What a line of a log says.
+use Rattle.std.specs.Str.{bytes_eq}
 use Rattle.std.specs.Prelude.{ℕ, List, [], ◌∷◌, Option, None, Some, Result, Ok, Err, codes, if◌then◌else◌}
 use Rattle.line_text.specs.Lines.{tokens_of}
 use Rattle.line_text.specs.Numbers.{number}
 use Rattle.line_text.specs.Results.{◌>>=◌}
-use Rattle.tso_text.specs.Numbers.{is_word, no_number, two_numbers, three_numbers}
+use Rattle.tso_text.specs.Numbers.{no_number, two_numbers, three_numbers}
 use Rattle.tso_text.specs.declared.faults.Why.{Why}
 use Rattle.tso_text.specs.declared.faults.Why.TheVariants.{BadLine, BadModel}
 use Rattle.log_text.specs.declared.logs.LogOperation.{LogOperation}
@@ -15,11 +16,11 @@ use Rattle.log_text.specs.declared.lines.LogLine.TheVariants.{Pso, First, Issued
 unfoldable pub operation_said : List (List ℕ) → Result LogOperation Why
 operation_said [] = Err BadLine
 operation_said (word ∷ tokens) =
-    if is_word word (codes "ld") then two_numbers tokens >>= (λ n. Ok (Ld n.0 n.1))
-    else if is_word word (codes "st") then two_numbers tokens >>= (λ n. Ok (St n.0 n.1))
-    else if is_word word (codes "sw") then three_numbers tokens >>= (λ n. Ok (Sw n.0 n.1 n.2))
-    else if is_word word (codes "mb") then no_number tokens >>= (λ _. Ok Mb)
-    else if is_word word (codes "stbar") then no_number tokens >>= (λ _. Ok Sb)
+    if bytes_eq word (codes "ld") then two_numbers tokens >>= (λ n. Ok (Ld n.0 n.1))
+    else if bytes_eq word (codes "st") then two_numbers tokens >>= (λ n. Ok (St n.0 n.1))
+    else if bytes_eq word (codes "sw") then three_numbers tokens >>= (λ n. Ok (Sw n.0 n.1 n.2))
+    else if bytes_eq word (codes "mb") then no_number tokens >>= (λ _. Ok Mb)
+    else if bytes_eq word (codes "stbar") then no_number tokens >>= (λ _. Ok Sb)
     else Err BadLine
 
 -- the processor that the first token of a line is, or its fault
@@ -31,10 +32,10 @@ processor_said (Some p) = Ok p
 unfoldable pub tokens_said : List (List ℕ) → Result LogLine Why
 tokens_said [] = Err BadLine
 tokens_said (word ∷ tokens) =
-    if is_word word (codes "init") then two_numbers tokens >>= (λ n. Ok (First n.0 n.1))
-    else if is_word word (codes "model") then Err BadModel
+    if bytes_eq word (codes "init") then two_numbers tokens >>= (λ n. Ok (First n.0 n.1))
+    else if bytes_eq word (codes "model") then Err BadModel
     else processor_said (number word) >>= λ p. operation_said tokens >>= λ x. Ok (Issued p x)
 
 -- what a line says, or its fault: the one memory model that has a line is PSO
 unfoldable pub line_said : List ℕ → Result LogLine Why
-line_said line = if is_word line (codes "model pso") then Ok Pso else tokens_said (tokens_of line)
+line_said line = if bytes_eq line (codes "model pso") then Ok Pso else tokens_said (tokens_of line)

@@ -1,4 +1,4 @@
-//! Tests of `order_graph`, by its public calls.
+//! Tests of `order_graph`, and of `bitsets` below it, by their public calls.
 #![tactic(auto)]
 
 #[cfg(test)]

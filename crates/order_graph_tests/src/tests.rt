@@ -3,6 +3,7 @@ ghost use Rattle.std.specs.Prelude.{◌≡◌, ◌<◌, ◌/◌, ℕ, IfOk};
 ghost use Rattle.bitsets.specs.Rows.{HasNumber};
 
 mod at_limits;
+mod bit_rows;
 mod by_lists;
 mod edge_rows;
 mod edge_sets;

@@ -4,8 +4,8 @@ use Rattle.std.proofs.lemmas.List.{get_or-map, get_or-replicate, length-map, len
 use Rattle.command_line.specs.declared.options.CampaignOptions.{CampaignOptions}
 use Rattle.tso_report.specs.Campaigns.{IsCampaign, LeavesCampaign}
 use Rattle.tso_report.specs.declared.campaigns.CampaignPrograms.{CampaignPrograms}
-use Rattle.tso_report.specs.declared.faults.Fault.{Fault}
-use Rattle.tso_report.specs.declared.faults.Fault.TheVariants.{OutOfMemory, Read, Write, NoThread, Missing}
+use Rattle.trace_judging.specs.declared.faults.Fault.{Fault}
+use Rattle.trace_judging.specs.declared.faults.Fault.TheVariants.{OutOfMemory, Read, Write, NoThread, Missing}
 use Rattle.trace_reports.specs.declared.verdicts.Verdict.{Verdict}
 use Rattle.unit_core.specs.Units.{UnitValue}
 use Rattle.request_serving.specs.Campaigning.{AreProgramsOf, IsCampaignOf, LeavesCampaignText, units_of}
@@ -36,11 +36,9 @@ module _ (options : CampaignOptions) (programs : CampaignPrograms) (units : List
 
   -- what a fault leaves of it
   pub leaves_campaign : (old new : Option (List ℕ)) (fault : Fault) → LeavesCampaign programs units old new fault → LeavesCampaignText options old new fault
-  leaves_campaign old new OutOfMemory leaves = leaves
-  leaves_campaign old new Read leaves = leaves
   leaves_campaign old new Write leaves = (status_of leaves.0, leaves.1, inr (inr (campaign_is leaves.1 leaves.0 leaves.2)), leaves.3)
-  leaves_campaign old new NoThread leaves = leaves
   leaves_campaign old new (Missing seed) leaves =
       let count = ap length same ∙ length-replicate options.count (unit_of options.unit) in
       let first : programs.first ≡ options.first = ap (λ (p : CampaignPrograms). p.first) asked.are in
       (omega (arith, leaves.0, first), omega (arith, leaves.1, count, first), leaves.2)
+  leaves_campaign old new fault leaves = leaves

@@ -1,20 +1,23 @@
 -- Lemmas on how the program ends.
-use Rattle.std.proofs.Common.{◌≡◌, ◌∙◌, ◌⊎◌, ℕ, List, [], ◌∷◌, ◌++◌, append_assoc, Ok, Err, Result, IfOk, IfErr, Some, None, arith, length, ap, refl, subst, sym, inl, inr, true, true≢false}
+use Rattle.std.proofs.Common.{◌≡◌, ◌∙◌, ◌⊎◌, ℕ, List, [], ◌∷◌, ◌++◌, append_assoc, Ok, Err, Result, IfOk, IfErr, IfSome, Some, None, unwrap_or, arith, length, ap, refl, subst, sym, inl, inr, true, false, true≢false}
 use Rattle.std.specs.Prelude.{Bool, OnErr, Option, ◌≢◌, is_some, not, option_map}
 use Rattle.std.specs.Borrow.{Bor}
+use Rattle.std.specs.List.{list_all}
 use Rattle.std.specs.Io.KnownBytes.{Keeps}
 use Rattle.command_line.specs.declared.options.Presentation.{Presentation}
 use Rattle.std.proofs.lemmas.List.{append-nil}
 use Rattle.trace_reports.specs.declared.verdicts.Verdict.{Verdict}
-use Rattle.tso_report.specs.declared.faults.Fault.{Fault}
-use Rattle.tso_report.specs.declared.faults.Fault.TheVariants.{OutOfMemory, Read, Write, NoThread, Missing}
-use Rattle.tso_report.specs.WrittenReports.{IsCheckReportOfReaders, LeavesAtFault, LeavesCheckFault, WritesCheckReport, WritesPrefix, WritesWhole}
-use Rattle.trace_reports.specs.Renderings.{IsTextOfReader, SaidOfRefusal, SaidOfTrace}
-use Rattle.trace_batches.specs.Batches.{IsBatchFault, IsBatchOfReader}
+use Rattle.trace_judging.specs.declared.faults.Fault.{Fault}
+use Rattle.trace_judging.specs.declared.faults.Fault.TheVariants.{OutOfMemory, Read, Write, NoThread, Missing}
+use Rattle.trace_judging.specs.WrittenReports.{IsCheckReportOfReaders, LeavesAtFault, WritesPrefix, WritesWhole}
+use Rattle.trace_judging.specs.Checks.{IsCheckReport}
+use Rattle.trace_reports.specs.Readings.{ReadsAs}
+use Rattle.trace_reports.proofs.ReadingFacts.{reads_more, reads_whole}
+use Rattle.trace_reports.specs.Renderings.{IsTextOfInput}
+use Rattle.trace_batches.specs.Batches.{IsBatch, IsBatchFault, IsBatchOfReader}
 use Rattle.trace_batches.proofs.BatchFacts.{some_batch}
 use Rattle.trace_batches.proofs.StreamFacts.{none_written}
-use Rattle.request_serving.specs.Endings.{EndsBatched, EndsByReport, IsPresented, Outputs, WritesFaultLine, refused_as, said_as}
-use Rattle.request_serving.specs.Statuses.{status_of}
+use Rattle.request_serving.specs.Endings.{Ends, IsPresented, Outputs, WritesFaultLine, refused_as, said_as}
 use Rattle.std.proofs.Math.Seq.{take-length}
 use Rattle.request_serving.specs.OpenedFiles.{HasKnown, OpensFirst, OpensNext}
 
@@ -25,79 +28,61 @@ pub knows_itself : (remaining : Option (List ℕ)) → HasKnown remaining remain
 knows_itself None = tt
 knows_itself (Some all) = refl
 
-known_bytes : (known remaining : Option (List ℕ)) → HasKnown known remaining → (known ≡ None) ⊎ (known ≡ remaining)
-known_bytes None remaining has = inl refl
-known_bytes (Some all) remaining has = inr (sym has)
+-- what holds of the bytes of a reader holds of a file of which less may be known
+pub known_reads : (known remaining : Option (List ℕ)) → HasKnown known remaining → (Is : List ℕ → Type 0) → ReadsAs remaining Is → ReadsAs known Is
+known_reads None remaining has Is reads = record { bytes = reads.bytes; of_read = reads.of_read; of_all = tt }
+known_reads (Some all) remaining has Is reads = subst (λ r. ReadsAs r Is) has reads
 
-first_known : (known remaining certs : Option (List ℕ)) → HasKnown known remaining → (text : List ℕ) (verdict : Verdict) → IsCheckReportOfReaders remaining certs text verdict →
-    IsCheckReportOfReaders known certs text verdict
-first_known None remaining certs has text verdict report =
-    record { trace = report.trace; cert = report.cert; whole_trace = tt; whole_cert = report.whole_cert; is_report = report.is_report }
-first_known (Some all) remaining certs has text verdict report = subst (λ r. IsCheckReportOfReaders r certs text verdict) has report
-
-second_known : (traces known remaining : Option (List ℕ)) → HasKnown known remaining → (text : List ℕ) (verdict : Verdict) → IsCheckReportOfReaders traces remaining text verdict →
-    IsCheckReportOfReaders traces known text verdict
-second_known traces None remaining has text verdict report =
-    record { trace = report.trace; cert = report.cert; whole_trace = report.whole_trace; whole_cert = tt; is_report = report.is_report }
-second_known traces (Some all) remaining has text verdict report = subst (λ r. IsCheckReportOfReaders traces r text verdict) has report
-
-check_of_known : (trace traces cert certs : Option (List ℕ)) → HasKnown trace traces → HasKnown cert certs → (text : List ℕ) (verdict : Verdict) → IsCheckReportOfReaders traces certs text verdict →
+pub check_of_known : (trace traces cert certs : Option (List ℕ)) → HasKnown trace traces → HasKnown cert certs → (text : List ℕ) (verdict : Verdict) → IsCheckReportOfReaders traces certs text verdict →
     IsCheckReportOfReaders trace cert text verdict
-check_of_known trace traces cert certs has has_cert text verdict report = second_known trace cert certs has_cert text verdict (first_known trace traces certs has text verdict report)
+check_of_known trace traces cert certs has also text verdict report =
+    let IsOf : List ℕ → Option (List ℕ) → Type 0 = λ bytes known. ReadsAs known (λ other. IsCheckReport bytes other text verdict) in
+    known_reads trace traces has (λ bytes. IsOf bytes cert) (reads_more (λ bytes. known_reads cert certs also (λ other. IsCheckReport bytes other text verdict)) traces report)
 
--- what is written of one kind of report is written of any kind that it is
-pub writes_as : (A B : List ℕ → Verdict → Type 0) → ((text : List ℕ) (verdict : Verdict) → A text verdict → B text verdict) → (old new : Option (List ℕ)) (outcome : Result Verdict Fault) →
+-- what is written of one kind of text is written of any kind that it is
+pub writes_as : {X E : Type 0} (A B : List ℕ → X → Type 0) → ((text : List ℕ) (said : X) → A text said → B text said) → (old new : Option (List ℕ)) (outcome : Result X E) →
     IfOk outcome (WritesWhole A old new) → IfOk outcome (WritesWhole B old new)
-writes_as A B implied old new (Ok verdict) writes = (writes.0, implied writes.0 verdict writes.1, writes.2)
+writes_as A B implied old new (Ok said) writes = (writes.0, implied writes.0 said writes.1, writes.2)
 writes_as A B implied old new (Err fault) writes = tt
 
-pub leaves_as : (A B : List ℕ → Verdict → Type 0) → ((text : List ℕ) (verdict : Verdict) → A text verdict → B text verdict) → (old new : Option (List ℕ)) (fault : Fault) →
+pub leaves_as : {X : Type 0} (A B : List ℕ → X → Type 0) → ((text : List ℕ) (said : X) → A text said → B text said) → (old new : Option (List ℕ)) (fault : Fault) →
     LeavesAtFault A old new fault → LeavesAtFault B old new fault
-leaves_as A B implied old new OutOfMemory leaves = leaves
-leaves_as A B implied old new Read leaves = leaves
 leaves_as A B implied old new Write leaves = (leaves.0, leaves.1, implied leaves.1 leaves.0 leaves.2, leaves.3)
-leaves_as A B implied old new NoThread leaves = leaves
-leaves_as A B implied old new (Missing seed) leaves = leaves
+leaves_as A B implied old new fault leaves = leaves
 
-pub faults_as : (A B : List ℕ → Verdict → Type 0) → ((text : List ℕ) (verdict : Verdict) → A text verdict → B text verdict) → (old new : Option (List ℕ)) (outcome : Result Verdict Fault) →
+pub faults_as : {X : Type 0} (A B : List ℕ → X → Type 0) → ((text : List ℕ) (said : X) → A text said → B text said) → (old new : Option (List ℕ)) (outcome : Result X Fault) →
     IfErr outcome (LeavesAtFault A old new) → IfErr outcome (LeavesAtFault B old new)
-faults_as A B implied old new (Ok verdict) leaves = tt
+faults_as A B implied old new (Ok said) leaves = tt
 faults_as A B implied old new (Err fault) leaves = leaves_as A B implied old new fault leaves
-
-pub files_write : (trace traces cert certs : Option (List ℕ)) → HasKnown trace traces → HasKnown cert certs → (old new : Option (List ℕ)) (outcome : Result Verdict Fault) →
-    IfOk outcome (WritesCheckReport traces certs old new) → IfOk outcome (WritesCheckReport trace cert old new)
-files_write trace traces cert certs has has_cert = writes_as (IsCheckReportOfReaders traces certs) (IsCheckReportOfReaders trace cert) (check_of_known trace traces cert certs has has_cert)
-
-pub files_leave : (trace traces cert certs : Option (List ℕ)) → HasKnown trace traces → HasKnown cert certs → (old new : Option (List ℕ)) (outcome : Result Verdict Fault) →
-    IfErr outcome (LeavesCheckFault traces certs old new) → IfErr outcome (LeavesCheckFault trace cert old new)
-files_leave trace traces cert certs has has_cert = faults_as (IsCheckReportOfReaders traces certs) (IsCheckReportOfReaders trace cert) (check_of_known trace traces cert certs has has_cert)
-
-text_of_known : (said : SaidOfTrace) (refused : SaidOfRefusal) (known remaining : Option (List ℕ)) → HasKnown known remaining → (text : List ℕ) (verdict : Verdict) →
-    IsTextOfReader said refused remaining text verdict → IsTextOfReader said refused known text verdict
-text_of_known said refused None remaining has text verdict is = record { bytes = is.bytes; of_read = is.of_read; of_all = tt }
-text_of_known said refused (Some all) remaining has text verdict is = subst (λ r. IsTextOfReader said refused r text verdict) has is
 
 pub presented_of_known : (presentation : Presentation) (known remaining : Option (List ℕ)) → HasKnown known remaining → (text : List ℕ) (verdict : Verdict) → IsPresented presentation remaining text verdict →
     IsPresented presentation known text verdict
-presented_of_known presentation = text_of_known (said_as presentation) (refused_as presentation)
+presented_of_known presentation known remaining has text verdict = known_reads known remaining has (λ input. IsTextOfInput (said_as presentation) (refused_as presentation) input text verdict)
 
 pub batch_of_known : (quiet : Bool) (known remaining : Option (List ℕ)) → HasKnown known remaining → (text : List ℕ) (verdict : Verdict) → IsBatchOfReader quiet remaining text verdict →
     IsBatchOfReader quiet known text verdict
-batch_of_known quiet None remaining has text verdict batch = record { stream = batch.stream; all = tt; is_batch = batch.is_batch }
-batch_of_known quiet (Some all) remaining has text verdict batch = subst (λ r. IsBatchOfReader quiet r text verdict) has batch
+batch_of_known quiet known remaining has text verdict = known_reads known remaining has (λ stream. IsBatch quiet stream text verdict)
 
 -- nothing of a batch was written
 none_of_batch : (quiet : Bool) (known written : Option (List ℕ)) → WritesPrefix (IsBatchOfReader quiet known) written written
-none_of_batch quiet None written =
-    let some = some_batch quiet [] in
-    (some.1, some.0, record { stream = []; all = tt; is_batch = some.2 }, none_written written some.0)
-none_of_batch quiet (Some all) written =
-    let some = some_batch quiet all in
-    (some.1, some.0, record { stream = all; all = refl; is_batch = some.2 }, none_written written some.0)
+none_of_batch quiet known written =
+    let stream = unwrap_or known [] in
+    let some = some_batch quiet stream in
+    (some.1, some.0, reads_whole (λ bytes. IsBatch quiet bytes some.0 some.1) known stream (own known) some.2, none_written written some.0)
+  where
+    own : (known : Option (List ℕ)) → IfSome known (λ all. unwrap_or known [] ≡ all)
+    own None = tt
+    own (Some all) = refl
 
 pub none_left : (quiet : Bool) (known written : Option (List ℕ)) (outcome : Result Verdict Fault) → OnErr outcome (WritesPrefix (IsBatchOfReader quiet known) written written)
 none_left quiet known written (Ok verdict) = tt
 none_left quiet known written (Err fault) = none_of_batch quiet known written
+
+-- a fault of a batch leaves a prefix of its text
+pub batch_fault : (is_batch : List ℕ → Verdict → Type 0) (old new : Option (List ℕ)) (outcome : Result Verdict Fault) → IfErr outcome IsBatchFault → OnErr outcome (WritesPrefix is_batch old new) →
+    IfErr outcome (λ fault. IsBatchFault fault × WritesPrefix is_batch old new)
+batch_fault is_batch old new (Ok verdict) fault left = tt
+batch_fault is_batch old new (Err why) fault left = (fault, left)
 
 pub batch_left : (quiet : Bool) (known remaining : Option (List ℕ)) → HasKnown known remaining → (old new : Option (List ℕ)) (outcome : Result Verdict Fault) →
     OnErr outcome (WritesPrefix (IsBatchOfReader quiet remaining) old new) → OnErr outcome (WritesPrefix (IsBatchOfReader quiet known) old new)
@@ -119,18 +104,11 @@ opens_both (Some before) mid new name other opens also =
 
 -- ---- how a request ends
 
-pub ends_by_report : (is_report : List ℕ → Verdict → Type 0) (o : Outputs) (outcome : Result Verdict Fault) (status : ℕ) → IfOk outcome (WritesWhole is_report o.written_before o.written) →
-    IfErr outcome (LeavesAtFault is_report o.written_before o.written) → IfOk outcome (λ verdict. (status ≡ status_of verdict) × Keeps o.errors_before o.errors) →
-    IfErr outcome (λ fault. WritesFaultLine o.errors_before o.errors fault × (status ≡ 4)) → EndsByReport is_report o status
-ends_by_report is_report o (Ok verdict) status writes leaves told faulty = inl (verdict, writes, told.1, told.0)
-ends_by_report is_report o (Err fault) status writes leaves told faulty = inr (fault, leaves, faulty)
-
-pub ends_batched : (quiet : Bool) (remaining : Option (List ℕ)) (o : Outputs) (outcome : Result Verdict Fault) (status : ℕ) →
-    IfOk outcome (WritesWhole (IsBatchOfReader quiet remaining) o.written_before o.written) → OnErr outcome (WritesPrefix (IsBatchOfReader quiet remaining) o.written_before o.written) →
-    IfErr outcome IsBatchFault → IfOk outcome (λ verdict. (status ≡ status_of verdict) × Keeps o.errors_before o.errors) →
-    IfErr outcome (λ fault. WritesFaultLine o.errors_before o.errors fault × (status ≡ 4)) → EndsBatched quiet remaining o status
-ends_batched quiet remaining o (Ok verdict) status writes left fault told faulty = inl (verdict, writes, told.1, told.0)
-ends_batched quiet remaining o (Err fault) status writes left is_fault told faulty = inr (fault, is_fault, left, faulty)
+pub ends_as : {X : Type 0} (is_text : List ℕ → X → Type 0) (status_of : X → ℕ) (leaves : Option (List ℕ) → Option (List ℕ) → Fault → Type 0) (o : Outputs) (outcome : Result X Fault) (status : ℕ) →
+    IfOk outcome (WritesWhole is_text o.written_before o.written) → IfErr outcome (leaves o.written_before o.written) → IfOk outcome (λ said. (status ≡ status_of said) × Keeps o.errors_before o.errors) →
+    IfErr outcome (λ fault. WritesFaultLine o.errors_before o.errors fault × (status ≡ 4)) → Ends is_text status_of leaves o status
+ends_as is_text status_of leaves o (Ok said) status writes left told faulty = inl (said, writes, told.1, told.0)
+ends_as is_text status_of leaves o (Err fault) status writes left told faulty = inr (fault, left, faulty)
 
 -- where nothing was opened
 pub opens_none : (old : Option (List (List ℕ))) (names : List (List ℕ)) → OpensFirst old old names
@@ -140,12 +118,17 @@ opens_none (Some before) names = (0, omega arith, ap Some (sym (append-nil befor
 -- ---- standard input
 
 -- it is read where no file is named
-pub unnamed : (file : Option (Bor (List ℕ))) → not (is_some (option_map (λ f. f.now) file)) ≡ true → file ≡ None
+pub unnamed : (file : Option (Bor (List ℕ))) → not (list_all is_some (option_map (λ f. f.now) file ∷ [])) ≡ true → file ≡ None
 unnamed None reads = refl
 unnamed (Some name) reads = absurd (true≢false (sym reads))
 
--- a status other than that of a fault is that of a verdict
-pub at_verdict : {X : Type 0} (outcome : Result X Fault) (status : ℕ) (before errors : Option (List ℕ)) (P : Type 0) → IfErr outcome (λ fault. WritesFaultLine before errors fault × (status ≡ 4))
+-- it isn't read where a file is named
+pub named : {P : Type 0} (file : Option (Bor (List ℕ))) → IfSome file (λ _. P) → not (list_all is_some (option_map (λ f. f.now) file ∷ [])) ≡ false → P
+named None holds unread = absurd (true≢false unread)
+named (Some name) holds unread = holds
+
+-- a status other than that of a fault is that of a text
+pub at_text : {X : Type 0} (outcome : Result X Fault) (status : ℕ) (before errors : Option (List ℕ)) (P : Type 0) → IfErr outcome (λ fault. WritesFaultLine before errors fault × (status ≡ 4))
     → IfOk outcome (λ _. P) → status ≢ 4 → P
-at_verdict (Ok verdict) status before errors P faulty holds other = holds
-at_verdict (Err fault) status before errors P faulty holds other = absurd (other faulty.1)
+at_text (Ok said) status before errors P faulty holds other = holds
+at_text (Err fault) status before errors P faulty holds other = absurd (other faulty.1)

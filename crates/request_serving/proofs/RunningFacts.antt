@@ -11,11 +11,13 @@ use Rattle.issue_desk.specs.declared.faults.RunFault.{RunFault}
 use Rattle.unit_core.specs.Records.{RecordedValue}
 use Rattle.request_serving.specs.declared.failures.RunFailure.{RunFailure}
 use Rattle.request_serving.specs.declared.failures.RunFailure.TheVariants.{Fault as ByFault, Torn, OtherProgram}
-use Rattle.request_serving.specs.Endings.{EndsByText, EndsUnrecorded, IsPrintable, Outputs, WritesText}
+use Rattle.request_serving.specs.Endings.{EndsRun, Outputs}
 use Rattle.request_serving.specs.Failures.{WritesFailureLine}
-use Rattle.tso_report.specs.declared.faults.Fault.TheVariants.{OutOfMemory, Read, NoThread}
+use Rattle.trace_judging.specs.declared.faults.Fault.TheVariants.{OutOfMemory, Read, NoThread}
 use Rattle.request_serving.specs.Internal.Runs.{LeavesAtFailure, OnFault}
-use Rattle.request_serving.proofs.ReplayingFacts.{known_run, leaves_nothing, left_as, texts_as}
+use Rattle.request_serving.proofs.ReplayingFacts.{known_run, leaves_nothing}
+use Rattle.request_serving.proofs.EndFacts.{leaves_as, writes_as}
+use Rattle.trace_judging.specs.WrittenReports.{WritesWhole}
 
 -- What holds of a run's answer holds of the record, where only its failure was told in another way.
 pub run_recorded : (P : Result RecordedValue RunFault → Type 0) (ran : Result RecordedValue RunFault) (told : Result RecordedValue RunFailure) (Q : RunFault → Type 0) (recorded : RecordedValue) →
@@ -26,25 +28,23 @@ run_recorded P (Err e) told Q recorded cases same is holds = absurd (true≢fals
 -- a failure before anything is written
 pub failure_leaves_nothing : (is_text : List ℕ → ℕ → Type 0) (old : Option (List ℕ)) (failure : RunFailure) → OnFault (λ fault. (fault ≡ OutOfMemory) ⊎ ((fault ≡ Read) ⊎ (fault ≡ NoThread))) failure →
     Keeps old old → LeavesAtFailure is_text old old failure
-failure_leaves_nothing is_text old (ByFault fault) before keeps = leaves_nothing (IsPrintable is_text) old fault before keeps
-failure_leaves_nothing is_text old (Torn p) before keeps = keeps
-failure_leaves_nothing is_text old OtherProgram before keeps = keeps
+failure_leaves_nothing is_text old (ByFault fault) before keeps = leaves_nothing is_text old fault before keeps
+failure_leaves_nothing is_text old failure before keeps = keeps
 
 -- a program of which less may be known than its reader has
 module _ (options : RunOptions) (program programs : Option (List ℕ)) (has : HasKnown program programs) (old new : Option (List ℕ)) where
-  pub run_writes : (outcome : Result ℕ RunFailure) → IfOk outcome (WritesText (IsRunText options programs) old new) → IfOk outcome (WritesText (IsRunText options program) old new)
-  run_writes = texts_as (IsRunText options programs) (IsRunText options program) (known_run options program programs has) old new
+  pub run_writes : (outcome : Result ℕ RunFailure) → IfOk outcome (WritesWhole (IsRunText options programs) old new) → IfOk outcome (WritesWhole (IsRunText options program) old new)
+  run_writes = writes_as (IsRunText options programs) (IsRunText options program) (known_run options program programs has) old new
 
   pub run_leaves : (outcome : Result ℕ RunFailure) → IfErr outcome (LeavesAtFailure (IsRunText options programs) old new) → IfErr outcome (LeavesAtFailure (IsRunText options program) old new)
   run_leaves (Ok status) leaves = tt
-  run_leaves (Err (ByFault fault)) leaves = left_as (IsRunText options programs) (IsRunText options program) (known_run options program programs has) old new fault leaves
-  run_leaves (Err (Torn p)) leaves = leaves
-  run_leaves (Err OtherProgram) leaves = leaves
+  run_leaves (Err (ByFault fault)) leaves = leaves_as (IsRunText options programs) (IsRunText options program) (known_run options program programs has) old new fault leaves
+  run_leaves (Err failure) leaves = leaves
 
-pub ends_run : (is_text : List ℕ → ℕ → Type 0) (o : Outputs) (outcome : Result ℕ RunFailure) (status : ℕ) → IfOk outcome (WritesText is_text o.written_before o.written) →
-    IfErr outcome (LeavesAtFailure is_text o.written_before o.written) → IfOk outcome (λ told. (status ≡ told) × Keeps o.errors_before o.errors) →
-    IfErr outcome (λ failure. WritesFailureLine o.errors_before o.errors failure × (status ≡ 4)) → EndsByText is_text o status ⊎ EndsUnrecorded o status
-ends_run is_text o (Ok told) status writes leaves tells failed = inl (inl (subst (WritesText is_text o.written_before o.written) (sym tells.0) writes, tells.1))
-ends_run is_text o (Err (ByFault fault)) status writes leaves tells failed = inl (inr (fault, leaves, failed))
-ends_run is_text o (Err (Torn p)) status writes leaves tells failed = inr (leaves, failed.1, inl (p, failed.0))
-ends_run is_text o (Err OtherProgram) status writes leaves tells failed = inr (leaves, failed.1, inr failed.0)
+pub ends_run : (options : RunOptions) (programs : Option (List ℕ)) (o : Outputs) (outcome : Result ℕ RunFailure) (status : ℕ) → IfOk outcome (WritesWhole (IsRunText options programs) o.written_before o.written) →
+    IfErr outcome (LeavesAtFailure (IsRunText options programs) o.written_before o.written) → IfOk outcome (λ told. (status ≡ told) × Keeps o.errors_before o.errors) →
+    IfErr outcome (λ failure. WritesFailureLine o.errors_before o.errors failure × (status ≡ 4)) → EndsRun options programs o status
+ends_run options programs o (Ok told) status writes leaves tells failed = inl (inl (told, writes, tells.1, tells.0))
+ends_run options programs o (Err (ByFault fault)) status writes leaves tells failed = inl (inr (fault, leaves, failed))
+ends_run options programs o (Err (Torn p)) status writes leaves tells failed = inr (leaves, failed.1, inl (p, failed.0))
+ends_run options programs o (Err OtherProgram) status writes leaves tells failed = inr (leaves, failed.1, inr failed.0)

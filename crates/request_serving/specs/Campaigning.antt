@@ -1,13 +1,10 @@
 -- What the program prints of campaigns.
-use Rattle.std.specs.Prelude.{◌≡◌, ◌⊎◌, ℕ, ◌+◌, ◌<◌, ◌≤◌, ◌^◌, List, [], ◌∷◌, ◌++◌, codes, replicate, Option}
-use Rattle.std.specs.Io.KnownBytes.{Keeps}
+use Rattle.std.specs.Prelude.{◌≡◌, ◌⊎◌, ℕ, ◌+◌, ◌≤◌, ◌^◌, List, [], ◌∷◌, ◌++◌, codes, replicate, Option}
 use Rattle.tso_ops.specs.Making.{IsShape}
 use Rattle.command_line.specs.declared.options.CampaignOptions.{CampaignOptions}
-use Rattle.tso_report.specs.Campaigns.{IsCampaign}
+use Rattle.tso_report.specs.Campaigns.{IsCampaign, LeavesOfSeeds}
 use Rattle.tso_report.specs.declared.campaigns.CampaignPrograms.{CampaignPrograms}
-use Rattle.tso_report.specs.declared.faults.Fault.{Fault}
-use Rattle.tso_report.specs.declared.faults.Fault.TheVariants.{OutOfMemory, Read, Write, NoThread, Missing}
-use Rattle.tso_report.specs.Streams.{AppendsPrefix}
+use Rattle.trace_judging.specs.declared.faults.Fault.{Fault}
 use Rattle.tso_report.specs.Limits.{seed_count_limit}
 use Rattle.trace_reports.specs.declared.verdicts.Verdict.{Verdict}
 use Rattle.unit_core.specs.Units.{UnitValue}
@@ -55,10 +52,6 @@ abbrev pub IsCampaignText : CampaignOptions → List ℕ → ℕ → Type 0
 IsCampaignText options text status =
     IsShapeRefusal options.shape text status ⊎ (IsSeedsRefusal options text status ⊎ IsCampaignOf options text status)
 
--- What a fault leaves of it: on Write a prefix of the text, else nothing was written. A missing seed is one of the campaign.
+-- what a fault leaves of it
 abbrev pub LeavesCampaignText : CampaignOptions → Option (List ℕ) → Option (List ℕ) → Fault → Type 0
-LeavesCampaignText options old new OutOfMemory = Keeps old new
-LeavesCampaignText options old new Read = ⊥
-LeavesCampaignText options old new Write = (status : ℕ) × (text : List ℕ) × IsCampaignText options text status × AppendsPrefix old new text
-LeavesCampaignText options old new NoThread = Keeps old new
-LeavesCampaignText options old new (Missing seed) = (options.first ≤ seed) × (seed < options.first + options.count) × Keeps old new
+LeavesCampaignText options old new fault = LeavesOfSeeds (IsCampaignText options) options.first options.count old new fault

@@ -2,12 +2,11 @@
 use Rattle.std.specs.Prelude.{◌≡◌, ◌≢◌, ◌⊎◌, ℕ, Bool, List, [], ◌∷◌, ◌++◌, codes, string_bytes, Option}
 use Rattle.std.specs.Fmt.{decimal}
 use Rattle.std.specs.Io.KnownBytes.{Appends, Keeps}
-use Rattle.tso_ops.specs.declared.settings.Order.{Order}
 use Rattle.trace_reports.specs.declared.verdicts.Verdict.{Verdict}
-use Rattle.tso_report.specs.declared.faults.Fault.{Fault}
-use Rattle.tso_report.specs.declared.faults.Fault.TheVariants.{OutOfMemory, Read, Write, NoThread, Missing}
-use Rattle.tso_report.specs.Streams.{AppendsPrefix}
-use Rattle.tso_report.specs.WrittenReports.{LeavesAtFault, LeavesCheckFault, WritesCheckReport, WritesPrefix, WritesWhole}
+use Rattle.trace_judging.specs.declared.faults.Fault.{Fault}
+use Rattle.trace_judging.specs.declared.faults.Fault.TheVariants.{OutOfMemory, Read, Write, NoThread, Missing}
+use Rattle.trace_judging.specs.Streams.{AppendsPrefix}
+use Rattle.trace_judging.specs.WrittenReports.{IsCheckReportOfReaders, LeavesAtFault, WritesPrefix, WritesWhole}
 use Rattle.trace_explanation.specs.Explained.{explained, refusal_explained}
 use Rattle.trace_pictures.specs.Pictured.{pictured}
 use Rattle.trace_reports.specs.Renderings.{IsTextOfReader, SaidOfRefusal, SaidOfTrace}
@@ -20,11 +19,9 @@ use Rattle.request_serving.specs.OpenedFiles.{text_bytes}
 use Rattle.request_serving.specs.Replaying.{IsReplayText}
 use Rattle.request_serving.specs.Running.{IsRunText}
 use Rattle.request_serving.specs.Statuses.{status_of}
-use Rattle.command_line.specs.declared.options.CampaignOptions.{CampaignOptions}
 use Rattle.command_line.specs.declared.options.Presentation.{Presentation}
 use Rattle.command_line.specs.declared.options.Presentation.TheVariants.{Report, Explanation, Picture}
 use Rattle.command_line.specs.declared.options.RunOptions.{RunOptions}
-use Rattle.command_line.specs.declared.options.ShapeNumbers.{ShapeNumbers}
 use Rattle.command_line.specs.declared.requests.Request.{Request}
 use Rattle.command_line.specs.declared.requests.Request.TheVariants.{Show, Refuse}
 use Rattle.command_line.specs.Commands.{IsAskedFor}
@@ -62,12 +59,20 @@ outputs written_before written errors_before errors = record { written_before = 
 abbrev pub EndsByFault : Fault → Outputs → ℕ → Type 0
 EndsByFault fault o status = WritesFaultLine o.errors_before o.errors fault × (status ≡ 4)
 
--- The output grows by the report and the errors by nothing, and the status is that of the report's verdict; or a fault left nothing or, on
--- Write, a prefix of the report.
+-- The output grows by a text of this kind and the errors by nothing, and the status is that of what the text says; or a fault left what it leaves of such
+-- a text.
+abbrev pub Ends : {X : Type 0} → (List ℕ → X → Type 0) → (X → ℕ) → (Option (List ℕ) → Option (List ℕ) → Fault → Type 0) → Outputs → ℕ → Type 0
+Ends {X} is_text status_of leaves o status =
+    ((said : X) × WritesWhole is_text o.written_before o.written said × Keeps o.errors_before o.errors × (status ≡ status_of said))
+    ⊎ ((fault : Fault) × leaves o.written_before o.written fault × EndsByFault fault o status)
+
+-- a report, with the status of its verdict; or a fault left nothing or, on Write, a prefix of the report
 abbrev pub EndsByReport : (List ℕ → Verdict → Type 0) → Outputs → ℕ → Type 0
-EndsByReport is_report o status =
-    ((verdict : Verdict) × WritesWhole is_report o.written_before o.written verdict × Keeps o.errors_before o.errors × (status ≡ status_of verdict))
-    ⊎ ((fault : Fault) × LeavesAtFault is_report o.written_before o.written fault × EndsByFault fault o status)
+EndsByReport is_report o status = Ends is_report status_of (LeavesAtFault is_report) o status
+
+-- a text that has a status
+abbrev pub EndsByText : (List ℕ → ℕ → Type 0) → (Option (List ℕ) → Option (List ℕ) → Fault → Type 0) → Outputs → ℕ → Type 0
+EndsByText is_text leaves o status = Ends is_text (λ said. said) leaves o status
 
 -- what is said of a trace in this form, and of an input that is refused
 abbrev pub said_as : Presentation → SaidOfTrace
@@ -87,14 +92,13 @@ IsPresented presentation remaining text verdict = IsTextOfReader (said_as presen
 -- The report of a certificate, of which and of whose trace readers have these bytes. No thread is started for it, so none is refused.
 abbrev pub EndsChecked : Option (List ℕ) → Option (List ℕ) → Outputs → ℕ → Type 0
 EndsChecked traces certs o status =
-    ((verdict : Verdict) × WritesCheckReport traces certs o.written_before o.written verdict × Keeps o.errors_before o.errors × (status ≡ status_of verdict))
-    ⊎ ((fault : Fault) × (fault ≢ NoThread) × LeavesCheckFault traces certs o.written_before o.written fault × EndsByFault fault o status)
+    let is_report = IsCheckReportOfReaders traces certs in
+    Ends is_report status_of (λ old new fault. (fault ≢ NoThread) × LeavesAtFault is_report old new fault) o status
 
 -- The lines of traces that stand one after the other, of which a reader has these bytes, and their last line; or a fault left a prefix of this text.
 abbrev pub EndsBatched : Bool → Option (List ℕ) → Outputs → ℕ → Type 0
 EndsBatched quiet remaining o status =
-    ((verdict : Verdict) × WritesWhole (IsBatchOfReader quiet remaining) o.written_before o.written verdict × Keeps o.errors_before o.errors × (status ≡ status_of verdict))
-    ⊎ ((fault : Fault) × IsBatchFault fault × WritesPrefix (IsBatchOfReader quiet remaining) o.written_before o.written × EndsByFault fault o status)
+    let is_batch = IsBatchOfReader quiet remaining in Ends is_batch status_of (λ old new fault. IsBatchFault fault × WritesPrefix is_batch old new) o status
 
 -- Traces of at most so many events that are cut out of the log that a reader's bytes spell, with status 0; or the line of its refusal on the errors, with
 -- status 2; or a fault left nothing or a prefix of such traces.
@@ -104,25 +108,6 @@ EndsCut events remaining o status =
     ⊎ (WritesRefusal remaining o.written_before o.written o.errors_before o.errors × (status ≡ 2))
     ⊎ ((fault : Fault) × IsCutFault fault × LeavesCut remaining events o.written_before o.written × EndsByFault fault o status)
 
--- known bytes of the output grow by a text of this kind, with this status
-abbrev pub WritesText : (List ℕ → ℕ → Type 0) → Option (List ℕ) → Option (List ℕ) → ℕ → Type 0
-WritesText is_text old new status = (text : List ℕ) × is_text text status × Appends old new text
-
--- a text of this kind, with any status; its verdict isn't looked at
-abbrev pub IsPrintable : (List ℕ → ℕ → Type 0) → List ℕ → Verdict → Type 0
-IsPrintable is_text text verdict = (status : ℕ) × is_text text status
-
--- The output grows by a text of this kind and the errors by nothing, and the status is the text's; or a fault left nothing or, on Write, a prefix of
--- such a text.
-abbrev pub EndsByText : (List ℕ → ℕ → Type 0) → Outputs → ℕ → Type 0
-EndsByText is_text o status =
-    (WritesText is_text o.written_before o.written status × Keeps o.errors_before o.errors)
-    ⊎ ((fault : Fault) × LeavesAtFault (IsPrintable is_text) o.written_before o.written fault × EndsByFault fault o status)
-
--- what is printed of a replay, where readers have these bytes of the program and of the schedule
-abbrev pub EndsReplayed : RunOptions → Option (List ℕ) → Option (List ℕ) → Outputs → ℕ → Type 0
-EndsReplayed options programs schedules o status = EndsByText (IsReplayText options programs schedules) o status
-
 -- A run gave no record: the output is as it was, the line of the fault was written to the errors, and the status is 4.
 abbrev pub EndsUnrecorded : Outputs → ℕ → Type 0
 EndsUnrecorded o status =
@@ -131,21 +116,7 @@ EndsUnrecorded o status =
 
 -- what is printed of a run, where a reader has these bytes of the program, or that it gave no record
 abbrev pub EndsRun : RunOptions → Option (List ℕ) → Outputs → ℕ → Type 0
-EndsRun options programs o status = EndsByText (IsRunText options programs) o status ⊎ EndsUnrecorded o status
-
--- The output grows by the text of the program of this memory model that a seed draws, or that of a refusal, and the errors by nothing, and the status is the text's; or a
--- fault, OutOfMemory or Write, left nothing or, on Write, a prefix of such a text.
-abbrev pub EndsMade : Order → ℕ → ShapeNumbers → Outputs → ℕ → Type 0
-EndsMade order seed numbers o status =
-    (WritesText (IsMadeText order seed numbers) o.written_before o.written status × Keeps o.errors_before o.errors)
-    ⊎ ((fault : Fault) × LeavesMadeText order seed numbers o.written_before o.written fault × EndsByFault fault o status)
-
--- The output grows by the text of a campaign, or that of a refusal, and the errors by nothing, and the status is the text's; or a fault left nothing or,
--- on Write, a prefix of such a text.
-abbrev pub EndsCampaign : CampaignOptions → Outputs → ℕ → Type 0
-EndsCampaign options o status =
-    (WritesText (IsCampaignText options) o.written_before o.written status × Keeps o.errors_before o.errors)
-    ⊎ ((fault : Fault) × LeavesCampaignText options o.written_before o.written fault × EndsByFault fault o status)
+EndsRun options programs o status = EndsByText (IsRunText options programs) (LeavesAtFault (IsRunText options programs)) o status ⊎ EndsUnrecorded o status
 
 -- The output grows by the text and the errors by nothing, and the status is 0; or the fault Write left a prefix of the text.
 abbrev pub EndsShowing : List ℕ → Outputs → ℕ → Type 0
@@ -169,10 +140,11 @@ EndsAsAsked (judging presentation file workers) input files o status = EndsByRep
 EndsAsAsked (batching file workers quiet) input files o status = EndsBatched quiet (text_bytes file input files) o status
 EndsAsAsked (cutting file events) input files o status = EndsCut events (text_bytes file input files) o status
 EndsAsAsked (checking trace certificate) input files o status = EndsChecked (text_bytes trace input files) (text_bytes certificate input files) o status
-EndsAsAsked (replaying options program schedule) input files o status = EndsReplayed options (text_bytes program input files) (text_bytes schedule input files) o status
-EndsAsAsked (running run) input files o status = EndsRun run.options (text_bytes run.program input files) o status
-EndsAsAsked (making order seed shape) input files o status = EndsMade order seed shape o status
-EndsAsAsked (campaigning options) input files o status = EndsCampaign options o status
+EndsAsAsked (replaying options program schedule) input files o status =
+    let is_text = IsReplayText options (text_bytes program input files) (text_bytes schedule input files) in EndsByText is_text (LeavesAtFault is_text) o status
+EndsAsAsked (running options seed turns program) input files o status = EndsRun options (text_bytes program input files) o status
+EndsAsAsked (making order seed shape) input files o status = EndsByText (IsMadeText order seed shape) (LeavesMadeText order seed shape) o status
+EndsAsAsked (campaigning options) input files o status = EndsByText (IsCampaignText options) (LeavesCampaignText options) o status
 EndsAsAsked showing input files o status = (text : Text) × EndsShowing text o status
 EndsAsAsked refusing input files o status = (text : Text) × EndsRefusing text o status
 

@@ -5,8 +5,8 @@ use Rattle.issue_desk.specs.declared.faults.RunFault.{RunFault}
 use Rattle.issue_desk.specs.declared.faults.RunFault.TheVariants.{OutOfMemory as RunOutOfMemory, NoThread as RunNoThread, Torn as RunTorn, OtherProgram as RunOtherProgram}
 use Rattle.request_serving.specs.declared.failures.RunFailure.{RunFailure}
 use Rattle.request_serving.specs.declared.failures.RunFailure.TheVariants.{Fault as ByFault, Torn, OtherProgram}
-use Rattle.tso_report.specs.declared.faults.Fault.TheVariants.{OutOfMemory, NoThread}
-use Rattle.tso_report.specs.Streams.{AppendsPrefix}
+use Rattle.trace_judging.specs.declared.faults.Fault.TheVariants.{OutOfMemory, NoThread}
+use Rattle.trace_judging.specs.Streams.{AppendsPrefix}
 use Rattle.request_serving.specs.Endings.{WritesFaultLine, fault_line}
 
 -- the failure of a run that gave no record

@@ -1,14 +1,13 @@
 -- What the program prints of the program that is made from a seed.
 use Rattle.std.specs.Prelude.{◌≡◌, ◌⊎◌, ℕ, List, [], ◌∷◌, ◌++◌, codes, Option}
-use Rattle.std.specs.Io.KnownBytes.{Keeps}
 use Rattle.tso_ops.specs.Making.{IsShape, ShapeValue, shape_of}
 use Rattle.tso_ops.specs.declared.settings.Order.{Order}
 use Rattle.tso_text.specs.Printed.{program_text}
 use Rattle.command_line.specs.declared.options.ShapeNumbers.{ShapeNumbers}
 use Rattle.tso_report.specs.Campaigns.{program_of_seed_with_order}
-use Rattle.tso_report.specs.declared.faults.Fault.{Fault}
-use Rattle.tso_report.specs.declared.faults.Fault.TheVariants.{OutOfMemory, Read, Write, NoThread, Missing}
-use Rattle.tso_report.specs.Streams.{AppendsPrefix}
+use Rattle.trace_judging.specs.declared.faults.Fault.{Fault}
+use Rattle.trace_judging.specs.declared.faults.Fault.TheVariants.{OutOfMemory, Write}
+use Rattle.trace_judging.specs.WrittenReports.{LeavesAtFault}
 
 -- the shape of these numbers
 abbrev pub asked_shape : ShapeNumbers → ShapeValue
@@ -28,10 +27,6 @@ IsMadeText order seed numbers text status =
     IsShapeRefusal numbers text status
     ⊎ (IsShape (asked_shape numbers) × (text ≡ program_text (program_of_seed_with_order order (asked_shape numbers) seed)) × (status ≡ 0))
 
--- What a fault leaves of it: on Write a prefix of the text, else nothing was written. No text is read, and no thread started.
+-- what a fault leaves of it: no text is read, and no thread started
 abbrev pub LeavesMadeText : Order → ℕ → ShapeNumbers → Option (List ℕ) → Option (List ℕ) → Fault → Type 0
-LeavesMadeText order seed numbers old new OutOfMemory = Keeps old new
-LeavesMadeText order seed numbers old new Read = ⊥
-LeavesMadeText order seed numbers old new Write = (status : ℕ) × (text : List ℕ) × IsMadeText order seed numbers text status × AppendsPrefix old new text
-LeavesMadeText order seed numbers old new NoThread = ⊥
-LeavesMadeText order seed numbers old new (Missing missing) = ⊥
+LeavesMadeText order seed numbers old new fault = ((fault ≡ OutOfMemory) ⊎ (fault ≡ Write)) × LeavesAtFault (IsMadeText order seed numbers) old new fault

@@ -1,10 +1,11 @@
 -- Files that are opened by their names, as far as they are known.
-use Rattle.std.specs.Prelude.{◌≡◌, ◌⊎◌, ℕ, Bool, ◌≤◌, List, ◌++◌, length, take, option_map, Option, Some, None, IfSome}
+use Rattle.std.specs.Prelude.{◌≡◌, ◌⊎◌, ℕ, Bool, ◌≤◌, List, ◌++◌, filter_map, is_some, length, not, take, option_map, Option, Some, None, IfSome}
+use Rattle.std.specs.List.{list_all}
 use Rattle.std.specs.Borrow.{Bor}
 use Rattle.std.specs.Io.KnownBytes.{Consumes}
 use Rattle.command_line.specs.Requests.{Asked, batching, checking, cutting, needs, replaying}
-use Rattle.tso_report.specs.Limits.{certificate_read_limit, trace_read_limit}
-use Rattle.tso_report.specs.Streams.{LosesPrefix}
+use Rattle.trace_judging.specs.Limits.{certificate_read_limit, trace_read_limit}
+use Rattle.trace_judging.specs.Streams.{LosesPrefix}
 use Rattle.tso_text.specs.Refusals.{IsRefusedProgram, IsRefusedTrace}
 
 -- an opened file has the bytes that are known of its name
@@ -18,7 +19,7 @@ text_bytes (Some name) input files = files name
 
 -- standard input is read
 abbrev pub reads_input : Asked → Bool
-reads_input asked = (needs asked).input
+reads_input asked = not (list_all is_some (needs asked).texts)
 
 -- What is taken of standard input where it is read: of traces that stand one after the other and of a log all bytes, of another text so many that one of
 -- too many bytes is seen; or nothing of a certificate or of a schedule, where the trace or the program before it was refused.
@@ -45,7 +46,7 @@ name_in file = option_map (λ f. f.now) file
 
 -- the files that are named, in their order
 abbrev pub files_named : Asked → List (List ℕ)
-files_named asked = (needs asked).files
+files_named asked = filter_map (λ text. text) (needs asked).texts
 
 -- the known names of the files opened so far grow by some of the first of these
 abbrev pub OpensFirst : Option (List (List ℕ)) → Option (List (List ℕ)) → List (List ℕ) → Type 0

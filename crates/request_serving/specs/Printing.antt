@@ -1,5 +1,5 @@
 -- What the program prints of records and of refused texts.
-use Rattle.std.specs.Prelude.{◌≡◌, ℕ, List, ◌++◌, true, Option, IfSome}
+use Rattle.std.specs.Prelude.{◌≡◌, ◌⊎◌, ℕ, List, ◌++◌, true}
 use Rattle.tso_text.specs.declared.faults.Why.{Why}
 use Rattle.tso_text.specs.Printed.{trace_text}
 use Rattle.trace_reports.specs.declared.verdicts.Verdict.{Verdict}
@@ -36,16 +36,7 @@ PrintsRecord Explanation recorded account text status =
 
 -- ---- what is printed of texts
 
--- It holds of some bytes, and of all bytes of the reader where these are known.
-pub record ReadsAs (remaining : Option (List ℕ)) (Is : List ℕ → Type 0) : Type 0 where
-  pub bytes : List ℕ
-  pub of_read : Is bytes
-  pub of_all : IfSome remaining Is
-
--- Such bytes are refused, and the text is the line of their refusal.
-pub record IsRefusalOf (is_refusal : List ℕ → ℕ → Why → Type 0) (remaining : Option (List ℕ)) (text : List ℕ) (status : ℕ) : Type 0 where
-  pub line : ℕ
-  pub why : Why
-  pub refused : ReadsAs remaining (λ bytes. is_refusal bytes line why)
-  pub whole : text ≡ refusal_text line why
-  pub ends : status ≡ 2
+-- What is printed of bytes: this of the value that they spell, or the line of their refusal.
+abbrev pub IsPrintedOf : {V : Type 0} → (List ℕ → V → Type 0) → (List ℕ → ℕ → Why → Type 0) → (V → List ℕ → ℕ → Type 0) → List ℕ → List ℕ → ℕ → Type 0
+IsPrintedOf {V} Spells IsRefusal Prints bytes text status =
+    ((v : V) × Spells bytes v × Prints v text status) ⊎ ((line : ℕ) × (why : Why) × IsRefusal bytes line why × (text ≡ refusal_text line why) × (status ≡ 2))

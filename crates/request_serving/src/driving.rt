@@ -4,8 +4,8 @@ ghost use Rattle.std.specs.declared.io.ErrorKind.TheVariants.{OutOfMemory as NoM
 ghost use Rattle.command_line.specs.Refusals.{Refuses};
 ghost use Rattle.command_line.specs.Requests.{Asked, texts_in};
 ghost use Rattle.command_line.specs.Spellings.{Asks, AsksHelp};
-ghost use Rattle.tso_report.specs.Streams.{AppendsPrefix};
-ghost use Rattle.tso_report.specs.declared.faults.Fault.TheVariants.{OutOfMemory};
+ghost use Rattle.trace_judging.specs.Streams.{AppendsPrefix};
+ghost use Rattle.trace_judging.specs.declared.faults.Fault.TheVariants.{OutOfMemory};
 ghost use Rattle.request_serving.specs.Endings.{LeadTo, WritesFaultLine, invalid_utf8_line, outputs};
 ghost use Rattle.request_serving.specs.LawfulRequests.{RunsLawfully, runs_on_lawful_unit};
 ghost use Rattle.request_serving.specs.OpenedFiles.{HasRefusedFirstText, OpensFirst, TakesInput, files_named, reads_input};
@@ -19,7 +19,7 @@ use std::io::{Read, Write};
 use std::rt::Files;
 use std::sync::Wait;
 use std::thread::Threads;
-use tso_report::Fault;
+use trace_judging::Fault;
 
 /// Does what the arguments of a command line ask for, and answers the status that the program ends with.
 ///

@@ -2,7 +2,7 @@
 ghost use Rattle.std.specs.Prelude.{◌≡◌, ◌++◌, ◌∷◌, [], IfOk, IfErr};
 ghost use Rattle.std.specs.Fmt.{decimal};
 ghost use Rattle.std.specs.Io.KnownBytes.{Keeps};
-ghost use Rattle.tso_report.specs.Streams.{AppendsPrefix};
+ghost use Rattle.trace_judging.specs.Streams.{AppendsPrefix};
 ghost use Rattle.request_serving.specs.Endings.{WritesFaultLine};
 ghost use Rattle.request_serving.specs.Failures.{WritesFailureLine};
 ghost use Rattle.request_serving.specs.Statuses.{status_of};
@@ -10,7 +10,7 @@ ghost use Rattle.request_serving.specs.Statuses.{status_of};
 use crate::failures::RunFailure;
 use itoa::Buffer;
 use std::io::Write;
-use tso_report::{Fault, Verdict, write_text};
+use trace_judging::{Fault, Verdict, write_text};
 
 /// The status of a trace in which no violation was found, and of a text that was asked for.
 pub(crate) const DONE: u8 = 0;

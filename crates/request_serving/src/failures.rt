@@ -1,12 +1,12 @@
 //! Why nothing was printed of a run, or not all.
 ghost use Rattle.std.specs.Prelude.{◌≡◌};
-ghost use Rattle.tso_report.specs.declared.faults.Fault.TheVariants.{OutOfMemory as NoMemory};
+ghost use Rattle.trace_judging.specs.declared.faults.Fault.TheVariants.{OutOfMemory as NoMemory};
 ghost use Rattle.request_serving.specs.Failures.{failure_of};
 ghost use Rattle.request_serving.specs.declared.failures.RunFailure.TheVariants.{Fault as ByFault};
 
 use issue_desk::RunFault;
 use std::alloc::{AllocError, AllocFailed};
-use tso_report::Fault;
+use trace_judging::Fault;
 
 /// Why nothing was printed of a run, or not all.
 #[derive(Clone, Copy, Debug, PartialEq, Eq)]

@@ -1,12 +1,12 @@
 //! Files that are opened by their names.
 ghost use Rattle.std.specs.Prelude.{◌≡◌, [], ◌∷◌, IfOk, IfErr};
-ghost use Rattle.tso_report.specs.declared.faults.Fault.{Fault};
+ghost use Rattle.trace_judging.specs.declared.faults.Fault.{Fault};
 ghost use Rattle.request_serving.specs.OpenedFiles.{HasKnown, OpensNext};
 
 use std::io::Read;
 use std::rt::Files;
 use std::{fs, io};
-use tso_report::Fault;
+use trace_judging::Fault;
 
 /// What opens files to be read.
 ///

@@ -1,6 +1,6 @@
 //! What is printed of records and of refused texts.
 ghost use Rattle.std.specs.Prelude.{◌≡◌, ◌≢◌, ◌⊎◌, ◌≤◌, IfOk, IfErr};
-ghost use Rattle.tso_report.specs.declared.faults.Fault.{Fault};
+ghost use Rattle.trace_judging.specs.declared.faults.Fault.{Fault};
 ghost use Rattle.trace_reports.specs.Reports.{refusal_text};
 ghost use Rattle.tso_text.specs.declared.faults.Why.{Why};
 ghost use Rattle.command_line.specs.declared.options.Printing.TheVariants.{Explanation};
@@ -14,8 +14,9 @@ use std::alloc::Global;
 use std::sync::Wait;
 use std::thread::Threads;
 use trace_explanation::AsExplanation;
+use trace_judging::{Fault, render_refusal, render_trace};
 use tso_ops::OutOfMemory;
-use tso_report::{Fault, print_account, render_refusal, render_trace, report_of_record};
+use tso_report::{print_account, report_of_record};
 use tso_text::{TextFault, print_trace};
 use unit_core::{Account, Recorded};
 

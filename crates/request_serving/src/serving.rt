@@ -1,19 +1,19 @@
 //! What the program does for each request.
 ghost use Rattle.std.specs.Prelude.{◌≡◌, ◌≢◌, true, false};
 ghost use Rattle.command_line.specs.Requests.{HasDrainTurns, HasUnitRanges, HasWorkers, asked_of};
-ghost use Rattle.tso_report.specs.Limits.{worker_limit};
-ghost use Rattle.tso_report.specs.Streams.{AppendsPrefix};
+ghost use Rattle.trace_judging.specs.Limits.{worker_limit};
+ghost use Rattle.trace_judging.specs.Streams.{AppendsPrefix};
 ghost use Rattle.request_serving.specs.Endings.{EndsAsAsked, EndsShowing, EndsWithText, outputs};
 ghost use Rattle.request_serving.specs.LawfulRequests.{RunsLawfully, runs_on_lawful_unit};
 ghost use Rattle.request_serving.specs.OpenedFiles.{HasRefusedFirstText, OpensFirst, OpensNext, TakesInput, files_named, reads_input};
 
 use crate::endings::{DONE, REFUSED, end, end_by, end_run, end_with};
 use crate::files::NamedFiles;
-use crate::serving::batching::batch_by;
+use crate::serving::batching::batch_named;
 use crate::serving::campaigning::campaign_by;
 use crate::serving::checking::check_named;
-use crate::serving::cutting::cut_by;
-use crate::serving::judging::judge_by;
+use crate::serving::cutting::{cut_named, end_cut};
+use crate::serving::judging::judge_named;
 use crate::serving::making::make;
 use crate::serving::replaying::replay_named;
 use crate::serving::running::run_named;
@@ -21,7 +21,7 @@ use command_line::Request;
 use std::io::{Read, Write};
 use std::sync::Wait;
 use std::thread::Threads;
-use tso_report::{Fault, MAX_WORKERS, write_text};
+use trace_judging::{Fault, MAX_WORKERS, write_text};
 
 mod batching;
 mod campaigning;
@@ -69,9 +69,12 @@ pub fn serve<H: Threads + Wait + Sync + AllocGlobal, O: NamedFiles, R: Read, W: 
     ensures taken { reads_input (asked_of request.now) ≡ true → result ≢ 4 → TakesInput (asked_of request.now) (R.remaining reader.old) (R.remaining reader.new) }
 {
     match request {
-        Request::Judge(request) => judge_by(rt, request, files, reader, writer, errors),
-        Request::Batch(request) => batch_by(rt, request, files, reader, writer, errors),
-        Request::Cut(request) => cut_by(rt.alloc(), request, files, reader, writer, errors),
+        Request::Judge(request) => end(judge_named(rt, request, files, reader, writer), errors),
+        Request::Batch(request) => end(batch_named(rt, request, files, reader, writer), errors),
+        Request::Cut(request) => {
+            let cut = cut_named(rt.alloc(), request, files, reader, writer, errors);
+            end_cut(cut, errors)
+        }
         Request::Check(texts) => {
             let checked = check_named(rt.alloc(), *texts, files, reader, writer);
             end(checked, errors)
@@ -80,10 +83,7 @@ pub fn serve<H: Threads + Wait + Sync + AllocGlobal, O: NamedFiles, R: Read, W: 
             let replayed = replay_named(rt, options, *texts, files, reader, writer);
             end_with(replayed, errors)
         }
-        Request::Run(run_request) => {
-            let ran = run_named(rt, run_request, files, reader, writer);
-            end_run(ran, errors)
-        }
+        Request::Run(request) => end_run(run_named(rt, request, files, reader, writer), errors),
         Request::Make { order, seed, shape } => {
             let made = make(rt.alloc(), *order, *seed, *shape, writer);
             end_with(made, errors)

@@ -1,5 +1,5 @@
 -- Lemmas on the whole of a batch: some text and no other, and what is left of a fault.
-use Rattle.std.proofs.Common.{◌≡◌, ℕ, suc, ◌+◌, Bool, List, [], ◌∷◌, ◌++◌, length, take, drop, map, None, Some, IfSome, refl, ap, sym, subst, ◌∙◌, arith, append_assoc}
+use Rattle.std.proofs.Common.{◌≡◌, ℕ, suc, ◌+◌, Bool, List, [], ◌∷◌, ◌++◌, length, take, drop, map, None, Some, IfSome, refl, ap, ap₂, sym, subst, ◌∙◌, arith, append_assoc}
 use Rattle.std.specs.Prelude.{Option}
 use Rattle.std.specs.Global.{Vec}
 use Rattle.std.specs.Io.KnownBytes.{Appends, Consumes, IsAtEnd, prepend_known}
@@ -9,12 +9,13 @@ use Rattle.trace_batches.specs.Internal.Cutters.{CutterValue, Cuts, IsAt, rows}
 use Rattle.trace_batches.specs.Pieces.{ArePieces, IsSplit, last_piece}
 use Rattle.trace_batches.proofs.PieceFacts.{cut_at_start, cut_joined, one_list_of_pieces, some_cut, some_pieces}
 use Rattle.trace_reports.specs.declared.verdicts.Verdict.{Verdict}
-use Rattle.tso_report.specs.Limits.{trace_read_limit}
-use Rattle.tso_report.specs.Streams.{AppendsPrefix}
-use Rattle.tso_report.specs.WrittenReports.{WritesPrefix, WritesWhole}
+use Rattle.trace_judging.specs.Limits.{trace_read_limit}
+use Rattle.trace_judging.specs.Streams.{AppendsPrefix}
+use Rattle.trace_judging.specs.WrittenReports.{WritesPrefix, WritesWhole}
 use Rattle.trace_reports.specs.Reports.{refusal_shown, reported}
 use Rattle.trace_reports.proofs.RenderingFacts.{one_text, some_text}
-use Rattle.tso_report.proofs.ReaderFacts.{report_of_prefix}
+use Rattle.trace_judging.proofs.ReaderFacts.{report_of_prefix}
+use Rattle.trace_reports.proofs.ReadingFacts.{reads_whole}
 use Rattle.trace_batches.specs.declared.tallies.Tally.{Tally}
 use Rattle.trace_batches.specs.Batches.{AreReports, IsBatch, IsBatchOfReader, ReportValue, batch_verdict, total_line, total_text, trace_lines}
 use Rattle.trace_batches.specs.Internal.Progress.{Counts, Stands, Told, WroteAll, WroteSome}
@@ -30,9 +31,8 @@ firsts pieces = map (λ piece. take trace_read_limit piece) pieces
 
 pub reports_of_firsts : (pieces : List (List ℕ)) (reports : List ReportValue) → AreReports (firsts pieces) reports → AreReports pieces reports
 reports_of_firsts [] [] are = tt
-reports_of_firsts [] (r ∷ rs) are = absurd are
-reports_of_firsts (p ∷ ps) [] are = absurd are
 reports_of_firsts (p ∷ ps) (r ∷ rs) are = (report_of_prefix p r.text r.verdict are.0, reports_of_firsts ps rs are.1)
+reports_of_firsts pieces reports are = absurd are
 
 pub some_reports : (pieces : List (List ℕ)) → (reports : List ReportValue) × AreReports pieces reports
 some_reports [] = ([], tt)
@@ -41,20 +41,15 @@ some_reports (p ∷ ps) =
     let more = some_reports ps in
     (record { text = one.0; verdict = one.1 } ∷ more.0, (one.2, more.1))
 
-same_report : (r s : ReportValue) → r.text ≡ s.text → r.verdict ≡ s.verdict → r ≡ s
-same_report r s text verdict =
-    let report : List ℕ → Verdict → ReportValue = λ t v. record { text = t; verdict = v } in
-    ap (λ (t : List ℕ). report t r.verdict) text ∙ ap (λ (v : Verdict). report s.text v) verdict
-
 pub one_list_of_reports : (pieces : List (List ℕ)) (rs ss : List ReportValue) → AreReports pieces rs → AreReports pieces ss → rs ≡ ss
 one_list_of_reports [] [] [] first second = refl
-one_list_of_reports [] (r ∷ rs) ss first second = absurd first
-one_list_of_reports [] [] (s ∷ ss) first second = absurd second
-one_list_of_reports (p ∷ ps) [] ss first second = absurd first
-one_list_of_reports (p ∷ ps) (r ∷ rs) [] first second = absurd second
 one_list_of_reports (p ∷ ps) (r ∷ rs) (s ∷ ss) first second =
     let same = one_text reported refusal_shown p r.text s.text r.verdict s.verdict first.0 second.0 in
-    ap (λ x. x ∷ rs) (same_report r s same.0 same.1) ∙ ap (λ xs. s ∷ xs) (one_list_of_reports ps rs ss first.1 second.1)
+    let report : List ℕ → Verdict → ReportValue = λ t v. record { text = t; verdict = v } in
+    ap₂ (λ x xs. x ∷ xs) (ap₂ report same.0 same.1) (one_list_of_reports ps rs ss first.1 second.1)
+one_list_of_reports [] rs (s ∷ ss) first second = absurd second
+one_list_of_reports (p ∷ ps) rs [] first second = absurd second
+one_list_of_reports pieces rs ss first second = absurd first
 
 -- ---- one text
 
@@ -95,7 +90,7 @@ prefix_left quiet stream told untold reports old new are_pieces are_reports writ
 
 of_reader : (quiet : Bool) (remaining old new : Option (List ℕ)) (stream : List ℕ) → IfSome remaining (λ bytes. stream ≡ bytes) → WritesPrefix (IsBatch quiet stream) old new →
     WritesPrefix (IsBatchOfReader quiet remaining) old new
-of_reader quiet remaining old new stream all left = (left.0, left.1, record { stream = stream; all = all; is_batch = left.2 }, left.3)
+of_reader quiet remaining old new stream all left = (left.0, left.1, reads_whole (λ s. IsBatch quiet s left.1 left.0) remaining stream all left.2, left.3)
 
 -- what was not read yet
 later_of : (remaining now : Option (List ℕ)) (bytes : List ℕ) → Consumes remaining now bytes → (later : List ℕ) × IfSome remaining (λ all. bytes ++ later ≡ all)
@@ -150,19 +145,20 @@ lines_after : (quiet : Bool) (tally : Tally) (reports more : List ReportValue) �
 lines_after quiet tally reports more counts =
     ap (λ n. trace_lines quiet 1 reports ++ trace_lines quiet n more) (next_line tally reports counts) ∙ sym (trace_lines-append quiet 1 reports more)
 
--- the reports of the first bytes of the first of these pieces
+-- the reports of the first bytes of these pieces, and of the first of them
+firsts_are : (limit : ℕ) (pieces : List (Vec ℕ)) (ended : List (List ℕ)) → limit ≡ trace_read_limit → rows pieces ≡ map (λ piece. take limit piece) ended → rows pieces ≡ firsts ended
+firsts_are limit pieces ended limit_is are_rows = are_rows ∙ ap (λ n. map (λ (piece : List ℕ). take n piece) ended) limit_is
+
 some_of_firsts : (limit count : ℕ) (pieces : List (Vec ℕ)) (ended : List (List ℕ)) (reports : List ReportValue) → limit ≡ trace_read_limit → rows pieces ≡ map (λ piece. take limit piece) ended →
     AreReports (take count (rows pieces)) reports → AreReports (take count ended) reports
 some_of_firsts limit count pieces ended reports limit_is are_rows are_reports =
-    let first : List ℕ → List ℕ = λ piece. take trace_read_limit piece in
-    let same : rows pieces ≡ map first ended = are_rows ∙ ap (λ n. map (λ (piece : List ℕ). take n piece) ended) limit_is in
-    reports_of_firsts (take count ended) reports (subst (λ ps. AreReports ps reports) (ap (take count) same ∙ take-map first count ended) are_reports)
+    reports_of_firsts (take count ended) reports
+    (subst (λ ps. AreReports ps reports) (ap (take count) (firsts_are limit pieces ended limit_is are_rows) ∙ take-map (λ piece. take trace_read_limit piece) count ended) are_reports)
 
 all_of_firsts : (limit : ℕ) (pieces : List (Vec ℕ)) (ended : List (List ℕ)) (reports : List ReportValue) → limit ≡ trace_read_limit → rows pieces ≡ map (λ piece. take limit piece) ended →
     AreReports (rows pieces) reports → AreReports ended reports
 all_of_firsts limit pieces ended reports limit_is are_rows are_reports =
-    let same : rows pieces ≡ firsts ended = are_rows ∙ ap (λ n. map (λ (piece : List ℕ). take n piece) ended) limit_is in
-    reports_of_firsts ended reports (subst (λ ps. AreReports ps reports) same are_reports)
+    reports_of_firsts ended reports (subst (λ ps. AreReports ps reports) (firsts_are limit pieces ended limit_is are_rows) are_reports)
 
 -- a chunk was read, cut and told
 pub chunk_told : (quiet : Bool) (remaining before now old mid new : Option (List ℕ)) (cutter after : CutterValue) (tally counted : Tally) (chunk : List ℕ) (pieces : List (Vec ℕ)) →
@@ -206,12 +202,12 @@ pub front_taken : (bytes : List ℕ) (n : ℕ) (now : Option (List ℕ)) → Con
 front_taken bytes n None = tt
 front_taken bytes n (Some rest) = ap (λ t. t ++ rest) (sym (take-append-drop n bytes)) ∙ append_assoc (take n bytes) (drop n bytes) rest
 
--- a chunk was read, of which nothing is cut yet
-pub stands_given : (quiet : Bool) (remaining before now old new : Option (List ℕ)) (cutter : CutterValue) (tally : Tally) (chunk : List ℕ) → Stands quiet remaining before old new cutter tally →
-    Consumes before now chunk → Stands quiet remaining (prepend_known chunk now) old new cutter tally
-stands_given quiet remaining before now old new cutter tally chunk s taken = record {
+-- the same of a reader that has other bytes left
+stands_taken : (quiet : Bool) (remaining before now old new : Option (List ℕ)) (cutter : CutterValue) (tally : Tally) (s : Stands quiet remaining before old new cutter tally) →
+    Consumes remaining now s.bytes → Stands quiet remaining now old new cutter tally
+stands_taken quiet remaining before now old new cutter tally s taken = record {
   bytes = s.bytes;
-  taken = given remaining before now s.bytes chunk s.taken taken;
+  taken = taken;
   ended = s.ended;
   rest = s.rest;
   cut = s.cut;
@@ -222,6 +218,12 @@ stands_given quiet remaining before now old new cutter tally chunk s taken = rec
   counts = s.counts;
   lines = s.lines;
 }
+
+-- a chunk was read, of which nothing is cut yet
+pub stands_given : (quiet : Bool) (remaining before now old new : Option (List ℕ)) (cutter : CutterValue) (tally : Tally) (chunk : List ℕ) → Stands quiet remaining before old new cutter tally →
+    Consumes before now chunk → Stands quiet remaining (prepend_known chunk now) old new cutter tally
+stands_given quiet remaining before now old new cutter tally chunk s taken =
+    stands_taken quiet remaining before (prepend_known chunk now) old new cutter tally s (given remaining before now s.bytes chunk s.taken taken)
   where
     given : (remaining before now : Option (List ℕ)) (bytes chunk : List ℕ) → Consumes remaining before bytes → Consumes before now chunk → Consumes remaining (prepend_known chunk now) bytes
     given None before now bytes chunk first second = tt
@@ -232,20 +234,9 @@ stands_given quiet remaining before now old new cutter tally chunk s taken = rec
 -- a read that gave nothing
 pub stands_later : (quiet : Bool) (remaining before now old new : Option (List ℕ)) (cutter : CutterValue) (tally : Tally) (chunk : List ℕ) (count : ℕ) → count ≡ 0 →
     Stands quiet remaining before old new cutter tally → Consumes before now (take count chunk) → Stands quiet remaining now old new cutter tally
-stands_later quiet remaining before now old new cutter tally chunk count none s taken = record {
-  bytes = s.bytes;
-  taken =
-      subst (Consumes remaining now) (ap (λ n. s.bytes ++ take n chunk) none ∙ append-nil s.bytes) (Consumes-trans remaining before now s.bytes (take count chunk) s.taken taken);
-  ended = s.ended;
-  rest = s.rest;
-  cut = s.cut;
-  limit = s.limit;
-  at = s.at;
-  reports = s.reports;
-  are_reports = s.are_reports;
-  counts = s.counts;
-  lines = s.lines;
-}
+stands_later quiet remaining before now old new cutter tally chunk count none s taken =
+    stands_taken quiet remaining before now old new cutter tally s
+    (subst (Consumes remaining now) (ap (λ n. s.bytes ++ take n chunk) none ∙ append-nil s.bytes) (Consumes-trans remaining before now s.bytes (take count chunk) s.taken taken))
 
 -- ---- at the end of the stream
 
@@ -296,11 +287,9 @@ last_left quiet remaining now old mid new cutter tally pieces s end last wrote =
 
 told_batch : (quiet : Bool) (remaining old new : Option (List ℕ)) (tally : Tally) (t : Told quiet remaining old new tally) →
     IsBatchOfReader quiet remaining (trace_lines quiet 1 t.reports ++ total_line t.reports) (batch_verdict t.reports)
-told_batch quiet remaining old new tally t = record {
-  stream = t.stream;
-  all = t.all;
-  is_batch = record { pieces = t.pieces; are_pieces = t.are_pieces; reports = t.reports; are_reports = t.are_reports; whole = refl; says = refl };
-}
+told_batch quiet remaining old new tally t =
+    reads_whole (λ s. IsBatch quiet s (trace_lines quiet 1 t.reports ++ total_line t.reports) (batch_verdict t.reports)) remaining t.stream t.all
+    (record { pieces = t.pieces; are_pieces = t.are_pieces; reports = t.reports; are_reports = t.are_reports; whole = refl; says = refl })
 
 -- it was written
 pub all_told : (quiet : Bool) (remaining old mid new : Option (List ℕ)) (tally : Tally) (line : List ℕ) (verdict : Verdict) → Told quiet remaining old mid tally →

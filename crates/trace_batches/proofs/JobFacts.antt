@@ -7,11 +7,11 @@ use Rattle.std.specs.Global.{Vec}
 use Rattle.std.proofs.Math.Seq.{take-append_seam}
 use Rattle.std.proofs.lemmas.List.{append-nil, get_or-map, length-map, length_push, take_more}
 use Rattle.trace_batches.specs.Internal.Cutters.{rows}
-use Rattle.tso_report.specs.declared.faults.Fault.{Fault}
-use Rattle.tso_report.specs.declared.faults.Fault.TheVariants.{OutOfMemory, NoThread}
+use Rattle.trace_judging.specs.declared.faults.Fault.{Fault}
+use Rattle.trace_judging.specs.declared.faults.Fault.TheVariants.{OutOfMemory, NoThread}
 use Rattle.trace_reports.specs.declared.renderings.Report.{Report}
 use Rattle.trace_reports.specs.Reports.{IsReport}
-use Rattle.tso_report.specs.Streams.{AppendsPrefix}
+use Rattle.trace_judging.specs.Streams.{AppendsPrefix}
 use Rattle.trace_batches.specs.declared.jobs.Job.{Job}
 use Rattle.trace_batches.specs.declared.tallies.Tally.{Tally}
 use Rattle.trace_batches.specs.Batches.{AreReports, IsBatchFault, ReportValue, trace_lines, written_line}
@@ -22,9 +22,8 @@ use Rattle.trace_batches.proofs.StreamFacts.{all_written, prefix_after}
 
 pub AreReports-append : (ps qs : List (List ℕ)) (rs ss : List ReportValue) → AreReports ps rs → AreReports qs ss → AreReports (ps ++ qs) (rs ++ ss)
 AreReports-append [] qs [] ss first second = second
-AreReports-append [] qs (r ∷ rs) ss first second = absurd first
-AreReports-append (p ∷ ps) qs [] ss first second = absurd first
 AreReports-append (p ∷ ps) qs (r ∷ rs) ss first second = (first.0, AreReports-append ps qs rs ss first.1 second)
+AreReports-append ps qs rs ss first second = absurd first
 
 pub AreReports-push : (ps : List (List ℕ)) (rs : List ReportValue) (p : List ℕ) (r : ReportValue) → AreReports ps rs → IsReport p r.text r.verdict → AreReports (ps ++ p ∷ []) (rs ++ r ∷ [])
 AreReports-push ps rs p r first last = AreReports-append ps (p ∷ []) rs (r ∷ []) first (last, tt)

@@ -2,10 +2,10 @@
 use Rattle.std.proofs.Common.{◌≡◌, ◌↔◌, ℕ, ◌<◌, List, length, take, refl, sym, subst, inr}
 use Rattle.trace_reports.specs.declared.verdicts.Verdict.{Verdict}
 use Rattle.trace_reports.specs.declared.verdicts.Verdict.TheVariants.{Refused}
-use Rattle.tso_report.specs.Limits.{trace_read_limit}
+use Rattle.trace_judging.specs.Limits.{trace_read_limit}
 use Rattle.trace_reports.specs.Reports.{IsReport, refusal_shown, refusal_text, reported}
 use Rattle.trace_reports.proofs.RenderingFacts.{one_text, some_text}
-use Rattle.tso_report.proofs.ReaderFacts.{report_of_prefix}
+use Rattle.trace_judging.proofs.ReaderFacts.{report_of_prefix}
 use Rattle.tso_text.specs.declared.faults.Why.TheVariants.{TooLong}
 use Rattle.tso_text.specs.Texts.{text_byte_limit}
 use Rattle.tso_text.proofs.TextLaws.{trace_laws}

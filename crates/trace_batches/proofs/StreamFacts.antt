@@ -5,7 +5,7 @@ use Rattle.std.specs.Io.KnownBytes.{Appends, Consumes, Keeps}
 use Rattle.std.proofs.KnownBytes.{Appends-nil, Appends-trans}
 use Rattle.std.proofs.lemmas.List.{drop_at, length-append, take-append-le, take_all, take_at}
 use Rattle.std.proofs.Math.Seq.{take-add}
-use Rattle.tso_report.specs.Streams.{AppendsPrefix}
+use Rattle.trace_judging.specs.Streams.{AppendsPrefix}
 
 -- calls that gave nothing, and then one that did
 pub kept_Consumes : (a b c : Option (List ℕ)) (bytes : List ℕ) → Keeps a b → Consumes b c bytes → Consumes a c bytes

@@ -1,13 +1,14 @@
 -- The text of a batch: a line for each piece of a stream, and the last line.
-use Rattle.std.specs.Prelude.{◌≡◌, ℕ, suc, Bool, true, false, List, [], ◌∷◌, ◌++◌, length, codes, Option, IfSome, if◌then◌else◌}
+use Rattle.std.specs.Prelude.{◌≡◌, ℕ, suc, Bool, true, false, List, [], ◌∷◌, ◌++◌, length, codes, Option, if◌then◌else◌}
 use Rattle.std.specs.Fmt.{decimal}
 use Rattle.std.specs.List.{count_by, list_any}
 use Rattle.trace_batches.specs.Pieces.{ArePieces}
-use Rattle.tso_report.specs.declared.faults.Fault.{Fault}
-use Rattle.tso_report.specs.declared.faults.Fault.TheVariants.{OutOfMemory, Read, Write, NoThread, Missing}
+use Rattle.trace_judging.specs.declared.faults.Fault.{Fault}
+use Rattle.trace_judging.specs.declared.faults.Fault.TheVariants.{Missing}
+use Rattle.trace_reports.specs.Readings.{ReadsAs}
 use Rattle.trace_reports.specs.declared.verdicts.Verdict.{Verdict}
 use Rattle.trace_reports.specs.declared.verdicts.Verdict.TheVariants.{NoViolation, Violation, Refused}
-use Rattle.trace_reports.specs.Reports.{IsReport, no_violation_text, violation_text}
+use Rattle.trace_reports.specs.Reports.{IsReport}
 
 -- ---- the reports of pieces
 
@@ -24,21 +25,19 @@ AreReports (piece ∷ pieces) [] = ⊥
 AreReports (piece ∷ pieces) (report ∷ reports) = IsReport piece report.text report.verdict × AreReports pieces reports
 
 abbrev pub is_violation : Verdict → Bool
-is_violation NoViolation = false
 is_violation Violation = true
-is_violation Refused = false
+is_violation _ = false
 
 abbrev pub is_refused : Verdict → Bool
-is_refused NoViolation = false
-is_refused Violation = false
 is_refused Refused = true
+is_refused _ = false
 
 -- ---- the text
 
 -- the end of a line: what the report says, without certificate. The report of a refused piece is this one line.
 abbrev pub line_end_of : Verdict → List ℕ → List ℕ
-line_end_of NoViolation report = no_violation_text
-line_end_of Violation report = violation_text []
+line_end_of NoViolation report = codes "NO VIOLATION FOUND" ++ 10 ∷ []
+line_end_of Violation report = codes "VIOLATION" ++ 10 ∷ []
 line_end_of Refused report = report
 
 -- the line of the trace of this number
@@ -48,8 +47,7 @@ trace_line number report = codes "trace " ++ decimal number ++ codes " " ++ line
 -- a quiet batch leaves out the lines of traces without a violation
 abbrev pub is_left_out : Bool → Verdict → Bool
 is_left_out quiet NoViolation = quiet
-is_left_out quiet Violation = false
-is_left_out quiet Refused = false
+is_left_out quiet _ = false
 
 abbrev pub written_line : Bool → ℕ → ReportValue → List ℕ
 written_line quiet number report = if is_left_out quiet report.verdict then [] else trace_line number report
@@ -84,16 +82,11 @@ pub record IsBatch (quiet : Bool) (stream : List ℕ) (text : List ℕ) (verdict
 
 -- ---- what is written
 
--- The text is that of the batch of some bytes: of all bytes of the reader, where these are known.
-pub record IsBatchOfReader (quiet : Bool) (remaining : Option (List ℕ)) (text : List ℕ) (verdict : Verdict) : Type 0 where
-  pub stream : List ℕ
-  pub all : IfSome remaining (λ bytes. stream ≡ bytes)
-  pub is_batch : IsBatch quiet stream text verdict
+-- the text of the batch of the bytes of a reader
+abbrev pub IsBatchOfReader : Bool → Option (List ℕ) → List ℕ → Verdict → Type 0
+IsBatchOfReader quiet remaining text verdict = ReadsAs remaining (λ stream. IsBatch quiet stream text verdict)
 
 -- the faults that a batch has
 abbrev pub IsBatchFault : Fault → Type 0
-IsBatchFault OutOfMemory = Unit {0}
-IsBatchFault Read = Unit {0}
-IsBatchFault Write = Unit {0}
-IsBatchFault NoThread = Unit {0}
 IsBatchFault (Missing seed) = ⊥
+IsBatchFault _ = Unit {0}

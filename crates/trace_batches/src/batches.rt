@@ -3,8 +3,8 @@ ghost use Rattle.std.specs.Prelude.{◌≡◌, ◌≤◌, ◌+◌, ◌∷◌, �
 ghost use Rattle.std.specs.Io.KnownBytes.{Appends, Consumes, IsAtEnd, prepend_known};
 ghost use Rattle.trace_batches.specs.Internal.Cutters.{IsAt, rows};
 ghost use Rattle.trace_batches.specs.Pieces.{last_piece};
-ghost use Rattle.tso_report.specs.Streams.{AppendsPrefix};
-ghost use Rattle.tso_report.specs.WrittenReports.{WritesPrefix, WritesWhole};
+ghost use Rattle.trace_judging.specs.Streams.{AppendsPrefix};
+ghost use Rattle.trace_judging.specs.WrittenReports.{WritesPrefix, WritesWhole};
 ghost use Rattle.trace_batches.specs.Batches.{IsBatchFault, IsBatchOfReader, ReportValue, written_line};
 ghost use Rattle.trace_batches.specs.Internal.Progress.{AreJudged, Counts, Stands, WroteAll, WroteSome, value_of};
 
@@ -17,8 +17,8 @@ use std::alloc::Global;
 use std::io::{Read, Write};
 use std::sync::Wait;
 use std::thread::Threads;
+use trace_judging::{Fault, Report, Verdict};
 use tso_ops::OutOfMemory;
-use tso_report::{Fault, Report, Verdict};
 use tso_text::MAX_TEXT_BYTES;
 
 /// How many bytes one call of `read` asks for.

@@ -7,8 +7,8 @@ use std::alloc::Global;
 use std::sync::Wait;
 use std::thread;
 use std::thread::Threads;
+use trace_judging::{AsReport, Fault, Report, render_text};
 use tso_ops::OutOfMemory;
-use tso_report::{AsReport, Fault, Report, render_text};
 
 /// A piece of a stream, and its report.
 #[derive(Drop)]

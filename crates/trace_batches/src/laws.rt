@@ -3,7 +3,7 @@ ghost use Rattle.std.specs.Prelude.{◌≡◌, ◌<◌, ◌↔◌, ◌++◌, ℕ
 ghost use Rattle.std.specs.List.{concat, flat_map};
 ghost use Rattle.trace_batches.specs.Pieces.{ArePieces};
 ghost use Rattle.tso_ops.specs.Values.{TraceValue};
-ghost use Rattle.tso_report.specs.Limits.{trace_read_limit};
+ghost use Rattle.trace_judging.specs.Limits.{trace_read_limit};
 ghost use Rattle.trace_reports.specs.Reports.{IsReport, refusal_text};
 ghost use Rattle.trace_reports.specs.declared.verdicts.Verdict.{Verdict};
 ghost use Rattle.tso_text.specs.Printed.{trace_text};

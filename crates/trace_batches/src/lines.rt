@@ -7,8 +7,8 @@ ghost use Rattle.trace_batches.specs.Internal.Progress.{value_of};
 use crate::tallies::Tally;
 use std::alloc::Global;
 use std::fmt::Write;
+use trace_judging::{Report, Verdict};
 use tso_ops::OutOfMemory;
-use tso_report::{Report, Verdict};
 
 /// The line of the trace of this number, or nothing where a quiet batch leaves it out.
 pub(crate) fn written_line(

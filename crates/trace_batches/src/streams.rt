@@ -1,11 +1,11 @@
 //! One read of a reader, and lines that are written at once.
 ghost use Rattle.std.specs.Prelude.{◌≡◌, ◌<◌, ◌≤◌, length, take, IfOk, IfErr, OnOk};
 ghost use Rattle.std.specs.Io.KnownBytes.{Appends, Consumes, IsAtEnd, Keeps};
-ghost use Rattle.tso_report.specs.Streams.{AppendsPrefix};
-ghost use Rattle.tso_report.specs.declared.faults.Fault.{Fault};
+ghost use Rattle.trace_judging.specs.Streams.{AppendsPrefix};
+ghost use Rattle.trace_judging.specs.declared.faults.Fault.{Fault};
 
 use std::io::{ErrorKind, Read, Write};
-use tso_report::{Fault, write_text};
+use trace_judging::{Fault, write_text};
 
 /// How often an interrupted call is tried again at most.
 const MAX_INTERRUPTS: usize = 1_048_576;

@@ -2,9 +2,9 @@
 ghost use Rattle.std.specs.Prelude.{◌≡◌, ◌+◌, ◌∷◌, ◌++◌, [], List, IfOk, IfErr, OnOk};
 ghost use Rattle.trace_batches.specs.Batches.{ReportValue, batch_verdict};
 ghost use Rattle.trace_batches.specs.Internal.Progress.{Counts};
-ghost use Rattle.tso_report.specs.declared.faults.Fault.{Fault};
+ghost use Rattle.trace_judging.specs.declared.faults.Fault.{Fault};
 
-use tso_report::{Fault, Verdict};
+use trace_judging::{Fault, Verdict};
 
 /// How many traces were judged, how many of them are violations, and how many are refused.
 #[derive(Clone, Copy, Debug)]

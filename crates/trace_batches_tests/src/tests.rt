@@ -11,8 +11,8 @@ use std::sync::Wait;
 use std::test::Fail;
 use std::thread::Threads;
 use trace_batches::{BatchOptions, judge_batch};
+use trace_judging::{Fault, Verdict};
 use traces_for_tests::expect_equal;
-use tso_report::{Fault, Verdict};
 
 /// A trace without a violation, a violation and a refused text.
 const STREAM: &[u8] =

@@ -34,15 +34,13 @@ line-later line first lines o (j, is, at) = (suc j, omega arith, at)
 
 line_from : (p place line : ℕ) (ops : List Outcome) (k : ℕ) (o : EventOperation) → slice_get (operations_from p place line ops) k ≡ Some o → IsLine line (map outcome_text ops) o
 line_from p place line [] k o at = absurd cc
-line_from p place line (Ld a r ∷ ops) zero o at = line-here p place line (Ld a r) _ _ o at refl refl
-line_from p place line (Ld a r ∷ ops) (suc k) o at = line-later line _ _ o (line_from p (suc place) (suc line) ops k o at)
-line_from p place line (St a v ∷ ops) zero o at = line-here p place line (St a v) _ _ o at refl refl
-line_from p place line (St a v ∷ ops) (suc k) o at = line-later line _ _ o (line_from p (suc place) (suc line) ops k o at)
 line_from p place line (Sw a r v ∷ ops) zero o at = line-here p place line (Sw a r v) _ _ o at refl refl
 line_from p place line (Sw a r v ∷ ops) (suc zero) o at = line-here p place line (Sw a r v) _ _ o at refl refl
 line_from p place line (Sw a r v ∷ ops) (suc (suc k)) o at = line-later line _ _ o (line_from p (suc place) (suc line) ops k o at)
 line_from p place line (Mb ∷ ops) k o at = line-later line _ _ o (line_from p (suc place) (suc line) ops k o at)
 line_from p place line (Sb ∷ ops) k o at = line-later line _ _ o (line_from p (suc place) (suc line) ops k o at)
+line_from p place line (x ∷ ops) zero o at = line-here p place line x _ _ o at refl refl
+line_from p place line (x ∷ ops) (suc k) o at = line-later line _ _ o (line_from p (suc place) (suc line) ops k o at)
 
 line_of_lists : (p line : ℕ) (lists : List (List Outcome)) (k : ℕ) (o : EventOperation) → slice_get (operations_of_lists p line lists) k ≡ Some o → IsLine line (flat_map processor_lines lists) o
 line_of_lists p line [] k o at = absurd cc

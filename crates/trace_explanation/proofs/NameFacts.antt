@@ -1,6 +1,8 @@
 -- Lemmas on the names of events, and on what loads read.
 use Rattle.std.proofs.Common.{◌≡◌, ⊎_elim, sym, ap, subst, refl, ◌∙◌, ℕ, zero, suc, ◌+◌, ◌<◌, ◌≤◌, Bool, true, false, cond, eqb, List, [], ◌∷◌, ◌++◌, length, Option, Some, None, slice_get, String, string_bytes, arith}
-use Rattle.std.specs.Prelude.{codes, IfSome}
+use Rattle.std.specs.Prelude.{◌&&◌, codes, not, IfSome}
+use Rattle.std.specs.Option.{option_map_or}
+use Rattle.std.specs.List.{find}
 use Rattle.std.proofs.lemmas.Bool.{cases_lt}
 use Rattle.std.proofs.lemmas.Bool.Decides.{nat_tests}
 use Rattle.std.proofs.lemmas.Option.{slice_get_past, slice_get_within}
@@ -11,10 +13,9 @@ use Rattle.tso_ops.specs.Values.{TraceValue}
 use Rattle.tso_ops.specs.Events.{event_at, event_total, events_of, HasSource}
 use Rattle.tso_ops.specs.declared.operations.EventOperation.{EventOperation}
 use Rattle.tso_ops.specs.Operations.{operation_at, operations_of}
-use Rattle.trace_explanation.specs.Names.{event_name, name_text, writes, source_in, source_of}
-use Rattle.trace_explanation.specs.Searches.{least}
+use Rattle.trace_explanation.specs.Names.{event_name, event_numbers, is_store, load_source, name_text, source_of}
 use Rattle.trace_explanation.specs.Internal.Tables.{text_in, HasNames}
-use Rattle.trace_explanation.proofs.SearchFacts.{least-passes, least-none_passes}
+use Rattle.trace_explanation.proofs.SearchFacts.{found-passes, missed-fails}
 
 -- ---- the list of names
 
@@ -32,7 +33,7 @@ text-last (n ∷ names) s zero is = absurd (omega arith)
 text-last (n ∷ names) s (suc k) is = text-last names s k (omega arith)
 
 -- the name of an event
-name-event : (t : TraceValue) (n : ℕ) → 0 < n → name_text t n ≡ event_name n (operation_at t n)
+name-event : (t : TraceValue) (n : ℕ) → 0 < n → name_text t n ≡ option_map_or (event_name n) (operation_at t n) []
 unfolding name_text
 name-event t zero above = absurd (omega arith)
 name-event t (suc k) above = refl
@@ -45,7 +46,7 @@ names-first t names s is said zero within = rw is said
 names-first t names s is said (suc k) within = absurd (omega arith)
 
 -- one more name
-pub names-more : (t : TraceValue) (old new : List (String Global)) (s : String Global) (n : ℕ) → new ≡ old ++ s ∷ [] → length old ≡ n → 0 < n → string_bytes s ≡ event_name n (operation_at t n) →
+pub names-more : (t : TraceValue) (old new : List (String Global)) (s : String Global) (n : ℕ) → new ≡ old ++ s ∷ [] → length old ≡ n → 0 < n → string_bytes s ≡ option_map_or (event_name n) (operation_at t n) [] →
     ((k : ℕ) → k < n → text_in (slice_get old k) ≡ name_text t k) → (k : ℕ) → k < n + 1 → text_in (slice_get new k) ≡ name_text t k
 names-more t old new s n is count above said before k within =
     rw is (⊎_elim
@@ -56,9 +57,8 @@ names-more t old new s n is count above said before k within =
 
 -- a number above those of the operations has no name
 nameless : (t : TraceValue) (n : ℕ) → length (operations_of t) < n → name_text t n ≡ []
-unfolding event_name
 nameless t zero above = absurd (omega arith)
-nameless t (suc k) above = name-event t (suc k) (omega arith) ∙ ap (event_name (suc k)) (slice_get_past (operations_of t) k (omega arith))
+nameless t (suc k) above = name-event t (suc k) (omega arith) ∙ ap (λ o. option_map_or (event_name (suc k)) o []) (slice_get_past (operations_of t) k (omega arith))
 
 -- all names
 pub names-whole : (t : TraceValue) (names : List (String Global)) (operations : List EventOperation) (n : ℕ) → operations ≡ operations_of t → length names ≡ n → length operations + 1 ≤ n →
@@ -70,78 +70,80 @@ names-whole t names operations n is count whole named k =
 
 -- ---- sources
 
--- what it is to be a store of the value to the address
-written : (a value : ℕ) (o : Option Event) → writes a value o ≡ true → (d : Event) × (o ≡ Some d) × (d.load ≡ false) × (d.a ≡ a) × (d.value ≡ value)
-written a value None is = absurd cc
-written a value (Some d) is = (d, refl, grind (arith, nat_tests), grind (arith, nat_tests), grind (arith, nat_tests))
+module _ (t : TraceValue) (l : ℕ) where
+  -- the store wrote the value of the load to its address
+  abbrev wrote : Event → ℕ → Bool
+  wrote e = is_store t (λ s. eqb s.a e.a && eqb s.value e.value)
 
-not_written : (a value : ℕ) (d : Event) → writes a value (Some d) ≡ false → d.load ≡ false → d.a ≡ a → d.value ≡ value → ⊥
-not_written a value d is store address same = grind (arith, nat_tests)
+  -- where the event at a number wrote it, and where it didn't
+  written : (e : Event) (o : Option Event) → option_map_or (λ s. not s.load && (eqb s.a e.a && eqb s.value e.value)) o false ≡ true → (d : Event) × (o ≡ Some d) × (d.load ≡ false) × (d.a ≡ e.a) × (d.value ≡ e.value)
+  written e None is = absurd cc
+  written e (Some d) is = (d, refl, grind (arith, nat_tests), grind (arith, nat_tests), grind (arith, nat_tests))
 
--- the event at a number
-at_some : (t : TraceValue) (l : ℕ) (e : Event) → event_at t l ≡ Some e → source_of t l ≡ source_in t (Some e)
-unfolding source_of
-at_some t l e at = rw at refl
+  not_written : (e d : Event) → (not d.load && (eqb d.a e.a && eqb d.value e.value)) ≡ false → d.load ≡ false → d.a ≡ e.a → d.value ≡ e.value → ⊥
+  not_written e d is store address same = grind (arith, nat_tests)
 
-at_none : (t : TraceValue) (l : ℕ) → event_at t l ≡ None → source_of t l ≡ None
-unfolding source_of
-at_none t l at = rw at refl
+  -- the event at a number
+  at_some : (e : Event) → event_at t l ≡ Some e → source_of t l ≡ cond e.load (load_source t e) None
+  unfolding source_of
+  at_some e at = rw at refl
 
--- the store of a load's value to its address
-stored_source : (t : TraceValue) (l k : ℕ) (e : Event) → event_at t l ≡ Some e → e.load ≡ true → least (λ n. writes e.a e.value (event_at t n)) (event_total t) ≡ Some k → HasSource t l k
-stored_source t l zero e at load found = let passed = least-passes (λ n. writes e.a e.value (event_at t n)) zero (event_total t) found in absurd (omega (arith, passed.1))
-stored_source t l (suc k) e at load found =
-    let passed = least-passes (λ n. writes e.a e.value (event_at t n)) (suc k) (event_total t) found in
-    let (d, at_d, store, address, value) = written e.a e.value (event_at t (suc k)) passed.0 in
-    ((e, at, load), (d, at_d, store), (d, e, at_d, at, address), (d, e, at_d, at, value))
+  at_none : event_at t l ≡ None → source_of t l ≡ None
+  unfolding source_of
+  at_none at = rw at refl
 
--- where the definition of a source finds none, there is none
-missing_tests : (b : Bool) (o : Option ℕ) → cond b (Some 0) o ≡ None → (b ≡ false) × (o ≡ None)
-missing_tests true o is = absurd cc
-missing_tests false o is = (refl, is)
+  -- the store of a load's value to its address
+  stored_source : (e : Event) (k : ℕ) → event_at t l ≡ Some e → e.load ≡ true → find (wrote e) (event_numbers t) ≡ Some k → HasSource t l k
+  stored_source e zero at load found = let passed = found-passes (wrote e) (event_total t) zero found in absurd (omega (arith, passed.1))
+  stored_source e (suc k) at load found =
+      let passed = found-passes (wrote e) (event_total t) (suc k) found in
+      let (d, at_d, store, address, value) = written e (event_at t (suc k)) passed.0 in
+      ((e, at, load), (d, at_d, store), (d, e, at_d, at, address), (d, e, at_d, at, value))
 
-missing : (t : TraceValue) (l : ℕ) (e : Event) → event_at t l ≡ Some e → e.load ≡ true → source_of t l ≡ None →
-    (eqb e.value (first_value t.setting.first e.a) ≡ false) × (least (λ n. writes e.a e.value (event_at t n)) (event_total t) ≡ None)
-missing t l e at load none =
-    let is : source_in t (Some e) ≡ None = sym (at_some t l e at) ∙ none in
-    missing_tests (eqb e.value (first_value t.setting.first e.a)) (least (λ n. writes e.a e.value (event_at t n)) (event_total t)) (rw load at is)
+  -- where the definition of a source finds none, there is none
+  missing_tests : (b : Bool) (o : Option ℕ) → cond b (Some 0) o ≡ None → (b ≡ false) × (o ≡ None)
+  missing_tests true o is = absurd cc
+  missing_tests false o is = (refl, is)
 
-same_event : (o : Option Event) (d e : Event) → o ≡ Some d → o ≡ Some e → d ≡ e
-same_event o d e at_d at_e = let same : Some d ≡ Some e = sym at_d ∙ at_e in cc
+  missing : (e : Event) → event_at t l ≡ Some e → e.load ≡ true → source_of t l ≡ None → (eqb e.value (first_value t.setting.first e.a) ≡ false) × (find (wrote e) (event_numbers t) ≡ None)
+  missing e at load none =
+      let is : cond e.load (load_source t e) None ≡ None = sym (at_some e at) ∙ none in
+      missing_tests (eqb e.value (first_value t.setting.first e.a)) (find (wrote e) (event_numbers t)) (rw load at is)
 
-within_total : (t : TraceValue) (k : ℕ) (d : Event) → event_at t (suc k) ≡ Some d → suc k ≤ event_total t
-unfolding event_at
-within_total t k d at = let within = slice_get_within (events_of t) k d at in omega arith
+  same_event : (o : Option Event) (d e : Event) → o ≡ Some d → o ≡ Some e → d ≡ e
+  same_event o d e at_d at_e = let same : Some d ≡ Some e = sym at_d ∙ at_e in cc
 
-no_source : (t : TraceValue) (l s : ℕ) → source_of t l ≡ None → HasSource t l s → ⊥
-no_source t l zero none ((e, at, load), (d, at_d, is_first)) =
-    let both = missing t l e at load none in
-    let is : e.value ≡ first_value t.setting.first e.a = subst (λ (x : Event). x.value ≡ first_value t.setting.first x.a) (same_event (event_at t l) d e at_d at) is_first in
-    grind (arith, nat_tests)
-no_source t l (suc k) none ((e, at, load), (d, at_d, store), (d', e', at_d', at_e', address), (d'', e'', at_d'', at_e'', value)) =
-    let both = missing t l e at load none in
-    let fails : writes e.a e.value (event_at t (suc k)) ≡ false = least-none_passes (λ n. writes e.a e.value (event_at t n)) (event_total t) both.1 (suc k) (omega arith) (within_total t k d at_d) in
-    let same_address : d.a ≡ e.a =
-    ap (λ (x : Event). x.a) (same_event (event_at t (suc k)) d d' at_d at_d') ∙ address ∙ ap (λ (x : Event). x.a) (same_event (event_at t l) e' e at_e' at) in
-    let same_value : d.value ≡ e.value =
-    ap (λ (x : Event). x.value) (same_event (event_at t (suc k)) d d'' at_d at_d'') ∙ value ∙ ap (λ (x : Event). x.value) (same_event (event_at t l) e'' e at_e'' at) in
-    not_written e.a e.value d (rw at_d at fails) store same_address same_value
+  within_total : (k : ℕ) (d : Event) → event_at t (suc k) ≡ Some d → suc k ≤ event_total t
+  unfolding event_at
+  within_total k d at = let within = slice_get_within (events_of t) k d at in omega arith
+
+  no_source : (s : ℕ) → source_of t l ≡ None → HasSource t l s → ⊥
+  no_source zero none ((e, at, load), (d, at_d, is_first)) =
+      let both = missing e at load none in
+      let is : e.value ≡ first_value t.setting.first e.a = subst (λ (x : Event). x.value ≡ first_value t.setting.first x.a) (same_event (event_at t l) d e at_d at) is_first in
+      grind (arith, nat_tests)
+  no_source (suc k) none ((e, at, load), (d, at_d, store), (d', e', at_d', at_e', address), (d'', e'', at_d'', at_e'', value)) =
+      let both = missing e at load none in
+      let fails : wrote e (suc k) ≡ false = missed-fails (wrote e) (event_total t) both.1 (suc k) (omega arith) (within_total k d at_d) in
+      let same_address : d.a ≡ e.a =
+      ap (λ (x : Event). x.a) (same_event (event_at t (suc k)) d d' at_d at_d') ∙ address ∙ ap (λ (x : Event). x.a) (same_event (event_at t l) e' e at_e' at) in
+      let same_value : d.value ≡ e.value =
+      ap (λ (x : Event). x.value) (same_event (event_at t (suc k)) d d'' at_d at_d'') ∙ value ∙ ap (λ (x : Event). x.value) (same_event (event_at t l) e'' e at_e'' at) in
+      not_written e d (rw at_d at fails) store same_address same_value
 
 -- what the definition of a source finds is one
 pub source-is : (t : TraceValue) (l : ℕ) → IfSome (source_of t l) (HasSource t l)
 source-is t l = by_event (event_at t l) refl
   where
-    by_store : (e : Event) → event_at t l ≡ Some e → e.load ≡ true → (found : Option ℕ) → least (λ n. writes e.a e.value (event_at t n)) (event_total t) ≡ found → IfSome found (HasSource t l)
+    by_store : (e : Event) → event_at t l ≡ Some e → e.load ≡ true → (found : Option ℕ) → find (wrote t l e) (event_numbers t) ≡ found → IfSome found (HasSource t l)
     by_store e at load None is = tt
-    by_store e at load (Some k) is = stored_source t l k e at load is
+    by_store e at load (Some k) is = stored_source t l e k at load is
 
-    by_first : (e : Event) → event_at t l ≡ Some e → e.load ≡ true → (b : Bool) → eqb e.value (first_value t.setting.first e.a) ≡ b →
-        IfSome (cond b (Some 0) (least (λ n. writes e.a e.value (event_at t n)) (event_total t))) (HasSource t l)
+    by_first : (e : Event) → event_at t l ≡ Some e → e.load ≡ true → (b : Bool) → eqb e.value (first_value t.setting.first e.a) ≡ b → IfSome (cond b (Some 0) (find (wrote t l e) (event_numbers t))) (HasSource t l)
     by_first e at load true is = ((e, at, load), (e, at, grind (arith, nat_tests)))
     by_first e at load false is = by_store e at load _ refl
 
-    by_load : (e : Event) → event_at t l ≡ Some e → (b : Bool) → e.load ≡ b →
-        IfSome (cond b (cond (eqb e.value (first_value t.setting.first e.a)) (Some 0) (least (λ n. writes e.a e.value (event_at t n)) (event_total t))) None) (HasSource t l)
+    by_load : (e : Event) → event_at t l ≡ Some e → (b : Bool) → e.load ≡ b → IfSome (cond b (load_source t e) None) (HasSource t l)
     by_load e at true load = by_first e at load _ refl
     by_load e at false load = tt
 

@@ -1,6 +1,8 @@
 -- What the text refers to: the load of an Own step, and the numbers of the steps that a step rests on.
-use Rattle.std.proofs.Common.{◌≡◌, ◌≢◌, ⊎_elim, sym, ap, subst, refl, ◌∙◌, ℕ, zero, suc, ◌+◌, ◌<◌, ◌≤◌, Bool, true, false, cond, ltb, List, [], ◌∷◌, take, Option, Some, None, slice_get, IfSome, arith}
-use Rattle.std.specs.Prelude.{◌&&◌}
+use Rattle.std.proofs.Common.{◌≡◌, ◌≢◌, ⊎_elim, sym, ap, subst, refl, ◌∙◌, ℕ, zero, suc, ◌+◌, ◌<◌, ◌≤◌, Bool, true, false, cond, eqb, ltb, List, [], ◌∷◌, take, Option, Some, None, slice_get, IfSome, arith}
+use Rattle.std.specs.Prelude.{◌&&◌, not}
+use Rattle.std.specs.Option.{option_map_or, unwrap_or}
+use Rattle.std.specs.List.{position_from}
 use Rattle.std.proofs.lemmas.Bool.{false≢true, cases_lt}
 use Rattle.std.proofs.lemmas.Bool.Decides.{nat_tests}
 use Rattle.line_text.proofs.NumberFacts.{and_parts}
@@ -11,30 +13,33 @@ use Rattle.tso_ops.specs.Values.{TraceValue}
 use Rattle.tso_ops.specs.Limits.{IsTrace}
 use Rattle.tso_ops.specs.Events.{event_at, event_total, HasSource}
 use Rattle.tso_ops.proofs.NumberFacts.{event_unique, own_values, source_unique}
-use Rattle.tso_ops.proofs.TableFacts.{source_load}
 use Rattle.tso_cert.specs.declared.rules.InferredRule.{InferredRule}
 use Rattle.tso_cert.specs.declared.steps.Reason.TheVariants.{Inferred}
 use Rattle.tso_cert.specs.declared.steps.CertStep.{CertStep}
 use Rattle.tso_model.specs.Rules.{IsOwnBy}
 use Rattle.tso_model.specs.Certs.{IsPathIn, IsStep, StepsHold}
 use Rattle.trace_explanation.specs.Names.{source_of}
-use Rattle.trace_explanation.specs.Steps.{is_edge, is_number, is_own_load, number_from, own_load, reads_past, step_number}
+use Rattle.trace_explanation.specs.Steps.{is_edge, is_number, own_load, reads_past, step_number}
 use Rattle.trace_explanation.proofs.NameFacts.{source-is, source-number}
-use Rattle.trace_explanation.proofs.SearchFacts.{least-first, least-passes}
+use Rattle.trace_explanation.proofs.SearchFacts.{found-passes}
 
 -- ---- loads
 
--- two events of which the second is an own load of the first's address
+-- the second event is of the processor and address of the first, a store
+abbrev own_test : Option Event → Option Event → Bool
+own_test o p = option_map_or (λ e. option_map_or (λ s. not s.load && (eqb s.proc e.proc && eqb s.a e.a)) o false) p false
+
 abbrev AreOwn : Option Event → Option Event → Type 0
-AreOwn o p = (d : Event) × (e : Event) × (o ≡ Some d) × (p ≡ Some e) × (d.load ≡ false) × (e.load ≡ true) × (d.proc ≡ e.proc) × (d.a ≡ e.a)
+AreOwn o p = (d : Event) × (e : Event) × (o ≡ Some d) × (p ≡ Some e) × (d.load ≡ false) × (d.proc ≡ e.proc) × (d.a ≡ e.a)
 
-own_events : (o p : Option Event) → is_own_load o p ≡ true → AreOwn o p
-own_events None p is = absurd cc
+own_events : (o p : Option Event) → own_test o p ≡ true → AreOwn o p
+own_events None None is = absurd cc
+own_events None (Some e) is = absurd cc
 own_events (Some d) None is = absurd cc
-own_events (Some d) (Some e) is = (d, e, refl, refl, grind (arith, nat_tests), grind (arith, nat_tests), grind (arith, nat_tests), grind (arith, nat_tests))
+own_events (Some d) (Some e) is = (d, e, refl, refl, grind (arith, nat_tests), grind (arith, nat_tests), grind (arith, nat_tests))
 
-own_tested : (d e : Event) → d.load ≡ false → e.load ≡ true → d.proc ≡ e.proc → d.a ≡ e.a → is_own_load (Some d) (Some e) ≡ true
-own_tested d e store load same address = grind (arith, nat_tests)
+own_tested : (d e : Event) → d.load ≡ false → d.proc ≡ e.proc → d.a ≡ e.a → own_test (Some d) (Some e) ≡ true
+own_tested d e store same address = grind (arith, nat_tests)
 
 number_is : (v : ℕ) (o : Option ℕ) → is_number v o ≡ true → o ≡ Some v
 number_is v None is = absurd cc
@@ -47,9 +52,9 @@ number_tested v = grind (arith, nat_tests)
 reads_past-is : (t : TraceValue) (u v l : ℕ) → u ≢ v → reads_past t u v l ≡ true → IsOwnBy t l u v
 unfolding reads_past
 reads_past-is t u v l other is =
-    let both = and_parts (ltb u l && is_own_load (event_at t u) (event_at t l)) (is_number v (source_of t l)) is in
-    let first = and_parts (ltb u l) (is_own_load (event_at t u) (event_at t l)) both.0 in
-    let (d, e, at_d, at_e, store, load, proc, address) = own_events (event_at t u) (event_at t l) first.1 in
+    let both = and_parts (ltb u l && own_test (event_at t u) (event_at t l)) (is_number v (source_of t l)) is in
+    let first = and_parts (ltb u l) (own_test (event_at t u) (event_at t l)) both.0 in
+    let (d, e, at_d, at_e, store, proc, address) = own_events (event_at t u) (event_at t l) first.1 in
     let before : u < l = grind (arith, nat_tests, first.0) in
     let source : HasSource t l v = subst (λ o. IfSome o (HasSource t l)) (number_is v (source_of t l) both.1) (source-is t l) in
     ((d, at_d, store), (d, e, at_d, at_e, address), (d, e, at_d, at_e, proc, before), source, other)
@@ -59,11 +64,9 @@ reads_past-by : (t : TraceValue) → IsTrace t → (u v l : ℕ) → IsOwnBy t l
 unfolding reads_past
 reads_past-by t trace u v l ((d, at_d, store), (d', e', at_d', at_e', address), (d'', e, at_d'', at_e, proc, before), source, other) =
     let found : Some v ≡ source_of t l = source-number t l (Some v) source (λ s has. ap Some (source_unique t (own_values t trace) l v s source has)) in
-    let (f, at_f, is_load) = source_load t l v source in
-    let load : e.load ≡ true = ap (λ (x : Event). x.load) (event_unique t l e f at_e at_f) ∙ is_load in
     let same_proc : d.proc ≡ e.proc = ap (λ (x : Event). x.proc) (event_unique t u d d'' at_d at_d'') ∙ proc in
     let same_address : d.a ≡ e.a = ap (λ (x : Event). x.a) (event_unique t u d d' at_d at_d') ∙ address ∙ ap (λ (x : Event). x.a) (event_unique t l e' e at_e' at_e) in
-    let own : is_own_load (event_at t u) (event_at t l) ≡ true = rw (at_d, at_e) (own_tested d e store load same_proc same_address) in
+    let own : own_test (event_at t u) (event_at t l) ≡ true = rw (at_d, at_e) (own_tested d e store same_proc same_address) in
     let first : ltb u l ≡ true = grind (arith, nat_tests) in
     rw (first, own, sym found) (number_tested v)
 
@@ -71,13 +74,13 @@ reads_past-by t trace u v l ((d, at_d, store), (d', e', at_d', at_e', address), 
 pub own_load-is : (t : TraceValue) → IsTrace t → (u v l : ℕ) → u ≢ v → own_load t u v ≡ Some l → IsOwnBy t l u v × ((other : ℕ) → IsOwnBy t other u v → l ≤ other)
 unfolding own_load
 own_load-is t trace u v l other found =
-    let passed = least-passes (reads_past t u v) l (event_total t) found in (
+    let passed = found-passes (reads_past t u v) (event_total t) l found in (
       reads_past-is t u v l other passed.0,
       λ o by.
           ⊎_elim
           (λ less.
           let before : u < o = by.2.5 in
-          let no = least-first (reads_past t u v) l (event_total t) found o (omega arith) less in
+          let no = passed.2 o (omega arith) less in
           absurd (false≢true (sym no ∙ reads_past-by t trace u v o by)))
           (λ most. most)
           (cases_lt o l),
@@ -86,29 +89,29 @@ own_load-is t trace u v l other found =
 -- ---- steps
 
 -- a step's number is that of its least edge
-number-bounds : (n : ℕ) (steps : List CertStep) (u v j : ℕ) (s : CertStep) → slice_get steps j ≡ Some s → s.from ≡ u → s.to ≡ v → (n ≤ number_from n steps u v) × (number_from n steps u v ≤ n + j)
+number-bounds : (n : ℕ) (steps : List CertStep) (u v j : ℕ) (s : CertStep) → slice_get steps j ≡ Some s → s.from ≡ u → s.to ≡ v →
+    (n ≤ unwrap_or (position_from (is_edge (u, v)) n steps) 0) × (unwrap_or (position_from (is_edge (u, v)) n steps) 0 ≤ n + j)
 number-bounds n [] u v j s at from to = absurd cc
 number-bounds n (r ∷ steps) u v zero s at from to =
     let same : r ≡ s = cc in
-    let test : is_edge u v r ≡ true = rw same (grind (arith, nat_tests)) in
+    let test : is_edge (u, v) r ≡ true = rw same (grind (arith, nat_tests)) in
     rw test (omega arith, omega arith)
-number-bounds n (r ∷ steps) u v (suc j) s at from to = by_test (is_edge u v r) refl (number-bounds (suc n) steps u v j s at from to)
+number-bounds n (r ∷ steps) u v (suc j) s at from to = by_test (is_edge (u, v) r) (number-bounds (n + 1) steps u v j s at from to)
   where
-    by_test : (b : Bool) → is_edge u v r ≡ b → (suc n ≤ number_from (suc n) steps u v) × (number_from (suc n) steps u v ≤ suc n + j) →
-        (n ≤ cond b n (number_from (suc n) steps u v)) × (cond b n (number_from (suc n) steps u v) ≤ n + suc j)
-    by_test true is bounds = (omega arith, omega arith)
-    by_test false is bounds = (omega (arith, bounds.0), omega (arith, bounds.1))
+    by_test : (b : Bool) → (n + 1 ≤ unwrap_or (position_from (is_edge (u, v)) (n + 1) steps) 0) × (unwrap_or (position_from (is_edge (u, v)) (n + 1) steps) 0 ≤ n + 1 + j) →
+        (n ≤ unwrap_or (cond b (Some n) (position_from (is_edge (u, v)) (n + 1) steps)) 0) × (unwrap_or (cond b (Some n) (position_from (is_edge (u, v)) (n + 1) steps)) 0 ≤ n + suc j)
+    by_test true bounds = (omega arith, omega arith)
+    by_test false bounds = (omega (arith, bounds.0), omega (arith, bounds.1))
 
 -- a step among the first ones
 taken : (k : ℕ) (steps : List CertStep) (j : ℕ) (s : CertStep) → slice_get (take k steps) j ≡ Some s → (j < k) × (slice_get steps j ≡ Some s)
-taken zero steps j s at = absurd cc
-taken (suc k) [] j s at = absurd cc
 taken (suc k) (r ∷ steps) zero s at = (omega arith, at)
 taken (suc k) (r ∷ steps) (suc j) s at = let rest = taken k steps j s at in (omega (arith, rest.0), rest.1)
+taken k steps j s at = absurd cc
 
 -- each edge of a step's path has a number below the step's own
 pub path_numbers : (t : TraceValue) (steps : List CertStep) → StepsHold t steps → (k : ℕ) (s : CertStep) (rule : InferredRule) (load : ℕ) (path : List ℕ) → slice_get steps k ≡ Some s →
-    s.reason ≡ Inferred rule load path → (x y : ℕ) → AreNeighbours path x y → (0 < step_number steps x y) × (step_number steps x y ≤ k)
+    s.reason ≡ Inferred rule load path → (x y : ℕ) → AreNeighbours path x y → (0 < step_number steps (x, y)) × (step_number steps (x, y) ≤ k)
 path_numbers t steps holds k s rule load path at reason x y next =
     let linked = subst (IsPathIn (λ u v. IsStep (take k steps) u v)) reason (holds k s at).1 in
     let (j, d, at_d, from, to) = Linked-neighbours (λ u v. IsStep (take k steps) u v) path linked x y next in

@@ -1,19 +1,20 @@
 -- Lemmas on the text of an explanation, part by part.
-use Rattle.std.proofs.Common.{◌≡◌, sym, ap, subst, refl, ◌∙◌, ℕ, suc, ◌+◌, ◌-◌, ◌<◌, ◌≤◌, Bool, cond, eqb, List, [], ◌∷◌, ◌++◌, length, get_or, take, Some, Result, Ok, Err, slice_get, arith, add-one, append_assoc}
-use Rattle.std.specs.Prelude.{codes}
+use Rattle.std.proofs.Common.{◌≡◌, sym, ap, refl, ◌∙◌, ℕ, suc, ◌+◌, ◌-◌, ◌<◌, ◌≤◌, Bool, true, false, cond, eqb, List, [], ◌∷◌, ◌++◌, length, get_or, take, drop, Some, Result, Ok, Err, arith, append_assoc}
+use Rattle.std.specs.Prelude.{codes, reverse}
 use Rattle.std.specs.Fmt.{decimal}
-use Rattle.std.specs.List.{flat_map}
+use Rattle.std.specs.List.{enumerate_from, filter, flat_map, range_with_len, zip}
 use Rattle.std.specs.Result.{OnOk}
-use Rattle.std.proofs.lemmas.Option.{slice_get-get_or}
+use Rattle.std.proofs.lemmas.List.{append-nil, drop_more, flat_map_more, reverse-append, take_more}
+use Rattle.std.proofs.lemmas.List.FromFn.{get_or-enumerate_from, length-enumerate_from}
 use Rattle.line_text.specs.Lines.{parts_of}
 use Rattle.line_text.proofs.CutFacts.{split_parts}
 use Rattle.tso_ops.specs.Values.{TraceValue}
 use Rattle.tso_cert.specs.declared.steps.CertStep.{CertStep}
-use Rattle.trace_explanation.specs.Explanations.{more_text, step_text, step_text_at, steps_text, stores_text, places_text}
+use Rattle.trace_explanation.specs.Explanations.{more_text, stores_text}
 use Rattle.trace_explanation.specs.Names.{place_text}
 use Rattle.trace_explanation.specs.JoinedTexts.{joined}
 use Rattle.trace_explanation.specs.Refusals.{line_there}
-use Rattle.trace_explanation.specs.Steps.{is_named}
+use Rattle.trace_explanation.proofs.SearchFacts.{filter_more, numbers_more, places_more}
 
 -- ---- the line of a refusal
 
@@ -27,31 +28,51 @@ pub there-first : (line rest : List ℕ) → line_there (line ∷ parts_of rest)
 unfolding parts_of
 there-first line rest = let p = split_parts (λ b. eqb b 10) rest in rw p.2 refl
 
--- ---- steps, the last first
+-- ---- items, the last first
 
--- one more step
-pub steps-more : (t : TraceValue) (steps : List CertStep) (n done number : ℕ) (old new whole : List ℕ) → done < n → number ≡ n - done →
-    ((k : ℕ) → number ≡ suc k → new ≡ old ++ step_text_at t steps (suc k) (slice_get steps k)) → old ++ steps_text t steps (n - done) ≡ whole → new ++ steps_text t steps (n - (done + 1)) ≡ whole
-steps-more t steps n done number old new whole within is added before =
+-- one more item
+pub reversed-more : {X A : Type 0} (f : X → List A) (xs : List X) (n done : ℕ) (x : X) (old new whole : List A) → length xs ≡ n → done < n → x ≡ get_or xs (n - (done + 1)) x →
+    new ≡ old ++ f x → old ++ flat_map f (reverse (take (n - done) xs)) ≡ whole → new ++ flat_map f (reverse (take (n - (done + 1)) xs)) ≡ whole
+reversed-more f xs n done x old new whole count within at added before =
     let k = n - (done + 1) in
-    let here : number ≡ suc k = omega arith in
-    let rest : n - done ≡ suc k = omega arith in
-    ap (λ x. x ++ steps_text t steps k) (added k here) ∙ append_assoc old (step_text_at t steps (suc k) (slice_get steps k)) (steps_text t steps k)
-    ∙ subst (λ m. old ++ steps_text t steps m ≡ whole) rest before
+    let rest : n - done ≡ k + 1 = omega arith in
+    let more : take (k + 1) xs ≡ take k xs ++ x ∷ [] = take_more xs k x (omega (arith, count)) ∙ ap (λ y. take k xs ++ y ∷ []) (sym at) in
+    let turned : reverse (take (k + 1) xs) ≡ x ∷ reverse (take k xs) = ap reverse more ∙ reverse-append (take k xs) (x ∷ []) in
+    ap (λ said. said ++ flat_map f (reverse (take k xs))) added ∙ append_assoc old (f x) (flat_map f (reverse (take k xs)))
+    ∙ ap (λ ys. old ++ flat_map f ys) (sym turned) ∙ ap (λ m. old ++ flat_map f (reverse (take m xs))) (sym rest) ∙ before
 
--- ---- places
+-- one more step, after its number
+pub steps-more : (f : ℕ × CertStep → List ℕ) (steps : List CertStep) (done number : ℕ) (s : CertStep) (old new whole : List ℕ) → done < length steps → number ≡ length steps - done →
+    s ≡ get_or steps (number - 1) s → new ≡ old ++ f (number, s) → old ++ flat_map f (reverse (take (length steps - done) (enumerate_from 1 steps))) ≡ whole →
+    new ++ flat_map f (reverse (take (length steps - (done + 1)) (enumerate_from 1 steps))) ≡ whole
+steps-more f steps done number s old new whole within is at added before =
+    let k = length steps - (done + 1) in
+    let place : number - 1 ≡ k = omega arith in
+    let first : number ≡ 1 + k = omega arith in
+    let here : (number, s) ≡ get_or (enumerate_from 1 steps) k (number, s) =
+    ap (λ n. (n, s)) first ∙ ap (λ d. (1 + k, d)) (at ∙ ap (λ i. get_or steps i s) place) ∙ sym (get_or-enumerate_from 1 steps k (number, s) (omega arith)) in
+    reversed-more f (enumerate_from 1 steps) (length steps) done (number, s) old new whole (length-enumerate_from 1 steps) within here added before
 
-place-step : (t : TraceValue) (steps : List CertStep) (start : List ℕ) (n : ℕ) →
-    start ++ (places_text t steps n ++ cond (is_named t steps (n + 1)) (place_text t (n + 1)) []) ≡ start ++ places_text t steps (n + 1)
-place-step t steps start n = rw (add-one n) refl
+-- ---- edges
 
--- one more event
-pub places-more : (t : TraceValue) (steps : List CertStep) (start old new : List ℕ) (n : ℕ) (b : Bool) → is_named t steps (n + 1) ≡ b → old ≡ start ++ places_text t steps n →
-    new ≡ old ++ cond b (place_text t (n + 1)) [] → new ≡ start ++ places_text t steps (n + 1)
-places-more t steps start old new n b is before added =
-    added ∙ ap (λ x. x ++ cond b (place_text t (n + 1)) []) before ∙ append_assoc start (places_text t steps n) (cond b (place_text t (n + 1)) [])
-    ∙ ap (λ c. start ++ (places_text t steps n ++ cond c (place_text t (n + 1)) [])) (sym is)
-    ∙ place-step t steps start n
+-- one more edge along some numbers
+pub edges-more : (f : ℕ × ℕ → List ℕ) (rest : List ℕ) (i last next : ℕ) (old new whole : List ℕ) → i < length rest → next ≡ get_or rest i 0 → new ≡ old ++ f (last, next) →
+    old ++ flat_map f (zip (last ∷ drop i rest) (drop i rest)) ≡ whole → new ++ flat_map f (zip (next ∷ drop (i + 1) rest) (drop (i + 1) rest)) ≡ whole
+edges-more f rest i last next old new whole within at added before =
+    let dropped : drop i rest ≡ next ∷ drop (i + 1) rest = drop_more rest i 0 within ∙ ap (λ y. y ∷ drop (i + 1) rest) (sym at) in
+    ap (λ said. said ++ flat_map f (zip (next ∷ drop (i + 1) rest) (drop (i + 1) rest))) added ∙ append_assoc old (f (last, next)) (flat_map f (zip (next ∷ drop (i + 1) rest) (drop (i + 1) rest)))
+    ∙ ap (λ later. old ++ flat_map f (zip (last ∷ later) later)) (sym dropped) ∙ before
+
+-- ---- texts of numbers
+
+-- a text after that of one more number, from 1, or from 0
+pub numbers-grown : (f : ℕ → List ℕ) (n : ℕ) (start old new : List ℕ) → old ≡ start ++ flat_map f (range_with_len 1 n) → new ≡ old ++ f (n + 1) → new ≡ start ++ flat_map f (range_with_len 1 (n + 1))
+numbers-grown f n start old new before added =
+    added ∙ ap (λ x. x ++ f (n + 1)) before ∙ flat_map_more f start (range_with_len 1 n) (n + 1) ∙ ap (λ ns. start ++ flat_map f ns) (sym (numbers_more n))
+
+pub places-grown : (f : ℕ → List ℕ) (n : ℕ) (start old new : List ℕ) → old ≡ start ++ flat_map f (range_with_len 0 n) → new ≡ old ++ f n → new ≡ start ++ flat_map f (range_with_len 0 (n + 1))
+places-grown f n start old new before added =
+    added ∙ ap (λ x. x ++ f n) before ∙ flat_map_more f start (range_with_len 0 n) n ∙ ap (λ ns. start ++ flat_map f ns) (sym (places_more n))
 
 -- ---- one part after another
 
@@ -63,14 +84,6 @@ grown old a b mid new before added = added ∙ ap (λ x. x ++ b) before ∙ appe
 pub grown-last : {E : Type 0} (r : Result (Unit {0}) E) (old a b mid new : List ℕ) → mid ≡ old ++ a → OnOk r (new ≡ mid ++ b) → OnOk r (new ≡ old ++ (a ++ b))
 grown-last (Ok u) old a b mid new before added = grown old a b mid new before added
 grown-last (Err e) old a b mid new before added = tt
-
--- the text of a step, at its place
-pub step-here : (t : TraceValue) (steps : List CertStep) (number k : ℕ) (s : CertStep) → number ≡ suc k → k < length steps → s ≡ get_or steps (number - 1) s →
-    step_text t steps number s ≡ step_text_at t steps (suc k) (slice_get steps k)
-step-here t steps number k s is within at =
-    let place : number - 1 ≡ k = omega arith in
-    let here : slice_get steps k ≡ Some s = slice_get-get_or steps k s within ∙ ap Some (sym (subst (λ i. s ≡ get_or steps i s) place at)) in
-    ap (λ n. step_text t steps n s) is ∙ sym (ap (step_text_at t steps (suc k)) here)
 
 -- ---- stores
 

@@ -1,23 +1,16 @@
 -- The explanation of an input: the report up to its verdict, and what explains it.
-use Rattle.std.specs.Prelude.{◌≡◌, ℕ, List, [], ◌++◌, Option, None, Some, refl}
+use Rattle.std.specs.Prelude.{◌≡◌, ℕ, List, ◌++◌, refl}
 use Rattle.tso_ops.specs.Values.{TraceValue}
-use Rattle.tso_ops.specs.Events.{processor_count, event_total}
 use Rattle.tso_text.specs.declared.faults.Why.{Why}
-use Rattle.tso_cert.specs.declared.steps.Certificate.{Certificate}
 use Rattle.trace_reports.specs.declared.verdicts.Verdict.{Verdict}
 use Rattle.trace_reports.specs.Renderings.{IsTextOfTrace, SaidOfRefusal, SaidOfTrace}
-use Rattle.trace_reports.specs.Reports.{head_text, no_violation_text, refusal_text, violation_text}
+use Rattle.trace_reports.specs.Reports.{head_text, refusal_text}
 use Rattle.trace_explanation.specs.Explanations.{explanation_text}
 use Rattle.trace_explanation.specs.Refusals.{line_shown, refusal_explanation}
 
--- the line of the verdict, as a report has it
-abbrev pub verdict_text : Option Certificate → List ℕ
-verdict_text None = no_violation_text
-verdict_text (Some certificate) = violation_text []
-
 -- the report of a trace up to its verdict, and then the explanation
 abbrev pub explained : SaidOfTrace
-explained t finding = (head_text (processor_count t) (event_total t) finding.rounds ++ verdict_text finding.certificate) ++ explanation_text t finding.certificate
+explained t finding = head_text t finding ++ explanation_text t finding.certificate
 
 -- the line of the refusal, and what is said of it
 abbrev pub refusal_explained : SaidOfRefusal

@@ -6,6 +6,5 @@ pub mod Lines
 pub mod Names
 pub mod JoinedTexts
 pub mod Refusals
-pub mod Searches
 pub mod Steps
 pub mod Words

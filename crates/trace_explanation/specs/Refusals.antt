@@ -1,5 +1,6 @@
 -- What is said of a refused text: the line that decided, and the rule that it breaks.
-use Rattle.std.specs.Prelude.{ℕ, zero, suc, ◌+◌, ◌/◌, ◌%◌, ◌&&◌, nat_lt, nat_le, List, [], ◌∷◌, ◌++◌, length, take, Option, None, Some, cond, codes}
+use Rattle.std.specs.Prelude.{ℕ, zero, suc, ◌+◌, ◌/◌, ◌%◌, ◌&&◌, nat_lt, nat_le, List, [], ◌∷◌, ◌++◌, length, take, drop, get_or, Option, None, cond, slice_get, codes}
+use Rattle.std.specs.Option.{option_map_or}
 use Rattle.std.specs.List.{flat_map}
 use Rattle.std.specs.Fmt.{decimal}
 use Rattle.line_text.specs.Lines.{parts_of, is_empty}
@@ -30,11 +31,7 @@ refusal_sentence OutOfMemory = []
 
 -- the line of this place among the parts of a text, from 0, if it is there: what stands after the last line feed is no line where it is empty
 abbrev pub line_there : List (List ℕ) → ℕ → Option (List ℕ)
-line_there [] k = None
-line_there (part ∷ []) zero = cond (is_empty part) None (Some part)
-line_there (part ∷ []) (suc k) = None
-line_there (part ∷ (next ∷ parts)) zero = Some part
-line_there (part ∷ (next ∷ parts)) (suc k) = line_there (next ∷ parts) k
+line_there parts k = cond (is_empty (drop (suc k) parts) && is_empty (get_or parts k [])) None (slice_get parts k)
 
 -- a digit of base 16
 abbrev pub hex_digit : ℕ → ℕ
@@ -48,14 +45,10 @@ shown_byte b = cond (nat_le 32 b && nat_le b 126) (b ∷ []) (92 ∷ 120 ∷ hex
 unfoldable pub shown_line : List ℕ → List ℕ
 shown_line line = flat_map shown_byte (take 60 line) ++ cond (nat_lt 60 (length line)) (codes "..") []
 
-abbrev pub line_words : ℕ → Option (List ℕ) → List ℕ
-line_words number None = []
-line_words number (Some line) = codes "Line " ++ decimal number ++ codes " is '" ++ shown_line line ++ codes "'.\n"
-
 -- the line of this number, from 1; line 0 is the text as a whole
 unfoldable pub line_shown : List ℕ → ℕ → List ℕ
 line_shown text zero = []
-line_shown text (suc k) = line_words (suc k) (line_there (parts_of text) k)
+line_shown text (suc k) = option_map_or (λ line. codes "Line " ++ decimal (suc k) ++ codes " is '" ++ shown_line line ++ codes "'.\n") (line_there (parts_of text) k) []
 
 -- what is said of a text that is refused at this line
 unfoldable pub refusal_explanation : List ℕ → ℕ → Why → List ℕ

@@ -2,7 +2,8 @@
 -- What they say of a memory order has a case for each rule in `BaseSays` and `InferredSays` (`Claims`), and the laws `base_sentences_are_true` and
 -- `inferred_sentences_are_true` (`src/laws.rt`) prove it for each rule, `own_to_init_sentences_are_true` and `load_past_to_init_sentences_are_true` for
 -- edges to `init`; `own_loads_give_edges` is on the load that an Own step names, and `steps_rest_on_smaller_numbers` on the numbers that its path has.
-use Rattle.std.specs.Prelude.{ℕ, suc, List, [], ◌∷◌, ◌++◌, Option, None, Some, codes}
+use Rattle.std.specs.Prelude.{ℕ, suc, List, [], ◌∷◌, ◌++◌, codes}
+use Rattle.std.specs.Option.{option_map_or}
 use Rattle.tso_ops.specs.declared.settings.Order.{Order}
 use Rattle.tso_ops.specs.declared.settings.Order.TheVariants.{Tso, Pso}
 use Rattle.tso_ops.specs.Values.{TraceValue}
@@ -18,21 +19,7 @@ use Rattle.trace_explanation.specs.declared.rule_sentences.TheConstants.{AFTER_B
 use Rattle.trace_explanation.specs.Names.{name_text, read_text}
 use Rattle.trace_explanation.specs.Steps.{by_text, own_load}
 
--- the name of a number that may be missing
-abbrev pub load_name : TraceValue → Option ℕ → List ℕ
-load_name t None = []
-load_name t (Some l) = name_text t l
-
--- what the load of a number that may be missing read
-abbrev pub load_read : TraceValue → Option ℕ → List ℕ
-load_read t None = []
-load_read t (Some l) = read_text t l
-
 -- ---- in short
-
--- a load sees one store and read another
-abbrev pub seen_short : List ℕ → List ℕ
-seen_short load = load ++ SEES_ONE_READ_OTHER.now
 
 unfoldable pub base_short : TraceValue → BaseRule → ℕ → ℕ → List ℕ
 base_short t Init u v = INIT_SHORT.now
@@ -41,10 +28,10 @@ base_short t StoreStore u v = PROGRAM_ORDER.now
 base_short t Stbar u v = STBAR_SHORT.now
 base_short t Membar u v = MEMBAR_SHORT.now
 base_short t Read u v = READ_SHORT.now
-base_short t Own u v = seen_short (load_name t (own_load t u v))
+base_short t Own u v = option_map_or (name_text t) (own_load t u v) [] ++ SEES_ONE_READ_OTHER.now
 
 unfoldable pub inferred_short : TraceValue → InferredRule → ℕ → List ℕ
-inferred_short t LoadPast l = seen_short (name_text t l)
+inferred_short t LoadPast l = name_text t l ++ SEES_ONE_READ_OTHER.now
 inferred_short t StorePast l = READ_OLDER.now
 inferred_short t SwapBefore l = ATOMIC_SWAP.now
 inferred_short t SwapAfter l = ATOMIC_SWAP.now
@@ -68,7 +55,7 @@ base_long t Stbar u v = STBAR_LONG.now
 base_long t Membar u v = MEMBAR_LONG.now
 base_long t Read u v = READ_LONG.now
 base_long t Own u v = joined (
-    SEES_STORE.now ∷ codes "\n   " ∷ load_name t (own_load t u v) ∷ codes " sees the store, which is earlier on its own processor, and it read " ∷ load_read t (own_load t u v) ∷ codes ".\n   " ∷ READS_LAST.now ∷ [])
+    SEES_STORE.now ∷ codes "\n   " ∷ option_map_or (name_text t) (own_load t u v) [] ∷ codes " sees the store, which is earlier on its own processor, and it read " ∷ option_map_or (read_text t) (own_load t u v) [] ∷ codes ".\n   " ∷ READS_LAST.now ∷ [])
 
 unfoldable pub inferred_long : TraceValue → List CertStep → InferredRule → ℕ → ℕ → ℕ → List ℕ → List ℕ
 inferred_long t steps LoadPast u v l path = joined (

@@ -1,13 +1,15 @@
 //! The explanation of a cycle.
-ghost use Rattle.std.specs.Prelude.{◌≡◌, ◌++◌, ◌≤◌, ℕ, suc, [], cond, length, slice_get, string_bytes, OnOk, IfOk};
-ghost use Rattle.order_paths.specs.Paths.{last_of};
-ghost use Rattle.tso_ops.specs.Events.{event_total};
-ghost use Rattle.trace_explanation.specs.Names.{place_text};
-ghost use Rattle.trace_explanation.specs.Explanations.{chain_text, cycle_head, cycle_text, link_text, links_text, model_name, places_text, short_of, step_text_at, steps_text};
+ghost use Rattle.std.specs.Prelude.{◌≡◌, ◌++◌, [], reverse, string_bytes, OnOk, IfOk};
+ghost use Rattle.std.specs.List.{enumerate_from, flat_map};
+ghost use Rattle.std.specs.Option.{option_copied, option_map_or};
+ghost use Rattle.trace_explanation.specs.Words.{reason_short};
+ghost use Rattle.trace_explanation.specs.Explanations.{chain_text, cycle_head, cycle_text, link_text, model_name, step_text};
 
-use crate::marks::mark_named;
+use crate::links::list_links;
+use crate::marks::list_named;
 use crate::names::NamedTrace;
 use crate::numbers::NumberedSteps;
+use crate::unwritten::push_places;
 use crate::words::{long_words, short_words};
 use std::alloc::{AllocError, Global};
 use std::fmt::Write;
@@ -33,7 +35,12 @@ pub(crate) fn push_cycle(
     )?;
     push_steps(alloc, text, named, &numbered)?;
     text.push_str("\nThe events named above, by their lines in the trace:\n\n")?;
-    push_places(alloc, text, named, steps)
+    push_places(
+        alloc,
+        text,
+        named,
+        &list_named(alloc, named.trace(), steps)?,
+    )
 }
 
 /// Appends what the memory model asks for.
@@ -71,33 +78,28 @@ fn push_chain(
 {
     match cycle {
         [] => Ok(()),
-        [first, rest @ ..] => {
+        [first, ..] => {
             let name = named.name(*first as usize);
             write!(text, "  {name}\n")?;
-            let last = push_links(alloc, text, named, numbered, *first, rest)?;
-            push_link(alloc, text, named, numbered, last, *first)
+            push_links(alloc, text, named, numbered, &list_links(alloc, cycle)?)
         },
     }
 }
 
-/// Appends the lines of the edges from `first` along these numbers; answers the last of them all.
+/// Appends the lines of these edges.
 fn push_links(
     alloc: Global,
     text: &mut String,
     named: &NamedTrace<'_>,
     numbered: &NumberedSteps<'_>,
-    first: u64,
-    rest: &[u64],
-) -> Result<u64, AllocError>
-    ensures lines { OnOk result (string_bytes text.new ≡ string_bytes text.old ++ links_text named.now numbered.now first rest.now) }
-    ensures last { IfOk result (λ last. last ≡ last_of first rest.now) }
+    links: &[(u64, u64)],
+) -> Result<(), AllocError>
+    ensures { OnOk result (string_bytes text.new ≡ string_bytes text.old ++ flat_map (link_text named.now numbered.now) links.now) }
 {
-    let mut last = first;
-    for v in rest {
-        push_link(alloc, text, named, numbered, last, *v)?;
-        last = *v;
+    for link in links {
+        push_link(alloc, text, named, numbered, *link)?;
     }
-    Ok(last)
+    Ok(())
 }
 
 /// Appends the line of an edge of the cycle.
@@ -107,30 +109,26 @@ fn push_link(
     text: &mut String,
     named: &NamedTrace<'_>,
     numbered: &NumberedSteps<'_>,
-    u: u64,
-    v: u64,
+    link: (u64, u64),
 ) -> Result<(), AllocError>
-    ensures { OnOk result (string_bytes text.new ≡ string_bytes text.old ++ link_text named.now numbered.now u v) }
+    ensures { OnOk result (string_bytes text.new ≡ string_bytes text.old ++ link_text named.now numbered.now link) }
 {
-    let number = numbered.number(u, v);
+    let (u, v) = link;
     let name = named.name(v as usize);
-    let short = short_of(alloc, named, numbered.steps(), number)?;
+    let short = short_of(alloc, named, numbered.step(u, v))?;
+    let number = numbered.number(u, v);
     write!(text, "    before {name}: {short} (step {number})\n")
 }
 
-/// Why the step of this number holds, in short: nothing where there is no such step.
+/// Why a step holds, in short: nothing where there is no step.
 fn short_of(
     alloc: Global,
     named: &NamedTrace<'_>,
-    steps: &[CertStep],
-    number: usize,
+    step: Option<&CertStep>,
 ) -> Result<String, AllocError>
-    ensures { IfOk result (λ text. string_bytes text ≡ short_of named.now steps.now number) }
+    ensures { IfOk result (λ text. string_bytes text ≡ option_map_or (λ s. reason_short named.now s.from s.to s.reason) (option_copied step.entry) []) }
 {
-    if number == 0 {
-        return Ok(String::new(alloc));
-    }
-    match steps.get(number - 1) {
+    match step {
         Some(step) => short_words(alloc, named, step),
         None => Ok(String::new(alloc)),
     }
@@ -143,12 +141,12 @@ fn push_steps(
     named: &NamedTrace<'_>,
     numbered: &NumberedSteps<'_>,
 ) -> Result<(), AllocError>
-    ensures { OnOk result (string_bytes text.new ≡ string_bytes text.old ++ steps_text named.now numbered.now (length numbered.now)) }
+    ensures { OnOk result (string_bytes text.new ≡ string_bytes text.old ++ flat_map (λ n. step_text named.now numbered.now n.0 n.1) (reverse (enumerate_from 1 numbered.now))) }
 {
     let steps = numbered.steps();
     for done in 0..steps.len() {
         let number = steps.len() - done;
-        push_step(alloc, text, named, numbered, number)?;
+        push_step(alloc, text, named, numbered, number, &steps[number - 1])?;
     }
     Ok(())
 }
@@ -161,48 +159,12 @@ fn push_step(
     named: &NamedTrace<'_>,
     numbered: &NumberedSteps<'_>,
     number: usize,
+    step: &CertStep,
 ) -> Result<(), AllocError>
-    requires some { 1 ≤ number }
-    requires most { number ≤ length numbered.now }
-    ensures { (k : ℕ) → number ≡ suc k → OnOk result (string_bytes text.new ≡ string_bytes text.old ++ step_text_at named.now numbered.now (suc k) (slice_get numbered.now k)) }
+    ensures { OnOk result (string_bytes text.new ≡ string_bytes text.old ++ step_text named.now numbered.now number step.now) }
 {
-    let step = &numbered.steps()[number - 1];
     let from = named.name(step.from as usize);
     let to = named.name(step.to as usize);
     let words = long_words(alloc, named, numbered, step)?;
     write!(text, "{number}. {from} before {to}: {words}\n")
-}
-
-/// Appends the lines of the events that the steps name, in the order of their numbers.
-fn push_places(
-    alloc: Global,
-    text: &mut String,
-    named: &NamedTrace<'_>,
-    steps: &[CertStep],
-) -> Result<(), AllocError>
-    ensures { OnOk result (string_bytes text.new ≡ string_bytes text.old ++ places_text named.now steps.now (event_total named.now)) }
-{
-    let trace = named.trace();
-    let marks = mark_named(alloc, trace, steps)?;
-    for n in 0..trace.events() {
-        push_marked(alloc, text, named, n + 1, marks[n + 1])?;
-    }
-    Ok(())
-}
-
-/// Appends the line of event `n`, if it is marked.
-fn push_marked(
-    alloc: Global,
-    text: &mut String,
-    named: &NamedTrace<'_>,
-    n: usize,
-    marked: bool,
-) -> Result<(), AllocError>
-    ensures { OnOk result (string_bytes text.new ≡ string_bytes text.old ++ cond marked (place_text named.now n) []) }
-{
-    if marked {
-        named.push_place(alloc, text, n)
-    } else {
-        Ok(())
-    }
 }

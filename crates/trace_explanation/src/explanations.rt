@@ -1,6 +1,6 @@
 //! The explanation of a trace.
 ghost use Rattle.std.specs.Prelude.{◌≡◌, ◌++◌, string_bytes, OnOk};
-ghost use Rattle.trace_explanation.specs.Explanations.{certificate_text, explanation_text, silence_text};
+ghost use Rattle.trace_explanation.specs.Explanations.{explanation_text, silence_text};
 
 use crate::cycles::{model_name, push_cycle};
 use crate::names::NamedTrace;
@@ -22,27 +22,14 @@ pub fn explain(
     ensures { OnOk result (string_bytes text.new ≡ string_bytes text.old ++ explanation_text trace.now certificate.now) }
 {
     match certificate {
-        Some(certificate) => {
-            let named = NamedTrace::new(alloc, trace)?;
-            push_certificate(alloc, text, &named, certificate)
-        },
         None => push_silence(text, trace.order()),
-    }
-}
-
-/// Appends the explanation of a certificate.
-fn push_certificate(
-    alloc: Global,
-    text: &mut String,
-    named: &NamedTrace<'_>,
-    certificate: &Certificate,
-) -> Result<(), AllocError>
-    ensures { OnOk result (string_bytes text.new ≡ string_bytes text.old ++ certificate_text named.now certificate.now) }
-{
-    match certificate {
-        Certificate::Unwritten(n) => push_unwritten(alloc, text, named, *n as usize),
-        Certificate::Cycle { steps, cycle } => {
-            push_cycle(alloc, text, named, steps.items(), cycle.items())
+        Some(Certificate::Unwritten(n)) => {
+            let named = NamedTrace::new(alloc, trace)?;
+            push_unwritten(alloc, text, &named, *n as usize)
+        },
+        Some(Certificate::Cycle { steps, cycle }) => {
+            let named = NamedTrace::new(alloc, trace)?;
+            push_cycle(alloc, text, &named, steps.items(), cycle.items())
         },
     }
 }

@@ -68,7 +68,7 @@ pub fn own_loads_give_edges()
 /// its own.
 pub fn steps_rest_on_smaller_numbers()
     ensures { (t : TraceValue) (steps : List CertStep) → StepsHold t steps → (k : ℕ) (s : CertStep) (rule : InferredRule) (load : ℕ) (path : List ℕ) → slice_get steps k ≡ Some s →
-        s.reason ≡ Inferred rule load path → (x y : ℕ) → AreNeighbours path x y → (0 < step_number steps x y) × (step_number steps x y ≤ k) }
+        s.reason ≡ Inferred rule load path → (x y : ℕ) → AreNeighbours path x y → (0 < step_number steps (x, y)) × (step_number steps (x, y) ≤ k) }
 {}
 
 /// A trace's text is its lines, each with its line feed, and the line of an event's operation is the number of the line

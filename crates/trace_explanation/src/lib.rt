@@ -1,11 +1,12 @@
 //! The explanation of a trace: the text that says to a reader who knows no rule why a trace is a violation.
 //!
-//! `explain` writes it by the trace and its certificate; `AsExplanation` is the rendering for `tso_report::present`.
+//! `explain` writes it by the trace and its certificate; `AsExplanation` is the rendering for `trace_judging::present`.
 //! `README.md` says what is proved.
 #![tactic(auto)]
 
 pub use cycles::model_name;
 pub use explanations::explain;
+pub use links::list_links;
 pub use loads::step_load;
 pub use names::{address_of, outcome_text, part_text, source_of};
 pub use numbers::NumberedSteps;
@@ -17,6 +18,7 @@ pub use unwritten::list_stores;
 mod cycles;
 mod explanations;
 pub mod laws;
+mod links;
 mod loads;
 mod marks;
 mod names;

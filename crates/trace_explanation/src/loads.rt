@@ -1,7 +1,9 @@
 //! The load of a step.
-ghost use Rattle.std.specs.Prelude.{◌≡◌};
+ghost use Rattle.std.specs.Prelude.{◌≡◌, ◌==◌, ◌&&◌, false};
+ghost use Rattle.std.specs.Option.{option_map_or};
 ghost use Rattle.tso_ops.specs.Events.{event_at};
-ghost use Rattle.trace_explanation.specs.Steps.{is_number, is_own_load, own_load, reads_past, step_load};
+ghost use Rattle.trace_explanation.specs.Names.{is_store};
+ghost use Rattle.trace_explanation.specs.Steps.{is_number, own_load, reads_past, step_load};
 
 use crate::names::source_of;
 use tso_cert::{BaseRule, CertStep, Reason};
@@ -36,7 +38,7 @@ pub(crate) fn own_load(trace: &Trace, u: usize, v: usize) -> Option<usize>
 fn reads_past(trace: &Trace, u: usize, v: usize, l: usize) -> bool
     ensures { result ≡ reads_past trace.now u v l }
 {
-    u < l && is_own_load(trace, u, l) && is_number(v, source_of(trace, l))
+    u < l && stores_for(trace, u, l) && is_number(v, source_of(trace, l))
 }
 
 /// Whether the number is `v`.
@@ -49,12 +51,12 @@ fn is_number(v: usize, number: Option<usize>) -> bool
     }
 }
 
-/// Whether `u` is a store and `l` a load of one processor and address.
-fn is_own_load(trace: &Trace, u: usize, l: usize) -> bool
-    ensures { result ≡ is_own_load (event_at trace.now u) (event_at trace.now l) }
+/// Whether `u` is a store of the processor of event `l` to its address.
+fn stores_for(trace: &Trace, u: usize, l: usize) -> bool
+    ensures { result ≡ option_map_or (λ e. is_store trace.now (λ s. s.proc == e.proc && s.a == e.a) u) (event_at trace.now l) false }
 {
     match (trace.event(u), trace.event(l)) {
-        (Some(d), Some(e)) => !d.load && e.load && d.proc == e.proc && d.a == e.a,
+        (Some(s), Some(e)) => !s.load && s.proc == e.proc && s.a == e.a,
         _ => false,
     }
 }

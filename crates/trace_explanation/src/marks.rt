@@ -1,7 +1,9 @@
 //! Which events the steps of a certificate name.
 ghost use Rattle.std.specs.Prelude.{◌≡◌, ◌==◌, ◌||◌, ◌<◌, ℕ, suc, false, get_or, length, IfOk};
 ghost use Rattle.tso_ops.specs.Events.{event_total};
-ghost use Rattle.trace_explanation.specs.Steps.{is_named, is_number, names};
+ghost use Rattle.std.specs.List.{filter};
+ghost use Rattle.trace_explanation.specs.Names.{event_numbers};
+ghost use Rattle.trace_explanation.specs.Steps.{is_among, is_named, step_numbers};
 ghost use Rattle.trace_explanation.specs.Internal.Tables.{AreMarks};
 
 use crate::loads::step_load;
@@ -9,12 +11,26 @@ use std::alloc::{AllocError, Global};
 use tso_cert::CertStep;
 use tso_ops::Trace;
 
-/// For number 0 and each event whether one of the steps names it. OutOfMemory where an allocation was refused.
-pub(crate) fn mark_named(
+/// The events that the steps name, in the order of their numbers. OutOfMemory where an allocation was refused.
+pub(crate) fn list_named(
     alloc: Global,
     trace: &Trace,
     steps: &[CertStep],
-) -> Result<Vec<bool>, AllocError>
+) -> Result<Vec<usize>, AllocError>
+    ensures { IfOk result (λ events. events.items ≡ filter (is_named trace.now steps.now) (event_numbers trace.now)) }
+{
+    let marks = mark_named(alloc, trace, steps)?;
+    let mut events = Vec::new(alloc);
+    for n in 0..trace.events() {
+        if marks[n + 1] {
+            events.push(n + 1)?;
+        }
+    }
+    Ok(events)
+}
+
+/// For number 0 and each event whether one of the steps names it.
+fn mark_named(alloc: Global, trace: &Trace, steps: &[CertStep]) -> Result<Vec<bool>, AllocError>
     ensures { IfOk result (λ marks. AreMarks (is_named trace.now steps.now) (suc (event_total trace.now)) marks.items) }
 {
     let mut marks = vec![in alloc; false; trace.node_count()]?;
@@ -27,7 +43,7 @@ pub(crate) fn mark_named(
 /// Marks the numbers that a step names.
 fn mark_step(trace: &Trace, step: &CertStep, marks: &mut Vec<bool>)
     ensures length { length marks.new.items ≡ length marks.old.items }
-    ensures marked { (n : ℕ) → n < length marks.old.items → get_or marks.new.items n false ≡ (names trace.now n step.now || get_or marks.old.items n false) }
+    ensures marked { (n : ℕ) → n < length marks.old.items → get_or marks.new.items n false ≡ (is_among n (step_numbers trace.now step.now) || get_or marks.old.items n false) }
 {
     mark(marks, step.from as usize);
     mark(marks, step.to as usize);

@@ -1,9 +1,9 @@
 //! A trace with the names of its events.
-ghost use Rattle.std.specs.Prelude.{◌≡◌, ◌++◌, suc, Some, string_bytes, IfOk, OnOk};
-ghost use Rattle.tso_ops.specs.Events.{event_at};
+ghost use Rattle.std.specs.Prelude.{◌≡◌, ◌++◌, [], codes, suc, string_bytes, IfOk, OnOk};
+ghost use Rattle.std.specs.Option.{option_map_or};
 ghost use Rattle.tso_ops.specs.Values.{TraceValue};
-ghost use Rattle.tso_ops.specs.Operations.{operation_at, operations_of};
-ghost use Rattle.trace_explanation.specs.Names.{address_in, also_read, event_name, line_in, name_text, outcome_text, part_text, place_text, read_text, source_of, source_text};
+ghost use Rattle.tso_ops.specs.Operations.{operations_of};
+ghost use Rattle.trace_explanation.specs.Names.{address_at, event_name, line_at, name_text, outcome_text, part_text, place_text, read_text, source_of, source_text};
 ghost use Rattle.trace_explanation.specs.Internal.Tables.{HasNames};
 
 use std::alloc::{AllocError, Global};
@@ -76,7 +76,7 @@ impl<'t> NamedTrace<'t> {
 
     /// The line of event `n` in the trace's text: 0 where there is no such event.
     pub(crate) fn line(&self, n: usize) -> usize
-        ensures { result ≡ line_in (operation_at self.now n) }
+        ensures { result ≡ line_at self.now n }
     {
         match self.operations.operation_of(n) {
             Some(operation) => operation.line,
@@ -86,7 +86,7 @@ impl<'t> NamedTrace<'t> {
 
     /// What load `l` read, by its source `s`. OutOfMemory where an allocation was refused.
     fn source_text(&self, alloc: Global, l: usize, s: usize) -> Result<String, AllocError>
-        ensures { IfOk result (λ text. string_bytes text ≡ source_text self.now l (Some s)) }
+        ensures { IfOk result (λ text. string_bytes text ≡ source_text self.now l s) }
     {
         if s == 0 {
             let address = address_of(self.trace, l);
@@ -110,7 +110,7 @@ impl<'t> NamedTrace<'t> {
     /// What load `l` read, after the word that says so: nothing where it is no load or has no source. OutOfMemory where
     /// an allocation was refused.
     fn also_read(&self, alloc: Global, l: usize) -> Result<String, AllocError>
-        ensures { IfOk result (λ text. string_bytes text ≡ also_read self.now l (source_of self.now l)) }
+        ensures { IfOk result (λ text. string_bytes text ≡ option_map_or (λ s. codes " read " ++ source_text self.now l s) (source_of self.now l) []) }
     {
         match source_of(self.trace(), l) {
             Some(s) => {
@@ -147,7 +147,7 @@ pub fn source_of(trace: &Trace, l: usize) -> Option<usize>
 
 /// The address of event `n`: 0 where there is no such event.
 pub fn address_of(trace: &Trace, n: usize) -> u16
-    ensures { result ≡ address_in (event_at trace.now n) }
+    ensures { result ≡ address_at trace.now n }
 {
     match trace.event(n) {
         Some(event) => event.a,
@@ -174,7 +174,7 @@ fn event_name(
     n: usize,
     operation: Option<EventOperation>,
 ) -> Result<String, AllocError>
-    ensures { IfOk result (λ text. string_bytes text ≡ event_name n operation) }
+    ensures { IfOk result (λ text. string_bytes text ≡ option_map_or (event_name n) operation []) }
 {
     match operation {
         Some(operation) => {

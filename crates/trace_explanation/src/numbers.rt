@@ -1,6 +1,9 @@
 //! The numbers of a certificate's steps.
-ghost use Rattle.std.specs.Prelude.{◌≡◌, ◌++◌, ℕ, List, string_bytes, IfOk, OnOk};
-ghost use Rattle.trace_explanation.specs.Steps.{by_text, more_numbers, step_number};
+ghost use Rattle.std.specs.Prelude.{◌≡◌, ◌++◌, ◌∷◌, ℕ, List, codes, cond, length, nat_lt, string_bytes, IfOk, OnOk};
+ghost use Rattle.std.specs.Fmt.{decimal};
+ghost use Rattle.std.specs.List.{find, flat_map, zip};
+ghost use Rattle.std.specs.Option.{option_copied};
+ghost use Rattle.trace_explanation.specs.Steps.{by_text, is_edge, step_number};
 ghost use Rattle.trace_explanation.specs.Internal.Tables.{FindsNumbers};
 
 use std::alloc::{AllocError, Global};
@@ -46,11 +49,21 @@ impl<'s> NumberedSteps<'s> {
 
     /// The least number of a step that is the edge from `u` to `v`: 0 where there is none.
     pub fn number(&self, u: u64, v: u64) -> usize
-        ensures { result ≡ step_number self.now u v }
+        ensures { result ≡ step_number self.now (u, v) }
     {
         match self.numbers.get(&(u, v)) {
             Some(number) => *number,
             None => 0,
+        }
+    }
+
+    /// The first step that is the edge from `u` to `v`, if there is one.
+    pub fn step(&self, u: u64, v: u64) -> Option<&'s CertStep>
+        ensures { option_copied result ≡ find (is_edge (u, v)) self.now }
+    {
+        match self.numbers.get(&(u, v)) {
+            Some(number) => self.steps.get(number.saturating_sub(1)),
+            None => None,
         }
     }
 
@@ -61,13 +74,10 @@ impl<'s> NumberedSteps<'s> {
     {
         match path {
             [] | [_] => Ok(String::new(alloc)),
-            [x, y] => {
-                let number = self.number(*x, *y);
-                format!(in alloc; "step {number}")
-            },
             [x, y, rest @ ..] => {
+                let word = step_word(rest);
                 let number = self.number(*x, *y);
-                let mut text = format!(in alloc; "steps {number}")?;
+                let mut text = format!(in alloc; "{word}{number}")?;
                 self.push_more(&mut text, *y, rest)?;
                 Ok(text)
             },
@@ -76,7 +86,7 @@ impl<'s> NumberedSteps<'s> {
 
     /// Appends the numbers of the edges from `y` along these numbers, each after a comma.
     fn push_more(&self, text: &mut String, y: u64, rest: &[u64]) -> Result<(), AllocError>
-        ensures { OnOk result (string_bytes text.new ≡ string_bytes text.old ++ more_numbers self.now y rest.now) }
+        ensures { OnOk result (string_bytes text.new ≡ string_bytes text.old ++ flat_map (λ edge. codes ", " ++ decimal (step_number self.now edge)) (zip (y ∷ rest.now) rest.now)) }
     {
         let mut previous = y;
         for z in rest {
@@ -86,6 +96,13 @@ impl<'s> NumberedSteps<'s> {
         }
         Ok(())
     }
+}
+
+/// The word before the numbers of steps: of one, or of more.
+fn step_word(more: &[u64]) -> &'static str
+    ensures { result.now ≡ cond (nat_lt 0 (length more.now)) (codes "steps ") (codes "step ") }
+{
+    if more.is_empty() { "step " } else { "steps " }
 }
 
 /// For each edge of the steps the least number of a step that has it.

@@ -3,7 +3,7 @@ ghost use Rattle.std.specs.Prelude.{◌≡◌, ◌++◌, ◌<◌, ℕ, length, s
 ghost use Rattle.std.specs.List.{flat_map};
 ghost use Rattle.std.specs.Option.{option_copied};
 ghost use Rattle.line_text.specs.Lines.{parts_of};
-ghost use Rattle.trace_explanation.specs.Refusals.{hex_digit, line_shown, line_there, line_words, refusal_explanation, refusal_sentence, shown_byte, shown_line};
+ghost use Rattle.trace_explanation.specs.Refusals.{hex_digit, line_shown, line_there, refusal_explanation, refusal_sentence, shown_byte, shown_line};
 
 use crate::prefixes::first_of;
 use crate::refusal_sentences::{

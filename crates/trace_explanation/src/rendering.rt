@@ -17,28 +17,24 @@ impl Rendering for AsExplanation {
 
     ghost refused = { refusal_explained };
 
-    fn trace_text(
+    fn text_of_trace(
         &self,
         alloc: Global,
         trace: &Trace,
         finding: &Finding,
     ) -> Result<String, OutOfMemory> {
-        let mut text = render_head(alloc, trace.processors(), trace.events(), finding.rounds)?;
-        match finding.certificate {
-            Some(_) => text.push_str("VIOLATION\n")?,
-            None => text.push_str("NO VIOLATION FOUND\n")?,
-        }
+        let mut text = render_head(alloc, trace, finding)?;
         explain(alloc, &mut text, trace, &finding.certificate)?;
         Ok(text)
     }
 
-    fn refusal_text(
+    fn text_of_refusal(
         &self,
         alloc: Global,
         input: &[u8],
         fault: TextFault,
     ) -> Result<String, OutOfMemory> {
-        let mut text = AsReport.refusal_text(alloc, input, fault)?;
+        let mut text = AsReport.text_of_refusal(alloc, input, fault)?;
         explain_refusal(&mut text, input, fault)?;
         Ok(text)
     }

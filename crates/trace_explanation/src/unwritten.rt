@@ -1,12 +1,12 @@
 //! The explanation of an unwritten load.
-ghost use Rattle.std.specs.Prelude.{◌≡◌, ◌++◌, Some, length, take, string_bytes, OnOk, IfOk};
-ghost use Rattle.std.specs.List.{flat_map};
-ghost use Rattle.tso_ops.specs.Events.{event_at, event_total};
-ghost use Rattle.trace_explanation.specs.Searches.{least};
-ghost use Rattle.trace_explanation.specs.Names.{place_text};
-ghost use Rattle.trace_explanation.specs.Explanations.{elsewhere_at, elsewhere_text, more_text, stores_text, stores_to, stores_up_to, stores_value, unread_text, unwritten_at, unwritten_text};
+ghost use Rattle.std.specs.Prelude.{◌≡◌, ◌++◌, ◌==◌, [], string_bytes, OnOk, IfOk};
+ghost use Rattle.std.specs.List.{find, flat_map};
+ghost use Rattle.std.specs.Option.{option_map_or};
+ghost use Rattle.tso_ops.specs.Events.{event_at};
+ghost use Rattle.trace_explanation.specs.Names.{event_numbers, is_store, place_text};
+ghost use Rattle.trace_explanation.specs.Explanations.{elsewhere_text, more_text, stores_text, stores_to, unread_text, unwritten_by};
 
-use crate::names::NamedTrace;
+use crate::names::{NamedTrace, address_of};
 use crate::prefixes::first_of;
 use std::alloc::{AllocError, Global};
 use std::fmt::Write;
@@ -17,34 +17,22 @@ const NAMED_STORES: usize = 16;
 
 /// Appends the explanation of load `n`, whose value nothing wrote to its address; nothing where there is no such event.
 /// OutOfMemory where an allocation was refused.
-#[tactic(auto, unfolding(crate::specs::Explanations::unwritten_text))]
 pub(crate) fn push_unwritten(
     alloc: Global,
     text: &mut String,
     named: &NamedTrace<'_>,
     n: usize,
 ) -> Result<(), AllocError>
-    ensures { OnOk result (string_bytes text.new ≡ string_bytes text.old ++ unwritten_text named.now n) }
+    ensures { OnOk result (string_bytes text.new ≡ string_bytes text.old ++ option_map_or (unwritten_by named.now n) (event_at named.now n) []) }
 {
     match named.trace().event(n) {
-        Some(event) => push_event(alloc, text, named, n, event),
+        Some(event) => {
+            push_unread(text, named, n, event)?;
+            push_elsewhere(alloc, text, named, event.value)?;
+            push_stores(alloc, text, named, event.a)
+        },
         None => Ok(()),
     }
-}
-
-/// Appends the explanation of load `n`, by its event.
-fn push_event(
-    alloc: Global,
-    text: &mut String,
-    named: &NamedTrace<'_>,
-    n: usize,
-    event: Event,
-) -> Result<(), AllocError>
-    ensures { OnOk result (string_bytes text.new ≡ string_bytes text.old ++ unwritten_at named.now n (Some event)) }
-{
-    push_unread(text, named, n, event)?;
-    push_elsewhere(alloc, text, named, event.value)?;
-    push_stores(alloc, text, named, event.a)
 }
 
 /// Appends what load `n` read, and the first value of its address.
@@ -75,7 +63,7 @@ fn push_elsewhere(
     named: &NamedTrace<'_>,
     value: u64,
 ) -> Result<(), AllocError>
-    ensures { OnOk result (string_bytes text.new ≡ string_bytes text.old ++ elsewhere_text named.now value (least (λ m. stores_value value (event_at named.now m)) (event_total named.now))) }
+    ensures { OnOk result (string_bytes text.new ≡ string_bytes text.old ++ option_map_or (elsewhere_text named.now value) (find (is_store named.now (λ s. s.value == value)) (event_numbers named.now)) []) }
 {
     match store_of(named.trace(), value) {
         Some(m) => push_elsewhere_at(alloc, text, named, value, m),
@@ -91,25 +79,20 @@ fn push_elsewhere_at(
     value: u64,
     m: usize,
 ) -> Result<(), AllocError>
-    ensures { OnOk result (string_bytes text.new ≡ string_bytes text.old ++ elsewhere_at named.now value m (event_at named.now m)) }
+    ensures { OnOk result (string_bytes text.new ≡ string_bytes text.old ++ elsewhere_text named.now value m) }
 {
-    match named.trace().event(m) {
-        Some(store) => {
-            let address = store.a;
-            write!(
-                text,
-                "The value {value} was stored to address {address} instead:\n\n"
-            )?;
-            named.push_place(alloc, text, m)?;
-            text.push_str("\n")
-        },
-        None => Ok(()),
-    }
+    let address = address_of(named.trace(), m);
+    write!(
+        text,
+        "The value {value} was stored to address {address} instead:\n\n"
+    )?;
+    named.push_place(alloc, text, m)?;
+    text.push_str("\n")
 }
 
 /// The least store of the value, to any address.
 fn store_of(trace: &Trace, value: u64) -> Option<usize>
-    ensures { result ≡ least (λ m. stores_value value (event_at trace.now m)) (event_total trace.now) }
+    ensures { result ≡ find (is_store trace.now (λ s. s.value == value)) (event_numbers trace.now) }
 {
     for m in 0..trace.events() {
         if stores_value(trace, value, m + 1) {
@@ -121,7 +104,7 @@ fn store_of(trace: &Trace, value: u64) -> Option<usize>
 
 /// Whether event `m` is a store of the value.
 fn stores_value(trace: &Trace, value: u64, m: usize) -> bool
-    ensures { result ≡ stores_value value (event_at trace.now m) }
+    ensures { result ≡ is_store trace.now (λ s. s.value == value) m }
 {
     match trace.event(m) {
         Some(event) => !event.load && event.value == value,
@@ -131,7 +114,7 @@ fn stores_value(trace: &Trace, value: u64, m: usize) -> bool
 
 /// Whether event `m` is a store to the address.
 fn stores_to(trace: &Trace, a: u16, m: usize) -> bool
-    ensures { result ≡ stores_to a (event_at trace.now m) }
+    ensures { result ≡ is_store trace.now (λ s. s.a == a) m }
 {
     match trace.event(m) {
         Some(event) => !event.load && event.a == a,
@@ -141,7 +124,7 @@ fn stores_to(trace: &Trace, a: u16, m: usize) -> bool
 
 /// The stores to the address, in the order of their numbers. OutOfMemory where an allocation was refused.
 pub fn list_stores(alloc: Global, trace: &Trace, a: u16) -> Result<Vec<usize>, AllocError>
-    ensures { IfOk result (λ stores. stores.items ≡ stores_up_to trace.now a (event_total trace.now)) }
+    ensures { IfOk result (λ stores. stores.items ≡ stores_to trace.now a) }
 {
     let mut stores = Vec::new(alloc);
     for m in 0..trace.events() {
@@ -159,7 +142,7 @@ fn push_stores(
     named: &NamedTrace<'_>,
     a: u16,
 ) -> Result<(), AllocError>
-    ensures { OnOk result (string_bytes text.new ≡ string_bytes text.old ++ stores_text named.now a (stores_up_to named.now a (event_total named.now))) }
+    ensures { OnOk result (string_bytes text.new ≡ string_bytes text.old ++ stores_text named.now a (stores_to named.now a)) }
 {
     let stores = list_stores(alloc, named.trace(), a)?;
     push_store_lines(alloc, text, named, a, &stores)
@@ -187,8 +170,8 @@ fn push_store_lines(
     }
 }
 
-/// Appends the lines of these events.
-fn push_places(
+/// Appends the lines of these events. OutOfMemory where an allocation was refused.
+pub(crate) fn push_places(
     alloc: Global,
     text: &mut String,
     named: &NamedTrace<'_>,

@@ -1,11 +1,13 @@
 //! The words of each rule, in short and in full.
-ghost use Rattle.std.specs.Prelude.{◌≡◌, ◌≢◌, ℕ, List, string_bytes, IfOk};
+ghost use Rattle.std.specs.Prelude.{◌≡◌, ◌≢◌, ℕ, List, [], string_bytes, IfOk};
+ghost use Rattle.std.specs.Option.{option_map_or};
 ghost use Rattle.tso_ops.specs.Values.{TraceValue};
 ghost use Rattle.tso_cert.specs.declared.rules.BaseRule.{BaseRule};
 ghost use Rattle.tso_cert.specs.declared.rules.InferredRule.{InferredRule};
 ghost use Rattle.tso_cert.specs.declared.steps.CertStep.{CertStep};
+ghost use Rattle.trace_explanation.specs.Names.{name_text, read_text};
 ghost use Rattle.trace_explanation.specs.Steps.{by_text, own_load};
-ghost use Rattle.trace_explanation.specs.Words.{base_long, base_short, inferred_long, inferred_short, kept_stores, load_name, load_read, reason_long, reason_short};
+ghost use Rattle.trace_explanation.specs.Words.{base_long, base_short, inferred_long, inferred_short, kept_stores, reason_long, reason_short};
 
 use crate::loads::own_load;
 use crate::names::NamedTrace;
@@ -223,7 +225,7 @@ fn swap_after(
 
 /// The name of a load that may be missing.
 fn load_name<'n>(named: &'n NamedTrace<'_>, load: Option<usize>) -> &'n str
-    ensures { result.now ≡ load_name named.now load }
+    ensures { result.now ≡ option_map_or (name_text named.now) load [] }
 {
     match load {
         Some(l) => named.name(l),
@@ -237,7 +239,7 @@ fn load_read(
     named: &NamedTrace<'_>,
     load: Option<usize>,
 ) -> Result<String, AllocError>
-    ensures { IfOk result (λ text. string_bytes text ≡ load_read named.now load) }
+    ensures { IfOk result (λ text. string_bytes text ≡ option_map_or (read_text named.now) load []) }
 {
     match load {
         Some(l) => named.read(alloc, l),

@@ -1,4 +1,4 @@
-//! Tests of `trace_explanation` and `trace_pictures`, by `tso_report::present`.
+//! Tests of `trace_explanation` and `trace_pictures`, by `trace_judging::present`.
 #![tactic(auto)]
 
 #[cfg(test)]

@@ -14,8 +14,8 @@ use std::alloc::Global;
 use std::sync::Wait;
 use std::test::Fail;
 use std::thread::Threads;
+use trace_judging::{Fault, Rendering, Verdict, present};
 use traces_for_tests::expect_equal;
-use tso_report::{Fault, Rendering, Verdict, present};
 
 /// An input, and what is written of it.
 type Case = (&'static str, &'static str);

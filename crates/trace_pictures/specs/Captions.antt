@@ -1,15 +1,11 @@
 -- What stands above a picture: the verdict, how many events are drawn, and what its colours say.
-use Rattle.std.specs.Prelude.{ℕ, List, [], ◌∷◌, nat_lt, Option, None, Some, cond, codes}
+use Rattle.std.specs.Prelude.{ℕ, List, [], ◌∷◌, nat_lt, Option, None, Some, is_some, cond, codes}
 use Rattle.std.specs.Fmt.{decimal}
 use Rattle.tso_ops.specs.declared.settings.Order.{Order}
 use Rattle.tso_cert.specs.declared.steps.Certificate.{Certificate}
 use Rattle.tso_cert.specs.declared.steps.Certificate.TheVariants.{Unwritten, Cycle}
 use Rattle.trace_explanation.specs.Explanations.{model_name}
 use Rattle.trace_explanation.specs.JoinedTexts.{joined}
-
-abbrev pub verdict_words : Option Certificate → List ℕ
-verdict_words None = codes ", no violation found\\l"
-verdict_words (Some certificate) = codes ", violation\\l"
 
 -- how many of the events are drawn, where not all are
 abbrev pub drawn_words : ℕ → ℕ → List ℕ
@@ -24,4 +20,4 @@ red_words (Some (Cycle steps cycle)) =
 -- the captions, each of which ends its line at the left
 unfoldable pub captions_text : Order → Option Certificate → ℕ → ℕ → List ℕ
 captions_text order certificate drawn events = joined (
-    codes "  label=\"" ∷ model_name order ∷ verdict_words certificate ∷ drawn_words drawn events ∷ codes "blue edge: from a store to a load that read it\\lblue box: a load that read the first value of its address\\l" ∷ red_words certificate ∷ codes "\";\n" ∷ [])
+    codes "  label=\"" ∷ model_name order ∷ cond (is_some certificate) (codes ", violation\\l") (codes ", no violation found\\l") ∷ drawn_words drawn events ∷ codes "blue edge: from a store to a load that read it\\lblue box: a load that read the first value of its address\\l" ∷ red_words certificate ∷ codes "\";\n" ∷ [])

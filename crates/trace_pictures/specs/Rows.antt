@@ -1,129 +1,71 @@
 -- The rows of a processor: its drawn events, barriers between them, and how many operations are left out.
-use Rattle.std.specs.Prelude.{ℕ, zero, suc, ◌+◌, ◌==◌, ◌&&◌, ◌||◌, Bool, true, false, not, nat_lt, List, [], ◌∷◌, ◌++◌, length, Option, None, Some, cond, slice_get}
-use Rattle.std.specs.List.{flat_map, list_any}
+use Rattle.std.specs.Prelude.{ℕ, zero, suc, ◌==◌, ◌&&◌, ◌||◌, Bool, false, not, nat_lt, List, [], ◌∷◌, ◌++◌, length, map, cond, slice_get}
+use Rattle.std.specs.Option.{option_map_or, option_to_list}
+use Rattle.std.specs.List.{count_by, filter, flat_map, list_any, range_with_len}
+use Rattle.std.specs.Str.{bytes_eq}
 use Rattle.line_text.specs.Lines.{is_empty}
 use Rattle.tso_ops.specs.declared.ops.Outcome.{Outcome}
-use Rattle.tso_ops.specs.declared.ops.Outcome.TheVariants.{Ld, St, Sw, Mb, Sb}
-use Rattle.tso_ops.specs.declared.operations.EventOperation.{EventOperation}
-use Rattle.tso_ops.specs.Values.{TraceValue}
+use Rattle.tso_ops.specs.Values.{TraceValue, op_of}
 use Rattle.tso_ops.specs.Events.{event_total, outcomes_at}
+use Rattle.tso_ops.specs.Limits.{barrier_count}
 use Rattle.tso_ops.specs.Operations.{operation_at}
+use Rattle.trace_explanation.specs.Names.{outcome_text}
 use Rattle.trace_pictures.specs.declared.rows.Row.{Row}
 use Rattle.trace_pictures.specs.declared.rows.Row.TheVariants.{Event, Barrier, Gap}
 
--- ---- where the drawn events stand
+-- ---- the rows of an operation
 
-abbrev pub stands_at : ℕ → ℕ → Option EventOperation → Bool
-stands_at p i None = false
-stands_at p i (Some o) = o.proc == p && o.place == i
+-- event n is one of processor p, at a place that passes the test
+abbrev pub stands : TraceValue → ℕ → (ℕ → Bool) → ℕ → Bool
+stands t p test n = option_map_or (λ o. o.proc == p && test o.place) (operation_at t n) false
 
-abbrev pub stands_before : ℕ → ℕ → Option EventOperation → Bool
-stands_before p i None = false
-stands_before p i (Some o) = o.proc == p && nat_lt o.place i
-
-abbrev pub stands_after : ℕ → ℕ → Option EventOperation → Bool
-stands_after p i None = false
-stands_after p i (Some o) = o.proc == p && nat_lt i o.place
-
--- the row of a drawn event, if the operation at this place of processor p gives it
-abbrev pub event_row : TraceValue → ℕ → ℕ → ℕ → List Row
-event_row t p i n = cond (stands_at p i (operation_at t n)) (Event n ∷ []) []
-
--- the rows of the drawn events that the operation at this place gives
+-- the rows of the drawn events that the operation at place i of processor p gives
 abbrev pub event_rows : TraceValue → List ℕ → ℕ → ℕ → List Row
-event_rows t drawn p i = flat_map (event_row t p i) drawn
+event_rows t drawn p i = map Event (filter (stands t p (λ place. place == i)) drawn)
 
--- a drawn event of the processor stands before the place, and another after it
-abbrev pub is_between : TraceValue → List ℕ → ℕ → ℕ → Bool
-is_between t drawn p i = list_any (λ n. stands_before p i (operation_at t n)) drawn && list_any (λ n. stands_after p i (operation_at t n)) drawn
-
--- where all events are drawn, barriers are too; else those between drawn events of their processor
+-- where all events are drawn, barriers are too; else those with a drawn event of their processor before them and another after them
 abbrev pub shows_barriers : TraceValue → List ℕ → ℕ → ℕ → Bool
-shows_barriers t drawn p i = (length drawn == event_total t) || is_between t drawn p i
+shows_barriers t drawn p i =
+    (length drawn == event_total t) || (list_any (stands t p (λ place. nat_lt place i)) drawn && list_any (stands t p (λ place. nat_lt i place)) drawn)
 
--- ---- which barriers have a row
+-- of the first `count` of these operations, those after the last one that has rows
+abbrev pub without_rows : (ℕ → List Row) → List Outcome → ℕ → List Outcome
+without_rows rows ops zero = []
+without_rows rows ops (suc i) = cond (is_empty (rows i)) (without_rows rows ops i ++ option_to_list (slice_get ops i)) []
 
--- whether a MEMBAR stands before the place after this operation and after the last drawn event there, by whether one does before the operation, and
--- whether the operation is undrawn
-abbrev pub membar_after : Bool → Bool → Option Outcome → Bool
-membar_after before undrawn None = before
-membar_after before undrawn (Some (Ld a r)) = before && undrawn
-membar_after before undrawn (Some (St a v)) = before && undrawn
-membar_after before undrawn (Some (Sw a r v)) = before && undrawn
-membar_after before undrawn (Some Mb) = true
-membar_after before undrawn (Some Sb) = before
+-- the word of an operation is that of one of these
+abbrev pub has_word : Outcome → List Outcome → Bool
+has_word o others = list_any (λ other. bytes_eq (outcome_text other) (outcome_text o)) others
 
--- the same of an STBAR
-abbrev pub stbar_after : Bool → Bool → Option Outcome → Bool
-stbar_after before undrawn None = before
-stbar_after before undrawn (Some (Ld a r)) = before && undrawn
-stbar_after before undrawn (Some (St a v)) = before && undrawn
-stbar_after before undrawn (Some (Sw a r v)) = before && undrawn
-stbar_after before undrawn (Some Mb) = before
-stbar_after before undrawn (Some Sb) = true
+-- the operation is a barrier, of another word than each of these
+abbrev pub is_new_barrier : List Outcome → Outcome → Bool
+is_new_barrier others o = barrier_count (op_of o) == 1 && not (has_word o others)
 
--- a MEMBAR stands among the first `count` operations of processor p, after the last drawn event among them
-abbrev pub has_membar : TraceValue → List ℕ → ℕ → ℕ → Bool
-has_membar t drawn p zero = false
-has_membar t drawn p (suc i) = membar_after (has_membar t drawn p i) (is_empty (event_rows t drawn p i)) (slice_get (outcomes_at t p) i)
+-- the row of an operation at place i that is a barrier: it is shown, and is the first of its word since the last drawn event
+abbrev pub barrier_rows : TraceValue → List ℕ → ℕ → ℕ → Outcome → List Row
+barrier_rows t drawn p i o =
+    cond (shows_barriers t drawn p i && is_new_barrier (without_rows (event_rows t drawn p) (outcomes_at t p) i) o) (Barrier i o ∷ []) []
 
--- the same of an STBAR
-abbrev pub has_stbar : TraceValue → List ℕ → ℕ → ℕ → Bool
-has_stbar t drawn p zero = false
-has_stbar t drawn p (suc i) = stbar_after (has_stbar t drawn p i) (is_empty (event_rows t drawn p i)) (slice_get (outcomes_at t p) i)
-
--- ---- the rows
-
--- the row of a barrier, if it is shown and is the first of its word since the last drawn event
-abbrev pub barrier_rows : Bool → Bool → ℕ → Outcome → List Row
-barrier_rows shows repeated i outcome = cond (shows && not repeated) (Barrier i outcome ∷ []) []
-
--- the rows of an operation at a place: that of a barrier, or those of its drawn events
-abbrev pub rows_by : Bool → Bool → Bool → List Row → ℕ → Option Outcome → List Row
-rows_by shows membar stbar events i None = []
-rows_by shows membar stbar events i (Some (Ld a r)) = events
-rows_by shows membar stbar events i (Some (St a v)) = events
-rows_by shows membar stbar events i (Some (Sw a r v)) = events
-rows_by shows membar stbar events i (Some Mb) = barrier_rows shows membar i Mb
-rows_by shows membar stbar events i (Some Sb) = barrier_rows shows stbar i Sb
-
+-- the rows of the operation at place i
 abbrev pub rows_at : TraceValue → List ℕ → ℕ → ℕ → List Row
-rows_at t drawn p i =
-    rows_by (shows_barriers t drawn p i) (has_membar t drawn p i) (has_stbar t drawn p i) (event_rows t drawn p i) i (slice_get (outcomes_at t p) i)
+rows_at t drawn p i = event_rows t drawn p i ++ option_map_or (barrier_rows t drawn p i) (slice_get (outcomes_at t p) i) []
 
--- one for a load, a store or a swap
-abbrev pub access_count : Option Outcome → ℕ
-access_count None = 0
-access_count (Some (Ld a r)) = 1
-access_count (Some (St a v)) = 1
-access_count (Some (Sw a r v)) = 1
-access_count (Some Mb) = 0
-access_count (Some Sb) = 0
+-- ---- all rows
 
--- how many loads, stores and swaps of the first `count` operations stand after the last of these that has a row
-abbrev pub left_out : TraceValue → List ℕ → ℕ → ℕ → ℕ
-left_out t drawn p zero = 0
-left_out t drawn p (suc i) = cond (is_empty (rows_at t drawn p i)) (left_out t drawn p i + access_count (slice_get (outcomes_at t p) i)) 0
-
--- the row that says how many operations are left out before a place
+-- the row that says how many operations are left out before place i: none where none are
 abbrev pub gap_rows : ℕ → ℕ → List Row
 gap_rows i zero = []
 gap_rows i (suc k) = Gap i (suc k) ∷ []
 
--- rows at a place, after what is left out before it
-abbrev pub after_gap : ℕ → ℕ → List Row → List Row
-after_gap i count [] = []
-after_gap i count (row ∷ rows) = gap_rows i count ++ row ∷ rows
+-- how many loads, stores and swaps stand before place i and after the last row there
+abbrev pub left_out : TraceValue → List ℕ → ℕ → ℕ → ℕ
+left_out t drawn p i = count_by (λ o. barrier_count (op_of o) == 0) (without_rows (rows_at t drawn p) (outcomes_at t p) i)
 
--- the rows of the first `count` operations of processor p
-abbrev pub rows_up_to : TraceValue → List ℕ → ℕ → ℕ → List Row
-rows_up_to t drawn p zero = []
-rows_up_to t drawn p (suc i) = rows_up_to t drawn p i ++ after_gap i (left_out t drawn p i) (rows_at t drawn p i)
+-- the rows at place i, after what is left out before it
+abbrev pub rows_after_gap : TraceValue → List ℕ → ℕ → ℕ → List Row
+rows_after_gap t drawn p i = cond (is_empty (rows_at t drawn p i)) [] (gap_rows i (left_out t drawn p i) ++ rows_at t drawn p i)
 
--- the rows of `count` operations of processor p, with what is left out after the last
-abbrev pub rows_to : TraceValue → List ℕ → ℕ → ℕ → List Row
-rows_to t drawn p count = rows_up_to t drawn p count ++ gap_rows count (left_out t drawn p count)
-
--- the rows of processor p
+-- the rows of processor p, with what is left out after the last
 unfoldable pub rows_of : TraceValue → List ℕ → ℕ → List Row
-rows_of t drawn p = rows_to t drawn p (length (outcomes_at t p))
+rows_of t drawn p =
+    flat_map (rows_after_gap t drawn p) (range_with_len 0 (length (outcomes_at t p))) ++ gap_rows (length (outcomes_at t p)) (left_out t drawn p (length (outcomes_at t p)))

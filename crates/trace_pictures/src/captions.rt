@@ -1,6 +1,6 @@
 //! What stands above a picture.
-ghost use Rattle.std.specs.Prelude.{◌≡◌, ◌++◌, string_bytes, IfOk, OnOk};
-ghost use Rattle.trace_pictures.specs.Captions.{captions_text, drawn_words, red_words, verdict_words};
+ghost use Rattle.std.specs.Prelude.{◌≡◌, ◌++◌, codes, cond, is_some, string_bytes, IfOk, OnOk};
+ghost use Rattle.trace_pictures.specs.Captions.{captions_text, drawn_words, red_words};
 
 use std::alloc::{AllocError, Global};
 use std::fmt::Write;
@@ -33,7 +33,7 @@ pub(crate) fn push_captions(
 
 /// The verdict of a certificate, or of none.
 fn verdict_words(certificate: &Option<Certificate>) -> &'static str
-    ensures { result.now ≡ verdict_words certificate.now }
+    ensures { result.now ≡ cond (is_some certificate.now) (codes ", violation\\l") (codes ", no violation found\\l") }
 {
     match certificate {
         None => ", no violation found\\l",

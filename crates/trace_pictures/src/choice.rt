@@ -1,7 +1,7 @@
 //! Which events a picture draws.
-ghost use Rattle.std.specs.Prelude.{◌≡◌, ◌++◌, [], IfOk, OnOk};
-ghost use Rattle.tso_ops.specs.Operations.{operation_at};
-ghost use Rattle.trace_pictures.specs.Choice.{drawn_events, is_among, numbers_up_to, whole_in, with_whole, with_wholes};
+ghost use Rattle.std.specs.Prelude.{◌≡◌, [], IfOk, OnOk};
+ghost use Rattle.std.specs.List.{fold, range_with_len};
+ghost use Rattle.trace_pictures.specs.Choice.{drawn_events, whole_at, with_whole};
 
 use crate::members::is_among;
 use crate::placed::PlacedTrace;
@@ -32,8 +32,9 @@ pub(crate) fn choose_events(
 }
 
 /// The numbers from 1 to `last`.
+#[tactic(auto, using(trace_explanation::proofs::SearchFacts::numbers_more))]
 fn list_numbers(alloc: Global, last: usize) -> Result<Vec<usize>, AllocError>
-    ensures { IfOk result (λ numbers. numbers.items ≡ numbers_up_to last) }
+    ensures { IfOk result (λ numbers. numbers.items ≡ range_with_len 1 last) }
 {
     let mut numbers = Vec::new(alloc);
     for n in 0..last {
@@ -48,7 +49,7 @@ fn draw_wholes(
     placed: &PlacedTrace<'_>,
     wanted: &[usize],
 ) -> Result<Vec<usize>, AllocError>
-    ensures { IfOk result (λ drawn. drawn.items ≡ with_wholes placed.now [] wanted.now) }
+    ensures { IfOk result (λ drawn. drawn.items ≡ fold (with_whole placed.now) [] wanted.now) }
 {
     let mut drawn = Vec::new(alloc);
     for n in wanted {
@@ -79,7 +80,7 @@ fn draw_whole(
 
 /// The events of the operation that gives event `n`: none where there is no such event.
 fn list_whole(alloc: Global, placed: &PlacedTrace<'_>, n: usize) -> Result<Vec<usize>, AllocError>
-    ensures { IfOk result (λ whole. whole.items ≡ whole_in n (operation_at placed.now n)) }
+    ensures { IfOk result (λ whole. whole.items ≡ whole_at placed.now n) }
 {
     let mut whole = Vec::new(alloc);
     if let Some(operation) = placed.operation(n) {

@@ -1,17 +1,14 @@
 //! The edges of a picture other than those from rows to rows below.
-ghost use Rattle.std.specs.Prelude.{◌≡◌, ◌++◌, cond, length, slice_get, string_bytes, IfOk, OnOk, [], Some};
-ghost use Rattle.std.specs.List.{flat_map};
-ghost use Rattle.tso_ops.specs.Events.{event_total};
-ghost use Rattle.tso_ops.specs.Operations.{operation_at};
+ghost use Rattle.std.specs.Prelude.{◌≡◌, ◌++◌, length, string_bytes, IfOk, OnOk};
+ghost use Rattle.std.specs.List.{filter, flat_map, range_with_len};
 ghost use Rattle.tso_cert.specs.Printed.{event_text};
-ghost use Rattle.trace_explanation.specs.Names.{source_of};
-ghost use Rattle.trace_explanation.specs.Steps.{step_number};
-ghost use Rattle.trace_pictures.specs.Choice.{is_among};
-ghost use Rattle.trace_pictures.specs.Edges.{column_of, cycle_edges, dashed_edge, dashed_numbers, dashed_text, head_label, is_dashed, is_derived, is_two_headed, labelled_edge, last_forty, cycle_edge_text, links_of, node_name, nodes_of, place_across, ports_text, processor_in, read_edge, reads_text, two_headed};
+ghost use Rattle.trace_explanation.specs.Names.{event_numbers};
+ghost use Rattle.trace_explanation.specs.Steps.{links_of};
+ghost use Rattle.trace_pictures.specs.Edges.{column_of, cycle_edge_text, cycle_edges, dashed_edge, dashed_text, head_label, is_dashed, is_derived, is_two_headed, labelled_edge, last_forty, link_label, node_name, nodes_of, place_across, ports_text, processor_at, read_edge, two_headed};
 
 use crate::cycles::LinkedCycle;
 use crate::labels::step_label;
-use crate::members::{are_nodes, is_among, is_link};
+use crate::members::{are_nodes, is_among, is_beside};
 use crate::placed::PlacedTrace;
 use std::alloc::{AllocError, Global};
 use std::fmt::Write;
@@ -53,7 +50,7 @@ pub(crate) fn push_reads(
     drawn: &[usize],
     cycle: &LinkedCycle,
 ) -> Result<(), AllocError>
-    ensures { OnOk result (string_bytes text.new ≡ string_bytes text.old ++ reads_text trace.now drawn.now (links_of cycle.now) (event_total trace.now)) }
+    ensures { OnOk result (string_bytes text.new ≡ string_bytes text.old ++ flat_map (read_edge trace.now drawn.now (links_of cycle.now)) (event_numbers trace.now)) }
 {
     for n in 0..trace.events() {
         push_read(text, trace, drawn, cycle.links(), n + 1)?;
@@ -61,39 +58,21 @@ pub(crate) fn push_reads(
     Ok(())
 }
 
-/// Appends the edge to load `l` from the store that it read, if it is drawn.
+/// Appends the edge to load `l` from what it read, if both are drawn and the cycle doesn't have it.
 fn push_read(
     text: &mut String,
     trace: &Trace,
     drawn: &[usize],
-    links: &[(usize, usize)],
+    links: &[(u64, u64)],
     l: usize,
 ) -> Result<(), AllocError>
-    ensures { OnOk result (string_bytes text.new ≡ string_bytes text.old ++ cond (is_among l drawn.now) (read_edge drawn.now links.now l (source_of trace.now l)) []) }
+    ensures { OnOk result (string_bytes text.new ≡ string_bytes text.old ++ read_edge trace.now drawn.now links.now l) }
 {
-    if !is_among(l, drawn) {
-        return Ok(());
-    }
     match source_of(trace, l) {
-        Some(s) => push_read_from(text, drawn, links, l, s),
-        None => Ok(()),
-    }
-}
-
-/// Appends the edge to load `l` from its source `s`, if both are drawn and the cycle doesn't have it.
-fn push_read_from(
-    text: &mut String,
-    drawn: &[usize],
-    links: &[(usize, usize)],
-    l: usize,
-    s: usize,
-) -> Result<(), AllocError>
-    ensures { OnOk result (string_bytes text.new ≡ string_bytes text.old ++ read_edge drawn.now links.now l (Some s)) }
-{
-    if are_nodes(drawn, s, l) && !is_link(s, l, links) {
-        write!(text, "  e{s} -> e{l} [color=\"#3b6fb6\"];\n")
-    } else {
-        Ok(())
+        Some(s) if is_beside(drawn, links, s, l) => {
+            write!(text, "  e{s} -> e{l} [color=\"#3b6fb6\"];\n")
+        },
+        _ => Ok(()),
     }
 }
 
@@ -109,44 +88,47 @@ pub(crate) fn push_dashed(
 ) -> Result<(), AllocError>
     ensures { OnOk result (string_bytes text.new ≡ string_bytes text.old ++ dashed_text placed.now steps.now nodes.now (links_of cycle.now)) }
 {
-    let numbers = list_dashed(alloc, steps, nodes, cycle.links())?;
-    push_dashed_edges(alloc, text, placed, steps, last_forty(&numbers))
+    let places = list_dashed(alloc, steps, nodes, cycle.links())?;
+    let last = last_forty(&places);
+    for k in last {
+        push_dashed_edge(alloc, text, placed, steps, *k)?;
+    }
+    Ok(())
 }
 
-/// The last 40 of these numbers.
-fn last_forty(numbers: &[usize]) -> &[usize]
-    ensures { result.now ≡ last_forty numbers.now }
+/// The last 40 of these.
+fn last_forty(places: &[usize]) -> &[usize]
+    ensures { result.now ≡ last_forty places.now }
 {
-    &numbers[numbers.len().saturating_sub(DASHED_EDGES)..]
+    &places[places.len().saturating_sub(DASHED_EDGES)..]
 }
 
-/// The numbers of the steps that have dashed edges.
+/// The places of the steps that have dashed edges.
 fn list_dashed(
     alloc: Global,
     steps: &[CertStep],
     nodes: &[usize],
-    links: &[(usize, usize)],
+    links: &[(u64, u64)],
 ) -> Result<Vec<usize>, AllocError>
-    ensures { IfOk result (λ numbers. numbers.items ≡ dashed_numbers steps.now nodes.now links.now (length steps.now)) }
+    ensures { IfOk result (λ places. places.items ≡ filter (is_dashed steps.now nodes.now links.now) (range_with_len 0 (length steps.now))) }
 {
-    let mut numbers = Vec::new(alloc);
+    let mut places = Vec::new(alloc);
     for k in 0..steps.len() {
         if is_dashed(steps, nodes, links, k) {
-            numbers.push(k + 1)?;
+            places.push(k)?;
         }
     }
-    Ok(numbers)
+    Ok(places)
 }
 
 /// Whether the step at a place has a dashed edge: it is derived, its ends have nodes, and the cycle doesn't have it.
-fn is_dashed(steps: &[CertStep], nodes: &[usize], links: &[(usize, usize)], k: usize) -> bool
-    ensures { result ≡ is_dashed nodes.now links.now (slice_get steps.now k) }
+fn is_dashed(steps: &[CertStep], nodes: &[usize], links: &[(u64, u64)], k: usize) -> bool
+    ensures { result ≡ is_dashed steps.now nodes.now links.now k }
 {
     match steps.get(k) {
         Some(step) => {
-            let u = step.from as usize;
-            let v = step.to as usize;
-            is_derived(&step.reason) && are_nodes(nodes, u, v) && !is_link(u, v, links)
+            is_derived(&step.reason)
+                && is_beside(nodes, links, step.from as usize, step.to as usize)
         },
         None => false,
     }
@@ -163,38 +145,19 @@ fn is_derived(reason: &Reason) -> bool
     }
 }
 
-/// Appends the dashed edges of the steps with these numbers.
-fn push_dashed_edges(
-    alloc: Global,
-    text: &mut String,
-    placed: &PlacedTrace<'_>,
-    steps: &[CertStep],
-    numbers: &[usize],
-) -> Result<(), AllocError>
-    ensures { OnOk result (string_bytes text.new ≡ string_bytes text.old ++ flat_map (dashed_edge placed.now steps.now) numbers.now) }
-{
-    for number in numbers {
-        push_dashed_edge(alloc, text, placed, steps, *number)?;
-    }
-    Ok(())
-}
-
-/// Appends the dashed edge of the step with this number: nothing where there is no such step.
+/// Appends the dashed edge of the step at a place: nothing where there is no step.
 fn push_dashed_edge(
     alloc: Global,
     text: &mut String,
     placed: &PlacedTrace<'_>,
     steps: &[CertStep],
-    number: usize,
+    k: usize,
 ) -> Result<(), AllocError>
-    ensures { OnOk result (string_bytes text.new ≡ string_bytes text.old ++ dashed_edge placed.now steps.now number) }
+    ensures { OnOk result (string_bytes text.new ≡ string_bytes text.old ++ dashed_edge placed.now steps.now k) }
 {
-    if number == 0 {
-        return Ok(());
-    }
-    match steps.get(number - 1) {
+    match steps.get(k) {
         Some(step) => {
-            let label = step_label(alloc, steps, number)?;
+            let label = step_label(alloc, k + 1, &step.reason)?;
             let link = (step.from as usize, step.to as usize);
             push_labelled(alloc, text, placed, DASHED_MARKS, &label, link)
         },
@@ -239,13 +202,13 @@ fn place_across(placed: &PlacedTrace<'_>, n: usize) -> u128
     if n == 0 {
         placed.trace().processors().saturating_sub(1) as u128
     } else {
-        2 * processor_in(placed, n) as u128
+        2 * processor_at(placed, n) as u128
     }
 }
 
 /// The processor of event `n`: 0 where there is no such event.
-fn processor_in(placed: &PlacedTrace<'_>, n: usize) -> usize
-    ensures { result ≡ processor_in (operation_at placed.now n) }
+fn processor_at(placed: &PlacedTrace<'_>, n: usize) -> usize
+    ensures { result ≡ processor_at placed.now n }
 {
     match placed.operation(n) {
         Some(operation) => operation.proc,
@@ -302,7 +265,7 @@ fn column_of(placed: &PlacedTrace<'_>, n: usize) -> u128
     if n == 0 {
         0
     } else {
-        1 + processor_in(placed, n) as u128
+        1 + processor_at(placed, n) as u128
     }
 }
 
@@ -337,7 +300,7 @@ fn head_label(
 ) -> Result<String, AllocError>
     ensures { IfOk result (λ text. string_bytes text ≡ head_label numbered.now u v) }
 {
-    let step = step_label(alloc, numbered.steps(), numbered.number(u as u64, v as u64))?;
+    let step = link_label(alloc, numbered, (u as u64, v as u64))?;
     let from = event_text(alloc, u)?;
     let to = event_text(alloc, v)?;
     format!(in alloc; "{step}: {from} to {to}\\l")
@@ -353,6 +316,20 @@ fn event_text(alloc: Global, n: usize) -> Result<String, AllocError>
     }
 }
 
+/// The first step that is an edge, by its number and rule: nothing where there is none.
+fn link_label(
+    alloc: Global,
+    numbered: &NumberedSteps<'_>,
+    link: (u64, u64),
+) -> Result<String, AllocError>
+    ensures { IfOk result (λ text. string_bytes text ≡ link_label numbered.now link) }
+{
+    match numbered.step(link.0, link.1) {
+        Some(step) => step_label(alloc, numbered.number(link.0, link.1), &step.reason),
+        None => Ok(String::new(alloc)),
+    }
+}
+
 /// Appends these edges of the cycle.
 fn push_links(
     alloc: Global,
@@ -360,7 +337,7 @@ fn push_links(
     placed: &PlacedTrace<'_>,
     numbered: &NumberedSteps<'_>,
     nodes: &[usize],
-    links: &[(usize, usize)],
+    links: &[(u64, u64)],
 ) -> Result<(), AllocError>
     ensures { OnOk result (string_bytes text.new ≡ string_bytes text.old ++ flat_map (cycle_edge_text placed.now numbered.now nodes.now) links.now) }
 {
@@ -377,14 +354,14 @@ fn push_link(
     placed: &PlacedTrace<'_>,
     numbered: &NumberedSteps<'_>,
     nodes: &[usize],
-    link: (usize, usize),
+    link: (u64, u64),
 ) -> Result<(), AllocError>
     ensures { OnOk result (string_bytes text.new ≡ string_bytes text.old ++ cycle_edge_text placed.now numbered.now nodes.now link) }
 {
-    if !are_nodes(nodes, link.0, link.1) {
+    let ends = (link.0 as usize, link.1 as usize);
+    if !are_nodes(nodes, ends.0, ends.1) {
         return Ok(());
     }
-    let number = numbered.number(link.0 as u64, link.1 as u64);
-    let label = step_label(alloc, numbered.steps(), number)?;
-    push_labelled(alloc, text, placed, RED_MARKS, &label, link)
+    let label = link_label(alloc, numbered, link)?;
+    push_labelled(alloc, text, placed, RED_MARKS, &label, ends)
 }

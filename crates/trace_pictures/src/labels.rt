@@ -1,23 +1,23 @@
 //! What stands at nodes and edges, and how far apart processors are.
-ghost use Rattle.std.specs.Prelude.{◌≡◌, ◌+◌, ◌*◌, ◌^◌, ◌<◌, string_bytes, IfOk};
-ghost use Rattle.trace_pictures.specs.Labels.{column_width, event_label, longest_label, rule_name, step_label};
+ghost use Rattle.std.specs.Prelude.{◌≡◌, ◌+◌, ◌*◌, ◌^◌, ◌<◌, length, max, string_bytes, IfOk};
+ghost use Rattle.std.specs.List.{fold};
+ghost use Rattle.trace_pictures.specs.Labels.{column_width, event_label, rule_name, step_label};
 
 use crate::placed::PlacedTrace;
 use std::alloc::{AllocError, Global};
 use trace_explanation::{outcome_text, part_text};
-use tso_cert::{CertStep, Reason};
-use tso_ops::EventOperation;
+use tso_cert::Reason;
 
-/// The label of event `n`, by its operation: nothing where it has none. OutOfMemory where an allocation was refused.
+/// The label of event `n`: nothing where there is no such event. OutOfMemory where an allocation was refused.
 #[tactic(auto, unfolding(crate::specs::Labels::event_label))]
 pub(crate) fn event_label(
     alloc: Global,
+    placed: &PlacedTrace<'_>,
     n: usize,
-    operation: Option<EventOperation>,
 ) -> Result<String, AllocError>
-    ensures { IfOk result (λ text. string_bytes text ≡ event_label n operation) }
+    ensures { IfOk result (λ text. string_bytes text ≡ event_label placed.now n) }
 {
-    match operation {
+    match placed.operation(n) {
         Some(operation) => {
             let said = outcome_text(alloc, operation.outcome)?;
             let part = part_text(operation.part);
@@ -46,11 +46,11 @@ fn longest_label(
     placed: &PlacedTrace<'_>,
     drawn: &[usize],
 ) -> Result<usize, AllocError>
-    ensures { IfOk result (λ longest. longest ≡ longest_label placed.now drawn.now) }
+    ensures { IfOk result (λ longest. longest ≡ fold (λ longest n. max longest (length (event_label placed.now n))) 0 drawn.now) }
 {
     let mut longest = 0;
     for n in drawn {
-        let label = event_label(alloc, *n, placed.operation(*n))?;
+        let label = event_label(alloc, placed, *n)?;
         if label.len() > longest {
             longest = label.len();
         }
@@ -58,26 +58,16 @@ fn longest_label(
     Ok(longest)
 }
 
-/// The step of this number by its number and rule: nothing where there is no such step. OutOfMemory where an allocation was
-/// refused.
-#[tactic(auto, unfolding(crate::specs::Labels::step_label))]
+/// A step by its number and rule. OutOfMemory where an allocation was refused.
 pub(crate) fn step_label(
     alloc: Global,
-    steps: &[CertStep],
     number: usize,
+    reason: &Reason,
 ) -> Result<String, AllocError>
-    ensures { IfOk result (λ text. string_bytes text ≡ step_label steps.now number) }
+    ensures { IfOk result (λ text. string_bytes text ≡ step_label number reason.now) }
 {
-    if number == 0 {
-        return Ok(String::new(alloc));
-    }
-    match steps.get(number - 1) {
-        Some(step) => {
-            let rule = rule_name(&step.reason);
-            format!(in alloc; "{number} {rule}")
-        },
-        None => Ok(String::new(alloc)),
-    }
+    let rule = rule_name(reason);
+    format!(in alloc; "{number} {rule}")
 }
 
 /// The rule of a step.

@@ -3,7 +3,8 @@ ghost use Rattle.std.specs.Prelude.{◌≡◌, ◌<◌, ◌≤◌, ℕ, Option, 
 ghost use Rattle.tso_ops.specs.Values.{TraceValue};
 ghost use Rattle.tso_ops.specs.Events.{event_total};
 ghost use Rattle.tso_cert.specs.declared.steps.Certificate.{Certificate};
-ghost use Rattle.trace_pictures.specs.Choice.{drawn_events, is_among};
+ghost use Rattle.trace_explanation.specs.Steps.{is_among};
+ghost use Rattle.trace_pictures.specs.Choice.{drawn_events};
 
 /// A picture draws at most 100 events.
 pub fn pictures_are_small()

@@ -1,7 +1,7 @@
 //! Pictures of traces: the text of a picture, in the language of Graphviz, that shows what each processor did, which load
 //! read which store, and why a trace is a violation.
 //!
-//! `draw` writes it by the trace and its certificate; `AsPicture` is the rendering for `tso_report::present`. `README.md`
+//! `draw` writes it by the trace and its certificate; `AsPicture` is the rendering for `trace_judging::present`. `README.md`
 //! says what is proved.
 #![tactic(auto)]
 

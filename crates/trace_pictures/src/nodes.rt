@@ -1,8 +1,11 @@
 //! The nodes of a picture, and the edges from each to the one below it.
-ghost use Rattle.std.specs.Prelude.{◌≡◌, ◌++◌, ◌+◌, ◌*◌, ◌^◌, ◌<◌, ◌≤◌, ℕ, string_bytes, IfOk, OnOk};
+ghost use Rattle.std.specs.Prelude.{◌≡◌, ◌++◌, ◌+◌, ◌*◌, ◌%◌, ◌^◌, ◌<◌, ◌≤◌, ◌&&◌, ℕ, [], codes, cond, false, not, string_bytes, IfOk, OnOk};
+ghost use Rattle.std.specs.Fmt.{decimal};
+ghost use Rattle.std.specs.List.{flat_map, range_with_len};
+ghost use Rattle.std.specs.Option.{option_map_or};
 ghost use Rattle.tso_ops.specs.Events.{processor_count};
-ghost use Rattle.trace_pictures.specs.Labels.{event_label};
-ghost use Rattle.trace_pictures.specs.Nodes.{close_mark, down_text, first_height, first_mark, first_values_node, first_values_text, head_name, processor_head_text, is_close, is_swap_store, node_text, processor_text, processors_text, red_mark, row_label, row_marks, row_name, row_step, rows_text, stores_swap};
+ghost use Rattle.trace_explanation.specs.Steps.{is_number};
+ghost use Rattle.trace_pictures.specs.Nodes.{down_text, first_values_text, is_close, node_text, processor_text, row_label, row_marks, row_name, row_step, rows_text};
 
 use crate::labels::event_label;
 use crate::members::is_among;
@@ -11,7 +14,7 @@ use crate::rows::{Row, rows_of};
 use std::alloc::{AllocError, Global};
 use std::fmt::Write;
 use trace_explanation::{outcome_text, source_of};
-use tso_ops::{EventOperation, Part};
+use tso_ops::Event;
 
 /// A processor and where its column stands, in points.
 #[derive(Clone, Copy, Debug)]
@@ -21,6 +24,7 @@ pub(crate) struct Column {
 }
 
 /// Appends the node of the first values, where the cycle has them.
+#[tactic(auto, unfolding(crate::specs::Nodes::first_values_text))]
 pub(crate) fn push_first_values(
     text: &mut String,
     width: u128,
@@ -32,21 +36,14 @@ pub(crate) fn push_first_values(
     ensures { OnOk result (string_bytes text.new ≡ string_bytes text.old ++ first_values_text width processors cycle.now) }
 {
     if is_among(0, cycle) {
-        push_first_values_node(text, width * processors.saturating_sub(1) as u128 / 2)
+        let x = width * processors.saturating_sub(1) as u128 / 2;
+        write!(
+            text,
+            "  init [label=\"first values\", shape=ellipse, pos=\"{x},0!\", color=\"#c00000\", penwidth=2];\n"
+        )
     } else {
         Ok(())
     }
-}
-
-/// Appends the node of the first values at a place.
-#[tactic(auto, unfolding(crate::specs::Nodes::first_values_node))]
-fn push_first_values_node(text: &mut String, x: u128) -> Result<(), AllocError>
-    ensures { OnOk result (string_bytes text.new ≡ string_bytes text.old ++ first_values_node x) }
-{
-    write!(
-        text,
-        "  init [label=\"first values\", shape=ellipse, pos=\"{x},0!\", color=\"#c00000\", penwidth=2];\n"
-    )
 }
 
 /// Appends the nodes of all processors, of which these events are drawn and these numbers are red. OutOfMemory where an
@@ -60,7 +57,7 @@ pub(crate) fn push_processors(
     width: u128,
 ) -> Result<(), AllocError>
     requires { width < 2 ^ 70 }
-    ensures { OnOk result (string_bytes text.new ≡ string_bytes text.old ++ processors_text placed.now drawn.now red.now width (processor_count placed.now)) }
+    ensures { OnOk result (string_bytes text.new ≡ string_bytes text.old ++ flat_map (processor_text placed.now drawn.now red.now width) (range_with_len 0 (processor_count placed.now))) }
 {
     let mut x = 0;
     for proc in 0..placed.trace().processors() {
@@ -84,21 +81,13 @@ fn push_processor(
     ensures { (width : ℕ) → column.x ≡ width * column.proc → OnOk result (string_bytes text.new ≡ string_bytes text.old ++ processor_text placed.now drawn.now red.now width column.proc) }
 {
     let rows = rows_of(alloc, placed, drawn, column.proc)?;
-    push_head(text, column)?;
-    push_rows(alloc, text, placed, red, column, &rows)
-}
-
-/// Appends a processor's head.
-#[tactic(auto, unfolding(crate::specs::Nodes::processor_head_text))]
-fn push_head(text: &mut String, column: Column) -> Result<(), AllocError>
-    ensures { OnOk result (string_bytes text.new ≡ string_bytes text.old ++ processor_head_text column.proc column.x) }
-{
     let proc = column.proc;
     let x = column.x;
     write!(
         text,
         "  p{proc} [label=\"P{proc}\", shape=plaintext, fontsize=14, pos=\"{x},-70!\"];\n"
-    )
+    )?;
+    push_rows(alloc, text, placed, red, column, &rows)
 }
 
 /// Appends these rows of a processor, below its head.
@@ -110,23 +99,26 @@ fn push_rows(
     column: Column,
     rows: &[Row],
 ) -> Result<(), AllocError>
-    ensures { OnOk result (string_bytes text.new ≡ string_bytes text.old ++ rows_text placed.now red.now column.proc column.x (first_height column.proc) (head_name column.proc) rows.now) }
+    ensures { OnOk result (string_bytes text.new ≡ string_bytes text.old ++ rows_text placed.now red.now column.proc column.x (70 + 26 * (column.proc % 2)) (codes "p" ++ decimal column.proc) rows.now) }
 {
     let mut y = first_height(column.proc);
     let mut above = head_name(alloc, column.proc)?;
     for row in rows {
-        let look = look_of(alloc, placed, red, column.proc, *row)?;
-        y += row_step(look.close);
-        push_node(text, &look, column.x, y)?;
-        push_down(text, &above, &look)?;
-        above = look.name;
+        let name = row_name(alloc, column.proc, *row)?;
+        let label = row_label(alloc, placed, *row)?;
+        let marks = row_marks(alloc, placed, red, *row)?;
+        let close = is_close(placed, *row);
+        y += row_step(close);
+        push_node(text, &name, &label, &marks, column.x, y)?;
+        push_down(text, &above, &name, close)?;
+        above = name;
     }
     Ok(())
 }
 
 /// The height of a processor's head: of every second one's rows it is as if the head stood lower.
 fn first_height(proc: usize) -> u128
-    ensures is { result ≡ first_height proc }
+    ensures is { result ≡ 70 + 26 * (proc % 2) }
     ensures most { result ≤ 96 }
 {
     70 + 26 * (proc % 2) as u128
@@ -142,39 +134,9 @@ fn row_step(close: bool) -> u128
 
 /// The name of a processor's head.
 fn head_name(alloc: Global, proc: usize) -> Result<String, AllocError>
-    ensures { IfOk result (λ text. string_bytes text ≡ head_name proc) }
+    ensures { IfOk result (λ text. string_bytes text ≡ codes "p" ++ decimal proc) }
 {
     format!(in alloc; "p{proc}")
-}
-
-/// What a row is called, what it says and looks like, and whether it stands close below the row above it.
-#[derive(Debug, Drop)]
-struct Look {
-    name: String,
-    label: String,
-    marks: String,
-    close: bool,
-}
-
-/// The look of a row of processor `p`, where these numbers are red.
-fn look_of(
-    alloc: Global,
-    placed: &PlacedTrace<'_>,
-    red: &[usize],
-    p: usize,
-    row: Row,
-) -> Result<Look, AllocError>
-    ensures name { IfOk result (λ look. string_bytes look.name ≡ row_name p row) }
-    ensures label { IfOk result (λ look. string_bytes look.label ≡ row_label placed.now row) }
-    ensures marks { IfOk result (λ look. string_bytes look.marks ≡ row_marks placed.now red.now row) }
-    ensures close { IfOk result (λ look. look.close ≡ is_close placed.now row) }
-{
-    Ok(Look {
-        name: row_name(alloc, p, row)?,
-        label: row_label(alloc, placed, row)?,
-        marks: row_marks(alloc, placed, red, row)?,
-        close: is_close(placed, row),
-    })
 }
 
 /// The name of a row of processor `p`.
@@ -195,7 +157,7 @@ fn row_label(alloc: Global, placed: &PlacedTrace<'_>, row: Row) -> Result<String
     ensures { IfOk result (λ text. string_bytes text ≡ row_label placed.now row) }
 {
     match row {
-        Row::Event(n) => event_label(alloc, n, placed.operation(n)),
+        Row::Event(n) => event_label(alloc, placed, n),
         Row::Barrier { outcome, .. } => outcome_text(alloc, outcome),
         Row::Gap { count, .. } => format!(in alloc; "{count} more"),
     }
@@ -229,7 +191,7 @@ fn row_marks(
 
 /// The mark of a load with this source that read the first value of its address.
 fn first_mark(source: Option<usize>) -> &'static str
-    ensures { result.now ≡ first_mark source }
+    ensures { result.now ≡ cond (is_number 0 source) (codes ", fillcolor=\"#d8e6f8\"") [] }
 {
     match source {
         Some(0) => ", fillcolor=\"#d8e6f8\"",
@@ -239,7 +201,7 @@ fn first_mark(source: Option<usize>) -> &'static str
 
 /// The mark of a red border.
 fn red_mark(red: bool) -> &'static str
-    ensures { result.now ≡ red_mark red }
+    ensures { result.now ≡ cond red (codes ", color=\"#c00000\", penwidth=2") [] }
 {
     if red {
         ", color=\"#c00000\", penwidth=2"
@@ -253,61 +215,54 @@ fn is_close(placed: &PlacedTrace<'_>, row: Row) -> bool
     ensures { result ≡ is_close placed.now row }
 {
     match row {
-        Row::Event(n) => stores_swap(placed.operation(n)),
+        Row::Event(n) => stores_swap(placed.trace().event(n)),
         Row::Barrier { .. } | Row::Gap { .. } => false,
     }
 }
 
-/// Whether the event is the store of a swap, by its operation.
-fn stores_swap(operation: Option<EventOperation>) -> bool
-    ensures { result ≡ stores_swap operation }
+/// Whether the event is the store of a swap.
+fn stores_swap(event: Option<Event>) -> bool
+    ensures { result ≡ option_map_or (λ e. e.swap && not e.load) event false }
 {
-    match operation {
-        Some(operation) => is_swap_store(operation.part),
+    match event {
+        Some(event) => event.swap && !event.load,
         None => false,
     }
 }
 
-/// Whether the event is the store of a swap.
-fn is_swap_store(part: Part) -> bool
-    ensures { result ≡ is_swap_store part }
-{
-    match part {
-        Part::Whole | Part::SwapLoad => false,
-        Part::SwapStore => true,
-    }
-}
-
-/// Appends the node of a row at a place.
+/// Appends the node of this name, label and marks at a place.
 #[tactic(auto, unfolding(crate::specs::Nodes::node_text))]
-fn push_node(text: &mut String, look: &Look, x: u128, y: u128) -> Result<(), AllocError>
-    ensures { OnOk result (string_bytes text.new ≡ string_bytes text.old ++ node_text (string_bytes look.now.name) (string_bytes look.now.label) (string_bytes look.now.marks) x y) }
+fn push_node(
+    text: &mut String,
+    name: &str,
+    label: &str,
+    marks: &str,
+    x: u128,
+    y: u128,
+) -> Result<(), AllocError>
+    ensures { OnOk result (string_bytes text.new ≡ string_bytes text.old ++ node_text name.now label.now marks.now x y) }
 {
-    let name = &look.name;
-    let label = &look.label;
-    let marks = &look.marks;
     write!(
         text,
         "  {name} [label=\"{label}\", pos=\"{x},-{y}!\"{marks}];\n"
     )
 }
 
-/// Appends the edge from the node above to a row's node.
+/// Appends the edge from the node above to the node of this name.
 #[tactic(auto, unfolding(crate::specs::Nodes::down_text))]
-fn push_down(text: &mut String, above: &str, look: &Look) -> Result<(), AllocError>
-    ensures { OnOk result (string_bytes text.new ≡ string_bytes text.old ++ down_text above.now (string_bytes look.now.name) look.now.close) }
+fn push_down(text: &mut String, above: &str, name: &str, close: bool) -> Result<(), AllocError>
+    ensures { OnOk result (string_bytes text.new ≡ string_bytes text.old ++ down_text above.now name.now close) }
 {
-    let name = &look.name;
-    let close = close_mark(look.close);
+    let mark = close_mark(close);
     write!(
         text,
-        "  {above} -> {name} [color=\"#b0b0b0\", arrowhead=none{close}];\n"
+        "  {above} -> {name} [color=\"#b0b0b0\", arrowhead=none{mark}];\n"
     )
 }
 
 /// The mark of an edge within a swap.
 fn close_mark(close: bool) -> &'static str
-    ensures { result.now ≡ close_mark close }
+    ensures { result.now ≡ cond close (codes ", penwidth=50") [] }
 {
     if close { ", penwidth=50" } else { "" }
 }

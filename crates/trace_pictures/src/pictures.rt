@@ -73,9 +73,8 @@ fn push_nodes(
     ensures { OnOk result (string_bytes text.new ≡ string_bytes text.old ++ nodes_text placed.now certificate.now drawn.now) }
 {
     let trace = placed.trace();
-    let numbered = NumberedSteps::new(alloc, steps_in(certificate))?;
     let cycle = LinkedCycle::new(alloc, certificate)?;
-    let red = list_red(alloc, trace, certificate, &numbered, &cycle)?;
+    let red = list_red(alloc, trace, certificate)?;
     let width = column_width(alloc, placed, drawn)?;
     push_first_values(text, width, trace.processors(), cycle.numbers())?;
     push_processors(alloc, text, placed, drawn, &red, width)

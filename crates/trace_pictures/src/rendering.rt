@@ -18,7 +18,7 @@ impl Rendering for AsPicture {
 
     ghost refused = { refusal_shown };
 
-    fn trace_text(
+    fn text_of_trace(
         &self,
         alloc: Global,
         trace: &Trace,
@@ -29,13 +29,13 @@ impl Rendering for AsPicture {
         Ok(text)
     }
 
-    fn refusal_text(
+    fn text_of_refusal(
         &self,
         alloc: Global,
         input: &[u8],
         fault: TextFault,
     ) -> Result<String, OutOfMemory> {
-        AsReport.refusal_text(alloc, input, fault)
+        AsReport.text_of_refusal(alloc, input, fault)
     }
 
     ghost whole = { λ a b why. refl };

@@ -1,13 +1,19 @@
 //! The rows of a processor.
-ghost use Rattle.std.specs.Prelude.{◌≡◌, ◌++◌, ◌+◌, ◌<◌, ◌^◌, cond, slice_get, IfOk, OnOk, Some};
+ghost use Rattle.std.specs.Prelude.{◌≡◌, ◌++◌, ◌+◌, ◌<◌, ◌^◌, ◌==◌, ◌&&◌, ◌||◌, List, [], ◌∷◌, cond, false, nat_lt, IfOk, OnOk};
 ghost use Rattle.std.specs.List.{list_any};
-ghost use Rattle.tso_ops.specs.Events.{outcomes_at, processor_count};
-ghost use Rattle.tso_ops.specs.Operations.{operation_at};
-ghost use Rattle.trace_pictures.specs.Rows.{access_count, after_gap, barrier_rows, event_row, event_rows, gap_rows, is_between, membar_after, rows_by, rows_of, shows_barriers, stands_after, stands_at, stands_before, stbar_after};
+ghost use Rattle.std.specs.Str.{bytes_eq};
+ghost use Rattle.line_text.specs.Lines.{is_empty};
+ghost use Rattle.tso_ops.specs.declared.ops.Outcome.{Outcome};
+ghost use Rattle.tso_ops.specs.Values.{op_of};
+ghost use Rattle.tso_ops.specs.Events.{processor_count};
+ghost use Rattle.tso_ops.specs.Limits.{barrier_count};
+ghost use Rattle.trace_explanation.specs.Names.{outcome_text};
+ghost use Rattle.trace_pictures.specs.declared.rows.Row.TheVariants.{Barrier};
+ghost use Rattle.trace_pictures.specs.Rows.{event_rows, gap_rows, has_word, is_new_barrier, rows_of, shows_barriers, stands};
 
 use crate::placed::PlacedTrace;
 use std::alloc::{AllocError, Global};
-use tso_ops::{EventOperation, Outcome};
+use tso_ops::Outcome;
 
 /// A row of a processor.
 #[derive(Clone, Copy, Debug, PartialEq, Eq)]
@@ -46,55 +52,16 @@ pub(crate) fn rows_of(
         stbar: false,
     };
     for place in 0..ops.len() {
-        let here = rows_at(alloc, placed, drawn, p, place, barriers)?;
+        let mut here = event_rows(alloc, placed, drawn, p, place)?;
+        let no_events = here.is_empty();
+        let shows = shows_barriers(placed, drawn, p, place);
+        let new = is_new_barrier(barriers, ops[place]);
+        push_barrier(&mut here, shows, new, place, ops[place])?;
         push_after_gap(&mut rows, place, left_out, &here)?;
         left_out = left_out_after(left_out, here.is_empty(), ops[place]);
-        barriers = barriers_after(barriers, here.is_empty(), ops[place]);
+        barriers = barriers_after(barriers, no_events, ops[place]);
     }
     push_gap(&mut rows, ops.len(), left_out)?;
-    Ok(rows)
-}
-
-/// The rows of the operation at a place of processor `p`.
-fn rows_at(
-    alloc: Global,
-    placed: &PlacedTrace<'_>,
-    drawn: &[usize],
-    p: usize,
-    place: usize,
-    barriers: Barriers,
-) -> Result<Vec<Row>, AllocError>
-    requires { p < processor_count placed.now }
-    ensures { IfOk result (λ rows. rows.items ≡ rows_by (shows_barriers placed.now drawn.now p place) barriers.membar barriers.stbar (event_rows placed.now drawn.now p place) place (slice_get (outcomes_at placed.now p) place)) }
-{
-    match placed.trace().ops(p).get(place) {
-        None => Ok(Vec::new(alloc)),
-        Some(Outcome::Mb) => {
-            let shows = shows_barriers(placed, drawn, p, place);
-            barrier_rows(alloc, shows, barriers.membar, place, Outcome::Mb)
-        },
-        Some(Outcome::Sb) => {
-            let shows = shows_barriers(placed, drawn, p, place);
-            barrier_rows(alloc, shows, barriers.stbar, place, Outcome::Sb)
-        },
-        Some(_) => event_rows(alloc, placed, drawn, p, place),
-    }
-}
-
-/// The row of a barrier, if it is shown and not repeated.
-fn barrier_rows(
-    alloc: Global,
-    shows: bool,
-    repeated: bool,
-    place: usize,
-    outcome: Outcome,
-) -> Result<Vec<Row>, AllocError>
-    ensures { IfOk result (λ rows. rows.items ≡ barrier_rows shows repeated place outcome) }
-{
-    let mut rows = Vec::new(alloc);
-    if shows && !repeated {
-        rows.push(Row::Barrier { place, outcome })?;
-    }
     Ok(rows)
 }
 
@@ -110,33 +77,54 @@ fn event_rows(
 {
     let mut rows = Vec::new(alloc);
     for n in drawn {
-        if stands_at(p, place, placed.operation(*n)) {
+        if stands_at(placed, p, place, *n) {
             rows.push(Row::Event(*n))?;
         }
     }
     Ok(rows)
 }
 
+/// Pushes the row of a barrier, if barriers are shown and it is new.
+fn push_barrier(
+    rows: &mut Vec<Row>,
+    shows: bool,
+    new: bool,
+    place: usize,
+    outcome: Outcome,
+) -> Result<(), AllocError>
+    ensures { OnOk result (rows.new.items ≡ rows.old.items ++ cond (shows && new) (Barrier place outcome ∷ []) []) }
+{
+    if shows && new {
+        rows.push(Row::Barrier { place, outcome })?;
+    }
+    Ok(())
+}
+
+/// Whether the operation is a barrier, and none of these is one of its word.
+fn is_new_barrier(barriers: Barriers, outcome: Outcome) -> bool
+    ensures { (others : List Outcome) → barriers.membar ≡ has_word Outcome.Mb others → barriers.stbar ≡ has_word Outcome.Sb others → result ≡ is_new_barrier others outcome }
+{
+    match outcome {
+        Outcome::Mb => !barriers.membar,
+        Outcome::Sb => !barriers.stbar,
+        Outcome::Ld { .. } | Outcome::St { .. } | Outcome::Sw { .. } => false,
+    }
+}
+
 /// Whether barriers at a place of processor `p` have rows.
 fn shows_barriers(placed: &PlacedTrace<'_>, drawn: &[usize], p: usize, place: usize) -> bool
     ensures { result ≡ shows_barriers placed.now drawn.now p place }
 {
-    drawn.len() == placed.trace().events() || is_between(placed, drawn, p, place)
-}
-
-/// Whether drawn events of processor `p` stand before a place and after it.
-fn is_between(placed: &PlacedTrace<'_>, drawn: &[usize], p: usize, place: usize) -> bool
-    ensures { result ≡ is_between placed.now drawn.now p place }
-{
-    some_before(placed, drawn, p, place) && some_after(placed, drawn, p, place)
+    drawn.len() == placed.trace().events()
+        || (some_before(placed, drawn, p, place) && some_after(placed, drawn, p, place))
 }
 
 /// Whether a drawn event of processor `p` stands before a place.
 fn some_before(placed: &PlacedTrace<'_>, drawn: &[usize], p: usize, place: usize) -> bool
-    ensures { result ≡ list_any (λ n. stands_before p place (operation_at placed.now n)) drawn.now }
+    ensures { result ≡ list_any (stands placed.now p (λ other. nat_lt other place)) drawn.now }
 {
     for n in drawn {
-        if stands_before(p, place, placed.operation(*n)) {
+        if stands_before(placed, p, place, *n) {
             return true;
         }
     }
@@ -145,41 +133,41 @@ fn some_before(placed: &PlacedTrace<'_>, drawn: &[usize], p: usize, place: usize
 
 /// Whether a drawn event of processor `p` stands after a place.
 fn some_after(placed: &PlacedTrace<'_>, drawn: &[usize], p: usize, place: usize) -> bool
-    ensures { result ≡ list_any (λ n. stands_after p place (operation_at placed.now n)) drawn.now }
+    ensures { result ≡ list_any (stands placed.now p (λ other. nat_lt place other)) drawn.now }
 {
     for n in drawn {
-        if stands_after(p, place, placed.operation(*n)) {
+        if stands_after(placed, p, place, *n) {
             return true;
         }
     }
     false
 }
 
-/// Whether the operation stands at a place of processor `p`.
-fn stands_at(p: usize, place: usize, operation: Option<EventOperation>) -> bool
-    ensures { result ≡ stands_at p place operation }
+/// Whether event `n` stands at a place of processor `p`.
+fn stands_at(placed: &PlacedTrace<'_>, p: usize, place: usize, n: usize) -> bool
+    ensures { result ≡ stands placed.now p (λ other. other == place) n }
 {
-    match operation {
+    match placed.operation(n) {
         Some(operation) => operation.proc == p && operation.place == place,
         None => false,
     }
 }
 
-/// Whether the operation stands before a place of processor `p`.
-fn stands_before(p: usize, place: usize, operation: Option<EventOperation>) -> bool
-    ensures { result ≡ stands_before p place operation }
+/// Whether event `n` stands before a place of processor `p`.
+fn stands_before(placed: &PlacedTrace<'_>, p: usize, place: usize, n: usize) -> bool
+    ensures { result ≡ stands placed.now p (λ other. nat_lt other place) n }
 {
-    match operation {
+    match placed.operation(n) {
         Some(operation) => operation.proc == p && operation.place < place,
         None => false,
     }
 }
 
-/// Whether the operation stands after a place of processor `p`.
-fn stands_after(p: usize, place: usize, operation: Option<EventOperation>) -> bool
-    ensures { result ≡ stands_after p place operation }
+/// Whether event `n` stands after a place of processor `p`.
+fn stands_after(placed: &PlacedTrace<'_>, p: usize, place: usize, n: usize) -> bool
+    ensures { result ≡ stands placed.now p (λ other. nat_lt place other) n }
 {
-    match operation {
+    match placed.operation(n) {
         Some(operation) => operation.proc == p && place < operation.place,
         None => false,
     }
@@ -192,7 +180,7 @@ fn push_after_gap(
     left_out: usize,
     here: &[Row],
 ) -> Result<(), AllocError>
-    ensures { OnOk result (rows.new.items ≡ rows.old.items ++ after_gap place left_out here.now) }
+    ensures { OnOk result (rows.new.items ≡ rows.old.items ++ cond (is_empty here.now) [] (gap_rows place left_out ++ here.now)) }
 {
     if !here.is_empty() {
         push_gap(rows, place, left_out)?;
@@ -214,7 +202,7 @@ fn push_gap(rows: &mut Vec<Row>, place: usize, count: usize) -> Result<(), Alloc
 /// How many operations are left out after this one, which may have no rows.
 fn left_out_after(left_out: usize, no_rows: bool, outcome: Outcome) -> usize
     requires { left_out < 2 ^ 63 }
-    ensures { result ≡ cond no_rows (left_out + access_count (Some outcome)) 0 }
+    ensures { result ≡ cond no_rows (left_out + cond (barrier_count (op_of outcome) == 0) 1 0) 0 }
 {
     match outcome {
         _ if !no_rows => 0,
@@ -223,12 +211,17 @@ fn left_out_after(left_out: usize, no_rows: bool, outcome: Outcome) -> usize
     }
 }
 
-/// Which barriers stand before the place after this operation, which may have no rows.
-fn barriers_after(barriers: Barriers, no_rows: bool, outcome: Outcome) -> Barriers
-    ensures membar { result.membar ≡ membar_after barriers.membar no_rows (Some outcome) }
-    ensures stbar { result.stbar ≡ stbar_after barriers.stbar no_rows (Some outcome) }
+/// Which barriers stand before the place after this operation, whose place may have no drawn event.
+#[tactic(auto, unfolding(trace_explanation::specs::Names::outcome_text))]
+fn barriers_after(barriers: Barriers, no_events: bool, outcome: Outcome) -> Barriers
+    ensures membar { result.membar ≡ cond no_events (barriers.membar || bytes_eq (outcome_text outcome) (outcome_text Outcome.Mb)) false }
+    ensures stbar { result.stbar ≡ cond no_events (barriers.stbar || bytes_eq (outcome_text outcome) (outcome_text Outcome.Sb)) false }
 {
     match outcome {
+        _ if !no_events => Barriers {
+            membar: false,
+            stbar: false,
+        },
         Outcome::Mb => Barriers {
             membar: true,
             ..barriers
@@ -237,9 +230,6 @@ fn barriers_after(barriers: Barriers, no_rows: bool, outcome: Outcome) -> Barrie
             stbar: true,
             ..barriers
         },
-        _ => Barriers {
-            membar: barriers.membar && no_rows,
-            stbar: barriers.stbar && no_rows,
-        },
+        _ => barriers,
     }
 }

@@ -1,11 +1,11 @@
 //! Which events are wanted in a picture, the most wanted first.
-ghost use Rattle.std.specs.Prelude.{◌≡◌, ◌++◌, ◌∷◌, Some, length, slice_get, take, IfOk, OnOk};
+ghost use Rattle.std.specs.Prelude.{◌≡◌, ◌++◌, ◌∷◌, reverse, take, IfOk, OnOk};
 ghost use Rattle.std.specs.List.{flat_map};
-ghost use Rattle.tso_ops.specs.Events.{event_at, event_total};
-ghost use Rattle.trace_explanation.specs.Explanations.{stores_up_to};
-ghost use Rattle.trace_explanation.specs.Names.{address_in};
 ghost use Rattle.std.specs.Option.{option_to_list};
-ghost use Rattle.trace_pictures.specs.Choice.{step_numbers, steps_numbers, verdict_numbers, wanted, with_source};
+ghost use Rattle.trace_explanation.specs.Explanations.{stores_to};
+ghost use Rattle.trace_explanation.specs.Names.{address_at};
+ghost use Rattle.trace_explanation.specs.Steps.{step_numbers};
+ghost use Rattle.trace_pictures.specs.Choice.{verdict_numbers, wanted};
 
 use std::alloc::{AllocError, Global};
 use trace_explanation::{address_of, first_of, list_stores, source_of, step_load};
@@ -24,19 +24,8 @@ pub(crate) fn list_wanted(
     ensures { IfOk result (λ numbers. numbers.items ≡ wanted trace.now certificate.now) }
 {
     let numbers = list_verdict(alloc, trace, certificate)?;
-    list_with_sources(alloc, trace, &numbers)
-}
-
-/// Each of these numbers, before its source if it is a load that has one.
-fn list_with_sources(
-    alloc: Global,
-    trace: &Trace,
-    numbers: &[usize],
-) -> Result<Vec<usize>, AllocError>
-    ensures { IfOk result (λ wanted. wanted.items ≡ flat_map (with_source trace.now) numbers.now) }
-{
     let mut wanted = Vec::new(alloc);
-    for n in numbers {
+    for n in &numbers {
         wanted.push(*n)?;
         push_listed(&mut wanted, source_of(trace, *n))?;
     }
@@ -67,7 +56,7 @@ fn list_verdict(
         Some(Certificate::Unwritten(n)) => list_unwritten(alloc, trace, *n as usize),
         Some(Certificate::Cycle { steps, cycle }) => {
             let mut numbers = list_cycle(alloc, cycle.items())?;
-            push_steps(alloc, &mut numbers, trace, steps.items())?;
+            push_steps(&mut numbers, trace, steps.items())?;
             Ok(numbers)
         },
     }
@@ -75,7 +64,7 @@ fn list_verdict(
 
 /// An unwritten load, and the first stores to its address.
 fn list_unwritten(alloc: Global, trace: &Trace, n: usize) -> Result<Vec<usize>, AllocError>
-    ensures { IfOk result (λ numbers. numbers.items ≡ n ∷ take 16 (stores_up_to trace.now (address_in (event_at trace.now n)) (event_total trace.now))) }
+    ensures { IfOk result (λ numbers. numbers.items ≡ n ∷ take 16 (stores_to trace.now (address_at trace.now n))) }
 {
     let stores = list_stores(alloc, trace, address_of(trace, n))?;
     let mut numbers = Vec::new(alloc);
@@ -96,47 +85,21 @@ pub(crate) fn list_cycle(alloc: Global, cycle: &[u64]) -> Result<Vec<usize>, All
 }
 
 /// Pushes the ends and the loads of the steps, those of the last step first.
-fn push_steps(
-    alloc: Global,
-    numbers: &mut Vec<usize>,
-    trace: &Trace,
-    steps: &[CertStep],
-) -> Result<(), AllocError>
-    ensures { OnOk result (numbers.new.items ≡ numbers.old.items ++ steps_numbers trace.now steps.now (length steps.now)) }
+fn push_steps(numbers: &mut Vec<usize>, trace: &Trace, steps: &[CertStep]) -> Result<(), AllocError>
+    ensures { OnOk result (numbers.new.items ≡ numbers.old.items ++ flat_map (step_numbers trace.now) (reverse steps.now)) }
 {
     for done in 0..steps.len() {
         let k = steps.len() - 1 - done;
-        push_step(alloc, numbers, trace, steps, k)?;
+        push_step(numbers, trace, &steps[k])?;
     }
     Ok(())
 }
 
-/// Pushes the ends and the load of the step at this place.
-fn push_step(
-    alloc: Global,
-    numbers: &mut Vec<usize>,
-    trace: &Trace,
-    steps: &[CertStep],
-    k: usize,
-) -> Result<(), AllocError>
-    ensures { OnOk result (numbers.new.items ≡ numbers.old.items ++ step_numbers trace.now (slice_get steps.now k)) }
+/// Pushes the ends and the load of a step.
+fn push_step(numbers: &mut Vec<usize>, trace: &Trace, step: &CertStep) -> Result<(), AllocError>
+    ensures { OnOk result (numbers.new.items ≡ numbers.old.items ++ step_numbers trace.now step.now) }
 {
-    match steps.get(k) {
-        Some(step) => {
-            let named = list_step(alloc, trace, step)?;
-            numbers.extend_from_slice(&named)
-        },
-        None => Ok(()),
-    }
-}
-
-/// The ends and the load of a step.
-fn list_step(alloc: Global, trace: &Trace, step: &CertStep) -> Result<Vec<usize>, AllocError>
-    ensures { IfOk result (λ numbers. numbers.items ≡ step_numbers trace.now (Some step.now)) }
-{
-    let mut numbers = Vec::new(alloc);
     numbers.push(step.from as usize)?;
     numbers.push(step.to as usize)?;
-    push_listed(&mut numbers, step_load(trace, step))?;
-    Ok(numbers)
+    push_listed(numbers, step_load(trace, step))
 }

@@ -1,1 +1,2 @@
+pub mod ReadingFacts
 pub mod RenderingFacts

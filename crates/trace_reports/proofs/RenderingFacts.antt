@@ -1,13 +1,14 @@
 -- Lemmas on texts that follow from what is found of a trace, or from the refusal of an input, and on the report as one of them.
-use Rattle.std.proofs.Common.{◌≡◌, ◌⊎◌, ◌↔◌, ℕ, List, ◌++◌, Bool, true, false, Some, None, refl, ap, sym, subst, ◌∙◌, inl, inr, ⊎_elim}
+use Rattle.std.proofs.Common.{◌≡◌, ◌⊎◌, ◌↔◌, ℕ, List, Bool, true, false, Some, None, refl, ap, sym, subst, ◌∙◌, inl, inr, ⊎_elim}
 use Rattle.std.proofs.lemmas.Bool.{false≢true}
 use Rattle.std.specs.Prelude.{Option, MatchOption}
+use Rattle.std.specs.Option.{option_map_or}
 use Rattle.tso_ops.specs.Limits.{IsTrace}
 use Rattle.tso_ops.specs.Values.{TraceValue}
-use Rattle.tso_ops.specs.Events.{processor_count, event_total, IsUnwritten}
+use Rattle.tso_ops.specs.Events.{IsUnwritten}
 use Rattle.tso_ops.proofs.NumberFacts.{HasOwnValues, own_values}
 use Rattle.tso_text.specs.Texts.{SpellsTrace}
-use Rattle.tso_text.specs.Refusals.{IsRefusedTrace, IsTraceRefusal}
+use Rattle.tso_text.specs.Refusals.{IsRefusedTrace}
 use Rattle.tso_text.proofs.TextLaws.{trace_laws}
 use Rattle.tso_cert.specs.declared.steps.Certificate.{Certificate}
 use Rattle.order_paths.proofs.Decisions.{Decision-either}
@@ -26,8 +27,8 @@ use Rattle.trace_reports.specs.declared.findings.Finding.{Finding}
 use Rattle.trace_reports.specs.declared.verdicts.Verdict.{Verdict}
 use Rattle.trace_reports.specs.declared.verdicts.Verdict.TheVariants.{NoViolation, Violation, Refused}
 use Rattle.trace_reports.specs.Findings.{IsFinding}
-use Rattle.trace_reports.specs.Renderings.{IsTextOfInput, IsTextOfRefusal, IsTextOfTrace, SaidOfRefusal, SaidOfTrace, verdict_by}
-use Rattle.trace_reports.specs.Reports.{head_text, verdict_lines, IsReport, IsTraceReport, ShowsNoViolationOf, ShowsViolation, ShowsViolationOf, SpellsViolation}
+use Rattle.trace_reports.specs.Renderings.{IsTextOfInput, IsTextOfRefusal, IsTextOfTrace, SaidOfRefusal, SaidOfTrace}
+use Rattle.trace_reports.specs.Reports.{reported, IsReport, IsTraceReport, ShowsNoViolationOf, ShowsViolationOf, SpellsViolation}
 use Rattle.trace_reports.specs.Violations.{IsViolation}
 
 -- ---- what is found
@@ -42,11 +43,10 @@ one_certificate t own None (Some d) p q = absurd (p (certificate_cause t d q))
 one_certificate t own (Some c) None p q = absurd (q (certificate_cause t c p))
 one_certificate t own (Some c) (Some d) p q = ap Some (certificate_unique t own c d p q)
 
-finding_by : ℕ → Option Certificate → Finding
+abbrev finding_by : ℕ → Option Certificate → Finding
 finding_by rounds certificate = record { rounds = rounds; certificate = certificate }
 
 one_finding : (t : TraceValue) → HasOwnValues t → (f g : Finding) → IsFinding t f → IsFinding t g → f ≡ g
-unfolding finding_by
 one_finding t own f g p q =
     ap (λ rounds. finding_by rounds f.certificate) (rounds_unique t f.rounds g.rounds p.rounds q.rounds) ∙ ap (finding_by g.rounds) (one_certificate t own f.certificate g.certificate p.certificate q.certificate)
 
@@ -59,6 +59,10 @@ some_finding t =
     ]
 
 -- ---- verdicts
+
+-- the verdict that a certificate stands for, or none
+abbrev verdict_by : Option Certificate → Verdict
+verdict_by c = option_map_or (λ _. Violation) c NoViolation
 
 is_violation : Verdict → Bool
 is_violation NoViolation = false
@@ -186,20 +190,14 @@ module _ (said : SaidOfTrace) (refused : SaidOfRefusal) where
 pub shows_violation_of : (t : TraceValue) (text : List ℕ) (v : Verdict) → IsTraceReport t text v → v ≡ Violation → ShowsViolationOf t text
 shows_violation_of t text v report e =
     let some = some_certificate report.finding.certificate (sym report.says ∙ e) in
-    let head = head_text (processor_count t) (event_total t) report.finding.rounds in
-    record {
-      rounds = report.finding.rounds;
-      certificate = some.0;
-      holds = certificate_holds t some.0 (subst (IsFoundOf t) some.1 report.found.certificate);
-      whole = report.whole ∙ ap (λ certificate. head ++ verdict_lines certificate) some.1;
-    }
+    let holds = certificate_holds t some.0 (subst (IsFoundOf t) some.1 report.found.certificate) in
+    (report.finding.rounds, some.0, holds, report.whole ∙ ap (λ c. reported t (finding_by report.finding.rounds c)) some.1)
 
 -- the last line of a report without a violation is NO VIOLATION FOUND
 pub shows_no_violation_of : (t : TraceValue) (text : List ℕ) (v : Verdict) → IsTraceReport t text v → v ≡ NoViolation → ShowsNoViolationOf t text
 shows_no_violation_of t text v report e =
-    let head = head_text (processor_count t) (event_total t) report.finding.rounds in
-    record { rounds = report.finding.rounds; whole = report.whole ∙ ap (λ certificate. head ++ verdict_lines certificate) (no_certificate report.finding.certificate (sym report.says ∙ e)) }
+    (report.finding.rounds, report.whole ∙ ap (λ c. reported t (finding_by report.finding.rounds c)) (no_certificate report.finding.certificate (sym report.says ∙ e)))
 
-pub shows_violation : (input text : List ℕ) (v : Verdict) → IsReport input text v → v ≡ Violation → ShowsViolation input text
+pub shows_violation : (input text : List ℕ) (v : Verdict) → IsReport input text v → v ≡ Violation → (t : TraceValue) × SpellsTrace input t × ShowsViolationOf t text
 shows_violation input text v (inl p) e = (p.0, p.1, shows_violation_of p.0 text v p.2 e)
 shows_violation input text v (inr p) e = absurd (refused_no_violation (sym p.4 ∙ e))

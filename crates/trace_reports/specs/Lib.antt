@@ -1,4 +1,5 @@
 pub mod Findings
+pub mod Readings
 pub mod Renderings
 pub mod Reports
 pub mod Violations

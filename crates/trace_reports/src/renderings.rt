@@ -1,10 +1,11 @@
 //! What is written of a trace, or of a text that is no trace: what all such texts have in common.
 ghost use Rattle.std.specs.Prelude.{◌≡◌, ◌≢◌, ◌↔◌, ℕ, List, string_bytes, IfOk, IsErr};
+ghost use Rattle.std.specs.Option.{option_map_or};
 ghost use Rattle.tso_text.specs.declared.faults.Why.{Why};
 ghost use Rattle.tso_model.specs.Axioms.{IsConsistent};
 ghost use Rattle.trace_reports.specs.declared.verdicts.Verdict.{Verdict};
 ghost use Rattle.trace_reports.specs.Findings.{IsFinding};
-ghost use Rattle.trace_reports.specs.Renderings.{IsTextOfTrace, SaidOfRefusal, SaidOfTrace, verdict_by};
+ghost use Rattle.trace_reports.specs.Renderings.{IsTextOfTrace, SaidOfRefusal, SaidOfTrace};
 ghost use Rattle.trace_reports.specs.Violations.{IsViolation};
 
 use crate::findings::Finding;
@@ -32,7 +33,7 @@ pub trait Rendering {
     ghost refused: { SaidOfRefusal };
 
     /// What is said of a trace, of which this was found. OutOfMemory where an allocation was refused.
-    fn trace_text(
+    fn text_of_trace(
         &self,
         alloc: Global,
         trace: &Trace,
@@ -41,7 +42,7 @@ pub trait Rendering {
         ensures { IfOk result (λ text. string_bytes text ≡ said trace.now finding.now) };
 
     /// What is said of a text that is refused for this fault. OutOfMemory where an allocation was refused.
-    fn refusal_text(
+    fn text_of_refusal(
         &self,
         alloc: Global,
         input: &[u8],
@@ -49,7 +50,7 @@ pub trait Rendering {
     ) -> Result<String, OutOfMemory>
         ensures { IfOk result (λ text. string_bytes text ≡ refused input.now fault.line fault.why) };
 
-    /// Of a text that is refused as a whole, nothing is shown.
+    /// What is said of a text that is refused as a whole, at line 0, is the same for all texts.
     ghost whole: { (a b : List ℕ) (why : Why) → refused a 0 why ≡ refused b 0 why };
 }
 
@@ -66,8 +67,9 @@ pub fn render<P: Rendering>(
     ensures violation { IfOk result (λ report. (report.verdict ≡ Verdict.Violation) ↔ IsViolation trace.now) }
     ensures no_order { IfOk result (λ report. report.verdict ≡ Verdict.Violation → IsConsistent trace.now → ⊥) }
 {
+    // Its clause `kept`, that the trace is within the limits of traces, is what `no_order` rests on.
     let _processors = trace.processors();
-    let text = rendering.trace_text(alloc, trace, finding)?;
+    let text = rendering.text_of_trace(alloc, trace, finding)?;
     Ok(Report {
         verdict: verdict_by(&finding.certificate),
         text,
@@ -90,13 +92,13 @@ pub fn render_refused<P: Rendering>(
     }
     Ok(Report {
         verdict: Verdict::Refused,
-        text: rendering.refusal_text(alloc, input, fault)?,
+        text: rendering.text_of_refusal(alloc, input, fault)?,
     })
 }
 
 /// The verdict by a trace's certificate, or where it has none.
 fn verdict_by(certificate: &Option<Certificate>) -> Verdict
-    ensures { result ≡ verdict_by certificate.now }
+    ensures { result ≡ option_map_or (λ _. Verdict.Violation) certificate.now Verdict.NoViolation }
 {
     match certificate {
         Some(_) => Verdict::Violation,

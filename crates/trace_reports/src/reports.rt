@@ -1,5 +1,6 @@
 //! The texts of reports on traces.
-ghost use Rattle.std.specs.Prelude.{◌≡◌, ◌≢◌, refl, string_bytes, IfOk, IsErr};
+ghost use Rattle.std.specs.Prelude.{◌≡◌, ◌≢◌, codes, refl, string_bytes, IfOk, IsErr};
+ghost use Rattle.std.specs.Option.{option_map_or};
 ghost use Rattle.tso_text.specs.declared.faults.Why.{Why};
 ghost use Rattle.trace_reports.specs.declared.verdicts.Verdict.{Verdict};
 ghost use Rattle.trace_reports.specs.Reports.{head_text, refusal_shown, refusal_text, reported};
@@ -7,8 +8,7 @@ ghost use Rattle.trace_reports.specs.Reports.{head_text, refusal_shown, refusal_
 use crate::findings::Finding;
 use crate::renderings::{Rendering, Report, render_refused};
 use std::alloc::Global;
-use std::fmt::Write;
-use tso_cert::print_cert;
+use tso_cert::{Certificate, print_cert};
 use tso_ops::{OutOfMemory, Trace};
 use tso_text::TextFault;
 
@@ -21,25 +21,21 @@ impl Rendering for AsReport {
 
     ghost refused = { refusal_shown };
 
-    fn trace_text(
+    fn text_of_trace(
         &self,
         alloc: Global,
         trace: &Trace,
         finding: &Finding,
     ) -> Result<String, OutOfMemory> {
-        let mut text = render_head(alloc, trace.processors(), trace.events(), finding.rounds)?;
-        match &finding.certificate {
-            Some(certificate) => {
-                let lines = print_cert(alloc, certificate)?;
-                text.push_str("VIOLATION\n")?;
-                text.push_str(&lines)?;
-            }
-            None => text.push_str("NO VIOLATION FOUND\n")?,
+        let mut text = render_head(alloc, trace, finding)?;
+        if let Some(certificate) = &finding.certificate {
+            let lines = print_cert(alloc, certificate)?;
+            text.push_str(&lines)?;
         }
         Ok(text)
     }
 
-    fn refusal_text(
+    fn text_of_refusal(
         &self,
         alloc: Global,
         _input: &[u8],
@@ -62,20 +58,27 @@ pub fn render_refusal(alloc: Global, fault: TextFault) -> Result<Report, OutOfMe
     render_refused(alloc, b"", fault, &AsReport)
 }
 
-/// The first two lines of a report on a trace, also of its explanation: how many processors and events it has, and its
-/// rounds number. OutOfMemory where an allocation was refused.
-pub fn render_head(
-    alloc: Global,
-    processors: usize,
-    events: usize,
-    rounds: u64,
-) -> Result<String, OutOfMemory>
-    ensures { IfOk result (λ text. string_bytes text ≡ head_text processors events rounds) }
+/// The first lines of a report on a trace, also of its explanation: how many processors and events it has, its rounds
+/// number, and the verdict. OutOfMemory where an allocation was refused.
+pub fn render_head(alloc: Global, trace: &Trace, finding: &Finding) -> Result<String, OutOfMemory>
+    ensures { IfOk result (λ text. string_bytes text ≡ head_text trace.now finding.now) }
 {
-    let mut text = String::from_str(alloc, "TSO REPORT 1\n")?;
-    writeln!(
-        text,
-        "processors {processors} events {events} rounds {rounds}"
+    let processors = trace.processors();
+    let events = trace.events();
+    let rounds = finding.rounds;
+    let mut text = format!(in alloc;
+        "TSO REPORT 1\nprocessors {processors} events {events} rounds {rounds}\n"
     )?;
+    text.push_str(verdict_line(&finding.certificate))?;
     Ok(text)
+}
+
+/// The line that says the verdict by a trace's certificate, or where it has none.
+fn verdict_line(certificate: &Option<Certificate>) -> &'static str
+    ensures { result.now ≡ option_map_or (λ _. codes "VIOLATION\n") certificate.now (codes "NO VIOLATION FOUND\n") }
+{
+    match certificate {
+        Some(_) => "VIOLATION\n",
+        None => "NO VIOLATION FOUND\n",
+    }
 }

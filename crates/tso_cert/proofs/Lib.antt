@@ -3,7 +3,5 @@ pub mod LineFacts
 pub mod TokenFacts
 pub mod PrintFacts
 pub mod PrintedFacts
-pub mod ReadersFacts
 pub mod SayingFacts
 pub mod SpellingFacts
-pub mod StepFacts

@@ -1,9 +1,11 @@
--- What a line says, and its faults: a line that says something is written in one way and has no fault; the fault of another is its first.
-use Rattle.std.proofs.Common.{◌≡◌, ℕ, suc, ◌<◌, Bool, true, false, not, ◌&&◌, eqb, ltb, List, [], ◌∷◌, length, Ok, Err, refl, ap, sym, ◌∙◌, subst, arith, ⊎_elim}
-use Rattle.std.specs.Prelude.{codes, All}
+-- What a line says, and its faults: a line that says something is written in one way and has no fault; another has one fault.
+use Rattle.std.proofs.Common.{◌≡◌, ℕ, suc, ◌<◌, Bool, true, false, ◌&&◌, eqb, List, [], ◌∷◌, length, Result, Ok, Err, refl, ap, sym, ◌∙◌, subst, arith, ⊎_elim}
+use Rattle.std.specs.Prelude.{codes, map, All, nat_le}
 use Rattle.std.specs.Fmt.{decimal}
 use Rattle.std.specs.Str.{bytes_eq}
+use Rattle.std.proofs.lemmas.Bool.{false≢true}
 use Rattle.std.proofs.lemmas.Bool.Decides.{nat_tests}
+use Rattle.std.proofs.lemmas.List.Elements.{All-nil, All-cons}
 use Rattle.std.proofs.lemmas.Slice.Eq.{bytes_eq-Decides}
 use Rattle.std.proofs.Math.Bool.{and-false}
 use Rattle.tso_cert.specs.declared.steps.CertStep.{CertStep}
@@ -14,58 +16,10 @@ use Rattle.tso_cert.specs.declared.lines.Line.TheVariants.{Step, Cycle, Unwritte
 use Rattle.tso_cert.specs.declared.faults.Why.{Why}
 use Rattle.tso_cert.specs.declared.faults.Why.TheVariants.{BadLine, BadNumber, BadRule, NoCycle, AfterCycle, OutOfMemory}
 use Rattle.tso_cert.specs.Printed.{event_text, reason_tokens, ReasonFits, step_tokens, cycle_tokens, unwritten_tokens, Fits, StepFits}
-use Rattle.tso_cert.specs.Spelling.{are_events, is_rule, is_last_line, is_bad_line, has_bad_number, has_bad_rule, cert_line_fault, cert_fault_number}
+use Rattle.tso_cert.specs.Spelling.{IsEventToken, is_last_line, has_form, HasStepNumbers, IsLineFault}
 use Rattle.line_text.specs.Results.{◌>>=◌}
-use Rattle.tso_cert.specs.Internal.LineValues.{event, events, reason_said, step_said, unwritten_said, cert_line_said, IsFirstCertFault}
-use Rattle.tso_cert.proofs.SayingFacts.{bind_ok, bind_err, cond_true, cond_false, cases, event_is, event_some, event_none, events_are, events_some, events_none, event-text, events-text, decimal_differs, reason_told, reason_refused, base_said, inferred_said}
-
--- ---- the faults of a line
-
--- a line has no fault but the first three
-no_fault : (k : ℕ) (ps : List (List ℕ)) → is_bad_line k ps ≡ false → has_bad_number k ps ≡ false → has_bad_rule ps ≡ false → (w : Why) → cert_line_fault k ps w ≡ false
-unfolding cert_line_fault
-no_fault k ps line number rule BadLine = line
-no_fault k ps line number rule BadNumber = number
-no_fault k ps line number rule BadRule = rule
-no_fault k ps line number rule NoCycle = refl
-no_fault k ps line number rule AfterCycle = refl
-no_fault k ps line number rule OutOfMemory = refl
-
-first_line : (k : ℕ) (ps : List (List ℕ)) → is_bad_line k ps ≡ true → IsFirstCertFault (cert_line_fault k ps) BadLine
-unfolding cert_line_fault
-first_line k ps line = record { fault = line; least = none }
-  where
-    none : (w : Why) → cert_fault_number w < 1 → cert_line_fault k ps w ≡ false
-    none BadLine less = absurd (omega arith)
-    none BadNumber less = absurd (omega arith)
-    none BadRule less = absurd (omega arith)
-    none NoCycle less = refl
-    none AfterCycle less = refl
-    none OutOfMemory less = refl
-
-first_number : (k : ℕ) (ps : List (List ℕ)) → is_bad_line k ps ≡ false → has_bad_number k ps ≡ true → IsFirstCertFault (cert_line_fault k ps) BadNumber
-unfolding cert_line_fault
-first_number k ps line number = record { fault = number; least = none }
-  where
-    none : (w : Why) → cert_fault_number w < 2 → cert_line_fault k ps w ≡ false
-    none BadLine less = line
-    none BadNumber less = absurd (omega arith)
-    none BadRule less = absurd (omega arith)
-    none NoCycle less = refl
-    none AfterCycle less = refl
-    none OutOfMemory less = refl
-
-first_rule : (k : ℕ) (ps : List (List ℕ)) → is_bad_line k ps ≡ false → has_bad_number k ps ≡ false → has_bad_rule ps ≡ true → IsFirstCertFault (cert_line_fault k ps) BadRule
-unfolding cert_line_fault
-first_rule k ps line number rule = record { fault = rule; least = none }
-  where
-    none : (w : Why) → cert_fault_number w < 3 → cert_line_fault k ps w ≡ false
-    none BadLine less = line
-    none BadNumber less = number
-    none BadRule less = absurd (omega arith)
-    none NoCycle less = refl
-    none AfterCycle less = refl
-    none OutOfMemory less = refl
+use Rattle.tso_cert.specs.Internal.LineValues.{event, events, reason_said, step_said, unwritten_said, cert_line_said}
+use Rattle.tso_cert.proofs.SayingFacts.{bind_ok, bind_err, cond_true, cond_false, cases, uncons, all_first, all_after, event_is, event_token, event_none, events_are, events_none, event-text, events-text, decimal_differs, reason_told, reason_refused, base_said, inferred_said}
 
 -- ---- what is said
 
@@ -87,48 +41,55 @@ LineFits k (Step s) = StepFits s
 LineFits k (Cycle ns) = All Fits ns
 LineFits k (Unwritten n) = Fits n × (k ≡ 1)
 
--- the tokens are those of the line, and have no fault
+-- the tokens are those of the line
 pub record Told (k : ℕ) (ps : List (List ℕ)) (l : Line) : Type 0 where
   pub says : ps ≡ line_tokens k l
   pub fits : LineFits k l
-  pub last : is_last_line ps ≡ ends l
-  pub faultless : (w : Why) → cert_line_fault k ps w ≡ false
+
+-- the first token is that of no last line
+abbrev NoWord : List ℕ → Type 0
+NoWord word = (bytes_eq word (codes "cycle") ≡ false) × (bytes_eq word (codes "unwritten") ≡ false)
+
+step_form : (k : ℕ) (word : List ℕ) (ps : List (List ℕ)) → NoWord word → (is_last_line (word ∷ ps) ≡ false) × (has_form k (word ∷ ps) ≡ nat_le 4 (suc (length ps)))
+step_form k word ps other = rw (other.0, other.1) (refl, refl)
+
+-- the tokens of a line have the numbers of a step
+pub step_has_form : (k : ℕ) (ps : List (List ℕ)) → HasStepNumbers k ps → (is_last_line ps ≡ false) × (has_form k ps ≡ true)
+step_has_form k [] has = absurd has
+step_has_form k (w ∷ []) has = absurd has
+step_has_form k (w ∷ p ∷ []) has = absurd has
+step_has_form k (w ∷ p ∷ q ∷ []) has = absurd has
+step_has_form k (w ∷ from ∷ to ∷ name ∷ ps) has =
+    let other : NoWord w = rw has.0 (decimal_differs k (codes "cycle") refl, decimal_differs k (codes "unwritten") refl) in
+    let high : nat_le 4 (suc (suc (suc (suc (length ps))))) ≡ true = grind (arith, nat_tests) in
+    let form = step_form k w (from ∷ to ∷ name ∷ ps) other in
+    (form.0, form.1 ∙ high)
+
+-- a last line with a token that is no event number
+bad_last : (k : ℕ) (word : List ℕ) (ps : List (List ℕ)) (why : Why) → is_last_line (word ∷ ps) ≡ true → has_form k (word ∷ ps) ≡ true → (All IsEventToken ps → ⊥) × (why ≡ BadNumber) → IsLineFault k (word ∷ ps) why
+bad_last k word ps why last form none = rw none.1 (form, λ is all. none.0 all, λ has. false≢true (sym (step_has_form k (word ∷ ps) has).0 ∙ last))
 
 -- ---- the line of a cycle
-
-cycle_line : (k : ℕ) (word : List ℕ) (ps : List (List ℕ)) → bytes_eq word (codes "cycle") ≡ true →
-    (is_last_line (word ∷ ps) ≡ true) × (is_bad_line k (word ∷ ps) ≡ false) × (has_bad_number k (word ∷ ps) ≡ not (are_events ps)) × (has_bad_rule (word ∷ ps) ≡ false)
-cycle_line k word ps is = rw is (refl, refl, refl, refl)
 
 cycle_told : (k : ℕ) (word : List ℕ) (ps : List (List ℕ)) (l : Line) → bytes_eq word (codes "cycle") ≡ true → (events ps >>= λ ns. Ok (Cycle ns)) ≡ Ok l → Told k (word ∷ ps) l
 cycle_told k word ps l is e =
     let ns = bind_ok (events ps) _ l e in
     let same : Cycle ns.0 ≡ l = (let s = ns.2 in cc) in
-    let facts = cycle_line k word ps is in
     let more = events_are ps ns.0 ns.1 in
-    rw (← same) record {
-      says = ap (λ w. w ∷ ps) ((bytes_eq-Decides word (codes "cycle")).0 is) ∙ ap (λ qs. codes "cycle" ∷ qs) more.0;
-      fits = more.1;
-      last = facts.0;
-      faultless = no_fault k (word ∷ ps) facts.1 (facts.2 ∙ ap not (events_some ps ns.0 ns.1)) facts.3;
-    }
+    rw (← same) record { says = ap (λ w. w ∷ ps) ((bytes_eq-Decides word (codes "cycle")).0 is) ∙ ap (λ qs. codes "cycle" ∷ qs) more.0; fits = more.1 }
 
-cycle_refused : (k : ℕ) (word : List ℕ) (ps : List (List ℕ)) (why : Why) → bytes_eq word (codes "cycle") ≡ true → (events ps >>= λ ns. Ok (Cycle ns)) ≡ Err why →
-    IsFirstCertFault (cert_line_fault k (word ∷ ps)) why
+cycle_refused : (k : ℕ) (word : List ℕ) (ps : List (List ℕ)) (why : Why) → bytes_eq word (codes "cycle") ≡ true → (events ps >>= λ ns. Ok (Cycle ns)) ≡ Err why → IsLineFault k (word ∷ ps) why
 cycle_refused k word ps why is e =
     ⊎_elim
-    (λ (none : events ps ≡ Err why).
-    let s = events_none ps why none in
-    let facts = cycle_line k word ps is in
-    rw s.1 (first_number k (word ∷ ps) facts.1 (facts.2 ∙ ap not s.0)))
+    (λ (none : events ps ≡ Err why). bad_last k word ps why (rw is refl) (rw is refl) (events_none ps why none))
     (λ (ns : (a : List ℕ) × (events ps ≡ Ok a) × (Ok (Cycle a) ≡ Err why)). absurd (let s = ns.2 in cc))
     (bind_err (events ps) _ why e)
 
 -- ---- the line of an unwritten load
 
-unwritten_line : (k : ℕ) (word : List ℕ) (ps : List (List ℕ)) → bytes_eq word (codes "cycle") ≡ false → bytes_eq word (codes "unwritten") ≡ true →
-    (is_last_line (word ∷ ps) ≡ true) × (is_bad_line k (word ∷ ps) ≡ not (eqb k 1 && eqb (length (word ∷ ps)) 2)) × (has_bad_number k (word ∷ ps) ≡ not (are_events ps)) × (has_bad_rule (word ∷ ps) ≡ false)
-unwritten_line k word ps other is = rw (other, is) (refl, refl, refl, refl)
+unwritten_form : (k : ℕ) (word : List ℕ) (ps : List (List ℕ)) → bytes_eq word (codes "cycle") ≡ false → bytes_eq word (codes "unwritten") ≡ true →
+    (is_last_line (word ∷ ps) ≡ true) × (has_form k (word ∷ ps) ≡ (eqb k 1 && eqb (suc (length ps)) 2))
+unwritten_form k word ps other is = rw (other, is) (refl, refl)
 
 -- just one token on line 1, or a bad line
 unwritten_first : (k : ℕ) (ps : List (List ℕ)) (n : ℕ) → unwritten_said k ps ≡ Ok n → (p : List ℕ) × (ps ≡ p ∷ []) × (k ≡ 1) × (event p ≡ Ok n)
@@ -141,71 +102,48 @@ unwritten_first k (p ∷ []) n e =
     (cases (eqb k 1))
 unwritten_first k (p ∷ q ∷ ps) n e = absurd cc
 
-unwritten_told : (k : ℕ) (word : List ℕ) (ps : List (List ℕ)) (l : Line) → bytes_eq word (codes "cycle") ≡ false → bytes_eq word (codes "unwritten") ≡ true →
-    (unwritten_said k ps >>= λ n. Ok (Unwritten n)) ≡ Ok l → Told k (word ∷ ps) l
-unwritten_told k word ps l other is e =
+unwritten_told : (k : ℕ) (word : List ℕ) (ps : List (List ℕ)) (l : Line) → bytes_eq word (codes "unwritten") ≡ true → (unwritten_said k ps >>= λ n. Ok (Unwritten n)) ≡ Ok l → Told k (word ∷ ps) l
+unwritten_told k word ps l is e =
     let n = bind_ok (unwritten_said k ps) _ l e in
     let same : Unwritten n.0 ≡ l = (let s = n.2 in cc) in
     let u = unwritten_first k ps n.0 n.1 in
     let one = event_is u.0 n.0 u.3 in
-    let facts = unwritten_line k word (u.0 ∷ []) other is in
-    let whole : is_bad_line k (word ∷ u.0 ∷ []) ≡ false = facts.1 ∙ ap (λ j. not (eqb j 1 && true)) u.2 in
-    let some : are_events (u.0 ∷ []) ≡ true = ap (λ b. b && true) (event_some u.0 n.0 u.3) in
-    let t : Told k (word ∷ u.0 ∷ []) (Unwritten n.0) = record {
-      says = ap (λ w. w ∷ u.0 ∷ []) ((bytes_eq-Decides word (codes "unwritten")).0 is) ∙ ap (λ q. codes "unwritten" ∷ q ∷ []) one.0;
+    rw (← same) record {
+      says = ap (λ qs. word ∷ qs) u.1 ∙ ap (λ w. w ∷ u.0 ∷ []) ((bytes_eq-Decides word (codes "unwritten")).0 is) ∙ ap (λ q. codes "unwritten" ∷ q ∷ []) one.0;
       fits = (one.1, u.2);
-      last = facts.0;
-      faultless = no_fault k (word ∷ u.0 ∷ []) whole (facts.2 ∙ ap not some) facts.3;
-    } in
-    subst (λ qs. Told k (word ∷ qs) l) (sym u.1) (subst (λ m. Told k (word ∷ u.0 ∷ []) m) same t)
+    }
 
 unwritten_refused : (k : ℕ) (word : List ℕ) (ps : List (List ℕ)) (why : Why) → bytes_eq word (codes "cycle") ≡ false → bytes_eq word (codes "unwritten") ≡ true →
-    unwritten_said k ps ≡ Err why → IsFirstCertFault (cert_line_fault k (word ∷ ps)) why
+    unwritten_said k ps ≡ Err why → IsLineFault k (word ∷ ps) why
 unfolding unwritten_said
-unwritten_refused k word [] why other is e =
-    let s : BadLine ≡ why = cc in
-    rw (← s) (first_line k (word ∷ []) ((unwritten_line k word [] other is).1 ∙ ap not (and-false (eqb k 1))))
+unwritten_refused k word [] why other is e = let s : BadLine ≡ why = cc in rw (← s) ((unwritten_form k word [] other is).1 ∙ and-false (eqb k 1))
 unwritten_refused k word (p ∷ []) why other is e =
-    let facts = unwritten_line k word (p ∷ []) other is in
+    let facts = unwritten_form k word (p ∷ []) other is in
     ⊎_elim
     (λ (one : eqb k 1 ≡ true).
     let s = event_none p why (cond_true (eqb k 1) (event p) (Err BadLine) (Err why) one e) in
-    rw s.1 (first_number k (word ∷ p ∷ []) (facts.1 ∙ ap (λ b. not (b && true)) one) (facts.2 ∙ ap (λ b. not (b && true)) s.0)))
+    bad_last k word (p ∷ []) why facts.0 (facts.1 ∙ ap (λ b. b && true) one) (λ all. s.0 (all_first IsEventToken p [] all), s.1))
     (λ (later : eqb k 1 ≡ false).
     let s : BadLine ≡ why = (let t = cond_false (eqb k 1) (event p) (Err BadLine) (Err why) later e in cc) in
-    rw (← s) (first_line k (word ∷ p ∷ []) (facts.1 ∙ ap (λ b. not (b && true)) later)))
+    rw (← s) (facts.1 ∙ ap (λ b. b && true) later))
     (cases (eqb k 1))
 unwritten_refused k word (p ∷ q ∷ ps) why other is e =
     let s : BadLine ≡ why = cc in
     let many : eqb (suc (suc (suc (length ps)))) 2 ≡ false = grind (arith, nat_tests) in
-    rw (← s) (first_line k (word ∷ p ∷ q ∷ ps) ((unwritten_line k word (p ∷ q ∷ ps) other is).1 ∙ ap (λ b. not (eqb k 1 && b)) many ∙ ap not (and-false (eqb k 1))))
+    rw (← s) ((unwritten_form k word (p ∷ q ∷ ps) other is).1 ∙ ap (λ b. eqb k 1 && b) many ∙ and-false (eqb k 1))
 
 -- ---- the line of a step
 
--- the first token is that of no last line
-abbrev NoWord : List ℕ → Type 0
-NoWord word = (bytes_eq word (codes "cycle") ≡ false) × (bytes_eq word (codes "unwritten") ≡ false)
+few_tokens : (k : ℕ) (word : List ℕ) (ps : List (List ℕ)) → NoWord word → length ps < 3 → IsLineFault k (word ∷ ps) BadLine
+few_tokens k word ps other few = let low : nat_le 4 (suc (length ps)) ≡ false = grind (arith, nat_tests) in (step_form k word ps other).1 ∙ low
 
-few_tokens : (k : ℕ) (word : List ℕ) (ps : List (List ℕ)) → NoWord word → length ps < 3 → IsFirstCertFault (cert_line_fault k (word ∷ ps)) BadLine
-few_tokens k word ps other few =
-    let low : ltb (suc (length ps)) 4 ≡ true = grind (arith, nat_tests) in
-    let is : is_bad_line k (word ∷ ps) ≡ true = rw (other.0, other.1) low in
-    first_line k (word ∷ ps) is
-
-step_line : (k : ℕ) (word from to name : List ℕ) (ps : List (List ℕ)) → NoWord word →
-    (is_last_line (word ∷ from ∷ to ∷ name ∷ ps) ≡ false) × (is_bad_line k (word ∷ from ∷ to ∷ name ∷ ps) ≡ false)
-    × (has_bad_number k (word ∷ from ∷ to ∷ name ∷ ps) ≡ not (bytes_eq word (decimal k) && are_events (from ∷ to ∷ []) && are_events ps))
-    × (has_bad_rule (word ∷ from ∷ to ∷ name ∷ ps) ≡ not (is_rule name ps))
-step_line k word from to name ps other =
-    let low : ltb (suc (suc (suc (suc (length ps))))) 4 ≡ false = grind (arith, nat_tests) in
-    rw (other.0, other.1) (refl, low, refl, refl)
-
-step_told : (k : ℕ) (word : List ℕ) (ps : List (List ℕ)) (s : CertStep) → NoWord word → step_said k (word ∷ ps) ≡ Ok s → Told k (word ∷ ps) (Step s)
+step_told : (k : ℕ) (ps : List (List ℕ)) (s : CertStep) → step_said k ps ≡ Ok s → Told k ps (Step s)
 unfolding step_said
-step_told k word [] s other e = absurd cc
-step_told k word (p ∷ []) s other e = absurd cc
-step_told k word (p ∷ q ∷ []) s other e = absurd cc
-step_told k word (from ∷ to ∷ name ∷ ps) s other e =
+step_told k [] s e = absurd cc
+step_told k (w ∷ []) s e = absurd cc
+step_told k (w ∷ p ∷ []) s e = absurd cc
+step_told k (w ∷ p ∷ q ∷ []) s e = absurd cc
+step_told k (word ∷ from ∷ to ∷ name ∷ ps) s e =
     ⊎_elim
     (λ (same : bytes_eq word (decimal k) ≡ true).
     let rest = cond_true (bytes_eq word (decimal k)) (event from >>= λ u. event to >>= λ v. reason_said name ps >>= λ r. Ok (record { from = u; to = v; reason = r })) (Err BadNumber) (Ok s) same e in
@@ -216,43 +154,50 @@ step_told k word (from ∷ to ∷ name ∷ ps) s other e =
     let a = event_is from u.0 u.1 in
     let b = event_is to v.0 v.1 in
     let c = reason_told name ps r.0 r.1 in
-    let facts = step_line k word from to name ps other in
-    let numbers : (bytes_eq word (decimal k) && are_events (from ∷ to ∷ []) && are_events ps) ≡ true = rw (same, event_some from u.0 u.1, event_some to v.0 v.1, c.events) refl in
     rw (← is) record {
       says = ap (λ w. w ∷ from ∷ to ∷ name ∷ ps) ((bytes_eq-Decides word (decimal k)).0 same) ∙ ap (λ w. decimal k ∷ w ∷ to ∷ name ∷ ps) a.0
           ∙ ap (λ w. decimal k ∷ event_text u.0 ∷ w ∷ name ∷ ps) b.0 ∙ ap (λ w. decimal k ∷ event_text u.0 ∷ event_text v.0 ∷ w) c.says;
       fits = (a.1, b.1, c.fits);
-      last = facts.0;
-      faultless = no_fault k (word ∷ from ∷ to ∷ name ∷ ps) facts.1 (facts.2 ∙ ap not numbers) (facts.3 ∙ ap not c.rule);
     })
     (λ (differs : bytes_eq word (decimal k) ≡ false).
     absurd (let t = cond_false (bytes_eq word (decimal k)) (event from >>= λ u. event to >>= λ v. reason_said name ps >>= λ r. Ok (record { from = u; to = v; reason = r })) (Err BadNumber) (Ok s) differs e in cc))
     (cases (bytes_eq word (decimal k)))
 
-step_refused : (k : ℕ) (word : List ℕ) (ps : List (List ℕ)) (why : Why) → NoWord word → step_said k (word ∷ ps) ≡ Err why → IsFirstCertFault (cert_line_fault k (word ∷ ps)) why
+-- the line has no fault of its tokens' number
+bad_step : (k : ℕ) (word from to name : List ℕ) (ps : List (List ℕ)) (why : Why) → NoWord word → why ≡ BadNumber →
+    ((word ≡ decimal k) → IsEventToken from → IsEventToken to → All IsEventToken ps → ⊥) → IsLineFault k (word ∷ from ∷ to ∷ name ∷ ps) why
+bad_step k word from to name ps why other is none =
+    let form = step_form k word (from ∷ to ∷ name ∷ ps) other in
+    let high : nat_le 4 (suc (suc (suc (suc (length ps))))) ≡ true = grind (arith, nat_tests) in
+    rw is (
+      form.1 ∙ high,
+      λ last all. false≢true (sym form.0 ∙ last),
+      λ has. none has.0 (all_first IsEventToken from (to ∷ ps) has.1) (all_first IsEventToken to ps (all_after IsEventToken from (to ∷ ps) has.1)) (all_after IsEventToken to ps (all_after IsEventToken from (to ∷ ps) has.1)),
+    )
+
+step_refused : (k : ℕ) (word : List ℕ) (ps : List (List ℕ)) (why : Why) → NoWord word → step_said k (word ∷ ps) ≡ Err why → IsLineFault k (word ∷ ps) why
 unfolding step_said
 step_refused k word [] why other e = let s : BadLine ≡ why = cc in rw (← s) (few_tokens k word [] other (omega arith))
 step_refused k word (p ∷ []) why other e = let s : BadLine ≡ why = cc in rw (← s) (few_tokens k word (p ∷ []) other (omega arith))
 step_refused k word (p ∷ q ∷ []) why other e = let s : BadLine ≡ why = cc in rw (← s) (few_tokens k word (p ∷ q ∷ []) other (omega arith))
 step_refused k word (from ∷ to ∷ name ∷ ps) why other e =
-    let facts = step_line k word from to name ps other in
-    let bad : (why ≡ BadNumber) → (bytes_eq word (decimal k) && are_events (from ∷ to ∷ []) && are_events ps) ≡ false → IsFirstCertFault (cert_line_fault k (word ∷ from ∷ to ∷ name ∷ ps)) why =
-    λ is off. rw is (first_number k (word ∷ from ∷ to ∷ name ∷ ps) facts.1 (facts.2 ∙ ap not off)) in
     ⊎_elim
     (λ (same : bytes_eq word (decimal k) ≡ true).
     ⊎_elim
-    (λ (no_from : event from ≡ Err why). let s = event_none from why no_from in bad s.1 (rw (same, s.0) refl))
+    (λ (no_from : event from ≡ Err why). let s = event_none from why no_from in bad_step k word from to name ps why other s.1 (λ w a b all. s.0 a))
     (λ (u : (n : ℕ) × (event from ≡ Ok n) × ((event to >>= λ v. reason_said name ps >>= λ r. Ok (record { from = n; to = v; reason = r })) ≡ Err why)).
     ⊎_elim
-    (λ (no_to : event to ≡ Err why). let s = event_none to why no_to in bad s.1 (rw (same, event_some from u.0 u.1, s.0) refl))
+    (λ (no_to : event to ≡ Err why). let s = event_none to why no_to in bad_step k word from to name ps why other s.1 (λ w a b all. s.0 b))
     (λ (v : (n : ℕ) × (event to ≡ Ok n) × ((reason_said name ps >>= λ r. Ok (record { from = u.0; to = n; reason = r })) ≡ Err why)).
     ⊎_elim
     (λ (no_reason : reason_said name ps ≡ Err why).
     ⊎_elim
-    (λ (odd : (why ≡ BadNumber) × (are_events ps ≡ false)). bad odd.0 (rw (same, event_some from u.0 u.1, event_some to v.0 v.1, odd.1) refl))
-    (λ (odd : (why ≡ BadRule) × (are_events ps ≡ true) × (is_rule name ps ≡ false)).
-    let numbers : (bytes_eq word (decimal k) && are_events (from ∷ to ∷ []) && are_events ps) ≡ true = rw (same, event_some from u.0 u.1, event_some to v.0 v.1, odd.1) refl in
-    rw odd.0 (first_rule k (word ∷ from ∷ to ∷ name ∷ ps) facts.1 (facts.2 ∙ ap not numbers) (facts.3 ∙ ap not odd.2)))
+    (λ (number : (why ≡ BadNumber) × (All IsEventToken ps → ⊥)). bad_step k word from to name ps why other number.0 (λ w a b all. number.1 all))
+    (λ (odd : (why ≡ BadRule) × All IsEventToken ps × ((r : Reason) → name ∷ ps ≡ reason_tokens r → ⊥)).
+    rw odd.0 (
+      ((bytes_eq-Decides word (decimal k)).0 same, All-cons IsEventToken from (to ∷ ps) (event_token from u.0 u.1) (All-cons IsEventToken to ps (event_token to v.0 v.1) odd.1)),
+      λ s is. odd.2 s.reason (uncons _ _ _ _ (uncons _ _ _ _ (uncons _ _ _ _ is).1).1).1,
+    ))
     (reason_refused name ps why no_reason))
     (λ (r : (a : Reason) × (reason_said name ps ≡ Ok a) × (Ok (record { from = u.0; to = v.0; reason = a }) ≡ Err why)). absurd (let s = r.2 in cc))
     (bind_err (reason_said name ps) _ why v.2))
@@ -260,12 +205,12 @@ step_refused k word (from ∷ to ∷ name ∷ ps) why other e =
     (bind_err (event from) _ why (cond_true (bytes_eq word (decimal k)) _ (Err BadNumber) (Err why) same e)))
     (λ (differs : bytes_eq word (decimal k) ≡ false).
     let s : BadNumber ≡ why = (let t = cond_false (bytes_eq word (decimal k)) (event from >>= λ u. event to >>= λ v. reason_said name ps >>= λ r. Ok (record { from = u; to = v; reason = r })) (Err BadNumber) (Err why) differs e in cc) in
-    bad (sym s) (rw differs refl))
+    bad_step k word from to name ps why other (sym s) (λ w a b all. false≢true (sym differs ∙ (bytes_eq-Decides word (decimal k)).1 w)))
     (cases (bytes_eq word (decimal k)))
 
 -- ---- any line
 
--- a line that says something is written in one way, and has no fault
+-- a line that says something is written in one way
 pub told : (k : ℕ) (ps : List (List ℕ)) (l : Line) → cert_line_said k ps ≡ Ok l → Told k ps l
 unfolding cert_line_said
 told k [] l e = absurd cc
@@ -275,18 +220,18 @@ told k (word ∷ ps) l e =
     (λ (other : bytes_eq word (codes "cycle") ≡ false).
     let rest = cond_false (bytes_eq word (codes "cycle")) _ _ (Ok l) other e in
     ⊎_elim
-    (λ (load : bytes_eq word (codes "unwritten") ≡ true). unwritten_told k word ps l other load (cond_true (bytes_eq word (codes "unwritten")) _ _ (Ok l) load rest))
+    (λ (load : bytes_eq word (codes "unwritten") ≡ true). unwritten_told k word ps l load (cond_true (bytes_eq word (codes "unwritten")) _ _ (Ok l) load rest))
     (λ (step : bytes_eq word (codes "unwritten") ≡ false).
     let s = bind_ok (step_said k (word ∷ ps)) _ l (cond_false (bytes_eq word (codes "unwritten")) _ _ (Ok l) step rest) in
     let is : Step s.0 ≡ l = (let t = s.2 in cc) in
-    rw (← is) (step_told k word ps s.0 (other, step) s.1))
+    rw (← is) (step_told k (word ∷ ps) s.0 s.1))
     (cases (bytes_eq word (codes "unwritten"))))
     (cases (bytes_eq word (codes "cycle")))
 
--- the fault of a line that says nothing is its first
-pub refused : (k : ℕ) (ps : List (List ℕ)) (why : Why) → cert_line_said k ps ≡ Err why → IsFirstCertFault (cert_line_fault k ps) why
+-- a line that says nothing has the fault
+pub refused : (k : ℕ) (ps : List (List ℕ)) (why : Why) → cert_line_said k ps ≡ Err why → IsLineFault k ps why
 unfolding cert_line_said
-refused k [] why e = let s : BadLine ≡ why = cc in rw (← s) (first_line k [] refl)
+refused k [] why e = let s : BadLine ≡ why = cc in rw (← s) refl
 refused k (word ∷ ps) why e =
     ⊎_elim
     (λ (cycle : bytes_eq word (codes "cycle") ≡ true). cycle_refused k word ps why cycle (cond_true (bytes_eq word (codes "cycle")) _ _ (Err why) cycle e))
@@ -320,3 +265,56 @@ cert_line_said-tokens k (Step s) fits =
     rw (decimal_differs k (codes "cycle") refl, decimal_differs k (codes "unwritten") refl, step_said-tokens k s.from s.to s.reason fits.0 fits.1 fits.2) refl
 cert_line_said-tokens k (Cycle ns) fits = rw (events-text ns fits) refl
 cert_line_said-tokens k (Unwritten n) fits = rw (fits.1, event-text n fits.0) refl
+
+events_all : (ns : List ℕ) → All Fits ns → All IsEventToken (map event_text ns)
+events_all [] fits = All-nil IsEventToken
+events_all (n ∷ ns) fits = All-cons IsEventToken (event_text n) (map event_text ns) (n, all_first Fits n ns fits, refl) (events_all ns (all_after Fits n ns fits))
+
+step_numbers : (k u v : ℕ) (r : Reason) → Fits u → Fits v → ReasonFits r → HasStepNumbers k (decimal k ∷ event_text u ∷ event_text v ∷ reason_tokens r)
+step_numbers k u v (Base rule) from to fits = (refl, events_all (u ∷ v ∷ []) (All-cons Fits u (v ∷ []) from (All-cons Fits v [] to (All-nil Fits))))
+step_numbers k u v (Inferred rule load path) from to fits =
+    (refl, events_all (u ∷ v ∷ load ∷ path) (All-cons Fits u (v ∷ load ∷ path) from (All-cons Fits v (load ∷ path) to (All-cons Fits load path fits.0 fits.1))))
+
+-- a line of these tokens has no fault
+no_fault : (k : ℕ) (l : Line) (why : Why) → LineFits k l → IsLineFault k (line_tokens k l) why → ⊥
+no_fault k (Step s) BadLine fits fault = false≢true (sym fault ∙ (step_has_form k (step_tokens k s) (step_numbers k s.from s.to s.reason fits.0 fits.1 fits.2)).1)
+no_fault k (Step s) BadNumber fits fault = fault.2 (step_numbers k s.from s.to s.reason fits.0 fits.1 fits.2)
+no_fault k (Step s) BadRule fits fault = fault.1 s refl
+no_fault k (Cycle ns) BadLine fits fault = absurd cc
+no_fault k (Cycle ns) BadNumber fits fault = fault.1 refl (events_all ns fits)
+no_fault k (Cycle ns) BadRule fits fault = absurd (let s = (step_has_form k (cycle_tokens ns) fault.0).0 in cc)
+no_fault k (Unwritten n) BadLine fits fault = absurd (let s = sym fault ∙ ap (λ j. eqb j 1 && true) fits.1 in cc)
+no_fault k (Unwritten n) BadNumber fits fault = fault.1 refl (events_all (n ∷ []) (All-cons Fits n [] fits.0 (All-nil Fits)))
+no_fault k (Unwritten n) BadRule fits fault = absurd (let s = (step_has_form k (unwritten_tokens n) fault.0).0 in cc)
+no_fault k l NoCycle fits fault = absurd fault
+no_fault k l AfterCycle fits fault = absurd fault
+no_fault k l OutOfMemory fits fault = absurd fault
+
+form_of_fault : (k : ℕ) (ps : List (List ℕ)) → IsLineFault k ps BadRule → has_form k ps ≡ true
+form_of_fault k ps fault = (step_has_form k ps fault.0).1
+
+-- a line has one fault
+one_fault : (k : ℕ) (ps : List (List ℕ)) (v w : Why) → IsLineFault k ps v → IsLineFault k ps w → v ≡ w
+one_fault k ps BadLine BadLine one other = refl
+one_fault k ps BadLine BadNumber one other = absurd (false≢true (sym one ∙ other.0))
+one_fault k ps BadLine BadRule one other = absurd (false≢true (sym one ∙ form_of_fault k ps other))
+one_fault k ps BadNumber BadLine one other = absurd (false≢true (sym other ∙ one.0))
+one_fault k ps BadNumber BadNumber one other = refl
+one_fault k ps BadNumber BadRule one other = absurd (one.2 other.0)
+one_fault k ps BadRule BadLine one other = absurd (false≢true (sym other ∙ form_of_fault k ps one))
+one_fault k ps BadRule BadNumber one other = absurd (other.2 one.0)
+one_fault k ps BadRule BadRule one other = refl
+one_fault k ps NoCycle w one other = absurd one
+one_fault k ps AfterCycle w one other = absurd one
+one_fault k ps OutOfMemory w one other = absurd one
+one_fault k ps v NoCycle one other = absurd other
+one_fault k ps v AfterCycle one other = absurd other
+one_fault k ps v OutOfMemory one other = absurd other
+
+-- a line with the fault says nothing
+pub fault_said : (k : ℕ) (ps : List (List ℕ)) (why : Why) → IsLineFault k ps why → cert_line_said k ps ≡ Err why
+fault_said k ps why fault = by (cert_line_said k ps) refl
+  where
+    by : (r : Result Line Why) → cert_line_said k ps ≡ r → cert_line_said k ps ≡ Err why
+    by (Err other) is = is ∙ ap Err (one_fault k ps other why (refused k ps other is) fault)
+    by (Ok l) is = let t = told k ps l is in absurd (no_fault k l why t.fits (subst (λ qs. IsLineFault k qs why) t.says fault))

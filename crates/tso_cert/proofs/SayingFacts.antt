@@ -1,13 +1,11 @@
--- What the tokens of a line say, and its faults: a line that says something is written in one way and has no fault; the fault of another is its
--- first.
-use Rattle.std.proofs.Common.{◌≡◌, ℕ, zero, suc, Bool, true, false, cond, ◌&&◌, ◌||◌, List, [], ◌∷◌, map, Option, Some, None, Result, Ok, Err, refl, ap, sym, ◌∙◌, arith, inl, inr, ⊎_elim, ◌⊎◌}
-use Rattle.std.specs.Prelude.{codes, is_some, All}
+-- What the tokens of a line say: what they say is written in one way, and tokens that say nothing are those of nothing.
+use Rattle.std.proofs.Common.{◌≡◌, ℕ, zero, suc, Bool, true, false, cond, List, [], ◌∷◌, map, Option, Some, None, Result, Ok, Err, refl, ap, sym, ◌∙◌, arith, inl, inr, ⊎_elim, ◌⊎◌}
+use Rattle.std.specs.Prelude.{codes, All}
 use Rattle.std.specs.Fmt.{decimal}
 use Rattle.std.specs.List.{list_all}
 use Rattle.std.specs.Str.{bytes_eq}
 use Rattle.std.specs.Char.{is_ascii_digit}
 use Rattle.std.proofs.lemmas.Bool.{false≢true}
-use Rattle.std.proofs.Math.Bool.{and-false}
 use Rattle.std.proofs.lemmas.List.Elements.{All-nil, All-cons}
 use Rattle.std.proofs.lemmas.Slice.Eq.{bytes_eq-Decides}
 use Rattle.line_text.specs.Numbers.{number}
@@ -22,9 +20,9 @@ use Rattle.tso_cert.specs.declared.steps.Reason.TheVariants.{Base, Inferred}
 use Rattle.tso_cert.specs.declared.faults.Why.{Why}
 use Rattle.tso_cert.specs.declared.faults.Why.TheVariants.{BadNumber, BadRule}
 use Rattle.tso_cert.specs.Printed.{base_name, inferred_name, event_text, reason_tokens, Fits, ReasonFits}
-use Rattle.tso_cert.specs.Spelling.{above_zero, event_number, are_events, base_rules, inferred_rules, is_name, is_rule}
+use Rattle.tso_cert.specs.Spelling.{IsEventToken, base_rules, inferred_rules}
 use Rattle.line_text.specs.Results.{◌>>=◌}
-use Rattle.tso_cert.specs.Internal.LineValues.{or_bad_event, event, events, named, base_rule, inferred_rule, reason_said}
+use Rattle.tso_cert.specs.Internal.LineValues.{above_zero, event_number, or_bad_event, event, events, named, base_rule, inferred_rule, reason_said}
 
 -- ---- steps of a reading
 
@@ -47,6 +45,9 @@ cond_false false x y z is e = e
 pub cases : (b : Bool) → (b ≡ true) ⊎ (b ≡ false)
 cases true = inl refl
 cases false = inr refl
+
+pub uncons : {X : Type 0} (x y : X) (xs ys : List X) → x ∷ xs ≡ y ∷ ys → (x ≡ y) × (xs ≡ ys)
+uncons x y xs ys e = (cc, cc)
 
 -- the first of elements, and those after it
 pub all_first : {X : Type 0} (P : X → Type 0) (x : X) (xs : List X) → All P (x ∷ xs) → P x
@@ -100,14 +101,14 @@ or_bad_err (Some m) why e = absurd cc
 pub event_is : (p : List ℕ) (n : ℕ) → event p ≡ Ok n → (p ≡ event_text n) × Fits n
 event_is p n e = event_number_is p n (or_bad_ok (event_number p) n e)
 
-pub event_some : (p : List ℕ) (n : ℕ) → event p ≡ Ok n → is_some (event_number p) ≡ true
-event_some p n e = ap is_some (or_bad_ok (event_number p) n e)
-
-pub event_none : (p : List ℕ) (why : Why) → event p ≡ Err why → (is_some (event_number p) ≡ false) × (why ≡ BadNumber)
-event_none p why e = let s = or_bad_err (event_number p) why e in (ap is_some s.0, s.1)
-
 pub event-text : (n : ℕ) → Fits n → event (event_text n) ≡ Ok n
 event-text n fits = ap or_bad_event (event_number-text n fits)
+
+pub event_token : (p : List ℕ) (n : ℕ) → event p ≡ Ok n → IsEventToken p
+event_token p n e = let s = event_is p n e in (n, s.1, s.0)
+
+pub event_none : (p : List ℕ) (why : Why) → event p ≡ Err why → (IsEventToken p → ⊥) × (why ≡ BadNumber)
+event_none p why e = (λ t. let s : Ok t.0 ≡ Err why = sym (event-text t.0 t.1) ∙ ap event (sym t.2) ∙ e in absurd cc, (or_bad_err (event_number p) why e).1)
 
 pub events_are : (ps : List (List ℕ)) (ns : List ℕ) → events ps ≡ Ok ns → (ps ≡ map event_text ns) × All Fits ns
 events_are [] ns e = let none : [] ≡ ns = cc in rw (← none) (refl, All-nil Fits)
@@ -119,21 +120,21 @@ events_are (p ∷ ps) ns e =
     let more = events_are ps others.0 others.1 in
     rw (← whole) (ap (λ q. q ∷ ps) one.0 ∙ ap (λ qs. event_text first.0 ∷ qs) more.0, All-cons Fits first.0 others.0 one.1 more.1)
 
-pub events_some : (ps : List (List ℕ)) (ns : List ℕ) → events ps ≡ Ok ns → are_events ps ≡ true
-events_some [] ns e = refl
-events_some (p ∷ ps) ns e =
+pub events_tokens : (ps : List (List ℕ)) (ns : List ℕ) → events ps ≡ Ok ns → All IsEventToken ps
+events_tokens [] ns e = All-nil IsEventToken
+events_tokens (p ∷ ps) ns e =
     let first = bind_ok (event p) _ ns e in
     let others = bind_ok (events ps) _ ns first.2 in
-    rw (event_some p first.0 first.1) (events_some ps others.0 others.1)
+    All-cons IsEventToken p ps (event_token p first.0 first.1) (events_tokens ps others.0 others.1)
 
-pub events_none : (ps : List (List ℕ)) (why : Why) → events ps ≡ Err why → (are_events ps ≡ false) × (why ≡ BadNumber)
+pub events_none : (ps : List (List ℕ)) (why : Why) → events ps ≡ Err why → (All IsEventToken ps → ⊥) × (why ≡ BadNumber)
 events_none [] why e = absurd cc
 events_none (p ∷ ps) why e =
     ⊎_elim
-    (λ (first : event p ≡ Err why). let s = event_none p why first in (ap (λ b. b && are_events ps) s.0, s.1))
+    (λ (first : event p ≡ Err why). let s = event_none p why first in (λ all. s.0 (all_first IsEventToken p ps all), s.1))
     (λ (n : (a : ℕ) × (event p ≡ Ok a) × ((events ps >>= λ ns. Ok (a ∷ ns)) ≡ Err why)).
     ⊎_elim
-    (λ (more : events ps ≡ Err why). let s = events_none ps why more in (ap (λ b. is_some (event_number p) && b) s.0 ∙ and-false _, s.1))
+    (λ (more : events ps ≡ Err why). let s = events_none ps why more in (λ all. s.0 (all_after IsEventToken p ps all), s.1))
     (λ (ns : (b : List ℕ) × (events ps ≡ Ok b) × (Ok (n.0 ∷ b) ≡ Err why)). absurd (let s = ns.2 in cc))
     (bind_err (events ps) _ why n.2))
     (bind_err (event p) _ why e)
@@ -144,26 +145,22 @@ events-text (n ∷ ns) fits = rw (event-text n (all_first Fits n ns fits), event
 
 -- ---- rules
 
-named_is : {R : Type 0} (name_of : R → List ℕ) (rules : List R) (name : List ℕ) (r : R) → named name_of rules name ≡ Ok r → (name ≡ name_of r) × (is_name name_of rules name ≡ true)
+named_is : {R : Type 0} (name_of : R → List ℕ) (rules : List R) (name : List ℕ) (r : R) → named name_of rules name ≡ Ok r → name ≡ name_of r
 named_is name_of [] name r e = absurd cc
 named_is name_of (rule ∷ rules) name r e =
     ⊎_elim
     (λ (same : bytes_eq name (name_of rule) ≡ true).
     let is : rule ≡ r = (let s = cond_true _ (Ok rule) (named name_of rules name) (Ok r) same e in cc) in
-    ((bytes_eq-Decides name (name_of rule)).0 same ∙ ap name_of is, ap (λ b. b || is_name name_of rules name) same))
-    (λ (other : bytes_eq name (name_of rule) ≡ false).
-    let rest = named_is name_of rules name r (cond_false _ (Ok rule) (named name_of rules name) (Ok r) other e) in
-    (rest.0, ap (λ b. b || is_name name_of rules name) other ∙ rest.1))
+    (bytes_eq-Decides name (name_of rule)).0 same ∙ ap name_of is)
+    (λ (other : bytes_eq name (name_of rule) ≡ false). named_is name_of rules name r (cond_false _ (Ok rule) (named name_of rules name) (Ok r) other e))
     (cases (bytes_eq name (name_of rule)))
 
-named_none : {R : Type 0} (name_of : R → List ℕ) (rules : List R) (name : List ℕ) (why : Why) → named name_of rules name ≡ Err why → (is_name name_of rules name ≡ false) × (why ≡ BadRule)
-named_none name_of [] name why e = (refl, cc)
+named_none : {R : Type 0} (name_of : R → List ℕ) (rules : List R) (name : List ℕ) (why : Why) → named name_of rules name ≡ Err why → why ≡ BadRule
+named_none name_of [] name why e = cc
 named_none name_of (rule ∷ rules) name why e =
     ⊎_elim
     (λ (same : bytes_eq name (name_of rule) ≡ true). absurd (let s = cond_true _ (Ok rule) (named name_of rules name) (Err why) same e in cc))
-    (λ (other : bytes_eq name (name_of rule) ≡ false).
-    let rest = named_none name_of rules name why (cond_false _ (Ok rule) (named name_of rules name) (Err why) other e) in
-    (ap (λ b. b || is_name name_of rules name) other ∙ rest.0, rest.1))
+    (λ (other : bytes_eq name (name_of rule) ≡ false). named_none name_of rules name why (cond_false _ (Ok rule) (named name_of rules name) (Err why) other e))
     (cases (bytes_eq name (name_of rule)))
 
 base_rule-name : (r : BaseRule) → base_rule (base_name r) ≡ Ok r
@@ -189,53 +186,54 @@ inferred_rule-name SwapAfter = refl
 pub record ReasonTold (name : List ℕ) (ps : List (List ℕ)) (r : Reason) : Type 0 where
   pub says : name ∷ ps ≡ reason_tokens r
   pub fits : ReasonFits r
-  pub events : are_events ps ≡ true
-  pub rule : is_rule name ps ≡ true
 
 pub reason_told : (name : List ℕ) (ps : List (List ℕ)) (r : Reason) → reason_said name ps ≡ Ok r → ReasonTold name ps r
 unfolding reason_said base_rule inferred_rule
 reason_told name [] r e =
     let rule = bind_ok (named base_name base_rules name) _ r e in
     let is : Base rule.0 ≡ r = (let s = rule.2 in cc) in
-    let n = named_is base_name base_rules name rule.0 rule.1 in
-    rw (← is) record { says = ap (λ q. q ∷ []) n.0; fits = tt; events = refl; rule = n.1 }
+    rw (← is) record { says = ap (λ q. q ∷ []) (named_is base_name base_rules name rule.0 rule.1); fits = tt }
 reason_told name (load ∷ path) r e =
     let l = bind_ok (event load) _ r e in
     let p = bind_ok (events path) _ r l.2 in
     let rule = bind_ok (named inferred_name inferred_rules name) _ r p.2 in
     let is : Inferred rule.0 l.0 p.0 ≡ r = (let s = rule.2 in cc) in
-    let n = named_is inferred_name inferred_rules name rule.0 rule.1 in
     let one = event_is load l.0 l.1 in
     let more = events_are path p.0 p.1 in
     rw (← is) record {
-      says = ap (λ q. q ∷ load ∷ path) n.0 ∙ ap (λ q. inferred_name rule.0 ∷ q ∷ path) one.0 ∙ ap (λ qs. inferred_name rule.0 ∷ event_text l.0 ∷ qs) more.0;
+      says = ap (λ q. q ∷ load ∷ path) (named_is inferred_name inferred_rules name rule.0 rule.1) ∙ ap (λ q. inferred_name rule.0 ∷ q ∷ path) one.0 ∙ ap (λ qs. inferred_name rule.0 ∷ event_text l.0 ∷ qs) more.0;
       fits = (one.1, more.1);
-      events = rw (event_some load l.0 l.1) (events_some path p.0 p.1);
-      rule = n.1;
     }
 
--- a token after the name is no event number; or the name is that of no rule with these tokens
-abbrev pub reason_faults : List ℕ → List (List ℕ) → Why → Type 0
-reason_faults name ps why = ((why ≡ BadNumber) × (are_events ps ≡ false)) ⊎ ((why ≡ BadRule) × (are_events ps ≡ true) × (is_rule name ps ≡ false))
+-- a token after the name is no event number; or they are the tokens of no reason
+abbrev pub ReasonFault : List ℕ → List (List ℕ) → Why → Type 0
+ReasonFault name ps why = ((why ≡ BadNumber) × (All IsEventToken ps → ⊥)) ⊎ ((why ≡ BadRule) × All IsEventToken ps × ((r : Reason) → name ∷ ps ≡ reason_tokens r → ⊥))
 
-pub reason_refused : (name : List ℕ) (ps : List (List ℕ)) (why : Why) → reason_said name ps ≡ Err why → reason_faults name ps why
+no_base : (name : List ℕ) (why : Why) → base_rule name ≡ Err why → (r : Reason) → name ∷ [] ≡ reason_tokens r → ⊥
+no_base name why e (Base rule) is = let s : Ok rule ≡ Err why = sym (base_rule-name rule) ∙ ap base_rule (sym (uncons _ _ _ _ is).0) ∙ e in absurd cc
+no_base name why e (Inferred rule load path) is = absurd (let s = (uncons _ _ _ _ is).1 in cc)
+
+no_inferred : (name load : List ℕ) (path : List (List ℕ)) (why : Why) → inferred_rule name ≡ Err why → (r : Reason) → name ∷ load ∷ path ≡ reason_tokens r → ⊥
+no_inferred name load path why e (Base rule) is = absurd (let s = (uncons _ _ _ _ is).1 in cc)
+no_inferred name load path why e (Inferred rule l p) is = let s : Ok rule ≡ Err why = sym (inferred_rule-name rule) ∙ ap inferred_rule (sym (uncons _ _ _ _ is).0) ∙ e in absurd cc
+
+pub reason_refused : (name : List ℕ) (ps : List (List ℕ)) (why : Why) → reason_said name ps ≡ Err why → ReasonFault name ps why
 unfolding reason_said base_rule inferred_rule
 reason_refused name [] why e =
     ⊎_elim
-    (λ (none : named base_name base_rules name ≡ Err why). let s = named_none base_name base_rules name why none in inr (s.1, refl, s.0))
+    (λ (none : named base_name base_rules name ≡ Err why). inr (named_none base_name base_rules name why none, All-nil IsEventToken, no_base name why none))
     (λ (r : (rule : BaseRule) × (named base_name base_rules name ≡ Ok rule) × (Ok (Base rule) ≡ Err why)). absurd (let s = r.2 in cc))
     (bind_err (named base_name base_rules name) _ why e)
 reason_refused name (load ∷ path) why e =
     ⊎_elim
-    (λ (no_load : event load ≡ Err why). let s = event_none load why no_load in inl (s.1, ap (λ b. b && are_events path) s.0))
+    (λ (no_load : event load ≡ Err why). let s = event_none load why no_load in inl (s.1, λ all. s.0 (all_first IsEventToken load path all)))
     (λ (l : (n : ℕ) × (event load ≡ Ok n) × ((events path >>= λ p. named inferred_name inferred_rules name >>= λ rule. Ok (Inferred rule n p)) ≡ Err why)).
     ⊎_elim
-    (λ (no_path : events path ≡ Err why). let s = events_none path why no_path in inl (s.1, ap (λ b. is_some (event_number load) && b) s.0 ∙ and-false _))
+    (λ (no_path : events path ≡ Err why). let s = events_none path why no_path in inl (s.1, λ all. s.0 (all_after IsEventToken load path all)))
     (λ (p : (ns : List ℕ) × (events path ≡ Ok ns) × ((named inferred_name inferred_rules name >>= λ rule. Ok (Inferred rule l.0 ns)) ≡ Err why)).
     ⊎_elim
     (λ (none : named inferred_name inferred_rules name ≡ Err why).
-    let s = named_none inferred_name inferred_rules name why none in
-    inr (s.1, rw (event_some load l.0 l.1) (events_some path p.0 p.1), s.0))
+    inr (named_none inferred_name inferred_rules name why none, All-cons IsEventToken load path (event_token load l.0 l.1) (events_tokens path p.0 p.1), no_inferred name load path why none))
     (λ (r : (rule : InferredRule) × (named inferred_name inferred_rules name ≡ Ok rule) × (Ok (Inferred rule l.0 p.0) ≡ Err why)). absurd (let s = r.2 in cc))
     (bind_err (named inferred_name inferred_rules name) _ why p.2))
     (bind_err (events path) _ why l.2))

@@ -1,5 +1,5 @@
 -- The lines of a certificate.
-use Rattle.std.specs.Prelude.{ℕ, zero, suc, ◌^◌, ◌<◌, List, [], ◌∷◌, ◌++◌, map, length, All, codes}
+use Rattle.std.specs.Prelude.{ℕ, zero, suc, ◌^◌, ◌<◌, List, [], ◌∷◌, ◌++◌, map, All, codes}
 use Rattle.std.specs.List.{flat_map}
 use Rattle.std.specs.Fmt.{decimal}
 use Rattle.line_text.specs.Lines.{line_text}
@@ -79,7 +79,3 @@ StepFits s = Fits s.from × Fits s.to × ReasonFits s.reason
 abbrev pub CertFits : Certificate → Type 0
 CertFits (Unwritten n) = Fits n
 CertFits (Cycle steps cycle) = All StepFits steps × All Fits cycle
-
-abbrev pub step_count : Certificate → ℕ
-step_count (Unwritten n) = 0
-step_count (Cycle steps cycle) = length steps

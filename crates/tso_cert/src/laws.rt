@@ -1,7 +1,7 @@
 //! What the definitions of spelling say of each other, proved of all texts.
 
-ghost use Rattle.std.specs.Prelude.{◌≡◌, ◌⊎◌, ℕ, suc, List};
-ghost use Rattle.tso_cert.specs.Printed.{cert_text, CertFits, Fits, step_count};
+ghost use Rattle.std.specs.Prelude.{◌≡◌, ◌⊎◌, ℕ, List};
+ghost use Rattle.tso_cert.specs.Printed.{cert_text, CertFits};
 ghost use Rattle.tso_cert.specs.Spelling.{SpellsCertificate, IsCertTextRefusal, IsSpelled, IsRefused};
 ghost use Rattle.tso_cert.specs.declared.faults.Why.{Why};
 ghost use Rattle.tso_cert.specs.declared.steps.Certificate.{Certificate};
@@ -14,5 +14,5 @@ pub fn certificates()
     ensures one_value { (text : List ℕ) (c d : Certificate) → SpellsCertificate text c → SpellsCertificate text d → c ≡ d }
     ensures one_text { (text : List ℕ) (c : Certificate) → SpellsCertificate text c → text ≡ cert_text c }
     ensures one_refusal { (text : List ℕ) (j k : ℕ) (v w : Why) → IsCertTextRefusal text j v → IsCertTextRefusal text k w → (j ≡ k) × (v ≡ w) }
-    ensures printed { (c : Certificate) → CertFits c → Fits (suc (step_count c)) → SpellsCertificate (cert_text c) c }
+    ensures printed { (c : Certificate) → CertFits c → SpellsCertificate (cert_text c) c }
 {}

@@ -1,7 +1,7 @@
-ghost use Rattle.std.specs.Prelude.{◌≡◌, ◌++◌, ◌∷◌, suc, All, length, string_bytes, OnOk, IfOk};
+ghost use Rattle.std.specs.Prelude.{◌≡◌, ◌++◌, ◌∷◌, All, string_bytes, OnOk, IfOk};
 ghost use Rattle.std.specs.List.{flat_map};
 ghost use Rattle.line_text.specs.Lines.{line_text};
-ghost use Rattle.tso_cert.specs.Printed.{base_name, inferred_name, event_text, reason_tokens, step_tokens, steps_tokens, cert_text, Fits, ReasonFits, StepFits, CertFits, step_count};
+ghost use Rattle.tso_cert.specs.Printed.{base_name, inferred_name, event_text, reason_tokens, step_tokens, steps_tokens, cert_text, Fits, ReasonFits, StepFits, CertFits};
 ghost use Rattle.tso_cert.specs.Spelling.{SpellsCertificate};
 
 use crate::faults::OutOfMemory;

@@ -1,6 +1,7 @@
-ghost use Rattle.std.specs.Prelude.{◌≡◌, ◌≢◌, ◌++◌, ◌∷◌, [], length, MatchResult, OnOk, IfOk, IfErr};
-ghost use Rattle.tso_cert.specs.Spelling.{SpellsCertificate, IsCertTextRefusal, unended_cert_fault};
-ghost use Rattle.tso_cert.specs.Internal.CertLines.{HasCertLines};
+ghost use Rattle.std.specs.Prelude.{◌≡◌, ◌≢◌, ◌++◌, ◌∷◌, [], length, Result, MatchResult, OnOk, IfOk, IfErr};
+ghost use Rattle.line_text.specs.Lines.{parts_of};
+ghost use Rattle.tso_cert.specs.Spelling.{SpellsCertificate, IsCertTextRefusal};
+ghost use Rattle.tso_cert.specs.Internal.ReadTexts.{read_parts, unended_cert_fault};
 ghost use Rattle.tso_cert.specs.declared.faults.Why.{Why};
 ghost use Rattle.tso_cert.specs.declared.steps.Certificate.{Certificate};
 
@@ -25,8 +26,8 @@ pub fn read_cert(alloc: Global, text: &[u8]) -> Result<Certificate, TextFault>
 
 /// The certificate that a text spells, or its refusal.
 fn read(alloc: Global, text: &[u8]) -> Result<Certificate, TextFault>
-    ensures found { IfOk result (HasCertLines text.now) }
-    ensures refused { IfErr result (λ fault. fault.why ≢ Why.OutOfMemory → IsCertTextRefusal text.now fault.line fault.why) }
+    ensures found { IfOk result (λ c. read_parts [] (parts_of text.now) ≡ Result.Ok c) }
+    ensures refused { IfErr result (λ fault. fault.why ≢ Why.OutOfMemory → read_parts [] (parts_of text.now) ≡ Result.Err (fault.line, fault.why)) }
     ensures memory { IfErr result (λ fault. fault.why ≡ Why.OutOfMemory → fault.line ≡ 0) }
 {
     let mut steps = Vec::new(alloc);

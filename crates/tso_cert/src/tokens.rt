@@ -2,8 +2,7 @@ ghost use Rattle.std.specs.Prelude.{◌≡◌, ◌≢◌, [], ◌∷◌, Result,
 ghost use Rattle.std.specs.Str.{bytes_eq};
 ghost use Rattle.std.specs.Fmt.{decimal};
 ghost use Rattle.line_text.specs.Lines.{tokens_after};
-ghost use Rattle.tso_cert.specs.Spelling.{event_number};
-ghost use Rattle.tso_cert.specs.Internal.LineValues.{event, events, base_rule, inferred_rule};
+ghost use Rattle.tso_cert.specs.Internal.LineValues.{event_number, event, events, base_rule, inferred_rule};
 ghost use Rattle.tso_cert.specs.declared.faults.Why.{Why};
 
 use crate::faults::Why;

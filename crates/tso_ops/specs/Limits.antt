@@ -8,49 +8,39 @@ use Rattle.tso_ops.specs.declared.faults.ValueFault.{ValueFault}
 use Rattle.tso_ops.specs.declared.faults.ValueFault.TheVariants.{TooManyProcessors, TooManyEvents, AddressRange, ZeroValue, RepeatedValue, OutOfMemory, StbarInTso, InitOrder}
 use Rattle.tso_ops.specs.declared.settings.Version.TheVariants.{One}
 use Rattle.tso_ops.specs.declared.settings.Order.{Order}
-use Rattle.tso_ops.specs.declared.settings.Order.TheVariants.{Tso, Pso}
+use Rattle.tso_ops.specs.declared.settings.Order.TheVariants.{Tso}
 use Rattle.tso_ops.specs.Settings.{SettingValue, values_of, event_limit, barrier_limit}
 use Rattle.tso_ops.specs.Values.{ProgramValue, TraceValue, ReadFits, program_of, in_file_order, outcomes_in_file_order}
 
 -- how many events the operation gives: a swap its load and its store, a barrier none
 abbrev pub event_count : Op → ℕ
-event_count (Ld a) = 1
-event_count (St a v) = 1
 event_count (Sw a v) = 2
 event_count Mb = 0
 event_count Sb = 0
+event_count _ = 1
 
 -- how many barriers of either kind the operation is
 abbrev pub barrier_count : Op → ℕ
-barrier_count (Ld a) = 0
-barrier_count (St a v) = 0
-barrier_count (Sw a v) = 0
 barrier_count Mb = 1
 barrier_count Sb = 1
+barrier_count _ = 0
 
 abbrev pub address_of : Op → Option ℕ
 address_of (Ld a) = Some a
 address_of (St a v) = Some a
 address_of (Sw a v) = Some a
-address_of Mb = None
-address_of Sb = None
+address_of _ = None
 
 -- the value that the operation writes
 abbrev pub stored_by : Op → Option ℕ
-stored_by (Ld a) = None
 stored_by (St a v) = Some v
 stored_by (Sw a v) = Some v
-stored_by Mb = None
-stored_by Sb = None
+stored_by _ = None
 
 -- the operation is an STBAR, which TSO has none of
 abbrev pub is_stbar_in_tso : Order → Op → Bool
-is_stbar_in_tso Tso (Ld a) = false
-is_stbar_in_tso Tso (St a v) = false
-is_stbar_in_tso Tso (Sw a r) = false
-is_stbar_in_tso Tso Mb = false
 is_stbar_in_tso Tso Sb = true
-is_stbar_in_tso Pso op = false
+is_stbar_in_tso _ _ = false
 
 abbrev pub total_events : List Op → ℕ
 total_events ops = sum_by event_count ops
@@ -113,27 +103,21 @@ is_repeated values (Some v) = list_any (nat_eq v) values
 
 -- The operation has the fault, with these operations before it in file order.
 abbrev pub has_fault : SettingValue → List Op → Op → ValueFault → Bool
-has_fault setting before op TooManyProcessors = false
 has_fault setting before op TooManyEvents =
     nat_lt (event_limit setting.version) (total_events before + event_count op)
     || nat_lt (barrier_limit setting.version) (total_barriers before + barrier_count op)
 has_fault setting before op AddressRange = is_past_addresses (address_of op)
 has_fault setting before op ZeroValue = is_zero (stored_by op)
 has_fault setting before op RepeatedValue = is_repeated (values_of setting.first ++ stored_values before) (stored_by op)
-has_fault setting before op OutOfMemory = false
 has_fault setting before op StbarInTso = is_stbar_in_tso setting.order op
-has_fault setting before op InitOrder = false
+has_fault setting before op _ = false
 
 -- The entry of a first value has the fault, with these entries before it.
 abbrev pub has_entry_fault : List (ℕ × ℕ) → ℕ × ℕ → ValueFault → Bool
-has_entry_fault before entry TooManyProcessors = false
-has_entry_fault before entry TooManyEvents = false
 has_entry_fault before entry AddressRange = nat_lt 255 entry.0
 has_entry_fault before entry ZeroValue = entry.1 == 0
-has_entry_fault before entry RepeatedValue = false
-has_entry_fault before entry OutOfMemory = false
-has_entry_fault before entry StbarInTso = false
 has_entry_fault before entry InitOrder = list_any (λ other. nat_le entry.0 other.0) before
+has_entry_fault before entry _ = false
 
 -- the number of the refusal: of two on one operation or entry the lesser counts
 abbrev pub fault_number : ValueFault → ℕ

@@ -55,16 +55,10 @@ operation_at t (suc k) = slice_get (operations_of t) k
 -- the event is this part of the operation
 abbrev pub IsPartOf : Outcome → Part → Event → Type 0
 IsPartOf (Ld a r) Whole e = IsTrue e.load × (e.a ≡ a) × (e.value ≡ r)
-IsPartOf (Ld a r) SwapLoad e = ⊥
-IsPartOf (Ld a r) SwapStore e = ⊥
 IsPartOf (St a v) Whole e = IsFalse e.load × (e.a ≡ a) × (e.value ≡ v)
-IsPartOf (St a v) SwapLoad e = ⊥
-IsPartOf (St a v) SwapStore e = ⊥
-IsPartOf (Sw a r v) Whole e = ⊥
 IsPartOf (Sw a r v) SwapLoad e = IsTrue e.load × (e.a ≡ a) × (e.value ≡ r)
 IsPartOf (Sw a r v) SwapStore e = IsFalse e.load × (e.a ≡ a) × (e.value ≡ v)
-IsPartOf Mb part e = ⊥
-IsPartOf Sb part e = ⊥
+IsPartOf _ _ _ = ⊥
 
 -- It is the operation at its place of its processor, which is the event's, and the event is that part of it.
 abbrev pub IsOperationOf : TraceValue → Event → EventOperation → Type 0

@@ -1,10 +1,2 @@
 pub mod CampaignFacts
-pub mod CheckFacts
-pub mod CollectFacts
-pub mod InputFacts
 pub mod LawfulRecords
-pub mod Neighbours
-pub mod ReaderFacts
-pub mod ReportFacts
-pub mod RoundSteps
-pub mod StreamFacts

@@ -15,12 +15,12 @@ use Rattle.tso_ops.specs.Values.{ProgramValue}
 use Rattle.unit_core.specs.Records.{RecordedValue, is_within}
 use Rattle.unit_core.specs.Units.{UnitValue, new_unit}
 use Rattle.tso_report.specs.declared.campaigns.CampaignPrograms.{CampaignPrograms}
-use Rattle.tso_report.specs.declared.faults.Fault.{Fault}
-use Rattle.tso_report.specs.declared.faults.Fault.TheVariants.{OutOfMemory, Read, Write, NoThread, Missing}
+use Rattle.trace_judging.specs.declared.faults.Fault.{Fault}
+use Rattle.trace_judging.specs.declared.faults.Fault.TheVariants.{Read, Missing}
 use Rattle.trace_reports.specs.declared.verdicts.Verdict.{Verdict}
 use Rattle.trace_reports.specs.declared.verdicts.Verdict.TheVariants.{NoViolation, Violation}
-use Rattle.trace_reports.specs.Reports.{IsTraceReport, no_violation_text}
-use Rattle.tso_report.specs.WrittenReports.{WritesPrefix}
+use Rattle.trace_reports.specs.Reports.{IsTraceReport}
+use Rattle.trace_judging.specs.WrittenReports.{LeavesAtFault}
 
 -- ---- the program of a seed
 
@@ -64,7 +64,7 @@ pub record IsVerdictOfSeed (programs : CampaignPrograms) (seed : ℕ) (unit : Un
 
 abbrev pub verdict_line : Bool → List ℕ
 verdict_line true = codes "VIOLATION" ++ 10 ∷ []
-verdict_line false = no_violation_text
+verdict_line false = codes "NO VIOLATION FOUND" ++ 10 ∷ []
 
 -- the line of a seed
 abbrev pub seed_line : ℕ → Bool → List ℕ
@@ -100,10 +100,13 @@ pub record IsCampaign (programs : CampaignPrograms) (units : List UnitValue) (te
   pub whole : text ≡ campaign_text programs.first violations
   pub says : verdict ≡ verdict_of (list_any (λ violation. violation) violations)
 
--- What a fault leaves: on Write a prefix of the text, else nothing was written. A missing seed is one of the campaign. Nothing is read.
+-- What a fault leaves of such a text on so many seeds from the first on: on Write a prefix of the text, else nothing was written. A missing seed is one of
+-- these. Nothing is read.
+abbrev pub LeavesOfSeeds : {X : Type 0} → (List ℕ → X → Type 0) → (first count : ℕ) → Option (List ℕ) → Option (List ℕ) → Fault → Type 0
+LeavesOfSeeds is_text first count old new Read = ⊥
+LeavesOfSeeds is_text first count old new (Missing seed) = (first ≤ seed) × (seed < first + count) × Keeps old new
+LeavesOfSeeds is_text first count old new fault = LeavesAtFault is_text old new fault
+
+-- what a fault leaves of the campaign of these programs over these units
 abbrev pub LeavesCampaign : CampaignPrograms → List UnitValue → Option (List ℕ) → Option (List ℕ) → Fault → Type 0
-LeavesCampaign programs units old new OutOfMemory = Keeps old new
-LeavesCampaign programs units old new Read = ⊥
-LeavesCampaign programs units old new Write = WritesPrefix (IsCampaign programs units) old new
-LeavesCampaign programs units old new NoThread = Keeps old new
-LeavesCampaign programs units old new (Missing seed) = (programs.first ≤ seed) × (seed < programs.first + length units) × Keeps old new
+LeavesCampaign programs units old new fault = LeavesOfSeeds (IsCampaign programs units) programs.first (length units) old new fault

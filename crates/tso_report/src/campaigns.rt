@@ -1,14 +1,12 @@
 //! Campaigns: a program drawn from each of many seeds, run on a unit of its own, and judged.
 ghost use Rattle.std.specs.Prelude.{◌≡◌, ◌≤◌, ◌+◌, ◌^◌, [], All, Decides, IfOk, IfErr, length, map};
 ghost use Rattle.std.specs.List.{list_any};
-ghost use Rattle.round_pool.specs.Workers.{worker_limit};
+ghost use Rattle.trace_judging.specs.Limits.{worker_limit};
 ghost use Rattle.tso_report.specs.Campaigns.{IsCampaign, LeavesCampaign, verdict_of};
 ghost use Rattle.tso_report.specs.Internal.Gathering.{AreUnitsFrom};
 ghost use Rattle.tso_report.specs.Limits.{seed_count_limit};
-ghost use Rattle.tso_report.specs.WrittenReports.{WritesWhole};
+ghost use Rattle.trace_judging.specs.WrittenReports.{WritesWhole};
 
-use crate::faults::Fault;
-use crate::streams::writing::write_text;
 use gathering::Gathered;
 use seeds::SeedUnits;
 use std::alloc::Global;
@@ -16,6 +14,7 @@ use std::io::Write;
 use std::marker::Brand;
 use std::sync::Wait;
 use std::thread::Threads;
+use trace_judging::{Fault, write_text};
 use trace_reports::Verdict;
 use tso_ops::{Order, Shape};
 use unit_core::MemoryUnit;

@@ -1,37 +1,20 @@
-//! Reports on traces: from the bytes of a trace's text to the bytes of its report.
+//! Reports on traces, on the records of memory units, and on campaigns.
 //!
-//! Each input has one report, and `judge` writes it; `check_texts` writes that of a trace and a certificate. `present` writes
-//! any other text that follows from what is found of a trace, as an explanation, by its `Rendering`; `render_text` and
-//! `render_trace` answer it.
+//! `judge_recorded` writes the report of a unit's record, and `campaign` that of many seeds' programs, each run on a unit of
+//! its own. What judges the text of a trace is here, too, from `trace_judging`.
 //! `README.md` says what is proved.
 #![tactic(auto)]
 
 pub use account_rendering::print_account;
 pub use campaigns::seeds::{seeded_program, seeded_program_with_order};
 pub use campaigns::{CampaignPrograms, MAX_SEEDS, campaign, campaign_over};
-pub use certificates::build_cert;
-pub use checking::{MAX_CERTIFICATE_BYTES, check_texts};
-pub use faults::Fault;
-pub use findings::find_violation;
-pub use judging::judge;
-pub use presenting::{present, render_text, render_trace};
 pub use record_judging::{judge_recorded, report_of_record};
-pub use round_pool::MAX_WORKERS;
-pub use streams::reading::read_all;
-pub use streams::writing::write_text;
-pub use trace_reports::{
-    AsReport, Finding, Rendering, Report, Verdict, render, render_head, render_refusal,
+pub use trace_judging::{
+    AsReport, Fault, Finding, MAX_CERTIFICATE_BYTES, MAX_WORKERS, Rendering, Report, Verdict,
+    build_cert, check_texts, find_violation, judge, present, read_all, render, render_head,
+    render_refusal, render_text, render_trace, write_text,
 };
 
 mod account_rendering;
 mod campaigns;
-mod cert_rendering;
-mod certificates;
-mod checking;
-mod faults;
-mod findings;
-mod judging;
-pub mod laws;
-mod presenting;
 mod record_judging;
-mod streams;

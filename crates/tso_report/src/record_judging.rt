@@ -1,21 +1,19 @@
 //! The way of a unit's record: judge its trace, write the report.
 ghost use Rattle.std.specs.Prelude.{◌≡◌, ◌≢◌, ◌⊎◌, ◌↔◌, ◌≤◌, ℕ, List, true, string_bytes, IfOk, IfErr};
 ghost use Rattle.std.specs.Io.KnownBytes.{Appends};
-ghost use Rattle.round_pool.specs.Workers.{worker_limit};
+ghost use Rattle.trace_judging.specs.Limits.{worker_limit};
 ghost use Rattle.tso_model.specs.Axioms.{IsConsistent};
-ghost use Rattle.tso_report.specs.declared.faults.Fault.{Fault};
+ghost use Rattle.trace_judging.specs.declared.faults.Fault.{Fault};
 ghost use Rattle.trace_reports.specs.declared.verdicts.Verdict.{Verdict};
 ghost use Rattle.trace_reports.specs.Violations.{IsViolation};
 ghost use Rattle.trace_reports.specs.Reports.{IsTraceReport, ShowsNoViolationOf, ShowsViolationOf};
-ghost use Rattle.tso_report.specs.WrittenReports.{LeavesAtFault, WritesWhole};
+ghost use Rattle.trace_judging.specs.WrittenReports.{LeavesAtFault, WritesWhole};
 
-use crate::faults::Fault;
-use crate::presenting::render_trace;
-use crate::streams::writing::write_text;
 use std::alloc::Global;
 use std::io::Write;
 use std::sync::Wait;
 use std::thread::Threads;
+use trace_judging::{Fault, render_trace, write_text};
 use trace_reports::{AsReport, Report, Verdict};
 use unit_core::Recorded;
 

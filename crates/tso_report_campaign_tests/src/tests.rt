@@ -8,22 +8,9 @@ mod one_type;
 mod seeded_programs;
 
 use std::alloc::Global;
-use std::fmt::Debug;
-use std::process::Abort;
 use std::test::Fail;
 use tso_ops::{OutOfMemory, Shape};
 use unit_core::MemoryUnit;
-
-/// Compares what a call gave in this case. An assertion costs the check of a function many times what a call of this one
-/// costs it.
-fn expect_equal<H: Abort, C: Copy + Debug, T: Copy + Debug + PartialEq>(
-    rt: &H,
-    case: C,
-    found: T,
-    expected: T,
-) {
-    assert_eq!(rt; found, expected, "{case:?}");
-}
 
 /// The text of the seeds 1, 2 and 3 without a violation.
 const THREE_SEEDS: &str =

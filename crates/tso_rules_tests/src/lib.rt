@@ -1,4 +1,4 @@
-//! Tests of `tso_rules`, by its public calls.
+//! Tests of `tso_rules`, and of `reference_rounds` beside it, by their public calls.
 #![tactic(auto)]
 
 #[cfg(test)]

@@ -5,6 +5,7 @@ mod at_limits;
 mod drawn;
 mod justify_edges;
 mod over_base;
+mod reference;
 mod refused_allocations;
 mod rows;
 

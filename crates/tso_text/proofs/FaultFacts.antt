@@ -1,27 +1,21 @@
 -- The faults of lines in texts, from those of operations and of first values in values.
-use Rattle.std.proofs.Common.{◌≡◌, ℕ, ◌<◌, ◌≤◌, true, false, ltb, List, [], ◌∷◌, ◌++◌, map, refl, sym, ◌∙◌, ap, arith, inl, inr, ⊎_elim, subst, ◌||◌, eqb, cond, Bool, Option, Some, None}
+use Rattle.std.proofs.Common.{◌≡◌, ℕ, ◌<◌, ◌≤◌, true, false, ltb, List, [], ◌∷◌, ◌++◌, refl, sym, ◌∙◌, ap, arith, inl, inr, ⊎_elim, subst, ◌||◌, eqb, cond, Bool, Option, Some, None}
 use Rattle.std.proofs.lemmas.Bool.{false≢true}
-use Rattle.std.proofs.Math.Bool.{and-false}
 use Rattle.std.proofs.lemmas.Bool.Decides.{nat_tests}
 use Rattle.std.specs.List.{list_any}
 use Rattle.tso_ops.specs.declared.ops.Op.{Op}
 use Rattle.tso_ops.specs.declared.ops.Op.TheVariants.{Ld, St, Sw, Mb, Sb}
-use Rattle.tso_ops.specs.declared.ops.Outcome.{Outcome}
 use Rattle.tso_ops.specs.declared.faults.ValueFault.{ValueFault}
 use Rattle.tso_ops.specs.declared.faults.ValueFault.TheVariants.{TooManyProcessors as ManyProcessors, TooManyEvents as ManyEvents, AddressRange as PastAddresses, ZeroValue as ZeroStored, RepeatedValue as Repeated, OutOfMemory as NoMemory, StbarInTso, InitOrder as NotAscending}
 use Rattle.tso_ops.specs.Settings.{SettingValue, values_of}
 use Rattle.tso_ops.specs.Limits.{stored_values, has_fault, has_entry_fault, is_stbar_in_tso, IsFaultless, IsEntryRefusal, IsFirstFault as IsFirstOfOp}
 use Rattle.tso_ops.specs.Tally.{IsAdmitRefusal as IsOpRefusedFor}
-use Rattle.tso_ops.specs.Values.{op_of}
 use Rattle.tso_ops.specs.declared.acts.Act.{Act}
 use Rattle.tso_text.specs.declared.faults.Why.{Why}
 use Rattle.tso_text.specs.declared.faults.Why.TheVariants.{TooManyEvents, AddressRange, ZeroValue, RepeatedValue, ProcessorRange, InitOrder}
-use Rattle.tso_text.specs.Internal.Grammars.{op_fault, outcome_fault, program_op_fault, act_fault}
+use Rattle.tso_text.specs.Internal.Grammars.{act_fault}
 use Rattle.tso_text.specs.Texts.{processor_of}
-use Rattle.tso_text.specs.Internal.Preambles.{entry_fault}
-use Rattle.tso_text.specs.Internal.Spelling.{same_text_fault, found_by}
 use Rattle.tso_text.specs.Refusals.{op_fault_after, entry_fault_after}
-use Rattle.tso_text.proofs.FirstFacts.{found_first, found_none}
 use Rattle.tso_text.specs.Internal.Accepted.{IsRefusedFor, IsWhyOf}
 
 -- ---- operations
@@ -53,9 +47,9 @@ pub record PassesTests (setting : SettingValue) (before : List Op) (op : Op) : T
   pub zero : has_fault setting before op ZeroStored ≡ false
   pub repeated : has_fault setting before op Repeated ≡ false
 
-pub op_passes : (setting : SettingValue) (before : List Op) (op : Op) → ((w : Why) → op_fault setting before op w ≡ false) → PassesTests setting before op
+pub op_passes : (setting : SettingValue) (before : List Op) (op : Op) → op_fault_after setting before op ≡ None → PassesTests setting before op
 op_passes setting before op clean =
-    let t = none_of _ _ _ _ (sym (by_tests setting before op) ∙ found_none (op_fault_after setting before op) clean) in record { many = t.0; past = t.1; zero = t.2; repeated = t.3 }
+    let t = none_of _ _ _ _ (sym (by_tests setting before op) ∙ clean) in record { many = t.0; past = t.1; zero = t.2; repeated = t.3 }
   where
     none_of : (a b c d : Bool) → op_found a b c d ≡ None → (a ≡ false) × (b ≡ false) × (c ≡ false) × (d ≡ false)
     none_of false false false false e = (refl, refl, refl, refl)
@@ -65,14 +59,13 @@ op_passes setting before op clean =
     none_of false false false true e = absurd cc
 
 -- an operation without a fault has none in a text
-pub op_clean : (setting : SettingValue) (before : List Op) (op : Op) → ((why : ValueFault) → has_fault setting before op why ≡ false) → (w : Why) → op_fault setting before op w ≡ false
-op_clean setting before op none w =
+pub op_clean : (setting : SettingValue) (before : List Op) (op : Op) → ((why : ValueFault) → has_fault setting before op why ≡ false) → op_fault_after setting before op ≡ None
+op_clean setting before op none =
     let many : has_fault setting before op ManyEvents ≡ false = none ManyEvents in
     let past : has_fault setting before op PastAddresses ≡ false = none PastAddresses in
     let zero : has_fault setting before op ZeroStored ≡ false = none ZeroStored in
     let repeated : has_fault setting before op Repeated ≡ false = none Repeated in
-    let is : op_fault_after setting before op ≡ None = by_tests setting before op ∙ rw (many, past, zero, repeated) refl in
-    ap (λ o. found_by o w) is
+    by_tests setting before op ∙ rw (many, past, zero, repeated) refl
 
 -- its first fault is that in a text
 op_first : (setting : SettingValue) (before : List Op) (op : Op) (fault : ValueFault) (why : Why) → IsWhyOf fault why → IsFirstOfOp (has_fault setting) before op fault → op_fault_after setting before op ≡ Some why
@@ -92,9 +85,10 @@ op_first setting before op NoMemory why is first = absurd (false≢true first.fa
 op_first setting before op StbarInTso why is first = absurd is
 op_first setting before op NotAscending why is first = absurd (false≢true first.fault)
 
-op_refused_for : (setting : SettingValue) (before : List Op) (op : Op) (fault : ValueFault) (why : Why) → IsWhyOf fault why → IsOpRefusedFor setting before op fault → IsRefusedFor (op_fault setting before op) why
+-- an operation that is refused is refused in a text
+pub op_refused_for : (setting : SettingValue) (before : List Op) (op : Op) (fault : ValueFault) (why : Why) → IsWhyOf fault why → IsOpRefusedFor setting before op fault → IsRefusedFor (op_fault_after setting before op) why
 op_refused_for setting before op fault why is away =
-    ⊎_elim (λ memory. inl (subst (λ f. IsWhyOf f why) memory is)) (λ first. inr (found_first (op_fault_after setting before op) why (op_first setting before op fault why is first))) away
+    ⊎_elim (λ memory. inl (subst (λ f. IsWhyOf f why) memory is)) (λ first. inr (op_first setting before op fault why is first)) away
 
 -- no operation is refused for an STBAR that isn't one under TSO
 pub not_stbar : (setting : SettingValue) (before : List Op) (op : Op) (fault : ValueFault) → is_stbar_in_tso setting.order op ≡ false → IsOpRefusedFor setting before op fault → fault ≡ StbarInTso → ⊥
@@ -102,41 +96,22 @@ not_stbar setting before op fault none away is =
     ⊎_elim (λ (memory : fault ≡ NoMemory). let same : StbarInTso ≡ NoMemory = sym is ∙ memory in cc)
     (λ (first : IsFirstOfOp (has_fault setting) before op fault). false≢true (sym none ∙ sym (ap (has_fault setting before op) is) ∙ first.fault)) away
 
-at_last : (setting : SettingValue) (before : List Op) (op : Op) → IsFaultless (has_fault setting) (before ++ op ∷ []) → (why : ValueFault) → has_fault setting before op why ≡ false
+pub at_last : (setting : SettingValue) (before : List Op) (op : Op) → IsFaultless (has_fault setting) (before ++ op ∷ []) → (why : ValueFault) → has_fault setting before op why ≡ false
 at_last setting before op faultless why = faultless before op [] why refl
-
--- operations of programs
-pub program_op_clean : (setting : SettingValue) (items : List Op) (op : Op) → IsFaultless (has_fault setting) (items ++ op ∷ []) → (w : Why) → program_op_fault setting items op w ≡ false
-unfolding program_op_fault
-program_op_clean setting items op faultless w = op_clean setting items op (at_last setting items op faultless) w
-
-pub program_op_refused_for : (setting : SettingValue) (items : List Op) (op : Op) (fault : ValueFault) (why : Why) → IsWhyOf fault why → IsOpRefusedFor setting items op fault → IsRefusedFor (program_op_fault setting items op) why
-unfolding program_op_fault
-program_op_refused_for setting items op fault why is away = op_refused_for setting items op fault why is away
-
--- outcomes of traces
-pub outcome_clean : (setting : SettingValue) (items : List Outcome) (x : Outcome) (op : Op) → op ≡ op_of x → IsFaultless (has_fault setting) (map op_of items ++ op ∷ []) → (w : Why) → outcome_fault setting items x w ≡ false
-unfolding outcome_fault
-outcome_clean setting items x op is faultless w = op_clean setting (map op_of items) (op_of x) (at_last setting (map op_of items) (op_of x) (rw is at faultless)) w
-
-pub outcome_refused_for : (setting : SettingValue) (items : List Outcome) (x : Outcome) (op : Op) (fault : ValueFault) (why : Why) → op ≡ op_of x → IsWhyOf fault why → IsOpRefusedFor setting (map op_of items) op fault →
-    IsRefusedFor (outcome_fault setting items x) why
-unfolding outcome_fault
-outcome_refused_for setting items x op fault why same is away = op_refused_for setting (map op_of items) (op_of x) fault why is (rw same at away)
 
 -- ---- first values
 
 -- an entry without a fault has none in a text
-pub entry_clean : (before : List (ℕ × ℕ)) (entry : ℕ × ℕ) → ((why : ValueFault) → has_entry_fault before entry why ≡ false) → (w : Why) → entry_fault before entry w ≡ false
-entry_clean before entry none w =
+pub entry_clean : (before : List (ℕ × ℕ)) (entry : ℕ × ℕ) → ((why : ValueFault) → has_entry_fault before entry why ≡ false) → entry_fault_after before entry ≡ None
+entry_clean before entry none =
     let past : has_entry_fault before entry PastAddresses ≡ false = none PastAddresses in
     let zero : has_entry_fault before entry ZeroStored ≡ false = none ZeroStored in
     let order : has_entry_fault before entry NotAscending ≡ false = none NotAscending in
     rw (past, zero, order) refl
 
 -- and the other way round
-pub entry_clean_back : (before : List (ℕ × ℕ)) (entry : ℕ × ℕ) → ((w : Why) → entry_fault before entry w ≡ false) → (why : ValueFault) → has_entry_fault before entry why ≡ false
-entry_clean_back before entry clean = by (none_of _ _ _ (found_none (entry_fault_after before entry) clean))
+pub entry_clean_back : (before : List (ℕ × ℕ)) (entry : ℕ × ℕ) → entry_fault_after before entry ≡ None → (why : ValueFault) → has_entry_fault before entry why ≡ false
+entry_clean_back before entry clean = by (none_of _ _ _ clean)
   where
     none_of : (a b c : Bool) → cond a (Some AddressRange) (cond b (Some ZeroValue) (cond c (Some InitOrder) None)) ≡ None → (a ≡ false) × (b ≡ false) × (c ≡ false)
     none_of false false false e = (refl, refl, refl)
@@ -168,8 +143,8 @@ entry_first before entry NotAscending why is first =
     rw is (rw (past, zero, first.fault) refl)
 
 -- an entry that is refused is refused in a text
-pub entry_refused_for : (before : List (ℕ × ℕ)) (entry : ℕ × ℕ) (fault : ValueFault) (why : Why) → IsWhyOf fault why → IsEntryRefusal before entry fault → IsRefusedFor (entry_fault before entry) why
-entry_refused_for before entry fault why is away = ⊎_elim (λ memory. inl (subst (λ f. IsWhyOf f why) memory is)) (λ first. inr (found_first (entry_fault_after before entry) why (entry_first before entry fault why is first))) away
+pub entry_refused_for : (before : List (ℕ × ℕ)) (entry : ℕ × ℕ) (fault : ValueFault) (why : Why) → IsWhyOf fault why → IsEntryRefusal before entry fault → IsRefusedFor (entry_fault_after before entry) why
+entry_refused_for before entry fault why is away = ⊎_elim (λ memory. inl (subst (λ f. IsWhyOf f why) memory is)) (λ first. inr (entry_first before entry fault why is first)) away
 
 -- no entry is refused for an STBAR
 pub entry_not_stbar : (before : List (ℕ × ℕ)) (entry : ℕ × ℕ) (fault : ValueFault) → IsEntryRefusal before entry fault → fault ≡ StbarInTso → ⊥
@@ -180,12 +155,12 @@ entry_not_stbar before entry fault away is =
 -- ---- schedules
 
 -- acts of schedules
-pub act_clean : (items : List Act) (act : Act) → processor_of act ≤ 15 → (w : Why) → act_fault items act w ≡ false
+pub act_clean : (items : List Act) (act : Act) → processor_of act ≤ 15 → act_fault items act ≡ None
 unfolding act_fault
-act_clean items act low w = let off : ltb 15 (processor_of act) ≡ false = grind (arith, nat_tests) in rw off (and-false (same_text_fault ProcessorRange w))
+act_clean items act low = let off : ltb 15 (processor_of act) ≡ false = grind (arith, nat_tests) in rw off refl
 
 pub act_refused_for : (items : List Act) (act : Act) → 15 < processor_of act → IsRefusedFor (act_fault items act) ProcessorRange
 unfolding act_fault
 act_refused_for items act high =
     let on : ltb 15 (processor_of act) ≡ true = grind (arith, nat_tests) in
-    inr record { fault = rw on refl; least = λ w less. let other : same_text_fault ProcessorRange w ≡ false = grind (arith, nat_tests) in rw other refl }
+    inr (rw on refl)

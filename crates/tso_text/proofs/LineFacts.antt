@@ -1,11 +1,24 @@
--- Lemmas on the lists that lines make.
-use Rattle.std.proofs.Common.{◌≡◌, ℕ, zero, suc, ◌<◌, Bool, true, false, cond, eqb, List, [], ◌∷◌, ◌++◌, length, get_or, set, Result, Ok, Err, refl, ap, sym, ◌∙◌, arith, map, append_assoc}
+-- Lemmas on the lists that lines make, and on parts and tokens that a line has no use for.
+use Rattle.std.proofs.Common.{◌≡◌, ℕ, List, [], ◌∷◌, length, Err, refl, zero, suc, ◌<◌, Bool, true, false, cond, eqb, ◌++◌, get_or, set, Result, Ok, ap, sym, ◌∙◌, arith, map, append_assoc}
+use Rattle.line_text.specs.Lines.{SomeToken}
+use Rattle.tso_text.specs.Internal.Spelling.{unended_text_fault, push_last, items_of}
+use Rattle.tso_text.specs.Numbers.{no_number}
+use Rattle.tso_text.specs.declared.faults.Why.TheVariants.{BadLine}
 use Rattle.std.specs.Global.{Vec}
 use Rattle.std.specs.Result.{is_ok, OnOk}
 use Rattle.std.proofs.lemmas.List.{append-nil, map-append}
 use Rattle.std.proofs.lemmas.Bool.Decides.{nat_tests}
 use Rattle.tso_ops.specs.Values.{rows}
-use Rattle.tso_text.specs.Internal.Spelling.{push_last, items_of}
+
+-- bytes that no line end follows are no line
+pub unended_some : (part : List ℕ) → (length part ≡ 0 → ⊥) → unended_text_fault part ≡ BadLine
+unended_some [] some = absurd (some refl)
+unended_some (b ∷ part) some = refl
+
+-- where a token stands, none is too many
+pub no_number-some : (tokens : List (List ℕ)) → SomeToken tokens → no_number tokens ≡ Err BadLine
+unfolding no_number
+no_number-some tokens some = rw some.parts refl
 
 -- one more item in the last list
 pub items_of-push_last : {X : Type 0} (lists : List (List X)) (x : X) → 0 < length lists → items_of (push_last lists x) ≡ items_of lists ++ x ∷ []

@@ -1,9 +1,8 @@
 -- How far a reader has come in a preamble: its header, memory model and first values.
-use Rattle.std.proofs.Common.{◌≡◌, ℕ, suc, ◌+◌, ◌<◌, ◌≤◌, ◌||◌, Bool, true, false, List, [], ◌∷◌, ◌++◌, length, map, drop, eqb, Ok, Err, inr, refl, ap, sym, ◌∙◌, subst, arith, append_assoc, length-append}
+use Rattle.std.proofs.Common.{◌≡◌, ℕ, suc, ◌+◌, ◌<◌, ◌≤◌, ◌||◌, Bool, true, false, List, [], ◌∷◌, ◌++◌, length, map, drop, eqb, Option, Some, None, Ok, Err, inr, refl, ap, sym, ◌∙◌, subst, arith, append_assoc, length-append}
 use Rattle.std.specs.Prelude.{codes}
 use Rattle.std.specs.List.{take_while, prefix_len}
 use Rattle.std.specs.Str.{bytes_eq}
-use Rattle.std.proofs.Math.Bool.{and-false}
 use Rattle.std.proofs.Math.Seq.{drop-append_seam}
 use Rattle.std.proofs.lemmas.List.{append-nil, length-map}
 use Rattle.line_text.specs.Lines.{parts_of, tokens_of}
@@ -17,14 +16,12 @@ use Rattle.tso_ops.specs.Limits.{KeepsEntries}
 use Rattle.tso_ops.proofs.EntryFacts.{KeepsEntries-nil}
 use Rattle.tso_text.specs.declared.faults.Why.{Why}
 use Rattle.tso_text.specs.declared.faults.Why.TheVariants.{BadHeader, OutOfMemory}
-use Rattle.tso_text.specs.Numbers.{is_word}
-use Rattle.tso_text.specs.Lines.{begins_with, has_keyword, model_lines, model_said, entry_by, whole_lines}
-use Rattle.tso_text.specs.Internal.Preambles.{header_fault, header_alone, after_keyword, model_fault, result_fault, entry_lines, entry_said, entry_fault, said_entry_fault, with_said_entry, entries_after, entry_faults, version_of, setting_lines, preamble_by, setting_preamble}
-use Rattle.tso_text.specs.Internal.Spelling.{same_text_fault}
-use Rattle.tso_text.specs.Internal.Accepted.{IsFirstTextFault, IsRefusedFor}
+use Rattle.tso_text.specs.Lines.{begins_with, has_keyword, model_lines, whole_lines}
+use Rattle.tso_text.specs.Internal.LineReadings.{model_said, entry_by}
+use Rattle.tso_text.specs.Internal.Preambles.{header_fault, header_alone, after_keyword, model_fault, entry_lines, entry_said, said_entry_fault, with_said_entry, entries_after, entry_faults, version_of, setting_lines, preamble_by, setting_preamble}
+use Rattle.tso_text.specs.Refusals.{entry_fault_after}
 use Rattle.tso_text.specs.Internal.Begun.{AreFaultless, IsSetting, HasBegun, IsPreambleRefusal, HasHeader, HasNoHeader, HasModel, HasBadModel, HasEntries, HasAllEntries, HasBadEntry, IsEntryRefused}
-use Rattle.tso_text.proofs.ReadersFacts.{and_true, first_fault, same_text_fault-first, IsFirstTextFault-same}
-use Rattle.tso_text.proofs.TextFacts.{AreFaultless-append}
+use Rattle.tso_text.proofs.ReadersFacts.{first_fault, AreFaultless-append}
 
 -- ---- lines among parts
 
@@ -80,20 +77,17 @@ model_read text line rest word tokens cut token is says shorter = record {
   is = rw (cut, whole_lines-parts line rest, keyword_is (codes "model") line word tokens token, is) refl;
   says = refl;
   count = refl;
-  clean = (λ w. rw (after_keyword-is line word tokens token, says) refl, tt);
+  clean = (rw (after_keyword-is line word tokens token, says) refl, tt);
   parts = cut;
   room = omega (arith, shorter);
 }
-
-same_fault_refused : (why : Why) → IsRefusedFor (same_text_fault why) why
-same_fault_refused why = inr (same_text_fault-first why)
 
 pub model_refused : (text line rest word : List ℕ) (tokens : List (List ℕ)) (why : Why) → parts_of text ≡ line ∷ parts_of rest → tokens_of line ≡ word ∷ tokens → bytes_eq word (codes "model") ≡ true → model_said tokens ≡ Err why →
     HasBadModel text why
 model_refused text line rest word tokens why cut token is says = record {
   line = line;
   is = rw (cut, whole_lines-parts line rest, keyword_is (codes "model") line word tokens token, is) refl;
-  refused = subst (λ r. IsRefusedFor (result_fault r) why) (sym (ap model_said (after_keyword-is line word tokens token) ∙ says)) (same_fault_refused why);
+  refused = inr (rw (after_keyword-is line word tokens token, says) refl);
 }
 
 pub model_other : (text line rest word : List ℕ) (tokens : List (List ℕ)) → parts_of text ≡ line ∷ parts_of rest → tokens_of line ≡ word ∷ tokens → bytes_eq word (codes "model") ≡ false → HasModel text Tso 0 text
@@ -137,7 +131,7 @@ entry_here rest line after word tokens cut token is =
     ∙ take_while-yes is_entry_line line (whole_lines (parts_of after)) (keyword_is (codes "init") line word tokens token ∙ is)
 
 pub entries_next : (text : List ℕ) (first : List (ℕ × ℕ)) (lines : ℕ) (rest line after word : List ℕ) (tokens : List (List ℕ)) (entry : ℕ × ℕ) → HasEntries text first lines rest → parts_of rest ≡ line ∷ parts_of after →
-    tokens_of line ≡ word ∷ tokens → bytes_eq word (codes "init") ≡ true → entry_by tokens ≡ Ok entry → ((w : Why) → entry_fault first entry w ≡ false) → length after < length rest → HasEntries text (first ++ entry ∷ []) (lines + 1) after
+    tokens_of line ≡ word ∷ tokens → bytes_eq word (codes "init") ≡ true → entry_by tokens ≡ Ok entry → entry_fault_after first entry ≡ None → length after < length rest → HasEntries text (first ++ entry ∷ []) (lines + 1) after
 entries_next text first lines rest line after word tokens entry read cut token is says clean shorter =
     let said : entry_said line ≡ Ok entry = ap entry_by (after_keyword-is line word tokens token) ∙ says in
     record {
@@ -147,7 +141,7 @@ entries_next text first lines rest line after word tokens entry read cut token i
       count = omega (arith, length-append read.done (line ∷ []), read.count);
       clean =
           subst AreFaultless (sym (entry_faults-append [] read.done (line ∷ [])))
-          (AreFaultless-append (entry_faults [] read.done) (entry_faults (entries_after [] read.done) (line ∷ [])) read.clean (λ w. rw (said, read.says) (clean w), tt));
+          (AreFaultless-append (entry_faults [] read.done) (entry_faults (entries_after [] read.done) (line ∷ [])) read.clean (rw (said, read.says) clean, tt));
       parts = read.parts ∙ ap (λ ps. read.done ++ ps) cut ∙ sym (append_assoc read.done (line ∷ []) (parts_of after));
       room = omega (arith, read.room, shorter);
     }
@@ -179,7 +173,7 @@ entries_refused text first lines rest line after word tokens why read cut token 
 -- ---- the whole preamble
 
 abbrev header_test : List ℕ → List ℕ → List ℕ → Bool
-header_test one two line = is_word line one || is_word line two
+header_test one two line = bytes_eq line one || bytes_eq line two
 
 -- the preamble of a text that begins with a header
 pub preamble_after : (one two text : List ℕ) (version : Version) (rest : List ℕ) → (h : HasHeader one two text version rest) →
@@ -187,8 +181,8 @@ pub preamble_after : (one two text : List ℕ) (version : Version) (rest : List 
 unfolding setting_preamble
 preamble_after one two text version rest h = rw (h.parts, whole_lines-parts h.line rest) refl
 
-pub header_clean : (one two text : List ℕ) (version : Version) (rest : List ℕ) → (h : HasHeader one two text version rest) → (lines : List (List ℕ)) (w : Why) → header_fault (header_test one two) (h.line ∷ lines) w ≡ false
-header_clean one two text version rest h lines w = rw h.is (and-false (same_text_fault BadHeader w))
+pub header_clean : (one two text : List ℕ) (version : Version) (rest : List ℕ) → (h : HasHeader one two text version rest) → (lines : List (List ℕ)) → header_fault (header_test one two) (h.line ∷ lines) ≡ None
+header_clean one two text version rest h lines = rw h.is refl
 
 -- the lines after those of the memory model
 pub after_model : (text : List ℕ) (order : Order) (lines : ℕ) (rest : List ℕ) → (m : HasModel text order lines rest) → drop (length (model_lines (whole_lines (parts_of text)))) (whole_lines (parts_of text)) ≡ whole_lines (parts_of rest)
@@ -209,7 +203,7 @@ found_preamble one two text version order lines after rest f entries are =
     ∙ ap (λ s. preamble_by (header_fault (header_test one two) (f.header.line ∷ whole_lines (parts_of after))) s)
     (rw (after_model after order lines rest f.said, f.said.is, f.header.says, are) refl)
 
-length-faults : (header : Why → Bool) (model entries : List (List ℕ)) → length (header ∷ map model_fault model ++ entry_faults [] entries) ≡ 1 + (length model + length entries)
+length-faults : (header : Option Why) (model entries : List (List ℕ)) → length (header ∷ map model_fault model ++ entry_faults [] entries) ≡ 1 + (length model + length entries)
 length-faults header model entries = omega (arith, length-append (map model_fault model) (entry_faults [] entries), length-map model model_fault, length-entry_faults [] entries)
 
 -- the preamble is read
@@ -249,30 +243,31 @@ begun_two one two text order lines after rest first entries last header model al
 
 -- ---- refusals
 
-bad_header : (one two : List ℕ) (lines : List (List ℕ)) → begins_with (header_test one two) lines ≡ false → IsFirstTextFault (header_fault (header_test one two) lines) BadHeader
-bad_header one two lines none = IsFirstTextFault-same BadHeader (λ w. rw none (and_true (same_text_fault BadHeader w))) (same_text_fault-first BadHeader)
+bad_header : (one two : List ℕ) (lines : List (List ℕ)) → begins_with (header_test one two) lines ≡ false → header_fault (header_test one two) lines ≡ Some BadHeader
+bad_header one two lines none = rw none refl
 
 lines_refused : (one two : List ℕ) (lines : List (List ℕ)) → begins_with (header_test one two) lines ≡ false → IsPreambleRefusal (setting_preamble one two lines) 1 BadHeader
 unfolding setting_preamble
-lines_refused one two [] none = record { before = []; has = _; after = []; parts = refl; clean = tt; at = refl; refused = bad_header one two [] none }
-lines_refused one two (line ∷ lines) none = record { before = []; has = _; after = _; parts = refl; clean = tt; at = refl; refused = bad_header one two (line ∷ lines) none }
+lines_refused one two [] none = record { before = []; after = []; parts = ap (λ fault. fault ∷ []) (bad_header one two [] none); clean = tt; at = refl }
+lines_refused one two (line ∷ lines) none =
+    let s = setting_lines two line lines in
+    let after = map model_fault s.model ++ entry_faults [] s.entries in
+    record { before = []; after = after; parts = ap (λ fault. fault ∷ after) (bad_header one two (line ∷ lines) none); clean = tt; at = refl }
 
 -- a text that begins with no header
 pub header_refused : (one two text : List ℕ) → HasNoHeader one two text → IsPreambleRefusal (setting_preamble one two (whole_lines (parts_of text))) 1 BadHeader
 header_refused one two text none = lines_refused one two (whole_lines (parts_of text)) none
 
-pub model_refusal : (one two text : List ℕ) (version : Version) (after line : List ℕ) (why : Why) → HasHeader one two text version after → model_lines (whole_lines (parts_of after)) ≡ line ∷ [] → IsFirstTextFault (model_fault line) why →
+pub model_refusal : (one two text : List ℕ) (version : Version) (after line : List ℕ) (why : Why) → HasHeader one two text version after → model_lines (whole_lines (parts_of after)) ≡ line ∷ [] → model_fault line ≡ Some why →
     IsPreambleRefusal (setting_preamble one two (whole_lines (parts_of text))) 2 why
 model_refusal one two text version after line why header is first =
     let entries = entry_faults [] (entry_lines (version_of two header.line) (drop (length (model_lines (whole_lines (parts_of after)))) (whole_lines (parts_of after)))) in
     rw (preamble_after one two text version after header) record {
       before = header_fault (header_test one two) (header.line ∷ whole_lines (parts_of after)) ∷ [];
-      has = model_fault line;
       after = entries;
-      parts = ap (λ lines. header_fault (header_test one two) (header.line ∷ whole_lines (parts_of after)) ∷ map model_fault lines ++ entries) is;
+      parts = ap (λ lines. header_fault (header_test one two) (header.line ∷ whole_lines (parts_of after)) ∷ map model_fault lines ++ entries) is ∙ ap (λ fault. header_fault (header_test one two) (header.line ∷ whole_lines (parts_of after)) ∷ fault ∷ entries) first;
       clean = (header_clean one two text version after header (whole_lines (parts_of after)), tt);
       at = refl;
-      refused = first;
     }
 
 pub model_answered : (one two text : List ℕ) (version : Version) (after : List ℕ) (why : Why) → HasHeader one two text version after → HasBadModel after why → (why ≡ OutOfMemory → ⊥) →
@@ -280,22 +275,21 @@ pub model_answered : (one two text : List ℕ) (version : Version) (after : List
 model_answered one two text version after why header bad other = model_refusal one two text version after bad.line why header bad.is (first_fault (model_fault bad.line) why bad.refused other)
 
 pub entry_refusal : (one two text : List ℕ) (order : Order) (lines : ℕ) (after rest : List ℕ) (why : Why) → HasHeader one two text Two after → HasModel after order lines rest → (done : List (List ℕ)) (line : List ℕ) (more : List (List ℕ)) →
-    take_while is_entry_line (whole_lines (parts_of rest)) ≡ done ++ line ∷ more → AreFaultless (entry_faults [] done) → IsFirstTextFault (said_entry_fault (entries_after [] done) (entry_said line)) why →
+    take_while is_entry_line (whole_lines (parts_of rest)) ≡ done ++ line ∷ more → AreFaultless (entry_faults [] done) → said_entry_fault (entries_after [] done) (entry_said line) ≡ Some why →
     IsPreambleRefusal (setting_preamble one two (whole_lines (parts_of text))) (lines + 2 + length done) why
 entry_refusal one two text order lines after rest why header model done line more at clean first =
     let test = header_fault (header_test one two) (header.line ∷ whole_lines (parts_of after)) in
     let is = found_preamble one two text Two order lines after rest (record { header = header; said = model }) (done ++ line ∷ more) at in
     rw is record {
       before = test ∷ (map model_fault model.model ++ entry_faults [] done);
-      has = said_entry_fault (entries_after [] done) (entry_said line);
       after = entry_faults (with_said_entry (entries_after [] done) (entry_said line)) more;
       parts =
           ap (λ tests. test ∷ tests)
           (ap (λ tests. map model_fault model.model ++ tests) (entry_faults-append [] done (line ∷ more))
-          ∙ sym (append_assoc (map model_fault model.model) (entry_faults [] done) (entry_faults (entries_after [] done) (line ∷ more))));
+          ∙ sym (append_assoc (map model_fault model.model) (entry_faults [] done) (entry_faults (entries_after [] done) (line ∷ more)))
+          ∙ ap (λ fault. (map model_fault model.model ++ entry_faults [] done) ++ fault ∷ entry_faults (with_said_entry (entries_after [] done) (entry_said line)) more) first);
       clean = (header_clean one two text Two after header (whole_lines (parts_of after)), AreFaultless-append (map model_fault model.model) (entry_faults [] done) model.clean clean);
       at = omega (arith, length-faults test model.model done, model.count);
-      refused = first;
     }
 
 pub entry_answered : (one two text : List ℕ) (order : Order) (lines : ℕ) (after rest : List ℕ) (entries : ℕ) (why : Why) → HasHeader one two text Two after → HasModel after order lines rest → HasBadEntry rest entries why → (why ≡ OutOfMemory → ⊥) →
@@ -311,26 +305,24 @@ unfolding header_alone
 alone_begun header text line rest cut same shorter = record {
   says = refl;
   count = refl;
-  clean = (λ w. rw (cut, whole_lines-parts line rest, same) (and-false (same_text_fault BadHeader w)), tt);
+  clean = (rw (cut, whole_lines-parts line rest, same) refl, tt);
   body = ap (drop 1) cut;
   room = omega (arith, shorter);
   setting_is = record { entries = KeepsEntries-nil; version_one = λ _. refl };
 }
 
-pub alone_refused : (header text : List ℕ) → begins_with (λ line. is_word line header) (whole_lines (parts_of text)) ≡ false → IsPreambleRefusal (header_alone header (whole_lines (parts_of text))) 1 BadHeader
+pub alone_refused : (header text : List ℕ) → begins_with (λ line. bytes_eq line header) (whole_lines (parts_of text)) ≡ false → IsPreambleRefusal (header_alone header (whole_lines (parts_of text))) 1 BadHeader
 unfolding header_alone
 alone_refused header text none = record {
   before = [];
-  has = header_fault (λ line. is_word line header) (whole_lines (parts_of text));
   after = [];
-  parts = refl;
+  parts = rw none refl;
   clean = tt;
   at = refl;
-  refused = IsFirstTextFault-same BadHeader (λ w. rw none (and_true (same_text_fault BadHeader w))) (same_text_fault-first BadHeader);
 }
 
-pub alone_other : (header text line rest : List ℕ) → parts_of text ≡ line ∷ parts_of rest → bytes_eq line header ≡ false → begins_with (λ line. is_word line header) (whole_lines (parts_of text)) ≡ false
+pub alone_other : (header text line rest : List ℕ) → parts_of text ≡ line ∷ parts_of rest → bytes_eq line header ≡ false → begins_with (λ line. bytes_eq line header) (whole_lines (parts_of text)) ≡ false
 alone_other header text line rest cut other = rw (cut, whole_lines-parts line rest) other
 
-pub alone_none : (header text : List ℕ) → parts_of text ≡ text ∷ [] → begins_with (λ line. is_word line header) (whole_lines (parts_of text)) ≡ false
+pub alone_none : (header text : List ℕ) → parts_of text ≡ text ∷ [] → begins_with (λ line. bytes_eq line header) (whole_lines (parts_of text)) ≡ false
 alone_none header text cut = rw cut refl

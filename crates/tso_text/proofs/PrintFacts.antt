@@ -1,14 +1,13 @@
 -- Lemmas on printing: one more line, and one more processor.
 use Rattle.std.proofs.Common.{◌≡◌, ℕ, ◌+◌, ◌<◌, ◌≤◌, List, [], ◌∷◌, ◌++◌, length, get_or, take, Result, Ok, Err, refl, ap, sym, ◌∙◌, arith, append_assoc}
 use Rattle.tso_ops.specs.Settings.{SettingValue}
-use Rattle.tso_ops.specs.Values.{TraceValue, ProgramValue}
 use Rattle.tso_ops.specs.declared.acts.Act.{Act}
 use Rattle.std.specs.List.{flat_map}
 use Rattle.std.specs.Result.{OnOk}
 use Rattle.std.proofs.lemmas.List.{append-nil, take_all}
 use Rattle.line_text.specs.Lines.{line_text}
 use Rattle.line_text.proofs.PrintFacts.{flat_map-take_more}
-use Rattle.tso_text.specs.Printed.{trace_header, program_header, schedule_header, items_text, processor_text, entry_tokens, model_text, setting_text, whole_text, outcome_tokens, op_tokens, act_tokens, trace_text, program_text, schedule_text}
+use Rattle.tso_text.specs.Printed.{schedule_header, items_text, processor_text, entry_tokens, model_text, setting_text, whole_text, act_tokens, schedule_text}
 
 -- the text after one more item
 pub items_text-more : {X : Type 0} (tokens : X → List (List ℕ)) (start old new : List ℕ) (items : List X) (i : ℕ) (x d : X) → i < length items → x ≡ get_or items i d →
@@ -54,21 +53,12 @@ unfolding processor_text
 processor_text-parts tokens (Ok u) old mid new items is parts = parts ∙ ap (λ t. t ++ items_text tokens items) is ∙ append_assoc old _ (items_text tokens items)
 processor_text-parts tokens (Err e) old mid new items is parts = tt
 
--- the text of a trace, after all its processors
-pub trace_text-parts : (v : TraceValue) (p end : ℕ) (mid text : List ℕ) → end ≡ length v.lists → end ≤ p →
-    mid ≡ (trace_header v.setting.version ++ 10 ∷ setting_text v.setting) ++ flat_map (processor_text outcome_tokens) (take p v.lists) → text ≡ mid ++ 101 ∷ 110 ∷ 100 ∷ 10 ∷ [] → text ≡ trace_text v
-unfolding trace_text
-trace_text-parts v p end mid text count past is added =
-    whole_text-after (trace_header v.setting.version) (setting_text v.setting) (flat_map (processor_text outcome_tokens) v.lists) text
-    (added ∙ ap (λ m. m ++ 101 ∷ 110 ∷ 100 ∷ 10 ∷ []) (is ∙ ap (λ l. (trace_header v.setting.version ++ 10 ∷ setting_text v.setting) ++ flat_map (processor_text outcome_tokens) l) (take_all p v.lists (omega arith))))
-
--- the text of a program, after all its processors
-pub program_text-parts : (v : ProgramValue) (p end : ℕ) (mid text : List ℕ) → end ≡ length v.lists → end ≤ p →
-    mid ≡ (program_header v.setting.version ++ 10 ∷ setting_text v.setting) ++ flat_map (processor_text op_tokens) (take p v.lists) → text ≡ mid ++ 101 ∷ 110 ∷ 100 ∷ 10 ∷ [] → text ≡ program_text v
-unfolding program_text
-program_text-parts v p end mid text count past is added =
-    whole_text-after (program_header v.setting.version) (setting_text v.setting) (flat_map (processor_text op_tokens) v.lists) text
-    (added ∙ ap (λ m. m ++ 101 ∷ 110 ∷ 100 ∷ 10 ∷ []) (is ∙ ap (λ l. (program_header v.setting.version ++ 10 ∷ setting_text v.setting) ++ flat_map (processor_text op_tokens) l) (take_all p v.lists (omega arith))))
+-- the text of a trace or a program, after all its processors
+pub lists_text-parts : {X : Type 0} (tokens : X → List (List ℕ)) (header setting : List ℕ) (lists : List (List X)) (p end : ℕ) (mid text : List ℕ) → end ≡ length lists → end ≤ p →
+    mid ≡ (header ++ 10 ∷ setting) ++ flat_map (processor_text tokens) (take p lists) → text ≡ mid ++ 101 ∷ 110 ∷ 100 ∷ 10 ∷ [] → text ≡ whole_text header (setting ++ flat_map (processor_text tokens) lists)
+lists_text-parts tokens header setting lists p end mid text count past is added =
+    whole_text-after header setting (flat_map (processor_text tokens) lists) text
+    (added ∙ ap (λ m. m ++ 101 ∷ 110 ∷ 100 ∷ 10 ∷ []) (is ∙ ap (λ l. (header ++ 10 ∷ setting) ++ flat_map (processor_text tokens) l) (take_all p lists (omega arith))))
 
 -- the text of a schedule, after all its acts
 pub schedule_text-parts : (acts : List Act) (mid text : List ℕ) → mid ≡ (schedule_header ++ 10 ∷ []) ++ items_text act_tokens acts → text ≡ mid ++ 101 ∷ 110 ∷ 100 ∷ 10 ∷ [] → text ≡ schedule_text acts

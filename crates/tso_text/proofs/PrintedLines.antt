@@ -1,17 +1,21 @@
--- The printed lines of lists spell these lists, in any grammar: where each line says what it was printed from, and has no fault.
-use Rattle.std.proofs.Common.{◌≡◌, ℕ, ◌*◌, ◌<◌, ◌≤◌, false, eqb, List, [], ◌∷◌, ◌++◌, length, map, Ok, refl, ap, sym, ◌∙◌, subst, arith, append_assoc, length-append}
+-- The printed lines of lists spell these lists, in any grammar: each line says what it was printed from, and no item has a fault after those before it.
+use Rattle.std.proofs.Common.{◌≡◌, ℕ, suc, ◌*◌, ◌<◌, ◌≤◌, true, false, eqb, List, [], ◌∷◌, ◌++◌, length, map, None, Ok, refl, ap, sym, ◌∙◌, subst, arith, append_assoc, length-append, ◌+◌, ltb}
 use Rattle.std.specs.Prelude.{codes}
 use Rattle.std.specs.List.{flat_map, slice_split, join_with_byte}
-use Rattle.std.proofs.lemmas.List.{append-nil}
-use Rattle.tso_text.specs.declared.faults.Why.{Why}
+use Rattle.std.proofs.lemmas.List.{append-nil, length-map}
 use Rattle.tso_text.specs.declared.lines.Line.{Line}
-use Rattle.tso_text.specs.declared.lines.Line.TheVariants.{End}
-use Rattle.line_text.specs.Lines.{line_text, parts_of, tokens_of}
-use Rattle.tso_text.specs.Internal.Spelling.{Grammar, said, said_fault, line_fault, lists_of, with_line, with_said, has_end_line, is_end}
+use Rattle.tso_text.specs.declared.lines.Line.TheVariants.{End, Proc, Item}
+use Rattle.line_text.specs.Lines.{line_text, parts_of, tokens_of, is_empty}
+use Rattle.tso_text.specs.Internal.Spelling.{Grammar, said, line_fault, with_line, is_end, push_last, items_of}
 use Rattle.tso_text.specs.Internal.Begun.{SpellsBody}
 use Rattle.tso_text.proofs.CanonicalFacts.{tokens_by}
-use Rattle.tso_text.proofs.ReadersFacts.{IsClean, IsClean-push, part_fault-open, lists_of-push, has_end_line-push, spelled}
+use Rattle.tso_text.specs.Internal.Accepted.{AcceptsLine}
+use Rattle.tso_text.proofs.ReadersFacts.{Reached, Reached-start, Reached-next, Reached-end}
 use Rattle.line_text.proofs.SplitFacts.{has_byte, has_byte_in, split_part, split_joined, joined_without}
+use Rattle.std.proofs.lemmas.Bool.Decides.{nat_tests}
+use Rattle.std.proofs.lemmas.List.Concat.{flat_map-append}
+use Rattle.tso_text.proofs.LineFacts.{items_of-push_last}
+use Rattle.tso_text.proofs.OneTextFacts.{made_by}
 
 -- ---- lines that are read back
 
@@ -47,7 +51,7 @@ line_of-whole g p l back = joined_without 10 32 (tokens_by p l) refl back.no_end
 -- the line is read back, has no fault after these lists, and doesn't end the text
 pub record IsAccepted {X : Type 0} (g : Grammar X) (p : X → List (List ℕ)) (lists : List (List X)) (l : Line X) : Type 0 where
   pub back : IsReadBack g p l
-  pub clean : (w : Why) → line_fault g lists l w ≡ false
+  pub clean : line_fault g lists l ≡ None
   pub continues : is_end (Ok l) ≡ false
 
 -- after the first lists these lines are accepted, and make the last
@@ -55,17 +59,28 @@ abbrev pub AreAccepted : {X : Type 0} → Grammar X → (X → List (List ℕ)) 
 AreAccepted g p first [] last = first ≡ last
 AreAccepted g p first (l ∷ ls) last = (accepted : IsAccepted g p first l) × AreAccepted g p (with_line first l) ls last
 
--- the bytes of these lines before a rest are cut into the lines and the parts of the rest
-pub parts-lines : {X : Type 0} (g : Grammar X) (p : X → List (List ℕ)) (first : List (List X)) (ls : List (Line X)) (last : List (List X)) (rest : List ℕ) → AreAccepted g p first ls last →
-    slice_split (λ b. eqb b 10) (flat_map (λ l. line_text (tokens_by p l)) ls ++ rest) ≡ map (line_of p) ls ++ slice_split (λ b. eqb b 10) rest
-parts-lines g p first [] last rest accepted = refl
-parts-lines g p first (l ∷ ls) last rest accepted =
+-- a line that is accepted is so by the reader
+reads_line : {X : Type 0} (g : Grammar X) (p : X → List (List ℕ)) (lists : List (List X)) (l : Line X) → IsAccepted g p lists l → AcceptsLine g lists (line_of p l) false (with_line lists l)
+reads_line g p lists l accepted = record { line_said = l; says = said-line_of g p l accepted.back; accepts = record { clean = accepted.clean; ends = accepted.continues; after = refl } }
+
+-- the reader goes on over these lines
+reached_lines : {X : Type 0} (g : Grammar X) (p : X → List (List ℕ)) (parts : List (List ℕ)) (i n : ℕ) (first : List (List X)) (ls : List (Line X)) (last : List (List X)) (rest : List ℕ) → n ≡ i + length ls → AreAccepted g p first ls last →
+    Reached g parts i (flat_map (λ l. line_text (tokens_by p l)) ls ++ rest) first → Reached g parts n rest last
+unfolding parts_of
+reached_lines g p parts i n first [] last rest count accepted r = subst (λ m. Reached g parts m rest last) (let same : i ≡ n = omega (arith, count) in same) (subst (Reached g parts i rest) accepted r)
+reached_lines g p parts i n first (l ∷ ls) last rest count accepted r =
     let after = flat_map (λ l. line_text (tokens_by p l)) ls in
     let bytes : ((line_of p l ++ 10 ∷ []) ++ after) ++ rest ≡ line_of p l ++ 10 ∷ (after ++ rest) =
     append_assoc (line_of p l ++ 10 ∷ []) after rest ∙ append_assoc (line_of p l) (10 ∷ []) (after ++ rest) in
-    ap (slice_split (λ b. eqb b 10)) bytes
-    ∙ split_part 10 (line_of p l) (after ++ rest) (line_of-whole g p l accepted.0.back)
-    ∙ ap (λ ps. line_of p l ∷ ps) (parts-lines g p (with_line first l) ls last rest accepted.1)
+    let cut = ap (slice_split (λ b. eqb b 10)) bytes ∙ split_part 10 (line_of p l) (after ++ rest) (line_of-whole g p l accepted.0.back) in
+    reached_lines g p parts (suc i) n (with_line first l) ls last rest (omega (arith, count)) accepted.1
+    (Reached-next g parts i (((line_of p l ++ 10 ∷ []) ++ after) ++ rest) first (line_of p l) (after ++ rest) (with_line first l) r cut (reads_line g p first l accepted.0))
+
+pub printed_reached : {X : Type 0} (g : Grammar X) (p : X → List (List ℕ)) (ls : List (Line X)) (last : List (List X)) (rest : List ℕ) → AreAccepted g p g.start ls last →
+    Reached g (parts_of (flat_map (λ l. line_text (tokens_by p l)) ls ++ rest)) (length ls) rest last
+printed_reached g p ls last rest accepted =
+    let lines = flat_map (λ l. line_text (tokens_by p l)) ls in
+    reached_lines g p (parts_of (lines ++ rest)) 0 (length ls) g.start ls last rest (omega arith) accepted (Reached-start g (lines ++ rest))
 
 -- the lines are as long as their number allows
 pub length-lines : {X : Type 0} (g : Grammar X) (p : X → List (List ℕ)) (first : List (List X)) (ls : List (Line X)) (last : List (List X)) → AreAccepted g p first ls last →
@@ -76,48 +91,89 @@ length-lines g p first (l ∷ ls) last accepted =
     let rest = length-lines g p (with_line first l) ls last accepted.1 in
     omega (arith, short, rest, length-append (line_text (tokens_by p l)) (flat_map (λ l. line_text (tokens_by p l)) ls), length-append (line_of p l) (10 ∷ []))
 
--- the prefix is without a fault, no line of it ends the text, and it says these lists
-pub record Stands {X : Type 0} (g : Grammar X) (prefix : List (List ℕ)) (lists : List (List X)) : Type 0 where
-  pub clean : IsClean g prefix
-  pub running : has_end_line g prefix ≡ false
-  pub says : lists_of g prefix ≡ lists
-
-stands-push : {X : Type 0} (g : Grammar X) (p : X → List (List ℕ)) (prefix : List (List ℕ)) (lists : List (List X)) (l : Line X) → Stands g prefix lists → IsAccepted g p lists l →
-    Stands g (prefix ++ line_of p l ∷ []) (with_line lists l)
-stands-push g p prefix lists l stands accepted =
-    let is = said-line_of g p l accepted.back in
-    record {
-      clean = IsClean-push g prefix (line_of p l) stands.clean (λ w. part_fault-open g prefix (line_of p l) w stands.running ∙ ap (λ ls. said_fault g ls (said g (line_of p l)) w) stands.says ∙ ap (λ r. said_fault g lists r w) is ∙ accepted.clean w);
-      running = has_end_line-push g prefix (line_of p l) stands.running ∙ ap is_end is ∙ accepted.continues;
-      says = lists_of-push g prefix (line_of p l) ∙ ap (λ ls. with_said ls (said g (line_of p l))) stands.says ∙ ap (with_said lists) is;
-    }
-
-pub stands-lines : {X : Type 0} (g : Grammar X) (p : X → List (List ℕ)) (prefix : List (List ℕ)) (first : List (List X)) (ls : List (Line X)) (last : List (List X)) → Stands g prefix first → AreAccepted g p first ls last →
-    Stands g (prefix ++ map (line_of p) ls) last
-stands-lines {X} g p prefix first [] last stands accepted = subst (λ (f : List (List ℕ)). Stands g f last) (sym (append-nil prefix)) (subst (Stands g prefix) accepted stands)
-stands-lines g p prefix first (l ∷ ls) last stands accepted =
-    subst (λ f. Stands g f last) (append_assoc prefix (line_of p l ∷ []) (map (line_of p) ls))
-    (stands-lines g p (prefix ++ line_of p l ∷ []) (with_line first l) ls last (stands-push g p prefix first l stands accepted.0) accepted.1)
-
-pub nothing_before : {X : Type 0} (g : Grammar X) → Stands g [] g.start
-unfolding has_end_line lists_of
-nothing_before g = record { clean = λ i w low. absurd (omega arith); running = refl; says = refl }
+-- the line `end` is accepted after all lists
+pub reads_end : {X : Type 0} (g : Grammar X) (p : X → List (List ℕ)) (lists : List (List X)) → IsReadBack g p End → AcceptsLine g lists (codes "end") true lists
+reads_end g p lists end = record { line_said = End; says = said-line_of g p End end; accepts = record { clean = refl; ends = refl; after = refl } }
 
 -- lines that are accepted, and `end`, spell what the lines make
 pub printed_parts : {X : Type 0} (g : Grammar X) (p : X → List (List ℕ)) (ls : List (Line X)) (last : List (List X)) (lines : List ℕ) → IsReadBack g p End → AreAccepted g p g.start ls last → flat_map (λ l. line_text (tokens_by p l)) ls ≡ lines →
     SpellsBody g (parts_of (lines ++ line_text (codes "end" ∷ []))) last
 unfolding parts_of
 printed_parts {X} g p ls last lines end accepted bytes =
-    let ending = line_of p End in
-    let prefix = map (line_of p) ls in
-    let stands = stands-lines g p [] g.start ls last (nothing_before g) accepted in
-    let is = said-line_of g p End end in
-    let parts : slice_split (λ b. eqb b 10) (lines ++ line_text (codes "end" ∷ [])) ≡ prefix ++ ending ∷ [] ∷ [] =
-    ap (λ b. slice_split (λ b. eqb b 10) (b ++ line_text (codes "end" ∷ []))) (sym bytes)
-    ∙ parts-lines g p g.start ls last (line_text (codes "end" ∷ [])) accepted
-    ∙ ap (λ ps. prefix ++ ps) (split_part 10 ending [] (line_of-whole g p End end)) in
-    spelled g (slice_split (λ b. eqb b 10) (lines ++ line_text (codes "end" ∷ []))) (prefix ++ ending ∷ []) last
-    (IsClean-push g prefix ending stands.clean (λ w. part_fault-open g prefix ending w stands.running ∙ ap (λ ls. said_fault g ls (said g ending) w) stands.says ∙ ap (λ r. said_fault g last r w) is))
-    (has_end_line-push g prefix ending stands.running ∙ ap is_end is)
-    (lists_of-push g prefix ending ∙ ap (λ ls. with_said ls (said g ending)) stands.says ∙ ap (with_said last) is)
-    (parts ∙ sym (append_assoc prefix (ending ∷ []) ([] ∷ [])))
+    let ending = line_text (codes "end" ∷ []) in
+    let whole = flat_map (λ l. line_text (tokens_by p l)) ls ++ ending in
+    subst (λ b. SpellsBody g (parts_of (b ++ ending)) last) bytes
+    (Reached-end g (parts_of whole) (length ls) ending last (codes "end") [] last (printed_reached g p ls last ending accepted) (split_part 10 (codes "end") [] refl) (reads_end g p last end) refl)
+
+-- Each of the items is read back, and has no fault after those before it.
+pub record AreFit {X : Type 0} (g : Grammar X) (p : X → List (List ℕ)) (items : List X) : Type 0 where
+  pub back : (before : List X) (x : X) (after : List X) → items ≡ before ++ x ∷ after → IsReadBack g p (Item x)
+  pub clean : (before : List X) (x : X) (after : List X) → items ≡ before ++ x ∷ after → g.item_fault before x ≡ None
+
+some_list : {X : Type 0} (done : List (List X)) (row : List X) → is_empty (done ++ row ∷ []) ≡ false
+some_list [] row = refl
+some_list (list ∷ done) row = refl
+
+push_last-at : {X : Type 0} (done : List (List X)) (row : List X) (x : X) → push_last (done ++ row ∷ []) x ≡ done ++ (row ++ x ∷ []) ∷ []
+push_last-at [] row x = refl
+push_last-at (list ∷ []) row x = refl
+push_last-at (list ∷ next ∷ done) row x = ap (λ lists. list ∷ lists) (push_last-at (next ∷ done) row x)
+
+-- one more item is accepted
+item_accepted : {X : Type 0} (g : Grammar X) (p : X → List (List ℕ)) (items : List X) → AreFit g p items → (done : List (List X)) (row : List X) (x : X) (after : List X) →
+    items ≡ items_of (done ++ row ∷ []) ++ x ∷ after → IsAccepted g p (done ++ row ∷ []) (Item x)
+item_accepted g p items fit done row x after at = record {
+  back = fit.back (items_of (done ++ row ∷ [])) x after at;
+  clean = rw (some_list done row) (fit.clean (items_of (done ++ row ∷ [])) x after at);
+  continues = refl;
+}
+
+-- the rest of a row is accepted
+row_accepted : {X : Type 0} (g : Grammar X) (p : X → List (List ℕ)) (items : List X) → AreFit g p items → (done : List (List X)) (seen row : List X) (more : List (Line X)) (remaining : List X) (last : List (List X)) →
+    items ≡ items_of (done ++ seen ∷ []) ++ (row ++ remaining) → AreAccepted g p (done ++ (seen ++ row) ∷ []) more last → AreAccepted g p (done ++ seen ∷ []) (map Item row ++ more) last
+row_accepted g p items fit done seen [] more remaining last at rest = subst (λ r. AreAccepted g p (done ++ r ∷ []) more last) (append-nil seen) rest
+row_accepted g p items fit done seen (x ∷ row) more remaining last at rest =
+    let next : push_last (done ++ seen ∷ []) x ≡ done ++ (seen ++ x ∷ []) ∷ [] = push_last-at done seen x in
+    let longer : items_of (done ++ (seen ++ x ∷ []) ∷ []) ≡ items_of (done ++ seen ∷ []) ++ x ∷ [] =
+    ap items_of (sym next) ∙ items_of-push_last (done ++ seen ∷ []) x (omega (arith, length-append done (seen ∷ []))) in
+    let place : items ≡ items_of (done ++ (seen ++ x ∷ []) ∷ []) ++ (row ++ remaining) =
+    at ∙ sym (append_assoc (items_of (done ++ seen ∷ [])) (x ∷ []) (row ++ remaining)) ∙ ap (λ prefix. prefix ++ (row ++ remaining)) (sym longer) in
+    let whole : AreAccepted g p (done ++ ((seen ++ x ∷ []) ++ row) ∷ []) more last = subst (λ r. AreAccepted g p (done ++ r ∷ []) more last) (sym (append_assoc seen (x ∷ []) row)) rest in (
+      item_accepted g p items fit done seen x (row ++ remaining) at,
+      subst (λ lists. AreAccepted g p lists (map Item row ++ more) last) (sym next) (row_accepted g p items fit done (seen ++ x ∷ []) row more remaining last place whole),
+    )
+
+proc_accepted : {X : Type 0} (g : Grammar X) (p : X → List (List ℕ)) (lists : List (List X)) → IsReadBack g p Proc → length lists < 16 → IsAccepted g p lists Proc
+proc_accepted g p lists back few = record {
+  back = back;
+  clean = let off : ltb 15 (length lists) ≡ false = grind (arith, nat_tests) in rw off refl;
+  continues = refl;
+}
+
+-- the lines of processors are accepted, and make their lists
+pub lists_accepted : {X : Type 0} (g : Grammar X) (p : X → List (List ℕ)) (items : List X) → AreFit g p items → IsReadBack g p Proc → (done lists : List (List X)) →
+    length done + length lists ≤ 16 → items ≡ items_of done ++ items_of lists → AreAccepted g p done (made_by lists) (done ++ lists)
+lists_accepted g p items fit proc done [] few at = sym (append-nil done)
+lists_accepted g p items fit proc done (row ∷ lists) few at =
+    let empty : items_of (done ++ [] ∷ []) ≡ items_of done = flat_map-append (λ r. r) done ([] ∷ []) ∙ append-nil (items_of done) in
+    let full : items_of (done ++ row ∷ []) ≡ items_of done ++ row = flat_map-append (λ r. r) done (row ∷ []) ∙ ap (λ r. items_of done ++ r) (append-nil row) in
+    let remaining : items ≡ items_of (done ++ row ∷ []) ++ items_of lists = at ∙ sym (append_assoc (items_of done) row (items_of lists)) ∙ ap (λ prefix. prefix ++ items_of lists) (sym full) in
+    let count : length (done ++ row ∷ []) ≡ length done + 1 = length-append done (row ∷ []) in
+    let rest = lists_accepted g p items fit proc (done ++ row ∷ []) lists (omega (arith, count, few)) remaining in (
+      proc_accepted g p done proc (omega (arith, few)),
+      row_accepted g p items fit done [] row (made_by lists) (items_of lists) (done ++ row ∷ lists)
+          (at ∙ ap (λ prefix. prefix ++ (row ++ items_of lists)) (sym empty))
+          (subst (AreAccepted g p (done ++ row ∷ []) (made_by lists)) (append_assoc done (row ∷ []) lists) rest),
+    )
+
+-- the lines of one list, which no line begins
+pub items_accepted : {X : Type 0} (g : Grammar X) (p : X → List (List ℕ)) (items : List X) → AreFit g p items → AreAccepted g p ([] ∷ []) (map Item items) (items ∷ [])
+items_accepted {X} g p items fit =
+    subst (λ (ls : List (Line X)). AreAccepted g p ([] ∷ []) ls (items ∷ [])) (append-nil (map Item items))
+    (row_accepted g p items fit [] [] items [] [] (items ∷ []) (sym (append-nil items)) refl)
+
+-- one line for each processor, and one for each item
+pub length-made_by : {X : Type 0} (lists : List (List X)) → length (made_by lists) ≡ length lists + length (items_of lists)
+length-made_by [] = refl
+length-made_by (row ∷ lists) =
+    omega (arith, length-append (map Item row) (made_by lists), length-map row Item, length-made_by lists, length-append row (items_of lists))

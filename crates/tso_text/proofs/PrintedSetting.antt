@@ -1,12 +1,24 @@
--- The printed lines of a setting within the limits are read back as that setting.
-use Rattle.std.proofs.Common.{◌≡◌, ◌||◌, ℕ, ◌+◌, ◌<◌, ◌^◌, Bool, true, false, eqb, List, [], ◌∷◌, ◌++◌, length, Ok, refl, ap, sym, ◌∙◌, subst, arith, append_assoc, length-append}
+-- A line of a preamble without a fault is written in one way, and the printed lines of a setting within the limits are read back as that setting.
+use Rattle.std.specs.Str.{bytes_eq}
+use Rattle.std.proofs.Common.{◌≡◌, ℕ, ◌<◌, ◌^◌, Bool, true, false, List, [], ◌∷◌, drop, None, Result, Ok, Err, refl, ap, sym, ◌∙◌, subst, ltb, ◌||◌, ◌+◌, eqb, ◌++◌, length, Option, arith, append_assoc, length-append}
 use Rattle.std.specs.Prelude.{codes}
 use Rattle.std.specs.Fmt.{decimal}
-use Rattle.std.specs.List.{slice_split, join_with_byte, take_while}
-use Rattle.std.specs.Str.{bytes_eq}
+use Rattle.std.specs.List.{join_with_byte, slice_split, take_while}
+use Rattle.std.proofs.lemmas.Bool.{false≢true}
+use Rattle.std.proofs.lemmas.List.Splits.{join_with_byte-slice_split}
+use Rattle.line_text.specs.Lines.{tokens_of, line_text, parts_of}
+use Rattle.tso_text.specs.declared.faults.Why.{Why}
+use Rattle.tso_text.specs.Internal.LineReadings.{address, model_said, entry_by}
+use Rattle.tso_text.specs.Numbers.{two_numbers}
+use Rattle.tso_text.specs.Lines.{begins_with, has_keyword, model_lines, whole_lines}
+use Rattle.tso_text.specs.Internal.Preambles.{after_keyword, entry_said, said_entry_fault, SettingLines, entry_lines, header_fault, header_alone, preamble_by, setting_lines, setting_preamble}
+use Rattle.tso_text.specs.Printed.{entry_tokens, header_of, items_text, model_text, setting_text}
+use Rattle.tso_text.proofs.CanonicalFacts.{bind_ok, two_is, word_is, in_range, numbers_without, two-decimal, address-within}
+use Rattle.tso_ops.specs.declared.faults.ValueFault.TheVariants.{AddressRange as PastAddresses}
+use Rattle.tso_text.proofs.FaultFacts.{entry_clean_back, entry_clean}
+use Rattle.tso_text.specs.Refusals.{entry_fault_after}
 use Rattle.std.proofs.lemmas.List.{append-nil}
 use Rattle.std.proofs.lemmas.List.Elements.{recursion_from_All}
-use Rattle.line_text.specs.Lines.{line_text, parts_of, tokens_of}
 use Rattle.line_text.proofs.SplitFacts.{has_byte, has_byte_in, split_part, split_joined, joined_without}
 use Rattle.tso_ops.specs.declared.settings.Order.{Order}
 use Rattle.tso_ops.specs.declared.settings.Order.TheVariants.{Tso, Pso}
@@ -15,16 +27,66 @@ use Rattle.tso_ops.specs.declared.settings.Version.TheVariants.{One, Two}
 use Rattle.tso_ops.specs.Settings.{SettingValue, version_one_tso}
 use Rattle.tso_ops.specs.Limits.{KeepsEntries}
 use Rattle.tso_ops.proofs.RefusalFacts.{each-middle, kept_entry}
-use Rattle.tso_text.specs.declared.faults.Why.{Why}
-use Rattle.tso_text.specs.Numbers.{is_word}
-use Rattle.tso_text.specs.Internal.Preambles.{SettingLines, entry_lines, header_fault, header_alone, preamble_by, setting_lines, setting_preamble}
-use Rattle.tso_text.specs.Lines.{entry_by, has_keyword, model_lines, model_said, whole_lines}
-use Rattle.tso_text.specs.Printed.{header_of, items_text, model_text, entry_tokens, setting_text}
 use Rattle.tso_text.specs.Internal.Spelling.{Preamble}
 use Rattle.tso_text.specs.Internal.Begun.{IsSetting, HasBegun, HasHeader, HasModel, HasEntries}
-use Rattle.tso_text.proofs.FaultFacts.{entry_clean}
 use Rattle.tso_text.proofs.PreambleFacts.{header_one, header_two, model_read, model_other, entries_start, entries_next, no_entry_line, begun_one, begun_two, alone_begun, preamble_after}
-use Rattle.tso_text.proofs.PrintedNumbers.{numbers_without, two-decimal, address-within}
+
+-- the tokens of a line with a keyword
+keyword_first : (word : List ℕ) (tokens : List (List ℕ)) → begins_with (λ token. bytes_eq token word) tokens ≡ true → tokens ≡ word ∷ drop 1 tokens
+keyword_first word [] e = absurd (false≢true e)
+keyword_first word (token ∷ tokens) e = ap (λ p. p ∷ tokens) (word_is token word e)
+
+keyword_tokens : (word line : List ℕ) → has_keyword word line ≡ true → tokens_of line ≡ word ∷ after_keyword line
+unfolding has_keyword
+keyword_tokens word line e = keyword_first word (tokens_of line) e
+
+-- a line is its tokens
+pub line_is : (line : List ℕ) (tokens : List (List ℕ)) → tokens_of line ≡ tokens → line ≡ join_with_byte 32 tokens
+unfolding tokens_of
+line_is line tokens same = sym (join_with_byte-slice_split 32 line) ∙ ap (join_with_byte 32) same
+
+-- ---- the memory model
+
+pub model_name : (tokens : List (List ℕ)) (u : Unit {0}) → model_said tokens ≡ Ok u → tokens ≡ codes "pso" ∷ []
+unfolding model_said
+model_name [] u e = absurd cc
+model_name (name ∷ []) u e = named (bytes_eq name (codes "pso")) refl
+  where
+    named : (b : Bool) → bytes_eq name (codes "pso") ≡ b → name ∷ [] ≡ codes "pso" ∷ []
+    named true is = ap (λ n. n ∷ []) (word_is name (codes "pso") is)
+    named false is = absurd (let off = rw is at e in cc)
+model_name (name ∷ next ∷ tokens) u e = absurd cc
+
+-- ---- first values
+
+-- The line says this entry, which has no fault after those before.
+pub record SaysEntry (before : List (ℕ × ℕ)) (line : List ℕ) : Type 0 where
+  pub entry : ℕ × ℕ
+  pub says : entry_said line ≡ Ok entry
+  pub clean : entry_fault_after before entry ≡ None
+  pub bytes : line ≡ join_with_byte 32 (entry_tokens entry)
+  pub fits : entry.1 < 2 ^ 64
+
+pub entry_read : (before : List (ℕ × ℕ)) (line : List ℕ) → has_keyword (codes "init") line ≡ true → said_entry_fault before (entry_said line) ≡ None → SaysEntry before line
+entry_read before line is clean =
+    let read = ok (entry_said line) refl clean in
+    let b = bind_ok (two_numbers (after_keyword line)) _ read.0 read.1 in
+    let says = b.2 in
+    let same : (address b.0.0, b.0.1) ≡ read.0 = cc in
+    let low : b.0.0 ≡ address b.0.0 = in_range b.0.0 (ap (λ (e : ℕ × ℕ). ltb 255 e.0) same ∙ entry_clean_back before read.0 read.2 PastAddresses) in
+    let tokens : tokens_of line ≡ entry_tokens read.0 =
+    keyword_tokens (codes "init") line is ∙ ap (λ ps. codes "init" ∷ ps) (two_is (after_keyword line) b.0 b.1).0 ∙ ap (λ a. codes "init" ∷ decimal a ∷ decimal b.0.1 ∷ []) low ∙ ap entry_tokens same in
+    record {
+      entry = read.0;
+      says = read.1;
+      clean = read.2;
+      bytes = line_is line _ tokens;
+      fits = subst (λ (e : ℕ × ℕ). e.1 < 2 ^ 64) same (two_is (after_keyword line) b.0 b.1).2;
+    }
+  where
+    ok : (r : Result (ℕ × ℕ) Why) → entry_said line ≡ r → said_entry_fault before r ≡ None → (e : ℕ × ℕ) × (entry_said line ≡ Ok e) × (entry_fault_after before e ≡ None)
+    ok (Ok e) says none = (e, says, none)
+    ok (Err why) says none = absurd cc
 
 -- ---- the first line of bytes
 
@@ -184,7 +246,7 @@ header_read header body whole same = alone_begun header (header ++ 10 ∷ body) 
 
 -- ---- texts without a memory model
 
-setting_by : (header : Why → Bool) (s : SettingLines) → s.version ≡ One → s.model ≡ [] → s.entries ≡ [] → (preamble_by header s).setting ≡ version_one_tso
+setting_by : (header : Option Why) (s : SettingLines) → s.version ≡ One → s.model ≡ [] → s.entries ≡ [] → (preamble_by header s).setting ≡ version_one_tso
 setting_by header s version model entries = rw (version, model, entries) refl
 
 no_entry_lines : (version : Version) (lines : List (List ℕ)) → version ≡ One → entry_lines version lines ≡ []
@@ -197,4 +259,4 @@ setting_without_model one two rest h none =
     let header = header_back one two One rest h in
     let lines = setting_lines two header.line (whole_lines (parts_of rest)) in
     ap (λ (p : Preamble). p.setting) (preamble_after one two (one ++ 10 ∷ rest) One rest header)
-    ∙ setting_by (header_fault (λ line. is_word line one || is_word line two) (header.line ∷ whole_lines (parts_of rest))) lines header.says none (no_entry_lines lines.version _ header.says)
+    ∙ setting_by (header_fault (λ line. bytes_eq line one || bytes_eq line two) (header.line ∷ whole_lines (parts_of rest))) lines header.says none (no_entry_lines lines.version _ header.says)

@@ -26,7 +26,8 @@ use Rattle.tso_ops.specs.declared.acts.Act.TheVariants.{Issue, Drain}
 use Rattle.tso_text.specs.declared.lines.Line.{Line}
 use Rattle.tso_text.specs.declared.lines.Line.TheVariants.{Proc, Item, End}
 use Rattle.tso_text.specs.Internal.Grammars.{trace_format, program_format, schedule_format, trace_grammar, program_grammar, schedule_grammar, outcome_fault, program_op_fault}
-use Rattle.tso_text.specs.Lines.{has_stbar, trace_line, program_line, schedule_line, whole_lines}
+use Rattle.tso_text.specs.Internal.LineReadings.{has_stbar, trace_line, program_line, schedule_line}
+use Rattle.tso_text.specs.Lines.{whole_lines}
 use Rattle.tso_text.specs.Printed.{schedule_header, trace_header, program_header, items_text, processor_text, entry_tokens, model_text, setting_text, whole_text, outcome_tokens, op_tokens, act_tokens, trace_text, program_text, schedule_text, header_of}
 use Rattle.tso_text.specs.Texts.{processor_of, text_byte_limit}
 use Rattle.tso_text.specs.Numbers.{no_number}
@@ -35,16 +36,14 @@ use Rattle.tso_text.specs.Internal.Preambles.{setting_preamble}
 use Rattle.tso_text.specs.Internal.Spelling.{Grammar, Format, preamble_of, items_of}
 use Rattle.tso_text.specs.Internal.Spelled.{SpellsLists, HasTraceLines, HasProgramLines, HasScheduleLines}
 use Rattle.tso_text.specs.Internal.Begun.{IsSetting, HasBegun}
-use Rattle.tso_text.proofs.CanonicalFacts.{tokens_by}
+use Rattle.tso_text.proofs.CanonicalFacts.{tokens_by, Fit64, numbers_without, one-decimal, two-decimal, three-decimal, address-within}
 use Rattle.tso_text.proofs.FaultFacts.{op_clean, act_clean}
 use Rattle.tso_text.proofs.LineFacts.{items_of-map}
 use Rattle.tso_text.proofs.OneTextFacts.{made_by, made_by-text, flat_map-Item}
-use Rattle.tso_text.proofs.PrintedItems.{AreFit, lists_accepted, items_accepted, length-made_by}
-use Rattle.tso_text.proofs.PrintedLines.{IsReadBack, AreAccepted, length-lines, printed_parts}
+use Rattle.tso_text.proofs.PrintedLines.{AreFit, lists_accepted, items_accepted, length-made_by, IsReadBack, AreAccepted, length-lines, printed_parts}
 use Rattle.tso_text.proofs.PrintedSetting.{AreHeaders, BeginsBody, printed_line, body_follows, setting_back, header_read}
-use Rattle.tso_text.proofs.TextFacts.{begun_spells}
+use Rattle.tso_text.proofs.ReadersFacts.{begun_spells}
 use Rattle.line_text.proofs.SplitFacts.{has_byte, has_byte_in}
-use Rattle.tso_text.proofs.PrintedNumbers.{Fit64, numbers_without, one-decimal, two-decimal, three-decimal, address-within}
 
 -- ---- a word and numbers
 
@@ -131,7 +130,7 @@ outcomes_fit setting items limits reads = record {
       outcome_back setting x (λ a is. kept_address setting (map op_of before) (op_of x) (map op_of after) a kept is) (λ v is. kept_value setting (map op_of before) (op_of x) (map op_of after) v kept is)
       (each-middle ReadFits before x after (subst (AllByRecursion ReadFits) at (recursion_from_All _ _ reads)))
       (kept_faultless setting (map op_of before) (op_of x) (map op_of after) kept StbarInTso);
-  clean = λ before x after at w. op_clean setting (map op_of before) (op_of x) (kept_faultless setting (map op_of before) (op_of x) (map op_of after) (middle_limits setting items before x after limits at)) w;
+  clean = λ before x after at. op_clean setting (map op_of before) (op_of x) (kept_faultless setting (map op_of before) (op_of x) (map op_of after) (middle_limits setting items before x after limits at));
 }
 
 -- lines of at most 16 processors and 16,000 items are a short text
@@ -273,7 +272,7 @@ ops_fit setting items limits = record {
   back = λ before x after at.
       let kept = subst (KeepsLimits setting) at limits in
       op_back setting x (λ a is. kept_address setting before x after a kept is) (λ v is. kept_value setting before x after v kept is) (kept_faultless setting before x after kept StbarInTso);
-  clean = λ before x after at w. op_clean setting before x (kept_faultless setting before x after (subst (KeepsLimits setting) at limits)) w;
+  clean = λ before x after at. op_clean setting before x (kept_faultless setting before x after (subst (KeepsLimits setting) at limits));
 }
 
 pub program_accepted : (p : ProgramValue) → IsProgram p → AreAccepted (program_grammar p.setting) op_tokens [] (made_by p.lists) p.lists
@@ -309,7 +308,7 @@ act_back (Drain p) low =
 acts_fit : (acts : List Act) → All (λ x. processor_of x ≤ 15) acts → AreFit schedule_grammar act_tokens acts
 acts_fit acts within = record {
   back = λ before x after at. act_back x (each-middle (λ x. processor_of x ≤ 15) before x after (subst (AllByRecursion (λ x. processor_of x ≤ 15)) at (recursion_from_All _ _ within)));
-  clean = λ before x after at w. act_clean before x (each-middle (λ x. processor_of x ≤ 15) before x after (subst (AllByRecursion (λ x. processor_of x ≤ 15)) at (recursion_from_All _ _ within))) w;
+  clean = λ before x after at. act_clean before x (each-middle (λ x. processor_of x ≤ 15) before x after (subst (AllByRecursion (λ x. processor_of x ≤ 15)) at (recursion_from_All _ _ within)));
 }
 
 pub acts_accepted : (acts : List Act) → All (λ x. processor_of x ≤ 15) acts → AreAccepted schedule_grammar act_tokens ([] ∷ []) (map Item acts) (acts ∷ [])

@@ -1,265 +1,164 @@
--- How far a reader has come in the parts after a preamble: the lines so far have no fault, and what they say.
-use Rattle.std.proofs.Common.{◌≡◌, ℕ, suc, ◌+◌, ◌<◌, ◌≤◌, Bool, true, false, not, ◌&&◌, ◌||◌, eqb, ltb, List, [], ◌∷◌, ◌++◌, length, get_or, take, refl, ap, sym, ◌∙◌, subst, arith, ⊎_elim, length-append}
-use Rattle.std.specs.List.{list_any}
-use Rattle.std.proofs.lemmas.Bool.{cases_lt, or_parts}
-use Rattle.std.proofs.Math.Bool.{and-false}
+-- A text and its parts: faults in the preamble and in the parts after it, and how far a reader has come in these.
+use Rattle.std.proofs.Common.{◌≡◌, ℕ, suc, ◌+◌, ◌<◌, ◌≤◌, Bool, true, false, not, ◌&&◌, ltb, eqb, cond, List, [], ◌∷◌, ◌++◌, length, Option, Some, None, Result, Ok, Err, refl, ap, sym, ◌∙◌, arith, ⊎_elim}
 use Rattle.std.proofs.lemmas.Bool.Decides.{nat_tests}
-use Rattle.std.proofs.lemmas.List.{take_at, take-append-le, get_or_at, get_or_append_left, append_assoc}
-use Rattle.line_text.specs.Lines.{is_empty, parts_of}
+use Rattle.line_text.specs.Lines.{parts_of, is_empty}
 use Rattle.line_text.proofs.CutFacts.{split_parts, some_part}
+use Rattle.tso_ops.specs.Settings.{SettingValue}
 use Rattle.tso_text.specs.declared.faults.Why.{Why}
-use Rattle.tso_text.specs.declared.faults.Why.TheVariants.{AfterEnd, OutOfMemory}
-use Rattle.tso_text.specs.Internal.Spelling.{Grammar, body_fault, part_fault, said_fault, said, lists_of, lists_after, with_said, has_end_line, is_end, unended_text_fault, same_text_fault}
-use Rattle.tso_text.specs.Lines.{whole_lines}
-use Rattle.tso_text.specs.Internal.Accepted.{IsFirstTextFault, IsRefusedFor, AcceptsLine}
-use Rattle.tso_text.specs.Internal.Begun.{SpellsBody, IsBodyRefusal, IsRefusedAfter}
+use Rattle.tso_text.specs.declared.faults.Why.TheVariants.{TooLong, AfterEnd, OutOfMemory}
+use Rattle.tso_text.specs.declared.lines.Line.{Line}
+use Rattle.tso_text.specs.Internal.Spelling.{Format, Grammar, IsTextRefusal, text_read, lists_read, or_fault, or_first_fault, ended, preamble_of, preamble_lines, grammar_of, body_of, said_fault, said, with_said, with_line, is_end, unended_text_fault}
+use Rattle.tso_text.specs.Internal.Spelled.{SpellsLists}
+use Rattle.tso_text.specs.Internal.Accepted.{IsRefusedFor, AcceptsLine}
+use Rattle.tso_text.specs.Internal.Begun.{AreFaultless, HasBegun, IsPreambleRefusal, SpellsBody, IsBodyRefusal, IsBodyRefusedAfter}
+use Rattle.tso_text.specs.Texts.{text_byte_limit}
 
--- ---- parts before
+-- ---- lists of faults
 
--- the lines before say the lists that the later lines extend
-lists_after-append : {X : Type 0} (g : Grammar X) (lists : List (List X)) (prefix after : List (List ℕ)) → lists_after g lists (prefix ++ after) ≡ lists_after g (lists_after g lists prefix) after
-lists_after-append g lists [] after = refl
-lists_after-append g lists (line ∷ prefix) after = lists_after-append g (with_said lists (said g line)) prefix after
+pub AreFaultless-append : (faults more : List (Option Why)) → AreFaultless faults → AreFaultless more → AreFaultless (faults ++ more)
+AreFaultless-append [] more clean also = also
+AreFaultless-append (fault ∷ faults) more clean also = (clean.0, AreFaultless-append faults more clean.1 also)
 
-pub lists_of-push : {X : Type 0} (g : Grammar X) (prefix : List (List ℕ)) (line : List ℕ) → lists_of g (prefix ++ line ∷ []) ≡ with_said (lists_of g prefix) (said g line)
-unfolding lists_of
-lists_of-push g prefix line = lists_after-append g (g.start) prefix (line ∷ [])
+faultless_read : {A : Type 0} (n : ℕ) (faults : List (Option Why)) (read : Result A (ℕ × Why)) → AreFaultless faults → or_first_fault n faults read ≡ read
+faultless_read n [] read clean = refl
+faultless_read n (None ∷ faults) read clean = faultless_read (suc n) faults read clean.1
+faultless_read n (Some why ∷ faults) read clean = absurd (let e = clean.0 in cc)
 
-pub and_true : (a : Bool) → (a && true) ≡ a
-and_true true = refl
-and_true false = refl
+first_read : {A : Type 0} (n line : ℕ) (before : List (Option Why)) (why : Why) (after : List (Option Why)) (read : Result A (ℕ × Why)) → AreFaultless before → line ≡ length before + n → or_first_fault n (before ++ Some why ∷ after) read ≡ Err (line, why)
+first_read n line [] why after read clean at = ap (λ m. Err (m, why)) (let same : n ≡ line = omega (arith, at) in same)
+first_read n line (None ∷ before) why after read clean at = first_read (suc n) line before why after read clean.1 (omega (arith, at))
+first_read n line (Some other ∷ before) why after read clean at = absurd (let e = clean.0 in cc)
 
-list_any-push : {X : Type 0} (p : X → Bool) (xs : List X) (x : X) → list_any p xs ≡ false → list_any p (xs ++ x ∷ []) ≡ p x
-list_any-push p [] x none = elim (p x) as (λ b. (b || false) ≡ b) [ true ↦ refl | false ↦ refl ]
-list_any-push p (y ∷ xs) x none =
-    let parts = or_parts (p y) (list_any p xs) none in
-    ap (λ b. b || list_any p (xs ++ x ∷ [])) parts.0 ∙ list_any-push p xs x parts.1
+-- ---- from parts to the text
 
-pub has_end_line-push : {X : Type 0} (g : Grammar X) (prefix : List (List ℕ)) (line : List ℕ) → has_end_line g prefix ≡ false → has_end_line g (prefix ++ line ∷ []) ≡ is_end (said g line)
-unfolding has_end_line
-has_end_line-push g prefix line none = list_any-push (λ line. is_end (said g line)) prefix line none
+-- too many bytes
+pub too_long : {X : Type 0} (f : Format X) (text : List ℕ) → text_byte_limit < length text → IsTextRefusal f text 0 TooLong
+unfolding text_read
+too_long f text long = let on : ltb text_byte_limit (length text) ≡ true = grind (arith, nat_tests) in rw on refl
 
--- the lines before have no fault
-abbrev pub IsClean : {X : Type 0} → Grammar X → List (List ℕ) → Type 0
-IsClean g prefix = (i : ℕ) (w : Why) → i < length prefix → part_fault g (take i prefix) (get_or prefix i []) false w ≡ false
+short_read : {X : Type 0} (f : Format X) (text : List ℕ) → length text ≤ text_byte_limit →
+    text_read f text ≡ or_first_fault 1 (preamble_of f text).faults (lists_read (grammar_of f text) (suc (preamble_lines f text)) (grammar_of f text).start (body_of f text))
+unfolding text_read
+short_read f text short =
+    let read = or_first_fault 1 (preamble_of f text).faults (lists_read (grammar_of f text) (suc (preamble_lines f text)) (grammar_of f text).start (body_of f text)) in
+    let off : ltb text_byte_limit (length text) ≡ false = grind (arith, nat_tests) in
+    ap (λ b. cond b (Err (0, TooLong)) read) off
 
--- a line before an `end`
-pub part_fault-open : {X : Type 0} (g : Grammar X) (prefix : List (List ℕ)) (part : List ℕ) (w : Why) → has_end_line g prefix ≡ false → part_fault g prefix part false w ≡ said_fault g (lists_of g prefix) (said g part) w
-unfolding part_fault
-part_fault-open g prefix part w running = rw running refl
+-- a refusal of the preamble is that of the text
+pub preamble_refused : {X : Type 0} (f : Format X) (text : List ℕ) (line : ℕ) (why : Why) → length text ≤ text_byte_limit → IsPreambleRefusal (preamble_of f text) line why → IsTextRefusal f text line why
+preamble_refused f text line why short r =
+    let read = lists_read (grammar_of f text) (suc (preamble_lines f text)) (grammar_of f text).start (body_of f text) in
+    short_read f text short ∙ ap (λ faults. or_first_fault 1 faults read) r.parts ∙ first_read 1 line r.before why r.after read r.clean r.at
 
--- what stands after the last line end, before an `end`
-pub part_fault-last : {X : Type 0} (g : Grammar X) (prefix : List (List ℕ)) (part : List ℕ) (w : Why) → has_end_line g prefix ≡ false → part_fault g prefix part true w ≡ same_text_fault (unended_text_fault part) w
-unfolding part_fault
-part_fault-last g prefix part w running = rw running refl
+-- after a preamble that was read, the parts after it are
+begun_read : {X : Type 0} (f : Format X) (text : List ℕ) (setting : SettingValue) (lines : ℕ) (rest : List ℕ) → length text ≤ text_byte_limit → HasBegun (preamble_of f text) text setting lines rest →
+    text_read f text ≡ lists_read (f.grammar setting) (suc lines) (f.grammar setting).start (parts_of rest)
+begun_read f text setting lines rest short begun =
+    let read = lists_read (grammar_of f text) (suc (preamble_lines f text)) (grammar_of f text).start (body_of f text) in
+    short_read f text short
+    ∙ faultless_read 1 (preamble_of f text).faults read begun.clean
+    ∙ ap (λ parts. lists_read (grammar_of f text) (suc (preamble_lines f text)) (grammar_of f text).start parts) begun.body
+    ∙ ap (λ n. lists_read (grammar_of f text) (suc n) (grammar_of f text).start (parts_of rest)) begun.count
+    ∙ ap (λ s. lists_read (f.grammar s) (suc lines) (f.grammar s).start (parts_of rest)) begun.says
 
--- what stands after an `end`
-pub part_fault-ended : {X : Type 0} (g : Grammar X) (prefix : List (List ℕ)) (part : List ℕ) (last : Bool) (w : Why) → has_end_line g prefix ≡ true → part_fault g prefix part last w ≡ (same_text_fault AfterEnd w && not (last && is_empty part))
-unfolding part_fault
-part_fault-ended g prefix part last w ended = rw ended refl
+pub begun_spells : {X : Type 0} (f : Format X) (text : List ℕ) (setting : SettingValue) (lines : ℕ) (rest : List ℕ) (lists : List (List X)) → length text ≤ text_byte_limit →
+    HasBegun (preamble_of f text) text setting lines rest → SpellsBody (f.grammar setting) (parts_of rest) lists → SpellsLists f text lists
+begun_spells f text setting lines rest lists short begun body = begun_read f text setting lines rest short begun ∙ body (suc lines)
 
--- one more line without a fault
-pub IsClean-push : {X : Type 0} (g : Grammar X) (prefix : List (List ℕ)) (line : List ℕ) → IsClean g prefix → ((w : Why) → part_fault g prefix line false w ≡ false) → IsClean g (prefix ++ line ∷ [])
-IsClean-push g prefix line clean at_line i w low =
-    ⊎_elim
-    (λ (inside : i < length prefix).
-    let t : take i (prefix ++ line ∷ []) ≡ take i prefix = take-append-le i prefix (line ∷ []) (omega arith) in
-    let n : get_or (prefix ++ line ∷ []) i [] ≡ get_or prefix i [] = get_or_append_left prefix (line ∷ []) [] i inside in
-    rw (t, n) (clean i w inside))
-    (λ (at : length prefix ≤ i).
-    let same : i ≡ length prefix = omega (arith, length-append prefix (line ∷ [])) in
-    let t : take i (prefix ++ line ∷ []) ≡ prefix = take_at prefix (line ∷ []) i (sym same) in
-    let n : get_or (prefix ++ line ∷ []) i [] ≡ line = get_or_at prefix line [] [] i (sym same) in
-    rw (t, n) (at_line w))
-    (cases_lt i (length prefix))
+pub begun_refused : {X : Type 0} (f : Format X) (text : List ℕ) (setting : SettingValue) (lines : ℕ) (rest : List ℕ) (line : ℕ) (why : Why) → length text ≤ text_byte_limit →
+    HasBegun (preamble_of f text) text setting lines rest → IsBodyRefusedAfter (f.grammar setting) (parts_of rest) lines line why → IsTextRefusal f text line why
+begun_refused f text setting lines rest line why short begun refused = begun_read f text setting lines rest short begun ∙ refused
 
 -- ---- the place among the parts
 
--- The reader has read i lines: they have no fault and none of them is an `end`; `rest` is what stands after them, and
--- `lists` what they say.
+-- The reader has read i lines, which make `lists`; `rest` is what stands after them.
 pub record Reached {X : Type 0} (g : Grammar X) (parts : List (List ℕ)) (i : ℕ) (rest : List ℕ) (lists : List (List X)) : Type 0 where
-  pub prefix : List (List ℕ)
-  pub body : parts ≡ prefix ++ parts_of rest
-  pub count : length prefix ≡ i
-  pub clean : IsClean g prefix
-  pub running : has_end_line g prefix ≡ false
-  pub says : lists_of g prefix ≡ lists
+  pub read : (n m : ℕ) → m ≡ i + n → lists_read g n g.start parts ≡ lists_read g m lists (parts_of rest)
+  pub count : length parts ≡ i + length (parts_of rest)
 
-last_place : (prefix : List (List ℕ)) (part : List ℕ) (after : List (List ℕ)) (i : ℕ) → length prefix ≡ i → eqb (suc i) (length (prefix ++ part ∷ after)) ≡ is_empty after
-last_place prefix part [] i count = let whole = length-append prefix (part ∷ []) in grind (arith, nat_tests)
-last_place prefix part (next ∷ after) i count = let whole = length-append prefix (part ∷ next ∷ after) in grind (arith, nat_tests)
+-- before the first line
+pub Reached-start : {X : Type 0} (g : Grammar X) (rest : List ℕ) → Reached g (parts_of rest) 0 rest g.start
+Reached-start g rest = record { read = λ n m at. ap (λ k. lists_read g k g.start (parts_of rest)) (let same : n ≡ m = omega (arith, at) in same); count = omega arith }
 
-inside_place : (prefix : List (List ℕ)) (part : List ℕ) (after : List (List ℕ)) (i : ℕ) → i ≤ length prefix → ltb i (length (prefix ++ part ∷ after)) ≡ true
-inside_place prefix part after i low = let whole = length-append prefix (part ∷ after) in grind (arith, nat_tests)
+-- what is read after a line, by what it says
+abbrev read_after : {X : Type 0} → Grammar X → ℕ → List (List X) → Result (Line X) Why → List (List ℕ) → Result (List (List X)) (ℕ × Why)
+read_after g n lists r parts = cond (is_end r) (ended (suc n) (with_said lists r) parts) (lists_read g (suc n) (with_said lists r) parts)
 
--- the lines are the parts before the last
-pub whole_lines-place : (prefix : List (List ℕ)) (last : List ℕ) → whole_lines (prefix ++ last ∷ []) ≡ prefix
-whole_lines-place [] last = refl
-whole_lines-place (part ∷ []) last = refl
-whole_lines-place (part ∷ next ∷ prefix) last = ap (λ ps. part ∷ ps) (whole_lines-place (next ∷ prefix) last)
-
--- the fault of a part at its place
-pub body_fault-place : {X : Type 0} (g : Grammar X) (parts prefix : List (List ℕ)) (part : List ℕ) (after : List (List ℕ)) (i : ℕ) (w : Why) →
-    parts ≡ prefix ++ part ∷ after → length prefix ≡ i → body_fault g parts i w ≡ part_fault g prefix part (is_empty after) w
-unfolding body_fault
-body_fault-place g parts prefix part after i w body count =
-    let inside : ltb i (length (prefix ++ part ∷ after)) ≡ true = inside_place prefix part after i (omega arith) in
-    let t : take i (prefix ++ part ∷ after) ≡ prefix = take_at prefix (part ∷ after) i count in
-    let n : get_or (prefix ++ part ∷ after) i [] ≡ part = get_or_at prefix part after [] i count in
-    let last : eqb (suc i) (length (prefix ++ part ∷ after)) ≡ is_empty after = last_place prefix part after i count in
-    rw (body, inside, t, n, last) refl
-
-not_last_place : (prefix : List (List ℕ)) (part : List ℕ) (after : List (List ℕ)) (k : ℕ) → k < length prefix → eqb (suc k) (length (prefix ++ part ∷ after)) ≡ false
-not_last_place prefix part after k low = let whole = length-append prefix (part ∷ after) in grind (arith, nat_tests)
-
--- the lines before have no fault, whatever follows them
-body_fault-before : {X : Type 0} (g : Grammar X) (parts prefix : List (List ℕ)) (part : List ℕ) (after : List (List ℕ)) → IsClean g prefix →
-    parts ≡ prefix ++ part ∷ after → (k : ℕ) (w : Why) → k < length prefix → body_fault g parts k w ≡ false
-unfolding body_fault
-body_fault-before g parts prefix part after clean body k w low =
-    let inside : ltb k (length (prefix ++ part ∷ after)) ≡ true = inside_place prefix part after k (omega arith) in
-    let t : take k (prefix ++ part ∷ after) ≡ take k prefix = take-append-le k prefix (part ∷ after) (omega arith) in
-    let n : get_or (prefix ++ part ∷ after) k [] ≡ get_or prefix k [] = get_or_append_left prefix (part ∷ after) [] k low in
-    let last : eqb (suc k) (length (prefix ++ part ∷ after)) ≡ false = not_last_place prefix part after k low in
-    rw (body, inside, t, n, last) (clean k w low)
-
--- after the last part there is no fault
-pub body_fault-past : {X : Type 0} (g : Grammar X) (parts : List (List ℕ)) (k : ℕ) (w : Why) → length parts ≤ k → body_fault g parts k w ≡ false
-unfolding body_fault
-body_fault-past g parts k w past = let off : ltb k (length parts) ≡ false = grind (arith, nat_tests) in rw off refl
-
--- ---- refusals
-
--- the first fault of a part is the refusal of the parts
-refused_at : {X : Type 0} (g : Grammar X) (parts prefix : List (List ℕ)) (part : List ℕ) (after : List (List ℕ)) (why : Why) → IsClean g prefix →
-    parts ≡ prefix ++ part ∷ after → IsFirstTextFault (part_fault g prefix part (is_empty after)) why → IsBodyRefusal g parts (length prefix) why
-refused_at g parts prefix part after why clean body first = record {
-  fault = body_fault-place g parts prefix part after (length prefix) why body refl ∙ first.fault;
-  first = body_fault-before g parts prefix part after clean body;
-  least = λ w less. body_fault-place g parts prefix part after (length prefix) w body refl ∙ first.least w less;
-}
-
-pub same_text_fault-first : (why : Why) → IsFirstTextFault (same_text_fault why) why
-same_text_fault-first why = record { fault = grind (arith, nat_tests); least = λ w less. grind (arith, nat_tests) }
-
-pub IsFirstTextFault-same : {p q : Why → Bool} (why : Why) → ((w : Why) → p w ≡ q w) → IsFirstTextFault q why → IsFirstTextFault p why
-IsFirstTextFault-same why same first = record { fault = same why ∙ first.fault; least = λ w less. same w ∙ first.least w less }
-
--- a line with a fault
-pub line_refused : {X : Type 0} (g : Grammar X) (parts : List (List ℕ)) (i : ℕ) (rest : List ℕ) (lists : List (List X)) (line after : List ℕ) (why : Why) → Reached g parts i rest lists →
-    parts_of rest ≡ line ∷ parts_of after → IsFirstTextFault (said_fault g lists (said g line)) why → IsBodyRefusal g parts i why
+line_read : {X : Type 0} (g : Grammar X) (n : ℕ) (lists : List (List X)) (rest line after : List ℕ) → parts_of rest ≡ line ∷ parts_of after →
+    lists_read g n lists (parts_of rest) ≡ or_fault n (said_fault g lists (said g line)) (read_after g n lists (said g line) (parts_of after))
 unfolding parts_of
-line_refused g parts i rest lists line after why r cut first =
+line_read g n lists rest line after cut =
     let p = split_parts (λ b. eqb b 10) after in
-    let body : parts ≡ r.prefix ++ line ∷ (p.0 ∷ p.1) = r.body ∙ ap (λ x. r.prefix ++ x) (cut ∙ ap (λ x. line ∷ x) p.2) in
-    let at : IsFirstTextFault (part_fault g r.prefix line false) why =
-    IsFirstTextFault-same why (λ w. part_fault-open g r.prefix line w r.running ∙ ap (λ l. said_fault g l (said g line) w) r.says) first in
-    subst (λ n. IsBodyRefusal g parts n why) r.count (refused_at g parts r.prefix line (p.0 ∷ p.1) why r.clean body at)
+    ap (λ parts. lists_read g n lists parts) (cut ∙ ap (λ parts. line ∷ parts) p.2)
+    ∙ ap (λ parts. or_fault n (said_fault g lists (said g line)) (read_after g n lists (said g line) parts)) (sym p.2)
 
--- no line end, and no `end` before
-pub unended_refused : {X : Type 0} (g : Grammar X) (parts : List (List ℕ)) (i : ℕ) (rest : List ℕ) (lists : List (List X)) (why : Why) → Reached g parts i rest lists →
-    parts_of rest ≡ rest ∷ [] → why ≡ unended_text_fault rest → IsBodyRefusal g parts i why
-unended_refused g parts i rest lists why r cut is =
-    let body : parts ≡ r.prefix ++ rest ∷ [] = r.body ∙ ap (λ x. r.prefix ++ x) cut in
-    let at : IsFirstTextFault (part_fault g r.prefix rest true) (unended_text_fault rest) =
-    IsFirstTextFault-same (unended_text_fault rest) (λ w. part_fault-last g r.prefix rest w r.running) (same_text_fault-first (unended_text_fault rest)) in
-    rw is (subst (λ n. IsBodyRefusal g parts n (unended_text_fault rest)) r.count (refused_at g parts r.prefix rest [] (unended_text_fault rest) r.clean body at))
-
--- a line that is accepted has no fault
-line_clean : {X : Type 0} (g : Grammar X) (parts : List (List ℕ)) (i : ℕ) (rest : List ℕ) (lists : List (List X)) (line : List ℕ) (ended : Bool) (new : List (List X)) →
-    (r : Reached g parts i rest lists) → AcceptsLine g lists line ended new → (w : Why) → part_fault g r.prefix line false w ≡ false
-line_clean g parts i rest lists line ended new r accepts w =
-    part_fault-open g r.prefix line w r.running ∙ ap (λ l. said_fault g l (said g line) w) r.says ∙ ap (λ s. said_fault g lists s w) accepts.says ∙ accepts.accepts.clean w
-
-line_says : {X : Type 0} (g : Grammar X) (parts : List (List ℕ)) (i : ℕ) (rest : List ℕ) (lists : List (List X)) (line : List ℕ) (ended : Bool) (new : List (List X)) →
-    (r : Reached g parts i rest lists) → AcceptsLine g lists line ended new → lists_of g (r.prefix ++ line ∷ []) ≡ new
-line_says g parts i rest lists line ended new r accepts =
-    lists_of-push g r.prefix line ∙ ap (λ l. with_said l (said g line)) r.says ∙ ap (with_said lists) accepts.says ∙ accepts.accepts.after
-
-line_ends : {X : Type 0} (g : Grammar X) (parts : List (List ℕ)) (i : ℕ) (rest : List ℕ) (lists : List (List X)) (line : List ℕ) (ended : Bool) (new : List (List X)) →
-    (r : Reached g parts i rest lists) → AcceptsLine g lists line ended new → has_end_line g (r.prefix ++ line ∷ []) ≡ ended
-line_ends g parts i rest lists line ended new r accepts = has_end_line-push g r.prefix line r.running ∙ ap is_end accepts.says ∙ accepts.accepts.ends
+accepted_read : {X : Type 0} (g : Grammar X) (n : ℕ) (lists : List (List X)) (rest line after : List ℕ) (end : Bool) (new : List (List X)) → parts_of rest ≡ line ∷ parts_of after → AcceptsLine g lists line end new →
+    lists_read g n lists (parts_of rest) ≡ cond end (ended (suc n) new (parts_of after)) (lists_read g (suc n) new (parts_of after))
+accepted_read g n lists rest line after end new cut accepts =
+    let l = accepts.line_said in
+    line_read g n lists rest line after cut
+    ∙ ap (λ r. or_fault n (said_fault g lists r) (read_after g n lists r (parts_of after))) accepts.says
+    ∙ ap (λ o. or_fault n o (read_after g n lists (Ok l) (parts_of after))) accepts.accepts.clean
+    ∙ ap (λ b. cond b (ended (suc n) (with_line lists l) (parts_of after)) (lists_read g (suc n) (with_line lists l) (parts_of after))) accepts.accepts.ends
+    ∙ ap (λ made. cond end (ended (suc n) made (parts_of after)) (lists_read g (suc n) made (parts_of after))) accepts.accepts.after
 
 -- the reader continues after a line
 pub Reached-next : {X : Type 0} (g : Grammar X) (parts : List (List ℕ)) (i : ℕ) (rest : List ℕ) (lists : List (List X)) (line after : List ℕ) (new : List (List X)) →
     Reached g parts i rest lists → parts_of rest ≡ line ∷ parts_of after → AcceptsLine g lists line false new → Reached g parts (suc i) after new
 Reached-next g parts i rest lists line after new r cut accepts = record {
-  prefix = r.prefix ++ line ∷ [];
-  body = r.body ∙ ap (λ x. r.prefix ++ x) cut ∙ sym (append_assoc r.prefix (line ∷ []) (parts_of after));
-  count = omega (arith, length-append r.prefix (line ∷ []), r.count);
-  clean = IsClean-push g r.prefix line r.clean (line_clean g parts i rest lists line false new r accepts);
-  running = line_ends g parts i rest lists line false new r accepts;
-  says = line_says g parts i rest lists line false new r accepts;
+  read = λ n m at.
+      r.read n (i + n) refl ∙ accepted_read g (i + n) lists rest line after false new cut accepts ∙ ap (λ k. lists_read g k new (parts_of after)) (let same : suc (i + n) ≡ m = omega (arith, at) in same);
+  count = omega (arith, r.count, ap length cut);
 }
+
+-- ---- refusals
+
+-- a line with a fault
+pub line_refused : {X : Type 0} (g : Grammar X) (parts : List (List ℕ)) (i : ℕ) (rest : List ℕ) (lists : List (List X)) (line after : List ℕ) (why : Why) → Reached g parts i rest lists →
+    parts_of rest ≡ line ∷ parts_of after → said_fault g lists (said g line) ≡ Some why → IsBodyRefusal g parts i why
+line_refused g parts i rest lists line after why r cut first = λ n m at.
+    r.read n m at ∙ line_read g m lists rest line after cut ∙ ap (λ o. or_fault m o (read_after g m lists (said g line) (parts_of after))) first
+
+-- no line end, and no `end` before
+pub unended_refused : {X : Type 0} (g : Grammar X) (parts : List (List ℕ)) (i : ℕ) (rest : List ℕ) (lists : List (List X)) (why : Why) → Reached g parts i rest lists →
+    parts_of rest ≡ rest ∷ [] → why ≡ unended_text_fault rest → IsBodyRefusal g parts i why
+unended_refused g parts i rest lists why r cut is = λ n m at. r.read n m at ∙ ap (λ ps. lists_read g m lists ps) cut ∙ ap (λ w. Err (m, w)) (sym is)
+
+not_true : (b : Bool) → not b ≡ true → b ≡ false
+not_true true e = absurd cc
+not_true false e = refl
+
+bytes_after : {A : Type 0} (n : ℕ) (read : A) (after : List ℕ) → (length after ≡ 0 → ⊥) → ended n read (parts_of after) ≡ Err (n, AfterEnd)
+unfolding parts_of
+bytes_after n read after some =
+    let p = split_parts (λ b. eqb b 10) after in
+    let stands : (is_empty p.1 && is_empty p.0) ≡ false = not_true (is_empty p.1 && is_empty p.0) (some_part after p.0 p.1 p.2 some) in
+    ap (λ parts. ended n read parts) p.2 ∙ ap (λ b. cond b (Ok read) (Err (n, AfterEnd))) stands
 
 -- a byte after the `end` line
 pub ended_refused : {X : Type 0} (g : Grammar X) (parts : List (List ℕ)) (i : ℕ) (rest : List ℕ) (lists : List (List X)) (line after : List ℕ) (new : List (List X)) →
     Reached g parts i rest lists → parts_of rest ≡ line ∷ parts_of after → AcceptsLine g lists line true new → (length after ≡ 0 → ⊥) → IsBodyRefusal g parts (suc i) AfterEnd
-unfolding parts_of
-ended_refused g parts i rest lists line after new r cut accepts some =
-    let p = split_parts (λ b. eqb b 10) after in
-    let body : parts ≡ (r.prefix ++ line ∷ []) ++ p.0 ∷ p.1 = r.body ∙ ap (λ x. r.prefix ++ x) (cut ∙ ap (λ x. line ∷ x) p.2) ∙ sym (append_assoc r.prefix (line ∷ []) (p.0 ∷ p.1)) in
-    let stands : not (is_empty p.1 && is_empty p.0) ≡ true = some_part after p.0 p.1 p.2 some in
-    let at : IsFirstTextFault (part_fault g (r.prefix ++ line ∷ []) p.0 (is_empty p.1)) AfterEnd =
-    IsFirstTextFault-same AfterEnd (λ w. part_fault-ended g (r.prefix ++ line ∷ []) p.0 (is_empty p.1) w (line_ends g parts i rest lists line true new r accepts) ∙ ap (λ b. same_text_fault AfterEnd w && b) stands ∙ and_true (same_text_fault AfterEnd w))
-    (same_text_fault-first AfterEnd) in
-    let n : length (r.prefix ++ line ∷ []) ≡ suc i = omega (arith, length-append r.prefix (line ∷ []), r.count) in
-    subst (λ n. IsBodyRefusal g parts n AfterEnd) n
-    (refused_at g parts (r.prefix ++ line ∷ []) p.0 p.1 AfterEnd (IsClean-push g r.prefix line r.clean (line_clean g parts i rest lists line true new r accepts)) body at)
-
-spelled_after : {X : Type 0} (g : Grammar X) (parts lines : List (List ℕ)) (k : ℕ) (w : Why) → has_end_line g lines ≡ true → parts ≡ lines ++ [] ∷ [] →
-    length lines ≤ k → body_fault g parts k w ≡ false
-spelled_after g parts lines k w ended body high =
-    ⊎_elim
-    (λ (at : k < suc (length lines)).
-    let same : length lines ≡ k = omega arith in
-    body_fault-place g parts lines [] [] k w body same ∙ part_fault-ended g lines [] true w ended ∙ and-false (same_text_fault AfterEnd w))
-    (λ (past : suc (length lines) ≤ k). body_fault-past g parts k w (omega (arith, ap length body, length-append lines ([] ∷ []))))
-    (cases_lt k (suc (length lines)))
-
--- clean lines of which one is the `end`, and nothing after them, spell what they say
-pub spelled : {X : Type 0} (g : Grammar X) (parts lines : List (List ℕ)) (lists : List (List X)) → IsClean g lines → has_end_line g lines ≡ true →
-    lists_of g lines ≡ lists → parts ≡ lines ++ [] ∷ [] → SpellsBody g parts lists
-spelled g parts lines lists clean ended says body = record {
-  clean = λ k w. ⊎_elim
-      (λ (low : k < length lines). body_fault-before g parts lines [] [] clean body k w low)
-      (λ (high : length lines ≤ k). spelled_after g parts lines k w ended body high)
-      (cases_lt k (length lines));
-  says = rw (body, whole_lines-place lines []) says;
-}
+ended_refused g parts i rest lists line after new r cut accepts some = λ n m at.
+    r.read n (i + n) refl ∙ accepted_read g (i + n) lists rest line after true new cut accepts
+    ∙ bytes_after (suc (i + n)) new after some ∙ ap (λ k. Err (k, AfterEnd)) (let same : suc (i + n) ≡ m = omega (arith, at) in same)
 
 -- nothing after the `end` line: the parts spell what their lines say
 pub Reached-end : {X : Type 0} (g : Grammar X) (parts : List (List ℕ)) (i : ℕ) (rest : List ℕ) (lists : List (List X)) (line after : List ℕ) (new : List (List X)) →
     Reached g parts i rest lists → parts_of rest ≡ line ∷ parts_of after → AcceptsLine g lists line true new → length after ≡ 0 → SpellsBody g parts new
 unfolding parts_of
-Reached-end g parts i rest lists line [] new r cut accepts none =
-    spelled g parts (r.prefix ++ line ∷ []) new
-    (IsClean-push g r.prefix line r.clean (line_clean g parts i rest lists line true new r accepts))
-    (line_ends g parts i rest lists line true new r accepts) (line_says g parts i rest lists line true new r accepts)
-    (r.body ∙ ap (λ x. r.prefix ++ x) cut ∙ sym (append_assoc r.prefix (line ∷ []) ([] ∷ [])))
+Reached-end g parts i rest lists line [] new r cut accepts none = λ n. r.read n (i + n) refl ∙ accepted_read g (i + n) lists rest line [] true new cut accepts
 Reached-end g parts i rest lists line (b ∷ after) new r cut accepts none = absurd (omega arith)
-
--- before the first line
-pub Reached-start : {X : Type 0} (g : Grammar X) (rest : List ℕ) → Reached g (parts_of rest) 0 rest g.start
-unfolding has_end_line lists_of
-Reached-start g rest = record {
-  prefix = [];
-  body = refl;
-  count = refl;
-  clean = λ i w low. absurd (omega arith);
-  running = refl;
-  says = refl;
-}
 
 -- ---- what the reader answers
 
 -- the fault that a reader answers is the refusal at its line, unless memory ran out
 pub answered : {X : Type 0} (g : Grammar X) (parts : List (List ℕ)) (lines line i : ℕ) (why : Why) (fault_line : ℕ) (fault_why : Why) → line ≡ lines + i + 1 → fault_why ≡ why →
-    ((why ≡ OutOfMemory → ⊥) → fault_line ≡ line) → ((why ≡ OutOfMemory → ⊥) → IsBodyRefusal g parts i why) → (fault_why ≡ OutOfMemory → ⊥) → IsRefusedAfter g parts lines fault_line fault_why
+    ((why ≡ OutOfMemory → ⊥) → fault_line ≡ line) → ((why ≡ OutOfMemory → ⊥) → IsBodyRefusal g parts i why) → (fault_why ≡ OutOfMemory → ⊥) → IsBodyRefusedAfter g parts lines fault_line fault_why
 answered g parts lines line i why fault_line fault_why at is stands refusal other =
     let not_memory : why ≡ OutOfMemory → ⊥ = λ memory. other (is ∙ memory) in
-    record { place = i; at = stands not_memory ∙ at; refused = rw is (refusal not_memory) }
+    let same = stands not_memory in
+    refusal not_memory (suc lines) fault_line (omega (arith, same, at)) ∙ ap (λ w. Err (fault_line, w)) (sym is)
 
 -- what is refused for another reason than memory has a fault
-pub first_fault : (has : Why → Bool) (why : Why) → IsRefusedFor has why → (why ≡ OutOfMemory → ⊥) → IsFirstTextFault has why
-first_fault has why away other = ⊎_elim (λ memory. absurd (other memory)) (λ first. first) away
+pub first_fault : (fault : Option Why) (why : Why) → IsRefusedFor fault why → (why ≡ OutOfMemory → ⊥) → fault ≡ Some why
+first_fault fault why away other = ⊎_elim (λ memory. absurd (other memory)) (λ is. is) away

@@ -2,6 +2,7 @@
 pub mod Accepted
 pub mod Begun
 pub mod Grammars
+pub mod LineReadings
 pub mod Preambles
 pub mod Spelled
 pub mod Spelling

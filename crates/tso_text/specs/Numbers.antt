@@ -1,19 +1,10 @@
--- The keyword of a line, and the numbers after it or their fault.
-use Rattle.std.specs.Prelude.{ℕ, Bool, List, [], ◌∷◌, min, Result, Ok, Err, if◌then◌else◌}
-use Rattle.std.specs.Str.{bytes_eq}
+-- The numbers after a keyword, or their fault.
+use Rattle.std.specs.Prelude.{ℕ, List, [], ◌∷◌, Result, Ok, Err, if◌then◌else◌}
 use Rattle.std.specs.Str.Parse.{digits_value}
 use Rattle.line_text.specs.Numbers.{is_numeral}
 use Rattle.line_text.specs.Results.{◌>>=◌}
 use Rattle.tso_text.specs.declared.faults.Why.{Why}
 use Rattle.tso_text.specs.declared.faults.Why.TheVariants.{BadLine, BadNumber}
-
--- the token is this keyword
-abbrev pub is_word : List ℕ → List ℕ → Bool
-is_word token word = bytes_eq token word
-
--- An address of 16 bits. A greater number counts as the greatest of them, which is past the range as well.
-abbrev pub address : ℕ → ℕ
-address n = min n 65535
 
 -- the number of a token, or its fault
 abbrev pub numeral : List ℕ → Result ℕ Why

@@ -1,6 +1,5 @@
 ghost use Rattle.std.specs.Prelude.{◌≡◌, ◌≢◌, if◌then◌else◌};
 ghost use Rattle.tso_ops.specs.declared.faults.ValueFault.{ValueFault};
-ghost use Rattle.tso_text.specs.Internal.Spelling.{same_text_fault};
 ghost use Rattle.tso_text.specs.Internal.Accepted.{IsWhyOf};
 ghost use Rattle.tso_text.specs.declared.faults.Why.{Why};
 

@@ -1,11 +1,11 @@
-ghost use Rattle.std.specs.Prelude.{◌≡◌, ◌≢◌, ◌++◌, ◌∷◌, [], ◌≤◌, true, false, ℕ, List, map, length, All, string_bytes, OnOk, IfOk, IfErr};
+ghost use Rattle.std.specs.Prelude.{◌≡◌, ◌≢◌, ◌++◌, ◌∷◌, [], ◌≤◌, true, false, ℕ, List, map, length, All, None, string_bytes, OnOk, IfOk, IfErr};
 ghost use Rattle.line_text.specs.Lines.{line_text};
 ghost use Rattle.tso_ops.specs.declared.limits.Tally.{Tally};
 ghost use Rattle.tso_ops.specs.Settings.{SettingValue, setting_of};
 ghost use Rattle.tso_ops.specs.Tally.{Admitted};
 ghost use Rattle.tso_ops.specs.Values.{rows, op_of, ReadFits};
 ghost use Rattle.tso_text.specs.Internal.Grammars.{trace_format, program_format, schedule_format};
-ghost use Rattle.tso_text.specs.Lines.{has_stbar};
+ghost use Rattle.tso_text.specs.Internal.LineReadings.{has_stbar};
 ghost use Rattle.tso_text.specs.Texts.{processor_of, text_byte_limit};
 ghost use Rattle.tso_text.specs.Printed.{outcome_tokens, op_tokens, act_tokens};
 ghost use Rattle.tso_text.specs.Internal.Spelling.{Format, preamble_of, said, items_of};
@@ -60,7 +60,7 @@ pub(crate) trait Form: Copy {
         requires said { CanSay (format.grammar (setting_of setting.now)) (Item self) }
         requires kept { (items : List Self) × keeps (setting_of setting.now) tally.old items }
         ensures admitted { (items : List Self) → keeps (setting_of setting.now) tally.old items → OnOk result (keeps (setting_of setting.now) tally.new (items ++ self ∷ [])) }
-        ensures clean { (items : List Self) → keeps (setting_of setting.now) tally.old items → OnOk result ((w : Why) → (format.grammar (setting_of setting.now)).item_fault items self w ≡ false) }
+        ensures clean { (items : List Self) → keeps (setting_of setting.now) tally.old items → OnOk result ((format.grammar (setting_of setting.now)).item_fault items self ≡ None) }
         ensures refused { (items : List Self) → keeps (setting_of setting.now) tally.old items → IfErr result (IsItemRefusedFor (format.grammar (setting_of setting.now)) items self) };
 }
 
@@ -79,7 +79,7 @@ impl Form for Outcome {
         Ok((Vec::new(alloc), Tally::of_setting(alloc, setting)?))
     }
 
-    #[tactic(auto, unfolding(crate::specs::Lines::trace_line))]
+    #[tactic(auto, unfolding(crate::specs::Internal::LineReadings::trace_line))]
     fn said_by(order: Order, line: &[u8]) -> Result<Line<Outcome>, Why> {
         let (word, tokens) = next_token(line);
         if word == b"proc".as_slice() {
@@ -145,7 +145,7 @@ impl Form for Op {
         Ok((Vec::new(alloc), Tally::of_setting(alloc, setting)?))
     }
 
-    #[tactic(auto, unfolding(crate::specs::Lines::program_line))]
+    #[tactic(auto, unfolding(crate::specs::Internal::LineReadings::program_line))]
     fn said_by(order: Order, line: &[u8]) -> Result<Line<Op>, Why> {
         let (word, tokens) = next_token(line);
         if word == b"proc".as_slice() {
@@ -209,7 +209,7 @@ impl Form for Act {
         Ok((lists, Tally::new(alloc)))
     }
 
-    #[tactic(auto, unfolding(crate::specs::Lines::schedule_line))]
+    #[tactic(auto, unfolding(crate::specs::Internal::LineReadings::schedule_line))]
     fn said_by(_order: Order, line: &[u8]) -> Result<Line<Act>, Why> {
         let (word, tokens) = next_token(line);
         if word == b"i".as_slice() {

@@ -1,7 +1,8 @@
 ghost use Rattle.std.specs.Prelude.{◌≡◌, [], ◌∷◌, IfOk, OnOk, IfErr};
 ghost use Rattle.line_text.specs.Lines.{tokens_after, SomeToken};
 ghost use Rattle.tso_text.specs.declared.faults.Why.{Why};
-ghost use Rattle.tso_text.specs.Numbers.{address, numeral, no_number, one_number, two_numbers, three_numbers};
+ghost use Rattle.tso_text.specs.Internal.LineReadings.{address};
+ghost use Rattle.tso_text.specs.Numbers.{numeral, no_number, one_number, two_numbers, three_numbers};
 
 use crate::faults::Why;
 use line_text::{next_token, number_of};

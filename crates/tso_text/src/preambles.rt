@@ -4,7 +4,8 @@ ghost use Rattle.line_text.specs.Lines.{parts_of, tokens_after};
 ghost use Rattle.tso_ops.specs.Limits.{KeepsEntries};
 ghost use Rattle.tso_ops.specs.Settings.{setting_of};
 ghost use Rattle.tso_text.specs.Internal.Preambles.{header_alone, setting_preamble};
-ghost use Rattle.tso_text.specs.Lines.{model_said, whole_lines};
+ghost use Rattle.tso_text.specs.Internal.LineReadings.{model_said};
+ghost use Rattle.tso_text.specs.Lines.{whole_lines};
 ghost use Rattle.tso_text.specs.Texts.{text_byte_limit};
 ghost use Rattle.tso_text.specs.Internal.Begun.{HasAllEntries, HasBadEntry, HasBadModel, HasBegun, HasHeader, HasModel, HasNoHeader, IsEntryRead, IsEntryRefused, IsPreambleRefusal};
 ghost use Rattle.tso_text.specs.declared.faults.Why.{Why};
@@ -108,7 +109,7 @@ fn read_model(text: &[u8]) -> Result<(Order, usize, &[u8]), Why>
 }
 
 /// Reads the name of a memory model, which is `pso`.
-#[tactic(auto, unfolding(crate::specs::Lines::model_said))]
+#[tactic(auto, unfolding(crate::specs::Internal::LineReadings::model_said))]
 fn model_name(tokens: Option<&[u8]>) -> Result<(), Why>
     ensures { result ≡ model_said (tokens_after tokens.entry) }
 {

@@ -7,7 +7,7 @@ ghost use Rattle.tso_text.specs.Refusals.{IsTraceRefusal, IsProgramRefusal, IsSc
 ghost use Rattle.tso_text.specs.Internal.Spelling.{preamble_of, IsTextRefusal};
 ghost use Rattle.tso_text.specs.Internal.Spelled.{SpellsLists};
 ghost use Rattle.tso_text.specs.Internal.Accepted.{IsKept};
-ghost use Rattle.tso_text.specs.Internal.Begun.{IsSetting, SpellsBody, IsRefusedAfter};
+ghost use Rattle.tso_text.specs.Internal.Begun.{IsSetting, SpellsBody, IsBodyRefusedAfter};
 ghost use Rattle.tso_ops.specs.declared.acts.Act.{Act};
 ghost use Rattle.tso_text.specs.declared.faults.Why.{Why};
 
@@ -110,7 +110,7 @@ fn read_body<T: Form>(
     requires { lines + length text.now ≤ text_byte_limit }
     ensures found { IfOk result (λ lists. SpellsBody (T.format.grammar (setting_of setting.now)) (parts_of text.now) (rows lists.items)) }
     ensures kept { IfOk result (λ lists. IsKept (T.keeps (setting_of setting.now)) (rows lists.items)) }
-    ensures refused { IfErr result (λ fault. fault.why ≢ Why.OutOfMemory → IsRefusedAfter (T.format.grammar (setting_of setting.now)) (parts_of text.now) lines fault.line fault.why) }
+    ensures refused { IfErr result (λ fault. fault.why ≢ Why.OutOfMemory → IsBodyRefusedAfter (T.format.grammar (setting_of setting.now)) (parts_of text.now) lines fault.line fault.why) }
     ensures memory { IfErr result (λ fault. fault.why ≡ Why.OutOfMemory → fault.line ≡ 0) }
 {
     let mut rest = text;

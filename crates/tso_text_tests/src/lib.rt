@@ -1,4 +1,4 @@
-//! Tests of `tso_text`, by its public calls.
+//! Tests of `tso_text`, and of `line_text` below it, by their public calls.
 #![tactic(auto)]
 
 #[cfg(test)]

@@ -4,6 +4,7 @@ mod drawn;
 mod examples;
 mod fault_texts;
 mod limits;
+mod lines;
 mod printed_back;
 mod refused;
 mod refused_allocations;

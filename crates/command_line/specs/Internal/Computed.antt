@@ -1,11 +1,12 @@
 -- For private functions: what they parse in place of the arguments.
 use Rattle.std.specs.Prelude.{List, [], ◌∷◌, Option, codes, find, option_map, unwrap_or, if◌then◌else◌}
 use Rattle.std.specs.Str.{bytes_eq}
-use Rattle.clap_arguments.specs.Parameters.{Parameter, Values, flag, listed, option, other, range}
+use Rattle.command_line.specs.Parameters.{Parameter, Values, flag, listed, option, other, range}
 use Rattle.clap.specs.Words.{fault_of, subcommand_of}
 use Rattle.command_line.specs.Commands.{IsAskedBy, tsobench_app}
 use Rattle.command_line.specs.Requests.{Text, Asked}
 use Rattle.command_line.specs.declared.options.OptionNames.{OptionNames}
+use Rattle.command_line.specs.declared.options.Presentation.TheVariants as form
 use Rattle.command_line.specs.Subcommands as s
 use Rattle.command_line.specs.Subcommands.{subcommands}
 use Rattle.command_line.specs.declared.subcommands.Subcommand.{Subcommand}
@@ -30,9 +31,9 @@ parameter_of (declared.Other id value_name required help) = other id.now require
 -- ---- subcommands as code has them
 
 abbrev pub member_of : Subcommand → s.Subcommand
-member_of Judge = s.judge
-member_of Explain = s.explain
-member_of Draw = s.draw
+member_of Judge = s.judge_as (codes "judge") form.Report
+member_of Explain = s.judge_as (codes "explain") form.Explanation
+member_of Draw = s.judge_as (codes "draw") form.Picture
 member_of Batch = s.batch
 member_of Cut = s.cut
 member_of Check = s.check

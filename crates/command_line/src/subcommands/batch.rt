@@ -1,22 +1,7 @@
 //! `batch [--workers N] [--quiet] [FILE]`: judges traces that stand one after the other.
-ghost use Rattle.std.specs.Prelude.{◌≡◌, false, IfOk};
-ghost use Rattle.clap.specs.Words.{app_of, found_of, rows_of};
-ghost use Rattle.clap.specs.declared.builder.command.Command.TheViews.{out-Command as fields_of};
-ghost use Rattle.command_line.specs.Commands.{asked_in, subcommand_app};
-ghost use Rattle.command_line.specs.Requests.{asked_of};
-ghost use Rattle.command_line.specs.Subcommands.{batch};
 
-use crate::found::{file, is_used, workers};
-use crate::help;
-use crate::options::OptionNames;
-use crate::parameters::{Description, Parameter, subcommand_of};
-use crate::requests::{BatchRequest, Request};
-use crate::subcommands::shared;
-use clap::{ArgMatches, Command};
-use std::alloc::{AllocError, Global};
-
-/// What asks for its help.
-pub(crate) static HELP_OPTION: [&str; 2] = ["batch", "--help"];
+use crate::options::MAX_WORKERS;
+use crate::parameters::{Accepted, Description, Parameter};
 
 /// The text of its help after the list of its parameters.
 const HELP: &str = "\
@@ -38,18 +23,19 @@ Exit status:
 Example:
   cat *.trace | tsobench batch --workers 4 --quiet";
 
-/// The subcommand as it is offered.
-pub(crate) fn command<'a>(alloc: Global, names: OptionNames<'a>) -> Result<Command<'a>, AllocError>
-    ensures app { IfOk result (λ command. app_of command ≡ subcommand_app names.entry batch) }
-    ensures local { IfOk result (λ command. (fields_of command).has_globals ≡ false) }
-{
-    let description = Description {
-        name: "batch",
-        about: "Judges many traces, with a line for each",
-        help: HELP,
-    };
-    let parameters = [
-        shared::workers(help::BATCH_WORKERS),
+/// What is told of it.
+pub(crate) static BATCH: Description = Description {
+    help_option: ["batch", "--help"],
+    about: "Judges many traces, with a line for each",
+    help: HELP,
+    parameters: &[
+        Parameter::Option {
+            name: "workers",
+            value_name: "N",
+            accepted: Accepted::Number(1, MAX_WORKERS as u64),
+            default: Some("1"),
+            help: "How many traces are judged side by side, 1 to 64",
+        },
         Parameter::Flag {
             name: "quiet",
             help: "Leave out the lines of traces without a violation",
@@ -60,17 +46,5 @@ pub(crate) fn command<'a>(alloc: Global, names: OptionNames<'a>) -> Result<Comma
             required: false,
             help: "The texts of traces; standard input where it is - or left out",
         },
-    ];
-    subcommand_of(alloc, names, description, parameters.as_slice())
-}
-
-/// What its matches ask for.
-pub(crate) fn request<'a>(matches: &ArgMatches<'a>) -> Request<'a>
-    ensures { asked_of result ≡ asked_in batch (rows_of (found_of matches.now)) }
-{
-    Request::Batch(BatchRequest {
-        file: file(matches, "file"),
-        workers: workers(matches),
-        quiet: is_used(matches, "quiet"),
-    })
-}
+    ],
+};

@@ -1,22 +1,9 @@
 //! `campaign --unit UNIT [--capacity C] [--trigger T] [--workers N] [--model MODEL] --first S --count K --procs P --ops O --addrs A`:
 //! runs the programs that many seeds draw.
-ghost use Rattle.std.specs.Prelude.{◌≡◌, false, IfOk};
-ghost use Rattle.clap.specs.Words.{app_of, found_of, rows_of};
-ghost use Rattle.clap.specs.declared.builder.command.Command.TheViews.{out-Command as fields_of};
-ghost use Rattle.command_line.specs.Commands.{asked_in, subcommand_app};
-ghost use Rattle.command_line.specs.Requests.{asked_of};
-ghost use Rattle.command_line.specs.Subcommands.{campaign};
 
-use crate::found::{order, required_number, shape_numbers, unit_options, workers};
-use crate::options::{CampaignOptions, OptionNames};
-use crate::parameters::{Description, subcommand_of};
-use crate::requests::Request;
+use crate::options::MAX_WORKERS;
+use crate::parameters::{Accepted, Description, Parameter};
 use crate::subcommands::shared;
-use clap::{ArgMatches, Command};
-use std::alloc::{AllocError, Global};
-
-/// What asks for its help.
-pub(crate) static HELP_OPTION: [&str; 2] = ["campaign", "--help"];
 
 /// The text of its help after the list of its parameters.
 const HELP: &str = "\
@@ -52,45 +39,39 @@ Example:
   tsobench campaign --unit buffer --first 1 --count 20 \\
     --procs 2 --ops 4 --addrs 2";
 
-/// The subcommand as it is offered.
-pub(crate) fn command<'a>(alloc: Global, names: OptionNames<'a>) -> Result<Command<'a>, AllocError>
-    ensures app { IfOk result (λ command. app_of command ≡ subcommand_app names.entry campaign) }
-    ensures local { IfOk result (λ command. (fields_of command).has_globals ≡ false) }
-{
-    let description = Description {
-        name: "campaign",
-        about: "Runs the programs drawn from many seeds, and judges their traces",
-        help: HELP,
-    };
-    let parameters = [
-        shared::unit(),
-        shared::capacity(),
-        shared::trigger(),
-        shared::workers("How many workers share the seeds, 1 to 64"),
-        shared::model(),
-        shared::required("first", "S", "The first seed, 0 to 18446744073709551615"),
-        shared::required(
-            "count",
-            "K",
-            "How many seeds there are, each one more than the last, at most 1000",
-        ),
-        shared::processors(),
-        shared::operations(),
-        shared::addresses(),
-    ];
-    subcommand_of(alloc, names, description, parameters.as_slice())
-}
-
-/// What its matches ask for. The command has refused arguments without seeds or a shape.
-pub(crate) fn request<'a>(matches: &ArgMatches<'a>) -> Request<'a>
-    ensures { asked_of result ≡ asked_in campaign (rows_of (found_of matches.now)) }
-{
-    Request::Campaign(CampaignOptions {
-        unit: unit_options(matches),
-        workers: workers(matches),
-        order: order(matches),
-        first: required_number(matches, "first"),
-        count: required_number(matches, "count"),
-        shape: shape_numbers(matches),
-    })
-}
+/// What is told of it.
+pub(crate) static CAMPAIGN: Description = Description {
+    help_option: ["campaign", "--help"],
+    about: "Runs the programs drawn from many seeds, and judges their traces",
+    help: HELP,
+    parameters: &[
+        shared::UNIT,
+        shared::CAPACITY,
+        shared::TRIGGER,
+        Parameter::Option {
+            name: "workers",
+            value_name: "N",
+            accepted: Accepted::Number(1, MAX_WORKERS as u64),
+            default: Some("1"),
+            help: "How many workers share the seeds, 1 to 64",
+        },
+        shared::MODEL,
+        Parameter::Option {
+            name: "first",
+            value_name: "S",
+            accepted: Accepted::Number(0, u64::MAX),
+            default: None,
+            help: "The first seed, 0 to 18446744073709551615",
+        },
+        Parameter::Option {
+            name: "count",
+            value_name: "K",
+            accepted: Accepted::Number(0, u64::MAX),
+            default: None,
+            help: "How many seeds there are, each one more than the last, at most 1000",
+        },
+        shared::PROCESSORS,
+        shared::OPERATIONS,
+        shared::ADDRESSES,
+    ],
+};

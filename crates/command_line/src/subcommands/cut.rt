@@ -1,21 +1,7 @@
 //! `cut [--events N] [FILE]`: cuts a log into traces.
-ghost use Rattle.std.specs.Prelude.{◌≡◌, false, IfOk};
-ghost use Rattle.clap.specs.Words.{app_of, found_of, rows_of};
-ghost use Rattle.clap.specs.declared.builder.command.Command.TheViews.{out-Command as fields_of};
-ghost use Rattle.command_line.specs.Commands.{asked_in, subcommand_app};
-ghost use Rattle.command_line.specs.Requests.{asked_of};
-ghost use Rattle.command_line.specs.Subcommands.{cut};
 
-use crate::found::{file, piece_events};
-use crate::help;
-use crate::options::{MAX_PIECE_EVENTS, MIN_PIECE_EVENTS, OptionNames};
-use crate::parameters::{Accepted, Description, Parameter, subcommand_of};
-use crate::requests::{CutRequest, Request};
-use clap::{ArgMatches, Command};
-use std::alloc::{AllocError, Global};
-
-/// What asks for its help.
-pub(crate) static HELP_OPTION: [&str; 2] = ["cut", "--help"];
+use crate::options::{MAX_PIECE_EVENTS, MIN_PIECE_EVENTS};
+use crate::parameters::{Accepted, Description, Parameter};
 
 /// The text of its help after the list of its parameters.
 const HELP: &str = "\
@@ -52,23 +38,18 @@ Exit status:
 Example:
   tsobench cut LOG | tsobench batch";
 
-/// The subcommand as it is offered.
-pub(crate) fn command<'a>(alloc: Global, names: OptionNames<'a>) -> Result<Command<'a>, AllocError>
-    ensures app { IfOk result (λ command. app_of command ≡ subcommand_app names.entry cut) }
-    ensures local { IfOk result (λ command. (fields_of command).has_globals ≡ false) }
-{
-    let description = Description {
-        name: "cut",
-        about: "Cuts a log into traces, which batch judges",
-        help: HELP,
-    };
-    let parameters = [
+/// What is told of it.
+pub(crate) static CUT: Description = Description {
+    help_option: ["cut", "--help"],
+    about: "Cuts a log into traces, which batch judges",
+    help: HELP,
+    parameters: &[
         Parameter::Option {
             name: "events",
             value_name: "N",
             accepted: Accepted::Number(MIN_PIECE_EVENTS as u64, MAX_PIECE_EVENTS as u64),
             default: Some("2000"),
-            help: help::EVENTS,
+            help: "How many events each trace has at most, 3 to 8000",
         },
         Parameter::Other {
             name: "file",
@@ -76,16 +57,9 @@ pub(crate) fn command<'a>(alloc: Global, names: OptionNames<'a>) -> Result<Comma
             required: false,
             help: "The text of a log; standard input where it is - or left out",
         },
-    ];
-    subcommand_of(alloc, names, description, parameters.as_slice())
-}
+    ],
+};
 
-/// What its matches ask for.
-pub(crate) fn request<'a>(matches: &ArgMatches<'a>) -> Request<'a>
-    ensures { asked_of result ≡ asked_in cut (rows_of (found_of matches.now)) }
-{
-    Request::Cut(CutRequest {
-        file: file(matches, "file"),
-        events: piece_events(matches),
-    })
-}
+const _: () = prove!(MAX_PIECE_EVENTS == 8_000);
+
+const _: () = prove!(MIN_PIECE_EVENTS == 3);

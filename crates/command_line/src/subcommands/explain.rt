@@ -1,18 +1,7 @@
 //! `explain [--workers N] [FILE]`: explains the verdict on a trace.
-ghost use Rattle.std.specs.Prelude.{◌≡◌, false, IfOk};
-ghost use Rattle.clap.specs.Words.{app_of};
-ghost use Rattle.clap.specs.declared.builder.command.Command.TheViews.{out-Command as fields_of};
-ghost use Rattle.command_line.specs.Commands.{subcommand_app};
-ghost use Rattle.command_line.specs.Subcommands.{explain};
 
-use crate::options::OptionNames;
 use crate::parameters::Description;
 use crate::subcommands::shared;
-use clap::Command;
-use std::alloc::{AllocError, Global};
-
-/// What asks for its help.
-pub(crate) static HELP_OPTION: [&str; 2] = ["explain", "--help"];
 
 /// The text of its help after the list of its parameters.
 const HELP: &str = "\
@@ -33,15 +22,10 @@ Exit status:
 Example:
   tsobench explain TRACE";
 
-/// The subcommand as it is offered.
-pub(crate) fn command<'a>(alloc: Global, names: OptionNames<'a>) -> Result<Command<'a>, AllocError>
-    ensures app { IfOk result (λ command. app_of command ≡ subcommand_app names.entry explain) }
-    ensures local { IfOk result (λ command. (fields_of command).has_globals ≡ false) }
-{
-    let description = Description {
-        name: "explain",
-        about: "Explains in words why a trace is a violation",
-        help: HELP,
-    };
-    shared::judge_command(alloc, names, description)
-}
+/// What is told of it.
+pub(crate) static EXPLAIN: Description = Description {
+    help_option: ["explain", "--help"],
+    about: "Explains in words why a trace is a violation",
+    help: HELP,
+    parameters: &[shared::WORKERS, shared::TRACE_FILE],
+};

@@ -1,18 +1,7 @@
 //! `judge [--workers N] [FILE]`: judges a trace.
-ghost use Rattle.std.specs.Prelude.{◌≡◌, false, IfOk};
-ghost use Rattle.clap.specs.Words.{app_of};
-ghost use Rattle.clap.specs.declared.builder.command.Command.TheViews.{out-Command as fields_of};
-ghost use Rattle.command_line.specs.Commands.{subcommand_app};
-ghost use Rattle.command_line.specs.Subcommands.{judge};
 
-use crate::options::OptionNames;
 use crate::parameters::Description;
 use crate::subcommands::shared;
-use clap::Command;
-use std::alloc::{AllocError, Global};
-
-/// What asks for its help.
-pub(crate) static HELP_OPTION: [&str; 2] = ["judge", "--help"];
 
 /// The text of its help after the list of its parameters.
 const HELP: &str = "\
@@ -31,15 +20,10 @@ Exit status:
 Example:
   tsobench judge --workers 4 TRACE";
 
-/// The subcommand as it is offered.
-pub(crate) fn command<'a>(alloc: Global, names: OptionNames<'a>) -> Result<Command<'a>, AllocError>
-    ensures app { IfOk result (λ command. app_of command ≡ subcommand_app names.entry judge) }
-    ensures local { IfOk result (λ command. (fields_of command).has_globals ≡ false) }
-{
-    let description = Description {
-        name: "judge",
-        about: "Judges a trace and prints its report",
-        help: HELP,
-    };
-    shared::judge_command(alloc, names, description)
-}
+/// What is told of it.
+pub(crate) static JUDGE: Description = Description {
+    help_option: ["judge", "--help"],
+    about: "Judges a trace and prints its report",
+    help: HELP,
+    parameters: &[shared::WORKERS, shared::TRACE_FILE],
+};

@@ -1,21 +1,7 @@
 //! `make [--model MODEL] --seed N --procs P --ops O --addrs A`: prints the program that a seed draws.
-ghost use Rattle.std.specs.Prelude.{◌≡◌, false, IfOk};
-ghost use Rattle.clap.specs.Words.{app_of, found_of, rows_of};
-ghost use Rattle.clap.specs.declared.builder.command.Command.TheViews.{out-Command as fields_of};
-ghost use Rattle.command_line.specs.Commands.{asked_in, subcommand_app};
-ghost use Rattle.command_line.specs.Requests.{asked_of};
-ghost use Rattle.command_line.specs.Subcommands.{make};
 
-use crate::found::{order, required_number, shape_numbers};
-use crate::options::OptionNames;
-use crate::parameters::{Description, subcommand_of};
-use crate::requests::Request;
+use crate::parameters::{Accepted, Description, Parameter};
 use crate::subcommands::shared;
-use clap::{ArgMatches, Command};
-use std::alloc::{AllocError, Global};
-
-/// What asks for its help.
-pub(crate) static HELP_OPTION: [&str; 2] = ["make", "--help"];
 
 /// The text of its help after the list of its parameters.
 const HELP: &str = "\
@@ -40,37 +26,22 @@ Example:
   tsobench make --seed 1 --procs 2 --ops 4 --addrs 2 > PROGRAM
   tsobench run --unit buffer --seed 1 PROGRAM";
 
-/// The subcommand as it is offered.
-pub(crate) fn command<'a>(alloc: Global, names: OptionNames<'a>) -> Result<Command<'a>, AllocError>
-    ensures app { IfOk result (λ command. app_of command ≡ subcommand_app names.entry make) }
-    ensures local { IfOk result (λ command. (fields_of command).has_globals ≡ false) }
-{
-    let description = Description {
-        name: "make",
-        about: "Prints the program that is drawn from a seed",
-        help: HELP,
-    };
-    let parameters = [
-        shared::model(),
-        shared::required(
-            "seed",
-            "N",
-            "The seed of the program, 0 to 18446744073709551615",
-        ),
-        shared::processors(),
-        shared::operations(),
-        shared::addresses(),
-    ];
-    subcommand_of(alloc, names, description, parameters.as_slice())
-}
-
-/// What its matches ask for. The command has refused arguments without a seed or a shape.
-pub(crate) fn request<'a>(matches: &ArgMatches<'a>) -> Request<'a>
-    ensures { asked_of result ≡ asked_in make (rows_of (found_of matches.now)) }
-{
-    Request::Make {
-        order: order(matches),
-        seed: required_number(matches, "seed"),
-        shape: shape_numbers(matches),
-    }
-}
+/// What is told of it.
+pub(crate) static MAKE: Description = Description {
+    help_option: ["make", "--help"],
+    about: "Prints the program that is drawn from a seed",
+    help: HELP,
+    parameters: &[
+        shared::MODEL,
+        Parameter::Option {
+            name: "seed",
+            value_name: "N",
+            accepted: Accepted::Number(0, u64::MAX),
+            default: None,
+            help: "The seed of the program, 0 to 18446744073709551615",
+        },
+        shared::PROCESSORS,
+        shared::OPERATIONS,
+        shared::ADDRESSES,
+    ],
+};

@@ -1,191 +1,100 @@
-//! What several subcommands have.
-ghost use Rattle.std.specs.Prelude.{◌≡◌, false, codes, IfOk, map};
-ghost use Rattle.clap.specs.Words.{app_of, found_of, rows_of};
-ghost use Rattle.clap.specs.declared.builder.command.Command.TheViews.{out-Command as fields_of};
-ghost use Rattle.clap_arguments.specs.Offered.{text_in};
-ghost use Rattle.clap_arguments.specs.Parameters.{flag, offered_app};
-ghost use Rattle.command_line.specs.Commands.{memory_of};
-ghost use Rattle.command_line.specs.Internal.Computed.{parameter_of};
-ghost use Rattle.command_line.specs.Requests.{asked_of, refusing};
-ghost use Rattle.command_line.specs.Subcommands.{ask_judge, capacity, file, judge_parameters, model, required, trigger, unit, workers};
+//! Parameters that several subcommands have. Some of their texts of help tell limits.
 
-use crate::options::{MAX_CAPACITY, MAX_WORKERS, OptionNames, Presentation};
-use crate::parameters::{Accepted, Description, NameList, Parameter, subcommand_of};
-use crate::requests::{JudgeRequest, Request};
-use crate::{found, help};
-use clap::{ArgMatches, Command};
-use std::alloc::{AllocError, Global};
+use crate::options::{MAX_CAPACITY, MAX_WORKERS};
+use crate::parameters::{Accepted, NameList, Parameter};
 
-/// A subcommand that judges one trace.
-pub(crate) fn judge_command<'a>(
-    alloc: Global,
-    names: OptionNames<'a>,
-    description: Description,
-) -> Result<Command<'a>, AllocError>
-    ensures app { IfOk result (λ command. app_of command ≡ offered_app (memory_of names.entry) description.name.now judge_parameters) }
-    ensures local { IfOk result (λ command. (fields_of command).has_globals ≡ false) }
-{
-    let parameters = [
-        workers(help::WORKERS),
-        Parameter::Other {
-            name: "file",
-            value_name: "FILE",
-            required: false,
-            help: "The text of a trace; standard input where it is - or left out",
-        },
-    ];
-    subcommand_of(alloc, names, description, parameters.as_slice())
-}
+/// `--workers N`.
+pub(crate) const WORKERS: Parameter = Parameter::Option {
+    name: "workers",
+    value_name: "N",
+    accepted: Accepted::Number(1, MAX_WORKERS as u64),
+    default: Some("1"),
+    help: "How many workers judge, 1 to 64",
+};
 
-/// What the matches of such a subcommand ask for.
-pub(crate) fn judge_request<'a>(matches: &ArgMatches<'a>, presentation: Presentation) -> Request<'a>
-    ensures { asked_of result ≡ ask_judge presentation (map (text_in (rows_of (found_of matches.now))) judge_parameters) }
-{
-    Request::Judge(JudgeRequest {
-        file: found::file(matches, "file"),
-        workers: found::workers(matches),
-        presentation,
-    })
-}
+const _: () = prove!(MAX_WORKERS == 64);
 
-/// A refusal with this text.
-pub(crate) fn refuse<'a>(alloc: Global, text: &str) -> Result<Request<'a>, AllocError>
-    ensures { IfOk result (λ request. asked_of request ≡ refusing) }
-{
-    Ok(Request::Refuse(String::from_str(alloc, text)?))
-}
-
-/// `--workers N`, with this help.
-pub(crate) fn workers(help: &'static str) -> Parameter
-    ensures { parameter_of result ≡ workers }
-{
-    Parameter::Option {
-        name: "workers",
-        value_name: "N",
-        accepted: Accepted::Number(1, MAX_WORKERS as u64),
-        default: Some("1"),
-        help,
-    }
-}
+/// `[FILE]`, with a trace.
+pub(crate) const TRACE_FILE: Parameter = Parameter::Other {
+    name: "file",
+    value_name: "FILE",
+    required: false,
+    help: "The text of a trace; standard input where it is - or left out",
+};
 
 /// `--unit UNIT`.
-pub(crate) fn unit() -> Parameter
-    ensures { parameter_of result ≡ unit }
-{
-    Parameter::Option {
-        name: "unit",
-        value_name: "UNIT",
-        accepted: Accepted::Name(NameList::Units),
-        default: None,
-        help: help::UNIT,
-    }
-}
+pub(crate) const UNIT: Parameter = Parameter::Option {
+    name: "unit",
+    value_name: "UNIT",
+    accepted: Accepted::Name(NameList::Units),
+    default: None,
+    help: "Which memory unit runs the program",
+};
 
 /// `--capacity C`.
-pub(crate) fn capacity() -> Parameter
-    ensures { parameter_of result ≡ capacity }
-{
-    Parameter::Option {
-        name: "capacity",
-        value_name: "C",
-        accepted: Accepted::Number(1, MAX_CAPACITY as u64),
-        default: Some("8"),
-        help: help::CAPACITY,
-    }
-}
+pub(crate) const CAPACITY: Parameter = Parameter::Option {
+    name: "capacity",
+    value_name: "C",
+    accepted: Accepted::Number(1, MAX_CAPACITY as u64),
+    default: Some("8"),
+    help: "How many stores each store buffer of the unit holds, 1 to 64",
+};
+
+const _: () = prove!(MAX_CAPACITY == 64);
 
 /// `--trigger T`.
-pub(crate) fn trigger() -> Parameter
-    ensures { parameter_of result ≡ trigger }
-{
-    Parameter::Option {
-        name: "trigger",
-        value_name: "T",
-        accepted: Accepted::Number(1, u64::MAX),
-        default: Some("1"),
-        help: help::TRIGGER,
-    }
-}
+pub(crate) const TRIGGER: Parameter = Parameter::Option {
+    name: "trigger",
+    value_name: "T",
+    accepted: Accepted::Number(1, u64::MAX),
+    default: Some("1"),
+    help: "From which occasion on a faulty unit deviates, from 1",
+};
 
 /// `--trace`.
-pub(crate) fn trace() -> Parameter
-    ensures { parameter_of result ≡ flag (codes "trace") }
-{
-    Parameter::Flag {
-        name: "trace",
-        help: help::TRACE,
-    }
-}
+pub(crate) const TRACE: Parameter = Parameter::Flag {
+    name: "trace",
+    help: "Prints the recorded trace alone",
+};
 
 /// `--explain`.
-pub(crate) fn explain() -> Parameter
-    ensures { parameter_of result ≡ flag (codes "explain") }
-{
-    Parameter::Flag {
-        name: "explain",
-        help: help::EXPLAIN,
-    }
-}
+pub(crate) const EXPLAIN: Parameter = Parameter::Flag {
+    name: "explain",
+    help: "Prints the explanation of the verdict alone",
+};
 
 /// `--model MODEL`.
-pub(crate) fn model() -> Parameter
-    ensures { parameter_of result ≡ model }
-{
-    Parameter::Option {
-        name: "model",
-        value_name: "MODEL",
-        accepted: Accepted::Name(NameList::Models),
-        default: Some("tso"),
-        help: help::MODEL,
-    }
-}
-
-/// `--name N`, a number of 64 bits that may not be left out.
-pub(crate) fn required(
-    name: &'static str,
-    value_name: &'static str,
-    help: &'static str,
-) -> Parameter
-    ensures { parameter_of result ≡ required name.now }
-{
-    Parameter::Option {
-        name,
-        value_name,
-        accepted: Accepted::Number(0, u64::MAX),
-        default: None,
-        help,
-    }
-}
+pub(crate) const MODEL: Parameter = Parameter::Option {
+    name: "model",
+    value_name: "MODEL",
+    accepted: Accepted::Name(NameList::Models),
+    default: Some("tso"),
+    help: "The memory model of the program, tso or pso",
+};
 
 /// `--procs P`.
-pub(crate) fn processors() -> Parameter
-    ensures { parameter_of result ≡ required (codes "procs") }
-{
-    required("procs", "P", help::PROCESSORS)
-}
+pub(crate) const PROCESSORS: Parameter = Parameter::Option {
+    name: "procs",
+    value_name: "P",
+    accepted: Accepted::Number(0, u64::MAX),
+    default: None,
+    help: "How many processors the program has, 1 to 16",
+};
 
 /// `--ops O`.
-pub(crate) fn operations() -> Parameter
-    ensures { parameter_of result ≡ required (codes "ops") }
-{
-    required("ops", "O", help::OPERATIONS)
-}
+pub(crate) const OPERATIONS: Parameter = Parameter::Option {
+    name: "ops",
+    value_name: "O",
+    accepted: Accepted::Number(0, u64::MAX),
+    default: None,
+    help: "How many operations each processor has, at most 1000 over all",
+};
 
 /// `--addrs A`.
-pub(crate) fn addresses() -> Parameter
-    ensures { parameter_of result ≡ required (codes "addrs") }
-{
-    required("addrs", "A", help::ADDRESSES)
-}
-
-/// A file that may not be left out.
-pub(crate) fn file(name: &'static str, value_name: &'static str, help: &'static str) -> Parameter
-    ensures { parameter_of result ≡ file name.now }
-{
-    Parameter::Other {
-        name,
-        value_name,
-        required: true,
-        help,
-    }
-}
+pub(crate) const ADDRESSES: Parameter = Parameter::Option {
+    name: "addrs",
+    value_name: "A",
+    accepted: Accepted::Number(0, u64::MAX),
+    default: None,
+    help: "How many addresses are drawn from, 1 to 256",
+};

@@ -2,7 +2,7 @@
 use Rattle.std.specs.Prelude.{ℕ, List, Option}
 use Rattle.std.specs.Io.KnownBytes.{Appends}
 use Rattle.tso_ops.specs.Values.{TraceValue}
-use Rattle.tso_report.specs.Streams.{AppendsPrefix}
+use Rattle.trace_judging.specs.Streams.{AppendsPrefix}
 use Rattle.log_cuts.specs.LogCuts.{IsStreamOf}
 
 -- The output grows by the texts of traces of at most so many events that are cut out of these operations.

@@ -4,7 +4,7 @@ use Rattle.command_line.specs.Requests.{capacity_limit}
 use Rattle.command_line.specs.declared.options.CampaignOptions.{CampaignOptions}
 use Rattle.command_line.specs.declared.options.RunOptions.{RunOptions}
 use Rattle.command_line.specs.declared.options.UnitOptions.{UnitOptions}
-use Rattle.tso_report.specs.Limits.{worker_limit}
+use Rattle.trace_judging.specs.Limits.{worker_limit}
 
 abbrev pub HasWorkerRange : ℕ → Type 0
 HasWorkerRange workers = (1 ≤ workers) × (workers ≤ worker_limit)

@@ -2,19 +2,16 @@
 use Rattle.std.specs.Prelude.{ℕ, List, Option}
 use Rattle.std.specs.Io.KnownBytes.{Keeps}
 use Rattle.request_serving.specs.declared.failures.RunFailure.{RunFailure}
-use Rattle.request_serving.specs.declared.failures.RunFailure.TheVariants.{Fault as ByFault, Torn, OtherProgram}
-use Rattle.tso_report.specs.declared.faults.Fault.{Fault}
-use Rattle.tso_report.specs.WrittenReports.{LeavesAtFault}
-use Rattle.request_serving.specs.Endings.{IsPrintable}
+use Rattle.request_serving.specs.declared.failures.RunFailure.TheVariants.{Fault as ByFault}
+use Rattle.trace_judging.specs.declared.faults.Fault.{Fault}
+use Rattle.trace_judging.specs.WrittenReports.{LeavesAtFault}
 
 -- it holds of the fault, where there is one
 abbrev pub OnFault : (Fault → Type 0) → RunFailure → Type 0
 OnFault Is (ByFault fault) = Is fault
-OnFault Is (Torn p) = Unit {0}
-OnFault Is OtherProgram = Unit {0}
+OnFault Is _ = Unit {0}
 
 -- What a failure leaves of such a text: what the fault does, or nothing where there is no record.
 abbrev pub LeavesAtFailure : (List ℕ → ℕ → Type 0) → Option (List ℕ) → Option (List ℕ) → RunFailure → Type 0
-LeavesAtFailure is_text old new (ByFault fault) = LeavesAtFault (IsPrintable is_text) old new fault
-LeavesAtFailure is_text old new (Torn p) = Keeps old new
-LeavesAtFailure is_text old new OtherProgram = Keeps old new
+LeavesAtFailure is_text old new (ByFault fault) = LeavesAtFault is_text old new fault
+LeavesAtFailure is_text old new _ = Keeps old new

@@ -2,8 +2,8 @@
 ghost use Rattle.std.specs.Prelude.{◌≡◌, ◌⊎◌, ◌≤◌, Decides, IfOk, IfErr, map, replicate};
 ghost use Rattle.request_serving.specs.Internal.Ranges.{HasWorkerRange, IsCampaignInRange};
 ghost use Rattle.request_serving.specs.Campaigning.{AreProgramsOf, AreSeeds, IsCampaignText, LeavesCampaignText};
-ghost use Rattle.request_serving.specs.Endings.{WritesText};
 ghost use Rattle.request_serving.specs.Printing.{unit_of};
+ghost use Rattle.trace_judging.specs.WrittenReports.{WritesWhole};
 
 use crate::endings::{REFUSED, status_of};
 use crate::serving::making::{SHAPE_REFUSAL, asked_shape};
@@ -12,7 +12,8 @@ use command_line::CampaignOptions;
 use std::io::Write;
 use std::sync::Wait;
 use std::thread::Threads;
-use tso_report::{CampaignPrograms, Fault, MAX_SEEDS, campaign_over, write_text};
+use trace_judging::{Fault, write_text};
+use tso_report::{CampaignPrograms, MAX_SEEDS, campaign_over};
 use unit_core::MemoryUnit;
 
 /// The line of seeds that aren't within their limits.
@@ -50,7 +51,7 @@ pub(crate) fn campaign_by<H: Threads + Wait + Sync + AllocGlobal, W: Write>(
     writer: &mut W,
 ) -> Result<u8, Fault>
     requires ranges { IsCampaignInRange options.now }
-    ensures text { IfOk result (WritesText (IsCampaignText options.now) (W.contents writer.old) (W.contents writer.new)) }
+    ensures text { IfOk result (WritesWhole (IsCampaignText options.now) (W.contents writer.old) (W.contents writer.new)) }
     ensures fault { IfErr result (LeavesCampaignText options.now (W.contents writer.old) (W.contents writer.new)) }
 {
     match asked_programs(options) {
@@ -71,7 +72,7 @@ fn campaign_over_programs<H: Threads + Wait + Sync + AllocGlobal, W: Write>(
 ) -> Result<u8, Fault>
     requires programs { AreProgramsOf options.now programs }
     requires ranges { IsCampaignInRange options.now }
-    ensures text { IfOk result (WritesText (IsCampaignText options.now) (W.contents writer.old) (W.contents writer.new)) }
+    ensures text { IfOk result (WritesWhole (IsCampaignText options.now) (W.contents writer.old) (W.contents writer.new)) }
     ensures fault { IfErr result (LeavesCampaignText options.now (W.contents writer.old) (W.contents writer.new)) }
 {
     let units = make_units(rt.alloc(), options.unit, options.count)?;
@@ -89,7 +90,7 @@ fn campaign_on<H: Threads + Wait + Sync + AllocGlobal, U: MemoryUnit + Send, W: 
     requires programs { AreProgramsOf options.now programs }
     requires units { map (λ unit. U.value_of unit) units.items ≡ replicate options.now.count (unit_of options.now.unit) }
     requires workers { HasWorkerRange options.now.workers }
-    ensures text { IfOk result (WritesText (IsCampaignText options.now) (W.contents writer.old) (W.contents writer.new)) }
+    ensures text { IfOk result (WritesWhole (IsCampaignText options.now) (W.contents writer.old) (W.contents writer.new)) }
     ensures fault { IfErr result (LeavesCampaignText options.now (W.contents writer.old) (W.contents writer.new)) }
 {
     let verdict = campaign_over(rt, rt.alloc(), programs, units, options.workers, writer)?;

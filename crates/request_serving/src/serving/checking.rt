@@ -1,16 +1,16 @@
 //! `check`: a certificate against its trace.
-ghost use Rattle.std.specs.Prelude.{◌≡◌, ◌≢◌, [], ◌∷◌, ◌++◌, IfOk, IfErr, OnOk, true, false, option_to_list};
+ghost use Rattle.std.specs.Prelude.{◌≡◌, ◌≢◌, [], ◌∷◌, ◌++◌, IfOk, IfErr, OnOk, true, false};
 ghost use Rattle.command_line.specs.Requests.{asked_of, files_of};
 ghost use Rattle.command_line.specs.declared.requests.Request.TheVariants.{Check};
-ghost use Rattle.tso_report.specs.declared.faults.Fault.TheVariants.{NoThread};
-ghost use Rattle.tso_report.specs.WrittenReports.{LeavesCheckFault, WritesCheckReport};
+ghost use Rattle.trace_judging.specs.declared.faults.Fault.TheVariants.{NoThread};
+ghost use Rattle.trace_judging.specs.WrittenReports.{IsCheckReportOfReaders, LeavesAtFault, WritesWhole};
 ghost use Rattle.request_serving.specs.OpenedFiles.{HasRefusedFirstText, OpensFirst, OpensNext, TakesInput, files_named, reads_input, text_bytes};
 
 use crate::files::{NamedFiles, open};
 use command_line::TextPair;
 use std::alloc::Global;
 use std::io::{Read, Write};
-use tso_report::{Fault, Verdict, check_texts};
+use trace_judging::{Fault, Verdict, check_texts};
 
 /// Checks a certificate, the second text, against a trace, the first. Their files are opened before one is read.
 pub(crate) fn check_named<O: NamedFiles, R: Read, W: Write>(
@@ -20,8 +20,8 @@ pub(crate) fn check_named<O: NamedFiles, R: Read, W: Write>(
     reader: &mut R,
     writer: &mut W,
 ) -> Result<Verdict, Fault>
-    ensures report { let traces = text_bytes (files_of texts.entry).0 (R.remaining reader.old) (O.bytes files.old) in let certificates = text_bytes (files_of texts.entry).1 (R.remaining reader.old) (O.bytes files.old) in IfOk result (WritesCheckReport traces certificates (W.contents writer.old) (W.contents writer.new)) }
-    ensures fault { let traces = text_bytes (files_of texts.entry).0 (R.remaining reader.old) (O.bytes files.old) in let certificates = text_bytes (files_of texts.entry).1 (R.remaining reader.old) (O.bytes files.old) in IfErr result (LeavesCheckFault traces certificates (W.contents writer.old) (W.contents writer.new)) }
+    ensures report { let traces = text_bytes (files_of texts.entry).0 (R.remaining reader.old) (O.bytes files.old) in let certificates = text_bytes (files_of texts.entry).1 (R.remaining reader.old) (O.bytes files.old) in IfOk result (WritesWhole (IsCheckReportOfReaders traces certificates) (W.contents writer.old) (W.contents writer.new)) }
+    ensures fault { let traces = text_bytes (files_of texts.entry).0 (R.remaining reader.old) (O.bytes files.old) in let certificates = text_bytes (files_of texts.entry).1 (R.remaining reader.old) (O.bytes files.old) in IfErr result (LeavesAtFault (IsCheckReportOfReaders traces certificates) (W.contents writer.old) (W.contents writer.new)) }
     ensures no_thread { IfErr result (λ fault. fault ≢ NoThread) }
     ensures first { OpensFirst (O.opened files.old) (O.opened files.new) (files_named (asked_of (Check texts.entry))) }
     ensures opened { OnOk result (OpensNext (O.opened files.old) (O.opened files.new) (files_named (asked_of (Check texts.entry)))) }
@@ -52,8 +52,8 @@ fn check_files<O: NamedFiles, W: Write>(
     files: &mut O,
     writer: &mut W,
 ) -> Result<Verdict, Fault>
-    ensures report { IfOk result (WritesCheckReport (O.bytes files.old trace.now) (O.bytes files.old certificate.now) (W.contents writer.old) (W.contents writer.new)) }
-    ensures fault { IfErr result (LeavesCheckFault (O.bytes files.old trace.now) (O.bytes files.old certificate.now) (W.contents writer.old) (W.contents writer.new)) }
+    ensures report { IfOk result (WritesWhole (IsCheckReportOfReaders (O.bytes files.old trace.now) (O.bytes files.old certificate.now)) (W.contents writer.old) (W.contents writer.new)) }
+    ensures fault { IfErr result (LeavesAtFault (IsCheckReportOfReaders (O.bytes files.old trace.now) (O.bytes files.old certificate.now)) (W.contents writer.old) (W.contents writer.new)) }
     ensures no_thread { IfErr result (λ fault. fault ≢ NoThread) }
     ensures first { OpensFirst (O.opened files.old) (O.opened files.new) (trace.now ∷ certificate.now ∷ []) }
     ensures opened { OnOk result (OpensNext (O.opened files.old) (O.opened files.new) (trace.now ∷ certificate.now ∷ [])) }

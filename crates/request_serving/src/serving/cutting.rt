@@ -1,13 +1,13 @@
 //! `cut`: a log, cut into traces.
-ghost use Rattle.std.specs.Prelude.{◌≡◌, ◌≢◌, [], ◌∷◌, IfOk, IfErr, IfSome, OnErr, None, Ok, true, false, option_to_list};
+ghost use Rattle.std.specs.Prelude.{◌≡◌, [], ◌∷◌, IfOk, IfErr, IfSome, OnErr, None, Ok};
 ghost use Rattle.std.specs.Io.KnownBytes.{Consumes, Keeps};
-ghost use Rattle.command_line.specs.Requests.{asked_of};
-ghost use Rattle.command_line.specs.declared.requests.Request.TheVariants.{Cut};
 ghost use Rattle.log_cuts.specs.LogCuts.{IsCutFault, LeavesCut, WritesCut, WritesRefusal};
 ghost use Rattle.log_cuts.specs.declared.cutting.CutVerdict.{CutVerdict};
-ghost use Rattle.request_serving.specs.Endings.{EndsAsAsked, WritesFaultLine, outputs};
-ghost use Rattle.request_serving.specs.OpenedFiles.{OpensFirst, OpensNext, TakesInput, files_named, name_in, reads_input, text_bytes};
+ghost use Rattle.request_serving.specs.Endings.{WritesFaultLine};
+ghost use Rattle.request_serving.specs.OpenedFiles.{OpensNext, files_named, name_in, text_bytes};
 ghost use Rattle.request_serving.specs.Statuses.{status_of_cut};
+ghost use Rattle.command_line.specs.Requests.{asked_of};
+ghost use Rattle.command_line.specs.declared.requests.Request.TheVariants.{Cut};
 
 use crate::endings::{DONE, REFUSED, end_by};
 use crate::files::{NamedFiles, open};
@@ -15,29 +15,10 @@ use command_line::CutRequest;
 use log_cuts::{CutVerdict, cut_log};
 use std::alloc::Global;
 use std::io::{Read, Write};
-use tso_report::Fault;
-
-/// Cuts the log in a file, or else in what the reader has: the status.
-pub(crate) fn cut_by<O: NamedFiles, R: Read, W: Write, E: Write>(
-    alloc: Global,
-    request: &CutRequest<'_>,
-    files: &mut O,
-    reader: &mut R,
-    writer: &mut W,
-    errors: &mut E,
-) -> u8
-    ensures ends { EndsAsAsked (asked_of (Cut request.now)) (R.remaining reader.old) (O.bytes files.old) (outputs (W.contents writer.old) (W.contents writer.new) (E.contents errors.old) (E.contents errors.new)) result }
-    ensures first { OpensFirst (O.opened files.old) (O.opened files.new) (files_named (asked_of (Cut request.now))) }
-    ensures opened { result ≢ 4 → OpensNext (O.opened files.old) (O.opened files.new) (files_named (asked_of (Cut request.now))) }
-    ensures unread { reads_input (asked_of (Cut request.now)) ≡ false → reader.new ≡ reader.old }
-    ensures taken { reads_input (asked_of (Cut request.now)) ≡ true → result ≢ 4 → TakesInput (asked_of (Cut request.now)) (R.remaining reader.old) (R.remaining reader.new) }
-{
-    let outcome = cut_named(alloc, request, files, reader, writer, errors);
-    end_cut(outcome, errors)
-}
+use trace_judging::Fault;
 
 /// The status of a log that was cut or refused; or that of a fault, whose line it writes.
-fn end_cut<E: Write>(outcome: Result<CutVerdict, Fault>, errors: &mut E) -> u8
+pub(crate) fn end_cut<E: Write>(outcome: Result<CutVerdict, Fault>, errors: &mut E) -> u8
     ensures verdict { IfOk outcome (λ verdict. (result ≡ status_of_cut verdict) × Keeps (E.contents errors.old) (E.contents errors.new)) }
     ensures fault { IfErr outcome (λ fault. WritesFaultLine (E.contents errors.old) (E.contents errors.new) fault × (result ≡ 4)) }
 {
@@ -48,8 +29,8 @@ fn end_cut<E: Write>(outcome: Result<CutVerdict, Fault>, errors: &mut E) -> u8
     }
 }
 
-/// The same, with the verdict or the fault in place of the status. Nothing is written to the errors at a fault.
-fn cut_named<O: NamedFiles, R: Read, W: Write, E: Write>(
+/// Cuts the log in a file, or else in what the reader has. Nothing is written to the errors at a fault.
+pub(crate) fn cut_named<O: NamedFiles, R: Read, W: Write, E: Write>(
     alloc: Global,
     request: &CutRequest<'_>,
     files: &mut O,
@@ -62,7 +43,7 @@ fn cut_named<O: NamedFiles, R: Read, W: Write, E: Write>(
     ensures left { let remaining = text_bytes (name_in request.now.file) (R.remaining reader.old) (O.bytes files.old) in OnErr result (LeavesCut remaining request.now.events (W.contents writer.old) (W.contents writer.new)) }
     ensures untold { OnErr result (Keeps (E.contents errors.old) (E.contents errors.new)) }
     ensures fault { IfErr result IsCutFault }
-    ensures opened { OpensNext (O.opened files.old) (O.opened files.new) (option_to_list (name_in request.now.file)) }
+    ensures opened { OpensNext (O.opened files.old) (O.opened files.new) (files_named (asked_of (Cut request.now))) }
     ensures unread { IfSome request.now.file (λ _. reader.new ≡ reader.old) }
     ensures taken { request.now.file ≡ None → IfOk result (λ _. IfSome (R.remaining reader.old) (λ all. Consumes (R.remaining reader.old) (R.remaining reader.new) all)) }
 {

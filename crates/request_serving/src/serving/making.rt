@@ -1,16 +1,17 @@
 //! Prints the program that is made from a seed.
 ghost use Rattle.std.specs.Prelude.{◌≡◌, ◌⊎◌, IfOk, IfErr, MatchOption};
 ghost use Rattle.tso_ops.specs.Making.{IsShape};
-ghost use Rattle.request_serving.specs.Endings.{WritesText};
 ghost use Rattle.request_serving.specs.MadePrograms.{IsMadeText, LeavesMadeText, asked_shape};
+ghost use Rattle.trace_judging.specs.WrittenReports.{WritesWhole};
 
 use crate::endings::{DONE, REFUSED};
 use crate::printing::Printed;
 use command_line::ShapeNumbers;
 use std::alloc::Global;
 use std::io::Write;
+use trace_judging::{Fault, write_text};
 use tso_ops::{Order, OutOfMemory, Shape};
-use tso_report::{Fault, seeded_program_with_order, write_text};
+use tso_report::seeded_program_with_order;
 use tso_text::print_program;
 
 /// The line of numbers that are no shape.
@@ -24,7 +25,7 @@ pub(crate) fn make<W: Write>(
     numbers: ShapeNumbers,
     writer: &mut W,
 ) -> Result<u8, Fault>
-    ensures text { IfOk result (WritesText (IsMadeText order seed numbers) (W.contents writer.old) (W.contents writer.new)) }
+    ensures text { IfOk result (WritesWhole (IsMadeText order seed numbers) (W.contents writer.old) (W.contents writer.new)) }
     ensures fault { IfErr result (LeavesMadeText order seed numbers (W.contents writer.old) (W.contents writer.new)) }
 {
     let made = made_text(alloc, order, seed, numbers)?;

@@ -2,13 +2,12 @@
 ghost use Rattle.std.specs.Prelude.{◌≡◌, ◌⊎◌, ◌≤◌, [], ◌∷◌, IfOk, IfErr, IfSome, OnOk, true, false};
 ghost use Rattle.command_line.specs.Requests.{asked_of, files_of};
 ghost use Rattle.command_line.specs.declared.requests.Request.TheVariants.{Replay};
-ghost use Rattle.tso_report.specs.declared.faults.Fault.{Fault};
-ghost use Rattle.tso_report.specs.Limits.{trace_read_limit};
-ghost use Rattle.tso_report.specs.Streams.{LosesPrefix};
-ghost use Rattle.tso_report.specs.WrittenReports.{LeavesAtFault};
+ghost use Rattle.trace_judging.specs.declared.faults.Fault.{Fault};
+ghost use Rattle.trace_judging.specs.Limits.{trace_read_limit};
+ghost use Rattle.trace_judging.specs.Streams.{LosesPrefix};
+ghost use Rattle.trace_judging.specs.WrittenReports.{LeavesAtFault, WritesWhole};
 ghost use Rattle.tso_text.specs.Refusals.{IsRefusedProgram};
 ghost use Rattle.request_serving.specs.Internal.Ranges.{AreInRange, HasWorkerRange};
-ghost use Rattle.request_serving.specs.Endings.{IsPrintable, WritesText};
 ghost use Rattle.request_serving.specs.OpenedFiles.{HasRefusedFirstText, OpensFirst, OpensNext, TakesInput, files_named, reads_input, text_bytes};
 ghost use Rattle.request_serving.specs.Printing.{unit_of};
 ghost use Rattle.request_serving.specs.Replaying.{IsReplayOf, IsReplayText, IsScheduledText};
@@ -20,8 +19,8 @@ use command_line::{RunOptions, TextPair};
 use std::io::{Read, Write};
 use std::sync::Wait;
 use std::thread::Threads;
+use trace_judging::{Fault, read_all, write_text};
 use tso_ops::Program;
-use tso_report::{Fault, read_all, write_text};
 use tso_text::{Act, MAX_TEXT_BYTES, read_program, read_schedule};
 use unit_core::{Account, MemoryUnit, replay};
 
@@ -36,8 +35,8 @@ pub(crate) fn replay_named<H: Threads + Wait + AllocGlobal, O: NamedFiles, R: Re
     writer: &mut W,
 ) -> Result<u8, Fault>
     requires ranges { AreInRange options.now }
-    ensures text { let programs = text_bytes (files_of texts.entry).0 (R.remaining reader.old) (O.bytes files.old) in let schedules = text_bytes (files_of texts.entry).1 (R.remaining reader.old) (O.bytes files.old) in IfOk result (WritesText (IsReplayText options.now programs schedules) (W.contents writer.old) (W.contents writer.new)) }
-    ensures fault { let programs = text_bytes (files_of texts.entry).0 (R.remaining reader.old) (O.bytes files.old) in let schedules = text_bytes (files_of texts.entry).1 (R.remaining reader.old) (O.bytes files.old) in IfErr result (LeavesAtFault (IsPrintable (IsReplayText options.now programs schedules)) (W.contents writer.old) (W.contents writer.new)) }
+    ensures text { let programs = text_bytes (files_of texts.entry).0 (R.remaining reader.old) (O.bytes files.old) in let schedules = text_bytes (files_of texts.entry).1 (R.remaining reader.old) (O.bytes files.old) in IfOk result (WritesWhole (IsReplayText options.now programs schedules) (W.contents writer.old) (W.contents writer.new)) }
+    ensures fault { let programs = text_bytes (files_of texts.entry).0 (R.remaining reader.old) (O.bytes files.old) in let schedules = text_bytes (files_of texts.entry).1 (R.remaining reader.old) (O.bytes files.old) in IfErr result (LeavesAtFault (IsReplayText options.now programs schedules) (W.contents writer.old) (W.contents writer.new)) }
     ensures first { OpensFirst (O.opened files.old) (O.opened files.new) (files_named (asked_of (Replay options.now texts.entry))) }
     ensures opened { OnOk result (OpensNext (O.opened files.old) (O.opened files.new) (files_named (asked_of (Replay options.now texts.entry)))) }
     ensures unread { reads_input (asked_of (Replay options.now texts.entry)) ≡ false → reader.new ≡ reader.old }
@@ -69,8 +68,8 @@ fn replay_files<H: Threads + Wait + AllocGlobal, O: NamedFiles, W: Write>(
     writer: &mut W,
 ) -> Result<u8, Fault>
     requires ranges { AreInRange options.now }
-    ensures text { IfOk result (WritesText (IsReplayText options.now (O.bytes files.old program.now) (O.bytes files.old schedule.now)) (W.contents writer.old) (W.contents writer.new)) }
-    ensures fault { IfErr result (LeavesAtFault (IsPrintable (IsReplayText options.now (O.bytes files.old program.now) (O.bytes files.old schedule.now))) (W.contents writer.old) (W.contents writer.new)) }
+    ensures text { IfOk result (WritesWhole (IsReplayText options.now (O.bytes files.old program.now) (O.bytes files.old schedule.now)) (W.contents writer.old) (W.contents writer.new)) }
+    ensures fault { IfErr result (LeavesAtFault (IsReplayText options.now (O.bytes files.old program.now) (O.bytes files.old schedule.now)) (W.contents writer.old) (W.contents writer.new)) }
     ensures first { OpensFirst (O.opened files.old) (O.opened files.new) (program.now ∷ schedule.now ∷ []) }
     ensures opened { OnOk result (OpensNext (O.opened files.old) (O.opened files.new) (program.now ∷ schedule.now ∷ [])) }
 {
@@ -88,8 +87,8 @@ fn write_replay<H: Threads + Wait + AllocGlobal, P: Read, S: Read, W: Write>(
     writer: &mut W,
 ) -> Result<u8, Fault>
     requires ranges { AreInRange options.now }
-    ensures text { IfOk result (WritesText (IsReplayText options.now (P.remaining programs.old) (S.remaining schedules.old)) (W.contents writer.old) (W.contents writer.new)) }
-    ensures fault { IfErr result (LeavesAtFault (IsPrintable (IsReplayText options.now (P.remaining programs.old) (S.remaining schedules.old))) (W.contents writer.old) (W.contents writer.new)) }
+    ensures text { IfOk result (WritesWhole (IsReplayText options.now (P.remaining programs.old) (S.remaining schedules.old)) (W.contents writer.old) (W.contents writer.new)) }
+    ensures fault { IfErr result (LeavesAtFault (IsReplayText options.now (P.remaining programs.old) (S.remaining schedules.old)) (W.contents writer.old) (W.contents writer.new)) }
     ensures taken { IfOk result (λ _. LosesPrefix trace_read_limit (P.remaining programs.old) (P.remaining programs.new)) }
     ensures unread { IfSome (P.remaining programs.old) (λ program. IsRefusedProgram program → schedules.new ≡ schedules.old) }
     ensures taken_after { IfOk result (λ _. schedules.new ≡ schedules.old ⊎ LosesPrefix trace_read_limit (S.remaining schedules.old) (S.remaining schedules.new)) }
@@ -129,7 +128,7 @@ fn replay_program<H: Threads + Wait + AllocGlobal, S: Read>(
     schedules: &mut S,
 ) -> Result<Printed, Fault>
     requires ranges { AreInRange options.now }
-    ensures text { IfOk result (λ printed. IsScheduledText options.now program.now (S.remaining schedules.old) printed.text.items printed.status) }
+    ensures text { IfOk result (λ printed. IsScheduledText options.now (S.remaining schedules.old) program.now printed.text.items printed.status) }
     ensures taken { IfOk result (λ _. LosesPrefix trace_read_limit (S.remaining schedules.old) (S.remaining schedules.new)) }
     ensures fault { IfErr result (λ fault. (fault ≡ Fault.OutOfMemory) ⊎ ((fault ≡ Fault.Read) ⊎ (fault ≡ Fault.NoThread))) }
 {

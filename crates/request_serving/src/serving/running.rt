@@ -1,15 +1,16 @@
 //! The way of a run: read the program, run it with a thread per processor and a drainer, judge or print, write.
-ghost use Rattle.std.specs.Prelude.{◌≡◌, ◌⊎◌, ◌≤◌, [], ◌∷◌, IfOk, IfErr, IfSome, None, option_to_list};
-ghost use Rattle.command_line.specs.Requests.{drain_turns_limit};
-ghost use Rattle.tso_report.specs.declared.faults.Fault.{Fault};
-ghost use Rattle.tso_report.specs.Limits.{trace_read_limit};
-ghost use Rattle.tso_report.specs.Streams.{LosesPrefix};
+ghost use Rattle.std.specs.Prelude.{◌≡◌, ◌⊎◌, ◌≤◌, [], ◌∷◌, IfOk, IfErr, IfSome, None};
+ghost use Rattle.command_line.specs.Requests.{asked_of, drain_turns_limit};
+ghost use Rattle.command_line.specs.declared.requests.Request.TheVariants.{Run};
+ghost use Rattle.trace_judging.specs.declared.faults.Fault.{Fault};
+ghost use Rattle.trace_judging.specs.Limits.{trace_read_limit};
+ghost use Rattle.trace_judging.specs.Streams.{LosesPrefix};
 ghost use Rattle.request_serving.specs.Internal.Ranges.{AreInRange, HasWorkerRange};
-ghost use Rattle.request_serving.specs.Endings.{WritesText};
 ghost use Rattle.request_serving.specs.Internal.Runs.{LeavesAtFailure, OnFault};
-ghost use Rattle.request_serving.specs.OpenedFiles.{OpensNext, name_in, text_bytes};
+ghost use Rattle.request_serving.specs.OpenedFiles.{OpensNext, files_named, name_in, text_bytes};
 ghost use Rattle.request_serving.specs.Printing.{unit_of};
 ghost use Rattle.request_serving.specs.Running.{IsRunPrinted, IsRunText};
+ghost use Rattle.trace_judging.specs.WrittenReports.{WritesWhole};
 
 use crate::failures::{RunFailure, failure_of};
 use crate::files::{NamedFiles, open};
@@ -20,8 +21,8 @@ use issue_desk::{Issuers, OpenGate, RunThreads, run_with_drainer};
 use std::io::{Read, Write};
 use std::sync::Wait;
 use std::thread::Threads;
+use trace_judging::{read_all, write_text};
 use tso_ops::Program;
-use tso_report::{read_all, write_text};
 use tso_text::{MAX_TEXT_BYTES, read_program};
 use unit_core::{Account, MemoryUnit};
 
@@ -35,9 +36,9 @@ pub(crate) fn run_named<H: Threads + Wait + Sync + AllocGlobal, O: NamedFiles, R
 ) -> Result<u8, RunFailure>
     requires ranges { AreInRange request.now.options }
     requires turns { request.now.drain_turns ≤ drain_turns_limit }
-    ensures text { let programs = text_bytes (name_in request.now.program) (R.remaining reader.old) (O.bytes files.old) in IfOk result (WritesText (IsRunText request.now.options programs) (W.contents writer.old) (W.contents writer.new)) }
+    ensures text { let programs = text_bytes (name_in request.now.program) (R.remaining reader.old) (O.bytes files.old) in IfOk result (WritesWhole (IsRunText request.now.options programs) (W.contents writer.old) (W.contents writer.new)) }
     ensures fault { let programs = text_bytes (name_in request.now.program) (R.remaining reader.old) (O.bytes files.old) in IfErr result (LeavesAtFailure (IsRunText request.now.options programs) (W.contents writer.old) (W.contents writer.new)) }
-    ensures opened { OpensNext (O.opened files.old) (O.opened files.new) (option_to_list (name_in request.now.program)) }
+    ensures opened { OpensNext (O.opened files.old) (O.opened files.new) (files_named (asked_of (Run request.now))) }
     ensures unread { IfSome request.now.program (λ _. reader.new ≡ reader.old) }
     ensures taken { request.now.program ≡ None → IfOk result (λ _. LosesPrefix trace_read_limit (R.remaining reader.old) (R.remaining reader.new)) }
 {
@@ -57,7 +58,7 @@ fn run_file<H: Threads + Wait + Sync + AllocGlobal, O: NamedFiles, W: Write>(
 ) -> Result<u8, RunFailure>
     requires ranges { AreInRange request.now.options }
     requires turns { request.now.drain_turns ≤ drain_turns_limit }
-    ensures text { IfOk result (WritesText (IsRunText request.now.options (O.bytes files.old name.now)) (W.contents writer.old) (W.contents writer.new)) }
+    ensures text { IfOk result (WritesWhole (IsRunText request.now.options (O.bytes files.old name.now)) (W.contents writer.old) (W.contents writer.new)) }
     ensures fault { IfErr result (LeavesAtFailure (IsRunText request.now.options (O.bytes files.old name.now)) (W.contents writer.old) (W.contents writer.new)) }
     ensures opened { OpensNext (O.opened files.old) (O.opened files.new) (name.now ∷ []) }
 {
@@ -74,7 +75,7 @@ fn write_run<H: Threads + Wait + Sync + AllocGlobal, P: Read, W: Write>(
 ) -> Result<u8, RunFailure>
     requires ranges { AreInRange request.now.options }
     requires turns { request.now.drain_turns ≤ drain_turns_limit }
-    ensures text { IfOk result (WritesText (IsRunText request.now.options (P.remaining programs.old)) (W.contents writer.old) (W.contents writer.new)) }
+    ensures text { IfOk result (WritesWhole (IsRunText request.now.options (P.remaining programs.old)) (W.contents writer.old) (W.contents writer.new)) }
     ensures fault { IfErr result (LeavesAtFailure (IsRunText request.now.options (P.remaining programs.old)) (W.contents writer.old) (W.contents writer.new)) }
     ensures taken { IfOk result (λ _. LosesPrefix trace_read_limit (P.remaining programs.old) (P.remaining programs.new)) }
 {

@@ -4,11 +4,11 @@ use Rattle.std.specs.Io.KnownBytes.{Appends, Consumes}
 use Rattle.std.specs.List.{count_by}
 use Rattle.trace_batches.specs.Internal.Cutters.{CutterValue, IsAt}
 use Rattle.trace_batches.specs.Pieces.{ArePieces, IsSplit}
-use Rattle.tso_report.specs.declared.faults.Fault.{Fault}
+use Rattle.trace_judging.specs.declared.faults.Fault.{Fault}
 use Rattle.trace_reports.specs.declared.renderings.Report.{Report}
-use Rattle.tso_report.specs.Limits.{trace_read_limit}
+use Rattle.trace_judging.specs.Limits.{trace_read_limit}
 use Rattle.trace_reports.specs.Reports.{IsReport}
-use Rattle.tso_report.specs.Streams.{AppendsPrefix}
+use Rattle.trace_judging.specs.Streams.{AppendsPrefix}
 use Rattle.trace_batches.specs.declared.jobs.Job.{Job}
 use Rattle.trace_batches.specs.declared.tallies.Tally.{Tally}
 use Rattle.trace_batches.specs.Batches.{AreReports, IsBatchFault, ReportValue, is_refused, is_violation, trace_lines}

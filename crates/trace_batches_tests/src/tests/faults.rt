@@ -6,8 +6,8 @@ use std::io::ErrorKind;
 use std::sync::Wait;
 use std::test::Fail;
 use std::thread::Threads;
+use trace_judging::{Fault, Verdict};
 use traces_for_tests::{FlushedWriter, Full, ShortWriter, SlowReader, TornReader, expect_equal};
-use tso_report::{Fault, Verdict};
 
 #[test]
 fn reader_of_one_byte_a_call(rt: HostRuntime) -> Result<(), Fail> {

@@ -7,7 +7,7 @@ use std::sync::Wait;
 use std::test::Fail;
 use std::thread::Threads;
 use trace_batches::{BatchOptions, judge_batch};
-use tso_report::Verdict;
+use trace_judging::Verdict;
 
 /// A stream, its verdict and the text of its batch.
 type Case = (&'static str, Verdict, &'static str);

@@ -7,8 +7,8 @@ use std::alloc::Global;
 use std::sync::Wait;
 use std::test::Fail;
 use std::thread::Threads;
+use trace_judging::{Fault, Verdict};
 use traces_for_tests::expect_equal;
-use tso_report::{Fault, Verdict};
 
 /// The room that a text gets.
 const ROOM: usize = 128;

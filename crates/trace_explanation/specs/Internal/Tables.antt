@@ -1,5 +1,6 @@
 -- What the tables of an explanation keep: the names of events, the numbers of steps, and the marks of what steps name.
 use Rattle.std.specs.Prelude.{◌≡◌, ℕ, ◌<◌, Bool, false, List, [], length, get_or, Option, None, Some, slice_get, String, string_bytes}
+use Rattle.std.specs.List.{position_from}
 use Rattle.std.specs.Ordering.{nat_cmp, ordering_then}
 use Rattle.std.specs.declared.cmp.Ordering.{Ordering}
 use Rattle.std.specs.BTreeMap.{BTreeMap, get}
@@ -7,7 +8,7 @@ use Rattle.std.specs.Global.{Global}
 use Rattle.tso_ops.specs.Values.{TraceValue}
 use Rattle.tso_cert.specs.declared.steps.CertStep.{CertStep}
 use Rattle.trace_explanation.specs.Names.{name_text}
-use Rattle.trace_explanation.specs.Steps.{number_from}
+use Rattle.trace_explanation.specs.Steps.{is_edge}
 
 -- the bytes of a text that may be missing
 abbrev pub text_in : Option (String Global) → List ℕ
@@ -22,14 +23,9 @@ HasNames t names = (n : ℕ) → text_in (slice_get names n) ≡ name_text t n
 abbrev pub pair_cmp : ℕ × ℕ → ℕ × ℕ → Ordering
 pair_cmp x y = ordering_then (nat_cmp x.0 y.0) (nat_cmp x.1 y.1)
 
--- the number at a key, 0 where there is none
-abbrev pub number_in : Option ℕ → ℕ
-number_in None = 0
-number_in (Some n) = n
-
 -- the map finds the least numbers of these steps, of which the first has this number
 abbrev pub FindsNumbers : ℕ → List CertStep → BTreeMap (ℕ × ℕ) ℕ → Type 0
-FindsNumbers k steps numbers = (u v : ℕ) → number_in (get pair_cmp numbers (u, v)) ≡ number_from k steps u v
+FindsNumbers k steps numbers = (u v : ℕ) → get pair_cmp numbers (u, v) ≡ position_from (is_edge (u, v)) k steps
 
 -- the marks below the number are what the test says
 pub record AreMarks (test : ℕ → Bool) (count : ℕ) (marks : List Bool) : Type 0 where

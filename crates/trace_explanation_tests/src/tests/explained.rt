@@ -3,7 +3,7 @@
 use super::{Case, expect_presented};
 use std::test::Fail;
 use trace_explanation::AsExplanation;
-use tso_report::Verdict;
+use trace_judging::Verdict;
 
 /// A cycle of two through the first values.
 const CYCLE: Case = (

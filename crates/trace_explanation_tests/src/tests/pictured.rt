@@ -2,8 +2,8 @@
 
 use super::{Case, expect_bytes, expect_presented, presented};
 use std::test::Fail;
+use trace_judging::Verdict;
 use trace_pictures::AsPicture;
-use tso_report::Verdict;
 
 /// A cycle of two through the first values, with first values of its own.
 const FIRST_VALUES: Case = (

@@ -4,8 +4,8 @@ use super::{expect_bytes, expect_said};
 use std::io::ErrorKind;
 use std::test::Fail;
 use trace_explanation::AsExplanation;
+use trace_judging::{Fault, present};
 use traces_for_tests::FailingReader;
-use tso_report::{Fault, present};
 
 #[test]
 fn failing_reader(rt: HostRuntime) -> Result<(), Fail> {

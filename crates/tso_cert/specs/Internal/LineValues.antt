@@ -1,7 +1,8 @@
 -- What a reader makes of one line.
-use Rattle.std.specs.Prelude.{◌≡◌, ℕ, ◌<◌, ◌==◌, Bool, true, false, List, [], ◌∷◌, Option, Some, None, Result, Ok, Err, codes, if◌then◌else◌}
+use Rattle.std.specs.Prelude.{ℕ, zero, suc, ◌==◌, List, [], ◌∷◌, Option, Some, None, Result, Ok, Err, codes, if◌then◌else◌}
 use Rattle.std.specs.Str.{bytes_eq}
 use Rattle.std.specs.Fmt.{decimal}
+use Rattle.line_text.specs.Numbers.{number}
 use Rattle.line_text.specs.Results.{◌>>=◌}
 use Rattle.tso_cert.specs.declared.rules.BaseRule.{BaseRule}
 use Rattle.tso_cert.specs.declared.rules.InferredRule.{InferredRule}
@@ -13,7 +14,17 @@ use Rattle.tso_cert.specs.declared.lines.Line.TheVariants.{Step, Cycle, Unwritte
 use Rattle.tso_cert.specs.declared.faults.Why.{Why}
 use Rattle.tso_cert.specs.declared.faults.Why.TheVariants.{BadLine, BadNumber, BadRule}
 use Rattle.tso_cert.specs.Printed.{base_name, inferred_name}
-use Rattle.tso_cert.specs.Spelling.{event_number, base_rules, inferred_rules, cert_fault_number}
+use Rattle.tso_cert.specs.Spelling.{base_rules, inferred_rules}
+
+-- a number above 0
+abbrev pub above_zero : Option ℕ → Option ℕ
+above_zero None = None
+above_zero (Some zero) = None
+above_zero (Some (suc n)) = Some (suc n)
+
+-- the event number that a token spells: `init` for 0, else a number from 1
+abbrev pub event_number : List ℕ → Option ℕ
+event_number token = if bytes_eq token (codes "init") then Some 0 else above_zero (number token)
 
 abbrev pub or_bad_event : Option ℕ → Result ℕ Why
 or_bad_event None = Err BadNumber
@@ -70,8 +81,3 @@ cert_line_said number (word ∷ tokens) =
     if bytes_eq word (codes "cycle") then (events tokens >>= λ cycle. Ok (Cycle cycle))
     else if bytes_eq word (codes "unwritten") then (unwritten_said number tokens >>= λ n. Ok (Unwritten n))
     else step_said number (word ∷ tokens) >>= λ step. Ok (Step step)
-
--- the fault of the least number, of those that a test finds
-pub record IsFirstCertFault (has : Why → Bool) (why : Why) : Type 0 where
-  pub fault : has why ≡ true
-  pub least : (w : Why) → cert_fault_number w < cert_fault_number why → has w ≡ false

@@ -2,14 +2,14 @@
 ghost use Rattle.std.specs.Prelude.{◌≡◌, ◌≢◌, ◌⊎◌, ◌+◌, ◌<◌, ◌≤◌, ◌^◌, ℕ, List, false, None, IfOk, IfErr, IfSome, MatchOption, length, get_or, map, unwrap_or};
 ghost use Rattle.tso_report.specs.Campaigns.{AreVerdicts};
 ghost use Rattle.tso_report.specs.Internal.Gathering.{AreUnitsFrom, IsGathered, IsLeastMissing, KeepsSeeds};
-ghost use Rattle.tso_report.specs.declared.faults.Fault.{Fault};
+ghost use Rattle.trace_judging.specs.declared.faults.Fault.{Fault};
 ghost use Rattle.unit_core.specs.Units.{UnitValue};
 
 use super::CampaignPrograms;
 use super::seeds::{JobResult, Judged, SeedUnits};
-use crate::faults::Fault;
 use std::alloc::Global;
 use std::marker::{Model, PhantomData};
+use trace_judging::Fault;
 use tso_ops::OutOfMemory;
 
 /// The verdicts of a campaign's seeds, as far as they came, and which faults came.

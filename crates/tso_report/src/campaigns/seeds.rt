@@ -5,8 +5,6 @@ ghost use Rattle.tso_report.specs.Campaigns.{IsVerdictOfSeed, program_of_seed, p
 ghost use Rattle.tso_report.specs.Internal.Gathering.{fault_of_seed, is_violation};
 
 use super::CampaignPrograms;
-use crate::faults::Fault;
-use crate::presenting::render_trace;
 use issue_desk::{Issuers, OpenGate, RunFault, run_over};
 use rand_core::SeedableRng;
 use rand_pcg::Pcg64;
@@ -14,6 +12,7 @@ use std::alloc::Global;
 use std::marker::{Brand, Model, PhantomData};
 use std::sync::Wait;
 use std::thread::Threads;
+use trace_judging::{Fault, render_trace};
 use trace_reports::{AsReport, Verdict};
 use tso_ops::{Order, OutOfMemory, Program, Shape, Trace, make_program_with_order};
 use unit_core::{Account, MemoryUnit};

@@ -2,17 +2,17 @@
 ghost use Rattle.std.specs.Prelude.{◌≡◌, ◌⊎◌, ◌+◌, ◌≤◌, ◌^◌, [], All, IfOk, IfErr, length, map};
 ghost use Rattle.tso_report.specs.Limits.{seed_count_limit};
 ghost use Rattle.tso_report.specs.Internal.Gathering.{AreUnitsFrom, KeepsSeeds};
-ghost use Rattle.tso_report.specs.declared.faults.Fault.{Fault};
+ghost use Rattle.trace_judging.specs.declared.faults.Fault.{Fault};
 
 use super::CampaignPrograms;
 use super::gathering::Gathered;
 use super::seeds::{Job, JobResult, SeedUnits, job_of, result_of};
-use crate::faults::Fault;
 use crossbeam_channel::{Receiver, Sender, bounded};
 use std::alloc::Global;
 use std::sync::Wait;
 use std::thread;
 use std::thread::{Scope, Threads};
+use trace_judging::Fault;
 use unit_core::MemoryUnit;
 
 /// The ends of the channels that a worker has: jobs come in by one, their results go out by the other.

@@ -1,19 +1,17 @@
 //! Campaigns of the seeds 1, 2 and 3 on units in boxes, of one type or of several: what is written, and which calls the
 //! units get.
 ghost use Rattle.std.specs.Prelude.{◌≡◌, ◌≤◌, [], All, IfOk, length};
-ghost use Rattle.tso_report.specs.Limits.{worker_limit};
+ghost use Rattle.trace_judging.specs.Limits.{worker_limit};
 
 use super::meeting::{Meeting, MeetingUnit};
-use super::{
-    ONE, THREE_SEEDS, THREE_VIOLATIONS, TWENTY, TWO_HUNDRED, expect_equal, list_of, shape_of,
-};
+use super::{ONE, THREE_SEEDS, THREE_VIOLATIONS, TWENTY, TWO_HUNDRED, list_of, shape_of};
 use std::alloc::Global;
 use std::io::Write;
-use std::process::Abort;
 use std::sync::atomic::Ordering;
 use std::sync::{Arc, Wait};
 use std::test::Fail;
 use std::thread::Threads;
+use traces_for_tests::expect_equal;
 use tso_ops::{Op, Order, OutOfMemory, Shape};
 use tso_report::{CampaignPrograms, Fault, Verdict, campaign, seeded_program};
 use unit_core::MemoryUnit;
@@ -202,24 +200,24 @@ fn have_served(
 type Served<'a> = (&'a CallCounts, &'a [u64]);
 
 /// Runs a campaign over three units, and compares its answer, its text and their calls.
-fn expect_served<H: Threads + Wait + Sync + Abort>(
+fn expect_served<H: Threads + Wait + Sync>(
     rt: &H,
     alloc: Global,
     of: (Shape, usize),
     units: Vec<Boxed>,
     told: (Result<Verdict, Fault>, &str),
     served: &[Served<'_>],
-) -> Result<(), OutOfMemory>
+) -> Result<(), Fail>
     requires some { 1 ≤ of.1 }
     requires most { of.1 ≤ worker_limit }
     requires seeds { length units.items ≤ 3 }
     requires untouched { All (λ unit. (value_of unit).steps ≡ []) units.items }
 {
     let (shape, workers) = of;
-    expect_equal(rt, workers, is_ran(rt, alloc, of, units, told), true);
+    expect_equal(workers, is_ran(rt, alloc, of, units, told), true)?;
     for (counts, seeds) in served.iter().copied() {
         let is_served = have_served(alloc, counts, seeds, shape)?;
-        expect_equal(rt, workers, is_served, true);
+        expect_equal(workers, is_served, true)?;
     }
     Ok(())
 }
@@ -236,7 +234,7 @@ fn serial_units(alloc: Global, counts: &Arc<CallCounts, Global>) -> Result<Vec<B
 }
 
 /// Runs a campaign on serial units, and compares their calls.
-fn serve_serial_units<H: Threads + Wait + Sync + Abort>(
+fn serve_serial_units<H: Threads + Wait + Sync>(
     rt: &H,
     alloc: Global,
     workers: usize,
@@ -249,7 +247,7 @@ fn serve_serial_units<H: Threads + Wait + Sync + Abort>(
     let units = serial_units(alloc, &counts)?;
     let told = (Ok(Verdict::NoViolation), THREE_SEEDS);
     let served: [Served<'_>; 1] = [(&counts, &[1, 2, 3])];
-    Ok(expect_served(rt, alloc, (shape, workers), units, told, &served)?)
+    expect_served(rt, alloc, (shape, workers), units, told, &served)
 }
 
 #[test]
@@ -271,7 +269,7 @@ fn faulty_units(alloc: Global, counts: &Arc<CallCounts, Global>) -> Result<Vec<B
 }
 
 /// Runs a campaign on units that aren't lawful, but to whose deviations no run comes, and compares their calls.
-fn serve_unlawful_units<H: Threads + Wait + Sync + Abort>(
+fn serve_unlawful_units<H: Threads + Wait + Sync>(
     rt: &H,
     alloc: Global,
     workers: usize,
@@ -284,7 +282,7 @@ fn serve_unlawful_units<H: Threads + Wait + Sync + Abort>(
     let units = faulty_units(alloc, &counts)?;
     let told = (Ok(Verdict::NoViolation), THREE_SEEDS);
     let served: [Served<'_>; 1] = [(&counts, &[1, 2, 3])];
-    Ok(expect_served(rt, alloc, (shape, workers), units, told, &served)?)
+    expect_served(rt, alloc, (shape, workers), units, told, &served)
 }
 
 /// A unit that isn't lawful is run all the same: its record is judged by what it answered.
@@ -344,7 +342,7 @@ const FIRST_VIOLATION: &str =
     "seed 1 VIOLATION\nseed 2 NO VIOLATION FOUND\nseed 3 NO VIOLATION FOUND\nseeds 3 violations 1\n";
 
 /// Runs a campaign on units of two types, and compares the calls of each.
-fn serve_two_types<H: Threads + Wait + Sync + Abort>(
+fn serve_two_types<H: Threads + Wait + Sync>(
     rt: &H,
     alloc: Global,
     workers: usize,
@@ -362,7 +360,7 @@ fn serve_two_types<H: Threads + Wait + Sync + Abort>(
         third,
     } = &counts;
     let served: [Served<'_>; 3] = [(first, &[1]), (second, &[2]), (third, &[3])];
-    Ok(expect_served(rt, alloc, (shape, workers), units, told, &served)?)
+    expect_served(rt, alloc, (shape, workers), units, told, &served)
 }
 
 /// Each unit serves the seed of its place: the violation is that of the unit that invents its answers.
@@ -391,8 +389,7 @@ fn boxed_campaign_of_invented_answers(rt: HostRuntime) -> Result<(), Fail> {
     let units = inventing_units(rt.alloc())?;
     let told = (Ok(Verdict::Violation), THREE_VIOLATIONS);
     let is_ran = is_ran(&rt, rt.alloc(), (shape, 2), units, told);
-    expect_equal(&rt, "invented", is_ran, true);
-    Ok(())
+    expect_equal("invented", is_ran, true)
 }
 
 /// Two units that meet, and a serial one.
@@ -415,13 +412,12 @@ fn boxed_campaigns_overlap(rt: HostRuntime) -> Result<(), Fail> {
     let units = meeting_units(rt.alloc(), &meeting)?;
     let told = (Ok(Verdict::NoViolation), THREE_SEEDS);
     let is_ran = is_ran(&rt, rt.alloc(), (shape, 2), units, told);
-    expect_equal(&rt, "met", (is_ran, meeting.have_met()), (true, true));
-    Ok(())
+    expect_equal("met", (is_ran, meeting.have_met()), (true, true))
 }
 
 /// Runs a campaign on units of which the first refuses its seventh call, and compares the calls of the others: a worker goes
 /// on after the seed that fails. Nothing is written, and each unit is dropped.
-fn serve_past_a_refusal<H: Threads + Wait + Sync + Abort>(
+fn serve_past_a_refusal<H: Threads + Wait + Sync>(
     rt: &H,
     alloc: Global,
     workers: usize,
@@ -440,8 +436,7 @@ fn serve_past_a_refusal<H: Threads + Wait + Sync + Abort>(
     } = &counts;
     let served: [Served<'_>; 2] = [(second, &[2]), (third, &[3])];
     expect_served(rt, alloc, (shape, workers), units, told, &served)?;
-    expect_equal(rt, "drops", drops_of(first), 1);
-    Ok(())
+    expect_equal("drops", drops_of(first), 1)
 }
 
 #[test]
@@ -457,7 +452,7 @@ fn boxed_campaign_of_no_seed(rt: HostRuntime) -> Result<(), Fail> {
         let told = (Ok(Verdict::NoViolation), "seeds 0 violations 0\n");
         let units = Vec::new(rt.alloc());
         let is_ran = is_ran(&rt, rt.alloc(), (shape, workers), units, told);
-        expect_equal(&rt, workers, is_ran, true);
+        expect_equal(workers, is_ran, true)?;
     }
     Ok(())
 }
@@ -484,10 +479,9 @@ fn boxed_campaigns_that_cannot_be_written(rt: HostRuntime) -> Result<(), Fail> {
     for room in 0..text.len() {
         let told = (Err(Fault::Write), text.get(..room).unwrap_or(text));
         let is_ran = is_ran_with_room(&rt, rt.alloc(), room, told)?;
-        expect_equal(&rt, room, is_ran, true);
+        expect_equal(room, is_ran, true)?;
     }
     let told = (Ok(Verdict::NoViolation), text);
     let is_ran = is_ran_with_room(&rt, rt.alloc(), text.len(), told)?;
-    expect_equal(&rt, text.len(), is_ran, true);
-    Ok(())
+    expect_equal(text.len(), is_ran, true)
 }

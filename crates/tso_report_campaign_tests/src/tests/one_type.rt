@@ -2,15 +2,14 @@
 //! campaign does with units that refuse, units that wait for each other and writers that fail, `boxed` has: a box is a unit
 //! like any other.
 ghost use Rattle.std.specs.Prelude.{◌≡◌, ◌≤◌, [], All, IfOk, length};
-ghost use Rattle.tso_report.specs.Limits.{worker_limit};
+ghost use Rattle.trace_judging.specs.Limits.{worker_limit};
 
-use super::{
-    ONE, THREE_SEEDS, THREE_VIOLATIONS, TWENTY, TWO_HUNDRED, expect_equal, list_of, shape_of,
-};
+use super::{ONE, THREE_SEEDS, THREE_VIOLATIONS, TWENTY, TWO_HUNDRED, list_of, shape_of};
 use std::alloc::Global;
 use std::sync::Wait;
 use std::test::Fail;
 use std::thread::Threads;
+use traces_for_tests::expect_equal;
 use tso_ops::{Op, Order, OutOfMemory, Shape};
 use tso_report::{CampaignPrograms, Fault, Verdict, campaign_over, seeded_program};
 use unit_core::MemoryUnit;
@@ -86,7 +85,7 @@ fn campaign_without_a_violation(rt: HostRuntime) -> Result<(), Fail> {
     for workers in [1usize, 2, 64] {
         let ran = campaign_of(&rt, rt.alloc(), shape, serial_units(rt.alloc())?, workers);
         let is_ran = is_ran(&ran, Ok(Verdict::NoViolation), THREE_SEEDS);
-        expect_equal(&rt, workers, is_ran, true);
+        expect_equal(workers, is_ran, true)?;
     }
     Ok(())
 }
@@ -117,13 +116,13 @@ fn inventing_units(alloc: Global) -> Result<Vec<InventingUnit>, OutOfMemory>
 fn campaign_of_invented_answers(rt: HostRuntime) -> Result<(), Fail> {
     let shape = shape_of(TWO_HUNDRED)?;
     for seed in [1u64, 2, 3] {
-        expect_equal(&rt, seed, has_load(rt.alloc(), seed, shape)?, true);
+        expect_equal(seed, has_load(rt.alloc(), seed, shape)?, true)?;
     }
     for order in [Order::Tso, Order::Pso] {
         let units = inventing_units(rt.alloc())?;
         let ran = campaign_with_order(&rt, rt.alloc(), order, shape, units, 2);
         let is_ran = is_ran(&ran, Ok(Verdict::Violation), THREE_VIOLATIONS);
-        expect_equal(&rt, order, is_ran, true);
+        expect_equal(order, is_ran, true)?;
     }
     Ok(())
 }
@@ -146,8 +145,7 @@ fn campaign_under_pso_without_a_violation(rt: HostRuntime) -> Result<(), Fail> {
     let units = buffer_units(rt.alloc())?;
     let ran = campaign_with_order(&rt, rt.alloc(), Order::Pso, shape, units, 2);
     let is_ran = is_ran(&ran, Ok(Verdict::NoViolation), THREE_SEEDS);
-    expect_equal(&rt, "under PSO", is_ran, true);
-    Ok(())
+    expect_equal("under PSO", is_ran, true)
 }
 
 #[test]
@@ -156,6 +154,5 @@ fn campaign_of_no_seed(rt: HostRuntime) -> Result<(), Fail> {
     let units: Vec<SerialUnit> = Vec::new(rt.alloc());
     let ran = campaign_of(&rt, rt.alloc(), shape, units, 64);
     let is_ran = is_ran(&ran, Ok(Verdict::NoViolation), "seeds 0 violations 0\n");
-    expect_equal(&rt, "no seed", is_ran, true);
-    Ok(())
+    expect_equal("no seed", is_ran, true)
 }

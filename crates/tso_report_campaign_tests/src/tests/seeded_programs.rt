@@ -1,8 +1,8 @@
 //! The programs of seeds under both memory models.
 
-use super::expect_equal;
 use std::alloc::Global;
 use std::test::Fail;
+use traces_for_tests::expect_equal;
 use tso_ops::{Op, Order, Program, Shape};
 use tso_report::{seeded_program, seeded_program_with_order};
 
@@ -95,9 +95,9 @@ fn seeded_programs_under_both_models(rt: HostRuntime) -> Result<(), Fail> {
         has_other: false,
     };
     for seed in SEEDS {
-        expect_equal(&rt, seed, is_tso_the_same(rt.alloc(), seed, shape)?, true);
+        expect_equal(seed, is_tso_the_same(rt.alloc(), seed, shape)?, true)?;
         let found = compared_of_seed(rt.alloc(), seed, shape)?;
-        expect_equal(&rt, seed, found, wanted);
+        expect_equal(seed, found, wanted)?;
     }
     Ok(())
 }

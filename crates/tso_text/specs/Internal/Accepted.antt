@@ -1,12 +1,12 @@
 -- What a reader says of one line or one item: it is accepted after what came before, or it is refused.
-use Rattle.std.specs.Prelude.{◌≡◌, ◌⊎◌, ℕ, ◌<◌, ◌≤◌, Bool, true, false, List, length, Ok}
+use Rattle.std.specs.Prelude.{◌≡◌, ◌⊎◌, ℕ, ◌≤◌, Bool, List, length, Option, Some, None, Ok}
 use Rattle.tso_ops.specs.declared.limits.Tally.{Tally}
 use Rattle.tso_ops.specs.declared.faults.ValueFault.{ValueFault}
 use Rattle.tso_ops.specs.declared.faults.ValueFault.TheVariants.{TooManyProcessors as ManyProcessors, TooManyEvents as ManyEvents, AddressRange as PastAddresses, ZeroValue as ZeroStored, RepeatedValue as Repeated, OutOfMemory as NoMemory, StbarInTso, InitOrder as NotAscending}
 use Rattle.tso_text.specs.declared.faults.Why.{Why}
 use Rattle.tso_text.specs.declared.faults.Why.TheVariants.{TooManyProcessors, TooManyEvents, AddressRange, ZeroValue, RepeatedValue, OutOfMemory, InitOrder}
 use Rattle.tso_text.specs.declared.lines.Line.{Line}
-use Rattle.tso_text.specs.Internal.Spelling.{Grammar, said, said_fault, line_fault, with_line, is_end, items_of, text_fault_number}
+use Rattle.tso_text.specs.Internal.Spelling.{Grammar, said, said_fault, line_fault, with_line, is_end, items_of}
 
 -- The refusal of a value is this one of a text. No text is refused for an STBAR under TSO, which is no keyword there.
 abbrev pub IsWhyOf : ValueFault → Why → Type 0
@@ -23,14 +23,9 @@ IsWhyOf NotAscending why = why ≡ InitOrder
 abbrev pub CanSay : {X : Type 0} → Grammar X → Line X → Type 0
 CanSay g line = (tokens : List (List ℕ)) × (g.said_by tokens ≡ Ok line)
 
--- the fault of the least number, of those that a test finds
-pub record IsFirstTextFault (has : Why → Bool) (why : Why) : Type 0 where
-  pub fault : has why ≡ true
-  pub least : (w : Why) → text_fault_number w < text_fault_number why → has w ≡ false
-
--- refused for the first fault, or memory was refused
-abbrev pub IsRefusedFor : (Why → Bool) → Why → Type 0
-IsRefusedFor has why = (why ≡ OutOfMemory) ⊎ IsFirstTextFault has why
+-- refused for this fault, or memory was refused
+abbrev pub IsRefusedFor : Option Why → Why → Type 0
+IsRefusedFor fault why = (why ≡ OutOfMemory) ⊎ (fault ≡ Some why)
 
 abbrev pub IsItemRefusedFor : {X : Type 0} → Grammar X → List X → X → Why → Type 0
 IsItemRefusedFor g items x why = IsRefusedFor (g.item_fault items x) why
@@ -43,7 +38,7 @@ IsLineRefusedFor g lists line why = IsRefusedFor (said_fault g lists (said g lin
 
 -- what a line says is accepted: it has no fault after the old lists, and makes the new ones of them
 pub record AcceptsSaid {X : Type 0} (g : Grammar X) (old : List (List X)) (line : Line X) (ended : Bool) (new : List (List X)) : Type 0 where
-  pub clean : (w : Why) → line_fault g old line w ≡ false
+  pub clean : line_fault g old line ≡ None
   pub ends : is_end (Ok line) ≡ ended
   pub after : with_line old line ≡ new
 

@@ -1,5 +1,6 @@
 -- How far a reader has come in the preamble of a text, and in the lines after it.
-use Rattle.std.specs.Prelude.{◌≡◌, ℕ, ◌+◌, ◌<◌, ◌≤◌, ◌||◌, Bool, true, false, List, [], ◌∷◌, ◌++◌, length, map, drop, Ok, codes}
+use Rattle.std.specs.Str.{bytes_eq}
+use Rattle.std.specs.Prelude.{◌≡◌, ℕ, suc, ◌+◌, ◌<◌, ◌≤◌, ◌||◌, true, false, List, [], ◌∷◌, ◌++◌, length, map, drop, Option, Some, None, Ok, Err, codes}
 use Rattle.std.specs.List.{take_while}
 use Rattle.line_text.specs.Lines.{parts_of}
 use Rattle.tso_ops.specs.declared.settings.Order.{Order}
@@ -8,16 +9,17 @@ use Rattle.tso_ops.specs.declared.settings.Version.TheVariants.{One}
 use Rattle.tso_ops.specs.Settings.{SettingValue, with_entry}
 use Rattle.tso_ops.specs.Limits.{KeepsEntries}
 use Rattle.tso_text.specs.declared.faults.Why.{Why}
-use Rattle.tso_text.specs.Numbers.{is_word}
-use Rattle.tso_text.specs.Lines.{begins_with, entry_by, model_lines, has_keyword, whole_lines}
-use Rattle.tso_text.specs.Internal.Preambles.{version_of, entry_fault, model_fault, order_of_lines, entries_after, entry_faults, entry_said, said_entry_fault}
-use Rattle.tso_text.specs.Internal.Spelling.{Preamble, Grammar, body_fault, lists_of, text_fault_number}
-use Rattle.tso_text.specs.Internal.Accepted.{IsFirstTextFault, IsRefusedFor}
+use Rattle.tso_text.specs.Lines.{begins_with, model_lines, has_keyword, whole_lines}
+use Rattle.tso_text.specs.Internal.LineReadings.{entry_by}
+use Rattle.tso_text.specs.Refusals.{entry_fault_after}
+use Rattle.tso_text.specs.Internal.Preambles.{version_of, model_fault, order_of_lines, entries_after, entry_faults, entry_said, said_entry_fault}
+use Rattle.tso_text.specs.Internal.Spelling.{Preamble, Grammar, lists_read}
+use Rattle.tso_text.specs.Internal.Accepted.{IsRefusedFor}
 
--- none of these tests finds a fault
-abbrev pub AreFaultless : List (Why → Bool) → Type 0
+-- none of these is a fault
+abbrev pub AreFaultless : List (Option Why) → Type 0
 AreFaultless [] = Unit {0}
-AreFaultless (has ∷ tests) = ((w : Why) → has w ≡ false) × AreFaultless tests
+AreFaultless (fault ∷ faults) = (fault ≡ None) × AreFaultless faults
 
 -- what a preamble says that has no fault
 pub record IsSetting (setting : SettingValue) : Type 0 where
@@ -33,27 +35,25 @@ pub record HasBegun (p : Preamble) (text : List ℕ) (setting : SettingValue) (l
   pub room : lines + length rest ≤ length text
   pub setting_is : IsSetting setting
 
--- The refusal of a preamble: the first of its lines with a fault, and the fault of the least number there.
+-- The refusal of a preamble: the first of its lines with a fault, and that fault.
 pub record IsPreambleRefusal (p : Preamble) (line : ℕ) (why : Why) : Type 0 where
-  pub before : List (Why → Bool)
-  pub has : Why → Bool
-  pub after : List (Why → Bool)
-  pub parts : p.faults ≡ before ++ has ∷ after
+  pub before : List (Option Why)
+  pub after : List (Option Why)
+  pub parts : p.faults ≡ before ++ Some why ∷ after
   pub clean : AreFaultless before
   pub at : line ≡ length before + 1
-  pub refused : IsFirstTextFault has why
 
 -- The text begins with a header of this version; `rest` is what stands after it.
 pub record HasHeader (one two text : List ℕ) (version : Version) (rest : List ℕ) : Type 0 where
   pub line : List ℕ
   pub parts : parts_of text ≡ line ∷ parts_of rest
-  pub is : (is_word line one || is_word line two) ≡ true
+  pub is : (bytes_eq line one || bytes_eq line two) ≡ true
   pub says : version_of two line ≡ version
   pub shorter : length rest < length text
 
 -- The text begins with no header.
 abbrev pub HasNoHeader : List ℕ → List ℕ → List ℕ → Type 0
-HasNoHeader one two text = begins_with (λ line. is_word line one || is_word line two) (whole_lines (parts_of text)) ≡ false
+HasNoHeader one two text = begins_with (λ line. bytes_eq line one || bytes_eq line two) (whole_lines (parts_of text)) ≡ false
 
 -- The text begins with so many lines `model`, without a fault, of this memory model; `rest` is what stands after them.
 pub record HasModel (text : List ℕ) (order : Order) (lines : ℕ) (rest : List ℕ) : Type 0 where
@@ -90,7 +90,7 @@ pub record HasAllEntries (text : List ℕ) (first : List (ℕ × ℕ)) (lines : 
 pub record IsEntryRead (old : SettingValue) (tokens : List (List ℕ)) (new : SettingValue) : Type 0 where
   pub entry : ℕ × ℕ
   pub says : entry_by tokens ≡ Ok entry
-  pub clean : (w : Why) → entry_fault old.first entry w ≡ false
+  pub clean : entry_fault_after old.first entry ≡ None
   pub is : new ≡ with_entry old entry
 
 -- They are refused for this, after these entries.
@@ -110,19 +110,14 @@ pub record HasBadEntry (text : List ℕ) (lines : ℕ) (why : Why) : Type 0 wher
 
 -- ---- after the preamble
 
--- The parts spell these lists.
-pub record SpellsBody {X : Type 0} (g : Grammar X) (parts : List (List ℕ)) (lists : List (List X)) : Type 0 where
-  pub clean : (i : ℕ) (w : Why) → body_fault g parts i w ≡ false
-  pub says : lists_of g (whole_lines parts) ≡ lists
+-- the parts spell these lists, whatever the number of their first line
+abbrev pub SpellsBody : {X : Type 0} → Grammar X → List (List ℕ) → List (List X) → Type 0
+SpellsBody g parts lists = (n : ℕ) → lists_read g n g.start parts ≡ Ok lists
 
--- The refusal of the parts: the first with a fault, and the fault of the least number there.
-pub record IsBodyRefusal {X : Type 0} (g : Grammar X) (parts : List (List ℕ)) (i : ℕ) (why : Why) : Type 0 where
-  pub fault : body_fault g parts i why ≡ true
-  pub first : (j : ℕ) (w : Why) → j < i → body_fault g parts j w ≡ false
-  pub least : (w : Why) → text_fault_number w < text_fault_number why → body_fault g parts i w ≡ false
+-- the parts are refused at this place, counted from 0
+abbrev pub IsBodyRefusal : {X : Type 0} → Grammar X → List (List ℕ) → ℕ → Why → Type 0
+IsBodyRefusal g parts i why = (n line : ℕ) → line ≡ i + n → lists_read g n g.start parts ≡ Err (line, why)
 
--- The parts after so many lines are refused at this line.
-pub record IsRefusedAfter {X : Type 0} (g : Grammar X) (parts : List (List ℕ)) (lines line : ℕ) (why : Why) : Type 0 where
-  pub place : ℕ
-  pub at : line ≡ lines + place + 1
-  pub refused : IsBodyRefusal g parts place why
+-- the parts after so many lines are refused at this line
+abbrev pub IsBodyRefusedAfter : {X : Type 0} → Grammar X → List (List ℕ) → ℕ → ℕ → Why → Type 0
+IsBodyRefusedAfter g parts lines line why = lists_read g (suc lines) g.start parts ≡ Err (line, why)

@@ -1,5 +1,5 @@
 -- How the texts of traces, programs and schedules are written.
-use Rattle.std.specs.Prelude.{◌&&◌, Bool, nat_lt, List, [], ◌∷◌, map}
+use Rattle.std.specs.Prelude.{Option, List, [], ◌∷◌, map}
 use Rattle.tso_ops.specs.declared.ops.Op.{Op}
 use Rattle.tso_ops.specs.declared.ops.Outcome.{Outcome}
 use Rattle.tso_ops.specs.declared.settings.Version.TheVariants.{One, Two}
@@ -7,22 +7,16 @@ use Rattle.tso_ops.specs.Settings.{SettingValue}
 use Rattle.tso_ops.specs.Values.{op_of}
 use Rattle.tso_ops.specs.declared.acts.Act.{Act}
 use Rattle.tso_text.specs.declared.faults.Why.{Why}
-use Rattle.tso_text.specs.declared.faults.Why.TheVariants.{ProcessorRange}
-use Rattle.tso_text.specs.Lines.{trace_line, program_line, schedule_line}
+use Rattle.tso_text.specs.Internal.LineReadings.{act_fault_after, trace_line, program_line, schedule_line}
 use Rattle.tso_text.specs.Internal.Preambles.{header_alone, setting_preamble}
 use Rattle.tso_text.specs.Printed.{trace_header, program_header, schedule_header}
-use Rattle.tso_text.specs.Internal.Spelling.{Grammar, Format, same_text_fault, found_by}
+use Rattle.tso_text.specs.Internal.Spelling.{Grammar, Format}
 use Rattle.tso_text.specs.Refusals.{op_fault_after}
-use Rattle.tso_text.specs.Texts.{processor_of}
 
 -- ---- traces
 
--- the fault of an operation in a text of the setting
-abbrev pub op_fault : SettingValue → List Op → Op → Why → Bool
-op_fault setting before op w = found_by (op_fault_after setting before op) w
-
-unfoldable pub outcome_fault : SettingValue → List Outcome → Outcome → Why → Bool
-outcome_fault setting before outcome w = op_fault setting (map op_of before) (op_of outcome) w
+unfoldable pub outcome_fault : SettingValue → List Outcome → Outcome → Option Why
+outcome_fault setting before outcome = op_fault_after setting (map op_of before) (op_of outcome)
 
 abbrev pub trace_grammar : SettingValue → Grammar Outcome
 trace_grammar setting = record { start = []; said_by = trace_line setting.order; item_fault = outcome_fault setting }
@@ -32,8 +26,8 @@ trace_format = record { preamble = setting_preamble (trace_header One) (trace_he
 
 -- ---- programs
 
-unfoldable pub program_op_fault : SettingValue → List Op → Op → Why → Bool
-program_op_fault setting before op w = op_fault setting before op w
+unfoldable pub program_op_fault : SettingValue → List Op → Op → Option Why
+program_op_fault setting before op = op_fault_after setting before op
 
 abbrev pub program_grammar : SettingValue → Grammar Op
 program_grammar setting = record { start = []; said_by = program_line setting.order; item_fault = program_op_fault setting }
@@ -43,8 +37,8 @@ program_format = record { preamble = setting_preamble (program_header One) (prog
 
 -- ---- schedules
 
-unfoldable pub act_fault : List Act → Act → Why → Bool
-act_fault before act w = same_text_fault ProcessorRange w && nat_lt 15 (processor_of act)
+unfoldable pub act_fault : List Act → Act → Option Why
+act_fault before act = act_fault_after act
 
 -- a schedule is the one list of its acts
 abbrev pub schedule_grammar : Grammar Act

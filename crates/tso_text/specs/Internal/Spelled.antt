@@ -1,16 +1,13 @@
 -- What the lines of a text say, where none has a fault.
-use Rattle.std.specs.Prelude.{◌≡◌, ℕ, false, List, [], ◌∷◌}
+use Rattle.std.specs.Prelude.{◌≡◌, ℕ, List, [], ◌∷◌, Ok}
 use Rattle.tso_ops.specs.declared.acts.Act.{Act}
 use Rattle.tso_ops.specs.Values.{TraceValue, ProgramValue}
-use Rattle.tso_text.specs.declared.faults.Why.{Why}
 use Rattle.tso_text.specs.Internal.Grammars.{trace_format, program_format, schedule_format}
-use Rattle.tso_text.specs.Internal.Spelling.{Format, fault_at, lists_of, grammar_of, body_of, preamble_of}
-use Rattle.tso_text.specs.Lines.{whole_lines}
+use Rattle.tso_text.specs.Internal.Spelling.{Format, preamble_of, text_read}
 
--- The text spells these lists: it has no fault, and its lines after the preamble say them.
-pub record SpellsLists {X : Type 0} (f : Format X) (text : List ℕ) (lists : List (List X)) : Type 0 where
-  pub clean : (line : ℕ) (w : Why) → fault_at f text line w ≡ false
-  pub says : lists_of (grammar_of f text) (whole_lines (body_of f text)) ≡ lists
+-- the text spells these lists
+abbrev pub SpellsLists : {X : Type 0} → Format X → List ℕ → List (List X) → Type 0
+SpellsLists f text lists = text_read f text ≡ Ok lists
 
 abbrev pub HasTraceLines : List ℕ → TraceValue → Type 0
 HasTraceLines text t = (t.setting ≡ (preamble_of trace_format text).setting) × SpellsLists trace_format text t.lists

@@ -1,56 +1,30 @@
 -- How a text is refused: over the whole text, by its lines, for any format of texts.
-use Rattle.std.specs.Prelude.{◌≡◌, ℕ, zero, suc, ◌-◌, ◌<◌, ◌==◌, ◌&&◌, Bool, true, false, not, nat_lt, List, [], ◌∷◌, ◌++◌, length, take, drop, get_or, Option, Some, None, Result, Ok, Err, if◌then◌else◌}
-use Rattle.std.specs.List.{flat_map, list_any}
+use Rattle.std.specs.Prelude.{◌≡◌, ℕ, suc, ◌&&◌, Bool, true, false, nat_lt, List, [], ◌∷◌, ◌++◌, length, drop, Option, Some, None, Result, Ok, Err, if◌then◌else◌}
+use Rattle.std.specs.List.{flat_map}
 use Rattle.line_text.specs.Lines.{parts_of, tokens_of, is_empty}
 use Rattle.tso_ops.specs.Settings.{SettingValue}
 use Rattle.tso_text.specs.declared.faults.Why.{Why}
-use Rattle.tso_text.specs.declared.faults.Why.TheVariants.{BadHeader, BadLine, BadNumber, BeforeProc, TooManyProcessors, TooManyEvents, AddressRange, ZeroValue, RepeatedValue, MissingEnd, AfterEnd, TooLong, ProcessorRange, OutOfMemory, BadModel, InitOrder}
+use Rattle.tso_text.specs.declared.faults.Why.TheVariants.{BadLine, MissingEnd, AfterEnd, TooLong}
 use Rattle.tso_text.specs.declared.lines.Line.{Line}
 use Rattle.tso_text.specs.declared.lines.Line.TheVariants.{Proc, Item, End}
 use Rattle.tso_text.specs.Lines.{whole_lines}
 use Rattle.tso_text.specs.Texts.{text_byte_limit}
-
--- the number of the refusal: of two on one line the lesser counts
-abbrev pub text_fault_number : Why → ℕ
-text_fault_number BadHeader = 1
-text_fault_number BadLine = 2
-text_fault_number BadNumber = 3
-text_fault_number BeforeProc = 4
-text_fault_number TooManyProcessors = 5
-text_fault_number TooManyEvents = 6
-text_fault_number AddressRange = 7
-text_fault_number ZeroValue = 8
-text_fault_number RepeatedValue = 9
-text_fault_number MissingEnd = 10
-text_fault_number AfterEnd = 11
-text_fault_number TooLong = 12
-text_fault_number ProcessorRange = 13
-text_fault_number OutOfMemory = 14
-text_fault_number BadModel = 15
-text_fault_number InitOrder = 16
-
-abbrev pub same_text_fault : Why → Why → Bool
-same_text_fault v w = text_fault_number v == text_fault_number w
-
--- the one fault that was found, or none
-abbrev pub found_by : Option Why → Why → Bool
-found_by None w = false
-found_by (Some v) w = same_text_fault v w
+use Rattle.tso_text.specs.Internal.LineReadings.{fault_of, line_fault_after}
 
 -- ---- how texts are written
 
--- The lines that a text begins with: the setting that they say, and for each of them which faults it has.
+-- The lines that a text begins with: the setting that they say, and for each of them its fault, if it has one.
 pub record Preamble : Type 0 where
   pub setting : SettingValue
-  pub faults : List (Why → Bool)
+  pub faults : List (Option Why)
 
 -- A grammar of lines that make lists of items. A text that has no lines for lists has its one list from the start.
 pub record Grammar (X : Type 0) : Type 0 where
   pub start : List (List X)
   -- what the tokens of a line say, or their fault: BadLine or BadNumber
   pub said_by : List (List ℕ) → Result (Line X) Why
-  -- the item has the fault, after these items in file order
-  pub item_fault : List X → X → Why → Bool
+  -- the fault of the item after these items in file order
+  pub item_fault : List X → X → Option Why
 
 -- How texts are written: the preamble that the lines of a text begin with, and the grammar of the lines after it.
 pub record Format (X : Type 0) : Type 0 where
@@ -96,24 +70,11 @@ abbrev pub with_said : {X : Type 0} → List (List X) → Result (Line X) Why �
 with_said lists (Err why) = lists
 with_said lists (Ok line) = with_line lists line
 
--- the lists after these lines, from these lists on
-abbrev pub lists_after : {X : Type 0} → Grammar X → List (List X) → List (List ℕ) → List (List X)
-lists_after g lists [] = lists
-lists_after g lists (line ∷ lines) = lists_after g (with_said lists (said g line)) lines
-
--- what these lines say
-unfoldable pub lists_of : {X : Type 0} → Grammar X → List (List ℕ) → List (List X)
-lists_of g lines = lists_after g (g.start) lines
-
 abbrev pub is_end : {X : Type 0} → Result (Line X) Why → Bool
 is_end (Ok Proc) = false
 is_end (Ok (Item x)) = false
 is_end (Ok End) = true
 is_end (Err why) = false
-
--- one of these lines is the line `end`
-unfoldable pub has_end_line : {X : Type 0} → Grammar X → List (List ℕ) → Bool
-has_end_line g lines = list_any (λ line. is_end (said g line)) lines
 
 -- all items in file order
 abbrev pub items_of : {X : Type 0} → List (List X) → List X
@@ -121,44 +82,48 @@ items_of lists = flat_map (λ row. row) lists
 
 -- ---- faults
 
--- The line has the fault, after what the lines before it say.
-abbrev pub line_fault : {X : Type 0} → Grammar X → List (List X) → Line X → Why → Bool
-line_fault g lists Proc w = same_text_fault TooManyProcessors w && nat_lt 15 (length lists)
-line_fault g lists (Item x) w = if is_empty lists then same_text_fault BeforeProc w else g.item_fault (items_of lists) x w
-line_fault g lists End w = false
+-- the fault of what a line says, after what the lines before it say
+abbrev pub line_fault : {X : Type 0} → Grammar X → List (List X) → Line X → Option Why
+line_fault g lists line = line_fault_after g.item_fault lists line
 
-abbrev pub said_fault : {X : Type 0} → Grammar X → List (List X) → Result (Line X) Why → Why → Bool
-said_fault g lists (Err why) w = same_text_fault why w
-said_fault g lists (Ok line) w = line_fault g lists line w
+abbrev pub said_fault : {X : Type 0} → Grammar X → List (List X) → Result (Line X) Why → Option Why
+said_fault g lists r = fault_of r (line_fault g lists)
 
 -- what stands after the last line end, where no `end` line came
 abbrev pub unended_text_fault : List ℕ → Why
 unended_text_fault part = if is_empty part then MissingEnd else BadLine
 
--- The part has the fault, after these lines; `last` where no line end follows it.
-unfoldable pub part_fault : {X : Type 0} → Grammar X → List (List ℕ) → List ℕ → Bool → Why → Bool
-part_fault g before part last w =
-    if has_end_line g before then same_text_fault AfterEnd w && not (last && is_empty part)
-    else if last then same_text_fault (unended_text_fault part) w
-    else said_fault g (lists_of g before) (said g part) w
+-- ---- line after line
 
--- The part of this place, counted from 0 after the preamble, has the fault.
-unfoldable pub body_fault : {X : Type 0} → Grammar X → List (List ℕ) → ℕ → Why → Bool
-body_fault g parts i w = nat_lt i (length parts) && part_fault g (take i parts) (get_or parts i []) (suc i == length parts) w
+-- the fault of the line of this number, or else what is read from there on
+abbrev pub or_fault : {A : Type 0} → ℕ → Option Why → Result A (ℕ × Why) → Result A (ℕ × Why)
+or_fault n (Some why) read = Err (n, why)
+or_fault n None read = read
 
--- no fault
-abbrev pub no_fault : Why → Bool
-no_fault w = false
+-- the first of these faults, of the line of this number and of those after it, or else what is read
+abbrev pub or_first_fault : {A : Type 0} → ℕ → List (Option Why) → Result A (ℕ × Why) → Result A (ℕ × Why)
+or_first_fault n [] read = read
+or_first_fault n (fault ∷ faults) read = or_fault n fault (or_first_fault (suc n) faults read)
 
--- The text has the fault at this line. Line 0 is the text as a whole.
-unfoldable pub fault_at : {X : Type 0} → Format X → List ℕ → ℕ → Why → Bool
-fault_at f text zero w = same_text_fault TooLong w && nat_lt text_byte_limit (length text)
-fault_at f text (suc i) w =
-    if nat_lt i (preamble_lines f text) then get_or (preamble_of f text).faults i no_fault w
-    else body_fault (grammar_of f text) (body_of f text) (i - preamble_lines f text) w
+-- what was read up to the line `end`, where nothing follows it
+abbrev pub ended : {A : Type 0} → ℕ → A → List (List ℕ) → Result A (ℕ × Why)
+ended n read [] = Err (n, AfterEnd)
+ended n read (part ∷ parts) = if is_empty parts && is_empty part then Ok read else Err (n, AfterEnd)
 
--- The refusal of a text: the least line with a fault, and the fault of the least number there.
-pub record IsTextRefusal {X : Type 0} (f : Format X) (text : List ℕ) (line : ℕ) (why : Why) : Type 0 where
-  pub fault : fault_at f text line why ≡ true
-  pub first : (j : ℕ) (w : Why) → j < line → fault_at f text j w ≡ false
-  pub least : (w : Why) → text_fault_number w < text_fault_number why → fault_at f text line w ≡ false
+-- the lists that these parts make of these lists, from the line of this number on, or the first line with a fault, and that fault
+abbrev pub lists_read : {X : Type 0} → Grammar X → ℕ → List (List X) → List (List ℕ) → Result (List (List X)) (ℕ × Why)
+lists_read g n lists [] = Err (n, MissingEnd)
+lists_read g n lists (part ∷ []) = Err (n, unended_text_fault part)
+lists_read g n lists (part ∷ next ∷ parts) =
+    or_fault n (said_fault g lists (said g part))
+    (if is_end (said g part) then ended (suc n) (with_said lists (said g part)) (next ∷ parts) else lists_read g (suc n) (with_said lists (said g part)) (next ∷ parts))
+
+-- The lists that a text says, or its first line with a fault, and that fault. Line 0 is the text as a whole.
+unfoldable pub text_read : {X : Type 0} → Format X → List ℕ → Result (List (List X)) (ℕ × Why)
+text_read f text =
+    if nat_lt text_byte_limit (length text) then Err (0, TooLong)
+    else or_first_fault 1 (preamble_of f text).faults (lists_read (grammar_of f text) (suc (preamble_lines f text)) (grammar_of f text).start (body_of f text))
+
+-- the refusal of a text
+abbrev pub IsTextRefusal : {X : Type 0} → Format X → List ℕ → ℕ → Why → Type 0
+IsTextRefusal f text line why = text_read f text ≡ Err (line, why)

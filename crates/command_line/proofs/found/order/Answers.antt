@@ -1,11 +1,13 @@
 use Rattle.std.proofs.Common.{rules, ap, ◌≡◌, ◌∙◌, option_and_then, option_map, unwrap_or}
 use Rattle.clap.specs.Words.{found_of}
 use Rattle.clap.proofs.WalkLemmas.{first_value-rows}
-use Rattle.command_line.specs.Models.{default_model, model_order}
+use Rattle.command_line.specs.Given.{value_named}
+use Rattle.command_line.specs.Names.{models}
+use Rattle.tso_ops.specs.declared.settings.Order.TheVariants.{Tso}
 use Rattle.command_line.proofs.found.order.Goals as goal
 
 pub returns : goal.returns
 returns c =
-    let named : c.and_then-named.result ≡ option_and_then model_order (option_map (λ s. s.now) c.get_str.result) = search rules in
-    let order_is = named ∙ ap (option_and_then model_order) (c.get_str.ensures ∙ first_value-rows (found_of c.args.matches.now) _) in
-    c.unwrap_or.ensures ∙ ap (λ o. unwrap_or o default_model) order_is
+    let named : c.and_then-named.result ≡ option_and_then (λ name. value_named name models) (option_map (λ s. s.now) c.get_str.result) = search rules in
+    let order_is = named ∙ ap (option_and_then (λ name. value_named name models)) (c.get_str.ensures ∙ first_value-rows (found_of c.args.matches.now) _) in
+    c.unwrap_or.ensures ∙ ap (λ o. unwrap_or o Tso) order_is

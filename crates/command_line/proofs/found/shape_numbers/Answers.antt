@@ -1,5 +1,5 @@
-use Rattle.command_line.proofs.FoundLemmas.{shape_numbers_are}
+use Rattle.std.proofs.Common.{refl}
 use Rattle.command_line.proofs.found.shape_numbers.Goals as goal
 
 pub returns : goal.returns
-returns c = shape_numbers_are _ _ c.required_number.ensures c.required_number-2.ensures c.required_number-3.ensures
+returns c = rw (c.number.ensures, c.number-2.ensures, c.number-3.ensures) refl

@@ -1,5 +1,5 @@
 use Rattle.std.proofs.Common.{codes, refl}
-use Rattle.clap_arguments.proofs.ValueTexts.{differing}
+use Rattle.command_line.proofs.ValueTexts.{differing}
 use Rattle.command_line.proofs.options.kind_named.Goals as goal
 
 pub returns-in_default : goal.returns-in_default

@@ -1,5 +1,5 @@
 use Rattle.std.proofs.Common.{◌∙◌, refl, sym}
-use Rattle.clap_arguments.proofs.Built.{subcommand_added, subcommand_local}
+use Rattle.command_line.proofs.Built.{subcommand_added, subcommand_local}
 use Rattle.command_line.proofs.OfferLemmas.{one_more_subcommand}
 use Rattle.command_line.proofs.subcommands.with_subcommands.Goals as goal
 

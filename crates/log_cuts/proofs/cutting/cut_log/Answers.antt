@@ -1,6 +1,7 @@
+use Rattle.std.proofs.KnownBytes.{Keeps-refl}
 use Rattle.std.proofs.Common.{arith, inl}
 use Rattle.log_text.specs.LogValues.{log_operations}
-use Rattle.log_cuts.proofs.WrittenPieces.{all_consumed, all_read, cut_left, cut_written, kept, on_err, on_ok, refusal_written, said_of}
+use Rattle.log_cuts.proofs.WrittenPieces.{all_consumed, all_read, cut_left, cut_written, on_err, on_ok, refusal_written, said_of}
 use Rattle.log_cuts.proofs.cutting.cut_log.Goals as goal
 
 pub returns-in_err-lines-in-Ok-clause-left : goal.returns-in_err-lines-in-Ok-clause-left
@@ -35,4 +36,4 @@ returns-in-Err-clause-taken g c =
     (all_consumed (g.R.Read.remaining c.args.reader.now) _ _ (all_read (g.R.Read.remaining c.args.reader.now) c.in_ok-text.text.items c.in_ok-text.ensures.prefix (omega (arith, small))) c.in_ok-text.ensures.taken)
 
 pub returns-in-Err-clause-left : goal.returns-in-Err-clause-left
-returns-in-Err-clause-left g c = on_err c.refuse.result (inl (kept (g.W.Write.contents c.args.writer.now)))
+returns-in-Err-clause-left g c = on_err c.refuse.result (inl (Keeps-refl (g.W.Write.contents c.args.writer.now)))

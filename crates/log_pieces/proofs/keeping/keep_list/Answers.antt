@@ -1,8 +1,6 @@
 use Rattle.std.proofs.Common.{◌≡◌, ◌∙◌, ◌++◌, [], ◌<◌, ap, sym, subst, length, take, get_or, arith, append_assoc}
 use Rattle.std.proofs.lemmas.List.{append-nil, take_all, length-map}
 use Rattle.log_selections.specs.Cuts.{IsCutFrom, ended}
-use Rattle.log_text.specs.LogValues.{outcome_of, outcomes_of}
-use Rattle.log_pieces.specs.Internal.Keeping.{numbers_in}
 use Rattle.log_pieces.proofs.KeepingFacts.{below, kept_step, skip_all}
 use Rattle.log_pieces.proofs.keeping.keep_list.Goals as goal
 

@@ -4,7 +4,6 @@ use Rattle.std.specs.Global.{Vec}
 use Rattle.log_text.specs.declared.logs.LogOperation.{LogOperation}
 use Rattle.tso_ops.specs.Values.{rows}
 use Rattle.log_selections.specs.Cuts.{AreCutFrom, no_more}
-use Rattle.log_text.specs.LogValues.{outcomes_of}
 use Rattle.log_pieces.specs.Internal.Keeping.{IsKeptOf}
 use Rattle.log_pieces.proofs.KeepingFacts.{list_left_out, lists_step}
 use Rattle.log_pieces.proofs.keeping.keep_lists.Goals as goal

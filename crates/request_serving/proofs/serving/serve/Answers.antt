@@ -1,13 +1,68 @@
 use Rattle.command_line.specs.Requests.{asked_of, files_of}
-use Rattle.request_serving.specs.Endings.{Outputs, outputs}
+use Rattle.trace_judging.specs.WrittenReports.{LeavesAtFault, WritesPrefix}
+use Rattle.trace_batches.specs.Batches.{IsBatchFault, IsBatchOfReader}
+use Rattle.request_serving.specs.Endings.{IsPresented, Outputs, outputs}
 use Rattle.request_serving.specs.OpenedFiles.{name_in, text_bytes}
 use Rattle.request_serving.specs.Replaying.{IsReplayText}
-use Rattle.request_serving.proofs.EndFacts.{opens_all}
-use Rattle.request_serving.proofs.ReplayingFacts.{at_text, ends_by_text}
+use Rattle.request_serving.specs.Statuses.{status_of}
+use Rattle.request_serving.proofs.CuttingFacts.{ends_cut}
+use Rattle.request_serving.proofs.EndFacts.{at_text, batch_fault, ends_as, named, opens_all, unnamed}
 use Rattle.request_serving.proofs.RunningFacts.{ends_run}
-use Rattle.request_serving.specs.Running.{IsRunText}
 use Rattle.request_serving.proofs.LawfulFacts.{known_status, lawful_status}
 use Rattle.request_serving.proofs.serving.serve.Goals as goal
+
+pub returns-in-Judge-clause-ends : goal.returns-in-Judge-clause-ends
+returns-in-Judge-clause-ends g c =
+    let o : Outputs = outputs (g.W.Write.contents c.args.writer.now) (g.W.Write.contents c.judge_named.new.writer) (g.E.Write.contents c.args.errors.now) (g.E.Write.contents c.end.new.errors) in
+    let judged = c.in-Judge.request in
+    let is_text = IsPresented judged.presentation (text_bytes (name_in judged.file) (g.R.Read.remaining c.args.reader.now) (g.O.NamedFiles.bytes c.args.files.now)) in
+    rw c.in-Judge.is (ends_as is_text status_of (LeavesAtFault is_text) o c.judge_named.result c.end.result c.judge_named.ensures.presented c.judge_named.ensures.fault c.end.ensures.verdict c.end.ensures.fault)
+
+pub returns-in-Judge-clause-first : goal.returns-in-Judge-clause-first
+returns-in-Judge-clause-first g c = rw c.in-Judge.is (opens_all _ _ _ c.judge_named.ensures.opened)
+
+pub returns-in-Judge-clause-unread : goal.returns-in-Judge-clause-unread
+returns-in-Judge-clause-unread g c = rw c.in-Judge.is (λ unread. named c.in-Judge.request.file c.judge_named.ensures.unread unread)
+
+pub returns-in-Judge-clause-taken : goal.returns-in-Judge-clause-taken
+returns-in-Judge-clause-taken g c = rw c.in-Judge.is (λ reads other.
+    at_text c.judge_named.result c.end.result _ _ _ c.end.ensures.fault (c.judge_named.ensures.taken (unnamed c.in-Judge.request.file reads)) other)
+
+pub returns-in-Batch-clause-ends : goal.returns-in-Batch-clause-ends
+returns-in-Batch-clause-ends g c =
+    let o : Outputs = outputs (g.W.Write.contents c.args.writer.now) (g.W.Write.contents c.batch_named.new.writer) (g.E.Write.contents c.args.errors.now) (g.E.Write.contents c.end-in-Batch.new.errors) in
+    let batch = c.in-Batch.request in
+    let is_batch = IsBatchOfReader batch.quiet (text_bytes (name_in batch.file) (g.R.Read.remaining c.args.reader.now) (g.O.NamedFiles.bytes c.args.files.now)) in
+    let left = batch_fault is_batch o.written_before o.written c.batch_named.result c.batch_named.ensures.fault c.batch_named.ensures.left in
+    rw c.in-Batch.is (ends_as is_batch status_of (λ old new fault. IsBatchFault fault × WritesPrefix is_batch old new) o c.batch_named.result c.end-in-Batch.result c.batch_named.ensures.whole left c.end-in-Batch.ensures.verdict c.end-in-Batch.ensures.fault)
+
+pub returns-in-Batch-clause-first : goal.returns-in-Batch-clause-first
+returns-in-Batch-clause-first g c = rw c.in-Batch.is (opens_all _ _ _ c.batch_named.ensures.opened)
+
+pub returns-in-Batch-clause-unread : goal.returns-in-Batch-clause-unread
+returns-in-Batch-clause-unread g c = rw c.in-Batch.is (λ unread. named c.in-Batch.request.file c.batch_named.ensures.unread unread)
+
+pub returns-in-Batch-clause-taken : goal.returns-in-Batch-clause-taken
+returns-in-Batch-clause-taken g c = rw c.in-Batch.is (λ reads other.
+    at_text c.batch_named.result c.end-in-Batch.result _ _ _ c.end-in-Batch.ensures.fault (c.batch_named.ensures.taken (unnamed c.in-Batch.request.file reads)) other)
+
+pub returns-in-Cut-clause-ends : goal.returns-in-Cut-clause-ends
+returns-in-Cut-clause-ends g c =
+    let o : Outputs = outputs (g.W.Write.contents c.args.writer.now) (g.W.Write.contents c.cut_named-cut.new.writer) (g.E.Write.contents c.args.errors.now) (g.E.Write.contents c.end_cut.new.errors) in
+    let request = c.in-Cut.request in
+    let remaining = text_bytes (name_in request.file) (g.R.Read.remaining c.args.reader.now) (g.O.NamedFiles.bytes c.args.files.now) in
+    let cut = c.cut_named-cut.ensures in
+    rw c.in-Cut.is (ends_cut request.events remaining (g.E.Write.contents c.cut_named-cut.new.errors) o c.cut_named-cut.result c.end_cut.result cut.cut cut.refused cut.left cut.untold cut.fault c.end_cut.ensures.verdict c.end_cut.ensures.fault)
+
+pub returns-in-Cut-clause-first : goal.returns-in-Cut-clause-first
+returns-in-Cut-clause-first g c = rw c.in-Cut.is (opens_all _ _ _ c.cut_named-cut.ensures.opened)
+
+pub returns-in-Cut-clause-unread : goal.returns-in-Cut-clause-unread
+returns-in-Cut-clause-unread g c = rw c.in-Cut.is (λ unread. named c.in-Cut.request.file c.cut_named-cut.ensures.unread unread)
+
+pub returns-in-Cut-clause-taken : goal.returns-in-Cut-clause-taken
+returns-in-Cut-clause-taken g c = rw c.in-Cut.is (λ reads other.
+    at_text c.cut_named-cut.result c.end_cut.result _ _ _ c.end_cut.ensures.fault (c.cut_named-cut.ensures.taken (unnamed c.in-Cut.request.file reads)) other)
 
 pub returns-in-Replay-clause-ends : goal.returns-in-Replay-clause-ends
 returns-in-Replay-clause-ends g c =
@@ -15,7 +70,7 @@ returns-in-Replay-clause-ends g c =
     let input = g.R.Read.remaining c.args.reader.now in
     let files = g.O.NamedFiles.bytes c.args.files.now in
     let is_text = IsReplayText c.in-Replay.options (text_bytes (files_of c.in-Replay.texts).0 input files) (text_bytes (files_of c.in-Replay.texts).1 input files) in
-    rw c.in-Replay.is (ends_by_text is_text o c.replay_named-replayed.result c.end_with.result c.replay_named-replayed.ensures.text c.replay_named-replayed.ensures.fault c.end_with.ensures.status c.end_with.ensures.fault)
+    rw c.in-Replay.is (ends_as is_text (λ said. said) (LeavesAtFault is_text) o c.replay_named-replayed.result c.end_with.result c.replay_named-replayed.ensures.text c.replay_named-replayed.ensures.fault c.end_with.ensures.status c.end_with.ensures.fault)
 
 pub returns-in-Replay-clause-first : goal.returns-in-Replay-clause-first
 returns-in-Replay-clause-first g c = rw c.in-Replay.is c.replay_named-replayed.ensures.first
@@ -26,12 +81,13 @@ returns-in-Replay-clause-opened g c = λ other.
 
 pub returns-in-Run-clause-ends : goal.returns-in-Run-clause-ends
 returns-in-Run-clause-ends g c =
-    let o : Outputs = outputs (g.W.Write.contents c.args.writer.now) (g.W.Write.contents c.run_named-ran.new.writer) (g.E.Write.contents c.args.errors.now) (g.E.Write.contents c.end_run.new.errors) in
-    let is_text = IsRunText c.in-Run.run_request.options (text_bytes (name_in c.in-Run.run_request.program) (g.R.Read.remaining c.args.reader.now) (g.O.NamedFiles.bytes c.args.files.now)) in
-    rw c.in-Run.is (ends_run is_text o c.run_named-ran.result c.end_run.result c.run_named-ran.ensures.text c.run_named-ran.ensures.fault c.end_run.ensures.status c.end_run.ensures.failure)
+    let o : Outputs = outputs (g.W.Write.contents c.args.writer.now) (g.W.Write.contents c.run_named.new.writer) (g.E.Write.contents c.args.errors.now) (g.E.Write.contents c.end_run.new.errors) in
+    let run = c.in-Run.request in
+    let programs = text_bytes (name_in run.program) (g.R.Read.remaining c.args.reader.now) (g.O.NamedFiles.bytes c.args.files.now) in
+    rw c.in-Run.is (ends_run run.options programs o c.run_named.result c.end_run.result c.run_named.ensures.text c.run_named.ensures.fault c.end_run.ensures.status c.end_run.ensures.failure)
 
 pub returns-in-Run-clause-first : goal.returns-in-Run-clause-first
-returns-in-Run-clause-first g c = rw c.in-Run.is (opens_all _ _ _ c.run_named-ran.ensures.opened)
+returns-in-Run-clause-first g c = rw c.in-Run.is (opens_all _ _ _ c.run_named.ensures.opened)
 
 pub returns-in-Replay-clause-no_false_alarm : goal.returns-in-Replay-clause-no_false_alarm
 returns-in-Replay-clause-no_false_alarm g c = λ lawful. lawful_status (asked_of c.args.request.now) _ _ _ _ (returns-in-Replay-clause-ends g c) lawful

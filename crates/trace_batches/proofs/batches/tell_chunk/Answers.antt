@@ -20,24 +20,17 @@ cuts_rest cutter after chunk from count pieces cuts bytes at = subst (λ d. Cuts
 
 pub returns-in_err-pieces-clause-left : goal.returns-in_err-pieces-clause-left
 returns-in_err-pieces-clause-left g c =
-    let quiet = c.args.options.quiet in
-    let chunk = c.args.chunk.now in
-    let before = g.W.Write.contents c.args.writer.now in
-    let left = λ (remaining now old : Option (List ℕ)) (s : Stands quiet remaining (prepend_known chunk now) old before c.args.progress.now.cutter c.args.progress.now.tally).
-    stands_left quiet remaining (prepend_known (drop c.loop-from.from chunk) now) old (g.W.Write.contents c.loop-from.writer) c.loop-from.progress.cutter c.loop-from.progress.tally
-    (c.loop-from.invariant.stands remaining now old s) in
+    let left = λ (remaining now old : Option (List ℕ)) (s : Stands c.args.options.quiet remaining (prepend_known c.args.chunk.now now) old (g.W.Write.contents c.args.writer.now) c.args.progress.now.cutter c.args.progress.now.tally).
+    stands_left _ _ _ _ _ _ _ (c.loop-from.invariant.stands remaining now old s) in
     search (rules, left)
 
 pub returns-in_err-tell-clause-left : goal.returns-in_err-tell-clause-left
 returns-in_err-tell-clause-left g c =
-    let quiet = c.args.options.quiet in
     let chunk = c.args.chunk.now in
     let from = c.loop-from.from in
     let count = c.in_ok-pieces.count in
-    let before = g.W.Write.contents c.args.writer.now in
-    let left = λ (remaining now old : Option (List ℕ)) (s : Stands quiet remaining (prepend_known chunk now) old before c.args.progress.now.cutter c.args.progress.now.tally).
-    chunk_left quiet remaining (prepend_known (drop from chunk) now) (prepend_known (drop (from + count) chunk) now) old (g.W.Write.contents c.loop-from.writer) (g.W.Write.contents c.tell.new.writer)
-    c.loop-from.progress.cutter c.cut.new.self c.loop-from.progress.tally (take count (drop from chunk)) c.in_ok-pieces.pieces.items (c.loop-from.invariant.stands remaining now old s)
+    let left = λ (remaining now old : Option (List ℕ)) (s : Stands c.args.options.quiet remaining (prepend_known c.args.chunk.now now) old (g.W.Write.contents c.args.writer.now) c.args.progress.now.cutter c.args.progress.now.tally).
+    chunk_left _ _ _ (prepend_known (drop (from + count) chunk) now) _ _ _ _ _ _ (take count (drop from chunk)) c.in_ok-pieces.pieces.items (c.loop-from.invariant.stands remaining now old s)
     (next_taken chunk from count now) (cuts_rest c.loop-from.progress.cutter c.cut.new.self chunk from count c.in_ok-pieces.pieces.items c.in_ok-pieces.ensures.cut) c.in_err-tell.ensures.some in
     search (rules, left)
 

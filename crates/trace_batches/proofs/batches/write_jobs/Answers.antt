@@ -1,7 +1,7 @@
 use Rattle.std.proofs.Common.{◌≡◌, ◌<◌, ◌∙◌, ℕ, List, [], Ok, ap, arith, get_or, length, rules, subst, sym, take}
 use Rattle.std.specs.Prelude.{Result}
 use Rattle.std.proofs.lemmas.List.{take_more}
-use Rattle.tso_report.specs.declared.faults.Fault.{Fault}
+use Rattle.trace_judging.specs.declared.faults.Fault.{Fault}
 use Rattle.trace_reports.specs.declared.renderings.Report.{Report}
 use Rattle.trace_batches.specs.declared.jobs.Job.{Job}
 use Rattle.trace_batches.specs.Internal.Progress.{AreJudged, IsOutcome, WroteAll, value_of}

@@ -1,4 +1,4 @@
-use Rattle.std.proofs.Common.{string_bytes}
+use Rattle.std.proofs.Common.{◌∙◌, string_bytes}
 use Rattle.trace_explanation.specs.Explanations.{cycle_text}
 use Rattle.trace_explanation.proofs.TextFacts.{grown, grown-last}
 use Rattle.trace_explanation.proofs.cycles.push_cycle.Goals as goal
@@ -12,4 +12,5 @@ returns c =
     let why = grown old _ _ _ _ chain c.in_ok-push_str.ensures.bytes in
     let steps = grown old _ _ _ _ why (rw c.in_ok-numbered.ensures at c.in_ok-push_steps.ensures) in
     let named = grown old _ _ _ _ steps c.in_ok-push_str-2.ensures.bytes in
-    grown-last c.push_places.result old _ _ _ _ named c.push_places.ensures
+    let events = c.deref.ensures.value ∙ rw c.trace-2.ensures at c.in_ok-list_named.ensures in
+    grown-last c.push_places.result old _ _ _ _ named (rw events at c.push_places.ensures)

@@ -1,4 +1,5 @@
-use Rattle.std.proofs.Common.{◌∙◌, ap, arith, refl}
+use Rattle.std.proofs.Common.{◌∙◌, ap, arith, refl, []}
+use Rattle.std.specs.Option.{option_map_or}
 use Rattle.std.proofs.lemmas.List.{length_push}
 use Rattle.trace_explanation.specs.Names.{event_name}
 use Rattle.trace_explanation.proofs.NameFacts.{names-first, names-more, names-whole}
@@ -13,7 +14,7 @@ loop-n-init c = (
 pub loop-n-preserved : goal.loop-n-preserved
 loop-n-preserved c = (
   rw c.in_ok-push-2.ensures.items (omega (arith, length_push c.loop-n.names.items c.in_ok-event_name.field-0, c.loop-n.invariant.0)),
-  λ t is. names-more t _ _ _ c.loop-n.n c.in_ok-push-2.ensures.items c.loop-n.invariant.0 (omega (arith, c.loop-n.auto.n)) (c.in_ok-event_name.ensures ∙ ap (event_name c.loop-n.n) (c.operation_of.ensures t is))
+  λ t is. names-more t _ _ _ c.loop-n.n c.in_ok-push-2.ensures.items c.loop-n.invariant.0 (omega (arith, c.loop-n.auto.n)) (c.in_ok-event_name.ensures ∙ ap (λ o. option_map_or (event_name c.loop-n.n) o []) (c.operation_of.ensures t is))
       (c.loop-n.invariant.1 t is),
 )
 

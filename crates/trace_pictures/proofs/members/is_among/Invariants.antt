@@ -1,5 +1,5 @@
 use Rattle.std.proofs.Common.{◌≡◌, false, take}
-use Rattle.trace_pictures.specs.Choice.{is_among}
+use Rattle.trace_explanation.specs.Steps.{is_among}
 use Rattle.trace_pictures.proofs.members.is_among.Given as goal
 
 abbrev pub invariant-loop-m : goal.invariant-loop-m

@@ -1,9 +1,11 @@
-use Rattle.std.proofs.Common.{◌≡◌, ◌++◌, ◌+◌, ◌*◌, ◌≤◌, drop, string_bytes}
-use Rattle.trace_pictures.specs.Nodes.{first_height, head_name, rows_text}
+use Rattle.std.proofs.Common.{◌≡◌, ◌++◌, ◌+◌, ◌*◌, ◌%◌, ◌≤◌, drop, string_bytes}
+use Rattle.std.specs.Prelude.{codes}
+use Rattle.std.specs.Fmt.{decimal}
+use Rattle.trace_pictures.specs.Nodes.{rows_text}
 use Rattle.trace_pictures.proofs.nodes.push_rows.Given as goal
 
 abbrev pub invariant-loop-row : goal.invariant-loop-row
 invariant-loop-row l =
     (string_bytes l.text ++ rows_text l.placed l.red l.column.proc l.column.x l.y (string_bytes l.above) (drop l.row-index l.rows)
-    ≡ string_bytes l.fn.text ++ rows_text l.placed l.red l.column.proc l.column.x (first_height l.column.proc) (head_name l.column.proc) l.rows)
+    ≡ string_bytes l.fn.text ++ rows_text l.placed l.red l.column.proc l.column.x (70 + 26 * (l.column.proc % 2)) (codes "p" ++ decimal l.column.proc) l.rows)
     × (l.y ≤ 96 + 52 * l.row-index)

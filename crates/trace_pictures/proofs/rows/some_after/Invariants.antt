@@ -1,8 +1,8 @@
 use Rattle.std.proofs.Common.{◌≡◌, false, take}
+use Rattle.std.specs.Prelude.{nat_lt}
 use Rattle.std.specs.List.{list_any}
-use Rattle.tso_ops.specs.Operations.{operation_at}
-use Rattle.trace_pictures.specs.Rows.{stands_after}
+use Rattle.trace_pictures.specs.Rows.{stands}
 use Rattle.trace_pictures.proofs.rows.some_after.Given as goal
 
 abbrev pub invariant-loop-n : goal.invariant-loop-n
-invariant-loop-n l = list_any (λ n. stands_after l.p l.place (operation_at l.placed n)) (take l.n-index l.drawn) ≡ false
+invariant-loop-n l = list_any (stands l.placed l.p (λ other. nat_lt l.place other)) (take l.n-index l.drawn) ≡ false

@@ -1,6 +1,5 @@
 use Rattle.std.proofs.Common.{refl}
-use Rattle.tso_cert.proofs.SpellingFacts.{spelled_or_refused, one_refusal}
-use Rattle.tso_cert.proofs.PrintedFacts.{not_both, one_value}
+use Rattle.tso_cert.proofs.SpellingFacts.{spelled_or_refused, not_both, one_value, one_refusal}
 use Rattle.tso_cert.proofs.laws.certificates.Goals as goal
 
 pub returns : goal.returns
@@ -10,5 +9,5 @@ returns c = record {
   one_value = one_value;
   one_text = λ text c spells. spells.1;
   one_refusal = one_refusal;
-  printed = λ c fits count. (fits, refl);
+  printed = λ c fits. (fits, refl);
 }

@@ -1,10 +1,11 @@
-use Rattle.std.proofs.Common.{◌≡◌, ◌+◌, ◌≤◌, suc, length}
-use Rattle.tso_cert.proofs.StepFacts.{IsRead}
+use Rattle.std.proofs.Common.{◌≡◌, ◌+◌, ◌≤◌, suc, length, []}
+use Rattle.line_text.specs.Lines.{parts_of}
+use Rattle.tso_cert.specs.Internal.ReadTexts.{read_parts}
 use Rattle.tso_cert.proofs.readers.read.Given as goal
 
 abbrev pub invariant-lines : goal.invariant-lines
 invariant-lines l = record {
-  read : IsRead l.text l.rest l.steps.items;
+  left : read_parts [] (parts_of l.text) ≡ read_parts l.steps.items (parts_of l.rest);
   count : l.number ≡ suc (length l.steps.items);
   room : l.number + length l.rest ≤ length l.text + 1;
 }

@@ -2,7 +2,7 @@ use Rattle.std.proofs.Common.{◌∙◌, rules, ap, arith, length, map, refl, st
 use Rattle.std.proofs.lemmas.List.{length-map}
 use Rattle.std.specs.List.{list_any}
 use Rattle.tso_report.specs.Campaigns.{AreVerdicts, IsCampaign, LeavesCampaign, campaign_text, verdict_of}
-use Rattle.tso_report.specs.WrittenReports.{WritesPrefix}
+use Rattle.trace_judging.specs.WrittenReports.{WritesPrefix}
 use Rattle.tso_report.proofs.CampaignFacts.{came-all}
 use Rattle.tso_report.proofs.campaigns.campaign_of.Goals as goal
 

@@ -1,6 +1,6 @@
 use Rattle.std.proofs.Common.{sym}
 use Rattle.line_text.proofs.CutFacts.{tokens_after_some}
-use Rattle.tso_text.proofs.CutFacts.{no_number-some}
+use Rattle.tso_text.proofs.LineFacts.{no_number-some}
 use Rattle.tso_text.proofs.numbers.no_number.Goals as goal
 
 pub returns-in-Some-clause-is : goal.returns-in-Some-clause-is

@@ -1,8 +1,8 @@
 use Rattle.std.proofs.Common.{◌≡◌, ℕ, Ok, sym, ◌∙◌, ap, subst}
 use Rattle.line_text.specs.Lines.{tokens_after}
 use Rattle.line_text.specs.Results.{◌>>=◌}
-use Rattle.tso_text.specs.Numbers.{address}
-use Rattle.tso_text.specs.Lines.{entry_by}
+use Rattle.tso_text.specs.Internal.LineReadings.{address}
+use Rattle.tso_text.specs.Internal.LineReadings.{entry_by}
 use Rattle.tso_text.specs.Internal.Preambles.{said_entry_fault}
 use Rattle.tso_text.specs.Internal.Accepted.{IsRefusedFor}
 use Rattle.tso_text.proofs.FaultFacts.{entry_clean, entry_refused_for, entry_not_stbar}

@@ -1,7 +1,10 @@
-use Rattle.tso_text.proofs.PrintFacts.{program_text-parts}
+use Rattle.tso_text.specs.Printed.{program_header, setting_text, op_tokens, program_text}
+use Rattle.tso_text.proofs.PrintFacts.{lists_text-parts}
 use Rattle.tso_text.proofs.printers.print_program.Goals as goal
 
 pub returns : goal.returns
+unfolding program_text
 returns c =
-    let text = program_text-parts c.args.program.now c.loop-p.p c.processors-p-end.result _ _ c.processors-p-end.ensures.count c.loop-p-test.false c.loop-p.invariant c.in_ok-push_str.ensures.bytes in
+    let v = c.args.program.now in
+    let text = lists_text-parts op_tokens (program_header v.setting.version) (setting_text v.setting) v.lists c.loop-p.p c.processors-p-end.result _ _ c.processors-p-end.ensures.count c.loop-p-test.false c.loop-p.invariant c.in_ok-push_str.ensures.bytes in
     record { lines = text; spelled = (c.processors-p-end.ensures.kept, text) }

@@ -1,5 +1,5 @@
 use Rattle.tso_ops.specs.Settings.{setting_of}
-use Rattle.tso_text.proofs.TextFacts.{too_long, preamble_refused, begun_spells, begun_refused}
+use Rattle.tso_text.proofs.ReadersFacts.{too_long, preamble_refused, begun_spells, begun_refused}
 use Rattle.tso_text.proofs.readers.read_lists.Goals as goal
 
 pub returns-then-text-gt-MAX_TEXT_BYTES-clause-refused : goal.returns-then-text-gt-MAX_TEXT_BYTES-clause-refused

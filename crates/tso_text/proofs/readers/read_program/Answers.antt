@@ -1,5 +1,4 @@
-use Rattle.tso_text.proofs.SpellingFacts.{only_memory}
-use Rattle.tso_text.proofs.TextLaws.{program_read, program_laws, program_refusal}
+use Rattle.tso_text.proofs.TextLaws.{only_memory, program_read, program_laws, program_refusal}
 use Rattle.tso_text.proofs.readers.read_program.Goals as goal
 
 pub returns-in-Ok-clause-found : goal.returns-in-Ok-clause-found

@@ -1,6 +1,5 @@
-use Rattle.tso_text.proofs.KeptFacts.{trace_kept}
-use Rattle.tso_text.proofs.SpellingFacts.{only_memory}
-use Rattle.tso_text.proofs.TextLaws.{trace_read, trace_laws, trace_refusal}
+use Rattle.tso_text.proofs.KindFacts.{trace_kept}
+use Rattle.tso_text.proofs.TextLaws.{only_memory, trace_read, trace_laws, trace_refusal}
 use Rattle.tso_text.proofs.readers.read_trace.Goals as goal
 
 pub of_lists-requires : goal.of_lists-requires

@@ -1,17 +1,36 @@
 use Rattle.clap.specs.Words.{found_of, rows_of}
 use Rattle.command_line.specs.Requests.{HasDrainTurns, HasUnitRanges, HasWorkers}
-use Rattle.command_line.proofs.FoundLemmas.{of_replay, of_request}
+use Rattle.command_line.proofs.FoundLemmas.{of_replay, of_request, of_run}
 use Rattle.command_line.proofs.subcommands.Subcommand.request.Goals as goal
 
 pub returns-in-Replay-clause-workers : goal.returns-in-Replay-clause-workers
 returns-in-Replay-clause-workers c =
-    of_request HasWorkers _ (of_replay HasWorkers tt (λ options first second some most capacity capacity_most trigger. (some, most)) (rows_of (found_of c.args.matches.now))) _ c.request-in-Replay.ensures
+    of_request HasWorkers _ (of_replay HasWorkers tt (λ options first second some most capacity capacity_most trigger. (some, most)) (rows_of (found_of c.args.matches.now))) _ c.replay.ensures
 
 pub returns-in-Replay-clause-unit : goal.returns-in-Replay-clause-unit
 returns-in-Replay-clause-unit c =
     of_request HasUnitRanges _ (of_replay HasUnitRanges tt (λ options first second some most capacity capacity_most trigger. (capacity, capacity_most, trigger)) (rows_of (found_of c.args.matches.now))) _
-    c.request-in-Replay.ensures
+    c.replay.ensures
 
 pub returns-in-Replay-clause-turns : goal.returns-in-Replay-clause-turns
 returns-in-Replay-clause-turns c =
-    of_request HasDrainTurns _ (of_replay HasDrainTurns tt (λ options first second some most capacity capacity_most trigger. tt) (rows_of (found_of c.args.matches.now))) _ c.request-in-Replay.ensures
+    of_request HasDrainTurns _ (of_replay HasDrainTurns tt (λ options first second some most capacity capacity_most trigger. tt) (rows_of (found_of c.args.matches.now))) _ c.replay.ensures
+
+pub returns-in-Run-clause-workers : goal.returns-in-Run-clause-workers
+returns-in-Run-clause-workers c =
+    of_request HasWorkers _ (of_run HasWorkers tt (λ options seed turns program some most capacity capacity_most trigger few. (some, most)) (rows_of (found_of c.args.matches.now))) _ c.run.ensures
+
+pub returns-in-Run-clause-unit : goal.returns-in-Run-clause-unit
+returns-in-Run-clause-unit c =
+    of_request HasUnitRanges _ (of_run HasUnitRanges tt (λ options seed turns program some most capacity capacity_most trigger few. (capacity, capacity_most, trigger)) (rows_of (found_of c.args.matches.now))) _
+    c.run.ensures
+
+pub returns-in-Run-clause-turns : goal.returns-in-Run-clause-turns
+returns-in-Run-clause-turns c =
+    of_request HasDrainTurns _ (of_run HasDrainTurns tt (λ options seed turns program some most capacity capacity_most trigger few. few) (rows_of (found_of c.args.matches.now))) _ c.run.ensures
+
+pub returns-in-Replay-clause-asked : goal.returns-in-Replay-clause-asked
+returns-in-Replay-clause-asked c = rw c.in-Replay.is c.replay.ensures
+
+pub returns-in-Run-clause-asked : goal.returns-in-Run-clause-asked
+returns-in-Run-clause-asked c = rw c.in-Run.is c.run.ensures

@@ -1,8 +1,5 @@
 use Rattle.std.proofs.Common.{◌≡◌, ◌∙◌, sym, ap, subst}
-use Rattle.log_text.specs.declared.logs.LogOperation.{LogOperation}
-use Rattle.std.specs.Global.{Vec}
 use Rattle.tso_ops.specs.Values.{rows}
-use Rattle.log_pieces.specs.declared.accesses.Access.{Access}
 use Rattle.log_pieces.specs.Internal.Accesses.{accesses_of_lists, numbers_of_lists}
 use Rattle.log_pieces.specs.Internal.Known.{AreSources}
 use Rattle.log_pieces.proofs.KnownFacts.{known_sources}

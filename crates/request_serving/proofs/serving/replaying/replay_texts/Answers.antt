@@ -1,23 +1,23 @@
 use Rattle.std.proofs.Common.{inl, inr}
 use Rattle.std.proofs.lemmas.Result.{IfOk-weaker}
-use Rattle.request_serving.proofs.ReplayingFacts.{not_refused_program, program_read, program_refused}
+use Rattle.tso_text.proofs.TextLaws.{program_laws}
+use Rattle.request_serving.specs.Replaying.{IsScheduledText}
+use Rattle.request_serving.proofs.ReplayingFacts.{not_refused_program, printed_as}
 use Rattle.request_serving.proofs.serving.replaying.replay_texts.Goals as goal
 
 pub returns-in-Ok-clause-text : goal.returns-in-Ok-clause-text
 returns-in-Ok-clause-text g c =
-    let program = c.in-Ok.program in
-    let spelled = program_read (g.P.Read.remaining c.args.programs.now) _ _ c.in_ok-input.ensures.prefix c.deref.ensures.value program c.in-Ok.ensures.found in
-    IfOk-weaker c.replay_program.result _ _ (λ printed is. inr (record { program = program; spelled = spelled; scheduled = is })) c.replay_program.ensures.text
+    let prints = IsScheduledText c.args.options.now (g.S.Read.remaining c.args.schedules.now) in
+    IfOk-weaker c.replay_program.result _ _
+    (λ printed is. printed_as program_laws prints (g.P.Read.remaining c.args.programs.now) _ _ printed.text.items printed.status c.in_ok-input.ensures.prefix c.deref.ensures.value (inl (c.in-Ok.program, c.in-Ok.ensures.found, is)))
+    c.replay_program.ensures.text
 
 pub returns-clause-text : goal.returns-clause-text
 returns-clause-text g c =
-    let line = c.in-Err.fault.line in
-    let why = c.in-Err.fault.why in
     let told = c.in_ok-print_refusal-in-Err.ensures in
-    let refused = program_refused (g.P.Read.remaining c.args.programs.now) _ _ c.in_ok-input.ensures.prefix c.deref.ensures.value line why (c.in-Err.ensures.refused told.0) in
-    inl (record { line = line; why = why; refused = refused; whole = told.1; ends = told.2 })
+    printed_as program_laws (IsScheduledText c.args.options.now (g.S.Read.remaining c.args.schedules.now)) (g.P.Read.remaining c.args.programs.now) _ _ _ _ c.in_ok-input.ensures.prefix c.deref.ensures.value
+    (inr (c.in-Err.fault.line, c.in-Err.fault.why, c.in-Err.ensures.refused told.0, told.1, told.2))
 
 pub returns-in-Ok-clause-unread : goal.returns-in-Ok-clause-unread
 returns-in-Ok-clause-unread g c =
-    let remaining = g.P.Read.remaining c.args.programs.now in
-    not_refused_program _ remaining c.in-Ok.program (program_read remaining _ _ c.in_ok-input.ensures.prefix c.deref.ensures.value c.in-Ok.program c.in-Ok.ensures.found)
+    not_refused_program _ (g.P.Read.remaining c.args.programs.now) _ _ c.in-Ok.program c.in_ok-input.ensures.prefix c.deref.ensures.value c.in-Ok.ensures.found

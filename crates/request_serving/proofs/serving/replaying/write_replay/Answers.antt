@@ -1,15 +1,14 @@
 use Rattle.std.proofs.Common.{rules}
-use Rattle.tso_report.specs.WrittenReports.{LeavesAtFault}
-use Rattle.request_serving.specs.Endings.{IsPrintable}
+use Rattle.trace_judging.specs.WrittenReports.{LeavesAtFault}
+use Rattle.trace_judging.proofs.ReaderFacts.{leaves_prefix}
 use Rattle.request_serving.specs.Replaying.{IsReplayText}
-use Rattle.request_serving.proofs.ReplayingFacts.{leaves_text}
 use Rattle.request_serving.proofs.serving.replaying.write_replay.Goals as goal
 
 pub returns-in_err-write_text-clause-fault : goal.returns-in_err-write_text-clause-fault
 returns-in_err-write_text-clause-fault g c =
-    let prefix = rw c.deref.ensures.value at c.in_err-write_text.ensures.prefix in
     let is_text = IsReplayText c.args.options.now (g.P.Read.remaining c.args.programs.now) (g.S.Read.remaining c.args.schedules.now) in
-    let leaves : LeavesAtFault (IsPrintable is_text) (g.W.Write.contents c.args.writer.now) (g.W.Write.contents c.write_text.new.writer) c.in_err-write_text.field-0.0 = leaves_text is_text (g.W.Write.contents c.args.writer.now) (g.W.Write.contents c.write_text.new.writer) _ _ c.in_err-write_text.field-0.0 c.in_ok-printed.ensures.text prefix c.in_err-write_text.ensures.fault in
+    let leaves : LeavesAtFault is_text (g.W.Write.contents c.args.writer.now) (g.W.Write.contents c.write_text.new.writer) c.in_err-write_text.field-0.0 =
+    leaves_prefix is_text _ _ _ _ _ c.in_err-write_text.field-0.0 c.in_ok-printed.ensures.text c.deref.ensures.value c.in_err-write_text.ensures.prefix c.in_err-write_text.ensures.fault in
     search (rules, leaves)
 
 pub returns-clause-text : goal.returns-clause-text

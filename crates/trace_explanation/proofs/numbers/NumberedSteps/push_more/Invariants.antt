@@ -1,6 +1,11 @@
-use Rattle.std.proofs.Common.{◌≡◌, ◌++◌, drop, string_bytes}
-use Rattle.trace_explanation.specs.Steps.{more_numbers}
+use Rattle.std.proofs.Common.{◌≡◌, ◌++◌, ◌∷◌, drop, string_bytes}
+use Rattle.std.specs.Prelude.{codes}
+use Rattle.std.specs.Fmt.{decimal}
+use Rattle.std.specs.List.{flat_map, zip}
+use Rattle.trace_explanation.specs.Steps.{step_number}
 use Rattle.trace_explanation.proofs.numbers.NumberedSteps.push_more.Given as goal
 
 abbrev pub invariant-loop-z : goal.invariant-loop-z
-invariant-loop-z l = string_bytes l.text ++ more_numbers l.self l.previous (drop l.z-index l.rest) ≡ string_bytes l.fn.text ++ more_numbers l.self l.y l.rest
+invariant-loop-z l =
+    string_bytes l.text ++ flat_map (λ edge. codes ", " ++ decimal (step_number l.self edge)) (zip (l.previous ∷ drop l.z-index l.rest) (drop l.z-index l.rest))
+    ≡ string_bytes l.fn.text ++ flat_map (λ edge. codes ", " ++ decimal (step_number l.self edge)) (zip (l.y ∷ l.rest) l.rest)

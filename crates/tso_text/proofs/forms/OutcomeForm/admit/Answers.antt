@@ -4,8 +4,9 @@ use Rattle.std.proofs.lemmas.List.Elements.{All-push}
 use Rattle.tso_ops.specs.Settings.{setting_of}
 use Rattle.tso_ops.specs.Tally.{Admitted}
 use Rattle.tso_ops.specs.Values.{op_of, ReadFits}
-use Rattle.tso_text.proofs.FaultFacts.{outcome_clean, outcome_refused_for, not_stbar}
-use Rattle.tso_text.proofs.SpelledLimits.{outcome_no_stbar, outcome_read_fits}
+use Rattle.tso_text.specs.Internal.Grammars.{outcome_fault}
+use Rattle.tso_text.proofs.FaultFacts.{op_clean, op_refused_for, at_last, not_stbar}
+use Rattle.tso_text.proofs.OneTextFacts.{outcome_no_stbar, outcome_read_fits}
 use Rattle.tso_text.proofs.forms.OutcomeForm.admit.Goals as goal
 
 pub why_of-requires : goal.why_of-requires
@@ -15,13 +16,17 @@ why_of-requires c =
     not_stbar setting (map op_of kept.0) c.op.result c.in-Err.fault (rw c.op.ensures (outcome_no_stbar setting c.args.self c.requires.said)) (c.in-Err.ensures.refused setting (map op_of kept.0) kept.1.0)
 
 pub returns-in-Err-clause-refused : goal.returns-in-Err-clause-refused
+unfolding outcome_fault
 returns-in-Err-clause-refused c items kept =
     let setting = setting_of c.args._setting.now in
-    outcome_refused_for setting items c.args.self c.op.result c.in-Err.fault c.why_of.result c.op.ensures c.why_of.ensures (c.in-Err.ensures.refused setting (map op_of items) kept.0)
+    op_refused_for setting (map op_of items) (op_of c.args.self) c.in-Err.fault c.why_of.result c.why_of.ensures (rw c.op.ensures at (c.in-Err.ensures.refused setting (map op_of items) kept.0))
 
 pub returns-in-Ok-clause-clean : goal.returns-in-Ok-clause-clean
+unfolding outcome_fault
 returns-in-Ok-clause-clean c items kept =
-    let setting = setting_of c.args._setting.now in outcome_clean setting items c.args.self c.op.result c.op.ensures (c.in-Ok.ensures.admitted setting (map op_of items) kept.0).faultless
+    let setting = setting_of c.args._setting.now in
+    let faultless = (c.in-Ok.ensures.admitted setting (map op_of items) kept.0).faultless in
+    op_clean setting (map op_of items) (op_of c.args.self) (at_last setting (map op_of items) (op_of c.args.self) (rw c.op.ensures at faultless))
 
 pub returns-in-Ok-clause-admitted : goal.returns-in-Ok-clause-admitted
 returns-in-Ok-clause-admitted c items kept =

@@ -1,5 +1,0 @@
-//! Tests of `bitsets`, by its public calls.
-#![tactic(auto)]
-
-#[cfg(test)]
-mod tests;

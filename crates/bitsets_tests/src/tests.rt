@@ -1,3 +1,0 @@
-//! Rows and tables of bits.
-
-mod bit_rows;

@@ -1,4 +1,0 @@
-pub mod Parameters
-pub mod Given
-pub mod Spelled
-pub mod Offered

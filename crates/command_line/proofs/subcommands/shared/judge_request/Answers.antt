@@ -1,6 +1,0 @@
-use Rattle.std.proofs.Common.{ap₂}
-use Rattle.command_line.specs.Requests.{judging}
-use Rattle.command_line.proofs.subcommands.shared.judge_request.Goals as goal
-
-pub returns : goal.returns
-returns c = ap₂ (judging c.args.presentation) c.file.ensures c.workers.ensures.value

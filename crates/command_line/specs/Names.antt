@@ -1,0 +1,19 @@
+-- The units and the memory models, each with the name by which an option takes it.
+use Rattle.std.specs.Prelude.{List, [], ◌∷◌, codes, map}
+use Rattle.tso_ops.specs.declared.settings.Order.{Order}
+use Rattle.tso_ops.specs.declared.settings.Order.TheVariants.{Tso, Pso}
+use Rattle.command_line.specs.declared.options.UnitKind.{UnitKind}
+use Rattle.command_line.specs.declared.options.UnitKind.TheVariants.{Serial, Buffer, Partial, Faulty}
+use Rattle.command_line.specs.Requests.{Text}
+use Rattle.unit_faulty.specs.Faulty.{fault_name}
+use Rattle.unit_faulty.specs.declared.kinds.FaultKind.TheVariants.{NewestFirst, NoForward, StaleLoad, TornSwap, IdleMembar, LostDrain}
+
+-- the units, each with its name and its kind
+abbrev pub units : List (Text × UnitKind)
+units =
+    (codes "serial", Serial) ∷ (codes "buffer", Buffer) ∷ (codes "partial", Partial)
+    ∷ map (λ kind. (fault_name kind, Faulty kind)) (NewestFirst ∷ NoForward ∷ StaleLoad ∷ TornSwap ∷ IdleMembar ∷ LostDrain ∷ [])
+
+-- the memory models, each with its name
+abbrev pub models : List (Text × Order)
+models = (codes "tso", Tso) ∷ (codes "pso", Pso) ∷ []

@@ -1,0 +1,72 @@
+-- Which parameters of a subcommand arguments in a usual spelling give, and which text each then has.
+use Rattle.std.specs.Prelude.{◌≡◌, ◌≤◌, ◌||◌, ◌&&◌, Any, Bool, Contains, true, false, not, List, [], ◌∷◌, Option, Some, None, codes, filter, is_some, length, map, if◌then◌else◌}
+use Rattle.std.specs.Borrow.{Bor}
+use Rattle.std.specs.List.{All, IsDistinct, list_any}
+use Rattle.std.specs.Option.{option_or}
+use Rattle.std.specs.Str.{bytes_eq}
+use Rattle.clap.specs.Walk.{Text}
+use Rattle.command_line.specs.Given.{AreGiven, value_named}
+use Rattle.command_line.specs.Parameters.{Parameter, Values, flag, is_other, option, other, takes}
+
+module _ {N : Type 0} where
+  -- The arguments are options, flags and others in a usual spelling, of which no option and no flag stands twice, each flag is known, and there is a
+  -- place for each other argument.
+  pub record AreWritten (parameters : List (Parameter N)) (arguments : List Text) : Type 0 where
+    pub options : List (Text × Text)
+    pub flags : List Text
+    pub others : List Text
+    pub given : AreGiven options flags others arguments
+    pub once : IsDistinct bytes_eq (map (λ o. o.0) options)
+    pub flags_once : IsDistinct bytes_eq flags
+    pub flags_known : All (λ id. Contains parameters (flag id)) flags
+    pub placed : length others ≤ length (filter is_other parameters)
+
+  -- each parameter that may not be left out is there
+  abbrev pub are_whole : List (Text × Text) → List Text → List (Parameter N) → Bool
+  are_whole options others [] = true
+  are_whole options others (option id values default ∷ rest) = (is_some default || is_some (value_named id options)) && are_whole options others rest
+  are_whole options others (flag id ∷ rest) = are_whole options others rest
+  are_whole options [] (other id required ∷ rest) = not required && are_whole options [] rest
+  are_whole options (text ∷ others) (other id required ∷ rest) = are_whole options others rest
+
+  -- The text of each parameter, in their order: of an option its value, or its default where it isn't there; of a flag whether it is used; and the
+  -- other arguments one after the other.
+  abbrev pub texts_given : List (Text × Text) → List Text → List Text → List (Parameter N) → List (Option Text)
+  texts_given options flags others [] = []
+  texts_given options flags others (option id values default ∷ rest) = option_or (value_named id options) default ∷ texts_given options flags others rest
+  texts_given options flags others (flag id ∷ rest) =
+      Some (if list_any (λ used. bytes_eq used id) flags then codes "true" else codes "false") ∷ texts_given options flags others rest
+  texts_given options flags [] (other id required ∷ rest) = None ∷ texts_given options flags [] rest
+  texts_given options flags (text ∷ others) (other id required ∷ rest) = Some text ∷ texts_given options flags others rest
+
+module _ {N : Type 0} (known : N → List Text) where
+  -- there is an option of this name, and whether it takes this value
+  abbrev pub Takes : List (Parameter N) → Bool → Text × Text → Type 0
+  Takes parameters taken o = (values : Values N) × (default : Option Text) × Contains parameters (option o.0 values default) × (takes known values o.1 ≡ taken)
+
+  -- The arguments give these texts to the parameters.
+  pub record Give (parameters : List (Parameter N)) (arguments : List Text) (texts : List (Option Text)) : Type 0 where
+    pub written : AreWritten parameters arguments
+    pub taken : All (Takes parameters true) written.options
+    pub whole : are_whole written.options written.others parameters ≡ true
+    pub are : texts ≡ texts_given written.options written.flags written.others parameters
+
+  -- A parameter that may not be left out is left out.
+  pub record LeaveOut (parameters : List (Parameter N)) (arguments : List Text) : Type 0 where
+    pub written : AreWritten parameters arguments
+    pub taken : All (Takes parameters true) written.options
+    pub left_out : are_whole written.options written.others parameters ≡ false
+
+  -- There is an option of each name, and one has a value that it doesn't take.
+  pub record HaveWrongValue (parameters : List (Parameter N)) (arguments : List Text) : Type 0 where
+    pub written : AreWritten parameters arguments
+    pub offered : All (λ o. (taken : Bool) × Takes parameters taken o) written.options
+    pub wrong : Any (Takes parameters false) written.options
+
+-- ---- where options know their lists of names by where they are in memory
+
+abbrev pub in_memory : Bor (List (Bor Text)) → Bor (List (Bor Text))
+in_memory list = list
+
+abbrev pub names_at : Bor (List (Bor Text)) → List Text
+names_at list = map (λ t. t.now) list.now

@@ -1,0 +1,5 @@
+//! Replays on memory units, lawful units, and faulty ones.
+
+mod faulty;
+mod lawful;
+mod replays;

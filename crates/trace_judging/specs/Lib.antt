@@ -1,0 +1,5 @@
+pub mod Checks
+pub mod Internal
+pub mod Limits
+pub mod Streams
+pub mod WrittenReports

@@ -1,0 +1,59 @@
+//! What is found of a trace.
+ghost use Rattle.std.specs.Prelude.{◌≡◌, ◌⊎◌, ◌≤◌, ℕ, MatchOption, IfOk, IfErr};
+ghost use Rattle.round_pool.specs.Workers.{worker_limit};
+ghost use Rattle.tso_ops.specs.Events.{IsUnwritten};
+ghost use Rattle.tso_cert.specs.declared.steps.Certificate.TheVariants.{Unwritten};
+ghost use Rattle.tso_model.specs.Certs.{IsCertificateOf};
+ghost use Rattle.trace_judging.specs.declared.faults.Fault.{Fault};
+ghost use Rattle.trace_reports.specs.Findings.{IsFinding};
+
+use crate::certificates::build_cert;
+use crate::faults::Fault;
+use round_pool::{OpenPoolGate, rounds};
+use std::alloc::Global;
+use std::sync::Wait;
+use std::thread::Threads;
+use trace_reports::Finding;
+use tso_cert::Certificate;
+use tso_ops::Trace;
+
+/// Finds out whether a trace is a violation, on `workers` workers (1 to 64): its least load whose value nothing wrote,
+/// or else its rounds, and the certificate where the last rank set has a cycle.
+///
+/// The finding is the same for each number of workers. Faults: OutOfMemory where an allocation was refused, NoThread
+/// where the system refused a thread.
+pub fn find_violation<H: Threads + Wait>(
+    rt: &H,
+    alloc: Global,
+    trace: &Trace,
+    workers: usize,
+) -> Result<Finding, Fault>
+    requires some { 1 ≤ workers }
+    requires most { workers ≤ worker_limit }
+    ensures found { IfOk result (IsFinding trace.now) }
+    ensures fault { IfErr result (λ fault. (fault ≡ Fault.OutOfMemory) ⊎ (fault ≡ Fault.NoThread)) }
+{
+    if let Some(load) = least_unwritten(trace) {
+        return Ok(Finding {
+            rounds: 0,
+            certificate: Some(Certificate::Unwritten(load as u64)),
+        });
+    }
+    let ranked = rounds(rt, alloc, trace, workers, &OpenPoolGate)?;
+    Ok(Finding {
+        rounds: ranked.rounds(),
+        certificate: build_cert(alloc, trace, &ranked)?,
+    })
+}
+
+/// The least load whose value nothing wrote.
+pub(crate) fn least_unwritten(trace: &Trace) -> Option<usize>
+    ensures { MatchOption result ((l : ℕ) → IsUnwritten trace.now l → ⊥) (λ n. IsCertificateOf trace.now (Unwritten n)) }
+{
+    for n in 0..trace.events() {
+        if trace.is_unwritten(n + 1) {
+            return Some(n + 1);
+        }
+    }
+    None
+}

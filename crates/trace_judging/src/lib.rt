@@ -1,0 +1,30 @@
+//! From the bytes of a trace's text to the bytes of its report.
+//!
+//! Each input has one report, and `judge` writes it; `check_texts` writes that of a trace and a certificate. `present` writes
+//! any other text that follows from what is found of a trace, as an explanation, by its `Rendering`; `render_text` and
+//! `render_trace` answer it.
+//! `README.md` says what is proved.
+#![tactic(auto)]
+
+pub use certificates::build_cert;
+pub use checking::{MAX_CERTIFICATE_BYTES, check_texts};
+pub use faults::Fault;
+pub use findings::find_violation;
+pub use judging::judge;
+pub use presenting::{present, render_text, render_trace};
+pub use round_pool::MAX_WORKERS;
+pub use streams::reading::read_all;
+pub use streams::writing::write_text;
+pub use trace_reports::{
+    AsReport, Finding, Rendering, Report, Verdict, render, render_head, render_refusal,
+};
+
+mod cert_rendering;
+mod certificates;
+mod checking;
+mod faults;
+mod findings;
+mod judging;
+pub mod laws;
+mod presenting;
+mod streams;

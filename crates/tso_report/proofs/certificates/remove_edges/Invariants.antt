@@ -1,5 +1,0 @@
-use Rattle.tso_report.proofs.RoundSteps.{RemovesEdges}
-use Rattle.tso_report.proofs.certificates.remove_edges.Given as goal
-
-abbrev pub invariant-loop-edge : goal.invariant-loop-edge
-invariant-loop-edge l = RemovesEdges l.initial.set l.set l.edges l.edge-index

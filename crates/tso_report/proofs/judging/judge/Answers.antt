@@ -1,5 +1,0 @@
-use Rattle.tso_report.proofs.ReaderFacts.{shows_violation_written}
-use Rattle.tso_report.proofs.judging.judge.Goals as goal
-
-pub returns-clause-holds : goal.returns-clause-holds
-returns-clause-holds g c = shows_violation_written (g.R.Read.remaining c.args.reader.now) _ _ c.present.result c.present.ensures.said

@@ -1,5 +1,0 @@
-//! Tests of `unit_kinds`, by its public calls.
-#![tactic(auto)]
-
-#[cfg(test)]
-mod tests;
