@@ -1,28 +1,25 @@
 -- What a parse makes of the arguments after the name of a subcommand, by the parameters with which it was offered.
-use Rattle.std.proofs.Common.{◌≡◌, ◌∙◌, ◌≤◌, inl, inr, Contains, ap, ap₂, arith, drop, filter, get_or, length, refl, subst, sym, true≢false, zero, suc, ℕ, Bool, true, false, cond, not, ◌&&◌, ◌||◌, List, [], ◌∷◌, ◌++◌, Option, Some, None, codes, map, is_some}
+use Rattle.std.proofs.Common.{◌≡◌, ◌∙◌, ◌≤◌, inl, inr, Contains, ap, ap₂, arith, drop, filter, get_or, length, refl, subst, sym, true≢false, zero, suc, ℕ, Bool, true, false, cond, not, ◌&&◌, ◌||◌, List, [], ◌∷◌, Option, Some, None, codes, map, is_some}
 use Rattle.std.specs.Prelude.{if◌then◌else◌, option_and_then, slice_get}
 use Rattle.std.specs.Borrow.{Bor}
-use Rattle.std.specs.List.{All, AllByRecursion, Any, IsDistinct, find, list_all, list_any}
-use Rattle.std.specs.Option.{option_map, option_map_or, option_or}
+use Rattle.std.specs.List.{All, AllByRecursion, IsDistinct, find, list_all, list_any}
+use Rattle.std.specs.Option.{option_map, option_or}
 use Rattle.std.specs.Str.{bytes_eq}
 use Rattle.std.proofs.Math.Bool.{and-false}
 use Rattle.std.proofs.lemmas.Bool.{and_parts, not-true, or_cases, or_left, or_parts, or_right}
 use Rattle.std.proofs.lemmas.Slice.Eq.{bytes_eq-Decides}
 use Rattle.clap.specs.Facts.{explicit_source}
-use Rattle.clap.specs.Faults.{given_default_fault, level_fault}
+use Rattle.clap.specs.Faults.{level_fault}
 use Rattle.clap.specs.Kinds.{check_kinds, or_else}
-use Rattle.clap.specs.Simple.{Shape, filled, filled_from, help_rule, index_after, with_index}
-use Rattle.clap.specs.Takes.{is_given}
-use Rattle.clap.specs.ValueTests.{accepts}
-use Rattle.clap.specs.Values.{reading_of, refused_kind}
-use Rattle.clap.specs.Walk.{Row, Rule, Text, arg_by_id, is_empty, nothing_held, row_text, rows_after}
-use Rattle.clap.specs.declared.builder.value_parser.Reading.TheVariants.{AsWritten}
+use Rattle.clap.specs.Simple.{Shape}
+use Rattle.clap.specs.Values.{refused_kind}
+use Rattle.clap.specs.Walk.{Row, Rule, Text, arg_by_id, nothing_held, row_text, rows_after}
 use Rattle.clap.specs.declared.error.kind.ErrorKind.TheVariants.{MissingRequiredArgument}
-use Rattle.clap.proofs.WalkLemmas.{list_any-map}
 use Rattle.command_line.specs.Given.{AreGiven, value_named}
 use Rattle.command_line.specs.Offered.{Offers, are_distinct, built_rules, default_for, default_row, found_of_rule, is_long_name, itself, read_as_long, text_in}
-use Rattle.command_line.specs.Parameters.{Parameter, Values, flag, id_of, is_other, listed, offered_rule, option, other, parser_of, range, takes, takes_default}
-use Rattle.command_line.specs.Spelled.{AreWritten, Give, HaveWrongValue, LeaveOut, Takes, are_whole, texts_given}
+use Rattle.command_line.specs.Parameters.{Parameter, Values, flag, id_of, is_other, option, other, parser_of, takes, takes_default}
+use Rattle.command_line.specs.Spelled.{AreWritten, Give, HaveWrongValue, LeaveOut, OptionTakes, are_whole}
+use Rattle.command_line.proofs.ParameterRows.{IsFlagRow, Outcome, accepts_is, as_written, defaults_pass, first_wrong, flag_text, given_in, lacks, next, one_more, option_lacks, option_text, other_lacks, rule_at}
 use Rattle.command_line.proofs.Refused.{OffersOption, RefusedOption, option_among_refused}
 use Rattle.command_line.proofs.Rows.{DefaultsPass, MakesRow, flag_makes, has_id, option_fails, option_makes, use_row, uses_id}
 use Rattle.command_line.proofs.Uses.{AreUses, IsOptionRow, LeavesRows, OptionUse, OptionUses, each_as, each_of, leaves_rows, option_uses, sort_of}
@@ -51,26 +48,8 @@ each_apart id (x ∷ xs) apart =
 abbrev is_used : Text → List Text → Bool
 is_used id flags = list_any (λ used. bytes_eq used id) flags
 
-abbrev flag_text : Bool → Text
-flag_text used = if used then codes "true" else codes "false"
-
 module _ {N : Type 0} (memory : N → Bor (List (Bor Text))) (known : N → List Text) (named : (n : N) → map (λ t. t.now) (memory n).now ≡ known n) where
-  -- `clap` accepts just what the option takes
-  pub accepts_is : (values : Values N) (text : Text) → accepts false (parser_of memory values) text ≡ takes known values text
-  accepts_is (range least most) text = refl
-  accepts_is (listed n) text = list_any-map (λ (t : Text). bytes_eq t text) (λ t. t.now) (memory n).now ∙ ap (list_any (λ (t : Text). bytes_eq t text)) (named n)
-
-  as_written : (values : Values N) → reading_of (parser_of memory values) ≡ AsWritten
-  as_written (range least most) = refl
-  as_written (listed n) = refl
-
   module _ (s : Shape) where
-    abbrev rule_at : ℕ → Parameter N → Rule
-    rule_at i p = with_index i (filled (offered_rule memory p))
-
-    abbrev next : ℕ → Parameter N → ℕ
-    next i p = index_after i (offered_rule memory p)
-
     -- what is known of the parameters from the place i on
     record Facts (i : ℕ) (ps : List (Parameter N)) : Type 0 where
       found : map (found_of_rule s.rules) (built_rules memory i ps) ≡ map itself (built_rules memory i ps)
@@ -78,7 +57,7 @@ module _ {N : Type 0} (memory : N → Bor (List (Bor Text))) (known : N → List
       distinct : are_distinct (map id_of ps) ≡ true
 
     module _ (i : ℕ) (p : Parameter N) (ps : List (Parameter N)) (facts : Facts i (p ∷ ps)) where
-      rest_facts : Facts (next i p) ps
+      rest_facts : Facts (next memory i p) ps
       rest_facts = record {
         found = ap (drop 1) facts.found;
         long = λ value. ap (drop 1) (facts.long value);
@@ -88,7 +67,7 @@ module _ {N : Type 0} (memory : N → Bor (List (Bor Text))) (known : N → List
       apart_here : list_any (bytes_eq (id_of p)) (map id_of ps) ≡ false
       apart_here = not-true _ (and_parts _ _ facts.distinct).0
 
-      found_here : found_of_rule s.rules (rule_at i p) ≡ itself (rule_at i p)
+      found_here : found_of_rule s.rules (rule_at memory i p) ≡ itself (rule_at memory i p)
       found_here = ap (λ xs. get_or xs 0 (None, None, None)) facts.found
 
       long_here : (value : Text) → read_as_long value (id_of p) ≡ is_long_name value (id_of p)
@@ -98,7 +77,7 @@ module _ {N : Type 0} (memory : N → Bor (List (Bor Text))) (known : N → List
 
     module _ (i : ℕ) (id : Text) (values : Values N) (default : Option Text) (ps : List (Parameter N)) (facts : Facts i (option id values default ∷ ps)) where
       abbrev option_rule : Rule
-      option_rule = rule_at i (option id values default)
+      option_rule = rule_at memory i (option id values default)
 
       option_is : IsOption s.rules option_rule id
       option_is =
@@ -118,10 +97,10 @@ module _ {N : Type 0} (memory : N → Bor (List (Bor Text))) (known : N → List
         rule = option_rule;
         is = option_is;
         named = refl;
-        as_written = as_written values;
+        as_written = as_written memory known named values;
         of = refl;
         makes = option_makes option_rule (value ∷ []) refl
-            (ap (λ b. or_else (if b then [] else refused_kind (parser_of memory values) ∷ []) []) (accepts_is values value ∙ taken)) refl;
+            (ap (λ b. or_else (if b then [] else refused_kind (parser_of memory values) ∷ []) []) (accepts_is memory known named values value ∙ taken)) refl;
       }
 
       option_refused : (value : Text) → takes known values value ≡ false → RefusedOption s (refused_kind (parser_of memory values)) id value
@@ -131,7 +110,7 @@ module _ {N : Type 0} (memory : N → Bor (List (Bor Text))) (known : N → List
         named = refl;
         of = refl;
         fails = λ rows none. option_fails (refused_kind (parser_of memory values) ∷ []) option_rule (value ∷ []) rows refl
-            (ap (λ b. or_else (if b then [] else refused_kind (parser_of memory values) ∷ []) []) (accepts_is values value ∙ wrong)) refl none;
+            (ap (λ b. or_else (if b then [] else refused_kind (parser_of memory values) ∷ []) []) (accepts_is memory known named values value ∙ wrong)) refl none;
       }
 
     -- a parameter among them, with its place and the facts from it on
@@ -143,57 +122,26 @@ module _ {N : Type 0} (memory : N → Bor (List (Bor Text))) (known : N → List
     facts_at : (i : ℕ) (ps : List (Parameter N)) → Facts i ps → (p : Parameter N) → Contains ps p → FactsAt p
     facts_at i [] facts p (k, inside, is) = absurd (omega (arith, inside))
     facts_at i (q ∷ ps) facts p (zero, inside, is) = record { place = i; later = ps; facts = subst (λ (x : Parameter N). Facts i (x ∷ ps)) is facts }
-    facts_at i (q ∷ ps) facts p (suc k, inside, is) = facts_at (next i q) ps (rest_facts i q ps facts) p (k, omega (arith, inside), is)
+    facts_at i (q ∷ ps) facts p (suc k, inside, is) = facts_at (next memory i q) ps (rest_facts i q ps facts) p (k, omega (arith, inside), is)
 
     module _ (i : ℕ) (ps : List (Parameter N)) (facts : Facts i ps) (o : Text × Text) where
       -- the use of an option whose value is taken
-      use_of : Takes known ps true o → OptionUse s.rules o.0 o.1
+      use_of : OptionTakes known ps true o → OptionUse s.rules o.0 o.1
       use_of (values, default, among, taken) =
           let at = facts_at i ps facts (option o.0 values default) among in
           option_use at.place o.0 values default at.later at.facts o.1 taken
 
       -- an option that is there, with any value
-      offers_of : (taken : Bool) → Takes known ps taken o → OffersOption s o.0
+      offers_of : (taken : Bool) → OptionTakes known ps taken o → OffersOption s o.0
       offers_of taken (values, default, among, is) =
           let at = facts_at i ps facts (option o.0 values default) among in
           record { rule = option_rule at.place o.0 values default at.later at.facts; is = option_is at.place o.0 values default at.later at.facts }
 
       -- an option whose value is not taken
-      wrong_of : (wrong : Takes known ps false o) → RefusedOption s (refused_kind (parser_of memory wrong.0)) o.0 o.1
+      wrong_of : (wrong : OptionTakes known ps false o) → RefusedOption s (refused_kind (parser_of memory wrong.0)) o.0 o.1
       wrong_of (values, default, among, wrong) =
           let at = facts_at i ps facts (option o.0 values default) among in
           option_refused at.place o.0 values default at.later at.facts o.1 wrong
-
-    -- the first option whose value is not taken
-    record FirstWrong (ps : List (Parameter N)) (options : List (Text × Text)) : Type 0 where
-      before : List (Text × Text)
-      name : Text
-      value : Text
-      after : List (Text × Text)
-      are : options ≡ before ++ (name, value) ∷ after
-      taken : AllByRecursion (Takes known ps true) before
-      wrong : Takes known ps false (name, value)
-      offered : AllByRecursion (λ o. (taken : Bool) × Takes known ps taken o) after
-
-    first_wrong : (ps : List (Parameter N)) (options : List (Text × Text)) → AllByRecursion (λ o. (taken : Bool) × Takes known ps taken o) options → Any (Takes known ps false) options
-        → FirstWrong ps options
-    first_wrong ps [] each (k, o, inside, is, wrong) = absurd (omega (arith, inside))
-    first_wrong ps ((name, value) ∷ options) each (zero, o, inside, is, wrong) =
-        record { before = []; name = name; value = value; after = options; are = refl; taken = tt; wrong = subst (Takes known ps false) (sym is) wrong; offered = each.1 }
-    first_wrong ps ((name, value) ∷ options) each (suc k, o, inside, is, wrong) = go each.0 (first_wrong ps options each.1 (k, o, omega (arith, inside), is, wrong))
-      where
-        go : (taken : Bool) × Takes known ps taken (name, value) → FirstWrong ps options → FirstWrong ps ((name, value) ∷ options)
-        go (false, this) later = record { before = []; name = name; value = value; after = options; are = refl; taken = tt; wrong = this; offered = each.1 }
-        go (true, this) later = record {
-          before = (name, value) ∷ later.before;
-          name = later.name;
-          value = later.value;
-          after = later.after;
-          are = ap (λ os. (name, value) ∷ os) later.are;
-          taken = (this, later.taken);
-          wrong = later.wrong;
-          offered = later.offered;
-        }
 
     -- ---- flags
 
@@ -212,12 +160,12 @@ module _ {N : Type 0} (memory : N → Bor (List (Bor Text))) (known : N → List
         let seen = found_here at.place (flag wanted) at.later at.facts in
         let long = long_here at.place (flag wanted) at.later at.facts [] in
         record {
-          rule = rule_at at.place (flag wanted);
+          rule = rule_at memory at.place (flag wanted);
           is = record { most = refl; by_long = ap (λ t. t.1) seen; no_escape = ap (λ t. t.0) long; long = ap (λ t. t.1) long };
           same = refl;
           by_id = ap (λ t. t.0) seen;
           of = refl;
-          makes = flag_makes (rule_at at.place (flag wanted)) [] refl refl refl;
+          makes = flag_makes (rule_at memory at.place (flag wanted)) [] refl refl refl;
           reads = refl;
         }
 
@@ -261,13 +209,13 @@ module _ {N : Type 0} (memory : N → Bor (List (Bor Text))) (known : N → List
 
     abbrev other_uses : ℕ → List (Parameter N) → List Text → List Use
     other_uses i [] others = []
-    other_uses i (other id required ∷ ps) (text ∷ others) = (rule_at i (other id required), text ∷ []) ∷ other_uses (next i (other id required)) ps others
-    other_uses i (p ∷ ps) others = other_uses (next i p) ps others
+    other_uses i (other id required ∷ ps) (text ∷ others) = (rule_at memory i (other id required), text ∷ []) ∷ other_uses (next memory i (other id required)) ps others
+    other_uses i (p ∷ ps) others = other_uses (next memory i p) ps others
 
     no_uses : (i : ℕ) (ps : List (Parameter N)) → other_uses i ps [] ≡ []
     no_uses i [] = refl
-    no_uses i (flag id ∷ ps) = no_uses (next i (flag id)) ps
-    no_uses i (p ∷ ps) = no_uses (next i p) ps
+    no_uses i (flag id ∷ ps) = no_uses (next memory i (flag id)) ps
+    no_uses i (p ∷ ps) = no_uses (next memory i p) ps
 
     record OtherUses (i : ℕ) (ps : List (Parameter N)) (others : List Text) : Type 0 where
       places : Placed s i others (other_uses i ps others)
@@ -278,104 +226,29 @@ module _ {N : Type 0} (memory : N → Bor (List (Bor Text))) (known : N → List
     other_uses_are i [] [] facts have = record { places = no_other i; are = record { make = tt; sorts = tt; apart = tt }; apart = λ id none. tt }
     other_uses_are i [] (text ∷ others) facts have = absurd (omega (arith, have))
     other_uses_are i (other id required ∷ ps) [] facts have =
-        let rest = other_uses_are (next i (other id required)) ps [] (rest_facts i (other id required) ps facts) (omega arith) in
+        let rest = other_uses_are (next memory i (other id required)) ps [] (rest_facts i (other id required) ps facts) (omega arith) in
         record {
-          places = subst (Placed s i []) (sym (no_uses (next i (other id required)) ps)) (no_other i);
+          places = subst (Placed s i []) (sym (no_uses (next memory i (other id required)) ps)) (no_other i);
           are = rest.are;
           apart = λ wanted none. rest.apart wanted none.1;
         }
     other_uses_are i (other id required ∷ ps) (text ∷ others) facts have =
-        let rest = other_uses_are (next i (other id required)) ps others (rest_facts i (other id required) ps facts) (omega (arith, have)) in
+        let rest = other_uses_are (next memory i (other id required)) ps others (rest_facts i (other id required) ps facts) (omega (arith, have)) in
         let seen = found_here i (other id required) ps facts in
-        let taken : TakesOne s.rules (rule_at i (other id required)) =
+        let taken : TakesOne s.rules (rule_at memory i (other id required)) =
         record { by_id = ap (λ t. t.0) seen; same_id = (bytes_eq-Decides id id).1 refl; most = refl; single = refl } in
         record {
-          places = placed i (rule_at i (other id required)) text others _ taken (ap (λ t. t.1) seen) refl refl rest.places;
+          places = placed i (rule_at memory i (other id required)) text others _ taken (ap (λ t. t.1) seen) refl refl rest.places;
           are = record {
-            make = (option_makes (rule_at i (other id required)) (text ∷ []) refl refl refl, rest.are.make);
+            make = (option_makes (rule_at memory i (other id required)) (text ∷ []) refl refl refl, rest.are.make);
             sorts = (record { by_id = taken.by_id; of = refl }, rest.are.sorts);
             apart = (rest.apart id (each_apart id (map id_of ps) (apart_here i (other id required) ps facts)), rest.are.apart);
           };
           apart = λ wanted none. (none.0, rest.apart wanted none.1);
         }
     other_uses_are i (p ∷ ps) others facts have =
-        let rest = other_uses_are (next i p) ps others (rest_facts i p ps facts) have in
+        let rest = other_uses_are (next memory i p) ps others (rest_facts i p ps facts) have in
         record { places = rest.places; are = rest.are; apart = λ wanted none. rest.apart wanted none.1 }
-
-    -- ---- the row of each parameter
-
-    abbrev IsFlagRow : Bool → Option Row → Type 0
-    IsFlagRow used found = (r : Row) × (found ≡ Some r) × (row_text r ≡ Some (flag_text used))
-
-    module _ (rows : List Row) (options : List (Text × Text)) (flags : List Text) where
-      -- ---- the texts
-
-      option_text : (i : ℕ) (id : Text) (values : Values N) (default value : Option Text) → IsOptionRow value (itself (rule_at i (option id values default))).2 (find (has_id id) rows)
-          → text_in rows (option id values default) ≡ option_or value default
-      option_text i id (range least most) None None row = ap (option_and_then row_text) row
-      option_text i id (range least most) (Some text) None row = ap (option_and_then row_text) row
-      option_text i id (range least most) default (Some value) row = ap (option_and_then row_text) row.1 ∙ row.2
-      option_text i id (listed n) None None row = ap (option_and_then (λ r. slice_get r.values 0)) row
-      option_text i id (listed n) (Some text) None row = ap (option_and_then (λ r. slice_get r.values 0)) row
-      option_text i id (listed n) default (Some value) row = ap (option_and_then (λ r. slice_get r.values 0)) row.1 ∙ row.3
-
-      -- ---- what is required
-
-      abbrev lacks : Rule → Bool
-      lacks a = a.required && not (is_given a.id rows)
-
-      abbrev given_in : Option Row → Bool
-      given_in found = option_map_or (λ r. explicit_source r.source) found false
-
-      option_lacks : (i : ℕ) (id : Text) (values : Values N) (default value : Option Text) → IsOptionRow value (itself (rule_at i (option id values default))).2 (find (has_id id) rows)
-          → lacks (rule_at i (option id values default)) ≡ not (is_some default || is_some value)
-      option_lacks i id values (Some text) value row = refl
-      option_lacks i id values None None row = ap (λ found. not (given_in found)) row
-      option_lacks i id values None (Some value) row = ap (λ found. not (given_in found)) row.1 ∙ ap not row.4
-
-      other_lacks : (required : Bool) → (required && true) ≡ not (not required)
-      other_lacks true = refl
-      other_lacks false = refl
-
-      de_morgan : (a b : Bool) → (not a || not b) ≡ not (a && b)
-      de_morgan true b = refl
-      de_morgan false b = refl
-
-      abbrev leaf_rules : ℕ → List (Parameter N) → List Rule
-      leaf_rules i ps = filled_from i (map (offered_rule memory) ps ++ help_rule ∷ [])
-
-      -- ---- the parameters from the place i on
-
-      record Outcome (i : ℕ) (ps : List (Parameter N)) (others : List Text) : Type 0 where
-        texts : map (text_in rows) ps ≡ texts_given options flags others ps
-        required : list_any lacks (leaf_rules i ps) ≡ not (are_whole options others ps)
-
-      one_more : (i : ℕ) (p : Parameter N) (ps : List (Parameter N)) (others later : List Text) (text : Option Text) (whole : Bool) → text_in rows p ≡ text → lacks (rule_at i p) ≡ not whole
-          → texts_given options flags others (p ∷ ps) ≡ text ∷ texts_given options flags later ps → are_whole options others (p ∷ ps) ≡ (whole && are_whole options later ps)
-          → Outcome (next i p) ps later → Outcome i (p ∷ ps) others
-      one_more i p ps others later text whole is lack given_is whole_is rest = record {
-        texts = ap₂ (λ x xs. x ∷ xs) is rest.texts ∙ sym given_is;
-        required = ap₂ (λ a b. a || b) lack rest.required ∙ de_morgan whole (are_whole options later ps) ∙ ap not (sym whole_is);
-      }
-
-    -- ---- defaults
-
-    abbrev default_passes : Rule → Type 0
-    default_passes a = (if is_empty a.defaults then [] else given_default_fault a a.defaults) ≡ []
-
-    option_default : (i : ℕ) (id : Text) (values : Values N) (default : Option Text) → takes_default known (option id values default) ≡ true
-        → default_passes (rule_at i (option id values default))
-    option_default i id values None passes = refl
-    option_default i id values (Some text) passes =
-        ap (λ b. or_else (if b then [] else refused_kind (parser_of memory values) ∷ []) []) (accepts_is values text ∙ passes)
-
-    defaults_pass : (i : ℕ) (ps : List (Parameter N)) → list_all (takes_default known) ps ≡ true
-        → DefaultsPass (filled_from i (map (offered_rule memory) ps ++ help_rule ∷ []))
-    defaults_pass i [] pass = (refl, tt)
-    defaults_pass i (option id values default ∷ ps) pass =
-        let parts = and_parts _ _ pass in
-        (option_default i id values default parts.0, defaults_pass (next i (option id values default)) ps parts.1)
-    defaults_pass i (p ∷ ps) pass = (refl, defaults_pass (next i p) ps pass)
 
     -- ---- arguments that are written so
 
@@ -384,7 +257,7 @@ module _ {N : Type 0} (memory : N → Bor (List (Bor Text))) (known : N → List
       facts_of = record { found = offers.found; long = offers.long; distinct = offers.distinct }
 
       all_defaults : DefaultsPass s.rules
-      all_defaults = subst DefaultsPass (sym offers.rules) (defaults_pass 1 parameters pass)
+      all_defaults = subst DefaultsPass (sym offers.rules) (defaults_pass memory known named 1 parameters pass)
 
       module _ (arguments : List Text) (written : AreWritten parameters arguments) where
         used_flags : FlagUses written.flags
@@ -397,10 +270,10 @@ module _ {N : Type 0} (memory : N → Bor (List (Bor Text))) (known : N → List
         abbrev uses_of_others : List Use
         uses_of_others = other_uses 1 parameters written.others
 
-        module _ (taken : All (Takes known parameters true) written.options) where
+        module _ (taken : All (OptionTakes known parameters true) written.options) where
           used_options : OptionUses s written.options
           used_options = option_uses s written.options
-              (each_as (Takes known parameters true) (λ o. OptionUse s.rules o.0 o.1) written.options (λ o takes. use_of 1 parameters facts_of o takes) (each_of _ written.options taken))
+              (each_as (OptionTakes known parameters true) (λ o. OptionUse s.rules o.0 o.1) written.options (λ o takes. use_of 1 parameters facts_of o takes) (each_of _ written.options taken))
               written.once
 
           leaves : LeavesRows s arguments written.options used_flags.uses uses_of_others
@@ -408,56 +281,56 @@ module _ {N : Type 0} (memory : N → Bor (List (Bor Text))) (known : N → List
               used_options used_flags.are used_others.are written.given used_flags.flags_are used_others.places
 
           flag_row : (i : ℕ) (id : Text) (used : Bool) (found : Option Use) → IsFlagUsed used found
-              → IsFlagRow used (option_or (option_map use_row found) (itself (rule_at i (flag id))).2)
-          flag_row i id false found is = (default_row (rule_at i (flag id)), ap (λ o. option_or (option_map use_row o) (itself (rule_at i (flag id))).2) is, refl)
-          flag_row i id true found is = (use_row is.0, ap (λ o. option_or (option_map use_row o) (itself (rule_at i (flag id))).2) is.1, is.2)
+              → IsFlagRow used (option_or (option_map use_row found) (itself (rule_at memory i (flag id))).2)
+          flag_row i id false found is = (default_row (rule_at memory i (flag id)), ap (λ o. option_or (option_map use_row o) (itself (rule_at memory i (flag id))).2) is, refl)
+          flag_row i id true found is = (use_row is.0, ap (λ o. option_or (option_map use_row o) (itself (rule_at memory i (flag id))).2) is.1, is.2)
 
           -- the uses from a place on are those that are found by the ids from there on
           abbrev AreFrom : ℕ → List (Parameter N) → List Text → Type 0
           AreFrom i ps others = (id : Text) → list_any (λ x. bytes_eq x id) (map id_of ps) ≡ true → find (uses_id id) uses_of_others ≡ find (uses_id id) (other_uses i ps others)
 
-          outcomes : (i : ℕ) (ps : List (Parameter N)) (others : List Text) → Facts i ps → AreFrom i ps others → Outcome leaves.rows written.options written.flags i ps others
+          outcomes : (i : ℕ) (ps : List (Parameter N)) (others : List Text) → Facts i ps → AreFrom i ps others → Outcome memory leaves.rows written.options written.flags i ps others
           outcomes i [] others facts from = record { texts = refl; required = refl }
           outcomes i (option id values default ∷ ps) others facts from =
               let seen = found_here i (option id values default) ps facts in
               let value = value_named id written.options in
-              let row = subst (λ (d : Option Row). IsOptionRow value d (find (has_id id) leaves.rows)) (ap (λ t. t.2) seen) (leaves.option id (rule_at i (option id values default)) (ap (λ t. t.0) seen) refl) in
-              one_more leaves.rows written.options written.flags i (option id values default) ps others others (option_or value default) (is_some default || is_some value) (option_text leaves.rows written.options written.flags i id values default value row)
-              (option_lacks leaves.rows written.options written.flags i id values default value row) refl refl
-              (outcomes (next i (option id values default)) ps others (rest_facts i (option id values default) ps facts) (λ wanted among. from wanted (or_right _ _ among)))
+              let row = subst (λ (d : Option Row). IsOptionRow value d (find (has_id id) leaves.rows)) (ap (λ t. t.2) seen) (leaves.option id (rule_at memory i (option id values default)) (ap (λ t. t.0) seen) refl) in
+              one_more memory leaves.rows written.options written.flags i (option id values default) ps others others (option_or value default) (is_some default || is_some value) (option_text memory leaves.rows written.options written.flags i id values default value row)
+              (option_lacks memory leaves.rows written.options written.flags i id values default value row) refl refl
+              (outcomes (next memory i (option id values default)) ps others (rest_facts i (option id values default) ps facts) (λ wanted among. from wanted (or_right _ _ among)))
           outcomes i (flag id ∷ ps) others facts from =
               let seen = found_here i (flag id) ps facts in
-              let found = leaves.flag id (rule_at i (flag id)) (ap (λ t. t.0) seen) refl
+              let found = leaves.flag id (rule_at memory i (flag id)) (ap (λ t. t.0) seen) refl
               ∙ ap (option_or (option_map use_row (find (uses_id id) used_flags.uses))) (ap (λ t. t.2) seen) in
               let row = flag_row i id (is_used id written.flags) (find (uses_id id) used_flags.uses) (used_flags.found id) in
-              one_more leaves.rows written.options written.flags i (flag id) ps others others (Some (flag_text (is_used id written.flags))) true (ap (option_and_then row_text) (found ∙ row.1) ∙ row.2) refl refl refl
-              (outcomes (next i (flag id)) ps others (rest_facts i (flag id) ps facts) (λ wanted among. from wanted (or_right _ _ among)))
+              one_more memory leaves.rows written.options written.flags i (flag id) ps others others (Some (flag_text (is_used id written.flags))) true (ap (option_and_then row_text) (found ∙ row.1) ∙ row.2) refl refl refl
+              (outcomes (next memory i (flag id)) ps others (rest_facts i (flag id) ps facts) (λ wanted among. from wanted (or_right _ _ among)))
           outcomes i (other id required ∷ ps) [] facts from =
               let seen = found_here i (other id required) ps facts in
-              let none = from id (or_left _ _ ((bytes_eq-Decides id id).1 refl)) ∙ ap (find (uses_id id)) (no_uses (next i (other id required)) ps) in
-              let row = leaves.other id (rule_at i (other id required)) (ap (λ t. t.0) seen) refl ∙ ap₂ (λ o d. option_or (option_map use_row o) d) none (ap (λ t. t.2) seen) in
-              one_more leaves.rows written.options written.flags i (other id required) ps [] [] None (not required) (ap (option_and_then (λ r. slice_get r.values 0)) row)
-              (ap (λ found. required && not (given_in leaves.rows written.options written.flags found)) row ∙ other_lacks leaves.rows written.options written.flags required) refl refl
-              (outcomes (next i (other id required)) ps [] (rest_facts i (other id required) ps facts) (λ wanted among. from wanted (or_right _ _ among)))
+              let none = from id (or_left _ _ ((bytes_eq-Decides id id).1 refl)) ∙ ap (find (uses_id id)) (no_uses (next memory i (other id required)) ps) in
+              let row = leaves.other id (rule_at memory i (other id required)) (ap (λ t. t.0) seen) refl ∙ ap₂ (λ o d. option_or (option_map use_row o) d) none (ap (λ t. t.2) seen) in
+              one_more memory leaves.rows written.options written.flags i (other id required) ps [] [] None (not required) (ap (option_and_then (λ r. slice_get r.values 0)) row)
+              (ap (λ found. required && not (given_in memory leaves.rows written.options written.flags found)) row ∙ other_lacks memory leaves.rows written.options written.flags required) refl refl
+              (outcomes (next memory i (other id required)) ps [] (rest_facts i (other id required) ps facts) (λ wanted among. from wanted (or_right _ _ among)))
           outcomes i (other id required ∷ ps) (text ∷ others) facts from =
               let seen = found_here i (other id required) ps facts in
               let same : bytes_eq id id ≡ true = (bytes_eq-Decides id id).1 refl in
-              let u : Use = (rule_at i (other id required), text ∷ []) in
-              let rest = other_uses (next i (other id required)) ps others in
+              let u : Use = (rule_at memory i (other id required), text ∷ []) in
+              let rest = other_uses (next memory i (other id required)) ps others in
               let some : find (uses_id id) uses_of_others ≡ Some u = from id (or_left _ _ same) ∙ ap (λ b. cond b (Some u) (find (uses_id id) rest)) same in
-              let row = leaves.other id (rule_at i (other id required)) (ap (λ t. t.0) seen) refl ∙ ap (λ o. option_or (option_map use_row o) (default_for id s.rules)) some in
-              one_more leaves.rows written.options written.flags i (other id required) ps (text ∷ others) others (Some text) true (ap (option_and_then (λ r. slice_get r.values 0)) row)
-              (ap (λ found. required && not (given_in leaves.rows written.options written.flags found)) row ∙ and-false required) refl refl
-              (outcomes (next i (other id required)) ps others (rest_facts i (other id required) ps facts) (λ wanted among.
+              let row = leaves.other id (rule_at memory i (other id required)) (ap (λ t. t.0) seen) refl ∙ ap (λ o. option_or (option_map use_row o) (default_for id s.rules)) some in
+              one_more memory leaves.rows written.options written.flags i (other id required) ps (text ∷ others) others (Some text) true (ap (option_and_then (λ r. slice_get r.values 0)) row)
+              (ap (λ found. required && not (given_in memory leaves.rows written.options written.flags found)) row ∙ and-false required) refl refl
+              (outcomes (next memory i (other id required)) ps others (rest_facts i (other id required) ps facts) (λ wanted among.
               from wanted (or_right _ _ among) ∙ ap (λ b. cond b (Some u) (find (uses_id wanted) rest)) (apart_among id wanted (map id_of ps) (apart_here i (other id required) ps facts) among)))
 
-          outcome : Outcome leaves.rows written.options written.flags 1 parameters written.others
+          outcome : Outcome memory leaves.rows written.options written.flags 1 parameters written.others
           outcome = outcomes 1 parameters written.others facts_of (λ id among. refl)
 
           fault_is : level_fault s [] nothing_held arguments false [] ≡ check_kinds false false (not (are_whole written.options written.others parameters))
           fault_is =
-              let lack = ap (list_any (lacks leaves.rows written.options written.flags)) offers.rules ∙ outcome.required in
-              let any = list_any (lacks leaves.rows written.options written.flags) s.rules in
+              let lack = ap (list_any (lacks memory leaves.rows written.options written.flags)) offers.rules ∙ outcome.required in
+              let any = list_any (lacks memory leaves.rows written.options written.flags) s.rules in
               leaves.fault
               ∙ ap (λ h. check_kinds (not false && (h && not (list_any (λ r. explicit_source r.source) leaves.rows))) (not false && s.subcommand_required)
               (not (s.subcommand_negates_reqs && false) && any)) offers.without_help
@@ -484,9 +357,9 @@ module _ {N : Type 0} (memory : N → Bor (List (Bor Text))) (known : N → List
           → (values : Values N) × (level_fault s [] nothing_held arguments false [] ≡ refused_kind (parser_of memory values) ∷ [])
       wrong_value_refused arguments have =
           let written = have.written in
-          let first = first_wrong parameters written.options (each_of _ written.options have.offered) have.wrong in
-          let each = each_as (Takes known parameters true) (λ o. OptionUse s.rules o.0 o.1) first.before (λ o takes. use_of 1 parameters facts_of o takes) first.taken in
-          let last = each_as (λ o. (taken : Bool) × Takes known parameters taken o) (λ o. OffersOption s o.0) first.after (λ o takes. offers_of 1 parameters facts_of o takes.0 takes.1) first.offered in
+          let first = first_wrong memory known named parameters written.options (each_of _ written.options have.offered) have.wrong in
+          let each = each_as (OptionTakes known parameters true) (λ o. OptionUse s.rules o.0 o.1) first.before (λ o takes. use_of 1 parameters facts_of o takes) first.taken in
+          let last = each_as (λ o. (taken : Bool) × OptionTakes known parameters taken o) (λ o. OffersOption s o.0) first.after (λ o takes. offers_of 1 parameters facts_of o takes.0 takes.1) first.offered in
           let once = subst (λ os. IsDistinct bytes_eq (map (λ o. o.0) os)) first.are written.once in
           let given = subst (λ os. AreGiven os written.flags written.others arguments) first.are written.given in
           let flags = used_flags arguments written in

@@ -12,4 +12,5 @@ pub mod MemberLemmas
 pub mod SpellingLemmas
 pub mod MatchLemmas
 pub mod OfferLemmas
+pub mod ParameterRows
 pub mod RequestLemmas

@@ -41,27 +41,27 @@ module _ {N : Type 0} where
 
 module _ {N : Type 0} (known : N → List Text) where
   -- there is an option of this name, and whether it takes this value
-  abbrev pub Takes : List (Parameter N) → Bool → Text × Text → Type 0
-  Takes parameters taken o = (values : Values N) × (default : Option Text) × Contains parameters (option o.0 values default) × (takes known values o.1 ≡ taken)
+  abbrev pub OptionTakes : List (Parameter N) → Bool → Text × Text → Type 0
+  OptionTakes parameters taken o = (values : Values N) × (default : Option Text) × Contains parameters (option o.0 values default) × (takes known values o.1 ≡ taken)
 
   -- The arguments give these texts to the parameters.
   pub record Give (parameters : List (Parameter N)) (arguments : List Text) (texts : List (Option Text)) : Type 0 where
     pub written : AreWritten parameters arguments
-    pub taken : All (Takes parameters true) written.options
+    pub taken : All (OptionTakes parameters true) written.options
     pub whole : are_whole written.options written.others parameters ≡ true
     pub are : texts ≡ texts_given written.options written.flags written.others parameters
 
   -- A parameter that may not be left out is left out.
   pub record LeaveOut (parameters : List (Parameter N)) (arguments : List Text) : Type 0 where
     pub written : AreWritten parameters arguments
-    pub taken : All (Takes parameters true) written.options
+    pub taken : All (OptionTakes parameters true) written.options
     pub left_out : are_whole written.options written.others parameters ≡ false
 
   -- There is an option of each name, and one has a value that it doesn't take.
   pub record HaveWrongValue (parameters : List (Parameter N)) (arguments : List Text) : Type 0 where
     pub written : AreWritten parameters arguments
-    pub offered : All (λ o. (taken : Bool) × Takes parameters taken o) written.options
-    pub wrong : Any (Takes parameters false) written.options
+    pub offered : All (λ o. (taken : Bool) × OptionTakes parameters taken o) written.options
+    pub wrong : Any (OptionTakes parameters false) written.options
 
 -- ---- where options know their lists of names by where they are in memory
 

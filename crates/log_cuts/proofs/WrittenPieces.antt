@@ -1,14 +1,13 @@
 -- Lemmas on what is read of a log and on what is written of its pieces.
-use Rattle.std.proofs.Common.{◌≡◌, ◌<◌, ◌≤◌, ◌∙◌, ℕ, ◌+◌, ◌^◌, List, [], ◌∷◌, ◌++◌, All, Err, None, Ok, Some, IfSome, ap, arith, drop, inr, length, refl, subst, sym, take, ⊎_elim}
+use Rattle.std.proofs.Common.{◌≡◌, ◌<◌, ◌≤◌, ◌∙◌, ℕ, ◌^◌, List, [], ◌∷◌, ◌++◌, All, Err, None, Ok, Some, IfSome, ap, arith, inr, length, refl, subst, sym, take, ⊎_elim}
 use Rattle.std.specs.Prelude.{IfOk, OnErr, Option, Result}
 use Rattle.std.specs.Io.KnownBytes.{Appends, Consumes}
 use Rattle.std.specs.List.{flat_map}
 use Rattle.std.proofs.KnownBytes.{Appends-nil, Appends-trans, Keeps-refl}
 use Rattle.std.proofs.lemmas.Bool.{cases_lt}
 use Rattle.std.proofs.lemmas.Grind.{flat_map-append}
-use Rattle.std.proofs.lemmas.List.{append-nil, drop_at, length-append, length-take-le, take_all, take_at}
+use Rattle.std.proofs.lemmas.List.{append-nil, length-take-le, take_all}
 use Rattle.std.proofs.lemmas.List.Elements.{All-append, All-cons, All-nil}
-use Rattle.std.proofs.Math.Seq.{take-add}
 use Rattle.log_cuts.specs.Internal.Written.{WritesPart, WritesStream}
 use Rattle.log_cuts.specs.LogCuts.{IsCutOfReader, IsStreamOf, LeavesCut, WritesCut, WritesRefusal}
 use Rattle.log_pieces.specs.Pieces.{IsCutOf}
@@ -16,8 +15,9 @@ use Rattle.log_pieces.specs.declared.known.Piece.{Piece}
 use Rattle.log_text.specs.LogTexts.{IsLogRefusal, SpellsLog}
 use Rattle.tso_ops.specs.Values.{TraceValue}
 use Rattle.tso_ops.specs.Events.{event_total}
-use Rattle.trace_reports.specs.Reports.{refusal_text}
+use Rattle.trace_reports.specs.RefusalLines.{refusal_text}
 use Rattle.trace_judging.specs.Streams.{AppendsPrefix}
+use Rattle.trace_judging.proofs.StreamFacts.{prefix_after, whole_written}
 use Rattle.trace_judging.specs.declared.faults.Fault.{Fault}
 use Rattle.tso_text.specs.Texts.{SpellsTrace}
 use Rattle.tso_text.specs.Printed.{trace_text}
@@ -45,23 +45,6 @@ all_consumed (Some all) new bytes is taken = subst (Consumes (Some all) new) is 
 
 -- ---- what is written
 
--- all of a text was written
-all_written : (a b : Option (List ℕ)) (text : List ℕ) → Appends a b text → AppendsPrefix a b text
-all_written a b text appends = (length text, omega arith, subst (Appends a b) (sym (take_all (length text) text (omega arith))) appends)
-
--- a prefix of what follows was written after a text
-prefix_after : (a b c : Option (List ℕ)) (text more : List ℕ) → Appends a b text → AppendsPrefix b c more → AppendsPrefix a c (text ++ more)
-prefix_after a b c text more first second =
-    let count = length-append text more in
-    let within = second.1 in (
-      length text + second.0,
-      omega (arith, count, within),
-      subst (Appends a c) (sym (take_append text more second.0)) (Appends-trans a b c text (take second.0 more) first second.2),
-    )
-  where
-    take_append : (text more : List ℕ) (n : ℕ) → take (length text + n) (text ++ more) ≡ text ++ take n more
-    take_append text more n = take-add (length text) n (text ++ more) ∙ ap (λ l. l ++ take n (drop (length text) (text ++ more))) (take_at text more (length text) refl) ∙ ap (λ l. text ++ take n l) (drop_at text more (length text) refl)
-
 All-one : (P : TraceValue → Type 0) (t : TraceValue) → P t → All P (t ∷ [])
 All-one P t holds = All-cons P t [] holds (All-nil P)
 
@@ -78,11 +61,11 @@ module _ (operations : TraceValue) (events : ℕ) where
     whole = ap (λ l. l ++ trace_text t) is.whole ∙ ap (λ l. flat_map trace_text is.traces ++ l) (sym (append-nil (trace_text t))) ∙ sym (flat_map-append trace_text is.traces (t ∷ []));
   }
 
-  pub none_written : (a : Option (List ℕ)) → WritesStream operations events a a
-  none_written a = ([], no_trace, Appends-nil a)
+  pub no_piece_written : (a : Option (List ℕ)) → WritesStream operations events a a
+  no_piece_written a = ([], no_trace, Appends-nil a)
 
   pub some_written : (a b : Option (List ℕ)) → WritesStream operations events a b → WritesPart operations events a b
-  some_written a b writes = (writes.0, writes.1, all_written a b writes.0 writes.2)
+  some_written a b writes = (writes.0, writes.1, whole_written a b writes.0 writes.2)
 
   module _ (a b c : Option (List ℕ)) (t : TraceValue) (bytes text : List ℕ) (before : WritesStream operations events a b) (cut : IsCutOf operations t × (event_total t ≤ events)) (spelled : SpellsTrace text t) (lines : text ≡ trace_text t) (same : bytes ≡ text) where
     more : IsStreamOf operations events (before.0 ++ trace_text t)

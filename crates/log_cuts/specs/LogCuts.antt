@@ -9,7 +9,7 @@ use Rattle.tso_text.specs.Printed.{trace_text}
 use Rattle.tso_text.specs.declared.faults.Why.{Why}
 use Rattle.trace_judging.specs.declared.faults.Fault.{Fault}
 use Rattle.trace_judging.specs.declared.faults.Fault.TheVariants.{OutOfMemory, Read, Write, NoThread, Missing}
-use Rattle.trace_reports.specs.Reports.{refusal_text}
+use Rattle.trace_reports.specs.RefusalLines.{refusal_text}
 use Rattle.trace_judging.specs.Streams.{AppendsPrefix}
 use Rattle.log_pieces.specs.Pieces.{IsCutOf}
 use Rattle.log_text.specs.LogTexts.{IsLogRefusal, SpellsLog}

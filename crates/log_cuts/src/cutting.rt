@@ -4,7 +4,7 @@ ghost use Rattle.std.specs.Io.KnownBytes.{Consumes, Keeps};
 ghost use Rattle.log_cuts.specs.Internal.Written.{WritesPart, WritesStream};
 ghost use Rattle.log_cuts.specs.LogCuts.{IsCutFault, LeavesCut, WritesCut, WritesRefusal};
 ghost use Rattle.log_text.specs.LogValues.{log_operations};
-ghost use Rattle.trace_reports.specs.Reports.{refusal_text};
+ghost use Rattle.trace_reports.specs.RefusalLines.{refusal_text};
 ghost use Rattle.trace_judging.specs.Streams.{AppendsPrefix};
 ghost use Rattle.trace_judging.specs.declared.faults.Fault.{Fault};
 ghost use Rattle.tso_text.specs.declared.faults.Why.{Why};

@@ -4,7 +4,7 @@ use Rattle.std.specs.Prelude.{ℕ, List, [], ◌∷◌, Option, None, Some, Resu
 use Rattle.line_text.specs.Lines.{tokens_of}
 use Rattle.line_text.specs.Numbers.{number}
 use Rattle.line_text.specs.Results.{◌>>=◌}
-use Rattle.tso_text.specs.Numbers.{no_number, two_numbers, three_numbers}
+use Rattle.tso_text.specs.Numbers.{numbers, number_at}
 use Rattle.tso_text.specs.declared.faults.Why.{Why}
 use Rattle.tso_text.specs.declared.faults.Why.TheVariants.{BadLine, BadModel}
 use Rattle.log_text.specs.declared.logs.LogOperation.{LogOperation}
@@ -16,11 +16,11 @@ use Rattle.log_text.specs.declared.lines.LogLine.TheVariants.{Pso, First, Issued
 unfoldable pub operation_said : List (List ℕ) → Result LogOperation Why
 operation_said [] = Err BadLine
 operation_said (word ∷ tokens) =
-    if bytes_eq word (codes "ld") then two_numbers tokens >>= (λ n. Ok (Ld n.0 n.1))
-    else if bytes_eq word (codes "st") then two_numbers tokens >>= (λ n. Ok (St n.0 n.1))
-    else if bytes_eq word (codes "sw") then three_numbers tokens >>= (λ n. Ok (Sw n.0 n.1 n.2))
-    else if bytes_eq word (codes "mb") then no_number tokens >>= (λ _. Ok Mb)
-    else if bytes_eq word (codes "stbar") then no_number tokens >>= (λ _. Ok Sb)
+    if bytes_eq word (codes "ld") then numbers 2 tokens >>= (λ ns. Ok (Ld (number_at ns 0) (number_at ns 1)))
+    else if bytes_eq word (codes "st") then numbers 2 tokens >>= (λ ns. Ok (St (number_at ns 0) (number_at ns 1)))
+    else if bytes_eq word (codes "sw") then numbers 3 tokens >>= (λ ns. Ok (Sw (number_at ns 0) (number_at ns 1) (number_at ns 2)))
+    else if bytes_eq word (codes "mb") then numbers 0 tokens >>= (λ _. Ok Mb)
+    else if bytes_eq word (codes "stbar") then numbers 0 tokens >>= (λ _. Ok Sb)
     else Err BadLine
 
 -- the processor that the first token of a line is, or its fault
@@ -32,7 +32,7 @@ processor_said (Some p) = Ok p
 unfoldable pub tokens_said : List (List ℕ) → Result LogLine Why
 tokens_said [] = Err BadLine
 tokens_said (word ∷ tokens) =
-    if bytes_eq word (codes "init") then two_numbers tokens >>= (λ n. Ok (First n.0 n.1))
+    if bytes_eq word (codes "init") then numbers 2 tokens >>= (λ ns. Ok (First (number_at ns 0) (number_at ns 1)))
     else if bytes_eq word (codes "model") then Err BadModel
     else processor_said (number word) >>= λ p. operation_said tokens >>= λ x. Ok (Issued p x)
 

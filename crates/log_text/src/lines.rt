@@ -5,6 +5,7 @@ ghost use Rattle.log_text.specs.LogLines.{line_said, operation_said, processor_s
 
 use crate::logs::LogOperation;
 use line_text::{next_token, number_of};
+use tso_text::words::{LD, MB, ST, STBAR, SW};
 use tso_text::{Why, no_number, three_numbers, two_numbers};
 
 /// What a line of a log says.
@@ -58,19 +59,19 @@ fn operation_said(tokens: Option<&[u8]>) -> Result<LogOperation, Why>
         return Err(Why::BadLine);
     };
     let (word, tokens) = next_token(rest);
-    if word == b"ld".as_slice() {
+    if word == LD.as_bytes() {
         let (a, r) = two_numbers(tokens)?;
         Ok(LogOperation::Ld { a, r })
-    } else if word == b"st".as_slice() {
+    } else if word == ST.as_bytes() {
         let (a, v) = two_numbers(tokens)?;
         Ok(LogOperation::St { a, v })
-    } else if word == b"sw".as_slice() {
+    } else if word == SW.as_bytes() {
         let (a, r, v) = three_numbers(tokens)?;
         Ok(LogOperation::Sw { a, r, v })
-    } else if word == b"mb".as_slice() {
+    } else if word == MB.as_bytes() {
         no_number(tokens)?;
         Ok(LogOperation::Mb)
-    } else if word == b"stbar".as_slice() {
+    } else if word == STBAR.as_bytes() {
         no_number(tokens)?;
         Ok(LogOperation::Sb)
     } else {

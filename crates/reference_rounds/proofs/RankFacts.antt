@@ -7,7 +7,7 @@ use Rattle.tso_ops.specs.Values.{TraceValue}
 use Rattle.tso_ops.specs.Events.{event_total}
 use Rattle.tso_cert.specs.declared.rules.InferredRule.{InferredRule}
 use Rattle.tso_cert.specs.declared.rules.InferredRule.TheVariants.{LoadPast, StorePast, SwapBefore, SwapAfter}
-use Rattle.tso_cert.specs.Spelling.{inferred_rules}
+use Rattle.tso_cert.specs.Internal.LineValues.{inferred_rules}
 use Rattle.tso_model.specs.Ranks.{RankSet, IsInferred}
 use Rattle.tso_model.specs.NewEdges.{IsGivenBy, IsNew}
 use Rattle.tso_model.proofs.Bounds.{RankSet-within}

@@ -1,5 +1,5 @@
 -- Lemmas on how the program ends.
-use Rattle.std.proofs.Common.{◌≡◌, ◌∙◌, ◌⊎◌, ℕ, List, [], ◌∷◌, ◌++◌, append_assoc, Ok, Err, Result, IfOk, IfErr, IfSome, Some, None, unwrap_or, arith, length, ap, refl, subst, sym, inl, inr, true, false, true≢false}
+use Rattle.std.proofs.Common.{◌≡◌, ◌∙◌, ℕ, List, [], ◌∷◌, ◌++◌, append_assoc, Ok, Err, Result, IfOk, IfErr, IfSome, Some, None, unwrap_or, arith, length, ap, refl, subst, sym, inl, inr, true, false, true≢false}
 use Rattle.std.specs.Prelude.{Bool, OnErr, Option, ◌≢◌, is_some, not, option_map}
 use Rattle.std.specs.Borrow.{Bor}
 use Rattle.std.specs.List.{list_all}
@@ -8,7 +8,7 @@ use Rattle.command_line.specs.declared.options.Presentation.{Presentation}
 use Rattle.std.proofs.lemmas.List.{append-nil}
 use Rattle.trace_reports.specs.declared.verdicts.Verdict.{Verdict}
 use Rattle.trace_judging.specs.declared.faults.Fault.{Fault}
-use Rattle.trace_judging.specs.declared.faults.Fault.TheVariants.{OutOfMemory, Read, Write, NoThread, Missing}
+use Rattle.trace_judging.specs.declared.faults.Fault.TheVariants.{Write}
 use Rattle.trace_judging.specs.WrittenReports.{IsCheckReportOfReaders, LeavesAtFault, WritesPrefix, WritesWhole}
 use Rattle.trace_judging.specs.Checks.{IsCheckReport}
 use Rattle.trace_reports.specs.Readings.{ReadsAs}
@@ -16,7 +16,7 @@ use Rattle.trace_reports.proofs.ReadingFacts.{reads_more, reads_whole}
 use Rattle.trace_reports.specs.Renderings.{IsTextOfInput}
 use Rattle.trace_batches.specs.Batches.{IsBatch, IsBatchFault, IsBatchOfReader}
 use Rattle.trace_batches.proofs.BatchFacts.{some_batch}
-use Rattle.trace_batches.proofs.StreamFacts.{none_written}
+use Rattle.trace_judging.proofs.StreamFacts.{none_written}
 use Rattle.request_serving.specs.Endings.{Ends, IsPresented, Outputs, WritesFaultLine, refused_as, said_as}
 use Rattle.std.proofs.Math.Seq.{take-length}
 use Rattle.request_serving.specs.OpenedFiles.{HasKnown, OpensFirst, OpensNext}
@@ -104,11 +104,11 @@ opens_both (Some before) mid new name other opens also =
 
 -- ---- how a request ends
 
-pub ends_as : {X : Type 0} (is_text : List ℕ → X → Type 0) (status_of : X → ℕ) (leaves : Option (List ℕ) → Option (List ℕ) → Fault → Type 0) (o : Outputs) (outcome : Result X Fault) (status : ℕ) →
-    IfOk outcome (WritesWhole is_text o.written_before o.written) → IfErr outcome (leaves o.written_before o.written) → IfOk outcome (λ said. (status ≡ status_of said) × Keeps o.errors_before o.errors) →
-    IfErr outcome (λ fault. WritesFaultLine o.errors_before o.errors fault × (status ≡ 4)) → Ends is_text status_of leaves o status
-ends_as is_text status_of leaves o (Ok said) status writes left told faulty = inl (said, writes, told.1, told.0)
-ends_as is_text status_of leaves o (Err fault) status writes left told faulty = inr (fault, left, faulty)
+pub ends_as : {X : Type 0} (is_text : List ℕ → X → Type 0) (status_by : X → ℕ) (leaves : Option (List ℕ) → Option (List ℕ) → Fault → Type 0) (o : Outputs) (outcome : Result X Fault) (status : ℕ) →
+    IfOk outcome (WritesWhole is_text o.written_before o.written) → IfErr outcome (leaves o.written_before o.written) → IfOk outcome (λ said. (status ≡ status_by said) × Keeps o.errors_before o.errors) →
+    IfErr outcome (λ fault. WritesFaultLine o.errors_before o.errors fault × (status ≡ 4)) → Ends is_text status_by leaves o status
+ends_as is_text status_by leaves o (Ok said) status writes left told faulty = inl (said, writes, told.1, told.0)
+ends_as is_text status_by leaves o (Err fault) status writes left told faulty = inr (fault, left, faulty)
 
 -- where nothing was opened
 pub opens_none : (old : Option (List (List ℕ))) (names : List (List ℕ)) → OpensFirst old old names

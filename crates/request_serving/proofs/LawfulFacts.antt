@@ -8,7 +8,7 @@ use Rattle.command_line.specs.declared.options.Printing.{Printing}
 use Rattle.command_line.specs.declared.options.Printing.TheVariants.{Report, Trace, Explanation}
 use Rattle.command_line.specs.declared.options.RunOptions.{RunOptions}
 use Rattle.command_line.specs.declared.options.UnitKind.{UnitKind}
-use Rattle.command_line.specs.declared.options.UnitKind.TheVariants.{Serial, Buffer, Partial, Faulty}
+use Rattle.command_line.specs.declared.options.UnitKind.TheVariants.{Serial, Buffer}
 use Rattle.command_line.specs.declared.options.UnitOptions.{UnitOptions}
 use Rattle.tso_report.specs.Campaigns.{is_lawful_under}
 use Rattle.trace_reports.specs.Readings.{ReadsAs}

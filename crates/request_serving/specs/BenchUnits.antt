@@ -30,13 +30,17 @@ design_of_kind (Faulty kind) capacity trigger = faulty_design (new_faulty_state 
 
 -- a unit of this kind is lawful
 abbrev pub is_lawful_kind : UnitKind → Bool
+is_lawful_kind Serial = true
+is_lawful_kind Buffer = true
+is_lawful_kind Partial = true
 is_lawful_kind (Faulty kind) = false
-is_lawful_kind _ = true
 
 -- the memory model of a unit of this kind
 abbrev pub order_of_kind : UnitKind → Order
+order_of_kind Serial = Tso
+order_of_kind Buffer = Tso
 order_of_kind Partial = Pso
-order_of_kind _ = Tso
+order_of_kind (Faulty kind) = Tso
 
 -- A unit of this kind is lawful for programs of each memory model: it is lawful, and each run of its machine is one of the machine of TSO.
 abbrev pub is_lawful_under_all : UnitKind → Bool

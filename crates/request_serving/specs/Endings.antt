@@ -62,8 +62,8 @@ EndsByFault fault o status = WritesFaultLine o.errors_before o.errors fault × (
 -- The output grows by a text of this kind and the errors by nothing, and the status is that of what the text says; or a fault left what it leaves of such
 -- a text.
 abbrev pub Ends : {X : Type 0} → (List ℕ → X → Type 0) → (X → ℕ) → (Option (List ℕ) → Option (List ℕ) → Fault → Type 0) → Outputs → ℕ → Type 0
-Ends {X} is_text status_of leaves o status =
-    ((said : X) × WritesWhole is_text o.written_before o.written said × Keeps o.errors_before o.errors × (status ≡ status_of said))
+Ends {X} is_text status_by leaves o status =
+    ((said : X) × WritesWhole is_text o.written_before o.written said × Keeps o.errors_before o.errors × (status ≡ status_by said))
     ⊎ ((fault : Fault) × leaves o.written_before o.written fault × EndsByFault fault o status)
 
 -- a report, with the status of its verdict; or a fault left nothing or, on Write, a prefix of the report

@@ -6,7 +6,8 @@ use Rattle.trace_reports.specs.declared.verdicts.Verdict.{Verdict}
 use Rattle.trace_reports.specs.declared.verdicts.Verdict.TheVariants.{NoViolation}
 use Rattle.trace_explanation.specs.Explained.{IsTraceExplanation}
 use Rattle.tso_report.specs.AccountTexts.{account_text}
-use Rattle.trace_reports.specs.Reports.{IsTraceReport, refusal_text}
+use Rattle.trace_reports.specs.RefusalLines.{refusal_text}
+use Rattle.trace_reports.specs.Reports.{IsTraceReport}
 use Rattle.command_line.specs.declared.options.Printing.{Printing}
 use Rattle.command_line.specs.declared.options.Printing.TheVariants.{Report, Trace, Explanation}
 use Rattle.command_line.specs.declared.options.UnitOptions.{UnitOptions}

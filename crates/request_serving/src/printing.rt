@@ -1,7 +1,7 @@
 //! What is printed of records and of refused texts.
 ghost use Rattle.std.specs.Prelude.{◌≡◌, ◌≢◌, ◌⊎◌, ◌≤◌, IfOk, IfErr};
 ghost use Rattle.trace_judging.specs.declared.faults.Fault.{Fault};
-ghost use Rattle.trace_reports.specs.Reports.{refusal_text};
+ghost use Rattle.trace_reports.specs.RefusalLines.{refusal_text};
 ghost use Rattle.tso_text.specs.declared.faults.Why.{Why};
 ghost use Rattle.command_line.specs.declared.options.Printing.TheVariants.{Explanation};
 ghost use Rattle.unit_core.specs.declared.accounts.Account.{Account as AccountValue};
@@ -14,7 +14,7 @@ use std::alloc::Global;
 use std::sync::Wait;
 use std::thread::Threads;
 use trace_explanation::AsExplanation;
-use trace_judging::{Fault, render_refusal, render_trace};
+use trace_judging::{Fault, judge_trace, render_refusal};
 use tso_ops::OutOfMemory;
 use tso_report::{print_account, report_of_record};
 use tso_text::{TextFault, print_trace};
@@ -65,7 +65,7 @@ fn print_explanation<H: Threads + Wait + AllocGlobal>(
     ensures text { (account : AccountValue) → IfOk result (λ printed. PrintsRecord Explanation recorded.now account printed.text.items printed.status) }
     ensures fault { IfErr result (λ fault. (fault ≡ Fault.OutOfMemory) ⊎ (fault ≡ Fault.NoThread)) }
 {
-    let explained = render_trace(
+    let explained = judge_trace(
         rt,
         rt.alloc(),
         recorded.trace(),

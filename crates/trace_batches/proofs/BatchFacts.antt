@@ -20,7 +20,7 @@ use Rattle.trace_batches.specs.declared.tallies.Tally.{Tally}
 use Rattle.trace_batches.specs.Batches.{AreReports, IsBatch, IsBatchOfReader, ReportValue, batch_verdict, total_line, total_text, trace_lines}
 use Rattle.trace_batches.specs.Internal.Progress.{Counts, Stands, Told, WroteAll, WroteSome}
 use Rattle.trace_batches.proofs.JobFacts.{AreReports-append, trace_lines-append}
-use Rattle.trace_batches.proofs.StreamFacts.{all_written, none_written, prefix_after, prefix_of_more}
+use Rattle.trace_judging.proofs.StreamFacts.{none_written, prefix_after, prefix_of_more, whole_written}
 use Rattle.trace_batches.proofs.TallyFacts.{total_by_counts}
 
 -- ---- reports
@@ -133,7 +133,7 @@ pub stands_left : (quiet : Bool) (remaining now old new : Option (List ℕ)) (cu
     WritesPrefix (IsBatchOfReader quiet remaining) old new
 stands_left quiet remaining now old new cutter tally s =
     left_of_reader quiet remaining now old new s.bytes s.rest s.ended [] s.reports s.taken (subst (λ es. IsSplit s.bytes es s.rest) (sym (append-nil s.ended)) s.cut) s.are_reports
-    (all_written old new (trace_lines quiet 1 s.reports) s.lines)
+    (whole_written old new (trace_lines quiet 1 s.reports) s.lines)
 
 -- the number of the next line
 next_line : (tally : Tally) (reports : List ReportValue) → Counts tally reports → suc tally.traces ≡ 1 + length reports

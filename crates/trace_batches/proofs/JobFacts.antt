@@ -16,7 +16,7 @@ use Rattle.trace_batches.specs.declared.jobs.Job.{Job}
 use Rattle.trace_batches.specs.declared.tallies.Tally.{Tally}
 use Rattle.trace_batches.specs.Batches.{AreReports, IsBatchFault, ReportValue, trace_lines, written_line}
 use Rattle.trace_batches.specs.Internal.Progress.{AreJudged, Counts, IsOutcome, WroteAll, WroteSome}
-use Rattle.trace_batches.proofs.StreamFacts.{all_written, prefix_after}
+use Rattle.trace_judging.proofs.StreamFacts.{prefix_after, whole_written}
 
 -- ---- reports
 
@@ -95,7 +95,7 @@ wrote_before quiet before mid pieces i a b so_far = record {
   count = i;
   reports = so_far.reports;
   are_reports = so_far.are_reports;
-  lines = all_written a b (trace_lines quiet (suc before.traces) so_far.reports) so_far.lines;
+  lines = whole_written a b (trace_lines quiet (suc before.traces) so_far.reports) so_far.lines;
 }
 
 -- a fault in its line

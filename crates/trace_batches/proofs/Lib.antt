@@ -2,7 +2,6 @@ pub mod BatchFacts
 pub mod CutterFacts
 pub mod JobFacts
 pub mod PieceFacts
-pub mod StreamFacts
 pub mod TallyFacts
 mod PieceReports
 mod TracePieces

@@ -3,7 +3,8 @@ use Rattle.std.proofs.Common.{◌≡◌, ◌↔◌, ℕ, ◌<◌, List, length, 
 use Rattle.trace_reports.specs.declared.verdicts.Verdict.{Verdict}
 use Rattle.trace_reports.specs.declared.verdicts.Verdict.TheVariants.{Refused}
 use Rattle.trace_judging.specs.Limits.{trace_read_limit}
-use Rattle.trace_reports.specs.Reports.{IsReport, refusal_shown, refusal_text, reported}
+use Rattle.trace_reports.specs.RefusalLines.{refusal_text}
+use Rattle.trace_reports.specs.Reports.{IsReport, refusal_shown, reported}
 use Rattle.trace_reports.proofs.RenderingFacts.{one_text, some_text}
 use Rattle.trace_judging.proofs.ReaderFacts.{report_of_prefix}
 use Rattle.tso_text.specs.declared.faults.Why.TheVariants.{TooLong}

@@ -5,8 +5,9 @@ use Rattle.std.proofs.lemmas.Bool.{cond-false, cond-true, le-ltb, lt-ltb}
 use Rattle.std.proofs.lemmas.List.Sums.{sum_by-cons}
 use Rattle.trace_reports.specs.declared.verdicts.Verdict.TheVariants.{NoViolation, Refused, Violation}
 use Rattle.trace_batches.specs.declared.tallies.Tally.{Tally}
-use Rattle.trace_batches.specs.Batches.{ReportValue, batch_verdict, is_refused, is_violation, total_line, total_text}
+use Rattle.trace_batches.specs.Batches.{ReportValue, batch_verdict, total_line, total_text}
 use Rattle.trace_batches.specs.Internal.Progress.{Counts}
+use Rattle.trace_reports.specs.Verdicts.{is_refused, is_violation}
 
 -- an element passes where some are counted
 any_counted : {X : Type 0} (p : X → Bool) (xs : List X) → list_any p xs ≡ ltb 0 (count_by p xs)

@@ -9,6 +9,7 @@ use Rattle.trace_reports.specs.Readings.{ReadsAs}
 use Rattle.trace_reports.specs.declared.verdicts.Verdict.{Verdict}
 use Rattle.trace_reports.specs.declared.verdicts.Verdict.TheVariants.{NoViolation, Violation, Refused}
 use Rattle.trace_reports.specs.Reports.{IsReport}
+use Rattle.trace_reports.specs.Verdicts.{is_refused, is_violation, verdict_line}
 
 -- ---- the reports of pieces
 
@@ -24,20 +25,12 @@ AreReports [] (report ∷ reports) = ⊥
 AreReports (piece ∷ pieces) [] = ⊥
 AreReports (piece ∷ pieces) (report ∷ reports) = IsReport piece report.text report.verdict × AreReports pieces reports
 
-abbrev pub is_violation : Verdict → Bool
-is_violation Violation = true
-is_violation _ = false
-
-abbrev pub is_refused : Verdict → Bool
-is_refused Refused = true
-is_refused _ = false
-
 -- ---- the text
 
 -- the end of a line: what the report says, without certificate. The report of a refused piece is this one line.
 abbrev pub line_end_of : Verdict → List ℕ → List ℕ
-line_end_of NoViolation report = codes "NO VIOLATION FOUND" ++ 10 ∷ []
-line_end_of Violation report = codes "VIOLATION" ++ 10 ∷ []
+line_end_of NoViolation report = verdict_line false
+line_end_of Violation report = verdict_line true
 line_end_of Refused report = report
 
 -- the line of the trace of this number

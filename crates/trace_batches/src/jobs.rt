@@ -7,7 +7,7 @@ use std::alloc::Global;
 use std::sync::Wait;
 use std::thread;
 use std::thread::Threads;
-use trace_judging::{AsReport, Fault, Report, render_text};
+use trace_judging::{AsReport, Fault, Report, judge_text};
 use tso_ops::OutOfMemory;
 
 /// A piece of a stream, and its report.
@@ -32,7 +32,7 @@ impl Job {
     fn judge<H: Threads + Wait>(&mut self, rt: &H, alloc: Global)
         ensures { IsOutcome self.old.piece.items self.new.outcome }
     {
-        self.outcome = render_text(rt, alloc, &self.piece, 1, &AsReport);
+        self.outcome = judge_text(rt, alloc, &self.piece, 1, &AsReport);
     }
 }
 

@@ -8,6 +8,7 @@ use crate::tallies::Tally;
 use std::alloc::Global;
 use std::fmt::Write;
 use trace_judging::{Report, Verdict};
+use trace_reports::verdict_line;
 use tso_ops::OutOfMemory;
 
 /// The line of the trace of this number, or nothing where a quiet batch leaves it out.
@@ -40,8 +41,8 @@ fn line_end_of(report: &Report) -> &str
     ensures { result.now ≡ line_end_of report.now.verdict (string_bytes report.now.text) }
 {
     match report.verdict {
-        Verdict::NoViolation => "NO VIOLATION FOUND\n",
-        Verdict::Violation => "VIOLATION\n",
+        Verdict::NoViolation => verdict_line(false),
+        Verdict::Violation => verdict_line(true),
         Verdict::Refused => report.text.as_str(),
     }
 }

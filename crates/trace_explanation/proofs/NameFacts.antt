@@ -13,7 +13,7 @@ use Rattle.tso_ops.specs.Values.{TraceValue}
 use Rattle.tso_ops.specs.Events.{event_at, event_total, events_of, HasSource}
 use Rattle.tso_ops.specs.declared.operations.EventOperation.{EventOperation}
 use Rattle.tso_ops.specs.Operations.{operation_at, operations_of}
-use Rattle.trace_explanation.specs.Names.{event_name, event_numbers, is_store, load_source, name_text, source_of}
+use Rattle.trace_explanation.specs.Names.{event_name, event_numbers, is_store_where, load_source, name_text, source_of}
 use Rattle.trace_explanation.specs.Internal.Tables.{text_in, HasNames}
 use Rattle.trace_explanation.proofs.SearchFacts.{found-passes, missed-fails}
 
@@ -73,7 +73,7 @@ names-whole t names operations n is count whole named k =
 module _ (t : TraceValue) (l : ℕ) where
   -- the store wrote the value of the load to its address
   abbrev wrote : Event → ℕ → Bool
-  wrote e = is_store t (λ s. eqb s.a e.a && eqb s.value e.value)
+  wrote e = is_store_where t (λ s. eqb s.a e.a && eqb s.value e.value)
 
   -- where the event at a number wrote it, and where it didn't
   written : (e : Event) (o : Option Event) → option_map_or (λ s. not s.load && (eqb s.a e.a && eqb s.value e.value)) o false ≡ true → (d : Event) × (o ≡ Some d) × (d.load ≡ false) × (d.a ≡ e.a) × (d.value ≡ e.value)

@@ -4,7 +4,8 @@ use Rattle.tso_ops.specs.Values.{TraceValue}
 use Rattle.tso_text.specs.declared.faults.Why.{Why}
 use Rattle.trace_reports.specs.declared.verdicts.Verdict.{Verdict}
 use Rattle.trace_reports.specs.Renderings.{IsTextOfTrace, SaidOfRefusal, SaidOfTrace}
-use Rattle.trace_reports.specs.Reports.{head_text, refusal_text}
+use Rattle.trace_reports.specs.RefusalLines.{refusal_text}
+use Rattle.trace_reports.specs.Reports.{head_text}
 use Rattle.trace_explanation.specs.Explanations.{explanation_text}
 use Rattle.trace_explanation.specs.Refusals.{line_shown, refusal_explanation}
 

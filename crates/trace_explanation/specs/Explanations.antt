@@ -13,7 +13,7 @@ use Rattle.tso_cert.specs.declared.steps.CertStep.{CertStep}
 use Rattle.tso_cert.specs.declared.steps.Certificate.{Certificate}
 use Rattle.tso_cert.specs.declared.steps.Certificate.TheVariants.{Unwritten, Cycle}
 use Rattle.trace_explanation.specs.JoinedTexts.{joined}
-use Rattle.trace_explanation.specs.Names.{address_at, event_numbers, is_store, line_at, name_text, place_text}
+use Rattle.trace_explanation.specs.Names.{address_at, event_numbers, is_store_where, line_at, name_text, place_text}
 use Rattle.trace_explanation.specs.Steps.{is_edge, is_named, links_of, step_number}
 use Rattle.trace_explanation.specs.Words.{reason_short, reason_long}
 
@@ -61,7 +61,7 @@ cycle_text t steps cycle =
 
 -- the stores to the address
 abbrev pub stores_to : TraceValue → ℕ → List ℕ
-stores_to t a = filter (is_store t (λ e. e.a == a)) (event_numbers t)
+stores_to t a = filter (is_store_where t (λ e. e.a == a)) (event_numbers t)
 
 -- where the value was stored instead: by store m
 abbrev pub elsewhere_text : TraceValue → ℕ → ℕ → List ℕ
@@ -86,7 +86,7 @@ unread_text t n e = joined (
 -- the explanation of load n, by its event
 abbrev pub unwritten_by : TraceValue → ℕ → Event → List ℕ
 unwritten_by t n e =
-    unread_text t n e ++ option_map_or (elsewhere_text t e.value) (find (is_store t (λ s. s.value == e.value)) (event_numbers t)) [] ++ stores_text t e.a (stores_to t e.a)
+    unread_text t n e ++ option_map_or (elsewhere_text t e.value) (find (is_store_where t (λ s. s.value == e.value)) (event_numbers t)) [] ++ stores_text t e.a (stores_to t e.a)
 
 -- ---- the explanation
 

@@ -41,13 +41,13 @@ abbrev pub event_numbers : TraceValue → List ℕ
 event_numbers t = range_with_len 1 (event_total t)
 
 -- event n is a store that passes the test
-abbrev pub is_store : TraceValue → (Event → Bool) → ℕ → Bool
-is_store t test n = option_map_or (λ e. not e.load && test e) (event_at t n) false
+abbrev pub is_store_where : TraceValue → (Event → Bool) → ℕ → Bool
+is_store_where t test n = option_map_or (λ e. not e.load && test e) (event_at t n) false
 
 -- the source of a load: 0 where it read the first value of its address, or the first store to its address that wrote its value
 abbrev pub load_source : TraceValue → Event → Option ℕ
 load_source t e =
-    cond (e.value == first_value t.setting.first e.a) (Some 0) (find (is_store t (λ s. s.a == e.a && s.value == e.value)) (event_numbers t))
+    cond (e.value == first_value t.setting.first e.a) (Some 0) (find (is_store_where t (λ s. s.a == e.a && s.value == e.value)) (event_numbers t))
 
 -- the source of event n, if it is a load that has one
 unfoldable pub source_of : TraceValue → ℕ → Option ℕ

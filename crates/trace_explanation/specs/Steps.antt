@@ -9,7 +9,7 @@ use Rattle.tso_cert.specs.declared.rules.BaseRule.TheVariants.{Init, LoadOp, Sto
 use Rattle.tso_cert.specs.declared.steps.Reason.{Reason}
 use Rattle.tso_cert.specs.declared.steps.Reason.TheVariants.{Base, Inferred}
 use Rattle.tso_cert.specs.declared.steps.CertStep.{CertStep}
-use Rattle.trace_explanation.specs.Names.{event_numbers, is_store, source_of}
+use Rattle.trace_explanation.specs.Names.{event_numbers, is_store_where, source_of}
 
 -- ---- numbers of steps
 
@@ -41,7 +41,7 @@ is_number v number = option_map_or (λ n. n == v) number false
 -- load l sees the store u, which is earlier on its own processor, and it read what number v wrote
 unfoldable pub reads_past : TraceValue → ℕ → ℕ → ℕ → Bool
 reads_past t u v l =
-    nat_lt u l && option_map_or (λ e. is_store t (λ s. s.proc == e.proc && s.a == e.a) u) (event_at t l) false && is_number v (source_of t l)
+    nat_lt u l && option_map_or (λ e. is_store_where t (λ s. s.proc == e.proc && s.a == e.a) u) (event_at t l) false && is_number v (source_of t l)
 
 -- the least load that gives the edge from u to v by the rule Own
 unfoldable pub own_load : TraceValue → ℕ → ℕ → Option ℕ

@@ -1,6 +1,6 @@
 //! The explanation of a trace: the text that says to a reader who knows no rule why a trace is a violation.
 //!
-//! `explain` writes it by the trace and its certificate; `AsExplanation` is the rendering for `trace_judging::present`.
+//! `explain` writes it by the trace and its certificate; `AsExplanation` is the rendering for `trace_judging::judge_with`.
 //! `README.md` says what is proved.
 #![tactic(auto)]
 

@@ -2,7 +2,7 @@
 ghost use Rattle.std.specs.Prelude.{◌≡◌, ◌==◌, ◌&&◌, false};
 ghost use Rattle.std.specs.Option.{option_map_or};
 ghost use Rattle.tso_ops.specs.Events.{event_at};
-ghost use Rattle.trace_explanation.specs.Names.{is_store};
+ghost use Rattle.trace_explanation.specs.Names.{is_store_where};
 ghost use Rattle.trace_explanation.specs.Steps.{is_number, own_load, reads_past, step_load};
 
 use crate::names::source_of;
@@ -53,7 +53,7 @@ fn is_number(v: usize, number: Option<usize>) -> bool
 
 /// Whether `u` is a store of the processor of event `l` to its address.
 fn stores_for(trace: &Trace, u: usize, l: usize) -> bool
-    ensures { result ≡ option_map_or (λ e. is_store trace.now (λ s. s.proc == e.proc && s.a == e.a) u) (event_at trace.now l) false }
+    ensures { result ≡ option_map_or (λ e. is_store_where trace.now (λ s. s.proc == e.proc && s.a == e.a) u) (event_at trace.now l) false }
 {
     match (trace.event(u), trace.event(l)) {
         (Some(s), Some(e)) => !s.load && s.proc == e.proc && s.a == e.a,

@@ -10,6 +10,7 @@ use std::alloc::{AllocError, Global};
 use std::fmt::Write;
 use std::marker::Model;
 use tso_ops::{EventOperation, Operations, Outcome, Part, Trace};
+use tso_text::print_outcome;
 
 /// A trace with the operations of its events and their names.
 #[derive(Debug, Drop)]
@@ -192,13 +193,9 @@ fn event_name(
 pub fn outcome_text(alloc: Global, outcome: Outcome) -> Result<String, AllocError>
     ensures { IfOk result (λ text. string_bytes text ≡ outcome_text outcome) }
 {
-    match outcome {
-        Outcome::Ld { a, r } => format!(in alloc; "ld {a} {r}"),
-        Outcome::St { a, v } => format!(in alloc; "st {a} {v}"),
-        Outcome::Sw { a, r, v } => format!(in alloc; "sw {a} {r} {v}"),
-        Outcome::Mb => String::from_str(alloc, "mb"),
-        Outcome::Sb => String::from_str(alloc, "stbar"),
-    }
+    let mut text = String::new(alloc);
+    print_outcome(&mut text, outcome)?;
+    Ok(text)
 }
 
 /// Which part of a swap an event is, after a space: nothing where it is the whole operation.

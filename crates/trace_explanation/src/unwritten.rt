@@ -3,7 +3,7 @@ ghost use Rattle.std.specs.Prelude.{◌≡◌, ◌++◌, ◌==◌, [], string_by
 ghost use Rattle.std.specs.List.{find, flat_map};
 ghost use Rattle.std.specs.Option.{option_map_or};
 ghost use Rattle.tso_ops.specs.Events.{event_at};
-ghost use Rattle.trace_explanation.specs.Names.{event_numbers, is_store, place_text};
+ghost use Rattle.trace_explanation.specs.Names.{event_numbers, is_store_where, place_text};
 ghost use Rattle.trace_explanation.specs.Explanations.{elsewhere_text, more_text, stores_text, stores_to, unread_text, unwritten_by};
 
 use crate::names::{NamedTrace, address_of};
@@ -63,7 +63,7 @@ fn push_elsewhere(
     named: &NamedTrace<'_>,
     value: u64,
 ) -> Result<(), AllocError>
-    ensures { OnOk result (string_bytes text.new ≡ string_bytes text.old ++ option_map_or (elsewhere_text named.now value) (find (is_store named.now (λ s. s.value == value)) (event_numbers named.now)) []) }
+    ensures { OnOk result (string_bytes text.new ≡ string_bytes text.old ++ option_map_or (elsewhere_text named.now value) (find (is_store_where named.now (λ s. s.value == value)) (event_numbers named.now)) []) }
 {
     match store_of(named.trace(), value) {
         Some(m) => push_elsewhere_at(alloc, text, named, value, m),
@@ -92,7 +92,7 @@ fn push_elsewhere_at(
 
 /// The least store of the value, to any address.
 fn store_of(trace: &Trace, value: u64) -> Option<usize>
-    ensures { result ≡ find (is_store trace.now (λ s. s.value == value)) (event_numbers trace.now) }
+    ensures { result ≡ find (is_store_where trace.now (λ s. s.value == value)) (event_numbers trace.now) }
 {
     for m in 0..trace.events() {
         if stores_value(trace, value, m + 1) {
@@ -104,7 +104,7 @@ fn store_of(trace: &Trace, value: u64) -> Option<usize>
 
 /// Whether event `m` is a store of the value.
 fn stores_value(trace: &Trace, value: u64, m: usize) -> bool
-    ensures { result ≡ is_store trace.now (λ s. s.value == value) m }
+    ensures { result ≡ is_store_where trace.now (λ s. s.value == value) m }
 {
     match trace.event(m) {
         Some(event) => !event.load && event.value == value,
@@ -113,8 +113,8 @@ fn stores_value(trace: &Trace, value: u64, m: usize) -> bool
 }
 
 /// Whether event `m` is a store to the address.
-fn stores_to(trace: &Trace, a: u16, m: usize) -> bool
-    ensures { result ≡ is_store trace.now (λ s. s.a == a) m }
+fn is_store_to(trace: &Trace, a: u16, m: usize) -> bool
+    ensures { result ≡ is_store_where trace.now (λ s. s.a == a) m }
 {
     match trace.event(m) {
         Some(event) => !event.load && event.a == a,
@@ -128,7 +128,7 @@ pub fn list_stores(alloc: Global, trace: &Trace, a: u16) -> Result<Vec<usize>, A
 {
     let mut stores = Vec::new(alloc);
     for m in 0..trace.events() {
-        if stores_to(trace, a, m + 1) {
+        if is_store_to(trace, a, m + 1) {
             stores.push(m + 1)?;
         }
     }

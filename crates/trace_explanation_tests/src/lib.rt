@@ -1,4 +1,4 @@
-//! Tests of `trace_explanation` and `trace_pictures`, by `trace_judging::present`.
+//! Tests of `trace_explanation` and `trace_pictures`, by `trace_judging::judge_with`.
 #![tactic(auto)]
 
 #[cfg(test)]

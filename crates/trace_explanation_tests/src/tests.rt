@@ -14,7 +14,7 @@ use std::alloc::Global;
 use std::sync::Wait;
 use std::test::Fail;
 use std::thread::Threads;
-use trace_judging::{Fault, Rendering, Verdict, present};
+use trace_judging::{Fault, Rendering, Verdict, judge_with};
 use traces_for_tests::expect_equal;
 
 /// An input, and what is written of it.
@@ -48,11 +48,11 @@ fn presented<H: Threads + Wait + Sync, P: Rendering>(
 {
     let mut written = Vec::new(alloc);
     let mut reader = input.as_bytes();
-    let mut said = present(rt, alloc, &mut reader, &mut written, workers, rendering);
+    let mut said = judge_with(rt, alloc, &mut reader, &mut written, workers, rendering);
     if said == Err(Fault::OutOfMemory) || said == Err(Fault::NoThread) {
         expect_bytes(input, &written, &[])?;
         reader = input.as_bytes();
-        said = present(rt, alloc, &mut reader, &mut written, workers, rendering);
+        said = judge_with(rt, alloc, &mut reader, &mut written, workers, rendering);
     }
     expect_said(input, said, Ok(verdict))?;
     Ok(written)

@@ -1,5 +1,5 @@
 -- Laws on the report of two texts, that of a trace and that of a certificate.
-use Rattle.std.proofs.Common.{◌≡◌, ◌⊎◌, ◌↔◌, ℕ, ◌<◌, ◌≤◌, List, length, take, Bool, true, false, Some, None, IfSome, refl, ap, sym, subst, ◌∙◌, arith, inl, inr, ⊎_elim}
+use Rattle.std.proofs.Common.{◌≡◌, ◌⊎◌, ◌↔◌, ℕ, ◌<◌, ◌≤◌, List, length, take, Some, None, IfSome, refl, ap, sym, subst, ◌∙◌, arith, inl, inr, ⊎_elim}
 use Rattle.std.proofs.lemmas.Bool.{false≢true, cases_lt}
 use Rattle.std.proofs.lemmas.List.{take_all, length-take-le}
 use Rattle.std.specs.Prelude.{Option}
@@ -18,8 +18,10 @@ use Rattle.cert_check.specs.Refusals.{IsCertRefusal}
 use Rattle.cert_check.proofs.RefusalExists.{holds_or_refused}
 use Rattle.cert_check.proofs.RefusalFacts.{not_refused, one_refusal}
 use Rattle.trace_reports.specs.declared.verdicts.Verdict.{Verdict}
-use Rattle.trace_reports.specs.declared.verdicts.Verdict.TheVariants.{NoViolation, Violation, Refused}
-use Rattle.trace_reports.specs.Reports.{refusal_shown, refusal_text}
+use Rattle.trace_reports.specs.declared.verdicts.Verdict.TheVariants.{Violation, Refused}
+use Rattle.trace_reports.specs.RefusalLines.{refusal_text}
+use Rattle.trace_reports.specs.Reports.{refusal_shown}
+use Rattle.trace_reports.specs.Verdicts.{is_violation}
 use Rattle.trace_judging.specs.Checks.{holds_text, fails_text, unread_text, SpellsHolding, SpellHolding, IsFailureReport, IsUnreadReport, IsCertReport, IsCertReportOfReader, IsCheckReport}
 use Rattle.trace_judging.specs.Limits.{certificate_byte_limit, certificate_read_limit, trace_read_limit}
 use Rattle.trace_judging.specs.WrittenReports.{IsCheckReportOfReaders}
@@ -73,14 +75,8 @@ not_refused_trace X (Some all) bytes seen t prefix same spells =
 
 -- ---- what the verdict says
 
-is_violation : Verdict → Bool
-is_violation NoViolation = false
-is_violation Violation = true
-is_violation Refused = false
-
 -- a verdict that is Refused isn't Violation
 violation_not_refused : (v : Verdict) → v ≡ Refused → v ≡ Violation → ⊥
-unfolding is_violation
 violation_not_refused v refused violation = false≢true (ap is_violation (sym refused ∙ violation))
 
 holding_not_refused : (t : TraceValue) (cert text : List ℕ) → SpellsHolding t cert → IsFailureReport t cert text ⊎ IsUnreadReport cert text → ⊥

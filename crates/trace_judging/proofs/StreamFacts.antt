@@ -1,11 +1,11 @@
 -- Lemmas on what reading and writing do to known bytes.
-use Rattle.std.proofs.Common.{◌++◌, ◌≡◌, ℕ, ◌+◌, ◌-◌, ◌≤◌, List, length, take, drop, None, Some, IfSome, sym, ap, ◌∙◌, subst, arith, length-drop}
+use Rattle.std.proofs.Common.{◌++◌, ◌≡◌, ℕ, ◌+◌, ◌-◌, ◌≤◌, List, length, take, drop, None, Some, IfSome, refl, sym, ap, ◌∙◌, subst, arith, length-drop}
 use Rattle.std.specs.Prelude.{Option}
 use Rattle.std.specs.Io.KnownBytes.{Appends, Consumes, IsAtEnd}
-use Rattle.std.proofs.KnownBytes.{Appends-trans, Consumes-trans}
-use Rattle.std.proofs.lemmas.List.{take_all, take-append-le, append-nil}
+use Rattle.std.proofs.KnownBytes.{Appends-nil, Appends-trans, Consumes-trans}
+use Rattle.std.proofs.lemmas.List.{append-nil, drop_at, length-append, take_all, take-append-le, take_at}
 use Rattle.std.proofs.Math.Seq.{take-add}
-use Rattle.trace_judging.specs.Streams.{LosesPrefix}
+use Rattle.trace_judging.specs.Streams.{AppendsPrefix, LosesPrefix}
 
 -- how often an interrupted write is tried again at most
 abbrev pub interrupt_limit : ℕ
@@ -38,3 +38,31 @@ pub written_more : (first old new : Option (List ℕ)) (text : List ℕ) (m n : 
 written_more first old new text m n before added =
     let rest : take (length text - m) (drop m text) ≡ drop m text = take_all (length text - m) (drop m text) (omega (arith, length-drop m text)) in
     subst (Appends first new) (sym (take-add m n text)) (Appends-trans first old new _ _ before (subst (λ l. Appends old new (take n l)) rest added))
+
+-- nothing of a text was written
+pub none_written : (a : Option (List ℕ)) (text : List ℕ) → AppendsPrefix a a text
+none_written a text = (0, omega arith, Appends-nil a)
+
+-- all of it was
+pub whole_written : (a b : Option (List ℕ)) (text : List ℕ) → Appends a b text → AppendsPrefix a b text
+whole_written a b text appends = (length text, omega arith, subst (Appends a b) (sym (take_all (length text) text (omega arith))) appends)
+
+-- a prefix of the beginning of a text is one of the text
+pub prefix_of_more : (a b : Option (List ℕ)) (text more : List ℕ) → AppendsPrefix a b text → AppendsPrefix a b (text ++ more)
+prefix_of_more a b text more written =
+    let count = length-append text more in
+    let within = written.1 in
+    (written.0, omega (arith, count, within), subst (Appends a b) (sym (take-append-le written.0 text more within)) written.2)
+
+-- a prefix of what follows was written after a text
+pub prefix_after : (a b c : Option (List ℕ)) (text more : List ℕ) → Appends a b text → AppendsPrefix b c more → AppendsPrefix a c (text ++ more)
+prefix_after a b c text more first second =
+    let count = length-append text more in
+    let within = second.1 in (
+      length text + second.0,
+      omega (arith, count, within),
+      subst (Appends a c) (sym (take_append text more second.0)) (Appends-trans a b c text (take second.0 more) first second.2),
+    )
+  where
+    take_append : (text more : List ℕ) (n : ℕ) → take (length text + n) (text ++ more) ≡ text ++ take n more
+    take_append text more n = take-add (length text) n (text ++ more) ∙ ap (λ l. l ++ take n (drop (length text) (text ++ more))) (take_at text more (length text) refl) ∙ ap (λ l. text ++ take n l) (drop_at text more (length text) refl)

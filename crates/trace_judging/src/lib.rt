@@ -1,8 +1,8 @@
 //! From the bytes of a trace's text to the bytes of its report.
 //!
-//! Each input has one report, and `judge` writes it; `check_texts` writes that of a trace and a certificate. `present` writes
-//! any other text that follows from what is found of a trace, as an explanation, by its `Rendering`; `render_text` and
-//! `render_trace` answer it.
+//! Each input has one report, and `judge` writes it; `check_texts` writes that of a trace and a certificate. `judge_with`
+//! writes any other text that follows from what is found of a trace, as an explanation, by its `Rendering`; `judge_text` and
+//! `judge_trace` answer it.
 //! `README.md` says what is proved.
 #![tactic(auto)]
 
@@ -10,8 +10,7 @@ pub use certificates::build_cert;
 pub use checking::{MAX_CERTIFICATE_BYTES, check_texts};
 pub use faults::Fault;
 pub use findings::find_violation;
-pub use judging::judge;
-pub use presenting::{present, render_text, render_trace};
+pub use judging::{judge, judge_text, judge_trace, judge_with};
 pub use round_pool::MAX_WORKERS;
 pub use streams::reading::read_all;
 pub use streams::writing::write_text;
@@ -26,5 +25,4 @@ mod faults;
 mod findings;
 mod judging;
 pub mod laws;
-mod presenting;
 mod streams;

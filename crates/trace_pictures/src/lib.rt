@@ -1,8 +1,8 @@
 //! Pictures of traces: the text of a picture, in the language of Graphviz, that shows what each processor did, which load
 //! read which store, and why a trace is a violation.
 //!
-//! `draw` writes it by the trace and its certificate; `AsPicture` is the rendering for `trace_judging::present`. `README.md`
-//! says what is proved.
+//! `draw` writes it by the trace and its certificate; `AsPicture` is the rendering for
+//! `trace_judging::judge_with`. `README.md` says what is proved.
 #![tactic(auto)]
 
 pub use pictures::draw;

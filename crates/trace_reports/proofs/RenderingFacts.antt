@@ -1,5 +1,5 @@
 -- Lemmas on texts that follow from what is found of a trace, or from the refusal of an input, and on the report as one of them.
-use Rattle.std.proofs.Common.{◌≡◌, ◌⊎◌, ◌↔◌, ℕ, List, Bool, true, false, Some, None, refl, ap, sym, subst, ◌∙◌, inl, inr, ⊎_elim}
+use Rattle.std.proofs.Common.{◌≡◌, ◌⊎◌, ◌↔◌, ℕ, List, Some, None, refl, ap, sym, subst, ◌∙◌, inl, inr, ⊎_elim}
 use Rattle.std.proofs.lemmas.Bool.{false≢true}
 use Rattle.std.specs.Prelude.{Option, MatchOption}
 use Rattle.std.specs.Option.{option_map_or}
@@ -29,6 +29,7 @@ use Rattle.trace_reports.specs.declared.verdicts.Verdict.TheVariants.{NoViolatio
 use Rattle.trace_reports.specs.Findings.{IsFinding}
 use Rattle.trace_reports.specs.Renderings.{IsTextOfInput, IsTextOfRefusal, IsTextOfTrace, SaidOfRefusal, SaidOfTrace}
 use Rattle.trace_reports.specs.Reports.{reported, IsReport, IsTraceReport, ShowsNoViolationOf, ShowsViolationOf, SpellsViolation}
+use Rattle.trace_reports.specs.Verdicts.{is_refused, is_violation}
 use Rattle.trace_reports.specs.Violations.{IsViolation}
 
 -- ---- what is found
@@ -64,17 +65,10 @@ some_finding t =
 abbrev verdict_by : Option Certificate → Verdict
 verdict_by c = option_map_or (λ _. Violation) c NoViolation
 
-is_violation : Verdict → Bool
-is_violation NoViolation = false
-is_violation Violation = true
-is_violation Refused = false
-
 refused_no_violation : Refused ≡ Violation → ⊥
-unfolding is_violation
 refused_no_violation e = false≢true (ap is_violation e)
 
 none_no_violation : NoViolation ≡ Violation → ⊥
-unfolding is_violation
 none_no_violation e = false≢true (ap is_violation e)
 
 verdict_says : (t : TraceValue) (c : Option Certificate) → IsFoundOf t c → (verdict_by c ≡ Violation) ↔ IsViolation t
@@ -85,13 +79,7 @@ verdict_either : (c : Option Certificate) → (verdict_by c ≡ Violation) ⊎ (
 verdict_either None = inr refl
 verdict_either (Some c) = inl refl
 
-is_refused : Verdict → Bool
-is_refused NoViolation = false
-is_refused Violation = false
-is_refused Refused = true
-
 never_refused : (c : Option Certificate) → verdict_by c ≡ Refused → ⊥
-unfolding is_refused
 never_refused None e = false≢true (ap is_refused e)
 never_refused (Some c) e = false≢true (ap is_refused e)
 

@@ -1,30 +1,25 @@
 -- The report of an input: the text that is written for it, and the verdict that it gives.
-use Rattle.std.specs.Prelude.{◌≡◌, ℕ, List, [], ◌∷◌, ◌++◌, None, Some, codes}
+use Rattle.std.specs.Prelude.{◌≡◌, ℕ, List, [], ◌++◌, None, Some, codes, is_some}
 use Rattle.std.specs.Option.{option_map_or}
 use Rattle.std.specs.Fmt.{decimal}
 use Rattle.tso_ops.specs.Values.{TraceValue}
 use Rattle.tso_ops.specs.Events.{processor_count, event_total}
-use Rattle.tso_text.specs.declared.faults.Why.{Why}
-use Rattle.tso_text.specs.RefusalNames.{refusal_name}
 use Rattle.tso_text.specs.Texts.{SpellsTrace}
 use Rattle.trace_reports.specs.declared.verdicts.Verdict.{Verdict}
 use Rattle.tso_cert.specs.declared.steps.Certificate.{Certificate}
 use Rattle.tso_cert.specs.Printed.{cert_text}
 use Rattle.tso_model.specs.Certs.{Holds}
+use Rattle.trace_reports.specs.RefusalLines.{refusal_text}
 use Rattle.trace_reports.specs.Renderings.{IsTextOfInput, IsTextOfTrace, SaidOfRefusal, SaidOfTrace}
+use Rattle.trace_reports.specs.Verdicts.{verdict_line}
 use Rattle.trace_reports.specs.Violations.{IsViolation}
 
 -- ---- texts
 
 -- the first lines of a report on a trace, by what is found of it: the last of them says the verdict
 abbrev pub head_text : SaidOfTrace
-head_text t finding =
-    codes "TSO REPORT 1\nprocessors " ++ decimal (processor_count t) ++ codes " events " ++ decimal (event_total t) ++ codes " rounds " ++ decimal finding.rounds
-    ++ codes "\n" ++ option_map_or (λ _. codes "VIOLATION\n") finding.certificate (codes "NO VIOLATION FOUND\n")
-
--- the line of a refusal
-abbrev pub refusal_text : ℕ → Why → List ℕ
-refusal_text line why = codes "REFUSED " ++ refusal_name why ++ codes " line " ++ decimal line ++ 10 ∷ []
+head_text t finding = codes "TSO REPORT 1\nprocessors " ++ decimal (processor_count t) ++ codes " events " ++ decimal (event_total t)
+    ++ codes " rounds " ++ decimal finding.rounds ++ codes "\n" ++ verdict_line (is_some finding.certificate)
 
 -- ---- the report of a trace
 

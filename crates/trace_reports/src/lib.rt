@@ -5,11 +5,13 @@
 #![tactic(auto)]
 
 pub use findings::Finding;
+pub use refusal_lines::render_refusal;
 pub use renderings::{Rendering, Report, render, render_refused};
-pub use reports::{AsReport, render_head, render_refusal};
-pub use verdicts::Verdict;
+pub use reports::{AsReport, render_head};
+pub use verdicts::{Verdict, verdict_line};
 
 mod findings;
+mod refusal_lines;
 mod renderings;
 mod reports;
 mod verdicts;

@@ -1,14 +1,13 @@
 //! The texts of reports on traces.
-ghost use Rattle.std.specs.Prelude.{◌≡◌, ◌≢◌, codes, refl, string_bytes, IfOk, IsErr};
-ghost use Rattle.std.specs.Option.{option_map_or};
-ghost use Rattle.tso_text.specs.declared.faults.Why.{Why};
-ghost use Rattle.trace_reports.specs.declared.verdicts.Verdict.{Verdict};
-ghost use Rattle.trace_reports.specs.Reports.{head_text, refusal_shown, refusal_text, reported};
+ghost use Rattle.std.specs.Prelude.{◌≡◌, refl, string_bytes, IfOk};
+ghost use Rattle.trace_reports.specs.Reports.{head_text, refusal_shown, reported};
 
 use crate::findings::Finding;
-use crate::renderings::{Rendering, Report, render_refused};
+use crate::refusal_lines::refusal_line;
+use crate::renderings::Rendering;
+use crate::verdicts::verdict_line;
 use std::alloc::Global;
-use tso_cert::{Certificate, print_cert};
+use tso_cert::print_cert;
 use tso_ops::{OutOfMemory, Trace};
 use tso_text::TextFault;
 
@@ -41,21 +40,10 @@ impl Rendering for AsReport {
         _input: &[u8],
         fault: TextFault,
     ) -> Result<String, OutOfMemory> {
-        let name = fault.why.name();
-        let line = fault.line;
-        format!(in alloc; "REFUSED {name} line {line}\n")
+        refusal_line(alloc, fault)
     }
 
     ghost whole = { λ a b why. refl };
-}
-
-/// The report of a text that is no trace, or no program or schedule where it is to be one: the line of its refusal.
-/// OutOfMemory where an allocation was refused, also where the fault says that one of its reader was.
-pub fn render_refusal(alloc: Global, fault: TextFault) -> Result<Report, OutOfMemory>
-    ensures refused { IfOk result (λ report. fault.why ≢ Why.OutOfMemory × (string_bytes report.text ≡ refusal_text fault.line fault.why) × (report.verdict ≡ Verdict.Refused)) }
-    ensures memory { fault.why ≡ Why.OutOfMemory → IsErr result }
-{
-    render_refused(alloc, b"", fault, &AsReport)
 }
 
 /// The first lines of a report on a trace, also of its explanation: how many processors and events it has, its rounds
@@ -69,16 +57,6 @@ pub fn render_head(alloc: Global, trace: &Trace, finding: &Finding) -> Result<St
     let mut text = format!(in alloc;
         "TSO REPORT 1\nprocessors {processors} events {events} rounds {rounds}\n"
     )?;
-    text.push_str(verdict_line(&finding.certificate))?;
+    text.push_str(verdict_line(finding.certificate.is_some()))?;
     Ok(text)
-}
-
-/// The line that says the verdict by a trace's certificate, or where it has none.
-fn verdict_line(certificate: &Option<Certificate>) -> &'static str
-    ensures { result.now ≡ option_map_or (λ _. codes "VIOLATION\n") certificate.now (codes "NO VIOLATION FOUND\n") }
-{
-    match certificate {
-        Some(_) => "VIOLATION\n",
-        None => "NO VIOLATION FOUND\n",
-    }
 }

@@ -12,7 +12,7 @@ pub use examples::{
     TWO_SWAPS_BOTH_FIRST, UNWRITTEN_LOAD,
 };
 pub use listed::{Listed, cycle_of, step_of};
-pub use machine::Machine;
+pub use machine::DrawingMachine;
 pub use outcomes::{
     STORE_BUFFERING, TWO_SWAPS_EDGES, empty_lists, independent_reads, ld, lists_of, program_of, st,
     store_buffering, sw, trace_from, trace_of, two_swaps_both_first,

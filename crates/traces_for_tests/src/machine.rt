@@ -25,7 +25,7 @@ struct Processor {
 
 /// Processors with a store buffer each, and their memory.
 #[derive(Drop)]
-pub struct Machine {
+pub struct DrawingMachine {
     order: Order,
     memory: Vec<u64>,
     processors: Vec<Processor>,
@@ -73,14 +73,14 @@ impl Processor {
     }
 }
 
-impl Machine {
+impl DrawingMachine {
     /// So many processors, which draw among so many addresses. The error is that memory ran out.
     pub fn new(
         alloc: Global,
         order: Order,
         processors: usize,
         addresses: u16,
-    ) -> Result<Machine, AllocError> {
+    ) -> Result<DrawingMachine, AllocError> {
         let mut list = Vec::new(alloc);
         for _ in 0..processors {
             list.push(Processor {
@@ -89,7 +89,7 @@ impl Machine {
                 done: Vec::new(alloc),
             })?;
         }
-        Ok(Machine {
+        Ok(DrawingMachine {
             order,
             memory: vec![in alloc; 0; 256]?,
             processors: list,

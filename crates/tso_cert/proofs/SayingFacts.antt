@@ -20,9 +20,9 @@ use Rattle.tso_cert.specs.declared.steps.Reason.TheVariants.{Base, Inferred}
 use Rattle.tso_cert.specs.declared.faults.Why.{Why}
 use Rattle.tso_cert.specs.declared.faults.Why.TheVariants.{BadNumber, BadRule}
 use Rattle.tso_cert.specs.Printed.{base_name, inferred_name, event_text, reason_tokens, Fits, ReasonFits}
-use Rattle.tso_cert.specs.Spelling.{IsEventToken, base_rules, inferred_rules}
+use Rattle.tso_cert.specs.Spelling.{IsEventToken}
 use Rattle.line_text.specs.Results.{◌>>=◌}
-use Rattle.tso_cert.specs.Internal.LineValues.{above_zero, event_number, or_bad_event, event, events, named, base_rule, inferred_rule, reason_said}
+use Rattle.tso_cert.specs.Internal.LineValues.{above_zero, event_number, or_bad_event, event, events, named, base_rule, inferred_rule, reason_said, base_rules, inferred_rules}
 
 -- ---- steps of a reading
 

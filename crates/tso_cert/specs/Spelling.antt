@@ -5,10 +5,6 @@ use Rattle.std.specs.Str.{bytes_eq}
 use Rattle.std.specs.Fmt.{decimal}
 use Rattle.line_text.specs.Lines.{line_text, parts_of}
 use Rattle.line_text.specs.Refusals.{IsRefusedAfter, ArePartsRefused}
-use Rattle.tso_cert.specs.declared.rules.BaseRule.{BaseRule}
-use Rattle.tso_cert.specs.declared.rules.BaseRule.TheVariants.{Init, LoadOp, StoreStore, Stbar, Membar, Read, Own}
-use Rattle.tso_cert.specs.declared.rules.InferredRule.{InferredRule}
-use Rattle.tso_cert.specs.declared.rules.InferredRule.TheVariants.{LoadPast, StorePast, SwapBefore, SwapAfter}
 use Rattle.tso_cert.specs.declared.steps.CertStep.{CertStep}
 use Rattle.tso_cert.specs.declared.steps.Certificate.{Certificate}
 use Rattle.tso_cert.specs.declared.faults.Why.{Why}
@@ -18,14 +14,6 @@ use Rattle.tso_cert.specs.Printed.{event_text, step_tokens, steps_tokens, cert_t
 -- The text spells the certificate: it is its text, and 64 bits hold each number.
 abbrev pub SpellsCertificate : List ℕ → Certificate → Type 0
 SpellsCertificate text c = CertFits c × (text ≡ cert_text c)
-
--- ---- the rules in their order
-
-abbrev pub base_rules : List BaseRule
-base_rules = Init ∷ LoadOp ∷ StoreStore ∷ Stbar ∷ Membar ∷ Read ∷ Own ∷ []
-
-abbrev pub inferred_rules : List InferredRule
-inferred_rules = LoadPast ∷ StorePast ∷ SwapBefore ∷ SwapAfter ∷ []
 
 -- ---- the faults of a line
 

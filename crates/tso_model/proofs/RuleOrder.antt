@@ -4,7 +4,7 @@ use Rattle.std.proofs.lemmas.Bool.{cases_lt}
 use Rattle.tso_ops.specs.Values.{TraceValue}
 use Rattle.tso_cert.specs.declared.rules.BaseRule.{BaseRule}
 use Rattle.tso_cert.specs.declared.rules.BaseRule.TheVariants.{Init, LoadOp, StoreStore, Stbar, Membar, Read, Own}
-use Rattle.tso_cert.specs.Spelling.{base_rules}
+use Rattle.tso_cert.specs.Internal.LineValues.{base_rules}
 use Rattle.tso_model.specs.Rules.{BasePair}
 use Rattle.tso_model.specs.Certs.{base_index, IsFirstBase}
 

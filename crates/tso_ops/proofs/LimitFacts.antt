@@ -1,7 +1,7 @@
 -- Lemmas on the limits: what one more operation does to them, and which operation a refusal names.
-use Rattle.std.proofs.Common.{◌≡◌, ◌⊎◌, ◌∙◌, sym, ap, refl, inl, inr, ⊎_elim, ℕ, ◌+◌, ◌<◌, ◌≤◌, ◌^◌, ◌||◌, Bool, true, false, nat_eq, List, [], ◌∷◌, ◌++◌, Option, Some, None, All, arith, append_assoc}
+use Rattle.std.proofs.Common.{◌≡◌, ◌⊎◌, ◌∙◌, sym, ap, refl, inl, inr, ⊎_elim, ℕ, nat_lt, ◌+◌, ◌<◌, ◌≤◌, ◌^◌, ◌||◌, Bool, true, false, nat_eq, List, [], ◌∷◌, ◌++◌, Option, Some, None, All, arith, append_assoc, eqb}
 use Rattle.std.specs.List.{flat_map, list_any, IsDistinct}
-use Rattle.std.specs.Option.{option_to_list}
+use Rattle.std.specs.Option.{option_to_list, option_map_or}
 use Rattle.std.specs.Cmp.{nat_eq_equiv}
 use Rattle.std.proofs.lemmas.Bool.{false≢true}
 use Rattle.std.proofs.lemmas.Bool.Decides.{nat_tests}
@@ -15,7 +15,7 @@ use Rattle.tso_ops.specs.declared.ops.Op.{Op}
 use Rattle.tso_ops.specs.declared.faults.ValueFault.{ValueFault}
 use Rattle.tso_ops.specs.declared.faults.ValueFault.TheVariants.{TooManyProcessors, TooManyEvents, AddressRange, ZeroValue, RepeatedValue, OutOfMemory, StbarInTso, InitOrder}
 use Rattle.tso_ops.specs.Settings.{SettingValue, values_of, event_limit, barrier_limit}
-use Rattle.tso_ops.specs.Limits.{event_count, barrier_count, address_of, stored_by, total_events, total_barriers, addresses_of, stored_values, KeepsLimits, is_past_addresses, is_zero, is_repeated, is_stbar_in_tso, has_fault, IsFirstFault, IsFaultless, IsFaultOf}
+use Rattle.tso_ops.specs.Limits.{event_count, barrier_count, address_of, stored_by, total_events, total_barriers, addresses_of, stored_values, KeepsLimits, is_stbar_in_tso, has_fault, IsFirstFault, IsFaultless, IsFaultOf}
 
 -- a prefix of a list with one more element ends before that element or is the whole list
 pub split_push : {X : Type 0} → (xs : List X) (x : X) (before : List X) (o : X) (after : List X) → xs ++ x ∷ [] ≡ before ++ o ∷ after →
@@ -71,8 +71,8 @@ KeepsLimits-nil setting = record {
 
 -- what the operation writes may be written after these first values and stored values
 pub record IsStorable (first values : List ℕ) (stored : Option ℕ) : Type 0 where
-  pub non_zero : is_zero stored ≡ false
-  pub new : is_repeated (first ++ values) stored ≡ false
+  pub non_zero : option_map_or (λ v. eqb v 0) stored false ≡ false
+  pub new : option_map_or (λ v. list_any (nat_eq v) (first ++ values)) stored false ≡ false
   pub fits : (v : ℕ) → stored ≡ Some v → v < 2 ^ 64
 
 -- the value is in neither list where it isn't in both joined
@@ -83,7 +83,7 @@ in_neither first values v none = neither (list_any (nat_eq v) first) (list_any (
     neither true b e = absurd (false≢true (sym e))
     neither false b e = (refl, e)
 
-addresses-push : (xs : List ℕ) (a : Option ℕ) → All (λ a. a < 256) xs → is_past_addresses a ≡ false → All (λ a. a < 256) (xs ++ option_to_list a)
+addresses-push : (xs : List ℕ) (a : Option ℕ) → All (λ a. a < 256) xs → option_map_or (nat_lt 255) a false ≡ false → All (λ a. a < 256) (xs ++ option_to_list a)
 addresses-push xs None all in_range = rw append-nil all
 addresses-push xs (Some a) all in_range = All-push (λ a. a < 256) xs a all (grind (arith, nat_tests))
 
@@ -122,7 +122,7 @@ total_barriers-push ops op = omega (arith, sum_by-append barrier_count ops (op �
 pub record IsAdmissible (setting : SettingValue) (ops : List Op) (op : Op) : Type 0 where
   pub few_events : total_events ops + event_count op ≤ event_limit setting.version
   pub few_barriers : total_barriers ops + barrier_count op ≤ barrier_limit setting.version
-  pub in_range : is_past_addresses (address_of op) ≡ false
+  pub in_range : option_map_or (nat_lt 255) (address_of op) false ≡ false
   pub storable : IsStorable (values_of setting.first) (stored_values ops) (stored_by op)
   pub no_stbar : is_stbar_in_tso setting.order op ≡ false
 

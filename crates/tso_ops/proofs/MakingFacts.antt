@@ -1,8 +1,8 @@
 -- Lemmas on made operations: a program of a shape keeps the limits.
-use Rattle.std.proofs.Common.{◌≡◌, refl, subst, ℕ, zero, suc, ◌+◌, ◌*◌, ◌/◌, ◌%◌, ◌<◌, ◌≤◌, ◌^◌, ◌&&◌, Bool, true, false, not, cond, nat_eq, List, [], ◌∷◌, ◌++◌, map, Option, Some, None, All, arith, add-one, zero-add}
+use Rattle.std.proofs.Common.{◌≡◌, refl, subst, ℕ, nat_lt, zero, suc, ◌+◌, ◌*◌, ◌/◌, ◌%◌, ◌<◌, ◌≤◌, ◌^◌, ◌&&◌, Bool, true, false, not, cond, nat_eq, List, [], ◌∷◌, ◌++◌, map, Option, Some, None, All, arith, add-one, zero-add}
 use Rattle.std.specs.Prelude.{nat_lt}
 use Rattle.std.specs.List.{list_any, range_with_len}
-use Rattle.std.specs.Option.{option_to_list}
+use Rattle.std.specs.Option.{option_to_list, option_map_or}
 use Rattle.std.proofs.lemmas.Bool.{false≢true}
 use Rattle.std.proofs.lemmas.Bool.Decides.{nat_tests}
 use Rattle.std.proofs.lemmas.List.{append-nil}
@@ -16,7 +16,7 @@ use Rattle.tso_ops.specs.declared.settings.Order.{Order}
 use Rattle.tso_ops.specs.declared.settings.Order.TheVariants.{Tso, Pso}
 use Rattle.tso_ops.specs.Settings.{setting_of_order}
 use Rattle.tso_ops.specs.Values.{program_of_lists}
-use Rattle.tso_ops.specs.Limits.{event_count, barrier_count, address_of, stored_by, total_events, total_barriers, stored_values, is_past_addresses, is_stbar_in_tso, KeepsLimits, IsProgram}
+use Rattle.tso_ops.specs.Limits.{event_count, barrier_count, address_of, stored_by, total_events, total_barriers, stored_values, is_stbar_in_tso, KeepsLimits, IsProgram}
 use Rattle.tso_ops.specs.Making.{ShapeValue, IsShape, size_of, after_words, makes_stbar, makes_store, op_of_kind}
 use Rattle.tso_ops.specs.Internal.MadeOps.{writes_of, next_op, next_ops, ops_of_processor}
 use Rattle.tso_ops.proofs.EntryFacts.{KeepsEntries-nil}
@@ -27,7 +27,7 @@ use Rattle.tso_ops.proofs.WordFacts.{writes_of-more, writes_of-le, next_ops-more
 pub record IsMade (order : Order) (value : ℕ) (writes : Bool) (op : Op) : Type 0 where
   pub events : event_count op ≤ 2
   pub barriers : barrier_count op ≤ 1
-  pub in_range : is_past_addresses (address_of op) ≡ false
+  pub in_range : option_map_or (nat_lt 255) (address_of op) false ≡ false
   pub no_stbar : is_stbar_in_tso order op ≡ false
   pub stored : stored_by op ≡ cond writes (Some value) None
 

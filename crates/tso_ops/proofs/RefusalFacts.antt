@@ -1,7 +1,7 @@
 -- That lists get one refusal at most, and none where they keep the limits.
-use Rattle.std.proofs.Common.{◌≡◌, eq-eqb, ◌⊎◌, ◌∙◌, ⊎_elim, inl, inr, sym, ap, subst, refl, ℕ, ◌+◌, ◌<◌, ◌≤◌, Bool, true, false, ◌||◌, eqb, List, [], ◌∷◌, ◌++◌, length, nat_le, ◌^◌, Option, Some, None, sum_by, arith}
+use Rattle.std.proofs.Common.{◌≡◌, eq-eqb, ◌⊎◌, ◌∙◌, ⊎_elim, inl, inr, sym, ap, subst, refl, ℕ, nat_lt, ◌+◌, ◌<◌, ◌≤◌, Bool, true, false, ◌||◌, eqb, List, [], ◌∷◌, ◌++◌, length, nat_le, ◌^◌, Option, Some, None, sum_by, arith}
 use Rattle.std.specs.List.{flat_map, list_any, IsDistinct, AllByRecursion}
-use Rattle.std.specs.Option.{option_to_list}
+use Rattle.std.specs.Option.{option_to_list, option_map_or}
 use Rattle.std.proofs.lemmas.Bool.{false≢true, cases_lt, cases_eq}
 use Rattle.std.proofs.lemmas.Bool.Decides.{nat_tests}
 use Rattle.std.proofs.lemmas.List.Concat.{flat_map-append}
@@ -16,7 +16,7 @@ use Rattle.tso_ops.specs.declared.faults.ValueFault.TheVariants.{TooManyProcesso
 use Rattle.tso_ops.specs.Settings.{SettingValue, values_of, event_limit, barrier_limit}
 use Rattle.tso_ops.specs.Values.{ProgramValue, in_file_order}
 use Rattle.tso_ops.proofs.LimitFacts.{not_refused}
-use Rattle.tso_ops.specs.Limits.{event_count, barrier_count, address_of, stored_by, total_events, total_barriers, addresses_of, stored_values, KeepsLimits, IsProgram, is_past_addresses, is_zero, is_repeated, is_stbar_in_tso, has_fault, has_entry_fault, KeepsEntries, fault_number, IsFirstFault, IsFaultless, IsFaultOf, IsValueRefusal}
+use Rattle.tso_ops.specs.Limits.{event_count, barrier_count, address_of, stored_by, total_events, total_barriers, addresses_of, stored_values, KeepsLimits, IsProgram, is_stbar_in_tso, has_fault, has_entry_fault, KeepsEntries, fault_number, IsFirstFault, IsFaultless, IsFaultOf, IsValueRefusal}
 
 -- ---- one refusal at most
 
@@ -110,21 +110,21 @@ not_distinct (x ∷ xs) v ys found distinct =
     not_distinct xs v ys (or_second (eqb v x) (list_any (eqb v) xs) differs found) (IsDistinct-tail eqb x (xs ++ v ∷ ys) distinct))
     (cases_eq v x)
 
-past_breaks : (a : Option ℕ) (before : List Op) (op : Op) (after : List Op) → address_of op ≡ a → is_past_addresses a ≡ true →
+past_breaks : (a : Option ℕ) (before : List Op) (op : Op) (after : List Op) → address_of op ≡ a → option_map_or (nat_lt 255) a false ≡ true →
     AllByRecursion (λ a. a < 256) (addresses_of (before ++ op ∷ after)) → ⊥
 past_breaks None before op after is fault all = false≢true fault
 past_breaks (Some a) before op after is fault all =
     let within = each-middle (λ a. a < 256) (addresses_of before) a (addresses_of after) (subst (AllByRecursion (λ a. a < 256)) (middle address_of before op after a is) all) in
     grind (arith, nat_tests)
 
-zero_breaks : (v : Option ℕ) (before : List Op) (op : Op) (after : List Op) → stored_by op ≡ v → is_zero v ≡ true →
+zero_breaks : (v : Option ℕ) (before : List Op) (op : Op) (after : List Op) → stored_by op ≡ v → option_map_or (λ v. eqb v 0) v false ≡ true →
     AllByRecursion (λ v. 0 < v) (stored_values (before ++ op ∷ after)) → ⊥
 zero_breaks None before op after is fault all = false≢true fault
 zero_breaks (Some v) before op after is fault all =
     let above = each-middle (λ v. 0 < v) (stored_values before) v (stored_values after) (subst (AllByRecursion (λ v. 0 < v)) (middle stored_by before op after v is) all) in
     grind (arith, nat_tests)
 
-repeat_breaks : (first : List ℕ) (v : Option ℕ) (before : List Op) (op : Op) (after : List Op) → stored_by op ≡ v → is_repeated (first ++ stored_values before) v ≡ true →
+repeat_breaks : (first : List ℕ) (v : Option ℕ) (before : List Op) (op : Op) (after : List Op) → stored_by op ≡ v → option_map_or (λ v. list_any (eqb v) (first ++ stored_values before)) v false ≡ true →
     IsDistinct eqb (stored_values (before ++ op ∷ after)) → AllByRecursion (λ v. list_any (eqb v) first ≡ false) (stored_values (before ++ op ∷ after)) → ⊥
 repeat_breaks first None before op after is fault distinct apart = false≢true fault
 repeat_breaks first (Some v) before op after is fault distinct apart =

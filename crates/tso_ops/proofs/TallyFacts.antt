@@ -1,7 +1,7 @@
 -- Lemmas on a tally: what it has admitted at first, and after one more operation.
-use Rattle.std.proofs.Common.{◌≡◌, ◌∙◌, sym, ap, refl, ℕ, ◌+◌, ◌<◌, ◌≤◌, ◌^◌, ◌||◌, Bool, true, false, not, cond, subst, nat_eq, List, [], ◌∷◌, ◌++◌, Option, Some, None, arith, append_assoc}
+use Rattle.std.proofs.Common.{◌≡◌, ◌∙◌, sym, ap, refl, ℕ, nat_lt, ◌+◌, ◌<◌, ◌≤◌, ◌^◌, ◌||◌, Bool, true, false, not, cond, subst, nat_eq, List, [], ◌∷◌, ◌++◌, Option, Some, None, arith, append_assoc, eqb}
 use Rattle.std.specs.List.{list_any}
-use Rattle.std.specs.Option.{option_to_list}
+use Rattle.std.specs.Option.{option_to_list, option_map_or}
 use Rattle.std.specs.Ordering.{nat_cmp}
 use Rattle.std.specs.BTreeSet.{BTreeSet, contains, Updates, IsEmpty}
 use Rattle.std.specs.BTreeMap.{is_at}
@@ -10,7 +10,7 @@ use Rattle.std.proofs.lemmas.List.{append-nil}
 use Rattle.tso_ops.specs.declared.ops.Op.{Op}
 use Rattle.tso_ops.specs.declared.limits.Tally.{Tally}
 use Rattle.tso_ops.specs.Settings.{SettingValue, values_of, event_limit, barrier_limit}
-use Rattle.tso_ops.specs.Limits.{event_count, barrier_count, address_of, stored_by, stored_values, is_past_addresses, is_zero, is_stbar_in_tso, has_fault}
+use Rattle.tso_ops.specs.Limits.{event_count, barrier_count, address_of, stored_by, stored_values, is_stbar_in_tso, has_fault}
 use Rattle.tso_ops.specs.Tally.{Admitted}
 use Rattle.tso_ops.proofs.LimitFacts.{IsStorable, IsAdmissible, IsFaultless-nil, IsFaultless-push, KeepsLimits-nil, KeepsLimits-push, no_fault, stored_values-push, total_events-push, total_barriers-push}
 
@@ -60,7 +60,7 @@ not_true false e = refl
 -- what the operation stores, if it stores a value, goes into the set and was not there
 pub record StoresNew (old new : BTreeSet ℕ) (stored : Option ℕ) : Type 0 where
   pub takes : AddsStored old new stored
-  pub non_zero : is_zero stored ≡ false
+  pub non_zero : option_map_or (λ v. eqb v 0) stored false ≡ false
   pub absent : (v : ℕ) → stored ≡ Some v → contains nat_cmp old v ≡ false
   pub fits : (v : ℕ) → stored ≡ Some v → v < 2 ^ 64
 
@@ -69,7 +69,7 @@ pub StoresNew-Some : (old new : BTreeSet ℕ) (stored : Option ℕ) (v : ℕ) (a
     (v ≡ 0 → ⊥) → added ≡ not (contains nat_cmp old v) → added ≡ true → v < 2 ^ 64 → StoresNew old new stored
 StoresNew-Some old new stored v added e updates non_zero was new_to_it fits =
     let absent : contains nat_cmp old v ≡ false = not_true (contains nat_cmp old v) (sym was ∙ new_to_it) in
-    let zero : is_zero (Some v) ≡ false = grind (arith, nat_tests) in
+    let zero : option_map_or (λ v. eqb v 0) (Some v) false ≡ false = grind (arith, nat_tests) in
     rw e record {
       takes = updates;
       non_zero = zero;
@@ -89,7 +89,7 @@ storable old new first values (Some s) had stores = record { non_zero = stores.n
 -- a tally after one more operation
 pub Admitted-push : (setting : SettingValue) (old new : Tally) (ops : List Op) (op : Op) → Admitted setting old ops → new.version ≡ old.version → new.order ≡ old.order →
     new.events ≡ old.events + event_count op → new.barriers ≡ old.barriers + barrier_count op →
-    is_past_addresses (address_of op) ≡ false → is_stbar_in_tso old.order op ≡ false → StoresNew old.stored new.stored (stored_by op) → Admitted setting new (ops ++ op ∷ [])
+    option_map_or (nat_lt 255) (address_of op) false ≡ false → is_stbar_in_tso old.order op ≡ false → StoresNew old.stored new.stored (stored_by op) → Admitted setting new (ops ++ op ∷ [])
 Admitted-push setting old new ops op was version order events barriers in_range no_stbar stores =
     let first = values_of setting.first in
     let values = stored_values ops in

@@ -1,7 +1,7 @@
 -- The limits of programs and traces, and which refusal a value that breaks them gets.
 use Rattle.std.specs.Prelude.{◌≡◌, ◌⊎◌, ℕ, ◌+◌, ◌<◌, ◌≤◌, ◌^◌, ◌==◌, ◌||◌, Bool, true, false, nat_lt, nat_le, nat_eq, List, [], ◌∷◌, ◌++◌, length, Option, Some, None, All, sum_by}
 use Rattle.std.specs.List.{flat_map, list_any, IsDistinct}
-use Rattle.std.specs.Option.{option_to_list}
+use Rattle.std.specs.Option.{option_to_list, option_map_or}
 use Rattle.tso_ops.specs.declared.ops.Op.{Op}
 use Rattle.tso_ops.specs.declared.ops.Op.TheVariants.{Ld, St, Sw, Mb, Sb}
 use Rattle.tso_ops.specs.declared.faults.ValueFault.{ValueFault}
@@ -14,16 +14,19 @@ use Rattle.tso_ops.specs.Values.{ProgramValue, TraceValue, ReadFits, program_of,
 
 -- how many events the operation gives: a swap its load and its store, a barrier none
 abbrev pub event_count : Op → ℕ
+event_count (Ld a) = 1
+event_count (St a v) = 1
 event_count (Sw a v) = 2
 event_count Mb = 0
 event_count Sb = 0
-event_count _ = 1
 
 -- how many barriers of either kind the operation is
 abbrev pub barrier_count : Op → ℕ
+barrier_count (Ld a) = 0
+barrier_count (St a v) = 0
+barrier_count (Sw a v) = 0
 barrier_count Mb = 1
 barrier_count Sb = 1
-barrier_count _ = 0
 
 abbrev pub address_of : Op → Option ℕ
 address_of (Ld a) = Some a
@@ -86,29 +89,13 @@ pub record IsTrace (t : TraceValue) : Type 0 where
   pub program : IsProgram (program_of t)
   pub reads : All ReadFits (outcomes_in_file_order t)
 
--- the operation's address is above 255
-abbrev pub is_past_addresses : Option ℕ → Bool
-is_past_addresses None = false
-is_past_addresses (Some a) = nat_lt 255 a
-
--- the value that the operation writes is 0
-abbrev pub is_zero : Option ℕ → Bool
-is_zero None = false
-is_zero (Some v) = v == 0
-
--- the value that the operation writes is among these
-abbrev pub is_repeated : List ℕ → Option ℕ → Bool
-is_repeated values None = false
-is_repeated values (Some v) = list_any (nat_eq v) values
-
 -- The operation has the fault, with these operations before it in file order.
 abbrev pub has_fault : SettingValue → List Op → Op → ValueFault → Bool
 has_fault setting before op TooManyEvents =
-    nat_lt (event_limit setting.version) (total_events before + event_count op)
-    || nat_lt (barrier_limit setting.version) (total_barriers before + barrier_count op)
-has_fault setting before op AddressRange = is_past_addresses (address_of op)
-has_fault setting before op ZeroValue = is_zero (stored_by op)
-has_fault setting before op RepeatedValue = is_repeated (values_of setting.first ++ stored_values before) (stored_by op)
+    nat_lt (event_limit setting.version) (total_events before + event_count op) || nat_lt (barrier_limit setting.version) (total_barriers before + barrier_count op)
+has_fault setting before op AddressRange = option_map_or (nat_lt 255) (address_of op) false
+has_fault setting before op ZeroValue = option_map_or (λ v. v == 0) (stored_by op) false
+has_fault setting before op RepeatedValue = option_map_or (λ v. list_any (nat_eq v) (values_of setting.first ++ stored_values before)) (stored_by op) false
 has_fault setting before op StbarInTso = is_stbar_in_tso setting.order op
 has_fault setting before op _ = false
 

@@ -58,7 +58,11 @@ IsPartOf (Ld a r) Whole e = IsTrue e.load × (e.a ≡ a) × (e.value ≡ r)
 IsPartOf (St a v) Whole e = IsFalse e.load × (e.a ≡ a) × (e.value ≡ v)
 IsPartOf (Sw a r v) SwapLoad e = IsTrue e.load × (e.a ≡ a) × (e.value ≡ r)
 IsPartOf (Sw a r v) SwapStore e = IsFalse e.load × (e.a ≡ a) × (e.value ≡ v)
-IsPartOf _ _ _ = ⊥
+IsPartOf (Ld a r) _ e = ⊥
+IsPartOf (St a v) _ e = ⊥
+IsPartOf (Sw a r v) Whole e = ⊥
+IsPartOf Mb part e = ⊥
+IsPartOf Sb part e = ⊥
 
 -- It is the operation at its place of its processor, which is the event's, and the event is that part of it.
 abbrev pub IsOperationOf : TraceValue → Event → EventOperation → Type 0

@@ -65,5 +65,7 @@ outcomes_in_file_order t = flat_map (λ ops. ops) t.lists
 -- what was read is a number of 64 bits
 abbrev pub ReadFits : Outcome → Type 0
 ReadFits (Ld a r) = r < 2 ^ 64
+ReadFits (St a v) = Unit {0}
 ReadFits (Sw a r v) = r < 2 ^ 64
-ReadFits _ = Unit {0}
+ReadFits Mb = Unit {0}
+ReadFits Sb = Unit {0}

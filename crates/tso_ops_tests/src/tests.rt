@@ -12,9 +12,8 @@ mod tally;
 
 use std::alloc::{AllocError, Global};
 use std::fmt::Debug;
-use std::process::Abort;
 use std::test::Fail;
-use traces_for_tests::lists_of;
+use traces_for_tests::{expect_equal, lists_of};
 use tso_ops::{Op, Outcome, Program, Refused, Source, Trace, ValueFault};
 
 const LOAD: Outcome = Outcome::Ld { a: 0, r: 0 };
@@ -44,23 +43,16 @@ fn trace_of(alloc: Global, lists: &[&[Outcome]]) -> Result<Trace, Fail> {
     Ok(Trace::new(alloc, lists_of(alloc, lists)?).map_err(|refused| refused.why)?)
 }
 
-/// Compares what a call gave in this case with what it has to give. An assertion costs the check of a function many times
-/// what a call of this one costs it.
-fn expect<C: Copy + Debug, T: Copy + Debug + PartialEq>(
-    rt: &impl Abort,
-    case: C,
-    found: T,
-    wanted: T,
-) {
-    assert_eq!(rt; found, wanted, "{case:?}");
-}
-
 /// Compares lists of operations.
-fn expect_lists<T: Copy + Debug + PartialEq>(rt: &impl Abort, found: &[Vec<T>], wanted: &[&[T]]) {
-    expect(rt, "lists", found.len(), wanted.len());
+fn expect_lists<T: Copy + Debug + PartialEq>(
+    found: &[Vec<T>],
+    wanted: &[&[T]],
+) -> Result<(), Fail> {
+    expect_equal("lists", found.len(), wanted.len())?;
     for (list, operations) in found.iter().zip(wanted) {
-        expect(rt, "a list", list.as_slice(), *operations);
+        expect_equal("a list", list.as_slice(), *operations)?;
     }
+    Ok(())
 }
 
 /// A row of bits of a trace.
@@ -89,17 +81,19 @@ fn row_words(trace: &Trace, row: Row) -> &[u64] {
     }
 }
 
-fn expect_rows(rt: &impl Abort, trace: &Trace, rows: &[(Row, &[u64])]) {
+fn expect_rows(trace: &Trace, rows: &[(Row, &[u64])]) -> Result<(), Fail> {
     for (n, (row, wanted)) in rows.iter().enumerate() {
-        expect(rt, ("row of the table", n), row_words(trace, *row), *wanted);
+        expect_equal(("row of the table", n), row_words(trace, *row), *wanted)?;
     }
+    Ok(())
 }
 
 /// Compares where the loads read from.
-fn expect_sources(rt: &impl Abort, trace: &Trace, sources: &[(usize, Option<Source>)]) {
+fn expect_sources(trace: &Trace, sources: &[(usize, Option<Source>)]) -> Result<(), Fail> {
     for (n, source) in sources {
-        expect(rt, ("source", *n), trace.source(*n), *source);
+        expect_equal(("source", *n), trace.source(*n), *source)?;
     }
+    Ok(())
 }
 
 /// The number of processors and that of events.
@@ -167,15 +161,14 @@ fn refused_trace(alloc: Global, lists: &[&[Outcome]]) -> Result<Refused<Outcome>
 }
 
 fn expect_refusal<T: Copy + Debug + PartialEq>(
-    rt: &impl Abort,
     refused: &Refused<T>,
     why: ValueFault,
     lists: &[&[T]],
-) {
-    expect(rt, "why", refused.why, why);
-    expect_lists(rt, &refused.lists, lists);
+) -> Result<(), Fail> {
+    expect_equal("why", refused.why, why)?;
+    expect_lists(&refused.lists, lists)
 }
 
-fn expect_text(rt: &impl Abort, found: &str, wanted: &str) {
-    expect(rt, "a text", found, wanted);
+fn expect_text(found: &str, wanted: &str) -> Result<(), Fail> {
+    expect_equal("a text", found, wanted)
 }

@@ -14,9 +14,10 @@ use Rattle.issue_desk.specs.Running.{IsRunOf}
 use Rattle.tso_report.specs.declared.campaigns.CampaignPrograms.{CampaignPrograms}
 use Rattle.trace_reports.specs.declared.verdicts.Verdict.{Verdict}
 use Rattle.trace_reports.specs.declared.verdicts.Verdict.TheVariants.{NoViolation, Violation, Refused}
-use Rattle.tso_report.specs.Campaigns.{AreVerdicts, IsVerdictOfSeed, campaign_program, program_of_seed_with_order, seed_line, seed_lines, verdict_line, verdict_of}
-use Rattle.tso_report.specs.Internal.Gathering.{AreUnitsFrom, GatheredValue, IsGathered, KeepsSeeds, is_violation}
+use Rattle.tso_report.specs.Campaigns.{AreVerdicts, IsVerdictOfSeed, campaign_program, program_of_seed_with_order, seed_line, seed_lines, verdict_of}
+use Rattle.tso_report.specs.Internal.Gathering.{AreUnitsFrom, GatheredValue, IsGathered, KeepsSeeds}
 use Rattle.trace_reports.specs.Reports.{IsTraceReport}
+use Rattle.trace_reports.specs.Verdicts.{is_violation, verdict_line}
 use Rattle.trace_reports.proofs.RenderingFacts.{consistent_verdict, trace_verdict}
 use Rattle.tso_report.proofs.LawfulRecords.{lawful_consistent}
 

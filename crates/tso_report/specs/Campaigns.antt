@@ -20,6 +20,7 @@ use Rattle.trace_judging.specs.declared.faults.Fault.TheVariants.{Read, Missing}
 use Rattle.trace_reports.specs.declared.verdicts.Verdict.{Verdict}
 use Rattle.trace_reports.specs.declared.verdicts.Verdict.TheVariants.{NoViolation, Violation}
 use Rattle.trace_reports.specs.Reports.{IsTraceReport}
+use Rattle.trace_reports.specs.Verdicts.{verdict_line}
 use Rattle.trace_judging.specs.WrittenReports.{LeavesAtFault}
 
 -- ---- the program of a seed
@@ -61,10 +62,6 @@ pub record IsVerdictOfSeed (programs : CampaignPrograms) (seed : ℕ) (unit : Un
   pub no_false_alarm : is_lawful_under programs.order unit ≡ true → violation ≡ false
 
 -- ---- the text
-
-abbrev pub verdict_line : Bool → List ℕ
-verdict_line true = codes "VIOLATION" ++ 10 ∷ []
-verdict_line false = codes "NO VIOLATION FOUND" ++ 10 ∷ []
 
 -- the line of a seed
 abbrev pub seed_line : ℕ → Bool → List ℕ

@@ -11,8 +11,8 @@ pub use campaigns::{CampaignPrograms, MAX_SEEDS, campaign, campaign_over};
 pub use record_judging::{judge_recorded, report_of_record};
 pub use trace_judging::{
     AsReport, Fault, Finding, MAX_CERTIFICATE_BYTES, MAX_WORKERS, Rendering, Report, Verdict,
-    build_cert, check_texts, find_violation, judge, present, read_all, render, render_head,
-    render_refusal, render_text, render_trace, write_text,
+    build_cert, check_texts, find_violation, judge, judge_text, judge_trace, judge_with, read_all,
+    render, render_head, render_refusal, write_text,
 };
 
 mod account_rendering;

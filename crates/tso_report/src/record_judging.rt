@@ -13,7 +13,7 @@ use std::alloc::Global;
 use std::io::Write;
 use std::sync::Wait;
 use std::thread::Threads;
-use trace_judging::{Fault, render_trace, write_text};
+use trace_judging::{Fault, judge_trace, write_text};
 use trace_reports::{AsReport, Report, Verdict};
 use unit_core::Recorded;
 
@@ -64,6 +64,6 @@ pub fn report_of_record<H: Threads + Wait>(
     ensures no_false_alarm { IfOk result (λ report. recorded.now.lawful ≡ true → report.verdict ≡ Verdict.NoViolation) }
     ensures fault { IfErr result (λ fault. (fault ≡ Fault.OutOfMemory) ⊎ (fault ≡ Fault.NoThread)) }
 {
-    let report = render_trace(rt, alloc, recorded.trace(), workers, &AsReport)?;
+    let report = judge_trace(rt, alloc, recorded.trace(), workers, &AsReport)?;
     Ok(report)
 }

@@ -1,4 +1,5 @@
-//! The inferred rules, over a graph that has the edges of lesser rank.
+//! The inferred rules, over any graph that has the edges of lesser rank. Rounds take LoadPast from `over_base`, which is
+//! faster there.
 ghost use Rattle.std.specs.Prelude.{◌≡◌, ℕ, suc, Some, IfOk, OnOk, IfSome};
 ghost use Rattle.order_graph.specs.Digraphs.{IsEdge};
 ghost use Rattle.tso_ops.specs.Events.{IsSwapLoad};

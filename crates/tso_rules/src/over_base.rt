@@ -1,4 +1,5 @@
-//! The inferred rules over a graph that has the trace's base edges, with masks of sources made once for the trace.
+//! The inferred rules as rounds use them: over a graph that has the trace's base edges, with masks of sources made once for the
+//! trace.
 ghost use Rattle.std.specs.Prelude.{◌≢◌, ℕ, IfOk, OnOk};
 ghost use Rattle.order_graph.specs.Digraphs.{IsEdge};
 ghost use Rattle.tso_model.specs.NewEdges.{IsNew};

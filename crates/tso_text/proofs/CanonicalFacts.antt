@@ -1,7 +1,10 @@
 -- A line that says something is written in one way, and numbers in decimal are read back.
 use Rattle.std.specs.Str.{bytes_eq}
-use Rattle.std.proofs.Common.{◌≡◌, ℕ, ◌≤◌, Bool, true, false, cond, ltb, List, [], ◌∷◌, Some, None, Result, Ok, Err, refl, ap, ◌∙◌, arith, not, ◌<◌, ◌^◌, map}
-use Rattle.std.specs.Prelude.{codes, IfOk}
+use Rattle.std.proofs.Common.{◌≡◌, ◌⊎◌, ℕ, zero, suc, ◌≤◌, Bool, true, false, cond, ltb, List, [], ◌∷◌, length, Some, None, Result, Ok, Err, refl, ap, sym, subst, ◌∙◌, arith, not, ◌<◌, ◌^◌, map, inl, inr, ⊎_elim}
+use Rattle.std.specs.List.{AllByRecursion}
+use Rattle.std.proofs.lemmas.Bool.{false≢true}
+use Rattle.std.proofs.lemmas.List.{nil_from_length, length-map}
+use Rattle.std.specs.Prelude.{codes}
 use Rattle.std.specs.Fmt.{decimal}
 use Rattle.std.proofs.lemmas.Bool.Decides.{nat_tests}
 use Rattle.std.proofs.lemmas.Slice.Eq.{bytes_eq-Decides}
@@ -14,12 +17,12 @@ use Rattle.tso_ops.specs.declared.settings.Order.TheVariants.{Tso, Pso}
 use Rattle.tso_ops.specs.declared.settings.Version.{Version}
 use Rattle.tso_ops.specs.declared.settings.Version.TheVariants.{One, Two}
 use Rattle.tso_text.specs.declared.faults.Why.{Why}
-use Rattle.tso_text.specs.declared.faults.Why.TheVariants.{BadNumber}
+use Rattle.tso_text.specs.declared.faults.Why.TheVariants.{BadLine, BadNumber}
 use Rattle.tso_text.specs.declared.lines.Line.{Line}
 use Rattle.tso_text.specs.declared.lines.Line.TheVariants.{Proc, Item, End}
 use Rattle.line_text.specs.Results.{◌>>=◌}
 use Rattle.tso_text.specs.Internal.LineReadings.{has_stbar, has_entries, address}
-use Rattle.tso_text.specs.Numbers.{numeral, no_number, one_number, two_numbers, three_numbers}
+use Rattle.tso_text.specs.Numbers.{numeral, numerals, has_count, numbers, number_at}
 use Rattle.tso_text.specs.Internal.Spelling.{Grammar, line_fault, items_of}
 use Rattle.line_text.proofs.SplitFacts.{has_byte_in, decimal_without}
 
@@ -43,45 +46,103 @@ Fits n = n < 2 ^ 64
 numeral_fits : (p : List ℕ) (n : ℕ) → numeral p ≡ Ok n → Fits n
 numeral_fits p n e = number_fits p n (numeral_ok p n e)
 
+numeral_err : (p : List ℕ) (w : Why) → numeral p ≡ Err w → w ≡ BadNumber
+numeral_err p w e = by (is_numeral p) (digits_value 10 p) e
+  where
+    by : (b : Bool) (m : ℕ) → cond b (Ok m) (Err BadNumber) ≡ Err w → w ≡ BadNumber
+    by true m is = absurd cc
+    by false m is = cc
+
 pub bind_ok : {A B : Type 0} (r : Result A Why) (f : A → Result B Why) (b : B) → (r >>= f) ≡ Ok b → (a : A) × (r ≡ Ok a) × (f a ≡ Ok b)
 bind_ok (Ok a) f b e = (a, refl, e)
 bind_ok (Err why) f b e = absurd cc
 
--- just so many numbers are written in one way, and have 64 bits
-pub one_is : (ps : List (List ℕ)) (n : ℕ) → one_number ps ≡ Ok n → (ps ≡ decimal n ∷ []) × Fits n
-unfolding one_number
-one_is [] n e = absurd cc
-one_is (p ∷ []) n e = (ap (λ q. q ∷ []) (numeral_is p n e), numeral_fits p n e)
-one_is (p ∷ q ∷ ps) n e = absurd cc
+pub bind_err : {A B : Type 0} (r : Result A Why) (f : A → Result B Why) (why : Why) → (r >>= f) ≡ Err why → (r ≡ Err why) ⊎ ((a : A) × (r ≡ Ok a) × (f a ≡ Err why))
+bind_err (Ok a) f why e = inr (a, refl, e)
+bind_err (Err other) f why e = inl cc
 
-pub two_is : (ps : List (List ℕ)) (n : ℕ × ℕ) → two_numbers ps ≡ Ok n → (ps ≡ decimal n.0 ∷ decimal n.1 ∷ []) × Fits n.0 × Fits n.1
-unfolding two_numbers
-two_is [] n e = absurd cc
-two_is (p ∷ []) n e = absurd cc
-two_is (p ∷ q ∷ []) n e =
-    let first = bind_ok (numeral p) _ n e in
-    let second = bind_ok (numeral q) _ n first.2 in
-    let pair : (first.0, second.0) ≡ n = cc in
-    rw (← pair) (ap (λ d. d ∷ q ∷ []) (numeral_is p first.0 first.1) ∙ ap (λ d. decimal first.0 ∷ d ∷ []) (numeral_is q second.0 second.1), numeral_fits p first.0 first.1, numeral_fits q second.0 second.1)
-two_is (p ∷ q ∷ r ∷ ps) n e = absurd cc
+-- ---- just so many numbers
 
-pub three_is : (ps : List (List ℕ)) (n : ℕ × ℕ × ℕ) → three_numbers ps ≡ Ok n → (ps ≡ decimal n.0 ∷ decimal n.1 ∷ decimal n.2 ∷ []) × Fits n.0 × Fits n.1 × Fits n.2
-unfolding three_numbers
-three_is [] n e = absurd cc
-three_is (p ∷ []) n e = absurd cc
-three_is (p ∷ q ∷ []) n e = absurd cc
-three_is (p ∷ q ∷ r ∷ []) n e =
-    let first = bind_ok (numeral p) _ n e in
-    let second = bind_ok (numeral q) _ n first.2 in
-    let third = bind_ok (numeral r) _ n second.2 in
-    let triple : (first.0, second.0, third.0) ≡ n = cc in
-    rw (← triple) (
-      ap (λ d. d ∷ q ∷ r ∷ []) (numeral_is p first.0 first.1) ∙ ap (λ d. decimal first.0 ∷ d ∷ r ∷ []) (numeral_is q second.0 second.1) ∙ ap (λ d. decimal first.0 ∷ decimal second.0 ∷ d ∷ []) (numeral_is r third.0 third.1),
-      numeral_fits p first.0 first.1,
-      numeral_fits q second.0 second.1,
-      numeral_fits r third.0 third.1,
-    )
-three_is (p ∷ q ∷ r ∷ s ∷ ps) n e = absurd cc
+counted : {X : Type 0} (n : ℕ) (xs : List X) → has_count n xs ≡ true → length xs ≡ n
+counted zero [] e = refl
+counted zero (x ∷ xs) e = absurd cc
+counted (suc n) [] e = absurd cc
+counted (suc n) (x ∷ xs) e = ap suc (counted n xs e)
+
+has_its_count : {X : Type 0} (xs : List X) → has_count (length xs) xs ≡ true
+has_its_count [] = refl
+has_its_count (x ∷ xs) = has_its_count xs
+
+-- the tokens are those of these numbers
+pub record AreNumbers (n : ℕ) (ps : List (List ℕ)) (ns : List ℕ) : Type 0 where
+  pub tokens : ps ≡ map decimal ns
+  pub fit : AllByRecursion Fits ns
+  pub count : length ns ≡ n
+
+numerals_is : (ps : List (List ℕ)) (ns : List ℕ) → numerals ps ≡ Ok ns → AreNumbers (length ps) ps ns
+numerals_is [] ns e = let same : [] ≡ ns = cc in rw (← same) (record { tokens = refl; fit = tt; count = refl })
+numerals_is (p ∷ ps) ns e =
+    let first = bind_ok (numeral p) _ ns e in
+    let rest = bind_ok (numerals ps) _ ns first.2 in
+    let are = numerals_is ps rest.0 rest.1 in
+    let same : first.0 ∷ rest.0 ≡ ns = cc in
+    rw (← same) (record {
+      tokens = ap (λ d. d ∷ ps) (numeral_is p first.0 first.1) ∙ ap (λ ds. decimal first.0 ∷ ds) are.tokens;
+      fit = (numeral_fits p first.0 first.1, are.fit);
+      count = ap suc are.count;
+    })
+
+numerals_err : (ps : List (List ℕ)) (w : Why) → numerals ps ≡ Err w → (w ≡ BadNumber) × (0 < length ps)
+numerals_err [] w e = absurd cc
+numerals_err (p ∷ ps) w e =
+    (⊎_elim (λ bad. numeral_err p w bad) (λ ok. ⊎_elim (λ bad. (numerals_err ps w bad).0) (λ all. absurd (let s = all.2 in cc)) (bind_err (numerals ps) _ w ok.2)) (bind_err (numeral p) _ w e), omega arith)
+
+-- they are written in one way, and have 64 bits
+pub numbers_is : (count : ℕ) (ps : List (List ℕ)) (ns : List ℕ) → numbers count ps ≡ Ok ns → AreNumbers count ps ns
+unfolding numbers
+numbers_is count ps ns e = by (has_count count ps) refl e
+  where
+    by : (b : Bool) → has_count count ps ≡ b → cond b (numerals ps) (Err BadLine) ≡ Ok ns → AreNumbers count ps ns
+    by true has is = let are = numerals_is ps ns is in record { tokens = are.tokens; fit = are.fit; count = are.count ∙ counted count ps has }
+    by false has is = absurd cc
+
+-- or there are more or fewer tokens, or some and not all are numbers
+pub numbers_err : (count : ℕ) (ps : List (List ℕ)) (w : Why) → numbers count ps ≡ Err w → ((w ≡ BadLine) × (length ps ≡ count → ⊥)) ⊎ ((w ≡ BadNumber) × (length ps ≡ count) × (0 < length ps))
+unfolding numbers
+numbers_err count ps w e = by (has_count count ps) refl e
+  where
+    by : (b : Bool) → has_count count ps ≡ b → cond b (numerals ps) (Err BadLine) ≡ Err w → ((w ≡ BadLine) × (length ps ≡ count → ⊥)) ⊎ ((w ≡ BadNumber) × (length ps ≡ count) × (0 < length ps))
+    by true has bad = let is = numerals_err ps w bad in inr (is.0, counted count ps has, is.1)
+    by false has bad = inl (cc, λ same. false≢true (sym has ∙ ap (λ n. has_count n ps) (sym same) ∙ has_its_count ps))
+
+-- tokens of another number are a bad line
+pub other_count : (count : ℕ) (ps : List (List ℕ)) → (length ps ≡ count → ⊥) → numbers count ps ≡ Err BadLine
+unfolding numbers
+other_count count ps other = by (has_count count ps) refl
+  where
+    by : (b : Bool) → has_count count ps ≡ b → cond b (numerals ps) (Err BadLine) ≡ Err BadLine
+    by true has = absurd (other (counted count ps has))
+    by false has = refl
+
+-- so many numbers, by their places
+pub one_at : (ns : List ℕ) → length ns ≡ 1 → ns ≡ number_at ns 0 ∷ []
+one_at [] e = absurd cc
+one_at (n ∷ ns) e = ap (λ ms. n ∷ ms) (nil_from_length ns (omega (arith, e)))
+
+pub two_at : (ns : List ℕ) → length ns ≡ 2 → ns ≡ number_at ns 0 ∷ number_at ns 1 ∷ []
+two_at [] e = absurd cc
+two_at (n ∷ ns) e = ap (λ ms. n ∷ ms) (one_at ns (omega (arith, e)))
+
+pub three_at : (ns : List ℕ) → length ns ≡ 3 → ns ≡ number_at ns 0 ∷ number_at ns 1 ∷ number_at ns 2 ∷ []
+three_at [] e = absurd cc
+three_at (n ∷ ns) e = ap (λ ms. n ∷ ms) (two_at ns (omega (arith, e)))
+
+pub two_is : (ps : List (List ℕ)) (ns : List ℕ) → numbers 2 ps ≡ Ok ns → (ps ≡ decimal (number_at ns 0) ∷ decimal (number_at ns 1) ∷ []) × Fits (number_at ns 0) × Fits (number_at ns 1)
+two_is ps ns e =
+    let are = numbers_is 2 ps ns e in
+    let two = two_at ns are.count in
+    let fit = subst (AllByRecursion Fits) two are.fit in
+    (are.tokens ∙ ap (map decimal) two, fit.0, fit.1.0)
 
 -- ---- lines
 
@@ -121,11 +182,6 @@ pub two : (version : Version) → has_entries version ≡ true → version ≡ T
 two One e = absurd cc
 two Two e = refl
 
--- numbers of 64 bits
-abbrev pub Fit64 : List ℕ → Type 0
-Fit64 [] = Unit {0}
-Fit64 (n ∷ ns) = (n < 2 ^ 64) × Fit64 ns
-
 pub numbers_without : (c : ℕ) (ns : List ℕ) → c < 48 → has_byte_in c (map decimal ns) ≡ false
 numbers_without c [] low = refl
 numbers_without c (n ∷ ns) low = rw (decimal_without c n low) (numbers_without c ns low)
@@ -138,17 +194,17 @@ numeral-decimal n fits = by (is_numeral (decimal n)) (digits_value 10 (decimal n
     by true m is = cc
     by false m is = absurd cc
 
-pub one-decimal : (n : ℕ) → n < 2 ^ 64 → one_number (decimal n ∷ []) ≡ Ok n
-unfolding one_number
-one-decimal n fits = numeral-decimal n fits
+numerals-decimal : (ns : List ℕ) → AllByRecursion Fits ns → numerals (map decimal ns) ≡ Ok ns
+numerals-decimal [] fit = refl
+numerals-decimal (n ∷ ns) fit = rw (numeral-decimal n fit.0, numerals-decimal ns fit.1) refl
 
-pub two-decimal : (m n : ℕ) → m < 2 ^ 64 → n < 2 ^ 64 → two_numbers (decimal m ∷ decimal n ∷ []) ≡ Ok (m, n)
-unfolding two_numbers
-two-decimal m n fits also = rw (numeral-decimal m fits, numeral-decimal n also) refl
+-- numbers in decimal are read back
+pub numbers-decimal : (ns : List ℕ) → AllByRecursion Fits ns → numbers (length ns) (map decimal ns) ≡ Ok ns
+unfolding numbers
+numbers-decimal ns fit = rw (ap (λ n. has_count n (map decimal ns)) (sym (length-map ns decimal)) ∙ has_its_count (map decimal ns), numerals-decimal ns fit) refl
 
-pub three-decimal : (m n o : ℕ) → m < 2 ^ 64 → n < 2 ^ 64 → o < 2 ^ 64 → three_numbers (decimal m ∷ decimal n ∷ decimal o ∷ []) ≡ Ok (m, n, o)
-unfolding three_numbers
-three-decimal m n o fits also third = rw (numeral-decimal m fits, numeral-decimal n also, numeral-decimal o third) refl
+pub two-decimal : (m n : ℕ) → m < 2 ^ 64 → n < 2 ^ 64 → numbers 2 (decimal m ∷ decimal n ∷ []) ≡ Ok (m ∷ n ∷ [])
+two-decimal m n fits also = numbers-decimal (m ∷ n ∷ []) (fits, (also, tt))
 
 pub address-within : (a : ℕ) → a < 256 → address a ≡ a
 address-within a low = omega arith

@@ -1,156 +1,104 @@
 -- The faults of lines in texts, from those of operations and of first values in values.
-use Rattle.std.proofs.Common.{◌≡◌, ℕ, ◌<◌, ◌≤◌, true, false, ltb, List, [], ◌∷◌, ◌++◌, refl, sym, ◌∙◌, ap, arith, inl, inr, ⊎_elim, subst, ◌||◌, eqb, cond, Bool, Option, Some, None}
+use Rattle.std.proofs.Common.{◌≡◌, ℕ, ◌<◌, ◌≤◌, true, false, ltb, List, [], ◌∷◌, ◌++◌, refl, sym, ◌∙◌, ap, arith, inl, inr, ⊎_elim, subst, cond, Bool, Some, None, ◌⊎◌}
+use Rattle.std.specs.Option.{option_map}
 use Rattle.std.proofs.lemmas.Bool.{false≢true}
 use Rattle.std.proofs.lemmas.Bool.Decides.{nat_tests}
-use Rattle.std.specs.List.{list_any}
 use Rattle.tso_ops.specs.declared.ops.Op.{Op}
-use Rattle.tso_ops.specs.declared.ops.Op.TheVariants.{Ld, St, Sw, Mb, Sb}
 use Rattle.tso_ops.specs.declared.faults.ValueFault.{ValueFault}
 use Rattle.tso_ops.specs.declared.faults.ValueFault.TheVariants.{TooManyProcessors as ManyProcessors, TooManyEvents as ManyEvents, AddressRange as PastAddresses, ZeroValue as ZeroStored, RepeatedValue as Repeated, OutOfMemory as NoMemory, StbarInTso, InitOrder as NotAscending}
-use Rattle.tso_ops.specs.Settings.{SettingValue, values_of}
-use Rattle.tso_ops.specs.Limits.{stored_values, has_fault, has_entry_fault, is_stbar_in_tso, IsFaultless, IsEntryRefusal, IsFirstFault as IsFirstOfOp}
+use Rattle.tso_ops.specs.Settings.{SettingValue}
+use Rattle.tso_ops.specs.Limits.{has_fault, has_entry_fault, is_stbar_in_tso, IsFaultless, IsEntryRefusal, IsFirstFault as IsFirstOfOp}
 use Rattle.tso_ops.specs.Tally.{IsAdmitRefusal as IsOpRefusedFor}
 use Rattle.tso_ops.specs.declared.acts.Act.{Act}
 use Rattle.tso_text.specs.declared.faults.Why.{Why}
 use Rattle.tso_text.specs.declared.faults.Why.TheVariants.{TooManyEvents, AddressRange, ZeroValue, RepeatedValue, ProcessorRange, InitOrder}
 use Rattle.tso_text.specs.Internal.Grammars.{act_fault}
 use Rattle.tso_text.specs.Texts.{processor_of}
-use Rattle.tso_text.specs.Refusals.{op_fault_after, entry_fault_after}
+use Rattle.tso_text.specs.Refusals.{text_fault}
+use Rattle.tso_text.specs.Internal.LineReadings.{op_fault_after, entry_fault_after}
 use Rattle.tso_text.specs.Internal.Accepted.{IsRefusedFor, IsWhyOf}
+
+-- ---- faults of values
+
+-- what no test of a value finds
+pub record Passes (has : ValueFault → Bool) : Type 0 where
+  pub many : has ManyEvents ≡ false
+  pub past : has PastAddresses ≡ false
+  pub zero : has ZeroStored ≡ false
+  pub repeated : has Repeated ≡ false
+  pub ascending : has NotAscending ≡ false
+
+pub passes : (has : ValueFault → Bool) → text_fault has ≡ None → Passes has
+passes has clean = none_of _ _ _ _ _ refl refl refl refl refl clean
+  where
+    none_of : (a b c d e : Bool) → has ManyEvents ≡ a → has PastAddresses ≡ b → has ZeroStored ≡ c → has Repeated ≡ d → has NotAscending ≡ e →
+        option_map (λ (f : ValueFault × Why). f.1) (cond a (Some (ManyEvents, TooManyEvents)) (cond b (Some (PastAddresses, AddressRange)) (cond c (Some (ZeroStored, ZeroValue)) (cond d (Some (Repeated, RepeatedValue)) (cond e (Some (NotAscending, InitOrder)) None))))) ≡ None → Passes has
+    none_of false false false false false many past zero repeated ascending is = record { many = many; past = past; zero = zero; repeated = repeated; ascending = ascending }
+    none_of true b c d e many past zero repeated ascending is = absurd cc
+    none_of false true c d e many past zero repeated ascending is = absurd cc
+    none_of false false true d e many past zero repeated ascending is = absurd cc
+    none_of false false false true e many past zero repeated ascending is = absurd cc
+    none_of false false false false true many past zero repeated ascending is = absurd cc
+
+-- a value without a fault has none in a text
+pub no_fault : (has : ValueFault → Bool) → ((why : ValueFault) → has why ≡ false) → text_fault has ≡ None
+no_fault has none = rw (none ManyEvents, none PastAddresses, none ZeroStored, none Repeated, none NotAscending) refl
+
+module _ {X : Type 0} (has : List X → X → ValueFault → Bool) (before : List X) (x : X) where
+  -- its first fault is that in a text
+  first_in_text : has before x ManyProcessors ≡ false → has before x NoMemory ≡ false → (fault : ValueFault) (why : Why) → IsWhyOf fault why → IsFirstOfOp has before x fault → text_fault (has before x) ≡ Some why
+  first_in_text none free ManyProcessors why is first = absurd (false≢true (sym none ∙ first.fault))
+  first_in_text none free ManyEvents why is first = rw (is, first.fault) refl
+  first_in_text none free PastAddresses why is first = rw (is, first.least ManyEvents (omega arith), first.fault) refl
+  first_in_text none free ZeroStored why is first = rw (is, first.least ManyEvents (omega arith), first.least PastAddresses (omega arith), first.fault) refl
+  first_in_text none free Repeated why is first = rw (is, first.least ManyEvents (omega arith), first.least PastAddresses (omega arith), first.least ZeroStored (omega arith), first.fault) refl
+  first_in_text none free NoMemory why is first = absurd (false≢true (sym free ∙ first.fault))
+  first_in_text none free StbarInTso why is first = absurd is
+  first_in_text none free NotAscending why is first =
+      rw (is, first.least ManyEvents (omega arith), first.least PastAddresses (omega arith), first.least ZeroStored (omega arith), first.least Repeated (omega arith), first.fault) refl
+
+  -- what is refused as a value is refused in a text
+  refused_in_text : has before x ManyProcessors ≡ false → has before x NoMemory ≡ false → (fault : ValueFault) (why : Why) → IsWhyOf fault why → (fault ≡ NoMemory) ⊎ IsFirstOfOp has before x fault → IsRefusedFor (text_fault (has before x)) why
+  refused_in_text none free fault why is away = ⊎_elim (λ memory. inl (subst (λ f. IsWhyOf f why) memory is)) (λ first. inr (first_in_text none free fault why is first)) away
+
+  -- nothing is refused for an STBAR that isn't one under TSO
+  no_stbar_refused : has before x StbarInTso ≡ false → (fault : ValueFault) → (fault ≡ NoMemory) ⊎ IsFirstOfOp has before x fault → fault ≡ StbarInTso → ⊥
+  no_stbar_refused none fault away is =
+      ⊎_elim (λ (memory : fault ≡ NoMemory). let same : StbarInTso ≡ NoMemory = sym is ∙ memory in cc)
+      (λ (first : IsFirstOfOp has before x fault). false≢true (sym none ∙ sym (ap (has before x) is) ∙ first.fault)) away
 
 -- ---- operations
 
--- the first of these tests that finds its fault
-abbrev op_found : Bool → Bool → Bool → Bool → Option Why
-op_found many past zero repeated = cond many (Some TooManyEvents) (cond past (Some AddressRange) (cond zero (Some ZeroValue) (cond repeated (Some RepeatedValue) None)))
-
-or_false : (b : Bool) → (b || false) ≡ b
-or_false true = refl
-or_false false = refl
-
-same_zero : (v : ℕ) → eqb 0 v ≡ eqb v 0
-same_zero v = grind (arith, nat_tests)
-
--- the fault of an operation by the tests of values
-by_tests : (setting : SettingValue) (before : List Op) (op : Op) →
-    op_fault_after setting before op ≡ op_found (has_fault setting before op ManyEvents) (has_fault setting before op PastAddresses) (has_fault setting before op ZeroStored) (has_fault setting before op Repeated)
-by_tests setting before (Ld a) = rw (or_false (ltb 255 a)) refl
-by_tests setting before (St a v) = rw (or_false (ltb 255 a), or_false (eqb 0 v), same_zero v, or_false (list_any (eqb v) (values_of setting.first ++ stored_values before))) refl
-by_tests setting before (Sw a v) = rw (or_false (ltb 255 a), or_false (eqb 0 v), same_zero v, or_false (list_any (eqb v) (values_of setting.first ++ stored_values before))) refl
-by_tests setting before Mb = refl
-by_tests setting before Sb = refl
-
--- what no test of an operation finds
-pub record PassesTests (setting : SettingValue) (before : List Op) (op : Op) : Type 0 where
-  pub many : has_fault setting before op ManyEvents ≡ false
-  pub past : has_fault setting before op PastAddresses ≡ false
-  pub zero : has_fault setting before op ZeroStored ≡ false
-  pub repeated : has_fault setting before op Repeated ≡ false
-
-pub op_passes : (setting : SettingValue) (before : List Op) (op : Op) → op_fault_after setting before op ≡ None → PassesTests setting before op
-op_passes setting before op clean =
-    let t = none_of _ _ _ _ (sym (by_tests setting before op) ∙ clean) in record { many = t.0; past = t.1; zero = t.2; repeated = t.3 }
-  where
-    none_of : (a b c d : Bool) → op_found a b c d ≡ None → (a ≡ false) × (b ≡ false) × (c ≡ false) × (d ≡ false)
-    none_of false false false false e = (refl, refl, refl, refl)
-    none_of true b c d e = absurd cc
-    none_of false true c d e = absurd cc
-    none_of false false true d e = absurd cc
-    none_of false false false true e = absurd cc
-
--- an operation without a fault has none in a text
-pub op_clean : (setting : SettingValue) (before : List Op) (op : Op) → ((why : ValueFault) → has_fault setting before op why ≡ false) → op_fault_after setting before op ≡ None
-op_clean setting before op none =
-    let many : has_fault setting before op ManyEvents ≡ false = none ManyEvents in
-    let past : has_fault setting before op PastAddresses ≡ false = none PastAddresses in
-    let zero : has_fault setting before op ZeroStored ≡ false = none ZeroStored in
-    let repeated : has_fault setting before op Repeated ≡ false = none Repeated in
-    by_tests setting before op ∙ rw (many, past, zero, repeated) refl
-
--- its first fault is that in a text
-op_first : (setting : SettingValue) (before : List Op) (op : Op) (fault : ValueFault) (why : Why) → IsWhyOf fault why → IsFirstOfOp (has_fault setting) before op fault → op_fault_after setting before op ≡ Some why
-op_first setting before op ManyProcessors why is first = absurd (false≢true first.fault)
-op_first setting before op ManyEvents why is first = rw is (by_tests setting before op ∙ rw first.fault refl)
-op_first setting before op PastAddresses why is first = let many : has_fault setting before op ManyEvents ≡ false = first.least ManyEvents (omega arith) in rw is (by_tests setting before op ∙ rw (many, first.fault) refl)
-op_first setting before op ZeroStored why is first =
-    let many : has_fault setting before op ManyEvents ≡ false = first.least ManyEvents (omega arith) in
-    let past : has_fault setting before op PastAddresses ≡ false = first.least PastAddresses (omega arith) in
-    rw is (by_tests setting before op ∙ rw (many, past, first.fault) refl)
-op_first setting before op Repeated why is first =
-    let many : has_fault setting before op ManyEvents ≡ false = first.least ManyEvents (omega arith) in
-    let past : has_fault setting before op PastAddresses ≡ false = first.least PastAddresses (omega arith) in
-    let zero : has_fault setting before op ZeroStored ≡ false = first.least ZeroStored (omega arith) in
-    rw is (by_tests setting before op ∙ rw (many, past, zero, first.fault) refl)
-op_first setting before op NoMemory why is first = absurd (false≢true first.fault)
-op_first setting before op StbarInTso why is first = absurd is
-op_first setting before op NotAscending why is first = absurd (false≢true first.fault)
-
--- an operation that is refused is refused in a text
 pub op_refused_for : (setting : SettingValue) (before : List Op) (op : Op) (fault : ValueFault) (why : Why) → IsWhyOf fault why → IsOpRefusedFor setting before op fault → IsRefusedFor (op_fault_after setting before op) why
-op_refused_for setting before op fault why is away =
-    ⊎_elim (λ memory. inl (subst (λ f. IsWhyOf f why) memory is)) (λ first. inr (op_first setting before op fault why is first)) away
+op_refused_for setting before op = refused_in_text (has_fault setting) before op refl refl
 
--- no operation is refused for an STBAR that isn't one under TSO
 pub not_stbar : (setting : SettingValue) (before : List Op) (op : Op) (fault : ValueFault) → is_stbar_in_tso setting.order op ≡ false → IsOpRefusedFor setting before op fault → fault ≡ StbarInTso → ⊥
-not_stbar setting before op fault none away is =
-    ⊎_elim (λ (memory : fault ≡ NoMemory). let same : StbarInTso ≡ NoMemory = sym is ∙ memory in cc)
-    (λ (first : IsFirstOfOp (has_fault setting) before op fault). false≢true (sym none ∙ sym (ap (has_fault setting before op) is) ∙ first.fault)) away
+not_stbar setting before op fault none = no_stbar_refused (has_fault setting) before op none fault
 
 pub at_last : (setting : SettingValue) (before : List Op) (op : Op) → IsFaultless (has_fault setting) (before ++ op ∷ []) → (why : ValueFault) → has_fault setting before op why ≡ false
 at_last setting before op faultless why = faultless before op [] why refl
 
 -- ---- first values
 
--- an entry without a fault has none in a text
-pub entry_clean : (before : List (ℕ × ℕ)) (entry : ℕ × ℕ) → ((why : ValueFault) → has_entry_fault before entry why ≡ false) → entry_fault_after before entry ≡ None
-entry_clean before entry none =
-    let past : has_entry_fault before entry PastAddresses ≡ false = none PastAddresses in
-    let zero : has_entry_fault before entry ZeroStored ≡ false = none ZeroStored in
-    let order : has_entry_fault before entry NotAscending ≡ false = none NotAscending in
-    rw (past, zero, order) refl
-
--- and the other way round
+-- an entry without a fault in a text has none
 pub entry_clean_back : (before : List (ℕ × ℕ)) (entry : ℕ × ℕ) → entry_fault_after before entry ≡ None → (why : ValueFault) → has_entry_fault before entry why ≡ false
-entry_clean_back before entry clean = by (none_of _ _ _ clean)
+entry_clean_back before entry clean = by (passes (has_entry_fault before entry) clean)
   where
-    none_of : (a b c : Bool) → cond a (Some AddressRange) (cond b (Some ZeroValue) (cond c (Some InitOrder) None)) ≡ None → (a ≡ false) × (b ≡ false) × (c ≡ false)
-    none_of false false false e = (refl, refl, refl)
-    none_of true b c e = absurd cc
-    none_of false true c e = absurd cc
-    none_of false false true e = absurd cc
-
-    by : (has_entry_fault before entry PastAddresses ≡ false) × (has_entry_fault before entry ZeroStored ≡ false) × (has_entry_fault before entry NotAscending ≡ false) → (why : ValueFault) → has_entry_fault before entry why ≡ false
+    by : Passes (has_entry_fault before entry) → (why : ValueFault) → has_entry_fault before entry why ≡ false
     by t ManyProcessors = refl
     by t ManyEvents = refl
-    by t PastAddresses = t.0
-    by t ZeroStored = t.1
+    by t PastAddresses = t.past
+    by t ZeroStored = t.zero
     by t Repeated = refl
     by t NoMemory = refl
     by t StbarInTso = refl
-    by t NotAscending = t.2
+    by t NotAscending = t.ascending
 
-entry_first : (before : List (ℕ × ℕ)) (entry : ℕ × ℕ) (fault : ValueFault) (why : Why) → IsWhyOf fault why → IsFirstOfOp has_entry_fault before entry fault → entry_fault_after before entry ≡ Some why
-entry_first before entry ManyProcessors why is first = absurd (false≢true first.fault)
-entry_first before entry ManyEvents why is first = absurd (false≢true first.fault)
-entry_first before entry PastAddresses why is first = rw is (rw first.fault refl)
-entry_first before entry ZeroStored why is first = let past : has_entry_fault before entry PastAddresses ≡ false = first.least PastAddresses (omega arith) in rw is (rw (past, first.fault) refl)
-entry_first before entry Repeated why is first = absurd (false≢true first.fault)
-entry_first before entry NoMemory why is first = absurd (false≢true first.fault)
-entry_first before entry StbarInTso why is first = absurd is
-entry_first before entry NotAscending why is first =
-    let past : has_entry_fault before entry PastAddresses ≡ false = first.least PastAddresses (omega arith) in
-    let zero : has_entry_fault before entry ZeroStored ≡ false = first.least ZeroStored (omega arith) in
-    rw is (rw (past, zero, first.fault) refl)
-
--- an entry that is refused is refused in a text
 pub entry_refused_for : (before : List (ℕ × ℕ)) (entry : ℕ × ℕ) (fault : ValueFault) (why : Why) → IsWhyOf fault why → IsEntryRefusal before entry fault → IsRefusedFor (entry_fault_after before entry) why
-entry_refused_for before entry fault why is away = ⊎_elim (λ memory. inl (subst (λ f. IsWhyOf f why) memory is)) (λ first. inr (entry_first before entry fault why is first)) away
+entry_refused_for before entry = refused_in_text has_entry_fault before entry refl refl
 
--- no entry is refused for an STBAR
 pub entry_not_stbar : (before : List (ℕ × ℕ)) (entry : ℕ × ℕ) (fault : ValueFault) → IsEntryRefusal before entry fault → fault ≡ StbarInTso → ⊥
-entry_not_stbar before entry fault away is =
-    ⊎_elim (λ (memory : fault ≡ NoMemory). let same : StbarInTso ≡ NoMemory = sym is ∙ memory in cc)
-    (λ (first : IsFirstOfOp has_entry_fault before entry fault). false≢true (sym (ap (has_entry_fault before entry) is) ∙ first.fault)) away
+entry_not_stbar before entry = no_stbar_refused has_entry_fault before entry refl
 
 -- ---- schedules
 

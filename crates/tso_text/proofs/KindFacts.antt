@@ -28,11 +28,11 @@ use Rattle.tso_text.specs.declared.faults.Why.TheVariants.{BadHeader}
 use Rattle.tso_text.specs.declared.lines.Line.{Line}
 use Rattle.tso_text.specs.declared.lines.Line.TheVariants.{Proc, Item, End}
 use Rattle.tso_text.specs.Printed.{header_of, trace_header, program_header, schedule_header, items_text, outcome_tokens, op_tokens, act_tokens}
-use Rattle.tso_text.specs.Internal.LineReadings.{act_fault_after, trace_line, program_line, fault_of, line_fault_after, fault_in_lists}
+use Rattle.tso_text.specs.Internal.LineReadings.{act_fault_after, trace_line, program_line, fault_of, line_fault_after, fault_in_lists, op_fault_after}
 use Rattle.tso_text.proofs.LineFaults.{Faults, fault_is}
 use Rattle.tso_text.proofs.SaidLines.{faults_of_lists}
-use Rattle.tso_text.proofs.SaidItems.{trace_reads, trace_proc_said, IsWritableOutcome, short_outcome, short_outcome_fault, program_reads, program_proc_said, short_op, short_op_fault, schedule_found, faults_of_schedules, not_proc}
-use Rattle.tso_text.specs.Refusals.{IsWritable, IsFaultAmong, StandsInSchedule, TextKind, IsLineRefusal, trace_kind, program_kind, schedule_kind, op_fault_after}
+use Rattle.tso_text.proofs.SaidItems.{trace_reads, trace_proc_said, IsWritableOutcome, IsWritableOp, short_outcome, short_outcome_fault, program_reads, program_proc_said, short_op, short_op_fault, schedule_found, faults_of_schedules, not_proc}
+use Rattle.tso_text.specs.Refusals.{IsFaultAmong, StandsInSchedule, TextKind, IsLineRefusal, trace_kind, program_kind, schedule_kind}
 use Rattle.tso_text.specs.Texts.{text_byte_limit, processor_of}
 use Rattle.tso_text.specs.Internal.Accepted.{IsKept}
 use Rattle.tso_text.specs.Internal.Begun.{IsSetting, HasBegun, IsPreambleRefusal}
@@ -201,7 +201,7 @@ empty_program_is : (version : Version) → IsProgram (empty_program version)
 empty_program_is version = program_list_kind.begins (empty_setting version) (empty_is_setting version)
 
 program_faults : (p : ProgramValue) → Faults (program_kind.Stands p) (λ ps. fault_in_lists p.setting p.lists ps (fault_of (program_line p.setting.order ps) (line_fault_after (op_fault_after p.setting) p.lists)))
-program_faults p = faults_of_lists (program_line p.setting.order) op_tokens (IsWritable p.setting.order) short_op (program_reads p.setting.order) (program_proc_said p.setting.order) p.setting (op_fault_after p.setting) (short_op_fault p.setting) p.lists
+program_faults p = faults_of_lists (program_line p.setting.order) op_tokens (IsWritableOp p.setting.order) short_op (program_reads p.setting.order) (program_proc_said p.setting.order) p.setting (op_fault_after p.setting) (short_op_fault p.setting) p.lists
 
 pub programs_go_on : GoesOn program_kind
 programs_go_on = record {

@@ -2,7 +2,7 @@
 use Rattle.std.proofs.Common.{◌≡◌, ℕ, List, [], ◌∷◌, length, Err, refl, zero, suc, ◌<◌, Bool, true, false, cond, eqb, ◌++◌, get_or, set, Result, Ok, ap, sym, ◌∙◌, arith, map, append_assoc}
 use Rattle.line_text.specs.Lines.{SomeToken}
 use Rattle.tso_text.specs.Internal.Spelling.{unended_text_fault, push_last, items_of}
-use Rattle.tso_text.specs.Numbers.{no_number}
+use Rattle.tso_text.specs.Numbers.{numbers}
 use Rattle.tso_text.specs.declared.faults.Why.TheVariants.{BadLine}
 use Rattle.std.specs.Global.{Vec}
 use Rattle.std.specs.Result.{is_ok, OnOk}
@@ -16,8 +16,8 @@ unended_some [] some = absurd (some refl)
 unended_some (b ∷ part) some = refl
 
 -- where a token stands, none is too many
-pub no_number-some : (tokens : List (List ℕ)) → SomeToken tokens → no_number tokens ≡ Err BadLine
-unfolding no_number
+pub no_number-some : (tokens : List (List ℕ)) → SomeToken tokens → numbers 0 tokens ≡ Err BadLine
+unfolding numbers
 no_number-some tokens some = rw some.parts refl
 
 -- one more item in the last list

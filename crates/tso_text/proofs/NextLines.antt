@@ -1,14 +1,14 @@
 -- Each text spells a value of its kind or is refused, after the lines of a value, and there by the grammar of its lines.
-use Rattle.std.proofs.Common.{◌≡◌, ◌⊎◌, ℕ, suc, zero, ◌<◌, false, eqb, List, [], ◌∷◌, ◌++◌, length, Option, Some, None, cond, refl, ap, sym, ◌∙◌, subst, arith, append_assoc, inl, inr, ⊎_elim, length-append, ◌+◌, ◌≤◌, ◌&&◌, Bool, true, not, map, drop, Result, Ok, Err}
+use Rattle.std.proofs.Common.{◌≡◌, ◌⊎◌, ℕ, suc, zero, ◌<◌, false, eqb, List, [], ◌∷◌, ◌++◌, length, Option, Some, None, cond, refl, ap, sym, ◌∙◌, subst, arith, append_assoc, inl, inr, ⊎_elim, length-append, ◌+◌, ◌≤◌, ◌&&◌, Bool, true, not, drop, Result, Ok, Err}
 use Rattle.std.specs.Prelude.{codes, ◌≢◌}
-use Rattle.std.proofs.lemmas.List.{append-nil, length-map, length-drop}
+use Rattle.std.proofs.lemmas.List.{append-nil, length-drop}
 use Rattle.line_text.specs.Lines.{parts_of, tokens_of, is_empty, line_text}
 use Rattle.line_text.proofs.CutFacts.{split_parts, HasLine, first_line}
 use Rattle.line_text.proofs.SplitFacts.{has_byte, split_part}
 use Rattle.tso_text.specs.declared.faults.Why.{Why}
 use Rattle.tso_text.specs.declared.faults.Why.TheVariants.{BadHeader, BadLine, MissingEnd, AfterEnd}
 use Rattle.tso_text.proofs.LineFaults.{Faults, Classified}
-use Rattle.tso_text.specs.Refusals.{IsFaultAmong, TextKind, IsLineRefusal, entry_fault_after}
+use Rattle.tso_text.specs.Refusals.{IsFaultAmong, TextKind, IsLineRefusal}
 use Rattle.line_text.specs.Refusals.{ArePartsRefused}
 use Rattle.std.specs.Str.{bytes_eq}
 use Rattle.std.specs.List.{flat_map}
@@ -22,7 +22,7 @@ use Rattle.tso_ops.specs.declared.settings.Version.TheVariants.{Two}
 use Rattle.tso_ops.specs.Settings.{SettingValue}
 use Rattle.tso_text.specs.declared.lines.Line.{Line}
 use Rattle.tso_text.specs.declared.lines.Line.TheVariants.{End}
-use Rattle.tso_text.specs.Internal.LineReadings.{has_stbar, model_said, entry_by, line_fault_after, fault_in_lists, fault_of, has_entries}
+use Rattle.tso_text.specs.Internal.LineReadings.{has_stbar, model_said, entry_by, line_fault_after, fault_in_lists, fault_of, has_entries, entry_fault_after}
 use Rattle.tso_text.specs.Lines.{model_lines, whole_lines}
 use Rattle.tso_text.specs.Printed.{header_of, items_text, processor_text, setting_text, model_text, entry_tokens}
 use Rattle.tso_text.specs.Texts.{text_byte_limit}
@@ -36,7 +36,7 @@ use Rattle.tso_text.proofs.PreambleFacts.{keyword_is, after_keyword-is, whole_li
 use Rattle.tso_text.proofs.PrintedLines.{IsReadBack, AreAccepted, printed_reached, reads_end}
 use Rattle.tso_text.proofs.PrintedSetting.{AreHeaders, Follows, body_follows, setting_parts, setting_back, header_back, model_back, model_count, entries_back}
 use Rattle.tso_text.proofs.PrintedSpelling.{lists_begin, body_begins}
-use Rattle.tso_text.proofs.ReadersFacts.{Reached, line_refused, unended_refused, ended_refused, preamble_refused, begun_refused}
+use Rattle.tso_text.proofs.ReadersFacts.{line_refused, unended_refused, ended_refused, preamble_refused, begun_refused}
 
 -- the text of a value without its line `end`
 abbrev pub begun_text : {V : Type 0} → TextKind V → V → List ℕ

@@ -15,9 +15,8 @@ use Rattle.tso_ops.proofs.EntryFacts.{KeepsEntries-clean}
 use Rattle.tso_text.specs.declared.faults.Why.{Why}
 use Rattle.tso_text.specs.declared.lines.Line.{Line}
 use Rattle.tso_text.specs.declared.lines.Line.TheVariants.{Proc, Item, End}
-use Rattle.tso_text.specs.Internal.LineReadings.{has_stbar, model_said, entry_by, line_fault_after, fault_in_lists, fault_of, has_entries}
+use Rattle.tso_text.specs.Internal.LineReadings.{has_stbar, model_said, entry_by, line_fault_after, fault_in_lists, fault_of, has_entries, entry_fault_after}
 use Rattle.tso_text.specs.Printed.{items_text, processor_text, setting_text, model_text, entry_tokens}
-use Rattle.tso_text.specs.Refusals.{entry_fault_after}
 use Rattle.tso_text.specs.Internal.Begun.{IsSetting}
 use Rattle.tso_text.specs.Internal.Preambles.{entry_said, said_entry_fault}
 use Rattle.tso_text.specs.Internal.Spelling.{Grammar, said, line_fault, with_line, is_end}

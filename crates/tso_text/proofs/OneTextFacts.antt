@@ -1,6 +1,6 @@
 -- Lines without a fault are written in one way, as they are printed, and keep the limits of their value.
-use Rattle.std.proofs.Common.{◌≡◌, ℕ, false, List, [], ◌∷◌, ◌++◌, None, Ok, ap, sym, ◌∙◌, map, Result, refl, arith, append_assoc, subst, ◌+◌, ◌<◌, ◌≤◌, true, ltb, Bool, cond, length, All, Some, length-append}
-use Rattle.std.specs.List.{join_with_byte, flat_map}
+use Rattle.std.proofs.Common.{◌≡◌, ℕ, false, List, [], ◌∷◌, ◌++◌, None, Ok, ap, sym, ◌∙◌, map, refl, arith, append_assoc, subst, ◌+◌, ◌<◌, ◌≤◌, true, ltb, Bool, cond, length, All, Some, length-append}
+use Rattle.std.specs.List.{join_with_byte, flat_map, AllByRecursion}
 use Rattle.std.proofs.lemmas.List.Splits.{join_with_byte-slice_split}
 use Rattle.line_text.specs.Lines.{tokens_of, line_text, is_empty}
 use Rattle.tso_text.specs.declared.lines.Line.{Line}
@@ -15,24 +15,21 @@ use Rattle.tso_ops.specs.declared.ops.Outcome.TheVariants.{Ld, St, Sw, Mb, Sb}
 use Rattle.tso_ops.specs.Settings.{SettingValue, event_limit, barrier_limit}
 use Rattle.tso_ops.specs.Values.{op_of, ReadFits}
 use Rattle.tso_ops.specs.declared.acts.Act.{Act}
-use Rattle.tso_text.specs.declared.faults.Why.{Why}
 use Rattle.tso_text.specs.declared.lines.Line.TheVariants.{Proc, Item, End}
 use Rattle.tso_text.specs.Internal.Grammars.{trace_grammar, program_grammar, schedule_grammar, outcome_fault, program_op_fault, act_fault}
-use Rattle.tso_text.specs.Internal.LineReadings.{address, trace_line, program_line, schedule_line}
-use Rattle.tso_text.specs.Printed.{items_text, processor_text, outcome_tokens, op_tokens, act_tokens}
+use Rattle.tso_text.specs.Internal.LineReadings.{address, trace_line, program_line, schedule_line, op_fault_after}
+use Rattle.tso_text.specs.Printed.{items_text, processor_text, outcome_numbers, op_numbers, outcome_tokens, op_tokens, act_tokens}
 use Rattle.tso_text.proofs.CanonicalFacts.{tokens_by, in_range, sound, Fits}
 use Rattle.tso_ops.specs.declared.faults.ValueFault.TheVariants.{AddressRange as PastAddresses}
 use Rattle.tso_ops.specs.Limits.{has_fault, KeepsLimits, event_count, barrier_count, total_events, total_barriers, stored_by, is_stbar_in_tso}
-use Rattle.tso_text.specs.Refusals.{IsWritable, op_fault_after}
 use Rattle.tso_text.proofs.SaidLines.{Reads, IsTold, IsSaid}
-use Rattle.tso_text.proofs.SaidItems.{IsWritableOutcome, IsWritableAct, short_outcome, short_op, trace_reads, program_reads, schedule_told, not_proc, no_stbar_of}
-use Rattle.tso_text.proofs.FaultFacts.{op_passes}
+use Rattle.tso_text.proofs.SaidItems.{IsWritableOutcome, IsWritableOp, IsWritableAct, short_outcome, short_op, op_short, trace_reads, program_reads, schedule_reads, not_proc, no_stbar_of}
+use Rattle.tso_text.proofs.FaultFacts.{passes}
 use Rattle.tso_text.proofs.LineFacts.{items_of-push_last, length-push_last}
 use Rattle.std.proofs.lemmas.Bool.{or_parts}
 use Rattle.std.proofs.lemmas.Bool.Decides.{nat_tests}
-use Rattle.std.proofs.lemmas.List.Elements.{All-push}
+use Rattle.std.proofs.lemmas.List.Elements.{All-push, recursion_from_All}
 use Rattle.tso_ops.specs.declared.settings.Order.{Order}
-use Rattle.tso_ops.specs.declared.settings.Order.TheVariants.{Tso, Pso}
 use Rattle.tso_ops.proofs.LimitFacts.{KeepsLimits-push}
 use Rattle.tso_text.specs.declared.faults.Why.TheVariants.{TooManyProcessors, ProcessorRange}
 use Rattle.tso_text.specs.Texts.{processor_of}
@@ -79,7 +76,7 @@ op_same setting before OpMb low = refl
 op_same setting before OpSb low = refl
 
 schedule_canonical : (lists : List (List Act)) (ps : List (List ℕ)) (l : Line Act) → schedule_line ps ≡ Ok l → line_fault schedule_grammar lists l ≡ None → ps ≡ tokens_by act_tokens l
-schedule_canonical lists ps l says clean = by l (subst (IsTold act_tokens IsWritableAct (λ act. act) ps) says (schedule_told ps))
+schedule_canonical lists ps l says clean = by l (subst (IsTold act_tokens IsWritableAct (λ act. act) ps) says (schedule_reads.told ps))
   where
     by : (l : Line Act) → IsSaid act_tokens IsWritableAct (λ act. act) ps l → ps ≡ tokens_by act_tokens l
     by Proc told = told
@@ -122,7 +119,7 @@ unfolding outcome_fault
 prints_trace setting = record {
   start = refl;
   canonical = canonical (trace_grammar setting) outcome_tokens (IsWritableOutcome setting.order) short_outcome (trace_reads setting.order)
-      (λ before y clean. outcome_same setting (map op_of before) y (op_passes setting (map op_of before) (op_of (short_outcome y)) clean).past);
+      (λ before y clean. outcome_same setting (map op_of before) y (passes (has_fault setting (map op_of before) (op_of (short_outcome y))) clean).past);
   more = λ lists ps l says clean running. made_by-more (trace_grammar setting) lists l clean running;
 }
 
@@ -130,7 +127,7 @@ pub prints_program : (setting : SettingValue) → Prints (program_grammar settin
 unfolding program_op_fault
 prints_program setting = record {
   start = refl;
-  canonical = canonical (program_grammar setting) op_tokens (IsWritable setting.order) short_op (program_reads setting.order) (λ before y clean. op_same setting before y (op_passes setting before (short_op y) clean).past);
+  canonical = canonical (program_grammar setting) op_tokens (IsWritableOp setting.order) short_op (program_reads setting.order) (λ before y clean. op_same setting before y (passes (has_fault setting before (short_op y)) clean).past);
   more = λ lists ps l says clean running. made_by-more (program_grammar setting) lists l clean running;
 }
 
@@ -195,48 +192,56 @@ WriteFits op = (v : ℕ) → stored_by op ≡ Some v → Fits v
 -- one more operation without a fault keeps the limits
 limits_kept : (setting : SettingValue) (ops : List Op) (op : Op) → op_fault_after setting ops op ≡ None → WriteFits op → is_stbar_in_tso setting.order op ≡ false → KeepsLimits setting ops → KeepsLimits setting (ops ++ op ∷ [])
 limits_kept setting ops op clean fits no_stbar limits =
-    let passes = op_passes setting ops op clean in
-    let many = or_parts (ltb (event_limit setting.version) (total_events ops + event_count op)) (ltb (barrier_limit setting.version) (total_barriers ops + barrier_count op)) passes.many in
+    let passed = passes (has_fault setting ops op) clean in
+    let many = or_parts (ltb (event_limit setting.version) (total_events ops + event_count op)) (ltb (barrier_limit setting.version) (total_barriers ops + barrier_count op)) passed.many in
     let events : total_events ops + event_count op ≤ event_limit setting.version = let off = many.0 in grind (arith, nat_tests) in
     let barriers : total_barriers ops + barrier_count op ≤ barrier_limit setting.version = let off = many.1 in grind (arith, nat_tests) in
     KeepsLimits-push setting ops op limits record {
       few_events = events;
       few_barriers = barriers;
-      in_range = passes.past;
-      storable = record { non_zero = passes.zero; new = passes.repeated; fits = fits };
+      in_range = passed.past;
+      storable = record { non_zero = passed.zero; new = passed.repeated; fits = fits };
       no_stbar = no_stbar;
     }
 
 value_fits : (v : ℕ) → Fits v → (w : ℕ) → Some v ≡ Some w → Fits w
 value_fits v fits w at = let same : v ≡ w = cc in omega (arith, same, fits)
 
+-- what the operation writes has 64 bits, and it is no STBAR under TSO
+record OpFits (order : Order) (op : Op) : Type 0 where
+  write : WriteFits op
+  no_stbar : is_stbar_in_tso order op ≡ false
+
+op_fits : (order : Order) (y : Op) → is_stbar_in_tso order y ≡ false → AllByRecursion Fits (op_numbers y) → OpFits order (short_op y)
+op_fits order (OpLd a) can fit = record { write = λ v at. absurd cc; no_stbar = no_stbar_of order (OpLd (address a)) refl }
+op_fits order (OpSt a v) can fit = record { write = value_fits v fit.1.0; no_stbar = no_stbar_of order (OpSt (address a) v) refl }
+op_fits order (OpSw a v) can fit = record { write = value_fits v fit.1.0; no_stbar = no_stbar_of order (OpSw (address a) v) refl }
+op_fits order OpMb can fit = record { write = λ v at. absurd cc; no_stbar = no_stbar_of order OpMb refl }
+op_fits order OpSb can fit = record { write = λ v at. absurd cc; no_stbar = can }
+
 -- ---- traces
 
--- what the outcome read and what it writes have 64 bits, and it is no STBAR under TSO
-record OutcomeFits (order : Order) (x : Outcome) : Type 0 where
-  read : ReadFits x
-  write : WriteFits (op_of x)
-  no_stbar : is_stbar_in_tso order (op_of x) ≡ false
+-- the numbers of the operation fit, and what was read
+outcome_numbers_fit : (y : Outcome) → AllByRecursion Fits (outcome_numbers y) → AllByRecursion Fits (op_numbers (op_of y)) × ReadFits (short_outcome y)
+outcome_numbers_fit (Ld a r) fit = ((fit.0, tt), fit.1.0)
+outcome_numbers_fit (St a v) fit = (fit, tt)
+outcome_numbers_fit (Sw a r v) fit = ((fit.0, fit.1.1), fit.1.0)
+outcome_numbers_fit Mb fit = (tt, tt)
+outcome_numbers_fit Sb fit = (tt, tt)
 
-outcome_fits : (order : Order) (y : Outcome) → IsWritableOutcome order y → OutcomeFits order (short_outcome y)
-outcome_fits order (Ld a r) can = record { read = can.1; write = λ v at. absurd cc; no_stbar = no_stbar_of order (OpLd (address a)) refl }
-outcome_fits order (St a v) can = record { read = tt; write = value_fits v (can.0.1 1 v (omega arith)); no_stbar = no_stbar_of order (OpSt (address a) v) refl }
-outcome_fits order (Sw a r v) can = record { read = can.1; write = value_fits v (can.0.1 1 v (omega arith)); no_stbar = no_stbar_of order (OpSw (address a) v) refl }
-outcome_fits order Mb can = record { read = tt; write = λ v at. absurd cc; no_stbar = no_stbar_of order OpMb refl }
-outcome_fits order Sb can = record { read = tt; write = λ v at. absurd cc; no_stbar = can.0.0 }
-
-outcome_line_fits : (order : Order) (ps : List (List ℕ)) (x : Outcome) → trace_line order ps ≡ Ok (Item x) → OutcomeFits order x
+outcome_line_fits : (order : Order) (ps : List (List ℕ)) (x : Outcome) → trace_line order ps ≡ Ok (Item x) → OpFits order (op_of x) × ReadFits x
 outcome_line_fits order ps x says =
     let told = subst (IsTold outcome_tokens (IsWritableOutcome order) short_outcome ps) says ((trace_reads order).told ps) in
-    subst (OutcomeFits order) (sym told.3) (outcome_fits order told.0 told.1)
+    let fit = outcome_numbers_fit told.0 (recursion_from_All Fits (outcome_numbers told.0) told.1.1) in
+    rw told.3 (subst (OpFits order) (sym (op_short told.0)) (op_fits order (op_of told.0) told.1.0 fit.0), fit.1)
 
 -- what a line says is no STBAR under TSO
 pub outcome_no_stbar : (setting : SettingValue) (x : Outcome) → CanSay (trace_grammar setting) (Item x) → is_stbar_in_tso setting.order (op_of x) ≡ false
-outcome_no_stbar setting x said = (outcome_line_fits setting.order said.0 x said.1).no_stbar
+outcome_no_stbar setting x said = (outcome_line_fits setting.order said.0 x said.1).0.no_stbar
 
 -- what it read has 64 bits
 pub outcome_read_fits : (setting : SettingValue) (x : Outcome) → CanSay (trace_grammar setting) (Item x) → ReadFits x
-outcome_read_fits setting x said = (outcome_line_fits setting.order said.0 x said.1).read
+outcome_read_fits setting x said = (outcome_line_fits setting.order said.0 x said.1).1
 
 -- the outcomes keep the limits, and what they read has 64 bits
 pub record AreLawful (setting : SettingValue) (items : List Outcome) : Type 0 where
@@ -248,28 +253,16 @@ unfolding outcome_fault
 trace_items setting items x ps says clean kept =
     let fits = outcome_line_fits setting.order ps x says in
     record {
-      limits = rw (map-append op_of items (x ∷ [])) (limits_kept setting (map op_of items) (op_of x) clean fits.write fits.no_stbar kept.limits);
-      reads = All-push ReadFits items x kept.reads fits.read;
+      limits = rw (map-append op_of items (x ∷ [])) (limits_kept setting (map op_of items) (op_of x) clean fits.0.write fits.0.no_stbar kept.limits);
+      reads = All-push ReadFits items x kept.reads fits.1;
     }
 
 -- ---- programs
 
--- what the operation writes has 64 bits, and it is no STBAR under TSO
-record OpFits (order : Order) (op : Op) : Type 0 where
-  write : WriteFits op
-  no_stbar : is_stbar_in_tso order op ≡ false
-
-op_fits : (order : Order) (y : Op) → IsWritable order y → OpFits order (short_op y)
-op_fits order (OpLd a) can = record { write = λ v at. absurd cc; no_stbar = no_stbar_of order (OpLd (address a)) refl }
-op_fits order (OpSt a v) can = record { write = value_fits v (can.1 1 v (omega arith)); no_stbar = no_stbar_of order (OpSt (address a) v) refl }
-op_fits order (OpSw a v) can = record { write = value_fits v (can.1 1 v (omega arith)); no_stbar = no_stbar_of order (OpSw (address a) v) refl }
-op_fits order OpMb can = record { write = λ v at. absurd cc; no_stbar = no_stbar_of order OpMb refl }
-op_fits order OpSb can = record { write = λ v at. absurd cc; no_stbar = can.0 }
-
 op_line_fits : (order : Order) (ps : List (List ℕ)) (x : Op) → program_line order ps ≡ Ok (Item x) → OpFits order x
 op_line_fits order ps x says =
-    let told = subst (IsTold op_tokens (IsWritable order) short_op ps) says ((program_reads order).told ps) in
-    subst (OpFits order) (sym told.3) (op_fits order told.0 told.1)
+    let told = subst (IsTold op_tokens (IsWritableOp order) short_op ps) says ((program_reads order).told ps) in
+    subst (OpFits order) (sym told.3) (op_fits order told.0 told.1.0 (recursion_from_All Fits (op_numbers told.0) told.1.1))
 
 pub op_no_stbar : (setting : SettingValue) (op : Op) → CanSay (program_grammar setting) (Item op) → is_stbar_in_tso setting.order op ≡ false
 op_no_stbar setting op said = (op_line_fits setting.order said.0 op said.1).no_stbar

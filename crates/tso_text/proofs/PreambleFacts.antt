@@ -17,9 +17,8 @@ use Rattle.tso_ops.proofs.EntryFacts.{KeepsEntries-nil}
 use Rattle.tso_text.specs.declared.faults.Why.{Why}
 use Rattle.tso_text.specs.declared.faults.Why.TheVariants.{BadHeader, OutOfMemory}
 use Rattle.tso_text.specs.Lines.{begins_with, has_keyword, model_lines, whole_lines}
-use Rattle.tso_text.specs.Internal.LineReadings.{model_said, entry_by}
+use Rattle.tso_text.specs.Internal.LineReadings.{model_said, entry_by, entry_fault_after}
 use Rattle.tso_text.specs.Internal.Preambles.{header_fault, header_alone, after_keyword, model_fault, entry_lines, entry_said, said_entry_fault, with_said_entry, entries_after, entry_faults, version_of, setting_lines, preamble_by, setting_preamble}
-use Rattle.tso_text.specs.Refusals.{entry_fault_after}
 use Rattle.tso_text.specs.Internal.Begun.{AreFaultless, IsSetting, HasBegun, IsPreambleRefusal, HasHeader, HasNoHeader, HasModel, HasBadModel, HasEntries, HasAllEntries, HasBadEntry, IsEntryRefused}
 use Rattle.tso_text.proofs.ReadersFacts.{first_fault, AreFaultless-append}
 

@@ -8,15 +8,14 @@ use Rattle.std.proofs.lemmas.Bool.{false≢true}
 use Rattle.std.proofs.lemmas.List.Splits.{join_with_byte-slice_split}
 use Rattle.line_text.specs.Lines.{tokens_of, line_text, parts_of}
 use Rattle.tso_text.specs.declared.faults.Why.{Why}
-use Rattle.tso_text.specs.Internal.LineReadings.{address, model_said, entry_by}
-use Rattle.tso_text.specs.Numbers.{two_numbers}
+use Rattle.tso_text.specs.Internal.LineReadings.{address, model_said, entry_by, entry_fault_after}
+use Rattle.tso_text.specs.Numbers.{numbers, number_at}
 use Rattle.tso_text.specs.Lines.{begins_with, has_keyword, model_lines, whole_lines}
 use Rattle.tso_text.specs.Internal.Preambles.{after_keyword, entry_said, said_entry_fault, SettingLines, entry_lines, header_fault, header_alone, preamble_by, setting_lines, setting_preamble}
 use Rattle.tso_text.specs.Printed.{entry_tokens, header_of, items_text, model_text, setting_text}
 use Rattle.tso_text.proofs.CanonicalFacts.{bind_ok, two_is, word_is, in_range, numbers_without, two-decimal, address-within}
 use Rattle.tso_ops.specs.declared.faults.ValueFault.TheVariants.{AddressRange as PastAddresses}
-use Rattle.tso_text.proofs.FaultFacts.{entry_clean_back, entry_clean}
-use Rattle.tso_text.specs.Refusals.{entry_fault_after}
+use Rattle.tso_text.proofs.FaultFacts.{entry_clean_back, no_fault}
 use Rattle.std.proofs.lemmas.List.{append-nil}
 use Rattle.std.proofs.lemmas.List.Elements.{recursion_from_All}
 use Rattle.line_text.proofs.SplitFacts.{has_byte, has_byte_in, split_part, split_joined, joined_without}
@@ -25,7 +24,7 @@ use Rattle.tso_ops.specs.declared.settings.Order.TheVariants.{Tso, Pso}
 use Rattle.tso_ops.specs.declared.settings.Version.{Version}
 use Rattle.tso_ops.specs.declared.settings.Version.TheVariants.{One, Two}
 use Rattle.tso_ops.specs.Settings.{SettingValue, version_one_tso}
-use Rattle.tso_ops.specs.Limits.{KeepsEntries}
+use Rattle.tso_ops.specs.Limits.{KeepsEntries, has_entry_fault}
 use Rattle.tso_ops.proofs.RefusalFacts.{each-middle, kept_entry}
 use Rattle.tso_text.specs.Internal.Spelling.{Preamble}
 use Rattle.tso_text.specs.Internal.Begun.{IsSetting, HasBegun, HasHeader, HasModel, HasEntries}
@@ -70,12 +69,14 @@ pub record SaysEntry (before : List (ℕ × ℕ)) (line : List ℕ) : Type 0 whe
 pub entry_read : (before : List (ℕ × ℕ)) (line : List ℕ) → has_keyword (codes "init") line ≡ true → said_entry_fault before (entry_said line) ≡ None → SaysEntry before line
 entry_read before line is clean =
     let read = ok (entry_said line) refl clean in
-    let b = bind_ok (two_numbers (after_keyword line)) _ read.0 read.1 in
+    let b = bind_ok (numbers 2 (after_keyword line)) _ read.0 read.1 in
     let says = b.2 in
-    let same : (address b.0.0, b.0.1) ≡ read.0 = cc in
-    let low : b.0.0 ≡ address b.0.0 = in_range b.0.0 (ap (λ (e : ℕ × ℕ). ltb 255 e.0) same ∙ entry_clean_back before read.0 read.2 PastAddresses) in
+    let a = number_at b.0 0 in
+    let v = number_at b.0 1 in
+    let same : (address a, v) ≡ read.0 = cc in
+    let low : a ≡ address a = in_range a (ap (λ (e : ℕ × ℕ). ltb 255 e.0) same ∙ entry_clean_back before read.0 read.2 PastAddresses) in
     let tokens : tokens_of line ≡ entry_tokens read.0 =
-    keyword_tokens (codes "init") line is ∙ ap (λ ps. codes "init" ∷ ps) (two_is (after_keyword line) b.0 b.1).0 ∙ ap (λ a. codes "init" ∷ decimal a ∷ decimal b.0.1 ∷ []) low ∙ ap entry_tokens same in
+    keyword_tokens (codes "init") line is ∙ ap (λ ps. codes "init" ∷ ps) (two_is (after_keyword line) b.0 b.1).0 ∙ ap (λ n. codes "init" ∷ decimal n ∷ decimal v ∷ []) low ∙ ap entry_tokens same in
     record {
       entry = read.0;
       says = read.1;
@@ -179,7 +180,7 @@ entries_read first before (entry ∷ after) text body lines keeps at read =
     let line = entry_line entry rest in
     let here : HasEntries text before lines (line_text (entry_tokens entry) ++ rest) = subst (HasEntries text before lines) (append_assoc (line_text (entry_tokens entry)) (items_text entry_tokens after) body) read in
     let says : entry_by (decimal entry.0 ∷ decimal entry.1 ∷ []) ≡ Ok entry = rw (two-decimal entry.0 entry.1 address fit.1) (ap (λ a. Ok (a, entry.1)) (address-within entry.0 fit.0)) in
-    let clean = entry_clean before entry (kept_entry before entry after (subst KeepsEntries at keeps)) in
+    let clean = no_fault (has_entry_fault before entry) (kept_entry before entry after (subst KeepsEntries at keeps)) in
     entries_read first (before ++ entry ∷ []) after text body (lines + 1) keeps (at ∙ sym (append_assoc before (entry ∷ []) after))
     (entries_next text before lines (line_text (entry_tokens entry) ++ rest) line.line rest (codes "init") (decimal entry.0 ∷ decimal entry.1 ∷ []) entry here line.parts line.cut refl says clean line.shorter)
 

@@ -1,12 +1,11 @@
 -- The printed text of a value within the limits spells it.
-use Rattle.std.proofs.Common.{◌≡◌, ℕ, ◌+◌, ◌*◌, ◌<◌, ◌≤◌, ◌^◌, true, false, List, [], ◌∷◌, ◌++◌, length, map, Some, Ok, refl, ap, sym, ◌∙◌, subst, arith, append_assoc, length-append, All}
-use Rattle.std.proofs.lemmas.Bool.{false≢true}
+use Rattle.std.proofs.Common.{◌≡◌, ℕ, ◌+◌, ◌*◌, ◌<◌, ◌≤◌, ◌^◌, false, List, [], ◌∷◌, ◌++◌, length, map, Some, Ok, refl, ap, sym, ◌∙◌, subst, arith, append_assoc, length-append, All}
 use Rattle.std.specs.Prelude.{codes}
 use Rattle.std.specs.Fmt.{decimal}
 use Rattle.std.specs.List.{flat_map, join_with_byte, AllByRecursion}
 use Rattle.std.proofs.lemmas.Fmt.{length-decimal-le}
 use Rattle.std.proofs.lemmas.List.{map-append, length-map}
-use Rattle.std.proofs.lemmas.List.Elements.{recursion_from_All}
+use Rattle.std.proofs.lemmas.List.Elements.{recursion_from_All, All-from_recursion}
 use Rattle.tso_ops.specs.declared.ops.Op.{Op}
 use Rattle.tso_ops.specs.declared.ops.Op.TheVariants.{Ld as OpLd, St as OpSt, Sw as OpSw, Mb as OpMb, Sb as OpSb}
 use Rattle.tso_ops.specs.declared.ops.Outcome.{Outcome}
@@ -17,7 +16,7 @@ use Rattle.tso_ops.specs.declared.settings.Version.{Version}
 use Rattle.tso_ops.specs.declared.settings.Version.TheVariants.{One, Two}
 use Rattle.tso_ops.specs.declared.faults.ValueFault.TheVariants.{StbarInTso}
 use Rattle.tso_ops.specs.Settings.{SettingValue, version_one_tso, event_limit, barrier_limit}
-use Rattle.tso_ops.specs.Limits.{KeepsLimits, IsProgram, IsTrace, address_of, stored_by, is_stbar_in_tso}
+use Rattle.tso_ops.specs.Limits.{KeepsLimits, IsProgram, IsTrace, address_of, stored_by, is_stbar_in_tso, has_fault}
 use Rattle.tso_ops.specs.Values.{TraceValue, ProgramValue, ReadFits, op_of, program_of}
 use Rattle.tso_ops.proofs.RefusalFacts.{each-middle, kept_faultless, kept_address, kept_value, kept_few}
 use Rattle.tso_ops.proofs.EntryFacts.{KeepsEntries-few}
@@ -26,18 +25,19 @@ use Rattle.tso_ops.specs.declared.acts.Act.TheVariants.{Issue, Drain}
 use Rattle.tso_text.specs.declared.lines.Line.{Line}
 use Rattle.tso_text.specs.declared.lines.Line.TheVariants.{Proc, Item, End}
 use Rattle.tso_text.specs.Internal.Grammars.{trace_format, program_format, schedule_format, trace_grammar, program_grammar, schedule_grammar, outcome_fault, program_op_fault}
-use Rattle.tso_text.specs.Internal.LineReadings.{has_stbar, trace_line, program_line, schedule_line}
+use Rattle.tso_text.specs.Internal.LineReadings.{trace_line, program_line, schedule_line}
 use Rattle.tso_text.specs.Lines.{whole_lines}
 use Rattle.tso_text.specs.Printed.{schedule_header, trace_header, program_header, items_text, processor_text, entry_tokens, model_text, setting_text, whole_text, outcome_tokens, op_tokens, act_tokens, trace_text, program_text, schedule_text, header_of}
 use Rattle.tso_text.specs.Texts.{processor_of, text_byte_limit}
-use Rattle.tso_text.specs.Numbers.{no_number}
+use Rattle.tso_text.specs.Numbers.{numbers}
 use Rattle.line_text.specs.Lines.{line_text, parts_of}
 use Rattle.tso_text.specs.Internal.Preambles.{setting_preamble}
 use Rattle.tso_text.specs.Internal.Spelling.{Grammar, Format, preamble_of, items_of}
 use Rattle.tso_text.specs.Internal.Spelled.{SpellsLists, HasTraceLines, HasProgramLines, HasScheduleLines}
 use Rattle.tso_text.specs.Internal.Begun.{IsSetting, HasBegun}
-use Rattle.tso_text.proofs.CanonicalFacts.{tokens_by, Fit64, numbers_without, one-decimal, two-decimal, three-decimal, address-within}
-use Rattle.tso_text.proofs.FaultFacts.{op_clean, act_clean}
+use Rattle.tso_text.proofs.SaidItems.{stbar_known, trace_reads, program_reads, schedule_reads}
+use Rattle.tso_text.proofs.CanonicalFacts.{tokens_by, Fits, numbers_without, address-within}
+use Rattle.tso_text.proofs.FaultFacts.{no_fault, act_clean}
 use Rattle.tso_text.proofs.LineFacts.{items_of-map}
 use Rattle.tso_text.proofs.OneTextFacts.{made_by, made_by-text, flat_map-Item}
 use Rattle.tso_text.proofs.PrintedLines.{AreFit, lists_accepted, items_accepted, length-made_by, IsReadBack, AreAccepted, length-lines, printed_parts}
@@ -50,14 +50,14 @@ use Rattle.line_text.proofs.SplitFacts.{has_byte, has_byte_in}
 length-decimal : (n : ℕ) → n < 2 ^ 64 → length (decimal n) ≤ 20
 length-decimal n fits = length-decimal-le 20 n (omega arith) (omega arith) fits
 
-length-tokens : (word : List ℕ) (ns : List ℕ) → Fit64 ns → length (join_with_byte 32 (word ∷ map decimal ns)) ≤ length word + 21 * length ns
+length-tokens : (word : List ℕ) (ns : List ℕ) → AllByRecursion Fits ns → length (join_with_byte 32 (word ∷ map decimal ns)) ≤ length word + 21 * length ns
 length-tokens word [] fit = omega arith
 length-tokens word (n ∷ ns) fit =
     omega (arith, length-append word (32 ∷ join_with_byte 32 (decimal n ∷ map decimal ns)), length-tokens (decimal n) ns fit.1, length-decimal n fit.0)
 
 -- a line of a word and numbers that is short
 short_back : {X : Type 0} (g : Grammar X) (p : X → List (List ℕ)) (l : Line X) (word : List ℕ) (ns : List ℕ) → tokens_by p l ≡ word ∷ map decimal ns →
-    has_byte 32 word ≡ false → has_byte 10 word ≡ false → length (join_with_byte 32 (word ∷ map decimal ns)) < 50 → Fit64 ns → g.said_by (word ∷ map decimal ns) ≡ Ok l → IsReadBack g p l
+    has_byte 32 word ≡ false → has_byte 10 word ≡ false → length (join_with_byte 32 (word ∷ map decimal ns)) < 50 → AllByRecursion Fits ns → g.said_by (word ∷ map decimal ns) ≡ Ok l → IsReadBack g p l
 short_back g p l word ns shape space end short fit says = record {
   says = ap (g.said_by) shape ∙ says;
   word = word;
@@ -70,54 +70,49 @@ short_back g p l word ns shape space end short fit says = record {
 
 -- a line of a word and up to two numbers
 read_back : {X : Type 0} (g : Grammar X) (p : X → List (List ℕ)) (l : Line X) (word : List ℕ) (ns : List ℕ) → tokens_by p l ≡ word ∷ map decimal ns →
-    has_byte 32 word ≡ false → has_byte 10 word ≡ false → length word ≤ 5 → length ns ≤ 2 → Fit64 ns → g.said_by (word ∷ map decimal ns) ≡ Ok l → IsReadBack g p l
+    has_byte 32 word ≡ false → has_byte 10 word ≡ false → length word ≤ 5 → length ns ≤ 2 → AllByRecursion Fits ns → g.said_by (word ∷ map decimal ns) ≡ Ok l → IsReadBack g p l
 read_back g p l word ns shape space end short few fit says =
     short_back g p l word ns shape space end (let bound = length-tokens word ns fit in omega (arith, bound, short, few)) fit says
 
 -- a line of a word, an address and two numbers
-length-swap : (a r v : ℕ) → a < 256 → Fit64 (a ∷ r ∷ v ∷ []) → length (join_with_byte 32 (codes "sw" ∷ map decimal (a ∷ r ∷ v ∷ []))) < 50
+length-swap : (a r v : ℕ) → a < 256 → AllByRecursion Fits (a ∷ r ∷ v ∷ []) → length (join_with_byte 32 (codes "sw" ∷ map decimal (a ∷ r ∷ v ∷ []))) < 50
 length-swap a r v low fit =
     let address : length (decimal a) ≤ 3 = length-decimal-le 3 a (omega arith) (omega (arith, low)) (omega (arith, low)) in
     let rest = length-tokens (decimal a) (r ∷ v ∷ []) fit.1 in
     omega (arith, address, rest, length-append (codes "sw") (32 ∷ join_with_byte 32 (decimal a ∷ decimal r ∷ decimal v ∷ [])))
 
--- where an STBAR is none under TSO, texts have the keyword
-order_has_stbar : (order : Order) → is_stbar_in_tso order OpSb ≡ false → has_stbar order ≡ true
-order_has_stbar Tso none = absurd (false≢true (sym none))
-order_has_stbar Pso none = refl
-
 -- ---- the lines of traces
 
 pub trace_end : (setting : SettingValue) → IsReadBack (trace_grammar setting) outcome_tokens End
-unfolding trace_line no_number
+unfolding trace_line numbers
 trace_end setting = read_back (trace_grammar setting) outcome_tokens End (codes "end") [] refl refl refl (omega arith) (omega arith) tt refl
 
 trace_proc : (setting : SettingValue) → IsReadBack (trace_grammar setting) outcome_tokens Proc
-unfolding trace_line no_number
+unfolding trace_line numbers
 trace_proc setting = read_back (trace_grammar setting) outcome_tokens Proc (codes "proc") [] refl refl refl (omega arith) (omega arith) tt refl
 
 outcome_back : (setting : SettingValue) (x : Outcome) → ((a : ℕ) → address_of (op_of x) ≡ Some a → a < 256) → ((v : ℕ) → stored_by (op_of x) ≡ Some v → v < 2 ^ 64) → ReadFits x →
     is_stbar_in_tso setting.order (op_of x) ≡ false → IsReadBack (trace_grammar setting) outcome_tokens (Item x)
-unfolding trace_line no_number
+unfolding trace_line numbers
 outcome_back setting (Ld a r) within writes reads no_stbar =
     let low = within a refl in
     let fits : a < 2 ^ 64 = omega (arith, low) in
     read_back (trace_grammar setting) outcome_tokens (Item (Ld a r)) (codes "ld") (a ∷ r ∷ []) refl refl refl (omega arith) (omega arith) (fits, (reads, tt))
-    (rw (two-decimal a r fits reads) (ap (λ b. Ok (Item (Ld b r))) (address-within a low)))
+    ((trace_reads setting.order).item (Ld a r) (no_stbar, All-from_recursion Fits (a ∷ r ∷ []) (fits, (reads, tt))) ∙ ap (λ b. Ok (Item (Ld b r))) (address-within a low))
 outcome_back setting (St a v) within writes reads no_stbar =
     let low = within a refl in
     let fits : a < 2 ^ 64 = omega (arith, low) in
     let value = writes v refl in
     read_back (trace_grammar setting) outcome_tokens (Item (St a v)) (codes "st") (a ∷ v ∷ []) refl refl refl (omega arith) (omega arith) (fits, (value, tt))
-    (rw (two-decimal a v fits value) (ap (λ b. Ok (Item (St b v))) (address-within a low)))
+    ((trace_reads setting.order).item (St a v) (no_stbar, All-from_recursion Fits (a ∷ v ∷ []) (fits, (value, tt))) ∙ ap (λ b. Ok (Item (St b v))) (address-within a low))
 outcome_back setting (Sw a r v) within writes reads no_stbar =
     let low = within a refl in
     let fits : a < 2 ^ 64 = omega (arith, low) in
     let value = writes v refl in
     short_back (trace_grammar setting) outcome_tokens (Item (Sw a r v)) (codes "sw") (a ∷ r ∷ v ∷ []) refl refl refl (length-swap a r v low (fits, (reads, (value, tt)))) (fits, (reads, (value, tt)))
-    (rw (three-decimal a r v fits reads value) (ap (λ b. Ok (Item (Sw b r v))) (address-within a low)))
+    ((trace_reads setting.order).item (Sw a r v) (no_stbar, All-from_recursion Fits (a ∷ r ∷ v ∷ []) (fits, (reads, (value, tt)))) ∙ ap (λ b. Ok (Item (Sw b r v))) (address-within a low))
 outcome_back setting Mb within writes reads no_stbar = read_back (trace_grammar setting) outcome_tokens (Item Mb) (codes "mb") [] refl refl refl (omega arith) (omega arith) tt refl
-outcome_back setting Sb within writes reads no_stbar = read_back (trace_grammar setting) outcome_tokens (Item Sb) (codes "stbar") [] refl refl refl (omega arith) (omega arith) tt (rw (order_has_stbar setting.order no_stbar) refl)
+outcome_back setting Sb within writes reads no_stbar = read_back (trace_grammar setting) outcome_tokens (Item Sb) (codes "stbar") [] refl refl refl (omega arith) (omega arith) tt (rw (stbar_known setting.order no_stbar) refl)
 
 middle_limits : (setting : SettingValue) (items before : List Outcome) (x : Outcome) (after : List Outcome) → KeepsLimits setting (map op_of items) → items ≡ before ++ x ∷ after → KeepsLimits setting (map op_of before ++ op_of x ∷ map op_of after)
 middle_limits setting items before x after limits at = subst (KeepsLimits setting) (ap (map op_of) at ∙ map-append op_of before (x ∷ after)) limits
@@ -130,7 +125,7 @@ outcomes_fit setting items limits reads = record {
       outcome_back setting x (λ a is. kept_address setting (map op_of before) (op_of x) (map op_of after) a kept is) (λ v is. kept_value setting (map op_of before) (op_of x) (map op_of after) v kept is)
       (each-middle ReadFits before x after (subst (AllByRecursion ReadFits) at (recursion_from_All _ _ reads)))
       (kept_faultless setting (map op_of before) (op_of x) (map op_of after) kept StbarInTso);
-  clean = λ before x after at. op_clean setting (map op_of before) (op_of x) (kept_faultless setting (map op_of before) (op_of x) (map op_of after) (middle_limits setting items before x after limits at));
+  clean = λ before x after at. no_fault (has_fault setting (map op_of before) (op_of x)) (kept_faultless setting (map op_of before) (op_of x) (map op_of after) (middle_limits setting items before x after limits at));
 }
 
 -- lines of at most 16 processors and 16,000 items are a short text
@@ -237,34 +232,34 @@ printed_trace_spells t trace =
 -- ---- the lines of programs
 
 pub program_end : (setting : SettingValue) → IsReadBack (program_grammar setting) op_tokens End
-unfolding program_line no_number
+unfolding program_line numbers
 program_end setting = read_back (program_grammar setting) op_tokens End (codes "end") [] refl refl refl (omega arith) (omega arith) tt refl
 
 program_proc : (setting : SettingValue) → IsReadBack (program_grammar setting) op_tokens Proc
-unfolding program_line no_number
+unfolding program_line numbers
 program_proc setting = read_back (program_grammar setting) op_tokens Proc (codes "proc") [] refl refl refl (omega arith) (omega arith) tt refl
 
 op_back : (setting : SettingValue) (x : Op) → ((a : ℕ) → address_of x ≡ Some a → a < 256) → ((v : ℕ) → stored_by x ≡ Some v → v < 2 ^ 64) → is_stbar_in_tso setting.order x ≡ false → IsReadBack (program_grammar setting) op_tokens (Item x)
-unfolding program_line no_number
+unfolding program_line numbers
 op_back setting (OpLd a) within writes no_stbar =
     let low = within a refl in
     let fits : a < 2 ^ 64 = omega (arith, low) in
     read_back (program_grammar setting) op_tokens (Item (OpLd a)) (codes "ld") (a ∷ []) refl refl refl (omega arith) (omega arith) (fits, tt)
-    (rw (one-decimal a fits) (ap (λ b. Ok (Item (OpLd b))) (address-within a low)))
+    ((program_reads setting.order).item (OpLd a) (no_stbar, All-from_recursion Fits (a ∷ []) (fits, tt)) ∙ ap (λ b. Ok (Item (OpLd b))) (address-within a low))
 op_back setting (OpSt a v) within writes no_stbar =
     let low = within a refl in
     let fits : a < 2 ^ 64 = omega (arith, low) in
     let value = writes v refl in
     read_back (program_grammar setting) op_tokens (Item (OpSt a v)) (codes "st") (a ∷ v ∷ []) refl refl refl (omega arith) (omega arith) (fits, (value, tt))
-    (rw (two-decimal a v fits value) (ap (λ b. Ok (Item (OpSt b v))) (address-within a low)))
+    ((program_reads setting.order).item (OpSt a v) (no_stbar, All-from_recursion Fits (a ∷ v ∷ []) (fits, (value, tt))) ∙ ap (λ b. Ok (Item (OpSt b v))) (address-within a low))
 op_back setting (OpSw a v) within writes no_stbar =
     let low = within a refl in
     let fits : a < 2 ^ 64 = omega (arith, low) in
     let value = writes v refl in
     read_back (program_grammar setting) op_tokens (Item (OpSw a v)) (codes "sw") (a ∷ v ∷ []) refl refl refl (omega arith) (omega arith) (fits, (value, tt))
-    (rw (two-decimal a v fits value) (ap (λ b. Ok (Item (OpSw b v))) (address-within a low)))
+    ((program_reads setting.order).item (OpSw a v) (no_stbar, All-from_recursion Fits (a ∷ v ∷ []) (fits, (value, tt))) ∙ ap (λ b. Ok (Item (OpSw b v))) (address-within a low))
 op_back setting OpMb within writes no_stbar = read_back (program_grammar setting) op_tokens (Item OpMb) (codes "mb") [] refl refl refl (omega arith) (omega arith) tt refl
-op_back setting OpSb within writes no_stbar = read_back (program_grammar setting) op_tokens (Item OpSb) (codes "stbar") [] refl refl refl (omega arith) (omega arith) tt (rw (order_has_stbar setting.order no_stbar) refl)
+op_back setting OpSb within writes no_stbar = read_back (program_grammar setting) op_tokens (Item OpSb) (codes "stbar") [] refl refl refl (omega arith) (omega arith) tt (rw (stbar_known setting.order no_stbar) refl)
 
 ops_fit : (setting : SettingValue) (items : List Op) → KeepsLimits setting items → AreFit (program_grammar setting) op_tokens items
 unfolding program_op_fault
@@ -272,7 +267,7 @@ ops_fit setting items limits = record {
   back = λ before x after at.
       let kept = subst (KeepsLimits setting) at limits in
       op_back setting x (λ a is. kept_address setting before x after a kept is) (λ v is. kept_value setting before x after v kept is) (kept_faultless setting before x after kept StbarInTso);
-  clean = λ before x after at. op_clean setting before x (kept_faultless setting before x after (subst (KeepsLimits setting) at limits));
+  clean = λ before x after at. no_fault (has_fault setting before x) (kept_faultless setting before x after (subst (KeepsLimits setting) at limits));
 }
 
 pub program_accepted : (p : ProgramValue) → IsProgram p → AreAccepted (program_grammar p.setting) op_tokens [] (made_by p.lists) p.lists
@@ -293,17 +288,17 @@ printed_program_spells p program =
 -- ---- the lines of schedules
 
 pub schedule_end : IsReadBack schedule_grammar act_tokens End
-unfolding schedule_line no_number
+unfolding schedule_line numbers
 schedule_end = read_back schedule_grammar act_tokens End (codes "end") [] refl refl refl (omega arith) (omega arith) tt refl
 
 act_back : (x : Act) → processor_of x ≤ 15 → IsReadBack schedule_grammar act_tokens (Item x)
 unfolding schedule_line
 act_back (Issue p) low =
     let fits : p < 2 ^ 64 = omega (arith, low) in
-    read_back schedule_grammar act_tokens (Item (Issue p)) (codes "i") (p ∷ []) refl refl refl (omega arith) (omega arith) (fits, tt) (rw (one-decimal p fits) refl)
+    read_back schedule_grammar act_tokens (Item (Issue p)) (codes "i") (p ∷ []) refl refl refl (omega arith) (omega arith) (fits, tt) (schedule_reads.item (Issue p) fits)
 act_back (Drain p) low =
     let fits : p < 2 ^ 64 = omega (arith, low) in
-    read_back schedule_grammar act_tokens (Item (Drain p)) (codes "d") (p ∷ []) refl refl refl (omega arith) (omega arith) (fits, tt) (rw (one-decimal p fits) refl)
+    read_back schedule_grammar act_tokens (Item (Drain p)) (codes "d") (p ∷ []) refl refl refl (omega arith) (omega arith) (fits, tt) (schedule_reads.item (Drain p) fits)
 
 acts_fit : (acts : List Act) → All (λ x. processor_of x ≤ 15) acts → AreFit schedule_grammar act_tokens acts
 acts_fit acts within = record {

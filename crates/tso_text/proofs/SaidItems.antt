@@ -1,10 +1,13 @@
 -- How the lines of traces, programs and schedules are read: each says an item whose tokens it has.
-use Rattle.std.proofs.Common.{◌≡◌, ℕ, ◌<◌, ◌^◌, ◌&&◌, Bool, true, false, ltb, List, [], ◌∷◌, map, Option, Result, Ok, Err, refl, ap, sym, ◌∙◌, subst, arith, inl, inr}
+use Rattle.std.proofs.Common.{◌≡◌, ℕ, ◌<◌, ◌^◌, Bool, true, false, ltb, List, [], ◌∷◌, map, length, Option, Result, Ok, Err, refl, ap, sym, ◌∙◌, subst, arith, inl, inr}
 use Rattle.std.specs.Prelude.{codes, All}
 use Rattle.std.specs.Str.{bytes_eq}
 use Rattle.std.proofs.lemmas.Bool.Decides.{nat_tests}
-use Rattle.std.proofs.lemmas.List.Elements.{All-nil, All-cons}
-use Rattle.line_text.proofs.NumberFacts.{and_parts}
+use Rattle.std.proofs.lemmas.List.Elements.{recursion_from_All, All-from_recursion}
+use Rattle.std.proofs.lemmas.List.{nil_from_length}
+use Rattle.std.specs.List.{AllByRecursion}
+use Rattle.std.specs.Fmt.{decimal}
+use Rattle.line_text.specs.Results.{◌>>=◌}
 use Rattle.tso_ops.specs.declared.acts.Act.{Act}
 use Rattle.tso_ops.specs.declared.acts.Act.TheVariants.{Issue, Drain}
 use Rattle.tso_ops.specs.declared.ops.Op.{Op}
@@ -15,58 +18,35 @@ use Rattle.tso_ops.specs.declared.settings.Order.{Order}
 use Rattle.tso_ops.specs.declared.settings.Order.TheVariants.{Tso, Pso}
 use Rattle.tso_ops.specs.Limits.{is_stbar_in_tso}
 use Rattle.tso_ops.specs.Settings.{SettingValue}
-use Rattle.tso_ops.specs.Values.{op_of, ReadFits}
+use Rattle.tso_ops.specs.Values.{op_of}
 use Rattle.tso_text.specs.declared.faults.Why.{Why}
-use Rattle.tso_text.specs.declared.faults.Why.TheVariants.{BadLine, BadNumber}
+use Rattle.tso_text.specs.declared.faults.Why.TheVariants.{BadLine}
 use Rattle.tso_text.specs.declared.lines.Line.{Line}
 use Rattle.tso_text.specs.declared.lines.Line.TheVariants.{Proc, Item, End}
-use Rattle.tso_text.specs.Numbers.{no_number, one_number, two_numbers, three_numbers}
-use Rattle.tso_text.specs.Printed.{outcome_tokens, op_tokens, act_tokens}
-use Rattle.tso_text.specs.Refusals.{IsWritable, StandsInSchedule, HasShape, op_fault_after}
+use Rattle.tso_text.specs.Numbers.{numbers, number_at}
+use Rattle.tso_text.specs.Printed.{op_word, outcome_numbers, op_numbers, outcome_tokens, op_tokens, act_tokens}
+use Rattle.tso_text.specs.Refusals.{IsWritable, StandsInSchedule, HasShape}
 use Rattle.tso_text.specs.Texts.{processor_of}
-use Rattle.tso_text.specs.Internal.LineReadings.{act_fault_after, address, has_stbar, trace_line, program_line, schedule_line, fault_of, line_fault_after}
-use Rattle.tso_text.proofs.CanonicalFacts.{one_is, two_is, three_is, word_is, one-decimal, two-decimal, three-decimal}
-use Rattle.tso_text.proofs.LineFaults.{shape_fault, Classified, Faults, standing, word_shape}
-use Rattle.tso_text.proofs.SaidLines.{Reads, IsTold, told_if, told_word, told_args, args_few, one_counts, two_counts, three_counts}
+use Rattle.tso_text.specs.Internal.LineReadings.{act_fault_after, address, Keyword, line_of, trace_keywords, program_keywords, schedule_keywords, has_stbar, trace_line, program_line, schedule_line, fault_of, line_fault_after, op_fault_after}
+use Rattle.tso_text.proofs.CanonicalFacts.{Fits, one_at, two_at, three_at, numbers-decimal}
+use Rattle.tso_text.proofs.LineFaults.{Classified, Faults, standing, word_shape}
+use Rattle.tso_text.proofs.SaidLines.{Reads, IsTold, Tells, reads_by, proc_tells, end_tells}
 
 -- ---- operations that lines can say
-
-fits_one : (n : ℕ) → n < 2 ^ 64 → All (λ m. m < 2 ^ 64) (n ∷ [])
-fits_one n low = All-cons (λ m. m < 2 ^ 64) n [] low (All-nil (λ m. m < 2 ^ 64))
-
-fits_two : (n m : ℕ) → n < 2 ^ 64 → m < 2 ^ 64 → All (λ m. m < 2 ^ 64) (n ∷ m ∷ [])
-fits_two n m low also = All-cons (λ m. m < 2 ^ 64) n (m ∷ []) low (fits_one m also)
 
 -- no operation but an STBAR is one
 pub no_stbar_of : (order : Order) (op : Op) → is_stbar_in_tso Tso op ≡ false → is_stbar_in_tso order op ≡ false
 no_stbar_of Tso op none = none
 no_stbar_of Pso op none = refl
 
-can_load : (order : Order) (a : ℕ) → a < 2 ^ 64 → IsWritable order (OpLd a)
-can_load order a low = (no_stbar_of order (OpLd a) refl, fits_one a low)
+-- the keyword `stbar` is known where an STBAR can be said
+stbar_can : (order : Order) → has_stbar order ≡ true → is_stbar_in_tso order OpSb ≡ false
+stbar_can Tso has = absurd cc
+stbar_can Pso has = refl
 
-can_store : (order : Order) (a v : ℕ) → a < 2 ^ 64 → v < 2 ^ 64 → IsWritable order (OpSt a v)
-can_store order a v low also = (no_stbar_of order (OpSt a v) refl, fits_two a v low also)
-
-can_swap : (order : Order) (a v : ℕ) → a < 2 ^ 64 → v < 2 ^ 64 → IsWritable order (OpSw a v)
-can_swap order a v low also = (no_stbar_of order (OpSw a v) refl, fits_two a v low also)
-
-can_membar : (order : Order) → IsWritable order OpMb
-can_membar order = (no_stbar_of order OpMb refl, All-nil (λ m. m < 2 ^ 64))
-
-can_stbar : (order : Order) → has_stbar order ≡ true → IsWritable order OpSb
-can_stbar Tso has = absurd cc
-can_stbar Pso has = (refl, All-nil (λ m. m < 2 ^ 64))
-
-stbar_keyword : (order : Order) → IsWritable order OpSb → has_stbar order ≡ true
-stbar_keyword Tso can = absurd (let e = can.0 in cc)
-stbar_keyword Pso can = refl
-
-first_fits : (n : ℕ) (ns : List ℕ) → All (λ m. m < 2 ^ 64) (n ∷ ns) → n < 2 ^ 64
-first_fits n ns all = all 0 n (omega arith)
-
-second_fits : (n m : ℕ) (ns : List ℕ) → All (λ m. m < 2 ^ 64) (n ∷ m ∷ ns) → m < 2 ^ 64
-second_fits n m ns all = all 1 m (omega arith)
+pub stbar_known : (order : Order) → is_stbar_in_tso order OpSb ≡ false → has_stbar order ≡ true
+stbar_known Tso can = absurd cc
+stbar_known Pso can = refl
 
 -- the operation with an address of 16 bits
 abbrev pub short_op : Op → Op
@@ -100,201 +80,139 @@ short_outcome (Sw a r v) = Sw (address a) r v
 short_outcome Mb = Mb
 short_outcome Sb = Sb
 
+pub op_short : (x : Outcome) → op_of (short_outcome x) ≡ short_op (op_of x)
+op_short (Ld a r) = refl
+op_short (St a v) = refl
+op_short (Sw a r v) = refl
+op_short Mb = refl
+op_short Sb = refl
+
 pub short_outcome_fault : (setting : SettingValue) (before : List Outcome) (x : Outcome) → op_fault_after setting (map op_of before) (op_of (short_outcome x)) ≡ op_fault_after setting (map op_of before) (op_of x)
-short_outcome_fault setting before x = ap (op_fault_after setting (map op_of before)) (by x) ∙ short_op_fault setting (map op_of before) (op_of x)
-  where
-    by : (x : Outcome) → op_of (short_outcome x) ≡ short_op (op_of x)
-    by (Ld a r) = refl
-    by (St a v) = refl
-    by (Sw a r v) = refl
-    by Mb = refl
-    by Sb = refl
+short_outcome_fault setting before x = ap (op_fault_after setting (map op_of before)) (op_short x) ∙ short_op_fault setting (map op_of before) (op_of x)
 
 abbrev pub IsWritableOutcome : Order → Outcome → Type 0
-IsWritableOutcome order x = IsWritable order (op_of x) × ReadFits x
+IsWritableOutcome order x = IsWritable order (op_of x) (outcome_numbers x)
 
-trace_told : (order : Order) (ps : List (List ℕ)) → IsTold outcome_tokens (IsWritableOutcome order) short_outcome ps (trace_line order ps)
-unfolding trace_line
-trace_told order [] = inl refl
-trace_told order (word ∷ ps) =
-    told_if outcome_tokens Can short_outcome (bytes_eq word (codes "proc")) _ _ (word ∷ ps) (λ is. told_word outcome_tokens Can short_outcome Proc word ps (ap (λ w. w ∷ []) (word_is word (codes "proc") is)))
-    (told_if outcome_tokens Can short_outcome (bytes_eq word (codes "ld")) _ _ (word ∷ ps)
-    (λ is. told_args outcome_tokens Can short_outcome 2 word ps (two_numbers ps) (λ n. Ld (address n.0) n.1) (Ld 0 0) (two_counts ps) (can_load order 0 (omega arith), omega arith) (λ count. (word_is word (codes "ld") is, count))
-    (λ n says. let fits = two_is ps n says in (Ld n.0 n.1, (can_load order n.0 fits.1, fits.2), ap (λ w. w ∷ ps) (word_is word (codes "ld") is) ∙ ap (λ qs. codes "ld" ∷ qs) fits.0, refl)))
-    (told_if outcome_tokens Can short_outcome (bytes_eq word (codes "st")) _ _ (word ∷ ps)
-    (λ is. told_args outcome_tokens Can short_outcome 2 word ps (two_numbers ps) (λ n. St (address n.0) n.1) (St 0 0) (two_counts ps) (can_store order 0 0 (omega arith) (omega arith), tt) (λ count. (word_is word (codes "st") is, count))
-    (λ n says. let fits = two_is ps n says in (St n.0 n.1, (can_store order n.0 n.1 fits.1 fits.2, tt), ap (λ w. w ∷ ps) (word_is word (codes "st") is) ∙ ap (λ qs. codes "st" ∷ qs) fits.0, refl)))
-    (told_if outcome_tokens Can short_outcome (bytes_eq word (codes "sw")) _ _ (word ∷ ps)
-    (λ is. told_args outcome_tokens Can short_outcome 3 word ps (three_numbers ps) (λ n. Sw (address n.0) n.1 n.2) (Sw 0 0 0) (three_counts ps) (can_swap order 0 0 (omega arith) (omega arith), omega arith) (λ count. (word_is word (codes "sw") is, count))
-    (λ n says. let fits = three_is ps n says in (Sw n.0 n.1 n.2, (can_swap order n.0 n.2 fits.1 fits.3, fits.2), ap (λ w. w ∷ ps) (word_is word (codes "sw") is) ∙ ap (λ qs. codes "sw" ∷ qs) fits.0, refl)))
-    (told_if outcome_tokens Can short_outcome (bytes_eq word (codes "mb")) _ _ (word ∷ ps)
-    (λ is. told_word outcome_tokens Can short_outcome (Item Mb) word ps (Mb, (can_membar order, tt), ap (λ w. w ∷ []) (word_is word (codes "mb") is), refl))
-    (told_if outcome_tokens Can short_outcome (bytes_eq word (codes "stbar") && has_stbar order) _ _ (word ∷ ps)
-    (λ is. let both = and_parts (bytes_eq word (codes "stbar")) (has_stbar order) is in
-    told_word outcome_tokens Can short_outcome (Item Sb) word ps (Sb, (can_stbar order both.1, tt), ap (λ w. w ∷ []) (word_is word (codes "stbar") both.0), refl))
-    (told_if outcome_tokens Can short_outcome (bytes_eq word (codes "end")) _ _ (word ∷ ps) (λ is. told_word outcome_tokens Can short_outcome End word ps (ap (λ w. w ∷ []) (word_is word (codes "end") is))) (inl refl)))))))
-  where
-    Can : Outcome → Type 0
-    Can = IsWritableOutcome order
+op_keyword : (op : Op) → (bytes_eq (op_word op) (codes "model") ≡ false) × (bytes_eq (op_word op) (codes "init") ≡ false)
+op_keyword (OpLd a) = (refl, refl)
+op_keyword (OpSt a v) = (refl, refl)
+op_keyword (OpSw a v) = (refl, refl)
+op_keyword OpMb = (refl, refl)
+op_keyword OpSb = (refl, refl)
 
-trace_item : (order : Order) (y : Outcome) → IsWritableOutcome order y → trace_line order (outcome_tokens y) ≡ Ok (Item (short_outcome y))
-unfolding trace_line no_number
-trace_item order (Ld a r) can = rw (two-decimal a r (first_fits a [] can.0.1) can.1) refl
-trace_item order (St a v) can = rw (two-decimal a v (first_fits a (v ∷ []) can.0.1) (second_fits a v [] can.0.1)) refl
-trace_item order (Sw a r v) can = rw (three-decimal a r v (first_fits a (v ∷ []) can.0.1) can.1 (second_fits a v [] can.0.1)) refl
+-- what numbers make says a line of the keyword, with these numbers; and so do other keywords
+op_tells : {X : Type 0} {R : Type 0} (op : X → Op) (numbers_of : X → List ℕ) (short : X → X) (order : Order) (k : Keyword X) (make : List ℕ → X) → ((ns : List ℕ) → (k.says ns ≡ Item (short (make ns))) × (k.word ≡ op_word (op (make ns)))) →
+    ((ns : List ℕ) → k.known ≡ true → is_stbar_in_tso order (op (make ns)) ≡ false) → ((ns : List ℕ) → length ns ≡ k.count → ns ≡ numbers_of (make ns)) → R →
+    Tells (λ x. op_word (op x) ∷ map decimal (numbers_of x)) (λ x. IsWritable order (op x) (numbers_of x)) short k × R
+op_tells op numbers_of short order k make is no_stbar same rest = (
+  record {
+    tells = λ known ns count fit.
+        rw ((is ns).0) (make ns, (no_stbar ns known, subst (All Fits) (same ns count) (All-from_recursion Fits ns fit)), ap (λ w. w ∷ map decimal ns) (is ns).1 ∙ ap (λ ms. op_word (op (make ns)) ∷ map decimal ms) (same ns count), refl);
+  },
+  rest,
+)
+
+trace_tells : (order : Order) → AllByRecursion (Tells outcome_tokens (IsWritableOutcome order) short_outcome) (trace_keywords order)
+trace_tells order = (
+  proc_tells _ _ _,
+  op_tells op_of outcome_numbers short_outcome order _ (λ ns. Ld (number_at ns 0) (number_at ns 1)) (λ ns. (refl, refl)) (λ ns known. no_stbar_of order (OpLd (number_at ns 0)) refl) two_at
+      (op_tells op_of outcome_numbers short_outcome order _ (λ ns. St (number_at ns 0) (number_at ns 1)) (λ ns. (refl, refl)) (λ ns known. no_stbar_of order (OpSt (number_at ns 0) (number_at ns 1)) refl) two_at
+      (op_tells op_of outcome_numbers short_outcome order _ (λ ns. Sw (number_at ns 0) (number_at ns 1) (number_at ns 2)) (λ ns. (refl, refl)) (λ ns known. no_stbar_of order (OpSw (number_at ns 0) (number_at ns 2)) refl) three_at
+      (op_tells op_of outcome_numbers short_outcome order _ (λ ns. Mb) (λ ns. (refl, refl)) (λ ns known. no_stbar_of order OpMb refl) nil_from_length
+      (end_tells _ _ _, op_tells op_of outcome_numbers short_outcome order _ (λ ns. Sb) (λ ns. (refl, refl)) (λ ns known. stbar_can order known) nil_from_length tt)))),
+)
+
+trace_item : (order : Order) (y : Outcome) → IsWritableOutcome order y → line_of (trace_keywords order) (outcome_tokens y) ≡ Ok (Item (short_outcome y))
+unfolding numbers
+trace_item order (Ld a r) can = ap (λ q. q >>= λ ns. Ok (Item (Ld (address (number_at ns 0)) (number_at ns 1)))) (numbers-decimal (a ∷ r ∷ []) (recursion_from_All Fits (a ∷ r ∷ []) can.1))
+trace_item order (St a v) can = ap (λ q. q >>= λ ns. Ok (Item (St (address (number_at ns 0)) (number_at ns 1)))) (numbers-decimal (a ∷ v ∷ []) (recursion_from_All Fits (a ∷ v ∷ []) can.1))
+trace_item order (Sw a r v) can = ap (λ q. q >>= λ ns. Ok (Item (Sw (address (number_at ns 0)) (number_at ns 1) (number_at ns 2)))) (numbers-decimal (a ∷ r ∷ v ∷ []) (recursion_from_All Fits (a ∷ r ∷ v ∷ []) can.1))
 trace_item order Mb can = refl
-trace_item order Sb can = rw (stbar_keyword order can.0) refl
-
--- tokens of the shape of an item's are not a bad line
-trace_shape : (order : Order) (y : Outcome) (ps : List (List ℕ)) → IsWritableOutcome order y → HasShape ps (outcome_tokens y) → trace_line order ps ≡ Err BadLine → ⊥
-unfolding trace_line
-trace_shape order (Ld a r) [] can has e = absurd has
-trace_shape order (Ld a r) (word ∷ ps) can has e = args_few 2 ps (two_numbers ps) _ (two_counts ps) (omega (arith, has.1)) (subst (λ w. trace_line order (w ∷ ps) ≡ Err BadLine) has.0 e)
-trace_shape order (St a v) [] can has e = absurd has
-trace_shape order (St a v) (word ∷ ps) can has e = args_few 2 ps (two_numbers ps) _ (two_counts ps) (omega (arith, has.1)) (subst (λ w. trace_line order (w ∷ ps) ≡ Err BadLine) has.0 e)
-trace_shape order (Sw a r v) [] can has e = absurd has
-trace_shape order (Sw a r v) (word ∷ ps) can has e = args_few 3 ps (three_numbers ps) _ (three_counts ps) (omega (arith, has.1)) (subst (λ w. trace_line order (w ∷ ps) ≡ Err BadLine) has.0 e)
-trace_shape order Mb ps can has e = absurd (let s : Ok (Item Mb) ≡ Err BadLine = sym (trace_item order Mb can) ∙ ap (trace_line order) (sym (word_shape ps (codes "mb") has)) ∙ e in cc)
-trace_shape order Sb ps can has e = absurd (let s : Ok (Item Sb) ≡ Err BadLine = sym (trace_item order Sb can) ∙ ap (trace_line order) (sym (word_shape ps (codes "stbar") has)) ∙ e in cc)
-
-outcome_keyword : (y : Outcome) → (word : List ℕ) × (others : List (List ℕ)) × (outcome_tokens y ≡ word ∷ others) × (bytes_eq word (codes "model") ≡ false) × (bytes_eq word (codes "init") ≡ false)
-outcome_keyword (Ld a r) = (codes "ld", _, refl, refl, refl)
-outcome_keyword (St a v) = (codes "st", _, refl, refl, refl)
-outcome_keyword (Sw a r v) = (codes "sw", _, refl, refl, refl)
-outcome_keyword Mb = (codes "mb", _, refl, refl, refl)
-outcome_keyword Sb = (codes "stbar", _, refl, refl, refl)
+trace_item order Sb can = rw (stbar_known order can.0) refl
 
 pub trace_proc_said : (order : Order) → trace_line order (codes "proc" ∷ []) ≡ Ok Proc
-unfolding trace_line no_number
+unfolding trace_line numbers
 trace_proc_said order = refl
 
 pub trace_reads : (order : Order) → Reads (trace_line order) outcome_tokens (IsWritableOutcome order) short_outcome
-unfolding trace_line no_number
-trace_reads order = record { told = trace_told order; item = trace_item order; shape = trace_shape order; end = refl; keyword = outcome_keyword }
+unfolding trace_line numbers
+trace_reads order = reads_by outcome_tokens (IsWritableOutcome order) short_outcome (trace_keywords order) (trace_tells order) (trace_item order) refl (λ y. (op_word (op_of y), _, refl, (op_keyword (op_of y)).0, (op_keyword (op_of y)).1))
 
 -- ---- programs
 
-program_told : (order : Order) (ps : List (List ℕ)) → IsTold op_tokens (IsWritable order) short_op ps (program_line order ps)
-unfolding program_line
-program_told order [] = inl refl
-program_told order (word ∷ ps) =
-    told_if op_tokens Can short_op (bytes_eq word (codes "proc")) _ _ (word ∷ ps) (λ is. told_word op_tokens Can short_op Proc word ps (ap (λ w. w ∷ []) (word_is word (codes "proc") is)))
-    (told_if op_tokens Can short_op (bytes_eq word (codes "ld")) _ _ (word ∷ ps)
-    (λ is. told_args op_tokens Can short_op 1 word ps (one_number ps) (λ n. OpLd (address n)) (OpLd 0) (one_counts ps) (can_load order 0 (omega arith)) (λ count. (word_is word (codes "ld") is, count))
-    (λ n says. (OpLd n, can_load order n (one_is ps n says).1, ap (λ w. w ∷ ps) (word_is word (codes "ld") is) ∙ ap (λ qs. codes "ld" ∷ qs) (one_is ps n says).0, refl)))
-    (told_if op_tokens Can short_op (bytes_eq word (codes "st")) _ _ (word ∷ ps)
-    (λ is. told_args op_tokens Can short_op 2 word ps (two_numbers ps) (λ n. OpSt (address n.0) n.1) (OpSt 0 0) (two_counts ps) (can_store order 0 0 (omega arith) (omega arith)) (λ count. (word_is word (codes "st") is, count))
-    (λ n says. let fits = two_is ps n says in (OpSt n.0 n.1, can_store order n.0 n.1 fits.1 fits.2, ap (λ w. w ∷ ps) (word_is word (codes "st") is) ∙ ap (λ qs. codes "st" ∷ qs) fits.0, refl)))
-    (told_if op_tokens Can short_op (bytes_eq word (codes "sw")) _ _ (word ∷ ps)
-    (λ is. told_args op_tokens Can short_op 2 word ps (two_numbers ps) (λ n. OpSw (address n.0) n.1) (OpSw 0 0) (two_counts ps) (can_swap order 0 0 (omega arith) (omega arith)) (λ count. (word_is word (codes "sw") is, count))
-    (λ n says. let fits = two_is ps n says in (OpSw n.0 n.1, can_swap order n.0 n.1 fits.1 fits.2, ap (λ w. w ∷ ps) (word_is word (codes "sw") is) ∙ ap (λ qs. codes "sw" ∷ qs) fits.0, refl)))
-    (told_if op_tokens Can short_op (bytes_eq word (codes "mb")) _ _ (word ∷ ps)
-    (λ is. told_word op_tokens Can short_op (Item OpMb) word ps (OpMb, can_membar order, ap (λ w. w ∷ []) (word_is word (codes "mb") is), refl))
-    (told_if op_tokens Can short_op (bytes_eq word (codes "stbar") && has_stbar order) _ _ (word ∷ ps)
-    (λ is. let both = and_parts (bytes_eq word (codes "stbar")) (has_stbar order) is in
-    told_word op_tokens Can short_op (Item OpSb) word ps (OpSb, can_stbar order both.1, ap (λ w. w ∷ []) (word_is word (codes "stbar") both.0), refl))
-    (told_if op_tokens Can short_op (bytes_eq word (codes "end")) _ _ (word ∷ ps) (λ is. told_word op_tokens Can short_op End word ps (ap (λ w. w ∷ []) (word_is word (codes "end") is))) (inl refl)))))))
-  where
-    Can : Op → Type 0
-    Can = IsWritable order
+abbrev pub IsWritableOp : Order → Op → Type 0
+IsWritableOp order op = IsWritable order op (op_numbers op)
 
-program_item : (order : Order) (y : Op) → IsWritable order y → program_line order (op_tokens y) ≡ Ok (Item (short_op y))
-unfolding program_line no_number
-program_item order (OpLd a) can = rw (one-decimal a (first_fits a [] can.1)) refl
-program_item order (OpSt a v) can = rw (two-decimal a v (first_fits a (v ∷ []) can.1) (second_fits a v [] can.1)) refl
-program_item order (OpSw a v) can = rw (two-decimal a v (first_fits a (v ∷ []) can.1) (second_fits a v [] can.1)) refl
+program_tells : (order : Order) → AllByRecursion (Tells op_tokens (IsWritableOp order) short_op) (program_keywords order)
+program_tells order = (
+  proc_tells _ _ _,
+  op_tells (λ op. op) op_numbers short_op order _ (λ ns. OpLd (number_at ns 0)) (λ ns. (refl, refl)) (λ ns known. no_stbar_of order (OpLd (number_at ns 0)) refl) one_at
+      (op_tells (λ op. op) op_numbers short_op order _ (λ ns. OpSt (number_at ns 0) (number_at ns 1)) (λ ns. (refl, refl)) (λ ns known. no_stbar_of order (OpSt (number_at ns 0) (number_at ns 1)) refl) two_at
+      (op_tells (λ op. op) op_numbers short_op order _ (λ ns. OpSw (number_at ns 0) (number_at ns 1)) (λ ns. (refl, refl)) (λ ns known. no_stbar_of order (OpSw (number_at ns 0) (number_at ns 1)) refl) two_at
+      (op_tells (λ op. op) op_numbers short_op order _ (λ ns. OpMb) (λ ns. (refl, refl)) (λ ns known. no_stbar_of order OpMb refl) nil_from_length
+      (end_tells _ _ _, op_tells (λ op. op) op_numbers short_op order _ (λ ns. OpSb) (λ ns. (refl, refl)) (λ ns known. stbar_can order known) nil_from_length tt)))),
+)
+
+program_item : (order : Order) (y : Op) → IsWritableOp order y → line_of (program_keywords order) (op_tokens y) ≡ Ok (Item (short_op y))
+unfolding numbers
+program_item order (OpLd a) can = ap (λ q. q >>= λ ns. Ok (Item (OpLd (address (number_at ns 0))))) (numbers-decimal (a ∷ []) (recursion_from_All Fits (a ∷ []) can.1))
+program_item order (OpSt a v) can = ap (λ q. q >>= λ ns. Ok (Item (OpSt (address (number_at ns 0)) (number_at ns 1)))) (numbers-decimal (a ∷ v ∷ []) (recursion_from_All Fits (a ∷ v ∷ []) can.1))
+program_item order (OpSw a v) can = ap (λ q. q >>= λ ns. Ok (Item (OpSw (address (number_at ns 0)) (number_at ns 1)))) (numbers-decimal (a ∷ v ∷ []) (recursion_from_All Fits (a ∷ v ∷ []) can.1))
 program_item order OpMb can = refl
-program_item order OpSb can = rw (stbar_keyword order can) refl
-
--- tokens of the shape of an item's are not a bad line
-program_shape : (order : Order) (y : Op) (ps : List (List ℕ)) → IsWritable order y → HasShape ps (op_tokens y) → program_line order ps ≡ Err BadLine → ⊥
-unfolding program_line
-program_shape order (OpLd a) [] can has e = absurd has
-program_shape order (OpLd a) (word ∷ ps) can has e = args_few 1 ps (one_number ps) _ (one_counts ps) (omega (arith, has.1)) (subst (λ w. program_line order (w ∷ ps) ≡ Err BadLine) has.0 e)
-program_shape order (OpSt a v) [] can has e = absurd has
-program_shape order (OpSt a v) (word ∷ ps) can has e = args_few 2 ps (two_numbers ps) _ (two_counts ps) (omega (arith, has.1)) (subst (λ w. program_line order (w ∷ ps) ≡ Err BadLine) has.0 e)
-program_shape order (OpSw a v) [] can has e = absurd has
-program_shape order (OpSw a v) (word ∷ ps) can has e = args_few 2 ps (two_numbers ps) _ (two_counts ps) (omega (arith, has.1)) (subst (λ w. program_line order (w ∷ ps) ≡ Err BadLine) has.0 e)
-program_shape order OpMb ps can has e = absurd (let s : Ok (Item OpMb) ≡ Err BadLine = sym (program_item order OpMb can) ∙ ap (program_line order) (sym (word_shape ps (codes "mb") has)) ∙ e in cc)
-program_shape order OpSb ps can has e = absurd (let s : Ok (Item OpSb) ≡ Err BadLine = sym (program_item order OpSb can) ∙ ap (program_line order) (sym (word_shape ps (codes "stbar") has)) ∙ e in cc)
-
-op_keyword : (y : Op) → (word : List ℕ) × (others : List (List ℕ)) × (op_tokens y ≡ word ∷ others) × (bytes_eq word (codes "model") ≡ false) × (bytes_eq word (codes "init") ≡ false)
-op_keyword (OpLd a) = (codes "ld", _, refl, refl, refl)
-op_keyword (OpSt a v) = (codes "st", _, refl, refl, refl)
-op_keyword (OpSw a v) = (codes "sw", _, refl, refl, refl)
-op_keyword OpMb = (codes "mb", _, refl, refl, refl)
-op_keyword OpSb = (codes "stbar", _, refl, refl, refl)
+program_item order OpSb can = rw (stbar_known order can.0) refl
 
 pub program_proc_said : (order : Order) → program_line order (codes "proc" ∷ []) ≡ Ok Proc
-unfolding program_line no_number
+unfolding program_line numbers
 program_proc_said order = refl
 
-pub program_reads : (order : Order) → Reads (program_line order) op_tokens (IsWritable order) short_op
-unfolding program_line no_number
-program_reads order = record { told = program_told order; item = program_item order; shape = program_shape order; end = refl; keyword = op_keyword }
+pub program_reads : (order : Order) → Reads (program_line order) op_tokens (IsWritableOp order) short_op
+unfolding program_line numbers
+program_reads order = reads_by op_tokens (IsWritableOp order) short_op (program_keywords order) (program_tells order) (program_item order) refl (λ y. (op_word y, _, refl, (op_keyword y).0, (op_keyword y).1))
 
 -- ---- schedules
 
 abbrev pub IsWritableAct : Act → Type 0
 IsWritableAct act = processor_of act < 2 ^ 64
 
-pub schedule_told : (ps : List (List ℕ)) → IsTold act_tokens IsWritableAct (λ act. act) ps (schedule_line ps)
-unfolding schedule_line
-schedule_told [] = inl refl
-schedule_told (word ∷ ps) =
-    told_if act_tokens IsWritableAct (λ act. act) (bytes_eq word (codes "i")) _ _ (word ∷ ps)
-    (λ is. told_args act_tokens IsWritableAct (λ act. act) 1 word ps (one_number ps) (λ n. Issue n) (Issue 0) (one_counts ps) (omega arith) (λ count. (word_is word (codes "i") is, count))
-    (λ n says. (Issue n, (one_is ps n says).1, ap (λ w. w ∷ ps) (word_is word (codes "i") is) ∙ ap (λ qs. codes "i" ∷ qs) (one_is ps n says).0, refl)))
-    (told_if act_tokens IsWritableAct (λ act. act) (bytes_eq word (codes "d")) _ _ (word ∷ ps)
-    (λ is. told_args act_tokens IsWritableAct (λ act. act) 1 word ps (one_number ps) (λ n. Drain n) (Drain 0) (one_counts ps) (omega arith) (λ count. (word_is word (codes "d") is, count))
-    (λ n says. (Drain n, (one_is ps n says).1, ap (λ w. w ∷ ps) (word_is word (codes "d") is) ∙ ap (λ qs. codes "d" ∷ qs) (one_is ps n says).0, refl)))
-    (told_if act_tokens IsWritableAct (λ act. act) (bytes_eq word (codes "end")) _ _ (word ∷ ps) (λ is. told_word act_tokens IsWritableAct (λ act. act) End word ps (ap (λ w. w ∷ []) (word_is word (codes "end") is))) (inl refl)))
+schedule_tells : AllByRecursion (Tells act_tokens IsWritableAct (λ act. act)) schedule_keywords
+schedule_tells = (
+  record { tells = λ _ ns count fit. let one = one_at ns count in (Issue (number_at ns 0), (subst (AllByRecursion Fits) one fit).0, ap (λ ms. codes "i" ∷ map decimal ms) one, refl) },
+  (record { tells = λ _ ns count fit. let one = one_at ns count in (Drain (number_at ns 0), (subst (AllByRecursion Fits) one fit).0, ap (λ ms. codes "d" ∷ map decimal ms) one, refl) }, (end_tells act_tokens IsWritableAct (λ act. act), tt)),
+)
+
+schedule_item : (y : Act) → IsWritableAct y → line_of schedule_keywords (act_tokens y) ≡ Ok (Item y)
+schedule_item (Issue p) can = ap (λ q. q >>= λ ns. Ok (Item (Issue (number_at ns 0)))) (numbers-decimal (p ∷ []) (can, tt))
+schedule_item (Drain p) can = ap (λ q. q >>= λ ns. Ok (Item (Drain (number_at ns 0)))) (numbers-decimal (p ∷ []) (can, tt))
+
+act_keyword : (y : Act) → (word : List ℕ) × (others : List (List ℕ)) × (act_tokens y ≡ word ∷ others) × (bytes_eq word (codes "model") ≡ false) × (bytes_eq word (codes "init") ≡ false)
+act_keyword (Issue p) = (codes "i", _, refl, refl, refl)
+act_keyword (Drain p) = (codes "d", _, refl, refl, refl)
+
+pub schedule_reads : Reads schedule_line act_tokens IsWritableAct (λ act. act)
+unfolding schedule_line numbers
+schedule_reads = reads_by act_tokens IsWritableAct (λ act. act) schedule_keywords schedule_tells schedule_item refl act_keyword
 
 -- no line of a schedule begins a list
 pub not_proc : (ps : List (List ℕ)) → schedule_line ps ≡ Ok Proc → ⊥
 unfolding schedule_line
 not_proc ps says =
-    let told : ps ≡ codes "proc" ∷ [] = subst (IsTold act_tokens IsWritableAct (λ act. act) ps) says (schedule_told ps) in
+    let told : ps ≡ codes "proc" ∷ [] = subst (IsTold act_tokens IsWritableAct (λ act. act) ps) says (schedule_reads.told ps) in
     absurd (let s : Err BadLine ≡ Ok Proc = ap schedule_line (sym told) ∙ says in cc)
-
-schedule_item : (y : Act) → IsWritableAct y → schedule_line (act_tokens y) ≡ Ok (Item y)
-unfolding schedule_line
-schedule_item (Issue p) can = rw (one-decimal p can) refl
-schedule_item (Drain p) can = rw (one-decimal p can) refl
-
-schedule_shape : (y : Act) (ps : List (List ℕ)) → IsWritableAct y → HasShape ps (act_tokens y) → schedule_line ps ≡ Err BadLine → ⊥
-unfolding schedule_line
-schedule_shape (Issue p) [] can has e = absurd has
-schedule_shape (Issue p) (word ∷ ps) can has e = args_few 1 ps (one_number ps) _ (one_counts ps) (omega (arith, has.1)) (subst (λ w. schedule_line (w ∷ ps) ≡ Err BadLine) has.0 e)
-schedule_shape (Drain p) [] can has e = absurd has
-schedule_shape (Drain p) (word ∷ ps) can has e = args_few 1 ps (one_number ps) _ (one_counts ps) (omega (arith, has.1)) (subst (λ w. schedule_line (w ∷ ps) ≡ Err BadLine) has.0 e)
-
-schedule_end_said : schedule_line (codes "end" ∷ []) ≡ Ok End
-unfolding schedule_line no_number
-schedule_end_said = refl
-
-act_number : (y : Act) → shape_fault (act_tokens y) ≡ BadNumber
-act_number (Issue p) = refl
-act_number (Drain p) = refl
-
-act_self : (y : Act) → HasShape (act_tokens y) (act_tokens y)
-act_self (Issue p) = (refl, refl)
-act_self (Drain p) = (refl, refl)
 
 -- the fault of a line of a schedule, as the reader finds it
 abbrev pub schedule_found : List Act → List (List ℕ) → Option Why
 schedule_found acts ps = fault_of (schedule_line ps) (line_fault_after (λ before act. act_fault_after act) (acts ∷ []))
 
 pub faults_of_schedules : (acts : List Act) → Faults StandsInSchedule (schedule_found acts)
-faults_of_schedules acts = record { classified = λ ps. by ps (schedule_line ps) refl (schedule_told ps); stands = stands; self = self }
+faults_of_schedules acts = record { classified = λ ps. by ps (schedule_line ps) refl (schedule_reads.told ps); stands = stands; self = self }
   where
     read : (ps : List (List ℕ)) (o : Option Why) → StandsInSchedule ps o → (l : Line Act) × (schedule_line ps ≡ Ok l)
-    read ps o (inl item) = (Item item.0, ap schedule_line item.2 ∙ schedule_item item.0 item.1)
-    read ps o (inr is) = (End, ap schedule_line is.0 ∙ schedule_end_said)
+    read ps o (inl item) = (Item item.0, ap schedule_line item.2 ∙ schedule_reads.item item.0 item.1)
+    read ps o (inr is) = (End, ap schedule_line is.0 ∙ schedule_reads.end)
 
     no_shape : (ps line : List (List ℕ)) (o : Option Why) → StandsInSchedule line o → HasShape ps line → schedule_line ps ≡ Err BadLine → ⊥
-    no_shape ps line o (inl item) shape bad = schedule_shape item.0 ps item.1 (subst (HasShape ps) item.2 shape) bad
-    no_shape ps line o (inr is) shape bad = absurd (let s : Ok End ≡ Err BadLine = sym schedule_end_said ∙ ap schedule_line (sym (word_shape ps (codes "end") (subst (HasShape ps) is.0 shape))) ∙ bad in cc)
+    no_shape ps line o (inl item) shape bad = schedule_reads.shape item.0 ps item.1 (subst (HasShape ps) item.2 shape) bad
+    no_shape ps line o (inr is) shape bad = absurd (let s : Ok End ≡ Err BadLine = sym schedule_reads.end ∙ ap schedule_line (sym (word_shape ps (codes "end") (subst (HasShape ps) is.0 shape))) ∙ bad in cc)
 
     by : (ps : List (List ℕ)) (r : Result (Line Act) Why) → schedule_line ps ≡ r → IsTold act_tokens IsWritableAct (λ act. act) ps r → Classified StandsInSchedule ps (fault_of r (line_fault_after (λ before act. act_fault_after act) (acts ∷ [])))
     by ps (Ok Proc) is told = absurd (not_proc ps is)
@@ -303,12 +221,12 @@ faults_of_schedules acts = record { classified = λ ps. by ps (schedule_line ps)
     by ps (Err w) is (inl line) = inr (inr (λ other o st shape. no_shape ps other o st shape (is ∙ ap Err line), line))
     by ps (Err w) is (inr number) =
         let y = number.1.0 in
-        inr (inl (λ o st. absurd (let r = read ps o st in let s : Ok r.0 ≡ Err w = sym r.1 ∙ is in cc), (act_tokens y, _, inl (y, number.1.1, refl, refl), number.1.2, number.0 ∙ sym (act_number y))))
+        inr (inl (λ o st. absurd (let r = read ps o st in let s : Ok r.0 ≡ Err w = sym r.1 ∙ is in cc), (act_tokens y, _, inl (y, number.1.1, refl, refl), number.1.2, number.0 ∙ sym (let k = schedule_reads.keyword y in rw (k.2, k.3) refl))))
 
     stands : (ps : List (List ℕ)) (o : Option Why) → StandsInSchedule ps o → schedule_found acts ps ≡ o
-    stands ps o (inl item) = ap (schedule_found acts) item.2 ∙ ap (λ r. fault_of r (line_fault_after (λ before act. act_fault_after act) (acts ∷ []))) (schedule_item item.0 item.1) ∙ sym item.3
-    stands ps o (inr is) = ap (schedule_found acts) is.0 ∙ ap (λ r. fault_of r (line_fault_after (λ before act. act_fault_after act) (acts ∷ []))) schedule_end_said ∙ sym is.1
+    stands ps o (inl item) = ap (schedule_found acts) item.2 ∙ ap (λ r. fault_of r (line_fault_after (λ before act. act_fault_after act) (acts ∷ []))) (schedule_reads.item item.0 item.1) ∙ sym item.3
+    stands ps o (inr is) = ap (schedule_found acts) is.0 ∙ ap (λ r. fault_of r (line_fault_after (λ before act. act_fault_after act) (acts ∷ []))) schedule_reads.end ∙ sym is.1
 
     self : (ps : List (List ℕ)) (o : Option Why) → StandsInSchedule ps o → HasShape ps ps
-    self ps o (inl item) = rw item.2 (act_self item.0)
+    self ps o (inl item) = let k = schedule_reads.keyword item.0 in rw (item.2, k.2) (refl, refl)
     self ps o (inr is) = rw is.0 (refl, refl)

@@ -1,16 +1,16 @@
 -- What the readers find that tokens say: the lines that can stand in a text, and the faults among them.
-use Rattle.std.proofs.Common.{◌≡◌, ◌⊎◌, ℕ, ◌<◌, ◌≤◌, ◌^◌, ◌&&◌, Bool, true, false, cond, not, ltb, List, [], ◌∷◌, length, Option, Some, None, Result, Ok, Err, refl, ap, sym, ◌∙◌, subst, arith, inl, inr, ⊎_elim}
-use Rattle.std.specs.Prelude.{codes}
-use Rattle.std.specs.List.{flat_map}
+use Rattle.std.proofs.Common.{◌≡◌, ◌⊎◌, ℕ, zero, suc, map, ◌<◌, ◌≤◌, ◌^◌, ◌&&◌, Bool, true, false, cond, not, ltb, List, [], ◌∷◌, length, Option, Some, None, Result, Ok, Err, refl, ap, sym, ◌∙◌, subst, arith, inl, inr, ⊎_elim}
+use Rattle.std.specs.Prelude.{codes, replicate}
+use Rattle.std.specs.Fmt.{decimal}
+use Rattle.std.specs.List.{flat_map, AllByRecursion}
 use Rattle.std.specs.Str.{bytes_eq}
 use Rattle.std.proofs.lemmas.Bool.{false≢true}
 use Rattle.std.proofs.lemmas.Bool.Decides.{nat_tests}
+use Rattle.std.proofs.lemmas.List.{nil_from_length, length-map, length-replicate}
 use Rattle.std.proofs.lemmas.Slice.Eq.{bytes_eq-Decides}
 use Rattle.line_text.specs.Lines.{is_empty}
-use Rattle.line_text.specs.Numbers.{is_numeral}
 use Rattle.line_text.specs.Results.{◌>>=◌}
 use Rattle.line_text.proofs.NumberFacts.{and_parts}
-use Rattle.std.specs.Str.Parse.{digits_value}
 use Rattle.tso_ops.specs.declared.ops.Op.TheVariants.{Sb as OpSb}
 use Rattle.tso_ops.specs.declared.settings.Order.{Order}
 use Rattle.tso_ops.specs.declared.settings.Order.TheVariants.{Tso, Pso}
@@ -21,65 +21,13 @@ use Rattle.tso_text.specs.declared.faults.Why.{Why}
 use Rattle.tso_text.specs.declared.faults.Why.TheVariants.{BadLine, BadNumber, BadModel, BeforeProc}
 use Rattle.tso_text.specs.declared.lines.Line.{Line}
 use Rattle.tso_text.specs.declared.lines.Line.TheVariants.{Proc, Item, End}
-use Rattle.tso_text.specs.Numbers.{numeral, no_number, one_number, two_numbers, three_numbers}
+use Rattle.tso_text.specs.Numbers.{numbers, number_at}
 use Rattle.tso_text.specs.Printed.{entry_tokens}
-use Rattle.tso_text.specs.Refusals.{StandsAfterLists, HasShape, entry_fault_after}
-use Rattle.tso_text.specs.Internal.LineReadings.{address, has_stbar, has_entries, model_said, entry_by, fault_of, line_fault_after, fault_in_lists}
-use Rattle.tso_text.proofs.CanonicalFacts.{two_is, word_is, no_first, two, two-decimal}
+use Rattle.tso_text.specs.Refusals.{StandsAfterLists, HasShape}
+use Rattle.tso_text.specs.Internal.LineReadings.{Keyword, said_after, line_of, proc_keyword, end_keyword, address, has_stbar, has_entries, model_said, entry_by, fault_of, line_fault_after, fault_in_lists, entry_fault_after}
+use Rattle.tso_text.proofs.CanonicalFacts.{Fits, bind_err, numbers_is, numbers_err, other_count, two_is, word_is, no_first, two, two-decimal}
 use Rattle.tso_text.proofs.PrintedSetting.{model_name}
 use Rattle.tso_text.proofs.LineFaults.{shape_fault, shape_self, word_shape, Classified, standing, Faults}
-
--- ---- numbers
-
-pub bind_err : {A B : Type 0} (r : Result A Why) (f : A → Result B Why) (why : Why) → (r >>= f) ≡ Err why → (r ≡ Err why) ⊎ ((a : A) × (r ≡ Ok a) × (f a ≡ Err why))
-bind_err (Ok a) f why e = inr (a, refl, e)
-bind_err (Err other) f why e = inl cc
-
-numeral_err : (p : List ℕ) (w : Why) → numeral p ≡ Err w → w ≡ BadNumber
-numeral_err p w e = by (is_numeral p) (digits_value 10 p) e
-  where
-    by : (b : Bool) (m : ℕ) → cond b (Ok m) (Err BadNumber) ≡ Err w → w ≡ BadNumber
-    by true m is = absurd cc
-    by false m is = cc
-
--- Just so many numbers are read of tokens, or it is one of two faults.
-pub record CountsNumbers {N : Type 0} (n : ℕ) (ps : List (List ℕ)) (r : Result N Why) : Type 0 where
-  pub few : length ps ≡ n → r ≡ Err BadLine → ⊥
-  pub errs : (w : Why) → r ≡ Err w → (w ≡ BadLine) ⊎ ((w ≡ BadNumber) × (length ps ≡ n))
-
-other_count : {N : Type 0} (n : ℕ) (ps : List (List ℕ)) → (length ps ≡ n → ⊥) → CountsNumbers {N = N} n ps (Err BadLine)
-other_count n ps other = record { few = λ is e. other is; errs = λ w e. inl cc }
-
-bad_numbers : {N : Type 0} (n : ℕ) (ps : List (List ℕ)) (r : Result N Why) → length ps ≡ n → ((w : Why) → r ≡ Err w → w ≡ BadNumber) → CountsNumbers n ps r
-bad_numbers n ps r count bad = record { few = λ is e. absurd (let s = bad BadLine e in cc); errs = λ w e. inr (bad w e, count) }
-
-read_err : {A : Type 0} (a : A) (w : Why) → Ok a ≡ Err w → w ≡ BadNumber
-read_err a w e = absurd cc
-
-pub one_counts : (ps : List (List ℕ)) → CountsNumbers 1 ps (one_number ps)
-unfolding one_number
-one_counts [] = other_count 1 [] (λ e. omega (arith, e))
-one_counts (p ∷ []) = bad_numbers 1 (p ∷ []) (numeral p) refl (numeral_err p)
-one_counts (p ∷ q ∷ ps) = other_count 1 (p ∷ q ∷ ps) (λ e. omega (arith, e))
-
-bad_first : {A B : Type 0} (r : Result A Why) (f : A → Result B Why) → ((w : Why) → r ≡ Err w → w ≡ BadNumber) → ((a : A) (w : Why) → f a ≡ Err w → w ≡ BadNumber) → (w : Why) → (r >>= f) ≡ Err w → w ≡ BadNumber
-bad_first r f first next w e = ⊎_elim (λ err. first w err) (λ ok. next ok.0 w ok.2) (bind_err r f w e)
-
-pub two_counts : (ps : List (List ℕ)) → CountsNumbers 2 ps (two_numbers ps)
-unfolding two_numbers
-two_counts [] = other_count 2 [] (λ e. omega (arith, e))
-two_counts (p ∷ []) = other_count 2 (p ∷ []) (λ e. omega (arith, e))
-two_counts (p ∷ q ∷ []) = bad_numbers 2 (p ∷ q ∷ []) _ refl (bad_first (numeral p) _ (numeral_err p) (λ a. bad_first (numeral q) _ (numeral_err q) (λ b w e. absurd cc)))
-two_counts (p ∷ q ∷ r ∷ ps) = other_count 2 (p ∷ q ∷ r ∷ ps) (λ e. omega (arith, e))
-
-pub three_counts : (ps : List (List ℕ)) → CountsNumbers 3 ps (three_numbers ps)
-unfolding three_numbers
-three_counts [] = other_count 3 [] (λ e. omega (arith, e))
-three_counts (p ∷ []) = other_count 3 (p ∷ []) (λ e. omega (arith, e))
-three_counts (p ∷ q ∷ []) = other_count 3 (p ∷ q ∷ []) (λ e. omega (arith, e))
-three_counts (p ∷ q ∷ r ∷ []) =
-    bad_numbers 3 (p ∷ q ∷ r ∷ []) _ refl (bad_first (numeral p) _ (numeral_err p) (λ a. bad_first (numeral q) _ (numeral_err q) (λ b. bad_first (numeral r) _ (numeral_err r) (λ c w e. absurd cc))))
-three_counts (p ∷ q ∷ r ∷ s ∷ ps) = other_count 3 (p ∷ q ∷ r ∷ s ∷ ps) (λ e. omega (arith, e))
 
 -- ---- what the tokens of a line say
 
@@ -101,27 +49,83 @@ pub record Reads {X : Type 0} (said : List (List ℕ) → Result (Line X) Why) (
   pub end : said (codes "end" ∷ []) ≡ Ok End
   pub keyword : (y : X) → (word : List ℕ) × (others : List (List ℕ)) × (tokens y ≡ word ∷ others) × (bytes_eq word (codes "model") ≡ false) × (bytes_eq word (codes "init") ≡ false)
 
+-- ---- lines by their keywords
+
+-- the tokens after a word of the same number are a bad line as well
+bad_numbers : (count : ℕ) (ps qs : List (List ℕ)) → length ps ≡ length qs → numbers count ps ≡ Err BadLine → numbers count qs ≡ Err BadLine
+bad_numbers count ps qs same bad =
+    ⊎_elim (λ line. other_count count qs (λ count_is. line.1 (same ∙ count_is))) (λ number. absurd (let s = number.0 in cc)) (numbers_err count ps BadLine bad)
+
+bad_after : {X : Type 0} (ks : List (Keyword X)) (word : List ℕ) (ps qs : List (List ℕ)) → length ps ≡ length qs → said_after ks word ps ≡ Err BadLine → said_after ks word qs ≡ Err BadLine
+bad_after [] word ps qs same bad = refl
+bad_after {X} (k ∷ ks) word ps qs same bad = by (k.known && bytes_eq word k.word) bad (bad_after ks word ps qs same)
+  where
+    by : (b : Bool) → cond b (numbers k.count ps >>= λ ns. Ok (k.says ns)) (said_after ks word ps) ≡ Err BadLine → (said_after ks word ps ≡ Err BadLine → said_after ks word qs ≡ Err BadLine) → cond b (numbers k.count qs >>= λ ns. Ok (k.says ns)) (said_after ks word qs) ≡ Err BadLine
+    by true is others = ⊎_elim (λ err. rw (bad_numbers k.count ps qs same err) refl) (λ ok. absurd (let s = ok.2 in cc)) (bind_err (numbers k.count ps) _ BadLine is)
+    by false is others = others is
+
 module _ {X : Type 0} (tokens : X → List (List ℕ)) (Can : X → Type 0) (short : X → X) where
-  pub told_if : (b : Bool) (r s : Result (Line X) Why) (ps : List (List ℕ)) → (b ≡ true → IsTold tokens Can short ps r) → IsTold tokens Can short ps s → IsTold tokens Can short ps (cond b r s)
-  told_if true r s ps here other = here refl
-  told_if false r s ps here other = other
+  -- a line of the keyword has the tokens of what it says
+  pub record Tells (k : Keyword X) : Type 0 where
+    pub tells : k.known ≡ true → (ns : List ℕ) → length ns ≡ k.count → AllByRecursion Fits ns → IsSaid tokens Can short (k.word ∷ map decimal ns) (k.says ns)
 
-  pub told_word : (l : Line X) (word : List ℕ) (ps : List (List ℕ)) → IsSaid tokens Can short (word ∷ []) l → IsTold tokens Can short (word ∷ ps) (no_number ps >>= λ _. Ok l)
-  unfolding no_number
-  told_word l word [] is = is
-  told_word l word (p ∷ ps) is = inl refl
-
-  pub told_args : {N : Type 0} (n : ℕ) (word : List ℕ) (ps : List (List ℕ)) (r : Result N Why) (f : N → X) (example : X) → CountsNumbers n ps r → Can example → (length ps ≡ n → HasShape (word ∷ ps) (tokens example)) →
-      ((m : N) → r ≡ Ok m → IsSaid tokens Can short (word ∷ ps) (Item (f m))) → IsTold tokens Can short (word ∷ ps) (r >>= λ m. Ok (Item (f m)))
-  told_args {N} n word ps r f example counts can shape says = by r refl
+  -- an item of the keyword: that of zeros
+  example : (ps : List (List ℕ)) (k : Keyword X) (l : Line X) → length ps ≡ k.count → 0 < length ps → IsSaid tokens Can short (k.word ∷ map decimal (replicate k.count 0)) l → (y : X) × Can y × HasShape (k.word ∷ ps) (tokens y)
+  example ps k l count some said = by l said
     where
-      by : (q : Result N Why) → r ≡ q → IsTold tokens Can short (word ∷ ps) (q >>= λ m. Ok (Item (f m)))
-      by (Ok m) is = says m is
-      by (Err w) is = ⊎_elim (λ line. inl line) (λ number. inr (number.0, (example, can, shape number.1))) (counts.errs w is)
+      zeros : length (map decimal (replicate k.count 0)) ≡ length ps
+      zeros = length-map (replicate k.count 0) decimal ∙ length-replicate k.count 0 ∙ sym count
 
--- just so many numbers don't make a bad line
-pub args_few : {N X : Type 0} (n : ℕ) (ps : List (List ℕ)) (r : Result N Why) (f : N → Line X) → CountsNumbers n ps r → length ps ≡ n → (r >>= λ m. Ok (f m)) ≡ Err BadLine → ⊥
-args_few n ps r f counts count e = ⊎_elim (λ err. counts.few count err) (λ ok. absurd (let s = ok.2 in cc)) (bind_err r _ BadLine e)
+      by : (l : Line X) → IsSaid tokens Can short (k.word ∷ map decimal (replicate k.count 0)) l → (y : X) × Can y × HasShape (k.word ∷ ps) (tokens y)
+      by Proc is = absurd (let e = ap length is in omega (arith, e, zeros, some))
+      by (Item x) is = (is.0, is.1, subst (HasShape (k.word ∷ ps)) is.2 (refl, sym zeros))
+      by End is = absurd (let e = ap length is in omega (arith, e, zeros, some))
+
+  zeros_fit : (n : ℕ) → AllByRecursion Fits (replicate n 0)
+  zeros_fit zero = tt
+  zeros_fit (suc n) = (omega arith, zeros_fit n)
+
+  told_numbers : (k : Keyword X) → k.known ≡ true → Tells k → (ps : List (List ℕ)) → IsTold tokens Can short (k.word ∷ ps) (numbers k.count ps >>= λ ns. Ok (k.says ns))
+  told_numbers k known t ps = by (numbers k.count ps) refl
+    where
+      by : (r : Result (List ℕ) Why) → numbers k.count ps ≡ r → IsTold tokens Can short (k.word ∷ ps) (r >>= λ ns. Ok (k.says ns))
+      by (Ok ns) is = let are = numbers_is k.count ps ns is in subst (λ qs. IsSaid tokens Can short (k.word ∷ qs) (k.says ns)) (sym are.tokens) (t.tells known ns are.count are.fit)
+      by (Err w) is =
+          ⊎_elim (λ line. inl line.0)
+          (λ number. inr (number.0, example ps k (k.says (replicate k.count 0)) number.1 number.2 (t.tells known (replicate k.count 0) (length-replicate k.count 0) (zeros_fit k.count))))
+          (numbers_err k.count ps w is)
+
+  told_after : (ks : List (Keyword X)) → AllByRecursion Tells ks → (word : List ℕ) (ps : List (List ℕ)) → IsTold tokens Can short (word ∷ ps) (said_after ks word ps)
+  told_after [] tell word ps = inl refl
+  told_after (k ∷ ks) tell word ps = by (k.known && bytes_eq word k.word) refl (told_after ks tell.1 word ps)
+    where
+      by : (b : Bool) → (k.known && bytes_eq word k.word) ≡ b → IsTold tokens Can short (word ∷ ps) (said_after ks word ps) → IsTold tokens Can short (word ∷ ps) (cond b (numbers k.count ps >>= λ ns. Ok (k.says ns)) (said_after ks word ps))
+      by true is others =
+          let both = and_parts k.known (bytes_eq word k.word) is in
+          subst (λ w. IsTold tokens Can short (w ∷ ps) (numbers k.count ps >>= λ ns. Ok (k.says ns))) (sym (word_is word k.word both.1)) (told_numbers k both.0 tell.0 ps)
+      by false is others = others
+
+  line_told : (ks : List (Keyword X)) → AllByRecursion Tells ks → (ps : List (List ℕ)) → IsTold tokens Can short ps (line_of ks ps)
+  line_told ks tell [] = inl refl
+  line_told ks tell (word ∷ ps) = told_after ks tell word ps
+
+  -- lines of these keywords are read so
+  pub reads_by : (ks : List (Keyword X)) → AllByRecursion Tells ks → ((y : X) → Can y → line_of ks (tokens y) ≡ Ok (Item (short y))) → line_of ks (codes "end" ∷ []) ≡ Ok End →
+      ((y : X) → (word : List ℕ) × (others : List (List ℕ)) × (tokens y ≡ word ∷ others) × (bytes_eq word (codes "model") ≡ false) × (bytes_eq word (codes "init") ≡ false)) → Reads (line_of ks) tokens Can short
+  reads_by ks tell item end keyword = record { told = line_told ks tell; item = item; shape = shape; end = end; keyword = keyword }
+    where
+      shape : (y : X) (ps : List (List ℕ)) → Can y → HasShape ps (tokens y) → line_of ks ps ≡ Err BadLine → ⊥
+      shape y [] can has bad = absurd has
+      shape y (word ∷ ps) can has bad =
+          let k = keyword y in
+          let same = subst (HasShape (word ∷ ps)) k.2 has in
+          absurd (let s : Ok (Item (short y)) ≡ Err BadLine = sym (item y can) ∙ ap (line_of ks) (k.2 ∙ ap (λ w. w ∷ k.1) (sym same.0)) ∙ bad_after ks word ps k.1 same.1 bad in cc)
+
+  pub proc_tells : Tells proc_keyword
+  proc_tells = record { tells = λ known ns count fit. ap (λ ms. codes "proc" ∷ map decimal ms) (nil_from_length ns count) }
+
+  pub end_tells : Tells end_keyword
+  end_tells = record { tells = λ known ns count fit. ap (λ ms. codes "end" ∷ map decimal ms) (nil_from_length ns count) }
 
 -- ---- traces and programs
 
@@ -269,31 +273,31 @@ module _ {X : Type 0} (said : List (List ℕ) → Result (Line X) Why) (tokens :
           tail (q ∷ qs) = qs
 
   entry_line : (word : List ℕ) (ps : List (List ℕ)) → setting.version ≡ Two → bytes_eq word (codes "init") ≡ true → Classified (Stands []) (word ∷ ps) (fault_of (entry_by ps) (entry_fault_after setting.first))
-  entry_line word ps version same = by (two_numbers ps) refl
+  entry_line word ps version same = by (numbers 2 ps) refl
     where
       head : word ≡ codes "init"
       head = word_is word (codes "init") same
 
-      by : (r : Result (ℕ × ℕ) Why) → two_numbers ps ≡ r → Classified (Stands []) (word ∷ ps) (fault_of (r >>= λ n. Ok (address n.0, n.1)) (entry_fault_after setting.first))
-      by (Ok n) is =
-          let fits = two_is ps n is in
+      by : (r : Result (List ℕ) Why) → numbers 2 ps ≡ r → Classified (Stands []) (word ∷ ps) (fault_of (r >>= λ ns. Ok (address (number_at ns 0), number_at ns 1)) (entry_fault_after setting.first))
+      by (Ok ns) is =
+          let fits = two_is ps ns is in
+          let n : ℕ × ℕ = (number_at ns 0, number_at ns 1) in
           standing (Stands []) (word ∷ ps) _ (inr (inl (n, refl, version, fits.1, fits.2, ap (λ w. w ∷ ps) head ∙ ap (λ qs. codes "init" ∷ qs) fits.0, entry_short setting.first n)))
       by (Err w) is =
-          let counts = two_counts ps in
           ⊎_elim
           (λ bad. inr (inr (
             λ line o st shape.
                 let e = only_entry ps line word o same st shape in
-                counts.few (let s = subst (HasShape (word ∷ ps)) e.3 shape in omega (arith, s.1)) (is ∙ ap Err bad),
-            bad,
+                bad.1 (let s = subst (HasShape (word ∷ ps)) e.3 shape in omega (arith, s.1)),
+            bad.0,
           )))
           (λ bad. inr (inl (
             λ o st.
                 let e = only_entry ps (word ∷ ps) word o same st (refl, refl) in
-                absurd (let s : Ok (e.0.0, e.0.1) ≡ Err w = sym (two-decimal e.0.0 e.0.1 e.1 e.2) ∙ ap two_numbers (sym (ap (λ qs. tail qs) e.3)) ∙ is in cc),
+                absurd (let s : Ok (e.0.0 ∷ e.0.1 ∷ []) ≡ Err w = sym (two-decimal e.0.0 e.0.1 e.1 e.2) ∙ ap (numbers 2) (sym (ap (λ qs. tail qs) e.3)) ∙ is in cc),
             (entry_tokens (0, 0), _, inr (inl ((0, 0), refl, version, omega arith, omega arith, refl, refl)), (head, omega (arith, bad.1)), bad.0),
           )))
-          (counts.errs w is)
+          (numbers_err 2 ps w is)
         where
           tail : List (List ℕ) → List (List ℕ)
           tail [] = []

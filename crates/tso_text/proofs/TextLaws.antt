@@ -1,5 +1,5 @@
 -- Laws on the texts of traces, programs and schedules.
-use Rattle.std.proofs.Common.{◌≡◌, ℕ, ◌<◌, ◌≤◌, List, Some, None, sym, ◌∙◌, ap, arith, ⊎_elim, Ok, Err, refl, ◌⊎◌, ◌-◌, [], ◌∷◌, ◌++◌, length, get_or, Option, subst, inl, inr}
+use Rattle.std.proofs.Common.{◌≡◌, ℕ, ◌<◌, ◌≤◌, List, Some, sym, ◌∙◌, ap, arith, ⊎_elim, Ok, Err, refl, ◌⊎◌, ◌-◌, [], ◌∷◌, ◌++◌, length, get_or, Option, subst, inl, inr}
 use Rattle.std.proofs.lemmas.Bool.{cases_lt}
 use Rattle.tso_text.specs.declared.faults.Why.{Why}
 use Rattle.tso_text.specs.declared.faults.Why.TheVariants.{BadHeader, BadLine, BadNumber, BeforeProc, TooManyProcessors, TooManyEvents, AddressRange, ZeroValue, RepeatedValue, MissingEnd, AfterEnd, TooLong, ProcessorRange, OutOfMemory, BadModel, InitOrder}

@@ -1,5 +1,5 @@
 -- The numbers after a keyword, or their fault.
-use Rattle.std.specs.Prelude.{ℕ, List, [], ◌∷◌, Result, Ok, Err, if◌then◌else◌}
+use Rattle.std.specs.Prelude.{ℕ, zero, suc, Bool, true, false, List, [], ◌∷◌, get_or, Result, Ok, Err, if◌then◌else◌}
 use Rattle.std.specs.Str.Parse.{digits_value}
 use Rattle.line_text.specs.Numbers.{is_numeral}
 use Rattle.line_text.specs.Results.{◌>>=◌}
@@ -10,22 +10,21 @@ use Rattle.tso_text.specs.declared.faults.Why.TheVariants.{BadLine, BadNumber}
 abbrev pub numeral : List ℕ → Result ℕ Why
 numeral token = if is_numeral token then Ok (digits_value 10 token) else Err BadNumber
 
--- no token after the keyword
-unfoldable pub no_number : List (List ℕ) → Result (Unit {0}) Why
-no_number [] = Ok tt
-no_number (token ∷ tokens) = Err BadLine
+-- the numbers of tokens, or the fault of the first that is none
+abbrev pub numerals : List (List ℕ) → Result (List ℕ) Why
+numerals [] = Ok []
+numerals (token ∷ tokens) = numeral token >>= λ n. numerals tokens >>= λ ns. Ok (n ∷ ns)
 
--- one number after the keyword
-unfoldable pub one_number : List (List ℕ) → Result ℕ Why
-one_number (m ∷ []) = numeral m
-one_number _ = Err BadLine
+-- just so many
+abbrev pub has_count : {X : Type 0} → ℕ → List X → Bool
+has_count zero [] = true
+has_count zero (x ∷ xs) = false
+has_count (suc n) [] = false
+has_count (suc n) (x ∷ xs) = has_count n xs
 
--- two numbers after the keyword
-unfoldable pub two_numbers : List (List ℕ) → Result (ℕ × ℕ) Why
-two_numbers (m ∷ n ∷ []) = numeral m >>= λ a. numeral n >>= λ b. Ok (a, b)
-two_numbers _ = Err BadLine
+-- the numbers of just so many tokens after the keyword, or their fault
+unfoldable pub numbers : ℕ → List (List ℕ) → Result (List ℕ) Why
+numbers count tokens = if has_count count tokens then numerals tokens else Err BadLine
 
--- three numbers after the keyword
-unfoldable pub three_numbers : List (List ℕ) → Result (ℕ × ℕ × ℕ) Why
-three_numbers (m ∷ n ∷ o ∷ []) = numeral m >>= λ a. numeral n >>= λ b. numeral o >>= λ c. Ok (a, b, c)
-three_numbers _ = Err BadLine
+abbrev pub number_at : List ℕ → ℕ → ℕ
+number_at ns i = get_or ns i 0

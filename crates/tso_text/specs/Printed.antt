@@ -1,6 +1,7 @@
 -- The lines of a value, as the printers give them.
-use Rattle.std.specs.Prelude.{ℕ, List, [], ◌∷◌, ◌++◌, codes}
+use Rattle.std.specs.Prelude.{ℕ, List, [], ◌∷◌, ◌++◌, map, codes}
 use Rattle.std.specs.List.{flat_map}
+use Rattle.std.specs.Option.{option_to_list}
 use Rattle.std.specs.Fmt.{decimal}
 use Rattle.line_text.specs.Lines.{line_text}
 use Rattle.tso_ops.specs.declared.ops.Op.{Op}
@@ -11,8 +12,9 @@ use Rattle.tso_ops.specs.declared.settings.Order.{Order}
 use Rattle.tso_ops.specs.declared.settings.Order.TheVariants.{Tso, Pso}
 use Rattle.tso_ops.specs.declared.settings.Version.{Version}
 use Rattle.tso_ops.specs.declared.settings.Version.TheVariants.{One, Two}
+use Rattle.tso_ops.specs.Limits.{address_of, stored_by}
 use Rattle.tso_ops.specs.Settings.{SettingValue}
-use Rattle.tso_ops.specs.Values.{TraceValue, ProgramValue}
+use Rattle.tso_ops.specs.Values.{TraceValue, ProgramValue, op_of}
 use Rattle.tso_ops.specs.declared.acts.Act.{Act}
 use Rattle.tso_ops.specs.declared.acts.Act.TheVariants.{Issue, Drain}
 
@@ -30,19 +32,31 @@ program_header version = header_of (codes "tso program 1") (codes "tso program 2
 abbrev pub schedule_header : List ℕ
 schedule_header = codes "tso schedule 1"
 
+-- the word of an operation
+abbrev pub op_word : Op → List ℕ
+op_word (OpLd a) = codes "ld"
+op_word (OpSt a v) = codes "st"
+op_word (OpSw a v) = codes "sw"
+op_word OpMb = codes "mb"
+op_word OpSb = codes "stbar"
+
+-- the numbers after the word: the address, what was read, what was stored
+abbrev pub outcome_numbers : Outcome → List ℕ
+outcome_numbers (Ld a r) = a ∷ r ∷ []
+outcome_numbers (St a v) = a ∷ v ∷ []
+outcome_numbers (Sw a r v) = a ∷ r ∷ v ∷ []
+outcome_numbers Mb = []
+outcome_numbers Sb = []
+
+-- the same without what was read
+abbrev pub op_numbers : Op → List ℕ
+op_numbers op = option_to_list (address_of op) ++ option_to_list (stored_by op)
+
 abbrev pub outcome_tokens : Outcome → List (List ℕ)
-outcome_tokens (Ld a r) = codes "ld" ∷ decimal a ∷ decimal r ∷ []
-outcome_tokens (St a v) = codes "st" ∷ decimal a ∷ decimal v ∷ []
-outcome_tokens (Sw a r v) = codes "sw" ∷ decimal a ∷ decimal r ∷ decimal v ∷ []
-outcome_tokens Mb = codes "mb" ∷ []
-outcome_tokens Sb = codes "stbar" ∷ []
+outcome_tokens outcome = op_word (op_of outcome) ∷ map decimal (outcome_numbers outcome)
 
 abbrev pub op_tokens : Op → List (List ℕ)
-op_tokens (OpLd a) = codes "ld" ∷ decimal a ∷ []
-op_tokens (OpSt a v) = codes "st" ∷ decimal a ∷ decimal v ∷ []
-op_tokens (OpSw a v) = codes "sw" ∷ decimal a ∷ decimal v ∷ []
-op_tokens OpMb = codes "mb" ∷ []
-op_tokens OpSb = codes "stbar" ∷ []
+op_tokens op = op_word op ∷ map decimal (op_numbers op)
 
 abbrev pub act_tokens : Act → List (List ℕ)
 act_tokens (Issue p) = codes "i" ∷ decimal p ∷ []

@@ -1,52 +1,43 @@
 -- How a text is refused: its first line with a fault, after lines that begin the text of a value, and that fault.
-use Rattle.std.specs.Prelude.{◌≡◌, ◌≢◌, ◌⊎◌, ℕ, ◌<◌, ◌≤◌, ◌+◌, ◌^◌, ◌==◌, ◌||◌, true, false, nat_lt, nat_le, nat_eq, List, [], ◌∷◌, ◌++◌, length, map, get_or, All, Option, None, Some, codes, if◌then◌else◌}
-use Rattle.std.specs.List.{flat_map, list_any}
+use Rattle.std.specs.Prelude.{◌≡◌, ◌≢◌, ◌⊎◌, ℕ, ◌<◌, ◌≤◌, ◌^◌, Bool, true, false, nat_lt, List, [], ◌∷◌, ◌++◌, length, map, get_or, All, Option, None, Some, codes, if◌then◌else◌}
+use Rattle.std.specs.List.{find, flat_map}
+use Rattle.std.specs.Option.{option_map}
 use Rattle.std.specs.Str.{bytes_eq}
 use Rattle.line_text.specs.Lines.{parts_of, is_empty, line_text}
 use Rattle.line_text.specs.Refusals.{IsRefusedAfter, ArePartsRefused}
 use Rattle.tso_ops.specs.declared.acts.Act.{Act}
 use Rattle.tso_ops.specs.declared.ops.Op.{Op}
 use Rattle.tso_ops.specs.declared.ops.Op.TheVariants.{Sb}
+use Rattle.tso_ops.specs.declared.faults.ValueFault.{ValueFault}
+use Rattle.tso_ops.specs.declared.faults.ValueFault.TheVariants.{TooManyEvents as ManyEvents, AddressRange as PastAddresses, ZeroValue as ZeroStored, RepeatedValue as Repeated, InitOrder as NotAscending}
 use Rattle.tso_ops.specs.declared.settings.Order.{Order}
 use Rattle.tso_ops.specs.declared.settings.Version.TheVariants.{Two}
-use Rattle.tso_ops.specs.Limits.{IsTrace, IsProgram, event_count, barrier_count, total_events, total_barriers, addresses_of, stored_values, is_stbar_in_tso}
-use Rattle.tso_ops.specs.Settings.{SettingValue, event_limit, barrier_limit, values_of}
-use Rattle.tso_ops.specs.Values.{TraceValue, ProgramValue, ReadFits, op_of}
+use Rattle.tso_ops.specs.Limits.{IsTrace, IsProgram, has_fault, has_entry_fault, is_stbar_in_tso}
+use Rattle.tso_ops.specs.Settings.{SettingValue}
+use Rattle.tso_ops.specs.Values.{TraceValue, ProgramValue, op_of}
 use Rattle.tso_text.specs.declared.faults.Why.{Why}
 use Rattle.tso_text.specs.declared.faults.Why.TheVariants.{BadHeader, BadLine, BadNumber, BeforeProc, TooManyProcessors, TooManyEvents, AddressRange, ZeroValue, RepeatedValue, MissingEnd, AfterEnd, TooLong, ProcessorRange, BadModel, InitOrder}
-use Rattle.tso_text.specs.Printed.{trace_header, program_header, schedule_header, trace_lines, program_lines, items_text, outcome_tokens, op_tokens, act_tokens, entry_tokens}
+use Rattle.tso_text.specs.Printed.{trace_header, program_header, schedule_header, trace_lines, program_lines, items_text, outcome_numbers, op_numbers, outcome_tokens, op_tokens, act_tokens, entry_tokens}
 use Rattle.tso_text.specs.Texts.{text_byte_limit, processor_of}
 
--- ---- the faults of operations and first values: of several the one of the least number
+-- the faults of operations and first values, in the order of their numbers: of several the first counts
+abbrev pub text_faults : List (ValueFault × Why)
+text_faults = (ManyEvents, TooManyEvents) ∷ (PastAddresses, AddressRange) ∷ (ZeroStored, ZeroValue) ∷ (Repeated, RepeatedValue) ∷ (NotAscending, InitOrder) ∷ []
 
--- the fault of an operation after others
-abbrev pub op_fault_after : SettingValue → List Op → Op → Option Why
-op_fault_after setting before op =
-    if nat_lt (event_limit setting.version) (total_events before + event_count op) || nat_lt (barrier_limit setting.version) (total_barriers before + barrier_count op) then Some TooManyEvents
-    else if list_any (nat_lt 255) (addresses_of (op ∷ [])) then Some AddressRange
-    else if list_any (nat_eq 0) (stored_values (op ∷ [])) then Some ZeroValue
-    else if list_any (λ v. list_any (nat_eq v) (values_of setting.first ++ stored_values before)) (stored_values (op ∷ [])) then Some RepeatedValue
-    else None
-
--- the fault of an address and its first value after others
-abbrev pub entry_fault_after : List (ℕ × ℕ) → ℕ × ℕ → Option Why
-entry_fault_after before entry =
-    if nat_lt 255 entry.0 then Some AddressRange
-    else if entry.1 == 0 then Some ZeroValue
-    else if list_any (λ other. nat_le entry.0 other.0) before then Some InitOrder
-    else None
+abbrev pub text_fault : (ValueFault → Bool) → Option Why
+text_fault has = option_map (λ fault. fault.1) (find (λ fault. has fault.0) text_faults)
 
 -- ---- the lines that can stand in a text, by their tokens, each with its fault
 
--- an operation that a line can say under the memory model: 64 bits hold its numbers
-abbrev pub IsWritable : Order → Op → Type 0
-IsWritable order op = (is_stbar_in_tso order op ≡ false) × All (λ n. n < 2 ^ 64) (addresses_of (op ∷ []) ++ stored_values (op ∷ []))
+-- a line can say the operation under the memory model, with these numbers: 64 bits hold them
+abbrev pub IsWritable : Order → Op → List ℕ → Type 0
+IsWritable order op numbers = (is_stbar_in_tso order op ≡ false) × All (λ n. n < 2 ^ 64) numbers
 
 -- After those of a setting and lists: `model` directly after the header, `init` before the lists in version 2, `proc`, an item, or `end`.
 abbrev pub StandsAfterLists : {X : Type 0} → (X → List (List ℕ)) → (X → Type 0) → (List X → X → Option Why) → SettingValue → List (List X) → List (List ℕ) → Option Why → Type 0
 StandsAfterLists {X} tokens Can item_fault setting lists line fault =
     ((lists ≡ []) × (setting.first ≡ []) × (is_stbar_in_tso setting.order Sb ≡ true) × (line ≡ codes "model" ∷ codes "pso" ∷ []) × (fault ≡ None))
-    ⊎ ((e : ℕ × ℕ) × (lists ≡ []) × (setting.version ≡ Two) × (e.0 < 2 ^ 64) × (e.1 < 2 ^ 64) × (line ≡ entry_tokens e) × (fault ≡ entry_fault_after setting.first e))
+    ⊎ ((e : ℕ × ℕ) × (lists ≡ []) × (setting.version ≡ Two) × (e.0 < 2 ^ 64) × (e.1 < 2 ^ 64) × (line ≡ entry_tokens e) × (fault ≡ text_fault (has_entry_fault setting.first e)))
     ⊎ ((line ≡ codes "proc" ∷ []) × (fault ≡ (if nat_lt 15 (length lists) then Some TooManyProcessors else None)))
     ⊎ ((x : X) × Can x × (line ≡ tokens x) × (fault ≡ (if is_empty lists then Some BeforeProc else item_fault (flat_map (λ row. row) lists) x)))
     ⊎ ((line ≡ codes "end" ∷ []) × (fault ≡ None))
@@ -97,7 +88,7 @@ trace_kind = record {
   Is = IsTrace;
   header = λ t. trace_header t.setting.version;
   lines = trace_lines;
-  Stands = λ t. StandsAfterLists outcome_tokens (λ x. IsWritable t.setting.order (op_of x) × ReadFits x) (λ before x. op_fault_after t.setting (map op_of before) (op_of x)) t.setting t.lists;
+  Stands = λ t. StandsAfterLists outcome_tokens (λ x. IsWritable t.setting.order (op_of x) (outcome_numbers x)) (λ before x. text_fault (has_fault t.setting (map op_of before) (op_of x))) t.setting t.lists;
 }
 
 unfoldable pub IsTraceRefusal : List ℕ → ℕ → Why → Type 0
@@ -113,7 +104,7 @@ program_kind = record {
   Is = IsProgram;
   header = λ p. program_header p.setting.version;
   lines = program_lines;
-  Stands = λ p. StandsAfterLists op_tokens (IsWritable p.setting.order) (op_fault_after p.setting) p.setting p.lists;
+  Stands = λ p. StandsAfterLists op_tokens (λ op. IsWritable p.setting.order op (op_numbers op)) (λ before op. text_fault (has_fault p.setting before op)) p.setting p.lists;
 }
 
 unfoldable pub IsProgramRefusal : List ℕ → ℕ → Why → Type 0

@@ -1,4 +1,5 @@
 ghost use Rattle.std.specs.Prelude.{◌≡◌, ◌≢◌, ◌++◌, ◌∷◌, [], ◌≤◌, true, false, ℕ, List, map, length, All, None, string_bytes, OnOk, IfOk, IfErr};
+ghost use Rattle.std.specs.List.{join_with_byte};
 ghost use Rattle.line_text.specs.Lines.{line_text};
 ghost use Rattle.tso_ops.specs.declared.limits.Tally.{Tally};
 ghost use Rattle.tso_ops.specs.Settings.{SettingValue, setting_of};
@@ -18,8 +19,10 @@ use crate::faults::{TextFault, Why, why_of};
 use crate::lines::Line;
 use crate::numbers::{address, no_number, one_number, three_numbers, two_numbers};
 use crate::preambles::{read_header, read_setting};
+use crate::words::{END, LD, MB, PROC, ST, STBAR, SW};
 use line_text::next_token;
 use std::alloc::{AllocError, Global};
+use std::fmt::Write;
 use tso_ops::{Act, Op, Order, Outcome, Setting, Tally};
 
 /// The greatest processor that a schedule may name.
@@ -82,44 +85,39 @@ impl Form for Outcome {
     #[tactic(auto, unfolding(crate::specs::Internal::LineReadings::trace_line))]
     fn said_by(order: Order, line: &[u8]) -> Result<Line<Outcome>, Why> {
         let (word, tokens) = next_token(line);
-        if word == b"proc".as_slice() {
+        if word == PROC.as_bytes() {
             no_number(tokens)?;
             Ok(Line::Proc)
-        } else if word == b"ld".as_slice() {
+        } else if word == LD.as_bytes() {
             let (a, r) = two_numbers(tokens)?;
             Ok(Line::Item(Outcome::Ld { a: address(a), r }))
-        } else if word == b"st".as_slice() {
+        } else if word == ST.as_bytes() {
             let (a, v) = two_numbers(tokens)?;
             Ok(Line::Item(Outcome::St { a: address(a), v }))
-        } else if word == b"sw".as_slice() {
+        } else if word == SW.as_bytes() {
             let (a, r, v) = three_numbers(tokens)?;
             Ok(Line::Item(Outcome::Sw {
                 a: address(a),
                 r,
                 v,
             }))
-        } else if word == b"mb".as_slice() {
+        } else if word == MB.as_bytes() {
             no_number(tokens)?;
             Ok(Line::Item(Outcome::Mb))
-        } else if word == b"stbar".as_slice() && has_stbar(order) {
-            no_number(tokens)?;
-            Ok(Line::Item(Outcome::Sb))
-        } else if word == b"end".as_slice() {
+        } else if word == END.as_bytes() {
             no_number(tokens)?;
             Ok(Line::End)
+        } else if has_stbar(order) && word == STBAR.as_bytes() {
+            no_number(tokens)?;
+            Ok(Line::Item(Outcome::Sb))
         } else {
             Err(Why::BadLine)
         }
     }
 
     fn print(self, text: &mut String) -> Result<(), AllocError> {
-        match self {
-            Outcome::Ld { a, r } => writeln!(text, "ld {a} {r}"),
-            Outcome::St { a, v } => writeln!(text, "st {a} {v}"),
-            Outcome::Sw { a, r, v } => writeln!(text, "sw {a} {r} {v}"),
-            Outcome::Mb => writeln!(text, "mb"),
-            Outcome::Sb => writeln!(text, "stbar"),
-        }
+        print_outcome(text, self)?;
+        text.push_str("\n")
     }
 
     fn admit(self, _setting: &Setting, tally: &mut Tally) -> Result<(), Why> {
@@ -148,27 +146,27 @@ impl Form for Op {
     #[tactic(auto, unfolding(crate::specs::Internal::LineReadings::program_line))]
     fn said_by(order: Order, line: &[u8]) -> Result<Line<Op>, Why> {
         let (word, tokens) = next_token(line);
-        if word == b"proc".as_slice() {
+        if word == PROC.as_bytes() {
             no_number(tokens)?;
             Ok(Line::Proc)
-        } else if word == b"ld".as_slice() {
+        } else if word == LD.as_bytes() {
             let a = one_number(tokens)?;
             Ok(Line::Item(Op::Ld { a: address(a) }))
-        } else if word == b"st".as_slice() {
+        } else if word == ST.as_bytes() {
             let (a, v) = two_numbers(tokens)?;
             Ok(Line::Item(Op::St { a: address(a), v }))
-        } else if word == b"sw".as_slice() {
+        } else if word == SW.as_bytes() {
             let (a, v) = two_numbers(tokens)?;
             Ok(Line::Item(Op::Sw { a: address(a), v }))
-        } else if word == b"mb".as_slice() {
+        } else if word == MB.as_bytes() {
             no_number(tokens)?;
             Ok(Line::Item(Op::Mb))
-        } else if word == b"stbar".as_slice() && has_stbar(order) {
-            no_number(tokens)?;
-            Ok(Line::Item(Op::Sb))
-        } else if word == b"end".as_slice() {
+        } else if word == END.as_bytes() {
             no_number(tokens)?;
             Ok(Line::End)
+        } else if has_stbar(order) && word == STBAR.as_bytes() {
+            no_number(tokens)?;
+            Ok(Line::Item(Op::Sb))
         } else {
             Err(Why::BadLine)
         }
@@ -176,11 +174,11 @@ impl Form for Op {
 
     fn print(self, text: &mut String) -> Result<(), AllocError> {
         match self {
-            Op::Ld { a } => writeln!(text, "ld {a}"),
-            Op::St { a, v } => writeln!(text, "st {a} {v}"),
-            Op::Sw { a, v } => writeln!(text, "sw {a} {v}"),
-            Op::Mb => writeln!(text, "mb"),
-            Op::Sb => writeln!(text, "stbar"),
+            Op::Ld { a } => writeln!(text, "{LD} {a}"),
+            Op::St { a, v } => writeln!(text, "{ST} {a} {v}"),
+            Op::Sw { a, v } => writeln!(text, "{SW} {a} {v}"),
+            Op::Mb => writeln!(text, "{MB}"),
+            Op::Sb => writeln!(text, "{STBAR}"),
         }
     }
 
@@ -218,7 +216,7 @@ impl Form for Act {
         } else if word == b"d".as_slice() {
             let p = one_number(tokens)?;
             Ok(Line::Item(Act::Drain(p as usize)))
-        } else if word == b"end".as_slice() {
+        } else if word == END.as_bytes() {
             no_number(tokens)?;
             Ok(Line::End)
         } else {
@@ -238,6 +236,19 @@ impl Form for Act {
             return Err(Why::ProcessorRange);
         }
         Ok(())
+    }
+}
+
+/// Appends what a line of a trace says, without the line end.
+pub fn print_outcome(text: &mut String, outcome: Outcome) -> Result<(), AllocError>
+    ensures { OnOk result (string_bytes text.new ≡ string_bytes text.old ++ join_with_byte 32 (outcome_tokens outcome)) }
+{
+    match outcome {
+        Outcome::Ld { a, r } => write!(text, "{LD} {a} {r}"),
+        Outcome::St { a, v } => write!(text, "{ST} {a} {v}"),
+        Outcome::Sw { a, r, v } => write!(text, "{SW} {a} {r} {v}"),
+        Outcome::Mb => text.push_str(MB),
+        Outcome::Sb => text.push_str(STBAR),
     }
 }
 

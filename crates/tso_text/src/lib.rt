@@ -4,6 +4,7 @@
 #![tactic(auto)]
 
 pub use faults::{TextFault, Why, fault_of};
+pub use forms::print_outcome;
 pub use numbers::{no_number, three_numbers, two_numbers};
 pub use printers::{print_program, print_schedule, print_trace};
 pub use readers::{MAX_TEXT_BYTES, read_program, read_schedule, read_trace};
@@ -18,3 +19,4 @@ mod preambles;
 mod printers;
 mod readers;
 mod readings;
+pub mod words;

@@ -1,8 +1,8 @@
-ghost use Rattle.std.specs.Prelude.{◌≡◌, [], ◌∷◌, IfOk, OnOk, IfErr};
+ghost use Rattle.std.specs.Prelude.{◌≡◌, [], ◌∷◌, Ok, Err, MatchResult, IfOk, OnOk, IfErr};
 ghost use Rattle.line_text.specs.Lines.{tokens_after, SomeToken};
 ghost use Rattle.tso_text.specs.declared.faults.Why.{Why};
 ghost use Rattle.tso_text.specs.Internal.LineReadings.{address};
-ghost use Rattle.tso_text.specs.Numbers.{numeral, no_number, one_number, two_numbers, three_numbers};
+ghost use Rattle.tso_text.specs.Numbers.{numeral, numbers};
 
 use crate::faults::Why;
 use line_text::{next_token, number_of};
@@ -29,9 +29,9 @@ pub(crate) fn token_of(tokens: Option<&[u8]>) -> Result<(&[u8], Option<&[u8]>), 
 /// Checks that no token stands after a keyword: `tokens` is what follows the keyword's space, or `None` where no space ends it.
 ///
 /// The only error is BadLine, where there is a token.
-#[tactic(auto, using(line_text::proofs::CutFacts::tokens_after_some), unfolding(crate::specs::Numbers::no_number))]
+#[tactic(auto, using(line_text::proofs::CutFacts::tokens_after_some), unfolding(crate::specs::Numbers::numbers))]
 pub fn no_number(tokens: Option<&[u8]>) -> Result<(), Why>
-    ensures is { result ≡ no_number (tokens_after tokens.entry) }
+    ensures is { MatchResult result (λ _. numbers 0 (tokens_after tokens.entry) ≡ Ok []) (λ why. numbers 0 (tokens_after tokens.entry) ≡ Err why) }
     ensures none { OnOk result (tokens_after tokens.entry ≡ []) }
     ensures some { IfErr result (λ why. SomeToken (tokens_after tokens.entry) × (why ≡ Why.BadLine)) }
 {
@@ -42,9 +42,9 @@ pub fn no_number(tokens: Option<&[u8]>) -> Result<(), Why>
 }
 
 /// The number of the only token.
-#[tactic(auto, unfolding(crate::specs::Numbers::one_number))]
+#[tactic(auto, unfolding(crate::specs::Numbers::numbers))]
 pub(crate) fn one_number(tokens: Option<&[u8]>) -> Result<u64, Why>
-    ensures { result ≡ one_number (tokens_after tokens.entry) }
+    ensures { MatchResult result (λ n. numbers 1 (tokens_after tokens.entry) ≡ Ok (n ∷ [])) (λ why. numbers 1 (tokens_after tokens.entry) ≡ Err why) }
 {
     let (token, rest) = token_of(tokens)?;
     no_number(rest)?;
@@ -54,9 +54,9 @@ pub(crate) fn one_number(tokens: Option<&[u8]>) -> Result<u64, Why>
 /// The numbers of just two tokens after a keyword, which stand in `tokens` as for `no_number`.
 ///
 /// Refused as BadLine where there are more or fewer tokens, and else as BadNumber where one of them is no number.
-#[tactic(auto, unfolding(crate::specs::Numbers::two_numbers))]
+#[tactic(auto, unfolding(crate::specs::Numbers::numbers))]
 pub fn two_numbers(tokens: Option<&[u8]>) -> Result<(u64, u64), Why>
-    ensures { result ≡ two_numbers (tokens_after tokens.entry) }
+    ensures { MatchResult result (λ n. numbers 2 (tokens_after tokens.entry) ≡ Ok (n.0 ∷ n.1 ∷ [])) (λ why. numbers 2 (tokens_after tokens.entry) ≡ Err why) }
 {
     let (first, rest) = token_of(tokens)?;
     let (second, rest) = token_of(rest)?;
@@ -65,9 +65,9 @@ pub fn two_numbers(tokens: Option<&[u8]>) -> Result<(u64, u64), Why>
 }
 
 /// The numbers of just three tokens after a keyword; refused as `two_numbers` refuses.
-#[tactic(auto, unfolding(crate::specs::Numbers::three_numbers))]
+#[tactic(auto, unfolding(crate::specs::Numbers::numbers))]
 pub fn three_numbers(tokens: Option<&[u8]>) -> Result<(u64, u64, u64), Why>
-    ensures { result ≡ three_numbers (tokens_after tokens.entry) }
+    ensures { MatchResult result (λ n. numbers 3 (tokens_after tokens.entry) ≡ Ok (n.0 ∷ n.1 ∷ n.2 ∷ [])) (λ why. numbers 3 (tokens_after tokens.entry) ≡ Err why) }
 {
     let (first, rest) = token_of(tokens)?;
     let (second, rest) = token_of(rest)?;

@@ -5,6 +5,7 @@ ghost use Rattle.tso_text.specs.Texts.{processor_of, SpellsTrace, SpellsProgram,
 ghost use Rattle.tso_text.specs.Printed.{entry_tokens, items_text, model_text, processor_text, setting_text, trace_text, program_text, schedule_text};
 
 use crate::forms::Form;
+use crate::words::{END, PROC};
 use std::alloc::{AllocError, Global};
 use std::fmt::Write;
 use tso_ops::{Act, Order, OutOfMemory, Program, Setting, Trace, Version};
@@ -22,7 +23,7 @@ pub fn print_trace(alloc: Global, trace: &Trace) -> Result<String, OutOfMemory>
     for p in 0..trace.processors() {
         print_processor(&mut text, trace.ops(p))?;
     }
-    text.push_str("end\n")?;
+    writeln!(text, "{END}")?;
     Ok(text)
 }
 
@@ -39,7 +40,7 @@ pub fn print_program(alloc: Global, program: &Program) -> Result<String, OutOfMe
     for p in 0..program.processors() {
         print_processor(&mut text, program.ops(p))?;
     }
-    text.push_str("end\n")?;
+    writeln!(text, "{END}")?;
     Ok(text)
 }
 
@@ -51,7 +52,7 @@ pub fn print_schedule(alloc: Global, acts: &[Act]) -> Result<String, OutOfMemory
 {
     let mut text = String::from_str(alloc, "tso schedule 1\n")?;
     print_items(&mut text, acts)?;
-    text.push_str("end\n")?;
+    writeln!(text, "{END}")?;
     Ok(text)
 }
 
@@ -94,7 +95,7 @@ fn print_entry(text: &mut String, a: u16, v: u64) -> Result<(), AllocError>
 fn print_processor<T: Form>(text: &mut String, items: &[T]) -> Result<(), OutOfMemory>
     ensures { OnOk result (string_bytes text.new ≡ string_bytes text.old ++ processor_text T.tokens items.now) }
 {
-    text.push_str("proc\n")?;
+    writeln!(text, "{PROC}")?;
     print_items(text, items)
 }
 

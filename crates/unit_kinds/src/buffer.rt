@@ -1,3 +1,4 @@
+//! The store-buffer unit, under TSO.
 ghost use Rattle.std.specs.Prelude.{◌≡◌, ◌<◌, ◌≤◌, [], ◌∷◌, ◌++◌, IfOk, IfErr, cond, replicate, true};
 ghost use Rattle.tso_ops.specs.declared.settings.Order.TheVariants.{Tso};
 ghost use Rattle.unit_core.specs.declared.steps.Step.TheVariants.{Store, Drain, Load, Swap, Membar, Stbar};

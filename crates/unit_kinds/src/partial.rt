@@ -1,3 +1,4 @@
+//! The unit of partial store order: a store buffer for each address.
 ghost use Rattle.std.specs.Prelude.{◌≡◌, ◌+◌, ◌<◌, ◌≤◌, [], ◌∷◌, ◌++◌, IfOk, IfErr, length, true};
 ghost use Rattle.tso_ops.specs.declared.settings.Order.TheVariants.{Pso};
 ghost use Rattle.unit_core.specs.Machine.{buffer_of};

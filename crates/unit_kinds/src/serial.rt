@@ -1,3 +1,4 @@
+//! The serial unit, without store buffers.
 ghost use Rattle.std.specs.Prelude.{◌≡◌, ◌<◌, ◌≤◌, [], ◌∷◌, ◌++◌, true, IfOk, IfErr, set, slice_index};
 ghost use Rattle.unit_core.specs.declared.steps.Step.TheVariants.{Store, Drain, Load, Swap, Membar, Stbar};
 ghost use Rattle.unit_core.specs.Units.{Takes};

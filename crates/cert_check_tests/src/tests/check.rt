@@ -2,13 +2,12 @@
 
 use cert_check::{CertFault, check, check_with_table};
 use std::alloc::{AllocError, Global};
-use std::process::Abort;
 use std::test::Fail;
 use traces_for_tests::Listed::{self, Base, Inferred};
 use traces_for_tests::{
     Example, INDEPENDENT_READS, LOAD_BEFORE_ITS_STORE, MESSAGE_PASSING_STALE,
     ONE_LOCATION_BACKWARDS, OWN_STORE_MISSED, STORE_BUFFERING_WITH_BARRIERS, SWAP_READS_ITSELF,
-    TWO_SWAPS_BOTH_FIRST, cycle_of, step_of, trace_from, trace_of,
+    TWO_SWAPS_BOTH_FIRST, cycle_of, expect_equal, step_of, trace_from, trace_of,
 };
 use tso_cert::BaseRule::{Init, LoadOp, Own, Read, Stbar, StoreStore};
 use tso_cert::InferredRule::{LoadPast, StorePast, SwapAfter};
@@ -95,42 +94,38 @@ fn certificate_of(
 }
 
 /// Compares what both checks of a certificate against a trace say.
-fn expect<H: Abort>(
-    rt: &H,
+fn expect_checked(
     alloc: Global,
     name: &str,
     trace: &Trace,
     certificate: &Certificate,
     expected: Result<(), CertFault>,
-) -> Result<(), AllocError> {
-    assert_eq!(rt; check(trace, certificate), expected, "{name}");
+) -> Result<(), Fail> {
+    expect_equal(name, check(trace, certificate), expected)?;
     let by_table = check_with_table(alloc, trace, certificate)?;
-    assert_eq!(rt; by_table, expected, "{name}, by the table");
-    Ok(())
+    expect_equal((name, "by the table"), by_table, expected)
 }
 
 /// Compares what the check of a case says, under this memory model and less the step with this number.
-fn expect_case<H: Abort>(
-    rt: &H,
+fn expect_case(
     alloc: Global,
     (case, order, less): (Case, Order, usize),
     expected: Result<(), CertFault>,
 ) -> Result<(), Fail> {
     let trace = trace_of(alloc, order, case.rows)?;
     let given = certificate_of(alloc, case.steps, less, case.cycle)?;
-    expect(rt, alloc, case.name, &trace, &given, expected)?;
-    Ok(())
+    expect_checked(alloc, case.name, &trace, &given, expected)
 }
 
 /// Sees that the certificate of a case holds, under this memory model.
-fn expect_holding<H: Abort>(rt: &H, alloc: Global, case: Case, order: Order) -> Result<(), Fail> {
-    expect_case(rt, alloc, (case, order, 0), Ok(()))
+fn expect_holding(alloc: Global, case: Case, order: Order) -> Result<(), Fail> {
+    expect_case(alloc, (case, order, 0), Ok(()))
 }
 
 #[test]
 fn certificates_of_litmus_tests_hold(rt: HostRuntime) -> Result<(), Fail> {
     for example in [STORE_BUFFERING_WITH_BARRIERS, INDEPENDENT_READS] {
-        expect_holding(&rt, rt.alloc(), case_of(example), Order::Tso)?;
+        expect_holding(rt.alloc(), case_of(example), Order::Tso)?;
     }
     Ok(())
 }
@@ -140,9 +135,9 @@ fn certificates_of_stale_reads_hold(rt: HostRuntime) -> Result<(), Fail> {
     let alloc = rt.alloc();
     let unwritten = trace_of(alloc, Order::Tso, &[&[Ld { a: 1, r: 9 }]])?;
     let given = Certificate::Unwritten(1);
-    expect(&rt, alloc, "unwritten_load", &unwritten, &given, Ok(()))?;
+    expect_checked(alloc, "unwritten_load", &unwritten, &given, Ok(()))?;
     for case in [case_of(MESSAGE_PASSING_STALE), STALE] {
-        expect_holding(&rt, alloc, case, Order::Tso)?;
+        expect_holding(alloc, case, Order::Tso)?;
     }
     Ok(())
 }
@@ -179,9 +174,9 @@ fn stores_of_partial_store_order(rt: HostRuntime) -> Result<(), Fail> {
     let store_store = certificate_of(alloc, MESSAGE_PASSING_STALE.steps, 0, &[0, 1])?;
     for (stores, by_stbar, by_store_store) in PSO_STORES {
         let passing = trace_of(alloc, Order::Pso, &[stores, &PSO_LOADS])?;
-        expect(&rt, alloc, "Stbar", &passing, &stbar, by_stbar)?;
+        expect_checked(alloc, "Stbar", &passing, &stbar, by_stbar)?;
         let expected = by_store_store;
-        expect(&rt, alloc, "StoreStore", &passing, &store_store, expected)?;
+        expect_checked(alloc, "StoreStore", &passing, &store_store, expected)?;
     }
     Ok(())
 }
@@ -210,7 +205,7 @@ fn certificates_from_first_values(rt: HostRuntime) -> Result<(), Fail> {
     for (name, rows, example) in FROM_7 {
         let trace = trace_from(alloc, &[(1, 7)], rows)?;
         let given = certificate_of(alloc, example.steps, 0, example.cycle)?;
-        expect(&rt, alloc, name, &trace, &given, Ok(()))?;
+        expect_checked(alloc, name, &trace, &given, Ok(()))?;
     }
     Ok(())
 }
@@ -230,7 +225,7 @@ fn unwritten_loads_where_first_values_are_given(rt: HostRuntime) -> Result<(), F
     let zero = trace_from(alloc, &[(1, 7)], &ZERO_AND_7)?;
     for (load, expected) in SAID_OF_LOADS {
         let given = Certificate::Unwritten(load);
-        expect(&rt, alloc, "unwritten", &zero, &given, expected)?;
+        expect_checked(alloc, "unwritten", &zero, &given, expected)?;
     }
     Ok(())
 }
@@ -239,14 +234,14 @@ fn unwritten_loads_where_first_values_are_given(rt: HostRuntime) -> Result<(), F
 #[test]
 fn stores_of_one_location_stay_in_order(rt: HostRuntime) -> Result<(), Fail> {
     let case = case_of(ONE_LOCATION_BACKWARDS);
-    expect_holding(&rt, rt.alloc(), case, Order::Tso)?;
-    expect_holding(&rt, rt.alloc(), case, Order::Pso)
+    expect_holding(rt.alloc(), case, Order::Tso)?;
+    expect_holding(rt.alloc(), case, Order::Pso)
 }
 
 #[test]
 fn certificates_of_one_location_hold(rt: HostRuntime) -> Result<(), Fail> {
     for case in [case_of(OWN_STORE_MISSED), LOST] {
-        expect_holding(&rt, rt.alloc(), case, Order::Tso)?;
+        expect_holding(rt.alloc(), case, Order::Tso)?;
     }
     Ok(())
 }
@@ -258,10 +253,10 @@ fn certificates_of_swaps_hold(rt: HostRuntime) -> Result<(), Fail> {
         SWAP_READS_ITSELF,
         LOAD_BEFORE_ITS_STORE,
     ] {
-        expect_holding(&rt, rt.alloc(), case_of(example), Order::Tso)?;
+        expect_holding(rt.alloc(), case_of(example), Order::Tso)?;
     }
     let refused = Err(CertFault::SideRefused(2));
-    expect_case(&rt, rt.alloc(), (AFTER_ITSELF, Order::Tso, 0), refused)
+    expect_case(rt.alloc(), (AFTER_ITSELF, Order::Tso, 0), refused)
 }
 
 /// Cases, the number of the step that is left out, and the refusal.
@@ -280,7 +275,7 @@ const LESS_A_STEP: [(Example, usize, CertFault); 8] = [
 fn certificates_less_a_step_are_refused(rt: HostRuntime) -> Result<(), Fail> {
     for (example, less, fault) in LESS_A_STEP {
         let case = case_of(example);
-        expect_case(&rt, rt.alloc(), (case, Order::Tso, less), Err(fault))?;
+        expect_case(rt.alloc(), (case, Order::Tso, less), Err(fault))?;
     }
     Ok(())
 }
@@ -305,10 +300,10 @@ const OTHERS: [(&[Listed], &[u64], CertFault); 4] = [
 ];
 
 /// Sees that these loads of a trace are not unwritten.
-fn expect_not_unwritten<H: Abort>(rt: &H, alloc: Global, trace: &Trace) -> Result<(), AllocError> {
+fn expect_not_unwritten(alloc: Global, trace: &Trace) -> Result<(), Fail> {
     for (load, fault) in NOT_UNWRITTEN {
         let given = Certificate::Unwritten(load);
-        expect(rt, alloc, "unwritten", trace, &given, Err(fault))?;
+        expect_checked(alloc, "unwritten", trace, &given, Err(fault))?;
     }
     Ok(())
 }
@@ -317,10 +312,10 @@ fn expect_not_unwritten<H: Abort>(rt: &H, alloc: Global, trace: &Trace) -> Resul
 fn other_certificates_are_refused(rt: HostRuntime) -> Result<(), Fail> {
     let alloc = rt.alloc();
     let barriers = trace_of(alloc, Order::Tso, STORE_BUFFERING_WITH_BARRIERS.rows)?;
-    expect_not_unwritten(&rt, alloc, &barriers)?;
+    expect_not_unwritten(alloc, &barriers)?;
     for (steps, cycle, fault) in OTHERS {
         let given = certificate_of(alloc, steps, 0, cycle)?;
-        expect(&rt, alloc, "cycle", &barriers, &given, Err(fault))?;
+        expect_checked(alloc, "cycle", &barriers, &given, Err(fault))?;
     }
     Ok(())
 }
@@ -363,8 +358,7 @@ fn two_thousand_steps_hold(rt: HostRuntime) -> Result<(), Fail> {
     let given = trace_of(alloc, Order::Tso, &[&list])?;
     let cycle = numbers_to(alloc, 2_000)?;
     let certificate = cycle_of(alloc, long_steps(alloc)?, &cycle)?;
-    expect(&rt, alloc, "2,000 steps", &given, &certificate, Ok(()))?;
-    Ok(())
+    expect_checked(alloc, "2,000 steps", &given, &certificate, Ok(()))
 }
 
 const FAULTS: [(CertFault, &str); 7] = [
@@ -381,7 +375,7 @@ const FAULTS: [(CertFault, &str); 7] = [
 fn texts_of_faults(rt: HostRuntime) -> Result<(), Fail> {
     for (fault, text) in FAULTS {
         let printed = format!(in rt.alloc(); "{fault}")?;
-        assert!(rt; printed.as_str() == text, "{text}");
+        expect_equal(text, printed.as_str(), text)?;
     }
     Ok(())
 }

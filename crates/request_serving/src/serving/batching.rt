@@ -37,24 +37,9 @@ pub(crate) fn batch_named<H: Threads + Wait + Sync + AllocGlobal, O: NamedFiles,
     };
     match request.file {
         None => judge_batch(rt, rt.alloc(), options, reader, writer),
-        Some(name) => batch_file(rt, name, options, files, writer),
+        Some(name) => {
+            let mut file = open(files, name)?;
+            judge_batch(rt, rt.alloc(), options, &mut file, writer)
+        }
     }
-}
-
-/// Judges the traces in a file.
-fn batch_file<H: Threads + Wait + Sync + AllocGlobal, O: NamedFiles, W: Write>(
-    rt: &H,
-    name: &str,
-    options: BatchOptions,
-    files: &mut O,
-    writer: &mut W,
-) -> Result<Verdict, Fault>
-    requires { 1 ≤ options.workers }
-    ensures whole { IfOk result (WritesWhole (IsBatchOfReader options.quiet (O.bytes files.old name.now)) (W.contents writer.old) (W.contents writer.new)) }
-    ensures left { OnErr result (WritesPrefix (IsBatchOfReader options.quiet (O.bytes files.old name.now)) (W.contents writer.old) (W.contents writer.new)) }
-    ensures fault { IfErr result IsBatchFault }
-    ensures opened { OpensNext (O.opened files.old) (O.opened files.new) (name.now ∷ []) }
-{
-    let mut file = open(files, name)?;
-    judge_batch(rt, rt.alloc(), options, &mut file, writer)
 }

@@ -31,7 +31,9 @@ pub(crate) fn check_named<O: NamedFiles, R: Read, W: Write>(
 {
     match texts {
         TextPair::Files(trace, certificate) => {
-            check_files(alloc, trace, certificate, files, writer)
+            let mut trace = open(files, trace)?;
+            let mut certificate = open(files, certificate)?;
+            check_texts(alloc, &mut trace, &mut certificate, writer)
         }
         TextPair::InputAndFile(certificate) => {
             let mut certificate = open(files, certificate)?;
@@ -42,23 +44,4 @@ pub(crate) fn check_named<O: NamedFiles, R: Read, W: Write>(
             check_texts(alloc, &mut trace, reader, writer)
         }
     }
-}
-
-/// Checks the certificate in one file against the trace in another. Both are opened before one is read.
-fn check_files<O: NamedFiles, W: Write>(
-    alloc: Global,
-    trace: &str,
-    certificate: &str,
-    files: &mut O,
-    writer: &mut W,
-) -> Result<Verdict, Fault>
-    ensures report { IfOk result (WritesWhole (IsCheckReportOfReaders (O.bytes files.old trace.now) (O.bytes files.old certificate.now)) (W.contents writer.old) (W.contents writer.new)) }
-    ensures fault { IfErr result (LeavesAtFault (IsCheckReportOfReaders (O.bytes files.old trace.now) (O.bytes files.old certificate.now)) (W.contents writer.old) (W.contents writer.new)) }
-    ensures no_thread { IfErr result (λ fault. fault ≢ NoThread) }
-    ensures first { OpensFirst (O.opened files.old) (O.opened files.new) (trace.now ∷ certificate.now ∷ []) }
-    ensures opened { OnOk result (OpensNext (O.opened files.old) (O.opened files.new) (trace.now ∷ certificate.now ∷ [])) }
-{
-    let mut trace = open(files, trace)?;
-    let mut certificate = open(files, certificate)?;
-    check_texts(alloc, &mut trace, &mut certificate, writer)
 }

@@ -49,26 +49,9 @@ pub(crate) fn cut_named<O: NamedFiles, R: Read, W: Write, E: Write>(
 {
     match request.file {
         None => cut_log(alloc, request.events, reader, writer, errors),
-        Some(name) => cut_file(alloc, name, request.events, files, writer, errors),
+        Some(name) => {
+            let mut file = open(files, name)?;
+            cut_log(alloc, request.events, &mut file, writer, errors)
+        }
     }
-}
-
-/// Cuts the log in a file.
-fn cut_file<O: NamedFiles, W: Write, E: Write>(
-    alloc: Global,
-    name: &str,
-    events: usize,
-    files: &mut O,
-    writer: &mut W,
-    errors: &mut E,
-) -> Result<CutVerdict, Fault>
-    ensures cut { result ≡ Ok CutVerdict.Cut → WritesCut (O.bytes files.old name.now) events (W.contents writer.old) (W.contents writer.new) (E.contents errors.old) (E.contents errors.new) }
-    ensures refused { result ≡ Ok CutVerdict.Refused → WritesRefusal (O.bytes files.old name.now) (W.contents writer.old) (W.contents writer.new) (E.contents errors.old) (E.contents errors.new) }
-    ensures left { OnErr result (LeavesCut (O.bytes files.old name.now) events (W.contents writer.old) (W.contents writer.new)) }
-    ensures untold { OnErr result (Keeps (E.contents errors.old) (E.contents errors.new)) }
-    ensures fault { IfErr result IsCutFault }
-    ensures opened { OpensNext (O.opened files.old) (O.opened files.new) (name.now ∷ []) }
-{
-    let mut file = open(files, name)?;
-    cut_log(alloc, events, &mut file, writer, errors)
 }

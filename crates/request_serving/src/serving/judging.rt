@@ -15,7 +15,7 @@ use std::io::{Read, Write};
 use std::sync::Wait;
 use std::thread::Threads;
 use trace_explanation::AsExplanation;
-use trace_judging::{Fault, Verdict, judge, present};
+use trace_judging::{Fault, Verdict, judge, judge_with};
 use trace_pictures::AsPicture;
 
 /// Judges the trace in a file, or else in what the reader has, and presents the verdict.
@@ -35,25 +35,11 @@ pub(crate) fn judge_named<H: Threads + Wait + Sync + AllocGlobal, O: NamedFiles,
 {
     match request.file {
         None => judge_reader(rt, request, reader, writer),
-        Some(name) => judge_file(rt, request, name, files, writer),
+        Some(name) => {
+            let mut file = open(files, name)?;
+            judge_reader(rt, request, &mut file, writer)
+        }
     }
-}
-
-/// Judges the trace in the file of this name.
-fn judge_file<H: Threads + Wait + Sync + AllocGlobal, O: NamedFiles, W: Write>(
-    rt: &H,
-    request: &JudgeRequest<'_>,
-    name: &str,
-    files: &mut O,
-    writer: &mut W,
-) -> Result<Verdict, Fault>
-    requires { HasWorkerRange request.now.workers }
-    ensures presented { IfOk result (WritesWhole (IsPresented request.now.presentation (O.bytes files.old name.now)) (W.contents writer.old) (W.contents writer.new)) }
-    ensures fault { IfErr result (LeavesAtFault (IsPresented request.now.presentation (O.bytes files.old name.now)) (W.contents writer.old) (W.contents writer.new)) }
-    ensures opened { OpensNext (O.opened files.old) (O.opened files.new) (name.now ∷ []) }
-{
-    let mut file = open(files, name)?;
-    judge_reader(rt, request, &mut file, writer)
 }
 
 /// Judges the trace that a reader has, and writes the verdict in the form that the request asks for.
@@ -72,8 +58,10 @@ fn judge_reader<H: Threads + Wait + Sync + AllocGlobal, R: Read, W: Write>(
     match request.presentation {
         Presentation::Report => judge(rt, alloc, reader, writer, request.workers),
         Presentation::Explanation => {
-            present(rt, alloc, reader, writer, request.workers, &AsExplanation)
+            judge_with(rt, alloc, reader, writer, request.workers, &AsExplanation)
         }
-        Presentation::Picture => { present(rt, alloc, reader, writer, request.workers, &AsPicture) }
+        Presentation::Picture => {
+            judge_with(rt, alloc, reader, writer, request.workers, &AsPicture)
+        }
     }
 }

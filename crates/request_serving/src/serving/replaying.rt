@@ -45,7 +45,9 @@ pub(crate) fn replay_named<H: Threads + Wait + AllocGlobal, O: NamedFiles, R: Re
 {
     match texts {
         TextPair::Files(program, schedule) => {
-            replay_files(rt, options, program, schedule, files, writer)
+            let mut program = open(files, program)?;
+            let mut schedule = open(files, schedule)?;
+            write_replay(rt, options, &mut program, &mut schedule, writer)
         }
         TextPair::InputAndFile(schedule) => {
             let mut schedule = open(files, schedule)?;
@@ -56,26 +58,6 @@ pub(crate) fn replay_named<H: Threads + Wait + AllocGlobal, O: NamedFiles, R: Re
             write_replay(rt, options, &mut program, reader, writer)
         }
     }
-}
-
-/// Replays the program in one file by the schedule in another. Both are opened before one is read.
-fn replay_files<H: Threads + Wait + AllocGlobal, O: NamedFiles, W: Write>(
-    rt: &H,
-    options: &RunOptions,
-    program: &str,
-    schedule: &str,
-    files: &mut O,
-    writer: &mut W,
-) -> Result<u8, Fault>
-    requires ranges { AreInRange options.now }
-    ensures text { IfOk result (WritesWhole (IsReplayText options.now (O.bytes files.old program.now) (O.bytes files.old schedule.now)) (W.contents writer.old) (W.contents writer.new)) }
-    ensures fault { IfErr result (LeavesAtFault (IsReplayText options.now (O.bytes files.old program.now) (O.bytes files.old schedule.now)) (W.contents writer.old) (W.contents writer.new)) }
-    ensures first { OpensFirst (O.opened files.old) (O.opened files.new) (program.now ∷ schedule.now ∷ []) }
-    ensures opened { OnOk result (OpensNext (O.opened files.old) (O.opened files.new) (program.now ∷ schedule.now ∷ [])) }
-{
-    let mut program = open(files, program)?;
-    let mut schedule = open(files, schedule)?;
-    write_replay(rt, options, &mut program, &mut schedule, writer)
 }
 
 /// Replays the program that one reader has by the schedule that another has, and writes what the options ask for.

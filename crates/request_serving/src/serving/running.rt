@@ -44,26 +44,11 @@ pub(crate) fn run_named<H: Threads + Wait + Sync + AllocGlobal, O: NamedFiles, R
 {
     match request.program {
         None => write_run(rt, request, reader, writer),
-        Some(name) => run_file(rt, request, name, files, writer),
+        Some(name) => {
+            let mut program = open(files, name)?;
+            write_run(rt, request, &mut program, writer)
+        }
     }
-}
-
-/// Runs the program in the file of this name.
-fn run_file<H: Threads + Wait + Sync + AllocGlobal, O: NamedFiles, W: Write>(
-    rt: &H,
-    request: &RunRequest<'_>,
-    name: &str,
-    files: &mut O,
-    writer: &mut W,
-) -> Result<u8, RunFailure>
-    requires ranges { AreInRange request.now.options }
-    requires turns { request.now.drain_turns ≤ drain_turns_limit }
-    ensures text { IfOk result (WritesWhole (IsRunText request.now.options (O.bytes files.old name.now)) (W.contents writer.old) (W.contents writer.new)) }
-    ensures fault { IfErr result (LeavesAtFailure (IsRunText request.now.options (O.bytes files.old name.now)) (W.contents writer.old) (W.contents writer.new)) }
-    ensures opened { OpensNext (O.opened files.old) (O.opened files.new) (name.now ∷ []) }
-{
-    let mut program = open(files, name)?;
-    write_run(rt, request, &mut program, writer)
 }
 
 /// Runs the program that a reader has.

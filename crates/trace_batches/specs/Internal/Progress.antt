@@ -8,10 +8,11 @@ use Rattle.trace_judging.specs.declared.faults.Fault.{Fault}
 use Rattle.trace_reports.specs.declared.renderings.Report.{Report}
 use Rattle.trace_judging.specs.Limits.{trace_read_limit}
 use Rattle.trace_reports.specs.Reports.{IsReport}
+use Rattle.trace_reports.specs.Verdicts.{is_refused, is_violation}
 use Rattle.trace_judging.specs.Streams.{AppendsPrefix}
 use Rattle.trace_batches.specs.declared.jobs.Job.{Job}
 use Rattle.trace_batches.specs.declared.tallies.Tally.{Tally}
-use Rattle.trace_batches.specs.Batches.{AreReports, IsBatchFault, ReportValue, is_refused, is_violation, trace_lines}
+use Rattle.trace_batches.specs.Batches.{AreReports, IsBatchFault, ReportValue, trace_lines}
 
 -- ---- jobs
 

@@ -5,7 +5,9 @@ use Rattle.std.specs.Fmt.{decimal}
 use Rattle.line_text.specs.Numbers.{number}
 use Rattle.line_text.specs.Results.{◌>>=◌}
 use Rattle.tso_cert.specs.declared.rules.BaseRule.{BaseRule}
+use Rattle.tso_cert.specs.declared.rules.BaseRule.TheVariants.{Init, LoadOp, StoreStore, Stbar, Membar, Read, Own}
 use Rattle.tso_cert.specs.declared.rules.InferredRule.{InferredRule}
+use Rattle.tso_cert.specs.declared.rules.InferredRule.TheVariants.{LoadPast, StorePast, SwapBefore, SwapAfter}
 use Rattle.tso_cert.specs.declared.steps.Reason.{Reason}
 use Rattle.tso_cert.specs.declared.steps.Reason.TheVariants.{Base, Inferred}
 use Rattle.tso_cert.specs.declared.steps.CertStep.{CertStep}
@@ -14,7 +16,6 @@ use Rattle.tso_cert.specs.declared.lines.Line.TheVariants.{Step, Cycle, Unwritte
 use Rattle.tso_cert.specs.declared.faults.Why.{Why}
 use Rattle.tso_cert.specs.declared.faults.Why.TheVariants.{BadLine, BadNumber, BadRule}
 use Rattle.tso_cert.specs.Printed.{base_name, inferred_name}
-use Rattle.tso_cert.specs.Spelling.{base_rules, inferred_rules}
 
 -- a number above 0
 abbrev pub above_zero : Option ℕ → Option ℕ
@@ -43,6 +44,13 @@ events (token ∷ tokens) = event token >>= λ n. events tokens >>= λ ns. Ok (n
 abbrev pub named : {R : Type 0} → (R → List ℕ) → List R → List ℕ → Result R Why
 named name_of [] name = Err BadRule
 named name_of (rule ∷ rules) name = if bytes_eq name (name_of rule) then Ok rule else named name_of rules name
+
+-- the rules in their order
+abbrev pub base_rules : List BaseRule
+base_rules = Init ∷ LoadOp ∷ StoreStore ∷ Stbar ∷ Membar ∷ Read ∷ Own ∷ []
+
+abbrev pub inferred_rules : List InferredRule
+inferred_rules = LoadPast ∷ StorePast ∷ SwapBefore ∷ SwapAfter ∷ []
 
 -- the base rule of this name
 unfoldable pub base_rule : List ℕ → Result BaseRule Why

@@ -1,8 +1,8 @@
 //! Events of traces, their sources, and rows of bits.
 
-use super::{LOAD, Row, counts_of, expect, expect_rows, expect_sources, trace_of};
-use std::process::Abort;
+use super::{LOAD, Row, counts_of, expect_rows, expect_sources, trace_of};
 use std::test::Fail;
+use traces_for_tests::expect_equal;
 use tso_ops::{Event, Outcome, Source, Trace};
 
 const EVENTFUL: [&[Outcome]; 3] = [
@@ -23,7 +23,7 @@ const EVENTS: [(usize, usize, bool, bool, u16, u64, usize); 4] = [
     (4, 2, true, false, 1, 1, 2),
 ];
 
-fn expect_events(rt: &impl Abort, trace: &Trace) {
+fn expect_events(trace: &Trace) -> Result<(), Fail> {
     for (n, proc, load, swap, a, value, bars) in EVENTS {
         let event = Event {
             proc,
@@ -34,8 +34,9 @@ fn expect_events(rt: &impl Abort, trace: &Trace) {
             bars,
             stbars: 0,
         };
-        expect(rt, "an event", event_of(trace, n), Some(event));
+        expect_equal("an event", event_of(trace, n), Some(event))?;
     }
+    Ok(())
 }
 
 fn event_of(trace: &Trace, n: usize) -> Option<Event> {
@@ -45,11 +46,10 @@ fn event_of(trace: &Trace, n: usize) -> Option<Event> {
 #[test]
 fn events_of_a_trace(rt: HostRuntime) -> Result<(), Fail> {
     let trace = trace_of(rt.alloc(), &EVENTFUL)?;
-    expect(&rt, "processors and events", counts_of(&trace), (3, 4));
-    expect_events(&rt, &trace);
-    expect(&rt, "event 0", event_of(&trace, 0), None);
-    expect(&rt, "event 5", event_of(&trace, 5), None);
-    Ok(())
+    expect_equal("processors and events", counts_of(&trace), (3, 4))?;
+    expect_events(&trace)?;
+    expect_equal("event 0", event_of(&trace, 0), None)?;
+    expect_equal("event 5", event_of(&trace, 5), None)
 }
 
 const READ: [&[Outcome]; 2] = [
@@ -92,9 +92,8 @@ const READERS: [(Row, &[u64]); 5] = [
 #[test]
 fn sources_of_loads(rt: HostRuntime) -> Result<(), Fail> {
     let trace = trace_of(rt.alloc(), &READ)?;
-    expect_sources(&rt, &trace, &SOURCES);
-    expect_rows(&rt, &trace, &READERS);
-    Ok(())
+    expect_sources(&trace, &SOURCES)?;
+    expect_rows(&trace, &READERS)
 }
 
 /// Of 66 loads on a processor, and a swap, a barrier and a store on another.
@@ -126,6 +125,5 @@ const AFTER_LOADS: [Outcome; 3] = [
 fn rows_of_bits(rt: HostRuntime) -> Result<(), Fail> {
     let loads = [LOAD; 66];
     let trace = trace_of(rt.alloc(), &[&loads, &AFTER_LOADS])?;
-    expect_rows(&rt, &trace, &ROWS);
-    Ok(())
+    expect_rows(&trace, &ROWS)
 }

@@ -1,13 +1,12 @@
 //! Operations that are refused, and the texts of the faults.
 
 use super::{
-    RANGE, REPEATED, STORE, ZERO, expect, expect_refusal, expect_text, program_fault,
-    refused_trace, trace_fault,
+    RANGE, REPEATED, STORE, ZERO, expect_refusal, expect_text, program_fault, refused_trace,
+    trace_fault,
 };
 use std::alloc::{AllocError, Global};
-use std::process::Abort;
 use std::test::Fail;
-use traces_for_tests::lists_of;
+use traces_for_tests::{expect_equal, lists_of};
 use tso_ops::{Op, Outcome, Program, Refused, ValueFault};
 
 const FAULTS_OF_PAIRS: [([Op; 2], Option<ValueFault>); 10] = [
@@ -37,10 +36,10 @@ fn faults_of_pair(alloc: Global, ops: &[Op; 2]) -> Result<[Option<ValueFault>; 2
     ])
 }
 
-fn expect_faults_of_pairs(rt: &impl Abort, alloc: Global) -> Result<(), AllocError> {
+fn expect_faults_of_pairs(alloc: Global) -> Result<(), Fail> {
     for (ops, fault) in &FAULTS_OF_PAIRS {
         let found = faults_of_pair(alloc, ops)?;
-        expect(rt, ops, found, [*fault; 2]);
+        expect_equal(ops, found, [*fault; 2])?;
     }
     Ok(())
 }
@@ -60,9 +59,9 @@ fn fault_of_list(alloc: Global, list: &[Outcome]) -> Result<Option<ValueFault>, 
     Ok(trace_fault(alloc, lists_of(alloc, &[list])?))
 }
 
-fn expect_faults_of_outcomes(rt: &impl Abort, alloc: Global) -> Result<(), AllocError> {
+fn expect_faults_of_outcomes(alloc: Global) -> Result<(), Fail> {
     for (name, list, fault) in &FAULTS_OF_OUTCOMES {
-        expect(rt, name, fault_of_list(alloc, list)?, *fault);
+        expect_equal(name, fault_of_list(alloc, list)?, *fault)?;
     }
     Ok(())
 }
@@ -71,9 +70,8 @@ fn expect_faults_of_outcomes(rt: &impl Abort, alloc: Global) -> Result<(), Alloc
 #[test]
 fn faults_of_operations(rt: HostRuntime) -> Result<(), Fail> {
     let alloc = rt.alloc();
-    expect_faults_of_pairs(&rt, alloc)?;
-    expect_faults_of_outcomes(&rt, alloc)?;
-    Ok(())
+    expect_faults_of_pairs(alloc)?;
+    expect_faults_of_outcomes(alloc)
 }
 
 fn refused_program(alloc: Global, lists: &[&[Op]]) -> Result<Refused<Op>, Fail> {
@@ -89,11 +87,10 @@ fn refused_lists_come_back(rt: HostRuntime) -> Result<(), Fail> {
     let alloc = rt.alloc();
     let lists: [&[Op]; 2] = [&[], &[Op::Mb, Op::Ld { a: 300 }]];
     let refused = refused_program(alloc, &lists)?;
-    expect_refusal(&rt, &refused, ValueFault::AddressRange, &lists);
+    expect_refusal(&refused, ValueFault::AddressRange, &lists)?;
     let lists: [&[Outcome]; 1] = [&[Outcome::St { a: 1, v: 2 }, Outcome::St { a: 1, v: 2 }]];
     let refused = refused_trace(alloc, &lists)?;
-    expect_refusal(&rt, &refused, ValueFault::RepeatedValue, &lists);
-    Ok(())
+    expect_refusal(&refused, ValueFault::RepeatedValue, &lists)
 }
 
 fn text_of_fault(alloc: Global, why: ValueFault) -> Result<String, Fail> {
@@ -123,8 +120,8 @@ const TEXTS: [(ValueFault, &str); 8] = [
 fn texts_of_faults(rt: HostRuntime) -> Result<(), Fail> {
     let alloc = rt.alloc();
     for (why, text) in TEXTS {
-        expect_text(&rt, &text_of_fault(alloc, why)?, text);
-        expect_text(&rt, &text_of_refusal(alloc, why)?, text);
+        expect_text(&text_of_fault(alloc, why)?, text)?;
+        expect_text(&text_of_refusal(alloc, why)?, text)?;
     }
     Ok(())
 }

@@ -1,10 +1,9 @@
 //! How many operations and processors programs and traces have.
 
-use super::{
-    LOAD, MANY, copies, expect, idle, lists_of_copies, program_fault, push_last, trace_fault,
-};
+use super::{LOAD, MANY, copies, idle, lists_of_copies, program_fault, push_last, trace_fault};
 use std::alloc::{AllocError, Global};
 use std::test::Fail;
+use traces_for_tests::expect_equal;
 use tso_ops::{Op, Outcome, ValueFault};
 
 const BARRIER: Outcome = Outcome::Mb;
@@ -49,7 +48,7 @@ const LIMITS_OF_TRACES: [(&str, Outcome, usize, Option<ValueFault>); 4] = [
 fn limits_of_traces(rt: HostRuntime) -> Result<(), Fail> {
     for (name, item, count, fault) in &LIMITS_OF_TRACES {
         let found = faults_of_copies(rt.alloc(), *item, *count)?;
-        expect(&rt, name, found, [*fault; 2]);
+        expect_equal(name, found, [*fault; 2])?;
     }
     Ok(())
 }
@@ -65,7 +64,7 @@ const LIMITS_OF_PROGRAMS: [(&str, Op, usize, Option<ValueFault>); 4] = [
 fn limits_of_programs(rt: HostRuntime) -> Result<(), Fail> {
     for (name, item, count, fault) in &LIMITS_OF_PROGRAMS {
         let found = fault_of_program(rt.alloc(), *item, *count)?;
-        expect(&rt, name, found, *fault);
+        expect_equal(name, found, *fault)?;
     }
     Ok(())
 }
@@ -80,7 +79,7 @@ const LIMITS_OF_SWAPS: [(&str, usize, Option<ValueFault>); 3] = [
 #[test]
 fn limits_of_swaps(rt: HostRuntime) -> Result<(), Fail> {
     for (name, loads, fault) in &LIMITS_OF_SWAPS {
-        expect(&rt, name, fault_of_a_swap(rt.alloc(), *loads)?, *fault);
+        expect_equal(name, fault_of_a_swap(rt.alloc(), *loads)?, *fault)?;
     }
     Ok(())
 }
@@ -100,14 +99,13 @@ fn faults_of_processors(
 #[test]
 fn limits_of_processors(rt: HostRuntime) -> Result<(), Fail> {
     let most = faults_of_processors(rt.alloc(), 16)?;
-    expect(&rt, "16 processors", most, [None; 2]);
+    expect_equal("16 processors", most, [None; 2])?;
     let more = faults_of_processors(rt.alloc(), 17)?;
-    expect(
-        &rt,
+    expect_equal(
         "17 processors",
         more,
         [Some(ValueFault::TooManyProcessors); 2],
-    );
+    )?;
     Ok(())
 }
 
@@ -117,6 +115,5 @@ fn events_are_counted_first(rt: HostRuntime) -> Result<(), Fail> {
     let alloc = rt.alloc();
     let mut lists = lists_of_copies(alloc, Op::Ld { a: 0 }, &[2_000])?;
     push_last(&mut lists, Op::St { a: 256, v: 0 })?;
-    expect(&rt, "one more", program_fault(alloc, lists), MANY);
-    Ok(())
+    expect_equal("one more", program_fault(alloc, lists), MANY)
 }

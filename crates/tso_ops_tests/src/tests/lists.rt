@@ -1,8 +1,8 @@
 //! The lists of operations that programs and traces are made of.
 
-use super::{copy_of, expect, program_of, trace_of};
-use std::process::Abort;
+use super::{copy_of, program_of, trace_of};
 use std::test::Fail;
+use traces_for_tests::expect_equal;
 use tso_ops::{Op, Order, Outcome, Program, Setting, Trace};
 
 const TWO_LISTS: [&[Op]; 2] = [
@@ -28,29 +28,30 @@ const READ_LAST: [&[Outcome]; 2] = [
 ];
 
 /// Compares the operations of each processor, and how many there are.
-fn expect_program(rt: &impl Abort, program: &Program, lists: &[&[Op]]) {
-    assert!(rt; program.processors() == lists.len());
+fn expect_program(program: &Program, lists: &[&[Op]]) -> Result<(), Fail> {
+    expect_equal("processors", program.processors(), lists.len())?;
     for (p, ops) in lists.iter().enumerate() {
-        expect(rt, p, program.ops(p), *ops);
+        expect_equal(p, program.ops(p), *ops)?;
     }
+    Ok(())
 }
 
 /// Compares the operations of each processor, and how many there are.
-fn expect_trace(rt: &impl Abort, trace: &Trace, lists: &[&[Outcome]]) {
-    assert!(rt; trace.processors() == lists.len());
+fn expect_trace(trace: &Trace, lists: &[&[Outcome]]) -> Result<(), Fail> {
+    expect_equal("processors", trace.processors(), lists.len())?;
     for (p, ops) in lists.iter().enumerate() {
-        expect(rt, p, trace.ops(p), *ops);
+        expect_equal(p, trace.ops(p), *ops)?;
     }
+    Ok(())
 }
 
 #[test]
 fn operations_come_back(rt: HostRuntime) -> Result<(), Fail> {
     let alloc = rt.alloc();
     let program = program_of(alloc, &TWO_LISTS)?;
-    expect_program(&rt, &copy_of(&program)?, &TWO_LISTS);
-    expect_program(&rt, &program, &TWO_LISTS);
-    expect_trace(&rt, &trace_of(alloc, &READ_LAST)?, &READ_LAST);
-    Ok(())
+    expect_program(&copy_of(&program)?, &TWO_LISTS)?;
+    expect_program(&program, &TWO_LISTS)?;
+    expect_trace(&trace_of(alloc, &READ_LAST)?, &READ_LAST)
 }
 
 #[test]

@@ -2,13 +2,13 @@
 ghost use Rattle.std.specs.Prelude.{ℕ, ◌%◌, ◌/◌};
 ghost use Rattle.rand_core.specs.Steps.{steps_u64_low, stream_of};
 
-use super::{expect, program_of};
+use super::program_of;
 use rand_core::utils::NextWord;
 use rand_core::{Rng, utils};
 use std::alloc::Global;
 use std::marker::Model;
 use std::test::Fail;
-use traces_for_tests::lists_of;
+use traces_for_tests::{expect_equal, lists_of};
 use tso_ops::{Op, Order, Program, Shape, make_program, make_program_with_order};
 
 /// A generator whose words are the bytes of a number, the low one first, and 0 after them.
@@ -67,16 +67,16 @@ const SHAPES: [(u64, u64, u64, bool); 15] = [
 ];
 
 #[test]
-fn shapes_keep_their_limits(rt: HostRuntime) {
+fn shapes_keep_their_limits(_rt: HostRuntime) -> Result<(), Fail> {
     for (processors, operations, addresses, is_within) in SHAPES {
         let shape = Shape::new(processors, operations, addresses);
-        expect(
-            &rt,
+        expect_equal(
             (processors, operations, addresses),
             shape.is_some(),
             is_within,
-        );
+        )?;
     }
+    Ok(())
 }
 
 /// Processors, operations and addresses, and whether they are 2, 3 and 4.
@@ -88,13 +88,14 @@ const COMPARED: [(u64, u64, u64, bool); 4] = [
 ];
 
 #[test]
-fn shapes_are_compared(rt: HostRuntime) -> Result<(), Fail> {
+fn shapes_are_compared(_rt: HostRuntime) -> Result<(), Fail> {
     let shape = Shape::new(2, 3, 4).ok_or("a shape")?;
-    assert!(rt; (shape.processors(), shape.operations(), shape.addresses()) == (2, 3, 4));
+    let numbers = (shape.processors(), shape.operations(), shape.addresses());
+    expect_equal("numbers", numbers, (2, 3, 4))?;
     for (processors, operations, addresses, is_same) in COMPARED {
         let other = Shape::new(processors, operations, addresses).ok_or("a shape")?;
-        assert!(rt; shape.is_same(&other) == is_same);
-        assert!(rt; (shape == other) == is_same);
+        expect_equal("is_same", shape.is_same(&other), is_same)?;
+        expect_equal("==", shape == other, is_same)?;
     }
     Ok(())
 }
@@ -145,9 +146,8 @@ fn program_of_four_words(rt: HostRuntime) -> Result<(), Fail> {
     let mut words = ByteWords(WORDS);
     let made = made_program(rt.alloc(), &mut words)?;
     let wanted = program_of(rt.alloc(), &MADE)?;
-    expect(&rt, "the program", is_same(&made, &wanted), true);
-    expect(&rt, "the next word", next_word(&mut words), 9);
-    Ok(())
+    expect_equal("the program", is_same(&made, &wanted), true)?;
+    expect_equal("the next word", next_word(&mut words), 9)
 }
 
 /// The program by hand under a memory model.
@@ -162,8 +162,8 @@ fn programs_of_barriers(rt: HostRuntime) -> Result<(), Fail> {
         let mut words = ByteWords(WORDS_OF_BARRIERS);
         let made = ordered_program(rt.alloc(), order, &mut words)?;
         let wanted = wanted_program(rt.alloc(), order, lists)?;
-        expect(&rt, order, is_same(&made, &wanted), true);
-        expect(&rt, order, next_word(&mut words), 9);
+        expect_equal(order, is_same(&made, &wanted), true)?;
+        expect_equal(order, next_word(&mut words), 9)?;
     }
     Ok(())
 }

@@ -1,8 +1,7 @@
 //! What events are, and how two of them stand to each other.
 
-use super::expect;
 use std::test::Fail;
-use traces_for_tests::trace_of;
+use traces_for_tests::{expect_equal, trace_of};
 use tso_ops::Outcome::{Ld, Mb, Sb, St, Sw};
 use tso_ops::{Order, Outcome, Trace};
 
@@ -45,9 +44,9 @@ fn kind_of(trace: &Trace, n: usize) -> (bool, bool, bool, bool) {
 #[test]
 fn kinds_of_events(rt: HostRuntime) -> Result<(), Fail> {
     let trace = trace_of(rt.alloc(), Order::Tso, &DONE)?;
-    expect(&rt, "numbers", trace.node_count(), 7);
+    expect_equal("numbers", trace.node_count(), 7)?;
     for (n, kind) in KINDS.iter().enumerate() {
-        expect(&rt, n, kind_of(&trace, n), *kind);
+        expect_equal(n, kind_of(&trace, n), *kind)?;
     }
     Ok(())
 }
@@ -67,9 +66,9 @@ const SOURCES: [(Option<usize>, Option<usize>); 7] = [
 fn sources_and_swaps(rt: HostRuntime) -> Result<(), Fail> {
     let trace = trace_of(rt.alloc(), Order::Tso, &DONE)?;
     for (n, (source, store)) in SOURCES.iter().enumerate() {
-        expect(&rt, n, trace.source_number(n), *source);
-        expect(&rt, n, trace.swap_store(n), *store);
-        expect(&rt, n, trace.has_source(n, 1), *source == Some(1));
+        expect_equal(n, trace.source_number(n), *source)?;
+        expect_equal(n, trace.swap_store(n), *store)?;
+        expect_equal(n, trace.has_source(n, 1), *source == Some(1))?;
     }
     Ok(())
 }
@@ -96,8 +95,8 @@ fn pair_of(trace: &Trace, u: usize, v: usize) -> (bool, bool, bool) {
 fn pairs_of_events(rt: HostRuntime) -> Result<(), Fail> {
     let trace = trace_of(rt.alloc(), Order::Tso, &DONE)?;
     for ((u, v), pair) in PAIRS {
-        expect(&rt, (u, v), pair_of(&trace, u, v), pair);
-        expect(&rt, (u, v), trace.keeps_stores(u, v), true);
+        expect_equal((u, v), pair_of(&trace, u, v), pair)?;
+        expect_equal((u, v), trace.keeps_stores(u, v), true)?;
     }
     Ok(())
 }
@@ -106,8 +105,8 @@ fn pairs_of_events(rt: HostRuntime) -> Result<(), Fail> {
 fn stores_under_partial_store_order(rt: HostRuntime) -> Result<(), Fail> {
     let trace = trace_of(rt.alloc(), Order::Pso, &STORED)?;
     for (u, v, stbar, kept) in [(1, 2, true, false), (2, 3, false, true)] {
-        expect(&rt, (u, v), trace.has_stbar_between(u, v), stbar);
-        expect(&rt, (u, v), trace.keeps_stores(u, v), kept);
+        expect_equal((u, v), trace.has_stbar_between(u, v), stbar)?;
+        expect_equal((u, v), trace.keeps_stores(u, v), kept)?;
     }
     Ok(())
 }

@@ -1,14 +1,13 @@
 //! Memory models, versions and first values.
 use super::{
-    LOAD, MANY, RANGE, REPEATED, Row, ZERO, copies, counts_of, expect, expect_lists,
-    expect_refusal, expect_rows, expect_sources, expect_text, idle, lists_of_copies, push_last,
-    refused_trace, trace_of,
+    LOAD, MANY, RANGE, REPEATED, Row, ZERO, copies, counts_of, expect_lists, expect_refusal,
+    expect_rows, expect_sources, expect_text, idle, lists_of_copies, push_last, refused_trace,
+    trace_of,
 };
 use std::alloc::{AllocError, Global};
 use std::fmt::Debug;
-use std::process::Abort;
 use std::test::Fail;
-use traces_for_tests::lists_of;
+use traces_for_tests::{expect_equal, lists_of};
 use tso_ops::{
     Op, Order, Outcome, Program, Refused, RefusedFirst, Source, Trace, ValueFault, Version,
 };
@@ -110,21 +109,21 @@ fn settings_of_program(alloc: Global) -> Result<(Order, Version, usize), Fail> {
 #[test]
 fn settings_are_told(rt: HostRuntime) -> Result<(), Fail> {
     let new = settings_of_new(rt.alloc())?;
-    expect(&rt, "new", new, (Order::Tso, Version::One, 0));
+    expect_equal("new", new, (Order::Tso, Version::One, 0))?;
     let ordered = settings_of_order(rt.alloc(), Order::Pso)?;
-    expect(&rt, "under PSO", ordered, (Order::Pso, Version::One, 0));
+    expect_equal("under PSO", ordered, (Order::Pso, Version::One, 0))?;
     let program = settings_of_program(rt.alloc())?;
-    expect(&rt, "a program", program, (Order::Pso, Version::One, 1));
-    Ok(())
+    expect_equal("a program", program, (Order::Pso, Version::One, 1))
 }
 
 /// Addresses and their first values.
 const FIRST_VALUES: [(u16, u64); 6] = [(0, 0), (1, 7), (2, 0), (3, 7), (255, u64::MAX), (256, 0)];
 
-fn expect_first_values(rt: &impl Abort, program: &Program) {
+fn expect_first_values(program: &Program) -> Result<(), Fail> {
     for (a, value) in FIRST_VALUES {
-        expect(rt, a, program.first(a), value);
+        expect_equal(a, program.first(a), value)?;
     }
+    Ok(())
 }
 
 #[test]
@@ -132,13 +131,12 @@ fn first_values_are_told(rt: HostRuntime) -> Result<(), Fail> {
     let program = first_program(rt.alloc(), &[(1, 7), (3, 7), (255, u64::MAX)])?;
     let copy = super::copy_of(&program)?;
     for p in [program, copy] {
-        expect(
-            &rt,
+        expect_equal(
             "settings",
             program_settings(&p),
             (Order::Tso, Version::Two, 2),
-        );
-        expect_first_values(&rt, &p);
+        )?;
+        expect_first_values(&p)?;
     }
     Ok(())
 }
@@ -146,12 +144,11 @@ fn first_values_are_told(rt: HostRuntime) -> Result<(), Fail> {
 #[test]
 fn first_values_of_a_trace_are_told(rt: HostRuntime) -> Result<(), Fail> {
     let trace = first_trace(rt.alloc(), Order::Pso, &[(1, 7)], &[&[]])?;
-    expect(
-        &rt,
+    expect_equal(
         "settings",
         trace_settings(&trace),
         (Order::Pso, Version::Two, 7),
-    );
+    )?;
     Ok(())
 }
 
@@ -185,12 +182,11 @@ const BARRIERS: [(usize, (usize, usize)); 4] = [(1, (0, 0)), (2, (1, 2)), (3, (1
 #[test]
 fn stbars_of_a_trace(rt: HostRuntime) -> Result<(), Fail> {
     let trace = ordered_trace(rt.alloc(), Order::Pso, &BARRED)?;
-    expect(&rt, "processors and events", counts_of(&trace), (2, 4));
+    expect_equal("processors and events", counts_of(&trace), (2, 4))?;
     for (n, barriers) in BARRIERS {
-        expect(&rt, n, barriers_before(&trace, n), Some(barriers));
+        expect_equal(n, barriers_before(&trace, n), Some(barriers))?;
     }
-    expect_rows(&rt, &trace, &STBAR_ROWS);
-    Ok(())
+    expect_rows(&trace, &STBAR_ROWS)
 }
 
 fn refused_program(alloc: Global, order: Order, lists: Vec<Vec<Op>>) -> Result<Refused<Op>, Fail> {
@@ -205,18 +201,17 @@ fn refused_program(alloc: Global, order: Order, lists: Vec<Vec<Op>>) -> Result<R
 fn an_stbar_under_tso_is_refused(rt: HostRuntime) -> Result<(), Fail> {
     let alloc = rt.alloc();
     let refused = refused_trace(alloc, &[&[STBAR]])?;
-    expect_refusal(&rt, &refused, STBAR_IN_TSO, &[&[STBAR]]);
+    expect_refusal(&refused, STBAR_IN_TSO, &[&[STBAR]])?;
     let lists: [&[Op]; 1] = [&[Op::Ld { a: 1 }, Op::Sb]];
     let refused = refused_program(alloc, Order::Tso, lists_of(alloc, &lists)?)?;
-    expect_refusal(&rt, &refused, STBAR_IN_TSO, &lists);
+    expect_refusal(&refused, STBAR_IN_TSO, &lists)?;
     let mut lists = lists_of_copies(alloc, Op::Mb, &[2_000])?;
     push_last(&mut lists, Op::Sb)?;
-    expect(
-        &rt,
+    expect_equal(
         "an STBAR too many",
         super::program_fault(alloc, lists),
         MANY,
-    );
+    )?;
     Ok(())
 }
 
@@ -245,9 +240,8 @@ const SOURCES: [(usize, Option<Source>); 7] = [
 #[test]
 fn sources_by_first_values(rt: HostRuntime) -> Result<(), Fail> {
     let trace = first_trace(rt.alloc(), Order::Tso, &[(1, 7), (3, 7)], &LOADED)?;
-    expect_sources(&rt, &trace, &SOURCES);
-    expect_rows(&rt, &trace, &[(Row::Readers(0), &[0b101010])]);
-    Ok(())
+    expect_sources(&trace, &SOURCES)?;
+    expect_rows(&trace, &[(Row::Readers(0), &[0b101010])])
 }
 
 /// What is wrong with the entries alone, with a store of 0, and with too many processors.
@@ -280,7 +274,7 @@ fn faults_of_first_values(rt: HostRuntime) -> Result<(), Fail> {
     for (first, fault) in &FAULTS_OF_ENTRIES {
         let found = faults_of_entries(alloc, first)?;
         let wanted = [*fault, fault.or(ZERO), Some(ValueFault::TooManyProcessors)];
-        expect(&rt, first, found, wanted);
+        expect_equal(first, found, wanted)?;
     }
     Ok(())
 }
@@ -291,8 +285,7 @@ fn entries_are_tried_first(rt: HostRuntime) -> Result<(), Fail> {
     let alloc = rt.alloc();
     let wrong = lists_of(alloc, &[&[Op::Ld { a: 256 }]])?;
     let found = program_fault(alloc, &[(2, 5), (1, 5)], wrong)?;
-    expect(&rt, "an address out of range", found, ORDER);
-    Ok(())
+    expect_equal("an address out of range", found, ORDER)
 }
 
 /// Operations of a program from the first values 7 and 5, and what is wrong.
@@ -310,7 +303,7 @@ fn first_values_stored_again(rt: HostRuntime) -> Result<(), Fail> {
     for (op, fault) in STORED_AGAIN {
         let lists = lists_of(alloc, &[&[op]])?;
         let found = program_fault(alloc, &[(1, 7), (2, 5)], lists)?;
-        expect(&rt, op, found, fault);
+        expect_equal(op, found, fault)?;
     }
     Ok(())
 }
@@ -344,15 +337,14 @@ fn refused_first_program(
 }
 
 fn expect_first_refusal<T: Copy + Debug + PartialEq>(
-    rt: &impl Abort,
     refused: &RefusedFirst<T>,
     why: ValueFault,
     first: &[(u16, u64)],
     lists: &[&[T]],
-) {
-    expect(rt, "why", refused.why, why);
-    expect(rt, "first values", refused.first.as_slice(), first);
-    expect_lists(rt, &refused.lists, lists);
+) -> Result<(), Fail> {
+    expect_equal("why", refused.why, why)?;
+    expect_equal("first values", refused.first.as_slice(), first)?;
+    expect_lists(&refused.lists, lists)
 }
 
 fn text_of_refusal(alloc: Global, refused: &RefusedFirst<Op>) -> Result<String, Fail> {
@@ -364,24 +356,11 @@ fn refused_first_values_come_back(rt: HostRuntime) -> Result<(), Fail> {
     let alloc = rt.alloc();
     let first = [(2, 5), (1, 5)];
     let refused = refused_first_trace(alloc, &first, &[&[Outcome::Mb]])?;
-    expect_first_refusal(
-        &rt,
-        &refused,
-        ValueFault::InitOrder,
-        &first,
-        &[&[Outcome::Mb]],
-    );
+    expect_first_refusal(&refused, ValueFault::InitOrder, &first, &[&[Outcome::Mb]])?;
     let store = Op::St { a: 2, v: 5 };
     let refused = refused_first_program(alloc, &[(2, 5)], &[&[store]])?;
-    expect_first_refusal(
-        &rt,
-        &refused,
-        ValueFault::RepeatedValue,
-        &[(2, 5)],
-        &[&[store]],
-    );
-    expect_text(&rt, &text_of_refusal(alloc, &refused)?, "RepeatedValue");
-    Ok(())
+    expect_first_refusal(&refused, ValueFault::RepeatedValue, &[(2, 5)], &[&[store]])?;
+    expect_text(&text_of_refusal(alloc, &refused)?, "RepeatedValue")
 }
 
 const LIMITS_OF_LISTS: [(&str, Outcome, usize, Option<ValueFault>); 7] = [
@@ -408,7 +387,7 @@ fn fault_of_copies(
 fn limits_of_one_list(rt: HostRuntime) -> Result<(), Fail> {
     for (name, item, count, fault) in &LIMITS_OF_LISTS {
         let found = fault_of_copies(rt.alloc(), *item, *count)?;
-        expect(&rt, name, found, *fault);
+        expect_equal(name, found, *fault)?;
     }
     Ok(())
 }
@@ -435,11 +414,10 @@ fn program_of_loads(alloc: Global, count: usize) -> Result<Program, Fail> {
 #[test]
 fn values_at_the_limits(rt: HostRuntime) -> Result<(), Fail> {
     let alloc = rt.alloc();
-    expect(&rt, "STBARs", are_accepted(alloc, 2_000)?, [true; 2]);
+    expect_equal("STBARs", are_accepted(alloc, 2_000)?, [true; 2])?;
     let program = program_of_loads(alloc, 8_000)?;
     let same = are_same(&program, &super::copy_of(&program)?);
-    expect(&rt, "a copy", same, (true, true));
-    Ok(())
+    expect_equal("a copy", same, (true, true))
 }
 
 /// A list of so many STBARs, and another of one more barriers of the other kind.
@@ -462,10 +440,9 @@ fn ordered_fault(alloc: Global, lists: Vec<Vec<Outcome>>) -> Option<ValueFault> 
 fn limits_of_both_barriers(rt: HostRuntime) -> Result<(), Fail> {
     let alloc = rt.alloc();
     let found = trace_fault(alloc, &[], both_barriers(alloc, 4_000)?)?;
-    expect(&rt, "8,001 barriers", found, MANY);
+    expect_equal("8,001 barriers", found, MANY)?;
     let found = ordered_fault(alloc, both_barriers(alloc, 1_000)?);
-    expect(&rt, "2,001 barriers in version 1", found, MANY);
-    Ok(())
+    expect_equal("2,001 barriers in version 1", found, MANY)
 }
 
 /// A program as a table writes it: its memory model, its first values and its lists.
@@ -531,7 +508,7 @@ fn compared_with(alloc: Global, written: Written) -> Result<(bool, bool), Fail> 
 fn programs_are_compared(rt: HostRuntime) -> Result<(), Fail> {
     for (written, same) in SAME {
         let found = compared_with(rt.alloc(), written)?;
-        expect(&rt, "same", found, (same, same));
+        expect_equal("same", found, (same, same))?;
     }
     Ok(())
 }
@@ -552,8 +529,7 @@ fn compared_over_versions(alloc: Global) -> Result<(bool, bool), Fail> {
 #[test]
 fn copies_and_programs_of_version_1_are_compared(rt: HostRuntime) -> Result<(), Fail> {
     let copy = compared_with_its_copy(rt.alloc())?;
-    expect(&rt, "a copy", copy, (true, true));
+    expect_equal("a copy", copy, (true, true))?;
     let versions = compared_over_versions(rt.alloc())?;
-    expect(&rt, "another version", versions, (false, false));
-    Ok(())
+    expect_equal("another version", versions, (false, false))
 }

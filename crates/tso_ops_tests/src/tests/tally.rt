@@ -1,7 +1,8 @@
 //! A tally that goes on after a refusal.
 
-use super::{STORE, expect};
+use super::STORE;
 use std::test::Fail;
+use traces_for_tests::expect_equal;
 use tso_ops::{Op, Tally, ValueFault};
 
 /// Operations, and what the tally answers to each in turn.
@@ -17,7 +18,7 @@ const ADMITTED: [(Op, Result<(), ValueFault>); 5] = [
 fn a_tally_admits_after_a_refusal(rt: HostRuntime) -> Result<(), Fail> {
     let mut tally = Tally::new(rt.alloc());
     for (op, answer) in ADMITTED {
-        expect(&rt, op, tally.admit(op), answer);
+        expect_equal(op, tally.admit(op), answer)?;
     }
     Ok(())
 }

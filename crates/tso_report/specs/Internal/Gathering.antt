@@ -1,20 +1,12 @@
 -- What is known of a campaign's seeds while their results come in.
-use Rattle.std.specs.Prelude.{◌≡◌, ℕ, ◌+◌, ◌<◌, ◌≤◌, ◌^◌, Bool, true, false, List, length, get_or, Option, None, Some}
+use Rattle.std.specs.Prelude.{◌≡◌, ℕ, ◌+◌, ◌<◌, ◌≤◌, ◌^◌, Bool, List, length, get_or, Option, None, Some}
 use Rattle.tso_report.specs.declared.campaigns.CampaignPrograms.{CampaignPrograms}
-use Rattle.trace_reports.specs.declared.verdicts.Verdict.{Verdict}
-use Rattle.trace_reports.specs.declared.verdicts.Verdict.TheVariants.{NoViolation, Violation, Refused}
 use Rattle.issue_desk.specs.declared.faults.RunFault.{RunFault}
 use Rattle.issue_desk.specs.declared.faults.RunFault.TheVariants as run
 use Rattle.trace_judging.specs.declared.faults.Fault.{Fault}
 use Rattle.trace_judging.specs.declared.faults.Fault.TheVariants.{OutOfMemory, NoThread, Missing}
 use Rattle.unit_core.specs.Units.{UnitValue}
 use Rattle.tso_report.specs.Campaigns.{IsVerdictOfSeed, no_unit}
-
--- whether a verdict says a violation
-abbrev pub is_violation : Verdict → Bool
-is_violation NoViolation = false
-is_violation Violation = true
-is_violation Refused = false
 
 -- the fault of a seed whose run gave no record
 abbrev pub fault_of_seed : ℕ → RunFault → Fault

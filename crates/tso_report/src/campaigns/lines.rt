@@ -1,10 +1,11 @@
 //! The text of a campaign.
 ghost use Rattle.std.specs.Prelude.{◌≡◌, ◌+◌, ◌≤◌, ◌^◌, IfOk, length, string_bytes};
 ghost use Rattle.std.specs.List.{count_by};
-ghost use Rattle.tso_report.specs.Campaigns.{campaign_text, seed_lines, verdict_line};
+ghost use Rattle.tso_report.specs.Campaigns.{campaign_text, seed_lines};
 
 use std::alloc::Global;
 use std::fmt::Write;
+use trace_reports::verdict_line;
 use tso_ops::OutOfMemory;
 
 /// The text of a campaign: the lines of the seeds from `first` on, of which it is told whether they are violations, and
@@ -43,15 +44,4 @@ fn violation_count(violations: &[bool]) -> usize
     ensures { result ≡ count_by (λ violation. violation) violations.now }
 {
     violations.iter().filter(|violation| **violation).count()
-}
-
-/// The end of a seed's line.
-fn verdict_line(violation: bool) -> &'static str
-    ensures { result.now ≡ verdict_line violation }
-{
-    if violation {
-        "VIOLATION\n"
-    } else {
-        "NO VIOLATION FOUND\n"
-    }
 }

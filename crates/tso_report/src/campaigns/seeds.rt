@@ -2,7 +2,7 @@
 ghost use Rattle.std.specs.Prelude.{◌≡◌, [], Decides, IfOk};
 ghost use Rattle.unit_core.specs.Units.{UnitValue};
 ghost use Rattle.tso_report.specs.Campaigns.{IsVerdictOfSeed, program_of_seed, program_of_seed_with_order};
-ghost use Rattle.tso_report.specs.Internal.Gathering.{fault_of_seed, is_violation};
+ghost use Rattle.tso_report.specs.Internal.Gathering.{fault_of_seed};
 
 use super::CampaignPrograms;
 use issue_desk::{Issuers, OpenGate, RunFault, run_over};
@@ -12,8 +12,8 @@ use std::alloc::Global;
 use std::marker::{Brand, Model, PhantomData};
 use std::sync::Wait;
 use std::thread::Threads;
-use trace_judging::{Fault, render_trace};
-use trace_reports::{AsReport, Verdict};
+use trace_judging::{Fault, judge_trace};
+use trace_reports::AsReport;
 use tso_ops::{Order, OutOfMemory, Program, Shape, Trace, make_program_with_order};
 use unit_core::{Account, MemoryUnit};
 
@@ -159,24 +159,13 @@ fn judge_seed<S: SeedUnits, U: MemoryUnit + Send, R: Threads + Wait + Sync>(
         Ok(recorded) => recorded,
         Err(fault) => return Err(fault_of_seed(seed, fault)),
     };
-    let verdict = render_trace(rt, alloc, recorded.trace(), 1, &AsReport)?.verdict;
+    let verdict = judge_trace(rt, alloc, recorded.trace(), 1, &AsReport)?.verdict;
     Ok(Judged {
         seed,
         programs,
-        violation: is_violation(verdict),
+        violation: verdict.is_violation(),
         of: PhantomData,
     })
-}
-
-/// Whether the verdict on a trace says a violation.
-fn is_violation(verdict: Verdict) -> bool
-    ensures { result ≡ is_violation verdict }
-{
-    match verdict {
-        Verdict::Violation => true,
-        Verdict::NoViolation => false,
-        Verdict::Refused => false,
-    }
 }
 
 /// The fault of a seed whose run gave no record.

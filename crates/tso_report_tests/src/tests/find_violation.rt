@@ -5,7 +5,7 @@ use std::alloc::{AllocError, Global};
 use std::sync::Wait;
 use std::test::Fail;
 use std::thread::Threads;
-use traces_for_tests::{Machine, expect_equal, trace_from, trace_of};
+use traces_for_tests::{DrawingMachine, expect_equal, trace_from, trace_of};
 use tso_cert::Certificate;
 use tso_ops::Outcome::{Ld, Sb, St};
 use tso_ops::{Order, Outcome, Trace, ValueFault};
@@ -178,7 +178,7 @@ fn expect_drawn<H: Threads + Wait>(
 
 /// What four processors did at 16 addresses, up to this many events.
 fn drawn(alloc: Global, order: Order, events: usize) -> Result<Vec<Vec<Outcome>>, AllocError> {
-    Machine::new(alloc, order, 4, 16)?.run(alloc, events)
+    DrawingMachine::new(alloc, order, 4, 16)?.run(alloc, events)
 }
 
 /// A run of four processors and 16 addresses, and one event more.

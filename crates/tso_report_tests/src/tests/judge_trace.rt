@@ -10,7 +10,7 @@ use std::thread::Threads;
 use traces_for_tests::{STORE_BUFFERING_WITH_BARRIERS, trace_of};
 use tso_ops::Outcome::{Ld, St};
 use tso_ops::{Order, Outcome, Trace};
-use tso_report::{AsReport, Fault, Report, Verdict, render_refusal, render_trace};
+use tso_report::{AsReport, Fault, Report, Verdict, judge_trace, render_refusal};
 use tso_text::{TextFault, read_program, read_schedule};
 
 /// The report of a trace.
@@ -23,7 +23,7 @@ fn judged<H: Threads + Wait>(
     requires some { 1 ≤ workers }
     requires most { workers ≤ worker_limit }
 {
-    render_trace(rt, alloc, trace, workers, &AsReport)
+    judge_trace(rt, alloc, trace, workers, &AsReport)
 }
 
 /// Compares the report of a trace on several numbers of workers.

@@ -5,9 +5,9 @@ use std::alloc::{AllocGlobal, Global};
 use std::sync::Wait;
 use std::test::Fail;
 use std::thread::Threads;
-use traces_for_tests::Machine;
+use traces_for_tests::DrawingMachine;
 use tso_ops::{Order, Trace};
-use tso_report::{AsReport, render_trace};
+use tso_report::{AsReport, judge_trace};
 
 /// The report of the trace, by so many workers, from 1 to 64.
 fn report_by<H: Threads + Wait>(
@@ -16,7 +16,7 @@ fn report_by<H: Threads + Wait>(
     trace: &Trace,
     workers: usize,
 ) -> Result<String, Fail> {
-    let report = render_trace(rt, alloc, trace, workers.clamp(1, 64), &AsReport)?;
+    let report = judge_trace(rt, alloc, trace, workers.clamp(1, 64), &AsReport)?;
     Ok(report.text)
 }
 
@@ -28,7 +28,7 @@ fn compare_run<H: Threads + Wait + AllocGlobal>(
     events: usize,
 ) -> Result<(), Fail> {
     let alloc = rt.alloc();
-    let lists = Machine::new(alloc, Order::Tso, processors, addresses)?.run(alloc, events)?;
+    let lists = DrawingMachine::new(alloc, Order::Tso, processors, addresses)?.run(alloc, events)?;
     let trace = Trace::new(alloc, lists)?;
     let one = report_by(rt, alloc, &trace, 1)?;
     for workers in [2, 3] {

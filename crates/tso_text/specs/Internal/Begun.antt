@@ -10,8 +10,7 @@ use Rattle.tso_ops.specs.Settings.{SettingValue, with_entry}
 use Rattle.tso_ops.specs.Limits.{KeepsEntries}
 use Rattle.tso_text.specs.declared.faults.Why.{Why}
 use Rattle.tso_text.specs.Lines.{begins_with, model_lines, has_keyword, whole_lines}
-use Rattle.tso_text.specs.Internal.LineReadings.{entry_by}
-use Rattle.tso_text.specs.Refusals.{entry_fault_after}
+use Rattle.tso_text.specs.Internal.LineReadings.{entry_by, entry_fault_after}
 use Rattle.tso_text.specs.Internal.Preambles.{version_of, model_fault, order_of_lines, entries_after, entry_faults, entry_said, said_entry_fault}
 use Rattle.tso_text.specs.Internal.Spelling.{Preamble, Grammar, lists_read}
 use Rattle.tso_text.specs.Internal.Accepted.{IsRefusedFor}

@@ -7,11 +7,10 @@ use Rattle.tso_ops.specs.Settings.{SettingValue}
 use Rattle.tso_ops.specs.Values.{op_of}
 use Rattle.tso_ops.specs.declared.acts.Act.{Act}
 use Rattle.tso_text.specs.declared.faults.Why.{Why}
-use Rattle.tso_text.specs.Internal.LineReadings.{act_fault_after, trace_line, program_line, schedule_line}
+use Rattle.tso_text.specs.Internal.LineReadings.{act_fault_after, trace_line, program_line, schedule_line, op_fault_after}
 use Rattle.tso_text.specs.Internal.Preambles.{header_alone, setting_preamble}
 use Rattle.tso_text.specs.Printed.{trace_header, program_header, schedule_header}
 use Rattle.tso_text.specs.Internal.Spelling.{Grammar, Format}
-use Rattle.tso_text.specs.Refusals.{op_fault_after}
 
 -- ---- traces
 

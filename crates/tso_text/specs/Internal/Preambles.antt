@@ -11,9 +11,8 @@ use Rattle.tso_ops.specs.Settings.{version_one_tso}
 use Rattle.tso_text.specs.declared.faults.Why.{Why}
 use Rattle.tso_text.specs.declared.faults.Why.TheVariants.{BadHeader}
 use Rattle.tso_text.specs.Lines.{begins_with, has_keyword, model_lines}
-use Rattle.tso_text.specs.Internal.LineReadings.{fault_of, model_said, entry_by}
+use Rattle.tso_text.specs.Internal.LineReadings.{fault_of, model_said, entry_by, entry_fault_after}
 use Rattle.tso_text.specs.Internal.Spelling.{Preamble}
-use Rattle.tso_text.specs.Refusals.{entry_fault_after}
 
 -- ---- the header
 

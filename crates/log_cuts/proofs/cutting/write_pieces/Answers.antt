@@ -1,13 +1,13 @@
 use Rattle.log_text.specs.LogValues.{log_operations}
-use Rattle.log_cuts.proofs.WrittenPieces.{found_cut, none_written, one_written, on_err, part_written, some_written}
+use Rattle.log_cuts.proofs.WrittenPieces.{found_cut, no_piece_written, one_written, on_err, part_written, some_written}
 use Rattle.log_cuts.proofs.cutting.write_pieces.Goals as goal
 use Rattle.log_cuts.proofs.cutting.write_pieces.Goals.{in-Some-2+in_ok-text-in-Some-2+in_ok-write_text-in-Some-2+in_ok-count-in-Some-2, in-None+in_ok-push_halves-in-None}
 
 pub returns-in_err-log-clause-part : goal.returns-in_err-log-clause-part
-returns-in_err-log-clause-part g c = on_err c.from_residual.result (some_written (log_operations c.args.log) c.args.events _ _ (none_written (log_operations c.args.log) c.args.events _))
+returns-in_err-log-clause-part g c = on_err c.from_residual.result (some_written (log_operations c.args.log) c.args.events _ _ (no_piece_written (log_operations c.args.log) c.args.events _))
 
 pub returns-in_err-windows-clause-part : goal.returns-in_err-windows-clause-part
-returns-in_err-windows-clause-part g c = on_err c.from_residual-in_err-windows.result (some_written (log_operations c.args.log) c.args.events _ _ (none_written (log_operations c.args.log) c.args.events _))
+returns-in_err-windows-clause-part g c = on_err c.from_residual-in_err-windows.result (some_written (log_operations c.args.log) c.args.events _ _ (no_piece_written (log_operations c.args.log) c.args.events _))
 
 pub returns-in_err-piece-clause-part : goal.returns-in_err-piece-clause-part
 returns-in_err-piece-clause-part g c = on_err c.from_residual-in_err-piece.result (some_written (log_operations c.args.log) c.args.events _ _ c.loop.invariant)

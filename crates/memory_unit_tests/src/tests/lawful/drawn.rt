@@ -13,7 +13,7 @@ type Entries = Vec<(u16, u64, usize)>;
 
 /// The store-buffer machine for three processors and four addresses, with buffers of one capacity.
 #[derive(Drop)]
-struct Machine {
+struct ReferenceMachine {
     order: Order,
     memory: [u64; 4],
     buffers: Vec<Entries>,
@@ -21,13 +21,13 @@ struct Machine {
     capacity: usize,
 }
 
-impl Machine {
-    fn new(alloc: Global, order: Order, capacity: usize) -> Result<Machine, AllocError> {
+impl ReferenceMachine {
+    fn new(alloc: Global, order: Order, capacity: usize) -> Result<ReferenceMachine, AllocError> {
         let mut buffers = Vec::new(alloc);
         for _p in 0..3 {
             buffers.push(Vec::new(alloc))?;
         }
-        Ok(Machine {
+        Ok(ReferenceMachine {
             order,
             memory: [0; 4],
             buffers,
@@ -153,7 +153,7 @@ fn call_and_drain<U: MemoryUnit>(unit: &mut U, seed: u64) -> Result<(), AllocErr
 }
 
 /// Whether the machine can take these steps, and then has no entry left.
-fn are_complete_run(machine: &mut Machine, steps: &[Step]) -> Result<bool, AllocError> {
+fn are_complete_run(machine: &mut ReferenceMachine, steps: &[Step]) -> Result<bool, AllocError> {
     for step in steps {
         if !machine.take(*step)? {
             return Ok(false);
@@ -172,7 +172,7 @@ fn takes_drawn_steps<U: MemoryUnit>(
     seed: u64,
 ) -> Result<bool, AllocError> {
     call_and_drain(&mut unit, seed)?;
-    let mut machine = Machine::new(alloc, order, capacity)?;
+    let mut machine = ReferenceMachine::new(alloc, order, capacity)?;
     let are_taken = are_complete_run(&mut machine, unit.steps())?;
     Ok(are_taken && (0..3usize).all(|p| unit.waiting(p) == 0))
 }

@@ -1,7 +1,7 @@
 use Rattle.std.proofs.Common.{get_or, refl, arith}
 use Rattle.std.proofs.lemmas.Bool.{false≢true}
 use Rattle.tso_cert.specs.declared.rules.InferredRule.TheVariants.{LoadPast}
-use Rattle.tso_cert.specs.Spelling.{inferred_rules}
+use Rattle.tso_cert.specs.Internal.LineValues.{inferred_rules}
 use Rattle.tso_model.specs.NewEdges.{IsGivenBy}
 use Rattle.tso_model.proofs.Searches.{none_more}
 use Rattle.reference_rounds.specs.EdgeLists.{HasPair}

@@ -1,6 +1,6 @@
 use Rattle.std.proofs.Common.{ℕ, ◌<◌, get_or}
 use Rattle.tso_cert.specs.declared.rules.InferredRule.TheVariants.{LoadPast}
-use Rattle.tso_cert.specs.Spelling.{inferred_rules}
+use Rattle.tso_cert.specs.Internal.LineValues.{inferred_rules}
 use Rattle.tso_model.specs.NewEdges.{IsGivenBy}
 use Rattle.reference_rounds.specs.EdgeLists.{HasPair}
 use Rattle.reference_rounds.proofs.inferred.is_given_for.Given as goal

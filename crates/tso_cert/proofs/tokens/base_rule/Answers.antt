@@ -1,7 +1,6 @@
 use Rattle.std.proofs.Common.{◌∙◌, sym, refl, arith}
 use Rattle.tso_cert.specs.Printed.{base_name}
-use Rattle.tso_cert.specs.Spelling.{base_rules}
-use Rattle.tso_cert.specs.Internal.LineValues.{base_rule}
+use Rattle.tso_cert.specs.Internal.LineValues.{base_rule, base_rules}
 use Rattle.tso_cert.specs.declared.rules.BaseRule.TheVariants.{Init}
 use Rattle.tso_cert.proofs.NamedFacts.{named_here, named_after, named_none}
 use Rattle.tso_cert.proofs.tokens.base_rule.Goals as goal

@@ -1,7 +1,6 @@
 use Rattle.std.proofs.Common.{◌∙◌, sym, refl, arith}
 use Rattle.tso_cert.specs.Printed.{inferred_name}
-use Rattle.tso_cert.specs.Spelling.{inferred_rules}
-use Rattle.tso_cert.specs.Internal.LineValues.{inferred_rule}
+use Rattle.tso_cert.specs.Internal.LineValues.{inferred_rule, inferred_rules}
 use Rattle.tso_cert.specs.declared.rules.InferredRule.TheVariants.{LoadPast}
 use Rattle.tso_cert.proofs.NamedFacts.{named_here, named_after, named_none}
 use Rattle.tso_cert.proofs.tokens.inferred_rule.Goals as goal

@@ -1,8 +1,7 @@
 use Rattle.std.proofs.Common.{◌≡◌}
 use Rattle.std.specs.Prelude.{drop}
 use Rattle.tso_cert.specs.Printed.{inferred_name}
-use Rattle.tso_cert.specs.Spelling.{inferred_rules}
-use Rattle.tso_cert.specs.Internal.LineValues.{named}
+use Rattle.tso_cert.specs.Internal.LineValues.{named, inferred_rules}
 use Rattle.tso_cert.proofs.tokens.inferred_rule.Given as goal
 
 -- the name is sought among the rules that are left

@@ -1,13 +1,33 @@
-use Rattle.request_serving.proofs.EndFacts.{check_of_known, faults_as, knows_itself, opens_all, writes_as}
+use Rattle.request_serving.proofs.EndFacts.{check_of_known, faults_as, knows_itself, opens_all, opens_both, writes_as}
 use Rattle.request_serving.proofs.serving.checking.check_named.Goals as goal
+
+pub returns-in_ok-certificate-in-Files-clause-report : goal.returns-in_ok-certificate-in-Files-clause-report
+returns-in_ok-certificate-in-Files-clause-report g c =
+    let also = rw c.in_ok-trace-in-Files.ensures.same at c.in_ok-certificate-in-Files.ensures.known in
+    rw c.in-Files.is (writes_as _ _ (check_of_known _ _ _ _ c.in_ok-trace-in-Files.ensures.known also) _ _ c.check_texts.result c.check_texts.ensures.report)
+
+pub returns-in_ok-certificate-in-Files-clause-fault : goal.returns-in_ok-certificate-in-Files-clause-fault
+returns-in_ok-certificate-in-Files-clause-fault g c =
+    let also = rw c.in_ok-trace-in-Files.ensures.same at c.in_ok-certificate-in-Files.ensures.known in
+    rw c.in-Files.is (faults_as _ _ (check_of_known _ _ _ _ c.in_ok-trace-in-Files.ensures.known also) _ _ c.check_texts.result c.check_texts.ensures.fault)
+
+pub returns-in_ok-certificate-in-Files-clause-first : goal.returns-in_ok-certificate-in-Files-clause-first
+returns-in_ok-certificate-in-Files-clause-first g c =
+    rw c.in-Files.is (opens_all _ _ _ (opens_both (g.O.NamedFiles.opened c.args.files.now) (g.O.NamedFiles.opened c.open.new.files) (g.O.NamedFiles.opened c.open-in-Files.new.files) c.in-Files.trace.now c.in-Files.certificate.now
+    c.in_ok-trace-in-Files.ensures.opened c.in_ok-certificate-in-Files.ensures.opened))
+
+pub returns-in_err-certificate-in-Files-clause-first : goal.returns-in_err-certificate-in-Files-clause-first
+returns-in_err-certificate-in-Files-clause-first g c =
+    rw c.in-Files.is (opens_all _ _ _ (opens_both (g.O.NamedFiles.opened c.args.files.now) (g.O.NamedFiles.opened c.open.new.files) (g.O.NamedFiles.opened c.open-in-Files.new.files) c.in-Files.trace.now c.in-Files.certificate.now
+    c.in_ok-trace-in-Files.ensures.opened c.in_err-certificate-in-Files.ensures.opened))
 
 pub returns-in_ok-certificate-in-InputAndFile-clause-report : goal.returns-in_ok-certificate-in-InputAndFile-clause-report
 returns-in_ok-certificate-in-InputAndFile-clause-report g c =
-    rw c.in-InputAndFile.is (writes_as _ _ (check_of_known _ _ _ _ (knows_itself _) c.in_ok-certificate-in-InputAndFile.ensures.known) _ _ c.check_texts.result c.check_texts.ensures.report)
+    rw c.in-InputAndFile.is (writes_as _ _ (check_of_known _ _ _ _ (knows_itself _) c.in_ok-certificate-in-InputAndFile.ensures.known) _ _ c.check_texts-in-InputAndFile.result c.check_texts-in-InputAndFile.ensures.report)
 
 pub returns-in_ok-certificate-in-InputAndFile-clause-fault : goal.returns-in_ok-certificate-in-InputAndFile-clause-fault
 returns-in_ok-certificate-in-InputAndFile-clause-fault g c =
-    rw c.in-InputAndFile.is (faults_as _ _ (check_of_known _ _ _ _ (knows_itself _) c.in_ok-certificate-in-InputAndFile.ensures.known) _ _ c.check_texts.result c.check_texts.ensures.fault)
+    rw c.in-InputAndFile.is (faults_as _ _ (check_of_known _ _ _ _ (knows_itself _) c.in_ok-certificate-in-InputAndFile.ensures.known) _ _ c.check_texts-in-InputAndFile.result c.check_texts-in-InputAndFile.ensures.fault)
 
 pub returns-in_ok-certificate-in-InputAndFile-clause-first : goal.returns-in_ok-certificate-in-InputAndFile-clause-first
 returns-in_ok-certificate-in-InputAndFile-clause-first g c = rw c.in-InputAndFile.is (opens_all _ _ _ c.in_ok-certificate-in-InputAndFile.ensures.opened)

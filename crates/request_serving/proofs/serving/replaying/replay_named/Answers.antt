@@ -1,19 +1,36 @@
-use Rattle.request_serving.proofs.EndFacts.{knows_itself, opens_all}
+use Rattle.request_serving.proofs.EndFacts.{knows_itself, opens_all, opens_both}
 use Rattle.request_serving.proofs.ReplayingFacts.{replay_leaves, replay_writes}
 use Rattle.request_serving.proofs.serving.replaying.replay_named.Goals as goal
 
-pub returns-in-Files-clause-fault : goal.returns-in-Files-clause-fault
-returns-in-Files-clause-fault g c = rw c.in-Files.is c.replay_files.ensures.fault
+pub returns-in_ok-schedule-in-Files-clause-text : goal.returns-in_ok-schedule-in-Files-clause-text
+returns-in_ok-schedule-in-Files-clause-text g c =
+    let also = rw c.in_ok-program-in-Files.ensures.same at c.in_ok-schedule-in-Files.ensures.known in
+    rw c.in-Files.is (replay_writes c.args.options.now _ _ _ _ c.in_ok-program-in-Files.ensures.known also _ _ c.write_replay.result c.write_replay.ensures.text)
+
+pub returns-in_ok-schedule-in-Files-clause-fault : goal.returns-in_ok-schedule-in-Files-clause-fault
+returns-in_ok-schedule-in-Files-clause-fault g c =
+    let also = rw c.in_ok-program-in-Files.ensures.same at c.in_ok-schedule-in-Files.ensures.known in
+    rw c.in-Files.is (replay_leaves c.args.options.now _ _ _ _ c.in_ok-program-in-Files.ensures.known also _ _ c.write_replay.result c.write_replay.ensures.fault)
+
+pub returns-in_ok-schedule-in-Files-clause-first : goal.returns-in_ok-schedule-in-Files-clause-first
+returns-in_ok-schedule-in-Files-clause-first g c =
+    rw c.in-Files.is (opens_all _ _ _ (opens_both (g.O.NamedFiles.opened c.args.files.now) (g.O.NamedFiles.opened c.open.new.files) (g.O.NamedFiles.opened c.open-in-Files.new.files) c.in-Files.program.now c.in-Files.schedule.now
+    c.in_ok-program-in-Files.ensures.opened c.in_ok-schedule-in-Files.ensures.opened))
+
+pub returns-in_err-schedule-in-Files-clause-first : goal.returns-in_err-schedule-in-Files-clause-first
+returns-in_err-schedule-in-Files-clause-first g c =
+    rw c.in-Files.is (opens_all _ _ _ (opens_both (g.O.NamedFiles.opened c.args.files.now) (g.O.NamedFiles.opened c.open.new.files) (g.O.NamedFiles.opened c.open-in-Files.new.files) c.in-Files.program.now c.in-Files.schedule.now
+    c.in_ok-program-in-Files.ensures.opened c.in_err-schedule-in-Files.ensures.opened))
 
 pub returns-in_ok-schedule-in-InputAndFile-clause-text : goal.returns-in_ok-schedule-in-InputAndFile-clause-text
 returns-in_ok-schedule-in-InputAndFile-clause-text g c =
     let input = g.R.Read.remaining c.args.reader.now in
-    rw c.in-InputAndFile.is (replay_writes c.args.options.now input input (g.O.NamedFiles.bytes c.args.files.now c.in-InputAndFile.schedule.now) _ (knows_itself input) c.in_ok-schedule-in-InputAndFile.ensures.known _ _ c.write_replay.result c.write_replay.ensures.text)
+    rw c.in-InputAndFile.is (replay_writes c.args.options.now input input (g.O.NamedFiles.bytes c.args.files.now c.in-InputAndFile.schedule.now) _ (knows_itself input) c.in_ok-schedule-in-InputAndFile.ensures.known _ _ c.write_replay-in-InputAndFile.result c.write_replay-in-InputAndFile.ensures.text)
 
 pub returns-in_ok-schedule-in-InputAndFile-clause-fault : goal.returns-in_ok-schedule-in-InputAndFile-clause-fault
 returns-in_ok-schedule-in-InputAndFile-clause-fault g c =
     let input = g.R.Read.remaining c.args.reader.now in
-    rw c.in-InputAndFile.is (replay_leaves c.args.options.now input input (g.O.NamedFiles.bytes c.args.files.now c.in-InputAndFile.schedule.now) _ (knows_itself input) c.in_ok-schedule-in-InputAndFile.ensures.known _ _ c.write_replay.result c.write_replay.ensures.fault)
+    rw c.in-InputAndFile.is (replay_leaves c.args.options.now input input (g.O.NamedFiles.bytes c.args.files.now c.in-InputAndFile.schedule.now) _ (knows_itself input) c.in_ok-schedule-in-InputAndFile.ensures.known _ _ c.write_replay-in-InputAndFile.result c.write_replay-in-InputAndFile.ensures.fault)
 
 pub returns-in_ok-program-in-FileAndInput-clause-text : goal.returns-in_ok-program-in-FileAndInput-clause-text
 returns-in_ok-program-in-FileAndInput-clause-text g c =

@@ -4,4 +4,4 @@ use Rattle.trace_batches.proofs.JobFacts.{outcome_of}
 use Rattle.trace_batches.proofs.jobs.Job.judge.Goals as goal
 
 pub returns : goal.returns
-returns g c = subst (λ piece. IsOutcome piece c.render_text.result) c.deref.ensures.value (outcome_of c.deref.result.now c.render_text.result c.render_text.ensures.said c.render_text.ensures.fault)
+returns g c = subst (λ piece. IsOutcome piece c.judge_text.result) c.deref.ensures.value (outcome_of c.deref.result.now c.judge_text.result c.judge_text.ensures.said c.judge_text.ensures.fault)

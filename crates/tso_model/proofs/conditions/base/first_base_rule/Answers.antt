@@ -1,5 +1,5 @@
 use Rattle.tso_cert.specs.declared.rules.BaseRule.TheVariants.{Init}
-use Rattle.tso_cert.specs.Spelling.{base_rules}
+use Rattle.tso_cert.specs.Internal.LineValues.{base_rules}
 use Rattle.tso_model.specs.Rules.{BasePair}
 use Rattle.tso_model.proofs.RuleOrder.{first_base, no_base}
 use Rattle.tso_model.proofs.Searches.{none_more}

@@ -1,6 +1,6 @@
 use Rattle.std.proofs.Common.{ℕ, ◌<◌, get_or}
 use Rattle.tso_cert.specs.declared.rules.BaseRule.TheVariants.{Init}
-use Rattle.tso_cert.specs.Spelling.{base_rules}
+use Rattle.tso_cert.specs.Internal.LineValues.{base_rules}
 use Rattle.tso_model.specs.Rules.{BasePair}
 use Rattle.tso_model.proofs.conditions.base.first_base_rule.Given as goal
 

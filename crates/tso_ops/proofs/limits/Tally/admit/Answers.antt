@@ -1,13 +1,14 @@
-use Rattle.std.proofs.Common.{arith, ◌≡◌, ℕ, ◌+◌, ap, sym, refl, false, ◌∙◌}
+use Rattle.std.proofs.Common.{arith, nat_lt, ◌≡◌, ℕ, ◌+◌, ap, sym, refl, false, ◌∙◌}
 use Rattle.std.proofs.lemmas.Grind.{common_steps}
-use Rattle.tso_ops.specs.Limits.{is_past_addresses, address_of, stored_by}
+use Rattle.std.specs.Option.{option_map_or}
+use Rattle.tso_ops.specs.Limits.{address_of, stored_by}
 use Rattle.tso_ops.proofs.TallyFacts.{Admitted-push, StoresNew, StoresNew-Some, StoresNew-None}
 use Rattle.tso_ops.proofs.limits.Tally.admit.Goals as goal
 use Rattle.tso_ops.proofs.limits.Tally.admit.Goals.{in-Some+else-value-eq0+in_ok-insert+else-not-branch, in_default}
 
 pub returns-clause-admitted : goal.returns-clause-admitted
 returns-clause-admitted c setting ops was =
-    let in_range : is_past_addresses (address_of c.args.op) ≡ false = grind (arith, common_steps) in
+    let in_range : option_map_or (nat_lt 255) (address_of c.args.op) false ≡ false = grind (arith, common_steps) in
     let stores : StoresNew c.args.self.now.stored c.match-stored.self.1.1.1.1.1.0 (stored_by c.args.op) =
     elim c.match-stored.branch [
       | in-Some+else-value-eq0+in_ok-insert+else-not-branch w ↦

@@ -1,11 +1,12 @@
 use Rattle.std.proofs.Common.{map, ◌++◌, ◌∷◌, [], subst}
 use Rattle.std.proofs.lemmas.List.{map-append}
 use Rattle.std.proofs.lemmas.List.Elements.{All-push}
+use Rattle.tso_ops.specs.Limits.{has_fault}
 use Rattle.tso_ops.specs.Settings.{setting_of}
 use Rattle.tso_ops.specs.Tally.{Admitted}
 use Rattle.tso_ops.specs.Values.{op_of, ReadFits}
 use Rattle.tso_text.specs.Internal.Grammars.{outcome_fault}
-use Rattle.tso_text.proofs.FaultFacts.{op_clean, op_refused_for, at_last, not_stbar}
+use Rattle.tso_text.proofs.FaultFacts.{no_fault, op_refused_for, at_last, not_stbar}
 use Rattle.tso_text.proofs.OneTextFacts.{outcome_no_stbar, outcome_read_fits}
 use Rattle.tso_text.proofs.forms.OutcomeForm.admit.Goals as goal
 
@@ -26,7 +27,7 @@ unfolding outcome_fault
 returns-in-Ok-clause-clean c items kept =
     let setting = setting_of c.args._setting.now in
     let faultless = (c.in-Ok.ensures.admitted setting (map op_of items) kept.0).faultless in
-    op_clean setting (map op_of items) (op_of c.args.self) (at_last setting (map op_of items) (op_of c.args.self) (rw c.op.ensures at faultless))
+    no_fault (has_fault setting (map op_of items) (op_of c.args.self)) (at_last setting (map op_of items) (op_of c.args.self) (rw c.op.ensures at faultless))
 
 pub returns-in-Ok-clause-admitted : goal.returns-in-Ok-clause-admitted
 returns-in-Ok-clause-admitted c items kept =

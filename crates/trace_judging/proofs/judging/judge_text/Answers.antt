@@ -1,5 +1,5 @@
 use Rattle.std.proofs.Common.{inr}
-use Rattle.trace_judging.proofs.presenting.render_text.Goals as goal
+use Rattle.trace_judging.proofs.judging.judge_text.Goals as goal
 
 -- what isn't spelled is refused, and what was rendered is said of that
 pub returns-in_ok-render_refused-in-Err-clause-said : goal.returns-in_ok-render_refused-in-Err-clause-said

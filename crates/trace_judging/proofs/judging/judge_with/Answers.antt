@@ -3,8 +3,8 @@ use Rattle.trace_judging.specs.Limits.{trace_read_limit}
 use Rattle.trace_reports.specs.Renderings.{IsTextOfReader}
 use Rattle.trace_judging.proofs.ReaderFacts.{leaves_prefix, no_order_of_reader, text_of_reader, violation_of_reader}
 use Rattle.trace_judging.proofs.StreamFacts.{loses_prefix}
-use Rattle.trace_judging.proofs.presenting.present.Given as given
-use Rattle.trace_judging.proofs.presenting.present.Goals as goal
+use Rattle.trace_judging.proofs.judging.judge_with.Given as given
+use Rattle.trace_judging.proofs.judging.judge_with.Goals as goal
 
 -- what was rendered is said of what was read, and so of what the reader has
 of_reader : (g : given.Over) (c : goal.After-drop-input-2 g) → IsTextOfReader g.P.Rendering.said g.P.Rendering.refused (g.R.Read.remaining c.args.reader.now) (string_bytes c.in_ok-report.report.text) c.in_ok-report.report.verdict
