@@ -8,7 +8,7 @@ _tsobench() {
     esac
     for ((i = 1; i < COMP_CWORD; i++)); do
         case ${COMP_WORDS[i]} in
-            judge | explain | draw | batch | cut | check | replay | run | make | campaign | help)
+            judge | explain | draw | batch | log | check | replay | run | make | campaign | help)
                 command=${COMP_WORDS[i]}
                 break
                 ;;
@@ -19,7 +19,7 @@ _tsobench() {
         explain/--workers) ;;
         draw/--workers) ;;
         batch/--workers) ;;
-        cut/--events) ;;
+        log/--most) ;;
         replay/--unit) words='serial buffer partial newest-first no-forward stale-load torn-swap idle-membar lost-drain' ;;
         replay/--capacity) ;;
         replay/--trigger) ;;
@@ -45,18 +45,18 @@ _tsobench() {
         campaign/--procs) ;;
         campaign/--ops) ;;
         campaign/--addrs) ;;
-        /*) words='judge explain draw batch cut check replay run make campaign help -h --help -V --version' ;;
+        /*) words='judge explain draw batch log check replay run make campaign help -h --help -V --version' ;;
         judge/*) words='--workers -h --help' files=yes ;;
         explain/*) words='--workers -h --help' files=yes ;;
         draw/*) words='--workers -h --help' files=yes ;;
         batch/*) words='--workers --quiet -h --help' files=yes ;;
-        cut/*) words='--events -h --help' files=yes ;;
+        log/*) words='--most --trace --explain -h --help' files=yes ;;
         check/*) words='-h --help' files=yes ;;
         replay/*) words='--unit --capacity --trigger --workers --trace --explain -h --help' files=yes ;;
         run/*) words='--unit --capacity --trigger --workers --trace --explain --seed --drain-turns -h --help' files=yes ;;
         make/*) words='--model --seed --procs --ops --addrs -h --help' ;;
         campaign/*) words='--unit --capacity --trigger --workers --model --first --count --procs --ops --addrs -h --help' ;;
-        help/*) words='judge explain draw batch cut check replay run make campaign' ;;
+        help/*) words='judge explain draw batch log check replay run make campaign' ;;
     esac
     if [[ -n $files && $word != -* ]]; then
         words=''

@@ -5,13 +5,14 @@ use Rattle.command_line.specs.declared.requests.Request.{Request}
 use Rattle.command_line.specs.declared.requests.TextPair.{TextPair}
 use Rattle.command_line.specs.declared.requests.TextPair.TheVariants.{Files, InputAndFile, FileAndInput}
 use Rattle.command_line.specs.declared.options.CampaignOptions.{CampaignOptions}
+use Rattle.command_line.specs.declared.options.LogOptions.{LogOptions}
 use Rattle.command_line.specs.declared.options.Presentation.{Presentation}
 use Rattle.command_line.specs.declared.options.Printing.{Printing}
 use Rattle.command_line.specs.declared.options.Printing.TheVariants.{Report, Trace, Explanation}
 use Rattle.command_line.specs.declared.options.RunOptions.{RunOptions}
 use Rattle.command_line.specs.declared.options.ShapeNumbers.{ShapeNumbers}
 use Rattle.command_line.specs.declared.options.UnitOptions.{UnitOptions}
-use Rattle.command_line.specs.declared.requests.Request.TheVariants.{Judge, Batch, Cut, Check, Replay, Run, Make, Campaign, Show, Refuse}
+use Rattle.command_line.specs.declared.requests.Request.TheVariants.{Judge, Batch, Log, Check, Replay, Run, Make, Campaign, Show, Refuse}
 
 -- the bytes of a text
 abbrev pub Text : Type 0
@@ -35,8 +36,8 @@ pub data Asked : Type 0 where
   -- to judge traces that stand one after the other with so many workers, and whether the lines of those without a
   -- violation are left out
   batching : Option Text → ℕ → Bool → Asked
-  -- to cut a log into traces of at most so many events
-  cutting : Option Text → ℕ → Asked
+  -- to find violations of a log, and to show so many at most in this form
+  logging : Option Text → LogOptions → Asked
   -- to check against a trace, the first text, a certificate, the second
   checking : Option Text → Option Text → Asked
   -- to replay a program, the first text, by a schedule, the second, with these options
@@ -63,7 +64,7 @@ files_of (FileAndInput first) = (Some first.now, None)
 abbrev pub asked_of : Request → Asked
 asked_of (Judge judge) = judging judge.presentation (option_map (λ f. f.now) judge.file) judge.workers
 asked_of (Batch batch) = batching (option_map (λ f. f.now) batch.file) batch.workers batch.quiet
-asked_of (Cut cut) = cutting (option_map (λ f. f.now) cut.file) cut.events
+asked_of (Log log) = logging (option_map (λ f. f.now) log.file) log.options
 asked_of (Check texts) = checking (files_of texts).0 (files_of texts).1
 asked_of (Replay options texts) = replaying options (files_of texts).0 (files_of texts).1
 asked_of (Run run) = running run.options run.drain_seed run.drain_turns (option_map (λ f. f.now) run.program)
@@ -84,13 +85,9 @@ capacity_limit = 64
 abbrev pub drain_turns_limit : ℕ
 drain_turns_limit = 1000000
 
--- the greatest number of events of a piece that is cut out of a log
-abbrev pub piece_event_limit : ℕ
-piece_event_limit = 8000
-
--- the least number that a piece may be limited to: the events of a swap and of the store that it read
-abbrev pub least_piece_limit : ℕ
-least_piece_limit = 3
+-- the greatest number of violations of a log that are shown
+abbrev pub log_violation_limit : ℕ
+log_violation_limit = 1000000
 
 -- the greatest number of 64 bits
 abbrev pub number_limit : ℕ
@@ -114,7 +111,7 @@ nothing_needed = record { texts = []; workers = None; unit = None; program = Non
 abbrev pub needs : Asked → Needs
 needs (judging presentation file workers) = record nothing_needed { texts = file ∷ []; workers = Some workers }
 needs (batching file workers quiet) = record nothing_needed { texts = file ∷ []; workers = Some workers }
-needs (cutting file events) = record nothing_needed { texts = file ∷ [] }
+needs (logging file options) = record nothing_needed { texts = file ∷ [] }
 needs (checking trace certificate) = record nothing_needed { texts = trace ∷ certificate ∷ [] }
 needs (replaying options program schedule) = record {
   texts = program ∷ schedule ∷ [];
@@ -139,7 +136,7 @@ abbrev pub HasDrainTurns : Asked → Type 0
 HasDrainTurns (running options seed turns program) = turns ≤ drain_turns_limit
 HasDrainTurns asked = Unit {0}
 
--- a piece of a log may have a swap and what it read, and no more events than a trace may
-abbrev pub HasPieceEvents : Asked → Type 0
-HasPieceEvents (cutting file events) = (least_piece_limit ≤ events) × (events ≤ piece_event_limit)
-HasPieceEvents asked = Unit {0}
+-- some violation of a log may be shown, and no more than may be
+abbrev pub HasLogViolations : Asked → Type 0
+HasLogViolations (logging file options) = (1 ≤ options.most) × (options.most ≤ log_violation_limit)
+HasLogViolations asked = Unit {0}

@@ -9,6 +9,9 @@ use Rattle.command_line.specs.Parameters.{Parameter, flag, id_of, listed, option
 use Rattle.tso_ops.specs.declared.settings.Order.{Order}
 use Rattle.tso_ops.specs.declared.settings.Order.TheVariants.{Tso}
 use Rattle.command_line.specs.declared.options.Printing.{Printing}
+use Rattle.command_line.specs.declared.options.LogForm.{LogForm}
+use Rattle.command_line.specs.declared.options.LogForm.TheVariants as forms
+use Rattle.command_line.specs.declared.options.LogOptions.{LogOptions}
 use Rattle.command_line.specs.declared.options.Presentation.{Presentation}
 use Rattle.command_line.specs.declared.options.Presentation.TheVariants as form
 use Rattle.command_line.specs.declared.options.Printing.TheVariants.{Report, Trace, Explanation}
@@ -19,7 +22,7 @@ use Rattle.command_line.specs.declared.options.UnitOptions.{UnitOptions}
 use Rattle.command_line.specs.declared.parameters.NameList.{NameList}
 use Rattle.command_line.specs.declared.parameters.NameList.TheVariants.{Units, Models}
 use Rattle.command_line.specs.Names.{models, units}
-use Rattle.command_line.specs.Requests.{Text, Asked, batching, campaigning, capacity_limit, checking, cutting, drain_turns_limit, judging, least_piece_limit, making, number_limit, piece_event_limit, refusing, replaying, running, worker_limit}
+use Rattle.command_line.specs.Requests.{Text, Asked, batching, campaigning, capacity_limit, checking, drain_turns_limit, judging, log_violation_limit, logging, making, number_limit, refusing, replaying, running, worker_limit}
 
 pub record Subcommand : Type 0 where
   pub name : Text
@@ -53,6 +56,10 @@ unit_parameters =
 -- those, and `[--trace|--explain]`
 abbrev pub run_parameters : List (Parameter NameList)
 run_parameters = unit_parameters ++ flag (codes "trace") ∷ flag (codes "explain") ∷ []
+
+-- `[--most K] [--trace|--explain]`: 10 violations where it is left out
+abbrev pub log_parameters : List (Parameter NameList)
+log_parameters = option (codes "most") (range 1 log_violation_limit) (Some (codes "10")) ∷ flag (codes "trace") ∷ flag (codes "explain") ∷ []
 
 -- `--name N`, which may not be left out
 abbrev pub required : Text → Parameter NameList
@@ -100,6 +107,15 @@ run_of given =
     option_map (λ printing. record { unit = unit_of given; workers = workers_of given; printing = printing })
     (printing_of (is_true (given (codes "trace"))) (is_true (given (codes "explain"))))
 
+-- the form in which violations are shown, by whether the flags of traces and of explanations are used, of which one may be
+abbrev pub log_form_of : Bool → Bool → Option LogForm
+log_form_of trace explain = if trace && explain then None else Some (if trace then forms.Traces else if explain then forms.Explained else forms.Lines)
+
+abbrev pub log_options_of : (Text → Option Text) → Option LogOptions
+log_options_of given =
+    option_map (λ form. record { most = within 1 log_violation_limit (number_or 10 (given (codes "most"))); form = form })
+    (log_form_of (is_true (given (codes "trace"))) (is_true (given (codes "explain"))))
+
 abbrev pub shape_of : (Text → Option Text) → ShapeNumbers
 shape_of given = record {
   processors = number_or 0 (given (codes "procs"));
@@ -136,12 +152,12 @@ batch = record {
   ask = λ given. batching (file_of (given (codes "file"))) (workers_of given) (is_true (given (codes "quiet")));
 }
 
--- `cut [--events N] [FILE]`: cuts the log in a file, or on standard input, into traces; of 2000 events where it is left out
-abbrev pub cut : Subcommand
-cut = record {
-  name = codes "cut";
-  parameters = option (codes "events") (range least_piece_limit piece_event_limit) (Some (codes "2000")) ∷ other (codes "file") false ∷ [];
-  ask = λ given. cutting (file_of (given (codes "file"))) (within least_piece_limit piece_event_limit (number_or 2000 (given (codes "events"))));
+-- `log [--most K] [--trace|--explain] [FILE]`: finds violations of the log in a file, or on standard input
+abbrev pub log : Subcommand
+log = record {
+  name = codes "log";
+  parameters = log_parameters ++ other (codes "file") false ∷ [];
+  ask = λ given. option_map_or (logging (file_of (given (codes "file")))) (log_options_of given) refusing;
 }
 
 -- `check TRACE CERT`: checks a certificate against its trace
@@ -202,4 +218,4 @@ campaign = record {
 abbrev pub subcommands : List Subcommand
 subcommands =
     judge_as (codes "judge") form.Report ∷ judge_as (codes "explain") form.Explanation ∷ judge_as (codes "draw") form.Picture
-    ∷ batch ∷ cut ∷ check ∷ replay ∷ run ∷ make ∷ campaign ∷ []
+    ∷ batch ∷ log ∷ check ∷ replay ∷ run ∷ make ∷ campaign ∷ []

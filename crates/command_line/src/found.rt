@@ -3,15 +3,15 @@ ghost use Rattle.std.specs.Prelude.{◌≡◌, ◌≤◌, codes, option_map, IfO
 ghost use Rattle.clap.specs.Words.{first_of, found_of, one_of, rows_of};
 ghost use Rattle.command_line.specs.Commands.{asked_in, given_in};
 ghost use Rattle.command_line.specs.Requests.{asked_of, files_of, refusing, worker_limit};
-ghost use Rattle.command_line.specs.Subcommands.{batch, campaign, check, chosen_order, cut, file_of, is_true, judge_as, make, model, number_or, pair_of, printing_of, replay, run, run_of, run_parameters, shape_of, shape_parameters, unit_of, unit_parameters, within};
+ghost use Rattle.command_line.specs.Subcommands.{batch, campaign, check, chosen_order, file_of, is_true, judge_as, log, log_form_of, log_options_of, log_parameters, make, model, number_or, pair_of, printing_of, replay, run, run_of, run_parameters, shape_of, shape_parameters, unit_of, unit_parameters, within};
 
 use crate::help;
 use crate::options::{
-    CampaignOptions, MAX_CAPACITY, MAX_DRAIN_TURNS, MAX_PIECE_EVENTS, MAX_WORKERS,
-    MIN_PIECE_EVENTS, Presentation, Printing, RunOptions, ShapeNumbers, UnitKind, UnitOptions,
+    CampaignOptions, LogForm, LogOptions, MAX_CAPACITY, MAX_DRAIN_TURNS, MAX_LOG_VIOLATIONS,
+    MAX_WORKERS, Presentation, Printing, RunOptions, ShapeNumbers, UnitKind, UnitOptions,
     kind_named, order_named,
 };
-use crate::requests::{BatchRequest, CutRequest, JudgeRequest, Request, RunRequest, TextPair};
+use crate::requests::{BatchRequest, JudgeRequest, LogRequest, Request, RunRequest, TextPair};
 use clap::ArgMatches;
 use std::alloc::{AllocError, Global};
 use tso_ops::Order;
@@ -41,15 +41,17 @@ pub(crate) fn batch<'a>(matches: &ArgMatches<'a>) -> Request<'a>
     })
 }
 
-/// Of `cut`.
-pub(crate) fn cut<'a>(matches: &ArgMatches<'a>) -> Request<'a>
-    ensures { asked_of result ≡ asked_in cut (rows_of (found_of matches.now)) }
+/// Of `log`: a refusal of both flags.
+pub(crate) fn log<'a>(alloc: Global, matches: &ArgMatches<'a>) -> Result<Request<'a>, AllocError>
+    ensures { IfOk result (λ request. asked_of request ≡ asked_in log (rows_of (found_of matches.now))) }
 {
-    let (least, most) = (MIN_PIECE_EVENTS as u64, MAX_PIECE_EVENTS as u64);
-    Request::Cut(CutRequest {
-        file: file(matches, "file"),
-        events: number_within(matches, "events", 2_000, least, most) as usize,
-    })
+    match log_options(matches) {
+        Some(options) => Ok(Request::Log(LogRequest {
+            file: file(matches, "file"),
+            options,
+        })),
+        None => refuse(alloc, help::BOTH),
+    }
 }
 
 /// Of `check`: a refusal where both texts would be standard input.
@@ -184,6 +186,29 @@ fn printing(matches: &ArgMatches<'_>) -> Option<Printing>
         (false, false) => Some(Printing::Report),
         (true, false) => Some(Printing::Trace),
         (false, true) => Some(Printing::Explanation),
+        (true, true) => None,
+    }
+}
+
+/// What the options say of what is shown of a log; none with both flags, of traces and of explanations.
+fn log_options(matches: &ArgMatches<'_>) -> Option<LogOptions>
+    ensures { result ≡ log_options_of (given_in log_parameters (rows_of (found_of matches.now))) }
+{
+    let form = log_form(matches)?;
+    Some(LogOptions {
+        most: number_within(matches, "most", 10, 1, MAX_LOG_VIOLATIONS as u64) as usize,
+        form,
+    })
+}
+
+/// In which form violations are shown: by their lines without the flags of traces and explanations, and in none with both.
+fn log_form(matches: &ArgMatches<'_>) -> Option<LogForm>
+    ensures { let rows = rows_of (found_of matches.now) in result ≡ log_form_of (is_true (one_of (codes "trace") rows)) (is_true (one_of (codes "explain") rows)) }
+{
+    match (is_used(matches, "trace"), is_used(matches, "explain")) {
+        (false, false) => Some(LogForm::Lines),
+        (true, false) => Some(LogForm::Traces),
+        (false, true) => Some(LogForm::Explained),
         (true, true) => None,
     }
 }

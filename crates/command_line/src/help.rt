@@ -25,6 +25,7 @@ first.
 
 Exit status:
   0  no violation was found, which proves nothing about the trace
+  1  no violation of a log was found, and the search ended early
   2  a text or the command line was refused
   3  the trace violates its memory model, or the certificate holds
   4  a fault, which one line on standard error names

@@ -12,9 +12,9 @@ mod requests;
 mod subcommands;
 
 pub use options::{
-    CampaignOptions, MAX_CAPACITY, MAX_DRAIN_TURNS, MAX_PIECE_EVENTS, MAX_WORKERS,
-    MIN_PIECE_EVENTS, Presentation, Printing, RunOptions, ShapeNumbers, UnitKind, UnitOptions,
+    CampaignOptions, LogForm, LogOptions, MAX_CAPACITY, MAX_DRAIN_TURNS, MAX_LOG_VIOLATIONS,
+    MAX_WORKERS, Presentation, Printing, RunOptions, ShapeNumbers, UnitKind, UnitOptions,
 };
 pub use requests::{
-    BatchRequest, CutRequest, JudgeRequest, Request, RunRequest, TextPair, read_arguments,
+    BatchRequest, JudgeRequest, LogRequest, Request, RunRequest, TextPair, read_arguments,
 };

@@ -16,11 +16,8 @@ pub const MAX_CAPACITY: usize = 64;
 /// The greatest number of turns that a drainer takes beside the issuers of a run.
 pub const MAX_DRAIN_TURNS: u64 = 1_000_000;
 
-/// The greatest number of events of a trace that is cut out of a log.
-pub const MAX_PIECE_EVENTS: usize = 8_000;
-
-/// The least limit of the events of a trace that is cut out of a log: those of a swap and of the store that it read.
-pub const MIN_PIECE_EVENTS: usize = 3;
+/// The greatest number of violations of a log that are shown.
+pub const MAX_LOG_VIOLATIONS: usize = 1_000_000;
 
 /// A kind of memory unit.
 #[derive(Clone, Copy, Debug, PartialEq, Eq)]
@@ -142,6 +139,26 @@ pub struct RunOptions {
     pub workers: usize,
     /// What is printed.
     pub printing: Printing,
+}
+
+/// In which form the violations of a log are shown.
+#[derive(Clone, Copy, Debug, PartialEq, Eq)]
+pub enum LogForm {
+    /// A report: the lines of each violation.
+    Lines,
+    /// A report: the lines of each violation, and why no memory order explains them.
+    Explained,
+    /// The trace of each violation, one after the other.
+    Traces,
+}
+
+/// How many violations of a log are shown, and in which form.
+#[derive(Clone, Copy, Debug, PartialEq, Eq)]
+pub struct LogOptions {
+    /// How many are shown at most, 1 to 1,000,000.
+    pub most: usize,
+    /// In which form.
+    pub form: LogForm,
 }
 
 /// The shape of a drawn program, as numbers that no limit was compared with.

@@ -2,14 +2,14 @@
 ghost use Rattle.std.specs.Prelude.{◌≡◌, IfOk, IsErr, map, option_map, unwrap_or};
 ghost use Rattle.clap.specs.Words.{FailsBy, app_of, fault_of, kind_of, subcommand_of, subcommand_rows_of};
 ghost use Rattle.clap.specs.declared.error.kind.ErrorKind.TheVariants.{OutOfMemory};
-ghost use Rattle.command_line.specs.Requests.{Asked, HasDrainTurns, HasPieceEvents, HasUnitRanges, HasWorkers, asked_of, refusing, showing, texts_in};
+ghost use Rattle.command_line.specs.Requests.{Asked, HasDrainTurns, HasLogViolations, HasUnitRanges, HasWorkers, asked_of, refusing, showing, texts_in};
 ghost use Rattle.command_line.specs.Spellings.{Asks, AsksHelp};
 ghost use Rattle.command_line.specs.Refusals.{Refuses};
 ghost use Rattle.command_line.specs.Commands.{IsAskedFor, asked_at, tsobench_app};
 ghost use Rattle.command_line.specs.Internal.Computed.{IsFound, parsed_as};
 
 use crate::options::{
-    CampaignOptions, OptionNames, Presentation, RunOptions, ShapeNumbers, option_names,
+    CampaignOptions, LogOptions, OptionNames, Presentation, RunOptions, ShapeNumbers, option_names,
 };
 use crate::subcommands;
 use clap::error::ErrorKind;
@@ -63,13 +63,13 @@ pub struct BatchRequest<'a> {
     pub quiet: bool,
 }
 
-/// Which log is cut into traces.
+/// Which log is searched for violations, and how they are shown.
 #[derive(Clone, Copy, Debug)]
-pub struct CutRequest<'a> {
+pub struct LogRequest<'a> {
     /// The file with the log; standard input where none is named.
     pub file: Option<&'a str>,
-    /// How many events a trace has at most, 3 to 8,000.
-    pub events: usize,
+    /// How many violations are shown, and in which form.
+    pub options: LogOptions,
 }
 
 /// What the arguments of a command line ask for.
@@ -79,8 +79,8 @@ pub enum Request<'a> {
     Judge(JudgeRequest<'a>),
     /// To judge traces that stand one after the other.
     Batch(BatchRequest<'a>),
-    /// To cut a log into traces.
-    Cut(CutRequest<'a>),
+    /// To find violations of a log.
+    Log(LogRequest<'a>),
     /// To check against a trace, the first text, a certificate, the second.
     Check(TextPair<'a>),
     /// To replay a program, the first text, by a schedule, the second.
@@ -119,7 +119,7 @@ pub fn read_arguments<'a>(alloc: Global, arguments: &'a [String]) -> Result<Requ
     ensures workers { IfOk result (λ request. HasWorkers (asked_of request)) }
     ensures unit { IfOk result (λ request. HasUnitRanges (asked_of request)) }
     ensures turns { IfOk result (λ request. HasDrainTurns (asked_of request)) }
-    ensures events { IfOk result (λ request. HasPieceEvents (asked_of request)) }
+    ensures violations { IfOk result (λ request. HasLogViolations (asked_of request)) }
 {
     request_by(alloc, option_names(), arguments)
 }
@@ -134,7 +134,7 @@ fn request_by<'a>(
     ensures workers { IfOk result (λ request. HasWorkers (asked_of request)) }
     ensures unit { IfOk result (λ request. HasUnitRanges (asked_of request)) }
     ensures turns { IfOk result (λ request. HasDrainTurns (asked_of request)) }
-    ensures events { IfOk result (λ request. HasPieceEvents (asked_of request)) }
+    ensures violations { IfOk result (λ request. HasLogViolations (asked_of request)) }
 {
     match matches(alloc, names, arguments) {
         Ok(matches) => subcommands::request(alloc, &matches),

@@ -3,7 +3,7 @@ ghost use Rattle.std.specs.Prelude.{◌≡◌, ◌∷◌, [], false, codes, find
 ghost use Rattle.std.specs.Str.{bytes_eq};
 ghost use Rattle.clap.specs.Words.{app_of, found_of, rows_of, subcommand_rows_of, with_subcommand};
 ghost use Rattle.clap.specs.declared.builder.command.Command.TheViews.{out-Command as fields_of};
-ghost use Rattle.command_line.specs.Requests.{HasDrainTurns, HasPieceEvents, HasUnitRanges, HasWorkers, asked_of};
+ghost use Rattle.command_line.specs.Requests.{HasDrainTurns, HasLogViolations, HasUnitRanges, HasWorkers, asked_of};
 ghost use Rattle.command_line.specs.Parameters.{offered_app};
 ghost use Rattle.command_line.specs.Commands.{asked_by, asked_in, memory_of, program_app, tsobench_app};
 ghost use Rattle.command_line.specs.Subcommands.{subcommands};
@@ -19,10 +19,10 @@ use std::alloc::{AllocError, Global};
 mod batch;
 mod campaign;
 mod check;
-mod cut;
 mod draw;
 mod explain;
 mod judge;
+mod log;
 mod make;
 mod replay;
 mod run;
@@ -38,7 +38,7 @@ enum Subcommand {
     Explain,
     Draw,
     Batch,
-    Cut,
+    Log,
     Check,
     Replay,
     Run,
@@ -52,7 +52,7 @@ static SUBCOMMANDS: [Subcommand; 10] = [
     Subcommand::Explain,
     Subcommand::Draw,
     Subcommand::Batch,
-    Subcommand::Cut,
+    Subcommand::Log,
     Subcommand::Check,
     Subcommand::Replay,
     Subcommand::Run,
@@ -71,7 +71,7 @@ impl Subcommand {
             Subcommand::Explain => &explain::EXPLAIN,
             Subcommand::Draw => &draw::DRAW,
             Subcommand::Batch => &batch::BATCH,
-            Subcommand::Cut => &cut::CUT,
+            Subcommand::Log => &log::LOG,
             Subcommand::Check => &check::CHECK,
             Subcommand::Replay => &replay::REPLAY,
             Subcommand::Run => &run::RUN,
@@ -101,14 +101,14 @@ impl Subcommand {
         ensures workers { IfOk result (λ request. HasWorkers (asked_of request)) }
         ensures unit { IfOk result (λ request. HasUnitRanges (asked_of request)) }
         ensures turns { IfOk result (λ request. HasDrainTurns (asked_of request)) }
-        ensures events { IfOk result (λ request. HasPieceEvents (asked_of request)) }
+        ensures violations { IfOk result (λ request. HasLogViolations (asked_of request)) }
     {
         match self {
             Subcommand::Judge => Ok(found::judge(matches, Presentation::Report)),
             Subcommand::Explain => Ok(found::judge(matches, Presentation::Explanation)),
             Subcommand::Draw => Ok(found::judge(matches, Presentation::Picture)),
             Subcommand::Batch => Ok(found::batch(matches)),
-            Subcommand::Cut => Ok(found::cut(matches)),
+            Subcommand::Log => found::log(alloc, matches),
             Subcommand::Check => found::check(alloc, matches),
             Subcommand::Replay => found::replay(alloc, matches),
             Subcommand::Run => found::run(alloc, matches),
@@ -171,7 +171,7 @@ pub(crate) fn request<'a>(
     ensures workers { IfOk result (λ request. HasWorkers (asked_of request)) }
     ensures unit { IfOk result (λ request. HasUnitRanges (asked_of request)) }
     ensures turns { IfOk result (λ request. HasDrainTurns (asked_of request)) }
-    ensures events { IfOk result (λ request. HasPieceEvents (asked_of request)) }
+    ensures violations { IfOk result (λ request. HasLogViolations (asked_of request)) }
 {
     if let Some((name, found)) = matches.subcommand() {
         if let Some(subcommand) = subcommand_named(name) {

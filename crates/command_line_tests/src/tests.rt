@@ -57,7 +57,10 @@ fn described(alloc: Global, request: &Request<'_>) -> Result<String, AllocError>
             "batch {:?} with {} quiet {}",
             batch.file, batch.workers, batch.quiet
         ),
-        Request::Cut(cut) => format!(in alloc; "cut {:?} into {}", cut.file, cut.events),
+        Request::Log(log) => format!(in alloc;
+            "log {:?} at most {} as {:?}",
+            log.file, log.options.most, log.options.form
+        ),
         Request::Check(texts) => {
             let texts = described_texts(alloc, *texts, "against")?;
             format!(in alloc; "check {texts}")

@@ -1,11 +1,16 @@
 -- In each order of a log's operations a load reads from its only source.
-use Rattle.std.proofs.Common.{◌↔◌, ℕ, zero, suc, List, inl, inr, subst, arith}
+use Rattle.std.proofs.Common.{ℕ, zero, suc, List, inl, inr, subst, arith}
 use Rattle.tso_ops.specs.Values.{TraceValue}
 use Rattle.tso_ops.specs.Events.{IsLoad}
 use Rattle.tso_ops.proofs.NumberFacts.{event_above_zero, store_event, store_source}
-use Rattle.tso_model.specs.Axioms.{IsUpTo, IsVisible, ReadsGreatest, IsModelOrder, IsConsistent}
-use Rattle.log_selections.specs.Logs.{LogValue, ReadsFrom, HasOrder}
-use Rattle.log_selections.specs.Sources.{IsOnlySource, HasKnownSources}
+use Rattle.tso_model.specs.Axioms.{IsUpTo, IsVisible, ReadsGreatest, IsModelOrder}
+use Rattle.log_selections.specs.Sources.{IsOnlySource}
+
+-- Load l reads from this number in the order: the store is the last that it sees, or it sees none where the number is 0. That is Value (SPARC V8, K.2),
+-- said of the store and not of what it wrote.
+abbrev pub ReadsFrom : TraceValue → List ℕ → ℕ → ℕ → Type 0
+ReadsFrom t order l zero = (s : ℕ) → IsVisible t order s l → ⊥
+ReadsFrom t order l (suc k) = IsVisible t order (suc k) l × ((other : ℕ) → IsVisible t order other l → IsUpTo order other (suc k))
 
 -- a load reads from the store that it sees as the last
 reads_last : (t : TraceValue) (order : List ℕ) (l s : ℕ) → IsVisible t order s l → ((other : ℕ) → IsVisible t order other l → IsUpTo order other s) → ReadsFrom t order l s
@@ -20,10 +25,3 @@ reads_only t order axioms l s load only = by_cases (axioms.value l load)
     by_cases (inl read) = subst (ReadsFrom t order l) (only.1 0 (load, read.0)) read.1
     by_cases (inr read) =
         subst (ReadsFrom t order l) (only.1 read.0 (store_source t l read.0 load read.1.0 read.1.1 read.2)) (reads_last t order l read.0 read.1 read.3)
-
--- so the log has an order exactly where its operations have one by their values
-pub known_orders : (log : LogValue) → HasKnownSources log → HasOrder log ↔ IsConsistent log.operations
-known_orders log known = (
-  λ right. (right.0, right.1.model),
-  λ consistent. (consistent.0, record { model = consistent.1; sources = λ l s load is. reads_only log.operations consistent.0 consistent.1 l s load (known l s load is) }),
-)

@@ -1,9 +1,17 @@
+pub mod AccessFacts
 pub mod CutEvents
 pub mod CutGrowth
 pub mod CutLists
 pub mod CutSelections
+pub mod KeepingFacts
+pub mod KnownFacts
 pub mod KnownSources
 pub mod OwnCuts
 pub mod Restriction
 pub mod SelectionOrders
+pub mod ShownFacts
+pub mod SourceFacts
+pub mod StoreFacts
 pub mod TraceLogs
+pub mod UnwrittenFacts
+pub mod WriterFacts

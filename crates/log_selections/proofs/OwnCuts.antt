@@ -15,10 +15,11 @@ use Rattle.tso_ops.specs.Values.{TraceValue, op_of}
 use Rattle.tso_ops.specs.Limits.{IsTrace, event_count, total_events, addresses_of}
 use Rattle.tso_ops.specs.Events.{events_of, event_at, IsEvent, IsLoad, HasSource}
 use Rattle.tso_ops.proofs.NumberFacts.{load_event, store_event}
-use Rattle.log_selections.specs.Logs.{log_of}
+use Rattle.log_selections.specs.Sources.{IsOnlySource}
 use Rattle.log_selections.specs.Cuts.{IsKept, load, store, swap, membar, stbar, IsCutFrom, ended, operation, AreCutFrom, no_more, processor, origin_in, IsCut}
 use Rattle.log_selections.proofs.CutEvents.{found_event}
 use Rattle.log_selections.proofs.CutLists.{cut_events}
+use Rattle.log_selections.proofs.TraceLogs.{only_sources}
 
 -- ---- numbers one after the other
 
@@ -119,7 +120,7 @@ module _ (t : TraceValue) (trace : IsTrace t) where
   own_source l zero source = refl
   own_source l (suc k) source = own_number (suc k) (store_event t (suc k) source.1)
 
-pub own_cut : (t : TraceValue) (source : ℕ → ℕ) → IsTrace t → ((l : ℕ) → IsLoad t l → HasSource t l (source l)) → IsCut (log_of t source) t
+pub own_cut : (t : TraceValue) (source : ℕ → ℕ) → IsTrace t → ((l : ℕ) → IsLoad t l → HasSource t l (source l)) → IsCut t t
 own_cut t source trace sources = (
   names,
   range_with_len 1 (total t trace),
@@ -129,6 +130,11 @@ own_cut t source trace sources = (
     lists = whole_trace t trace;
     sources = λ l is_load.
         let from = sources l is_load in
-        (source l, from, ap (λ n. Some (source n)) (own_number t trace l (load_event t l is_load)) ∙ ap (λ n. Some n) (sym (own_source t trace l (source l) from)));
+        let only = only_sources t source trace sources l is_load in (
+          source l,
+          from,
+          subst (λ n. IsOnlySource t n (origin_in (range_with_len 1 (total t trace)) (source l))) (sym (own_number t trace l (load_event t l is_load)))
+              (subst (IsOnlySource t l) (sym (own_source t trace l (source l) from)) only),
+        );
   },
 )

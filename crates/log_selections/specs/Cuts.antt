@@ -6,7 +6,7 @@ use Rattle.tso_ops.specs.declared.ops.Outcome.TheVariants.{Ld, St, Sw, Mb, Sb}
 use Rattle.tso_ops.specs.Values.{TraceValue, op_of}
 use Rattle.tso_ops.specs.Limits.{event_count, total_events}
 use Rattle.tso_ops.specs.Events.{IsLoad, HasSource}
-use Rattle.log_selections.specs.Logs.{LogValue}
+use Rattle.log_selections.specs.Sources.{IsOnlySource}
 
 -- What is kept of an operation of the log, whose first event has number n, and the numbers in the log of the events that this gives. Address b
 -- of the trace is the log's address at place b of `addresses`. Values may be any: which of them are equal follows from the sources of loads, below.
@@ -42,15 +42,15 @@ abbrev pub origin_in : List ℕ → ℕ → ℕ
 origin_in origins n = get_or (0 ∷ origins) n 0
 
 -- The trace is cut out of the log, with these addresses of the log for its addresses 0, 1, .. and these numbers in the log for its events 1, 2, ..
-pub record IsCutBy (log : LogValue) (t : TraceValue) (addresses origins : List ℕ) : Type 0 where
+pub record IsCutBy (log t : TraceValue) (addresses origins : List ℕ) : Type 0 where
   -- the trace has the log's memory model
-  pub model : t.setting.order ≡ log.operations.setting.order
+  pub model : t.setting.order ≡ log.setting.order
   -- different addresses of the trace are different ones of the log
   pub distinct : IsDistinct nat_eq addresses
-  pub lists : AreCutFrom addresses 1 log.operations.lists t.lists origins
-  -- Each load, also a swap's, reads in the trace from the store whose origin it is known to have read in the log, or it reads the first value in both.
-  pub sources : (l : ℕ) → IsLoad t l → (s : ℕ) × HasSource t l s × (log.source (origin_in origins l) ≡ Some (origin_in origins s))
+  pub lists : AreCutFrom addresses 1 log.lists t.lists origins
+  -- Each load, also a swap's, reads in the trace from the store whose origin is its only source in the log, or it reads the first value in both.
+  pub sources : (l : ℕ) → IsLoad t l → (s : ℕ) × HasSource t l s × IsOnlySource log (origin_in origins l) (origin_in origins s)
 
 -- The trace is cut out of the log.
-abbrev pub IsCut : LogValue → TraceValue → Type 0
+abbrev pub IsCut : TraceValue → TraceValue → Type 0
 IsCut log t = (addresses : List ℕ) × (origins : List ℕ) × IsCutBy log t addresses origins

@@ -1,4 +1,6 @@
 pub mod Cuts
-pub mod Logs
+pub mod Internal
+pub mod Shown
 pub mod Selections
 pub mod Sources
+pub mod Unwritten

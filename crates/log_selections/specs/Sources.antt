@@ -1,15 +1,9 @@
 -- The sources that the values of a log tell.
-use Rattle.std.specs.Prelude.{◌≡◌, ℕ, Some}
+use Rattle.std.specs.Prelude.{◌≡◌, ℕ}
 use Rattle.tso_ops.specs.Values.{TraceValue}
-use Rattle.tso_ops.specs.Events.{IsLoad, HasSource}
-use Rattle.log_selections.specs.Logs.{LogValue}
+use Rattle.tso_ops.specs.Events.{HasSource}
 
 -- Number s alone can have written what load l read: it is 0, and the load read the first value of its address, which no store writes there; or it is
 -- the one store of the value to the address, whose first value is another.
 abbrev pub IsOnlySource : TraceValue → ℕ → ℕ → Type 0
 IsOnlySource t l s = HasSource t l s × ((other : ℕ) → HasSource t l other → other ≡ s)
-
--- The log names no other source of a load than the only one by the values. Where several numbers may have written what the load read, or none, it
--- names none.
-abbrev pub HasKnownSources : LogValue → Type 0
-HasKnownSources log = (l s : ℕ) → IsLoad log.operations l → log.source l ≡ Some s → IsOnlySource log.operations l s

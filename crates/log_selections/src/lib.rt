@@ -1,4 +1,21 @@
-//! Which parts of a log of operations can be judged as a trace.
+//! Which operations of a log can be judged as a trace, so that a violation of them is one of the log.
+//!
+//! `README.md` says what is proved.
 #![tactic(auto)]
 
+pub use known::KnownLog;
+pub use selecting::Selected;
+pub use shown::{Kept, Part, Shown};
+pub use unwritten::{LoggedStore, UnwrittenLoad};
+
+mod accesses;
+mod keeping;
+mod known;
 pub mod laws;
+mod naming;
+mod selecting;
+mod shown;
+mod source_checks;
+mod sources;
+mod unwritten;
+mod writers;

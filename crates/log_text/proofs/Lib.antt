@@ -1,2 +1,3 @@
+pub mod LeftOutFacts
 pub mod ReadingFacts
 pub mod TextFacts

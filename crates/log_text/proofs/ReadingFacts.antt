@@ -1,25 +1,27 @@
 -- Lemmas on the log that lines make, one line after another.
-use Rattle.std.proofs.Common.{◌≡◌, ℕ, suc, ◌+◌, ◌-◌, ◌<◌, ◌≤◌, ◌||◌, Bool, true, false, not, eqb, leb, ltb, cond, List, [], ◌∷◌, ◌++◌, length, get_or, set, map, Some, Result, Ok, Err, slice_get, refl, ap, sym, ◌∙◌, arith, ⊎_elim}
+use Rattle.std.proofs.Common.{◌≡◌, ℕ, suc, ◌+◌, ◌-◌, ◌<◌, ◌≤◌, ◌||◌, Bool, true, false, not, eqb, leb, ltb, cond, max, List, [], ◌∷◌, ◌++◌, length, get_or, set, map, Some, Result, Ok, Err, IfOk, slice_get, refl, ap, sym, ◌∙◌, arith, append_assoc, ⊎_elim}
 use Rattle.std.specs.Global.{Vec}
 use Rattle.std.specs.List.{flat_map, list_any, range_with_len}
 use Rattle.std.specs.Result.{is_ok, OnOk}
 use Rattle.std.proofs.lemmas.Bool.{cases_eq, cases_lt, or_parts}
 use Rattle.std.proofs.lemmas.Bool.Decides.{nat_tests}
-use Rattle.std.proofs.lemmas.List.{append-nil, map-append, map-set, get_or-map, get_or-set_same, get_or-set_other, get_or_push, length-map, length-set, length_push, same_lists}
+use Rattle.std.proofs.lemmas.List.{append-nil, map-set, get_or-map, get_or-set_same, get_or-set_other, get_or_push, length-map, length-set, length_push, same_lists}
 use Rattle.std.proofs.lemmas.List.Concat.{flat_map-append}
 use Rattle.std.proofs.lemmas.List.Folds.{list_any-append}
 use Rattle.std.proofs.lemmas.List.FromFn.{get_or-map-range_with_len, length-map-range_with_len}
 use Rattle.std.proofs.lemmas.Option.{slice_get-get_or}
 use Rattle.line_text.specs.Lines.{is_empty}
-use Rattle.tso_ops.specs.Settings.{setting_of_first}
-use Rattle.tso_ops.specs.Values.{rows, trace_of_lists}
+use Rattle.tso_ops.specs.declared.settings.Order.{Order}
+use Rattle.tso_ops.specs.Values.{rows}
 use Rattle.tso_text.specs.declared.faults.Why.TheVariants.{InitOrder}
 use Rattle.log_text.specs.declared.lines.LogLine.{LogLine}
-use Rattle.log_text.specs.declared.lines.LogLine.TheVariants.{Pso, First, Issued}
+use Rattle.log_text.specs.declared.lines.LogLine.TheVariants.{Pso, First, Issued, Unknown}
 use Rattle.log_text.specs.declared.logs.Log.{Log}
 use Rattle.log_text.specs.declared.logs.LogOperation.{LogOperation}
-use Rattle.log_text.specs.LogTexts.{order_of, entries_in, issued_in, issued_by, is_operation, is_not_below, fault_after, log_of_lines}
-use Rattle.log_text.specs.LogValues.{outcome_of, outcomes_of, log_operations}
+use Rattle.log_text.specs.declared.logs.LoggedOperation.{LoggedOperation}
+use Rattle.log_text.specs.declared.readings.Reading.{Reading}
+use Rattle.log_text.specs.LogTexts.{order_of, entries_in, unknown_in, issued_in, issued_from, issued_by, is_issued, is_not_below, processors_to, processors_in, fault_after, without_addresses, log_of_lines}
+use Rattle.log_text.specs.LogValues.{NumberedLog, log_value}
 use Rattle.log_text.specs.Internal.Readings.{has_not_below, IsLastGreatest, HoldsLines, IsNext}
 
 or_true : (b : Bool) → (b || true) ≡ true
@@ -62,55 +64,74 @@ entries_not_below a [] = refl
 entries_not_below a (Pso ∷ lines) = entries_not_below a lines
 entries_not_below a (First b v ∷ lines) = ap (λ t. leb a b || t) (entries_not_below a lines)
 entries_not_below a (Issued p x ∷ lines) = entries_not_below a lines
+entries_not_below a (Unknown p b ∷ lines) = entries_not_below a lines
 
 -- ---- one more line
 
-order_of-entry : (lines : List LogLine) (a v : ℕ) → order_of (lines ++ First a v ∷ []) ≡ order_of lines
-order_of-entry (First b w ∷ lines) a v = order_of-entry lines a v
-order_of-entry (Issued p x ∷ lines) a v = order_of-entry lines a v
-order_of-entry lines a v = refl
+-- a line that says nothing of the memory model
+order_of-push : (lines : List LogLine) (line : LogLine) → (line ≡ Pso → ⊥) → order_of (lines ++ line ∷ []) ≡ order_of lines
+order_of-push [] Pso other = absurd (other refl)
+order_of-push [] (First a v) other = refl
+order_of-push [] (Issued p x) other = refl
+order_of-push [] (Unknown p a) other = refl
+order_of-push (Pso ∷ lines) line other = refl
+order_of-push (First a v ∷ lines) line other = order_of-push lines line other
+order_of-push (Issued p x ∷ lines) line other = order_of-push lines line other
+order_of-push (Unknown p a ∷ lines) line other = order_of-push lines line other
 
-order_of-operation : (lines : List LogLine) (p : ℕ) (x : LogOperation) → order_of (lines ++ Issued p x ∷ []) ≡ order_of lines
-order_of-operation (First b w ∷ lines) p x = order_of-operation lines p x
-order_of-operation (Issued q y ∷ lines) p x = order_of-operation lines p x
-order_of-operation lines p x = refl
+issued_from-push : (n : ℕ) (lines : List LogLine) (line : LogLine) (p : ℕ) → issued_from n (lines ++ line ∷ []) p ≡ issued_from n lines p ++ issued_in p (n + length lines) line
+issued_from-push n [] line p = append-nil (issued_in p n line) ∙ ap (λ m. issued_in p m line) (omega arith)
+issued_from-push n (other ∷ lines) line p =
+    let place : suc n + length lines ≡ n + length (other ∷ lines) = omega arith in
+    ap (λ xs. issued_in p n other ++ xs) (issued_from-push (suc n) lines line p ∙ ap (λ m. issued_from (suc n) lines p ++ issued_in p m line) place)
+    ∙ sym (append_assoc (issued_in p n other) (issued_from (suc n) lines p) (issued_in p (n + length (other ∷ lines)) line))
 
-issued_by-push : (lines : List LogLine) (line : LogLine) (p : ℕ) → issued_by (lines ++ line ∷ []) p ≡ issued_by lines p ++ issued_in p line
-issued_by-push lines line p = flat_map-append (issued_in p) lines (line ∷ []) ∙ ap (λ xs. issued_by lines p ++ xs) (append-nil (issued_in p line))
+-- a line that says no operation of p
+unissued : (p : ℕ) (before : List LogLine) (line : LogLine) → ((n : ℕ) → issued_in p n line ≡ []) → issued_from 1 (before ++ line ∷ []) p ≡ issued_from 1 before p
+unissued p before line none = issued_from-push 1 before line p ∙ ap (λ xs. issued_from 1 before p ++ xs) (none (1 + length before)) ∙ append-nil (issued_from 1 before p)
 
 entries-push : (lines : List LogLine) (line : LogLine) → flat_map entries_in (lines ++ line ∷ []) ≡ flat_map entries_in lines ++ entries_in line
 entries-push lines line = flat_map-append entries_in lines (line ∷ []) ∙ ap (λ xs. flat_map entries_in lines ++ xs) (append-nil (entries_in line))
 
-operations-push : (lines : List LogLine) (line : LogLine) → list_any is_operation (lines ++ line ∷ []) ≡ (list_any is_operation lines || is_operation line)
-operations-push lines line = list_any-append is_operation lines (line ∷ []) ∙ ap (λ b. list_any is_operation lines || b) (or_false (is_operation line))
+unknown-push : (lines : List LogLine) (line : LogLine) → flat_map unknown_in (lines ++ line ∷ []) ≡ flat_map unknown_in lines ++ unknown_in line
+unknown-push lines line = flat_map-append unknown_in lines (line ∷ []) ∙ ap (λ xs. flat_map unknown_in lines ++ xs) (append-nil (unknown_in line))
 
-pub some_push : {X : Type 0} (xs : List X) (x : X) → not (is_empty (xs ++ x ∷ [])) ≡ true
-some_push [] x = refl
-some_push (y ∷ xs) x = refl
+issued-push : (lines : List LogLine) (line : LogLine) → list_any is_issued (lines ++ line ∷ []) ≡ (list_any is_issued lines || is_issued line)
+issued-push lines line = list_any-append is_issued lines (line ∷ []) ∙ ap (λ b. list_any is_issued lines || b) (or_false (is_issued line))
 
--- a first value, where no operation came before and its address is above those before
-pub entry_next : (log new : Log) (before : List LogLine) (a v : ℕ) → HoldsLines log before → log.issuers.items ≡ [] → has_not_below a log.first.items ≡ false →
-    new.order ≡ log.order → new.first.items ≡ log.first.items ++ (a, v) ∷ [] → new.lists.items ≡ log.lists.items → new.issuers.items ≡ log.issuers.items → IsNext before (First a v) new
-entry_next log new before a v holds none above order first lists issuers =
-    let idle : list_any is_operation before ≡ false = holds.issuers ∙ ap (λ xs. not (is_empty xs)) none in
+processors-push : (lines : List LogLine) (line : LogLine) → processors_in (lines ++ line ∷ []) ≡ max (processors_to line) (processors_in lines)
+processors-push [] line = refl
+processors-push (other ∷ lines) line = ap (max (processors_to other)) (processors-push lines line) ∙ omega arith
+
+some_longer : {X : Type 0} (xs : List X) (p m : ℕ) → length xs ≡ max (p + 1) m → not (is_empty xs) ≡ true
+some_longer [] p m long = absurd (omega (arith, long))
+some_longer (x ∷ xs) p m long = refl
+
+-- a first value, where no line of a processor came before and its address is above those before
+pub entry_next : (reading new : Reading) (before : List LogLine) (a v : ℕ) → HoldsLines reading before → rows reading.log.lists.items ≡ [] → has_not_below a reading.log.first.items ≡ false →
+    new.log.order ≡ reading.log.order → new.log.first.items ≡ reading.log.first.items ++ (a, v) ∷ [] → rows new.log.lists.items ≡ rows reading.log.lists.items → new.unknown.items ≡ reading.unknown.items →
+    IsNext before (First a v) new
+entry_next reading new before a v holds none above order first lists unknown =
+    let idle : list_any is_issued before ≡ false = holds.issued ∙ ap (λ xs. not (is_empty xs)) none in
     let below : list_any (is_not_below a) before ≡ false = entries_not_below a before ∙ ap (has_not_below a) (sym holds.first) ∙ above in
     record {
       clean = rw (idle, below) refl;
       holds = record {
-        order = order ∙ holds.order ∙ sym (order_of-entry before a v);
+        order = order ∙ holds.order ∙ sym (order_of-push before (First a v) (λ e. absurd cc));
         first = first ∙ ap (λ xs. xs ++ (a, v) ∷ []) holds.first ∙ sym (entries-push before (First a v));
-        greatest = rw first (IsLastGreatest-push log.first.items a v above);
-        issuers = operations-push before (First a v) ∙ or_false (list_any is_operation before) ∙ holds.issuers ∙ ap (λ xs. not (is_empty xs)) (sym issuers);
-        count = ap (λ xs. length (rows xs)) lists ∙ holds.count;
-        lists = λ p low. ap (λ xs. outcomes_of (get_or (rows xs) p [])) lists ∙ holds.lists p low ∙ sym (append-nil (issued_by before p)) ∙ sym (issued_by-push before (First a v) p);
+        greatest = rw first (IsLastGreatest-push reading.log.first.items a v above);
+        issued = issued-push before (First a v) ∙ or_false (list_any is_issued before) ∙ holds.issued ∙ ap (λ xs. not (is_empty xs)) (sym lists);
+        count = ap length lists ∙ holds.count ∙ omega arith ∙ sym (processors-push before (First a v));
+        lists = λ p. ap (λ xs. get_or xs p []) lists ∙ holds.lists p ∙ sym (unissued p before (First a v) (λ n. refl));
+        unknown = unknown ∙ holds.unknown ∙ sym (append-nil (flat_map unknown_in before)) ∙ sym (unknown-push before (First a v));
       };
     }
 
 -- a first value, whose address isn't above those before
-pub entry_refused : (log : Log) (before : List LogLine) (a v : ℕ) → HoldsLines log before → log.issuers.items ≡ [] → has_not_below a log.first.items ≡ true →
+pub entry_refused : (reading : Reading) (before : List LogLine) (a v : ℕ) → HoldsLines reading before → rows reading.log.lists.items ≡ [] → has_not_below a reading.log.first.items ≡ true →
     fault_after before (First a v) ≡ Some InitOrder
-entry_refused log before a v holds none high =
-    let idle : list_any is_operation before ≡ false = holds.issuers ∙ ap (λ xs. not (is_empty xs)) none in
+entry_refused reading before a v holds none high =
+    let idle : list_any is_issued before ≡ false = holds.issued ∙ ap (λ xs. not (is_empty xs)) none in
     let reached : list_any (is_not_below a) before ≡ true = entries_not_below a before ∙ ap (has_not_below a) (sym holds.first) ∙ high in
     rw (idle, reached) refl
 
@@ -119,40 +140,70 @@ pub no_elements : {X : Type 0} (xs : List X) (n : ℕ) (b : Bool) → n ≡ leng
 no_elements [] n b count is on = refl
 no_elements (x ∷ xs) n b count is on = absurd (grind (arith, nat_tests))
 
+-- the same of lists
+pub no_rows : {X : Type 0} (lists : List (Vec X)) (n : ℕ) (b : Bool) → n ≡ length lists → b ≡ eqb n 0 → b ≡ true → rows lists ≡ []
+no_rows lists n b count is on = ap rows (no_elements lists n b count is on)
+
 -- an operation of a processor
-issued_here : (p : ℕ) (x : LogOperation) → issued_in p (Issued p x) ≡ outcome_of x ∷ []
-issued_here p x = let same : eqb p p ≡ true = grind (arith, nat_tests) in rw same refl
+issued_here : (p n : ℕ) (x : LogOperation) → issued_in p n (Issued p x) ≡ record { line = n; operation = x } ∷ []
+issued_here p n x = let same : eqb p p ≡ true = grind (arith, nat_tests) in rw same refl
 
-issued_elsewhere : (q p : ℕ) (x : LogOperation) → (q ≡ p → ⊥) → issued_in q (Issued p x) ≡ []
-issued_elsewhere q p x other = let differs : eqb q p ≡ false = grind (arith, nat_tests) in rw differs refl
+issued_elsewhere : (q p n : ℕ) (x : LogOperation) → (q ≡ p → ⊥) → issued_in q n (Issued p x) ≡ []
+issued_elsewhere q p n x other = let differs : eqb q p ≡ false = grind (arith, nat_tests) in rw differs refl
 
-lists_next : (lists new : List (List LogOperation)) (before : List LogLine) (p : ℕ) (x : LogOperation) (q : ℕ) → p < length lists → new ≡ set lists p (get_or lists p [] ++ x ∷ []) →
-    outcomes_of (get_or lists q []) ≡ issued_by before q → outcomes_of (get_or new q []) ≡ issued_by (before ++ Issued p x ∷ []) q
-lists_next lists new before p x q inside is says =
+lists_next : (old new : List (List LoggedOperation)) (before : List LogLine) (p number : ℕ) (x : LogOperation) (q : ℕ) → p < length old → number ≡ suc (length before) →
+    new ≡ set old p (get_or old p [] ++ record { line = number; operation = x } ∷ []) → get_or old q [] ≡ issued_from 1 before q → get_or new q [] ≡ issued_from 1 (before ++ Issued p x ∷ []) q
+lists_next old new before p number x q inside numbered is says =
+    let y : LoggedOperation = record { line = number; operation = x } in
+    let line : number ≡ 1 + length before = omega (arith, numbered) in
     ⊎_elim
     (λ (same : q ≡ p).
-    let row : get_or new q [] ≡ get_or lists q [] ++ x ∷ [] = ap (λ xs. get_or xs q []) is ∙ ap (λ i. get_or (set lists p (get_or lists p [] ++ x ∷ [])) i []) same ∙ get_or-set_same lists p (get_or lists p [] ++ x ∷ []) [] inside ∙ ap (λ i. get_or lists i [] ++ x ∷ []) (sym same) in
-    let here : issued_in q (Issued p x) ≡ outcome_of x ∷ [] = ap (λ i. issued_in i (Issued p x)) same ∙ issued_here p x in
-    ap outcomes_of row ∙ map-append outcome_of (get_or lists q []) (x ∷ []) ∙ ap (λ xs. xs ++ outcome_of x ∷ []) says ∙ ap (λ xs. issued_by before q ++ xs) (sym here) ∙ sym (issued_by-push before (Issued p x) q))
+    let row : get_or new q [] ≡ get_or old q [] ++ y ∷ [] = ap (λ xs. get_or xs q []) is ∙ ap (λ i. get_or (set old p (get_or old p [] ++ y ∷ [])) i []) same ∙ get_or-set_same old p (get_or old p [] ++ y ∷ []) [] inside ∙ ap (λ i. get_or old i [] ++ y ∷ []) (sym same) in
+    let here : issued_in q (1 + length before) (Issued p x) ≡ y ∷ [] = ap (λ i. issued_in i (1 + length before) (Issued p x)) same ∙ issued_here p (1 + length before) x ∙ ap (λ n. record { line = n; operation = x } ∷ []) (sym line) in
+    row ∙ ap (λ xs. xs ++ y ∷ []) says ∙ ap (λ xs. issued_from 1 before q ++ xs) (sym here) ∙ sym (issued_from-push 1 before (Issued p x) q))
     (λ (other : q ≡ p → ⊥).
-    let row : get_or new q [] ≡ get_or lists q [] = ap (λ xs. get_or xs q []) is ∙ get_or-set_other lists p q (get_or lists p [] ++ x ∷ []) [] other in
-    ap outcomes_of row ∙ says ∙ sym (append-nil (issued_by before q)) ∙ ap (λ xs. issued_by before q ++ xs) (sym (issued_elsewhere q p x other)) ∙ sym (issued_by-push before (Issued p x) q))
+    let row : get_or new q [] ≡ get_or old q [] = ap (λ xs. get_or xs q []) is ∙ get_or-set_other old p q (get_or old p [] ++ y ∷ []) [] other in
+    row ∙ says ∙ sym (unissued q before (Issued p x) (λ n. issued_elsewhere q p n x other)))
     (cases_eq q p)
 
-pub operation_next : (log new : Log) (before : List LogLine) (p : ℕ) (x : LogOperation) → HoldsLines log before → p < 16 →
-    new.order ≡ log.order → new.first.items ≡ log.first.items → rows new.lists.items ≡ set (rows log.lists.items) p (get_or (rows log.lists.items) p [] ++ x ∷ []) →
-    new.issuers.items ≡ log.issuers.items ++ p ∷ [] → IsNext before (Issued p x) new
-operation_next log new before p x holds low order first lists issuers =
-    let within : ltb 15 p ≡ false = grind (arith, nat_tests) in
+-- there is a list for the processor, by lists that have as many as before or more
+pub operation_next : (reading new : Reading) (grown : List (List LoggedOperation)) (before : List LogLine) (p number : ℕ) (x : LogOperation) → HoldsLines reading before → p < 4096 → number ≡ suc (length before) →
+    new.log.order ≡ reading.log.order → new.log.first.items ≡ reading.log.first.items → new.unknown.items ≡ reading.unknown.items →
+    length grown ≡ max (p + 1) (length (rows reading.log.lists.items)) → ((q : ℕ) → get_or grown q [] ≡ get_or (rows reading.log.lists.items) q []) →
+    rows new.log.lists.items ≡ set grown p (get_or grown p [] ++ record { line = number; operation = x } ∷ []) → IsNext before (Issued p x) new
+operation_next reading new grown before p number x holds low numbered order first unknown long same lists =
+    let within : ltb 4095 p ≡ false = grind (arith, nat_tests) in
+    let total : length (rows new.log.lists.items) ≡ max (p + 1) (length (rows reading.log.lists.items)) = ap length lists ∙ length-set grown p (get_or grown p [] ++ record { line = number; operation = x } ∷ []) ∙ long in
     record {
       clean = rw within refl;
       holds = record {
-        order = order ∙ holds.order ∙ sym (order_of-operation before p x);
+        order = order ∙ holds.order ∙ sym (order_of-push before (Issued p x) (λ e. absurd cc));
         first = first ∙ holds.first ∙ sym (append-nil (flat_map entries_in before)) ∙ sym (entries-push before (Issued p x));
         greatest = rw first holds.greatest;
-        issuers = operations-push before (Issued p x) ∙ or_true (list_any is_operation before) ∙ sym (ap (λ xs. not (is_empty xs)) issuers ∙ some_push log.issuers.items p);
-        count = ap length lists ∙ length-set (rows log.lists.items) p (get_or (rows log.lists.items) p [] ++ x ∷ []) ∙ holds.count;
-        lists = λ q inside. lists_next (rows log.lists.items) (rows new.lists.items) before p x q (omega (arith, holds.count)) lists (holds.lists q inside);
+        issued = issued-push before (Issued p x) ∙ or_true (list_any is_issued before) ∙ sym (some_longer (rows new.log.lists.items) p (length (rows reading.log.lists.items)) total);
+        count = total ∙ ap (max (p + 1)) holds.count ∙ omega arith ∙ sym (processors-push before (Issued p x));
+        lists = λ q. lists_next grown (rows new.log.lists.items) before p number x q (omega (arith, long)) numbered lists (same q ∙ holds.lists q);
+        unknown = unknown ∙ holds.unknown ∙ sym (append-nil (flat_map unknown_in before)) ∙ sym (unknown-push before (Issued p x));
+      };
+    }
+
+-- a line `un` of a processor
+pub unknown_next : (reading new : Reading) (before : List LogLine) (p a : ℕ) → HoldsLines reading before → p < 4096 →
+    new.log.order ≡ reading.log.order → new.log.first.items ≡ reading.log.first.items → new.unknown.items ≡ reading.unknown.items ++ a ∷ [] →
+    length (rows new.log.lists.items) ≡ max (p + 1) (length (rows reading.log.lists.items)) → ((q : ℕ) → get_or (rows new.log.lists.items) q [] ≡ get_or (rows reading.log.lists.items) q []) →
+    IsNext before (Unknown p a) new
+unknown_next reading new before p a holds low order first unknown long same =
+    let within : ltb 4095 p ≡ false = grind (arith, nat_tests) in
+    record {
+      clean = rw within refl;
+      holds = record {
+        order = order ∙ holds.order ∙ sym (order_of-push before (Unknown p a) (λ e. absurd cc));
+        first = first ∙ holds.first ∙ sym (append-nil (flat_map entries_in before)) ∙ sym (entries-push before (Unknown p a));
+        greatest = rw first holds.greatest;
+        issued = issued-push before (Unknown p a) ∙ or_true (list_any is_issued before) ∙ sym (some_longer (rows new.log.lists.items) p (length (rows reading.log.lists.items)) long);
+        count = long ∙ ap (max (p + 1)) holds.count ∙ omega arith ∙ sym (processors-push before (Unknown p a));
+        lists = λ q. same q ∙ holds.lists q ∙ sym (unissued q before (Unknown p a) (λ n. refl));
+        unknown = unknown ∙ ap (λ xs. xs ++ a ∷ []) holds.unknown ∙ sym (unknown-push before (Unknown p a));
       };
     }
 
@@ -170,14 +221,26 @@ pub rows-push_at : {X E : Type 0} (lists : List (Vec X)) (k : ℕ) (old new : Ve
 rows-push_at lists k old new x (Ok u) inside is pushed = rows-set lists k old new x inside is pushed
 rows-push_at lists k old new x (Err e) inside is pushed = tt
 
--- the operations of the log are those of the lines that it holds
-pub operations_held : (log : Log) (lines : List LogLine) → HoldsLines log lines → log_operations log ≡ log_of_lines lines
-operations_held log lines holds =
-    let lists : map outcomes_of (rows log.lists.items) ≡ map (issued_by lines) (range_with_len 0 16) =
-    same_lists (map outcomes_of (rows log.lists.items)) (map (issued_by lines) (range_with_len 0 16)) (length-map (rows log.lists.items) outcomes_of ∙ holds.count ∙ sym (length-map-range_with_len (issued_by lines) 0 16))
+abbrev log_with : Order → List (ℕ × ℕ) → List (List LoggedOperation) → NumberedLog
+log_with order first lists = record { order = order; first = first; lists = lists }
+
+-- the log without what is at addresses of lines `un` is that of the lines
+pub log_held : (reading : Reading) (lines : List LogLine) (log : NumberedLog) → HoldsLines reading lines → log.order ≡ reading.log.order → log.first ≡ reading.log.first.items →
+    log.lists ≡ map (without_addresses reading.unknown.items) (rows reading.log.lists.items) → log ≡ log_of_lines lines
+log_held reading lines log holds order first lists =
+    let old = rows reading.log.lists.items in
+    let same : map (without_addresses reading.unknown.items) old ≡ map (issued_by lines) (range_with_len 0 (processors_in lines)) =
+    same_lists (map (without_addresses reading.unknown.items) old) (map (issued_by lines) (range_with_len 0 (processors_in lines)))
+    (length-map old (without_addresses reading.unknown.items) ∙ holds.count ∙ sym (length-map-range_with_len (issued_by lines) 0 (processors_in lines)))
     (λ k d inside.
-    let low : k < 16 = omega (arith, length-map (rows log.lists.items) outcomes_of, holds.count) in
-    get_or-map outcomes_of (rows log.lists.items) k [] d (omega (arith, holds.count)) ∙ holds.lists k low ∙ sym (get_or-map-range_with_len (issued_by lines) 0 16 k k d low (omega arith))) in
-    ap (λ order. trace_of_lists (setting_of_first order log.first.items) (map outcomes_of (rows log.lists.items))) holds.order
-    ∙ ap (λ first. trace_of_lists (setting_of_first (order_of lines) first) (map outcomes_of (rows log.lists.items))) holds.first
-    ∙ ap (trace_of_lists (setting_of_first (order_of lines) (flat_map entries_in lines))) lists
+    let low : k < processors_in lines = omega (arith, length-map old (without_addresses reading.unknown.items), holds.count) in
+    get_or-map (without_addresses reading.unknown.items) old k [] d (omega (arith, holds.count)) ∙ ap (without_addresses reading.unknown.items) (holds.lists k) ∙ ap (λ unknown. without_addresses unknown (issued_from 1 lines k)) holds.unknown
+    ∙ sym (get_or-map-range_with_len (issued_by lines) 0 (processors_in lines) k k d low (omega arith))) in
+    ap (λ o. log_with o log.first log.lists) (order ∙ holds.order) ∙ ap (λ entries. log_with (order_of lines) entries log.lists) (first ∙ holds.first)
+    ∙ ap (log_with (order_of lines) (flat_map entries_in lines)) (lists ∙ same)
+
+pub held_after : {E : Type 0} (reading : Reading) (left : Result Log E) →
+    IfOk left (λ log. log_value log ≡ log_with reading.log.order reading.log.first.items (map (without_addresses reading.unknown.items) (rows reading.log.lists.items))) →
+    IfOk left (λ log. (lines : List LogLine) → HoldsLines reading lines → log_value log ≡ log_of_lines lines)
+held_after reading (Ok log) is = λ lines holds. log_held reading lines (log_value log) holds (ap (λ v. v.order) is) (ap (λ v. v.first) is) (ap (λ v. v.lists) is)
+held_after reading (Err fault) is = tt

@@ -1,19 +1,17 @@
 -- Lemmas on the texts of logs: how far a reader has come, and that a text spells one log or has a refusal.
 use Rattle.std.proofs.Common.{◌≡◌, ◌≢◌, ℕ, suc, ◌+◌, eqb, Bool, false, List, [], ◌∷◌, ◌++◌, length, map, None, Some, Result, Ok, Err, refl, ap, sym, ◌∙◌, arith, append_assoc, ⊎_elim, ◌⊎◌, inl, inr}
 use Rattle.std.proofs.lemmas.Bool.Decides.{nat_tests}
-use Rattle.std.proofs.lemmas.List.{append_cancel_right, length_push, map-append}
+use Rattle.std.proofs.lemmas.List.{append_cancel_right, length-map, length_push, map-append}
 use Rattle.line_text.specs.Lines.{parts_of}
 use Rattle.line_text.proofs.CutFacts.{split_parts}
-use Rattle.tso_ops.specs.Values.{TraceValue}
 use Rattle.tso_text.specs.declared.faults.Why.{Why}
 use Rattle.tso_text.specs.declared.faults.Why.TheVariants.{BadLine, OutOfMemory}
 use Rattle.log_text.specs.declared.lines.LogLine.{LogLine}
-use Rattle.log_text.specs.declared.logs.Log.{Log}
+use Rattle.log_text.specs.declared.readings.Reading.{Reading}
 use Rattle.log_text.specs.LogLines.{line_said}
 use Rattle.log_text.specs.LogTexts.{fault_after, log_of_lines, AreSaid, SpellsLog, IsLogRefusal, IsPartRefused}
-use Rattle.log_text.specs.LogValues.{log_operations}
+use Rattle.log_text.specs.LogValues.{NumberedLog}
 use Rattle.log_text.specs.Internal.Readings.{HoldsLines, HasFault, IsTextAccepted, IsTextRefused}
-use Rattle.log_text.proofs.ReadingFacts.{operations_held}
 
 -- ---- lists
 
@@ -104,7 +102,7 @@ AreSaid-push texts lines text line are says clean = record {
 -- ---- one log or one refusal
 
 -- a text spells one log at most
-pub one_log : (text : List ℕ) (t u : TraceValue) → SpellsLog text t → SpellsLog text u → t ≡ u
+pub one_log : (text : List ℕ) (t u : NumberedLog) → SpellsLog text t → SpellsLog text u → t ≡ u
 one_log text t u s r =
     let texts : s.texts ≡ r.texts = append_cancel_right s.texts r.texts ([] ∷ []) (sym s.whole ∙ r.whole) in
     let lines : s.lines ≡ r.lines = same_said s.lines r.lines (sym s.said.said ∙ ap (map line_said) texts ∙ r.said.said) in
@@ -127,27 +125,31 @@ not_both texts lines part (next ∷ after) why whole all same said spelled fault
     fault
 
 -- a text with a refusal spells no log
-pub never_both : (text : List ℕ) (t : TraceValue) (line : ℕ) (why : Why) → SpellsLog text t → IsLogRefusal text line why → ⊥
+pub never_both : (text : List ℕ) (t : NumberedLog) (line : ℕ) (why : Why) → SpellsLog text t → IsLogRefusal text line why → ⊥
 never_both text t line why s r = not_both r.texts r.lines r.part r.after why s.texts s.lines (sym s.whole ∙ r.whole) r.said s.said r.fault
+
+-- as many lines as texts that say them
+same_count : (texts : List (List ℕ)) (lines : List LogLine) → map line_said texts ≡ map said_ok lines → length texts ≡ length lines
+same_count texts lines said = sym (length-map texts line_said) ∙ ap length said ∙ length-map lines said_ok
 
 -- ---- the reader
 
--- The reader is at this line: those before have no fault, and the log holds what they say; `rest` is what stands after them.
-pub record Reached (text : List ℕ) (line : ℕ) (rest : List ℕ) (log : Log) : Type 0 where
+-- The reader is at this line: those before have no fault, and the reading holds what they say; `rest` is what stands after them.
+pub record Reached (text : List ℕ) (line : ℕ) (rest : List ℕ) (reading : Reading) : Type 0 where
   pub texts : List (List ℕ)
   pub lines : List LogLine
   pub whole : parts_of text ≡ texts ++ parts_of rest
   pub said : AreSaid texts lines
   pub count : line ≡ suc (length texts)
-  pub holds : HoldsLines log lines
+  pub holds : HoldsLines reading lines
 
-pub Reached-start : (text : List ℕ) (log : Log) → HoldsLines log [] → Reached text 1 text log
-Reached-start text log holds = record { texts = []; lines = []; whole = refl; said = AreSaid-nil; count = refl; holds = holds }
+pub Reached-start : (text : List ℕ) (reading : Reading) → HoldsLines reading [] → Reached text 1 text reading
+Reached-start text reading holds = record { texts = []; lines = []; whole = refl; said = AreSaid-nil; count = refl; holds = holds }
 
-pub Reached-next : (text : List ℕ) (line : ℕ) (rest : List ℕ) (log : Log) (part after : List ℕ) (new : Log) → Reached text line rest log → parts_of rest ≡ part ∷ parts_of after →
-    IsTextAccepted log part new → Reached text (line + 1) after new
-Reached-next text line rest log part after new r cut accepted =
-    let next = accepted r.lines r.holds in
+pub Reached-next : (text : List ℕ) (line : ℕ) (rest : List ℕ) (reading : Reading) (part after : List ℕ) (new : Reading) → Reached text line rest reading → parts_of rest ≡ part ∷ parts_of after →
+    IsTextAccepted reading line part new → Reached text (line + 1) after new
+Reached-next text line rest reading part after new r cut accepted =
+    let next = accepted r.lines r.holds (r.count ∙ ap suc (same_count r.texts r.lines r.said.said)) in
     record {
       texts = r.texts ++ part ∷ [];
       lines = r.lines ++ next.line ∷ [];
@@ -158,20 +160,21 @@ Reached-next text line rest log part after new r cut accepted =
     }
 
 -- nothing stands after the last line
-pub Reached-end : (text : List ℕ) (line : ℕ) (rest : List ℕ) (log : Log) → Reached text line rest log → parts_of rest ≡ rest ∷ [] → rest ≡ [] → SpellsLog text (log_operations log)
-Reached-end text line rest log r cut none = record {
+pub Reached-end : (text : List ℕ) (line : ℕ) (rest : List ℕ) (reading : Reading) (log : NumberedLog) → Reached text line rest reading → parts_of rest ≡ rest ∷ [] → rest ≡ [] →
+    ((lines : List LogLine) → HoldsLines reading lines → log ≡ log_of_lines lines) → SpellsLog text log
+Reached-end text line rest reading log r cut none is = record {
   texts = r.texts;
   lines = r.lines;
   whole = r.whole ∙ ap (λ x. r.texts ++ x) (cut ∙ ap (λ x. x ∷ []) none);
   said = r.said;
-  is = operations_held log r.lines r.holds;
+  is = is r.lines r.holds;
 }
 
 -- the line is refused
-pub line_refused : (text : List ℕ) (line : ℕ) (rest : List ℕ) (log : Log) (part after : List ℕ) (why : Why) → Reached text line rest log → parts_of rest ≡ part ∷ parts_of after →
-    IsTextRefused log part why → (why ≡ OutOfMemory) ⊎ IsLogRefusal text line why
+pub line_refused : (text : List ℕ) (line : ℕ) (rest : List ℕ) (reading : Reading) (part after : List ℕ) (why : Why) → Reached text line rest reading → parts_of rest ≡ part ∷ parts_of after →
+    IsTextRefused reading part why → (why ≡ OutOfMemory) ⊎ IsLogRefusal text line why
 unfolding parts_of
-line_refused text line rest log part after why r cut refused =
+line_refused text line rest reading part after why r cut refused =
     let p = split_parts (λ b. eqb b 10) after in
     ⊎_elim
     (λ (memory : why ≡ OutOfMemory). inl memory)
@@ -188,8 +191,8 @@ line_refused text line rest log part after why r cut refused =
     (refused r.lines r.holds)
 
 -- bytes stand after the last line
-pub unended_refused : (text : List ℕ) (line : ℕ) (rest : List ℕ) (log : Log) → Reached text line rest log → parts_of rest ≡ rest ∷ [] → rest ≢ [] → IsLogRefusal text line BadLine
-unended_refused text line rest log r cut some = record {
+pub unended_refused : (text : List ℕ) (line : ℕ) (rest : List ℕ) (reading : Reading) → Reached text line rest reading → parts_of rest ≡ rest ∷ [] → rest ≢ [] → IsLogRefusal text line BadLine
+unended_refused text line rest reading r cut some = record {
   texts = r.texts;
   lines = r.lines;
   part = rest;

@@ -1,12 +1,23 @@
 -- What contracts see of a log.
-use Rattle.std.specs.Prelude.{List, map}
+use Rattle.std.specs.Prelude.{ℕ, List, map}
 use Rattle.tso_ops.specs.declared.ops.Outcome.{Outcome}
 use Rattle.tso_ops.specs.declared.ops.Outcome.TheVariants.{Ld as OutcomeLd, St as OutcomeSt, Sw as OutcomeSw, Mb as OutcomeMb, Sb as OutcomeSb}
+use Rattle.tso_ops.specs.declared.settings.Order.{Order}
 use Rattle.tso_ops.specs.Settings.{setting_of_first}
 use Rattle.tso_ops.specs.Values.{TraceValue, trace_of_lists, rows}
 use Rattle.log_text.specs.declared.logs.Log.{Log}
 use Rattle.log_text.specs.declared.logs.LogOperation.{LogOperation}
 use Rattle.log_text.specs.declared.logs.LogOperation.TheVariants.{Ld, St, Sw, Mb, Sb}
+use Rattle.log_text.specs.declared.logs.LoggedOperation.{LoggedOperation}
+
+-- a log: its memory model, first values, and the operations of processors 0, 1, .., each with its line
+pub record NumberedLog : Type 0 where
+  pub order : Order
+  pub first : List (ℕ × ℕ)
+  pub lists : List (List LoggedOperation)
+
+abbrev pub log_value : Log → NumberedLog
+log_value log = record { order = log.order; first = log.first.items; lists = rows log.lists.items }
 
 -- The operation as one of a trace: a log's has any address of 64 bits.
 abbrev pub outcome_of : LogOperation → Outcome
@@ -16,9 +27,9 @@ outcome_of (Sw a r v) = OutcomeSw a r v
 outcome_of Mb = OutcomeMb
 outcome_of Sb = OutcomeSb
 
-abbrev pub outcomes_of : List LogOperation → List Outcome
-outcomes_of operations = map outcome_of operations
+abbrev pub outcomes_of : List LoggedOperation → List Outcome
+outcomes_of operations = map (λ x. outcome_of x.operation) operations
 
 -- The log's memory model and first values, and the operations of each processor. No limit of a trace holds of them.
-abbrev pub log_operations : Log → TraceValue
-log_operations log = trace_of_lists (setting_of_first log.order log.first.items) (map outcomes_of (rows log.lists.items))
+abbrev pub log_operations : NumberedLog → TraceValue
+log_operations log = trace_of_lists (setting_of_first log.order log.first) (map outcomes_of log.lists)

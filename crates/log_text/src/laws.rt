@@ -1,12 +1,12 @@
 //! What the definitions of the texts of logs say of each other, proved of all texts.
 
 ghost use Rattle.std.specs.Prelude.{◌≡◌, ℕ, List};
-ghost use Rattle.tso_ops.specs.Values.{TraceValue};
+ghost use Rattle.log_text.specs.LogValues.{NumberedLog};
 ghost use Rattle.tso_text.specs.declared.faults.Why.{Why};
 ghost use Rattle.log_text.specs.LogTexts.{SpellsLog, IsLogRefusal};
 
 /// A text spells one log at most, and one that is refused spells none.
 pub fn texts()
-    ensures one_log { (text : List ℕ) (t u : TraceValue) → SpellsLog text t → SpellsLog text u → t ≡ u }
-    ensures never_both { (text : List ℕ) (t : TraceValue) (line : ℕ) (why : Why) → SpellsLog text t → IsLogRefusal text line why → ⊥ }
+    ensures one_log { (text : List ℕ) (t u : NumberedLog) → SpellsLog text t → SpellsLog text u → t ≡ u }
+    ensures never_both { (text : List ℕ) (t : NumberedLog) (line : ℕ) (why : Why) → SpellsLog text t → IsLogRefusal text line why → ⊥ }
 {}

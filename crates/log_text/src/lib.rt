@@ -4,9 +4,10 @@
 //! proved.
 #![tactic(auto)]
 
-pub use logs::{Log, LogOperation};
+pub use logs::{Log, LogOperation, LoggedOperation};
 pub use readers::read_log;
 
+mod known;
 pub mod laws;
 mod lines;
 mod logs;

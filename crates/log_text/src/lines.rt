@@ -1,12 +1,12 @@
 ghost use Rattle.std.specs.Prelude.{◌≡◌};
 ghost use Rattle.line_text.specs.Lines.{tokens_after};
 ghost use Rattle.line_text.specs.Numbers.{number};
-ghost use Rattle.log_text.specs.LogLines.{line_said, operation_said, processor_said};
+ghost use Rattle.log_text.specs.LogLines.{line_said, issued_said, operation_said, processor_said};
 
 use crate::logs::LogOperation;
 use line_text::{next_token, number_of};
 use tso_text::words::{LD, MB, ST, STBAR, SW};
-use tso_text::{Why, no_number, three_numbers, two_numbers};
+use tso_text::{Why, no_number, one_number, three_numbers, two_numbers};
 
 /// What a line of a log says.
 #[derive(Clone, Copy)]
@@ -17,6 +17,8 @@ pub(crate) enum LogLine {
     First { a: u64, v: u64 },
     /// An operation of a processor.
     Issued { p: u64, x: LogOperation },
+    /// A processor did something else to the location at an address.
+    Unknown { p: u64, a: u64 },
 }
 
 /// What a line says, without its line end.
@@ -38,8 +40,7 @@ pub(crate) fn line_said(line: &[u8]) -> Result<LogLine, Why>
         Err(Why::BadModel)
     } else {
         let p = processor_said(word)?;
-        let x = operation_said(tokens)?;
-        Ok(LogLine::Issued { p, x })
+        issued_said(p, tokens)
     }
 }
 
@@ -50,15 +51,28 @@ fn processor_said(word: &[u8]) -> Result<u64, Why>
     number_of(word).ok_or(Why::BadLine)
 }
 
-/// The operation that the tokens after the processor say, refused as a line is.
-#[tactic(auto, unfolding(crate::specs::LogLines::operation_said))]
-fn operation_said(tokens: Option<&[u8]>) -> Result<LogOperation, Why>
-    ensures { result ≡ operation_said (tokens_after tokens.entry) }
+/// What the tokens after the processor say of it, refused as a line is.
+#[tactic(auto, unfolding(crate::specs::LogLines::issued_said))]
+fn issued_said(p: u64, tokens: Option<&[u8]>) -> Result<LogLine, Why>
+    ensures { result ≡ issued_said p (tokens_after tokens.entry) }
 {
     let Some(rest) = tokens else {
         return Err(Why::BadLine);
     };
     let (word, tokens) = next_token(rest);
+    if word == b"un".as_slice() {
+        let a = one_number(tokens)?;
+        return Ok(LogLine::Unknown { p, a });
+    }
+    let x = operation_said(word, tokens)?;
+    Ok(LogLine::Issued { p, x })
+}
+
+/// The operation that a keyword and the tokens after it say.
+#[tactic(auto, unfolding(crate::specs::LogLines::operation_said))]
+fn operation_said(word: &[u8], tokens: Option<&[u8]>) -> Result<LogOperation, Why>
+    ensures { result ≡ operation_said word.now (tokens_after tokens.entry) }
+{
     if word == LD.as_bytes() {
         let (a, r) = two_numbers(tokens)?;
         Ok(LogOperation::Ld { a, r })

@@ -1,6 +1,6 @@
 use tso_ops::Order;
 
-/// One operation of a log: what a processor did, and the value that it read.
+/// What a processor did, and the value that it read.
 #[derive(Clone, Copy, Debug, PartialEq, Eq)]
 pub enum LogOperation {
     /// A load from address `a` that read `r`.
@@ -15,15 +15,24 @@ pub enum LogOperation {
     Sb,
 }
 
-/// A log: its memory model, the first values of memory, and what each of 16 processors did.
+/// An operation of a log, and the number of its line in the log's text, from 1.
+#[derive(Clone, Copy, Debug, PartialEq, Eq)]
+pub struct LoggedOperation {
+    /// The number of the line.
+    pub line: usize,
+    /// The operation.
+    pub operation: LogOperation,
+}
+
+/// A log: its memory model, the first values of memory, and what each processor did.
+///
+/// The operations at an address that a line `un` names aren't there.
 #[derive(Debug, Drop)]
 pub struct Log {
     /// The memory model.
     pub order: Order,
     /// Addresses, in ascending order, and what memory has there at first: 0 at all others.
     pub first: Vec<(u64, u64)>,
-    /// The operations of processors 0 to 15, each in program order.
-    pub lists: Vec<Vec<LogOperation>>,
-    /// The processor of each operation, in the order of the text. Nothing follows from this order.
-    pub issuers: Vec<u8>,
+    /// The operations of processors 0, 1, .. up to the last that has a line, each in program order.
+    pub lists: Vec<Vec<LoggedOperation>>,
 }

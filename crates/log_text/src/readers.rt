@@ -1,10 +1,10 @@
 ghost use Rattle.std.specs.Prelude.{◌≡◌, ◌≢◌, IfOk, IfErr, MatchResult};
-ghost use Rattle.tso_ops.specs.Values.{TraceValue};
 ghost use Rattle.tso_text.specs.declared.faults.Why.{Why};
 ghost use Rattle.log_text.specs.LogTexts.{SpellsLog, IsLogRefusal};
-ghost use Rattle.log_text.specs.LogValues.{log_operations};
+ghost use Rattle.log_text.specs.LogValues.{NumberedLog, log_value};
 
 use crate::logs::Log;
+use crate::readings::Reading;
 use line_text::next_line;
 use std::alloc::Global;
 use tso_text::{TextFault, Why, fault_of};
@@ -13,42 +13,42 @@ use tso_text::{TextFault, Why, fault_of};
 ///
 /// The text consists of lines, each with its line end: an optional first line `model pso`; then lines `init A V`, in ascending
 /// order of their addresses; then the operations, `P ld A R`, `P st A V`, `P sw A R V`, `P mb` and `P stbar`, where P is a
-/// processor, 0 to 15, A an address, R what was read and V what was stored. All are decimal numbers of 64 bits, without leading
-/// zeros, and single spaces stand between them. Without a line `model pso` the memory model is TSO. An empty text is a log
-/// without operations.
+/// processor, 0 to 4,095, A an address, R what was read and V what was stored. A line `P un A` says that something else was done
+/// to the location, as an access of another size: the log has no operation at that address, whether before or after the line.
+/// All are decimal numbers of 64 bits, without leading zeros, and single spaces stand between them. Without a line `model pso`
+/// the memory model is TSO. An empty text is a log without operations.
 ///
 /// The text is refused for its first line with a fault, counted from 1:
 ///
 /// - BadLine: a line of another form, as with a processor that is no number of 64 bits; a line without a line end; an `init`
 ///   after an operation.
-/// - BadNumber: a token after `init`, `ld`, `st` or `sw` is no number of 64 bits.
+/// - BadNumber: a token after `init`, `ld`, `st`, `sw` or `un` is no number of 64 bits.
 /// - BadModel: a line `model pso` that isn't the first, or another line whose first token is `model`.
 /// - InitOrder: an `init` of an address that isn't above those before.
-/// - ProcessorRange: a processor above 15.
+/// - ProcessorRange: a processor above 4,095.
 ///
 /// Of several faults of a line, that of its form counts before that of a number, and both before the others. OutOfMemory,
 /// where an allocation was refused, has line 0.
 pub fn read_log(alloc: Global, text: &[u8]) -> Result<Log, TextFault>
-    ensures found { IfOk result (λ log. SpellsLog text.now (log_operations log)) }
-    ensures only { (t : TraceValue) → SpellsLog text.now t → MatchResult result (λ log. log_operations log ≡ t) (λ fault. fault.why ≡ Why.OutOfMemory) }
+    ensures found { IfOk result (λ log. SpellsLog text.now (log_value log)) }
+    ensures only { (t : NumberedLog) → SpellsLog text.now t → MatchResult result (λ log. log_value log ≡ t) (λ fault. fault.why ≡ Why.OutOfMemory) }
     ensures refused { IfErr result (λ fault. fault.why ≢ Why.OutOfMemory → IsLogRefusal text.now fault.line fault.why) }
     ensures memory { IfErr result (λ fault. fault.why ≡ Why.OutOfMemory → fault.line ≡ 0) }
 {
-    let mut log = match Log::new(alloc) {
-        Ok(log) => log,
-        Err(why) => return Err(fault_of(0, why)),
-    };
+    let mut reading = Reading::new(alloc);
     let mut rest = text;
     let mut line: usize = 1;
     'lines: loop {
         let Some((prefix, after)) = next_line(rest) else {
-            return if rest.is_empty() {
-                Ok(log)
-            } else {
-                Err(fault_of(line, Why::BadLine))
+            if !rest.is_empty() {
+                return Err(fault_of(line, Why::BadLine));
+            }
+            return match reading.log(alloc) {
+                Ok(log) => Ok(log),
+                Err(_) => Err(fault_of(0, Why::OutOfMemory)),
             };
         };
-        if let Err(why) = log.accept_line(prefix) {
+        if let Err(why) = reading.accept_line(alloc, line, prefix) {
             return Err(fault_of(line, why));
         }
         rest = after;

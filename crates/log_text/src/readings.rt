@@ -1,69 +1,85 @@
 //! A log while its text is read: it holds what the lines so far say.
-ghost use Rattle.std.specs.Prelude.{◌≡◌, ◌++◌, ◌∷◌, [], ◌<◌, ℕ, List, length, get_or, set, OnOk, IfOk, IfErr, vec_len};
+ghost use Rattle.std.specs.Prelude.{◌≡◌, ◌++◌, ◌∷◌, [], ◌+◌, ◌<◌, ℕ, List, length, get_or, set, OnOk, IfOk, IfErr, vec_len, max};
 ghost use Rattle.line_text.specs.Lines.{is_empty};
 ghost use Rattle.tso_ops.specs.Values.{rows};
 ghost use Rattle.log_text.specs.Internal.Readings.{HoldsLines, IsAccepted, IsRefused, IsTextAccepted, IsTextRefused, IsLastGreatest, has_not_below};
 ghost use Rattle.log_text.specs.declared.lines.LogLine.{LogLine};
+ghost use Rattle.log_text.specs.LogTexts.{log_of_lines};
+ghost use Rattle.log_text.specs.LogValues.{log_value};
 ghost use Rattle.tso_text.specs.declared.faults.Why.{Why};
 
+use crate::known::leave_out;
 use crate::lines::{LogLine, line_said};
-use crate::logs::{Log, LogOperation};
+use crate::logs::{Log, LogOperation, LoggedOperation};
 use std::alloc::{AllocFailed, Global};
-use tso_ops::Order;
+use tso_ops::{Order, OutOfMemory};
 use tso_text::Why;
 
-/// The number of processors.
-const PROCESSORS: usize = 16;
+/// The greatest number of a processor.
+const MAX_PROCESSOR: u64 = 4095;
 
-/// The greatest processor.
-const MAX_PROCESSOR: u64 = 15;
+/// What the lines so far say.
+#[derive(Drop)]
+pub(crate) struct Reading {
+    /// All operations, also those at addresses of lines `un`.
+    pub(crate) log: Log,
+    /// The addresses of lines `un`.
+    pub(crate) unknown: Vec<u64>,
+}
 
-impl Log {
-    /// What no line says; or OutOfMemory.
-    pub(crate) fn new(alloc: Global) -> Result<Log, Why>
-        ensures start { IfOk result (λ log. HoldsLines log []) }
-        ensures refused { IfErr result (λ why. why ≡ Why.OutOfMemory) }
+impl Reading {
+    /// What no line says.
+    pub(crate) fn new(alloc: Global) -> Reading
+        ensures start { HoldsLines result [] }
     {
-        Ok(Log {
-            order: Order::Tso,
-            first: Vec::new(alloc),
-            lists: empty_lists(alloc)?,
-            issuers: Vec::new(alloc),
-        })
+        Reading {
+            log: Log {
+                order: Order::Tso,
+                first: Vec::new(alloc),
+                lists: Vec::new(alloc),
+            },
+            unknown: Vec::new(alloc),
+        }
     }
 
-    /// Accepts the next line, or refuses it for its fault; or OutOfMemory.
-    pub(crate) fn accept_line(&mut self, line: &[u8]) -> Result<(), Why>
+    /// Accepts the line of this number, the next one, or refuses it for its fault; or OutOfMemory.
+    pub(crate) fn accept_line(
+        &mut self,
+        alloc: Global,
+        number: usize,
+        line: &[u8],
+    ) -> Result<(), Why>
         requires { (before : List LogLine) × HoldsLines self.old before }
-        ensures accepted { OnOk result (IsTextAccepted self.old line.now self.new) }
+        ensures accepted { OnOk result (IsTextAccepted self.old number line.now self.new) }
         ensures refused { IfErr result (IsTextRefused self.old line.now) }
     {
         let said = line_said(line)?;
-        self.accept(said)
+        self.accept(alloc, number, said)
     }
 
     /// Accepts what the next line says, or refuses it for its fault; or OutOfMemory.
-    fn accept(&mut self, line: LogLine) -> Result<(), Why>
+    fn accept(&mut self, alloc: Global, number: usize, line: LogLine) -> Result<(), Why>
         requires { (before : List LogLine) × HoldsLines self.old before }
-        ensures accepted { OnOk result (IsAccepted self.old line self.new) }
+        ensures accepted { OnOk result (IsAccepted self.old number line self.new) }
         ensures refused { IfErr result (IsRefused self.old line) }
     {
         match line {
-            LogLine::Pso => self.accept_model(),
-            LogLine::First { a, v } => self.accept_entry(a, v),
-            LogLine::Issued { p, x } => self.accept_operation(p, x),
+            LogLine::Pso => self.accept_model(number),
+            LogLine::First { a, v } => self.accept_entry(number, a, v),
+            LogLine::Issued { p, x } => self.accept_operation(alloc, number, p, x),
+            LogLine::Unknown { p, a } => self.accept_unknown(alloc, number, p, a),
         }
     }
 
     /// Accepts that the memory model is PSO, where no line came before.
-    fn accept_model(&mut self) -> Result<(), Why>
-        ensures accepted { OnOk result (IsAccepted self.old LogLine.Pso self.new) }
+    fn accept_model(&mut self, number: usize) -> Result<(), Why>
+        ensures accepted { OnOk result (IsAccepted self.old number LogLine.Pso self.new) }
         ensures refused { IfErr result (IsRefused self.old LogLine.Pso) }
     {
         if !self.is_untouched() {
             return Err(Why::BadModel);
         }
-        self.order = Order::Pso;
+        self.log.order = Order::Pso;
         Ok(())
     }
 
@@ -71,51 +87,88 @@ impl Log {
     fn is_untouched(&self) -> bool
         ensures { (before : List LogLine) → HoldsLines self.now before → result ≡ is_empty before }
     {
-        matches!(self.order, Order::Tso) && self.first.is_empty() && self.issuers.is_empty()
+        matches!(self.log.order, Order::Tso)
+            && self.log.first.is_empty()
+            && self.log.lists.is_empty()
     }
 
-    /// Accepts a first value, where no operation came before and its address is above those before.
-    fn accept_entry(&mut self, a: u64, v: u64) -> Result<(), Why>
+    /// Accepts a first value, where no line of a processor came before and its address is above those before.
+    fn accept_entry(&mut self, number: usize, a: u64, v: u64) -> Result<(), Why>
         requires { (before : List LogLine) × HoldsLines self.old before }
-        ensures accepted { OnOk result (IsAccepted self.old (LogLine.First a v) self.new) }
+        ensures accepted { OnOk result (IsAccepted self.old number (LogLine.First a v) self.new) }
         ensures refused { IfErr result (IsRefused self.old (LogLine.First a v)) }
     {
-        if !self.issuers.is_empty() {
+        if !self.log.lists.is_empty() {
             return Err(Why::BadLine);
         }
-        if is_not_above(&self.first, a) {
+        if is_not_above(&self.log.first, a) {
             return Err(Why::InitOrder);
         }
-        self.first.push((a, v))?;
+        self.log.first.push((a, v))?;
         Ok(())
     }
 
-    /// Accepts an operation of a processor, which is at most 15.
-    fn accept_operation(&mut self, p: u64, x: LogOperation) -> Result<(), Why>
+    /// Accepts an operation of a processor, which is at most 4,095.
+    fn accept_operation(
+        &mut self,
+        alloc: Global,
+        number: usize,
+        p: u64,
+        x: LogOperation,
+    ) -> Result<(), Why>
         requires { (before : List LogLine) × HoldsLines self.old before }
-        ensures accepted { OnOk result (IsAccepted self.old (LogLine.Issued p x) self.new) }
+        ensures accepted { OnOk result (IsAccepted self.old number (LogLine.Issued p x) self.new) }
         ensures refused { IfErr result (IsRefused self.old (LogLine.Issued p x)) }
     {
         if p > MAX_PROCESSOR {
             return Err(Why::ProcessorRange);
         }
-        push_at(&mut self.lists, p as usize, x)?;
-        self.issuers.push(p as u8)?;
+        grow(alloc, &mut self.log.lists, p as usize)?;
+        let logged = LoggedOperation {
+            line: number,
+            operation: x,
+        };
+        push_at(&mut self.log.lists, p as usize, logged)?;
         Ok(())
+    }
+
+    /// Accepts that a processor, which is at most 4,095, did something unknown to the location at an address.
+    fn accept_unknown(&mut self, alloc: Global, number: usize, p: u64, a: u64) -> Result<(), Why>
+        requires { (before : List LogLine) × HoldsLines self.old before }
+        ensures accepted { OnOk result (IsAccepted self.old number (LogLine.Unknown p a) self.new) }
+        ensures refused { IfErr result (IsRefused self.old (LogLine.Unknown p a)) }
+    {
+        if p > MAX_PROCESSOR {
+            return Err(Why::ProcessorRange);
+        }
+        grow(alloc, &mut self.log.lists, p as usize)?;
+        self.unknown.push(a)?;
+        Ok(())
+    }
+
+    /// The log that the lines say: without the operations at addresses of lines `un`. Or OutOfMemory.
+    pub(crate) fn log(self, alloc: Global) -> Result<Log, OutOfMemory>
+        ensures { IfOk result (λ log. (lines : List LogLine) → HoldsLines self lines → log_value log ≡ log_of_lines lines) }
+    {
+        let Reading { log, unknown } = self;
+        leave_out(alloc, log, &unknown)
     }
 }
 
-/// A list without operations for each processor.
-fn empty_lists(alloc: Global) -> Result<Vec<Vec<LogOperation>>, Why>
-    ensures count { IfOk result (λ lists. length (rows lists.items) ≡ 16) }
-    ensures empty { IfOk result (λ lists. (p : ℕ) → get_or (rows lists.items) p [] ≡ []) }
-    ensures refused { IfErr result (λ why. why ≡ Why.OutOfMemory) }
+/// Appends lists without operations until there is one of processor `p`.
+fn grow(
+    alloc: Global,
+    lists: &mut Vec<Vec<LoggedOperation>>,
+    p: usize,
+) -> Result<(), AllocFailed<Vec<LoggedOperation>>>
+    requires { p < 4096 }
+    ensures count { OnOk result (length (rows lists.new.items) ≡ max (p + 1) (length (rows lists.old.items))) }
+    ensures same { OnOk result ((q : ℕ) → get_or (rows lists.new.items) q [] ≡ get_or (rows lists.old.items) q []) }
 {
-    let mut lists = Vec::new(alloc);
-    for _processor in 0..PROCESSORS {
+    while lists.len() <= p {
         lists.push(Vec::new(alloc))?;
     }
-    Ok(lists)
+    Ok(())
 }
 
 /// Whether an address isn't above those of all these entries, of which the last has the greatest.
@@ -131,10 +184,10 @@ fn is_not_above(first: &[(u64, u64)], a: u64) -> bool
 
 /// Appends an operation to the list of this processor.
 fn push_at(
-    lists: &mut Vec<Vec<LogOperation>>,
+    lists: &mut Vec<Vec<LoggedOperation>>,
     p: usize,
-    x: LogOperation,
-) -> Result<(), AllocFailed<LogOperation>>
+    x: LoggedOperation,
+) -> Result<(), AllocFailed<LoggedOperation>>
     requires { p < vec_len lists.old }
     ensures { OnOk result (rows lists.new.items ≡ set (rows lists.old.items) p (get_or (rows lists.old.items) p [] ++ x ∷ [])) }
 {

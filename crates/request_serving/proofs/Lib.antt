@@ -1,5 +1,5 @@
 pub mod CampaigningFacts
-pub mod CuttingFacts
+pub mod LoggingFacts
 pub mod EndFacts
 pub mod LawfulFacts
 pub mod PartedLines

@@ -12,8 +12,11 @@ use Rattle.trace_pictures.specs.Pictured.{pictured}
 use Rattle.trace_reports.specs.Renderings.{IsTextOfReader, SaidOfRefusal, SaidOfTrace}
 use Rattle.trace_reports.specs.Reports.{refusal_shown, reported}
 use Rattle.trace_batches.specs.Batches.{IsBatchFault, IsBatchOfReader}
-use Rattle.log_cuts.specs.LogCuts.{IsCutFault, LeavesCut, WritesCut, WritesRefusal}
+use Rattle.log_reports.specs.declared.rendering.LogForm.{LogForm}
+use Rattle.log_reports.specs.declared.reports.LogVerdict.{LogVerdict}
+use Rattle.log_reports.specs.LogReports.{IsLogReportOfReader}
 use Rattle.request_serving.specs.Campaigning.{IsCampaignText, LeavesCampaignText}
+use Rattle.request_serving.specs.Logs.{form_of, status_of_log}
 use Rattle.request_serving.specs.MadePrograms.{IsMadeText, LeavesMadeText}
 use Rattle.request_serving.specs.OpenedFiles.{text_bytes}
 use Rattle.request_serving.specs.Replaying.{IsReplayText}
@@ -27,7 +30,7 @@ use Rattle.command_line.specs.declared.requests.Request.TheVariants.{Show, Refus
 use Rattle.command_line.specs.Commands.{IsAskedFor}
 use Rattle.command_line.specs.Refusals.{Refuses}
 use Rattle.command_line.specs.Spellings.{Asks, AsksHelp}
-use Rattle.command_line.specs.Requests.{Asked, Text, judging, batching, cutting, checking, replaying, running, making, campaigning, showing, refusing}
+use Rattle.command_line.specs.Requests.{Asked, Text, judging, batching, logging, checking, replaying, running, making, campaigning, showing, refusing}
 
 -- ---- the lines of faults
 
@@ -100,13 +103,13 @@ abbrev pub EndsBatched : Bool → Option (List ℕ) → Outputs → ℕ → Type
 EndsBatched quiet remaining o status =
     let is_batch = IsBatchOfReader quiet remaining in Ends is_batch status_of (λ old new fault. IsBatchFault fault × WritesPrefix is_batch old new) o status
 
--- Traces of at most so many events that are cut out of the log that a reader's bytes spell, with status 0; or the line of its refusal on the errors, with
--- status 2; or a fault left nothing or a prefix of such traces.
-abbrev pub EndsCut : ℕ → Option (List ℕ) → Outputs → ℕ → Type 0
-EndsCut events remaining o status =
-    (WritesCut remaining events o.written_before o.written o.errors_before o.errors × (status ≡ 0))
-    ⊎ (WritesRefusal remaining o.written_before o.written o.errors_before o.errors × (status ≡ 2))
-    ⊎ ((fault : Fault) × IsCutFault fault × LeavesCut remaining events o.written_before o.written × EndsByFault fault o status)
+-- The report on the log that a reader's bytes spell, or its refusal, with the status of what it says; notes on what it doesn't say, or a prefix of them, may
+-- be written to the errors. Or a fault left nothing or, on Write, a prefix of the report.
+abbrev pub EndsLogged : LogForm → Option (List ℕ) → Outputs → ℕ → Type 0
+EndsLogged form remaining o status =
+    let is_report = IsLogReportOfReader form remaining in
+    ((verdict : LogVerdict) × WritesWhole is_report o.written_before o.written verdict × ((notes : List ℕ) × AppendsPrefix o.errors_before o.errors notes) × (status ≡ status_of_log verdict))
+    ⊎ ((fault : Fault) × LeavesAtFault is_report o.written_before o.written fault × EndsByFault fault o status)
 
 -- A run gave no record: the output is as it was, the line of the fault was written to the errors, and the status is 4.
 abbrev pub EndsUnrecorded : Outputs → ℕ → Type 0
@@ -138,7 +141,7 @@ EndsOutOfMemory o status = Keeps o.written_before o.written × EndsByFault OutOf
 abbrev pub EndsAsAsked : Asked → Option (List ℕ) → (List ℕ → Option (List ℕ)) → Outputs → ℕ → Type 0
 EndsAsAsked (judging presentation file workers) input files o status = EndsByReport (IsPresented presentation (text_bytes file input files)) o status
 EndsAsAsked (batching file workers quiet) input files o status = EndsBatched quiet (text_bytes file input files) o status
-EndsAsAsked (cutting file events) input files o status = EndsCut events (text_bytes file input files) o status
+EndsAsAsked (logging file options) input files o status = EndsLogged (form_of options.form) (text_bytes file input files) o status
 EndsAsAsked (checking trace certificate) input files o status = EndsChecked (text_bytes trace input files) (text_bytes certificate input files) o status
 EndsAsAsked (replaying options program schedule) input files o status =
     let is_text = IsReplayText options (text_bytes program input files) (text_bytes schedule input files) in EndsByText is_text (LeavesAtFault is_text) o status

@@ -4,6 +4,7 @@ pub mod Endings
 pub mod Failures
 pub mod Internal
 pub mod LawfulRequests
+pub mod Logs
 pub mod MadePrograms
 pub mod OpenedFiles
 pub mod Printing

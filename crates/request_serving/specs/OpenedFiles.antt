@@ -3,7 +3,7 @@ use Rattle.std.specs.Prelude.{◌≡◌, ◌⊎◌, ℕ, Bool, ◌≤◌, List, 
 use Rattle.std.specs.List.{list_all}
 use Rattle.std.specs.Borrow.{Bor}
 use Rattle.std.specs.Io.KnownBytes.{Consumes}
-use Rattle.command_line.specs.Requests.{Asked, batching, checking, cutting, needs, replaying}
+use Rattle.command_line.specs.Requests.{Asked, batching, checking, logging, needs, replaying}
 use Rattle.trace_judging.specs.Limits.{certificate_read_limit, trace_read_limit}
 use Rattle.trace_judging.specs.Streams.{LosesPrefix}
 use Rattle.tso_text.specs.Refusals.{IsRefusedProgram, IsRefusedTrace}
@@ -25,7 +25,7 @@ reads_input asked = not (list_all is_some (needs asked).texts)
 -- too many bytes is seen; or nothing of a certificate or of a schedule, where the trace or the program before it was refused.
 abbrev pub TakesInput : Asked → Option (List ℕ) → Option (List ℕ) → Type 0
 TakesInput (batching file workers quiet) old new = IfSome old (λ all. Consumes old new all)
-TakesInput (cutting file events) old new = IfSome old (λ all. Consumes old new all)
+TakesInput (logging file options) old new = IfSome old (λ all. Consumes old new all)
 TakesInput (checking (Some trace) certificate) old new = (new ≡ old) ⊎ LosesPrefix certificate_read_limit old new
 TakesInput (replaying options (Some program) schedule) old new = (new ≡ old) ⊎ LosesPrefix trace_read_limit old new
 TakesInput asked old new = LosesPrefix trace_read_limit old new

@@ -25,7 +25,7 @@ use trace_judging::Fault;
 ///
 /// Without arguments it judges what the reader has, with one worker, and writes its report; so it does, by the arguments
 /// `judge [--workers N] [FILE]`, for a file; `explain` writes why, `draw` a picture, `batch` a line for each of many traces,
-/// and `cut` traces that are cut out of a log. By `check TRACE CERT` it checks a certificate against a trace. `replay` and
+/// and `log` the violations of a log. By `check TRACE CERT` it checks a certificate against a trace. `replay` and
 /// `run` execute a program on a memory unit and judge the record, `make` draws a program from a seed, and `campaign` runs
 /// those of many seeds. A file `-` is what the reader has.
 ///

@@ -5,15 +5,20 @@ ghost use Rattle.std.specs.Io.KnownBytes.{Keeps};
 ghost use Rattle.trace_judging.specs.Streams.{AppendsPrefix};
 ghost use Rattle.request_serving.specs.Endings.{WritesFaultLine};
 ghost use Rattle.request_serving.specs.Failures.{WritesFailureLine};
+ghost use Rattle.request_serving.specs.Logs.{status_of_log};
 ghost use Rattle.request_serving.specs.Statuses.{status_of};
 
 use crate::failures::RunFailure;
 use itoa::Buffer;
+use log_reports::LogVerdict;
 use std::io::Write;
 use trace_judging::{Fault, Verdict, write_text};
 
 /// The status of a trace in which no violation was found, and of a text that was asked for.
 pub(crate) const DONE: u8 = 0;
+
+/// The status of a log in which no violation was found before the search ended early.
+const ENDED_EARLY: u8 = 1;
 
 /// The status of what was refused: a text, a certificate, or the arguments.
 pub(crate) const REFUSED: u8 = 2;
@@ -30,6 +35,14 @@ pub(crate) fn end<E: Write>(outcome: Result<Verdict, Fault>, errors: &mut E) -> 
     ensures fault { IfErr outcome (λ fault. WritesFaultLine (E.contents errors.old) (E.contents errors.new) fault × (result ≡ 4)) }
 {
     end_with(outcome.map(status_of), errors)
+}
+
+/// The status of what is said of a log; or that of a fault, whose line it writes.
+pub(crate) fn end_log<E: Write>(outcome: Result<LogVerdict, Fault>, errors: &mut E) -> u8
+    ensures verdict { IfOk outcome (λ verdict. (result ≡ status_of_log verdict) × Keeps (E.contents errors.old) (E.contents errors.new)) }
+    ensures fault { IfErr outcome (λ fault. WritesFaultLine (E.contents errors.old) (E.contents errors.new) fault × (result ≡ 4)) }
+{
+    end_with(outcome.map(status_of_log), errors)
 }
 
 /// This status; or that of a fault, whose line it writes.
@@ -95,5 +108,17 @@ pub(crate) fn status_of(verdict: Verdict) -> u8
         Verdict::NoViolation => DONE,
         Verdict::Refused => REFUSED,
         Verdict::Violation => VIOLATION,
+    }
+}
+
+/// The status of what is said of a log.
+fn status_of_log(verdict: LogVerdict) -> u8
+    ensures { result ≡ status_of_log verdict }
+{
+    match verdict {
+        LogVerdict::NoViolation => DONE,
+        LogVerdict::EndedEarly => ENDED_EARLY,
+        LogVerdict::Refused => REFUSED,
+        LogVerdict::Violation => VIOLATION,
     }
 }

@@ -7,13 +7,13 @@ ghost use Rattle.request_serving.specs.Endings.{EndsAsAsked, EndsShowing, EndsWi
 ghost use Rattle.request_serving.specs.LawfulRequests.{RunsLawfully, runs_on_lawful_unit};
 ghost use Rattle.request_serving.specs.OpenedFiles.{HasRefusedFirstText, OpensFirst, OpensNext, TakesInput, files_named, reads_input};
 
-use crate::endings::{DONE, REFUSED, end, end_by, end_run, end_with};
+use crate::endings::{DONE, REFUSED, end, end_by, end_log, end_run, end_with};
 use crate::files::NamedFiles;
 use crate::serving::batching::batch_named;
 use crate::serving::campaigning::campaign_by;
 use crate::serving::checking::check_named;
-use crate::serving::cutting::{cut_named, end_cut};
 use crate::serving::judging::judge_named;
+use crate::serving::logging::log_named;
 use crate::serving::making::make;
 use crate::serving::replaying::replay_named;
 use crate::serving::running::run_named;
@@ -26,8 +26,8 @@ use trace_judging::{Fault, MAX_WORKERS, write_text};
 mod batching;
 mod campaigning;
 mod checking;
-mod cutting;
 mod judging;
+mod logging;
 mod making;
 mod replaying;
 mod running;
@@ -38,8 +38,8 @@ const _: () = prove!(command_line::MAX_WORKERS == MAX_WORKERS);
 /// Does what a request asks for, and answers the status that the program ends with.
 ///
 /// `Judge` judges the trace in a file, or else what `reader` has, and writes its report to `writer`, or the explanation of
-/// the verdict; `Batch` writes a line for each of many traces. `Cut` cuts a log into traces and writes these, with status 0,
-/// or the refusal of the log to `errors`, with status 2. `Check` checks a certificate against a trace and
+/// the verdict; `Batch` writes a line for each of many traces. `Log` writes the violations of a log, or their traces: with
+/// status 1 where none was found in the part of the log that was searched. `Check` checks a certificate against a trace and
 /// writes the report of both. The status of those that judge or check is that of the verdict: 0 where no violation
 /// was found, 2 where a text or the certificate was refused, 3 at a violation or a certificate that holds. `Replay` and
 /// `Run` print what a record gives: never a violation where the unit is lawful for programs of the memory model that the
@@ -71,9 +71,9 @@ pub fn serve<H: Threads + Wait + Sync + AllocGlobal, O: NamedFiles, R: Read, W: 
     match request {
         Request::Judge(request) => end(judge_named(rt, request, files, reader, writer), errors),
         Request::Batch(request) => end(batch_named(rt, request, files, reader, writer), errors),
-        Request::Cut(request) => {
-            let cut = cut_named(rt.alloc(), request, files, reader, writer, errors);
-            end_cut(cut, errors)
+        Request::Log(request) => {
+            let reported = log_named(rt, request, files, reader, writer, errors);
+            end_log(reported, errors)
         }
         Request::Check(texts) => {
             let checked = check_named(rt.alloc(), *texts, files, reader, writer);

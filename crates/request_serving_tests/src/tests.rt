@@ -2,6 +2,7 @@ mod drainer;
 mod failures;
 mod folders;
 mod interleaving;
+mod logs;
 mod refused_allocations;
 mod requests;
 mod statuses;

@@ -32,7 +32,7 @@ pub fn long_pieces()
     ensures kept { (piece text : List ℕ) (verdict : Verdict) → IsReport (take trace_read_limit piece) text verdict ↔ IsReport piece text verdict }
 {}
 
-/// The pieces of the texts of traces one after another, as `cut` prints them, are these texts: the K-th line of a batch that
+/// The pieces of the texts of traces one after another, as `log --trace` prints them, are these texts: the K-th line of a batch that
 /// isn't quiet is that of the K-th trace.
 pub fn printed_traces()
     ensures pieces { (traces : List TraceValue) (pieces : List (List ℕ)) → ArePieces (flat_map trace_text traces) pieces ↔ (pieces ≡ map trace_text traces) }

@@ -1,7 +1,7 @@
 pub mod ClaimFacts
 pub mod SearchFacts
 pub mod LineFacts
-pub mod NameFacts
+pub mod SourceFacts
 pub mod OrderFacts
 pub mod ReferenceFacts
 pub mod StepFacts

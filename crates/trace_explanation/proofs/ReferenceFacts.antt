@@ -20,7 +20,7 @@ use Rattle.tso_model.specs.Rules.{IsOwnBy}
 use Rattle.tso_model.specs.Certs.{IsPathIn, IsStep, StepsHold}
 use Rattle.trace_explanation.specs.Names.{source_of}
 use Rattle.trace_explanation.specs.Steps.{is_edge, is_number, own_load, reads_past, step_number}
-use Rattle.trace_explanation.proofs.NameFacts.{source-is, source-number}
+use Rattle.trace_explanation.proofs.SourceFacts.{source-is, source-number}
 use Rattle.trace_explanation.proofs.SearchFacts.{found-passes}
 
 -- ---- loads

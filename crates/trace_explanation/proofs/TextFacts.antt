@@ -1,20 +1,22 @@
 -- Lemmas on the text of an explanation, part by part.
-use Rattle.std.proofs.Common.{◌≡◌, sym, ap, refl, ◌∙◌, ℕ, suc, ◌+◌, ◌-◌, ◌<◌, ◌≤◌, Bool, true, false, cond, eqb, List, [], ◌∷◌, ◌++◌, length, get_or, take, drop, Some, Result, Ok, Err, arith, append_assoc}
+use Rattle.std.proofs.Common.{◌≡◌, sym, ap, refl, ◌∙◌, ℕ, suc, ◌+◌, ◌-◌, ◌<◌, ◌≤◌, eqb, List, [], ◌∷◌, ◌++◌, length, map, get_or, take, drop, Some, String, string_bytes, Result, Ok, Err, arith, append_assoc}
 use Rattle.std.specs.Prelude.{codes, reverse}
 use Rattle.std.specs.Fmt.{decimal}
-use Rattle.std.specs.List.{enumerate_from, filter, flat_map, range_with_len, zip}
+use Rattle.std.specs.List.{enumerate_from, flat_map, range_with_len, zip}
 use Rattle.std.specs.Result.{OnOk}
-use Rattle.std.proofs.lemmas.List.{append-nil, drop_more, flat_map_more, reverse-append, take_more}
+use Rattle.std.specs.Global.{Global}
+use Rattle.std.proofs.lemmas.List.{drop_more, flat_map_more, map-append, reverse-append, take_more}
 use Rattle.std.proofs.lemmas.List.FromFn.{get_or-enumerate_from, length-enumerate_from}
 use Rattle.line_text.specs.Lines.{parts_of}
 use Rattle.line_text.proofs.CutFacts.{split_parts}
 use Rattle.tso_ops.specs.Values.{TraceValue}
 use Rattle.tso_cert.specs.declared.steps.CertStep.{CertStep}
 use Rattle.trace_explanation.specs.Explanations.{more_text, stores_text}
-use Rattle.trace_explanation.specs.Names.{place_text}
+use Rattle.trace_explanation.specs.Namings.{NamingValue}
+use Rattle.trace_explanation.specs.Places.{place_text}
 use Rattle.trace_explanation.specs.JoinedTexts.{joined}
 use Rattle.trace_explanation.specs.Refusals.{line_there}
-use Rattle.trace_explanation.proofs.SearchFacts.{filter_more, numbers_more, places_more}
+use Rattle.trace_explanation.proofs.SearchFacts.{numbers_more, places_more}
 
 -- ---- the line of a refusal
 
@@ -74,6 +76,17 @@ pub places-grown : (f : ℕ → List ℕ) (n : ℕ) (start old new : List ℕ) �
 places-grown f n start old new before added =
     added ∙ ap (λ x. x ++ f n) before ∙ flat_map_more f start (range_with_len 0 n) n ∙ ap (λ ns. start ++ flat_map f ns) (sym (places_more n))
 
+-- what is listed of one more number, from 1
+pub items-more : {A : Type 0} (f : ℕ → A) (n : ℕ) (old new : List A) (x : A) → new ≡ old ++ x ∷ [] → x ≡ f (n + 1) → old ≡ map f (range_with_len 1 n) → new ≡ map f (range_with_len 1 (n + 1))
+items-more f n old new x added is before =
+    added ∙ ap (λ xs. xs ++ x ∷ []) before ∙ ap (λ y. map f (range_with_len 1 n) ++ y ∷ []) is
+    ∙ sym (ap (map f) (numbers_more n) ∙ map-append f (range_with_len 1 n) ((n + 1) ∷ []))
+
+-- the same of texts
+pub names-more : (f : ℕ → List ℕ) (n : ℕ) (old new : List (String Global)) (s : String Global) → new ≡ old ++ s ∷ [] → string_bytes s ≡ f (n + 1) → map string_bytes old ≡ map f (range_with_len 1 n) →
+    map string_bytes new ≡ map f (range_with_len 1 (n + 1))
+names-more f n old new s added is before = items-more f n (map string_bytes old) (map string_bytes new) (string_bytes s) (ap (map string_bytes) added ∙ map-append string_bytes old (s ∷ [])) is before
+
 -- ---- one part after another
 
 -- a text after one more part
@@ -88,9 +101,9 @@ grown-last (Err e) old a b mid new before added = tt
 -- ---- stores
 
 -- the text of some stores
-pub stores_some : (t : TraceValue) (a : ℕ) (stores : List ℕ) → 1 ≤ length stores →
-    stores_text t a stores
-    ≡ joined (codes "The stores to address " ∷ decimal a ∷ codes ", " ∷ decimal (length stores) ∷ codes " in all:\n\n" ∷ []) ++ flat_map (place_text t) (take 16 stores) ++ more_text (length stores)
+pub stores_some : (naming : NamingValue) (t : TraceValue) (a : ℕ) (stores : List ℕ) → 1 ≤ length stores →
+    stores_text naming t a stores
+    ≡ joined (codes "The stores to address " ∷ decimal a ∷ codes ", " ∷ decimal (length stores) ∷ codes " in all:\n\n" ∷ []) ++ flat_map (place_text naming t) (take 16 stores) ++ more_text (length stores)
 unfolding stores_text
-stores_some t a [] some = absurd (omega arith)
-stores_some t a (m ∷ others) some = refl
+stores_some naming t a [] some = absurd (omega arith)
+stores_some naming t a (m ∷ others) some = refl

@@ -4,7 +4,9 @@ pub mod Explanations
 pub mod Internal
 pub mod Lines
 pub mod Names
+pub mod Namings
 pub mod JoinedTexts
+pub mod Places
 pub mod Refusals
 pub mod Steps
 pub mod Words

@@ -1,5 +1,5 @@
--- How the text of an explanation names events, what loads read, and where an event stands.
-use Rattle.std.specs.Prelude.{ℕ, zero, suc, ◌==◌, ◌&&◌, Bool, false, not, List, [], ◌∷◌, ◌++◌, Option, None, Some, cond, codes}
+-- How a trace names its events, and what its loads read.
+use Rattle.std.specs.Prelude.{ℕ, ◌==◌, ◌&&◌, Bool, false, not, List, [], ◌∷◌, Option, None, Some, cond, codes}
 use Rattle.std.specs.Option.{option_and_then, option_map_or}
 use Rattle.std.specs.List.{find, join_with_byte, range_with_len}
 use Rattle.std.specs.Fmt.{decimal}
@@ -13,7 +13,6 @@ use Rattle.trace_explanation.specs.JoinedTexts.{joined}
 use Rattle.tso_ops.specs.declared.operations.Part.{Part}
 use Rattle.tso_ops.specs.declared.operations.Part.TheVariants.{Whole, SwapLoad, SwapStore}
 use Rattle.tso_ops.specs.declared.operations.EventOperation.{EventOperation}
-use Rattle.tso_ops.specs.Operations.{operation_at}
 
 -- the operation as in the trace's text
 unfoldable pub outcome_text : Outcome → List ℕ
@@ -28,11 +27,6 @@ part_text SwapStore = codes " store"
 -- an event, by its operation: its processor, the operation, the number
 unfoldable pub event_name : ℕ → EventOperation → List ℕ
 event_name n o = joined (codes "P" ∷ decimal o.proc ∷ codes " '" ∷ outcome_text o.outcome ∷ codes "'" ∷ part_text o.part ∷ codes " (" ∷ decimal n ∷ codes ")" ∷ [])
-
--- the name of a number: an event, or number 0, which wrote the first values
-unfoldable pub name_text : TraceValue → ℕ → List ℕ
-name_text t zero = codes "the first values"
-name_text t (suc k) = option_map_or (event_name (suc k)) (operation_at t (suc k)) []
 
 -- ---- what loads read
 
@@ -56,23 +50,3 @@ source_of t n = option_and_then (λ e. cond e.load (load_source t e) None) (even
 -- the address of event n
 abbrev pub address_at : TraceValue → ℕ → ℕ
 address_at t n = option_map_or (λ e. e.a) (event_at t n) 0
-
--- what load l read, by its source: a store, or the first value of its address
-abbrev pub source_text : TraceValue → ℕ → ℕ → List ℕ
-source_text t l zero = codes "the first value of address " ++ decimal (address_at t l)
-source_text t l (suc k) = name_text t (suc k)
-
--- what load l read
-unfoldable pub read_text : TraceValue → ℕ → List ℕ
-read_text t l = option_map_or (source_text t l) (source_of t l) []
-
--- ---- where events stand
-
--- the line of event n in the trace's text
-abbrev pub line_at : TraceValue → ℕ → ℕ
-line_at t n = option_map_or (λ o. o.line) (operation_at t n) 0
-
--- the line of an event: its line in the trace's text, its name, and what it read
-unfoldable pub place_text : TraceValue → ℕ → List ℕ
-place_text t n = joined (
-    codes "  line " ∷ decimal (line_at t n) ∷ codes ": " ∷ name_text t n ∷ option_map_or (λ s. codes " read " ++ source_text t n s) (source_of t n) [] ∷ codes "\n" ∷ [])

@@ -16,29 +16,30 @@ use Rattle.tso_cert.specs.declared.steps.Reason.TheVariants.{Base, Inferred}
 use Rattle.tso_cert.specs.declared.steps.CertStep.{CertStep}
 use Rattle.trace_explanation.specs.JoinedTexts.{joined}
 use Rattle.trace_explanation.specs.declared.rule_sentences.TheConstants.{AFTER_BOTH, ATOMIC_SWAP, BEFORE_BOTH, INIT_LONG, INIT_SHORT, LOAD_OP_LONG, MEMBAR_LONG, MEMBAR_SHORT, PROGRAM_ORDER, PSO_STORES_LONG, READS_LAST, READ_LONG, READ_OLDER, READ_SHORT, SEES_ONE_READ_OTHER, SEES_STORE, STBAR_LONG, STBAR_SHORT, TSO_STORES_LONG, WOULD_HAVE_READ}
-use Rattle.trace_explanation.specs.Names.{name_text, read_text}
+use Rattle.trace_explanation.specs.Namings.{name_text, NamingValue}
+use Rattle.trace_explanation.specs.Places.{read_text}
 use Rattle.trace_explanation.specs.Steps.{by_text, own_load}
 
 -- ---- in short
 
-unfoldable pub base_short : TraceValue → BaseRule → ℕ → ℕ → List ℕ
-base_short t Init u v = INIT_SHORT.now
-base_short t LoadOp u v = PROGRAM_ORDER.now
-base_short t StoreStore u v = PROGRAM_ORDER.now
-base_short t Stbar u v = STBAR_SHORT.now
-base_short t Membar u v = MEMBAR_SHORT.now
-base_short t Read u v = READ_SHORT.now
-base_short t Own u v = option_map_or (name_text t) (own_load t u v) [] ++ SEES_ONE_READ_OTHER.now
+unfoldable pub base_short : NamingValue → TraceValue → BaseRule → ℕ → ℕ → List ℕ
+base_short naming t Init u v = INIT_SHORT.now
+base_short naming t LoadOp u v = PROGRAM_ORDER.now
+base_short naming t StoreStore u v = PROGRAM_ORDER.now
+base_short naming t Stbar u v = STBAR_SHORT.now
+base_short naming t Membar u v = MEMBAR_SHORT.now
+base_short naming t Read u v = READ_SHORT.now
+base_short naming t Own u v = option_map_or (name_text naming) (own_load t u v) [] ++ SEES_ONE_READ_OTHER.now
 
-unfoldable pub inferred_short : TraceValue → InferredRule → ℕ → List ℕ
-inferred_short t LoadPast l = name_text t l ++ SEES_ONE_READ_OTHER.now
-inferred_short t StorePast l = READ_OLDER.now
-inferred_short t SwapBefore l = ATOMIC_SWAP.now
-inferred_short t SwapAfter l = ATOMIC_SWAP.now
+unfoldable pub inferred_short : NamingValue → InferredRule → ℕ → List ℕ
+inferred_short naming LoadPast l = name_text naming l ++ SEES_ONE_READ_OTHER.now
+inferred_short naming StorePast l = READ_OLDER.now
+inferred_short naming SwapBefore l = ATOMIC_SWAP.now
+inferred_short naming SwapAfter l = ATOMIC_SWAP.now
 
-abbrev pub reason_short : TraceValue → ℕ → ℕ → Reason → List ℕ
-reason_short t u v (Base rule) = base_short t rule u v
-reason_short t u v (Inferred rule load path) = inferred_short t rule load
+abbrev pub reason_short : NamingValue → TraceValue → ℕ → ℕ → Reason → List ℕ
+reason_short naming t u v (Base rule) = base_short naming t rule u v
+reason_short naming t u v (Inferred rule load path) = inferred_short naming rule load
 
 -- ---- in full
 
@@ -47,26 +48,26 @@ abbrev pub kept_stores : Order → List ℕ
 kept_stores Tso = TSO_STORES_LONG.now
 kept_stores Pso = PSO_STORES_LONG.now
 
-unfoldable pub base_long : TraceValue → BaseRule → ℕ → ℕ → List ℕ
-base_long t Init u v = INIT_LONG.now
-base_long t LoadOp u v = LOAD_OP_LONG.now
-base_long t StoreStore u v = kept_stores t.setting.order
-base_long t Stbar u v = STBAR_LONG.now
-base_long t Membar u v = MEMBAR_LONG.now
-base_long t Read u v = READ_LONG.now
-base_long t Own u v = joined (
-    SEES_STORE.now ∷ codes "\n   " ∷ option_map_or (name_text t) (own_load t u v) [] ∷ codes " sees the store, which is earlier on its own processor, and it read " ∷ option_map_or (read_text t) (own_load t u v) [] ∷ codes ".\n   " ∷ READS_LAST.now ∷ [])
+unfoldable pub base_long : NamingValue → TraceValue → BaseRule → ℕ → ℕ → List ℕ
+base_long naming t Init u v = INIT_LONG.now
+base_long naming t LoadOp u v = LOAD_OP_LONG.now
+base_long naming t StoreStore u v = kept_stores t.setting.order
+base_long naming t Stbar u v = STBAR_LONG.now
+base_long naming t Membar u v = MEMBAR_LONG.now
+base_long naming t Read u v = READ_LONG.now
+base_long naming t Own u v = joined (
+    SEES_STORE.now ∷ codes "\n   " ∷ option_map_or (name_text naming) (own_load t u v) [] ∷ codes " sees the store, which is earlier on its own processor, and it read " ∷ option_map_or (read_text naming t) (own_load t u v) [] ∷ codes ".\n   " ∷ READS_LAST.now ∷ [])
 
-unfoldable pub inferred_long : TraceValue → List CertStep → InferredRule → ℕ → ℕ → ℕ → List ℕ → List ℕ
-inferred_long t steps LoadPast u v l path = joined (
-    SEES_STORE.now ∷ codes "\n   " ∷ name_text t l ∷ codes " sees the store, which comes before it by " ∷ by_text steps path ∷ codes ", and it read " ∷ read_text t l ∷ codes ".\n   " ∷ READS_LAST.now ∷ [])
-inferred_long t steps StorePast u v l path = joined (
-    READ_OLDER.now ∷ codes ".\n   It read " ∷ read_text t l ∷ codes ", and the store comes after that by " ∷ by_text steps path ∷ codes ".\n   " ∷ WOULD_HAVE_READ.now ∷ [])
-inferred_long t steps SwapBefore u v l path = joined (
-    ATOMIC_SWAP.now ∷ codes ".\n   " ∷ name_text t u ∷ codes " comes before " ∷ name_text t (suc l) ∷ codes " by " ∷ by_text steps path ∷ codes ".\n   " ∷ BEFORE_BOTH.now ∷ [])
-inferred_long t steps SwapAfter u v l path = joined (
-    ATOMIC_SWAP.now ∷ codes ".\n   " ∷ name_text t v ∷ codes " comes after " ∷ name_text t l ∷ codes " by " ∷ by_text steps path ∷ codes ".\n   " ∷ AFTER_BOTH.now ∷ [])
+unfoldable pub inferred_long : NamingValue → TraceValue → List CertStep → InferredRule → ℕ → ℕ → ℕ → List ℕ → List ℕ
+inferred_long naming t steps LoadPast u v l path = joined (
+    SEES_STORE.now ∷ codes "\n   " ∷ name_text naming l ∷ codes " sees the store, which comes before it by " ∷ by_text steps path ∷ codes ", and it read " ∷ read_text naming t l ∷ codes ".\n   " ∷ READS_LAST.now ∷ [])
+inferred_long naming t steps StorePast u v l path = joined (
+    READ_OLDER.now ∷ codes ".\n   It read " ∷ read_text naming t l ∷ codes ", and the store comes after that by " ∷ by_text steps path ∷ codes ".\n   " ∷ WOULD_HAVE_READ.now ∷ [])
+inferred_long naming t steps SwapBefore u v l path = joined (
+    ATOMIC_SWAP.now ∷ codes ".\n   " ∷ name_text naming u ∷ codes " comes before " ∷ name_text naming (suc l) ∷ codes " by " ∷ by_text steps path ∷ codes ".\n   " ∷ BEFORE_BOTH.now ∷ [])
+inferred_long naming t steps SwapAfter u v l path = joined (
+    ATOMIC_SWAP.now ∷ codes ".\n   " ∷ name_text naming v ∷ codes " comes after " ∷ name_text naming l ∷ codes " by " ∷ by_text steps path ∷ codes ".\n   " ∷ AFTER_BOTH.now ∷ [])
 
-abbrev pub reason_long : TraceValue → List CertStep → ℕ → ℕ → Reason → List ℕ
-reason_long t steps u v (Base rule) = base_long t rule u v
-reason_long t steps u v (Inferred rule load path) = inferred_long t steps rule u v load path
+abbrev pub reason_long : NamingValue → TraceValue → List CertStep → ℕ → ℕ → Reason → List ℕ
+reason_long naming t steps u v (Base rule) = base_long naming t rule u v
+reason_long naming t steps u v (Inferred rule load path) = inferred_long naming t steps rule u v load path

@@ -3,12 +3,13 @@ ghost use Rattle.std.specs.Prelude.{◌≡◌, ◌++◌, [], reverse, string_byt
 ghost use Rattle.std.specs.List.{enumerate_from, flat_map};
 ghost use Rattle.std.specs.Option.{option_copied, option_map_or};
 ghost use Rattle.trace_explanation.specs.Words.{reason_short};
-ghost use Rattle.trace_explanation.specs.Explanations.{chain_text, cycle_head, cycle_text, link_text, model_name, step_text};
+ghost use Rattle.trace_explanation.specs.Explanations.{chain_text, cycle_head, cycle_text, link_text, model_name, places_head, step_text};
 
 use crate::links::list_links;
 use crate::marks::list_named;
 use crate::names::NamedTrace;
 use crate::numbers::NumberedSteps;
+use crate::subjects::{Subject, noun};
 use crate::unwritten::push_places;
 use crate::words::{long_words, short_words};
 use std::alloc::{AllocError, Global};
@@ -25,33 +26,40 @@ pub(crate) fn push_cycle(
     steps: &[CertStep],
     cycle: &[u64],
 ) -> Result<(), AllocError>
-    ensures { OnOk result (string_bytes text.new ≡ string_bytes text.old ++ cycle_text named.now steps.now cycle.now) }
+    ensures { OnOk result (string_bytes text.new ≡ string_bytes text.old ++ cycle_text named.now.names.now named.now.trace.now steps.now cycle.now) }
 {
     let numbered = NumberedSteps::new(alloc, steps)?;
-    push_head(text, named.trace().order())?;
+    push_head(text, named.trace.order(), named.names.subject())?;
     push_chain(alloc, text, named, &numbered, cycle)?;
     text.push_str(
         "\nWhy each step holds, the last step first. A step rests only on steps of smaller numbers.\n\n",
     )?;
     push_steps(alloc, text, named, &numbered)?;
-    text.push_str("\nThe events named above, by their lines in the trace:\n\n")?;
-    push_places(
-        alloc,
-        text,
-        named,
-        &list_named(alloc, named.trace(), steps)?,
-    )
+    push_places_head(text, named.names.subject())?;
+    push_places(alloc, text, named, &list_named(alloc, named.trace, steps)?)
 }
 
 /// Appends what the memory model asks for.
 #[tactic(auto, unfolding(crate::specs::Explanations::cycle_head))]
-fn push_head(text: &mut String, order: Order) -> Result<(), AllocError>
-    ensures { OnOk result (string_bytes text.new ≡ string_bytes text.old ++ cycle_head order) }
+fn push_head(text: &mut String, order: Order, subject: Subject) -> Result<(), AllocError>
+    ensures { OnOk result (string_bytes text.new ≡ string_bytes text.old ++ cycle_head order subject) }
 {
     let model = model_name(order);
+    let noun = noun(subject);
     write!(
         text,
-        "\n{model} asks for one order of all loads and stores, the memory order.\nA load sees the stores to its address that come before it in that order or earlier on its own processor.\nIt reads the last of these in that order, or the first value of its address where there is none.\nNo memory order explains this trace: it would have to put each of these before the next, and the last is the first again.\n\n"
+        "\n{model} asks for one order of all loads and stores, the memory order.\nA load sees the stores to its address that come before it in that order or earlier on its own processor.\nIt reads the last of these in that order, or the first value of its address where there is none.\nNo memory order explains this {noun}: it would have to put each of these before the next, and the last is the first again.\n\n"
+    )
+}
+
+/// Appends what the lines of the events follow.
+fn push_places_head(text: &mut String, subject: Subject) -> Result<(), AllocError>
+    ensures { OnOk result (string_bytes text.new ≡ string_bytes text.old ++ places_head subject) }
+{
+    let noun = noun(subject);
+    write!(
+        text,
+        "\nThe events named above, by their lines in the {noun}:\n\n"
     )
 }
 
@@ -74,12 +82,12 @@ fn push_chain(
     numbered: &NumberedSteps<'_>,
     cycle: &[u64],
 ) -> Result<(), AllocError>
-    ensures { OnOk result (string_bytes text.new ≡ string_bytes text.old ++ chain_text named.now numbered.now cycle.now) }
+    ensures { OnOk result (string_bytes text.new ≡ string_bytes text.old ++ chain_text named.now.names.now named.now.trace.now numbered.now cycle.now) }
 {
     match cycle {
         [] => Ok(()),
         [first, ..] => {
-            let name = named.name(*first as usize);
+            let name = named.names.name(*first as usize);
             write!(text, "  {name}\n")?;
             push_links(alloc, text, named, numbered, &list_links(alloc, cycle)?)
         },
@@ -94,7 +102,7 @@ fn push_links(
     numbered: &NumberedSteps<'_>,
     links: &[(u64, u64)],
 ) -> Result<(), AllocError>
-    ensures { OnOk result (string_bytes text.new ≡ string_bytes text.old ++ flat_map (link_text named.now numbered.now) links.now) }
+    ensures { OnOk result (string_bytes text.new ≡ string_bytes text.old ++ flat_map (link_text named.now.names.now named.now.trace.now numbered.now) links.now) }
 {
     for link in links {
         push_link(alloc, text, named, numbered, *link)?;
@@ -111,10 +119,10 @@ fn push_link(
     numbered: &NumberedSteps<'_>,
     link: (u64, u64),
 ) -> Result<(), AllocError>
-    ensures { OnOk result (string_bytes text.new ≡ string_bytes text.old ++ link_text named.now numbered.now link) }
+    ensures { OnOk result (string_bytes text.new ≡ string_bytes text.old ++ link_text named.now.names.now named.now.trace.now numbered.now link) }
 {
     let (u, v) = link;
-    let name = named.name(v as usize);
+    let name = named.names.name(v as usize);
     let short = short_of(alloc, named, numbered.step(u, v))?;
     let number = numbered.number(u, v);
     write!(text, "    before {name}: {short} (step {number})\n")
@@ -126,7 +134,7 @@ fn short_of(
     named: &NamedTrace<'_>,
     step: Option<&CertStep>,
 ) -> Result<String, AllocError>
-    ensures { IfOk result (λ text. string_bytes text ≡ option_map_or (λ s. reason_short named.now s.from s.to s.reason) (option_copied step.entry) []) }
+    ensures { IfOk result (λ text. string_bytes text ≡ option_map_or (λ s. reason_short named.now.names.now named.now.trace.now s.from s.to s.reason) (option_copied step.entry) []) }
 {
     match step {
         Some(step) => short_words(alloc, named, step),
@@ -141,7 +149,7 @@ fn push_steps(
     named: &NamedTrace<'_>,
     numbered: &NumberedSteps<'_>,
 ) -> Result<(), AllocError>
-    ensures { OnOk result (string_bytes text.new ≡ string_bytes text.old ++ flat_map (λ n. step_text named.now numbered.now n.0 n.1) (reverse (enumerate_from 1 numbered.now))) }
+    ensures { OnOk result (string_bytes text.new ≡ string_bytes text.old ++ flat_map (λ n. step_text named.now.names.now named.now.trace.now numbered.now n.0 n.1) (reverse (enumerate_from 1 numbered.now))) }
 {
     let steps = numbered.steps();
     for done in 0..steps.len() {
@@ -161,10 +169,10 @@ fn push_step(
     number: usize,
     step: &CertStep,
 ) -> Result<(), AllocError>
-    ensures { OnOk result (string_bytes text.new ≡ string_bytes text.old ++ step_text named.now numbered.now number step.now) }
+    ensures { OnOk result (string_bytes text.new ≡ string_bytes text.old ++ step_text named.now.names.now named.now.trace.now numbered.now number step.now) }
 {
-    let from = named.name(step.from as usize);
-    let to = named.name(step.to as usize);
+    let from = named.names.name(step.from as usize);
+    let to = named.names.name(step.to as usize);
     let words = long_words(alloc, named, numbered, step)?;
     write!(text, "{number}. {from} before {to}: {words}\n")
 }

@@ -1,14 +1,16 @@
 //! The explanation of a trace: the text that says to a reader who knows no rule why a trace is a violation.
 //!
-//! `explain` writes it by the trace and its certificate; `AsExplanation` is the rendering for `trace_judging::judge_with`.
+//! `explain` writes it by the trace and its certificate, `explain_named` with the names that a log gives; `AsExplanation` is the
+//! rendering for `trace_judging::judge_with`.
 //! `README.md` says what is proved.
 #![tactic(auto)]
 
 pub use cycles::model_name;
-pub use explanations::explain;
+pub use explanations::{explain, explain_named};
 pub use links::list_links;
 pub use loads::step_load;
 pub use names::{address_of, outcome_text, part_text, source_of};
+pub use namings::EventNames;
 pub use numbers::NumberedSteps;
 pub use prefixes::first_of;
 pub use refusals::explain_refusal;
@@ -22,11 +24,13 @@ mod links;
 mod loads;
 mod marks;
 mod names;
+mod namings;
 mod numbers;
 mod prefixes;
 mod refusal_sentences;
 mod refusals;
 mod rendering;
 mod rule_sentences;
+mod subjects;
 mod unwritten;
 mod words;

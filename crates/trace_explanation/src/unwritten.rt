@@ -3,10 +3,12 @@ ghost use Rattle.std.specs.Prelude.{◌≡◌, ◌++◌, ◌==◌, [], string_by
 ghost use Rattle.std.specs.List.{find, flat_map};
 ghost use Rattle.std.specs.Option.{option_map_or};
 ghost use Rattle.tso_ops.specs.Events.{event_at};
-ghost use Rattle.trace_explanation.specs.Names.{event_numbers, is_store_where, place_text};
+ghost use Rattle.trace_explanation.specs.Names.{event_numbers, is_store_where};
+ghost use Rattle.trace_explanation.specs.Namings.{address_named};
+ghost use Rattle.trace_explanation.specs.Places.{place_text};
 ghost use Rattle.trace_explanation.specs.Explanations.{elsewhere_text, more_text, stores_text, stores_to, unread_text, unwritten_by};
 
-use crate::names::{NamedTrace, address_of};
+use crate::names::NamedTrace;
 use crate::prefixes::first_of;
 use std::alloc::{AllocError, Global};
 use std::fmt::Write;
@@ -23,13 +25,13 @@ pub(crate) fn push_unwritten(
     named: &NamedTrace<'_>,
     n: usize,
 ) -> Result<(), AllocError>
-    ensures { OnOk result (string_bytes text.new ≡ string_bytes text.old ++ option_map_or (unwritten_by named.now n) (event_at named.now n) []) }
+    ensures { OnOk result (string_bytes text.new ≡ string_bytes text.old ++ option_map_or (unwritten_by named.now.names.now named.now.trace.now n) (event_at named.now.trace.now n) []) }
 {
-    match named.trace().event(n) {
+    match named.trace.event(n) {
         Some(event) => {
             push_unread(text, named, n, event)?;
             push_elsewhere(alloc, text, named, event.value)?;
-            push_stores(alloc, text, named, event.a)
+            push_stores(alloc, text, named, n, event.a)
         },
         None => Ok(()),
     }
@@ -43,13 +45,13 @@ fn push_unread(
     n: usize,
     event: Event,
 ) -> Result<(), AllocError>
-    ensures { OnOk result (string_bytes text.new ≡ string_bytes text.old ++ unread_text named.now n event) }
+    ensures { OnOk result (string_bytes text.new ≡ string_bytes text.old ++ unread_text named.now.names.now named.now.trace.now n event) }
 {
-    let line = named.line(n);
-    let name = named.name(n);
+    let line = named.names.line(n);
+    let name = named.names.name(n);
     let value = event.value;
-    let address = event.a;
-    let first = named.trace().first(address);
+    let address = named.names.address(n);
+    let first = named.trace.first(event.a);
     write!(
         text,
         "\nA load read a value that nothing wrote to its address:\n\n  line {line}: {name} read {value}\n\nThe first value of address {address} is {first}.\n"
@@ -63,9 +65,9 @@ fn push_elsewhere(
     named: &NamedTrace<'_>,
     value: u64,
 ) -> Result<(), AllocError>
-    ensures { OnOk result (string_bytes text.new ≡ string_bytes text.old ++ option_map_or (elsewhere_text named.now value) (find (is_store_where named.now (λ s. s.value == value)) (event_numbers named.now)) []) }
+    ensures { OnOk result (string_bytes text.new ≡ string_bytes text.old ++ option_map_or (elsewhere_text named.now.names.now named.now.trace.now value) (find (is_store_where named.now.trace.now (λ s. s.value == value)) (event_numbers named.now.trace.now)) []) }
 {
-    match store_of(named.trace(), value) {
+    match store_of(named.trace, value) {
         Some(m) => push_elsewhere_at(alloc, text, named, value, m),
         None => Ok(()),
     }
@@ -79,9 +81,9 @@ fn push_elsewhere_at(
     value: u64,
     m: usize,
 ) -> Result<(), AllocError>
-    ensures { OnOk result (string_bytes text.new ≡ string_bytes text.old ++ elsewhere_text named.now value m) }
+    ensures { OnOk result (string_bytes text.new ≡ string_bytes text.old ++ elsewhere_text named.now.names.now named.now.trace.now value m) }
 {
-    let address = address_of(named.trace(), m);
+    let address = named.names.address(m);
     write!(
         text,
         "The value {value} was stored to address {address} instead:\n\n"
@@ -135,17 +137,18 @@ pub fn list_stores(alloc: Global, trace: &Trace, a: u16) -> Result<Vec<usize>, A
     Ok(stores)
 }
 
-/// Appends the stores to the address, of which the first 16 are named.
+/// Appends the stores to the address, that of load `n`, of which the first 16 are named.
 fn push_stores(
     alloc: Global,
     text: &mut String,
     named: &NamedTrace<'_>,
+    n: usize,
     a: u16,
 ) -> Result<(), AllocError>
-    ensures { OnOk result (string_bytes text.new ≡ string_bytes text.old ++ stores_text named.now a (stores_to named.now a)) }
+    ensures { OnOk result (string_bytes text.new ≡ string_bytes text.old ++ stores_text named.now.names.now named.now.trace.now (address_named named.now.names.now n) (stores_to named.now.trace.now a)) }
 {
-    let stores = list_stores(alloc, named.trace(), a)?;
-    push_store_lines(alloc, text, named, a, &stores)
+    let stores = list_stores(alloc, named.trace, a)?;
+    push_store_lines(alloc, text, named, named.names.address(n), &stores)
 }
 
 /// Appends these stores to the address, of which the first 16 are named.
@@ -154,16 +157,16 @@ fn push_store_lines(
     alloc: Global,
     text: &mut String,
     named: &NamedTrace<'_>,
-    a: u16,
+    address: u64,
     stores: &[usize],
 ) -> Result<(), AllocError>
-    ensures { OnOk result (string_bytes text.new ≡ string_bytes text.old ++ stores_text named.now a stores.now) }
+    ensures { OnOk result (string_bytes text.new ≡ string_bytes text.old ++ stores_text named.now.names.now named.now.trace.now address stores.now) }
 {
     match stores {
-        [] => write!(text, "No operation stores to address {a}.\n"),
+        [] => write!(text, "No operation stores to address {address}.\n"),
         [_, ..] => {
             let count = stores.len();
-            write!(text, "The stores to address {a}, {count} in all:\n\n")?;
+            write!(text, "The stores to address {address}, {count} in all:\n\n")?;
             push_places(alloc, text, named, first_of(stores, NAMED_STORES))?;
             push_more(text, count)
         },
@@ -177,7 +180,7 @@ pub(crate) fn push_places(
     named: &NamedTrace<'_>,
     events: &[usize],
 ) -> Result<(), AllocError>
-    ensures { OnOk result (string_bytes text.new ≡ string_bytes text.old ++ flat_map (place_text named.now) events.now) }
+    ensures { OnOk result (string_bytes text.new ≡ string_bytes text.old ++ flat_map (place_text named.now.names.now named.now.trace.now) events.now) }
 {
     for event in events {
         named.push_place(alloc, text, *event)?;

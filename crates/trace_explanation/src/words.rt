@@ -5,7 +5,8 @@ ghost use Rattle.tso_ops.specs.Values.{TraceValue};
 ghost use Rattle.tso_cert.specs.declared.rules.BaseRule.{BaseRule};
 ghost use Rattle.tso_cert.specs.declared.rules.InferredRule.{InferredRule};
 ghost use Rattle.tso_cert.specs.declared.steps.CertStep.{CertStep};
-ghost use Rattle.trace_explanation.specs.Names.{name_text, read_text};
+ghost use Rattle.trace_explanation.specs.Namings.{name_text, NamingValue};
+ghost use Rattle.trace_explanation.specs.Places.{read_text};
 ghost use Rattle.trace_explanation.specs.Steps.{by_text, own_load};
 ghost use Rattle.trace_explanation.specs.Words.{base_long, base_short, inferred_long, inferred_short, kept_stores, reason_long, reason_short};
 
@@ -27,7 +28,7 @@ pub(crate) fn short_words(
     named: &NamedTrace<'_>,
     step: &CertStep,
 ) -> Result<String, AllocError>
-    ensures { IfOk result (λ text. string_bytes text ≡ reason_short named.now step.now.from step.now.to step.now.reason) }
+    ensures { IfOk result (λ text. string_bytes text ≡ reason_short named.now.names.now named.now.trace.now step.now.from step.now.to step.now.reason) }
 {
     match &step.reason {
         Reason::Base(rule) => base_short(alloc, named, *rule, step.from as usize, step.to as usize),
@@ -44,7 +45,7 @@ fn base_short(
     u: usize,
     v: usize,
 ) -> Result<String, AllocError>
-    ensures { IfOk result (λ text. string_bytes text ≡ base_short named.now rule u v) }
+    ensures { IfOk result (λ text. string_bytes text ≡ base_short named.now.names.now named.now.trace.now rule u v) }
 {
     match rule {
         BaseRule::Init => String::from_str(alloc, INIT_SHORT),
@@ -53,7 +54,7 @@ fn base_short(
         BaseRule::Membar => String::from_str(alloc, MEMBAR_SHORT),
         BaseRule::Read => String::from_str(alloc, READ_SHORT),
         BaseRule::Own => {
-            let load = load_name(named, own_load(named.trace(), u, v));
+            let load = load_name(named, own_load(named.trace, u, v));
             format!(in alloc; "{load}{SEES_ONE_READ_OTHER}")
         },
     }
@@ -67,11 +68,11 @@ fn inferred_short(
     rule: InferredRule,
     l: usize,
 ) -> Result<String, AllocError>
-    ensures { IfOk result (λ text. string_bytes text ≡ inferred_short named.now rule l) }
+    ensures { IfOk result (λ text. string_bytes text ≡ inferred_short named.now.names.now rule l) }
 {
     match rule {
         InferredRule::LoadPast => {
-            let load = named.name(l);
+            let load = named.names.name(l);
             format!(in alloc; "{load}{SEES_ONE_READ_OTHER}")
         },
         InferredRule::StorePast => String::from_str(alloc, READ_OLDER),
@@ -86,7 +87,7 @@ pub(crate) fn long_words(
     numbered: &NumberedSteps<'_>,
     step: &CertStep,
 ) -> Result<String, AllocError>
-    ensures { IfOk result (λ text. string_bytes text ≡ reason_long named.now numbered.now step.now.from step.now.to step.now.reason) }
+    ensures { IfOk result (λ text. string_bytes text ≡ reason_long named.now.names.now named.now.trace.now numbered.now step.now.from step.now.to step.now.reason) }
 {
     match &step.reason {
         Reason::Base(rule) => base_long(alloc, named, *rule, step.from as usize, step.to as usize),
@@ -112,18 +113,18 @@ fn base_long(
     u: usize,
     v: usize,
 ) -> Result<String, AllocError>
-    ensures { IfOk result (λ text. string_bytes text ≡ base_long named.now rule u v) }
+    ensures { IfOk result (λ text. string_bytes text ≡ base_long named.now.names.now named.now.trace.now rule u v) }
 {
     match rule {
         BaseRule::Own => {
-            let load = own_load(named.trace(), u, v);
+            let load = own_load(named.trace, u, v);
             let name = load_name(named, load);
             let read = load_read(alloc, named, load)?;
             format!(in alloc;
                 "{SEES_STORE}\n   {name} sees the store, which is earlier on its own processor, and it read {read}.\n   {READS_LAST}"
             )
         },
-        _ => String::from_str(alloc, order_words(rule, named.trace().order())),
+        _ => String::from_str(alloc, order_words(rule, named.trace.order())),
     }
 }
 
@@ -131,7 +132,7 @@ fn base_long(
 #[tactic(auto, unfolding(crate::specs::Words::base_long))]
 fn order_words(rule: BaseRule, order: Order) -> &'static str
     requires { rule ≢ BaseRule.Own }
-    ensures { (t : TraceValue) (u v : ℕ) → t.setting.order ≡ order → result.now ≡ base_long t rule u v }
+    ensures { (naming : NamingValue) (t : TraceValue) (u v : ℕ) → t.setting.order ≡ order → result.now ≡ base_long naming t rule u v }
 {
     match rule {
         BaseRule::Init => INIT_LONG,
@@ -162,9 +163,9 @@ fn load_past(
     l: usize,
     by: &str,
 ) -> Result<String, AllocError>
-    ensures { (steps : List CertStep) (u v : ℕ) (path : List ℕ) → by.now ≡ by_text steps path → IfOk result (λ text. string_bytes text ≡ inferred_long named.now steps InferredRule.LoadPast u v l path) }
+    ensures { (steps : List CertStep) (u v : ℕ) (path : List ℕ) → by.now ≡ by_text steps path → IfOk result (λ text. string_bytes text ≡ inferred_long named.now.names.now named.now.trace.now steps InferredRule.LoadPast u v l path) }
 {
-    let name = named.name(l);
+    let name = named.names.name(l);
     let read = named.read(alloc, l)?;
     format!(in alloc;
         "{SEES_STORE}\n   {name} sees the store, which comes before it by {by}, and it read {read}.\n   {READS_LAST}"
@@ -179,7 +180,7 @@ fn store_past(
     l: usize,
     by: &str,
 ) -> Result<String, AllocError>
-    ensures { (steps : List CertStep) (u v : ℕ) (path : List ℕ) → by.now ≡ by_text steps path → IfOk result (λ text. string_bytes text ≡ inferred_long named.now steps InferredRule.StorePast u v l path) }
+    ensures { (steps : List CertStep) (u v : ℕ) (path : List ℕ) → by.now ≡ by_text steps path → IfOk result (λ text. string_bytes text ≡ inferred_long named.now.names.now named.now.trace.now steps InferredRule.StorePast u v l path) }
 {
     let read = named.read(alloc, l)?;
     format!(in alloc;
@@ -196,10 +197,10 @@ fn swap_before(
     l: usize,
     by: &str,
 ) -> Result<String, AllocError>
-    ensures { (steps : List CertStep) (v : ℕ) (path : List ℕ) → by.now ≡ by_text steps path → IfOk result (λ text. string_bytes text ≡ inferred_long named.now steps InferredRule.SwapBefore u v l path) }
+    ensures { (steps : List CertStep) (v : ℕ) (path : List ℕ) → by.now ≡ by_text steps path → IfOk result (λ text. string_bytes text ≡ inferred_long named.now.names.now named.now.trace.now steps InferredRule.SwapBefore u v l path) }
 {
-    let store = named.name(u);
-    let swap_store = named.name_after(l);
+    let store = named.names.name(u);
+    let swap_store = named.names.name_after(l);
     format!(in alloc;
         "{ATOMIC_SWAP}.\n   {store} comes before {swap_store} by {by}.\n   {BEFORE_BOTH}"
     )
@@ -214,10 +215,10 @@ fn swap_after(
     l: usize,
     by: &str,
 ) -> Result<String, AllocError>
-    ensures { (steps : List CertStep) (u : ℕ) (path : List ℕ) → by.now ≡ by_text steps path → IfOk result (λ text. string_bytes text ≡ inferred_long named.now steps InferredRule.SwapAfter u v l path) }
+    ensures { (steps : List CertStep) (u : ℕ) (path : List ℕ) → by.now ≡ by_text steps path → IfOk result (λ text. string_bytes text ≡ inferred_long named.now.names.now named.now.trace.now steps InferredRule.SwapAfter u v l path) }
 {
-    let store = named.name(v);
-    let swap_load = named.name(l);
+    let store = named.names.name(v);
+    let swap_load = named.names.name(l);
     format!(in alloc;
         "{ATOMIC_SWAP}.\n   {store} comes after {swap_load} by {by}.\n   {AFTER_BOTH}"
     )
@@ -225,10 +226,10 @@ fn swap_after(
 
 /// The name of a load that may be missing.
 fn load_name<'n>(named: &'n NamedTrace<'_>, load: Option<usize>) -> &'n str
-    ensures { result.now ≡ option_map_or (name_text named.now) load [] }
+    ensures { result.now ≡ option_map_or (name_text named.now.names.now) load [] }
 {
     match load {
-        Some(l) => named.name(l),
+        Some(l) => named.names.name(l),
         None => "",
     }
 }
@@ -239,7 +240,7 @@ fn load_read(
     named: &NamedTrace<'_>,
     load: Option<usize>,
 ) -> Result<String, AllocError>
-    ensures { IfOk result (λ text. string_bytes text ≡ option_map_or (read_text named.now) load []) }
+    ensures { IfOk result (λ text. string_bytes text ≡ option_map_or (read_text named.now.names.now named.now.trace.now) load []) }
 {
     match load {
         Some(l) => named.read(alloc, l),

@@ -7,6 +7,7 @@ ghost use Rattle.std.specs.Prelude.{◌≤◌};
 ghost use Rattle.round_pool.specs.Workers.{worker_limit};
 
 mod explained;
+mod named;
 mod pictured;
 mod stream_faults;
 

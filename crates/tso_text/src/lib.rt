@@ -5,7 +5,7 @@
 
 pub use faults::{TextFault, Why, fault_of};
 pub use forms::print_outcome;
-pub use numbers::{no_number, three_numbers, two_numbers};
+pub use numbers::{no_number, one_number, three_numbers, two_numbers};
 pub use printers::{print_program, print_schedule, print_trace};
 pub use readers::{MAX_TEXT_BYTES, read_program, read_schedule, read_trace};
 pub use tso_ops::Act;

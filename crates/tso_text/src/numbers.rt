@@ -43,7 +43,7 @@ pub fn no_number(tokens: Option<&[u8]>) -> Result<(), Why>
 
 /// The number of the only token.
 #[tactic(auto, unfolding(crate::specs::Numbers::numbers))]
-pub(crate) fn one_number(tokens: Option<&[u8]>) -> Result<u64, Why>
+pub fn one_number(tokens: Option<&[u8]>) -> Result<u64, Why>
     ensures { MatchResult result (λ n. numbers 1 (tokens_after tokens.entry) ≡ Ok (n ∷ [])) (λ why. numbers 1 (tokens_after tokens.entry) ≡ Err why) }
 {
     let (token, rest) = token_of(tokens)?;

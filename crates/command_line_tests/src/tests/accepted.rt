@@ -66,11 +66,17 @@ const ACCEPTED: [(&[&str], &str); 36] = [
         "batch Some(\"s\") with 64 quiet false",
     ),
     (&["batch", "-"], "batch None with 1 quiet false"),
-    (&["cut"], "cut None into 2000"),
-    (&["cut", "l"], "cut Some(\"l\") into 2000"),
-    (&["cut", "l", "--events", "3"], "cut Some(\"l\") into 3"),
-    (&["cut", "--events=8000", "l"], "cut Some(\"l\") into 8000"),
-    (&["cut", "-"], "cut None into 2000"),
+    (&["log"], "log None at most 10 as Lines"),
+    (&["log", "l"], "log Some(\"l\") at most 10 as Lines"),
+    (
+        &["log", "l", "--most", "1", "--explain"],
+        "log Some(\"l\") at most 1 as Explained",
+    ),
+    (
+        &["log", "--trace", "--most=1000000", "l"],
+        "log Some(\"l\") at most 1000000 as Traces",
+    ),
+    (&["log", "-"], "log None at most 10 as Lines"),
 ];
 
 #[test]

@@ -51,12 +51,13 @@ fn help_on_pictures(rt: HostRuntime) -> Result<(), Fail> {
     expect_each(&rt, rt.alloc(), "show ", &OF_PICTURES)
 }
 
-/// Those that ask for the help of `cut`.
-const OF_LOGS: [(&[&str], &str); 4] = [
-    (&["cut", "--help"], CUT_HELP),
-    (&["cut", "-h"], CUT_HELP),
-    (&["help", "cut"], CUT_HELP),
-    (&["cut", "a.log", "-h"], CUT_HELP),
+/// Those that ask for the help of `log`.
+const OF_LOGS: [(&[&str], &str); 5] = [
+    (&["log", "--help"], LOG_HELP),
+    (&["log", "-h"], LOG_HELP),
+    (&["help", "log"], LOG_HELP),
+    (&["log", "--explain", "-h"], LOG_HELP),
+    (&["log", "a.log", "-h"], LOG_HELP),
 ];
 
 #[test]
@@ -97,7 +98,7 @@ Commands:
   explain   Explains in words why a trace is a violation
   draw      Draws a trace and why it is a violation, for Graphviz
   batch     Judges many traces, with a line for each
-  cut       Cuts a log into traces, which batch judges
+  log       Finds violations of a log, and prints their lines
   check     Checks a certificate of a violation against its trace
   replay    Replays a program by a schedule, and judges the trace
   run       Runs a program with a thread per processor, and judges the trace
@@ -128,6 +129,7 @@ first.
 
 Exit status:
   0  no violation was found, which proves nothing about the trace
+  1  no violation of a log was found, and the search ended early
   2  a text or the command line was refused
   3  the trace violates its memory model, or the certificate holds
   4  a fault, which one line on standard error names
@@ -258,50 +260,57 @@ Example:
   cat *.trace | tsobench batch --workers 4 --quiet
 ";
 
-const CUT_HELP: &str = "\
-Cuts a log into traces, which batch judges
+const LOG_HELP: &str = "\
+Finds violations of a log, and prints their lines
 
-Usage: tsobench cut [OPTIONS] [FILE]
+Usage: tsobench log [OPTIONS] [FILE]
 
 Arguments:
   [FILE]  The text of a log; standard input where it is - or left out
 
 Options:
-      --events <N>  How many events each trace has at most, 3 to 8000 [default: 2000]
-  -h, --help        Print help
+      --most <K>  How many violations are shown at most, 1 to 1000000 [default: 10]
+      --trace     Prints the traces of the violations, and no report
+      --explain   Explains each violation after its lines
+  -h, --help      Print help
 
-It reads a log of what the processors of a machine did, and prints pieces of it
-as texts of traces, one after the other, which `tsobench batch` reads. Each line
-of a log is an operation of a processor P, 0 to 15, and the lines of a processor
-stand in the order of its program:
+It reads a log of what the processors of a machine did, of any length, and looks
+for violations: lines of the log that no memory order explains. Each line is an
+operation of a processor P, 0 to 4095, and the lines of a processor stand in the
+order of its program:
 
   P ld A R      it loaded R from address A
   P st A V      it stored V to address A
   P sw A R V    it swapped: it loaded R from address A and stored V there
   P mb          MEMBAR #StoreLoad
   P stbar       STBAR
+  P un A        it did something else at address A, whose lines all are left out
 
 Lines of different processors may stand in any order. Addresses and values are
 numbers of 64 bits, and values may repeat. The first line may be `model pso`,
-for Partial Store Order. Lines `init A V`, before all operations and in
-ascending order of A, say what memory has at first: 0 at all other addresses.
+for Partial Store Order; without it STBAR says nothing. Lines `init A V`, before
+all operations and in ascending order of A, say what memory has at first: 0 at
+all other addresses.
 
 The log must have every store and swap of the run: what it leaves out may be
-what a load read. Then a violation of a piece is one of the log; that no piece
-is a violation proves nothing about the log. Left out are loads whose value
-several may have written (stores, or a store and the first value), and loads
-whose value nothing wrote, each of which is a violation by itself. Standard
-error gets a line for each piece, and a last one with their numbers and those
-of the loads left out; or, of a text that is no log, one as REFUSED BadLine
-line 3. STBAR says nothing without `model pso`.
+what a load read. Then a violation that is shown is one of the run; that none
+was found proves nothing. The report says VIOLATION or NO VIOLATION FOUND, and
+SEARCH ENDED EARLY if there was more work than the search may do. For each
+violation it has a line as violation 1, and lines of the log as
+line 12 0 ld 8192 0. No two violations have a load in common. With --trace it
+prints in place of the report the traces of these lines, which `tsobench batch`
+reads; a load of a value that nothing wrote has none. If the text is no log, a
+line says so, as REFUSED BadLine line 3.
 
 Exit status:
-  0  the pieces were printed
+  0  no violation was found, which proves nothing about the log
+  1  no violation was found, and the search ended early
   2  the text is no log, or the command line was refused
+  3  a violation of the log's memory model was found
   4  a fault, which one line on standard error names, as FAULT Read
 
 Example:
-  tsobench cut LOG | tsobench batch
+  tsobench log --explain LOG
 ";
 
 const CHECK_HELP: &str = "\

@@ -8,7 +8,7 @@ const TWO_INPUTS: &str =
     "error: one of the two files may be '-', and not both: standard input is read once\n\nFor more information, try '--help'.\n";
 
 /// Arguments, and the text of their refusal.
-const REFUSED: [(&[&str], &str); 13] = [
+const REFUSED: [(&[&str], &str); 14] = [
     (&["check", "-", "-"], TWO_INPUTS),
     (&["check", "--", "-", "-"], TWO_INPUTS),
     (&["seek", "judge"], UNKNOWN),
@@ -30,17 +30,18 @@ const REFUSED: [(&[&str], &str); 13] = [
         "error: unexpected argument '--model' found\n\n  tip: to pass '--model' as a value, use '-- --model'\n\nUsage: tsobench judge [OPTIONS] [FILE]\n\nFor more information, try '--help'.\n",
     ),
     (
-        &["cut", "--events", "2"],
-        "error: invalid value '2' for '--events <N>': 2 is not in 3..=8000\n\nFor more information, try '--help'.\n",
+        &["log", "--most", "0"],
+        "error: invalid value '0' for '--most <K>': 0 is not in 1..=1000000\n\nFor more information, try '--help'.\n",
     ),
     (
-        &["cut", "--events=8001", "l"],
-        "error: invalid value '8001' for '--events <N>': 8001 is not in 3..=8000\n\nFor more information, try '--help'.\n",
+        &["log", "--most=1000001", "l"],
+        "error: invalid value '1000001' for '--most <K>': 1000001 is not in 1..=1000000\n\nFor more information, try '--help'.\n",
     ),
     (
-        &["cut", "a", "b"],
-        "error: unexpected argument 'b' found\n\nUsage: tsobench cut [OPTIONS] [FILE]\n\nFor more information, try '--help'.\n",
+        &["log", "a", "b"],
+        "error: unexpected argument 'b' found\n\nUsage: tsobench log [OPTIONS] [FILE]\n\nFor more information, try '--help'.\n",
     ),
+    (&["log", "--explain", "l", "--trace"], BOTH),
     (
         &["check", "a"],
         "error: the following required arguments were not provided:\n  <CERT>\n\nUsage: tsobench check <TRACE> <CERT>\n\nFor more information, try '--help'.\n",

@@ -1,15 +1,14 @@
--- What a log holds after some lines, and how the next one is accepted or refused.
-use Rattle.std.specs.Prelude.{◌≡◌, ◌⊎◌, ℕ, ◌<◌, ◌-◌, Bool, false, not, nat_le, List, [], ◌∷◌, ◌++◌, length, get_or, slice_get, Option, None, Some, Ok, Err}
+-- What a reading of a log holds after some lines, and how the next one is accepted or refused.
+use Rattle.std.specs.Prelude.{◌≡◌, ◌⊎◌, ℕ, suc, ◌-◌, Bool, false, not, nat_le, List, [], ◌∷◌, ◌++◌, length, get_or, slice_get, Option, None, Some, Ok, Err}
 use Rattle.std.specs.List.{flat_map, list_any}
 use Rattle.line_text.specs.Lines.{is_empty}
 use Rattle.tso_ops.specs.Values.{rows}
 use Rattle.tso_text.specs.declared.faults.Why.{Why}
 use Rattle.tso_text.specs.declared.faults.Why.TheVariants.{OutOfMemory}
 use Rattle.log_text.specs.declared.lines.LogLine.{LogLine}
-use Rattle.log_text.specs.declared.logs.Log.{Log}
+use Rattle.log_text.specs.declared.readings.Reading.{Reading}
 use Rattle.log_text.specs.LogLines.{line_said}
-use Rattle.log_text.specs.LogTexts.{order_of, entries_in, issued_by, is_operation, fault_after}
-use Rattle.log_text.specs.LogValues.{outcomes_of}
+use Rattle.log_text.specs.LogTexts.{order_of, entries_in, unknown_in, issued_from, is_issued, processors_in, fault_after}
 
 -- the address of an entry isn't below this one
 abbrev pub has_not_below : ℕ → List (ℕ × ℕ) → Bool
@@ -24,40 +23,41 @@ is_entry_not_below a (Some entry) = nat_le a entry.0
 pub record IsLastGreatest (entries : List (ℕ × ℕ)) : Type 0 where
   pub last : (a : ℕ) → has_not_below a entries ≡ is_entry_not_below a (slice_get entries (length entries - 1))
 
--- the log holds what these lines say
-pub record HoldsLines (log : Log) (lines : List LogLine) : Type 0 where
-  pub order : log.order ≡ order_of lines
-  pub first : log.first.items ≡ flat_map entries_in lines
-  pub greatest : IsLastGreatest log.first.items
-  pub issuers : list_any is_operation lines ≡ not (is_empty log.issuers.items)
-  pub count : length (rows log.lists.items) ≡ 16
-  pub lists : (p : ℕ) → p < 16 → outcomes_of (get_or (rows log.lists.items) p []) ≡ issued_by lines p
+-- the reading holds what these lines say
+pub record HoldsLines (reading : Reading) (lines : List LogLine) : Type 0 where
+  pub order : reading.log.order ≡ order_of lines
+  pub first : reading.log.first.items ≡ flat_map entries_in lines
+  pub greatest : IsLastGreatest reading.log.first.items
+  pub issued : list_any is_issued lines ≡ not (is_empty (rows reading.log.lists.items))
+  pub count : length (rows reading.log.lists.items) ≡ processors_in lines
+  pub lists : (p : ℕ) → get_or (rows reading.log.lists.items) p [] ≡ issued_from 1 lines p
+  pub unknown : reading.unknown.items ≡ flat_map unknown_in lines
 
--- the next line has no fault, and the new log holds it too
-pub record IsNext (before : List LogLine) (line : LogLine) (new : Log) : Type 0 where
+-- the next line has no fault, and the new reading holds it too
+pub record IsNext (before : List LogLine) (line : LogLine) (new : Reading) : Type 0 where
   pub clean : fault_after before line ≡ None
   pub holds : HoldsLines new (before ++ line ∷ [])
 
--- what a line says is accepted after the lines that the old log holds
-abbrev pub IsAccepted : Log → LogLine → Log → Type 0
-IsAccepted old line new = (before : List LogLine) → HoldsLines old before → IsNext before line new
+-- what the line of this number says is accepted after the lines that the old reading holds
+abbrev pub IsAccepted : Reading → ℕ → LogLine → Reading → Type 0
+IsAccepted old number line new = (before : List LogLine) → HoldsLines old before → number ≡ suc (length before) → IsNext before line new
 
 -- memory was refused, or what a line says has this fault after the lines that the old log holds
-abbrev pub IsRefused : Log → LogLine → Why → Type 0
+abbrev pub IsRefused : Reading → LogLine → Why → Type 0
 IsRefused old line why = (before : List LogLine) → HoldsLines old before → (why ≡ OutOfMemory) ⊎ (fault_after before line ≡ Some why)
 
 -- a line says this, and it is accepted
-pub record IsTextNext (before : List LogLine) (text : List ℕ) (new : Log) : Type 0 where
+pub record IsTextNext (before : List LogLine) (text : List ℕ) (new : Reading) : Type 0 where
   pub line : LogLine
   pub says : line_said text ≡ Ok line
   pub next : IsNext before line new
 
-abbrev pub IsTextAccepted : Log → List ℕ → Log → Type 0
-IsTextAccepted old text new = (before : List LogLine) → HoldsLines old before → IsTextNext before text new
+abbrev pub IsTextAccepted : Reading → ℕ → List ℕ → Reading → Type 0
+IsTextAccepted old number text new = (before : List LogLine) → HoldsLines old before → number ≡ suc (length before) → IsTextNext before text new
 
 -- a line says nothing for this reason, or it says what has this fault
 abbrev pub HasFault : List LogLine → List ℕ → Why → Type 0
 HasFault before text why = (line_said text ≡ Err why) ⊎ (line : LogLine) × (line_said text ≡ Ok line) × (fault_after before line ≡ Some why)
 
-abbrev pub IsTextRefused : Log → List ℕ → Why → Type 0
+abbrev pub IsTextRefused : Reading → List ℕ → Why → Type 0
 IsTextRefused old text why = (before : List LogLine) → HoldsLines old before → (why ≡ OutOfMemory) ⊎ HasFault before text why

@@ -4,8 +4,8 @@ ghost use Rattle.command_line.specs.Requests.{HasDrainTurns, HasUnitRanges, HasW
 
 use super::{Ended, FailingReader, FailingWriter, expect};
 use command_line::{
-    CutRequest, JudgeRequest, Presentation, Printing, Request, RunOptions, RunRequest, TextPair,
-    UnitKind, UnitOptions,
+    JudgeRequest, LogForm, LogOptions, LogRequest, Presentation, Printing, Request, RunOptions,
+    RunRequest, TextPair, UnitKind, UnitOptions,
 };
 use request_serving::{NamedFiles, end_by, serve};
 use std::alloc::{AllocError, Global};
@@ -196,18 +196,30 @@ fn judging(rt: HostRuntime) -> Result<(), Fail> {
     compare(&rt, &input, outcome(&[], 4, "", READ))
 }
 
-/// What is told of a log whose one window of a load gives no piece.
-const WITHOUT_PIECE: &str =
-    "pieces 0 operations 0 loads 0 left out: 0 ambiguous, 0 unwritten\nwindows without a piece 1 loads lost 1\n";
+/// The report on the log.
+const LOGGED: &str = "TSO LOG 1\nprocessors 2 operations 2 loads 1 unknown 0\nNO VIOLATION FOUND\n";
 
-// One event is too few for a load and the store that it read.
 #[test]
-fn cutting_into_pieces_of_one_event(rt: HostRuntime) -> Result<(), Fail> {
-    let cut = Request::Cut(CutRequest {
+fn logging(rt: HostRuntime) -> Result<(), Fail> {
+    let options = LogOptions {
+        most: 10,
+        form: LogForm::Lines,
+    };
+    let named = Request::Log(LogRequest {
         file: Some("log"),
-        events: 1,
+        options,
     });
-    compare(&rt, &cut, outcome(&["log"], 0, "", WITHOUT_PIECE))
+    compare(&rt, &named, outcome(&["log"], 0, LOGGED, ""))?;
+    let missing = Request::Log(LogRequest {
+        file: Some("other"),
+        options,
+    });
+    compare(&rt, &missing, outcome(&["other"], 4, "", READ))?;
+    let input = Request::Log(LogRequest {
+        file: None,
+        options,
+    });
+    compare(&rt, &input, outcome(&[], 4, "", READ))
 }
 
 #[test]

@@ -1,23 +1,11 @@
--- What the tables of an explanation keep: the names of events, the numbers of steps, and the marks of what steps name.
-use Rattle.std.specs.Prelude.{◌≡◌, ℕ, ◌<◌, Bool, false, List, [], length, get_or, Option, None, Some, slice_get, String, string_bytes}
+-- What the tables of an explanation keep: the numbers of steps, and the marks of what steps name.
+use Rattle.std.specs.Prelude.{◌≡◌, ℕ, ◌<◌, Bool, false, List, length, get_or}
 use Rattle.std.specs.List.{position_from}
 use Rattle.std.specs.Ordering.{nat_cmp, ordering_then}
 use Rattle.std.specs.declared.cmp.Ordering.{Ordering}
 use Rattle.std.specs.BTreeMap.{BTreeMap, get}
-use Rattle.std.specs.Global.{Global}
-use Rattle.tso_ops.specs.Values.{TraceValue}
 use Rattle.tso_cert.specs.declared.steps.CertStep.{CertStep}
-use Rattle.trace_explanation.specs.Names.{name_text}
 use Rattle.trace_explanation.specs.Steps.{is_edge}
-
--- the bytes of a text that may be missing
-abbrev pub text_in : Option (String Global) → List ℕ
-text_in None = []
-text_in (Some s) = string_bytes s
-
--- each number has its name
-abbrev pub HasNames : TraceValue → List (String Global) → Type 0
-HasNames t names = (n : ℕ) → text_in (slice_get names n) ≡ name_text t n
 
 -- how keys of two numbers compare
 abbrev pub pair_cmp : ℕ × ℕ → ℕ × ℕ → Ordering

@@ -6,18 +6,7 @@ use Rattle.log_text.proofs.TextFacts.{Reached-start, Reached-next, Reached-end, 
 use Rattle.log_text.proofs.readers.read_log.Goals as goal
 
 pub lines-init : goal.lines-init
-lines-init c = record { reached = Reached-start c.args.text.now c.in-Ok.log c.in-Ok.ensures.start; room = omega arith }
-
-pub returns-then-is_empty-clause-found : goal.returns-then-is_empty-clause-found
-returns-then-is_empty-clause-found c =
-    let rest = c.lines.rest.now in
-    Reached-end c.args.text.now c.lines.line rest c.lines.log c.lines.invariant.reached c.in_default.ensures.none (no_elements rest (length rest) c.is_empty.result refl c.is_empty.ensures c.if-is_empty.true)
-
-pub returns-then-is_empty-clause-only : goal.returns-then-is_empty-clause-only
-returns-then-is_empty-clause-only c t spells =
-    let rest = c.lines.rest.now in
-    one_log c.args.text.now _ t
-    (Reached-end c.args.text.now c.lines.line rest c.lines.log c.lines.invariant.reached c.in_default.ensures.none (no_elements rest (length rest) c.is_empty.result refl c.is_empty.ensures c.if-is_empty.true)) spells
+lines-init c = record { reached = Reached-start c.args.text.now c.new-reading.result c.new-reading.ensures.start; room = omega arith }
 
 pub returns-in-Err-accept_line-clause-only : goal.returns-in-Err-accept_line-clause-only
 returns-in-Err-accept_line-clause-only c t spells =
@@ -26,18 +15,24 @@ returns-in-Err-accept_line-clause-only c t spells =
     ∙ ⊎_elim
     (λ (memory : why ≡ OutOfMemory). memory)
     (λ (refusal : IsLogRefusal c.args.text.now c.lines.line why). absurd (never_both c.args.text.now t c.lines.line why spells refusal))
-    (line_refused c.args.text.now c.lines.line c.lines.rest.now c.lines.log c.in-Some.prefix.now c.in-Some.after.now why c.lines.invariant.reached c.in-Some.ensures.line c.in-Err-accept_line.ensures.refused)
+    (line_refused c.args.text.now c.lines.line c.lines.rest.now c.lines.reading c.in-Some.prefix.now c.in-Some.after.now why c.lines.invariant.reached c.in-Some.ensures.line c.in-Err-accept_line.ensures.refused)
 
 pub returns-in-Err-accept_line-clause-refused : goal.returns-in-Err-accept_line-clause-refused
 returns-in-Err-accept_line-clause-refused c other =
     let why = c.in-Err-accept_line.why in
     let fault = c.fault_of-in-Err-accept_line in
     answered c.args.text.now c.lines.line why fault.result.line fault.result.why fault.ensures.why fault.ensures.line
-    (line_refused c.args.text.now c.lines.line c.lines.rest.now c.lines.log c.in-Some.prefix.now c.in-Some.after.now why c.lines.invariant.reached c.in-Some.ensures.line c.in-Err-accept_line.ensures.refused)
+    (line_refused c.args.text.now c.lines.line c.lines.rest.now c.lines.reading c.in-Some.prefix.now c.in-Some.after.now why c.lines.invariant.reached c.in-Some.ensures.line c.in-Err-accept_line.ensures.refused)
     other
 
 pub lines-preserved : goal.lines-preserved
 lines-preserved c = record {
-  reached = Reached-next c.args.text.now c.lines.line c.lines.rest.now c.lines.log c.in-Some.prefix.now c.in-Some.after.now c.accept_line.new.self c.lines.invariant.reached c.in-Some.ensures.line c.in_default-accept_line.ensures.accepted;
+  reached = Reached-next c.args.text.now c.lines.line c.lines.rest.now c.lines.reading c.in-Some.prefix.now c.in-Some.after.now c.accept_line.new.self c.lines.invariant.reached c.in-Some.ensures.line c.in_default-accept_line.ensures.accepted;
   room = omega (arith, c.in-Some.ensures.shorter, c.lines.invariant.room);
 }
+
+pub returns-in-Ok-clause-only : goal.returns-in-Ok-clause-only
+returns-in-Ok-clause-only c t spells =
+    let rest = c.lines.rest.now in
+    one_log c.args.text.now _ t
+    (Reached-end c.args.text.now c.lines.line rest c.lines.reading _ c.lines.invariant.reached c.in_default.ensures.none (no_elements rest (length rest) c.is_empty.result refl c.is_empty.ensures c.if-not-is_empty.false) c.in-Ok.ensures) spells

@@ -4,7 +4,7 @@ use Rattle.log_text.proofs.readers.read_log.Given as goal
 
 abbrev pub invariant-lines : goal.invariant-lines
 invariant-lines l = record {
-  reached : Reached l.text l.line l.rest l.log;
+  reached : Reached l.text l.line l.rest l.reading;
   room : l.line + length l.rest ≤ length l.text + 1;
 }
 

@@ -5,7 +5,8 @@ use Rattle.request_serving.specs.Endings.{IsPresented, Outputs, outputs}
 use Rattle.request_serving.specs.OpenedFiles.{name_in, text_bytes}
 use Rattle.request_serving.specs.Replaying.{IsReplayText}
 use Rattle.request_serving.specs.Statuses.{status_of}
-use Rattle.request_serving.proofs.CuttingFacts.{ends_cut}
+use Rattle.request_serving.specs.Logs.{form_of}
+use Rattle.request_serving.proofs.LoggingFacts.{ends_logged}
 use Rattle.request_serving.proofs.EndFacts.{at_text, batch_fault, ends_as, named, opens_all, unnamed}
 use Rattle.request_serving.proofs.RunningFacts.{ends_run}
 use Rattle.request_serving.proofs.LawfulFacts.{known_status, lawful_status}
@@ -46,23 +47,23 @@ pub returns-in-Batch-clause-taken : goal.returns-in-Batch-clause-taken
 returns-in-Batch-clause-taken g c = rw c.in-Batch.is (λ reads other.
     at_text c.batch_named.result c.end-in-Batch.result _ _ _ c.end-in-Batch.ensures.fault (c.batch_named.ensures.taken (unnamed c.in-Batch.request.file reads)) other)
 
-pub returns-in-Cut-clause-ends : goal.returns-in-Cut-clause-ends
-returns-in-Cut-clause-ends g c =
-    let o : Outputs = outputs (g.W.Write.contents c.args.writer.now) (g.W.Write.contents c.cut_named-cut.new.writer) (g.E.Write.contents c.args.errors.now) (g.E.Write.contents c.end_cut.new.errors) in
-    let request = c.in-Cut.request in
+pub returns-in-Log-clause-ends : goal.returns-in-Log-clause-ends
+returns-in-Log-clause-ends g c =
+    let o : Outputs = outputs (g.W.Write.contents c.args.writer.now) (g.W.Write.contents c.log_named-reported.new.writer) (g.E.Write.contents c.args.errors.now) (g.E.Write.contents c.end_log.new.errors) in
+    let request = c.in-Log.request in
     let remaining = text_bytes (name_in request.file) (g.R.Read.remaining c.args.reader.now) (g.O.NamedFiles.bytes c.args.files.now) in
-    let cut = c.cut_named-cut.ensures in
-    rw c.in-Cut.is (ends_cut request.events remaining (g.E.Write.contents c.cut_named-cut.new.errors) o c.cut_named-cut.result c.end_cut.result cut.cut cut.refused cut.left cut.untold cut.fault c.end_cut.ensures.verdict c.end_cut.ensures.fault)
+    let logged = c.log_named-reported.ensures in
+    rw c.in-Log.is (ends_logged (form_of request.options.form) remaining (g.E.Write.contents c.log_named-reported.new.errors) o c.log_named-reported.result c.end_log.result logged.whole logged.left logged.told logged.untold c.end_log.ensures.verdict c.end_log.ensures.fault)
 
-pub returns-in-Cut-clause-first : goal.returns-in-Cut-clause-first
-returns-in-Cut-clause-first g c = rw c.in-Cut.is (opens_all _ _ _ c.cut_named-cut.ensures.opened)
+pub returns-in-Log-clause-first : goal.returns-in-Log-clause-first
+returns-in-Log-clause-first g c = rw c.in-Log.is (opens_all _ _ _ c.log_named-reported.ensures.opened)
 
-pub returns-in-Cut-clause-unread : goal.returns-in-Cut-clause-unread
-returns-in-Cut-clause-unread g c = rw c.in-Cut.is (λ unread. named c.in-Cut.request.file c.cut_named-cut.ensures.unread unread)
+pub returns-in-Log-clause-unread : goal.returns-in-Log-clause-unread
+returns-in-Log-clause-unread g c = rw c.in-Log.is (λ unread. named c.in-Log.request.file c.log_named-reported.ensures.unread unread)
 
-pub returns-in-Cut-clause-taken : goal.returns-in-Cut-clause-taken
-returns-in-Cut-clause-taken g c = rw c.in-Cut.is (λ reads other.
-    at_text c.cut_named-cut.result c.end_cut.result _ _ _ c.end_cut.ensures.fault (c.cut_named-cut.ensures.taken (unnamed c.in-Cut.request.file reads)) other)
+pub returns-in-Log-clause-taken : goal.returns-in-Log-clause-taken
+returns-in-Log-clause-taken g c = rw c.in-Log.is (λ reads other.
+    at_text c.log_named-reported.result c.end_log.result _ _ _ c.end_log.ensures.fault (c.log_named-reported.ensures.taken (unnamed c.in-Log.request.file reads)) other)
 
 pub returns-in-Replay-clause-ends : goal.returns-in-Replay-clause-ends
 returns-in-Replay-clause-ends g c =

@@ -11,10 +11,10 @@ pub loop-done-init : goal.loop-done-init
 loop-done-init c =
     let steps = c.args.numbered.now in
     let all = take_all (length steps - 0) (enumerate_from 1 steps) (omega (arith, length-enumerate_from 1 steps)) in
-    ap (λ ns. string_bytes c.args.text.now ++ flat_map (λ n. step_text c.args.named.now steps n.0 n.1) (reverse ns)) all
+    ap (λ ns. string_bytes c.args.text.now ++ flat_map (λ n. step_text c.args.named.now.names.now c.args.named.now.trace.now steps n.0 n.1) (reverse ns)) all
 
 pub loop-done-preserved : goal.loop-done-preserved
 loop-done-preserved c =
     let steps = c.args.numbered.now in
-    steps-more (λ n. step_text c.args.named.now steps n.0 n.1) steps c.loop-done.done (length steps - c.loop-done.done) c.index-steps-number.result (string_bytes c.loop-done.text) (string_bytes c.push_step.new.text) _
+    steps-more (λ n. step_text c.args.named.now.names.now c.args.named.now.trace.now steps n.0 n.1) steps c.loop-done.done (length steps - c.loop-done.done) c.index-steps-number.result (string_bytes c.loop-done.text) (string_bytes c.push_step.new.text) _
     (rw c.steps-steps.ensures at c.loop-done-test.true) refl (rw c.steps-steps.ensures at c.index-steps-number.is) (rw c.steps-steps.ensures at c.in_ok-push_step.ensures) c.loop-done.invariant

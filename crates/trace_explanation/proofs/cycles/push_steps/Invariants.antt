@@ -6,5 +6,5 @@ use Rattle.trace_explanation.proofs.cycles.push_steps.Given as goal
 
 abbrev pub invariant-loop-done : goal.invariant-loop-done
 invariant-loop-done l =
-    string_bytes l.text ++ flat_map (λ n. step_text l.named l.numbered n.0 n.1) (reverse (take (length l.numbered - l.done) (enumerate_from 1 l.numbered)))
-    ≡ string_bytes l.fn.text ++ flat_map (λ n. step_text l.named l.numbered n.0 n.1) (reverse (enumerate_from 1 l.numbered))
+    string_bytes l.text ++ flat_map (λ n. step_text l.named.names.now l.named.trace.now l.numbered n.0 n.1) (reverse (take (length l.numbered - l.done) (enumerate_from 1 l.numbered)))
+    ≡ string_bytes l.fn.text ++ flat_map (λ n. step_text l.named.names.now l.named.trace.now l.numbered n.0 n.1) (reverse (enumerate_from 1 l.numbered))

@@ -3,4 +3,4 @@ use Rattle.trace_explanation.proofs.explanations.push_silence.Goals as goal
 
 pub returns : goal.returns
 unfolding silence_text
-returns c = rw c.model_name-model.ensures at c.write.ensures.bytes
+returns c = rw (c.model_name-model.ensures, c.noun-noun.ensures) at c.write.ensures.bytes

@@ -1,4 +1,4 @@
-use Rattle.trace_explanation.proofs.NameFacts.{source-number}
+use Rattle.trace_explanation.proofs.SourceFacts.{source-number}
 use Rattle.trace_explanation.proofs.names.source_of.Goals as goal
 
 pub returns : goal.returns

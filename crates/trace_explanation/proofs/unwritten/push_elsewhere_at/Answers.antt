@@ -6,7 +6,6 @@ use Rattle.trace_explanation.proofs.unwritten.push_elsewhere_at.Goals as goal
 pub returns : goal.returns
 returns c =
     let old = string_bytes c.args.text.now in
-    let address = rw c.trace.ensures at c.address_of-address.ensures in
-    let said = rw address at c.in_ok-write.ensures.bytes in
+    let said = rw c.address-address.ensures at c.in_ok-write.ensures.bytes in
     pushed-last c.push_str.result _ (string_bytes c.push_place.new.text) (10 ∷ []) _ c.push_str.ensures.bytes
     (grown old _ (10 ∷ []) (string_bytes c.push_place.new.text) _ (grown old _ _ (string_bytes c.write.new.self) (string_bytes c.push_place.new.text) said c.in_ok-push_place.ensures) refl)

@@ -1,7 +1,7 @@
 use Rattle.std.proofs.Common.{◌≡◌, ◌++◌, take, string_bytes}
 use Rattle.std.specs.List.{flat_map}
-use Rattle.trace_explanation.specs.Names.{place_text}
+use Rattle.trace_explanation.specs.Places.{place_text}
 use Rattle.trace_explanation.proofs.unwritten.push_places.Given as goal
 
 abbrev pub invariant-loop-event : goal.invariant-loop-event
-invariant-loop-event l = string_bytes l.text ≡ string_bytes l.fn.text ++ flat_map (place_text l.named) (take l.event-index l.events)
+invariant-loop-event l = string_bytes l.text ≡ string_bytes l.fn.text ++ flat_map (place_text l.named.names.now l.named.trace.now) (take l.event-index l.events)

@@ -3,4 +3,4 @@ use Rattle.trace_explanation.proofs.unwritten.push_unread.Goals as goal
 
 pub returns : goal.returns
 unfolding unread_text
-returns c = rw (c.line-line.ensures, c.name-name.ensures, c.first-first.ensures, c.trace.ensures) at c.write.ensures.bytes
+returns c = rw (c.line-line.ensures, c.name-name.ensures, c.address-address.ensures, c.first-first.ensures) at c.write.ensures.bytes

@@ -1,0 +1,76 @@
+//! `log [--most K] [--trace|--explain] [FILE]`: finds violations of a log.
+
+use crate::options::MAX_LOG_VIOLATIONS;
+use crate::parameters::{Accepted, Description, Parameter};
+
+/// The text of its help after the list of its parameters.
+const HELP: &str = "\
+It reads a log of what the processors of a machine did, of any length, and looks
+for violations: lines of the log that no memory order explains. Each line is an
+operation of a processor P, 0 to 4095, and the lines of a processor stand in the
+order of its program:
+
+  P ld A R      it loaded R from address A
+  P st A V      it stored V to address A
+  P sw A R V    it swapped: it loaded R from address A and stored V there
+  P mb          MEMBAR #StoreLoad
+  P stbar       STBAR
+  P un A        it did something else at address A, whose lines all are left out
+
+Lines of different processors may stand in any order. Addresses and values are
+numbers of 64 bits, and values may repeat. The first line may be `model pso`,
+for Partial Store Order; without it STBAR says nothing. Lines `init A V`, before
+all operations and in ascending order of A, say what memory has at first: 0 at
+all other addresses.
+
+The log must have every store and swap of the run: what it leaves out may be
+what a load read. Then a violation that is shown is one of the run; that none
+was found proves nothing. The report says VIOLATION or NO VIOLATION FOUND, and
+SEARCH ENDED EARLY if there was more work than the search may do. For each
+violation it has a line as violation 1, and lines of the log as
+line 12 0 ld 8192 0. No two violations have a load in common. With --trace it
+prints in place of the report the traces of these lines, which `tsobench batch`
+reads; a load of a value that nothing wrote has none. If the text is no log, a
+line says so, as REFUSED BadLine line 3.
+
+Exit status:
+  0  no violation was found, which proves nothing about the log
+  1  no violation was found, and the search ended early
+  2  the text is no log, or the command line was refused
+  3  a violation of the log's memory model was found
+  4  a fault, which one line on standard error names, as FAULT Read
+
+Example:
+  tsobench log --explain LOG";
+
+/// What is told of it.
+pub(crate) static LOG: Description = Description {
+    help_option: ["log", "--help"],
+    about: "Finds violations of a log, and prints their lines",
+    help: HELP,
+    parameters: &[
+        Parameter::Option {
+            name: "most",
+            value_name: "K",
+            accepted: Accepted::Number(1, MAX_LOG_VIOLATIONS as u64),
+            default: Some("10"),
+            help: "How many violations are shown at most, 1 to 1000000",
+        },
+        Parameter::Flag {
+            name: "trace",
+            help: "Prints the traces of the violations, and no report",
+        },
+        Parameter::Flag {
+            name: "explain",
+            help: "Explains each violation after its lines",
+        },
+        Parameter::Other {
+            name: "file",
+            value_name: "FILE",
+            required: false,
+            help: "The text of a log; standard input where it is - or left out",
+        },
+    ],
+};
+
+const _: () = prove!(MAX_LOG_VIOLATIONS == 1_000_000);

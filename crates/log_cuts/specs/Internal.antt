@@ -1,2 +1,0 @@
--- For private functions alone.
-pub mod Written

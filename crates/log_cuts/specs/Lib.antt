@@ -1,2 +1,0 @@
-pub mod Internal
-pub mod LogCuts

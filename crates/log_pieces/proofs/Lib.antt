@@ -1,5 +1,0 @@
-mod AccessFacts
-mod KeepingFacts
-mod KnownFacts
-mod SourceFacts
-mod WriterFacts

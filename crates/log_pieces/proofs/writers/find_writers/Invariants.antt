@@ -1,5 +1,0 @@
-use Rattle.log_pieces.specs.Internal.Writers.{FindsWriters}
-use Rattle.log_pieces.proofs.writers.find_writers.Given as goal
-
-abbrev pub invariant-loop-k : goal.invariant-loop-k
-invariant-loop-k l = FindsWriters l.accesses l.k l.writers

@@ -1,0 +1,6 @@
+pub mod TextFacts
+pub mod ViolationFacts
+pub mod FoundFacts
+pub mod CountFacts
+pub mod NameFacts
+pub mod ReadFacts

@@ -1,0 +1,25 @@
+-- Lemmas on the names of the events of lines.
+use Rattle.std.proofs.Common.{◌≡◌, ◌∙◌, ℕ, zero, suc, ◌+◌, List, [], ◌∷◌, ◌++◌, ap, arith, sym, subst}
+use Rattle.std.specs.List.{flat_map, range_with_len}
+use Rattle.std.proofs.lemmas.List.{append-nil}
+use Rattle.std.proofs.lemmas.Grind.{flat_map-append}
+use Rattle.log_selections.specs.declared.shown.Shown.{Shown}
+use Rattle.log_reports.specs.declared.naming.NamedEvents.{NamedEvents}
+use Rattle.log_reports.specs.Internal.NamedEvents.{AreNames}
+use Rattle.log_reports.specs.Namings.{EventName, events_of, named_events}
+
+range_next : (a n : ℕ) → range_with_len a (n + 1) ≡ range_with_len a n ++ (a + n) ∷ []
+range_next a zero =
+    let at : zero + 1 ≡ suc zero = omega arith in
+    let same : a ≡ a + zero = omega arith in
+    ap (range_with_len a) at ∙ ap (λ b. b ∷ []) same
+range_next a (suc n) =
+    let at : suc n + 1 ≡ suc (n + 1) = omega arith in
+    let same : a + 1 + n ≡ a + suc n = omega arith in
+    ap (range_with_len a) at ∙ ap (λ xs. a ∷ xs) (range_next (a + 1) n) ∙ ap (λ b. a ∷ (range_with_len (a + 1) n ++ b ∷ [])) same
+
+-- those of one more processor
+pub named_next : (shown : List Shown) (p : ℕ) → named_events (p + 1) shown ≡ named_events p shown ++ events_of shown p
+named_next shown p =
+    ap (flat_map (events_of shown)) (range_next 0 p) ∙ flat_map-append (events_of shown) (range_with_len 0 p) ((0 + p) ∷ [])
+    ∙ ap (λ xs. named_events p shown ++ xs) (append-nil (events_of shown (0 + p)) ∙ (let same : 0 + p ≡ p = omega arith in ap (events_of shown) same))

@@ -1,0 +1,68 @@
+-- Lemmas on what is read of a log, and what is said of it.
+use Rattle.std.proofs.Common.{◌≡◌, ◌<◌, ◌≤◌, ◌∙◌, ℕ, ◌^◌, List, ◌++◌, Err, None, Ok, Some, IfSome, arith, inl, inr, length, subst, take, string_bytes, ⊎_elim}
+use Rattle.std.specs.Prelude.{IfOk, Option, Result}
+use Rattle.std.specs.Io.KnownBytes.{Consumes}
+use Rattle.std.proofs.lemmas.Bool.{cases_lt}
+use Rattle.std.proofs.lemmas.List.{length-take-le, take_all}
+use Rattle.tso_model.specs.Axioms.{IsConsistent}
+use Rattle.tso_text.specs.declared.faults.Why.{Why}
+use Rattle.trace_judging.specs.declared.faults.Fault.{Fault}
+use Rattle.trace_reports.specs.Readings.{ReadsAs}
+use Rattle.trace_reports.specs.RefusalLines.{refusal_text}
+use Rattle.log_text.specs.LogTexts.{IsLogRefusal, SpellsLog}
+use Rattle.log_text.specs.LogValues.{NumberedLog, log_operations}
+use Rattle.log_reports.specs.declared.rendering.LogForm.{LogForm}
+use Rattle.log_reports.specs.declared.reports.LogReport.{LogReport}
+use Rattle.log_reports.specs.declared.reports.LogVerdict.{LogVerdict}
+use Rattle.log_reports.specs.declared.reports.LogVerdict.TheVariants.{Refused, Violation}
+use Rattle.log_reports.specs.LogReports.{IsLogReport, IsLogReportOfReader, IsReportOf}
+use Rattle.log_reports.proofs.ViolationFacts.{report_violation}
+
+-- ---- what is read
+
+-- fewer first elements than were asked for are all
+all_taken : (n : ℕ) (all : List ℕ) → length (take n all) < n → take n all ≡ all
+all_taken n all fewer =
+    ⊎_elim
+    (λ (more : n < length all). let count = length-take-le n all (omega (arith, more)) in absurd (omega (arith, count, fewer)))
+    (λ (fits : length all ≤ n). take_all n all fits)
+    (cases_lt n (length all))
+
+-- what was read without passing a limit that no list in memory passes is all there was
+pub all_read : (old : Option (List ℕ)) (bytes : List ℕ) → IfSome old (λ all. bytes ≡ take (2 ^ 64) all) → length bytes < 2 ^ 64 → IfSome old (λ all. bytes ≡ all)
+all_read None bytes is fewer = tt
+all_read (Some all) bytes is fewer = is ∙ all_taken (2 ^ 64) all (subst (λ (l : List ℕ). length l < 2 ^ 64) is fewer)
+
+-- and all of it was taken
+pub all_consumed : (old new : Option (List ℕ)) (bytes : List ℕ) → IfSome old (λ all. bytes ≡ all) → Consumes old new bytes → IfSome old (λ all. Consumes old new all)
+all_consumed None new bytes is taken = tt
+all_consumed (Some all) new bytes is taken = subst (Consumes (Some all) new) is taken
+
+pub on_ok : {X : Type 0} (outcome : Result X Fault) {P : Type 0} → P → IfOk outcome (λ _. P)
+on_ok (Ok x) holds = holds
+on_ok (Err fault) holds = tt
+
+-- ---- what is said
+
+-- what holds of the bytes that were read is so of the reader's
+of_reader : (Is : List ℕ → Type 0) (remaining : Option (List ℕ)) (bytes : List ℕ) → IfSome remaining (λ all. bytes ≡ all) → Is bytes → ReadsAs remaining Is
+of_reader Is None bytes all holds = record { bytes = bytes; of_read = holds; of_all = tt }
+of_reader Is (Some whole) bytes all holds = record { bytes = bytes; of_read = holds; of_all = subst Is all holds }
+
+module _ (form : LogForm) (remaining : Option (List ℕ)) (text bytes : List ℕ) (all : IfSome remaining (λ l. bytes ≡ l)) (same : text ≡ bytes) where
+  -- the report on a log that was read
+  pub log_said : (log : NumberedLog) (outcome : Result LogReport Fault) → SpellsLog text log → IfOk outcome (λ r. IsReportOf log form (string_bytes r.text) r.verdict) →
+      IfOk outcome (λ r. IsLogReportOfReader form remaining (string_bytes r.text) r.verdict)
+  log_said log (Ok r) spelled is = of_reader (λ bytes. IsLogReport form bytes (string_bytes r.text) r.verdict) remaining bytes all (inl (log, subst (λ (l : List ℕ). SpellsLog l log) same spelled, is))
+  log_said log (Err fault) spelled is = tt
+
+  -- the refusal of a text
+  pub refusal_said : (line : ℕ) (why : Why) (said : List ℕ) (verdict : LogVerdict) → IsLogRefusal text line why → said ≡ refusal_text line why → verdict ≡ Refused → IsLogReportOfReader form remaining said verdict
+  refusal_said line why said verdict refused says gives =
+      of_reader (λ bytes. IsLogReport form bytes said verdict) remaining bytes all (inr (record { line = line; why = why; refused = subst (λ (l : List ℕ). IsLogRefusal l line why) same refused; says = says; gives = gives }))
+
+-- a log on which the report is a violation has no order
+pub reader_violation : (form : LogForm) (remaining : Option (List ℕ)) (text : List ℕ) (verdict : LogVerdict) → IsLogReportOfReader form remaining text verdict → verdict ≡ Violation →
+    IfSome remaining (λ all. (log : NumberedLog) → SpellsLog all log → IsConsistent (log_operations log) → ⊥)
+reader_violation form None text verdict is gives = tt
+reader_violation form (Some all) text verdict is gives = λ log spelled. report_violation form all text (subst (IsLogReport form all text) gives is.of_all) log spelled

@@ -1,0 +1,53 @@
+-- What the explanation of a violation calls its events: by line, address and value of the log.
+use Rattle.std.specs.Prelude.{ℕ, ◌==◌, List, [], ◌∷◌, ◌++◌, map, filter, codes}
+use Rattle.std.specs.List.{flat_map, range_with_len}
+use Rattle.std.specs.Fmt.{decimal}
+use Rattle.log_text.specs.declared.logs.LogOperation.{LogOperation}
+use Rattle.log_text.specs.declared.logs.LogOperation.TheVariants.{Ld, St, Sw, Mb, Sb}
+use Rattle.log_selections.specs.declared.shown.Part.{Part}
+use Rattle.log_selections.specs.declared.shown.Part.TheVariants.{Whole, Load, Store}
+use Rattle.log_selections.specs.declared.shown.Shown.{Shown}
+use Rattle.trace_explanation.specs.Namings.{NamingValue}
+use Rattle.trace_explanation.specs.declared.subjects.Subject.TheVariants.{Log}
+use Rattle.log_reports.specs.Lines.{operation_text}
+
+-- an event: its name, its line, and its address
+pub record EventName : Type 0 where
+  pub name : List ℕ
+  pub line : ℕ
+  pub address : ℕ
+
+-- the event of an operation at an address, which is this part of it
+abbrev pub event_of : Shown → ℕ → List ℕ → EventName
+event_of s a part = record {
+  name = codes "P" ++ decimal s.processor ++ codes " '" ++ operation_text s.logged.operation ++ codes "'" ++ part ++ codes " (line " ++ decimal s.logged.line ++ codes ")";
+  line = s.logged.line;
+  address = a;
+}
+
+-- the events of a swap of which this counts
+abbrev pub swap_events : Shown → ℕ → Part → List EventName
+swap_events s a Whole = event_of s a (codes " load") ∷ event_of s a (codes " store") ∷ []
+swap_events s a Load = event_of s a (codes " load") ∷ []
+swap_events s a Store = event_of s a (codes " store") ∷ []
+
+-- the events of an operation
+abbrev pub events_by : Shown → LogOperation → List EventName
+events_by s (Ld a r) = event_of s a [] ∷ []
+events_by s (St a v) = event_of s a [] ∷ []
+events_by s (Sw a r v) = swap_events s a s.part
+events_by s Mb = []
+events_by s Sb = []
+
+-- those of processor p, in program order
+abbrev pub events_of : List Shown → ℕ → List EventName
+events_of shown p = flat_map (λ s. events_by s s.logged.operation) (filter (λ s. s.processor == p) shown)
+
+-- those of each of so many processors, in the order that they have in a trace
+abbrev pub named_events : ℕ → List Shown → List EventName
+named_events processors shown = flat_map (events_of shown) (range_with_len 0 processors)
+
+abbrev pub naming_of : ℕ → List Shown → NamingValue
+naming_of processors shown =
+    let events = named_events processors shown in
+    record { subject = Log; names = map (λ e. e.name) events; lines = map (λ e. e.line) events; addresses = map (λ e. e.address) events }

@@ -1,0 +1,21 @@
+//! What reports on logs say.
+ghost use Rattle.std.specs.Prelude.{◌≡◌, ℕ, List};
+ghost use Rattle.tso_model.specs.Axioms.{IsConsistent};
+ghost use Rattle.log_text.specs.LogTexts.{SpellsLog};
+ghost use Rattle.log_text.specs.LogValues.{NumberedLog, log_operations};
+ghost use Rattle.log_selections.specs.Shown.{log_of_shown};
+ghost use Rattle.log_reports.specs.Findings.{IsListed};
+ghost use Rattle.log_reports.specs.LogReports.{IsLogReport};
+ghost use Rattle.log_selections.specs.declared.selecting.Selected.{Selected};
+ghost use Rattle.trace_reports.specs.declared.findings.Finding.{Finding};
+ghost use Rattle.log_reports.specs.declared.findings.LogViolation.{LogViolation};
+ghost use Rattle.log_reports.specs.declared.findings.LogViolation.TheVariants.{Selection};
+ghost use Rattle.log_reports.specs.declared.rendering.LogForm.{LogForm};
+ghost use Rattle.log_reports.specs.declared.reports.LogVerdict.TheVariants.{Violation};
+
+/// A log of which a violation is listed has no order of its memory model, nor have a violation's lines alone.
+pub fn violations()
+    ensures log { (log : NumberedLog) (violation : LogViolation) → IsListed log violation → IsConsistent (log_operations log) → ⊥ }
+    ensures report { (form : LogForm) (bytes text : List ℕ) → IsLogReport form bytes text Violation → (log : NumberedLog) → SpellsLog bytes log → IsConsistent (log_operations log) → ⊥ }
+    ensures lines { (log : NumberedLog) (selected : Selected) (finding : Finding) → IsListed log (Selection selected finding) → IsConsistent (log_operations (log_of_shown log selected.shown.items)) → ⊥ }
+{}

@@ -1,0 +1,18 @@
+//! What is found in a log, and what is printed of it: each violation by lines of the log that have no memory order.
+//!
+//! `report_log` reads a log, searches it, and writes its report. `README.md` says what is proved.
+#![tactic(auto)]
+
+pub use findings::{LogFindings, LogViolation, find_violations};
+pub use rendering::LogForm;
+pub use reports::{LogOptions, LogVerdict, report_log};
+
+mod counts;
+mod findings;
+mod judging;
+pub mod laws;
+mod lines;
+mod naming;
+mod notes;
+mod rendering;
+mod reports;

@@ -1,0 +1,149 @@
+//! From the text of a log to its report.
+ghost use Rattle.std.specs.Prelude.{◌≡◌, ◌≢◌, ◌⊎◌, ℕ, List, IfErr, IfOk, IfSome, OnErr, string_bytes};
+ghost use Rattle.std.specs.Io.KnownBytes.{Consumes, Keeps};
+ghost use Rattle.trace_judging.specs.Streams.{AppendsPrefix};
+ghost use Rattle.trace_judging.specs.WrittenReports.{LeavesAtFault, WritesWhole};
+ghost use Rattle.trace_judging.specs.declared.faults.Fault.{Fault};
+ghost use Rattle.tso_model.specs.Axioms.{IsConsistent};
+ghost use Rattle.log_text.specs.LogTexts.{SpellsLog};
+ghost use Rattle.log_text.specs.LogValues.{NumberedLog, log_operations, log_value};
+ghost use Rattle.trace_reports.specs.RefusalLines.{refusal_text};
+ghost use Rattle.tso_text.specs.declared.faults.Why.{Why};
+ghost use Rattle.log_reports.specs.LogReports.{IsLogReportOfReader, IsReportOf, verdict_of};
+
+use crate::findings::{LogFindings, find_violations};
+use crate::notes::render_notes;
+use crate::rendering::{LogForm, render};
+use log_selections::KnownLog;
+use log_text::{Log, read_log};
+use std::alloc::Global;
+use std::io::{Read, Write};
+use std::sync::Wait;
+use std::thread::Threads;
+use trace_judging::{Fault, read_all, render_refusal, write_text};
+use tso_ops::OutOfMemory;
+use tso_text::TextFault;
+
+/// How a log is reported on.
+#[derive(Clone, Copy, Debug, PartialEq, Eq)]
+pub struct LogOptions {
+    /// How many violations are listed at most.
+    pub most: usize,
+    /// What is printed.
+    pub form: LogForm,
+}
+
+/// What is said of a log.
+#[derive(Clone, Copy, Debug, PartialEq, Eq)]
+pub enum LogVerdict {
+    /// No violation was found, which proves nothing.
+    NoViolation,
+    /// No violation was found, and the search ended before the log did.
+    EndedEarly,
+    /// A violation is listed: the log has no memory order.
+    Violation,
+    /// The text is no log's.
+    Refused,
+}
+
+/// What is printed of a log, and notes on what isn't.
+#[derive(Drop)]
+struct LogReport {
+    text: String,
+    notes: String,
+    verdict: LogVerdict,
+}
+
+/// Reports on the log that a reader has: writes its violations, or the line of its refusal where the text is no log's.
+///
+/// Notes on what was left out go to `errors`; what that doesn't take is lost. Faults: OutOfMemory where an allocation was
+/// refused; Read where the reader failed, or didn't show its end within 2,097,152 calls of `read`; NoThread where the system
+/// refused a thread; Write where the writer failed, took no byte or was interrupted more than 1,048,576 times.
+pub fn report_log<H: Threads + Wait, R: Read, W: Write, E: Write>(
+    rt: &H,
+    alloc: Global,
+    options: LogOptions,
+    reader: &mut R,
+    writer: &mut W,
+    errors: &mut E,
+) -> Result<LogVerdict, Fault>
+    ensures report { IfOk result (WritesWhole (IsLogReportOfReader options.form (R.remaining reader.old)) (W.contents writer.old) (W.contents writer.new)) }
+    ensures no_order { IfOk result (λ verdict. verdict ≡ LogVerdict.Violation → IfSome (R.remaining reader.old) (λ all. (log : NumberedLog) → SpellsLog all log → IsConsistent (log_operations log) → ⊥)) }
+    ensures taken { IfOk result (λ _. IfSome (R.remaining reader.old) (λ all. Consumes (R.remaining reader.old) (R.remaining reader.new) all)) }
+    ensures left { IfErr result (LeavesAtFault (IsLogReportOfReader options.form (R.remaining reader.old)) (W.contents writer.old) (W.contents writer.new)) }
+    ensures told { (text : List ℕ) × AppendsPrefix (E.contents errors.old) (E.contents errors.new) text }
+    ensures untold { OnErr result (Keeps (E.contents errors.old) (E.contents errors.new)) }
+{
+    let report = read_report(rt, alloc, options, reader)?;
+    write_text(writer, report.text.as_bytes())?;
+    // The report is written: nothing can be done where notes on it can't be.
+    let _ = write_text(errors, report.notes.as_bytes());
+    Ok(report.verdict)
+}
+
+/// The report on the log that a reader has.
+fn read_report<H: Threads + Wait, R: Read>(
+    rt: &H,
+    alloc: Global,
+    options: LogOptions,
+    reader: &mut R,
+) -> Result<LogReport, Fault>
+    ensures report { IfOk result (λ report. IsLogReportOfReader options.form (R.remaining reader.old) (string_bytes report.text) report.verdict) }
+    ensures taken { IfOk result (λ _. IfSome (R.remaining reader.old) (λ all. Consumes (R.remaining reader.old) (R.remaining reader.new) all)) }
+    ensures fault { IfErr result (λ fault. (fault ≡ Fault.OutOfMemory) ⊎ (fault ≡ Fault.NoThread) ⊎ (fault ≡ Fault.Read)) }
+{
+    let text = read_all(alloc, reader, usize::MAX)?;
+    match read_log(alloc, &text) {
+        Ok(log) => {
+            // A long log's text takes memory that the search needs.
+            drop(text);
+            report_on(rt, alloc, options, log)
+        }
+        Err(fault) => Ok(refuse(alloc, fault)?),
+    }
+}
+
+/// The report on a log.
+fn report_on<H: Threads + Wait>(
+    rt: &H,
+    alloc: Global,
+    options: LogOptions,
+    log: Log,
+) -> Result<LogReport, Fault>
+    ensures report { IfOk result (λ report. IsReportOf (log_value log) options.form (string_bytes report.text) report.verdict) }
+    ensures fault { IfErr result (λ fault. (fault ≡ Fault.OutOfMemory) ⊎ (fault ≡ Fault.NoThread)) }
+{
+    let known = KnownLog::new(alloc, log)?;
+    let findings = find_violations(rt, alloc, &known, options.most)?;
+    let unknown = known.ambiguous_loads();
+    Ok(LogReport {
+        text: render(alloc, options.form, &known, unknown, &findings)?,
+        notes: render_notes(alloc, options.form, &findings)?,
+        verdict: verdict_of(&findings),
+    })
+}
+
+/// What is said of a log by what was found in it.
+fn verdict_of(findings: &LogFindings) -> LogVerdict
+    ensures { result ≡ verdict_of findings.now }
+{
+    if !findings.violations.is_empty() {
+        LogVerdict::Violation
+    } else if findings.is_early {
+        LogVerdict::EndedEarly
+    } else {
+        LogVerdict::NoViolation
+    }
+}
+
+/// The report of a refusal. OutOfMemory where an allocation was refused, also where the fault says so.
+fn refuse(alloc: Global, fault: TextFault) -> Result<LogReport, OutOfMemory>
+    ensures { IfOk result (λ report. (fault.why ≢ Why.OutOfMemory) × (string_bytes report.text ≡ refusal_text fault.line fault.why) × (report.verdict ≡ LogVerdict.Refused)) }
+{
+    let refusal = render_refusal(alloc, fault)?;
+    Ok(LogReport {
+        text: refusal.text,
+        notes: String::new(alloc),
+        verdict: LogVerdict::Refused,
+    })
+}

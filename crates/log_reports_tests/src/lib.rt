@@ -1,0 +1,5 @@
+//! Tests of `log_reports`, by its public calls.
+#![tactic(auto)]
+
+#[cfg(test)]
+mod tests;

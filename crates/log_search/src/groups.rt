@@ -1,0 +1,159 @@
+//! Groups: the stores of a chain to one address.
+
+use crate::nodes::{FIRST, Node, node_at};
+use crate::numbers::{NONE, begin, count, item, last_up_to, narrow, put};
+use std::alloc::Global;
+use tso_ops::OutOfMemory;
+
+/// The stores of a chain to one address: their places in the chain stand one after the other among the groups' places.
+#[derive(Clone, Copy)]
+pub(crate) struct StoreGroup {
+    pub(crate) chain: u32,
+    start: u32,
+    end: u32,
+    /// Where the last search ended.
+    near: u32,
+}
+
+/// The groups, those of an address one after the other.
+#[derive(Drop)]
+pub(crate) struct Groups {
+    groups: Vec<StoreGroup>,
+    /// Where the groups of each address begin, and where the last ones end.
+    starts: Vec<u32>,
+    places: Vec<u32>,
+    /// For each address the last load of its first value.
+    first_readers: Vec<u32>,
+}
+
+impl Groups {
+    /// The index of the first group of an address, and the index after the last one's.
+    pub(crate) fn range(&self, address: u32) -> (u32, u32) {
+        (
+            item(&self.starts, address),
+            item(&self.starts, address.saturating_add(1)),
+        )
+    }
+
+    /// The group at an index.
+    #[inline]
+    pub(crate) fn get(&self, index: u32) -> Option<StoreGroup> {
+        self.groups.get(index as usize).copied()
+    }
+
+    /// The greatest place of a group's stores that isn't above this one; 0 where there is none.
+    pub(crate) fn last_place(&mut self, index: u32, place: u32) -> u32 {
+        let Some(group) = self.groups.get_mut(index as usize) else {
+            return 0;
+        };
+        let end = last_up_to(&self.places, (group.start, group.end), group.near, place);
+        group.near = end;
+        match end.checked_sub(1) {
+            Some(last) if end > group.start => item(&self.places, last),
+            _ => 0,
+        }
+    }
+
+    /// The place of a group's first store.
+    pub(crate) fn first_place(&self, group: StoreGroup) -> u32 {
+        item(&self.places, group.start)
+    }
+
+    /// One load of an address' first value: `before` of each names the next one.
+    pub(crate) fn first_reader(&self, address: u32) -> u32 {
+        item(&self.first_readers, address)
+    }
+}
+
+/// The stores, those to one address one after the other, each address' in the order of the nodes.
+fn sort_stores(alloc: Global, addresses: usize, nodes: &[Node]) -> Result<Vec<u32>, OutOfMemory> {
+    let mut starts = vec![in alloc; 0u32; addresses]?;
+    let stores = count_stores(nodes, &mut starts);
+    begin(&mut starts);
+    let mut sorted = vec![in alloc; NONE; stores]?;
+    for (number, node) in nodes.iter().enumerate() {
+        if node.is_store() {
+            let index = count(&mut starts, node.address);
+            put(&mut sorted, index, narrow(number));
+        }
+    }
+    Ok(sorted)
+}
+
+/// Counts the stores to each address: how many there are in all.
+fn count_stores(nodes: &[Node], counts: &mut [u32]) -> usize {
+    let mut stores: usize = 0;
+    for node in nodes {
+        if node.is_store() {
+            count(counts, node.address);
+            stores = stores.saturating_add(1);
+        }
+    }
+    stores
+}
+
+/// Puts the stores into groups, of which each store knows its neighbours.
+pub(crate) fn make_groups(
+    alloc: Global,
+    addresses: usize,
+    nodes: &mut [Node],
+) -> Result<Groups, OutOfMemory> {
+    let sorted = sort_stores(alloc, addresses, nodes)?;
+    let mut groups = Groups {
+        groups: Vec::new(alloc),
+        starts: vec![in alloc; 0u32; addresses.saturating_add(1)]?,
+        places: Vec::with_capacity(alloc, sorted.len())?,
+        first_readers: vec![in alloc; NONE; addresses]?,
+    };
+    let mut last = NONE;
+    for number in &sorted {
+        groups.push(nodes, last, *number)?;
+        last = *number;
+    }
+    begin(&mut groups.starts);
+    groups.link_first_readers(nodes);
+    Ok(groups)
+}
+
+impl Groups {
+    /// Puts the next store into the group of the last one, or into a new one.
+    fn push(&mut self, nodes: &mut [Node], last: u32, number: u32) -> Result<(), OutOfMemory> {
+        let Some(store) = node_at(nodes, number) else {
+            return Ok(());
+        };
+        let start = narrow(self.places.len());
+        self.places.push(store.place)?;
+        let end = start.saturating_add(1);
+        if let Some(before) = nodes.get_mut(last as usize)
+            && before.address == store.address
+            && before.chain == store.chain
+        {
+            before.own = number;
+            if let Some(store) = nodes.get_mut(number as usize) {
+                store.before = last;
+            }
+            if let Some(group) = self.groups.last_mut() {
+                group.end = end;
+            }
+            return Ok(());
+        }
+        count(&mut self.starts, store.address);
+        self.groups.push(StoreGroup {
+            chain: store.chain,
+            start,
+            end,
+            near: start,
+        })?;
+        Ok(())
+    }
+
+    /// Links the loads of the first value of each address.
+    fn link_first_readers(&mut self, nodes: &mut [Node]) {
+        for (number, node) in nodes.iter_mut().enumerate() {
+            if node.is_load() && node.source == FIRST {
+                node.before = item(&self.first_readers, node.address);
+                put(&mut self.first_readers, node.address, narrow(number));
+            }
+        }
+    }
+}

@@ -1,0 +1,283 @@
+//! What of a log matters to the search: the numbers of addresses, and the loads that say something.
+
+use crate::lookups::{number_of, source_of};
+use crate::numbers::{NONE, count, item, narrow, put};
+use log_selections::KnownLog;
+use log_text::{LogOperation, LoggedOperation};
+use std::alloc::Global;
+use std::collections::HashMap;
+use tso_ops::{Order, OutOfMemory};
+
+/// By the numbers of events: the number of each one's address, and which loads are kept.
+#[derive(Drop)]
+pub(crate) struct Survey {
+    order: Order,
+    addresses: Vec<u32>,
+    kept: Vec<bool>,
+    count: usize,
+    processors: usize,
+    /// Under PSO for each address how many processors store there.
+    writers: Vec<u32>,
+}
+
+/// How many chains the nodes have that are looked at together, at most, unless one address has more.
+const MAX_CHAINS: usize = 512;
+
+/// Addresses that are looked at together, by their numbers: from one up to another.
+#[derive(Clone, Copy)]
+pub(crate) struct Addresses {
+    pub(crate) from: usize,
+    pub(crate) to: usize,
+}
+
+impl Addresses {
+    /// How many there are.
+    pub(crate) fn len(self) -> usize {
+        self.to.saturating_sub(self.from)
+    }
+
+    /// The number of an address among these, if it is one of them.
+    pub(crate) fn place(self, address: u32) -> Option<u32> {
+        let address = address as usize;
+        if address < self.to {
+            address.checked_sub(self.from).map(narrow)
+        } else {
+            None
+        }
+    }
+}
+
+/// The first and the last reader of each source on one processor. First values have a source for each address.
+#[derive(Drop)]
+struct Readers {
+    first: Vec<u32>,
+    last: Vec<u32>,
+    /// The least number of the processor's events.
+    low: usize,
+}
+
+/// The address of an operation.
+pub(crate) fn address_of(operation: LogOperation) -> Option<u64> {
+    match operation {
+        LogOperation::Ld { a, .. } | LogOperation::St { a, .. } | LogOperation::Sw { a, .. } =>
+            Some(a),
+        LogOperation::Mb | LogOperation::Sb => None,
+    }
+}
+
+impl Survey {
+    /// Looks at a log.
+    pub(crate) fn new(alloc: Global, known: &KnownLog) -> Result<Survey, OutOfMemory> {
+        let mut survey = Survey {
+            order: known.log().order,
+            addresses: vec![in alloc; NONE; known.sources().len()]?,
+            kept: vec![in alloc; false; known.sources().len()]?,
+            count: 0,
+            processors: known.log().lists.len(),
+            writers: Vec::new(alloc),
+        };
+        survey.number_addresses(alloc, known)?;
+        survey.thin(alloc, known)?;
+        if known.log().order == Order::Pso {
+            survey.count_writers(alloc, known)?;
+        }
+        Ok(survey)
+    }
+
+    /// Counts for each address the processors that store there.
+    fn count_writers(&mut self, alloc: Global, known: &KnownLog) -> Result<(), OutOfMemory> {
+        self.writers = vec![in alloc; 0u32; self.count]?;
+        let mut last = vec![in alloc; NONE; self.count]?;
+        for (processor, list) in known.log().lists.iter().enumerate() {
+            self.count_stores(known, processor, list, &mut last);
+        }
+        Ok(())
+    }
+
+    fn count_stores(
+        &mut self,
+        known: &KnownLog,
+        processor: usize,
+        list: &[LoggedOperation],
+        last: &mut [u32],
+    ) {
+        for (operation, logged) in list.iter().enumerate() {
+            if !matches!(
+                logged.operation,
+                LogOperation::St { .. } | LogOperation::Sw { .. }
+            ) {
+                continue;
+            }
+            let number = number_of(known, processor, operation).unwrap_or(0);
+            let address = self.address(number);
+            if item(last, address) != narrow(processor) {
+                put(last, address, narrow(processor));
+                count(&mut self.writers, address);
+            }
+        }
+    }
+
+    /// Addresses from this one on that are looked at together: under TSO all of them.
+    pub(crate) fn addresses_from(&self, from: usize) -> Addresses {
+        if self.order == Order::Tso {
+            return Addresses {
+                from,
+                to: self.count,
+            };
+        }
+        let mut chains = self.processors.saturating_mul(2);
+        for address in from..self.count {
+            chains = chains.saturating_add(item(&self.writers, narrow(address)) as usize);
+            if chains > MAX_CHAINS && address > from {
+                return Addresses { from, to: address };
+            }
+        }
+        Addresses {
+            from,
+            to: self.count,
+        }
+    }
+
+    /// How many addresses there are.
+    pub(crate) fn count(&self) -> usize {
+        self.count
+    }
+
+    /// The number of the address of an event; of a swap's store that of its load is asked for.
+    pub(crate) fn address(&self, number: usize) -> u32 {
+        item(&self.addresses, narrow(number))
+    }
+
+    /// Whether the load of this number is kept.
+    pub(crate) fn keeps(&self, number: usize) -> bool {
+        self.kept.get(number).copied().unwrap_or(false)
+    }
+
+    fn number_addresses(&mut self, alloc: Global, known: &KnownLog) -> Result<(), OutOfMemory> {
+        let mut numbers = HashMap::new(alloc);
+        for (processor, list) in known.log().lists.iter().enumerate() {
+            self.number_list(known, processor, list, &mut numbers)?;
+        }
+        self.count = numbers.len();
+        Ok(())
+    }
+
+    fn number_list(
+        &mut self,
+        known: &KnownLog,
+        processor: usize,
+        list: &[LoggedOperation],
+        numbers: &mut HashMap<u64, u32>,
+    ) -> Result<(), OutOfMemory> {
+        for (operation, logged) in list.iter().enumerate() {
+            let (Some(a), Some(number)) = (
+                address_of(logged.operation),
+                number_of(known, processor, operation),
+            ) else {
+                continue;
+            };
+            let address = match numbers.get(&a).copied() {
+                Some(address) => address,
+                None => {
+                    let address = narrow(numbers.len());
+                    numbers.insert(a, address)?;
+                    address
+                }
+            };
+            put(&mut self.addresses, narrow(number), address);
+        }
+        Ok(())
+    }
+
+    /// Keeps of the loads of a processor with one source the last, and the first if the source isn't a store before it. Those
+    /// between say nothing more: what comes before one of them comes before the last, and what comes after it after the first.
+    fn thin(&mut self, alloc: Global, known: &KnownLog) -> Result<(), OutOfMemory> {
+        let size = known.sources().len().saturating_add(self.count);
+        let mut readers = Readers {
+            first: vec![in alloc; 0u32; size]?,
+            last: vec![in alloc; 0u32; size]?,
+            low: 0,
+        };
+        for (processor, list) in known.log().lists.iter().enumerate() {
+            readers.low = number_of(known, processor, 0).unwrap_or(0);
+            self.find_readers(known, processor, list, &mut readers);
+            self.keep_readers(known, processor, list, &readers);
+        }
+        Ok(())
+    }
+
+    /// The index of the source of the load of this number among `Readers`.
+    fn index_of(&self, known: &KnownLog, number: usize) -> Option<u32> {
+        match source_of(known, number)? {
+            0 => Some(narrow(
+                known
+                    .sources()
+                    .len()
+                    .saturating_add(self.address(number) as usize),
+            )),
+            source => Some(narrow(source)),
+        }
+    }
+
+    fn find_readers(
+        &self,
+        known: &KnownLog,
+        processor: usize,
+        list: &[LoggedOperation],
+        readers: &mut Readers,
+    ) {
+        for (operation, logged) in list.iter().enumerate() {
+            if !matches!(logged.operation, LogOperation::Ld { .. }) {
+                continue;
+            }
+            if let Some(number) = number_of(known, processor, operation)
+                && let Some(index) = self.index_of(known, number)
+            {
+                put(&mut readers.last, index, narrow(number));
+                if (item(&readers.first, index) as usize) < readers.low {
+                    put(&mut readers.first, index, narrow(number));
+                }
+            }
+        }
+    }
+
+    fn keep_readers(
+        &mut self,
+        known: &KnownLog,
+        processor: usize,
+        list: &[LoggedOperation],
+        readers: &Readers,
+    ) {
+        let mut barrier = false;
+        for (operation, logged) in list.iter().enumerate() {
+            if logged.operation == LogOperation::Mb {
+                barrier = true;
+            }
+            if !matches!(logged.operation, LogOperation::Ld { .. }) {
+                continue;
+            }
+            if let Some(number) = number_of(known, processor, operation)
+                && let Some(index) = self.index_of(known, number)
+            {
+                // Under PSO a store comes by such a load before its processor's later stores.
+                let follows = barrier && known.log().order == Order::Pso;
+                let kept = follows || readers.needs(known, number, index);
+                if let Some(slot) = self.kept.get_mut(number) {
+                    *slot = kept;
+                }
+                barrier = false;
+            }
+        }
+    }
+}
+
+impl Readers {
+    fn needs(&self, known: &KnownLog, number: usize, index: u32) -> bool {
+        if item(&self.last, index) as usize == number {
+            return true;
+        }
+        let source = source_of(known, number).unwrap_or(0);
+        let is_own = self.low <= source && source < number;
+        item(&self.first, index) as usize == number && source > 0 && !is_own
+    }
+}

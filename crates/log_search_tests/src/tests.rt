@@ -1,0 +1,87 @@
+//! Logs that are searched, and what the tests of them share.
+
+mod drawn;
+mod entries;
+mod found;
+mod hostile;
+mod judges;
+mod logs;
+mod minimality;
+mod none;
+mod reductions;
+mod refused_allocations;
+mod several;
+
+use judges::RulesJudge;
+use log_search::{Found, Judge, Search};
+use log_selections::{Kept, KnownLog, Part};
+use log_text::read_log;
+use std::alloc::Global;
+use std::fmt::Write;
+use std::test::Fail;
+
+/// How many proposals of a log are looked at, at most.
+const MAX_PROPOSALS: usize = 1_000;
+
+/// The log of a text, with what its values tell.
+fn known_log(alloc: Global, text: &str) -> Result<KnownLog, Fail> {
+    let log = read_log(alloc, text.as_bytes())?;
+    Ok(KnownLog::new(alloc, log)?)
+}
+
+/// What a search in the log of a text proposes, a line for each proposal, and how it ends, where that isn't at the log's end.
+fn proposals(alloc: Global, text: &str) -> Result<String, Fail> {
+    proposals_of(alloc, &known_log(alloc, text)?)
+}
+
+/// The same of a log. After a proposal of which the rules find no violation stands `no violation`.
+fn proposals_of(alloc: Global, known: &KnownLog) -> Result<String, Fail> {
+    let mut search = Search::new(alloc, known)?;
+    let mut judge = RulesJudge::new(alloc, known);
+    let mut lines = String::new(alloc);
+    for _ in 0..MAX_PROPOSALS {
+        match search.next(alloc)? {
+            Found::Proposal(kept) => push_proposal(&mut lines, &mut judge, &kept)?,
+            Found::End => return Ok(lines),
+            Found::BudgetEnd => {
+                lines.push_str("budget\n")?;
+                return Ok(lines);
+            }
+        }
+    }
+    lines.push_str("no end\n")?;
+    Ok(lines)
+}
+
+fn push_proposal(
+    lines: &mut String,
+    judge: &mut RulesJudge<'_>,
+    kept: &[Vec<Kept>],
+) -> Result<(), Fail> {
+    push_kept(lines, kept)?;
+    if !judge.accuses(kept)? {
+        lines.push_str("no violation\n")?;
+    }
+    Ok(())
+}
+
+/// A line of these operations: each one's processor, its index, and a letter for a part of a swap.
+fn push_kept(lines: &mut String, kept: &[Vec<Kept>]) -> Result<(), Fail> {
+    for (p, list) in kept.iter().enumerate() {
+        for kept in list {
+            let index = kept.index;
+            let part = letter(kept.part);
+            write!(lines, "{p}.{index}{part} ")?;
+        }
+    }
+    lines.push_str("\n")?;
+    Ok(())
+}
+
+fn letter(part: Part) -> &'static str {
+    match part {
+        Part::Whole => "",
+        Part::Load => "l",
+        Part::Store => "s",
+    }
+}

@@ -1,0 +1,6 @@
+use Rattle.std.proofs.Common.{◌≡◌, suc, length}
+use Rattle.log_selections.specs.Internal.Known.{AreSources}
+use Rattle.log_selections.proofs.sources.find_sources.Given as goal
+
+abbrev pub invariant-loop-access : goal.invariant-loop-access
+invariant-loop-access l = (length l.sources.numbers.items ≡ suc l.access-index) × AreSources l.first l.accesses l.sources.numbers.items

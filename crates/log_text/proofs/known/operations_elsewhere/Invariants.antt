@@ -1,0 +1,9 @@
+use Rattle.std.proofs.Common.{◌≡◌, ℕ, List, take}
+use Rattle.std.specs.HashSet.{contains}
+use Rattle.std.specs.List.{list_any}
+use Rattle.std.specs.Prelude.{nat_eq}
+use Rattle.log_text.specs.LogTexts.{without_addresses}
+use Rattle.log_text.proofs.known.operations_elsewhere.Given as goal
+
+abbrev pub invariant-loop-logged : goal.invariant-loop-logged
+invariant-loop-logged l = (all : List ℕ) → ((a : ℕ) → contains nat_eq l.fn.addresses a ≡ list_any (nat_eq a) all) → l.left.items ≡ without_addresses all (take l.logged-index l.fn.list)

@@ -1,0 +1,57 @@
+-- Lemmas on the reports on logs.
+use Rattle.std.proofs.Common.{◌≡◌, ◌∙◌, ℕ, List, ◌++◌, Err, None, Ok, Result, Some, IfErr, IfOk, ap, inl, inr, subst, take}
+use Rattle.std.specs.Prelude.{OnErr, Option, codes}
+use Rattle.std.specs.Fmt.{decimal}
+use Rattle.std.specs.Io.KnownBytes.{Appends, Keeps}
+use Rattle.std.proofs.KnownBytes.{Appends-kept}
+use Rattle.log_reports.specs.declared.rendering.LogForm.{LogForm}
+use Rattle.log_reports.specs.declared.reports.LogVerdict.{LogVerdict}
+use Rattle.log_reports.specs.LogReports.{IsLogReport, IsLogReportOfReader}
+use Rattle.trace_judging.specs.Streams.{AppendsPrefix}
+use Rattle.trace_judging.specs.WrittenReports.{LeavesAtFault, WritesWhole}
+use Rattle.trace_judging.specs.declared.faults.Fault.{Fault}
+use Rattle.trace_judging.specs.declared.faults.Fault.TheVariants.{OutOfMemory, Read, Write, NoThread, Missing}
+use Rattle.request_serving.specs.Endings.{EndsLogged, Outputs, WritesFaultLine, fault_line}
+use Rattle.request_serving.specs.Logs.{status_of_log}
+use Rattle.request_serving.specs.OpenedFiles.{HasKnown}
+use Rattle.request_serving.proofs.EndFacts.{known_reads}
+
+-- the report of a file of which less may be known, in the form that was asked for
+pub logged_of_known : (asked form : LogForm) (known remaining : Option (List ℕ)) → form ≡ asked → HasKnown known remaining → (text : List ℕ) (verdict : LogVerdict) → IsLogReportOfReader form remaining text verdict →
+    IsLogReportOfReader asked known text verdict
+logged_of_known asked form known remaining is has text verdict report =
+    subst (λ f. IsLogReportOfReader f known text verdict) is (known_reads known remaining has (λ bytes. IsLogReport form bytes text verdict) report)
+
+-- ---- what is written to the errors before and after
+
+prefix_kept : (a b c : Option (List ℕ)) (text : List ℕ) → AppendsPrefix a b text → Keeps b c → AppendsPrefix a c text
+prefix_kept a b c text appends kept = (appends.0, appends.1, Appends-kept a b c (take appends.0 text) appends.2 kept)
+
+kept_Appends : (a b c : Option (List ℕ)) (text : List ℕ) → Keeps a b → Appends b c text → Appends a c text
+kept_Appends None b c text kept appends = tt
+kept_Appends (Some x) None c text kept appends = absurd kept
+kept_Appends (Some x) (Some y) None text kept appends = absurd appends
+kept_Appends (Some x) (Some y) (Some z) text kept appends = appends ∙ ap (λ l. l ++ text) kept
+
+kept_AppendsPrefix : (a b c : Option (List ℕ)) (text : List ℕ) → Keeps a b → AppendsPrefix b c text → AppendsPrefix a c text
+kept_AppendsPrefix a b c text kept appends = (appends.0, appends.1, kept_Appends a b c (take appends.0 text) kept appends.2)
+
+kept_fault_line : (a b c : Option (List ℕ)) (fault : Fault) → Keeps a b → WritesFaultLine b c fault → WritesFaultLine a c fault
+kept_fault_line a b c OutOfMemory kept appends = kept_AppendsPrefix a b c (fault_line (codes "OutOfMemory")) kept appends
+kept_fault_line a b c Read kept appends = kept_AppendsPrefix a b c (fault_line (codes "Read")) kept appends
+kept_fault_line a b c Write kept appends = kept_AppendsPrefix a b c (fault_line (codes "Write")) kept appends
+kept_fault_line a b c NoThread kept appends = kept_AppendsPrefix a b c (fault_line (codes "NoThread")) kept appends
+kept_fault_line a b c (Missing seed) kept appends = kept_AppendsPrefix a b c (fault_line (codes "Missing " ++ decimal seed)) kept appends
+
+-- ---- how the report on a log ends
+
+pub ends_logged : (form : LogForm) (remaining mid : Option (List ℕ)) (o : Outputs) (outcome : Result LogVerdict Fault) (status : ℕ)
+    → IfOk outcome (WritesWhole (IsLogReportOfReader form remaining) o.written_before o.written)
+    → IfErr outcome (LeavesAtFault (IsLogReportOfReader form remaining) o.written_before o.written)
+    → IfOk outcome (λ _. (text : List ℕ) × AppendsPrefix o.errors_before mid text) → OnErr outcome (Keeps o.errors_before mid)
+    → IfOk outcome (λ verdict. (status ≡ status_of_log verdict) × Keeps mid o.errors) → IfErr outcome (λ fault. WritesFaultLine mid o.errors fault × (status ≡ 4))
+    → EndsLogged form remaining o status
+ends_logged form remaining mid o (Ok verdict) status whole left told untold done faulty =
+    inl (verdict, whole, (told.0, prefix_kept o.errors_before mid o.errors told.0 told.1 done.1), done.0)
+ends_logged form remaining mid o (Err fault) status whole left told untold done faulty =
+    inr (fault, left, (kept_fault_line o.errors_before mid o.errors fault untold faulty.0, faulty.1))

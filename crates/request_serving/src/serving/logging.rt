@@ -1,0 +1,65 @@
+//! `log`: the violations of a log.
+ghost use Rattle.std.specs.Prelude.{◌≡◌, ℕ, List, IfOk, IfErr, IfSome, OnErr, None};
+ghost use Rattle.std.specs.Io.KnownBytes.{Consumes, Keeps};
+ghost use Rattle.log_reports.specs.LogReports.{IsLogReportOfReader};
+ghost use Rattle.trace_judging.specs.Streams.{AppendsPrefix};
+ghost use Rattle.trace_judging.specs.WrittenReports.{LeavesAtFault, WritesWhole};
+ghost use Rattle.request_serving.specs.Logs.{form_of};
+ghost use Rattle.request_serving.specs.OpenedFiles.{OpensNext, files_named, name_in, text_bytes};
+ghost use Rattle.command_line.specs.Requests.{asked_of};
+ghost use Rattle.command_line.specs.declared.requests.Request.TheVariants.{Log};
+
+use crate::files::{NamedFiles, open};
+use command_line::{LogForm as AskedForm, LogRequest};
+use log_reports::{LogForm, LogOptions, LogVerdict, report_log};
+use std::io::{Read, Write};
+use std::sync::Wait;
+use std::thread::Threads;
+use trace_judging::Fault;
+
+/// Reports on the log in a file, or else in what the reader has. Nothing is written to the errors at a fault.
+pub(crate) fn log_named<
+    H: Threads + Wait + AllocGlobal,
+    O: NamedFiles,
+    R: Read,
+    W: Write,
+    E: Write,
+>(
+    rt: &H,
+    request: &LogRequest<'_>,
+    files: &mut O,
+    reader: &mut R,
+    writer: &mut W,
+    errors: &mut E,
+) -> Result<LogVerdict, Fault>
+    ensures whole { let remaining = text_bytes (name_in request.now.file) (R.remaining reader.old) (O.bytes files.old) in IfOk result (WritesWhole (IsLogReportOfReader (form_of request.now.options.form) remaining) (W.contents writer.old) (W.contents writer.new)) }
+    ensures left { let remaining = text_bytes (name_in request.now.file) (R.remaining reader.old) (O.bytes files.old) in IfErr result (LeavesAtFault (IsLogReportOfReader (form_of request.now.options.form) remaining) (W.contents writer.old) (W.contents writer.new)) }
+    ensures told { IfOk result (λ _. (text : List ℕ) × AppendsPrefix (E.contents errors.old) (E.contents errors.new) text) }
+    ensures untold { OnErr result (Keeps (E.contents errors.old) (E.contents errors.new)) }
+    ensures opened { OpensNext (O.opened files.old) (O.opened files.new) (files_named (asked_of (Log request.now))) }
+    ensures unread { IfSome request.now.file (λ _. reader.new ≡ reader.old) }
+    ensures taken { request.now.file ≡ None → IfOk result (λ _. IfSome (R.remaining reader.old) (λ all. Consumes (R.remaining reader.old) (R.remaining reader.new) all)) }
+{
+    let options = LogOptions {
+        most: request.options.most,
+        form: form_of(request.options.form),
+    };
+    match request.file {
+        None => report_log(rt, rt.alloc(), options, reader, writer, errors),
+        Some(name) => {
+            let mut file = open(files, name)?;
+            report_log(rt, rt.alloc(), options, &mut file, writer, errors)
+        }
+    }
+}
+
+/// What is printed of a log, as it was asked for.
+fn form_of(form: AskedForm) -> LogForm
+    ensures { result ≡ form_of form }
+{
+    match form {
+        AskedForm::Lines => LogForm::Lines,
+        AskedForm::Explained => LogForm::Explained,
+        AskedForm::Traces => LogForm::Traces,
+    }
+}
