@@ -20,6 +20,7 @@ _tsobench() {
         draw/--workers) ;;
         batch/--workers) ;;
         log/--most) ;;
+        log/--effort) ;;
         replay/--unit) words='serial buffer partial newest-first no-forward stale-load torn-swap idle-membar lost-drain' ;;
         replay/--capacity) ;;
         replay/--trigger) ;;
@@ -50,7 +51,7 @@ _tsobench() {
         explain/*) words='--workers -h --help' files=yes ;;
         draw/*) words='--workers -h --help' files=yes ;;
         batch/*) words='--workers --quiet -h --help' files=yes ;;
-        log/*) words='--most --trace --explain -h --help' files=yes ;;
+        log/*) words='--most --effort --trace --explain -h --help' files=yes ;;
         check/*) words='-h --help' files=yes ;;
         replay/*) words='--unit --capacity --trigger --workers --trace --explain -h --help' files=yes ;;
         run/*) words='--unit --capacity --trigger --workers --trace --explain --seed --drain-turns -h --help' files=yes ;;

@@ -24,6 +24,7 @@ complete -c tsobench -n '__fish_seen_subcommand_from batch' -l workers -x -d 'Ho
 complete -c tsobench -n '__fish_seen_subcommand_from batch' -l quiet -d 'Leave out the lines of traces without a violation'
 complete -c tsobench -n '__fish_seen_subcommand_from batch' -s h -l help -d 'Print help'
 complete -c tsobench -n '__fish_seen_subcommand_from log' -l most -x -d 'How many violations are shown at most, 1 to 1000000'
+complete -c tsobench -n '__fish_seen_subcommand_from log' -l effort -x -d 'How many steps the search may do for each load and store, 0 to 1000000'
 complete -c tsobench -n '__fish_seen_subcommand_from log' -l trace -d 'Prints the traces of the violations, and no report'
 complete -c tsobench -n '__fish_seen_subcommand_from log' -l explain -d 'Explains each violation after its lines'
 complete -c tsobench -n '__fish_seen_subcommand_from log' -s h -l help -d 'Print help'

@@ -15,10 +15,10 @@ use Rattle.command_line.specs.declared.options.LogForm.{LogForm}
 use Rattle.command_line.specs.declared.options.LogOptions.{LogOptions}
 use Rattle.command_line.specs.declared.options.RunOptions.{RunOptions}
 use Rattle.command_line.specs.declared.options.UnitOptions.{UnitOptions}
-use Rattle.command_line.specs.Requests.{Text, Asked, asked_of, capacity_limit, drain_turns_limit, log_violation_limit, logging, number_limit, refusing, replaying, running, worker_limit}
+use Rattle.command_line.specs.Requests.{Text, Asked, asked_of, capacity_limit, drain_turns_limit, log_effort_limit, log_violation_limit, logging, number_limit, refusing, replaying, running, worker_limit}
 use Rattle.command_line.specs.declared.options.Printing.{Printing}
 use Rattle.command_line.specs.declared.requests.Request.{Request}
-use Rattle.command_line.specs.Subcommands.{file_of, is_true, log, log_form_of, log_options_of, log_parameters, number_or, pair_of, printing_of, replay, run, run_of, run_parameters, unit_of, within, workers_of}
+use Rattle.command_line.specs.Subcommands.{file_of, is_true, log, log_form_of, log_options_in, log_options_of, log_parameters, number_or, pair_of, printing_of, replay, run, run_of, run_parameters, unit_of, within, workers_of}
 use Rattle.command_line.specs.Commands.{asked_in, given_in}
 
 -- the file that a value names which was asked for by its id, by whether it is a hyphen
@@ -90,10 +90,11 @@ pub run_options_found : (given : Text → Option Text) (unit : UnitOptions) (wor
 run_options_found given unit workers printing unit_is workers_are printing_is = rw (unit_is, workers_are, printing_is) refl
 
 -- what is shown of a log, by its form
-pub log_options_found : (given : Text → Option Text) (most : ℕ) (form : Option LogForm) → most ≡ within 1 log_violation_limit (number_or 10 (given (codes "most")))
+pub log_options_found : (given : Text → Option Text) (most effort : ℕ) (form : Option LogForm) → most ≡ within 1 log_violation_limit (number_or 10 (given (codes "most")))
+    → effort ≡ within 0 log_effort_limit (number_or 100 (given (codes "effort")))
     → form ≡ log_form_of (is_true (given (codes "trace"))) (is_true (given (codes "explain")))
-    → option_map (λ (f : LogForm). record { most = most; form = f }) form ≡ log_options_of given
-log_options_found given most form most_is form_is = rw (most_is, form_is) refl
+    → option_map (λ (f : LogForm). record { most = most; effort = effort; form = f }) form ≡ log_options_of given
+log_options_found given most effort form most_is effort_is form_is = rw (most_is, effort_is, form_is) refl
 
 -- what `log` asks for with these options, where there are any, and this file
 pub log_asked : (rows : List Row) (options : Option LogOptions) → options ≡ log_options_of (given_in log_parameters rows) → (file : Option Text) → file ≡ file_of (first_of (codes "file") rows)
@@ -138,18 +139,18 @@ module _ (P : Asked → Type 0) (refused : P refusing) where
   of_run asked rows =
       of_options _ (given_in run.parameters rows) (λ options some most capacity capacity_most trigger. asked options _ _ _ some most capacity capacity_most trigger (omega arith))
 
-  pub of_log : ((file : Option Text) (options : LogOptions) → 1 ≤ options.most → options.most ≤ log_violation_limit → P (logging file options)) → (rows : List Row) → P (asked_in log rows)
+  pub of_log : ((file : Option Text) (options : LogOptions) → 1 ≤ options.most → options.most ≤ log_violation_limit → options.effort ≤ log_effort_limit → P (logging file options)) → (rows : List Row) → P (asked_in log rows)
   of_log asked rows = go (log_form_of (is_true (given_in log.parameters rows (codes "trace"))) (is_true (given_in log.parameters rows (codes "explain"))))
     where
       file : Option Text
       file = file_of (first_of (codes "file") rows)
 
       options : LogForm → LogOptions
-      options form = record { most = within 1 log_violation_limit (number_or 10 (one_of (codes "most") rows)); form = form }
+      options form = log_options_in (given_in log.parameters rows) form
 
       go : (form : Option LogForm) → P (option_map_or (logging file) (option_map options form) refusing)
       go None = refused
-      go (Some form) = asked file (options form) (omega arith) (omega arith)
+      go (Some form) = asked file (options form) (omega arith) (omega arith) (omega arith)
 
 pub of_request : {E : Type 0} (P : Asked → Type 0) (asked : Asked) → P asked → (result : Result Request E) → IfOk result (λ request. asked_of request ≡ asked) → IfOk result (λ request. P (asked_of request))
 of_request P asked has (Ok request) is = subst P (sym is) has

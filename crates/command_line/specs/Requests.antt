@@ -89,6 +89,10 @@ drain_turns_limit = 1000000
 abbrev pub log_violation_limit : ℕ
 log_violation_limit = 1000000
 
+-- the greatest effort of the search in a log
+abbrev pub log_effort_limit : ℕ
+log_effort_limit = 1000000
+
 -- the greatest number of 64 bits
 abbrev pub number_limit : ℕ
 number_limit = 2 ^ 64 - 1
@@ -136,7 +140,7 @@ abbrev pub HasDrainTurns : Asked → Type 0
 HasDrainTurns (running options seed turns program) = turns ≤ drain_turns_limit
 HasDrainTurns asked = Unit {0}
 
--- some violation of a log may be shown, and no more than may be
-abbrev pub HasLogViolations : Asked → Type 0
-HasLogViolations (logging file options) = (1 ≤ options.most) × (options.most ≤ log_violation_limit)
-HasLogViolations asked = Unit {0}
+-- the options of a log are within their ranges
+abbrev pub HasLogRanges : Asked → Type 0
+HasLogRanges (logging file options) = (1 ≤ options.most) × (options.most ≤ log_violation_limit) × (options.effort ≤ log_effort_limit)
+HasLogRanges asked = Unit {0}

@@ -22,7 +22,7 @@ use Rattle.command_line.specs.declared.options.UnitOptions.{UnitOptions}
 use Rattle.command_line.specs.declared.parameters.NameList.{NameList}
 use Rattle.command_line.specs.declared.parameters.NameList.TheVariants.{Units, Models}
 use Rattle.command_line.specs.Names.{models, units}
-use Rattle.command_line.specs.Requests.{Text, Asked, batching, campaigning, capacity_limit, checking, drain_turns_limit, judging, log_violation_limit, logging, making, number_limit, refusing, replaying, running, worker_limit}
+use Rattle.command_line.specs.Requests.{Text, Asked, batching, campaigning, capacity_limit, checking, drain_turns_limit, judging, log_effort_limit, log_violation_limit, logging, making, number_limit, refusing, replaying, running, worker_limit}
 
 pub record Subcommand : Type 0 where
   pub name : Text
@@ -57,9 +57,12 @@ unit_parameters =
 abbrev pub run_parameters : List (Parameter NameList)
 run_parameters = unit_parameters ++ flag (codes "trace") ∷ flag (codes "explain") ∷ []
 
--- `[--most K] [--trace|--explain]`: 10 violations where it is left out
+-- `[--most K] [--effort N] [--trace|--explain]`: 10 violations and an effort of 100 where they are left out
 abbrev pub log_parameters : List (Parameter NameList)
-log_parameters = option (codes "most") (range 1 log_violation_limit) (Some (codes "10")) ∷ flag (codes "trace") ∷ flag (codes "explain") ∷ []
+log_parameters =
+    option (codes "most") (range 1 log_violation_limit) (Some (codes "10"))
+    ∷ option (codes "effort") (range 0 log_effort_limit) (Some (codes "100"))
+    ∷ flag (codes "trace") ∷ flag (codes "explain") ∷ []
 
 -- `--name N`, which may not be left out
 abbrev pub required : Text → Parameter NameList
@@ -111,9 +114,16 @@ run_of given =
 abbrev pub log_form_of : Bool → Bool → Option LogForm
 log_form_of trace explain = if trace && explain then None else Some (if trace then forms.Traces else if explain then forms.Explained else forms.Lines)
 
+abbrev pub log_options_in : (Text → Option Text) → LogForm → LogOptions
+log_options_in given form = record {
+  most = within 1 log_violation_limit (number_or 10 (given (codes "most")));
+  effort = within 0 log_effort_limit (number_or 100 (given (codes "effort")));
+  form = form;
+}
+
 abbrev pub log_options_of : (Text → Option Text) → Option LogOptions
 log_options_of given =
-    option_map (λ form. record { most = within 1 log_violation_limit (number_or 10 (given (codes "most"))); form = form })
+    option_map (log_options_in given)
     (log_form_of (is_true (given (codes "trace"))) (is_true (given (codes "explain"))))
 
 abbrev pub shape_of : (Text → Option Text) → ShapeNumbers

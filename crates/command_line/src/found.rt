@@ -7,9 +7,9 @@ ghost use Rattle.command_line.specs.Subcommands.{batch, campaign, check, chosen_
 
 use crate::help;
 use crate::options::{
-    CampaignOptions, LogForm, LogOptions, MAX_CAPACITY, MAX_DRAIN_TURNS, MAX_LOG_VIOLATIONS,
-    MAX_WORKERS, Presentation, Printing, RunOptions, ShapeNumbers, UnitKind, UnitOptions,
-    kind_named, order_named,
+    CampaignOptions, LogForm, LogOptions, MAX_CAPACITY, MAX_DRAIN_TURNS, MAX_LOG_EFFORT,
+    MAX_LOG_VIOLATIONS, MAX_WORKERS, Presentation, Printing, RunOptions, ShapeNumbers, UnitKind,
+    UnitOptions, kind_named, order_named,
 };
 use crate::requests::{BatchRequest, JudgeRequest, LogRequest, Request, RunRequest, TextPair};
 use clap::ArgMatches;
@@ -197,6 +197,7 @@ fn log_options(matches: &ArgMatches<'_>) -> Option<LogOptions>
     let form = log_form(matches)?;
     Some(LogOptions {
         most: number_within(matches, "most", 10, 1, MAX_LOG_VIOLATIONS as u64) as usize,
+        effort: number_within(matches, "effort", 100, 0, MAX_LOG_EFFORT as u64) as usize,
         form,
     })
 }

@@ -12,8 +12,9 @@ mod requests;
 mod subcommands;
 
 pub use options::{
-    CampaignOptions, LogForm, LogOptions, MAX_CAPACITY, MAX_DRAIN_TURNS, MAX_LOG_VIOLATIONS,
-    MAX_WORKERS, Presentation, Printing, RunOptions, ShapeNumbers, UnitKind, UnitOptions,
+    CampaignOptions, LogForm, LogOptions, MAX_CAPACITY, MAX_DRAIN_TURNS, MAX_LOG_EFFORT,
+    MAX_LOG_VIOLATIONS, MAX_WORKERS, Presentation, Printing, RunOptions, ShapeNumbers, UnitKind,
+    UnitOptions,
 };
 pub use requests::{
     BatchRequest, JudgeRequest, LogRequest, Request, RunRequest, TextPair, read_arguments,

@@ -19,6 +19,9 @@ pub const MAX_DRAIN_TURNS: u64 = 1_000_000;
 /// The greatest number of violations of a log that are shown.
 pub const MAX_LOG_VIOLATIONS: usize = 1_000_000;
 
+/// The greatest effort of the search in a log.
+pub const MAX_LOG_EFFORT: usize = 1_000_000;
+
 /// A kind of memory unit.
 #[derive(Clone, Copy, Debug, PartialEq, Eq)]
 pub enum UnitKind {
@@ -152,11 +155,13 @@ pub enum LogForm {
     Traces,
 }
 
-/// How many violations of a log are shown, and in which form.
+/// How far a log is searched, how many of its violations are shown, and in which form.
 #[derive(Clone, Copy, Debug, PartialEq, Eq)]
 pub struct LogOptions {
     /// How many are shown at most, 1 to 1,000,000.
     pub most: usize,
+    /// How many steps the search may do for each load and store of the log, 0 to 1,000,000.
+    pub effort: usize,
     /// In which form.
     pub form: LogForm,
 }

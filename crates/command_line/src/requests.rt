@@ -2,7 +2,7 @@
 ghost use Rattle.std.specs.Prelude.{◌≡◌, IfOk, IsErr, map, option_map, unwrap_or};
 ghost use Rattle.clap.specs.Words.{FailsBy, app_of, fault_of, kind_of, subcommand_of, subcommand_rows_of};
 ghost use Rattle.clap.specs.declared.error.kind.ErrorKind.TheVariants.{OutOfMemory};
-ghost use Rattle.command_line.specs.Requests.{Asked, HasDrainTurns, HasLogViolations, HasUnitRanges, HasWorkers, asked_of, refusing, showing, texts_in};
+ghost use Rattle.command_line.specs.Requests.{Asked, HasDrainTurns, HasLogRanges, HasUnitRanges, HasWorkers, asked_of, refusing, showing, texts_in};
 ghost use Rattle.command_line.specs.Spellings.{Asks, AsksHelp};
 ghost use Rattle.command_line.specs.Refusals.{Refuses};
 ghost use Rattle.command_line.specs.Commands.{IsAskedFor, asked_at, tsobench_app};
@@ -119,7 +119,7 @@ pub fn read_arguments<'a>(alloc: Global, arguments: &'a [String]) -> Result<Requ
     ensures workers { IfOk result (λ request. HasWorkers (asked_of request)) }
     ensures unit { IfOk result (λ request. HasUnitRanges (asked_of request)) }
     ensures turns { IfOk result (λ request. HasDrainTurns (asked_of request)) }
-    ensures violations { IfOk result (λ request. HasLogViolations (asked_of request)) }
+    ensures log { IfOk result (λ request. HasLogRanges (asked_of request)) }
 {
     request_by(alloc, option_names(), arguments)
 }
@@ -134,7 +134,7 @@ fn request_by<'a>(
     ensures workers { IfOk result (λ request. HasWorkers (asked_of request)) }
     ensures unit { IfOk result (λ request. HasUnitRanges (asked_of request)) }
     ensures turns { IfOk result (λ request. HasDrainTurns (asked_of request)) }
-    ensures violations { IfOk result (λ request. HasLogViolations (asked_of request)) }
+    ensures log { IfOk result (λ request. HasLogRanges (asked_of request)) }
 {
     match matches(alloc, names, arguments) {
         Ok(matches) => subcommands::request(alloc, &matches),

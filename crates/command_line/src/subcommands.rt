@@ -3,7 +3,7 @@ ghost use Rattle.std.specs.Prelude.{◌≡◌, ◌∷◌, [], false, codes, find
 ghost use Rattle.std.specs.Str.{bytes_eq};
 ghost use Rattle.clap.specs.Words.{app_of, found_of, rows_of, subcommand_rows_of, with_subcommand};
 ghost use Rattle.clap.specs.declared.builder.command.Command.TheViews.{out-Command as fields_of};
-ghost use Rattle.command_line.specs.Requests.{HasDrainTurns, HasLogViolations, HasUnitRanges, HasWorkers, asked_of};
+ghost use Rattle.command_line.specs.Requests.{HasDrainTurns, HasLogRanges, HasUnitRanges, HasWorkers, asked_of};
 ghost use Rattle.command_line.specs.Parameters.{offered_app};
 ghost use Rattle.command_line.specs.Commands.{asked_by, asked_in, memory_of, program_app, tsobench_app};
 ghost use Rattle.command_line.specs.Subcommands.{subcommands};
@@ -101,7 +101,7 @@ impl Subcommand {
         ensures workers { IfOk result (λ request. HasWorkers (asked_of request)) }
         ensures unit { IfOk result (λ request. HasUnitRanges (asked_of request)) }
         ensures turns { IfOk result (λ request. HasDrainTurns (asked_of request)) }
-        ensures violations { IfOk result (λ request. HasLogViolations (asked_of request)) }
+        ensures log { IfOk result (λ request. HasLogRanges (asked_of request)) }
     {
         match self {
             Subcommand::Judge => Ok(found::judge(matches, Presentation::Report)),
@@ -171,7 +171,7 @@ pub(crate) fn request<'a>(
     ensures workers { IfOk result (λ request. HasWorkers (asked_of request)) }
     ensures unit { IfOk result (λ request. HasUnitRanges (asked_of request)) }
     ensures turns { IfOk result (λ request. HasDrainTurns (asked_of request)) }
-    ensures violations { IfOk result (λ request. HasLogViolations (asked_of request)) }
+    ensures log { IfOk result (λ request. HasLogRanges (asked_of request)) }
 {
     if let Some((name, found)) = matches.subcommand() {
         if let Some(subcommand) = subcommand_named(name) {

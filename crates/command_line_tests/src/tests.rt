@@ -58,8 +58,8 @@ fn described(alloc: Global, request: &Request<'_>) -> Result<String, AllocError>
             batch.file, batch.workers, batch.quiet
         ),
         Request::Log(log) => format!(in alloc;
-            "log {:?} at most {} as {:?}",
-            log.file, log.options.most, log.options.form
+            "log {:?} at most {} by {} as {:?}",
+            log.file, log.options.most, log.options.effort, log.options.form
         ),
         Request::Check(texts) => {
             let texts = described_texts(alloc, *texts, "against")?;

@@ -14,7 +14,7 @@ use Rattle.log_selections.specs.declared.unwritten.LoggedStore.{LoggedStore}
 use Rattle.log_selections.specs.declared.unwritten.UnwrittenLoad.{UnwrittenLoad}
 use Rattle.log_selections.specs.Unwritten.{read_by}
 use Rattle.log_reports.specs.Lines.{line_text, lines_text}
-use Rattle.log_reports.specs.Namings.{naming_of}
+use Rattle.log_reports.specs.Namings.{naming_of_shown}
 use Rattle.trace_explanation.specs.JoinedTexts.{joined}
 use Rattle.trace_explanation.specs.Explanations.{explanation_by}
 use Rattle.log_reports.specs.declared.findings.LogFindings.{LogFindings}
@@ -36,7 +36,7 @@ stored_text load = codes "stored " ++ decimal load.stores ++ option_map_or (stor
 -- the explanation of a violation, where one is asked for
 abbrev pub explained_text : LogForm → ℕ → List Shown → TraceValue → Option Certificate → List ℕ
 explained_text Lines processors shown t certificate = []
-explained_text Explained processors shown t certificate = explanation_by (naming_of processors shown) t certificate ++ codes "\n"
+explained_text Explained processors shown t certificate = explanation_by (naming_of_shown processors shown) t certificate ++ codes "\n"
 explained_text Traces processors shown t certificate = []
 
 -- the lines of a violation
@@ -62,8 +62,8 @@ unfoldable pub counts_text : ℕ → ℕ → ℕ → ℕ → List ℕ
 counts_text processors operations loads unknown = joined (
     codes "TSO LOG 1\nprocessors " ∷ decimal processors ∷ codes " operations " ∷ decimal operations ∷ codes " loads " ∷ decimal loads ∷ codes " unknown " ∷ decimal unknown ∷ codes "\n" ∷ [])
 
-abbrev pub head_text : NumberedLog → ℕ → List ℕ
-head_text log unknown = counts_text (length log.lists) (length (operations_in log)) (loads_of (operations_in log)) unknown
+abbrev pub log_head_text : NumberedLog → ℕ → List ℕ
+log_head_text log unknown = counts_text (length log.lists) (length (operations_in log)) (loads_of (operations_in log)) unknown
 
 -- what is found: a violation where one is listed
 abbrev pub verdict_text : LogFindings → List ℕ
@@ -78,7 +78,7 @@ violations_text form processors violations =
 -- the report
 abbrev pub report_text : LogForm → NumberedLog → ℕ → LogFindings → List ℕ
 report_text form log unknown findings =
-    head_text log unknown ++ verdict_text findings ++ violations_text form (length log.lists) findings.violations.items
+    log_head_text log unknown ++ verdict_text findings ++ violations_text form (length log.lists) findings.violations.items
     ++ numbered_from (λ shown. lines_text shown.items) (codes "unjudged ") 1 findings.unjudged.items
 
 -- the text of a violation's trace

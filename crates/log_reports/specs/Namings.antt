@@ -4,8 +4,8 @@ use Rattle.std.specs.List.{flat_map, range_with_len}
 use Rattle.std.specs.Fmt.{decimal}
 use Rattle.log_text.specs.declared.logs.LogOperation.{LogOperation}
 use Rattle.log_text.specs.declared.logs.LogOperation.TheVariants.{Ld, St, Sw, Mb, Sb}
-use Rattle.log_selections.specs.declared.shown.Part.{Part}
-use Rattle.log_selections.specs.declared.shown.Part.TheVariants.{Whole, Load, Store}
+use Rattle.tso_ops.specs.declared.operations.Part.{Part}
+use Rattle.tso_ops.specs.declared.operations.Part.TheVariants.{Whole, SwapLoad, SwapStore}
 use Rattle.log_selections.specs.declared.shown.Shown.{Shown}
 use Rattle.trace_explanation.specs.Namings.{NamingValue}
 use Rattle.trace_explanation.specs.declared.subjects.Subject.TheVariants.{Log}
@@ -28,8 +28,8 @@ event_of s a part = record {
 -- the events of a swap of which this counts
 abbrev pub swap_events : Shown → ℕ → Part → List EventName
 swap_events s a Whole = event_of s a (codes " load") ∷ event_of s a (codes " store") ∷ []
-swap_events s a Load = event_of s a (codes " load") ∷ []
-swap_events s a Store = event_of s a (codes " store") ∷ []
+swap_events s a SwapLoad = event_of s a (codes " load") ∷ []
+swap_events s a SwapStore = event_of s a (codes " store") ∷ []
 
 -- the events of an operation
 abbrev pub events_by : Shown → LogOperation → List EventName
@@ -47,7 +47,7 @@ events_of shown p = flat_map (λ s. events_by s s.logged.operation) (filter (λ 
 abbrev pub named_events : ℕ → List Shown → List EventName
 named_events processors shown = flat_map (events_of shown) (range_with_len 0 processors)
 
-abbrev pub naming_of : ℕ → List Shown → NamingValue
-naming_of processors shown =
+abbrev pub naming_of_shown : ℕ → List Shown → NamingValue
+naming_of_shown processors shown =
     let events = named_events processors shown in
     record { subject = Log; names = map (λ e. e.name) events; lines = map (λ e. e.line) events; addresses = map (λ e. e.address) events }

@@ -1,6 +1,5 @@
 //! The violations of a log.
 ghost use Rattle.std.specs.Prelude.{◌≡◌, ◌⊎◌, IfErr, IfOk, IfSome, OnOk};
-ghost use Rattle.std.specs.List.{All};
 ghost use Rattle.trace_judging.specs.declared.faults.Fault.{Fault};
 ghost use Rattle.log_text.specs.LogValues.{NumberedLog};
 ghost use Rattle.log_reports.specs.Findings.{AreFindings, IsListed};
@@ -38,7 +37,7 @@ pub struct LogFindings {
     pub violations: Vec<LogViolation>,
     /// Operations of more than 16 processors that should have no memory order. They can't be judged as a trace.
     pub unjudged: Vec<Vec<Shown>>,
-    /// How many proposals of the search were no violations when they were judged.
+    /// How many proposals of the search were no violations when they were judged, and loads of what nothing wrote were written.
     pub not_shown: usize,
     /// In how many parts the addresses of the log were searched: what needs addresses of two parts isn't found.
     pub parts: usize,
@@ -47,7 +46,7 @@ pub struct LogFindings {
 }
 
 /// Finds violations of a log, so many at most: first loads of what nothing wrote, in the order of their processors, and then
-/// what the search finds.
+/// what the search finds, which may do so many steps for each load and store of the log.
 ///
 /// Faults: OutOfMemory where an allocation was refused, and NoThread where the system refused a thread.
 pub fn find_violations<H: Threads + Wait>(
@@ -55,54 +54,55 @@ pub fn find_violations<H: Threads + Wait>(
     alloc: Global,
     known: &KnownLog,
     most: usize,
+    effort: usize,
 ) -> Result<LogFindings, Fault>
     ensures found { IfOk result (AreFindings known.now) }
     ensures fault { IfErr result (λ fault. (fault ≡ Fault.OutOfMemory) ⊎ (fault ≡ Fault.NoThread)) }
 {
     let mut findings = LogFindings {
-        violations: list_unwritten(alloc, known, most)?,
+        violations: Vec::new(alloc),
         unjudged: Vec::new(alloc),
         not_shown: 0,
         parts: 1,
         is_early: false,
     };
-    findings.search(rt, alloc, known, most)?;
+    findings.list_unwritten(alloc, known, most)?;
+    findings.search(rt, alloc, known, most, effort)?;
     Ok(findings)
 }
 
-/// The loads of what nothing wrote, so many at most.
-fn list_unwritten(
-    alloc: Global,
-    known: &KnownLog,
-    most: usize,
-) -> Result<Vec<LogViolation>, OutOfMemory>
-    ensures { IfOk result (λ violations. All (IsListed known.now) violations.items) }
-{
-    let mut violations = Vec::new(alloc);
-    for number in known.unwritten_loads() {
-        if violations.len() >= most {
-            break;
-        }
-        if let Some(load) = known.unwritten(alloc, *number)? {
-            violations.push(LogViolation::Unwritten(load))?;
-        }
-    }
-    Ok(violations)
-}
-
 impl LogFindings {
-    /// Searches the log until there are so many violations.
+    /// Notes loads of what nothing wrote, so many at most.
+    fn list_unwritten(
+        &mut self,
+        alloc: Global,
+        known: &KnownLog,
+        most: usize,
+    ) -> Result<(), OutOfMemory>
+        ensures { OnOk result (AreFindings known.now self.old → AreFindings known.now self.new) }
+    {
+        for number in known.unwritten_loads() {
+            if self.violations.len() >= most {
+                break;
+            }
+            self.note(unwritten_load(alloc, known, *number)?)?;
+        }
+        Ok(())
+    }
+
+    /// Searches the log, with so much effort, until there are so many violations.
     fn search<H: Threads + Wait>(
         &mut self,
         rt: &H,
         alloc: Global,
         known: &KnownLog,
         most: usize,
+        effort: usize,
     ) -> Result<(), Fault>
         ensures found { OnOk result (AreFindings known.now self.old → AreFindings known.now self.new) }
         ensures fault { IfErr result (λ fault. (fault ≡ Fault.OutOfMemory) ⊎ (fault ≡ Fault.NoThread)) }
     {
-        let mut search = Search::new(alloc, known)?;
+        let mut search = Search::new(alloc, known, effort)?;
         for _ in 0..usize::MAX {
             if self.violations.len() >= most {
                 break;
@@ -167,6 +167,20 @@ impl LogFindings {
             None => self.not_shown = self.not_shown.saturating_add(1),
         }
         Ok(())
+    }
+}
+
+/// The load of this number, as a violation: None where something wrote what it read.
+fn unwritten_load(
+    alloc: Global,
+    known: &KnownLog,
+    number: usize,
+) -> Result<Option<LogViolation>, OutOfMemory>
+    ensures { IfOk result (λ found. IfSome found (IsListed known.now)) }
+{
+    match known.unwritten(alloc, number)? {
+        Some(load) => Ok(Some(LogViolation::Unwritten(load))),
+        None => Ok(None),
     }
 }
 

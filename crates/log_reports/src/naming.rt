@@ -1,14 +1,15 @@
 //! What the explanation of a violation calls its events.
 ghost use Rattle.std.specs.Prelude.{◌≡◌, ◌++◌, [], ◌∷◌, List, IfOk, OnOk};
 ghost use Rattle.log_reports.specs.Internal.NamedEvents.{AreNames};
-ghost use Rattle.log_reports.specs.Namings.{EventName, event_of, events_by, events_of, naming_of, swap_events};
+ghost use Rattle.log_reports.specs.Namings.{EventName, event_of, events_by, events_of, naming_of_shown, swap_events};
 
 use crate::lines::push_operation;
-use log_selections::{Part, Shown};
+use log_selections::Shown;
 use log_text::LogOperation;
 use std::alloc::{AllocError, Global};
 use std::fmt::Write;
 use trace_explanation::EventNames;
+use tso_ops::Part;
 
 /// The names, the lines and the addresses of events.
 #[derive(Drop)]
@@ -25,7 +26,7 @@ pub(crate) fn name_events(
     processors: usize,
     shown: &[Shown],
 ) -> Result<EventNames, AllocError>
-    ensures { IfOk result (λ names. names ≡ naming_of processors shown.now) }
+    ensures { IfOk result (λ names. names ≡ naming_of_shown processors shown.now) }
 {
     let mut named = NamedEvents {
         names: Vec::new(alloc),
@@ -73,8 +74,8 @@ impl NamedEvents {
                 self.push(alloc, shown, a, " load")?;
                 self.push(alloc, shown, a, " store")
             }
-            Part::Load => self.push(alloc, shown, a, " load"),
-            Part::Store => self.push(alloc, shown, a, " store"),
+            Part::SwapLoad => self.push(alloc, shown, a, " load"),
+            Part::SwapStore => self.push(alloc, shown, a, " store"),
         }
     }
 

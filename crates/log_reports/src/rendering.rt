@@ -5,7 +5,7 @@ ghost use Rattle.std.specs.Option.{option_map_or};
 ghost use Rattle.line_text.specs.Lines.{is_empty};
 ghost use Rattle.log_reports.specs.Lines.{lines_text};
 ghost use Rattle.log_reports.specs.declared.rendering.LogForm.{LogForm};
-ghost use Rattle.log_reports.specs.LogTexts.{counts_text, explained_text, head_text, numbered_from, store_text, stored_text, text_in, report_text, trace_of, verdict_text, violation_text, violations_text};
+ghost use Rattle.log_reports.specs.LogTexts.{counts_text, explained_text, log_head_text, numbered_from, store_text, stored_text, text_in, report_text, trace_of, verdict_text, violation_text, violations_text};
 
 use crate::counts::{count_operations, count_processors};
 use crate::findings::{LogFindings, LogViolation};
@@ -67,7 +67,7 @@ fn render_report(
 
 /// The first lines.
 fn render_head(alloc: Global, known: &KnownLog, unknown: usize) -> Result<String, AllocError>
-    ensures { IfOk result (λ text. string_bytes text ≡ head_text known.now unknown) }
+    ensures { IfOk result (λ text. string_bytes text ≡ log_head_text known.now unknown) }
 {
     let log = known.log();
     let (operations, loads) = count_operations(log)?;

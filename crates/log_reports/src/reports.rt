@@ -29,6 +29,8 @@ use tso_text::TextFault;
 pub struct LogOptions {
     /// How many violations are listed at most.
     pub most: usize,
+    /// How many steps the search may do for each load and store of the log. It may do as many as for 50,000 of them in any log.
+    pub effort: usize,
     /// What is printed.
     pub form: LogForm,
 }
@@ -114,7 +116,7 @@ fn report_on<H: Threads + Wait>(
     ensures fault { IfErr result (λ fault. (fault ≡ Fault.OutOfMemory) ⊎ (fault ≡ Fault.NoThread)) }
 {
     let known = KnownLog::new(alloc, log)?;
-    let findings = find_violations(rt, alloc, &known, options.most)?;
+    let findings = find_violations(rt, alloc, &known, options.most, options.effort)?;
     let unknown = known.ambiguous_loads();
     Ok(LogReport {
         text: render(alloc, options.form, &known, unknown, &findings)?,

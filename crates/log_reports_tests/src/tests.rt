@@ -2,6 +2,7 @@
 
 mod explanations;
 mod faults;
+mod notes;
 mod refused_allocations;
 mod reports;
 
@@ -15,17 +16,24 @@ use traces_for_tests::expect_equal;
 /// The text of a log; what is said of it, and what is written to the output and to the errors.
 type Case = (&'static str, LogVerdict, &'static str, &'static str);
 
+/// How logs are reported on in this form, where nothing else is asked for.
+fn usual(form: LogForm) -> LogOptions {
+    LogOptions {
+        most: 10,
+        effort: 100,
+        form,
+    }
+}
+
 /// Compares what is said of the log of a text, and what is written of it.
 fn expect_case<H: Threads + Wait>(
     rt: &H,
     alloc: Global,
-    most: usize,
-    form: LogForm,
+    options: LogOptions,
     (text, verdict, report, notes): Case,
 ) -> Result<(), Fail> {
     let mut written = Vec::new(alloc);
     let mut errors = Vec::new(alloc);
-    let options = LogOptions { most, form };
     let mut reader = text.as_bytes();
     let said = report_log(rt, alloc, options, &mut reader, &mut written, &mut errors);
     expect_equal(text, said, Ok(verdict))?;
@@ -33,7 +41,7 @@ fn expect_case<H: Threads + Wait>(
     expect_equal(text, errors.as_slice(), notes.as_bytes())
 }
 
-/// The same of each of these, of which ten violations are listed at most.
+/// The same of each of these.
 fn expect_cases<H: Threads + Wait>(
     rt: &H,
     alloc: Global,
@@ -41,7 +49,7 @@ fn expect_cases<H: Threads + Wait>(
     cases: &[Case],
 ) -> Result<(), Fail> {
     for case in cases {
-        expect_case(rt, alloc, 10, form, *case)?;
+        expect_case(rt, alloc, usual(form), *case)?;
     }
     Ok(())
 }

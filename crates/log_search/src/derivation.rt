@@ -10,10 +10,8 @@ use std::alloc::Global;
 use std::collections::BinaryHeap;
 use tso_ops::OutOfMemory;
 
-/// Row updates for each event, and for all, after which a search ends.
-const UPDATES_OF_AN_EVENT: usize = 100;
-
-const UPDATES_OF_ALL: usize = 10_000_000;
+/// A search may do as much as in a log with so many events more.
+const EVENTS_MORE: usize = 50_000;
 
 /// Updates of rows of fewer chains count as if they had so many, and those of more chains for several.
 const MIN_WIDTH: usize = 32;
@@ -100,10 +98,11 @@ pub(crate) struct Work {
 }
 
 impl Work {
-    /// None yet, in a log of so many events, with rows of about so many chains.
-    pub(crate) fn new(events: usize, width: usize) -> Work {
+    /// None yet, in a log of so many events, with rows of about so many chains, where so many updates of rows are allowed for
+    /// each event.
+    pub(crate) fn new(effort: usize, events: usize, width: usize) -> Work {
         let width = width.max(MIN_WIDTH).min(MAX_WIDTH);
-        let updates = UPDATES_OF_ALL.saturating_add(events.saturating_mul(UPDATES_OF_AN_EVENT));
+        let updates = events.saturating_add(EVENTS_MORE).saturating_mul(effort);
         Work {
             spent: 0,
             budget: updates.saturating_mul(width),

@@ -2,11 +2,11 @@
 
 use crate::lookups::{logged_at, number_of, source_of};
 use crate::selections::empty_lists;
-use log_selections::{Kept, KnownLog, Part};
+use log_selections::{Kept, KnownLog};
 use log_text::LogOperation;
 use std::alloc::Global;
 use std::collections::HashSet;
-use tso_ops::OutOfMemory;
+use tso_ops::{OutOfMemory, Part};
 
 /// What says whether operations of a log have no order.
 pub trait Judge {
@@ -164,7 +164,7 @@ fn store_of(known: &KnownLog, entry: Entry) -> Option<usize> {
     let number = number_of(known, processor, kept.index)?;
     match logged_at(known, processor, kept.index)?.operation {
         LogOperation::St { .. } => Some(number),
-        LogOperation::Sw { .. } if kept.part != Part::Load => number.checked_add(1),
+        LogOperation::Sw { .. } if kept.part != Part::SwapLoad => number.checked_add(1),
         _ => None,
     }
 }
@@ -177,8 +177,9 @@ fn part_left(known: &KnownLog, entry: Entry, stores: &HashSet<usize>) -> Option<
         logged_at(known, processor, kept.index)?.operation,
         kept.part,
     ) {
-        (LogOperation::Ld { .. }, _) | (LogOperation::Sw { .. }, Part::Load) if !is_left => None,
-        (LogOperation::Sw { .. }, Part::Whole) if !is_left => Some(Part::Store),
+        (LogOperation::Ld { .. }, _) | (LogOperation::Sw { .. }, Part::SwapLoad) if !is_left =>
+            None,
+        (LogOperation::Sw { .. }, Part::Whole) if !is_left => Some(Part::SwapStore),
         (_, part) => Some(part),
     }
 }

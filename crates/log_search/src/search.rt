@@ -34,8 +34,13 @@ pub struct Search<'a> {
 }
 
 impl<'a> Search<'a> {
-    /// Begins a search in a log. OutOfMemory where an allocation was refused.
-    pub fn new(alloc: Global, known: &'a KnownLog) -> Result<Search<'a>, OutOfMemory> {
+    /// Begins a search in a log, which may do so many updates of rows for each load and store, and as many as for 50,000 in any
+    /// log. OutOfMemory where an allocation was refused.
+    pub fn new(
+        alloc: Global,
+        known: &'a KnownLog,
+        effort: usize,
+    ) -> Result<Search<'a>, OutOfMemory> {
         let survey = Survey::new(alloc, known)?;
         let addresses = survey.addresses_from(0);
         let scope = Scope {
@@ -44,7 +49,7 @@ impl<'a> Search<'a> {
             addresses,
         };
         let graph = build(alloc, scope)?;
-        let work = Work::new(known.sources().len(), graph.chains.len());
+        let work = Work::new(effort, known.sources().len(), graph.chains.len());
         Ok(Search {
             known,
             survey,

@@ -3,9 +3,9 @@
 use crate::derivation::Derivation;
 use crate::explanations::Explanation;
 use crate::nodes::{Kind, Node};
-use log_selections::{Kept, Part};
+use log_selections::Kept;
 use std::alloc::Global;
-use tso_ops::OutOfMemory;
+use tso_ops::{OutOfMemory, Part};
 
 /// No operations of so many processors.
 pub(crate) fn empty_lists(alloc: Global, processors: usize) -> Result<Vec<Vec<Kept>>, OutOfMemory> {
@@ -103,8 +103,8 @@ fn push_node(
 
 fn push_pick(node: Node, picks: &mut Vec<Pick>) -> Result<(), OutOfMemory> {
     let part = match node.kind {
-        Kind::SwapLoad => Part::Load,
-        Kind::SwapStore | Kind::LoneSwapStore => Part::Store,
+        Kind::SwapLoad => Part::SwapLoad,
+        Kind::SwapStore | Kind::LoneSwapStore => Part::SwapStore,
         Kind::Load | Kind::Store | Kind::Stbar => Part::Whole,
     };
     picks.push((node.processor, node.operation, part))?;

@@ -14,11 +14,15 @@ mod several;
 
 use judges::RulesJudge;
 use log_search::{Found, Judge, Search};
-use log_selections::{Kept, KnownLog, Part};
+use log_selections::{Kept, KnownLog};
 use log_text::read_log;
 use std::alloc::Global;
 use std::fmt::Write;
 use std::test::Fail;
+use tso_ops::Part;
+
+/// How many steps a search may do for each load and store.
+const EFFORT: usize = 100;
 
 /// How many proposals of a log are looked at, at most.
 const MAX_PROPOSALS: usize = 1_000;
@@ -36,7 +40,7 @@ fn proposals(alloc: Global, text: &str) -> Result<String, Fail> {
 
 /// The same of a log. After a proposal of which the rules find no violation stands `no violation`.
 fn proposals_of(alloc: Global, known: &KnownLog) -> Result<String, Fail> {
-    let mut search = Search::new(alloc, known)?;
+    let mut search = Search::new(alloc, known, EFFORT)?;
     let mut judge = RulesJudge::new(alloc, known);
     let mut lines = String::new(alloc);
     for _ in 0..MAX_PROPOSALS {
@@ -81,7 +85,7 @@ fn push_kept(lines: &mut String, kept: &[Vec<Kept>]) -> Result<(), Fail> {
 fn letter(part: Part) -> &'static str {
     match part {
         Part::Whole => "",
-        Part::Load => "l",
-        Part::Store => "s",
+        Part::SwapLoad => "l",
+        Part::SwapStore => "s",
     }
 }

@@ -7,8 +7,8 @@ use Rattle.log_text.specs.declared.logs.LogOperation.{LogOperation}
 use Rattle.log_text.specs.declared.logs.LogOperation.TheVariants.{Ld, St, Sw, Mb, Sb}
 use Rattle.log_text.specs.declared.logs.LoggedOperation.{LoggedOperation}
 use Rattle.log_text.specs.LogValues.{NumberedLog, log_operations}
-use Rattle.log_selections.specs.declared.shown.Part.{Part}
-use Rattle.log_selections.specs.declared.shown.Part.TheVariants.{Whole, Load, Store}
+use Rattle.tso_ops.specs.declared.operations.Part.{Part}
+use Rattle.tso_ops.specs.declared.operations.Part.TheVariants.{Whole, SwapLoad, SwapStore}
 use Rattle.log_selections.specs.declared.shown.Shown.{Shown}
 use Rattle.log_selections.specs.Selections.{IsSelection}
 
@@ -37,16 +37,16 @@ pub record AreLinesOf (lists : List (List LoggedOperation)) (shown : List Shown)
 -- a part of an operation: of a swap its load or its store may count alone
 abbrev pub part_of : Part → LogOperation → LogOperation
 part_of Whole x = x
-part_of Load (Ld a r) = Ld a r
-part_of Load (St a v) = St a v
-part_of Load (Sw a r v) = Ld a r
-part_of Load Mb = Mb
-part_of Load Sb = Sb
-part_of Store (Ld a r) = Ld a r
-part_of Store (St a v) = St a v
-part_of Store (Sw a r v) = St a v
-part_of Store Mb = Mb
-part_of Store Sb = Sb
+part_of SwapLoad (Ld a r) = Ld a r
+part_of SwapLoad (St a v) = St a v
+part_of SwapLoad (Sw a r v) = Ld a r
+part_of SwapLoad Mb = Mb
+part_of SwapLoad Sb = Sb
+part_of SwapStore (Ld a r) = Ld a r
+part_of SwapStore (St a v) = St a v
+part_of SwapStore (Sw a r v) = St a v
+part_of SwapStore Mb = Mb
+part_of SwapStore Sb = Sb
 
 -- what counts of an operation that is shown
 abbrev pub counted : Shown → LoggedOperation

@@ -5,7 +5,7 @@
 
 pub use known::KnownLog;
 pub use selecting::Selected;
-pub use shown::{Kept, Part, Shown};
+pub use shown::{Kept, Shown};
 pub use unwritten::{LoggedStore, UnwrittenLoad};
 
 mod accesses;

@@ -2,11 +2,11 @@
 //! that.
 
 use crate::keeping::KeptOutcome;
-use crate::shown::{Kept, Part};
+use crate::shown::Kept;
 use log_text::{LogOperation, LoggedOperation};
 use std::alloc::Global;
 use std::collections::HashMap;
-use tso_ops::{OutOfMemory, Outcome};
+use tso_ops::{OutOfMemory, Outcome, Part};
 
 /// How many addresses a trace has at most.
 const MAX_ADDRESSES: usize = 256;
@@ -143,13 +143,13 @@ impl Names {
         match (operation, part) {
             (LogOperation::Mb, _) => Some(Outcome::Mb),
             (LogOperation::Sb, _) => Some(Outcome::Sb),
-            (LogOperation::Ld { .. }, _) | (LogOperation::Sw { .. }, Part::Load) => {
+            (LogOperation::Ld { .. }, _) | (LogOperation::Sw { .. }, Part::SwapLoad) => {
                 Some(Outcome::Ld {
                     a: place?,
                     r: read?,
                 })
             }
-            (LogOperation::St { .. }, _) | (LogOperation::Sw { .. }, Part::Store) => {
+            (LogOperation::St { .. }, _) | (LogOperation::Sw { .. }, Part::SwapStore) => {
                 Some(Outcome::St {
                     a: place?,
                     v: stored?,
@@ -184,7 +184,7 @@ fn address_of(operation: LogOperation) -> Option<u64> {
 fn store_number(operation: LogOperation, part: Part, number: usize) -> Option<usize> {
     match (operation, part) {
         (LogOperation::St { .. }, _) => Some(number),
-        (LogOperation::Sw { .. }, Part::Whole | Part::Store) => Some(number.saturating_add(1)),
+        (LogOperation::Sw { .. }, Part::Whole | Part::SwapStore) => Some(number.saturating_add(1)),
         _ => None,
     }
 }

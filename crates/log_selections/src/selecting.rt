@@ -5,10 +5,10 @@ ghost use Rattle.log_text.specs.LogValues.{log_value};
 ghost use Rattle.log_selections.specs.Shown.{AreLinesOf, IsSelected, log_of_shown};
 
 use crate::known::KnownLog;
-use crate::shown::{Kept, Part, Shown, count_lists, show_kept};
+use crate::shown::{Kept, Shown, count_lists, show_kept};
 use log_text::{Log, LoggedOperation};
 use std::alloc::Global;
-use tso_ops::{OutOfMemory, Trace};
+use tso_ops::{OutOfMemory, Part, Trace};
 use tso_text::print_trace;
 
 /// Operations of a log, as they stand in it, and a trace that is a selection of the log and of these operations alone.

@@ -6,25 +6,14 @@ ghost use Rattle.log_selections.specs.Shown.{AreLinesOf, IsLineOf, counted, coun
 
 use log_text::{LogOperation, LoggedOperation};
 use std::alloc::Global;
-use tso_ops::OutOfMemory;
+use tso_ops::{OutOfMemory, Part};
 
-/// Which part of an operation counts.
-#[derive(Clone, Copy, Debug, PartialEq, Eq)]
-pub enum Part {
-    /// All of it.
-    Whole,
-    /// Of a swap its load alone. Another operation counts whole.
-    Load,
-    /// Of a swap its store alone. Another operation counts whole.
-    Store,
-}
-
-/// An operation that is kept: which of its processor's, from 0, and which part of it.
+/// An operation that is kept: which of its processor's, and which part of it. One that is no swap is always kept whole.
 #[derive(Clone, Copy, Debug, PartialEq, Eq)]
 pub struct Kept {
     /// Which of its processor's operations, from 0.
     pub index: usize,
-    /// Which part of it.
+    /// Which part of it is kept: of a swap perhaps its load or its store alone.
     pub part: Part,
 }
 
@@ -168,13 +157,13 @@ fn counted(shown: Shown) -> LoggedOperation
     }
 }
 
-/// This part of an operation.
+/// This part of an operation, of one that is no swap the whole.
 fn part_of(part: Part, operation: LogOperation) -> LogOperation
     ensures { result ≡ part_of part operation }
 {
     match (part, operation) {
-        (Part::Load, LogOperation::Sw { a, r, .. }) => LogOperation::Ld { a, r },
-        (Part::Store, LogOperation::Sw { a, v, .. }) => LogOperation::St { a, v },
+        (Part::SwapLoad, LogOperation::Sw { a, r, .. }) => LogOperation::Ld { a, r },
+        (Part::SwapStore, LogOperation::Sw { a, v, .. }) => LogOperation::St { a, v },
         (_, operation) => operation,
     }
 }

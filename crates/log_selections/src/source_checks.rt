@@ -1,4 +1,4 @@
-//! Whether the loads of a piece read from where they are known to read in the log.
+//! Whether the loads of a selection read from where they are known to read in the log.
 ghost use Rattle.std.specs.Prelude.{◌≡◌, ℕ, Some, true, IfSome};
 ghost use Rattle.tso_ops.specs.Events.{HasSource, IsLoad};
 ghost use Rattle.log_selections.specs.Cuts.{origin_in};

@@ -7,11 +7,11 @@ ghost use Rattle.log_selections.specs.Shown.{IsLineOf};
 ghost use Rattle.log_selections.specs.Unwritten.{IsFirst, IsLast, IsUnwrittenLoad, read_by, stored_at, stores_to};
 
 use crate::known::KnownLog;
-use crate::shown::{Part, Shown, logged_at};
+use crate::shown::{Shown, logged_at};
 use crate::writers::find_first_values;
 use log_text::{LogOperation, LoggedOperation};
 use std::alloc::{AllocFailed, Global};
-use tso_ops::OutOfMemory;
+use tso_ops::{OutOfMemory, Part};
 
 /// A store of a log to some address.
 #[derive(Clone, Copy, Debug, PartialEq, Eq)]
@@ -59,8 +59,8 @@ impl KnownLog {
         Ok(Some(UnwrittenLoad {
             shown,
             stores: stores.len(),
-            first: first_of(&stores),
-            last: last_of(&stores),
+            first: first_store(&stores),
+            last: last_store(&stores),
         }))
     }
 
@@ -166,7 +166,7 @@ fn has_value(stores: &[LoggedStore], value: u64) -> bool
 }
 
 /// The store of the least line.
-fn first_of(stores: &[LoggedStore]) -> Option<LoggedStore>
+fn first_store(stores: &[LoggedStore]) -> Option<LoggedStore>
     ensures { IsFirst stores.now result }
 {
     let mut first = *stores.first()?;
@@ -177,7 +177,7 @@ fn first_of(stores: &[LoggedStore]) -> Option<LoggedStore>
 }
 
 /// The store of the greatest line.
-fn last_of(stores: &[LoggedStore]) -> Option<LoggedStore>
+fn last_store(stores: &[LoggedStore]) -> Option<LoggedStore>
     ensures { IsLast stores.now result }
 {
     let mut last = *stores.first()?;

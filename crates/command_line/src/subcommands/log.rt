@@ -1,6 +1,6 @@
-//! `log [--most K] [--trace|--explain] [FILE]`: finds violations of a log.
+//! `log [--most K] [--effort N] [--trace|--explain] [FILE]`: finds violations of a log.
 
-use crate::options::MAX_LOG_VIOLATIONS;
+use crate::options::{MAX_LOG_EFFORT, MAX_LOG_VIOLATIONS};
 use crate::parameters::{Accepted, Description, Parameter};
 
 /// The text of its help after the list of its parameters.
@@ -26,7 +26,7 @@ all other addresses.
 The log must have every store and swap of the run: what it leaves out may be
 what a load read. Then a violation that is shown is one of the run; that none
 was found proves nothing. The report says VIOLATION or NO VIOLATION FOUND, and
-SEARCH ENDED EARLY if there was more work than the search may do. For each
+SEARCH ENDED EARLY if the log asks for more than --effort allows. For each
 violation it has a line as violation 1, and lines of the log as
 line 12 0 ld 8192 0. No two violations have a load in common. With --trace it
 prints in place of the report the traces of these lines, which `tsobench batch`
@@ -56,6 +56,13 @@ pub(crate) static LOG: Description = Description {
             default: Some("10"),
             help: "How many violations are shown at most, 1 to 1000000",
         },
+        Parameter::Option {
+            name: "effort",
+            value_name: "N",
+            accepted: Accepted::Number(0, MAX_LOG_EFFORT as u64),
+            default: Some("100"),
+            help: "How many steps the search may do for each load and store, 0 to 1000000",
+        },
         Parameter::Flag {
             name: "trace",
             help: "Prints the traces of the violations, and no report",
@@ -74,3 +81,5 @@ pub(crate) static LOG: Description = Description {
 };
 
 const _: () = prove!(MAX_LOG_VIOLATIONS == 1_000_000);
+
+const _: () = prove!(MAX_LOG_EFFORT == 1_000_000);

@@ -66,17 +66,17 @@ const ACCEPTED: [(&[&str], &str); 36] = [
         "batch Some(\"s\") with 64 quiet false",
     ),
     (&["batch", "-"], "batch None with 1 quiet false"),
-    (&["log"], "log None at most 10 as Lines"),
-    (&["log", "l"], "log Some(\"l\") at most 10 as Lines"),
+    (&["log"], "log None at most 10 by 100 as Lines"),
+    (&["log", "l"], "log Some(\"l\") at most 10 by 100 as Lines"),
     (
-        &["log", "l", "--most", "1", "--explain"],
-        "log Some(\"l\") at most 1 as Explained",
+        &["log", "l", "--most", "1", "--effort", "0", "--explain"],
+        "log Some(\"l\") at most 1 by 0 as Explained",
     ),
     (
-        &["log", "--trace", "--most=1000000", "l"],
-        "log Some(\"l\") at most 1000000 as Traces",
+        &["log", "--trace", "--effort=1000000", "--most=1000000", "l"],
+        "log Some(\"l\") at most 1000000 by 1000000 as Traces",
     ),
-    (&["log", "-"], "log None at most 10 as Lines"),
+    (&["log", "-"], "log None at most 10 by 100 as Lines"),
 ];
 
 #[test]

@@ -269,10 +269,11 @@ Arguments:
   [FILE]  The text of a log; standard input where it is - or left out
 
 Options:
-      --most <K>  How many violations are shown at most, 1 to 1000000 [default: 10]
-      --trace     Prints the traces of the violations, and no report
-      --explain   Explains each violation after its lines
-  -h, --help      Print help
+      --most <K>    How many violations are shown at most, 1 to 1000000 [default: 10]
+      --effort <N>  How many steps the search may do for each load and store, 0 to 1000000 [default: 100]
+      --trace       Prints the traces of the violations, and no report
+      --explain     Explains each violation after its lines
+  -h, --help        Print help
 
 It reads a log of what the processors of a machine did, of any length, and looks
 for violations: lines of the log that no memory order explains. Each line is an
@@ -295,7 +296,7 @@ all other addresses.
 The log must have every store and swap of the run: what it leaves out may be
 what a load read. Then a violation that is shown is one of the run; that none
 was found proves nothing. The report says VIOLATION or NO VIOLATION FOUND, and
-SEARCH ENDED EARLY if there was more work than the search may do. For each
+SEARCH ENDED EARLY if the log asks for more than --effort allows. For each
 violation it has a line as violation 1, and lines of the log as
 line 12 0 ld 8192 0. No two violations have a load in common. With --trace it
 prints in place of the report the traces of these lines, which `tsobench batch`

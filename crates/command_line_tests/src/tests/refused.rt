@@ -8,7 +8,7 @@ const TWO_INPUTS: &str =
     "error: one of the two files may be '-', and not both: standard input is read once\n\nFor more information, try '--help'.\n";
 
 /// Arguments, and the text of their refusal.
-const REFUSED: [(&[&str], &str); 14] = [
+const REFUSED: [(&[&str], &str); 15] = [
     (&["check", "-", "-"], TWO_INPUTS),
     (&["check", "--", "-", "-"], TWO_INPUTS),
     (&["seek", "judge"], UNKNOWN),
@@ -36,6 +36,10 @@ const REFUSED: [(&[&str], &str); 14] = [
     (
         &["log", "--most=1000001", "l"],
         "error: invalid value '1000001' for '--most <K>': 1000001 is not in 1..=1000000\n\nFor more information, try '--help'.\n",
+    ),
+    (
+        &["log", "--effort", "1000001"],
+        "error: invalid value '1000001' for '--effort <N>': 1000001 is not in 0..=1000000\n\nFor more information, try '--help'.\n",
     ),
     (
         &["log", "a", "b"],

@@ -1,6 +1,6 @@
 //! Explanations of violations, which name events by their lines, addresses and values.
 
-use super::{Case, expect_case};
+use super::{Case, expect_case, usual};
 use log_reports::{LogForm, LogVerdict};
 use std::test::Fail;
 
@@ -14,5 +14,5 @@ const MESSAGE_PASSING: Case = (
 
 #[test]
 fn events_are_named_by_their_lines(rt: HostRuntime) -> Result<(), Fail> {
-    expect_case(&rt, rt.alloc(), 10, LogForm::Explained, MESSAGE_PASSING)
+    expect_case(&rt, rt.alloc(), usual(LogForm::Explained), MESSAGE_PASSING)
 }

@@ -22,11 +22,13 @@ const NOTE: &[u8] = b"loads of what nothing wrote, without a trace 1\n";
 /// How it is reported on, as lines or as traces.
 const LINES: LogOptions = LogOptions {
     most: 10,
+    effort: 100,
     form: LogForm::Lines,
 };
 
 const TRACES: LogOptions = LogOptions {
     most: 10,
+    effort: 100,
     form: LogForm::Traces,
 };
 

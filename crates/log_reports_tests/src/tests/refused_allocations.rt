@@ -22,6 +22,7 @@ const ROOM: usize = 256;
 
 const OPTIONS: LogOptions = LogOptions {
     most: 1,
+    effort: 100,
     form: LogForm::Lines,
 };
 

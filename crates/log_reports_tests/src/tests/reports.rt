@@ -1,7 +1,7 @@
 //! What is printed of logs, worked out by hand.
 
-use super::{Case, expect_case, expect_cases};
-use log_reports::{LogForm, LogVerdict};
+use super::{Case, expect_case, expect_cases, usual};
+use log_reports::{LogForm, LogOptions, LogVerdict};
 use std::test::Fail;
 
 const CASES: [Case; 10] = [
@@ -122,5 +122,37 @@ const FIRST: Case = (
 
 #[test]
 fn so_many_violations_at_most(rt: HostRuntime) -> Result<(), Fail> {
-    expect_case(&rt, rt.alloc(), 1, LogForm::Lines, FIRST)
+    let options = LogOptions {
+        most: 1,
+        ..usual(LogForm::Lines)
+    };
+    expect_case(&rt, rt.alloc(), options, FIRST)
+}
+
+/// What is reported where the search may do nothing: loads of what nothing wrote alone.
+const UNSEARCHED: [Case; 2] = [
+    (
+        "0 st 1 1\n0 st 2 2\n1 ld 2 2\n1 ld 1 0\n",
+        LogVerdict::EndedEarly,
+        "TSO LOG 1\nprocessors 2 operations 4 loads 2 unknown 0\nNO VIOLATION FOUND\nSEARCH ENDED EARLY\n",
+        "",
+    ),
+    (
+        "0 ld 6 4\n0 st 1 1\n0 st 2 2\n1 ld 2 2\n1 ld 1 0\n",
+        LogVerdict::Violation,
+        "TSO LOG 1\nprocessors 2 operations 5 loads 3 unknown 0\nVIOLATION\nSEARCH ENDED EARLY\nviolation 1\nline 1 0 ld 6 4\nstored 0\nviolations 1\n",
+        "",
+    ),
+];
+
+#[test]
+fn without_effort(rt: HostRuntime) -> Result<(), Fail> {
+    for case in UNSEARCHED {
+        let options = LogOptions {
+            effort: 0,
+            ..usual(LogForm::Lines)
+        };
+        expect_case(&rt, rt.alloc(), options, case)?;
+    }
+    Ok(())
 }

@@ -3,7 +3,7 @@
 use super::judges::RulesJudge;
 use super::logs::{all_known, exchange, log_of, without_loads_of};
 use super::minimality::is_minimal;
-use super::{MAX_PROPOSALS, proposals_of};
+use super::{EFFORT, MAX_PROPOSALS, proposals_of};
 use log_search::{Found, Judge, Search, reduce};
 use log_selections::KnownLog;
 use std::alloc::Global;
@@ -74,7 +74,7 @@ fn small_logs_beside_the_rules(rt: HostRuntime) -> Result<(), Fail> {
 /// Looks whether the rules accuse each proposal, and no longer the log without the loads of proposals: how many there were.
 fn search_beside_rules(alloc: Global, known: &KnownLog, seed: u64) -> Result<usize, Fail> {
     let mut judge = RulesJudge::new(alloc, known);
-    let mut search = Search::new(alloc, known)?;
+    let mut search = Search::new(alloc, known, EFFORT)?;
     let mut left = all_known(alloc, known)?;
     for count in 0..MAX_PROPOSALS {
         match search.next(alloc)? {

@@ -1,9 +1,9 @@
 //! What a log says of an operation that is kept.
 
-use log_selections::{Kept, KnownLog, Part};
+use log_selections::{Kept, KnownLog};
 use log_text::LogOperation;
 use std::alloc::Global;
-use tso_ops::OutOfMemory;
+use tso_ops::{OutOfMemory, Part};
 
 /// An operation of a processor.
 pub(super) type Entry = (usize, Kept);
@@ -71,7 +71,7 @@ fn event_of(known: &KnownLog, entry: Entry) -> Option<usize> {
 pub(super) fn load_of(known: &KnownLog, entry: Entry) -> Option<usize> {
     match operation_of(known, entry)? {
         LogOperation::Ld { .. } => event_of(known, entry),
-        LogOperation::Sw { .. } if entry.1.part != Part::Store => event_of(known, entry),
+        LogOperation::Sw { .. } if entry.1.part != Part::SwapStore => event_of(known, entry),
         _ => None,
     }
 }
@@ -81,7 +81,7 @@ pub(super) fn store_of(known: &KnownLog, entry: Entry) -> Option<usize> {
     let number = event_of(known, entry)?;
     match operation_of(known, entry)? {
         LogOperation::St { .. } => Some(number),
-        LogOperation::Sw { .. } if entry.1.part != Part::Load => number.checked_add(1),
+        LogOperation::Sw { .. } if entry.1.part != Part::SwapLoad => number.checked_add(1),
         _ => None,
     }
 }
@@ -98,7 +98,7 @@ pub(super) fn without_load(known: &KnownLog, entry: Entry) -> Option<Entry> {
     if load_of(known, entry).is_none() {
         return Some(entry);
     }
-    let part = Part::Store;
+    let part = Part::SwapStore;
     match kept.part {
         Part::Whole if store_of(known, entry).is_some() => Some((p, Kept { part, ..kept })),
         _ => None,

@@ -1,8 +1,8 @@
 //! Logs in which each load reads some store to its address: many violations, and much work.
 
-use super::MAX_PROPOSALS;
 use super::entries::{entries_of, load_of};
 use super::logs::{exchange, log_of};
+use super::{EFFORT, MAX_PROPOSALS};
 use log_search::{Found, Search};
 use log_selections::{Kept, KnownLog};
 use std::alloc::Global;
@@ -48,7 +48,7 @@ fn drawn_sources(rt: HostRuntime) -> Result<(), Fail> {
 
 /// All that is proposed, up to the end; each time a trace can be cut out of the log.
 fn propose_all(alloc: Global, known: &KnownLog) -> Result<Proposed, Fail> {
-    let mut search = Search::new(alloc, known)?;
+    let mut search = Search::new(alloc, known, EFFORT)?;
     let mut proposed = Proposed {
         count: 0,
         loads: HashSet::new(alloc),

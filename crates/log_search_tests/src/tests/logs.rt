@@ -1,12 +1,12 @@
 //! Logs of what processors did, and what is kept of logs.
 
 use super::entries::{Entry, address_of, entries_of, lists_of, source_of, without_load};
-use log_selections::{Kept, KnownLog, Part};
+use log_selections::{Kept, KnownLog};
 use log_text::{Log, LogOperation, LoggedOperation};
 use std::alloc::Global;
 use std::collections::HashSet;
 use traces_for_tests::Draws;
-use tso_ops::{Order, OutOfMemory, Outcome};
+use tso_ops::{Order, OutOfMemory, Outcome, Part};
 
 /// The lines of a processor's operations: that of the first one, and how far the next one is.
 #[derive(Clone, Copy)]
@@ -87,7 +87,7 @@ fn known_list(
         let is_known = known.sources().get(*number).copied().flatten().is_some();
         let part = match logged.operation {
             LogOperation::Ld { .. } if !is_known => continue,
-            LogOperation::Sw { .. } if !is_known => Part::Store,
+            LogOperation::Sw { .. } if !is_known => Part::SwapStore,
             _ => Part::Whole,
         };
         kept.push(Kept { index, part })?;

@@ -2,6 +2,7 @@
 //!
 //! The call that meets it answers OutOfMemory, and the next call the ordinary answer.
 
+use super::EFFORT;
 use super::judges::Needing;
 use log_search::{Found, Search, reduce};
 use log_selections::{Kept, KnownLog};
@@ -23,7 +24,7 @@ fn known_log(alloc: Global) -> Result<KnownLog, OutOfMemory> {
 
 /// What is kept that is found first, if anything is.
 fn first_found(alloc: Global, known: &KnownLog) -> Result<Option<Vec<Vec<Kept>>>, OutOfMemory> {
-    match Search::new(alloc, known)?.next(alloc)? {
+    match Search::new(alloc, known, EFFORT)?.next(alloc)? {
         Found::Proposal(kept) => Ok(Some(kept)),
         Found::End | Found::BudgetEnd => Ok(None),
     }

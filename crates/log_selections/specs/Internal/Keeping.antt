@@ -1,4 +1,4 @@
--- The numbers in the log of what a piece keeps.
+-- The numbers in the log of what a selection keeps.
 use Rattle.std.specs.Prelude.{◌≡◌, ℕ, List, [], ◌∷◌, ◌++◌}
 use Rattle.tso_ops.specs.declared.ops.Outcome.{Outcome}
 use Rattle.log_selections.specs.Cuts.{IsCutFrom}

@@ -42,6 +42,7 @@ pub(crate) fn log_named<
 {
     let options = LogOptions {
         most: request.options.most,
+        effort: request.options.effort,
         form: form_of(request.options.form),
     };
     match request.file {

@@ -32,7 +32,7 @@ const TRACE: &str = "tso trace 2\nproc\nst 0 1\nst 1 2\nproc\nld 1 2\nld 0 0\nen
 /// Two loads of what nothing wrote.
 const UNWRITTEN: &str = "0 ld 1 9\n0 st 2 5\n0 ld 2 9\n";
 
-const CASES: [Case; 7] = [
+const CASES: [Case; 8] = [
     (&["log"], MESSAGE_PASSING, 3, REPORT, ""),
     (&["log", "--trace", "-"], MESSAGE_PASSING, 3, TRACE, ""),
     (
@@ -69,6 +69,14 @@ const CASES: [Case; 7] = [
         "0 mb\n0 ld 1\n",
         2,
         "REFUSED BadLine line 2\n",
+        "",
+    ),
+    // nothing may be searched
+    (
+        &["log", "--effort", "0"],
+        MESSAGE_PASSING,
+        1,
+        "TSO LOG 1\nprocessors 2 operations 4 loads 2 unknown 0\nNO VIOLATION FOUND\nSEARCH ENDED EARLY\n",
         "",
     ),
 ];
@@ -116,6 +124,7 @@ fn logged_into<H: Threads + Wait + Sync + AllocGlobal>(
         file: None,
         options: LogOptions {
             most: 1,
+            effort: 100,
             form: LogForm::Lines,
         },
     });

@@ -203,6 +203,7 @@ const LOGGED: &str = "TSO LOG 1\nprocessors 2 operations 2 loads 1 unknown 0\nNO
 fn logging(rt: HostRuntime) -> Result<(), Fail> {
     let options = LogOptions {
         most: 10,
+        effort: 100,
         form: LogForm::Lines,
     };
     let named = Request::Log(LogRequest {

@@ -1,20 +1,20 @@
 use Rattle.clap.specs.Words.{found_of, rows_of}
-use Rattle.command_line.specs.Requests.{HasDrainTurns, HasLogViolations, HasUnitRanges, HasWorkers}
+use Rattle.command_line.specs.Requests.{HasDrainTurns, HasLogRanges, HasUnitRanges, HasWorkers}
 use Rattle.command_line.proofs.FoundLemmas.{of_log, of_replay, of_request, of_run}
 use Rattle.command_line.proofs.subcommands.Subcommand.request.Goals as goal
 
 pub returns-in-Log-clause-workers : goal.returns-in-Log-clause-workers
-returns-in-Log-clause-workers c = of_request HasWorkers _ (of_log HasWorkers tt (λ file options some most. tt) (rows_of (found_of c.args.matches.now))) _ c.log.ensures
+returns-in-Log-clause-workers c = of_request HasWorkers _ (of_log HasWorkers tt (λ file options some most effort. tt) (rows_of (found_of c.args.matches.now))) _ c.log.ensures
 
 pub returns-in-Log-clause-unit : goal.returns-in-Log-clause-unit
-returns-in-Log-clause-unit c = of_request HasUnitRanges _ (of_log HasUnitRanges tt (λ file options some most. tt) (rows_of (found_of c.args.matches.now))) _ c.log.ensures
+returns-in-Log-clause-unit c = of_request HasUnitRanges _ (of_log HasUnitRanges tt (λ file options some most effort. tt) (rows_of (found_of c.args.matches.now))) _ c.log.ensures
 
 pub returns-in-Log-clause-turns : goal.returns-in-Log-clause-turns
-returns-in-Log-clause-turns c = of_request HasDrainTurns _ (of_log HasDrainTurns tt (λ file options some most. tt) (rows_of (found_of c.args.matches.now))) _ c.log.ensures
+returns-in-Log-clause-turns c = of_request HasDrainTurns _ (of_log HasDrainTurns tt (λ file options some most effort. tt) (rows_of (found_of c.args.matches.now))) _ c.log.ensures
 
-pub returns-in-Log-clause-violations : goal.returns-in-Log-clause-violations
-returns-in-Log-clause-violations c =
-    of_request HasLogViolations _ (of_log HasLogViolations tt (λ file options some most. (some, most)) (rows_of (found_of c.args.matches.now))) _ c.log.ensures
+pub returns-in-Log-clause-log : goal.returns-in-Log-clause-log
+returns-in-Log-clause-log c =
+    of_request HasLogRanges _ (of_log HasLogRanges tt (λ file options some most effort. (some, most, effort)) (rows_of (found_of c.args.matches.now))) _ c.log.ensures
 
 pub returns-in-Log-clause-asked : goal.returns-in-Log-clause-asked
 returns-in-Log-clause-asked c = rw c.in-Log.is c.log.ensures

@@ -28,6 +28,6 @@ returns c =
       here = here;
       unwritten = unwritten;
       count = c.len.ensures ∙ sym c.deref-3.ensures.len ∙ ap length (c.deref-3.ensures.value ∙ stores);
-      first = subst (λ xs. IsFirst xs c.first_of.result) (c.deref-3.ensures.value ∙ stores) c.first_of.ensures;
-      last = subst (λ xs. IsLast xs c.last_of.result) (c.deref-4.ensures.value ∙ stores) c.last_of.ensures;
+      first = subst (λ xs. IsFirst xs c.first_store.result) (c.deref-3.ensures.value ∙ stores) c.first_store.ensures;
+      last = subst (λ xs. IsLast xs c.last_store.result) (c.deref-4.ensures.value ∙ stores) c.last_store.ensures;
     }

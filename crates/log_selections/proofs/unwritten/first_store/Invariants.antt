@@ -1,6 +1,6 @@
 use Rattle.std.proofs.Common.{◌≤◌, take}
 use Rattle.std.specs.List.{All, Contains}
-use Rattle.log_selections.proofs.unwritten.first_of.Given as goal
+use Rattle.log_selections.proofs.unwritten.first_store.Given as goal
 
 abbrev pub invariant-loop-store : goal.invariant-loop-store
 invariant-loop-store l = Contains l.fn.stores l.first × All (λ other. l.first.line ≤ other.line) (take l.store-index l.fn.stores)

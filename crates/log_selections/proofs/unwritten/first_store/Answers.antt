@@ -1,6 +1,6 @@
 use Rattle.std.proofs.Common.{arith, ◌≤◌}
 use Rattle.log_selections.proofs.StoreFacts.{extreme_all, extreme_step}
-use Rattle.log_selections.proofs.unwritten.first_of.Goals as goal
+use Rattle.log_selections.proofs.unwritten.first_store.Goals as goal
 
 pub loop-store-preserved : goal.loop-store-preserved
 loop-store-preserved c =
