@@ -16,11 +16,16 @@ _tsobench() {
     done
     case $command/$before in
         judge/--workers) ;;
+        judge/--nth) ;;
         explain/--workers) ;;
+        explain/--nth) ;;
         draw/--workers) ;;
+        draw/--nth) ;;
         batch/--workers) ;;
+        batch/--format) words='words json junit' ;;
         log/--most) ;;
         log/--effort) ;;
+        check/--nth) ;;
         replay/--unit) words='serial buffer partial newest-first no-forward stale-load torn-swap idle-membar lost-drain' ;;
         replay/--capacity) ;;
         replay/--trigger) ;;
@@ -40,6 +45,7 @@ _tsobench() {
         campaign/--capacity) ;;
         campaign/--trigger) ;;
         campaign/--workers) ;;
+        campaign/--drain-turns) ;;
         campaign/--model) words='tso pso' ;;
         campaign/--first) ;;
         campaign/--count) ;;
@@ -47,16 +53,16 @@ _tsobench() {
         campaign/--ops) ;;
         campaign/--addrs) ;;
         /*) words='judge explain draw batch log check replay run make campaign help -h --help -V --version' ;;
-        judge/*) words='--workers -h --help' files=yes ;;
-        explain/*) words='--workers -h --help' files=yes ;;
-        draw/*) words='--workers -h --help' files=yes ;;
-        batch/*) words='--workers --quiet -h --help' files=yes ;;
+        judge/*) words='--workers --nth -h --help' files=yes ;;
+        explain/*) words='--workers --nth -h --help' files=yes ;;
+        draw/*) words='--workers --nth -h --help' files=yes ;;
+        batch/*) words='--workers --format --quiet --violations -h --help' files=yes ;;
         log/*) words='--most --effort --trace --explain -h --help' files=yes ;;
-        check/*) words='-h --help' files=yes ;;
-        replay/*) words='--unit --capacity --trigger --workers --trace --explain -h --help' files=yes ;;
-        run/*) words='--unit --capacity --trigger --workers --trace --explain --seed --drain-turns -h --help' files=yes ;;
-        make/*) words='--model --seed --procs --ops --addrs -h --help' ;;
-        campaign/*) words='--unit --capacity --trigger --workers --model --first --count --procs --ops --addrs -h --help' ;;
+        check/*) words='--nth -h --help' files=yes ;;
+        replay/*) words='--unit --capacity --trigger --workers --trace --explain --with-trace -h --help' files=yes ;;
+        run/*) words='--unit --capacity --trigger --workers --trace --explain --with-trace --seed --drain-turns -h --help' files=yes ;;
+        make/*) words='--schedule --model --seed --procs --ops --addrs -h --help' ;;
+        campaign/*) words='--unit --capacity --trigger --workers --replay --drain-turns --trace --model --first --count --procs --ops --addrs -h --help' ;;
         help/*) words='judge explain draw batch log check replay run make campaign' ;;
     esac
     if [[ -n $files && $word != -* ]]; then

@@ -1,68 +1,73 @@
 -- What the values found for an argument stand for.
-use Rattle.std.proofs.Common.{◌≡◌, ◌∙◌, ◌≤◌, ◌^◌, ◌-◌, ap, refl, sym, arith, ℕ, Bool, true, false, Option, Some, None, Result, Ok, Err, unwrap_or, option_map, codes, if◌then◌else◌, List, IfOk, subst}
+use Rattle.std.proofs.Common.{◌≡◌, ◌∙◌, ◌+◌, ◌≤◌, ◌^◌, ◌-◌, ap, ap₂, cond, length, refl, sym, arith, ℕ, Bool, true, false, Option, Some, None, Result, Ok, Err, unwrap_or, map, option_map, codes, if◌then◌else◌, List, [], ◌∷◌, IfOk, subst}
+use Rattle.std.specs.Prelude.{count_by, is_none, nat_le}
+use Rattle.std.proofs.lemmas.Bool.{leb-true}
+use Rattle.std.proofs.lemmas.List.Sums.{sum_by-cons}
 use Rattle.std.specs.Borrow.{Bor}
 use Rattle.std.specs.Option.{option_map_or}
 use Rattle.std.specs.Str.{bytes_eq}
 use Rattle.std.proofs.lemmas.Slice.Eq.{bytes_eq-Decides}
 use Rattle.std.specs.Str.Parse.{ParsesBool, ParsesUnsigned, digits_value, without_leading_plus}
 use Rattle.clap.specs.ValueTests.{is_unsigned_in}
-use Rattle.clap.specs.Words.{ReadsOne, Row, first_of, first_value, one_of, one_text, rows_of}
+use Rattle.clap.specs.Words.{ReadsOne, Row, all_of, first_of, first_value, one_of, one_text, rows_of}
 use Rattle.clap.specs.declared.parser.matches.Found.{Found}
 use Rattle.clap.specs.declared.builder.value_parser.ValueParser.TheVariants as parser
 use Rattle.clap.proofs.ValueTestLemmas.{accepts-Accepts, Accepts-accepts}
 use Rattle.clap.proofs.WalkLemmas.{first_value-rows, one_text-rows}
+use Rattle.command_line.specs.Offered.{several_in}
+use Rattle.command_line.specs.declared.options.BatchPrinting.{BatchPrinting}
 use Rattle.command_line.specs.declared.options.LogForm.{LogForm}
 use Rattle.command_line.specs.declared.options.LogOptions.{LogOptions}
 use Rattle.command_line.specs.declared.options.RunOptions.{RunOptions}
 use Rattle.command_line.specs.declared.options.UnitOptions.{UnitOptions}
-use Rattle.command_line.specs.Requests.{Text, Asked, asked_of, capacity_limit, drain_turns_limit, log_effort_limit, log_violation_limit, logging, number_limit, refusing, replaying, running, worker_limit}
+use Rattle.command_line.specs.Requests.{Asked, Text, asked_of, batching, capacity_limit, checking, drain_turns_limit, log_effort_limit, log_violation_limit, logging, number_limit, refusing, replaying, running, worker_limit}
 use Rattle.command_line.specs.declared.options.Printing.{Printing}
 use Rattle.command_line.specs.declared.requests.Request.{Request}
-use Rattle.command_line.specs.Subcommands.{file_of, is_true, log, log_form_of, log_options_in, log_options_of, log_parameters, number_or, pair_of, printing_of, replay, run, run_of, run_parameters, unit_of, within, workers_of}
+use Rattle.command_line.specs.Subcommands.{batch, batch_printing_of, batch_texts, check, file_of, is_true, log, log_form_of, log_options_in, log_options_of, log_parameters, number_of, number_or, pair_of, printing_of, replay, run, run_of, run_parameters, unit_of, within, workers_of}
 use Rattle.command_line.specs.Commands.{asked_in, given_in}
 
--- the file that a value names which was asked for by its id, by whether it is a hyphen
+-- the file that a value names which was asked for by its id
 module _ (f : Found) (id : Text) (got : Option (Bor Text)) (found : option_map (λ s. s.now) got ≡ first_value f id) where
-  pub file_found : (text : Bor Text) → got ≡ Some text → (is_hyphen : Bool) → is_hyphen ≡ bytes_eq text.now (codes "-")
-      → (if is_hyphen then None else Some text.now) ≡ file_of (first_of id (rows_of f))
-  file_found text is is_hyphen tells =
-      ap (λ b. if b then None else Some text.now) tells ∙ ap file_of (sym (ap (option_map (λ s. s.now)) is) ∙ found ∙ first_value-rows f id)
+  pub file_found : (text : Bor Text) → got ≡ Some text → file_of (Some text.now) ≡ file_of (first_of id (rows_of f))
+  file_found text is = ap file_of (sym (ap (option_map (λ s. s.now)) is) ∙ found ∙ first_value-rows f id)
 
   pub no_file_found : got ≡ None → None ≡ file_of (first_of id (rows_of f))
   no_file_found is = ap file_of (sym (ap (option_map (λ s. s.now)) is) ∙ found ∙ first_value-rows f id)
 
--- the number that a text spells, and `default` where it spells none
-abbrev number_in : ℕ → Text → ℕ
-number_in default text = if is_unsigned_in 0 number_limit text then digits_value 10 (without_leading_plus text) else default
+-- the number that a text spells, if it spells one
+abbrev number_in : Text → Option ℕ
+number_in text = if is_unsigned_in 0 number_limit text then Some (digits_value 10 (without_leading_plus text)) else None
 
-module _ (other : ℕ) where
-  unwrap_or-number : {E : Type 0} (gives : Text → Result ℕ E → Type 0) (t : Text) (r : Option ℕ)
-      → ((x : Result ℕ E) → gives t x → ParsesUnsigned 64 10 t x) → ReadsOne gives t r → unwrap_or r other ≡ number_in other t
-  unwrap_or-number gives t (Some v) parses read =
-      let parsed = parses (Ok v) read in
-      let most : digits_value 10 (without_leading_plus t) ≤ 2 ^ 64 - 1 = omega (arith, parsed.0.1) in
-      let passes = Accepts-accepts false (parser.Unsigned 0 (2 ^ 64 - 1)) t (parsed.0.0, parsed.0.1, omega arith, most) in
-      rw passes parsed.1
-  unwrap_or-number gives t None parses read = go (is_unsigned_in 0 (2 ^ 64 - 1) t) refl
-    where
-      go : (b : Bool) → is_unsigned_in 0 (2 ^ 64 - 1) t ≡ b → other ≡ number_in other t
-      go true e =
-          let passes = accepts-Accepts false (parser.Unsigned 0 (2 ^ 64 - 1)) t e in
-          absurd (parses (Err read.0) read.1 (passes.0, passes.1))
-      go false e = rw e refl
+read_in : {E : Type 0} (gives : Text → Result ℕ E → Type 0) (t : Text) (r : Option ℕ)
+    → ((x : Result ℕ E) → gives t x → ParsesUnsigned 64 10 t x) → ReadsOne gives t r → r ≡ number_in t
+read_in gives t (Some v) parses read =
+    let parsed = parses (Ok v) read in
+    let most : digits_value 10 (without_leading_plus t) ≤ 2 ^ 64 - 1 = omega (arith, parsed.0.1) in
+    let passes = Accepts-accepts false (parser.Unsigned 0 (2 ^ 64 - 1)) t (parsed.0.0, parsed.0.1, omega arith, most) in
+    rw passes (ap Some parsed.1)
+read_in gives t None parses read = go (is_unsigned_in 0 (2 ^ 64 - 1) t) refl
+  where
+    go : (b : Bool) → is_unsigned_in 0 (2 ^ 64 - 1) t ≡ b → None ≡ number_in t
+    go true e =
+        let passes = accepts-Accepts false (parser.Unsigned 0 (2 ^ 64 - 1)) t e in
+        absurd (parses (Err read.0) read.1 (passes.0, passes.1))
+    go false e = rw e refl
 
-  -- the number that was asked for, `other` where there is none
-  read_or : {E : Type 0} (gives : Text → Result ℕ E → Type 0) (found : Option Text) (r : Option ℕ)
-      → ((t : Text) (x : Result ℕ E) → gives t x → ParsesUnsigned 64 10 t x)
-      → (found ≡ None → r ≡ None) → ((t : Text) → found ≡ Some t → ReadsOne gives t r) → unwrap_or r other ≡ option_map_or (number_in other) found other
-  read_or gives None r parses none some = ap (λ o. unwrap_or o other) (none refl)
-  read_or gives (Some t) r parses none some = unwrap_or-number gives t r (parses t) (some t refl)
+-- the number that was asked for, if there is one
+read_of : {E : Type 0} (gives : Text → Result ℕ E → Type 0) (found : Option Text) (r : Option ℕ)
+    → ((t : Text) (x : Result ℕ E) → gives t x → ParsesUnsigned 64 10 t x)
+    → (found ≡ None → r ≡ None) → ((t : Text) → found ≡ Some t → ReadsOne gives t r) → r ≡ number_of found
+read_of gives None r parses none some = none refl
+read_of gives (Some t) r parses none some = read_in gives t r (parses t) (some t refl)
 
-  pub number_found : {E : Type 0} (gives : Text → Result ℕ E → Type 0) (f : Found) (name : Text) (r : Option ℕ)
-      → ((t : Text) (x : Result ℕ E) → gives t x → ParsesUnsigned 64 10 t x)
-      → (one_text f name ≡ None → r ≡ None) → ((t : Text) → one_text f name ≡ Some t → ReadsOne gives t r) → unwrap_or r other ≡ number_or other (one_of name (rows_of f))
-  number_found gives f name r parses none some =
-      read_or gives (one_text f name) r parses none some ∙ ap (λ o. option_map_or (number_in other) o other) (one_text-rows f name)
+module _ {E : Type 0} (gives : Text → Result ℕ E → Type 0) (f : Found) (name : Text) (r : Option ℕ) (parses : (t : Text) (x : Result ℕ E) → gives t x → ParsesUnsigned 64 10 t x)
+    (none : one_text f name ≡ None → r ≡ None) (some : (t : Text) → one_text f name ≡ Some t → ReadsOne gives t r) where
+  pub number_read : r ≡ number_of (one_of name (rows_of f))
+  number_read = read_of gives (one_text f name) r parses none some ∙ ap number_of (one_text-rows f name)
+
+  -- `other` where there is none
+  pub number_found : (other : ℕ) → unwrap_or r other ≡ number_or other (one_of name (rows_of f))
+  number_found other = ap (λ o. unwrap_or o other) number_read
 
 reads_true : (t : Text) (b : Bool) → (t ≡ codes "true" → ⊥) → bytes_eq t (codes "true") ≡ b → false ≡ b
 reads_true t false other e = refl
@@ -84,10 +89,10 @@ pub flag_found : (E : Type 0) (f : Found) (name : Text) (r : Option Bool) → (o
 flag_found E f name r none some =
     flag_or_false E (one_text f name) r none some ∙ ap (λ o. option_map_or (λ text. bytes_eq text (codes "true")) o false) (one_text-rows f name)
 
-pub run_options_found : (given : Text → Option Text) (unit : UnitOptions) (workers : ℕ) (printing : Option Printing) → unit ≡ unit_of given → workers ≡ workers_of given
-    → printing ≡ printing_of (is_true (given (codes "trace"))) (is_true (given (codes "explain")))
-    → option_map (λ (p : Printing). record { unit = unit; workers = workers; printing = p }) printing ≡ run_of given
-run_options_found given unit workers printing unit_is workers_are printing_is = rw (unit_is, workers_are, printing_is) refl
+pub run_options_found : (given : Text → Option Text) (unit : UnitOptions) (workers : ℕ) (printing : Option Printing) (with_trace : Bool) → unit ≡ unit_of given → workers ≡ workers_of given
+    → printing ≡ printing_of (is_true (given (codes "trace"))) (is_true (given (codes "explain"))) → with_trace ≡ is_true (given (codes "with-trace"))
+    → option_map (λ (p : Printing). record { unit = unit; workers = workers; printing = p; with_trace = with_trace }) printing ≡ run_of given
+run_options_found given unit workers printing with_trace unit_is workers_are printing_is with_trace_is = rw (unit_is, workers_are, printing_is, with_trace_is) refl
 
 -- what is shown of a log, by its form
 pub log_options_found : (given : Text → Option Text) (most effort : ℕ) (form : Option LogForm) → most ≡ within 1 log_violation_limit (number_or 10 (given (codes "most")))
@@ -95,6 +100,44 @@ pub log_options_found : (given : Text → Option Text) (most effort : ℕ) (form
     → form ≡ log_form_of (is_true (given (codes "trace"))) (is_true (given (codes "explain")))
     → option_map (λ (f : LogForm). record { most = most; effort = effort; form = f }) form ≡ log_options_of given
 log_options_found given most effort form most_is effort_is form_is = rw (most_is, effort_is, form_is) refl
+
+-- what `check` asks for with these texts, where there are any, and this number
+pub check_asked : (rows : List Row) (texts : Option (Option Text × Option Text)) → texts ≡ pair_of (file_of (first_of (codes "trace") rows)) (file_of (first_of (codes "cert") rows)) → (nth : Option ℕ)
+    → nth ≡ number_of (one_of (codes "nth") rows) → option_map_or (λ t. checking t.0 t.1 nth) texts refusing ≡ asked_in check rows
+check_asked rows texts texts_are nth nth_is = rw (texts_are, nth_is) refl
+
+-- the texts that arguments name, by those behind references
+now_count : (texts : List (Option (Bor Text))) → count_by is_none (map (option_map (λ (f : Bor Text). f.now)) texts) ≡ count_by is_none texts
+now_count [] = refl
+now_count (text ∷ texts) =
+    sum_by-cons (λ t. cond (is_none t) 1 0) (option_map (λ (f : Bor Text). f.now) text) (map (option_map (λ (f : Bor Text). f.now)) texts)
+    ∙ ap₂ (λ m n. m + n) (one text) (now_count texts) ∙ sym (sum_by-cons (λ t. cond (is_none t) 1 0) text texts)
+  where
+    one : (t : Option (Bor Text)) → ◌≡◌ {A = ℕ} (cond (is_none (option_map (λ (f : Bor Text). f.now) t)) 1 0) (cond (is_none t) 1 0)
+    one None = refl
+    one (Some f) = refl
+
+named_each : (names : List (Bor Text)) → map (λ (name : Bor Text). file_of (Some name.now)) names ≡ map (λ name. file_of (Some name)) (map (λ (name : Bor Text). name.now) names)
+named_each [] = refl
+named_each (name ∷ names) = ap (λ texts. file_of (Some name.now) ∷ texts) (named_each names)
+
+pub several_found : (names : List (Bor Text)) (texts : List (Option (Bor Text))) → (length names ≡ 0 → ⊥) → map (option_map (λ (f : Bor Text). f.now)) texts ≡ map (λ (name : Bor Text). file_of (Some name.now)) names
+    → (few : Bool) → nat_le (count_by is_none texts) 1 ≡ few → (if few then Some (map (option_map (λ (f : Bor Text). f.now)) texts) else None) ≡ batch_texts (map (λ (name : Bor Text). name.now) names)
+several_found [] texts some are few is = absurd (some refl)
+several_found (name ∷ names) texts some are few is =
+    let all = map (option_map (λ (f : Bor Text). f.now)) texts in
+    ap (λ b. if b then Some all else None) (sym is ∙ ap (λ n. nat_le n 1) (sym (now_count texts)))
+    ∙ ap (λ (ts : List (Option Text)). if nat_le (count_by is_none ts) 1 then Some ts else None) (are ∙ named_each (name ∷ names))
+
+pub none_found : (names : List (Bor Text)) (texts : List (Option (Bor Text))) → length names ≡ 0 → texts ≡ None ∷ [] → Some (map (option_map (λ (f : Bor Text). f.now)) texts) ≡ batch_texts (map (λ (name : Bor Text). name.now) names)
+none_found [] texts none are = rw are refl
+none_found (name ∷ names) texts none are = absurd (omega (arith, none))
+
+-- what `batch` asks for with these texts, where there are any
+pub batch_asked : (rows : List Row) (names : List Text) (texts : Option (List (Option Text))) → names ≡ unwrap_or (all_of (codes "file") rows) [] → texts ≡ batch_texts names → (workers : ℕ) (printing : BatchPrinting)
+    → workers ≡ workers_of (given_in batch.parameters rows) → printing ≡ batch_printing_of (given_in batch.parameters rows)
+    → option_map_or (λ ts. batching ts workers printing) texts refusing ≡ asked_in batch rows
+batch_asked rows names texts names_are texts_are workers printing workers_are printing_is = rw (texts_are, names_are, workers_are, printing_is) refl
 
 -- what `log` asks for with these options, where there are any, and this file
 pub log_asked : (rows : List Row) (options : Option LogOptions) → options ≡ log_options_of (given_in log_parameters rows) → (file : Option Text) → file ≡ file_of (first_of (codes "file") rows)
@@ -119,7 +162,7 @@ module _ (P : Asked → Type 0) (refused : P refusing) where
   of_options ask given asked = go (printing_of (is_true (given (codes "trace"))) (is_true (given (codes "explain"))))
     where
       options : Printing → RunOptions
-      options printing = record { unit = unit_of given; workers = workers_of given; printing = printing }
+      options printing = record { unit = unit_of given; workers = workers_of given; printing = printing; with_trace = is_true (given (codes "with-trace")) }
 
       go : (printing : Option Printing) → P (option_map_or ask (option_map options printing) refusing)
       go None = refused
@@ -151,6 +194,23 @@ module _ (P : Asked → Type 0) (refused : P refusing) where
       go : (form : Option LogForm) → P (option_map_or (logging file) (option_map options form) refusing)
       go None = refused
       go (Some form) = asked file (options form) (omega arith) (omega arith) (omega arith)
+
+  pub of_batch : ((texts : List (Option Text)) (workers : ℕ) (printing : BatchPrinting) → 1 ≤ workers → workers ≤ worker_limit → count_by is_none texts ≤ 1 → P (batching texts workers printing)) → (rows : List Row) → P (asked_in batch rows)
+  of_batch asked rows = of_texts (several_in rows batch.parameters)
+    where
+      workers : ℕ
+      workers = workers_of (given_in batch.parameters rows)
+
+      printing : BatchPrinting
+      printing = batch_printing_of (given_in batch.parameters rows)
+
+      few_or_none : (texts : List (Option Text)) (b : Bool) → nat_le (count_by is_none texts) 1 ≡ b → P (option_map_or (λ ts. batching ts workers printing) (if b then Some texts else None) refusing)
+      few_or_none texts true e = asked texts workers printing (omega arith) (omega arith) (leb-true _ _ e)
+      few_or_none texts false e = refused
+
+      of_texts : (files : List Text) → P (option_map_or (λ ts. batching ts workers printing) (batch_texts files) refusing)
+      of_texts [] = asked (None ∷ []) workers printing (omega arith) (omega arith) (omega arith)
+      of_texts (file ∷ files) = few_or_none (map (λ name. file_of (Some name)) (file ∷ files)) _ refl
 
 pub of_request : {E : Type 0} (P : Asked → Type 0) (asked : Asked) → P asked → (result : Result Request E) → IfOk result (λ request. asked_of request ≡ asked) → IfOk result (λ request. P (asked_of request))
 of_request P asked has (Ok request) is = subst P (sym is) has

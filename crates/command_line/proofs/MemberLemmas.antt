@@ -114,7 +114,7 @@ module _ (names : OptionNames) where
     asked_by_name rows =
         let found : find (λ d. bytes_eq d.name c.name) subcommands ≡ Some c =
         each_same (λ e. find (λ d. bytes_eq d.name e.name) subcommands) (λ e. Some e) subcommands refl c among in
-        ap (λ o. option_map_or (λ d. asked_in d rows) o (judging Report None 1)) found
+        ap (λ o. option_map_or (λ d. asked_in d rows) o (judging Report None 1 None)) found
 
     pub offers : Offers (memory_of names) (shape c) c.parameters
     offers = record {

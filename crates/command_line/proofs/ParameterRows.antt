@@ -1,9 +1,9 @@
 -- What the rows of a parse say of the parameters with which it was offered: their texts, and what they lack; and which values and defaults these take.
-use Rattle.std.proofs.Common.{◌≡◌, ◌∙◌, ap, ap₂, arith, refl, subst, sym, zero, suc, ℕ, Bool, true, false, not, ◌&&◌, ◌||◌, List, [], ◌∷◌, ◌++◌, Option, Some, None, codes, map, is_some}
+use Rattle.std.proofs.Common.{◌≡◌, ◌∙◌, ap, ap₂, arith, refl, subst, sym, zero, suc, ℕ, Bool, true, false, not, ◌&&◌, ◌||◌, List, [], ◌∷◌, ◌++◌, Option, Some, None, codes, map, is_some, unwrap_or}
 use Rattle.std.specs.Prelude.{if◌then◌else◌, option_and_then, slice_get}
 use Rattle.std.specs.Borrow.{Bor}
 use Rattle.std.specs.List.{AllByRecursion, Any, find, list_all, list_any}
-use Rattle.std.specs.Option.{option_map_or, option_or}
+use Rattle.std.specs.Option.{option_map, option_map_or, option_or}
 use Rattle.std.specs.Str.{bytes_eq}
 use Rattle.std.proofs.lemmas.Bool.{and_parts}
 use Rattle.clap.specs.Facts.{explicit_source}
@@ -16,9 +16,9 @@ use Rattle.clap.specs.Values.{reading_of, refused_kind}
 use Rattle.clap.specs.Walk.{Row, Rule, Text, is_empty, row_text}
 use Rattle.clap.specs.declared.builder.value_parser.Reading.TheVariants.{AsWritten}
 use Rattle.clap.proofs.WalkLemmas.{list_any-map}
-use Rattle.command_line.specs.Offered.{itself, text_in}
-use Rattle.command_line.specs.Parameters.{Parameter, Values, listed, offered_rule, option, parser_of, range, takes, takes_default}
-use Rattle.command_line.specs.Spelled.{OptionTakes, are_whole, texts_given}
+use Rattle.command_line.specs.Offered.{itself, several_in, text_in}
+use Rattle.command_line.specs.Parameters.{Parameter, Values, listed, offered_rule, parser_of, range, takes, takes_default, valued}
+use Rattle.command_line.specs.Spelled.{OptionTakes, are_whole, several_given, texts_given}
 use Rattle.command_line.proofs.Rows.{DefaultsPass, has_id}
 use Rattle.command_line.proofs.Uses.{IsOptionRow}
 
@@ -41,14 +41,14 @@ module _ {N : Type 0} (memory : N → Bor (List (Bor Text))) where
   module _ (rows : List Row) (options : List (Text × Text)) (flags : List Text) where
     -- ---- the texts
 
-    pub option_text : (i : ℕ) (id : Text) (values : Values N) (default value : Option Text) → IsOptionRow value (itself (rule_at i (option id values default))).2 (find (has_id id) rows)
-        → text_in rows (option id values default) ≡ option_or value default
-    option_text i id (range least most) None None row = ap (option_and_then row_text) row
-    option_text i id (range least most) (Some text) None row = ap (option_and_then row_text) row
-    option_text i id (range least most) default (Some value) row = ap (option_and_then row_text) row.1 ∙ row.2
-    option_text i id (listed n) None None row = ap (option_and_then (λ r. slice_get r.values 0)) row
-    option_text i id (listed n) (Some text) None row = ap (option_and_then (λ r. slice_get r.values 0)) row
-    option_text i id (listed n) default (Some value) row = ap (option_and_then (λ r. slice_get r.values 0)) row.1 ∙ row.3
+    pub option_text : (i : ℕ) (id : Text) (values : Values N) (default : Option Text) (required : Bool) (value : Option Text)
+        → IsOptionRow value (itself (rule_at i (valued id values default required))).2 (find (has_id id) rows) → text_in rows (valued id values default required) ≡ option_or value default
+    option_text i id (range least most) None required None row = ap (option_and_then row_text) row
+    option_text i id (range least most) (Some text) required None row = ap (option_and_then row_text) row
+    option_text i id (range least most) default required (Some value) row = ap (option_and_then row_text) row.1 ∙ row.2
+    option_text i id (listed n) None required None row = ap (option_and_then (λ r. slice_get r.values 0)) row
+    option_text i id (listed n) (Some text) required None row = ap (option_and_then (λ r. slice_get r.values 0)) row
+    option_text i id (listed n) default required (Some value) row = ap (option_and_then (λ r. slice_get r.values 0)) row.1 ∙ row.3
 
     -- ---- what is required
 
@@ -58,11 +58,18 @@ module _ {N : Type 0} (memory : N → Bor (List (Bor Text))) where
     abbrev pub given_in : Option Row → Bool
     given_in found = option_map_or (λ r. explicit_source r.source) found false
 
-    pub option_lacks : (i : ℕ) (id : Text) (values : Values N) (default value : Option Text) → IsOptionRow value (itself (rule_at i (option id values default))).2 (find (has_id id) rows)
-        → lacks (rule_at i (option id values default)) ≡ not (is_some default || is_some value)
-    option_lacks i id values (Some text) value row = refl
-    option_lacks i id values None None row = ap (λ found. not (given_in found)) row
-    option_lacks i id values None (Some value) row = ap (λ found. not (given_in found)) row.1 ∙ ap not row.4
+    pub option_lacks : (i : ℕ) (id : Text) (values : Values N) (default : Option Text) (required : Bool) (value : Option Text)
+        → IsOptionRow value (itself (rule_at i (valued id values default required))).2 (find (has_id id) rows)
+        → lacks (rule_at i (valued id values default required)) ≡ not (not required || is_some value)
+    option_lacks i id values default false value row = refl
+    option_lacks i id values None true None row = ap (λ found. not (given_in found)) row
+    option_lacks i id values (Some text) true None row = ap (λ found. not (given_in found)) row
+    option_lacks i id values default true (Some value) row = ap (λ found. not (given_in found)) row.1 ∙ ap not row.4
+
+    pub several_text : (rows_of_id : Option Row) (texts : List Text) → unwrap_or (option_map (λ (r : Row). r.values) rows_of_id) [] ≡ texts
+        → option_and_then (λ (r : Row). slice_get r.values 0) rows_of_id ≡ slice_get texts 0
+    several_text None texts are = ap (λ ts. slice_get ts 0) are
+    several_text (Some r) texts are = ap (λ ts. slice_get ts 0) are
 
     pub other_lacks : (required : Bool) → (required && true) ≡ not (not required)
     other_lacks true = refl
@@ -80,13 +87,15 @@ module _ {N : Type 0} (memory : N → Bor (List (Bor Text))) where
     pub record Outcome (i : ℕ) (ps : List (Parameter N)) (others : List Text) : Type 0 where
       pub texts : map (text_in rows) ps ≡ texts_given options flags others ps
       pub required : list_any lacks (leaf_rules i ps) ≡ not (are_whole options others ps)
+      pub several : several_in rows ps ≡ several_given others ps
 
     pub one_more : (i : ℕ) (p : Parameter N) (ps : List (Parameter N)) (others later : List Text) (text : Option Text) (whole : Bool) → text_in rows p ≡ text → lacks (rule_at i p) ≡ not whole
         → texts_given options flags others (p ∷ ps) ≡ text ∷ texts_given options flags later ps → are_whole options others (p ∷ ps) ≡ (whole && are_whole options later ps)
-        → Outcome (next i p) ps later → Outcome i (p ∷ ps) others
-    one_more i p ps others later text whole is lack given_is whole_is rest = record {
+        → (several_in rows ps ≡ several_given later ps → several_in rows (p ∷ ps) ≡ several_given others (p ∷ ps)) → Outcome (next i p) ps later → Outcome i (p ∷ ps) others
+    one_more i p ps others later text whole is lack given_is whole_is more rest = record {
       texts = ap₂ (λ x xs. x ∷ xs) is rest.texts ∙ sym given_is;
       required = ap₂ (λ a b. a || b) lack rest.required ∙ de_morgan whole (are_whole options later ps) ∙ ap not (sym whole_is);
+      several = more rest.several;
     }
 
   -- ---- values and defaults
@@ -135,16 +144,16 @@ module _ {N : Type 0} (memory : N → Bor (List (Bor Text))) where
     abbrev default_passes : Rule → Type 0
     default_passes a = (if is_empty a.defaults then [] else given_default_fault a a.defaults) ≡ []
 
-    option_default : (i : ℕ) (id : Text) (values : Values N) (default : Option Text) → takes_default known (option id values default) ≡ true
-        → default_passes (rule_at i (option id values default))
-    option_default i id values None passes = refl
-    option_default i id values (Some text) passes =
+    option_default : (i : ℕ) (id : Text) (values : Values N) (default : Option Text) (required : Bool) → takes_default known (valued id values default required) ≡ true
+        → default_passes (rule_at i (valued id values default required))
+    option_default i id values None required passes = refl
+    option_default i id values (Some text) required passes =
         ap (λ b. or_else (if b then [] else refused_kind (parser_of memory values) ∷ []) []) (accepts_is values text ∙ passes)
 
     pub defaults_pass : (i : ℕ) (ps : List (Parameter N)) → list_all (takes_default known) ps ≡ true
         → DefaultsPass (filled_from i (map (offered_rule memory) ps ++ help_rule ∷ []))
     defaults_pass i [] pass = (refl, tt)
-    defaults_pass i (option id values default ∷ ps) pass =
+    defaults_pass i (valued id values default required ∷ ps) pass =
         let parts = and_parts _ _ pass in
-        (option_default i id values default parts.0, defaults_pass (next i (option id values default)) ps parts.1)
+        (option_default i id values default required parts.0, defaults_pass (next i (valued id values default required)) ps parts.1)
     defaults_pass i (p ∷ ps) pass = (refl, defaults_pass (next i p) ps pass)

@@ -1,5 +1,5 @@
 -- Arguments of which an option has a value that is refused, after others that pass.
-use Rattle.std.proofs.Common.{◌≡◌, ◌∙◌, ap, refl, subst, sym, arith, ℕ, Bool, false, List, [], ◌∷◌, ◌++◌, map}
+use Rattle.std.proofs.Common.{◌≡◌, ◌∙◌, ap, refl, subst, sym, arith, ℕ, Bool, false, List, [], ◌∷◌, ◌++◌, None, find, is_some, map}
 use Rattle.std.specs.List.{AllByRecursion, IsDistinct}
 use Rattle.std.specs.Str.{bytes_eq}
 use Rattle.std.proofs.lemmas.List.{map-append}
@@ -11,7 +11,7 @@ use Rattle.clap.specs.declared.error.kind.ErrorKind.{ErrorKind}
 use Rattle.command_line.specs.Given.{AreGiven}
 use Rattle.command_line.proofs.Walks.{Flagged, IsOption, Merges, Offered, Placed, Use, gives_of, level_fault_uses, no_option, offered, used_all, uses_fault}
 use Rattle.command_line.proofs.Walks as walks
-use Rattle.command_line.proofs.Rows.{AreApart, MakesRow, no_rows, rows_made, use_row, uses_id}
+use Rattle.command_line.proofs.Rows.{EachPartable, MakesRow, any_found, each_partable, has_id, joined, joined_other, no_rows, rows_made, uses_id}
 use Rattle.command_line.proofs.Uses.{AreUses, OptionUse, OptionUses, all_other, each_as, merges_apart, merges_each, option_uses, sort_of}
 use Rattle.command_line.proofs.ValueTexts.{other_order}
 
@@ -61,10 +61,6 @@ unfolding IsDistinct
 apart_before [] ys name once = tt
 apart_before (x ∷ xs) ys name once = (other_order x name (all_parts _ xs (name ∷ ys) once.0).1.0, apart_before xs ys name once.1)
 
-no_row : (id : Text) (us : List Use) → AllByRecursion (λ u. uses_id id u ≡ false) us → has_row id (map use_row us) ≡ false
-no_row id [] other = refl
-no_row id (u ∷ us) other = rw other.0 (no_row id us other.1)
-
 both_empty : (first second : Kinds) → or_else first second ≡ [] → (first ≡ []) × (second ≡ [])
 both_empty [] second is = (refl, is)
 both_empty (k ∷ ks) second is = absurd cc
@@ -102,7 +98,7 @@ split_at (x ∷ xs) bad more whole ys zs all (walks.first u xs1 ys1 zs1 all1 res
 split_at xs bad more whole ys zs all (walks.second u xs1 ys1 zs1 all1 rest) is = split_second u bad xs ys1 zs1 all1 (split_at xs bad more xs1 ys1 zs1 all1 rest is)
 split_at xs bad more whole ys zs all (walks.third u xs1 ys1 zs1 all1 rest) is = split_third u bad xs ys1 zs1 all1 (split_at xs bad more xs1 ys1 zs1 all1 rest is)
 
-apart_first : (xs ys : List Use) → AreApart (xs ++ ys) → AreApart xs
+apart_first : (xs ys : List Use) → EachPartable (xs ++ ys) → EachPartable xs
 apart_first [] ys apart = tt
 apart_first (x ∷ xs) ys apart = ((all_parts _ xs ys apart.0).0, apart_first xs ys apart.1)
 
@@ -128,10 +124,10 @@ module _ (s : Shape) (single : s.args_override_self ≡ false) (kind : ErrorKind
   option_all = first_uses.uses ++ bad ∷ last_uses.uses
 
   module _ (ys zs before_uses after_uses : List Use) (merges : Merges first_uses.uses ys zs before_uses) (flags : AreUses s 1 ys) (others : AreUses s 2 zs) where
-    made : (used_all before_uses [] ≡ map use_row before_uses) × (uses_fault false before_uses [] ≡ [])
+    made : (uses_fault false before_uses [] ≡ []) × ((id : Text) → find (has_id id) (used_all before_uses []) ≡ joined id before_uses None)
     made = rows_made before_uses []
         (merges_each MakesRow first_uses.uses ys zs before_uses merges first_uses.make flags.make others.make)
-        (merges_apart s.rules first_uses.uses ys zs before_uses merges first_uses.sorts flags.sorts others.sorts first_uses.apart flags.apart others.apart)
+        (merges_apart s.rules first_uses.uses ys zs before_uses merges first_uses.sorts flags.sorts others.sorts (each_partable first_uses.uses first_uses.apart) flags.apart others.apart)
         (no_rows before_uses)
 
     -- none of those before has the id of the wrong one
@@ -144,8 +140,9 @@ module _ (s : Shape) (single : s.args_override_self ≡ false) (kind : ErrorKind
 
     fails_there : uses_fault false (before_uses ++ bad ∷ after_uses) [] ≡ kind ∷ []
     fails_there =
-        let there : has_row wrong.rule.id (used_all before_uses []) ≡ false = ap (has_row wrong.rule.id) made.0 ∙ no_row wrong.rule.id before_uses other_ids in
-        fault_after false before_uses (bad ∷ after_uses) [] made.1
+        let there : has_row wrong.rule.id (used_all before_uses []) ≡ false =
+        any_found (has_id wrong.rule.id) (used_all before_uses []) ∙ ap (λ found. is_some found) (made.1 wrong.rule.id ∙ joined_other wrong.rule.id before_uses None other_ids) in
+        fault_after false before_uses (bad ∷ after_uses) [] made.0
         ∙ ap (λ kinds. or_else kinds (uses_fault false after_uses (used wrong.rule (value ∷ []) (used_all before_uses [])))) (wrong.fails (used_all before_uses []) there)
 
   fails : (flag_uses other_uses all : List Use) → AreUses s 1 flag_uses → AreUses s 2 other_uses → SplitAt first_uses.uses bad flag_uses other_uses all → uses_fault false all [] ≡ kind ∷ []

@@ -36,13 +36,13 @@ none_is (Some p) none = absurd (true≢false (sym (ap (λ o. is_some o) none)))
 
 module _ (m : ArgMatches) where
   -- without a subcommand
-  pub none_asked : None ≡ subcommand_name_of m → judging Report None 1 ≡ asked_by (subcommand_rows_of m)
+  pub none_asked : None ≡ subcommand_name_of m → judging Report None 1 None ≡ asked_by (subcommand_rows_of m)
   none_asked none = ap asked_by (sym (none_is (subcommand_rows_of m) (none ∙ same_name (out-ArgMatches m).subcommand)))
 
   -- by the first subcommand with its name, if there is one
   pub named_asked : (name : Text) (rows : List Row) (s : Option Subcommand) → Some name ≡ subcommand_name_of m → Some rows ≡ option_map (λ p. p.1) (subcommand_rows_of m)
       → option_map member_of s ≡ find (λ c. bytes_eq c.name name) subcommands
-      → option_map_or (λ c. asked_in c rows) (option_map member_of s) (judging Report None 1) ≡ asked_by (subcommand_rows_of m)
+      → option_map_or (λ c. asked_in c rows) (option_map member_of s) (judging Report None 1 None) ≡ asked_by (subcommand_rows_of m)
   named_asked name rows s named has is =
-      ap (λ c. option_map_or (λ c. asked_in c rows) c (judging Report None 1)) is
+      ap (λ c. option_map_or (λ c. asked_in c rows) c (judging Report None 1 None)) is
       ∙ ap asked_by (sym (found_is (subcommand_rows_of m) name rows (named ∙ same_name (out-ArgMatches m).subcommand) has))

@@ -1,12 +1,12 @@
 -- The usual spellings ask for what their definitions say.
-use Rattle.std.proofs.Common.{◌≡◌, ◌∙◌, ap, refl, subst, inl, inr, List, [], ◌∷◌, Option, codes, unwrap_or}
+use Rattle.std.proofs.Common.{◌≡◌, ◌∙◌, ap, ap₂, refl, subst, inl, inr, List, [], ◌∷◌, Option, codes, unwrap_or}
 use Rattle.clap.specs.Kinds.{or_else}
 use Rattle.clap.specs.Values.{refused_kind}
 use Rattle.clap.specs.Words.{Kinds, Row, fault_of, subcommand_of}
 use Rattle.clap.specs.declared.error.kind.ErrorKind.{ErrorKind}
 use Rattle.clap.specs.declared.error.kind.ErrorKind.TheVariants.{InvalidSubcommand, UnknownArgument}
 use Rattle.command_line.specs.Parameters.{Values, listed, parser_of, range}
-use Rattle.command_line.proofs.GivenParameters.{give_taken, give_texts, left_out_refused, wrong_value_refused}
+use Rattle.command_line.proofs.GivenParameters.{give_several, give_taken, give_texts, left_out_refused, wrong_value_refused}
 use Rattle.command_line.proofs.ValueTexts.{value_is}
 use Rattle.command_line.specs.Commands.{HasKnownNames, IsAskedBy, asked_at, asked_by, memory_of, tsobench_app}
 use Rattle.command_line.specs.Internal.Computed.{IsFound, parsed_as}
@@ -16,6 +16,7 @@ use Rattle.command_line.specs.Requests.{Text, Asked, refusing, showing}
 use Rattle.command_line.specs.Spellings.{Asks, AsksHelp}
 use Rattle.command_line.specs.Spellings as asks
 use Rattle.command_line.specs.Subcommands.{known_names, text_by_name}
+use Rattle.command_line.specs.Subcommands.{asks as asks_of}
 use Rattle.command_line.specs.declared.options.OptionNames.{OptionNames}
 use Rattle.command_line.specs.declared.parameters.NameList.{NameList}
 use Rattle.command_line.proofs.MemberLemmas.{asked_by_name, defaults_taken, help_option, help_shown, nothing_taken, offers, options_shown, parsed_itself, shape, short_shown, subcommand_fault, subcommand_found, unknown_itself, unknown_refused}
@@ -56,12 +57,14 @@ module _ (names : OptionNames) where
 
   pub asked_is : HasKnownNames names → (arguments : List Text) (wanted asked : Asked) → Asks arguments wanted → IsFound names arguments asked → asked ≡ wanted
   asked_is are arguments wanted asked asks.nothing is = by_matches _ asked _ (nothing_taken names) is
-  asked_is are arguments wanted asked (asks.subcommand c rest texts among give) is =
+  asked_is are arguments wanted asked (asks.subcommand c rest texts more among give) is =
       let taken = subcommand_fault names c among rest
-      ∙ ap (λ kinds. or_else kinds []) (give_taken (memory_of names) known_names are (shape names c) c.parameters (offers names c among) (defaults_taken names c among) rest texts give) in
+      ∙ ap (λ kinds. or_else kinds []) (give_taken (memory_of names) known_names are (shape names c) c.parameters (offers names c among) (defaults_taken names c among) rest texts more give) in
       by_matches _ asked _ taken (unchanged (c.name ∷ rest) asked (parsed_itself names c among rest) is)
       ∙ ap asked_by (subcommand_found names c among rest) ∙ asked_by_name names c among _
-      ∙ ap (λ texts. c.ask (text_by_name c.parameters texts)) (give_texts (memory_of names) known_names are (shape names c) c.parameters (offers names c among) (defaults_taken names c among) rest texts give)
+      ∙ ap₂ (λ texts all. asks_of c (text_by_name c.parameters texts) all)
+      (give_texts (memory_of names) known_names are (shape names c) c.parameters (offers names c among) (defaults_taken names c among) rest texts more give)
+      (give_several (memory_of names) known_names are (shape names c) c.parameters (offers names c among) (defaults_taken names c among) rest texts more give)
 
   pub help_is : (arguments : List Text) (asked : Asked) → AsksHelp arguments → IsFound names arguments asked → asked ≡ showing
   help_is arguments asked asks.help is = by_kind _ asked _ _ (options_shown names).0 is

@@ -1,4 +1,4 @@
--- What a parse makes of options, flags and other arguments in any order, of which no two have the same id.
+-- What a parse makes of options, flags and other arguments in any order, of which no two have the same id but those of one argument.
 use Rattle.std.proofs.Common.{◌≡◌, ◌∙◌, ap, refl, subst, sym, arith, ℕ, Bool, true, false, cond, List, [], ◌∷◌, Option, Some, None, map, is_some, suc}
 use Rattle.std.specs.Prelude.{if◌then◌else◌, slice_get}
 use Rattle.std.specs.List.{All, AllByRecursion, IsDistinct, find, fold}
@@ -14,7 +14,7 @@ use Rattle.clap.specs.declared.builder.value_parser.Reading.TheVariants.{AsWritt
 use Rattle.command_line.specs.Given.{AreGiven, value_named}
 use Rattle.command_line.specs.Offered.{default_for}
 use Rattle.command_line.proofs.Walks.{Flagged, GivesSome, IsOption, Merges, Offered, Placed, Use, first, gives_of, level_fault_uses, merged, no_option, offered, rows_after_uses, second, third, used_all, uses_fault}
-use Rattle.command_line.proofs.Rows.{AreApart, DefaultsPass, MakesRow, defaults_pass, found_after_defaults, found_use, has_id, no_rows, rows_made, use_row, uses_id}
+use Rattle.command_line.proofs.Rows.{AreApart, ArePartable, DefaultsPass, EachPartable, MakesRow, defaults_pass, each_partable, found_after_defaults, has_id, joined, joined_once, no_rows, partable, rows_made, use_row, uses_id, with_use}
 
 -- what a rule is of: 0 an option with a value, 1 a flag, 2 another argument
 abbrev pub sort_of : Rule → ℕ
@@ -58,18 +58,18 @@ merges_each P xs ys zs all (third u xs1 ys1 zs1 all1 more) x y z = (z.0, merges_
 module _ (rules : List Rule) where
   pub merges_apart : (xs ys zs all : List Use) → Merges xs ys zs all
       → AllByRecursion (IsOfSort rules 0) xs → AllByRecursion (IsOfSort rules 1) ys → AllByRecursion (IsOfSort rules 2) zs
-      → AreApart xs → AreApart ys → AreApart zs → AreApart all
+      → EachPartable xs → EachPartable ys → EachPartable zs → EachPartable all
   merges_apart xs ys zs all merged x y z ax ay az = tt
   merges_apart xs ys zs all (first u xs1 ys1 zs1 all1 more) x y z ax ay az = (
-    merges_each _ xs1 ys1 zs1 all1 more ax.0 (apart_from rules 0 1 u ys1 x.0 y (λ e. omega (arith, e))) (apart_from rules 0 2 u zs1 x.0 z (λ e. omega (arith, e))),
+    merges_each (ArePartable u) xs1 ys1 zs1 all1 more ax.0 (partable u ys1 (apart_from rules 0 1 u ys1 x.0 y (λ e. omega (arith, e)))) (partable u zs1 (apart_from rules 0 2 u zs1 x.0 z (λ e. omega (arith, e)))),
     merges_apart xs1 ys1 zs1 all1 more x.1 y z ax.1 ay az,
   )
   merges_apart xs ys zs all (second u xs1 ys1 zs1 all1 more) x y z ax ay az = (
-    merges_each _ xs1 ys1 zs1 all1 more (apart_from rules 1 0 u xs1 y.0 x (λ e. omega (arith, e))) ay.0 (apart_from rules 1 2 u zs1 y.0 z (λ e. omega (arith, e))),
+    merges_each (ArePartable u) xs1 ys1 zs1 all1 more (partable u xs1 (apart_from rules 1 0 u xs1 y.0 x (λ e. omega (arith, e)))) ay.0 (partable u zs1 (apart_from rules 1 2 u zs1 y.0 z (λ e. omega (arith, e)))),
     merges_apart xs1 ys1 zs1 all1 more x y.1 z ax ay.1 az,
   )
   merges_apart xs ys zs all (third u xs1 ys1 zs1 all1 more) x y z ax ay az = (
-    merges_each _ xs1 ys1 zs1 all1 more (apart_from rules 2 0 u xs1 z.0 x (λ e. omega (arith, e))) (apart_from rules 2 1 u ys1 z.0 y (λ e. omega (arith, e))) az.0,
+    merges_each (ArePartable u) xs1 ys1 zs1 all1 more (partable u xs1 (apart_from rules 2 0 u xs1 z.0 x (λ e. omega (arith, e)))) (partable u ys1 (apart_from rules 2 1 u ys1 z.0 y (λ e. omega (arith, e)))) az.0,
     merges_apart xs1 ys1 zs1 all1 more x y z.1 ax ay az.1,
   )
 
@@ -80,12 +80,13 @@ rotated xs ys zs all (first u xs1 ys1 zs1 all1 more) = third u ys1 zs1 xs1 all1 
 rotated xs ys zs all (second u xs1 ys1 zs1 all1 more) = first u ys1 zs1 xs1 all1 (rotated xs1 ys1 zs1 all1 more)
 rotated xs ys zs all (third u xs1 ys1 zs1 all1 more) = second u ys1 zs1 xs1 all1 (rotated xs1 ys1 zs1 all1 more)
 
-module _ (p : Use → Bool) where
-  find_first : (xs ys zs all : List Use) → Merges xs ys zs all → AllByRecursion (λ u. p u ≡ false) ys → AllByRecursion (λ u. p u ≡ false) zs → find p all ≡ find p xs
-  find_first xs ys zs all merged y z = refl
-  find_first xs ys zs all (first u xs1 ys1 zs1 all1 more) y z = ap (cond (p u) (Some u)) (find_first xs1 ys1 zs1 all1 more y z)
-  find_first xs ys zs all (second u xs1 ys1 zs1 all1 more) y z = rw y.0 (find_first xs1 ys1 zs1 all1 more y.1 z)
-  find_first xs ys zs all (third u xs1 ys1 zs1 all1 more) y z = rw z.0 (find_first xs1 ys1 zs1 all1 more y z.1)
+-- the row of an id that just the first of the lists has
+joined_first : (id : Text) (xs ys zs all : List Use) (found : Option Row) → Merges xs ys zs all → AllByRecursion (λ u. uses_id id u ≡ false) ys → AllByRecursion (λ u. uses_id id u ≡ false) zs
+    → joined id all found ≡ joined id xs found
+joined_first id xs ys zs all found merged y z = refl
+joined_first id xs ys zs all found (first u xs1 ys1 zs1 all1 more) y z = joined_first id xs1 ys1 zs1 all1 (cond (uses_id id u) (Some (with_use u found)) found) more y z
+joined_first id xs ys zs all found (second u xs1 ys1 zs1 all1 more) y z = ap (λ b. joined id all1 (cond b (Some (with_use u found)) found)) y.0 ∙ joined_first id xs1 ys1 zs1 all1 found more y.1 z
+joined_first id xs ys zs all found (third u xs1 ys1 zs1 all1 more) y z = ap (λ b. joined id all1 (cond b (Some (with_use u found)) found)) z.0 ∙ joined_first id xs1 ys1 zs1 all1 found more y z.1
 
 -- ---- options, of which no two have the same name
 
@@ -165,70 +166,67 @@ pub record LeavesRows (s : Shape) (arguments : List Text) (options : List (Text 
   pub flag : (id : Text) (a : Rule) → arg_by_id s.rules id ≡ Some a → sort_of a ≡ 1
       → find (has_id id) rows ≡ option_or (option_map use_row (find (uses_id id) flags)) (default_for id s.rules)
   pub other : (id : Text) (a : Rule) → arg_by_id s.rules id ≡ Some a → sort_of a ≡ 2
-      → find (has_id id) rows ≡ option_or (option_map use_row (find (uses_id id) others)) (default_for id s.rules)
+      → find (has_id id) rows ≡ option_or (joined id others None) (default_for id s.rules)
 
 -- uses of flags or of other arguments, of this sort
 pub record AreUses (s : Shape) (sort : ℕ) (us : List Use) : Type 0 where
   pub make : AllByRecursion MakesRow us
   pub sorts : AllByRecursion (IsOfSort s.rules sort) us
-  pub apart : AreApart us
+  pub apart : EachPartable us
 
 pub no_uses : (s : Shape) (sort : ℕ) → AreUses s sort []
 no_uses s sort = record { make = tt; sorts = tt; apart = tt }
 
 module _ (s : Shape) (single : s.args_override_self ≡ false) (pass : DefaultsPass s.rules)
     (options : List (Text × Text)) (flags others arguments : List Text) (flag_uses other_uses : List Use) where
-  module _ (xs : OptionUses s options) (ys : AreUses s 1 flag_uses) (zs : AreUses s 2 other_uses)
+  module _ (xs : OptionUses s options) (ys : AreUses s 1 flag_uses) (once : AreApart flag_uses) (zs : AreUses s 2 other_uses)
       (given : AreGiven options flags others arguments) (flagged : Flagged s flags flag_uses) (placed : Placed s 1 others other_uses) where
     abbrev some : GivesSome s 1 xs.uses flag_uses other_uses arguments
     some = gives_of s 1 options flags others arguments xs.uses flag_uses other_uses given xs.offered flagged placed
 
-    made : (used_all some.uses [] ≡ map use_row some.uses) × (uses_fault false some.uses [] ≡ [])
+    made : (uses_fault false some.uses [] ≡ []) × ((id : Text) → find (has_id id) (used_all some.uses []) ≡ joined id some.uses None)
     made = rows_made some.uses []
         (merges_each MakesRow xs.uses flag_uses other_uses some.uses some.merges xs.make ys.make zs.make)
-        (merges_apart s.rules xs.uses flag_uses other_uses some.uses some.merges xs.sorts ys.sorts zs.sorts xs.apart ys.apart zs.apart)
+        (merges_apart s.rules xs.uses flag_uses other_uses some.uses some.merges xs.sorts ys.sorts zs.sorts (each_partable xs.uses xs.apart) ys.apart zs.apart)
         (no_rows some.uses)
 
     passes : uses_fault s.args_override_self some.uses [] ≡ []
-    passes = subst (λ (b : Bool). uses_fault b some.uses [] ≡ []) (sym single) made.1
+    passes = subst (λ (b : Bool). uses_fault b some.uses [] ≡ []) (sym single) made.0
 
     abbrev left : List Row
-    left = fold with_default (map use_row some.uses) s.rules
+    left = fold with_default (used_all some.uses []) s.rules
 
-    left_is : fold with_default (used_all some.uses []) s.rules ≡ left
-    left_is = ap (λ (rows : List Row). fold with_default rows s.rules) made.0
-
-    found_in : (id : Text) → find (has_id id) left ≡ option_or (option_map use_row (find (uses_id id) some.uses)) (default_for id s.rules)
-    found_in id = found_after_defaults s.rules (map use_row some.uses) id ∙ ap (λ o. option_or o (default_for id s.rules)) (found_use id some.uses)
+    found_in : (id : Text) → find (has_id id) left ≡ option_or (joined id some.uses None) (default_for id s.rules)
+    found_in id = found_after_defaults s.rules (used_all some.uses []) id ∙ ap (λ o. option_or o (default_for id s.rules)) (made.1 id)
 
     leaves_fault : level_fault s [] nothing_held arguments false [] ≡ check_fault s left false
-    leaves_fault = level_fault_uses s some.uses arguments some.gives ∙ rw (passes, defaults_pass s.rules (used_all some.uses []) pass, left_is) refl
+    leaves_fault = level_fault_uses s some.uses arguments some.gives ∙ rw (passes, defaults_pass s.rules (used_all some.uses []) pass) refl
 
     module _ (id : Text) (a : Rule) (by_id : arg_by_id s.rules id ≡ Some a) where
       option_left : sort_of a ≡ 0 → IsOptionRow (value_named id options) (default_for id s.rules) (find (has_id id) left)
       option_left of =
-          let only = find_first (uses_id id) xs.uses flag_uses other_uses some.uses some.merges
+          let only = joined_first id xs.uses flag_uses other_uses some.uses None some.merges
           (all_other s.rules 1 flag_uses id a ys.sorts by_id (λ e. omega (arith, e ∙ of))) (all_other s.rules 2 other_uses id a zs.sorts by_id (λ e. omega (arith, e ∙ of))) in
-          let row = found_in id ∙ ap (λ o. option_or (option_map use_row o) (default_for id s.rules)) only in
+          let row = found_in id ∙ ap (λ o. option_or o (default_for id s.rules)) (only ∙ joined_once id xs.uses xs.apart) in
           subst (λ (o : Option Row). IsOptionRow (value_named id options) (default_for id s.rules) o) (sym row) (option_row (value_named id options) (default_for id s.rules) _ (xs.found id))
 
       flag_left : sort_of a ≡ 1 → find (has_id id) left ≡ option_or (option_map use_row (find (uses_id id) flag_uses)) (default_for id s.rules)
       flag_left of =
-          let only = find_first (uses_id id) flag_uses other_uses xs.uses some.uses (rotated _ _ _ _ some.merges)
+          let only = joined_first id flag_uses other_uses xs.uses some.uses None (rotated _ _ _ _ some.merges)
           (all_other s.rules 2 other_uses id a zs.sorts by_id (λ e. omega (arith, e ∙ of))) (all_other s.rules 0 xs.uses id a xs.sorts by_id (λ e. omega (arith, e ∙ of))) in
-          found_in id ∙ ap (λ o. option_or (option_map use_row o) (default_for id s.rules)) only
+          found_in id ∙ ap (λ o. option_or o (default_for id s.rules)) (only ∙ joined_once id flag_uses once)
 
-      other_left : sort_of a ≡ 2 → find (has_id id) left ≡ option_or (option_map use_row (find (uses_id id) other_uses)) (default_for id s.rules)
+      other_left : sort_of a ≡ 2 → find (has_id id) left ≡ option_or (joined id other_uses None) (default_for id s.rules)
       other_left of =
-          let only = find_first (uses_id id) other_uses xs.uses flag_uses some.uses (rotated _ _ _ _ (rotated _ _ _ _ some.merges))
+          let only = joined_first id other_uses xs.uses flag_uses some.uses None (rotated _ _ _ _ (rotated _ _ _ _ some.merges))
           (all_other s.rules 0 xs.uses id a xs.sorts by_id (λ e. omega (arith, e ∙ of))) (all_other s.rules 1 flag_uses id a ys.sorts by_id (λ e. omega (arith, e ∙ of))) in
-          found_in id ∙ ap (λ o. option_or (option_map use_row o) (default_for id s.rules)) only
+          found_in id ∙ ap (λ o. option_or o (default_for id s.rules)) only
 
     -- among uses with distinct ids, in any order, each option's row has its value, or the default where it isn't used
     pub leaves_rows : LeavesRows s arguments options flag_uses other_uses
     leaves_rows = record {
       rows = left;
-      after = rows_after_uses s some.uses arguments some.gives ∙ left_is;
+      after = rows_after_uses s some.uses arguments some.gives;
       fault = leaves_fault;
       option = option_left;
       flag = flag_left;

@@ -1,10 +1,11 @@
 -- A walk over the arguments after a subcommand: options with their values, flags and other arguments, in any order.
 use Rattle.std.proofs.Common.{◌≡◌, ◌∙◌, ap, ap₂, refl, sym, ℕ, Bool, true, false, List, [], ◌∷◌, ◌++◌, Option, Some, None, codes}
 use Rattle.std.specs.List.{fold}
+use Rattle.std.specs.Prelude.{if◌then◌else◌}
 use Rattle.std.specs.Str.{bytes_eq}
 use Rattle.std.proofs.Math.Bool.{and-false}
 use Rattle.clap.specs.Lexer.{long_of}
-use Rattle.clap.specs.Walk.{Held, Row, Rule, Text, Walk, action_of, arg_by_id, arg_by_index, arg_by_long, idle, is_append, is_pending, most_values, next_position, nothing_held, rows_after, settled, settled_rows, takes_several, takes_values, used, walked, with_default}
+use Rattle.clap.specs.Walk.{Held, Row, Rule, Text, Waiting, Walk, action_of, arg_by_id, arg_by_index, arg_by_long, idle, is_append, is_multiple, is_pending, most_values, next_position, nothing_held, rows_after, settled, settled_rows, takes_several, takes_values, used, walked, with_default}
 use Rattle.clap.specs.Simple.{Shape}
 use Rattle.clap.specs.Kinds.{Kinds, or_else}
 use Rattle.clap.specs.Faults.{check_fault, defaults_fault, level_fault, settle_fault, turn_fault, use_fault, walk_fault}
@@ -39,15 +40,23 @@ pub record IsFlag (rules : List Rule) (a : Rule) (name : Text) : Type 0 where
 abbrev pub Use : Type 0
 Use = Rule × List Text
 
--- the walk stands before an argument, with nothing waiting for a value
-abbrev pub standing : List Row → Option (Text × List Text) → ℕ → Walk
-standing rows pending position = record {
+-- what waits after an argument: nothing, or a positional that takes more
+abbrev waiting_if : Bool → Waiting
+waiting_if false = idle
+waiting_if true = Rattle.clap.specs.Walk.positional
+
+-- the walk stands before an argument, with nothing waiting for a value but perhaps a positional that takes more
+abbrev standing_after : Bool → List Row → Option (Text × List Text) → ℕ → Walk
+standing_after more rows pending position = record {
   held = record { rows = rows; pending = pending; skip = 0 };
-  waiting = idle;
+  waiting = waiting_if more;
   position = position;
   is_trailing = false;
   stopped = None;
 }
+
+abbrev pub standing : List Row → Option (Text × List Text) → ℕ → Walk
+standing = standing_after false
 
 takes_a_value : {rules : List Rule} {a : Rule} → TakesOne rules a → takes_values a ≡ true
 takes_a_value takes = rw takes.most refl
@@ -80,28 +89,38 @@ module _ (s : Shape) where
   }
 
   module _ (rows : List Row) (pending : Option (Text × List Text)) (position : ℕ) (a : Rule) where
-    name_walked : (name : Text) → IsOption s.rules a name → walked s.rules [] (standing rows pending position) (codes "--" ++ name) ≡ waiting_at a (settled_in pending rows) position
+    name_walked : (more : Bool) (name : Text) → IsOption s.rules a name → walked s.rules [] (standing_after more rows pending position) (codes "--" ++ name) ≡ waiting_at a (settled_in pending rows) position
     unfolding walked
-    name_walked name is = rw (is.no_escape, is.long, is.by_long, is.takes.most) refl
+    name_walked false name is = rw (is.no_escape, is.long, is.by_long, is.takes.most) refl
+    name_walked true name is = rw (is.no_escape, is.long, is.by_long, is.takes.most) refl
 
     value_walked : (value : Text) → TakesOne s.rules a → IsValue value → walked s.rules [] (waiting_at a rows position) value ≡ standing rows (Some (a.id, value ∷ [])) position
     unfolding walked
     value_walked value takes is = rw (is.no_escape, is.no_long, is.no_short, takes.by_id, takes.same_id, takes.most) refl
 
-    joined_walked : (name value : Text) → IsOption s.rules a name
-        → walked s.rules [] (standing rows pending position) (codes "--" ++ name ++ codes "=" ++ value) ≡ standing (used a (value ∷ []) (settled_in pending rows)) None position
+    joined_walked : (more : Bool) (name value : Text) → IsOption s.rules a name
+        → walked s.rules [] (standing_after more rows pending position) (codes "--" ++ name ++ codes "=" ++ value) ≡ standing (used a (value ∷ []) (settled_in pending rows)) None position
     unfolding walked
-    joined_walked name value is = rw (is.no_escape_joined value, is.long_joined value, is.by_long, is.takes.most) refl
+    joined_walked false name value is = rw (is.no_escape_joined value, is.long_joined value, is.by_long, is.takes.most) refl
+    joined_walked true name value is = rw (is.no_escape_joined value, is.long_joined value, is.by_long, is.takes.most) refl
 
-    flag_walked : (name : Text) → IsFlag s.rules a name → walked s.rules [] (standing rows pending position) (codes "--" ++ name) ≡ standing (used a [] (settled_in pending rows)) None position
+    flag_walked : (more : Bool) (name : Text) → IsFlag s.rules a name
+        → walked s.rules [] (standing_after more rows pending position) (codes "--" ++ name) ≡ standing (used a [] (settled_in pending rows)) None position
     unfolding walked
-    flag_walked name is = rw (is.no_escape, is.long, is.by_long, is.most) refl
+    flag_walked false name is = rw (is.no_escape, is.long, is.by_long, is.most) refl
+    flag_walked true name is = rw (is.no_escape, is.long, is.by_long, is.most) refl
 
-    positional_walked : (value : Text) → TakesOne s.rules a → arg_by_index s.rules position ≡ Some a → is_append (action_of a) ≡ false → a.trailing_var_arg ≡ false → IsValue value
-        → walked s.rules [] (standing rows pending position) value ≡ standing (settled_in pending rows) (Some (a.id, value ∷ [])) (next_position a position)
+    waits_on : (appends : Bool) → is_append (action_of a) ≡ appends → takes_several a ≡ false → (if is_multiple a then Rattle.clap.specs.Walk.positional else idle) ≡ waiting_if appends
+    waits_on false once single = rw (single, once) refl
+    waits_on true once single = rw (single, once) refl
+
+    positional_walked : (more : Bool) (value : Text) → TakesOne s.rules a → arg_by_index s.rules position ≡ Some a → a.trailing_var_arg ≡ false → IsValue value
+        → walked s.rules [] (standing_after more rows pending position) value ≡ standing_after (is_append (action_of a)) (settled_in pending rows) (Some (a.id, value ∷ [])) (next_position a position)
     unfolding walked
-    positional_walked value takes at once trailing is =
-        rw (is.no_escape, is.no_long, is.no_short, at, takes.single, once, trailing, and-false (is_pending a pending)) refl
+    positional_walked false value takes at trailing is =
+        rw (is.no_escape, is.no_long, is.no_short, at, waits_on (is_append (action_of a)) refl takes.single, takes.single, trailing, and-false (is_pending a pending)) refl
+    positional_walked true value takes at trailing is =
+        rw (is.no_escape, is.no_long, is.no_short, at, waits_on (is_append (action_of a)) refl takes.single, takes.single, trailing, and-false (is_pending a pending)) refl
 
     -- what fails at each of these is what was pending, or the use itself
     value_fault : (value : Text) → TakesOne s.rules a → IsValue value → turn_fault s [] (waiting_at a rows position) value ≡ []
@@ -110,19 +129,23 @@ module _ (s : Shape) where
     abbrev settles : Kinds
     settles = settle_fault s.rules s.args_override_self (standing rows pending position).held
 
-    name_fault : (name : Text) → IsOption s.rules a name → turn_fault s [] (standing rows pending position) (codes "--" ++ name) ≡ settles
-    name_fault name is = rw (is.no_escape, is.long, is.by_long, is.takes.most) (or_nothing _)
+    name_fault : (more : Bool) (name : Text) → IsOption s.rules a name → turn_fault s [] (standing_after more rows pending position) (codes "--" ++ name) ≡ settles
+    name_fault false name is = rw (is.no_escape, is.long, is.by_long, is.takes.most) (or_nothing _)
+    name_fault true name is = rw (is.no_escape, is.long, is.by_long, is.takes.most) (or_nothing _)
 
-    joined_fault : (name value : Text) → IsOption s.rules a name
-        → turn_fault s [] (standing rows pending position) (codes "--" ++ name ++ codes "=" ++ value) ≡ or_else settles (use_fault s.args_override_self a (value ∷ []) (settled_in pending rows))
-    joined_fault name value is = rw (is.no_escape_joined value, is.long_joined value, is.by_long, takes_a_value is.takes) (or_nothing _)
+    joined_fault : (more : Bool) (name value : Text) → IsOption s.rules a name
+        → turn_fault s [] (standing_after more rows pending position) (codes "--" ++ name ++ codes "=" ++ value) ≡ or_else settles (use_fault s.args_override_self a (value ∷ []) (settled_in pending rows))
+    joined_fault false name value is = rw (is.no_escape_joined value, is.long_joined value, is.by_long, takes_a_value is.takes) (or_nothing _)
+    joined_fault true name value is = rw (is.no_escape_joined value, is.long_joined value, is.by_long, takes_a_value is.takes) (or_nothing _)
 
-    flag_fault : (name : Text) → IsFlag s.rules a name
-        → turn_fault s [] (standing rows pending position) (codes "--" ++ name) ≡ or_else settles (use_fault s.args_override_self a [] (settled_in pending rows))
-    flag_fault name is = rw (is.no_escape, is.long, is.by_long, takes_no_value is) (or_nothing _)
+    flag_fault : (more : Bool) (name : Text) → IsFlag s.rules a name
+        → turn_fault s [] (standing_after more rows pending position) (codes "--" ++ name) ≡ or_else settles (use_fault s.args_override_self a [] (settled_in pending rows))
+    flag_fault false name is = rw (is.no_escape, is.long, is.by_long, takes_no_value is) (or_nothing _)
+    flag_fault true name is = rw (is.no_escape, is.long, is.by_long, takes_no_value is) (or_nothing _)
 
-    positional_fault : (value : Text) → TakesOne s.rules a → arg_by_index s.rules position ≡ Some a → IsValue value → turn_fault s [] (standing rows pending position) value ≡ settles
-    positional_fault value takes at is = rw (is.no_escape, is.no_long, is.no_short, at, takes.single, and-false (is_pending a pending)) refl
+    positional_fault : (more : Bool) (value : Text) → TakesOne s.rules a → arg_by_index s.rules position ≡ Some a → IsValue value → turn_fault s [] (standing_after more rows pending position) value ≡ settles
+    positional_fault false value takes at is = rw (is.no_escape, is.no_long, is.no_short, at, takes.single, and-false (is_pending a pending)) refl
+    positional_fault true value takes at is = rw (is.no_escape, is.no_long, is.no_short, at, takes.single, and-false (is_pending a pending)) refl
 
 -- the arguments, each an option with its value, a flag or a value of the positional that stands there, and their uses
 pub data Gives (s : Shape) : ℕ → List Use → List Text → Type 0 where
@@ -132,7 +155,7 @@ pub data Gives (s : Shape) : ℕ → List Use → List Text → Type 0 where
   flag : (position : ℕ) (a : Rule) (name : Text) (rest : List Text) (uses : List Use) → IsFlag s.rules a name
       → Gives s position uses rest → Gives s position ((a, []) ∷ uses) ((codes "--" ++ name) ∷ rest)
   positional : (position : ℕ) (a : Rule) (value : Text) (rest : List Text) (uses : List Use) → TakesOne s.rules a
-      → arg_by_index s.rules position ≡ Some a → is_append (action_of a) ≡ false → a.trailing_var_arg ≡ false → IsValue value
+      → arg_by_index s.rules position ≡ Some a → a.trailing_var_arg ≡ false → IsValue value
       → Gives s (next_position a position) uses rest → Gives s position ((a, value ∷ []) ∷ uses) (value ∷ rest)
 
 -- the rows after these uses, and the kinds of error of the first that fails
@@ -160,31 +183,31 @@ module _ (s : Shape) where
     rows_are = ap (λ (w : Walk). (settled s.rules (fold (walked s.rules []) w rest).held).rows) is ∙ runs.rows_are;
   }
 
-  runs : (rows : List Row) (pending : Option (Text × List Text)) (position : ℕ) (uses : List Use) (arguments : List Text) → Gives s position uses arguments
+  runs : (more : Bool) (rows : List Row) (pending : Option (Text × List Text)) (position : ℕ) (uses : List Use) (arguments : List Text) → Gives s position uses arguments
       → Runs s (or_else (settle_fault s.rules s.args_override_self (standing rows pending position).held) (uses_fault s.args_override_self uses (settled_rows s.rules pending rows)))
-      (used_all uses (settled_rows s.rules pending rows)) (standing rows pending position) arguments
+      (used_all uses (settled_rows s.rules pending rows)) (standing_after more rows pending position) arguments
   unfolding walk_fault
-  runs rows pending position uses arguments (ended p) = record { fault = sym (or_nothing _); rows_are = refl }
-  runs rows pending position uses arguments (option p a name value these rest more is (given.apart plain) gives) =
+  runs more rows pending position uses arguments (ended p) = record { fault = sym (or_nothing _); rows_are = refl }
+  runs more rows pending position uses arguments (option p a name value these rest later is (given.apart plain) gives) =
       let before = settled_rows s.rules pending rows in
-      one_more _ _ _ _ _ _ _ _ (name_walked s rows pending p a name is) (name_fault s rows pending p a name is) refl
+      one_more _ _ _ _ _ _ _ _ (name_walked s rows pending p a more name is) (name_fault s rows pending p a more name is) refl
       (one_more _ _ _ _ _ _ _ _ (value_walked s before pending p a value is.takes (value_is value plain)) (value_fault s before pending p a value is.takes (value_is value plain)) refl
-      (rw is.takes.by_id at (runs before (Some (a.id, value ∷ [])) p more rest gives)))
-  runs rows pending position uses arguments (option p a name value these rest more is given.joined gives) =
-      one_more _ _ _ _ _ _ _ _ (joined_walked s rows pending p a name value is) (joined_fault s rows pending p a name value is)
+      (rw is.takes.by_id at (runs false before (Some (a.id, value ∷ [])) p later rest gives)))
+  runs more rows pending position uses arguments (option p a name value these rest later is given.joined gives) =
+      one_more _ _ _ _ _ _ _ _ (joined_walked s rows pending p a more name value is) (joined_fault s rows pending p a more name value is)
       (or_in_turn _ (use_fault s.args_override_self a (value ∷ []) (settled_in s pending rows)) _)
-      (runs (used a (value ∷ []) (settled_rows s.rules pending rows)) None p more rest gives)
-  runs rows pending position uses arguments (flag p a name rest more is gives) =
-      one_more _ _ _ _ _ _ _ _ (flag_walked s rows pending p a name is) (flag_fault s rows pending p a name is) (or_in_turn _ (use_fault s.args_override_self a [] (settled_in s pending rows)) _)
-      (runs (used a [] (settled_rows s.rules pending rows)) None p more rest gives)
-  runs rows pending position uses arguments (positional p a value rest more takes at once trailing is gives) =
-      one_more _ _ _ _ _ _ _ _ (positional_walked s rows pending p a value takes at once trailing is) (positional_fault s rows pending p a value takes at is) refl
-      (rw takes.by_id at (runs (settled_rows s.rules pending rows) (Some (a.id, value ∷ [])) (next_position a p) more rest gives))
+      (runs false (used a (value ∷ []) (settled_rows s.rules pending rows)) None p later rest gives)
+  runs more rows pending position uses arguments (flag p a name rest later is gives) =
+      one_more _ _ _ _ _ _ _ _ (flag_walked s rows pending p a more name is) (flag_fault s rows pending p a more name is) (or_in_turn _ (use_fault s.args_override_self a [] (settled_in s pending rows)) _)
+      (runs false (used a [] (settled_rows s.rules pending rows)) None p later rest gives)
+  runs more rows pending position uses arguments (positional p a value rest later takes at trailing is gives) =
+      one_more _ _ _ _ _ _ _ _ (positional_walked s rows pending p a more value takes at trailing is) (positional_fault s rows pending p a more value takes at is) refl
+      (rw takes.by_id at (runs (is_append (action_of a)) (settled_rows s.rules pending rows) (Some (a.id, value ∷ [])) (next_position a p) later rest gives))
 
   -- what a parse of a subcommand makes of such arguments
   module _ (uses : List Use) (arguments : List Text) (gives : Gives s 1 uses arguments) where
     run : Runs s (uses_fault s.args_override_self uses []) (used_all uses []) (standing [] None 1) arguments
-    run = runs [] None 1 uses arguments gives
+    run = runs false [] None 1 uses arguments gives
 
     pub rows_after_uses : rows_after s.rules [] arguments ≡ fold with_default (used_all uses []) s.rules
     rows_after_uses = ap (λ (rows : List Row). fold with_default rows s.rules) run.rows_are
@@ -214,7 +237,7 @@ pub data Flagged (s : Shape) : List Text → List Use → Type 0 where
 pub data Placed (s : Shape) : ℕ → List Text → List Use → Type 0 where
   no_other : (position : ℕ) → Placed s position [] []
   placed : (position : ℕ) (a : Rule) (value : Text) (others : List Text) (uses : List Use) → TakesOne s.rules a
-      → arg_by_index s.rules position ≡ Some a → is_append (action_of a) ≡ false → a.trailing_var_arg ≡ false
+      → arg_by_index s.rules position ≡ Some a → a.trailing_var_arg ≡ false
       → Placed s (next_position a position) others uses → Placed s position (value ∷ others) ((a, value ∷ []) ∷ uses)
 
 -- three lists of uses as one, each in its order
@@ -238,6 +261,6 @@ gives_of s position options flags others arguments xs ys zs (given.option name v
 gives_of s position options flags others arguments xs ys zs (given.flag name rest options1 flags1 others1 more) offers (flagged a name1 flags2 uses is flag_uses) places =
     let rest_gives = gives_of s position options1 flags1 others1 rest xs uses zs more offers flag_uses places in
     record { uses = (a, []) ∷ rest_gives.uses; gives = flag position a name rest rest_gives.uses is rest_gives.gives; merges = second (a, []) xs uses zs rest_gives.uses rest_gives.merges }
-gives_of s position options flags others arguments xs ys zs (given.other value rest options1 flags1 others1 plain more) offers flag_uses (placed p a value1 others2 uses takes at once trailing places) =
+gives_of s position options flags others arguments xs ys zs (given.other value rest options1 flags1 others1 plain more) offers flag_uses (placed p a value1 others2 uses takes at trailing places) =
     let rest_gives = gives_of s (next_position a position) options1 flags1 others1 rest xs ys uses more offers flag_uses places in
-    record { uses = (a, value ∷ []) ∷ rest_gives.uses; gives = positional position a value rest rest_gives.uses takes at once trailing (value_is value plain) rest_gives.gives; merges = third (a, value ∷ []) xs ys uses rest_gives.uses rest_gives.merges }
+    record { uses = (a, value ∷ []) ∷ rest_gives.uses; gives = positional position a value rest rest_gives.uses takes at trailing (value_is value plain) rest_gives.gives; merges = third (a, value ∷ []) xs ys uses rest_gives.uses rest_gives.merges }

@@ -7,14 +7,14 @@ use Rattle.clap.specs.Simple.{App, on_top}
 use Rattle.clap.specs.Words.{IsAmong, Kinds, Row, fault_of, new_app, subcommand_of, with_subcommand}
 use Rattle.clap.specs.declared.error.kind.ErrorKind.{ErrorKind}
 use Rattle.clap.specs.declared.error.kind.ErrorKind.TheVariants.{DisplayHelp, DisplayVersion}
-use Rattle.command_line.specs.Offered.{text_in}
+use Rattle.command_line.specs.Offered.{several_in, text_in}
 use Rattle.command_line.specs.Parameters.{Parameter, offered_app}
 use Rattle.command_line.specs.declared.options.OptionNames.{OptionNames}
 use Rattle.command_line.specs.declared.options.Presentation.TheVariants.{Report}
 use Rattle.command_line.specs.declared.parameters.NameList.{NameList}
-use Rattle.command_line.specs.declared.parameters.NameList.TheVariants.{Units, Models}
+use Rattle.command_line.specs.declared.parameters.NameList.TheVariants.{Units, Models, Formats}
 use Rattle.command_line.specs.Requests.{Text, Asked, judging, refusing, showing}
-use Rattle.command_line.specs.Subcommands.{Subcommand, known_names, subcommands, text_by_name}
+use Rattle.command_line.specs.Subcommands.{Subcommand, asks, known_names, subcommands, text_by_name}
 
 -- ---- the command line
 
@@ -22,8 +22,9 @@ use Rattle.command_line.specs.Subcommands.{Subcommand, known_names, subcommands,
 abbrev pub memory_of : OptionNames → NameList → Bor (List (Bor Text))
 memory_of names Units = names.units
 memory_of names Models = names.models
+memory_of names Formats = names.formats
 
--- the lists in memory have the names of the units and those of the memory models
+-- the lists in memory have the names of the units, of the memory models and of the formats
 abbrev pub HasKnownNames : OptionNames → Type 0
 HasKnownNames names = (list : NameList) → map (λ name. name.now) (memory_of names list).now ≡ known_names list
 
@@ -42,12 +43,12 @@ given_in parameters rows = text_by_name parameters (map (text_in rows) parameter
 
 -- what a subcommand asks for whose parse left these rows
 abbrev pub asked_in : Subcommand → List Row → Asked
-asked_in c rows = c.ask (given_in c.parameters rows)
+asked_in c rows = asks c (given_in c.parameters rows) (several_in rows c.parameters)
 
 -- by the subcommand's name and its rows; without a subcommand standard input is judged, with one worker
 abbrev pub asked_by : Option (Text × List Row) → Asked
-asked_by None = judging Report None 1
-asked_by (Some found) = option_map_or (λ c. asked_in c found.1) (find (λ c. bytes_eq c.name found.0) subcommands) (judging Report None 1)
+asked_by None = judging Report None 1 None
+asked_by (Some found) = option_map_or (λ c. asked_in c found.1) (find (λ c. bytes_eq c.name found.0) subcommands) (judging Report None 1 None)
 
 -- ---- what a kind of error stands for
 
@@ -61,8 +62,8 @@ abbrev pub IsAskedBy : Kinds → Option (Text × List Row) → Asked → Type 0
 IsAskedBy [] found asked = asked ≡ asked_by found
 IsAskedBy kinds found asked = (kind : ErrorKind) × IsAmong kind kinds × (asked ≡ asked_at kind)
 
--- what `clap` says that the arguments ask for, where `--unit` takes the names of the units, and `--model` those of the
--- memory models
+-- what `clap` says that the arguments ask for, where `--unit` takes the names of the units, `--model` those of the memory
+-- models, and `--format` those of the formats
 abbrev pub IsAskedFor : List Text → Asked → Type 0
 IsAskedFor arguments asked = (names : OptionNames) × HasKnownNames names
     × IsAskedBy (fault_of (tsobench_app names) arguments) (subcommand_of (tsobench_app names) arguments) asked

@@ -1,7 +1,9 @@
--- The units and the memory models, each with the name by which an option takes it.
+-- The units, the memory models and the formats of a batch, each with the name by which an option takes it.
 use Rattle.std.specs.Prelude.{List, [], ◌∷◌, codes, map}
 use Rattle.tso_ops.specs.declared.settings.Order.{Order}
 use Rattle.tso_ops.specs.declared.settings.Order.TheVariants.{Tso, Pso}
+use Rattle.command_line.specs.declared.options.BatchFormat.{BatchFormat}
+use Rattle.command_line.specs.declared.options.BatchFormat.TheVariants.{Words, Json, Junit}
 use Rattle.command_line.specs.declared.options.UnitKind.{UnitKind}
 use Rattle.command_line.specs.declared.options.UnitKind.TheVariants.{Serial, Buffer, Partial, Faulty}
 use Rattle.command_line.specs.Requests.{Text}
@@ -17,3 +19,7 @@ units =
 -- the memory models, each with its name
 abbrev pub models : List (Text × Order)
 models = (codes "tso", Tso) ∷ (codes "pso", Pso) ∷ []
+
+-- the formats of a batch, each with its name
+abbrev pub formats : List (Text × BatchFormat)
+formats = (codes "words", Words) ∷ (codes "json", Json) ∷ (codes "junit", Junit) ∷ []

@@ -1,14 +1,14 @@
 -- A subcommand as a built command has it: what of it a parse of its arguments rests on, and which text each parameter has in the rows of a parse.
-use Rattle.std.specs.Prelude.{◌≡◌, ◌&&◌, ◌++◌, ℕ, Bool, true, false, not, List, [], ◌∷◌, Option, Some, None, codes, map, if◌then◌else◌}
+use Rattle.std.specs.Prelude.{◌≡◌, ◌&&◌, ◌++◌, ℕ, Bool, true, false, not, List, [], ◌∷◌, Option, Some, None, codes, map, unwrap_or, if◌then◌else◌}
 use Rattle.std.specs.Borrow.{Bor}
 use Rattle.std.specs.List.{list_any}
 use Rattle.std.specs.Option.{option_map_or}
 use Rattle.std.specs.Str.{bytes_eq}
 use Rattle.clap.specs.Lexer.{long_of}
 use Rattle.clap.specs.Simple.{Shape, filled_from, help_rule}
-use Rattle.clap.specs.Walk.{Row, Rule, Text, arg_by_id, arg_by_index, arg_by_long, first_of, is_empty, one_of, reading_by}
+use Rattle.clap.specs.Walk.{Row, Rule, Text, all_of, arg_by_id, arg_by_index, arg_by_long, first_of, is_empty, one_of, reading_by}
 use Rattle.clap.specs.declared.parser.matches.ValueSource.TheVariants.{DefaultValue}
-use Rattle.command_line.specs.Parameters.{Parameter, flag, id_of, listed, offered_rule, option, other, range}
+use Rattle.command_line.specs.Parameters.{Parameter, flag, id_of, listed, offered_rule, other, range, several, valued}
 
 -- ---- the rules of the parameters, and what a parse finds by their names
 
@@ -65,7 +65,14 @@ module _ {N : Type 0} (memory : N → Bor (List (Bor Text))) where
 module _ {N : Type 0} where
   -- numbers and flags are read by their types, names and other arguments as texts
   abbrev pub text_in : List Row → Parameter N → Option Text
-  text_in rows (option id (range least most) default) = one_of id rows
-  text_in rows (option id (listed n) default) = first_of id rows
+  text_in rows (valued id (range least most) default required) = one_of id rows
+  text_in rows (valued id (listed n) default required) = first_of id rows
   text_in rows (flag id) = one_of id rows
   text_in rows (other id required) = first_of id rows
+  text_in rows (several id) = first_of id rows
+
+  -- the texts of the parameter of which there may be several, in their order
+  abbrev pub several_in : List Row → List (Parameter N) → List Text
+  several_in rows [] = []
+  several_in rows (several id ∷ rest) = unwrap_or (all_of id rows) []
+  several_in rows (p ∷ rest) = several_in rows rest

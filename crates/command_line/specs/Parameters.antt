@@ -6,7 +6,7 @@ use Rattle.std.specs.Str.{bytes_eq}
 use Rattle.clap.specs.Simple.{App, new_rule, new_shape}
 use Rattle.clap.specs.ValueTests.{is_unsigned_in}
 use Rattle.clap.specs.Walk.{Rule, Text}
-use Rattle.clap.specs.declared.builder.action.ArgAction.TheVariants.{SetTrue}
+use Rattle.clap.specs.declared.builder.action.ArgAction.TheVariants.{Append, SetTrue}
 use Rattle.clap.specs.declared.builder.value_parser.ValueParser.{ValueParser}
 use Rattle.clap.specs.declared.builder.value_parser.ValueParser.TheVariants as parser
 
@@ -19,18 +19,29 @@ pub data Values (N : Type 0) : Type 0 where
 
 -- what may be given
 pub data Parameter (N : Type 0) : Type 0 where
-  -- `--name VALUE`, with the value that it has where it is left out; with none, it may not be left out
-  option : Text → Values N → Option Text → Parameter N
+  -- `--name VALUE`, with the value that it has where it is left out, and whether it may not be left out
+  valued : Text → Values N → Option Text → Bool → Parameter N
   -- `--name`
   flag : Text → Parameter N
   -- an argument by itself, as a file, with its id, and whether it may not be left out
   other : Text → Bool → Parameter N
+  -- arguments by themselves, as files, as many as there are, with their id; none has to be there
+  several : Text → Parameter N
 
 module _ {N : Type 0} where
+  -- `--name VALUE`, with the value that it has where it is left out; with none, it may not be left out
+  abbrev pub option : Text → Values N → Option Text → Parameter N
+  option id values default = valued id values default (not (is_some default))
+
+  -- `--name VALUE`, which may be left out, and has no value then
+  abbrev pub optional : Text → Values N → Parameter N
+  optional id values = valued id values None false
+
   abbrev pub id_of : Parameter N → Text
-  id_of (option id values default) = id
+  id_of (valued id values default required) = id
   id_of (flag id) = id
   id_of (other id required) = id
+  id_of (several id) = id
 
 -- ---- as `clap` is offered them
 
@@ -40,15 +51,16 @@ module _ {N : Type 0} (memory : N → Bor (List (Bor Text))) where
   parser_of (listed n) = parser.Names (memory n)
 
   abbrev pub offered_rule : Parameter N → Rule
-  offered_rule (option id values default) = record (new_rule id) {
+  offered_rule (valued id values default required) = record (new_rule id) {
     long = Some id;
     value_names = 1;
     defaults = option_to_list default;
     parser = Some (parser_of values);
-    required = not (is_some default);
+    required = required;
   }
   offered_rule (flag id) = record (new_rule id) { long = Some id; action = Some SetTrue }
   offered_rule (other id required) = record (new_rule id) { value_names = 1; required = required }
+  offered_rule (several id) = record (new_rule id) { value_names = 1; action = Some Append }
 
   -- a subcommand of this name that is offered with these parameters, before it is built
   abbrev pub offered_app : Text → List (Parameter N) → App
@@ -64,13 +76,14 @@ module _ {N : Type 0} (known : N → List Text) where
 
   -- a default is one that its own option takes
   abbrev pub takes_default : Parameter N → Bool
-  takes_default (option id values None) = true
-  takes_default (option id values (Some text)) = takes values text
+  takes_default (valued id values None required) = true
+  takes_default (valued id values (Some text) required) = takes values text
   takes_default (flag id) = true
   takes_default (other id required) = true
+  takes_default (several id) = true
 
 module _ {N : Type 0} where
-  -- it is an argument by itself
-  abbrev pub is_other : Parameter N → Bool
-  is_other (other id required) = true
-  is_other parameter = false
+  -- it is one of arguments of which there may be several
+  abbrev pub is_several : Parameter N → Bool
+  is_several (several id) = true
+  is_several parameter = false

@@ -1,16 +1,16 @@
 -- What the arguments of a command line may ask for.
-use Rattle.std.specs.Prelude.{◌≤◌, ◌^◌, ◌-◌, ℕ, Bool, true, false, List, [], ◌∷◌, map, Option, Some, None, IfSome, option_map, String, string_bytes}
-use Rattle.tso_ops.specs.declared.settings.Order.{Order}
+use Rattle.std.specs.Prelude.{◌≤◌, ◌^◌, ◌-◌, ℕ, Bool, true, false, List, [], ◌∷◌, count_by, is_none, map, Option, Some, None, IfSome, option_map, String, string_bytes}
 use Rattle.command_line.specs.declared.requests.Request.{Request}
 use Rattle.command_line.specs.declared.requests.TextPair.{TextPair}
 use Rattle.command_line.specs.declared.requests.TextPair.TheVariants.{Files, InputAndFile, FileAndInput}
+use Rattle.command_line.specs.declared.options.BatchPrinting.{BatchPrinting}
 use Rattle.command_line.specs.declared.options.CampaignOptions.{CampaignOptions}
 use Rattle.command_line.specs.declared.options.LogOptions.{LogOptions}
+use Rattle.command_line.specs.declared.options.MakeOptions.{MakeOptions}
 use Rattle.command_line.specs.declared.options.Presentation.{Presentation}
 use Rattle.command_line.specs.declared.options.Printing.{Printing}
 use Rattle.command_line.specs.declared.options.Printing.TheVariants.{Report, Trace, Explanation}
 use Rattle.command_line.specs.declared.options.RunOptions.{RunOptions}
-use Rattle.command_line.specs.declared.options.ShapeNumbers.{ShapeNumbers}
 use Rattle.command_line.specs.declared.options.UnitOptions.{UnitOptions}
 use Rattle.command_line.specs.declared.requests.Request.TheVariants.{Judge, Batch, Log, Check, Replay, Run, Make, Campaign, Show, Refuse}
 
@@ -31,22 +31,22 @@ prints_trace Explanation = false
 
 -- what is asked for; a text for which no file is named is on standard input
 pub data Asked : Type 0 where
-  -- to judge a trace with so many workers, and to present the verdict in this form
-  judging : Presentation → Option Text → ℕ → Asked
-  -- to judge traces that stand one after the other with so many workers, and whether the lines of those without a
-  -- violation are left out
-  batching : Option Text → ℕ → Bool → Asked
+  -- to judge a trace with so many workers, and to present the verdict in this form: the only trace of a text, or the one of this number among those that
+  -- stand in it one after the other
+  judging : Presentation → Option Text → ℕ → Option ℕ → Asked
+  -- to judge the traces of these texts, which stand one after the other, with so many workers, and to print this of them
+  batching : List (Option Text) → ℕ → BatchPrinting → Asked
   -- to find violations of a log, and to show so many at most in this form
   logging : Option Text → LogOptions → Asked
-  -- to check against a trace, the first text, a certificate, the second
-  checking : Option Text → Option Text → Asked
+  -- to check against a trace, the first text or the trace of this number in it, a certificate, the second
+  checking : Option Text → Option Text → Option ℕ → Asked
   -- to replay a program, the first text, by a schedule, the second, with these options
   replaying : RunOptions → Option Text → Option Text → Asked
   -- to run a program with a thread per processor, with these options and this seed of the drains, beside a drainer that
   -- takes so many turns
   running : RunOptions → ℕ → ℕ → Option Text → Asked
-  -- to print the program of this memory model made from this seed in this shape
-  making : Order → ℕ → ShapeNumbers → Asked
+  -- to print the program made from a seed, or the schedule
+  making : MakeOptions → Asked
   -- to run the programs made from the seeds of a campaign, and to judge the trace of each
   campaigning : CampaignOptions → Asked
   -- to print the help or the version
@@ -62,13 +62,13 @@ files_of (FileAndInput first) = (Some first.now, None)
 
 -- what a request asks for
 abbrev pub asked_of : Request → Asked
-asked_of (Judge judge) = judging judge.presentation (option_map (λ f. f.now) judge.file) judge.workers
-asked_of (Batch batch) = batching (option_map (λ f. f.now) batch.file) batch.workers batch.quiet
+asked_of (Judge judge) = judging judge.presentation (option_map (λ f. f.now) judge.file) judge.workers judge.nth
+asked_of (Batch batch) = batching (map (option_map (λ f. f.now)) batch.texts.items) batch.workers batch.printing
 asked_of (Log log) = logging (option_map (λ f. f.now) log.file) log.options
-asked_of (Check texts) = checking (files_of texts).0 (files_of texts).1
+asked_of (Check check) = checking (files_of check.texts).0 (files_of check.texts).1 check.nth
 asked_of (Replay options texts) = replaying options (files_of texts).0 (files_of texts).1
 asked_of (Run run) = running run.options run.drain_seed run.drain_turns (option_map (λ f. f.now) run.program)
-asked_of (Make order seed shape) = making order seed shape
+asked_of (Make options) = making options
 asked_of (Campaign options) = campaigning options
 asked_of (Show text) = showing
 asked_of (Refuse text) = refusing
@@ -113,10 +113,10 @@ abbrev pub nothing_needed : Needs
 nothing_needed = record { texts = []; workers = None; unit = None; program = None }
 
 abbrev pub needs : Asked → Needs
-needs (judging presentation file workers) = record nothing_needed { texts = file ∷ []; workers = Some workers }
-needs (batching file workers quiet) = record nothing_needed { texts = file ∷ []; workers = Some workers }
+needs (judging presentation file workers nth) = record nothing_needed { texts = file ∷ []; workers = Some workers }
+needs (batching texts workers printing) = record nothing_needed { texts = texts; workers = Some workers }
 needs (logging file options) = record nothing_needed { texts = file ∷ [] }
-needs (checking trace certificate) = record nothing_needed { texts = trace ∷ certificate ∷ [] }
+needs (checking trace certificate nth) = record nothing_needed { texts = trace ∷ certificate ∷ [] }
 needs (replaying options program schedule) = record {
   texts = program ∷ schedule ∷ [];
   workers = Some options.workers;
@@ -144,3 +144,8 @@ HasDrainTurns asked = Unit {0}
 abbrev pub HasLogRanges : Asked → Type 0
 HasLogRanges (logging file options) = (1 ≤ options.most) × (options.most ≤ log_violation_limit) × (options.effort ≤ log_effort_limit)
 HasLogRanges asked = Unit {0}
+
+-- standard input is at most one of the texts of a batch, since it can be read once
+abbrev pub HasOneInput : Asked → Type 0
+HasOneInput (batching texts workers printing) = count_by is_none texts ≤ 1
+HasOneInput asked = Unit {0}

@@ -3,15 +3,15 @@ use Rattle.std.specs.Prelude.{Contains, List, [], ◌∷◌, Option, None, codes
 use Rattle.command_line.specs.Spelled.{Give}
 use Rattle.command_line.specs.declared.options.Presentation.TheVariants.{Report}
 use Rattle.command_line.specs.Requests.{Text, Asked, judging}
-use Rattle.command_line.specs.Subcommands.{Subcommand, known_names, subcommands, text_by_name}
+use Rattle.command_line.specs.Subcommands.{Subcommand, asks, known_names, subcommands, text_by_name}
 
 -- the arguments ask for this
 pub data Asks : List Text → Asked → Type 0 where
   -- no arguments: standard input, with one worker
-  nothing : Asks [] (judging Report None 1)
+  nothing : Asks [] (judging Report None 1 None)
   -- the name of a subcommand, and then its parameters in a usual spelling and any order
-  subcommand : (c : Subcommand) (rest : List Text) (texts : List (Option Text)) → Contains subcommands c → Give known_names c.parameters rest texts
-      → Asks (c.name ∷ rest) (c.ask (text_by_name c.parameters texts))
+  subcommand : (c : Subcommand) (rest : List Text) (texts : List (Option Text)) (more : List Text) → Contains subcommands c → Give known_names c.parameters rest texts more
+      → Asks (c.name ∷ rest) (asks c (text_by_name c.parameters texts) more)
 
 -- the arguments ask for the help or for the version
 pub data AsksHelp : List Text → Type 0 where

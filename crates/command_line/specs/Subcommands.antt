@@ -1,13 +1,17 @@
 -- The subcommands as values: the parameters of each, and what it asks for by their texts.
-use Rattle.std.specs.Prelude.{◌&&◌, ◌||◌, ℕ, Bool, true, false, List, [], ◌∷◌, ◌++◌, Option, Some, None, codes, find, is_some, map, max, min, option_and_then, option_map, unwrap_or, zip, if◌then◌else◌}
+use Rattle.std.specs.Prelude.{◌&&◌, ◌||◌, ℕ, Bool, true, false, List, [], ◌∷◌, ◌++◌, Option, Some, None, codes, count_by, find, is_none, is_some, map, max, min, nat_le, option_and_then, option_map, unwrap_or, zip, if◌then◌else◌}
+use Rattle.std.specs.List.{list_any}
 use Rattle.std.specs.Option.{option_map_or}
 use Rattle.std.specs.Str.{bytes_eq}
 use Rattle.std.specs.Str.Parse.{digits_value, without_leading_plus}
 use Rattle.clap.specs.ValueTests.{is_unsigned_in}
 use Rattle.command_line.specs.Given.{value_named}
-use Rattle.command_line.specs.Parameters.{Parameter, flag, id_of, listed, option, other, range}
+use Rattle.command_line.specs.Parameters.{Parameter, flag, id_of, is_several, listed, option, optional, other, range, several}
 use Rattle.tso_ops.specs.declared.settings.Order.{Order}
 use Rattle.tso_ops.specs.declared.settings.Order.TheVariants.{Tso}
+use Rattle.command_line.specs.declared.options.BatchFormat.{BatchFormat}
+use Rattle.command_line.specs.declared.options.BatchFormat.TheVariants.{Words}
+use Rattle.command_line.specs.declared.options.BatchPrinting.{BatchPrinting}
 use Rattle.command_line.specs.declared.options.Printing.{Printing}
 use Rattle.command_line.specs.declared.options.LogForm.{LogForm}
 use Rattle.command_line.specs.declared.options.LogForm.TheVariants as forms
@@ -20,8 +24,8 @@ use Rattle.command_line.specs.declared.options.ShapeNumbers.{ShapeNumbers}
 use Rattle.command_line.specs.declared.options.UnitKind.TheVariants.{Serial}
 use Rattle.command_line.specs.declared.options.UnitOptions.{UnitOptions}
 use Rattle.command_line.specs.declared.parameters.NameList.{NameList}
-use Rattle.command_line.specs.declared.parameters.NameList.TheVariants.{Units, Models}
-use Rattle.command_line.specs.Names.{models, units}
+use Rattle.command_line.specs.declared.parameters.NameList.TheVariants.{Units, Models, Formats}
+use Rattle.command_line.specs.Names.{formats, models, units}
 use Rattle.command_line.specs.Requests.{Text, Asked, batching, campaigning, capacity_limit, checking, drain_turns_limit, judging, log_effort_limit, log_violation_limit, logging, making, number_limit, refusing, replaying, running, worker_limit}
 
 pub record Subcommand : Type 0 where
@@ -29,6 +33,26 @@ pub record Subcommand : Type 0 where
   pub parameters : List (Parameter NameList)
   -- what is asked for, by the text of the parameter of each name
   pub ask : (Text → Option Text) → Asked
+
+-- the file that a text names; none where there is no text, or it is `-`: then standard input is meant
+abbrev pub file_of : Option Text → Option Text
+file_of text = option_and_then (λ t. if bytes_eq t (codes "-") then None else Some t) text
+
+-- The texts of a batch that arguments name: standard input where none does. None where standard input would be several of them.
+abbrev pub batch_texts : List Text → Option (List (Option Text))
+batch_texts [] = Some (None ∷ [])
+batch_texts (file ∷ files) =
+    let texts = map (λ name. file_of (Some name)) (file ∷ files) in
+    if nat_le (count_by is_none texts) 1 then Some texts else None
+
+-- what is asked for, of these files where it is a batch
+abbrev pub with_files : List Text → Asked → Asked
+with_files files (batching none workers printing) = option_map_or (λ texts. batching texts workers printing) (batch_texts files) refusing
+with_files files asked = asked
+
+-- what is asked for, by the text of the parameter of each name and by those of the parameter of which there may be several
+abbrev pub asks : Subcommand → (Text → Option Text) → List Text → Asked
+asks c given files = if list_any is_several c.parameters then with_files files (c.ask given) else c.ask given
 
 -- the text of the parameter of a name, by the texts of the parameters in their order
 abbrev pub text_by_name : List (Parameter NameList) → List (Option Text) → Text → Option Text
@@ -38,12 +62,17 @@ text_by_name parameters texts name = option_and_then (λ p. p.1) (find (λ p. by
 abbrev pub known_names : NameList → List Text
 known_names Units = map (λ unit. unit.0) units
 known_names Models = map (λ model. model.0) models
+known_names Formats = map (λ format. format.0) formats
 
 -- ---- parameters of several subcommands
 
 -- `--workers N`: 1 where it is left out
 abbrev pub workers : Parameter NameList
 workers = option (codes "workers") (range 1 worker_limit) (Some (codes "1"))
+
+-- `--nth K`
+abbrev pub nth : Parameter NameList
+nth = optional (codes "nth") (range 1 number_limit)
 
 -- `--unit UNIT [--capacity C] [--trigger T] [--workers N]`: a capacity of 8 and a trigger of 1 where they are left out
 abbrev pub unit_parameters : List (Parameter NameList)
@@ -53,9 +82,13 @@ unit_parameters =
     ∷ option (codes "trigger") (range 1 number_limit) (Some (codes "1"))
     ∷ workers ∷ []
 
--- those, and `[--trace|--explain]`
+-- those, and `[--trace|--explain] [--with-trace]`
 abbrev pub run_parameters : List (Parameter NameList)
-run_parameters = unit_parameters ++ flag (codes "trace") ∷ flag (codes "explain") ∷ []
+run_parameters = unit_parameters ++ flag (codes "trace") ∷ flag (codes "explain") ∷ flag (codes "with-trace") ∷ []
+
+-- `--drain-turns T`: none where it is left out
+abbrev pub drain_turns : Parameter NameList
+drain_turns = option (codes "drain-turns") (range 0 drain_turns_limit) (Some (codes "0"))
 
 -- `[--most K] [--effort N] [--trace|--explain]`: 10 violations and an effort of 100 where they are left out
 abbrev pub log_parameters : List (Parameter NameList)
@@ -76,12 +109,19 @@ shape_parameters = map required (codes "procs" ∷ codes "ops" ∷ codes "addrs"
 abbrev pub model : Parameter NameList
 model = option (codes "model") (listed Models) (Some (codes "tso"))
 
+-- `--format FORMAT`: words where it is left out
+abbrev pub format : Parameter NameList
+format = option (codes "format") (listed Formats) (Some (codes "words"))
+
 -- ---- what their texts stand for
 
--- the number of 64 bits that a text spells, in digits after a plus sign or none, and `default` where none is spelled
+-- the number of 64 bits that a text spells, in digits after a plus sign or none; none where there is no text, or it spells none
+abbrev pub number_of : Option Text → Option ℕ
+number_of text = option_and_then (λ t. if is_unsigned_in 0 number_limit t then Some (digits_value 10 (without_leading_plus t)) else None) text
+
+-- that number, and `default` where there is none
 abbrev pub number_or : ℕ → Option Text → ℕ
-number_or default text =
-    option_map_or (λ t. if is_unsigned_in 0 number_limit t then digits_value 10 (without_leading_plus t) else default) text default
+number_or default text = unwrap_or (number_of text) default
 
 -- The nearest number within the limits. An option takes no other; what `clap` says of all arguments doesn't say so.
 abbrev pub within : ℕ → ℕ → ℕ → ℕ
@@ -89,6 +129,9 @@ within least most n = max least (min n most)
 
 abbrev pub workers_of : (Text → Option Text) → ℕ
 workers_of given = within 1 worker_limit (number_or 1 (given (codes "workers")))
+
+abbrev pub drain_turns_of : (Text → Option Text) → ℕ
+drain_turns_of given = within 0 drain_turns_limit (number_or 0 (given (codes "drain-turns")))
 
 abbrev pub unit_of : (Text → Option Text) → UnitOptions
 unit_of given = record {
@@ -107,8 +150,18 @@ printing_of trace explain = if trace && explain then None else Some (if trace th
 
 abbrev pub run_of : (Text → Option Text) → Option RunOptions
 run_of given =
-    option_map (λ printing. record { unit = unit_of given; workers = workers_of given; printing = printing })
+    option_map (λ printing. record { unit = unit_of given; workers = workers_of given; printing = printing; with_trace = is_true (given (codes "with-trace")) })
     (printing_of (is_true (given (codes "trace"))) (is_true (given (codes "explain"))))
+
+abbrev pub chosen_format : Option Text → BatchFormat
+chosen_format text = unwrap_or (option_and_then (λ name. value_named name formats) text) Words
+
+abbrev pub batch_printing_of : (Text → Option Text) → BatchPrinting
+batch_printing_of given = record {
+  format = chosen_format (given (codes "format"));
+  quiet = is_true (given (codes "quiet"));
+  violations = is_true (given (codes "violations"));
+}
 
 -- the form in which violations are shown, by whether the flags of traces and of explanations are used, of which one may be
 abbrev pub log_form_of : Bool → Bool → Option LogForm
@@ -136,30 +189,27 @@ shape_of given = record {
 abbrev pub chosen_order : Option Text → Order
 chosen_order text = unwrap_or (option_and_then (λ name. value_named name models) text) Tso
 
--- the file that a text names; none where there is no text, or it is `-`: then standard input is meant
-abbrev pub file_of : Option Text → Option Text
-file_of text = option_and_then (λ t. if bytes_eq t (codes "-") then None else Some t) text
-
 -- two texts, each in a file or on standard input; none where both would be there, which can be read once
 abbrev pub pair_of : Option Text → Option Text → Option (Option Text × Option Text)
 pair_of first second = if is_some first || is_some second then Some (first, second) else None
 
 -- ---- the subcommands
 
--- `NAME [--workers N] [FILE]`: judges a file, or standard input, and presents the verdict in this form
+-- `NAME [--workers N] [--nth K] [FILE]`: judges a file, or standard input, or of the traces that stand there one after the other that of a number, and
+-- presents the verdict in this form
 abbrev pub judge_as : Text → Presentation → Subcommand
 judge_as name presentation = record {
   name = name;
-  parameters = workers ∷ other (codes "file") false ∷ [];
-  ask = λ given. judging presentation (file_of (given (codes "file"))) (workers_of given);
+  parameters = workers ∷ nth ∷ other (codes "file") false ∷ [];
+  ask = λ given. judging presentation (file_of (given (codes "file"))) (workers_of given) (number_of (given (codes "nth")));
 }
 
--- `batch [--workers N] [--quiet] [FILE]`: judges the traces that stand one after the other in a file, or on standard input
+-- `batch [--workers N] [--format FORMAT] [--quiet] [--violations] [FILE]...`: judges the traces that stand one after the other in files, or on standard input
 abbrev pub batch : Subcommand
 batch = record {
   name = codes "batch";
-  parameters = workers ∷ flag (codes "quiet") ∷ other (codes "file") false ∷ [];
-  ask = λ given. batching (file_of (given (codes "file"))) (workers_of given) (is_true (given (codes "quiet")));
+  parameters = workers ∷ format ∷ flag (codes "quiet") ∷ flag (codes "violations") ∷ several (codes "file") ∷ [];
+  ask = λ given. batching [] (workers_of given) (batch_printing_of given);
 }
 
 -- `log [--most K] [--trace|--explain] [FILE]`: finds violations of the log in a file, or on standard input
@@ -170,16 +220,16 @@ log = record {
   ask = λ given. option_map_or (logging (file_of (given (codes "file")))) (log_options_of given) refusing;
 }
 
--- `check TRACE CERT`: checks a certificate against its trace
+-- `check [--nth K] TRACE CERT`: checks a certificate against its trace, or against that of a number among those that stand one after the other
 abbrev pub check : Subcommand
 check = record {
   name = codes "check";
-  parameters = other (codes "trace") true ∷ other (codes "cert") true ∷ [];
+  parameters = nth ∷ other (codes "trace") true ∷ other (codes "cert") true ∷ [];
   ask = λ given.
-      option_map_or (λ texts. checking texts.0 texts.1) (pair_of (file_of (given (codes "trace"))) (file_of (given (codes "cert")))) refusing;
+      option_map_or (λ texts. checking texts.0 texts.1 (number_of (given (codes "nth")))) (pair_of (file_of (given (codes "trace"))) (file_of (given (codes "cert")))) refusing;
 }
 
--- `replay --unit UNIT [--capacity C] [--trigger T] [--workers N] [--trace|--explain] PROGRAM SCHEDULE`: replays a program by a schedule
+-- `replay --unit UNIT [--capacity C] [--trigger T] [--workers N] [--trace|--explain] [--with-trace] PROGRAM SCHEDULE`: replays a program by a schedule
 abbrev pub replay : Subcommand
 replay = record {
   name = codes "replay";
@@ -189,35 +239,42 @@ replay = record {
       (run_of given) refusing;
 }
 
--- `run --unit UNIT [--capacity C] [--trigger T] [--workers N] [--trace|--explain] --seed N [--drain-turns T] PROGRAM`: runs a program with a thread per
--- processor, and no drainer where its turns are left out
+-- `run --unit UNIT [--capacity C] [--trigger T] [--workers N] [--trace|--explain] [--with-trace] --seed N [--drain-turns T] PROGRAM`: runs a program with a
+-- thread per processor, and no drainer where its turns are left out
 abbrev pub run : Subcommand
 run = record {
   name = codes "run";
-  parameters = run_parameters ++ required (codes "seed") ∷ option (codes "drain-turns") (range 0 drain_turns_limit) (Some (codes "0"))
-      ∷ other (codes "program") true ∷ [];
+  parameters = run_parameters ++ required (codes "seed") ∷ drain_turns ∷ other (codes "program") true ∷ [];
   ask = λ given. option_map_or (λ options.
-      running options (number_or 0 (given (codes "seed"))) (within 0 drain_turns_limit (number_or 0 (given (codes "drain-turns"))))
+      running options (number_or 0 (given (codes "seed"))) (drain_turns_of given)
       (file_of (given (codes "program")))) (run_of given) refusing;
 }
 
--- `make [--model MODEL] --seed N --procs P --ops O --addrs A`: prints the program that a seed draws
+-- `make [--schedule] [--model MODEL] --seed N --procs P --ops O --addrs A`: prints the program that a seed draws, or its schedule
 abbrev pub make : Subcommand
 make = record {
   name = codes "make";
-  parameters = model ∷ required (codes "seed") ∷ shape_parameters;
-  ask = λ given. making (chosen_order (given (codes "model"))) (number_or 0 (given (codes "seed"))) (shape_of given);
+  parameters = flag (codes "schedule") ∷ model ∷ required (codes "seed") ∷ shape_parameters;
+  ask = λ given. making (record {
+    order = chosen_order (given (codes "model"));
+    seed = number_or 0 (given (codes "seed"));
+    shape = shape_of given;
+    schedule = is_true (given (codes "schedule"));
+  });
 }
 
--- `campaign --unit UNIT [--capacity C] [--trigger T] [--workers N] [--model MODEL] --first S --count K --procs P --ops O --addrs A`: runs the programs
--- that many seeds draw
+-- `campaign --unit UNIT [--capacity C] [--trigger T] [--workers N] [--replay] [--drain-turns T] [--trace] [--model MODEL] --first S --count K --procs P
+-- --ops O --addrs A`: runs or replays the programs that many seeds draw
 abbrev pub campaign : Subcommand
 campaign = record {
   name = codes "campaign";
-  parameters = unit_parameters ++ model ∷ required (codes "first") ∷ required (codes "count") ∷ shape_parameters;
+  parameters = unit_parameters ++ flag (codes "replay") ∷ drain_turns ∷ flag (codes "trace") ∷ model ∷ required (codes "first") ∷ required (codes "count") ∷ shape_parameters;
   ask = λ given. campaigning (record {
     unit = unit_of given;
     workers = workers_of given;
+    replayed = is_true (given (codes "replay"));
+    drain_turns = drain_turns_of given;
+    traces = is_true (given (codes "trace"));
     order = chosen_order (given (codes "model"));
     first = number_or 0 (given (codes "first"));
     count = number_or 0 (given (codes "count"));

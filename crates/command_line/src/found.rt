@@ -1,17 +1,20 @@
 //! What the matches of a subcommand ask for. The command has refused arguments without what may not be left out.
-ghost use Rattle.std.specs.Prelude.{◌≡◌, ◌≤◌, codes, option_map, IfOk};
+ghost use Rattle.std.specs.Prelude.{◌≡◌, ◌≤◌, [], codes, count_by, is_none, map, option_map, unwrap_or, IfOk, Some};
 ghost use Rattle.clap.specs.Words.{first_of, found_of, one_of, rows_of};
 ghost use Rattle.command_line.specs.Commands.{asked_in, given_in};
-ghost use Rattle.command_line.specs.Requests.{asked_of, files_of, refusing, worker_limit};
-ghost use Rattle.command_line.specs.Subcommands.{batch, campaign, check, chosen_order, file_of, is_true, judge_as, log, log_form_of, log_options_of, log_parameters, make, model, number_or, pair_of, printing_of, replay, run, run_of, run_parameters, shape_of, shape_parameters, unit_of, unit_parameters, within};
+ghost use Rattle.command_line.specs.Requests.{asked_of, drain_turns_limit, files_of, refusing, worker_limit};
+ghost use Rattle.command_line.specs.Subcommands.{batch, batch_printing_of, batch_texts, campaign, check, chosen_format, chosen_order, file_of, is_true, judge_as, log, log_form_of, log_options_of, log_parameters, make, model, number_of, number_or, pair_of, printing_of, replay, run, run_of, run_parameters, shape_of, shape_parameters, unit_of, unit_parameters, within};
 
 use crate::help;
 use crate::options::{
-    CampaignOptions, LogForm, LogOptions, MAX_CAPACITY, MAX_DRAIN_TURNS, MAX_LOG_EFFORT,
-    MAX_LOG_VIOLATIONS, MAX_WORKERS, Presentation, Printing, RunOptions, ShapeNumbers, UnitKind,
-    UnitOptions, kind_named, order_named,
+    BatchFormat, BatchPrinting, CampaignOptions, LogForm, LogOptions, MAX_CAPACITY,
+    MAX_DRAIN_TURNS, MAX_LOG_EFFORT, MAX_LOG_VIOLATIONS, MAX_WORKERS, MakeOptions, Presentation,
+    Printing, RunOptions, ShapeNumbers, UnitKind, UnitOptions, format_named, kind_named,
+    order_named,
 };
-use crate::requests::{BatchRequest, JudgeRequest, LogRequest, Request, RunRequest, TextPair};
+use crate::requests::{
+    BatchRequest, CheckRequest, JudgeRequest, LogRequest, Request, RunRequest, TextPair,
+};
 use clap::ArgMatches;
 use std::alloc::{AllocError, Global};
 use tso_ops::Order;
@@ -26,19 +29,24 @@ pub(crate) fn judge<'a>(matches: &ArgMatches<'a>, presentation: Presentation) ->
     Request::Judge(JudgeRequest {
         file: file(matches, "file"),
         workers: workers(matches),
+        nth: nth(matches),
         presentation,
     })
 }
 
-/// Of `batch`.
-pub(crate) fn batch<'a>(matches: &ArgMatches<'a>) -> Request<'a>
-    ensures { asked_of result ≡ asked_in batch (rows_of (found_of matches.now)) }
+/// Of `batch`: a refusal where several texts would be standard input.
+pub(crate) fn batch<'a>(alloc: Global, matches: &ArgMatches<'a>) -> Result<Request<'a>, AllocError>
+    ensures { IfOk result (λ request. asked_of request ≡ asked_in batch (rows_of (found_of matches.now))) }
 {
-    Request::Batch(BatchRequest {
-        file: file(matches, "file"),
-        workers: workers(matches),
-        quiet: is_used(matches, "quiet"),
-    })
+    let named = texts_found(alloc, matches.get_strs("file"))?;
+    match named {
+        Some(texts) => Ok(Request::Batch(BatchRequest {
+            texts,
+            workers: workers(matches),
+            printing: batch_printing(matches),
+        })),
+        None => refuse(alloc, help::SEVERAL_INPUTS),
+    }
 }
 
 /// Of `log`: a refusal of both flags.
@@ -59,7 +67,10 @@ pub(crate) fn check<'a>(alloc: Global, matches: &ArgMatches<'a>) -> Result<Reque
     ensures { IfOk result (λ request. asked_of request ≡ asked_in check (rows_of (found_of matches.now))) }
 {
     match text_pair(matches, "trace", "cert") {
-        Some(texts) => Ok(Request::Check(texts)),
+        Some(texts) => Ok(Request::Check(CheckRequest {
+            texts,
+            nth: nth(matches),
+        })),
         None => refuse(alloc, help::TWO_INPUTS),
     }
 }
@@ -85,7 +96,7 @@ pub(crate) fn run<'a>(alloc: Global, matches: &ArgMatches<'a>) -> Result<Request
         Some(options) => Ok(Request::Run(RunRequest {
             options,
             drain_seed: number(matches, "seed", 0),
-            drain_turns: number_within(matches, "drain-turns", 0, 0, MAX_DRAIN_TURNS),
+            drain_turns: drain_turns(matches),
             program: file(matches, "program"),
         })),
         None => refuse(alloc, help::BOTH),
@@ -96,11 +107,12 @@ pub(crate) fn run<'a>(alloc: Global, matches: &ArgMatches<'a>) -> Result<Request
 pub(crate) fn make<'a>(matches: &ArgMatches<'a>) -> Request<'a>
     ensures { asked_of result ≡ asked_in make (rows_of (found_of matches.now)) }
 {
-    Request::Make {
+    Request::Make(MakeOptions {
         order: order(matches),
         seed: number(matches, "seed", 0),
         shape: shape_numbers(matches),
-    }
+        schedule: is_used(matches, "schedule"),
+    })
 }
 
 /// Of `campaign`.
@@ -110,6 +122,9 @@ pub(crate) fn campaign<'a>(matches: &ArgMatches<'a>) -> Request<'a>
     Request::Campaign(CampaignOptions {
         unit: unit_options(matches),
         workers: workers(matches),
+        replayed: is_used(matches, "replay"),
+        drain_turns: drain_turns(matches),
+        traces: is_used(matches, "trace"),
         order: order(matches),
         first: number(matches, "first", 0),
         count: number(matches, "count", 0),
@@ -129,10 +144,72 @@ fn file<'a>(matches: &ArgMatches<'a>, name: &str) -> Option<&'a str>
     ensures { option_map (λ file. file.now) result ≡ file_of (first_of name.now (rows_of (found_of matches.now))) }
 {
     let named = matches.get_str(name)?;
-    if named == STANDARD_INPUT {
+    named_file(named)
+}
+
+/// The file of this name; none where it is a hyphen.
+fn named_file<'a>(name: &'a str) -> Option<&'a str>
+    ensures { option_map (λ file. file.now) result ≡ file_of (Some name.now) }
+{
+    if name == STANDARD_INPUT {
         return None;
     }
-    Some(named)
+    Some(name)
+}
+
+/// The texts of a batch that these arguments name, where there are any.
+fn texts_found<'a>(
+    alloc: Global,
+    names: Option<&[&'a str]>,
+) -> Result<Option<Vec<Option<&'a str>>>, AllocError>
+    ensures { IfOk result (λ texts. option_map (λ texts. map (option_map (λ file. file.now)) texts.items) texts ≡ batch_texts (unwrap_or (option_map (λ names. map (λ name. name.now) names.now) names.entry) [])) }
+{
+    match names {
+        Some(names) => batch_texts(alloc, names),
+        None => batch_texts(alloc, &[]),
+    }
+}
+
+/// The texts of a batch that these arguments name: standard input where there are none. None where standard input would be
+/// several of them.
+fn batch_texts<'a>(
+    alloc: Global,
+    names: &[&'a str],
+) -> Result<Option<Vec<Option<&'a str>>>, AllocError>
+    ensures { IfOk result (λ texts. option_map (λ texts. map (option_map (λ file. file.now)) texts.items) texts ≡ batch_texts (map (λ name. name.now) names.now)) }
+{
+    if names.is_empty() {
+        return Ok(Some(vec![in alloc; None]?));
+    }
+    let texts = texts_named(alloc, names)?;
+    if inputs_among(&texts) > 1 {
+        return Ok(None);
+    }
+    Ok(Some(texts))
+}
+
+/// The text that each of these arguments names.
+fn texts_named<'a>(alloc: Global, names: &[&'a str]) -> Result<Vec<Option<&'a str>>, AllocError>
+    ensures { IfOk result (λ texts. map (option_map (λ file. file.now)) texts.items ≡ map (λ name. file_of (Some name.now)) names.now) }
+{
+    let mut texts = Vec::new(alloc);
+    for name in names {
+        texts.push(named_file(*name))?;
+    }
+    Ok(texts)
+}
+
+/// How many of these texts are standard input.
+fn inputs_among(texts: &[Option<&str>]) -> usize
+    ensures { result ≡ count_by is_none texts.now }
+{
+    let mut count = 0;
+    for text in texts {
+        if text.is_none() {
+            count += 1;
+        }
+    }
+    count
 }
 
 /// The two texts that arguments name; none where standard input would be both.
@@ -175,6 +252,7 @@ fn run_options(matches: &ArgMatches<'_>) -> Option<RunOptions>
         unit: unit_options(matches),
         workers: workers(matches),
         printing,
+        with_trace: is_used(matches, "with-trace"),
     })
 }
 
@@ -187,6 +265,25 @@ fn printing(matches: &ArgMatches<'_>) -> Option<Printing>
         (true, false) => Some(Printing::Trace),
         (false, true) => Some(Printing::Explanation),
         (true, true) => None,
+    }
+}
+
+/// How the lines of a batch are written: in words where no format is named.
+fn format(matches: &ArgMatches<'_>) -> BatchFormat
+    ensures { result ≡ chosen_format (first_of (codes "format") (rows_of (found_of matches.now))) }
+{
+    let named = matches.get_str("format").and_then(format_named);
+    named.unwrap_or(BatchFormat::Words)
+}
+
+/// What the options say of what is printed of a batch.
+fn batch_printing(matches: &ArgMatches<'_>) -> BatchPrinting
+    ensures { result ≡ batch_printing_of (given_in batch.parameters (rows_of (found_of matches.now))) }
+{
+    BatchPrinting {
+        format: format(matches),
+        quiet: is_used(matches, "quiet"),
+        violations: is_used(matches, "violations"),
     }
 }
 
@@ -226,11 +323,26 @@ fn unit_options(matches: &ArgMatches<'_>) -> UnitOptions
     }
 }
 
+/// The number of a trace among those that stand one after the other; none where it is left out.
+fn nth(matches: &ArgMatches<'_>) -> Option<u64>
+    ensures { result ≡ number_of (one_of (codes "nth") (rows_of (found_of matches.now))) }
+{
+    matches.get_one("nth")
+}
+
 /// The number of workers, 1 where none is named.
 fn workers(matches: &ArgMatches<'_>) -> usize
     ensures { result ≡ within 1 worker_limit (number_or 1 (one_of (codes "workers") (rows_of (found_of matches.now)))) }
 {
     number_within(matches, "workers", 1, 1, MAX_WORKERS as u64) as usize
+}
+
+/// How many turns a drainer takes, none where they are left out.
+fn drain_turns(matches: &ArgMatches<'_>) -> u64
+    ensures value { result ≡ within 0 drain_turns_limit (number_or 0 (one_of (codes "drain-turns") (rows_of (found_of matches.now)))) }
+    ensures range { result ≤ drain_turns_limit }
+{
+    number_within(matches, "drain-turns", 0, 0, MAX_DRAIN_TURNS)
 }
 
 /// Whether the flag of this name is used.

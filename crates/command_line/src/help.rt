@@ -40,6 +40,13 @@ error: one of the two files may be '-', and not both: standard input is read onc
 For more information, try '--help'.
 ";
 
+/// The refusal of several files on standard input.
+pub(crate) const SEVERAL_INPUTS: &str = "\
+error: one of the files may be '-', and no more: standard input is read once
+
+For more information, try '--help'.
+";
+
 /// The refusal of `--trace` with `--explain`.
 pub(crate) const BOTH: &str = "\
 error: the argument '--trace' cannot be used with '--explain'

@@ -8,18 +8,22 @@ ghost use Rattle.clap.specs.Simple.{Shape};
 ghost use Rattle.clap.specs.Values.{refused_kind};
 ghost use Rattle.clap.specs.Walk.{Text, nothing_held, rows_after};
 ghost use Rattle.clap.specs.declared.error.kind.ErrorKind.TheVariants.{MissingRequiredArgument};
-ghost use Rattle.command_line.specs.Offered.{Offers, text_in};
+ghost use Rattle.command_line.specs.Offered.{Offers, several_in, text_in};
 ghost use Rattle.command_line.specs.Parameters.{Parameter, Values, parser_of, takes_default};
 ghost use Rattle.command_line.specs.Spelled.{Give, HaveWrongValue, LeaveOut, in_memory, names_at};
 
-/// Arguments that give texts to the parameters of a subcommand are taken, and its matches have these texts.
+/// Arguments that give texts to the parameters of a subcommand are taken, and its matches have these texts, and those of the
+/// parameter of which there may be several.
 pub fn given_arguments_are_taken()
     ensures taken { (s : Shape) (parameters : List (Parameter (Bor (List (Bor Text))))) → Offers in_memory s parameters → list_all (takes_default names_at) parameters ≡ true
-        → (arguments : List Text) (texts : List (Option Text)) → Give names_at parameters arguments texts
+        → (arguments : List Text) (texts : List (Option Text)) (more : List Text) → Give names_at parameters arguments texts more
         → level_fault s [] nothing_held arguments false [] ≡ [] }
     ensures texts { (s : Shape) (parameters : List (Parameter (Bor (List (Bor Text))))) → Offers in_memory s parameters → list_all (takes_default names_at) parameters ≡ true
-        → (arguments : List Text) (texts : List (Option Text)) → Give names_at parameters arguments texts
+        → (arguments : List Text) (texts : List (Option Text)) (more : List Text) → Give names_at parameters arguments texts more
         → map (text_in (rows_after s.rules [] arguments)) parameters ≡ texts }
+    ensures several { (s : Shape) (parameters : List (Parameter (Bor (List (Bor Text))))) → Offers in_memory s parameters → list_all (takes_default names_at) parameters ≡ true
+        → (arguments : List Text) (texts : List (Option Text)) (more : List Text) → Give names_at parameters arguments texts more
+        → several_in (rows_after s.rules [] arguments) parameters ≡ more }
 {}
 
 /// Arguments that leave out a parameter which may not be left out are refused for that.

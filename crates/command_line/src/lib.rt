@@ -12,10 +12,11 @@ mod requests;
 mod subcommands;
 
 pub use options::{
-    CampaignOptions, LogForm, LogOptions, MAX_CAPACITY, MAX_DRAIN_TURNS, MAX_LOG_EFFORT,
-    MAX_LOG_VIOLATIONS, MAX_WORKERS, Presentation, Printing, RunOptions, ShapeNumbers, UnitKind,
-    UnitOptions,
+    BatchFormat, BatchPrinting, CampaignOptions, LogForm, LogOptions, MAX_CAPACITY,
+    MAX_DRAIN_TURNS, MAX_LOG_EFFORT, MAX_LOG_VIOLATIONS, MAX_WORKERS, MakeOptions, Presentation,
+    Printing, RunOptions, ShapeNumbers, UnitKind, UnitOptions,
 };
 pub use requests::{
-    BatchRequest, JudgeRequest, LogRequest, Request, RunRequest, TextPair, read_arguments,
+    BatchRequest, CheckRequest, JudgeRequest, LogRequest, Request, RunRequest, TextPair,
+    read_arguments,
 };

@@ -2,7 +2,7 @@
 ghost use Rattle.std.specs.Prelude.{◌≡◌};
 ghost use Rattle.command_line.specs.Given.{value_named};
 ghost use Rattle.command_line.specs.Commands.{HasKnownNames};
-ghost use Rattle.command_line.specs.Names.{models, units};
+ghost use Rattle.command_line.specs.Names.{formats, models, units};
 
 use tso_ops::Order;
 use unit_faulty::FaultKind;
@@ -88,15 +88,18 @@ pub(crate) struct OptionNames<'a> {
     pub(crate) units: &'a [&'a str],
     /// Those of the memory models.
     pub(crate) models: &'a [&'a str],
+    /// Those of the formats of a batch.
+    pub(crate) formats: &'a [&'a str],
 }
 
-/// The names of all kinds of units and of all memory models.
+/// The names of all kinds of units, of all memory models and of all formats.
 pub(crate) fn option_names() -> OptionNames<'static>
     ensures { HasKnownNames result }
 {
     OptionNames {
         units: UNIT_NAMES.as_slice(),
         models: MODEL_NAMES.as_slice(),
+        formats: FORMAT_NAMES.as_slice(),
     }
 }
 
@@ -142,6 +145,45 @@ pub struct RunOptions {
     pub workers: usize,
     /// What is printed.
     pub printing: Printing,
+    /// Whether the recorded trace follows a report or an explanation.
+    pub with_trace: bool,
+}
+
+/// How the lines of a batch are written.
+#[derive(Clone, Copy, Debug, PartialEq, Eq)]
+pub enum BatchFormat {
+    /// `words`: as `trace 1 VIOLATION`.
+    Words,
+    /// `json`: as an object of JSON each.
+    Json,
+    /// `junit`: as a document in JUnit's XML, with a test case each.
+    Junit,
+}
+
+/// The names of the formats, as `--format` takes them; `format_named` knows each.
+static FORMAT_NAMES: [&str; 3] = ["words", "json", "junit"];
+
+/// The format of this name.
+pub(crate) fn format_named(name: &str) -> Option<BatchFormat>
+    ensures { result ≡ value_named name.now formats }
+{
+    match name {
+        "words" => Some(BatchFormat::Words),
+        "json" => Some(BatchFormat::Json),
+        "junit" => Some(BatchFormat::Junit),
+        _ => None,
+    }
+}
+
+/// What is printed of a batch.
+#[derive(Clone, Copy, Debug, PartialEq, Eq)]
+pub struct BatchPrinting {
+    /// How lines are written.
+    pub format: BatchFormat,
+    /// Whether the lines of traces without a violation are left out.
+    pub quiet: bool,
+    /// Whether the texts of violations are printed in place of all lines.
+    pub violations: bool,
 }
 
 /// In which form the violations of a log are shown.
@@ -177,6 +219,19 @@ pub struct ShapeNumbers {
     pub addresses: u64,
 }
 
+/// What is drawn from a seed, and which of it is printed.
+#[derive(Clone, Copy, Debug, PartialEq, Eq)]
+pub struct MakeOptions {
+    /// The memory model of the program.
+    pub order: Order,
+    /// The seed.
+    pub seed: u64,
+    /// The shape of the program.
+    pub shape: ShapeNumbers,
+    /// Whether the schedule of the seed is printed in place of its program.
+    pub schedule: bool,
+}
+
 /// Which programs a campaign draws, and how each is run.
 #[derive(Clone, Copy, Debug, PartialEq, Eq)]
 pub struct CampaignOptions {
@@ -184,6 +239,12 @@ pub struct CampaignOptions {
     pub unit: UnitOptions,
     /// The number of workers that share the seeds, 1 to 64.
     pub workers: usize,
+    /// Whether each is replayed by the schedule that its seed draws, in place of a run with a thread per processor.
+    pub replayed: bool,
+    /// How many turns a drainer takes beside the processors of each run, at most 1,000,000; replays have none.
+    pub drain_turns: u64,
+    /// Whether the recorded traces are printed in place of lines.
+    pub traces: bool,
     /// The memory model of each program.
     pub order: Order,
     /// The seed of the first program; each further program has the next seed.

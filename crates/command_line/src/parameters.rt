@@ -18,6 +18,8 @@ pub(crate) enum NameList {
     Units,
     /// Those of the memory models.
     Models,
+    /// Those of the formats of a batch.
+    Formats,
 }
 
 /// What an option takes.
@@ -40,6 +42,13 @@ pub(crate) enum Parameter {
         default: Option<&'static str>,
         help: &'static str,
     },
+    /// `--name VALUE`, which may be left out, and has no value then.
+    Optional {
+        name: &'static str,
+        value_name: &'static str,
+        accepted: Accepted,
+        help: &'static str,
+    },
     /// `--name`.
     Flag {
         name: &'static str,
@@ -50,6 +59,12 @@ pub(crate) enum Parameter {
         name: &'static str,
         value_name: &'static str,
         required: bool,
+        help: &'static str,
+    },
+    /// Arguments by themselves, as many as there are.
+    Several {
+        name: &'static str,
+        value_name: &'static str,
         help: &'static str,
     },
 }
@@ -110,6 +125,16 @@ fn argument<'a>(alloc: Global, names: OptionNames<'a>, parameter: Parameter) -> 
                 None => argument,
             }
         }
+        Parameter::Optional {
+            name,
+            value_name,
+            accepted,
+            help,
+        } => Arg::new(alloc, name)
+            .long(name)
+            .value_name(value_name)
+            .value_parser(parser(names, accepted))
+            .help(help),
         Parameter::Flag { name, help } => Arg::new(alloc, name)
             .long(name)
             .action(ArgAction::SetTrue)
@@ -123,6 +148,14 @@ fn argument<'a>(alloc: Global, names: OptionNames<'a>, parameter: Parameter) -> 
             .value_name(value_name)
             .required(required)
             .help(help),
+        Parameter::Several {
+            name,
+            value_name,
+            help,
+        } => Arg::new(alloc, name)
+            .value_name(value_name)
+            .action(ArgAction::Append)
+            .help(help),
     }
 }
 
@@ -134,5 +167,6 @@ fn parser<'a>(names: OptionNames<'a>, accepted: Accepted) -> ValueParser<'a>
         Accepted::Number(least, most) => ValueParser::Unsigned(least, most),
         Accepted::Name(NameList::Units) => ValueParser::Names(names.units),
         Accepted::Name(NameList::Models) => ValueParser::Names(names.models),
+        Accepted::Name(NameList::Formats) => ValueParser::Names(names.formats),
     }
 }

@@ -2,20 +2,20 @@
 ghost use Rattle.std.specs.Prelude.{◌≡◌, IfOk, IsErr, map, option_map, unwrap_or};
 ghost use Rattle.clap.specs.Words.{FailsBy, app_of, fault_of, kind_of, subcommand_of, subcommand_rows_of};
 ghost use Rattle.clap.specs.declared.error.kind.ErrorKind.TheVariants.{OutOfMemory};
-ghost use Rattle.command_line.specs.Requests.{Asked, HasDrainTurns, HasLogRanges, HasUnitRanges, HasWorkers, asked_of, refusing, showing, texts_in};
+ghost use Rattle.command_line.specs.Requests.{Asked, HasDrainTurns, HasLogRanges, HasOneInput, HasUnitRanges, HasWorkers, asked_of, refusing, showing, texts_in};
 ghost use Rattle.command_line.specs.Spellings.{Asks, AsksHelp};
 ghost use Rattle.command_line.specs.Refusals.{Refuses};
 ghost use Rattle.command_line.specs.Commands.{IsAskedFor, asked_at, tsobench_app};
 ghost use Rattle.command_line.specs.Internal.Computed.{IsFound, parsed_as};
 
 use crate::options::{
-    CampaignOptions, LogOptions, OptionNames, Presentation, RunOptions, ShapeNumbers, option_names,
+    BatchPrinting, CampaignOptions, LogOptions, MakeOptions, OptionNames, Presentation, RunOptions,
+    option_names,
 };
 use crate::subcommands;
 use clap::error::ErrorKind;
 use clap::{ArgMatches, Error};
 use std::alloc::{AllocError, Global};
-use tso_ops::Order;
 
 /// Which program to run with a thread per processor, and how.
 #[derive(Clone, Copy, Debug, PartialEq, Eq)]
@@ -48,19 +48,30 @@ pub struct JudgeRequest<'a> {
     pub file: Option<&'a str>,
     /// The number of workers, 1 to 64.
     pub workers: usize,
+    /// Which of the traces that stand there one after the other is judged, from 1; none where it is the only one.
+    pub nth: Option<u64>,
     /// In which form the verdict is presented.
     pub presentation: Presentation,
 }
 
-/// Which traces are judged, one after the other.
+/// Which certificate is checked, and against which trace.
 #[derive(Clone, Copy, Debug)]
+pub struct CheckRequest<'a> {
+    /// The trace, and the certificate.
+    pub texts: TextPair<'a>,
+    /// Which of the traces that stand one after the other in the first text it is, from 1; none where it is the only one.
+    pub nth: Option<u64>,
+}
+
+/// Which traces are judged, one after the other.
+#[derive(Debug, Drop)]
 pub struct BatchRequest<'a> {
-    /// The file with the traces; standard input where none is named.
-    pub file: Option<&'a str>,
+    /// The texts with the traces, one or more: each in a file, or on standard input where none is named, as at most one is.
+    pub texts: Vec<Option<&'a str>>,
     /// How many workers judge them side by side, 1 to 64.
     pub workers: usize,
-    /// Whether the lines of traces without a violation are left out.
-    pub quiet: bool,
+    /// What is printed of them.
+    pub printing: BatchPrinting,
 }
 
 /// Which log is searched for violations, and how they are shown.
@@ -81,8 +92,8 @@ pub enum Request<'a> {
     Batch(BatchRequest<'a>),
     /// To find violations of a log.
     Log(LogRequest<'a>),
-    /// To check against a trace, the first text, a certificate, the second.
-    Check(TextPair<'a>),
+    /// To check a certificate against its trace.
+    Check(CheckRequest<'a>),
     /// To replay a program, the first text, by a schedule, the second.
     Replay {
         options: RunOptions,
@@ -90,13 +101,8 @@ pub enum Request<'a> {
     },
     /// To run a program with a thread per processor.
     Run(RunRequest<'a>),
-    /// To print the program of a memory model that is drawn from this seed in this shape.
-    Make {
-        /// The memory model of the program.
-        order: Order,
-        seed: u64,
-        shape: ShapeNumbers,
-    },
+    /// To print the program that is drawn from a seed, or its schedule.
+    Make(MakeOptions),
     /// To run the programs that are drawn from many seeds, and to judge the trace of each.
     Campaign(CampaignOptions),
     /// To print this text on standard output: the help or the version that was asked for.
@@ -120,6 +126,7 @@ pub fn read_arguments<'a>(alloc: Global, arguments: &'a [String]) -> Result<Requ
     ensures unit { IfOk result (λ request. HasUnitRanges (asked_of request)) }
     ensures turns { IfOk result (λ request. HasDrainTurns (asked_of request)) }
     ensures log { IfOk result (λ request. HasLogRanges (asked_of request)) }
+    ensures input { IfOk result (λ request. HasOneInput (asked_of request)) }
 {
     request_by(alloc, option_names(), arguments)
 }
@@ -135,6 +142,7 @@ fn request_by<'a>(
     ensures unit { IfOk result (λ request. HasUnitRanges (asked_of request)) }
     ensures turns { IfOk result (λ request. HasDrainTurns (asked_of request)) }
     ensures log { IfOk result (λ request. HasLogRanges (asked_of request)) }
+    ensures input { IfOk result (λ request. HasOneInput (asked_of request)) }
 {
     match matches(alloc, names, arguments) {
         Ok(matches) => subcommands::request(alloc, &matches),

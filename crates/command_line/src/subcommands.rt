@@ -3,7 +3,7 @@ ghost use Rattle.std.specs.Prelude.{◌≡◌, ◌∷◌, [], false, codes, find
 ghost use Rattle.std.specs.Str.{bytes_eq};
 ghost use Rattle.clap.specs.Words.{app_of, found_of, rows_of, subcommand_rows_of, with_subcommand};
 ghost use Rattle.clap.specs.declared.builder.command.Command.TheViews.{out-Command as fields_of};
-ghost use Rattle.command_line.specs.Requests.{HasDrainTurns, HasLogRanges, HasUnitRanges, HasWorkers, asked_of};
+ghost use Rattle.command_line.specs.Requests.{HasDrainTurns, HasLogRanges, HasOneInput, HasUnitRanges, HasWorkers, asked_of};
 ghost use Rattle.command_line.specs.Parameters.{offered_app};
 ghost use Rattle.command_line.specs.Commands.{asked_by, asked_in, memory_of, program_app, tsobench_app};
 ghost use Rattle.command_line.specs.Subcommands.{subcommands};
@@ -102,12 +102,13 @@ impl Subcommand {
         ensures unit { IfOk result (λ request. HasUnitRanges (asked_of request)) }
         ensures turns { IfOk result (λ request. HasDrainTurns (asked_of request)) }
         ensures log { IfOk result (λ request. HasLogRanges (asked_of request)) }
+        ensures input { IfOk result (λ request. HasOneInput (asked_of request)) }
     {
         match self {
             Subcommand::Judge => Ok(found::judge(matches, Presentation::Report)),
             Subcommand::Explain => Ok(found::judge(matches, Presentation::Explanation)),
             Subcommand::Draw => Ok(found::judge(matches, Presentation::Picture)),
-            Subcommand::Batch => Ok(found::batch(matches)),
+            Subcommand::Batch => found::batch(alloc, matches),
             Subcommand::Log => found::log(alloc, matches),
             Subcommand::Check => found::check(alloc, matches),
             Subcommand::Replay => found::replay(alloc, matches),
@@ -172,6 +173,7 @@ pub(crate) fn request<'a>(
     ensures unit { IfOk result (λ request. HasUnitRanges (asked_of request)) }
     ensures turns { IfOk result (λ request. HasDrainTurns (asked_of request)) }
     ensures log { IfOk result (λ request. HasLogRanges (asked_of request)) }
+    ensures input { IfOk result (λ request. HasOneInput (asked_of request)) }
 {
     if let Some((name, found)) = matches.subcommand() {
         if let Some(subcommand) = subcommand_named(name) {
@@ -181,6 +183,7 @@ pub(crate) fn request<'a>(
     Ok(Request::Judge(JudgeRequest {
         file: None,
         workers: 1,
+        nth: None,
         presentation: Presentation::Report,
     }))
 }

@@ -12,8 +12,13 @@ mod refused;
 /// The options of a run, as text.
 fn described_options(alloc: Global, options: &RunOptions) -> Result<String, AllocError> {
     let unit = options.unit;
+    let followed = if options.with_trace {
+        " and the trace"
+    } else {
+        ""
+    };
     format!(in alloc;
-        "on {:?} {} {} with {} printing {:?}",
+        "on {:?} {} {} with {} printing {:?}{followed}",
         unit.kind, unit.capacity, unit.trigger, options.workers, options.printing
     )
 }
@@ -31,9 +36,11 @@ fn described_campaign(alloc: Global, options: &CampaignOptions) -> Result<String
     let unit = options.unit;
     let shape = described_shape(alloc, &options.shape)?;
     let seeds = format!(in alloc; "{} from {}", options.count, options.first)?;
+    let way = if options.replayed { "replayed" } else { "run" };
+    let printed = if options.traces { " as traces" } else { "" };
     format!(in alloc;
-        "{seeds} of {:?} {shape} on {:?} {} {} with {}",
-        options.order, unit.kind, unit.capacity, unit.trigger, options.workers
+        "{seeds} of {:?} {shape} {way} beside {} turns on {:?} {} {} with {}{printed}",
+        options.order, options.drain_turns, unit.kind, unit.capacity, unit.trigger, options.workers
     )
 }
 
@@ -46,23 +53,42 @@ fn described_texts(alloc: Global, texts: TextPair<'_>, word: &str) -> Result<Str
     }
 }
 
+/// The number of a trace, as text; nothing where there is none.
+fn described_nth(alloc: Global, nth: Option<u64>) -> Result<String, AllocError> {
+    match nth {
+        Some(number) => format!(in alloc; " nth {number}"),
+        None => Ok(String::new(alloc)),
+    }
+}
+
 /// What a request is, as one line of text with the texts that it shows.
 fn described(alloc: Global, request: &Request<'_>) -> Result<String, AllocError> {
     match request {
-        Request::Judge(judge) => format!(in alloc;
-            "{:?} of {:?} with {}",
-            judge.presentation, judge.file, judge.workers
-        ),
+        Request::Judge(judge) => {
+            let nth = described_nth(alloc, judge.nth)?;
+            format!(in alloc;
+                "{:?} of {:?}{nth} with {}",
+                judge.presentation, judge.file, judge.workers
+            )
+        }
         Request::Batch(batch) => format!(in alloc;
-            "batch {:?} with {} quiet {}",
-            batch.file, batch.workers, batch.quiet
+            "batch {:?} with {} {:?} quiet {} violations {}",
+            batch.texts,
+            batch.workers,
+            batch.printing.format,
+            batch.printing.quiet,
+            batch.printing.violations
         ),
         Request::Log(log) => format!(in alloc;
             "log {:?} at most {} by {} as {:?}",
             log.file, log.options.most, log.options.effort, log.options.form
         ),
-        Request::Check(texts) => {
-            let texts = described_texts(alloc, *texts, "against")?;
+        Request::Check(check) => {
+            let word = match check.nth {
+                Some(number) => format!(in alloc; "nth {number} against")?,
+                None => String::from_str(alloc, "against")?,
+            };
+            let texts = described_texts(alloc, check.texts, word.as_str())?;
             format!(in alloc; "check {texts}")
         }
         Request::Replay { options, texts } => {
@@ -76,9 +102,17 @@ fn described(alloc: Global, request: &Request<'_>) -> Result<String, AllocError>
             let program = run.program.unwrap_or("standard input");
             format!(in alloc; "run {program:?} seeded {seeded} {options}")
         }
-        Request::Make { order, seed, shape } => {
-            let shape = described_shape(alloc, shape)?;
-            format!(in alloc; "make {order:?} {shape} from {seed}")
+        Request::Make(options) => {
+            let shape = described_shape(alloc, &options.shape)?;
+            let drawn = if options.schedule {
+                "schedule"
+            } else {
+                "program"
+            };
+            format!(in alloc;
+                "make {drawn} of {:?} {shape} from {}",
+                options.order, options.seed
+            )
         }
         Request::Campaign(options) => {
             let options = described_campaign(alloc, options)?;

@@ -3,12 +3,12 @@ use Rattle.std.proofs.Common.{◌≡◌, ◌∙◌, ℕ, All, List, [], Option, 
 use Rattle.std.proofs.lemmas.List.{get_or-map, get_or-replicate, length-map, length-replicate}
 use Rattle.command_line.specs.declared.options.CampaignOptions.{CampaignOptions}
 use Rattle.tso_report.specs.Campaigns.{IsCampaign, LeavesCampaign}
-use Rattle.tso_report.specs.declared.campaigns.CampaignPrograms.{CampaignPrograms}
+use Rattle.tso_report.specs.declared.campaigns.CampaignPlan.{CampaignPlan}
 use Rattle.trace_judging.specs.declared.faults.Fault.{Fault}
 use Rattle.trace_judging.specs.declared.faults.Fault.TheVariants.{Write, Missing}
 use Rattle.trace_reports.specs.declared.verdicts.Verdict.{Verdict}
 use Rattle.unit_core.specs.Units.{UnitValue}
-use Rattle.request_serving.specs.Campaigning.{AreProgramsOf, IsCampaignOf, LeavesCampaignText, units_of}
+use Rattle.request_serving.specs.Campaigning.{IsPlanOf, IsCampaignOf, LeavesCampaignText, units_of}
 use Rattle.request_serving.specs.Printing.{unit_of}
 use Rattle.request_serving.specs.Statuses.{status_of}
 
@@ -23,22 +23,22 @@ untouched f xs options are = λ k d within.
 
 -- ---- the text of a campaign
 
-module _ (options : CampaignOptions) (programs : CampaignPrograms) (units : List UnitValue) (asked : AreProgramsOf options programs) (same : units ≡ units_of options) where
+module _ (options : CampaignOptions) (plan : CampaignPlan) (units : List UnitValue) (asked : IsPlanOf options plan) (same : units ≡ units_of options) where
   -- the campaign of these options
-  pub campaign_is : (text : List ℕ) (verdict : Verdict) → IsCampaign programs units text verdict → IsCampaignOf options text (status_of verdict)
+  pub campaign_is : (text : List ℕ) (verdict : Verdict) → IsCampaign plan units text verdict → IsCampaignOf options text (status_of verdict)
   campaign_is text verdict is = record {
     shape = asked.shape_kept;
     seeds = asked.seeds;
     verdict = verdict;
-    campaign = subst (λ p. IsCampaign p (units_of options) text verdict) asked.are (subst (λ l. IsCampaign programs l text verdict) same is);
+    campaign = subst (λ p. IsCampaign p (units_of options) text verdict) asked.are (subst (λ l. IsCampaign plan l text verdict) same is);
     ends = refl;
   }
 
   -- what a fault leaves of it
-  pub leaves_campaign : (old new : Option (List ℕ)) (fault : Fault) → LeavesCampaign programs units old new fault → LeavesCampaignText options old new fault
+  pub leaves_campaign : (old new : Option (List ℕ)) (fault : Fault) → LeavesCampaign plan units old new fault → LeavesCampaignText options old new fault
   leaves_campaign old new Write leaves = (status_of leaves.0, leaves.1, inr (inr (campaign_is leaves.1 leaves.0 leaves.2)), leaves.3)
   leaves_campaign old new (Missing seed) leaves =
       let count = ap length same ∙ length-replicate options.count (unit_of options.unit) in
-      let first : programs.first ≡ options.first = ap (λ (p : CampaignPrograms). p.first) asked.are in
+      let first : plan.first ≡ options.first = ap (λ (p : CampaignPlan). p.first) asked.are in
       (omega (arith, leaves.0, first), omega (arith, leaves.1, count, first), leaves.2)
   leaves_campaign old new fault leaves = leaves

@@ -1,6 +1,6 @@
 -- Lemmas on how the program ends.
-use Rattle.std.proofs.Common.{◌≡◌, ◌∙◌, ℕ, List, [], ◌∷◌, ◌++◌, append_assoc, Ok, Err, Result, IfOk, IfErr, IfSome, Some, None, unwrap_or, arith, length, ap, refl, subst, sym, inl, inr, true, false, true≢false}
-use Rattle.std.specs.Prelude.{Bool, OnErr, Option, ◌≢◌, is_some, not, option_map}
+use Rattle.std.proofs.Common.{◌≡◌, ◌∙◌, ℕ, List, [], ◌∷◌, ◌++◌, append_assoc, Ok, Err, Result, IfOk, IfErr, IfSome, Some, None, arith, length, ap, refl, subst, sym, inl, inr, true, false, true≢false}
+use Rattle.std.specs.Prelude.{Option, ◌≢◌, is_some, not, option_map}
 use Rattle.std.specs.Borrow.{Bor}
 use Rattle.std.specs.List.{list_all}
 use Rattle.std.specs.Io.KnownBytes.{Keeps}
@@ -9,15 +9,13 @@ use Rattle.std.proofs.lemmas.List.{append-nil}
 use Rattle.trace_reports.specs.declared.verdicts.Verdict.{Verdict}
 use Rattle.trace_judging.specs.declared.faults.Fault.{Fault}
 use Rattle.trace_judging.specs.declared.faults.Fault.TheVariants.{Write}
-use Rattle.trace_judging.specs.WrittenReports.{IsCheckReportOfReaders, LeavesAtFault, WritesPrefix, WritesWhole}
+use Rattle.trace_judging.specs.WrittenReports.{LeavesAtFault, WritesWhole}
 use Rattle.trace_judging.specs.Checks.{IsCheckReport}
 use Rattle.trace_reports.specs.Readings.{ReadsAs}
-use Rattle.trace_reports.proofs.ReadingFacts.{reads_more, reads_whole}
+use Rattle.trace_reports.proofs.ReadingFacts.{reads_more}
 use Rattle.trace_reports.specs.Renderings.{IsTextOfInput}
-use Rattle.trace_batches.specs.Batches.{IsBatch, IsBatchFault, IsBatchOfReader}
-use Rattle.trace_batches.proofs.BatchFacts.{some_batch}
-use Rattle.trace_judging.proofs.StreamFacts.{none_written}
-use Rattle.request_serving.specs.Endings.{Ends, IsPresented, Outputs, WritesFaultLine, refused_as, said_as}
+use Rattle.request_serving.specs.Endings.{Ends, IsCheckOfNth, IsCheckedBy, IsPresented, Outputs, WritesFaultLine, refused_as, said_as}
+use Rattle.request_serving.specs.NthTraces.{IsSaidOfNth}
 use Rattle.std.proofs.Math.Seq.{take-length}
 use Rattle.request_serving.specs.OpenedFiles.{HasKnown, OpensFirst, OpensNext}
 
@@ -33,11 +31,20 @@ pub known_reads : (known remaining : Option (List ℕ)) → HasKnown known remai
 known_reads None remaining has Is reads = record { bytes = reads.bytes; of_read = reads.of_read; of_all = tt }
 known_reads (Some all) remaining has Is reads = subst (λ r. ReadsAs r Is) has reads
 
-pub check_of_known : (trace traces cert certs : Option (List ℕ)) → HasKnown trace traces → HasKnown cert certs → (text : List ℕ) (verdict : Verdict) → IsCheckReportOfReaders traces certs text verdict →
-    IsCheckReportOfReaders trace cert text verdict
-check_of_known trace traces cert certs has also text verdict report =
-    let IsOf : List ℕ → Option (List ℕ) → Type 0 = λ bytes known. ReadsAs known (λ other. IsCheckReport bytes other text verdict) in
-    known_reads trace traces has (λ bytes. IsOf bytes cert) (reads_more (λ bytes. known_reads cert certs also (λ other. IsCheckReport bytes other text verdict)) traces report)
+-- what is said of the trace that is asked for follows from what else is said of it
+said_as_well : (A B : List ℕ → List ℕ → Verdict → Type 0) → ((trace text : List ℕ) (verdict : Verdict) → A trace text verdict → B trace text verdict) → (nth : Option ℕ) (input text : List ℕ) (verdict : Verdict) →
+    IsSaidOfNth nth A input text verdict → IsSaidOfNth nth B input text verdict
+said_as_well A B implied None input text verdict said = implied input text verdict said
+said_as_well A B implied (Some number) input text verdict (None, piece, said) = (None, piece, said)
+said_as_well A B implied (Some number) input text verdict (Some trace, piece, said) = (Some trace, piece, implied trace text verdict said)
+
+pub check_of_known : (nth : Option ℕ) (trace traces cert certs : Option (List ℕ)) → HasKnown trace traces → HasKnown cert certs → (text : List ℕ) (verdict : Verdict) → IsCheckOfNth nth traces certs text verdict →
+    IsCheckOfNth nth trace cert text verdict
+check_of_known nth trace traces cert certs has also text verdict report =
+    let implied : (bytes text : List ℕ) (verdict : Verdict) → IsCheckedBy certs bytes text verdict → IsCheckedBy cert bytes text verdict =
+    λ bytes text verdict. known_reads cert certs also (λ other. IsCheckReport bytes other text verdict) in
+    known_reads trace traces has (λ input. IsSaidOfNth nth (IsCheckedBy cert) input text verdict)
+    (reads_more (λ input. said_as_well (IsCheckedBy certs) (IsCheckedBy cert) implied nth input text verdict) traces report)
 
 -- what is written of one kind of text is written of any kind that it is
 pub writes_as : {X E : Type 0} (A B : List ℕ → X → Type 0) → ((text : List ℕ) (said : X) → A text said → B text said) → (old new : Option (List ℕ)) (outcome : Result X E) →
@@ -55,39 +62,10 @@ pub faults_as : {X : Type 0} (A B : List ℕ → X → Type 0) → ((text : List
 faults_as A B implied old new (Ok said) leaves = tt
 faults_as A B implied old new (Err fault) leaves = leaves_as A B implied old new fault leaves
 
-pub presented_of_known : (presentation : Presentation) (known remaining : Option (List ℕ)) → HasKnown known remaining → (text : List ℕ) (verdict : Verdict) → IsPresented presentation remaining text verdict →
-    IsPresented presentation known text verdict
-presented_of_known presentation known remaining has text verdict = known_reads known remaining has (λ input. IsTextOfInput (said_as presentation) (refused_as presentation) input text verdict)
-
-pub batch_of_known : (quiet : Bool) (known remaining : Option (List ℕ)) → HasKnown known remaining → (text : List ℕ) (verdict : Verdict) → IsBatchOfReader quiet remaining text verdict →
-    IsBatchOfReader quiet known text verdict
-batch_of_known quiet known remaining has text verdict = known_reads known remaining has (λ stream. IsBatch quiet stream text verdict)
-
--- nothing of a batch was written
-none_of_batch : (quiet : Bool) (known written : Option (List ℕ)) → WritesPrefix (IsBatchOfReader quiet known) written written
-none_of_batch quiet known written =
-    let stream = unwrap_or known [] in
-    let some = some_batch quiet stream in
-    (some.1, some.0, reads_whole (λ bytes. IsBatch quiet bytes some.0 some.1) known stream (own known) some.2, none_written written some.0)
-  where
-    own : (known : Option (List ℕ)) → IfSome known (λ all. unwrap_or known [] ≡ all)
-    own None = tt
-    own (Some all) = refl
-
-pub none_left : (quiet : Bool) (known written : Option (List ℕ)) (outcome : Result Verdict Fault) → OnErr outcome (WritesPrefix (IsBatchOfReader quiet known) written written)
-none_left quiet known written (Ok verdict) = tt
-none_left quiet known written (Err fault) = none_of_batch quiet known written
-
--- a fault of a batch leaves a prefix of its text
-pub batch_fault : (is_batch : List ℕ → Verdict → Type 0) (old new : Option (List ℕ)) (outcome : Result Verdict Fault) → IfErr outcome IsBatchFault → OnErr outcome (WritesPrefix is_batch old new) →
-    IfErr outcome (λ fault. IsBatchFault fault × WritesPrefix is_batch old new)
-batch_fault is_batch old new (Ok verdict) fault left = tt
-batch_fault is_batch old new (Err why) fault left = (fault, left)
-
-pub batch_left : (quiet : Bool) (known remaining : Option (List ℕ)) → HasKnown known remaining → (old new : Option (List ℕ)) (outcome : Result Verdict Fault) →
-    OnErr outcome (WritesPrefix (IsBatchOfReader quiet remaining) old new) → OnErr outcome (WritesPrefix (IsBatchOfReader quiet known) old new)
-batch_left quiet known remaining has old new (Ok verdict) left = tt
-batch_left quiet known remaining has old new (Err fault) left = (left.0, left.1, batch_of_known quiet known remaining has left.1 left.0 left.2, left.3)
+pub presented_of_known : (presentation : Presentation) (nth : Option ℕ) (known remaining : Option (List ℕ)) → HasKnown known remaining → (text : List ℕ) (verdict : Verdict) →
+    IsPresented presentation nth remaining text verdict → IsPresented presentation nth known text verdict
+presented_of_known presentation nth known remaining has text verdict =
+    known_reads known remaining has (λ input. IsSaidOfNth nth (IsTextOfInput (said_as presentation) (refused_as presentation)) input text verdict)
 
 -- ---- files opened
 

@@ -24,7 +24,7 @@ use Rattle.request_serving.specs.BenchUnits.{is_lawful_kind, is_lawful_under_all
 use Rattle.request_serving.specs.Endings.{EndsAsAsked, EndsByText, EndsRun, Outputs}
 use Rattle.request_serving.specs.LawfulRequests.{RunsLawfully, SpellsForLawfulUnit, runs_on_lawful_unit}
 use Rattle.request_serving.specs.OpenedFiles.{text_bytes}
-use Rattle.request_serving.specs.Printing.{IsPrintedOf, PrintsRecord, unit_of}
+use Rattle.request_serving.specs.Printing.{IsPrintedOf, Presents, unit_of}
 use Rattle.request_serving.specs.Replaying.{IsReplayOf, IsReplayText, IsScheduledText}
 use Rattle.request_serving.specs.Running.{IsRunPrinted, IsRunText}
 use Rattle.request_serving.specs.Statuses.{status_of}
@@ -55,7 +55,7 @@ whole_read None reads = (reads.bytes, tt, reads.of_read)
 whole_read (Some all) reads = (all, refl, reads.of_all)
 
 -- what is printed of a lawful record doesn't end as a violation
-record_status : (printing : Printing) (r : RecordedValue) (account : Account) (text : List ℕ) (status : ℕ) → r.lawful ≡ true → PrintsRecord printing r account text status → status ≢ 3
+record_status : (printing : Printing) (r : RecordedValue) (account : Account) (text : List ℕ) (status : ℕ) → r.lawful ≡ true → Presents printing r account text status → status ≢ 3
 record_status Trace r account text status lawful prints = λ three. omega (arith, prints.1, three)
 record_status Report r account text status lawful prints = λ three.
     let ends : status ≡ 0 = prints.5 ∙ ap status_of (prints.3 lawful) in
@@ -74,7 +74,7 @@ run_status : (options : RunOptions) (programs : Option (List ℕ)) (text : List 
 run_status options programs text status lawful run =
     let whole = whole_read programs run in
     printed_status SpellsProgram IsProgramRefusal (IsRunPrinted options) whole.0 text status (λ program spelled printed.
-    record_status options.printing printed.recorded printed.account text status (printed.runs.recorded.lawful ∙ lawful whole.0 program whole.1 spelled) printed.prints) whole.2
+    record_status options.printing printed.recorded printed.account printed.prints.presented status (printed.runs.recorded.lawful ∙ lawful whole.0 program whole.1 spelled) printed.prints.presents) whole.2
 
 scheduled_status : (options : RunOptions) (schedules : Option (List ℕ)) (program : ProgramValue) (text : List ℕ) (status : ℕ) → is_lawful_under program.setting.order (unit_of options.unit) ≡ true →
     IsScheduledText options schedules program text status → status ≢ 3
@@ -83,7 +83,7 @@ scheduled_status options schedules program text status lawful scheduled =
     printed_status SpellsSchedule IsScheduleRefusal (IsReplayOf options program) whole.0 text status (λ schedule spelled printed.
     let replays = printed.replays in
     let same : (replays.new.lawful && is_within replays.new.order program.setting.order) ≡ true = rw (replays.lawful, replays.order) lawful in
-    record_status options.printing printed.recorded printed.account text status (replays.recorded.lawful ∙ same) printed.prints) whole.2
+    record_status options.printing printed.recorded printed.account printed.prints.presented status (replays.recorded.lawful ∙ same) printed.prints.presents) whole.2
 
 replay_status : (options : RunOptions) (programs schedules : Option (List ℕ)) (text : List ℕ) (status : ℕ) → IsLawfulForEach options.unit programs → IsReplayText options programs schedules text status →
     status ≢ 3

@@ -1,7 +1,9 @@
+pub mod BatchingFacts
 pub mod CampaigningFacts
 pub mod LoggingFacts
 pub mod EndFacts
 pub mod LawfulFacts
+pub mod NthFacts
 pub mod PartedLines
 pub mod ReplayingFacts
 pub mod RunningFacts

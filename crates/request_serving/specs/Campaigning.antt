@@ -1,9 +1,13 @@
 -- What the program prints of campaigns.
-use Rattle.std.specs.Prelude.{◌≡◌, ◌⊎◌, ℕ, ◌+◌, ◌≤◌, ◌^◌, List, [], ◌∷◌, ◌++◌, codes, replicate, Option}
+use Rattle.std.specs.Prelude.{◌≡◌, ◌⊎◌, ℕ, ◌+◌, ◌≤◌, ◌^◌, Bool, true, false, List, [], ◌∷◌, ◌++◌, codes, replicate, Option}
 use Rattle.tso_ops.specs.Making.{IsShape}
 use Rattle.command_line.specs.declared.options.CampaignOptions.{CampaignOptions}
 use Rattle.tso_report.specs.Campaigns.{IsCampaign, LeavesOfSeeds}
-use Rattle.tso_report.specs.declared.campaigns.CampaignPrograms.{CampaignPrograms}
+use Rattle.tso_report.specs.declared.campaigns.CampaignPlan.{CampaignPlan}
+use Rattle.tso_report.specs.declared.campaigns.CampaignPrinting.{CampaignPrinting}
+use Rattle.tso_report.specs.declared.campaigns.CampaignPrinting.TheVariants.{Lines, Traces}
+use Rattle.tso_report.specs.declared.campaigns.Execution.{Execution}
+use Rattle.tso_report.specs.declared.campaigns.Execution.TheVariants.{Threads, Replay}
 use Rattle.trace_judging.specs.declared.faults.Fault.{Fault}
 use Rattle.tso_report.specs.Limits.{seed_count_limit}
 use Rattle.trace_reports.specs.declared.verdicts.Verdict.{Verdict}
@@ -21,13 +25,29 @@ pub record AreSeeds (first count : ℕ) : Type 0 where
   pub most : count ≤ seed_count_limit
   pub last : first + count ≤ 2 ^ 64
 
--- the programs that the options ask for
-abbrev pub asked_programs : CampaignOptions → CampaignPrograms
-asked_programs options = record { first = options.first; order = options.order; shape = asked_shape options.shape }
+-- how programs are executed: by a thread per processor beside a drainer that takes so many turns, unless a replay is asked for
+abbrev pub execution_of : Bool → ℕ → Execution
+execution_of true drain_turns = Replay
+execution_of false drain_turns = Threads drain_turns
 
--- The campaign's programs are those that the options ask for, within the limits.
-pub record AreProgramsOf (options : CampaignOptions) (programs : CampaignPrograms) : Type 0 where
-  pub are : programs ≡ asked_programs options
+-- what is printed of a campaign: lines, unless traces are asked for
+abbrev pub campaign_printing_of : Bool → CampaignPrinting
+campaign_printing_of true = Traces
+campaign_printing_of false = Lines
+
+-- the plan that the options ask for
+abbrev pub asked_plan : CampaignOptions → CampaignPlan
+asked_plan options = record {
+  first = options.first;
+  order = options.order;
+  shape = asked_shape options.shape;
+  execution = execution_of options.replayed options.drain_turns;
+  printing = campaign_printing_of options.traces;
+}
+
+-- It is the plan that the options ask for, within the limits.
+pub record IsPlanOf (options : CampaignOptions) (plan : CampaignPlan) : Type 0 where
+  pub are : plan ≡ asked_plan options
   pub shape_kept : IsShape (asked_shape options.shape)
   pub seeds : AreSeeds options.first options.count
 
@@ -39,12 +59,12 @@ units_of options = replicate options.count (unit_of options.unit)
 abbrev pub IsSeedsRefusal : CampaignOptions → List ℕ → ℕ → Type 0
 IsSeedsRefusal options text status = IsShape (asked_shape options.shape) × (AreSeeds options.first options.count → ⊥) × (text ≡ seeds_refusal) × (status ≡ 2)
 
--- The text is that of a campaign of these programs, on units as the options say.
+-- The text is that of a campaign by this plan, on units as the options say.
 pub record IsCampaignOf (options : CampaignOptions) (text : List ℕ) (status : ℕ) : Type 0 where
   pub shape : IsShape (asked_shape options.shape)
   pub seeds : AreSeeds options.first options.count
   pub verdict : Verdict
-  pub campaign : IsCampaign (asked_programs options) (units_of options) text verdict
+  pub campaign : IsCampaign (asked_plan options) (units_of options) text verdict
   pub ends : status ≡ status_of verdict
 
 -- What is printed of a campaign, and the status then.

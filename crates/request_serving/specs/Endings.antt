@@ -1,23 +1,28 @@
 -- How the program ends: what it has written to its output and to its errors, and its status.
-use Rattle.std.specs.Prelude.{◌≡◌, ◌≢◌, ◌⊎◌, ℕ, Bool, List, [], ◌∷◌, ◌++◌, codes, string_bytes, Option}
+use Rattle.std.specs.Prelude.{◌≡◌, ◌≢◌, ◌⊎◌, ℕ, List, [], ◌∷◌, ◌++◌, codes, string_bytes, Option}
 use Rattle.std.specs.Fmt.{decimal}
 use Rattle.std.specs.Io.KnownBytes.{Appends, Keeps}
 use Rattle.trace_reports.specs.declared.verdicts.Verdict.{Verdict}
 use Rattle.trace_judging.specs.declared.faults.Fault.{Fault}
 use Rattle.trace_judging.specs.declared.faults.Fault.TheVariants.{OutOfMemory, Read, Write, NoThread, Missing}
 use Rattle.trace_judging.specs.Streams.{AppendsPrefix}
-use Rattle.trace_judging.specs.WrittenReports.{IsCheckReportOfReaders, LeavesAtFault, WritesPrefix, WritesWhole}
+use Rattle.trace_judging.specs.Checks.{IsCheckReport}
+use Rattle.trace_judging.specs.WrittenReports.{LeavesAtFault, WritesWhole}
 use Rattle.trace_explanation.specs.Explained.{explained, refusal_explained}
 use Rattle.trace_pictures.specs.Pictured.{pictured}
-use Rattle.trace_reports.specs.Renderings.{IsTextOfReader, SaidOfRefusal, SaidOfTrace}
+use Rattle.trace_reports.specs.Readings.{ReadsAs}
+use Rattle.trace_reports.specs.Renderings.{IsTextOfInput, SaidOfRefusal, SaidOfTrace}
 use Rattle.trace_reports.specs.Reports.{refusal_shown, reported}
-use Rattle.trace_batches.specs.Batches.{IsBatchFault, IsBatchOfReader}
+use Rattle.trace_batches.specs.Batches.{BatchText, IsBatchFault, LeavesBatch, WritesBatch}
+use Rattle.trace_batches.specs.declared.batches.BatchPrinting.{BatchPrinting}
 use Rattle.log_reports.specs.declared.rendering.LogForm.{LogForm}
 use Rattle.log_reports.specs.declared.reports.LogVerdict.{LogVerdict}
 use Rattle.log_reports.specs.LogReports.{IsLogReportOfReader}
+use Rattle.request_serving.specs.Batches.{printing_of, texts_of_batch}
 use Rattle.request_serving.specs.Campaigning.{IsCampaignText, LeavesCampaignText}
 use Rattle.request_serving.specs.Logs.{form_of, status_of_log}
 use Rattle.request_serving.specs.MadePrograms.{IsMadeText, LeavesMadeText}
+use Rattle.request_serving.specs.NthTraces.{IsSaidOfNth}
 use Rattle.request_serving.specs.OpenedFiles.{text_bytes}
 use Rattle.request_serving.specs.Replaying.{IsReplayText}
 use Rattle.request_serving.specs.Running.{IsRunText}
@@ -88,20 +93,32 @@ refused_as Report = refusal_shown
 refused_as Explanation = refusal_explained
 refused_as Picture = refusal_shown
 
--- the verdict on a trace in this form
-abbrev pub IsPresented : Presentation → Option (List ℕ) → List ℕ → Verdict → Type 0
-IsPresented presentation remaining text verdict = IsTextOfReader (said_as presentation) (refused_as presentation) remaining text verdict
+-- the verdict on a trace in this form: on the only one of a reader's bytes, or on the one of this number
+abbrev pub IsPresented : Presentation → Option ℕ → Option (List ℕ) → List ℕ → Verdict → Type 0
+IsPresented presentation nth remaining text verdict = ReadsAs remaining (λ input. IsSaidOfNth nth (IsTextOfInput (said_as presentation) (refused_as presentation)) input text verdict)
+
+-- the report of the certificate that a reader has on a trace
+abbrev pub IsCheckedBy : Option (List ℕ) → List ℕ → List ℕ → Verdict → Type 0
+IsCheckedBy certs trace text verdict = ReadsAs certs (λ cert. IsCheckReport trace cert text verdict)
+
+-- the report of the certificate on the only trace of another reader's bytes, or on the one of this number
+abbrev pub IsCheckOfNth : Option ℕ → Option (List ℕ) → Option (List ℕ) → List ℕ → Verdict → Type 0
+IsCheckOfNth nth traces certs text verdict = ReadsAs traces (λ input. IsSaidOfNth nth (IsCheckedBy certs) input text verdict)
 
 -- The report of a certificate, of which and of whose trace readers have these bytes. No thread is started for it, so none is refused.
-abbrev pub EndsChecked : Option (List ℕ) → Option (List ℕ) → Outputs → ℕ → Type 0
-EndsChecked traces certs o status =
-    let is_report = IsCheckReportOfReaders traces certs in
+abbrev pub EndsChecked : Option ℕ → Option (List ℕ) → Option (List ℕ) → Outputs → ℕ → Type 0
+EndsChecked nth traces certs o status =
+    let is_report = IsCheckOfNth nth traces certs in
     Ends is_report status_of (λ old new fault. (fault ≢ NoThread) × LeavesAtFault is_report old new fault) o status
 
--- The lines of traces that stand one after the other, of which a reader has these bytes, and their last line; or a fault left a prefix of this text.
-abbrev pub EndsBatched : Bool → Option (List ℕ) → Outputs → ℕ → Type 0
-EndsBatched quiet remaining o status =
-    let is_batch = IsBatchOfReader quiet remaining in Ends is_batch status_of (λ old new fault. IsBatchFault fault × WritesPrefix is_batch old new) o status
+-- What is printed of the traces of texts, which stand one after the other: the output grows by the text of their batch, and the errors
+-- by its notes. Or a fault left a prefix of both, and then its line was written to the errors.
+abbrev pub EndsBatched : BatchPrinting → List BatchText → Outputs → ℕ → Type 0
+EndsBatched printing texts o status =
+    ((verdict : Verdict) × WritesBatch printing texts o.written_before o.written o.errors_before o.errors verdict × (status ≡ status_of verdict))
+    ⊎ ((fault : Fault) × IsBatchFault fault
+    × ((noted : Option (List ℕ)) × LeavesBatch printing texts o.written_before o.written o.errors_before noted × WritesFaultLine noted o.errors fault)
+    × (status ≡ 4))
 
 -- The report on the log that a reader's bytes spell, or its refusal, with the status of what it says; notes on what it doesn't say, or a prefix of them, may
 -- be written to the errors. Or a fault left nothing or, on Write, a prefix of the report.
@@ -139,14 +156,14 @@ EndsOutOfMemory o status = Keeps o.written_before o.written × EndsByFault OutOf
 
 -- what was asked for was done, where standard input has these bytes, and the file of each name those
 abbrev pub EndsAsAsked : Asked → Option (List ℕ) → (List ℕ → Option (List ℕ)) → Outputs → ℕ → Type 0
-EndsAsAsked (judging presentation file workers) input files o status = EndsByReport (IsPresented presentation (text_bytes file input files)) o status
-EndsAsAsked (batching file workers quiet) input files o status = EndsBatched quiet (text_bytes file input files) o status
+EndsAsAsked (judging presentation file workers nth) input files o status = EndsByReport (IsPresented presentation nth (text_bytes file input files)) o status
+EndsAsAsked (batching texts workers printing) input files o status = EndsBatched (printing_of printing) (texts_of_batch texts input files) o status
 EndsAsAsked (logging file options) input files o status = EndsLogged (form_of options.form) (text_bytes file input files) o status
-EndsAsAsked (checking trace certificate) input files o status = EndsChecked (text_bytes trace input files) (text_bytes certificate input files) o status
+EndsAsAsked (checking trace certificate nth) input files o status = EndsChecked nth (text_bytes trace input files) (text_bytes certificate input files) o status
 EndsAsAsked (replaying options program schedule) input files o status =
     let is_text = IsReplayText options (text_bytes program input files) (text_bytes schedule input files) in EndsByText is_text (LeavesAtFault is_text) o status
 EndsAsAsked (running options seed turns program) input files o status = EndsRun options (text_bytes program input files) o status
-EndsAsAsked (making order seed shape) input files o status = EndsByText (IsMadeText order seed shape) (LeavesMadeText order seed shape) o status
+EndsAsAsked (making options) input files o status = EndsByText (IsMadeText options) (LeavesMadeText options) o status
 EndsAsAsked (campaigning options) input files o status = EndsByText (IsCampaignText options) (LeavesCampaignText options) o status
 EndsAsAsked showing input files o status = (text : Text) × EndsShowing text o status
 EndsAsAsked refusing input files o status = (text : Text) × EndsRefusing text o status

@@ -1,3 +1,4 @@
 -- For private functions alone.
+pub mod Batching
 pub mod Ranges
 pub mod Runs

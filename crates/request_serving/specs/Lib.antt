@@ -1,3 +1,4 @@
+pub mod Batches
 pub mod BenchUnits
 pub mod Campaigning
 pub mod Endings
@@ -6,6 +7,7 @@ pub mod Internal
 pub mod LawfulRequests
 pub mod Logs
 pub mod MadePrograms
+pub mod NthTraces
 pub mod OpenedFiles
 pub mod Printing
 pub mod Replaying

@@ -1,5 +1,6 @@
 -- What the program prints of records and of refused texts.
-use Rattle.std.specs.Prelude.{◌≡◌, ◌⊎◌, ℕ, List, ◌++◌, true}
+use Rattle.std.specs.Prelude.{◌≡◌, ◌⊎◌, ℕ, List, [], ◌++◌, ◌&&◌, not, true, if◌then◌else◌}
+use Rattle.tso_ops.specs.Values.{TraceValue}
 use Rattle.tso_text.specs.declared.faults.Why.{Why}
 use Rattle.tso_text.specs.Printed.{trace_text}
 use Rattle.trace_reports.specs.declared.verdicts.Verdict.{Verdict}
@@ -10,7 +11,9 @@ use Rattle.trace_reports.specs.RefusalLines.{refusal_text}
 use Rattle.trace_reports.specs.Reports.{IsTraceReport}
 use Rattle.command_line.specs.declared.options.Printing.{Printing}
 use Rattle.command_line.specs.declared.options.Printing.TheVariants.{Report, Trace, Explanation}
+use Rattle.command_line.specs.declared.options.RunOptions.{RunOptions}
 use Rattle.command_line.specs.declared.options.UnitOptions.{UnitOptions}
+use Rattle.command_line.specs.Requests.{prints_trace}
 use Rattle.unit_core.specs.declared.accounts.Account.{Account}
 use Rattle.unit_core.specs.Records.{RecordedValue}
 use Rattle.unit_core.specs.Units.{UnitValue, new_unit}
@@ -27,13 +30,23 @@ unit_of options = new_unit (design_of_kind options.kind options.capacity options
 
 -- Its trace, with the status of a text that was asked for; or the report of its trace, and the account; or the explanation of its trace. The verdict is no
 -- violation where the record is lawful.
-abbrev pub PrintsRecord : Printing → RecordedValue → Account → List ℕ → ℕ → Type 0
-PrintsRecord Trace recorded account text status = (text ≡ trace_text recorded.trace) × (status ≡ 0)
-PrintsRecord Report recorded account text status =
+abbrev pub Presents : Printing → RecordedValue → Account → List ℕ → ℕ → Type 0
+Presents Trace recorded account text status = (text ≡ trace_text recorded.trace) × (status ≡ 0)
+Presents Report recorded account text status =
     (report : List ℕ) × (verdict : Verdict) × IsTraceReport recorded.trace report verdict × (recorded.lawful ≡ true → verdict ≡ NoViolation) × (text ≡ report ++ account_text account)
     × (status ≡ status_of verdict)
-PrintsRecord Explanation recorded account text status =
+Presents Explanation recorded account text status =
     (verdict : Verdict) × IsTraceExplanation recorded.trace text verdict × (recorded.lawful ≡ true → verdict ≡ NoViolation) × (status ≡ status_of verdict)
+
+-- the trace that follows, where it is asked for and isn't what is printed anyway
+abbrev pub following_trace : RunOptions → TraceValue → List ℕ
+following_trace options trace = if options.with_trace && not (prints_trace options.printing) then trace_text trace else []
+
+-- what the options ask for, and the trace that follows
+pub record PrintsRecord (options : RunOptions) (recorded : RecordedValue) (account : Account) (text : List ℕ) (status : ℕ) : Type 0 where
+  pub presented : List ℕ
+  pub presents : Presents options.printing recorded account presented status
+  pub whole : text ≡ presented ++ following_trace options recorded.trace
 
 -- ---- what is printed of texts
 

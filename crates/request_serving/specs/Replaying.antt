@@ -16,7 +16,7 @@ pub record IsReplayOf (options : RunOptions) (program : ProgramValue) (schedule 
   pub recorded : RecordedValue
   pub account : Account
   pub replays : Replays program schedule (unit_of options.unit) account (Ok recorded)
-  pub prints : PrintsRecord options.printing recorded account text status
+  pub prints : PrintsRecord options recorded account text status
 
 -- What is printed of this program for the text of a schedule, and the status then.
 abbrev pub IsScheduledText : RunOptions → Option (List ℕ) → ProgramValue → List ℕ → ℕ → Type 0

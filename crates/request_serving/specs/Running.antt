@@ -15,7 +15,7 @@ pub record IsRunPrinted (options : RunOptions) (program : ProgramValue) (text : 
   pub recorded : RecordedValue
   pub account : Account
   pub runs : Runs program (unit_of options.unit) account (Ok recorded)
-  pub prints : PrintsRecord options.printing recorded account text status
+  pub prints : PrintsRecord options recorded account text status
 
 -- What is printed for the text of a program, and the status then.
 abbrev pub IsRunText : RunOptions → Option (List ℕ) → List ℕ → ℕ → Type 0

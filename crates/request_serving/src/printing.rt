@@ -1,12 +1,13 @@
 //! What is printed of records and of refused texts.
-ghost use Rattle.std.specs.Prelude.{◌≡◌, ◌≢◌, ◌⊎◌, ◌≤◌, IfOk, IfErr};
+ghost use Rattle.std.specs.Prelude.{◌≡◌, ◌≢◌, ◌⊎◌, ◌≤◌, ◌&&◌, not, IfOk, IfErr};
 ghost use Rattle.trace_judging.specs.declared.faults.Fault.{Fault};
 ghost use Rattle.trace_reports.specs.RefusalLines.{refusal_text};
 ghost use Rattle.tso_text.specs.declared.faults.Why.{Why};
 ghost use Rattle.command_line.specs.declared.options.Printing.TheVariants.{Explanation};
 ghost use Rattle.unit_core.specs.declared.accounts.Account.{Account as AccountValue};
 ghost use Rattle.request_serving.specs.Internal.Ranges.{HasWorkerRange};
-ghost use Rattle.request_serving.specs.Printing.{PrintsRecord};
+ghost use Rattle.command_line.specs.Requests.{prints_trace};
+ghost use Rattle.request_serving.specs.Printing.{Presents, PrintsRecord, following_trace};
 
 use crate::endings::{DONE, REFUSED, status_of};
 use command_line::{Printing, RunOptions};
@@ -27,8 +28,8 @@ pub(crate) struct Printed {
     pub status: u8,
 }
 
-/// What is printed of a record: its trace, the report of the trace and the account, or the trace's explanation. The verdict
-/// on a lawful record is never a violation.
+/// What is printed of a record: its trace, the report of the trace and the account, or the trace's explanation; and then the
+/// trace, where it is to follow. The verdict on a lawful record is never a violation.
 pub(crate) fn print_record<H: Threads + Wait + AllocGlobal>(
     rt: &H,
     options: &RunOptions,
@@ -36,7 +37,48 @@ pub(crate) fn print_record<H: Threads + Wait + AllocGlobal>(
     account: &Account,
 ) -> Result<Printed, Fault>
     requires workers { HasWorkerRange options.now.workers }
-    ensures text { IfOk result (λ printed. PrintsRecord options.now.printing recorded.now account.now printed.text.items printed.status) }
+    ensures text { IfOk result (λ printed. PrintsRecord options.now recorded.now account.now printed.text.items printed.status) }
+    ensures fault { IfErr result (λ fault. (fault ≡ Fault.OutOfMemory) ⊎ (fault ≡ Fault.NoThread)) }
+{
+    let Printed { mut text, status } = present_record(rt, options, recorded, account)?;
+    text.extend_from_slice(&following_trace(rt.alloc(), options, recorded)?)?;
+    Ok(Printed { text, status })
+}
+
+/// The trace of a record, where it is to follow what is printed, or else nothing.
+fn following_trace(
+    alloc: Global,
+    options: &RunOptions,
+    recorded: &Recorded,
+) -> Result<Vec<u8>, OutOfMemory>
+    ensures { IfOk result (λ text. text.items ≡ following_trace options.now recorded.now.trace) }
+{
+    if options.with_trace && !prints_trace(options.printing) {
+        Ok(print_trace(alloc, recorded.trace())?.into_bytes())
+    } else {
+        Ok(Vec::new(alloc))
+    }
+}
+
+/// Whether the trace is what is printed.
+fn prints_trace(printing: Printing) -> bool
+    ensures { result ≡ prints_trace printing }
+{
+    match printing {
+        Printing::Trace => true,
+        Printing::Report | Printing::Explanation => false,
+    }
+}
+
+/// What the options ask for of a record, without the trace that follows.
+fn present_record<H: Threads + Wait + AllocGlobal>(
+    rt: &H,
+    options: &RunOptions,
+    recorded: &Recorded,
+    account: &Account,
+) -> Result<Printed, Fault>
+    requires workers { HasWorkerRange options.now.workers }
+    ensures text { IfOk result (λ printed. Presents options.now.printing recorded.now account.now printed.text.items printed.status) }
     ensures fault { IfErr result (λ fault. (fault ≡ Fault.OutOfMemory) ⊎ (fault ≡ Fault.NoThread)) }
 {
     match options.printing {
@@ -62,7 +104,7 @@ fn print_explanation<H: Threads + Wait + AllocGlobal>(
     recorded: &Recorded,
 ) -> Result<Printed, Fault>
     requires workers { HasWorkerRange options.now.workers }
-    ensures text { (account : AccountValue) → IfOk result (λ printed. PrintsRecord Explanation recorded.now account printed.text.items printed.status) }
+    ensures text { (account : AccountValue) → IfOk result (λ printed. Presents Explanation recorded.now account printed.text.items printed.status) }
     ensures fault { IfErr result (λ fault. (fault ≡ Fault.OutOfMemory) ⊎ (fault ≡ Fault.NoThread)) }
 {
     let explained = judge_trace(

@@ -1,6 +1,6 @@
 //! What the program does for each request.
 ghost use Rattle.std.specs.Prelude.{◌≡◌, ◌≢◌, true, false};
-ghost use Rattle.command_line.specs.Requests.{HasDrainTurns, HasUnitRanges, HasWorkers, asked_of};
+ghost use Rattle.command_line.specs.Requests.{HasDrainTurns, HasOneInput, HasUnitRanges, HasWorkers, asked_of};
 ghost use Rattle.trace_judging.specs.Limits.{worker_limit};
 ghost use Rattle.trace_judging.specs.Streams.{AppendsPrefix};
 ghost use Rattle.request_serving.specs.Endings.{EndsAsAsked, EndsShowing, EndsWithText, outputs};
@@ -29,6 +29,7 @@ mod checking;
 mod judging;
 mod logging;
 mod making;
+mod numbering;
 mod replaying;
 mod running;
 
@@ -38,15 +39,18 @@ const _: () = prove!(command_line::MAX_WORKERS == MAX_WORKERS);
 /// Does what a request asks for, and answers the status that the program ends with.
 ///
 /// `Judge` judges the trace in a file, or else what `reader` has, and writes its report to `writer`, or the explanation of
-/// the verdict; `Batch` writes a line for each of many traces. `Log` writes the violations of a log, or their traces: with
-/// status 1 where none was found in the part of the log that was searched. `Check` checks a certificate against a trace and
-/// writes the report of both. The status of those that judge or check is that of the verdict: 0 where no violation
-/// was found, 2 where a text or the certificate was refused, 3 at a violation or a certificate that holds. `Replay` and
-/// `Run` print what a record gives: never a violation where the unit is lawful for programs of the memory model that the
-/// program's text names, so their status isn't 3 there. A run whose request names turns of a drainer, at most 1,000,000,
-/// has one beside its processors. `Show` writes its text to `writer`, with status 0, and `Refuse` to `errors`, with
-/// status 2. At a fault the status is 4 and one line, as `FAULT Read`, is written to `errors`; a file that can't be opened
-/// is the fault Read. All files that the request names are opened, in their order, before one is read.
+/// the verdict. Where the request names a number, it judges that one of the traces that stand there one after the other, or
+/// writes `REFUSED Nth`, with status 2, where there are fewer; so does `Check`. `Batch` writes a line for each of the traces
+/// of texts, or the texts of those that are violations, with their numbers to `errors`. `Log` writes the violations of a
+/// log, or their traces: with status 1 where none was found in the part of the log that was searched. `Check` checks a
+/// certificate against a trace and writes the report of both. The status of those that judge or check is that of the
+/// verdict: 0 where no violation was found, 2 where a text or the certificate was refused, 3 at a violation or a
+/// certificate that holds. `Replay` and `Run` print what a record gives: never a violation where the unit is lawful for
+/// programs of the memory model that the program's text names, so their status isn't 3 there. A run whose request names
+/// turns of a drainer, at most 1,000,000, has one beside its processors. `Show` writes its text to `writer`, with status 0,
+/// and `Refuse` to `errors`, with status 2. At a fault the status is 4 and one line, as `FAULT Read`, is written to
+/// `errors`; a file that can't be opened is the fault Read. All files that the request names are opened, in their order,
+/// before one is read; but those of `Batch` each when its turn comes.
 pub fn serve<H: Threads + Wait + Sync + AllocGlobal, O: NamedFiles, R: Read, W: Write, E: Write>(
     rt: &H,
     request: &Request<'_>,
@@ -58,6 +62,7 @@ pub fn serve<H: Threads + Wait + Sync + AllocGlobal, O: NamedFiles, R: Read, W: 
     requires workers { HasWorkers (asked_of request.now) }
     requires unit { HasUnitRanges (asked_of request.now) }
     requires turns { HasDrainTurns (asked_of request.now) }
+    requires input { HasOneInput (asked_of request.now) }
     ensures ends { EndsAsAsked (asked_of request.now) (R.remaining reader.old) (O.bytes files.old) (outputs (W.contents writer.old) (W.contents writer.new) (E.contents errors.old) (E.contents errors.new)) result }
     ensures text { EndsWithText request.now (outputs (W.contents writer.old) (W.contents writer.new) (E.contents errors.old) (E.contents errors.new)) result }
     ensures no_false_alarm { runs_on_lawful_unit (asked_of request.now) ≡ true → result ≢ 3 }
@@ -70,13 +75,16 @@ pub fn serve<H: Threads + Wait + Sync + AllocGlobal, O: NamedFiles, R: Read, W: 
 {
     match request {
         Request::Judge(request) => end(judge_named(rt, request, files, reader, writer), errors),
-        Request::Batch(request) => end(batch_named(rt, request, files, reader, writer), errors),
+        Request::Batch(request) => {
+            let judged = batch_named(rt, request, files, reader, writer, errors);
+            end(judged, errors)
+        }
         Request::Log(request) => {
             let reported = log_named(rt, request, files, reader, writer, errors);
             end_log(reported, errors)
         }
-        Request::Check(texts) => {
-            let checked = check_named(rt.alloc(), *texts, files, reader, writer);
+        Request::Check(request) => {
+            let checked = check_named(rt.alloc(), request, files, reader, writer);
             end(checked, errors)
         }
         Request::Replay { options, texts } => {
@@ -84,8 +92,8 @@ pub fn serve<H: Threads + Wait + Sync + AllocGlobal, O: NamedFiles, R: Read, W: 
             end_with(replayed, errors)
         }
         Request::Run(request) => end_run(run_named(rt, request, files, reader, writer), errors),
-        Request::Make { order, seed, shape } => {
-            let made = make(rt.alloc(), *order, *seed, *shape, writer);
+        Request::Make(options) => {
+            let made = make(rt.alloc(), options, writer);
             end_with(made, errors)
         }
         Request::Campaign(options) => {

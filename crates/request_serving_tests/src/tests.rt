@@ -3,7 +3,9 @@ mod failures;
 mod folders;
 mod interleaving;
 mod logs;
+mod numbers;
 mod refused_allocations;
+mod replays;
 mod requests;
 mod statuses;
 

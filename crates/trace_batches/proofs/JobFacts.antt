@@ -1,5 +1,5 @@
--- Lemmas on the reports and the lines of pieces, one piece more.
-use Rattle.std.proofs.Common.{◌≡◌, ◌⊎◌, inl, inr, Ok, Result, IfOk, IfErr, string_bytes, ℕ, suc, ◌+◌, ◌<◌, Bool, List, [], ◌∷◌, ◌++◌, length, map, take, drop, get_or, refl, ap, sym, subst, ◌∙◌, arith, append_assoc, Err}
+-- Lemmas on what is said and printed of pieces, one piece more.
+use Rattle.std.proofs.Common.{◌≡◌, Ok, Result, IfOk, IfErr, ℕ, suc, ◌+◌, ◌<◌, List, [], ◌∷◌, ◌++◌, length, map, take, drop, get_or, refl, ap, sym, subst, ◌∙◌, arith, append_assoc, Err}
 use Rattle.std.specs.Prelude.{Option}
 use Rattle.std.specs.Io.KnownBytes.{Appends}
 use Rattle.std.proofs.KnownBytes.{Appends-nil, Appends-trans}
@@ -8,25 +8,28 @@ use Rattle.std.proofs.Math.Seq.{take-append_seam}
 use Rattle.std.proofs.lemmas.List.{append-nil, get_or-map, length-map, length_push, take_more}
 use Rattle.trace_batches.specs.Internal.Cutters.{rows}
 use Rattle.trace_judging.specs.declared.faults.Fault.{Fault}
-use Rattle.trace_judging.specs.declared.faults.Fault.TheVariants.{OutOfMemory, NoThread}
-use Rattle.trace_reports.specs.declared.renderings.Report.{Report}
-use Rattle.trace_reports.specs.Reports.{IsReport}
+use Rattle.trace_judging.specs.declared.faults.Fault.TheVariants.{NoThread}
 use Rattle.trace_judging.specs.Streams.{AppendsPrefix}
 use Rattle.trace_batches.specs.declared.jobs.Job.{Job}
+use Rattle.trace_batches.specs.declared.judgments.Judgment.{Judgment}
+use Rattle.trace_batches.specs.declared.judgments.Judgment.TheVariants.{NoViolation, Violation, Refused}
 use Rattle.trace_batches.specs.declared.tallies.Tally.{Tally}
-use Rattle.trace_batches.specs.Batches.{AreReports, IsBatchFault, ReportValue, trace_lines, written_line}
-use Rattle.trace_batches.specs.Internal.Progress.{AreJudged, Counts, IsOutcome, WroteAll, WroteSome}
+use Rattle.trace_batches.specs.Batches.{Counts, IsBatchFault, TextPrinting, piece_text, pieces_text}
+use Rattle.trace_batches.specs.Judgments.{AreJudgments, IsJudgment}
+use Rattle.trace_batches.specs.Internal.Progress.{AreJudged, IsJobOf, IsOutcome, WroteAll, WroteSome}
+use Rattle.trace_batches.proofs.JudgmentFacts.{firsts, kept_violation}
+use Rattle.trace_judging.specs.Limits.{trace_read_limit}
 use Rattle.trace_judging.proofs.StreamFacts.{prefix_after, whole_written}
 
--- ---- reports
+-- ---- judgments
 
-pub AreReports-append : (ps qs : List (List ℕ)) (rs ss : List ReportValue) → AreReports ps rs → AreReports qs ss → AreReports (ps ++ qs) (rs ++ ss)
-AreReports-append [] qs [] ss first second = second
-AreReports-append (p ∷ ps) qs (r ∷ rs) ss first second = (first.0, AreReports-append ps qs rs ss first.1 second)
-AreReports-append ps qs rs ss first second = absurd first
+pub AreJudgments-append : (ps qs : List (List ℕ)) (rs ss : List Judgment) → AreJudgments ps rs → AreJudgments qs ss → AreJudgments (ps ++ qs) (rs ++ ss)
+AreJudgments-append [] qs [] ss first second = second
+AreJudgments-append (p ∷ ps) qs (r ∷ rs) ss first second = (first.0, AreJudgments-append ps qs rs ss first.1 second)
+AreJudgments-append ps qs rs ss first second = absurd first
 
-pub AreReports-push : (ps : List (List ℕ)) (rs : List ReportValue) (p : List ℕ) (r : ReportValue) → AreReports ps rs → IsReport p r.text r.verdict → AreReports (ps ++ p ∷ []) (rs ++ r ∷ [])
-AreReports-push ps rs p r first last = AreReports-append ps (p ∷ []) rs (r ∷ []) first (last, tt)
+pub AreJudgments-push : (ps : List (List ℕ)) (rs : List Judgment) (p : List ℕ) (r : Judgment) → AreJudgments ps rs → IsJudgment p r → AreJudgments (ps ++ p ∷ []) (rs ++ r ∷ [])
+AreJudgments-push ps rs p r first last = AreJudgments-append ps (p ∷ []) rs (r ∷ []) first (last, tt)
 
 -- the pieces of new jobs
 pieces_of : (pieces : List (Vec ℕ)) → map (λ (job : Job). job.piece.items) (map (λ piece. record { piece = piece; outcome = Err NoThread }) pieces) ≡ rows pieces
@@ -42,18 +45,33 @@ judged_all pieces jobs done n count new judged =
     let whole : take n (done ++ drop (length done) jobs) ≡ done = ap (λ m. take m (done ++ drop (length done) jobs)) all ∙ take-append_seam done (drop (length done) jobs) in
     subst (AreJudged (rows pieces)) (sym whole) (subst (λ ps. AreJudged ps done) given judged)
 
--- ---- lines
+-- ---- what is printed
 
-pub trace_lines-append : (quiet : Bool) (number : ℕ) (rs ss : List ReportValue) → trace_lines quiet number (rs ++ ss) ≡ trace_lines quiet number rs ++ trace_lines quiet (number + length rs) ss
-trace_lines-append quiet number [] ss = ap (λ n. trace_lines quiet n ss) (omega arith)
-trace_lines-append quiet number (r ∷ rs) ss =
-    ap (λ t. written_line quiet number r ++ t) (trace_lines-append quiet (suc number) rs ss)
-    ∙ sym (append_assoc (written_line quiet number r) (trace_lines quiet (suc number) rs) (trace_lines quiet (suc number + length rs) ss))
-    ∙ ap (λ n. (written_line quiet number r ++ trace_lines quiet (suc number) rs) ++ trace_lines quiet n ss) (omega arith)
+pub pieces_text-append : (way : TextPrinting) (number : ℕ) (ps qs : List (List ℕ)) (rs ss : List Judgment) → AreJudgments ps rs →
+    pieces_text way number (ps ++ qs) (rs ++ ss) ≡ pieces_text way number ps rs ++ pieces_text way (number + length rs) qs ss
+pieces_text-append way number [] qs [] ss are = ap (λ n. pieces_text way n qs ss) (omega arith)
+pieces_text-append way number (p ∷ ps) qs (r ∷ rs) ss are =
+    ap (λ t. piece_text way number p r ++ t) (pieces_text-append way (suc number) ps qs rs ss are.1)
+    ∙ sym (append_assoc (piece_text way number p r) (pieces_text way (suc number) ps rs) (pieces_text way (suc number + length rs) qs ss))
+    ∙ ap (λ n. (piece_text way number p r ++ pieces_text way (suc number) ps rs) ++ pieces_text way n qs ss) (omega arith)
+pieces_text-append way number ps qs rs ss are = absurd are
 
-trace_lines-push : (quiet : Bool) (number : ℕ) (rs : List ReportValue) (r : ReportValue) → trace_lines quiet number (rs ++ r ∷ []) ≡ trace_lines quiet number rs ++ written_line quiet (number + length rs) r
-trace_lines-push quiet number rs r =
-    trace_lines-append quiet number rs (r ∷ []) ∙ ap (λ t. trace_lines quiet number rs ++ t) (append-nil (written_line quiet (number + length rs) r))
+pieces_text-push : (way : TextPrinting) (number : ℕ) (ps : List (List ℕ)) (rs : List Judgment) (p : List ℕ) (r : Judgment) → AreJudgments ps rs →
+    pieces_text way number (ps ++ p ∷ []) (rs ++ r ∷ []) ≡ pieces_text way number ps rs ++ piece_text way (number + length rs) p r
+pieces_text-push way number ps rs p r are =
+    pieces_text-append way number ps (p ∷ []) rs (r ∷ []) are ∙ ap (λ t. pieces_text way number ps rs ++ t) (append-nil (piece_text way (number + length rs) p r))
+
+-- of the first bytes of a piece the same is printed as of the piece: all of a violation is kept
+kept_text : (way : TextPrinting) (number : ℕ) (p : List ℕ) (r : Judgment) → IsJudgment p r → piece_text way number (take trace_read_limit p) r ≡ piece_text way number p r
+kept_text way number p NoViolation is = refl
+kept_text way number p Violation is = ap (λ bytes. piece_text way number bytes Violation) (kept_violation p is)
+kept_text way number p (Refused fault) is = refl
+
+pub kept_texts : (way : TextPrinting) (number : ℕ) (ps : List (List ℕ)) (rs : List Judgment) → AreJudgments ps rs → pieces_text way number (firsts ps) rs ≡ pieces_text way number ps rs
+kept_texts way number [] [] are = refl
+kept_texts way number (p ∷ ps) (r ∷ rs) are =
+    ap (λ t. t ++ pieces_text way (suc number) (firsts ps) rs) (kept_text way number p r are.0) ∙ ap (λ t. piece_text way number p r ++ t) (kept_texts way (suc number) ps rs are.1)
+kept_texts way number ps rs are = absurd are
 
 -- the number of the next line
 next_number : (before mid : Tally) (n : ℕ) → mid.traces ≡ before.traces + n → suc before.traces + n ≡ mid.traces + 1
@@ -62,68 +80,73 @@ next_number before mid n traces = omega (arith, traces)
 -- ---- pieces, one after the other
 
 -- nothing of them
-pub wrote_none : (quiet : Bool) (tally : Tally) (a : Option (List ℕ)) → WroteAll quiet tally tally [] a a
-wrote_none quiet tally a = record {
-  reports = [];
-  are_reports = tt;
+pub wrote_none : (way : TextPrinting) (tally : Tally) (a : Option (List ℕ)) → WroteAll way tally tally [] a a
+wrote_none way tally a = record {
+  judgments = [];
+  are_judgments = tt;
   counts = λ earlier counts. subst (Counts tally) (sym (append-nil earlier)) counts;
   traces = omega arith;
-  lines = Appends-nil a;
+  written = Appends-nil a;
 }
 
 -- one more
-pub wrote_more : (quiet : Bool) (before mid after : Tally) (pieces : List (List ℕ)) (piece : List ℕ) (report : ReportValue) (a b c : Option (List ℕ)) → WroteAll quiet before mid pieces a b →
-    IsReport piece report.text report.verdict → ((reports : List ReportValue) → Counts mid reports → Counts after (reports ++ report ∷ [])) → after.traces ≡ mid.traces + 1 →
-    Appends b c (written_line quiet (mid.traces + 1) report) → WroteAll quiet before after (pieces ++ piece ∷ []) a c
-wrote_more quiet before mid after pieces piece report a b c so_far is counted more line =
-    let number = next_number before mid (length so_far.reports) so_far.traces in
-    let count = length_push so_far.reports report in
+pub wrote_more : (way : TextPrinting) (before mid after : Tally) (pieces : List (List ℕ)) (piece : List ℕ) (judgment : Judgment) (a b c : Option (List ℕ)) → WroteAll way before mid pieces a b →
+    IsJudgment piece judgment → ((judgments : List Judgment) → Counts mid judgments → Counts after (judgments ++ judgment ∷ [])) → after.traces ≡ mid.traces + 1 →
+    Appends b c (piece_text way (mid.traces + 1) piece judgment) → WroteAll way before after (pieces ++ piece ∷ []) a c
+wrote_more way before mid after pieces piece judgment a b c so_far is counted more text =
+    let number = next_number before mid (length so_far.judgments) so_far.traces in
+    let count = length_push so_far.judgments judgment in
     let one = so_far.traces in
     record {
-      reports = so_far.reports ++ report ∷ [];
-      are_reports = AreReports-push pieces so_far.reports piece report so_far.are_reports is;
-      counts = λ earlier counts. subst (Counts after) (append_assoc earlier so_far.reports (report ∷ [])) (counted (earlier ++ so_far.reports) (so_far.counts earlier counts));
+      judgments = so_far.judgments ++ judgment ∷ [];
+      are_judgments = AreJudgments-push pieces so_far.judgments piece judgment so_far.are_judgments is;
+      counts = λ earlier counts. subst (Counts after) (append_assoc earlier so_far.judgments (judgment ∷ [])) (counted (earlier ++ so_far.judgments) (so_far.counts earlier counts));
       traces = omega (arith, more, count, one);
-      lines =
-          subst (Appends a c) (ap (λ n. trace_lines quiet (suc before.traces) so_far.reports ++ written_line quiet n report) (sym number) ∙ sym (trace_lines-push quiet (suc before.traces) so_far.reports report))
-          (Appends-trans a b c (trace_lines quiet (suc before.traces) so_far.reports) (written_line quiet (mid.traces + 1) report) so_far.lines line);
+      written =
+          subst (Appends a c)
+          (ap (λ n. pieces_text way (suc before.traces) pieces so_far.judgments ++ piece_text way n piece judgment) (sym number)
+          ∙ sym (pieces_text-push way (suc before.traces) pieces so_far.judgments piece judgment so_far.are_judgments))
+          (Appends-trans a b c (pieces_text way (suc before.traces) pieces so_far.judgments) (piece_text way (mid.traces + 1) piece judgment) so_far.written text);
     }
 
 -- a fault before the next
-pub wrote_before : (quiet : Bool) (before mid : Tally) (pieces : List (List ℕ)) (i : ℕ) (a b : Option (List ℕ)) → WroteAll quiet before mid (take i pieces) a b → WroteSome quiet before pieces a b
-wrote_before quiet before mid pieces i a b so_far = record {
+pub wrote_before : (way : TextPrinting) (before mid : Tally) (pieces : List (List ℕ)) (i : ℕ) (a b : Option (List ℕ)) → WroteAll way before mid (take i pieces) a b → WroteSome way before pieces a b
+wrote_before way before mid pieces i a b so_far = record {
   count = i;
-  reports = so_far.reports;
-  are_reports = so_far.are_reports;
-  lines = whole_written a b (trace_lines quiet (suc before.traces) so_far.reports) so_far.lines;
+  judgments = so_far.judgments;
+  are_judgments = so_far.are_judgments;
+  written = whole_written a b (pieces_text way (suc before.traces) (take i pieces) so_far.judgments) so_far.written;
 }
 
--- a fault in its line
-pub wrote_some : (quiet : Bool) (before mid : Tally) (pieces : List (List ℕ)) (i : ℕ) (report : ReportValue) (a b c : Option (List ℕ)) → i < length pieces → WroteAll quiet before mid (take i pieces) a b →
-    IsReport (get_or pieces i []) report.text report.verdict → AppendsPrefix b c (written_line quiet (mid.traces + 1) report) → WroteSome quiet before pieces a c
-wrote_some quiet before mid pieces i report a b c inside so_far is line =
-    let number = next_number before mid (length so_far.reports) so_far.traces in
+-- a fault in what is printed of it
+pub wrote_some : (way : TextPrinting) (before mid : Tally) (pieces : List (List ℕ)) (i : ℕ) (judgment : Judgment) (a b c : Option (List ℕ)) → i < length pieces → WroteAll way before mid (take i pieces) a b →
+    IsJudgment (get_or pieces i []) judgment → AppendsPrefix b c (piece_text way (mid.traces + 1) (get_or pieces i []) judgment) → WroteSome way before pieces a c
+wrote_some way before mid pieces i judgment a b c inside so_far is text =
+    let number = next_number before mid (length so_far.judgments) so_far.traces in
     let piece = get_or pieces i [] in
+    let judgments = so_far.judgments ++ judgment ∷ [] in
+    let same : take i pieces ++ piece ∷ [] ≡ take (i + 1) pieces = sym (take_more pieces i [] inside) in
     record {
       count = i + 1;
-      reports = so_far.reports ++ report ∷ [];
-      are_reports = subst (λ ps. AreReports ps (so_far.reports ++ report ∷ [])) (sym (take_more pieces i [] inside)) (AreReports-push (take i pieces) so_far.reports piece report so_far.are_reports is);
-      lines =
-          subst (AppendsPrefix a c) (ap (λ n. trace_lines quiet (suc before.traces) so_far.reports ++ written_line quiet n report) (sym number) ∙ sym (trace_lines-push quiet (suc before.traces) so_far.reports report))
-          (prefix_after a b c (trace_lines quiet (suc before.traces) so_far.reports) (written_line quiet (mid.traces + 1) report) so_far.lines line);
+      judgments = judgments;
+      are_judgments = subst (λ ps. AreJudgments ps judgments) same (AreJudgments-push (take i pieces) so_far.judgments piece judgment so_far.are_judgments is);
+      written =
+          subst (AppendsPrefix a c)
+          (ap (λ n. pieces_text way (suc before.traces) (take i pieces) so_far.judgments ++ piece_text way n piece judgment) (sym number)
+          ∙ sym (pieces_text-push way (suc before.traces) (take i pieces) so_far.judgments piece judgment so_far.are_judgments)
+          ∙ ap (λ ps. pieces_text way (suc before.traces) ps judgments) same)
+          (prefix_after a b c (pieces_text way (suc before.traces) (take i pieces) so_far.judgments) (piece_text way (mid.traces + 1) piece judgment) so_far.written text);
     }
 
--- ---- the outcome of a job
+-- ---- the jobs
 
--- what is rendered of a piece is its report, and a fault of that is one of a batch
-pub outcome_of : (piece : List ℕ) (outcome : Result Report Fault) → IfOk outcome (λ report. IsReport piece (string_bytes report.text) report.verdict) →
-    IfErr outcome (λ fault. (fault ≡ OutOfMemory) ⊎ (fault ≡ NoThread)) → IsOutcome piece outcome
-outcome_of piece (Ok report) said fault = said
-outcome_of piece (Err why) said (inl e) = subst IsBatchFault (sym e) tt
-outcome_of piece (Err why) said (inr e) = subst IsBatchFault (sym e) tt
+-- what judging a piece gave is its outcome
+pub outcome_of : (piece : List ℕ) (outcome : Result Judgment Fault) → IfOk outcome (IsJudgment piece) → IfErr outcome IsBatchFault → IsOutcome piece outcome
+outcome_of piece (Ok judgment) said fault = said
+outcome_of piece (Err why) said fault = fault
 
--- what came of each job came of its piece
-pub judged_each : (old new : List Job) → length new ≡ length old → ((i : ℕ) (d : Job) → i < length old → IsOutcome (get_or old i d).piece.items (get_or new i d).outcome) →
+-- each judged its piece
+pub judged_each : (old new : List Job) → length new ≡ length old → ((i : ℕ) (d : Job) → i < length old → IsJobOf (get_or old i d).piece.items (get_or new i d)) →
     AreJudged (map (λ (job : Job). job.piece.items) old) new
 judged_each old new same each =
     let piece_in : Job → List ℕ = λ job. job.piece.items in
@@ -131,5 +154,5 @@ judged_each old new same each =
       one_each = same ∙ sym (length-map old piece_in);
       each = λ i d below.
           let within = subst (λ n. i < n) (length-map old piece_in) below in
-          subst (λ piece. IsOutcome piece (get_or new i d).outcome) (sym (get_or-map piece_in old i d [] within)) (each i d within);
+          subst (λ piece. IsJobOf piece (get_or new i d)) (sym (get_or-map piece_in old i d [] within)) (each i d within);
     }

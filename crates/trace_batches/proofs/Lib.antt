@@ -1,7 +1,10 @@
 pub mod BatchFacts
 pub mod CutterFacts
 pub mod JobFacts
+pub mod JudgmentFacts
+pub mod NthFacts
 pub mod PieceFacts
 pub mod TallyFacts
 mod PieceReports
 mod TracePieces
+pub mod WholeFacts

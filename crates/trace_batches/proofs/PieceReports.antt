@@ -1,12 +1,10 @@
--- Lemmas on the report of a piece past the limit, and of what is kept of a piece.
-use Rattle.std.proofs.Common.{◌≡◌, ◌↔◌, ℕ, ◌<◌, List, length, take, refl, sym, subst, inr}
+-- Lemmas on the report of a piece past the limit.
+use Rattle.std.proofs.Common.{◌≡◌, ◌↔◌, ℕ, ◌<◌, List, length, refl, sym, subst, inr}
 use Rattle.trace_reports.specs.declared.verdicts.Verdict.{Verdict}
 use Rattle.trace_reports.specs.declared.verdicts.Verdict.TheVariants.{Refused}
-use Rattle.trace_judging.specs.Limits.{trace_read_limit}
 use Rattle.trace_reports.specs.RefusalLines.{refusal_text}
 use Rattle.trace_reports.specs.Reports.{IsReport, refusal_shown, reported}
-use Rattle.trace_reports.proofs.RenderingFacts.{one_text, some_text}
-use Rattle.trace_judging.proofs.ReaderFacts.{report_of_prefix}
+use Rattle.trace_reports.proofs.RenderingFacts.{one_text}
 use Rattle.tso_text.specs.declared.faults.Why.TheVariants.{TooLong}
 use Rattle.tso_text.specs.Texts.{text_byte_limit}
 use Rattle.tso_text.proofs.TextLaws.{trace_laws}
@@ -22,13 +20,3 @@ pub long_report : (piece text : List ℕ) (verdict : Verdict) → text_byte_limi
 long_report piece text verdict long =
     let refusal = refusal_of_long piece long in
     (λ report. one_text reported refusal_shown piece text (refusal_text 0 TooLong) verdict Refused report refusal, λ says. with_both piece (refusal_text 0 TooLong) text Refused verdict (sym says.0) (sym says.1) refusal)
-
--- what is kept of a piece has its report
-kept_report : (piece text : List ℕ) (verdict : Verdict) → IsReport piece text verdict → IsReport (take trace_read_limit piece) text verdict
-kept_report piece text verdict report =
-    let kept = some_text reported refusal_shown (take trace_read_limit piece) in
-    let same = one_text reported refusal_shown piece kept.0 text kept.1 verdict (report_of_prefix piece kept.0 kept.1 kept.2) report in
-    with_both (take trace_read_limit piece) kept.0 text kept.1 verdict same.0 same.1 kept.2
-
-pub same_reports : (piece text : List ℕ) (verdict : Verdict) → IsReport (take trace_read_limit piece) text verdict ↔ IsReport piece text verdict
-same_reports piece text verdict = (report_of_prefix piece text verdict, kept_report piece text verdict)

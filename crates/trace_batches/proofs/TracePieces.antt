@@ -1,6 +1,6 @@
 -- The texts of traces one after another are cut into these texts: of the lines of a trace's text the last one alone is `end`.
 use Rattle.std.proofs.Common.{◌≡◌, ◌≢◌, ℕ, zero, suc, ◌+◌, ◌/◌, ◌%◌, Bool, true, false, ltb, eqb, List, [], ◌∷◌, ◌++◌, get_or, map, refl, ap, sym, subst, ◌∙◌, arith, append_assoc}
-use Rattle.std.specs.Prelude.{◌↔◌, codes, cond}
+use Rattle.std.specs.Prelude.{◌↔◌, Option, codes, cond}
 use Rattle.std.specs.Fmt.{decimal, digit_glyph, digits, digits_onto}
 use Rattle.std.specs.List.{All, concat, flat_map, join_with_byte, list_all}
 use Rattle.std.proofs.lemmas.Bool.Decides.{nat_tests}
@@ -19,7 +19,10 @@ use Rattle.tso_ops.specs.Settings.{SettingValue}
 use Rattle.tso_ops.specs.Values.{TraceValue}
 use Rattle.tso_text.specs.Printed.{trace_header, entry_tokens, items_text, model_text, outcome_tokens, processor_text, setting_text, trace_text, whole_text}
 use Rattle.trace_reports.specs.declared.verdicts.Verdict.{Verdict}
-use Rattle.trace_batches.specs.Batches.{AreReports, IsBatch, ReportValue, total_line, trace_lines}
+use Rattle.trace_batches.specs.declared.batches.BatchPrinting.{BatchPrinting}
+use Rattle.trace_batches.specs.declared.judgments.Judgment.{Judgment}
+use Rattle.trace_batches.specs.Batches.{AreResultsOfAll, IsBatch, TextResults, all_judgments, head_text, known_texts, last_line, last_text, pieces_text, results_text, results_texts, under_name}
+use Rattle.trace_batches.specs.Judgments.{AreJudgments}
 
 -- ---- bytes that end no line
 
@@ -166,9 +169,28 @@ pieces_of_traces traces pieces = (
   λ same. subst (ArePieces (flat_map trace_text traces)) (sym same) (are_pieces traces),
 )
 
--- so the lines of a batch are those of their reports
-pub lines_of_traces : (quiet : Bool) (traces : List TraceValue) (text : List ℕ) (verdict : Verdict) → IsBatch quiet (flat_map trace_text traces) text verdict →
-    (reports : List ReportValue) × AreReports (map trace_text traces) reports × (text ≡ trace_lines quiet 1 reports ++ total_line reports)
-lines_of_traces quiet traces text verdict batch =
-    let same = (pieces_of_traces traces batch.pieces).0 batch.are_pieces in
-    (batch.reports, subst (λ (pieces : List (List ℕ)). AreReports pieces batch.reports) same batch.are_reports, batch.whole)
+-- so what is printed of a batch is printed of them
+pub texts_of_traces : (printing : BatchPrinting) (name : Option (List ℕ)) (traces : List TraceValue) (text notes : List ℕ) (verdict : Verdict) →
+    IsBatch printing (known_texts ((name, flat_map trace_text traces) ∷ [])) text notes verdict →
+    (judgments : List Judgment) × AreJudgments (map trace_text traces) judgments
+    × (text ≡ head_text printing ++ (pieces_text (under_name printing name) 1 (map trace_text traces) judgments ++ last_text printing (last_line printing judgments)))
+texts_of_traces printing name traces text notes verdict batch = go batch.all batch.are_results batch.whole
+  where
+    go : (all : List TextResults) → AreResultsOfAll (known_texts ((name, flat_map trace_text traces) ∷ [])) all →
+        text ≡ head_text printing ++ (results_texts printing all ++ last_text printing (last_line printing (all_judgments all))) →
+        (judgments : List Judgment) × AreJudgments (map trace_text traces) judgments
+        × (text ≡ head_text printing ++ (pieces_text (under_name printing name) 1 (map trace_text traces) judgments ++ last_text printing (last_line printing judgments)))
+    go [] are whole = absurd are
+    go (one ∷ two ∷ all) are whole = absurd are.1
+    go (one ∷ []) are whole =
+        let results = are.0.1.of_all in
+        let same = (pieces_of_traces traces one.pieces).0 results.are_pieces in
+        let last = last_text printing (last_line printing one.judgments) in (
+          one.judgments,
+          subst (λ (pieces : List (List ℕ)). AreJudgments pieces one.judgments) same results.are_judgments,
+          whole
+              ∙ ap (λ js. head_text printing ++ (results_text printing one ++ [] ++ last_text printing (last_line printing js))) (append-nil one.judgments)
+              ∙ ap (λ t. head_text printing ++ (t ++ last)) (append-nil (results_text printing one))
+              ∙ ap (λ (pieces : List (List ℕ)). head_text printing ++ (pieces_text (under_name printing one.name) 1 pieces one.judgments ++ last)) same
+              ∙ ap (λ (n : Option (List ℕ)). head_text printing ++ (pieces_text (under_name printing n) 1 (map trace_text traces) one.judgments ++ last)) are.0.0,
+        )

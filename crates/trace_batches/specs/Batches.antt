@@ -1,85 +1,199 @@
--- The text of a batch: a line for each piece of a stream, and the last line.
-use Rattle.std.specs.Prelude.{◌≡◌, ℕ, suc, Bool, true, false, List, [], ◌∷◌, ◌++◌, length, codes, Option, if◌then◌else◌}
-use Rattle.std.specs.Fmt.{decimal}
+-- The texts of a batch of several texts: a line for each of their pieces and a last line, or those of their pieces that are violations.
+use Rattle.std.specs.Prelude.{◌≡◌, ℕ, suc, Bool, false, List, [], ◌∷◌, ◌++◌, Option, Some, None, length, map, if◌then◌else◌}
+use Rattle.std.specs.Io.KnownBytes.{Appends}
 use Rattle.std.specs.List.{count_by, list_any}
+use Rattle.trace_batches.specs.declared.batches.BatchFormat.{BatchFormat}
+use Rattle.trace_batches.specs.declared.batches.BatchFormat.TheVariants.{Words, Junit}
+use Rattle.trace_batches.specs.declared.batches.BatchPrinting.{BatchPrinting}
+use Rattle.trace_batches.specs.declared.begun.Batch.{Batch}
+use Rattle.trace_batches.specs.declared.judgments.Judgment.{Judgment}
+use Rattle.trace_batches.specs.declared.judgments.Judgment.TheVariants as judged
+use Rattle.trace_batches.specs.declared.tallies.Tally.{Tally}
+use Rattle.trace_batches.specs.BatchLines.{head_of, total_line, trace_line}
+use Rattle.trace_batches.specs.BatchNames.{text_label}
+use Rattle.trace_batches.specs.Judgments.{AreJudgments, says_refused, says_violation}
 use Rattle.trace_batches.specs.Pieces.{ArePieces}
 use Rattle.trace_judging.specs.declared.faults.Fault.{Fault}
 use Rattle.trace_judging.specs.declared.faults.Fault.TheVariants.{Missing}
+use Rattle.trace_judging.specs.Streams.{AppendsPrefix}
 use Rattle.trace_reports.specs.Readings.{ReadsAs}
 use Rattle.trace_reports.specs.declared.verdicts.Verdict.{Verdict}
 use Rattle.trace_reports.specs.declared.verdicts.Verdict.TheVariants.{NoViolation, Violation, Refused}
-use Rattle.trace_reports.specs.Reports.{IsReport}
-use Rattle.trace_reports.specs.Verdicts.{is_refused, is_violation, verdict_line}
 
--- ---- the reports of pieces
+-- ---- the results
 
--- a report: its text, and the verdict that it says
-pub record ReportValue : Type 0 where
-  pub text : List ℕ
-  pub verdict : Verdict
+-- The results of a stream: its pieces, in order, and what is said of each.
+pub record AreResults (stream : List ℕ) (pieces : List (List ℕ)) (judgments : List Judgment) : Type 0 where
+  pub are_pieces : ArePieces stream pieces
+  pub are_judgments : AreJudgments pieces judgments
 
--- these are the reports of the pieces, one each, in order
-abbrev pub AreReports : List (List ℕ) → List ReportValue → Type 0
-AreReports [] [] = Unit {0}
-AreReports [] (report ∷ reports) = ⊥
-AreReports (piece ∷ pieces) [] = ⊥
-AreReports (piece ∷ pieces) (report ∷ reports) = IsReport piece report.text report.verdict × AreReports pieces reports
+-- a text of a batch: its name where lines have one, and its bytes where these are known
+pub record BatchText : Type 0 where
+  pub name : Option (List ℕ)
+  pub bytes : Option (List ℕ)
 
--- ---- the text
+-- what is found of a text: its pieces, in order, and what is said of each, under its name
+pub record TextResults : Type 0 where
+  pub name : Option (List ℕ)
+  pub pieces : List (List ℕ)
+  pub judgments : List Judgment
 
--- the end of a line: what the report says, without certificate. The report of a refused piece is this one line.
-abbrev pub line_end_of : Verdict → List ℕ → List ℕ
-line_end_of NoViolation report = verdict_line false
-line_end_of Violation report = verdict_line true
-line_end_of Refused report = report
+-- these are the results of the text
+abbrev pub AreResultsOf : BatchText → TextResults → Type 0
+AreResultsOf text results = (results.name ≡ text.name) × ReadsAs text.bytes (λ stream. AreResults stream results.pieces results.judgments)
 
--- the line of the trace of this number
-abbrev pub trace_line : ℕ → ReportValue → List ℕ
-trace_line number report = codes "trace " ++ decimal number ++ codes " " ++ line_end_of report.verdict report.text
+-- these are the results of the texts, one each, in order
+abbrev pub AreResultsOfAll : List BatchText → List TextResults → Type 0
+AreResultsOfAll [] [] = Unit {0}
+AreResultsOfAll [] (results ∷ all) = ⊥
+AreResultsOfAll (text ∷ texts) [] = ⊥
+AreResultsOfAll (text ∷ texts) (results ∷ all) = AreResultsOf text results × AreResultsOfAll texts all
+
+-- what is said of all pieces of all texts
+abbrev pub all_judgments : List TextResults → List Judgment
+all_judgments [] = []
+all_judgments (results ∷ all) = results.judgments ++ all_judgments all
+
+-- Violation where a judgment says so, else Refused where one says that
+abbrev pub batch_verdict : List Judgment → Verdict
+batch_verdict judgments = if list_any says_violation judgments then Violation else if list_any says_refused judgments then Refused else NoViolation
+
+-- ---- what is printed of a text
+
+-- how pieces of a text are printed, and its label
+pub record TextPrinting : Type 0 where
+  pub printing : BatchPrinting
+  pub label : List ℕ
 
 -- a quiet batch leaves out the lines of traces without a violation
-abbrev pub is_left_out : Bool → Verdict → Bool
-is_left_out quiet NoViolation = quiet
+abbrev pub is_left_out : Bool → Judgment → Bool
+is_left_out quiet judged.NoViolation = quiet
 is_left_out quiet _ = false
 
-abbrev pub written_line : Bool → ℕ → ReportValue → List ℕ
-written_line quiet number report = if is_left_out quiet report.verdict then [] else trace_line number report
+abbrev pub written_line : TextPrinting → ℕ → Judgment → List ℕ
+written_line of number judgment = if is_left_out of.printing.quiet judgment then [] else trace_line of.printing.format of.label number judgment
 
--- the lines of traces, the first of which has this number
-abbrev pub trace_lines : Bool → ℕ → List ReportValue → List ℕ
-trace_lines quiet number [] = []
-trace_lines quiet number (report ∷ reports) = written_line quiet number report ++ trace_lines quiet (suc number) reports
+-- the piece as it came where it is a violation, and nothing of others
+abbrev pub violating_text : List ℕ → Judgment → List ℕ
+violating_text piece judged.Violation = piece
+violating_text piece _ = []
 
--- the last line: how many traces, how many of them are violations, and how many are refused
-abbrev pub total_text : ℕ → ℕ → ℕ → List ℕ
-total_text traces violations refused = codes "traces " ++ decimal traces ++ codes " violations " ++ decimal violations ++ codes " refused " ++ decimal refused ++ 10 ∷ []
+-- what is printed of the piece of this number: its text where it is a violation, or its line
+abbrev pub piece_text : TextPrinting → ℕ → List ℕ → Judgment → List ℕ
+piece_text of number piece judgment = if of.printing.violations then violating_text piece judgment else written_line of number judgment
 
-abbrev pub total_line : List ReportValue → List ℕ
-total_line reports = total_text (length reports) (count_by (λ report. is_violation report.verdict) reports) (count_by (λ report. is_refused report.verdict) reports)
+-- what is printed of pieces, the first of which has this number, by their judgments
+abbrev pub pieces_text : TextPrinting → ℕ → List (List ℕ) → List Judgment → List ℕ
+pieces_text of number (piece ∷ pieces) (judgment ∷ judgments) = piece_text of number piece judgment ++ pieces_text of (suc number) pieces judgments
+pieces_text of number _ _ = []
 
--- Violation where a report says so, else Refused where one says that
-abbrev pub batch_verdict : List ReportValue → Verdict
-batch_verdict reports =
-    if list_any (λ report. is_violation report.verdict) reports then Violation
-    else if list_any (λ report. is_refused report.verdict) reports then Refused
-    else NoViolation
+-- how a text of this name is printed
+abbrev pub under_name : BatchPrinting → Option (List ℕ) → TextPrinting
+under_name printing name = record { printing = printing; label = text_label printing.format name }
 
--- The text is that of the batch of the stream: a line for each of its pieces, in order, by the piece's report, and the last line.
-pub record IsBatch (quiet : Bool) (stream : List ℕ) (text : List ℕ) (verdict : Verdict) : Type 0 where
-  pub pieces : List (List ℕ)
-  pub are_pieces : ArePieces stream pieces
-  pub reports : List ReportValue
-  pub are_reports : AreReports pieces reports
-  pub whole : text ≡ trace_lines quiet 1 reports ++ total_line reports
-  pub says : verdict ≡ batch_verdict reports
+-- what is printed of a text, whose pieces are numbered from 1
+abbrev pub results_text : BatchPrinting → TextResults → List ℕ
+results_text printing results = pieces_text (under_name printing results.name) 1 results.pieces results.judgments
+
+-- ---- what is printed of all
+
+abbrev pub results_texts : BatchPrinting → List TextResults → List ℕ
+results_texts printing [] = []
+results_texts printing (results ∷ all) = results_text printing results ++ results_texts printing all
+
+-- The head precedes lines, and no texts of violations.
+abbrev pub head_text : BatchPrinting → List ℕ
+head_text printing = if printing.violations then [] else head_of printing.format
+
+-- a note is no document: in its place it is in words
+abbrev pub note_format : BatchFormat → BatchFormat
+note_format Junit = Words
+note_format format = format
+
+-- the format of the last line
+abbrev pub last_format : BatchPrinting → BatchFormat
+last_format printing = if printing.violations then note_format printing.format else printing.format
+
+-- the last line after these judgments
+abbrev pub last_line : BatchPrinting → List Judgment → List ℕ
+last_line printing judgments = total_line (last_format printing) judgments
+
+-- The last line follows lines, and is a note beside texts of violations.
+abbrev pub last_text : BatchPrinting → List ℕ → List ℕ
+last_text printing line = if printing.violations then [] else line
+
+abbrev pub note_text : BatchPrinting → List ℕ → List ℕ
+note_text printing line = if printing.violations then line else []
+
+-- The text and the notes are those of the batch of these texts, by their results.
+pub record IsBatch (printing : BatchPrinting) (texts : List BatchText) (text notes : List ℕ) (verdict : Verdict) : Type 0 where
+  pub all : List TextResults
+  pub are_results : AreResultsOfAll texts all
+  pub whole : text ≡ head_text printing ++ (results_texts printing all ++ last_text printing (last_line printing (all_judgments all)))
+  pub noted : notes ≡ note_text printing (last_line printing (all_judgments all))
+  pub says : verdict ≡ batch_verdict (all_judgments all)
 
 -- ---- what is written
 
--- the text of the batch of the bytes of a reader
-abbrev pub IsBatchOfReader : Bool → Option (List ℕ) → List ℕ → Verdict → Type 0
-IsBatchOfReader quiet remaining text verdict = ReadsAs remaining (λ stream. IsBatch quiet stream text verdict)
+-- known bytes of the writer grow by the text of the batch of these texts, and those of the errors by its notes
+abbrev pub WritesBatch : BatchPrinting → List BatchText → Option (List ℕ) → Option (List ℕ) → Option (List ℕ) → Option (List ℕ) → Verdict → Type 0
+WritesBatch printing texts old new before after verdict =
+    (text : List ℕ) × (notes : List ℕ) × IsBatch printing texts text notes verdict × Appends old new text × Appends before after notes
+
+-- known bytes of the writer grow by a prefix of the text of the batch, and those of the errors by one of its notes
+abbrev pub LeavesBatch : BatchPrinting → List BatchText → Option (List ℕ) → Option (List ℕ) → Option (List ℕ) → Option (List ℕ) → Type 0
+LeavesBatch printing texts old new before after =
+    (verdict : Verdict) × (text : List ℕ) × (notes : List ℕ) × IsBatch printing texts text notes verdict × AppendsPrefix old new text × AppendsPrefix before after notes
+
+-- a text without a name, alone
+abbrev pub one_text : Option (List ℕ) → List BatchText
+one_text bytes = record { name = None; bytes = bytes } ∷ []
+
+-- texts that are known, each with its name where lines have one
+abbrev pub known_texts : List (Option (List ℕ) × List ℕ) → List BatchText
+known_texts streams = map (λ stream. record { name = stream.0; bytes = Some stream.1 }) streams
 
 -- the faults that a batch has
 abbrev pub IsBatchFault : Fault → Type 0
 IsBatchFault (Missing seed) = ⊥
 IsBatchFault _ = Unit {0}
+
+-- ---- a batch on its way
+
+-- these are the numbers of the judgments
+pub record Counts (tally : Tally) (judgments : List Judgment) : Type 0 where
+  pub traces : tally.traces ≡ length judgments
+  pub violations : tally.violations ≡ count_by says_violation judgments
+  pub refused : tally.refused ≡ count_by says_refused judgments
+
+-- The batch prints so, and has judged texts that have these results.
+pub record HasJudged (batch : Batch) (printing : BatchPrinting) (all : List TextResults) : Type 0 where
+  pub prints : batch.options.printing ≡ printing
+  pub counts : Counts batch.tally (all_judgments all)
+
+-- The next text was judged: what is printed of it was written.
+abbrev pub Judges : BatchText → Batch → Batch → Option (List ℕ) → Option (List ℕ) → Type 0
+Judges text before after old new = (printing : BatchPrinting) (all : List TextResults) → HasJudged before printing all →
+    (results : TextResults) × AreResultsOf text results × HasJudged after printing (all ++ results ∷ []) × Appends old new (results_text printing results)
+
+-- A prefix of what is printed of the next text was written.
+abbrev pub LeavesText : BatchText → Batch → Option (List ℕ) → Option (List ℕ) → Type 0
+LeavesText text before old new = (printing : BatchPrinting) (all : List TextResults) → HasJudged before printing all →
+    (results : TextResults) × AreResultsOf text results × AppendsPrefix old new (results_text printing results)
+
+-- The last line was written, and the notes; or a prefix of each.
+pub record EndsBatch (batch : Batch) (old new before after : Option (List ℕ)) (verdict : Verdict) : Type 0 where
+  pub written : (printing : BatchPrinting) (all : List TextResults) → HasJudged batch printing all → Appends old new (last_text printing (last_line printing (all_judgments all)))
+  pub noted : (printing : BatchPrinting) (all : List TextResults) → HasJudged batch printing all → Appends before after (note_text printing (last_line printing (all_judgments all)))
+  pub says : (printing : BatchPrinting) (all : List TextResults) → HasJudged batch printing all → verdict ≡ batch_verdict (all_judgments all)
+
+pub record LeavesEnd (batch : Batch) (old new before after : Option (List ℕ)) : Type 0 where
+  pub written : (printing : BatchPrinting) (all : List TextResults) → HasJudged batch printing all → AppendsPrefix old new (last_text printing (last_line printing (all_judgments all)))
+  pub noted : (printing : BatchPrinting) (all : List TextResults) → HasJudged batch printing all → AppendsPrefix before after (note_text printing (last_line printing (all_judgments all)))
+
+-- A batch that has judged just these texts, and has written what is printed of them, after the head.
+pub record HasWritten (batch : Batch) (printing : BatchPrinting) (texts : List BatchText) (old new : Option (List ℕ)) : Type 0 where
+  pub all : List TextResults
+  pub are_results : AreResultsOfAll texts all
+  pub judged : HasJudged batch printing all
+  pub written : Appends old new (head_text printing ++ results_texts printing all)

@@ -1,2 +1,3 @@
 pub mod Cutters
 pub mod Progress
+pub mod Searches

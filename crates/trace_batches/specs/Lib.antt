@@ -1,3 +1,7 @@
+pub mod BatchLines
+pub mod BatchNames
 pub mod Batches
+pub mod Judgments
+pub mod NthPieces
 pub mod Pieces
 pub mod Internal

@@ -84,7 +84,7 @@ impl Cutter {
     }
 
     /// Takes the next byte: the first bytes of the piece that it ends, if it ends one.
-    fn accept(&mut self, byte: u8) -> Result<Option<Vec<u8>>, AllocError>
+    pub(crate) fn accept(&mut self, byte: u8) -> Result<Option<Vec<u8>>, AllocError>
         ensures limit { self.new.limit ≡ self.old.limit }
         ensures piece { IfOk result (λ piece. (bytes : List ℕ) → IsAt self.old bytes → Accepts self.old self.new bytes byte piece) }
     {

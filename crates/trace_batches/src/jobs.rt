@@ -1,21 +1,23 @@
 //! Pieces of a batch, judged side by side.
 ghost use Rattle.std.specs.Prelude.{◌≡◌, ◌≤◌, IfOk, map};
 ghost use Rattle.trace_batches.specs.Internal.Cutters.{rows};
-ghost use Rattle.trace_batches.specs.Internal.Progress.{AreJudged, IsOutcome};
+ghost use Rattle.trace_batches.specs.Internal.Progress.{AreJudged, IsJobOf};
 
+use crate::judgments::{Judgment, judge_piece};
 use std::alloc::Global;
 use std::sync::Wait;
 use std::thread;
 use std::thread::Threads;
-use trace_judging::{AsReport, Fault, Report, judge_text};
+use trace_judging::Fault;
 use tso_ops::OutOfMemory;
 
-/// A piece of a stream, and its report.
+/// A piece of a stream, and what is said of it.
 #[derive(Drop)]
 pub(crate) struct Job {
-    piece: Vec<u8>,
-    /// The report, or why there is none: NoThread as long as the piece wasn't judged.
-    pub(crate) outcome: Result<Report, Fault>,
+    /// The first bytes of the piece.
+    pub(crate) piece: Vec<u8>,
+    /// What is said of it, or why nothing is: NoThread as long as the piece wasn't judged.
+    pub(crate) outcome: Result<Judgment, Fault>,
 }
 
 impl Job {
@@ -30,9 +32,9 @@ impl Job {
 
     /// Judges the piece with one worker.
     fn judge<H: Threads + Wait>(&mut self, rt: &H, alloc: Global)
-        ensures { IsOutcome self.old.piece.items self.new.outcome }
+        ensures { IsJobOf self.old.piece.items self.new }
     {
-        self.outcome = judge_text(rt, alloc, &self.piece, 1, &AsReport);
+        self.outcome = judge_piece(rt, alloc, &self.piece);
     }
 }
 
@@ -68,7 +70,7 @@ fn judge_each<H: Threads + Wait + Sync>(rt: &H, alloc: Global, jobs: &mut [Job],
     ensures { AreJudged (map (λ job. job.piece.items) jobs.old) jobs.new }
 {
     let judge = |_: usize, job: &mut Job|
-        ensures { IsOutcome job.entry.now.piece.items job.exit.now.outcome }
+        ensures { IsJobOf job.entry.now.piece.items job.exit.now }
     { job.judge(rt, alloc) };
     thread::for_each_mut(rt, jobs, workers, &judge);
 }

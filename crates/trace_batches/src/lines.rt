@@ -1,65 +1,151 @@
-//! The lines of a batch.
-ghost use Rattle.std.specs.Prelude.{◌≡◌, ◌++◌, IfOk, codes, string_bytes};
+//! The lines of a batch, in words, in JSON and in JUnit's XML.
+ghost use Rattle.std.specs.Prelude.{◌≡◌, ◌∷◌, ◌++◌, [], IfOk, codes, string_bytes};
 ghost use Rattle.std.specs.Fmt.{decimal};
-ghost use Rattle.trace_batches.specs.Batches.{is_left_out, line_end_of, total_text, written_line};
-ghost use Rattle.trace_batches.specs.Internal.Progress.{value_of};
+ghost use Rattle.trace_batches.specs.Batches.{head_text, is_left_out, last_format, note_format, written_line};
+ghost use Rattle.trace_batches.specs.Internal.Progress.{printing_by};
+ghost use Rattle.trace_batches.specs.BatchLines.{head_of, json_line, json_refusal, json_total, json_verdict, junit_case, junit_error, junit_line, junit_total, total_text, trace_line, word_line, word_total};
 
+use crate::batches::{BatchFormat, BatchPrinting, Course};
+use crate::judgments::Judgment;
 use crate::tallies::Tally;
 use std::alloc::Global;
 use std::fmt::Write;
-use trace_judging::{Report, Verdict};
+use trace_judging::render_refusal;
 use trace_reports::verdict_line;
 use tso_ops::OutOfMemory;
+use tso_text::TextFault;
+
+/// What stands before all lines.
+pub(crate) fn head(printing: BatchPrinting) -> &'static str
+    ensures { result.now ≡ head_text printing }
+{
+    if printing.violations {
+        ""
+    } else {
+        head_of(printing.format)
+    }
+}
+
+/// What stands before all lines of this format.
+fn head_of(format: BatchFormat) -> &'static str
+    ensures { result.now ≡ head_of format }
+{
+    match format {
+        BatchFormat::Words | BatchFormat::Json => "",
+        BatchFormat::Junit => JUNIT_HEAD,
+    }
+}
+
+/// What stands before the test cases of a document.
+const JUNIT_HEAD: &str = "\
+<?xml version=\"1.0\" encoding=\"UTF-8\"?>
+<testsuites>
+<testsuite name=\"tsobench batch\">
+";
+
+/// The format of the last line.
+pub(crate) fn last_format(printing: BatchPrinting) -> BatchFormat
+    ensures { result ≡ last_format printing }
+{
+    if printing.violations {
+        note_format(printing.format)
+    } else {
+        printing.format
+    }
+}
+
+/// The format of a note in place of a last line.
+fn note_format(format: BatchFormat) -> BatchFormat
+    ensures { result ≡ note_format format }
+{
+    match format {
+        BatchFormat::Words | BatchFormat::Junit => BatchFormat::Words,
+        BatchFormat::Json => BatchFormat::Json,
+    }
+}
 
 /// The line of the trace of this number, or nothing where a quiet batch leaves it out.
 pub(crate) fn written_line(
-    alloc: Global,
-    quiet: bool,
+    course: &Course<'_>,
     number: u64,
-    report: &Report,
+    judgment: Judgment,
 ) -> Result<String, OutOfMemory>
-    ensures { IfOk result (λ line. string_bytes line ≡ written_line quiet number (value_of report.now)) }
+    ensures { IfOk result (λ line. string_bytes line ≡ written_line (printing_by course.now) number judgment) }
 {
-    if is_left_out(quiet, report.verdict) {
-        Ok(String::new(alloc))
+    if is_left_out(course.options.printing.quiet, judgment) {
+        Ok(String::new(course.alloc))
     } else {
-        numbered(alloc, number, line_end_of(report))
+        trace_line(course, number, judgment)
     }
 }
 
-/// The line of the trace of this number that has this end.
-fn numbered(alloc: Global, number: u64, end: &str) -> Result<String, OutOfMemory>
-    ensures { IfOk result (λ line. string_bytes line ≡ codes "trace " ++ decimal number ++ codes " " ++ end.now) }
+/// Whether a batch leaves out the line of a trace of which this is said.
+fn is_left_out(quiet: bool, judgment: Judgment) -> bool
+    ensures { result ≡ is_left_out quiet judgment }
 {
-    let mut line = String::new(alloc);
-    write!(line, "trace {number} {end}")?;
-    Ok(line)
-}
-
-/// The end of a trace's line.
-fn line_end_of(report: &Report) -> &str
-    ensures { result.now ≡ line_end_of report.now.verdict (string_bytes report.now.text) }
-{
-    match report.verdict {
-        Verdict::NoViolation => verdict_line(false),
-        Verdict::Violation => verdict_line(true),
-        Verdict::Refused => report.text.as_str(),
+    match judgment {
+        Judgment::NoViolation => quiet,
+        Judgment::Violation | Judgment::Refused(_) => false,
     }
 }
 
-/// Whether a batch leaves out the line of a trace with this verdict.
-fn is_left_out(quiet: bool, verdict: Verdict) -> bool
-    ensures { result ≡ is_left_out quiet verdict }
+/// The line of the trace of this number.
+fn trace_line(course: &Course<'_>, number: u64, judgment: Judgment) -> Result<String, OutOfMemory>
+    ensures { IfOk result (λ line. string_bytes line ≡ trace_line course.now.options.printing.format course.now.label.now number judgment) }
 {
-    match verdict {
-        Verdict::NoViolation => quiet,
-        Verdict::Violation | Verdict::Refused => false,
+    match course.options.printing.format {
+        BatchFormat::Words => word_line(course.alloc, course.label, number, judgment),
+        BatchFormat::Json => json_line(course.alloc, course.label, number, judgment),
+        BatchFormat::Junit => junit_line(course.alloc, course.label, number, judgment),
     }
 }
 
 /// The last line.
-pub(crate) fn total_line(alloc: Global, tally: &Tally) -> Result<String, OutOfMemory>
-    ensures { IfOk result (λ line. string_bytes line ≡ total_text tally.now.traces tally.now.violations tally.now.refused) }
+pub(crate) fn total_line(
+    alloc: Global,
+    format: BatchFormat,
+    tally: &Tally,
+) -> Result<String, OutOfMemory>
+    ensures { IfOk result (λ line. string_bytes line ≡ total_text format tally.now.traces tally.now.violations tally.now.refused) }
+{
+    match format {
+        BatchFormat::Words => word_total(alloc, tally),
+        BatchFormat::Json => json_total(alloc, tally),
+        BatchFormat::Junit => junit_total(alloc, tally),
+    }
+}
+
+/// The line of the trace of this number, in words.
+fn word_line(
+    alloc: Global,
+    label: &str,
+    number: u64,
+    judgment: Judgment,
+) -> Result<String, OutOfMemory>
+    ensures { IfOk result (λ line. string_bytes line ≡ word_line label.now number judgment) }
+{
+    match judgment {
+        Judgment::NoViolation => numbered(alloc, label, number, verdict_line(false)),
+        Judgment::Violation => numbered(alloc, label, number, verdict_line(true)),
+        Judgment::Refused(fault) => {
+            let refusal = render_refusal(alloc, fault)?;
+            numbered(alloc, label, number, refusal.text.as_str())
+        }
+    }
+}
+
+/// The line of the trace of this number that has this end.
+fn numbered(alloc: Global, label: &str, number: u64, end: &str) -> Result<String, OutOfMemory>
+    ensures { IfOk result (λ line. string_bytes line ≡ label.now ++ codes "trace " ++ decimal number ++ codes " " ++ end.now) }
+{
+    let mut line = String::new(alloc);
+    write!(line, "{label}trace {number} {end}")?;
+    Ok(line)
+}
+
+/// The last line, in words.
+fn word_total(alloc: Global, tally: &Tally) -> Result<String, OutOfMemory>
+    ensures { IfOk result (λ line. string_bytes line ≡ word_total tally.now.traces tally.now.violations tally.now.refused) }
 {
     let traces = tally.traces;
     let violations = tally.violations;
@@ -68,6 +154,142 @@ pub(crate) fn total_line(alloc: Global, tally: &Tally) -> Result<String, OutOfMe
     write!(
         line,
         "traces {traces} violations {violations} refused {refused}\n"
+    )?;
+    Ok(line)
+}
+
+/// The line of the trace of this number, in JSON.
+fn json_line(
+    alloc: Global,
+    label: &str,
+    number: u64,
+    judgment: Judgment,
+) -> Result<String, OutOfMemory>
+    ensures { IfOk result (λ line. string_bytes line ≡ json_line label.now number judgment) }
+{
+    match judgment {
+        Judgment::NoViolation => json_verdict(alloc, label, number, "no_violation_found"),
+        Judgment::Violation => json_verdict(alloc, label, number, "violation"),
+        Judgment::Refused(fault) => json_refusal(alloc, label, number, fault),
+    }
+}
+
+/// The line of the trace of this number with this verdict, in JSON.
+fn json_verdict(
+    alloc: Global,
+    label: &str,
+    number: u64,
+    verdict: &str,
+) -> Result<String, OutOfMemory>
+    ensures { IfOk result (λ line. string_bytes line ≡ json_verdict label.now number verdict.now) }
+{
+    let mut line = String::new(alloc);
+    write!(
+        line,
+        "{{{label}\"trace\":{number},\"verdict\":\"{verdict}\"}}\n"
+    )?;
+    Ok(line)
+}
+
+/// The line of the text of this number that is refused for this fault, in JSON.
+#[tactic(auto, unfolding(crate::specs::BatchLines::json_refusal))]
+fn json_refusal(
+    alloc: Global,
+    label: &str,
+    number: u64,
+    fault: TextFault,
+) -> Result<String, OutOfMemory>
+    ensures { IfOk result (λ line. string_bytes line ≡ json_refusal label.now number fault) }
+{
+    let name = fault.why.name();
+    let at = fault.line;
+    let mut line = String::new(alloc);
+    write!(
+        line,
+        "{{{label}\"trace\":{number},\"verdict\":\"refused\",\"name\":\"{name}\",\"line\":{at}}}\n"
+    )?;
+    Ok(line)
+}
+
+/// The last line, in JSON.
+#[tactic(auto, unfolding(crate::specs::BatchLines::json_total))]
+fn json_total(alloc: Global, tally: &Tally) -> Result<String, OutOfMemory>
+    ensures { IfOk result (λ line. string_bytes line ≡ json_total tally.now.traces tally.now.violations tally.now.refused) }
+{
+    let traces = tally.traces;
+    let violations = tally.violations;
+    let refused = tally.refused;
+    let mut line = String::new(alloc);
+    write!(
+        line,
+        "{{\"traces\":{traces},\"violations\":{violations},\"refused\":{refused}}}\n"
+    )?;
+    Ok(line)
+}
+
+/// The test case of the trace of this number.
+fn junit_line(
+    alloc: Global,
+    label: &str,
+    number: u64,
+    judgment: Judgment,
+) -> Result<String, OutOfMemory>
+    ensures { IfOk result (λ line. string_bytes line ≡ junit_line label.now number judgment) }
+{
+    match judgment {
+        Judgment::NoViolation => junit_case(alloc, label, number, "/>"),
+        Judgment::Violation => junit_case(
+            alloc,
+            label,
+            number,
+            "><failure message=\"VIOLATION\"/></testcase>",
+        ),
+        Judgment::Refused(fault) => {
+            let end = junit_error(alloc, fault)?;
+            junit_case(alloc, label, number, end.as_str())
+        }
+    }
+}
+
+/// The test case of the trace of this number that has this end.
+fn junit_case(alloc: Global, label: &str, number: u64, end: &str) -> Result<String, OutOfMemory>
+    ensures { IfOk result (λ line. string_bytes line ≡ junit_case label.now number end.now) }
+{
+    let mut line = String::new(alloc);
+    write!(
+        line,
+        "<testcase classname=\"{label}\" name=\"trace {number}\"{end}\n"
+    )?;
+    Ok(line)
+}
+
+/// The end of the test case of a text that is refused for this fault.
+#[tactic(auto, unfolding(crate::specs::BatchLines::junit_error))]
+fn junit_error(alloc: Global, fault: TextFault) -> Result<String, OutOfMemory>
+    ensures { IfOk result (λ end. string_bytes end ≡ junit_error fault) }
+{
+    let why = fault.why.name();
+    let line = fault.line;
+    let mut end = String::new(alloc);
+    write!(
+        end,
+        "><error message=\"REFUSED {why} line {line}\"/></testcase>"
+    )?;
+    Ok(end)
+}
+
+/// What stands after the test cases of a document.
+#[tactic(auto, unfolding(crate::specs::BatchLines::junit_total))]
+fn junit_total(alloc: Global, tally: &Tally) -> Result<String, OutOfMemory>
+    ensures { IfOk result (λ line. string_bytes line ≡ junit_total tally.now.traces tally.now.violations tally.now.refused) }
+{
+    let traces = tally.traces;
+    let violations = tally.violations;
+    let refused = tally.refused;
+    let mut line = String::new(alloc);
+    write!(
+        line,
+        "<system-out>traces {traces} violations {violations} refused {refused}</system-out>\n</testsuite>\n</testsuites>\n"
     )?;
     Ok(line)
 }

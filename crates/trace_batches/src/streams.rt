@@ -1,4 +1,4 @@
-//! One read of a reader, and lines that are written at once.
+//! One read of a reader, and texts that are written at once.
 ghost use Rattle.std.specs.Prelude.{◌≡◌, ◌<◌, ◌≤◌, length, take, IfOk, IfErr, OnOk};
 ghost use Rattle.std.specs.Io.KnownBytes.{Appends, Consumes, IsAtEnd, Keeps};
 ghost use Rattle.trace_judging.specs.Streams.{AppendsPrefix};
@@ -31,16 +31,16 @@ pub(crate) fn read_some<R: Read>(reader: &mut R, chunk: &mut [u8]) -> Result<usi
     Err(Fault::Read)
 }
 
-/// Writes a line and flushes the writer.
+/// Writes a text and flushes the writer.
 ///
 /// An interrupted call is tried again, up to 1,048,576 times. Refused: Write where the writer failed otherwise or took no
-/// byte; what it took is a prefix of the line.
-pub(crate) fn write_line<W: Write>(writer: &mut W, line: &[u8]) -> Result<(), Fault>
-    ensures whole { OnOk result (Appends (W.contents writer.old) (W.contents writer.new) line.now) }
-    ensures prefix { AppendsPrefix (W.contents writer.old) (W.contents writer.new) line.now }
+/// byte; what it took is a prefix of the text.
+pub(crate) fn write_flushed<W: Write>(writer: &mut W, text: &[u8]) -> Result<(), Fault>
+    ensures whole { OnOk result (Appends (W.contents writer.old) (W.contents writer.new) text.now) }
+    ensures prefix { AppendsPrefix (W.contents writer.old) (W.contents writer.new) text.now }
     ensures fault { IfErr result (λ fault. fault ≡ Fault.Write) }
 {
-    write_text(writer, line)?;
+    write_text(writer, text)?;
     flush(writer)
 }
 

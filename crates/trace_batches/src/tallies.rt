@@ -1,9 +1,10 @@
-//! How many pieces were judged, and what their reports say.
+//! How many pieces were judged, and what is said of them.
 ghost use Rattle.std.specs.Prelude.{◌≡◌, ◌+◌, ◌∷◌, ◌++◌, [], List, IfOk, IfErr, OnOk};
-ghost use Rattle.trace_batches.specs.Batches.{ReportValue, batch_verdict};
-ghost use Rattle.trace_batches.specs.Internal.Progress.{Counts};
+ghost use Rattle.trace_batches.specs.Batches.{Counts, batch_verdict};
+ghost use Rattle.trace_batches.specs.declared.judgments.Judgment.{Judgment};
 ghost use Rattle.trace_judging.specs.declared.faults.Fault.{Fault};
 
+use crate::judgments::Judgment;
 use trace_judging::{Fault, Verdict};
 
 /// How many traces were judged, how many of them are violations, and how many are refused.
@@ -26,24 +27,35 @@ impl Tally {
         }
     }
 
-    /// Counts a report with this verdict. Read where there were 2^64 - 1 before.
-    pub(crate) fn count(&mut self, verdict: Verdict) -> Result<(), Fault>
-        ensures counted { OnOk result ((reports : List ReportValue) (report : ReportValue) → report.verdict ≡ verdict → Counts self.old reports → Counts self.new (reports ++ report ∷ [])) }
+    /// Counts what is said of a trace. Read where there were 2^64 - 1 before.
+    pub(crate) fn count(&mut self, judgment: Judgment) -> Result<(), Fault>
+        ensures counted { OnOk result ((judgments : List Judgment) → Counts self.old judgments → Counts self.new (judgments ++ judgment ∷ [])) }
         ensures traces { OnOk result (self.new.traces ≡ self.old.traces + 1) }
         ensures fault { IfErr result (λ fault. fault ≡ Fault.Read) }
     {
-        self.traces = one_more(self.traces)?;
-        match verdict {
-            Verdict::NoViolation => {}
-            Verdict::Violation => self.violations = one_more(self.violations)?,
-            Verdict::Refused => self.refused = one_more(self.refused)?,
+        self.traces = sum(self.traces, 1)?;
+        match judgment {
+            Judgment::NoViolation => {}
+            Judgment::Violation => self.violations = sum(self.violations, 1)?,
+            Judgment::Refused(_) => self.refused = sum(self.refused, 1)?,
         }
         Ok(())
     }
 
-    /// Violation where a report says so, else Refused where one says that.
+    /// Adds the numbers of others. Read where a sum is 2^64 or more.
+    pub(crate) fn add(&mut self, more: &Tally) -> Result<(), Fault>
+        ensures added { OnOk result ((judgments others : List Judgment) → Counts self.old judgments → Counts more.now others → Counts self.new (judgments ++ others)) }
+        ensures fault { IfErr result (λ fault. fault ≡ Fault.Read) }
+    {
+        self.traces = sum(self.traces, more.traces)?;
+        self.violations = sum(self.violations, more.violations)?;
+        self.refused = sum(self.refused, more.refused)?;
+        Ok(())
+    }
+
+    /// Violation where a judgment says so, else Refused where one says that.
     pub(crate) fn verdict(&self) -> Verdict
-        ensures { (reports : List ReportValue) → Counts self.now reports → result ≡ batch_verdict reports }
+        ensures { (judgments : List Judgment) → Counts self.now judgments → result ≡ batch_verdict judgments }
     {
         if self.violations > 0 {
             Verdict::Violation
@@ -55,13 +67,13 @@ impl Tally {
     }
 }
 
-/// The next number, or Read where 64 bits don't hold it.
-fn one_more(count: u64) -> Result<u64, Fault>
-    ensures more { IfOk result (λ more. more ≡ count + 1) }
+/// The sum of numbers, or Read where 64 bits don't hold it.
+fn sum(count: u64, more: u64) -> Result<u64, Fault>
+    ensures sum { IfOk result (λ all. all ≡ count + more) }
     ensures fault { IfErr result (λ fault. fault ≡ Fault.Read) }
 {
-    match count.checked_add(1) {
-        Some(more) => Ok(more),
+    match count.checked_add(more) {
+        Some(all) => Ok(all),
         None => Err(Fault::Read),
     }
 }

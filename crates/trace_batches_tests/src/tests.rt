@@ -1,16 +1,22 @@
 //! Batches, and what the tests of them share.
-ghost use Rattle.std.specs.Prelude.{◌≤◌};
+ghost use Rattle.std.specs.Prelude.{◌≡◌, ◌≤◌};
 
 mod faults;
+mod json;
+mod junit;
+mod names;
+mod numbers;
 mod pieces;
 mod refused_allocations;
+mod several;
+mod violations;
 
 use std::alloc::Global;
 use std::io::{Read, Write};
 use std::sync::Wait;
 use std::test::Fail;
 use std::thread::Threads;
-use trace_batches::{BatchOptions, judge_batch};
+use trace_batches::{BatchFormat, BatchOptions, BatchPrinting, judge_batch};
 use trace_judging::{Fault, Verdict};
 use traces_for_tests::expect_equal;
 
@@ -34,6 +40,18 @@ fn expect(
     expect_equal(case, written, text)
 }
 
+/// How a batch is judged and printed, in words.
+fn options(workers: usize, quiet: bool, violations: bool) -> BatchOptions
+    ensures { result.workers ≡ workers }
+{
+    let printing = BatchPrinting {
+        format: BatchFormat::Words,
+        quiet,
+        violations,
+    };
+    BatchOptions { workers, printing }
+}
+
 /// Judges a batch with one worker, and writes all lines.
 fn judged<H: Threads + Wait + Sync, R: Read, W: Write>(
     rt: &H,
@@ -44,7 +62,8 @@ fn judged<H: Threads + Wait + Sync, R: Read, W: Write>(
     judged_by(rt, alloc, reader, writer, 1)
 }
 
-/// Judges a batch with so many workers, and writes all lines.
+/// Judges a batch with so many workers, and writes all lines. It answers Missing, which is no fault of batches, where something
+/// was written to the errors.
 fn judged_by<H: Threads + Wait + Sync, R: Read, W: Write>(
     rt: &H,
     alloc: Global,
@@ -54,9 +73,12 @@ fn judged_by<H: Threads + Wait + Sync, R: Read, W: Write>(
 ) -> Result<Verdict, Fault>
     requires { 1 ≤ workers }
 {
-    let options = BatchOptions {
-        workers,
-        quiet: false,
-    };
-    judge_batch(rt, alloc, options, reader, writer)
+    let options = options(workers, false, false);
+    let mut errors = Vec::new(alloc);
+    let said = judge_batch(rt, alloc, options, reader, writer, &mut errors);
+    if errors.is_empty() {
+        said
+    } else {
+        Err(Fault::Missing(0))
+    }
 }

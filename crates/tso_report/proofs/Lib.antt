@@ -1,2 +1,3 @@
 pub mod CampaignFacts
+pub mod DrawnScheduleFacts
 pub mod LawfulRecords

@@ -1,4 +1,4 @@
-//! Campaigns: a program drawn from each of many seeds, run on a unit of its own, and judged.
+//! Campaigns: a program drawn from each of many seeds, run or replayed on a unit of its own, and judged.
 ghost use Rattle.std.specs.Prelude.{◌≡◌, ◌≤◌, ◌+◌, ◌^◌, [], All, Decides, IfOk, IfErr, length, map};
 ghost use Rattle.std.specs.List.{list_any};
 ghost use Rattle.trace_judging.specs.Limits.{worker_limit};
@@ -8,6 +8,7 @@ ghost use Rattle.tso_report.specs.Limits.{seed_count_limit};
 ghost use Rattle.trace_judging.specs.WrittenReports.{WritesWhole};
 
 use gathering::Gathered;
+use lines::campaign_text;
 use seeds::SeedUnits;
 use std::alloc::Global;
 use std::io::Write;
@@ -22,48 +23,81 @@ use workers::gather;
 
 mod gathering;
 mod lines;
+pub(crate) mod schedules;
 pub(crate) mod seeds;
 mod workers;
 
 /// The greatest number of seeds of a campaign.
 pub const MAX_SEEDS: usize = 1000;
 
-/// Which programs a campaign runs: those of the seeds from `first` on, of one memory model and in one shape.
+/// How the program of a seed is executed on its unit.
+#[derive(Clone, Copy, Debug, PartialEq, Eq)]
+pub enum Execution {
+    /// By a thread per processor, with drains by the seed. Two campaigns may record different traces.
+    Threads {
+        /// How many turns a drainer takes beside the processors: none with 0, and 1,000,000 at most.
+        drain_turns: u64,
+    },
+    /// By a replay of the schedule of the seed, on the thread of the worker.
+    Replay,
+}
+
+/// What is printed of a campaign.
+#[derive(Clone, Copy, Debug, PartialEq, Eq)]
+pub enum CampaignPrinting {
+    /// A line for each seed, and a last line with their numbers.
+    Lines,
+    /// The traces that were recorded, one after the other.
+    Traces,
+}
+
+/// What a campaign does: the programs of the seeds from `first` on, of one memory model and in one shape, are executed.
 #[derive(Clone, Copy, Debug)]
-pub struct CampaignPrograms {
+pub struct CampaignPlan {
     pub first: u64,
     /// The memory model of each program.
     pub order: Order,
     pub shape: Shape,
+    /// How each program is executed.
+    pub execution: Execution,
+    pub printing: CampaignPrinting,
 }
 
-impl CampaignPrograms {
-    /// The same programs, to be handed on again: what is proved of `Copy` allows that once for a value with a shape.
-    pub(crate) fn copy(&self) -> CampaignPrograms
+impl CampaignPlan {
+    /// The same plan, to be handed on again: what is proved of `Copy` allows that once for a value with a shape.
+    pub(crate) fn copy(&self) -> CampaignPlan
         ensures { result ≡ self.now }
     {
-        CampaignPrograms {
+        CampaignPlan {
             first: self.first,
             order: self.order,
             shape: self.shape,
+            execution: self.execution,
+            printing: self.printing,
         }
     }
 
-    /// Whether the other are the same programs.
-    pub(crate) fn are_same(&self, other: &CampaignPrograms) -> bool
+    /// Whether the other is the same plan.
+    pub(crate) fn are_same(&self, other: &CampaignPlan) -> bool
         ensures { Decides result (self.now ≡ other.now) }
     {
-        self.first == other.first && self.order == other.order && self.shape.is_same(&other.shape)
+        self.first == other.first
+            && self.order == other.order
+            && self.execution == other.execution
+            && self.printing == other.printing
+            && self.shape.is_same(&other.shape)
     }
 }
 
 /// Runs a campaign and writes its text: unit `i` serves seed `first + i`, whose program is that of
-/// `seeded_program_with_order`. It is run on the unit by a thread per processor, with drains by the same seed, and the
-/// record's trace is judged with one worker. `workers` threads (1 to 64) share the seeds.
+/// `seeded_program_with_order`. It is executed on the unit as the plan says: by a thread per processor, with drains by the
+/// same seed, or by a replay of the schedule of `seeded_schedule`; and the record's trace is judged with one worker.
+/// `workers` threads (1 to 64) share the seeds.
 ///
-/// The text has a line for each seed, in the order of the seeds, and a last line with their numbers; it is written after all
-/// results are in. The verdict is Violation where a line says so, else NoViolation. At most 1,000 units, none of which has
-/// taken a step, and the last seed is at most 2^64 - 1.
+/// The text has a line for each seed, in the order of the seeds, and a last line with their numbers; or, where the plan has
+/// traces printed, the trace of each seed, in the same order. It is written after all results are in. The verdict is
+/// Violation where a trace is one, else NoViolation. At most 1,000 units, none of which has taken a step, and the last seed
+/// is at most 2^64 - 1.
 ///
 /// Faults, of several the first: OutOfMemory where a unit answered it or an allocation was refused; NoThread where the
 /// system refused a thread; Missing with the least seed of which no record was judged; with each nothing was written. Write
@@ -72,7 +106,7 @@ impl CampaignPrograms {
 pub fn campaign<R: Threads + Wait + Sync, W: Write>(
     rt: &R,
     alloc: Global,
-    programs: CampaignPrograms,
+    plan: CampaignPlan,
     units: Vec<Box<dyn MemoryUnit + Send>>,
     workers: usize,
     writer: &mut W,
@@ -80,19 +114,19 @@ pub fn campaign<R: Threads + Wait + Sync, W: Write>(
     requires some { 1 ≤ workers }
     requires most { workers ≤ worker_limit }
     requires seeds { length units.items ≤ seed_count_limit }
-    requires last { programs.first + length units.items ≤ 2 ^ 64 }
+    requires last { plan.first + length units.items ≤ 2 ^ 64 }
     requires untouched { All (λ unit. (value_of unit).steps ≡ []) units.items }
-    ensures whole { IfOk result (WritesWhole (IsCampaign programs (map (λ unit. value_of unit) units.items)) (W.contents writer.old) (W.contents writer.new)) }
-    ensures fault { IfErr result (LeavesCampaign programs (map (λ unit. value_of unit) units.items) (W.contents writer.old) (W.contents writer.new)) }
+    ensures whole { IfOk result (WritesWhole (IsCampaign plan (map (λ unit. value_of unit) units.items)) (W.contents writer.old) (W.contents writer.new)) }
+    ensures fault { IfErr result (LeavesCampaign plan (map (λ unit. value_of unit) units.items) (W.contents writer.old) (W.contents writer.new)) }
 {
-    campaign_over(rt, alloc, programs, units, workers, writer)
+    campaign_over(rt, alloc, plan, units, workers, writer)
 }
 
 /// `campaign` over units of any one type.
 pub fn campaign_over<U: MemoryUnit + Send, R: Threads + Wait + Sync, W: Write>(
     rt: &R,
     alloc: Global,
-    programs: CampaignPrograms,
+    plan: CampaignPlan,
     units: Vec<U>,
     workers: usize,
     writer: &mut W,
@@ -100,19 +134,19 @@ pub fn campaign_over<U: MemoryUnit + Send, R: Threads + Wait + Sync, W: Write>(
     requires some { 1 ≤ workers }
     requires most { workers ≤ worker_limit }
     requires seeds { length units.items ≤ seed_count_limit }
-    requires last { programs.first + length units.items ≤ 2 ^ 64 }
+    requires last { plan.first + length units.items ≤ 2 ^ 64 }
     requires untouched { All (λ unit. (U.value_of unit).steps ≡ []) units.items }
-    ensures whole { IfOk result (WritesWhole (IsCampaign programs (map (λ unit. U.value_of unit) units.items)) (W.contents writer.old) (W.contents writer.new)) }
-    ensures fault { IfErr result (LeavesCampaign programs (map (λ unit. U.value_of unit) units.items) (W.contents writer.old) (W.contents writer.new)) }
+    ensures whole { IfOk result (WritesWhole (IsCampaign plan (map (λ unit. U.value_of unit) units.items)) (W.contents writer.old) (W.contents writer.new)) }
+    ensures fault { IfErr result (LeavesCampaign plan (map (λ unit. U.value_of unit) units.items) (W.contents writer.old) (W.contents writer.new)) }
 {
-    campaign_of::<Brand, U, R, W>(rt, alloc, programs, units, workers, writer)
+    campaign_of::<Brand, U, R, W>(rt, alloc, plan, units, workers, writer)
 }
 
 /// `campaign_over` where these are the units of the seeds.
 fn campaign_of<S: SeedUnits + Send, U: MemoryUnit + Send, R: Threads + Wait + Sync, W: Write>(
     rt: &R,
     alloc: Global,
-    programs: CampaignPrograms,
+    plan: CampaignPlan,
     units: Vec<U>,
     workers: usize,
     writer: &mut W,
@@ -120,19 +154,19 @@ fn campaign_of<S: SeedUnits + Send, U: MemoryUnit + Send, R: Threads + Wait + Sy
     requires some { 1 ≤ workers }
     requires most { workers ≤ worker_limit }
     requires seeds { length units.items ≤ seed_count_limit }
-    requires last { programs.first + length units.items ≤ 2 ^ 64 }
+    requires last { plan.first + length units.items ≤ 2 ^ 64 }
     requires untouched { All (λ unit. (U.value_of unit).steps ≡ []) units.items }
-    requires units { AreUnitsFrom S.unit_of programs.first (map (λ unit. U.value_of unit) units.items) }
-    ensures whole { IfOk result (WritesWhole (IsCampaign programs (map (λ unit. U.value_of unit) units.items)) (W.contents writer.old) (W.contents writer.new)) }
-    ensures fault { IfErr result (LeavesCampaign programs (map (λ unit. U.value_of unit) units.items) (W.contents writer.old) (W.contents writer.new)) }
+    requires units { AreUnitsFrom S.unit_of plan.first (map (λ unit. U.value_of unit) units.items) }
+    ensures whole { IfOk result (WritesWhole (IsCampaign plan (map (λ unit. U.value_of unit) units.items)) (W.contents writer.old) (W.contents writer.new)) }
+    ensures fault { IfErr result (LeavesCampaign plan (map (λ unit. U.value_of unit) units.items) (W.contents writer.old) (W.contents writer.new)) }
 {
-    let first = programs.first;
-    let gathered: Gathered<S> = Gathered::new(alloc, programs, units.len())?;
+    let (first, printing) = (plan.first, plan.printing);
+    let gathered: Gathered<S> = Gathered::new(alloc, plan, units.len())?;
     let gathered = gather(rt, alloc, gathered, units, workers)?;
-    let violations = gathered.violations(alloc)?;
-    let text = lines::campaign_text(alloc, first, &violations)?;
-    write_text(writer, text.as_bytes())?;
-    Ok(verdict_of(says_violation(&violations)))
+    let known = gathered.known(alloc)?;
+    let text = campaign_text(alloc, printing, first, &known)?;
+    write_text(writer, &text)?;
+    Ok(verdict_of(says_violation(&known.violations)))
 }
 
 /// Whether a line of the seeds says VIOLATION.

@@ -1,10 +1,11 @@
-//! Campaigns over units of one type, and over units in boxes; and the programs that they run.
+//! Campaigns over units of one type, over units in boxes, and by replays; and the programs and schedules of seeds.
 
 ghost use Rattle.std.specs.Prelude.{◌≡◌, ◌≤◌, [], All, IfOk, length};
 
 mod boxed;
 mod meeting;
 mod one_type;
+mod replayed;
 mod seeded_programs;
 
 use std::alloc::Global;

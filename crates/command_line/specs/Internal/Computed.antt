@@ -1,7 +1,7 @@
 -- For private functions: what they parse in place of the arguments.
 use Rattle.std.specs.Prelude.{List, [], ◌∷◌, Option, codes, find, option_map, unwrap_or, if◌then◌else◌}
 use Rattle.std.specs.Str.{bytes_eq}
-use Rattle.command_line.specs.Parameters.{Parameter, Values, flag, listed, option, other, range}
+use Rattle.command_line.specs.Parameters.{Parameter, Values, flag, listed, option, optional, other, range, several}
 use Rattle.clap.specs.Words.{fault_of, subcommand_of}
 use Rattle.command_line.specs.Commands.{IsAskedBy, tsobench_app}
 use Rattle.command_line.specs.Requests.{Text, Asked}
@@ -25,8 +25,10 @@ values_of (accepted.Name list) = listed list
 
 abbrev pub parameter_of : Declared → Parameter NameList
 parameter_of (declared.Option id value_name accepts default help) = option id.now (values_of accepts) (option_map (λ text. text.now) default)
+parameter_of (declared.Optional id value_name accepts help) = optional id.now (values_of accepts)
 parameter_of (declared.Flag id help) = flag id.now
 parameter_of (declared.Other id value_name required help) = other id.now required
+parameter_of (declared.Several id value_name help) = several id.now
 
 -- ---- subcommands as code has them
 

@@ -1,7 +1,7 @@
-//! `batch [--workers N] [--quiet] [FILE]`: judges traces that stand one after the other.
+//! `batch [--workers N] [--format FORMAT] [--quiet] [--violations] [FILE]...`: judges traces that stand one after the other.
 
 use crate::options::MAX_WORKERS;
-use crate::parameters::{Accepted, Description, Parameter};
+use crate::parameters::{Accepted, Description, NameList, Parameter};
 
 /// The text of its help after the list of its parameters.
 const HELP: &str = "\
@@ -11,8 +11,24 @@ it prints a line for each, in order: trace 1 NO VIOLATION FOUND,
 trace 2 VIOLATION or trace 3 REFUSED BadLine line 3, with the name and the line
 that `tsobench judge` gives for the text alone; and at last a line as
 traces 3 violations 1 refused 1. With --quiet the traces without a violation get
-no line. A text of more than 1,048,576 bytes is refused as TooLong, and the next
-one is judged. The lines are the same for each number of workers.
+no line. With --violations it prints no lines but the texts of the traces that
+are violations, as they came and in order, which batch reads again; no refused
+text is among them, and the last line goes to standard error. A text of more than
+1,048,576 bytes is refused as TooLong, and the next one is judged. What is
+printed is the same for each number of workers.
+
+Of several files each is opened and judged when the one before it was, and each
+line begins with the name of its file, as FILE: trace 1 VIOLATION; the numbers
+begin anew with each file, and the last line is of all files. One of them may be
+-, which is standard input. Lines of one FILE, or none, have no name.
+
+With --format json each line is an object of JSON, as
+{\"trace\":1,\"verdict\":\"no_violation_found\"}, {\"trace\":2,\"verdict\":\"violation\"} or
+{\"trace\":3,\"verdict\":\"refused\",\"name\":\"BadLine\",\"line\":3}, and the last one as
+{\"traces\":3,\"violations\":1,\"refused\":1}. Of several files each line begins as
+{\"file\":\"FILE\",\"trace\":1. With --format junit it prints a document in JUnit's XML,
+which test servers read: a test case for each trace, which fails where the trace
+is a violation and has an error where the text is refused.
 
 Exit status:
   0  no violation was found, which proves nothing about the traces
@@ -21,7 +37,9 @@ Exit status:
   4  a fault, which one line on standard error names, as FAULT Read
 
 Example:
-  cat *.trace | tsobench batch --workers 4 --quiet";
+  cat *.trace | tsobench batch --workers 4 --quiet
+  tsobench batch --format junit *.trace >REPORT.xml
+  tsobench batch --violations TRACES >VIOLATIONS";
 
 /// What is told of it.
 pub(crate) static BATCH: Description = Description {
@@ -36,14 +54,24 @@ pub(crate) static BATCH: Description = Description {
             default: Some("1"),
             help: "How many traces are judged side by side, 1 to 64",
         },
+        Parameter::Option {
+            name: "format",
+            value_name: "FORMAT",
+            accepted: Accepted::Name(NameList::Formats),
+            default: Some("words"),
+            help: "How lines are written, words, json or junit",
+        },
         Parameter::Flag {
             name: "quiet",
             help: "Leave out the lines of traces without a violation",
         },
-        Parameter::Other {
+        Parameter::Flag {
+            name: "violations",
+            help: "Print the texts of the violations in place of lines",
+        },
+        Parameter::Several {
             name: "file",
             value_name: "FILE",
-            required: false,
             help: "The texts of traces; standard input where it is - or left out",
         },
     ],

@@ -1,5 +1,5 @@
-//! `campaign --unit UNIT [--capacity C] [--trigger T] [--workers N] [--model MODEL] --first S --count K --procs P --ops O --addrs A`:
-//! runs the programs that many seeds draw.
+//! `campaign --unit UNIT [--capacity C] [--trigger T] [--workers N] [--replay] [--drain-turns T] [--trace] [--model MODEL] --first S --count K
+//! --procs P --ops O --addrs A`: runs or replays the programs that many seeds draw.
 
 use crate::options::MAX_WORKERS;
 use crate::parameters::{Accepted, Description, Parameter};
@@ -14,6 +14,17 @@ recorded and judged. It prints a line for each seed, in their order,
 `seed S NO VIOLATION FOUND` or `seed S VIOLATION`, and then a line
 `seeds K violations M`, where M is the number of seeds with a violation.
 
+With --trace it prints the recorded traces in place of these lines, one after
+the other, as `tsobench batch` takes them: trace N is that of seed S + N - 1.
+
+With --replay it replays each program in place of running it, as
+`tsobench replay` does by the schedule that `tsobench make --schedule` prints of
+the seed: the same arguments then print the same text each time. Without it the
+system, and not the seed, says in which order the threads come to the unit: two
+campaigns of the same arguments may find different violations. --drain-turns T
+starts a drainer beside the processors, as for `tsobench run`; with --replay it
+is ignored, since schedules have drains.
+
 P, O and A are the shape of each program, as for `tsobench make`. A shape
 outside the limits gets one line, REFUSED Shape; more than 1,000 seeds, or a
 last seed above 18446744073709551615, get one line, REFUSED Seeds.
@@ -23,11 +34,9 @@ With --model pso each program is of Partial Store Order and has STBARs, as for
 is lawful for programs of --model pso alone: with --model tso it shows what TSO
 forbids, so violations are to be expected.
 
-The system, and not the seed, says in which order the threads come to the unit:
-two campaigns of the same arguments may find different violations. Each worker
-runs one seed at a time; the order of the lines is the same for each number of
-workers. --capacity and --trigger are ignored by units that have no use for
-them.
+Each worker runs one seed at a time; lines and traces stand in the same order
+for each number of workers. --capacity and --trigger are ignored by units that
+have no use for them.
 
 Exit status:
   0  no violation was found
@@ -42,7 +51,7 @@ Example:
 /// What is told of it.
 pub(crate) static CAMPAIGN: Description = Description {
     help_option: ["campaign", "--help"],
-    about: "Runs the programs drawn from many seeds, and judges their traces",
+    about: "Runs or replays the programs of many seeds, and judges their traces",
     help: HELP,
     parameters: &[
         shared::UNIT,
@@ -54,6 +63,15 @@ pub(crate) static CAMPAIGN: Description = Description {
             accepted: Accepted::Number(1, MAX_WORKERS as u64),
             default: Some("1"),
             help: "How many workers share the seeds, 1 to 64",
+        },
+        Parameter::Flag {
+            name: "replay",
+            help: "Replays each program by the schedule of its seed",
+        },
+        shared::DRAIN_TURNS,
+        Parameter::Flag {
+            name: "trace",
+            help: "Prints the recorded traces in place of lines",
         },
         shared::MODEL,
         Parameter::Option {

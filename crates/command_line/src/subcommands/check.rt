@@ -1,6 +1,7 @@
-//! `check TRACE CERT`: checks a certificate against its trace.
+//! `check [--nth K] TRACE CERT`: checks a certificate against its trace.
 
 use crate::parameters::{Description, Parameter};
+use crate::subcommands::shared;
 
 /// The text of its help after the list of its parameters.
 const HELP: &str = "\
@@ -9,7 +10,9 @@ bytes, as it stands in a report after the line VIOLATION. It prints one line:
 CERTIFICATE HOLDS, which proves that no order of the trace meets its memory
 model, or CERTIFICATE REFUSED and why. A text that is no trace gets a line as
 REFUSED BadLine line 3, and the certificate isn't read. Both files are opened
-before one is read. One of the two may be -, which is standard input.
+before one is read. One of the two may be -, which is standard input. With
+--nth K the certificate is that of the K-th of the traces that stand one after
+the other, as `tsobench judge` judges it.
 
 Exit status:
   2  the trace, the certificate or the command line was refused
@@ -26,6 +29,7 @@ pub(crate) static CHECK: Description = Description {
     about: "Checks a certificate of a violation against its trace",
     help: HELP,
     parameters: &[
+        shared::NTH,
         Parameter::Other {
             name: "trace",
             value_name: "TRACE",

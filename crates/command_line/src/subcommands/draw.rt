@@ -1,4 +1,4 @@
-//! `draw [--workers N] [FILE]`: a picture of the verdict on a trace.
+//! `draw [--workers N] [--nth K] [FILE]`: a picture of the verdict on a trace.
 
 use crate::parameters::Description;
 use crate::subcommands::shared;
@@ -13,7 +13,8 @@ violation the cycle is red, and other derived edges are dashed; the number at an
 edge is its step in the explanation of `tsobench explain`. Of more than 100
 events only those of the violation are drawn. A text that is no trace gets one
 line, as REFUSED BadLine line 3. The text is the same for each number of
-workers.
+workers. With --nth K it is of the K-th of the traces that stand one after the
+other, as `tsobench judge` judges it.
 
 Exit status:
   0  no violation was found, which proves nothing about the trace
@@ -29,5 +30,5 @@ pub(crate) static DRAW: Description = Description {
     help_option: ["draw", "--help"],
     about: "Draws a trace and why it is a violation, for Graphviz",
     help: HELP,
-    parameters: &[shared::WORKERS, shared::TRACE_FILE],
+    parameters: &[shared::WORKERS, shared::NTH, shared::TRACE_FILE],
 };

@@ -1,4 +1,4 @@
-//! `explain [--workers N] [FILE]`: explains the verdict on a trace.
+//! `explain [--workers N] [--nth K] [FILE]`: explains the verdict on a trace.
 
 use crate::parameters::Description;
 use crate::subcommands::shared;
@@ -11,7 +11,8 @@ have to stand each before the next and the last before the first, why each of
 these has to hold, and where the events stand in the text; or which load read a
 value that nothing wrote, and what is stored to its address. Of a text that is
 no trace it shows the line and says what a line has to be. The text is the same
-for each number of workers.
+for each number of workers. With --nth K it is of the K-th of the traces that
+stand one after the other, as `tsobench judge` judges it.
 
 Exit status:
   0  no violation was found, which proves nothing about the trace
@@ -27,5 +28,5 @@ pub(crate) static EXPLAIN: Description = Description {
     help_option: ["explain", "--help"],
     about: "Explains in words why a trace is a violation",
     help: HELP,
-    parameters: &[shared::WORKERS, shared::TRACE_FILE],
+    parameters: &[shared::WORKERS, shared::NTH, shared::TRACE_FILE],
 };

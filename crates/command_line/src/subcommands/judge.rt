@@ -1,4 +1,4 @@
-//! `judge [--workers N] [FILE]`: judges a trace.
+//! `judge [--workers N] [--nth K] [FILE]`: judges a trace.
 
 use crate::parameters::Description;
 use crate::subcommands::shared;
@@ -9,7 +9,10 @@ It reads the text of a trace, at most 1,048,576 bytes, and prints its report:
 two lines with the numbers of processors, events and rounds, and then
 NO VIOLATION FOUND, or VIOLATION and the certificate, which `tsobench check`
 can check. A text that is no trace gets one line, as REFUSED BadLine line 3.
-The report is the same for each number of workers.
+The report is the same for each number of workers. With --nth K it judges the
+K-th of the traces that stand one after the other, each ended by its line `end`,
+as `tsobench batch` numbers them: one line, REFUSED Nth, says that there are
+fewer, with status 2.
 
 Exit status:
   0  no violation was found, which proves nothing about the trace
@@ -25,5 +28,5 @@ pub(crate) static JUDGE: Description = Description {
     help_option: ["judge", "--help"],
     about: "Judges a trace and prints its report",
     help: HELP,
-    parameters: &[shared::WORKERS, shared::TRACE_FILE],
+    parameters: &[shared::WORKERS, shared::NTH, shared::TRACE_FILE],
 };

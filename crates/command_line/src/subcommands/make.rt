@@ -1,4 +1,5 @@
-//! `make [--model MODEL] --seed N --procs P --ops O --addrs A`: prints the program that a seed draws.
+//! `make [--schedule] [--model MODEL] --seed N --procs P --ops O --addrs A`: prints the program that a seed draws, or its
+//! schedule.
 
 use crate::parameters::{Accepted, Description, Parameter};
 use crate::subcommands::shared;
@@ -7,6 +8,11 @@ use crate::subcommands::shared;
 const HELP: &str = "\
 It draws a program from a seed and prints its text, which `tsobench run` and
 `tsobench replay` read. The same arguments give the same program each time.
+
+With --schedule it prints, in place of the program, the schedule that the seed
+draws for `tsobench replay` of that program: three acts for each operation, on
+any processor. In most schedules some are drains: on average 1, 3 or 8 of 16
+acts by the seed, in some none.
 
 P, O and A are the shape of the program: each of its P processors has O
 operations, which are loads, stores, swaps and barriers at the addresses 0 to
@@ -18,20 +24,25 @@ With --model pso the program is of Partial Store Order: its text has the line
 in place of a barrier.
 
 Exit status:
-  0  the program was printed
+  0  the program or the schedule was printed
   2  the shape or the command line was refused
   4  a fault, which one line on standard error names, as FAULT OutOfMemory
 
 Example:
   tsobench make --seed 1 --procs 2 --ops 4 --addrs 2 > PROGRAM
-  tsobench run --unit buffer --seed 1 PROGRAM";
+  tsobench make --schedule --seed 1 --procs 2 --ops 4 --addrs 2 > SCHEDULE
+  tsobench replay --unit buffer PROGRAM SCHEDULE";
 
 /// What is told of it.
 pub(crate) static MAKE: Description = Description {
     help_option: ["make", "--help"],
-    about: "Prints the program that is drawn from a seed",
+    about: "Prints the program that is drawn from a seed, or its schedule",
     help: HELP,
     parameters: &[
+        Parameter::Flag {
+            name: "schedule",
+            help: "Prints the schedule of the seed in place of its program",
+        },
         shared::MODEL,
         Parameter::Option {
             name: "seed",

@@ -1,4 +1,5 @@
-//! `replay --unit UNIT [--capacity C] [--trigger T] [--workers N] [--trace|--explain] PROGRAM SCHEDULE`: replays a program by a schedule.
+//! `replay --unit UNIT [--capacity C] [--trigger T] [--workers N] [--trace|--explain] [--with-trace] PROGRAM SCHEDULE`: replays a program by a
+//! schedule.
 
 use crate::parameters::{Description, Parameter};
 use crate::subcommands::shared;
@@ -12,8 +13,9 @@ recorded and judged. It prints the report of `tsobench judge`, and then a line
 `account loads .. stores .. swaps .. membars .. drains .. closed` with the
 numbers of the unit's steps. With --trace it prints the recorded trace alone,
 and with --explain what `tsobench explain` prints of it; one of the two may be
-used. A text that is no program or no schedule gets one line that says why.
-PROGRAM or SCHEDULE, but not both, may be -, which is standard input.
+used. With --with-trace the recorded trace follows the report or the
+explanation. A text that is no program or no schedule gets one line that says
+why. PROGRAM or SCHEDULE, but not both, may be -, which is standard input.
 
 --capacity and --trigger are ignored by units that have no use for them. The
 unit `partial` keeps PSO: on it a program without the line `model pso` may give
@@ -40,6 +42,7 @@ pub(crate) static REPLAY: Description = Description {
         shared::WORKERS,
         shared::TRACE,
         shared::EXPLAIN,
+        shared::WITH_TRACE,
         Parameter::Other {
             name: "program",
             value_name: "PROGRAM",

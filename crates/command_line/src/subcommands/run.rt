@@ -1,7 +1,6 @@
-//! `run --unit UNIT [--capacity C] [--trigger T] [--workers N] [--trace|--explain] --seed N [--drain-turns T] PROGRAM`: runs a program with a
-//! thread per processor.
+//! `run --unit UNIT [--capacity C] [--trigger T] [--workers N] [--trace|--explain] [--with-trace] --seed N [--drain-turns T] PROGRAM`: runs a
+//! program with a thread per processor.
 
-use crate::options::MAX_DRAIN_TURNS;
 use crate::parameters::{Accepted, Description, Parameter};
 use crate::subcommands::shared;
 
@@ -18,7 +17,8 @@ is recorded and judged. It prints the report of `tsobench judge`, and then a
 line `account loads .. stores .. swaps .. membars .. drains .. closed` with the
 numbers of the unit's steps. With --trace it prints the recorded trace alone,
 and with --explain what `tsobench explain` prints of it; one of the two may be
-used. A text that is no program gets one line that says why.
+used. With --with-trace the recorded trace follows the report or the
+explanation. A text that is no program gets one line that says why.
 
 The system, and not the seed, says in which order the threads come to the unit:
 two runs of the same arguments may record different traces. To run a program in
@@ -50,6 +50,7 @@ pub(crate) static RUN: Description = Description {
         shared::WORKERS,
         shared::TRACE,
         shared::EXPLAIN,
+        shared::WITH_TRACE,
         Parameter::Option {
             name: "seed",
             value_name: "N",
@@ -57,13 +58,7 @@ pub(crate) static RUN: Description = Description {
             default: None,
             help: "The seed of the drains, 0 to 18446744073709551615",
         },
-        Parameter::Option {
-            name: "drain-turns",
-            value_name: "T",
-            accepted: Accepted::Number(0, MAX_DRAIN_TURNS),
-            default: Some("0"),
-            help: "How many turns a drainer takes beside the processors, 0 to 1000000",
-        },
+        shared::DRAIN_TURNS,
         Parameter::Other {
             name: "program",
             value_name: "PROGRAM",
@@ -72,5 +67,3 @@ pub(crate) static RUN: Description = Description {
         },
     ],
 };
-
-const _: () = prove!(MAX_DRAIN_TURNS == 1_000_000);

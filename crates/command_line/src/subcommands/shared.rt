@@ -1,6 +1,6 @@
 //! Parameters that several subcommands have. Some of their texts of help tell limits.
 
-use crate::options::{MAX_CAPACITY, MAX_WORKERS};
+use crate::options::{MAX_CAPACITY, MAX_DRAIN_TURNS, MAX_WORKERS};
 use crate::parameters::{Accepted, NameList, Parameter};
 
 /// `--workers N`.
@@ -13,6 +13,14 @@ pub(crate) const WORKERS: Parameter = Parameter::Option {
 };
 
 const _: () = prove!(MAX_WORKERS == 64);
+
+/// `--nth K`.
+pub(crate) const NTH: Parameter = Parameter::Optional {
+    name: "nth",
+    value_name: "K",
+    accepted: Accepted::Number(1, u64::MAX),
+    help: "Which of the traces that stand one after the other, from 1",
+};
 
 /// `[FILE]`, with a trace.
 pub(crate) const TRACE_FILE: Parameter = Parameter::Other {
@@ -62,6 +70,23 @@ pub(crate) const EXPLAIN: Parameter = Parameter::Flag {
     name: "explain",
     help: "Prints the explanation of the verdict alone",
 };
+
+/// `--with-trace`.
+pub(crate) const WITH_TRACE: Parameter = Parameter::Flag {
+    name: "with-trace",
+    help: "Prints the recorded trace after the report or the explanation",
+};
+
+/// `--drain-turns T`.
+pub(crate) const DRAIN_TURNS: Parameter = Parameter::Option {
+    name: "drain-turns",
+    value_name: "T",
+    accepted: Accepted::Number(0, MAX_DRAIN_TURNS),
+    default: Some("0"),
+    help: "How many turns a drainer takes beside the processors, 0 to 1000000",
+};
+
+const _: () = prove!(MAX_DRAIN_TURNS == 1_000_000);
 
 /// `--model MODEL`.
 pub(crate) const MODEL: Parameter = Parameter::Option {

@@ -4,7 +4,7 @@ use super::{asked, expect_each};
 use std::test::Fail;
 
 /// Arguments, and what they ask for.
-const ACCEPTED: [(&[&str], &str); 36] = [
+const ACCEPTED: [(&[&str], &str); 54] = [
     (&[], "Report of None with 1"),
     (&["judge"], "Report of None with 1"),
     (&["judge", "a.trace"], "Report of Some(\"a.trace\") with 1"),
@@ -31,7 +31,25 @@ const ACCEPTED: [(&[&str], &str); 36] = [
     ),
     (&["judge", "--workers", "+007"], "Report of None with 7"),
     (&["judge", "check"], "Report of Some(\"check\") with 1"),
+    (&["judge", "--nth", "1"], "Report of None nth 1 with 1"),
+    (
+        &["judge", "s", "--nth=18446744073709551615", "--workers", "2"],
+        "Report of Some(\"s\") nth 18446744073709551615 with 2",
+    ),
+    (
+        &["explain", "--nth", "+03", "s"],
+        "Explanation of Some(\"s\") nth 3 with 1",
+    ),
+    (&["draw", "--nth=2"], "Picture of None nth 2 with 1"),
     (&["check", "t", "c"], "check \"t\" against \"c\""),
+    (
+        &["check", "--nth", "2", "-", "c"],
+        "check standard input nth 2 against \"c\"",
+    ),
+    (
+        &["check", "t", "-", "--nth=7"],
+        "check \"t\" nth 7 against standard input",
+    ),
     (&["check", "-", "c"], "check standard input against \"c\""),
     (&["check", "t", "-"], "check \"t\" against standard input"),
     (
@@ -55,17 +73,74 @@ const ACCEPTED: [(&[&str], &str); 36] = [
         &["draw", "--workers", "3", "t"],
         "Picture of Some(\"t\") with 3",
     ),
-    (&["batch"], "batch None with 1 quiet false"),
-    (&["batch", "--quiet"], "batch None with 1 quiet true"),
+    (
+        &["batch"],
+        "batch [None] with 1 Words quiet false violations false",
+    ),
+    (
+        &["batch", "--quiet"],
+        "batch [None] with 1 Words quiet true violations false",
+    ),
     (
         &["batch", "s", "--quiet", "--workers", "4"],
-        "batch Some(\"s\") with 4 quiet true",
+        "batch [Some(\"s\")] with 4 Words quiet true violations false",
     ),
     (
         &["batch", "--workers=64", "s"],
-        "batch Some(\"s\") with 64 quiet false",
+        "batch [Some(\"s\")] with 64 Words quiet false violations false",
     ),
-    (&["batch", "-"], "batch None with 1 quiet false"),
+    (
+        &["batch", "--violations"],
+        "batch [None] with 1 Words quiet false violations true",
+    ),
+    (
+        &["batch", "--violations", "--quiet", "s"],
+        "batch [Some(\"s\")] with 1 Words quiet true violations true",
+    ),
+    (
+        &["batch", "--format", "json"],
+        "batch [None] with 1 Json quiet false violations false",
+    ),
+    (
+        &["batch", "--format=words", "--violations"],
+        "batch [None] with 1 Words quiet false violations true",
+    ),
+    (
+        &["batch", "-"],
+        "batch [None] with 1 Words quiet false violations false",
+    ),
+    (
+        &["batch", "a", "b"],
+        "batch [Some(\"a\"), Some(\"b\")] with 1 Words quiet false violations false",
+    ),
+    (
+        &["batch", "a", "--quiet", "-", "--workers=2", "a", "c d"],
+        "batch [Some(\"a\"), None, Some(\"a\"), Some(\"c d\")] with 2 Words quiet true violations false",
+    ),
+    (
+        &["batch", "--violations", "a", "--format", "json", "b"],
+        "batch [Some(\"a\"), Some(\"b\")] with 1 Json quiet false violations true",
+    ),
+    (
+        &["batch", "--", "--quiet", "-", "batch"],
+        "batch [Some(\"--quiet\"), None, Some(\"batch\")] with 1 Words quiet false violations false",
+    ),
+    (
+        &["batch", "judge", "help"],
+        "batch [Some(\"judge\"), Some(\"help\")] with 1 Words quiet false violations false",
+    ),
+    (
+        &["batch", "", "b"],
+        "batch [Some(\"\"), Some(\"b\")] with 1 Words quiet false violations false",
+    ),
+    (
+        &["batch", "--format", "junit"],
+        "batch [None] with 1 Junit quiet false violations false",
+    ),
+    (
+        &["batch", "--format=junit", "--quiet", "a", "b"],
+        "batch [Some(\"a\"), Some(\"b\")] with 1 Junit quiet true violations false",
+    ),
     (&["log"], "log None at most 10 by 100 as Lines"),
     (&["log", "l"], "log Some(\"l\") at most 10 by 100 as Lines"),
     (
@@ -85,7 +160,7 @@ fn accepted_arguments(rt: HostRuntime) -> Result<(), Fail> {
 }
 
 /// Arguments of `replay`, and what they ask for.
-const REPLAYS: [(&[&str], &str); 18] = [
+const REPLAYS: [(&[&str], &str); 20] = [
     (
         &["replay", "--unit", "serial", "p", "-"],
         "replay \"p\" by standard input on Serial 8 1 with 1 printing Report",
@@ -173,6 +248,21 @@ const REPLAYS: [(&[&str], &str); 18] = [
         "replay \"p\" by \"s\" on Serial 4 3 with 2 printing Trace",
     ),
     (
+        &["replay", "--unit", "serial", "p", "--with-trace", "s"],
+        "replay \"p\" by \"s\" on Serial 8 1 with 1 printing Report and the trace",
+    ),
+    (
+        &[
+            "replay",
+            "--explain",
+            "--with-trace",
+            "--unit=serial",
+            "p",
+            "s",
+        ],
+        "replay \"p\" by \"s\" on Serial 8 1 with 1 printing Explanation and the trace",
+    ),
+    (
         &["replay", "--unit", "serial", "--", "--trace", "-s"],
         "replay \"--trace\" by \"-s\" on Serial 8 1 with 1 printing Report",
     ),
@@ -184,10 +274,22 @@ fn accepted_replays(rt: HostRuntime) -> Result<(), Fail> {
 }
 
 /// Arguments of `run`, and what they ask for.
-const RUNS: [(&[&str], &str); 23] = [
+const RUNS: [(&[&str], &str); 24] = [
     (
         &["run", "--unit", "serial", "--seed", "1", "p"],
         "run \"p\" seeded 1 and 0 turns on Serial 8 1 with 1 printing Report",
+    ),
+    (
+        &[
+            "run",
+            "--unit",
+            "serial",
+            "--seed",
+            "1",
+            "p",
+            "--with-trace",
+        ],
+        "run \"p\" seeded 1 and 0 turns on Serial 8 1 with 1 printing Report and the trace",
     ),
     (
         &["run", "--unit", "buffer", "--seed", "1", "p"],
@@ -347,26 +449,26 @@ fn accepted_runs(rt: HostRuntime) -> Result<(), Fail> {
 }
 
 /// Arguments of `make`, and what they ask for.
-const MADE: [(&[&str], &str); 10] = [
+const MADE: [(&[&str], &str); 12] = [
     (
         &[
             "make", "--seed", "7", "--procs", "2", "--ops", "4", "--addrs", "3",
         ],
-        "make Tso 2x4 at 3 from 7",
+        "make program of Tso 2x4 at 3 from 7",
     ),
     (
         &["make", "--seed=7", "--procs=2", "--ops=4", "--addrs=3"],
-        "make Tso 2x4 at 3 from 7",
+        "make program of Tso 2x4 at 3 from 7",
     ),
     (
         &[
             "make", "--addrs", "3", "--ops=4", "--procs", "2", "--seed=7",
         ],
-        "make Tso 2x4 at 3 from 7",
+        "make program of Tso 2x4 at 3 from 7",
     ),
     (
         &["make", "--seed=0", "--procs=0", "--ops=0", "--addrs=0"],
-        "make Tso 0x0 at 0 from 0",
+        "make program of Tso 0x0 at 0 from 0",
     ),
     (
         &[
@@ -376,11 +478,11 @@ const MADE: [(&[&str], &str); 10] = [
             "--ops=18446744073709551613",
             "--addrs=18446744073709551612",
         ],
-        "make Tso 18446744073709551614x18446744073709551613 at 18446744073709551612 from 18446744073709551615",
+        "make program of Tso 18446744073709551614x18446744073709551613 at 18446744073709551612 from 18446744073709551615",
     ),
     (
         &["make", "--seed=+007", "--procs=02", "--ops=4", "--addrs=3"],
-        "make Tso 2x4 at 3 from 7",
+        "make program of Tso 2x4 at 3 from 7",
     ),
     (
         &[
@@ -392,7 +494,7 @@ const MADE: [(&[&str], &str); 10] = [
             "--ops=4",
             "--addrs=3",
         ],
-        "make Pso 2x4 at 3 from 7",
+        "make program of Pso 2x4 at 3 from 7",
     ),
     (
         &[
@@ -403,7 +505,7 @@ const MADE: [(&[&str], &str); 10] = [
             "--ops=4",
             "--addrs=3",
         ],
-        "make Pso 2x4 at 3 from 7",
+        "make program of Pso 2x4 at 3 from 7",
     ),
     (
         &[
@@ -415,7 +517,7 @@ const MADE: [(&[&str], &str); 10] = [
             "--model",
             "tso",
         ],
-        "make Tso 2x4 at 3 from 7",
+        "make program of Tso 2x4 at 3 from 7",
     ),
     (
         &[
@@ -426,7 +528,30 @@ const MADE: [(&[&str], &str); 10] = [
             "--procs=2",
             "--seed=7",
         ],
-        "make Tso 2x4 at 3 from 7",
+        "make program of Tso 2x4 at 3 from 7",
+    ),
+    (
+        &[
+            "make",
+            "--schedule",
+            "--seed=7",
+            "--procs=2",
+            "--ops=4",
+            "--addrs=3",
+        ],
+        "make schedule of Tso 2x4 at 3 from 7",
+    ),
+    (
+        &[
+            "make",
+            "--model=pso",
+            "--addrs=3",
+            "--ops=4",
+            "--procs=2",
+            "--seed=7",
+            "--schedule",
+        ],
+        "make schedule of Pso 2x4 at 3 from 7",
     ),
 ];
 
@@ -436,13 +561,13 @@ fn accepted_made_programs(rt: HostRuntime) -> Result<(), Fail> {
 }
 
 /// Arguments of `campaign`, and what they ask for.
-const CAMPAIGNS: [(&[&str], &str); 8] = [
+const CAMPAIGNS: [(&[&str], &str); 12] = [
     (
         &[
             "campaign", "--unit", "buffer", "--first", "7", "--count", "20", "--procs", "2",
             "--ops", "4", "--addrs", "3",
         ],
-        "campaign 20 from 7 of Tso 2x4 at 3 on Buffer 8 1 with 1",
+        "campaign 20 from 7 of Tso 2x4 at 3 run beside 0 turns on Buffer 8 1 with 1",
     ),
     (
         &[
@@ -457,7 +582,7 @@ const CAMPAIGNS: [(&[&str], &str); 8] = [
             "--ops=4",
             "--addrs=3",
         ],
-        "campaign 20 from 7 of Tso 2x4 at 3 on Faulty(LostDrain) 64 5 with 2",
+        "campaign 20 from 7 of Tso 2x4 at 3 run beside 0 turns on Faulty(LostDrain) 64 5 with 2",
     ),
     (
         &[
@@ -476,7 +601,7 @@ const CAMPAIGNS: [(&[&str], &str); 8] = [
             "1",
             "--unit=serial",
         ],
-        "campaign 20 from 7 of Tso 2x4 at 3 on Serial 1 18446744073709551615 with 64",
+        "campaign 20 from 7 of Tso 2x4 at 3 run beside 0 turns on Serial 1 18446744073709551615 with 64",
     ),
     (
         &[
@@ -488,7 +613,7 @@ const CAMPAIGNS: [(&[&str], &str); 8] = [
             "--ops=18446744073709551612",
             "--addrs=18446744073709551611",
         ],
-        "campaign 18446744073709551614 from 18446744073709551615 of Tso 18446744073709551613x18446744073709551612 at 18446744073709551611 on Serial 8 1 with 1",
+        "campaign 18446744073709551614 from 18446744073709551615 of Tso 18446744073709551613x18446744073709551612 at 18446744073709551611 run beside 0 turns on Serial 8 1 with 1",
     ),
     (
         &[
@@ -500,7 +625,7 @@ const CAMPAIGNS: [(&[&str], &str); 8] = [
             "--ops=0",
             "--addrs=0",
         ],
-        "campaign 0 from 0 of Tso 0x0 at 0 on Serial 8 1 with 1",
+        "campaign 0 from 0 of Tso 0x0 at 0 run beside 0 turns on Serial 8 1 with 1",
     ),
     (
         &[
@@ -515,7 +640,7 @@ const CAMPAIGNS: [(&[&str], &str); 8] = [
             "--ops=4",
             "--addrs=3",
         ],
-        "campaign 20 from 7 of Pso 2x4 at 3 on Partial 8 1 with 1",
+        "campaign 20 from 7 of Pso 2x4 at 3 run beside 0 turns on Partial 8 1 with 1",
     ),
     (
         &[
@@ -529,7 +654,7 @@ const CAMPAIGNS: [(&[&str], &str); 8] = [
             "--ops=4",
             "--addrs=3",
         ],
-        "campaign 20 from 7 of Tso 2x4 at 3 on Partial 64 1 with 1",
+        "campaign 20 from 7 of Tso 2x4 at 3 run beside 0 turns on Partial 64 1 with 1",
     ),
     (
         &[
@@ -543,7 +668,63 @@ const CAMPAIGNS: [(&[&str], &str); 8] = [
             "--addrs=3",
             "--model=pso",
         ],
-        "campaign 20 from 7 of Pso 2x4 at 3 on Buffer 8 1 with 2",
+        "campaign 20 from 7 of Pso 2x4 at 3 run beside 0 turns on Buffer 8 1 with 2",
+    ),
+    (
+        &[
+            "campaign",
+            "--replay",
+            "--unit=lost-drain",
+            "--first=7",
+            "--count=20",
+            "--procs=2",
+            "--ops=4",
+            "--addrs=3",
+        ],
+        "campaign 20 from 7 of Tso 2x4 at 3 replayed beside 0 turns on Faulty(LostDrain) 8 1 with 1",
+    ),
+    (
+        &[
+            "campaign",
+            "--drain-turns",
+            "1000000",
+            "--unit=lost-drain",
+            "--first=7",
+            "--count=20",
+            "--procs=2",
+            "--ops=4",
+            "--addrs=3",
+        ],
+        "campaign 20 from 7 of Tso 2x4 at 3 run beside 1000000 turns on Faulty(LostDrain) 8 1 with 1",
+    ),
+    (
+        &[
+            "campaign",
+            "--trace",
+            "--drain-turns=0",
+            "--unit=lost-drain",
+            "--first=7",
+            "--count=20",
+            "--procs=2",
+            "--ops=4",
+            "--addrs=3",
+        ],
+        "campaign 20 from 7 of Tso 2x4 at 3 run beside 0 turns on Faulty(LostDrain) 8 1 with 1 as traces",
+    ),
+    (
+        &[
+            "campaign",
+            "--unit=lost-drain",
+            "--first=7",
+            "--count=20",
+            "--procs=2",
+            "--ops=4",
+            "--addrs=3",
+            "--trace",
+            "--replay",
+            "--drain-turns=5",
+        ],
+        "campaign 20 from 7 of Tso 2x4 at 3 replayed beside 5 turns on Faulty(LostDrain) 8 1 with 1 as traces",
     ),
 ];
 

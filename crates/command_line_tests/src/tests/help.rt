@@ -102,8 +102,8 @@ Commands:
   check     Checks a certificate of a violation against its trace
   replay    Replays a program by a schedule, and judges the trace
   run       Runs a program with a thread per processor, and judges the trace
-  make      Prints the program that is drawn from a seed
-  campaign  Runs the programs drawn from many seeds, and judges their traces
+  make      Prints the program that is drawn from a seed, or its schedule
+  campaign  Runs or replays the programs of many seeds, and judges their traces
   help      Print this message or the help of the given subcommand(s)
 
 Options:
@@ -148,13 +148,17 @@ Arguments:
 
 Options:
       --workers <N>  How many workers judge, 1 to 64 [default: 1]
+      --nth <K>      Which of the traces that stand one after the other, from 1
   -h, --help         Print help
 
 It reads the text of a trace, at most 1,048,576 bytes, and prints its report:
 two lines with the numbers of processors, events and rounds, and then
 NO VIOLATION FOUND, or VIOLATION and the certificate, which `tsobench check`
 can check. A text that is no trace gets one line, as REFUSED BadLine line 3.
-The report is the same for each number of workers.
+The report is the same for each number of workers. With --nth K it judges the
+K-th of the traces that stand one after the other, each ended by its line `end`,
+as `tsobench batch` numbers them: one line, REFUSED Nth, says that there are
+fewer, with status 2.
 
 Exit status:
   0  no violation was found, which proves nothing about the trace
@@ -176,6 +180,7 @@ Arguments:
 
 Options:
       --workers <N>  How many workers judge, 1 to 64 [default: 1]
+      --nth <K>      Which of the traces that stand one after the other, from 1
   -h, --help         Print help
 
 It reads the text of a trace, as `tsobench judge` does, and prints its report up
@@ -184,7 +189,8 @@ have to stand each before the next and the last before the first, why each of
 these has to hold, and where the events stand in the text; or which load read a
 value that nothing wrote, and what is stored to its address. Of a text that is
 no trace it shows the line and says what a line has to be. The text is the same
-for each number of workers.
+for each number of workers. With --nth K it is of the K-th of the traces that
+stand one after the other, as `tsobench judge` judges it.
 
 Exit status:
   0  no violation was found, which proves nothing about the trace
@@ -206,6 +212,7 @@ Arguments:
 
 Options:
       --workers <N>  How many workers judge, 1 to 64 [default: 1]
+      --nth <K>      Which of the traces that stand one after the other, from 1
   -h, --help         Print help
 
 It reads the text of a trace, as `tsobench judge` does, and prints a picture of
@@ -216,7 +223,8 @@ violation the cycle is red, and other derived edges are dashed; the number at an
 edge is its step in the explanation of `tsobench explain`. Of more than 100
 events only those of the violation are drawn. A text that is no trace gets one
 line, as REFUSED BadLine line 3. The text is the same for each number of
-workers.
+workers. With --nth K it is of the K-th of the traces that stand one after the
+other, as `tsobench judge` judges it.
 
 Exit status:
   0  no violation was found, which proves nothing about the trace
@@ -231,15 +239,17 @@ Example:
 const BATCH_HELP: &str = "\
 Judges many traces, with a line for each
 
-Usage: tsobench batch [OPTIONS] [FILE]
+Usage: tsobench batch [OPTIONS] [FILE]...
 
 Arguments:
-  [FILE]  The texts of traces; standard input where it is - or left out
+  [FILE]...  The texts of traces; standard input where it is - or left out
 
 Options:
-      --workers <N>  How many traces are judged side by side, 1 to 64 [default: 1]
-      --quiet        Leave out the lines of traces without a violation
-  -h, --help         Print help
+      --workers <N>      How many traces are judged side by side, 1 to 64 [default: 1]
+      --format <FORMAT>  How lines are written, words, json or junit [default: words] [possible values: words, json, junit]
+      --quiet            Leave out the lines of traces without a violation
+      --violations       Print the texts of the violations in place of lines
+  -h, --help             Print help
 
 It reads texts of traces that stand one after the other: each ends with its line
 `end`. Those that came together are judged side by side, and before it reads on
@@ -247,8 +257,24 @@ it prints a line for each, in order: trace 1 NO VIOLATION FOUND,
 trace 2 VIOLATION or trace 3 REFUSED BadLine line 3, with the name and the line
 that `tsobench judge` gives for the text alone; and at last a line as
 traces 3 violations 1 refused 1. With --quiet the traces without a violation get
-no line. A text of more than 1,048,576 bytes is refused as TooLong, and the next
-one is judged. The lines are the same for each number of workers.
+no line. With --violations it prints no lines but the texts of the traces that
+are violations, as they came and in order, which batch reads again; no refused
+text is among them, and the last line goes to standard error. A text of more than
+1,048,576 bytes is refused as TooLong, and the next one is judged. What is
+printed is the same for each number of workers.
+
+Of several files each is opened and judged when the one before it was, and each
+line begins with the name of its file, as FILE: trace 1 VIOLATION; the numbers
+begin anew with each file, and the last line is of all files. One of them may be
+-, which is standard input. Lines of one FILE, or none, have no name.
+
+With --format json each line is an object of JSON, as
+{\"trace\":1,\"verdict\":\"no_violation_found\"}, {\"trace\":2,\"verdict\":\"violation\"} or
+{\"trace\":3,\"verdict\":\"refused\",\"name\":\"BadLine\",\"line\":3}, and the last one as
+{\"traces\":3,\"violations\":1,\"refused\":1}. Of several files each line begins as
+{\"file\":\"FILE\",\"trace\":1. With --format junit it prints a document in JUnit's XML,
+which test servers read: a test case for each trace, which fails where the trace
+is a violation and has an error where the text is refused.
 
 Exit status:
   0  no violation was found, which proves nothing about the traces
@@ -258,6 +284,8 @@ Exit status:
 
 Example:
   cat *.trace | tsobench batch --workers 4 --quiet
+  tsobench batch --format junit *.trace >REPORT.xml
+  tsobench batch --violations TRACES >VIOLATIONS
 ";
 
 const LOG_HELP: &str = "\
@@ -317,21 +345,24 @@ Example:
 const CHECK_HELP: &str = "\
 Checks a certificate of a violation against its trace
 
-Usage: tsobench check <TRACE> <CERT>
+Usage: tsobench check [OPTIONS] <TRACE> <CERT>
 
 Arguments:
   <TRACE>  The text of a trace
   <CERT>   The text of a certificate
 
 Options:
-  -h, --help  Print help
+      --nth <K>  Which of the traces that stand one after the other, from 1
+  -h, --help     Print help
 
 It reads the text of a trace and that of a certificate, at most 67,108,864
 bytes, as it stands in a report after the line VIOLATION. It prints one line:
 CERTIFICATE HOLDS, which proves that no order of the trace meets its memory
 model, or CERTIFICATE REFUSED and why. A text that is no trace gets a line as
 REFUSED BadLine line 3, and the certificate isn't read. Both files are opened
-before one is read. One of the two may be -, which is standard input.
+before one is read. One of the two may be -, which is standard input. With
+--nth K the certificate is that of the K-th of the traces that stand one after
+the other, as `tsobench judge` judges it.
 
 Exit status:
   2  the trace, the certificate or the command line was refused
@@ -359,6 +390,7 @@ Options:
       --workers <N>   How many workers judge, 1 to 64 [default: 1]
       --trace         Prints the recorded trace alone
       --explain       Prints the explanation of the verdict alone
+      --with-trace    Prints the recorded trace after the report or the explanation
   -h, --help          Print help
 
 It reads the text of a program and that of a schedule, and runs the program on
@@ -368,8 +400,9 @@ recorded and judged. It prints the report of `tsobench judge`, and then a line
 `account loads .. stores .. swaps .. membars .. drains .. closed` with the
 numbers of the unit's steps. With --trace it prints the recorded trace alone,
 and with --explain what `tsobench explain` prints of it; one of the two may be
-used. A text that is no program or no schedule gets one line that says why.
-PROGRAM or SCHEDULE, but not both, may be -, which is standard input.
+used. With --with-trace the recorded trace follows the report or the
+explanation. A text that is no program or no schedule gets one line that says
+why. PROGRAM or SCHEDULE, but not both, may be -, which is standard input.
 
 --capacity and --trigger are ignored by units that have no use for them. The
 unit `partial` keeps PSO: on it a program without the line `model pso` may give
@@ -400,6 +433,7 @@ Options:
       --workers <N>      How many workers judge, 1 to 64 [default: 1]
       --trace            Prints the recorded trace alone
       --explain          Prints the explanation of the verdict alone
+      --with-trace       Prints the recorded trace after the report or the explanation
       --seed <N>         The seed of the drains, 0 to 18446744073709551615
       --drain-turns <T>  How many turns a drainer takes beside the processors, 0 to 1000000 [default: 0]
   -h, --help             Print help
@@ -415,7 +449,8 @@ is recorded and judged. It prints the report of `tsobench judge`, and then a
 line `account loads .. stores .. swaps .. membars .. drains .. closed` with the
 numbers of the unit's steps. With --trace it prints the recorded trace alone,
 and with --explain what `tsobench explain` prints of it; one of the two may be
-used. A text that is no program gets one line that says why.
+used. With --with-trace the recorded trace follows the report or the
+explanation. A text that is no program gets one line that says why.
 
 The system, and not the seed, says in which order the threads come to the unit:
 two runs of the same arguments may record different traces. To run a program in
@@ -437,11 +472,12 @@ Example:
 ";
 
 const MAKE_HELP: &str = "\
-Prints the program that is drawn from a seed
+Prints the program that is drawn from a seed, or its schedule
 
 Usage: tsobench make [OPTIONS] --seed <N> --procs <P> --ops <O> --addrs <A>
 
 Options:
+      --schedule       Prints the schedule of the seed in place of its program
       --model <MODEL>  The memory model of the program, tso or pso [default: tso] [possible values: tso, pso]
       --seed <N>       The seed of the program, 0 to 18446744073709551615
       --procs <P>      How many processors the program has, 1 to 16
@@ -451,6 +487,11 @@ Options:
 
 It draws a program from a seed and prints its text, which `tsobench run` and
 `tsobench replay` read. The same arguments give the same program each time.
+
+With --schedule it prints, in place of the program, the schedule that the seed
+draws for `tsobench replay` of that program: three acts for each operation, on
+any processor. In most schedules some are drains: on average 1, 3 or 8 of 16
+acts by the seed, in some none.
 
 P, O and A are the shape of the program: each of its P processors has O
 operations, which are loads, stores, swaps and barriers at the addresses 0 to
@@ -462,32 +503,36 @@ With --model pso the program is of Partial Store Order: its text has the line
 in place of a barrier.
 
 Exit status:
-  0  the program was printed
+  0  the program or the schedule was printed
   2  the shape or the command line was refused
   4  a fault, which one line on standard error names, as FAULT OutOfMemory
 
 Example:
   tsobench make --seed 1 --procs 2 --ops 4 --addrs 2 > PROGRAM
-  tsobench run --unit buffer --seed 1 PROGRAM
+  tsobench make --schedule --seed 1 --procs 2 --ops 4 --addrs 2 > SCHEDULE
+  tsobench replay --unit buffer PROGRAM SCHEDULE
 ";
 
 const CAMPAIGN_HELP: &str = "\
-Runs the programs drawn from many seeds, and judges their traces
+Runs or replays the programs of many seeds, and judges their traces
 
 Usage: tsobench campaign [OPTIONS] --unit <UNIT> --first <S> --count <K> --procs <P> --ops <O> --addrs <A>
 
 Options:
-      --unit <UNIT>    Which memory unit runs the program [possible values: serial, buffer, partial, newest-first, no-forward, stale-load, torn-swap, idle-membar, lost-drain]
-      --capacity <C>   How many stores each store buffer of the unit holds, 1 to 64 [default: 8]
-      --trigger <T>    From which occasion on a faulty unit deviates, from 1 [default: 1]
-      --workers <N>    How many workers share the seeds, 1 to 64 [default: 1]
-      --model <MODEL>  The memory model of the program, tso or pso [default: tso] [possible values: tso, pso]
-      --first <S>      The first seed, 0 to 18446744073709551615
-      --count <K>      How many seeds there are, each one more than the last, at most 1000
-      --procs <P>      How many processors the program has, 1 to 16
-      --ops <O>        How many operations each processor has, at most 1000 over all
-      --addrs <A>      How many addresses are drawn from, 1 to 256
-  -h, --help           Print help
+      --unit <UNIT>      Which memory unit runs the program [possible values: serial, buffer, partial, newest-first, no-forward, stale-load, torn-swap, idle-membar, lost-drain]
+      --capacity <C>     How many stores each store buffer of the unit holds, 1 to 64 [default: 8]
+      --trigger <T>      From which occasion on a faulty unit deviates, from 1 [default: 1]
+      --workers <N>      How many workers share the seeds, 1 to 64 [default: 1]
+      --replay           Replays each program by the schedule of its seed
+      --drain-turns <T>  How many turns a drainer takes beside the processors, 0 to 1000000 [default: 0]
+      --trace            Prints the recorded traces in place of lines
+      --model <MODEL>    The memory model of the program, tso or pso [default: tso] [possible values: tso, pso]
+      --first <S>        The first seed, 0 to 18446744073709551615
+      --count <K>        How many seeds there are, each one more than the last, at most 1000
+      --procs <P>        How many processors the program has, 1 to 16
+      --ops <O>          How many operations each processor has, at most 1000 over all
+      --addrs <A>        How many addresses are drawn from, 1 to 256
+  -h, --help             Print help
 
 It takes the seeds S, S + 1 and so on, K of them. From each it draws a program,
 as `tsobench make` does, and runs it on a memory unit of its own, as
@@ -495,6 +540,17 @@ as `tsobench make` does, and runs it on a memory unit of its own, as
 recorded and judged. It prints a line for each seed, in their order,
 `seed S NO VIOLATION FOUND` or `seed S VIOLATION`, and then a line
 `seeds K violations M`, where M is the number of seeds with a violation.
+
+With --trace it prints the recorded traces in place of these lines, one after
+the other, as `tsobench batch` takes them: trace N is that of seed S + N - 1.
+
+With --replay it replays each program in place of running it, as
+`tsobench replay` does by the schedule that `tsobench make --schedule` prints of
+the seed: the same arguments then print the same text each time. Without it the
+system, and not the seed, says in which order the threads come to the unit: two
+campaigns of the same arguments may find different violations. --drain-turns T
+starts a drainer beside the processors, as for `tsobench run`; with --replay it
+is ignored, since schedules have drains.
 
 P, O and A are the shape of each program, as for `tsobench make`. A shape
 outside the limits gets one line, REFUSED Shape; more than 1,000 seeds, or a
@@ -505,11 +561,9 @@ With --model pso each program is of Partial Store Order and has STBARs, as for
 is lawful for programs of --model pso alone: with --model tso it shows what TSO
 forbids, so violations are to be expected.
 
-The system, and not the seed, says in which order the threads come to the unit:
-two campaigns of the same arguments may find different violations. Each worker
-runs one seed at a time; the order of the lines is the same for each number of
-workers. --capacity and --trigger are ignored by units that have no use for
-them.
+Each worker runs one seed at a time; lines and traces stand in the same order
+for each number of workers. --capacity and --trigger are ignored by units that
+have no use for them.
 
 Exit status:
   0  no violation was found

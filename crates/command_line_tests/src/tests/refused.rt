@@ -7,8 +7,18 @@ use std::test::Fail;
 const TWO_INPUTS: &str =
     "error: one of the two files may be '-', and not both: standard input is read once\n\nFor more information, try '--help'.\n";
 
+/// The refusal of several files on standard input.
+const SEVERAL_INPUTS: &str =
+    "error: one of the files may be '-', and no more: standard input is read once\n\nFor more information, try '--help'.\n";
+
 /// Arguments, and the text of their refusal.
-const REFUSED: [(&[&str], &str); 15] = [
+const REFUSED: [(&[&str], &str); 23] = [
+    (&["batch", "-", "-"], SEVERAL_INPUTS),
+    (&["batch", "-", "a", "--quiet", "b", "-"], SEVERAL_INPUTS),
+    (
+        &["batch", "a", "--format", "xml", "b"],
+        "error: invalid value 'xml' for '--format <FORMAT>'\n  [possible values: words, json, junit]\n\nFor more information, try '--help'.\n",
+    ),
     (&["check", "-", "-"], TWO_INPUTS),
     (&["check", "--", "-", "-"], TWO_INPUTS),
     (&["seek", "judge"], UNKNOWN),
@@ -28,6 +38,26 @@ const REFUSED: [(&[&str], &str); 15] = [
     (
         &["judge", "--model", "pso"],
         "error: unexpected argument '--model' found\n\n  tip: to pass '--model' as a value, use '-- --model'\n\nUsage: tsobench judge [OPTIONS] [FILE]\n\nFor more information, try '--help'.\n",
+    ),
+    (
+        &["judge", "--nth", "0"],
+        "error: invalid value '0' for '--nth <K>': 0 is not in 1..18446744073709551615\n\nFor more information, try '--help'.\n",
+    ),
+    (
+        &["explain", "--nth", "third", "s"],
+        "error: invalid value 'third' for '--nth <K>': invalid digit found in string\n\nFor more information, try '--help'.\n",
+    ),
+    (
+        &["draw", "--nth=18446744073709551616"],
+        "error: invalid value '18446744073709551616' for '--nth <K>': number too large to fit in target type\n\nFor more information, try '--help'.\n",
+    ),
+    (
+        &["check", "--nth", "1", "--nth", "1", "t", "c"],
+        "error: the argument '--nth <K>' cannot be used multiple times\n\nUsage: tsobench check [OPTIONS] <TRACE> <CERT>\n\nFor more information, try '--help'.\n",
+    ),
+    (
+        &["judge", "--nth"],
+        "error: a value is required for '--nth <K>' but none was supplied\n\nFor more information, try '--help'.\n",
     ),
     (
         &["log", "--most", "0"],
@@ -267,7 +297,7 @@ fn refused_runs(rt: HostRuntime) -> Result<(), Fail> {
 }
 
 /// Arguments of `make`, and the text of their refusal.
-const MADE: [(&[&str], &str); 10] = [
+const MADE: [(&[&str], &str); 11] = [
     (&["make"], NO_NUMBERS),
     (
         &["make", "--procs=2", "--ops=4", "--addrs=3"],
@@ -304,6 +334,10 @@ const MADE: [(&[&str], &str); 10] = [
     (
         &["make", "--model=pso", "--seed=7", "--model=pso"],
         "error: the argument '--model <MODEL>' cannot be used multiple times\n\nUsage: tsobench make [OPTIONS] --seed <N> --procs <P> --ops <O> --addrs <A>\n\nFor more information, try '--help'.\n",
+    ),
+    (
+        &["make", "--schedule", "--seed=7", "--schedule"],
+        "error: the argument '--schedule' cannot be used multiple times\n\nUsage: tsobench make [OPTIONS] --seed <N> --procs <P> --ops <O> --addrs <A>\n\nFor more information, try '--help'.\n",
     ),
 ];
 

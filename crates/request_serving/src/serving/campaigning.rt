@@ -1,7 +1,7 @@
-//! Runs a campaign: a program from each of many seeds, on a unit of its own.
+//! Runs a campaign: a program from each of many seeds, run or replayed on a unit of its own.
 ghost use Rattle.std.specs.Prelude.{◌≡◌, ◌⊎◌, ◌≤◌, Decides, IfOk, IfErr, map, replicate};
 ghost use Rattle.request_serving.specs.Internal.Ranges.{HasWorkerRange, IsCampaignInRange};
-ghost use Rattle.request_serving.specs.Campaigning.{AreProgramsOf, AreSeeds, IsCampaignText, LeavesCampaignText};
+ghost use Rattle.request_serving.specs.Campaigning.{AreSeeds, IsCampaignText, IsPlanOf, LeavesCampaignText, campaign_printing_of, execution_of};
 ghost use Rattle.request_serving.specs.Printing.{unit_of};
 ghost use Rattle.trace_judging.specs.WrittenReports.{WritesWhole};
 
@@ -13,15 +13,15 @@ use std::io::Write;
 use std::sync::Wait;
 use std::thread::Threads;
 use trace_judging::{Fault, write_text};
-use tso_report::{CampaignPrograms, MAX_SEEDS, campaign_over};
+use tso_report::{CampaignPlan, CampaignPrinting, Execution, MAX_SEEDS, campaign_over};
 use unit_core::MemoryUnit;
 
 /// The line of seeds that aren't within their limits.
 const SEEDS_REFUSAL: &[u8] = b"REFUSED Seeds\n";
 
-/// Which programs a campaign runs by its options, or the line of what is refused: the shape, or else the seeds.
-fn asked_programs(options: &CampaignOptions) -> Result<CampaignPrograms, &'static [u8]>
-    ensures programs { IfOk result (λ programs. AreProgramsOf options.now programs) }
+/// The plan that the options of a campaign ask for, or the line of what is refused: the shape, or else the seeds.
+fn asked_plan(options: &CampaignOptions) -> Result<CampaignPlan, &'static [u8]>
+    ensures plan { IfOk result (λ plan. IsPlanOf options.now plan) }
     ensures refused { IfErr result (λ line. IsCampaignText options.now line.now 2) }
 {
     let Some(shape) = asked_shape(options.shape) else {
@@ -30,11 +30,35 @@ fn asked_programs(options: &CampaignOptions) -> Result<CampaignPrograms, &'stati
     if !are_seeds(options.first, options.count) {
         return Err(SEEDS_REFUSAL);
     }
-    Ok(CampaignPrograms {
+    Ok(CampaignPlan {
         first: options.first,
         order: options.order,
         shape,
+        execution: execution_of(options.replayed, options.drain_turns),
+        printing: campaign_printing_of(options.traces),
     })
+}
+
+/// How programs are executed, by whether a replay is asked for, and else with so many turns of a drainer.
+fn execution_of(replayed: bool, drain_turns: u64) -> Execution
+    ensures { result ≡ execution_of replayed drain_turns }
+{
+    if replayed {
+        Execution::Replay
+    } else {
+        Execution::Threads { drain_turns }
+    }
+}
+
+/// What is printed of a campaign, by whether traces are asked for.
+fn campaign_printing_of(traces: bool) -> CampaignPrinting
+    ensures { result ≡ campaign_printing_of traces }
+{
+    if traces {
+        CampaignPrinting::Traces
+    } else {
+        CampaignPrinting::Lines
+    }
 }
 
 /// Whether the seeds from the first on, so many, are within their limits.
@@ -54,8 +78,8 @@ pub(crate) fn campaign_by<H: Threads + Wait + Sync + AllocGlobal, W: Write>(
     ensures text { IfOk result (WritesWhole (IsCampaignText options.now) (W.contents writer.old) (W.contents writer.new)) }
     ensures fault { IfErr result (LeavesCampaignText options.now (W.contents writer.old) (W.contents writer.new)) }
 {
-    match asked_programs(options) {
-        Ok(programs) => campaign_over_programs(rt, options, programs, writer),
+    match asked_plan(options) {
+        Ok(plan) => campaign_by_plan(rt, options, plan, writer),
         Err(line) => {
             write_text(writer, line)?;
             Ok(REFUSED)
@@ -64,35 +88,35 @@ pub(crate) fn campaign_by<H: Threads + Wait + Sync + AllocGlobal, W: Write>(
 }
 
 /// Makes a unit for each seed, runs the campaign over them and writes its text: the status.
-fn campaign_over_programs<H: Threads + Wait + Sync + AllocGlobal, W: Write>(
+fn campaign_by_plan<H: Threads + Wait + Sync + AllocGlobal, W: Write>(
     rt: &H,
     options: &CampaignOptions,
-    programs: CampaignPrograms,
+    plan: CampaignPlan,
     writer: &mut W,
 ) -> Result<u8, Fault>
-    requires programs { AreProgramsOf options.now programs }
+    requires plan { IsPlanOf options.now plan }
     requires ranges { IsCampaignInRange options.now }
     ensures text { IfOk result (WritesWhole (IsCampaignText options.now) (W.contents writer.old) (W.contents writer.new)) }
     ensures fault { IfErr result (LeavesCampaignText options.now (W.contents writer.old) (W.contents writer.new)) }
 {
     let units = make_units(rt.alloc(), options.unit, options.count)?;
-    campaign_on(rt, options, programs, units, writer)
+    campaign_on(rt, options, plan, units, writer)
 }
 
 /// Runs the campaign over units, each of which is as the options ask for, and writes its text: the status.
 fn campaign_on<H: Threads + Wait + Sync + AllocGlobal, U: MemoryUnit + Send, W: Write>(
     rt: &H,
     options: &CampaignOptions,
-    programs: CampaignPrograms,
+    plan: CampaignPlan,
     units: Vec<U>,
     writer: &mut W,
 ) -> Result<u8, Fault>
-    requires programs { AreProgramsOf options.now programs }
+    requires plan { IsPlanOf options.now plan }
     requires units { map (λ unit. U.value_of unit) units.items ≡ replicate options.now.count (unit_of options.now.unit) }
     requires workers { HasWorkerRange options.now.workers }
     ensures text { IfOk result (WritesWhole (IsCampaignText options.now) (W.contents writer.old) (W.contents writer.new)) }
     ensures fault { IfErr result (LeavesCampaignText options.now (W.contents writer.old) (W.contents writer.new)) }
 {
-    let verdict = campaign_over(rt, rt.alloc(), programs, units, options.workers, writer)?;
+    let verdict = campaign_over(rt, rt.alloc(), plan, units, options.workers, writer)?;
     Ok(status_of(verdict))
 }

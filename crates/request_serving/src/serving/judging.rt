@@ -4,16 +4,20 @@ ghost use Rattle.command_line.specs.Requests.{asked_of};
 ghost use Rattle.command_line.specs.declared.requests.Request.TheVariants.{Judge};
 ghost use Rattle.trace_judging.specs.Limits.{trace_read_limit};
 ghost use Rattle.trace_judging.specs.Streams.{LosesPrefix};
+ghost use Rattle.trace_reports.specs.Renderings.{IsTextOfReader};
 ghost use Rattle.trace_judging.specs.WrittenReports.{LeavesAtFault, WritesWhole};
 ghost use Rattle.request_serving.specs.Internal.Ranges.{HasWorkerRange};
-ghost use Rattle.request_serving.specs.Endings.{IsPresented};
+ghost use Rattle.request_serving.specs.Endings.{IsPresented, refused_as, said_as};
+ghost use Rattle.request_serving.specs.NthTraces.{TakesTrace};
 ghost use Rattle.request_serving.specs.OpenedFiles.{OpensNext, files_named, name_in, text_bytes};
 
 use crate::files::{NamedFiles, open};
+use crate::serving::numbering::refuse_number;
 use command_line::{JudgeRequest, Presentation};
 use std::io::{Read, Write};
 use std::sync::Wait;
 use std::thread::Threads;
+use trace_batches::read_piece;
 use trace_explanation::AsExplanation;
 use trace_judging::{Fault, Verdict, judge, judge_with};
 use trace_pictures::AsPicture;
@@ -27,11 +31,11 @@ pub(crate) fn judge_named<H: Threads + Wait + Sync + AllocGlobal, O: NamedFiles,
     writer: &mut W,
 ) -> Result<Verdict, Fault>
     requires { HasWorkerRange request.now.workers }
-    ensures presented { let remaining = text_bytes (name_in request.now.file) (R.remaining reader.old) (O.bytes files.old) in IfOk result (WritesWhole (IsPresented request.now.presentation remaining) (W.contents writer.old) (W.contents writer.new)) }
-    ensures fault { let remaining = text_bytes (name_in request.now.file) (R.remaining reader.old) (O.bytes files.old) in IfErr result (LeavesAtFault (IsPresented request.now.presentation remaining) (W.contents writer.old) (W.contents writer.new)) }
+    ensures presented { let remaining = text_bytes (name_in request.now.file) (R.remaining reader.old) (O.bytes files.old) in IfOk result (WritesWhole (IsPresented request.now.presentation request.now.nth remaining) (W.contents writer.old) (W.contents writer.new)) }
+    ensures fault { let remaining = text_bytes (name_in request.now.file) (R.remaining reader.old) (O.bytes files.old) in IfErr result (LeavesAtFault (IsPresented request.now.presentation request.now.nth remaining) (W.contents writer.old) (W.contents writer.new)) }
     ensures opened { OpensNext (O.opened files.old) (O.opened files.new) (files_named (asked_of (Judge request.now))) }
     ensures unread { IfSome request.now.file (λ _. reader.new ≡ reader.old) }
-    ensures taken { request.now.file ≡ None → IfOk result (λ _. LosesPrefix trace_read_limit (R.remaining reader.old) (R.remaining reader.new)) }
+    ensures taken { request.now.file ≡ None → IfOk result (λ _. TakesTrace request.now.nth (R.remaining reader.old) (R.remaining reader.new)) }
 {
     match request.file {
         None => judge_reader(rt, request, reader, writer),
@@ -42,7 +46,8 @@ pub(crate) fn judge_named<H: Threads + Wait + Sync + AllocGlobal, O: NamedFiles,
     }
 }
 
-/// Judges the trace that a reader has, and writes the verdict in the form that the request asks for.
+/// Judges the trace that a reader has, or the one of a number among those that it has, and writes the verdict in the form that
+/// the request asks for.
 fn judge_reader<H: Threads + Wait + Sync + AllocGlobal, R: Read, W: Write>(
     rt: &H,
     request: &JudgeRequest<'_>,
@@ -50,8 +55,29 @@ fn judge_reader<H: Threads + Wait + Sync + AllocGlobal, R: Read, W: Write>(
     writer: &mut W,
 ) -> Result<Verdict, Fault>
     requires { HasWorkerRange request.now.workers }
-    ensures presented { IfOk result (WritesWhole (IsPresented request.now.presentation (R.remaining reader.old)) (W.contents writer.old) (W.contents writer.new)) }
-    ensures fault { IfErr result (LeavesAtFault (IsPresented request.now.presentation (R.remaining reader.old)) (W.contents writer.old) (W.contents writer.new)) }
+    ensures presented { IfOk result (WritesWhole (IsPresented request.now.presentation request.now.nth (R.remaining reader.old)) (W.contents writer.old) (W.contents writer.new)) }
+    ensures fault { IfErr result (LeavesAtFault (IsPresented request.now.presentation request.now.nth (R.remaining reader.old)) (W.contents writer.old) (W.contents writer.new)) }
+    ensures taken { IfOk result (λ _. TakesTrace request.now.nth (R.remaining reader.old) (R.remaining reader.new)) }
+{
+    match request.nth {
+        None => present(rt, request, reader, writer),
+        Some(number) => match read_piece(rt.alloc(), number, reader)? {
+            Some(piece) => present(rt, request, &mut piece.as_slice(), writer),
+            None => refuse_number(writer),
+        },
+    }
+}
+
+/// Judges the one trace that a reader has, and writes the verdict in the form that the request asks for.
+fn present<H: Threads + Wait + Sync + AllocGlobal, R: Read, W: Write>(
+    rt: &H,
+    request: &JudgeRequest<'_>,
+    reader: &mut R,
+    writer: &mut W,
+) -> Result<Verdict, Fault>
+    requires { HasWorkerRange request.now.workers }
+    ensures presented { IfOk result (WritesWhole (IsTextOfReader (said_as request.now.presentation) (refused_as request.now.presentation) (R.remaining reader.old)) (W.contents writer.old) (W.contents writer.new)) }
+    ensures fault { IfErr result (LeavesAtFault (IsTextOfReader (said_as request.now.presentation) (refused_as request.now.presentation) (R.remaining reader.old)) (W.contents writer.old) (W.contents writer.new)) }
     ensures taken { IfOk result (λ _. LosesPrefix trace_read_limit (R.remaining reader.old) (R.remaining reader.new)) }
 {
     let alloc = rt.alloc();

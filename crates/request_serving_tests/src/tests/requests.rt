@@ -1,13 +1,12 @@
 //! Requests over files in memory, which note the names that they are asked to open.
 
-ghost use Rattle.command_line.specs.Requests.{HasDrainTurns, HasUnitRanges, HasWorkers, asked_of};
+ghost use Rattle.command_line.specs.Requests.{HasDrainTurns, HasOneInput, HasUnitRanges, HasWorkers, asked_of};
 
 use super::{Ended, FailingReader, FailingWriter, expect};
 use command_line::{
-    JudgeRequest, LogForm, LogOptions, LogRequest, Presentation, Printing, Request, RunOptions,
-    RunRequest, TextPair, UnitKind, UnitOptions,
+    CheckRequest, JudgeRequest, LogForm, LogOptions, LogRequest, Presentation, Request, TextPair,
 };
-use request_serving::{NamedFiles, end_by, serve};
+use request_serving::{NamedFiles, drive_over, end_by, serve};
 use std::alloc::{AllocError, Global};
 use std::io;
 use std::io::{Error, ErrorKind, Read, Write};
@@ -84,21 +83,16 @@ fn files(alloc: Global) -> Result<MemoryFiles, AllocError> {
 /// What a request comes to: the names that are to be opened, the status, and what is written to the output and to the
 /// errors.
 #[derive(Clone, Copy)]
-struct Expected {
+pub(super) struct Expected {
     names: &'static [&'static str],
     status: u8,
     output: &'static str,
     errors: &'static str,
 }
 
-const READ: &str = "FAULT Read\n";
+pub(super) const READ: &str = "FAULT Read\n";
 
 const JUDGED: &str = "TSO REPORT 1\nprocessors 1 events 1 rounds 0\nVIOLATION\nunwritten 1\n";
-
-const RECORDED: &str = "tso trace 1\nproc\nst 1 1\nld 1 1\nend\n";
-
-const REPLAYED: &str =
-    "TSO REPORT 1\nprocessors 1 events 2 rounds 0\nNO VIOLATION FOUND\naccount loads 1 stores 1 swaps 0 membars 0 drains 1 closed\n";
 
 /// What a request comes to, where standard input fails.
 fn served<H: Threads + Wait + Sync + AllocGlobal>(
@@ -110,6 +104,7 @@ fn served<H: Threads + Wait + Sync + AllocGlobal>(
     requires workers { HasWorkers (asked_of request.now) }
     requires unit { HasUnitRanges (asked_of request.now) }
     requires turns { HasDrainTurns (asked_of request.now) }
+    requires input { HasOneInput (asked_of request.now) }
 {
     let mut written = Vec::new(alloc);
     let mut errors = Vec::new(alloc);
@@ -137,7 +132,7 @@ fn expect_opened<H: Abort>(rt: &H, files: &MemoryFiles, names: &[&str]) {
 }
 
 /// Compares what a request comes to, where standard input fails.
-fn compare<H: Threads + Wait + Sync + AllocGlobal + Abort>(
+pub(super) fn compare<H: Threads + Wait + Sync + AllocGlobal + Abort>(
     rt: &H,
     request: &Request<'_>,
     expected: Expected,
@@ -145,6 +140,7 @@ fn compare<H: Threads + Wait + Sync + AllocGlobal + Abort>(
     requires workers { HasWorkers (asked_of request.now) }
     requires unit { HasUnitRanges (asked_of request.now) }
     requires turns { HasDrainTurns (asked_of request.now) }
+    requires input { HasOneInput (asked_of request.now) }
 {
     let Expected {
         names,
@@ -159,7 +155,7 @@ fn compare<H: Threads + Wait + Sync + AllocGlobal + Abort>(
     Ok(())
 }
 
-fn outcome(
+pub(super) fn outcome(
     names: &'static [&'static str],
     status: u8,
     output: &'static str,
@@ -179,21 +175,84 @@ fn judging(rt: HostRuntime) -> Result<(), Fail> {
     let named = Request::Judge(JudgeRequest {
         file: Some("trace"),
         workers: 2,
+        nth: None,
         presentation,
     });
     compare(&rt, &named, outcome(&["trace"], 3, JUDGED, ""))?;
     let missing = Request::Judge(JudgeRequest {
         file: Some("other"),
         workers: 1,
+        nth: None,
         presentation,
     });
     compare(&rt, &missing, outcome(&["other"], 4, "", READ))?;
     let input = Request::Judge(JudgeRequest {
         file: None,
         workers: 64,
+        nth: None,
         presentation,
     });
     compare(&rt, &input, outcome(&[], 4, "", READ))
+}
+
+/// What a batch of the trace, of a text that is none and of the trace prints.
+const BATCHED: &str =
+    "trace: trace 1 VIOLATION\nlog: trace 1 REFUSED BadHeader line 1\ntrace: trace 1 VIOLATION\ntraces 3 violations 2 refused 1\n";
+
+/// Compares what arguments come to, where standard input fails.
+fn compare_arguments<H: Threads + Wait + Sync + AllocGlobal + Abort>(
+    rt: &H,
+    arguments: &[&str],
+    expected: Expected,
+) -> Result<(), Fail> {
+    let alloc = rt.alloc();
+    let mut owned = Vec::new(alloc);
+    for argument in arguments {
+        owned.push(String::from_str(alloc, argument)?)?;
+    }
+    let mut files = files(alloc)?;
+    let mut written = Vec::new(alloc);
+    let mut errors = Vec::new(alloc);
+    let mut reader = FailingReader;
+    let status = drive_over(
+        rt,
+        &owned,
+        &mut files,
+        &mut reader,
+        &mut written,
+        &mut errors,
+    );
+    let ended = Ended {
+        status,
+        written,
+        errors,
+    };
+    let names = expected.names;
+    expect(
+        rt,
+        names,
+        &ended,
+        expected.status,
+        expected.output,
+        expected.errors,
+    );
+    expect_opened(rt, &files, names);
+    Ok(())
+}
+
+/// Each file is opened when its turn comes: none after one that can't be, or after standard input that fails.
+#[test]
+fn batches_of_files(rt: HostRuntime) -> Result<(), Fail> {
+    let line = "trace 1 VIOLATION\ntraces 1 violations 1 refused 0\n";
+    let one = outcome(&["trace"], 3, line, "");
+    compare_arguments(&rt, &["batch", "trace"], one)?;
+    let three = outcome(&["trace", "log", "trace"], 3, BATCHED, "");
+    compare_arguments(&rt, &["batch", "trace", "log", "trace"], three)?;
+    let line = "trace: trace 1 VIOLATION\n";
+    let missing = outcome(&["trace", "other"], 4, line, READ);
+    compare_arguments(&rt, &["batch", "trace", "other", "log"], missing)?;
+    let input = outcome(&["trace"], 4, line, READ);
+    compare_arguments(&rt, &["batch", "trace", "-", "log"], input)
 }
 
 /// The report on the log.
@@ -223,14 +282,24 @@ fn logging(rt: HostRuntime) -> Result<(), Fail> {
     compare(&rt, &input, outcome(&[], 4, "", READ))
 }
 
+/// The request to check a certificate against the one trace of its text.
+fn check<'a>(texts: TextPair<'a>) -> Request<'a>
+    ensures workers { HasWorkers (asked_of result) }
+    ensures unit { HasUnitRanges (asked_of result) }
+    ensures turns { HasDrainTurns (asked_of result) }
+    ensures input { HasOneInput (asked_of result) }
+{
+    Request::Check(CheckRequest { texts, nth: None })
+}
+
 #[test]
 fn checking(rt: HostRuntime) -> Result<(), Fail> {
-    let both = Request::Check(TextPair::Files("trace", "certificate"));
+    let both = check(TextPair::Files("trace", "certificate"));
     let holds = outcome(&["trace", "certificate"], 3, "CERTIFICATE HOLDS\n", "");
     compare(&rt, &both, holds)?;
-    let no_trace = Request::Check(TextPair::Files("other", "certificate"));
+    let no_trace = check(TextPair::Files("other", "certificate"));
     compare(&rt, &no_trace, outcome(&["other"], 4, "", READ))?;
-    let no_certificate = Request::Check(TextPair::Files("certificate", "other"));
+    let no_certificate = check(TextPair::Files("certificate", "other"));
     compare(
         &rt,
         &no_certificate,
@@ -241,155 +310,13 @@ fn checking(rt: HostRuntime) -> Result<(), Fail> {
 /// A certificate on standard input isn't read where the trace is refused; a trace is read first.
 #[test]
 fn checking_with_standard_input(rt: HostRuntime) -> Result<(), Fail> {
-    let unread = Request::Check(TextPair::FileAndInput("certificate"));
+    let unread = check(TextPair::FileAndInput("certificate"));
     let refused = outcome(&["certificate"], 2, "REFUSED BadHeader line 1\n", "");
     compare(&rt, &unread, refused)?;
-    let certificate = Request::Check(TextPair::FileAndInput("trace"));
+    let certificate = check(TextPair::FileAndInput("trace"));
     compare(&rt, &certificate, outcome(&["trace"], 4, "", READ))?;
-    let trace = Request::Check(TextPair::InputAndFile("certificate"));
+    let trace = check(TextPair::InputAndFile("certificate"));
     compare(&rt, &trace, outcome(&["certificate"], 4, "", READ))
-}
-
-/// The request to replay these files on a serial unit.
-fn replay<'a>(program: &'a str, schedule: &'a str, printing: Printing) -> Request<'a>
-    ensures workers { HasWorkers (asked_of result) }
-    ensures unit { HasUnitRanges (asked_of result) }
-    ensures turns { HasDrainTurns (asked_of result) }
-{
-    replay_on(UnitKind::Serial, program, schedule, printing)
-}
-
-/// The request to replay these files on a unit of this kind.
-fn replay_on<'a>(
-    kind: UnitKind,
-    program: &'a str,
-    schedule: &'a str,
-    printing: Printing,
-) -> Request<'a>
-    ensures workers { HasWorkers (asked_of result) }
-    ensures unit { HasUnitRanges (asked_of result) }
-    ensures turns { HasDrainTurns (asked_of result) }
-{
-    let unit = UnitOptions {
-        kind,
-        capacity: 8,
-        trigger: 1,
-    };
-    let options = RunOptions {
-        unit,
-        workers: 2,
-        printing,
-    };
-    Request::Replay {
-        options,
-        texts: TextPair::Files(program, schedule),
-    }
-}
-
-#[test]
-fn replaying(rt: HostRuntime) -> Result<(), Fail> {
-    let both = replay("program", "schedule", Printing::Report);
-    compare(
-        &rt,
-        &both,
-        outcome(&["program", "schedule"], 0, REPLAYED, ""),
-    )?;
-    let recorded = replay("program", "schedule", Printing::Trace);
-    compare(
-        &rt,
-        &recorded,
-        outcome(&["program", "schedule"], 0, RECORDED, ""),
-    )?;
-    let no_program = replay("other", "schedule", Printing::Report);
-    compare(&rt, &no_program, outcome(&["other"], 4, "", READ))?;
-    let no_schedule = replay("trace", "other", Printing::Report);
-    compare(&rt, &no_schedule, outcome(&["trace", "other"], 4, "", READ))?;
-    let refused = replay("trace", "schedule", Printing::Report);
-    compare(
-        &rt,
-        &refused,
-        outcome(&["trace", "schedule"], 2, "REFUSED BadHeader line 1\n", ""),
-    )?;
-    let refused_schedule = replay("program", "trace", Printing::Trace);
-    compare(
-        &rt,
-        &refused_schedule,
-        outcome(&["program", "trace"], 2, "REFUSED BadHeader line 1\n", ""),
-    )
-}
-
-/// A serial unit, two workers, and the report.
-const SERIAL: RunOptions = RunOptions {
-    unit: UnitOptions {
-        kind: UnitKind::Serial,
-        capacity: 8,
-        trigger: 1,
-    },
-    workers: 2,
-    printing: Printing::Report,
-};
-
-/// A schedule on standard input isn't read where the program is refused; a program is read first.
-#[test]
-fn programs_and_schedules_on_standard_input(rt: HostRuntime) -> Result<(), Fail> {
-    let unread = Request::Replay {
-        options: SERIAL,
-        texts: TextPair::FileAndInput("trace"),
-    };
-    let refused = outcome(&["trace"], 2, "REFUSED BadHeader line 1\n", "");
-    compare(&rt, &unread, refused)?;
-    let schedule = Request::Replay {
-        options: SERIAL,
-        texts: TextPair::FileAndInput("program"),
-    };
-    compare(&rt, &schedule, outcome(&["program"], 4, "", READ))?;
-    let program = Request::Replay {
-        options: SERIAL,
-        texts: TextPair::InputAndFile("schedule"),
-    };
-    compare(&rt, &program, outcome(&["schedule"], 4, "", READ))?;
-    let run = Request::Run(RunRequest {
-        options: SERIAL,
-        drain_seed: 1,
-        drain_turns: 0,
-        program: None,
-    });
-    compare(&rt, &run, outcome(&[], 4, "", READ))
-}
-
-/// The report of the example `pso_message_passing`, and the account.
-const UNDER_PSO: &str =
-    "TSO REPORT 1\nprocessors 2 events 4 rounds 1\nNO VIOLATION FOUND\naccount loads 2 stores 2 swaps 0 membars 0 drains 2 closed\n";
-
-/// The report of the example `message_passing_stale`, and the account.
-const UNDER_TSO: &str =
-    "TSO REPORT 1\nprocessors 2 events 4 rounds 1\nVIOLATION\n1 init 1 Init\n2 1 2 StoreStore\n3 2 3 Read\n4 3 4 LoadOp\n5 1 init LoadPast 4 1 2 3 4\ncycle init 1\naccount loads 2 stores 2 swaps 0 membars 0 drains 2 closed\n";
-
-/// The unit `partial` drains the second store first, which PSO allows and TSO does not.
-#[test]
-fn replaying_on_a_partial_unit(rt: HostRuntime) -> Result<(), Fail> {
-    let under_pso = replay_on(
-        UnitKind::Partial,
-        "pso_stores",
-        "one_drain",
-        Printing::Report,
-    );
-    compare(
-        &rt,
-        &under_pso,
-        outcome(&["pso_stores", "one_drain"], 0, UNDER_PSO, ""),
-    )?;
-    let under_tso = replay_on(
-        UnitKind::Partial,
-        "tso_stores",
-        "one_drain",
-        Printing::Report,
-    );
-    compare(
-        &rt,
-        &under_tso,
-        outcome(&["tso_stores", "one_drain"], 3, UNDER_TSO, ""),
-    )
 }
 
 #[test]
@@ -410,6 +337,7 @@ fn served_to_a_failing_writer<H: Threads + Wait + Sync + AllocGlobal, E: Write>(
     requires workers { HasWorkers (asked_of request.now) }
     requires unit { HasUnitRanges (asked_of request.now) }
     requires turns { HasDrainTurns (asked_of request.now) }
+    requires input { HasOneInput (asked_of request.now) }
 {
     serve(
         rt,

@@ -1,13 +1,14 @@
 //! Streams, how they are cut, and what is written of their pieces.
 ghost use Rattle.std.specs.Prelude.{◌≤◌};
 
-use super::{STREAM, TEXT, expect, judged_by};
+use super::{STREAM, TEXT, expect, judged_by, options};
 use std::alloc::Global;
 use std::sync::Wait;
 use std::test::Fail;
 use std::thread::Threads;
-use trace_batches::{BatchOptions, judge_batch};
+use trace_batches::judge_batch;
 use trace_judging::Verdict;
+use traces_for_tests::expect_equal;
 
 /// A stream, its verdict and the text of its batch.
 type Case = (&'static str, Verdict, &'static str);
@@ -78,9 +79,12 @@ fn expect_batch<H: Threads + Wait + Sync>(
     (stream, verdict, text): Case,
 ) -> Result<(), Fail> {
     let mut written = Vec::new(alloc);
-    let options = BatchOptions { workers: 1, quiet };
-    let said = judge_batch(rt, alloc, options, &mut stream.as_bytes(), &mut written);
-    expect(case, said, Ok(verdict), &written, text.as_bytes())
+    let mut errors = Vec::new(alloc);
+    let options = options(1, quiet, false);
+    let reader = &mut stream.as_bytes();
+    let said = judge_batch(rt, alloc, options, reader, &mut written, &mut errors);
+    expect(case, said, Ok(verdict), &written, text.as_bytes())?;
+    expect_equal(case, errors.as_slice(), b"".as_slice())
 }
 
 #[test]

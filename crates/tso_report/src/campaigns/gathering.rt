@@ -1,63 +1,77 @@
 //! What is known of a campaign's seeds while their results come in.
-ghost use Rattle.std.specs.Prelude.{◌≡◌, ◌≢◌, ◌⊎◌, ◌+◌, ◌<◌, ◌≤◌, ◌^◌, ℕ, List, false, None, IfOk, IfErr, IfSome, MatchOption, length, get_or, map, unwrap_or};
-ghost use Rattle.tso_report.specs.Campaigns.{AreVerdicts};
-ghost use Rattle.tso_report.specs.Internal.Gathering.{AreUnitsFrom, IsGathered, IsLeastMissing, KeepsSeeds};
+ghost use Rattle.std.specs.Prelude.{◌≡◌, ◌≢◌, ◌⊎◌, ◌+◌, ◌<◌, ◌≤◌, ◌^◌, ℕ, List, [], false, None, IfOk, IfErr, IfSome, MatchOption, length, get_or, map, replicate, unwrap_or};
+ghost use Rattle.tso_ops.specs.Values.{rows};
+ghost use Rattle.tso_report.specs.Internal.Gathering.{AreKnown, AreUnitsFrom, IsGathered, IsLeastMissing, KeepsSeeds};
 ghost use Rattle.trace_judging.specs.declared.faults.Fault.{Fault};
 ghost use Rattle.unit_core.specs.Units.{UnitValue};
 
-use super::CampaignPrograms;
+use super::CampaignPlan;
 use super::seeds::{JobResult, Judged, SeedUnits};
 use std::alloc::Global;
 use std::marker::{Model, PhantomData};
 use trace_judging::Fault;
 use tso_ops::OutOfMemory;
 
-/// The verdicts of a campaign's seeds, as far as they came, and which faults came.
+/// What is known of all seeds of a campaign, in their order.
+#[derive(Drop)]
+pub(crate) struct Known {
+    /// Whether the trace of each seed is a violation.
+    pub violations: Vec<bool>,
+    /// The text of each trace, where traces are printed.
+    pub texts: Vec<Vec<u8>>,
+}
+
+/// What is said of a campaign's seeds, as far as it came, and which faults came.
 #[derive(Drop)]
 pub(crate) struct Gathered<S: SeedUnits> {
-    programs: CampaignPrograms,
+    plan: CampaignPlan,
     /// Whether the trace of each seed is a violation.
     violations: Vec<Option<bool>>,
+    /// The text of each trace, where traces are printed.
+    texts: Vec<Vec<u8>>,
     met_out_of_memory: bool,
     met_no_thread: bool,
     of: PhantomData<S>,
 }
 
 impl<S: SeedUnits> Model for Gathered<S> {
+    ghost use Rattle.tso_ops.specs.Values.{rows};
     ghost use Rattle.tso_report.specs.Internal.Gathering.{GatheredValue, IsGathered};
 
     ghost Value = { GatheredValue };
 
-    ghost view = { λ g. record { programs = g.programs; violations = g.violations.items } };
+    ghost view = { λ g. record { plan = g.plan; violations = g.violations.items; texts = rows g.texts.items } };
 
-    ghost invariant = { λ g. IsGathered S.unit_of (record { programs = g.programs; violations = g.violations.items }) };
+    ghost invariant = { λ g. IsGathered S.unit_of (record { plan = g.plan; violations = g.violations.items; texts = rows g.texts.items }) };
 }
 
 impl<S: SeedUnits> Gathered<S> {
     /// Nothing is known of so many seeds.
     pub(crate) fn new(
         alloc: Global,
-        programs: CampaignPrograms,
+        plan: CampaignPlan,
         seeds: usize,
     ) -> Result<Gathered<S>, OutOfMemory>
-        requires { programs.first + seeds ≤ 2 ^ 64 }
-        ensures { IfOk result (λ g. (g.programs ≡ programs) × (length g.violations ≡ seeds)) }
+        requires { plan.first + seeds ≤ 2 ^ 64 }
+        ensures { IfOk result (λ g. (g.plan ≡ plan) × (length g.violations ≡ seeds)) }
     {
         let violations = vec![in alloc; None; seeds]?;
+        let texts = no_texts(alloc, seeds)?;
         Ok(Gathered {
-            programs,
+            plan,
             violations,
+            texts,
             met_out_of_memory: false,
             met_no_thread: false,
             of: PhantomData,
         })
     }
 
-    /// Which programs the campaign runs.
-    pub(crate) fn programs(&self) -> CampaignPrograms
-        ensures { result ≡ self.now.programs }
+    /// The plan of the campaign.
+    pub(crate) fn plan(&self) -> CampaignPlan
+        ensures { result ≡ self.now.plan }
     {
-        self.programs
+        self.plan
     }
 
     /// Takes a result in. One of a strange seed is dropped, and so is a second one of a seed.
@@ -70,18 +84,20 @@ impl<S: SeedUnits> Gathered<S> {
         }
     }
 
-    /// Takes the verdict on a record in. That of a program of another campaign is dropped.
+    /// Takes what is said of a seed in. What is by another plan is dropped.
     fn accept_verdict(&mut self, judged: Judged<S>)
         ensures { KeepsSeeds self.old self.new }
     {
         let Some(i) = self.place_of(judged.seed()) else {
             return;
         };
-        if !judged.is_of(&self.programs) {
+        if !judged.is_of(&self.plan) {
             return;
         }
         if self.violations[i].is_none() {
-            self.violations[i] = Some(judged.violation());
+            let (violation, text) = judged.into_parts();
+            self.violations[i] = Some(violation);
+            self.texts[i] = text;
         }
     }
 
@@ -101,9 +117,9 @@ impl<S: SeedUnits> Gathered<S> {
 
     /// The place of a seed, or None where it is a strange one.
     fn place_of(&self, seed: u64) -> Option<usize>
-        ensures { IfSome result (λ i. (self.now.programs.first + i ≡ seed) × (i < length self.now.violations)) }
+        ensures { IfSome result (λ i. (self.now.plan.first + i ≡ seed) × (i < length self.now.violations)) }
     {
-        let after = seed.checked_sub(self.programs.first)?;
+        let after = seed.checked_sub(self.plan.first)?;
         if after < self.violations.len() as u64 {
             Some(after as usize)
         } else {
@@ -111,11 +127,11 @@ impl<S: SeedUnits> Gathered<S> {
         }
     }
 
-    /// The verdicts, in the order of the seeds. OutOfMemory where a result said so or an allocation was refused, NoThread
+    /// What is known of all seeds, in their order. OutOfMemory where a result said so or an allocation was refused, NoThread
     /// where a result said so; else Missing with the least seed that has no verdict.
-    pub(crate) fn violations(self, alloc: Global) -> Result<Vec<bool>, Fault>
-        ensures verdicts { (units : List UnitValue) → length units ≡ length self.violations → AreUnitsFrom S.unit_of self.programs.first units → IfOk result (λ violations. AreVerdicts self.programs units violations.items) }
-        ensures fault { IfErr result (λ fault. (fault ≡ Fault.OutOfMemory) ⊎ (fault ≡ Fault.NoThread) ⊎ ((i : ℕ) × IsLeastMissing self.violations i × (fault ≡ Fault.Missing (self.programs.first + i)))) }
+    pub(crate) fn known(self, alloc: Global) -> Result<Known, Fault>
+        ensures known { (units : List UnitValue) → length units ≡ length self.violations → AreUnitsFrom S.unit_of self.plan.first units → IfOk result (λ known. AreKnown self.plan units known.violations.items (rows known.texts.items)) }
+        ensures fault { IfErr result (λ fault. (fault ≡ Fault.OutOfMemory) ⊎ (fault ≡ Fault.NoThread) ⊎ ((i : ℕ) × IsLeastMissing self.violations i × (fault ≡ Fault.Missing (self.plan.first + i)))) }
     {
         if self.met_out_of_memory {
             return Err(Fault::OutOfMemory);
@@ -124,8 +140,11 @@ impl<S: SeedUnits> Gathered<S> {
             return Err(Fault::NoThread);
         }
         match least_missing(&self.violations) {
-            Some(i) => Err(Fault::Missing(self.programs.first + i as u64)),
-            None => Ok(known(alloc, &self.violations)?),
+            Some(i) => Err(Fault::Missing(self.plan.first + i as u64)),
+            None => Ok(Known {
+                violations: verdicts(alloc, &self.violations)?,
+                texts: self.texts,
+            }),
         }
     }
 }
@@ -143,7 +162,7 @@ fn least_missing(violations: &[Option<bool>]) -> Option<usize>
 }
 
 /// The verdicts, where all are known, or OutOfMemory where an allocation was refused.
-fn known(alloc: Global, violations: &[Option<bool>]) -> Result<Vec<bool>, OutOfMemory>
+fn verdicts(alloc: Global, violations: &[Option<bool>]) -> Result<Vec<bool>, OutOfMemory>
     ensures { IfOk result (λ known. known.items ≡ map (λ violation. unwrap_or violation false) violations.now) }
 {
     let mut known = Vec::with_capacity(alloc, violations.len())?;
@@ -151,4 +170,15 @@ fn known(alloc: Global, violations: &[Option<bool>]) -> Result<Vec<bool>, OutOfM
         known.push(violation.unwrap_or(false))?;
     }
     Ok(known)
+}
+
+/// So many empty texts, or OutOfMemory where an allocation was refused.
+fn no_texts(alloc: Global, count: usize) -> Result<Vec<Vec<u8>>, OutOfMemory>
+    ensures { IfOk result (λ texts. rows texts.items ≡ replicate count []) }
+{
+    let mut texts = Vec::with_capacity(alloc, count)?;
+    for _ in 0..count {
+        texts.push(Vec::new(alloc))?;
+    }
+    Ok(texts)
 }

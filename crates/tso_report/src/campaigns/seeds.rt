@@ -1,11 +1,13 @@
-//! One seed of a campaign: its program is drawn and run on a unit, and the record is judged.
+//! One seed of a campaign: its program is drawn and run or replayed on a unit, and the record is judged.
 ghost use Rattle.std.specs.Prelude.{◌≡◌, [], Decides, IfOk};
 ghost use Rattle.unit_core.specs.Units.{UnitValue};
-ghost use Rattle.tso_report.specs.Campaigns.{IsVerdictOfSeed, program_of_seed, program_of_seed_with_order};
-ghost use Rattle.tso_report.specs.Internal.Gathering.{fault_of_seed};
+ghost use Rattle.issue_desk.specs.Running.{IsRunOf};
+ghost use Rattle.tso_report.specs.Campaigns.{IsRecordOfReplay, IsRecordOfSeed, program_of_seed, program_of_seed_with_order, schedule_of_seed};
+ghost use Rattle.tso_report.specs.Internal.Gathering.{IsKept, IsKnown, fault_of_seed};
 
-use super::CampaignPrograms;
-use issue_desk::{Issuers, OpenGate, RunFault, run_over};
+use super::schedules::seeded_schedule;
+use super::{CampaignPlan, CampaignPrinting, Execution};
+use issue_desk::{Issuers, OpenGate, RunFault, RunThreads, run_with_drainer_over};
 use rand_core::SeedableRng;
 use rand_pcg::Pcg64;
 use std::alloc::Global;
@@ -14,8 +16,12 @@ use std::sync::Wait;
 use std::thread::Threads;
 use trace_judging::{Fault, judge_trace};
 use trace_reports::AsReport;
-use tso_ops::{Order, OutOfMemory, Program, Shape, Trace, make_program_with_order};
-use unit_core::{Account, MemoryUnit};
+use tso_ops::{Act, Order, OutOfMemory, Program, Shape, Trace, make_program_with_order};
+use tso_text::print_trace;
+use unit_core::{Account, MemoryUnit, Recorded, replay_over};
+
+/// How many turns a drainer takes at most.
+const MAX_DRAIN_TURNS: u64 = 1_000_000;
 
 /// The unit of each seed. Each campaign picks them.
 pub(crate) trait SeedUnits {
@@ -26,7 +32,7 @@ pub(crate) trait SeedUnits {
 }
 
 impl SeedUnits for Brand {
-    ghost use Rattle.tso_report.specs.Campaigns.{no_unit};
+    ghost use Rattle.tso_report.specs.Internal.Gathering.{no_unit};
 
     ghost unit_of = { λ seed. no_unit };
 }
@@ -41,24 +47,26 @@ pub(crate) struct Job<S: SeedUnits, U: MemoryUnit> {
     ghost is: { U.value_of unit ≡ S.unit_of seed },
 }
 
-/// What is said of a seed of these programs: whether the trace recorded on its unit is a violation.
+/// What is said of a seed by this plan.
 #[derive(Drop)]
 pub(crate) struct Judged<S: SeedUnits> {
     seed: u64,
-    programs: CampaignPrograms,
+    plan: CampaignPlan,
+    /// Whether the trace recorded on its unit is a violation.
     violation: bool,
+    /// The text of that trace, where the plan has traces printed.
+    text: Vec<u8>,
     of: PhantomData<S>,
 }
 
 impl<S: SeedUnits> Model for Judged<S> {
-    ghost use Rattle.tso_report.specs.Campaigns.{IsVerdictOfSeed};
-    ghost use Rattle.tso_report.specs.Internal.Gathering.{JudgedValue};
+    ghost use Rattle.tso_report.specs.Internal.Gathering.{IsKnown, JudgedValue};
 
     ghost Value = { JudgedValue };
 
-    ghost view = { λ j. record { seed = j.seed; programs = j.programs; violation = j.violation } };
+    ghost view = { λ j. record { seed = j.seed; plan = j.plan; violation = j.violation; text = j.text.items } };
 
-    ghost invariant = { λ j. IsVerdictOfSeed j.programs j.seed (S.unit_of j.seed) j.violation };
+    ghost invariant = { λ j. IsKnown j.plan j.seed (S.unit_of j.seed) j.violation j.text.items };
 }
 
 impl<S: SeedUnits> Judged<S> {
@@ -69,19 +77,18 @@ impl<S: SeedUnits> Judged<S> {
         self.seed
     }
 
-    /// Whether the program of the seed was one of these.
-    pub(crate) fn is_of(&self, programs: &CampaignPrograms) -> bool
-        ensures { Decides result (self.now.programs ≡ programs.now) }
+    /// Whether it is by this plan.
+    pub(crate) fn is_of(&self, plan: &CampaignPlan) -> bool
+        ensures { Decides result (self.now.plan ≡ plan.now) }
     {
-        self.programs.are_same(programs)
+        self.plan.are_same(plan)
     }
 
-    /// Whether the trace of the record is a violation.
-    pub(crate) fn violation(&self) -> bool
-        ensures is { result ≡ self.now.violation }
-        ensures said { IsVerdictOfSeed self.now.programs self.now.seed (S.unit_of self.now.seed) self.now.violation }
+    /// Whether the trace is a violation, and the text that is kept of it.
+    pub(crate) fn into_parts(self) -> (bool, Vec<u8>)
+        ensures { IsKnown self.plan self.seed (S.unit_of self.seed) result.0 result.1.items }
     {
-        self.violation
+        (self.violation, self.text)
     }
 }
 
@@ -126,15 +133,15 @@ pub(crate) fn job_of<S: SeedUnits, U: MemoryUnit>(seed: u64, unit: U) -> Job<S, 
     }
 }
 
-/// Does a job: runs the program of its seed, one of these, on its unit, and judges the record with one worker.
+/// Does a job: executes the program of its seed on its unit as the plan says, and judges the record with one worker.
 pub(crate) fn result_of<S: SeedUnits, U: MemoryUnit + Send, R: Threads + Wait + Sync>(
     rt: &R,
     alloc: Global,
-    programs: CampaignPrograms,
+    plan: CampaignPlan,
     job: Job<S, U>,
 ) -> JobResult<S> {
     let seed = job.seed;
-    match judge_seed(rt, alloc, programs, job) {
+    match judge_seed(rt, alloc, plan, job) {
         Ok(judged) => JobResult::Judged(judged),
         Err(fault) => JobResult::Failed { seed, fault },
     }
@@ -145,27 +152,99 @@ pub(crate) fn result_of<S: SeedUnits, U: MemoryUnit + Send, R: Threads + Wait + 
 fn judge_seed<S: SeedUnits, U: MemoryUnit + Send, R: Threads + Wait + Sync>(
     rt: &R,
     alloc: Global,
-    programs: CampaignPrograms,
+    plan: CampaignPlan,
     job: Job<S, U>,
 ) -> Result<Judged<S>, Fault> {
     let Job { seed, unit, .. } = job;
-    let program = seeded_program_with_order(alloc, programs.order, seed, programs.shape)?;
+    let recorded = record_of_seed(rt, alloc, &plan, seed, unit)?;
+    let verdict = judge_trace(rt, alloc, recorded.trace(), 1, &AsReport)?.verdict;
+    let text = kept_text(alloc, plan.printing, recorded.trace())?;
+    Ok(Judged {
+        seed,
+        plan,
+        violation: verdict.is_violation(),
+        text,
+        of: PhantomData,
+    })
+}
+
+/// The text of a trace, where traces are printed, or else nothing.
+fn kept_text(
+    alloc: Global,
+    printing: CampaignPrinting,
+    trace: &Trace,
+) -> Result<Vec<u8>, OutOfMemory>
+    ensures { IfOk result (λ text. IsKept printing text.items trace.now) }
+{
+    match printing {
+        CampaignPrinting::Lines => Ok(Vec::new(alloc)),
+        CampaignPrinting::Traces => Ok(print_trace(alloc, trace)?.into_bytes()),
+    }
+}
+
+/// Runs or replays the program of a seed on its unit, as the plan says: the record.
+fn record_of_seed<U: MemoryUnit + Send, R: Threads + Wait + Sync>(
+    rt: &R,
+    alloc: Global,
+    plan: &CampaignPlan,
+    seed: u64,
+    unit: U,
+) -> Result<Recorded, Fault>
+    requires { (U.value_of unit).steps ≡ [] }
+    ensures { IfOk result (IsRecordOfSeed plan.now.execution plan.now seed (U.value_of unit)) }
+{
+    let program = seeded_program_with_order(alloc, plan.order, seed, plan.shape)?;
+    match plan.execution {
+        Execution::Threads { drain_turns } => {
+            run_program(rt, alloc, &program, seed, drain_turns, unit)
+        }
+        Execution::Replay => {
+            let schedule = seeded_schedule(alloc, seed, plan.shape)?;
+            Ok(replay_program(alloc, &program, &schedule, unit)?)
+        }
+    }
+}
+
+/// Runs the program of a seed on this unit by a thread per processor, with drains by the seed, beside a drainer that takes
+/// so many turns: the record.
+fn run_program<U: MemoryUnit + Send, R: Threads + Wait + Sync>(
+    rt: &R,
+    alloc: Global,
+    program: &Program,
+    seed: u64,
+    drain_turns: u64,
+    unit: U,
+) -> Result<Recorded, Fault>
+    requires { (U.value_of unit).steps ≡ [] }
+    ensures { IfOk result (IsRunOf program.now (U.value_of unit)) }
+{
     let issuers = Issuers {
         gate: &OpenGate,
         drain_seed: seed,
     };
-    let mut account = Account::new();
-    let recorded = match run_over(rt, alloc, &program, unit, issuers, &mut account) {
-        Ok(recorded) => recorded,
-        Err(fault) => return Err(fault_of_seed(seed, fault)),
+    let threads = RunThreads {
+        issuers,
+        turns: drain_turns.min(MAX_DRAIN_TURNS),
     };
-    let verdict = judge_trace(rt, alloc, recorded.trace(), 1, &AsReport)?.verdict;
-    Ok(Judged {
-        seed,
-        programs,
-        violation: verdict.is_violation(),
-        of: PhantomData,
-    })
+    let mut account = Account::new();
+    match run_with_drainer_over(rt, alloc, program, unit, threads, &mut account) {
+        Ok(recorded) => Ok(recorded),
+        Err(fault) => Err(fault_of_seed(seed, fault)),
+    }
+}
+
+/// Replays the program by the schedule on this unit: the record. OutOfMemory as `replay_over` has it.
+fn replay_program<U: MemoryUnit>(
+    alloc: Global,
+    program: &Program,
+    schedule: &[Act],
+    unit: U,
+) -> Result<Recorded, OutOfMemory>
+    requires { (U.value_of unit).steps ≡ [] }
+    ensures { IfOk result (IsRecordOfReplay program.now schedule.now (U.value_of unit)) }
+{
+    let mut account = Account::new();
+    replay_over(alloc, unit, program, schedule, &mut account)
 }
 
 /// The fault of a seed whose run gave no record.

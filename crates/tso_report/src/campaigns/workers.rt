@@ -4,7 +4,7 @@ ghost use Rattle.tso_report.specs.Limits.{seed_count_limit};
 ghost use Rattle.tso_report.specs.Internal.Gathering.{AreUnitsFrom, KeepsSeeds};
 ghost use Rattle.trace_judging.specs.declared.faults.Fault.{Fault};
 
-use super::CampaignPrograms;
+use super::CampaignPlan;
 use super::gathering::Gathered;
 use super::seeds::{Job, JobResult, SeedUnits, job_of, result_of};
 use crossbeam_channel::{Receiver, Sender, bounded};
@@ -36,7 +36,7 @@ pub(super) fn gather<S: SeedUnits + Send, U: MemoryUnit + Send, R: Threads + Wai
     requires most { length units.items ≤ seed_count_limit }
     requires one_each { length units.items ≡ length gathered.violations }
     requires untouched { All (λ unit. (U.value_of unit).steps ≡ []) units.items }
-    requires units { AreUnitsFrom S.unit_of gathered.programs.first (map (λ unit. U.value_of unit) units.items) }
+    requires units { AreUnitsFrom S.unit_of gathered.plan.first (map (λ unit. U.value_of unit) units.items) }
     ensures seeds { IfOk result (KeepsSeeds gathered) }
     ensures fault { IfErr result (λ fault. (fault ≡ Fault.OutOfMemory) ⊎ (fault ≡ Fault.NoThread)) }
 {
@@ -50,7 +50,7 @@ pub(super) fn gather<S: SeedUnits + Send, U: MemoryUnit + Send, R: Threads + Wai
             requires most { length units.items ≤ seed_count_limit }
             requires one_each { length units.items ≡ length gathered.violations }
             requires untouched { All (λ unit. (U.value_of unit).steps ≡ []) units.items }
-            requires units { AreUnitsFrom S.unit_of gathered.programs.first (map (λ unit. U.value_of unit) units.items) }
+            requires units { AreUnitsFrom S.unit_of gathered.plan.first (map (λ unit. U.value_of unit) units.items) }
             ensures seeds { IfOk result (KeepsSeeds gathered) }
             ensures fault { IfErr result (λ fault. (fault ≡ Fault.OutOfMemory) ⊎ (fault ≡ Fault.NoThread)) }
         { gather_in(scope, rt, alloc, gathered, units, workers) },
@@ -68,15 +68,15 @@ fn gather_in<'s, E, S: SeedUnits + Send + 's, U: MemoryUnit + Send + 's, R: Thre
     requires most { length units.items ≤ seed_count_limit }
     requires one_each { length units.items ≡ length gathered.violations }
     requires untouched { All (λ unit. (U.value_of unit).steps ≡ []) units.items }
-    requires units { AreUnitsFrom S.unit_of gathered.programs.first (map (λ unit. U.value_of unit) units.items) }
+    requires units { AreUnitsFrom S.unit_of gathered.plan.first (map (λ unit. U.value_of unit) units.items) }
     ensures seeds { IfOk result (KeepsSeeds gathered) }
     ensures fault { IfErr result (λ fault. (fault ≡ Fault.OutOfMemory) ⊎ (fault ≡ Fault.NoThread)) }
 {
-    let programs = gathered.programs();
-    let first = programs.first;
+    let plan = gathered.plan();
+    let first = plan.first;
     let (to_workers, jobs) = bounded(alloc, workers)?;
     let (results, from_workers) = bounded(alloc, units.len())?;
-    start_workers(scope, rt, alloc, programs, Ends { jobs, results }, workers)?;
+    start_workers(scope, rt, alloc, plan, Ends { jobs, results }, workers)?;
     send_jobs(rt, to_workers, first, units);
     Ok(receive_results(rt, from_workers, gathered))
 }
@@ -92,7 +92,7 @@ fn start_workers<
     scope: &'s Scope<'s, E>,
     rt: &'s R,
     alloc: Global,
-    programs: CampaignPrograms,
+    plan: CampaignPlan,
     ends: Ends<S, U>,
     workers: usize,
 ) -> Result<(), Fault>
@@ -103,8 +103,8 @@ fn start_workers<
             jobs: ends.jobs.clone()?,
             results: ends.results.clone()?,
         };
-        let programs = programs.copy();
-        let Ok(_) = scope.spawn(move || work(rt, alloc, programs, own)) else {
+        let plan = plan.copy();
+        let Ok(_) = scope.spawn(move || work(rt, alloc, plan, own)) else {
             return Err(Fault::NoThread);
         };
     }
@@ -115,14 +115,14 @@ fn start_workers<
 fn work<S: SeedUnits + Send, U: MemoryUnit + Send, R: Threads + Wait + Sync>(
     rt: &R,
     alloc: Global,
-    programs: CampaignPrograms,
+    plan: CampaignPlan,
     ends: Ends<S, U>,
 ) {
     for _ in rt.forever() {
         let Ok(job) = ends.jobs.recv(rt) else {
             return;
         };
-        let result = result_of(rt, alloc, programs.copy(), job);
+        let result = result_of(rt, alloc, plan.copy(), job);
         let _ = ends.results.send(rt, result);
     }
 }

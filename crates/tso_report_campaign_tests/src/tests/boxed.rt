@@ -13,7 +13,9 @@ use std::test::Fail;
 use std::thread::Threads;
 use traces_for_tests::expect_equal;
 use tso_ops::{Op, Order, OutOfMemory, Shape};
-use tso_report::{CampaignPrograms, Fault, Verdict, campaign, seeded_program};
+use tso_report::{
+    CampaignPlan, CampaignPrinting, Execution, Fault, Verdict, campaign, seeded_program,
+};
 use unit_core::MemoryUnit;
 use unit_faulty::{FaultKind, FaultyUnit};
 use unit_kinds::SerialUnit;
@@ -90,12 +92,14 @@ fn campaign_into<H: Threads + Wait + Sync, W: Write>(
     requires seeds { length units.items ≤ 3 }
     requires untouched { All (λ unit. (value_of unit).steps ≡ []) units.items }
 {
-    let programs = CampaignPrograms {
+    let plan = CampaignPlan {
         first: 1,
         order: Order::Tso,
         shape: of.0,
+        execution: Execution::Threads { drain_turns: 0 },
+        printing: CampaignPrinting::Lines,
     };
-    campaign(rt, alloc, programs, units, of.1, writer)
+    campaign(rt, alloc, plan, units, of.1, writer)
 }
 
 /// Whether a campaign over these units gives this answer and this text.

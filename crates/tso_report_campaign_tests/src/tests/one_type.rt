@@ -11,7 +11,9 @@ use std::test::Fail;
 use std::thread::Threads;
 use traces_for_tests::expect_equal;
 use tso_ops::{Op, Order, OutOfMemory, Shape};
-use tso_report::{CampaignPrograms, Fault, Verdict, campaign_over, seeded_program};
+use tso_report::{
+    CampaignPlan, CampaignPrinting, Execution, Fault, Verdict, campaign_over, seeded_program,
+};
 use unit_core::MemoryUnit;
 use unit_kinds::{SerialUnit, StoreBufferUnit};
 use units_for_tests::InventingUnit;
@@ -43,12 +45,14 @@ fn campaign_with_order<H: Threads + Wait + Sync, U: MemoryUnit + Send>(
     requires untouched { All (λ unit. (U.value_of unit).steps ≡ []) units.items }
 {
     let mut written = Vec::new(alloc);
-    let programs = CampaignPrograms {
+    let plan = CampaignPlan {
         first: 1,
         order,
         shape,
+        execution: Execution::Threads { drain_turns: 0 },
+        printing: CampaignPrinting::Lines,
     };
-    let answer = campaign_over(rt, alloc, programs, units, workers, &mut written);
+    let answer = campaign_over(rt, alloc, plan, units, workers, &mut written);
     Ran { answer, written }
 }
 
@@ -128,7 +132,7 @@ fn campaign_of_invented_answers(rt: HostRuntime) -> Result<(), Fail> {
 }
 
 /// Three units with store buffers of different capacities.
-fn buffer_units(alloc: Global) -> Result<Vec<StoreBufferUnit>, OutOfMemory>
+pub(super) fn buffer_units(alloc: Global) -> Result<Vec<StoreBufferUnit>, OutOfMemory>
     ensures seeds { IfOk result (λ units. length units.items ≤ 3) }
     ensures untouched { IfOk result (λ units. All (λ unit. (⟦<StoreBufferUnit as MemoryUnit>⟧.value_of unit).steps ≡ []) units.items) }
 {

@@ -1,10 +1,10 @@
-//! The programs of seeds under both memory models.
+//! The programs of seeds under both memory models, and the schedule of a seed.
 
 use std::alloc::Global;
 use std::test::Fail;
 use traces_for_tests::expect_equal;
-use tso_ops::{Op, Order, Program, Shape};
-use tso_report::{seeded_program, seeded_program_with_order};
+use tso_ops::{Act, Op, Order, Program, Shape};
+use tso_report::{seeded_program, seeded_program_with_order, seeded_schedule};
 
 /// Seeds whose programs are compared.
 const SEEDS: [u64; 4] = [0, 1, 2, u64::MAX];
@@ -100,4 +100,40 @@ fn seeded_programs_under_both_models(rt: HostRuntime) -> Result<(), Fail> {
         expect_equal(seed, found, wanted)?;
     }
     Ok(())
+}
+
+/// The schedule that seed 1 draws for two processors with four operations each: `examples/drawn_two_processors.schedule`.
+const DRAWN_ACTS: [Act; 24] = [
+    Act::Issue(1),
+    Act::Drain(1),
+    Act::Drain(0),
+    Act::Drain(0),
+    Act::Drain(0),
+    Act::Drain(0),
+    Act::Drain(0),
+    Act::Drain(0),
+    Act::Drain(1),
+    Act::Issue(1),
+    Act::Drain(1),
+    Act::Issue(0),
+    Act::Drain(1),
+    Act::Issue(1),
+    Act::Issue(1),
+    Act::Drain(1),
+    Act::Issue(0),
+    Act::Issue(0),
+    Act::Issue(1),
+    Act::Issue(1),
+    Act::Issue(0),
+    Act::Drain(0),
+    Act::Issue(0),
+    Act::Issue(1),
+];
+
+#[test]
+fn seeded_schedule_of_two_processors(rt: HostRuntime) -> Result<(), Fail> {
+    let shape = Shape::new(2, 4, 2).ok_or("a shape")?;
+    let schedule = seeded_schedule(rt.alloc(), 1, shape)?;
+    let is_drawn = schedule.as_slice() == DRAWN_ACTS.as_slice();
+    expect_equal("the schedule of seed 1", is_drawn, true)
 }

@@ -6,5 +6,5 @@ use Rattle.command_line.proofs.found.number.Goals as goal
 
 pub returns : goal.returns
 returns c =
-    c.unwrap_or.ensures ∙ number_found c.args.default (λ text r. ParsesUnsigned 64 10 text r × ExplainsUnsignedError 10 text r × HasUnsignedDigitsIfOk text r)
-    (found_of c.args.matches.now) c.args.name.now c.get_one-named.result (λ text r read. read.0) c.get_one-named.ensures.none c.get_one-named.ensures.value
+    c.unwrap_or.ensures ∙ number_found (λ text r. ParsesUnsigned 64 10 text r × ExplainsUnsignedError 10 text r × HasUnsignedDigitsIfOk text r)
+    (found_of c.args.matches.now) c.args.name.now c.get_one-named.result (λ text r read. read.0) c.get_one-named.ensures.none c.get_one-named.ensures.value c.args.default

@@ -6,7 +6,7 @@ use Rattle.command_line.proofs.found.run.Goals as goal
 
 pub returns-in-Some : goal.returns-in-Some
 returns-in-Some c =
-    run_asked (rows_of (found_of c.args.matches.now)) (Some c.in-Some.options) (sym c.in-Some.is ∙ c.run_options.ensures) _ _ _ c.number.ensures c.number_within.ensures.value c.file.ensures
+    run_asked (rows_of (found_of c.args.matches.now)) (Some c.in-Some.options) (sym c.in-Some.is ∙ c.run_options.ensures) _ _ _ c.number.ensures c.drain_turns.ensures.value c.file.ensures
 
 pub returns-in-None : goal.returns-in-None
 returns-in-None c =

@@ -7,5 +7,5 @@ use Rattle.command_line.proofs.found.run_options.Goals as goal
 
 pub returns : goal.returns
 returns c =
-    run_options_found (given_in run_parameters (rows_of (found_of c.args.matches.now))) _ _ (Some c.in_ok-printing.printing) c.unit_options.ensures c.workers.ensures
-    (sym c.in_ok-printing.was ∙ c.printing.ensures)
+    run_options_found (given_in run_parameters (rows_of (found_of c.args.matches.now))) _ _ (Some c.in_ok-printing.printing) _ c.unit_options.ensures c.workers.ensures
+    (sym c.in_ok-printing.was ∙ c.printing.ensures) c.is_used.ensures

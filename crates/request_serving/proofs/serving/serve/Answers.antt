@@ -1,13 +1,15 @@
 use Rattle.command_line.specs.Requests.{asked_of, files_of}
-use Rattle.trace_judging.specs.WrittenReports.{LeavesAtFault, WritesPrefix}
-use Rattle.trace_batches.specs.Batches.{IsBatchFault, IsBatchOfReader}
+use Rattle.trace_judging.specs.WrittenReports.{LeavesAtFault}
 use Rattle.request_serving.specs.Endings.{IsPresented, Outputs, outputs}
 use Rattle.request_serving.specs.OpenedFiles.{name_in, text_bytes}
 use Rattle.request_serving.specs.Replaying.{IsReplayText}
 use Rattle.request_serving.specs.Statuses.{status_of}
+use Rattle.request_serving.specs.Batches.{printing_of, texts_of_batch}
+use Rattle.request_serving.specs.Internal.Batching.{files_in}
 use Rattle.request_serving.specs.Logs.{form_of}
+use Rattle.request_serving.proofs.BatchingFacts.{ends_batched, read_files, unread_files}
 use Rattle.request_serving.proofs.LoggingFacts.{ends_logged}
-use Rattle.request_serving.proofs.EndFacts.{at_text, batch_fault, ends_as, named, opens_all, unnamed}
+use Rattle.request_serving.proofs.EndFacts.{at_text, ends_as, named, opens_all, unnamed}
 use Rattle.request_serving.proofs.RunningFacts.{ends_run}
 use Rattle.request_serving.proofs.LawfulFacts.{known_status, lawful_status}
 use Rattle.request_serving.proofs.serving.serve.Goals as goal
@@ -16,7 +18,7 @@ pub returns-in-Judge-clause-ends : goal.returns-in-Judge-clause-ends
 returns-in-Judge-clause-ends g c =
     let o : Outputs = outputs (g.W.Write.contents c.args.writer.now) (g.W.Write.contents c.judge_named.new.writer) (g.E.Write.contents c.args.errors.now) (g.E.Write.contents c.end.new.errors) in
     let judged = c.in-Judge.request in
-    let is_text = IsPresented judged.presentation (text_bytes (name_in judged.file) (g.R.Read.remaining c.args.reader.now) (g.O.NamedFiles.bytes c.args.files.now)) in
+    let is_text = IsPresented judged.presentation judged.nth (text_bytes (name_in judged.file) (g.R.Read.remaining c.args.reader.now) (g.O.NamedFiles.bytes c.args.files.now)) in
     rw c.in-Judge.is (ends_as is_text status_of (LeavesAtFault is_text) o c.judge_named.result c.end.result c.judge_named.ensures.presented c.judge_named.ensures.fault c.end.ensures.verdict c.end.ensures.fault)
 
 pub returns-in-Judge-clause-first : goal.returns-in-Judge-clause-first
@@ -31,21 +33,25 @@ returns-in-Judge-clause-taken g c = rw c.in-Judge.is (λ reads other.
 
 pub returns-in-Batch-clause-ends : goal.returns-in-Batch-clause-ends
 returns-in-Batch-clause-ends g c =
-    let o : Outputs = outputs (g.W.Write.contents c.args.writer.now) (g.W.Write.contents c.batch_named.new.writer) (g.E.Write.contents c.args.errors.now) (g.E.Write.contents c.end-in-Batch.new.errors) in
-    let batch = c.in-Batch.request in
-    let is_batch = IsBatchOfReader batch.quiet (text_bytes (name_in batch.file) (g.R.Read.remaining c.args.reader.now) (g.O.NamedFiles.bytes c.args.files.now)) in
-    let left = batch_fault is_batch o.written_before o.written c.batch_named.result c.batch_named.ensures.fault c.batch_named.ensures.left in
-    rw c.in-Batch.is (ends_as is_batch status_of (λ old new fault. IsBatchFault fault × WritesPrefix is_batch old new) o c.batch_named.result c.end-in-Batch.result c.batch_named.ensures.whole left c.end-in-Batch.ensures.verdict c.end-in-Batch.ensures.fault)
+    let o : Outputs = outputs (g.W.Write.contents c.args.writer.now) (g.W.Write.contents c.batch_named-judged.new.writer) (g.E.Write.contents c.args.errors.now) (g.E.Write.contents c.end-in-Batch.new.errors) in
+    let request = c.in-Batch.request in
+    let texts = texts_of_batch (files_in request.texts.items) (g.R.Read.remaining c.args.reader.now) (g.O.NamedFiles.bytes c.args.files.now) in
+    let judged = c.batch_named-judged.ensures in
+    rw c.in-Batch.is (ends_batched (printing_of request.printing) texts (g.E.Write.contents c.batch_named-judged.new.errors) o c.batch_named-judged.result c.end-in-Batch.result judged.whole judged.left judged.fault c.end-in-Batch.ensures.verdict c.end-in-Batch.ensures.fault)
 
 pub returns-in-Batch-clause-first : goal.returns-in-Batch-clause-first
-returns-in-Batch-clause-first g c = rw c.in-Batch.is (opens_all _ _ _ c.batch_named.ensures.opened)
+returns-in-Batch-clause-first g c = rw c.in-Batch.is c.batch_named-judged.ensures.first
+
+pub returns-in-Batch-clause-opened : goal.returns-in-Batch-clause-opened
+returns-in-Batch-clause-opened g c = λ other.
+    rw c.in-Batch.is (at_text c.batch_named-judged.result c.end-in-Batch.result _ _ _ c.end-in-Batch.ensures.fault c.batch_named-judged.ensures.opened other)
 
 pub returns-in-Batch-clause-unread : goal.returns-in-Batch-clause-unread
-returns-in-Batch-clause-unread g c = rw c.in-Batch.is (λ unread. named c.in-Batch.request.file c.batch_named.ensures.unread unread)
+returns-in-Batch-clause-unread g c = rw c.in-Batch.is (λ unread. c.batch_named-judged.ensures.unread (unread_files (files_in c.in-Batch.request.texts.items) unread))
 
 pub returns-in-Batch-clause-taken : goal.returns-in-Batch-clause-taken
 returns-in-Batch-clause-taken g c = rw c.in-Batch.is (λ reads other.
-    at_text c.batch_named.result c.end-in-Batch.result _ _ _ c.end-in-Batch.ensures.fault (c.batch_named.ensures.taken (unnamed c.in-Batch.request.file reads)) other)
+    at_text c.batch_named-judged.result c.end-in-Batch.result _ _ _ c.end-in-Batch.ensures.fault (c.batch_named-judged.ensures.taken (read_files (files_in c.in-Batch.request.texts.items) reads)) other)
 
 pub returns-in-Log-clause-ends : goal.returns-in-Log-clause-ends
 returns-in-Log-clause-ends g c =

@@ -1,10 +1,11 @@
 use Rattle.std.proofs.Common.{rules}
 use Rattle.trace_batches.specs.Internal.Cutters.{rows}
+use Rattle.trace_batches.specs.Internal.Progress.{printing_by}
 use Rattle.trace_batches.proofs.JobFacts.{wrote_before, wrote_none}
 use Rattle.trace_batches.proofs.batches.tell.Goals as goal
 
 pub returns-in_err-jobs-clause-some : goal.returns-in_err-jobs-clause-some
 returns-in_err-jobs-clause-some g c =
     let contents = g.W.Write.contents c.args.writer.now in
-    let some = wrote_before c.args.options.quiet c.args.tally.now c.args.tally.now (rows c.args.pieces.items) 0 contents contents (wrote_none c.args.options.quiet c.args.tally.now contents) in
+    let some = wrote_before (printing_by c.args.course.now) c.args.tally.now c.args.tally.now (rows c.args.pieces.items) 0 contents contents (wrote_none (printing_by c.args.course.now) c.args.tally.now contents) in
     search (rules, some)

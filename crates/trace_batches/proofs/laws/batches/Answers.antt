@@ -1,4 +1,4 @@
-use Rattle.trace_batches.proofs.BatchFacts.{one_batch, some_batch}
+use Rattle.trace_batches.proofs.WholeFacts.{one_batch, some_batch}
 use Rattle.trace_batches.proofs.laws.batches.Goals as goal
 
 pub returns : goal.returns

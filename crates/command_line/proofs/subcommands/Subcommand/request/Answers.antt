@@ -1,6 +1,6 @@
 use Rattle.clap.specs.Words.{found_of, rows_of}
-use Rattle.command_line.specs.Requests.{HasDrainTurns, HasLogRanges, HasUnitRanges, HasWorkers}
-use Rattle.command_line.proofs.FoundLemmas.{of_log, of_replay, of_request, of_run}
+use Rattle.command_line.specs.Requests.{HasDrainTurns, HasLogRanges, HasOneInput, HasUnitRanges, HasWorkers}
+use Rattle.command_line.proofs.FoundLemmas.{of_batch, of_log, of_replay, of_request, of_run}
 use Rattle.command_line.proofs.subcommands.Subcommand.request.Goals as goal
 
 pub returns-in-Log-clause-workers : goal.returns-in-Log-clause-workers
@@ -50,3 +50,32 @@ returns-in-Replay-clause-asked c = rw c.in-Replay.is c.replay.ensures
 
 pub returns-in-Run-clause-asked : goal.returns-in-Run-clause-asked
 returns-in-Run-clause-asked c = rw c.in-Run.is c.run.ensures
+
+pub returns-in-Log-clause-input : goal.returns-in-Log-clause-input
+returns-in-Log-clause-input c = of_request HasOneInput _ (of_log HasOneInput tt (λ file options some most effort. tt) (rows_of (found_of c.args.matches.now))) _ c.log.ensures
+
+pub returns-in-Replay-clause-input : goal.returns-in-Replay-clause-input
+returns-in-Replay-clause-input c =
+    of_request HasOneInput _ (of_replay HasOneInput tt (λ options first second some most capacity capacity_most trigger. tt) (rows_of (found_of c.args.matches.now))) _ c.replay.ensures
+
+pub returns-in-Run-clause-input : goal.returns-in-Run-clause-input
+returns-in-Run-clause-input c =
+    of_request HasOneInput _ (of_run HasOneInput tt (λ options seed turns program some most capacity capacity_most trigger few. tt) (rows_of (found_of c.args.matches.now))) _ c.run.ensures
+
+pub returns-in-Batch-clause-workers : goal.returns-in-Batch-clause-workers
+returns-in-Batch-clause-workers c = of_request HasWorkers _ (of_batch HasWorkers tt (λ texts workers printing some most few. (some, most)) (rows_of (found_of c.args.matches.now))) _ c.batch.ensures
+
+pub returns-in-Batch-clause-unit : goal.returns-in-Batch-clause-unit
+returns-in-Batch-clause-unit c = of_request HasUnitRanges _ (of_batch HasUnitRanges tt (λ texts workers printing some most few. tt) (rows_of (found_of c.args.matches.now))) _ c.batch.ensures
+
+pub returns-in-Batch-clause-turns : goal.returns-in-Batch-clause-turns
+returns-in-Batch-clause-turns c = of_request HasDrainTurns _ (of_batch HasDrainTurns tt (λ texts workers printing some most few. tt) (rows_of (found_of c.args.matches.now))) _ c.batch.ensures
+
+pub returns-in-Batch-clause-log : goal.returns-in-Batch-clause-log
+returns-in-Batch-clause-log c = of_request HasLogRanges _ (of_batch HasLogRanges tt (λ texts workers printing some most few. tt) (rows_of (found_of c.args.matches.now))) _ c.batch.ensures
+
+pub returns-in-Batch-clause-input : goal.returns-in-Batch-clause-input
+returns-in-Batch-clause-input c = of_request HasOneInput _ (of_batch HasOneInput tt (λ texts workers printing some most few. few) (rows_of (found_of c.args.matches.now))) _ c.batch.ensures
+
+pub returns-in-Batch-clause-asked : goal.returns-in-Batch-clause-asked
+returns-in-Batch-clause-asked c = rw c.in-Batch.is c.batch.ensures

@@ -4,12 +4,12 @@ use Rattle.request_serving.proofs.serving.checking.check_named.Goals as goal
 pub returns-in_ok-certificate-in-Files-clause-report : goal.returns-in_ok-certificate-in-Files-clause-report
 returns-in_ok-certificate-in-Files-clause-report g c =
     let also = rw c.in_ok-trace-in-Files.ensures.same at c.in_ok-certificate-in-Files.ensures.known in
-    rw c.in-Files.is (writes_as _ _ (check_of_known _ _ _ _ c.in_ok-trace-in-Files.ensures.known also) _ _ c.check_texts.result c.check_texts.ensures.report)
+    rw c.in-Files.is (writes_as _ _ (check_of_known c.args.request.now.nth _ _ _ _ c.in_ok-trace-in-Files.ensures.known also) _ _ c.check_readers.result c.check_readers.ensures.report)
 
 pub returns-in_ok-certificate-in-Files-clause-fault : goal.returns-in_ok-certificate-in-Files-clause-fault
 returns-in_ok-certificate-in-Files-clause-fault g c =
     let also = rw c.in_ok-trace-in-Files.ensures.same at c.in_ok-certificate-in-Files.ensures.known in
-    rw c.in-Files.is (faults_as _ _ (check_of_known _ _ _ _ c.in_ok-trace-in-Files.ensures.known also) _ _ c.check_texts.result c.check_texts.ensures.fault)
+    rw c.in-Files.is (faults_as _ _ (check_of_known c.args.request.now.nth _ _ _ _ c.in_ok-trace-in-Files.ensures.known also) _ _ c.check_readers.result c.check_readers.ensures.fault)
 
 pub returns-in_ok-certificate-in-Files-clause-first : goal.returns-in_ok-certificate-in-Files-clause-first
 returns-in_ok-certificate-in-Files-clause-first g c =
@@ -23,24 +23,24 @@ returns-in_err-certificate-in-Files-clause-first g c =
 
 pub returns-in_ok-certificate-in-InputAndFile-clause-report : goal.returns-in_ok-certificate-in-InputAndFile-clause-report
 returns-in_ok-certificate-in-InputAndFile-clause-report g c =
-    rw c.in-InputAndFile.is (writes_as _ _ (check_of_known _ _ _ _ (knows_itself _) c.in_ok-certificate-in-InputAndFile.ensures.known) _ _ c.check_texts-in-InputAndFile.result c.check_texts-in-InputAndFile.ensures.report)
+    rw c.in-InputAndFile.is (writes_as _ _ (check_of_known c.args.request.now.nth _ _ _ _ (knows_itself _) c.in_ok-certificate-in-InputAndFile.ensures.known) _ _ c.check_readers-in-InputAndFile.result c.check_readers-in-InputAndFile.ensures.report)
 
 pub returns-in_ok-certificate-in-InputAndFile-clause-fault : goal.returns-in_ok-certificate-in-InputAndFile-clause-fault
 returns-in_ok-certificate-in-InputAndFile-clause-fault g c =
-    rw c.in-InputAndFile.is (faults_as _ _ (check_of_known _ _ _ _ (knows_itself _) c.in_ok-certificate-in-InputAndFile.ensures.known) _ _ c.check_texts-in-InputAndFile.result c.check_texts-in-InputAndFile.ensures.fault)
+    rw c.in-InputAndFile.is (faults_as _ _ (check_of_known c.args.request.now.nth _ _ _ _ (knows_itself _) c.in_ok-certificate-in-InputAndFile.ensures.known) _ _ c.check_readers-in-InputAndFile.result c.check_readers-in-InputAndFile.ensures.fault)
 
 pub returns-in_ok-certificate-in-InputAndFile-clause-first : goal.returns-in_ok-certificate-in-InputAndFile-clause-first
 returns-in_ok-certificate-in-InputAndFile-clause-first g c = rw c.in-InputAndFile.is (opens_all _ _ _ c.in_ok-certificate-in-InputAndFile.ensures.opened)
 
 pub returns-in_ok-trace-in-FileAndInput-clause-report : goal.returns-in_ok-trace-in-FileAndInput-clause-report
 returns-in_ok-trace-in-FileAndInput-clause-report g c =
-    let checked = c.check_texts-in-FileAndInput in
-    rw c.in-FileAndInput.is (writes_as _ _ (check_of_known _ _ _ _ c.in_ok-trace-in-FileAndInput.ensures.known (knows_itself _)) _ _ checked.result checked.ensures.report)
+    let checked = c.check_readers-in-FileAndInput in
+    rw c.in-FileAndInput.is (writes_as _ _ (check_of_known c.args.request.now.nth _ _ _ _ c.in_ok-trace-in-FileAndInput.ensures.known (knows_itself _)) _ _ checked.result checked.ensures.report)
 
 pub returns-in_ok-trace-in-FileAndInput-clause-fault : goal.returns-in_ok-trace-in-FileAndInput-clause-fault
 returns-in_ok-trace-in-FileAndInput-clause-fault g c =
-    let checked = c.check_texts-in-FileAndInput in
-    rw c.in-FileAndInput.is (faults_as _ _ (check_of_known _ _ _ _ c.in_ok-trace-in-FileAndInput.ensures.known (knows_itself _)) _ _ checked.result checked.ensures.fault)
+    let checked = c.check_readers-in-FileAndInput in
+    rw c.in-FileAndInput.is (faults_as _ _ (check_of_known c.args.request.now.nth _ _ _ _ c.in_ok-trace-in-FileAndInput.ensures.known (knows_itself _)) _ _ checked.result checked.ensures.fault)
 
 pub returns-in_ok-trace-in-FileAndInput-clause-first : goal.returns-in_ok-trace-in-FileAndInput-clause-first
 returns-in_ok-trace-in-FileAndInput-clause-first g c = rw c.in-FileAndInput.is (opens_all _ _ _ c.in_ok-trace-in-FileAndInput.ensures.opened)

@@ -4,9 +4,9 @@ use Rattle.request_serving.proofs.serving.judging.judge_named.Goals as goal
 pub returns-in_ok-file-in-Some-clause-presented : goal.returns-in_ok-file-in-Some-clause-presented
 returns-in_ok-file-in-Some-clause-presented g c =
     let read = c.judge_reader-in-Some in
-    rw c.in-Some.is (writes_as _ _ (presented_of_known c.args.request.now.presentation _ _ c.in_ok-file-in-Some.ensures.known) _ _ read.result read.ensures.presented)
+    rw c.in-Some.is (writes_as _ _ (presented_of_known c.args.request.now.presentation c.args.request.now.nth _ _ c.in_ok-file-in-Some.ensures.known) _ _ read.result read.ensures.presented)
 
 pub returns-in_ok-file-in-Some-clause-fault : goal.returns-in_ok-file-in-Some-clause-fault
 returns-in_ok-file-in-Some-clause-fault g c =
     let read = c.judge_reader-in-Some in
-    rw c.in-Some.is (faults_as _ _ (presented_of_known c.args.request.now.presentation _ _ c.in_ok-file-in-Some.ensures.known) _ _ read.result read.ensures.fault)
+    rw c.in-Some.is (faults_as _ _ (presented_of_known c.args.request.now.presentation c.args.request.now.nth _ _ c.in_ok-file-in-Some.ensures.known) _ _ read.result read.ensures.fault)

@@ -1,0 +1,19 @@
+use Rattle.request_serving.proofs.serving.judging.present.Goals as goal
+
+pub returns-in-Report-clause-presented : goal.returns-in-Report-clause-presented
+returns-in-Report-clause-presented g c = rw c.in-Report.is c.judge.ensures.report
+
+pub returns-in-Report-clause-fault : goal.returns-in-Report-clause-fault
+returns-in-Report-clause-fault g c = rw c.in-Report.is c.judge.ensures.fault
+
+pub returns-in-Explanation-clause-presented : goal.returns-in-Explanation-clause-presented
+returns-in-Explanation-clause-presented g c = rw c.in-Explanation.is c.judge_with.ensures.said
+
+pub returns-in-Explanation-clause-fault : goal.returns-in-Explanation-clause-fault
+returns-in-Explanation-clause-fault g c = rw c.in-Explanation.is c.judge_with.ensures.fault
+
+pub returns-in-Picture-clause-presented : goal.returns-in-Picture-clause-presented
+returns-in-Picture-clause-presented g c = rw c.in-Picture.is c.judge_with-in-Picture.ensures.said
+
+pub returns-in-Picture-clause-fault : goal.returns-in-Picture-clause-fault
+returns-in-Picture-clause-fault g c = rw c.in-Picture.is c.judge_with-in-Picture.ensures.fault

@@ -1,0 +1,19 @@
+use Rattle.std.proofs.Common.{◌∙◌}
+use Rattle.trace_batches.proofs.WholeFacts.{end_none, end_some, end_whole, whatever}
+use Rattle.trace_batches.proofs.begun.Batch.end.Goals as goal
+
+pub returns-in_err-line-clause-left : goal.returns-in_err-line-clause-left
+returns-in_err-line-clause-left g c = whatever c.from_residual.result (end_none c.args.self (g.W.Write.contents c.args.writer.now) (g.E.Write.contents c.args.errors.now))
+
+pub returns-in_err-write_total-clause-left : goal.returns-in_err-write_total-clause-left
+returns-in_err-write_total-clause-left g c =
+    whatever c.from_residual-in_err-write_total.result
+    (end_some c.args.self c.as_bytes.result.now (g.W.Write.contents c.args.writer.now) (g.W.Write.contents c.write_total.new.writer) (g.E.Write.contents c.args.errors.now)
+    (g.E.Write.contents c.write_total.new.errors) c.last_format.result c.last_format.ensures (c.as_bytes.ensures.value ∙ c.in_ok-line.ensures) c.in_err-write_total.ensures.prefix
+    c.in_err-write_total.ensures.some)
+
+pub returns-clause-ended : goal.returns-clause-ended
+returns-clause-ended g c =
+    end_whole c.args.self c.as_bytes.result.now (g.W.Write.contents c.args.writer.now) (g.W.Write.contents c.write_total.new.writer) (g.E.Write.contents c.args.errors.now)
+    (g.E.Write.contents c.write_total.new.errors) c.last_format.result c.last_format.ensures (c.as_bytes.ensures.value ∙ c.in_ok-line.ensures) c.verdict.result
+    c.in_ok-write_total.ensures.whole c.in_ok-write_total.ensures.noted c.verdict.ensures

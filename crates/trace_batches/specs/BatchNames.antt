@@ -1,0 +1,72 @@
+-- How the name of a text stands in the lines of a batch: characters that would break a line, or that its format gives another meaning, are escaped.
+use Rattle.std.specs.Prelude.{ℕ, ◌/◌, ◌%◌, ◌==◌, ◌||◌, Bool, List, [], ◌++◌, Option, None, Some, chars, codes, encode_utf8, flat_map, nat_lt, slice_index, if◌then◌else◌}
+use Rattle.std.specs.Fmt.{decimal}
+use Rattle.trace_batches.specs.declared.batches.BatchFormat.{BatchFormat}
+use Rattle.trace_batches.specs.declared.batches.BatchFormat.TheVariants.{Words, Json, Junit}
+
+-- ---- in words and in JSON
+
+-- a digit of base 16
+abbrev pub base_16_digit : ℕ → List ℕ
+base_16_digit d = encode_utf8 (slice_index (codes "0123456789abcdef") d)
+
+-- a control character, one below 32, as JSON escapes it: by its number, in four digits of base 16
+abbrev pub control_escape : ℕ → List ℕ
+control_escape c = codes "\\u00" ++ base_16_digit (c / 16) ++ base_16_digit (c % 16)
+
+-- in words just these are escaped
+abbrev pub word_character : ℕ → List ℕ
+word_character c = if nat_lt c 32 then control_escape c else encode_utf8 c
+
+-- and in JSON a quote (34) and a backslash (92) too
+abbrev pub json_character : ℕ → List ℕ
+json_character c = if c == 34 then codes "\\\"" else if c == 92 then codes "\\\\" else word_character c
+
+-- ---- in XML
+
+-- a tab, a line end and a carriage return: XML reads these as spaces in an attribute, unless they are escaped
+abbrev pub is_xml_space : ℕ → Bool
+is_xml_space c = c == 9 || c == 10 || c == 13
+
+-- other control characters, and U+FFFE and U+FFFF, which XML 1.0 has in no spelling
+abbrev pub is_outside_xml : ℕ → Bool
+is_outside_xml c = nat_lt c 32 || c == 65534 || c == 65535
+
+-- what stands for those: U+FFFD, the replacement character
+abbrev pub replacement : ℕ
+replacement = 65533
+
+-- a character that isn't among & (38), < (60), > (62) and " (34)
+abbrev pub plain_xml_character : ℕ → List ℕ
+plain_xml_character c =
+    if is_xml_space c then codes "&#" ++ decimal c ++ codes ";"
+    else if is_outside_xml c then encode_utf8 replacement
+    else encode_utf8 c
+
+abbrev pub xml_character : ℕ → List ℕ
+xml_character c =
+    if c == 38 then codes "&amp;"
+    else if c == 60 then codes "&lt;"
+    else if c == 62 then codes "&gt;"
+    else if c == 34 then codes "&quot;"
+    else plain_xml_character c
+
+-- ---- in each format
+
+abbrev pub name_character : BatchFormat → ℕ → List ℕ
+name_character Words c = word_character c
+name_character Json c = json_character c
+name_character Junit c = xml_character c
+
+-- the name, character by character
+abbrev pub escaped_name : BatchFormat → List ℕ → List ℕ
+escaped_name format name = flat_map (name_character format) (chars name)
+
+-- what stands in the lines of a text that has a name, or none
+abbrev pub text_label : BatchFormat → Option (List ℕ) → List ℕ
+text_label Words None = []
+text_label Words (Some name) = escaped_name Words name ++ codes ": "
+text_label Json None = []
+text_label Json (Some name) = codes "\"file\":\"" ++ escaped_name Json name ++ codes "\","
+text_label Junit None = codes "batch"
+text_label Junit (Some name) = escaped_name Junit name

@@ -1,0 +1,18 @@
+//! A batch on its way.
+ghost use Rattle.std.specs.Prelude.{◌≤◌};
+
+use crate::batches::BatchOptions;
+use crate::tallies::Tally;
+use std::alloc::Global;
+
+/// A batch on its way: `begin` begins it, `judge` judges one text more, and `end` ends it.
+///
+/// At a fault of one of them the batch has ended: what was written is a prefix of what the batch of these texts writes.
+#[derive(Drop)]
+pub struct Batch {
+    pub(crate) alloc: Global,
+    pub(crate) options: BatchOptions,
+    /// The numbers of all texts so far.
+    pub(crate) tally: Tally,
+    ghost some: { 1 ≤ options.workers },
+}

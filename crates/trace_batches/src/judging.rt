@@ -1,0 +1,139 @@
+//! Batches of texts that are judged one after the other.
+ghost use Rattle.std.specs.Prelude.{◌≡◌, ◌≤◌, ◌∷◌, [], List, IfSome, IfOk, IfErr, OnOk, OnErr, option_map};
+ghost use Rattle.std.specs.Io.KnownBytes.{Appends, Consumes};
+ghost use Rattle.trace_judging.specs.Streams.{AppendsPrefix};
+ghost use Rattle.trace_batches.specs.Batches.{EndsBatch, HasJudged, IsBatchFault, Judges, LeavesBatch, LeavesEnd, LeavesText, WritesBatch, head_text, last_text, note_text, one_text};
+
+use crate::batches::{BatchOptions, BatchPrinting, Course, judge_pieces};
+use crate::begun::Batch;
+use crate::lines::{head, last_format, total_line};
+use crate::names::text_label;
+use crate::streams::write_flushed;
+use crate::tallies::Tally;
+use std::alloc::Global;
+use std::io::{Read, Write};
+use std::sync::Wait;
+use std::thread::Threads;
+use trace_judging::{Fault, Verdict, write_text};
+
+impl Batch {
+    /// Begins a batch: writes what stands before all lines, which is something in JUnit's XML alone.
+    ///
+    /// Faults: Write where the writer failed, took no byte or was interrupted more than 1,048,576 times.
+    pub fn begin<W: Write>(
+        alloc: Global,
+        options: BatchOptions,
+        writer: &mut W,
+    ) -> Result<Batch, Fault>
+        requires { 1 ≤ options.workers }
+        ensures begun { IfOk result (λ batch. HasJudged batch options.printing []) }
+        ensures whole { OnOk result (Appends (W.contents writer.old) (W.contents writer.new) (head_text options.printing)) }
+        ensures prefix { AppendsPrefix (W.contents writer.old) (W.contents writer.new) (head_text options.printing) }
+        ensures fault { IfErr result IsBatchFault }
+    {
+        write_text(writer, head(options.printing).as_bytes())?;
+        Ok(Batch {
+            alloc,
+            options,
+            tally: Tally::new(),
+        })
+    }
+
+    /// Judges the traces of one text more, and writes what is printed of them; their lines have its name, where it has one.
+    ///
+    /// The texts are the same for each number of workers. Of a trace at most 1,048,577 bytes are kept: a longer one is
+    /// refused as TooLong at line 0, and the next begins after its line `end`. What is printed of all traces that came is
+    /// written and flushed before more is read.
+    ///
+    /// Faults: OutOfMemory where an allocation was refused; Read where the reader failed, was interrupted 1,048,576 times in
+    /// a row, or gave 2^64 pieces with those before; Write where the writer failed, took no byte or was interrupted more
+    /// than 1,048,576 times in a line or a piece; NoThread where judging a piece needed a thread that the system refused.
+    /// It may wait.
+    pub fn judge<H: Threads + Wait + Sync, R: Read, W: Write>(
+        &mut self,
+        rt: &H,
+        name: Option<&str>,
+        reader: &mut R,
+        writer: &mut W,
+    ) -> Result<(), Fault>
+        ensures judged { OnOk result (Judges (record { name = option_map (λ name. name.now) name.entry; bytes = R.remaining reader.old }) self.old self.new (W.contents writer.old) (W.contents writer.new)) }
+        ensures taken { IfOk result (λ _. IfSome (R.remaining reader.old) (λ all. Consumes (R.remaining reader.old) (R.remaining reader.new) all)) }
+        ensures left { OnErr result (LeavesText (record { name = option_map (λ name. name.now) name.entry; bytes = R.remaining reader.old }) self.old (W.contents writer.old) (W.contents writer.new)) }
+        ensures fault { IfErr result IsBatchFault }
+    {
+        let label = text_label(self.alloc, self.options.printing.format, name)?;
+        let course = Course {
+            alloc: self.alloc,
+            options: self.options,
+            label: label.as_str(),
+        };
+        let tally = judge_pieces(rt, &course, reader, writer)?;
+        self.tally.add(&tally)
+    }
+
+    /// Ends a batch: writes the last line, with the numbers of all texts, to the writer or, where the texts of violations
+    /// are printed, to `errors`. The verdict is Violation where a trace is one, else Refused where one is refused, else
+    /// NoViolation.
+    ///
+    /// Faults: OutOfMemory where an allocation was refused; Write where a writer failed, took no byte or was interrupted
+    /// more than 1,048,576 times.
+    pub fn end<W: Write, E: Write>(self, writer: &mut W, errors: &mut E) -> Result<Verdict, Fault>
+        ensures ended { IfOk result (EndsBatch self (W.contents writer.old) (W.contents writer.new) (E.contents errors.old) (E.contents errors.new)) }
+        ensures left { OnErr result (LeavesEnd self (W.contents writer.old) (W.contents writer.new) (E.contents errors.old) (E.contents errors.new)) }
+        ensures fault { IfErr result IsBatchFault }
+    {
+        let printing = self.options.printing;
+        let line = total_line(self.alloc, last_format(printing), &self.tally)?;
+        write_total(printing, line.as_bytes(), writer, errors)?;
+        Ok(self.tally.verdict())
+    }
+}
+
+/// Judges a stream of traces' texts, one after the other: a line for each, in order, and a last line with their numbers.
+///
+/// A piece of the stream ends with a line `end`; what follows the last one, if there is a byte, is a last piece. The line of
+/// the K-th piece is `trace K` and what its report says: `NO VIOLATION FOUND`, which a quiet batch leaves out, `VIOLATION`,
+/// or `REFUSED` with name and line. Where violations are to be printed, the texts of the pieces that are violations, as they
+/// came, stand in the place of all lines, and the last line goes to `errors`. In JSON each line is an object, with the
+/// verdict `violation`, `no_violation_found` or `refused`; in JUnit's XML it is a test case of one document.
+///
+/// It is a batch of this one text, without a name: see `Batch` for what is kept of a piece, for the verdict and for the
+/// faults, with each of which a prefix of the texts was written. It may wait.
+pub fn judge_batch<H: Threads + Wait + Sync, R: Read, W: Write, E: Write>(
+    rt: &H,
+    alloc: Global,
+    options: BatchOptions,
+    reader: &mut R,
+    writer: &mut W,
+    errors: &mut E,
+) -> Result<Verdict, Fault>
+    requires { 1 ≤ options.workers }
+    ensures whole { IfOk result (WritesBatch options.printing (one_text (R.remaining reader.old)) (W.contents writer.old) (W.contents writer.new) (E.contents errors.old) (E.contents errors.new)) }
+    ensures taken { IfOk result (λ _. IfSome (R.remaining reader.old) (λ all. Consumes (R.remaining reader.old) (R.remaining reader.new) all)) }
+    ensures left { OnErr result (LeavesBatch options.printing (one_text (R.remaining reader.old)) (W.contents writer.old) (W.contents writer.new) (E.contents errors.old) (E.contents errors.new)) }
+    ensures fault { IfErr result IsBatchFault }
+{
+    let mut batch = Batch::begin(alloc, options, writer)?;
+    batch.judge(rt, None, reader, writer)?;
+    batch.end(writer, errors)
+}
+
+/// Writes the last line: to the errors where the texts of violations are printed.
+fn write_total<W: Write, E: Write>(
+    printing: BatchPrinting,
+    line: &[u8],
+    writer: &mut W,
+    errors: &mut E,
+) -> Result<(), Fault>
+    ensures whole { OnOk result (Appends (W.contents writer.old) (W.contents writer.new) (last_text printing line.now)) }
+    ensures noted { OnOk result (Appends (E.contents errors.old) (E.contents errors.new) (note_text printing line.now)) }
+    ensures prefix { AppendsPrefix (W.contents writer.old) (W.contents writer.new) (last_text printing line.now) }
+    ensures some { AppendsPrefix (E.contents errors.old) (E.contents errors.new) (note_text printing line.now) }
+    ensures fault { IfErr result IsBatchFault }
+{
+    if printing.violations {
+        write_flushed(errors, line)
+    } else {
+        write_flushed(writer, line)
+    }
+}
