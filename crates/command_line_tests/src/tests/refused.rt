@@ -376,8 +376,8 @@ const CAMPAIGNS: [(&[&str], &str); 10] = [
         "error: invalid value 'other' for '--unit <UNIT>'\n  [possible values: serial, buffer, partial, newest-first, no-forward, stale-load, torn-swap, idle-membar, lost-drain]\n\nFor more information, try '--help'.\n",
     ),
     (
-        &["campaign", "--trace"],
-        "error: unexpected argument '--trace' found\n\nUsage: tsobench campaign [OPTIONS] --unit <UNIT> --first <S> --count <K> --procs <P> --ops <O> --addrs <A>\n\nFor more information, try '--help'.\n",
+        &["campaign", "--schedule"],
+        "error: unexpected argument '--schedule' found\n\nUsage: tsobench campaign [OPTIONS] --unit <UNIT> --first <S> --count <K> --procs <P> --ops <O> --addrs <A>\n\nFor more information, try '--help'.\n",
     ),
     (
         &["campaign", "--unit=partial", "--model", "rmo"],
