@@ -8,7 +8,7 @@ _tsobench() {
     esac
     for ((i = 1; i < COMP_CWORD; i++)); do
         case ${COMP_WORDS[i]} in
-            judge | explain | draw | batch | log | check | replay | run | make | campaign | help)
+            judge | explain | draw | reduce | batch | log | check | replay | run | make | campaign | help)
                 command=${COMP_WORDS[i]}
                 break
                 ;;
@@ -21,6 +21,7 @@ _tsobench() {
         explain/--nth) ;;
         draw/--workers) ;;
         draw/--nth) ;;
+        reduce/--nth) ;;
         batch/--workers) ;;
         batch/--format) words='words json junit' ;;
         log/--most) ;;
@@ -52,18 +53,19 @@ _tsobench() {
         campaign/--procs) ;;
         campaign/--ops) ;;
         campaign/--addrs) ;;
-        /*) words='judge explain draw batch log check replay run make campaign help -h --help -V --version' ;;
-        judge/*) words='--workers --nth -h --help' files=yes ;;
-        explain/*) words='--workers --nth -h --help' files=yes ;;
-        draw/*) words='--workers --nth -h --help' files=yes ;;
-        batch/*) words='--workers --format --quiet --violations -h --help' files=yes ;;
-        log/*) words='--most --effort --trace --explain -h --help' files=yes ;;
-        check/*) words='--nth -h --help' files=yes ;;
-        replay/*) words='--unit --capacity --trigger --workers --trace --explain --with-trace -h --help' files=yes ;;
-        run/*) words='--unit --capacity --trigger --workers --trace --explain --with-trace --seed --drain-turns -h --help' files=yes ;;
+        /*) words='judge explain draw reduce batch log check replay run make campaign help -h --help -V --version' ;;
+        judge/*) words='--workers --nth --verbose -h --help' files=yes ;;
+        explain/*) words='--workers --nth --verbose -h --help' files=yes ;;
+        draw/*) words='--workers --nth --verbose -h --help' files=yes ;;
+        reduce/*) words='--nth --verbose -h --help' files=yes ;;
+        batch/*) words='--workers --format --quiet --violations --progress --verbose -h --help' files=yes ;;
+        log/*) words='--most --effort --trace --explain --progress --verbose -h --help' files=yes ;;
+        check/*) words='--nth --verbose -h --help' files=yes ;;
+        replay/*) words='--unit --capacity --trigger --workers --trace --explain --with-trace --verbose -h --help' files=yes ;;
+        run/*) words='--unit --capacity --trigger --workers --trace --explain --with-trace --verbose --seed --drain-turns -h --help' files=yes ;;
         make/*) words='--schedule --model --seed --procs --ops --addrs -h --help' ;;
-        campaign/*) words='--unit --capacity --trigger --workers --replay --drain-turns --trace --model --first --count --procs --ops --addrs -h --help' ;;
-        help/*) words='judge explain draw batch log check replay run make campaign' ;;
+        campaign/*) words='--unit --capacity --trigger --workers --replay --drain-turns --trace --progress --model --first --count --procs --ops --addrs -h --help' ;;
+        help/*) words='judge explain draw reduce batch log check replay run make campaign' ;;
     esac
     if [[ -n $files && $word != -* ]]; then
         words=''

@@ -16,13 +16,12 @@ use Rattle.command_line.specs.Offered.{Offers, built_rules, found_of_rule, is_lo
 use Rattle.command_line.specs.Parameters.{id_of, offered_app, takes_default}
 use Rattle.command_line.proofs.ValueTexts.{IsValue, other_order}
 use Rattle.command_line.proofs.Walks.{standing}
-use Rattle.command_line.specs.Commands.{asked_by, asked_in, memory_of, program_app, tsobench_app}
+use Rattle.command_line.specs.Commands.{by_subcommand, memory_of, program_app, tsobench_app}
 use Rattle.command_line.specs.Internal.Computed.{help_option_of, parsed_as}
 use Rattle.command_line.specs.Refusals.{is_subcommand}
-use Rattle.command_line.specs.Requests.{Text, judging}
+use Rattle.command_line.specs.Requests.{Text}
 use Rattle.command_line.specs.Subcommands.{Subcommand, known_names, subcommands}
 use Rattle.command_line.specs.declared.options.OptionNames.{OptionNames}
-use Rattle.command_line.specs.declared.options.Presentation.TheVariants.{Report}
 
 -- what is the same of each of a list is the same of one of them
 each_same : {X : Type 0} (f g : Subcommand → X) (cs : List Subcommand) → map f cs ≡ map g cs → (c : Subcommand) → Contains cs c → f c ≡ g c
@@ -110,11 +109,11 @@ module _ (names : OptionNames) where
       unfolding clap_on_literals
       subcommand_fault = ap₂ level_of walk_is walk_passes ∙ ap below answers
 
-    pub asked_by_name : (rows : List Row) → asked_by (Some (c.name, rows)) ≡ asked_in c rows
-    asked_by_name rows =
+    pub by_name : {X : Type 0} (value : Subcommand → List Row → X) (none : X) (rows : List Row) → by_subcommand value none (Some (c.name, rows)) ≡ value c rows
+    by_name value none rows =
         let found : find (λ d. bytes_eq d.name c.name) subcommands ≡ Some c =
         each_same (λ e. find (λ d. bytes_eq d.name e.name) subcommands) (λ e. Some e) subcommands refl c among in
-        ap (λ o. option_map_or (λ d. asked_in d rows) o (judging Report None 1 None)) found
+        ap (λ o. option_map_or (λ d. value d rows) o none) found
 
     pub offers : Offers (memory_of names) (shape c) c.parameters
     offers = record {

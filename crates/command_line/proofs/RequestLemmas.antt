@@ -9,11 +9,10 @@ use Rattle.clap.specs.Words.{Row, subcommand_name_of, subcommand_rows_of}
 use Rattle.clap.specs.declared.parser.matches.ArgMatches.{ArgMatches}
 use Rattle.clap.specs.declared.parser.matches.ArgMatches.TheViews.{out-ArgMatches, out-SubCommand}
 use Rattle.clap.specs.declared.parser.matches.SubCommand.{SubCommand}
-use Rattle.command_line.specs.Commands.{asked_by, asked_in}
+use Rattle.command_line.specs.Commands.{by_subcommand}
 use Rattle.command_line.specs.Internal.Computed.{member_of}
-use Rattle.command_line.specs.Requests.{Text, judging}
-use Rattle.command_line.specs.Subcommands.{subcommands}
-use Rattle.command_line.specs.declared.options.Presentation.TheVariants.{Report}
+use Rattle.command_line.specs.Requests.{Text}
+use Rattle.command_line.specs.Subcommands.{Subcommand as SubcommandValue, subcommands}
 use Rattle.command_line.specs.declared.subcommands.Subcommand.{Subcommand}
 
 -- the first of words of which the texts are known
@@ -34,15 +33,16 @@ none_is : (found : Option (Text × List Row)) → None ≡ option_map (λ p. p.0
 none_is None none = refl
 none_is (Some p) none = absurd (true≢false (sym (ap (λ o. is_some o) none)))
 
-module _ (m : ArgMatches) where
+-- what is said by the subcommand that was used, or without one
+module _ {X : Type 0} (value : SubcommandValue → List Row → X) (none : X) (m : ArgMatches) where
   -- without a subcommand
-  pub none_asked : None ≡ subcommand_name_of m → judging Report None 1 None ≡ asked_by (subcommand_rows_of m)
-  none_asked none = ap asked_by (sym (none_is (subcommand_rows_of m) (none ∙ same_name (out-ArgMatches m).subcommand)))
+  pub none_named : None ≡ subcommand_name_of m → none ≡ by_subcommand value none (subcommand_rows_of m)
+  none_named no_name = ap (by_subcommand value none) (sym (none_is (subcommand_rows_of m) (no_name ∙ same_name (out-ArgMatches m).subcommand)))
 
   -- by the first subcommand with its name, if there is one
-  pub named_asked : (name : Text) (rows : List Row) (s : Option Subcommand) → Some name ≡ subcommand_name_of m → Some rows ≡ option_map (λ p. p.1) (subcommand_rows_of m)
+  pub first_named : (name : Text) (rows : List Row) (s : Option Subcommand) → Some name ≡ subcommand_name_of m → Some rows ≡ option_map (λ p. p.1) (subcommand_rows_of m)
       → option_map member_of s ≡ find (λ c. bytes_eq c.name name) subcommands
-      → option_map_or (λ c. asked_in c rows) (option_map member_of s) (judging Report None 1 None) ≡ asked_by (subcommand_rows_of m)
-  named_asked name rows s named has is =
-      ap (λ c. option_map_or (λ c. asked_in c rows) c (judging Report None 1 None)) is
-      ∙ ap asked_by (sym (found_is (subcommand_rows_of m) name rows (named ∙ same_name (out-ArgMatches m).subcommand) has))
+      → option_map_or (λ c. value c rows) (option_map member_of s) none ≡ by_subcommand value none (subcommand_rows_of m)
+  first_named name rows s named has is =
+      ap (λ c. option_map_or (λ c. value c rows) c none) is
+      ∙ ap (by_subcommand value none) (sym (found_is (subcommand_rows_of m) name rows (named ∙ same_name (out-ArgMatches m).subcommand) has))

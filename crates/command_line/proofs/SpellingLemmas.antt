@@ -1,5 +1,5 @@
 -- The usual spellings ask for what their definitions say.
-use Rattle.std.proofs.Common.{◌≡◌, ◌∙◌, ap, ap₂, refl, subst, inl, inr, List, [], ◌∷◌, Option, codes, unwrap_or}
+use Rattle.std.proofs.Common.{◌≡◌, ◌∙◌, ap, ap₂, refl, subst, inl, inr, List, [], ◌∷◌, Option, None, codes, unwrap_or}
 use Rattle.clap.specs.Kinds.{or_else}
 use Rattle.clap.specs.Values.{refused_kind}
 use Rattle.clap.specs.Words.{Kinds, Row, fault_of, subcommand_of}
@@ -8,18 +8,20 @@ use Rattle.clap.specs.declared.error.kind.ErrorKind.TheVariants.{InvalidSubcomma
 use Rattle.command_line.specs.Parameters.{Values, listed, parser_of, range}
 use Rattle.command_line.proofs.GivenParameters.{give_several, give_taken, give_texts, left_out_refused, wrong_value_refused}
 use Rattle.command_line.proofs.ValueTexts.{value_is}
-use Rattle.command_line.specs.Commands.{HasKnownNames, IsAskedBy, asked_at, asked_by, memory_of, tsobench_app}
-use Rattle.command_line.specs.Internal.Computed.{IsFound, parsed_as}
+use Rattle.command_line.specs.Commands.{HasKnownNames, IsAskedBy, asked_at, asked_by, asked_in, memory_of, notes_by, notes_in, tsobench_app}
+use Rattle.command_line.specs.Internal.Computed.{AreNotesFound, IsFound, parsed_as}
 use Rattle.command_line.specs.Refusals.{Refuses}
 use Rattle.command_line.specs.Refusals as refuses
-use Rattle.command_line.specs.Requests.{Text, Asked, refusing, showing}
-use Rattle.command_line.specs.Spellings.{Asks, AsksHelp}
+use Rattle.command_line.specs.Requests.{Text, Asked, judging, refusing, showing}
+use Rattle.command_line.specs.declared.options.Presentation.TheVariants.{Report}
+use Rattle.command_line.specs.declared.requests.Notes.{Notes}
+use Rattle.command_line.specs.Spellings.{Asks, AsksHelp, AsksNotes}
 use Rattle.command_line.specs.Spellings as asks
-use Rattle.command_line.specs.Subcommands.{known_names, text_by_name}
+use Rattle.command_line.specs.Subcommands.{known_names, no_notes, notes_of, text_by_name}
 use Rattle.command_line.specs.Subcommands.{asks as asks_of}
 use Rattle.command_line.specs.declared.options.OptionNames.{OptionNames}
 use Rattle.command_line.specs.declared.parameters.NameList.{NameList}
-use Rattle.command_line.proofs.MemberLemmas.{asked_by_name, defaults_taken, help_option, help_shown, nothing_taken, offers, options_shown, parsed_itself, shape, short_shown, subcommand_fault, subcommand_found, unknown_itself, unknown_refused}
+use Rattle.command_line.proofs.MemberLemmas.{by_name, defaults_taken, help_option, help_shown, nothing_taken, offers, options_shown, parsed_itself, shape, short_shown, subcommand_fault, subcommand_found, unknown_itself, unknown_refused}
 
 -- ---- by the kinds of error
 
@@ -61,10 +63,23 @@ module _ (names : OptionNames) where
       let taken = subcommand_fault names c among rest
       ∙ ap (λ kinds. or_else kinds []) (give_taken (memory_of names) known_names are (shape names c) c.parameters (offers names c among) (defaults_taken names c among) rest texts more give) in
       by_matches _ asked _ taken (unchanged (c.name ∷ rest) asked (parsed_itself names c among rest) is)
-      ∙ ap asked_by (subcommand_found names c among rest) ∙ asked_by_name names c among _
+      ∙ ap asked_by (subcommand_found names c among rest) ∙ by_name names c among asked_in (judging Report None 1 None) _
       ∙ ap₂ (λ texts all. asks_of c (text_by_name c.parameters texts) all)
       (give_texts (memory_of names) known_names are (shape names c) c.parameters (offers names c among) (defaults_taken names c among) rest texts more give)
       (give_several (memory_of names) known_names are (shape names c) c.parameters (offers names c among) (defaults_taken names c among) rest texts more give)
+
+  -- what a parse of a subcommand's arguments in a usual spelling says is told beside what they ask for
+  pub notes_are : HasKnownNames names → (arguments : List Text) (wanted notes : Notes) → AsksNotes arguments wanted → AreNotesFound names arguments notes → notes ≡ wanted
+  notes_are are arguments wanted notes asks.unnoted is = is (nothing_taken names)
+  notes_are are arguments wanted notes (asks.noted c rest texts more among give) is =
+      let taken = subcommand_fault names c among rest
+      ∙ ap (λ kinds. or_else kinds []) (give_taken (memory_of names) known_names are (shape names c) c.parameters (offers names c among) (defaults_taken names c among) rest texts more give) in
+      let itself = parsed_itself names c among rest in
+      is (ap (fault_of (tsobench_app names)) itself ∙ taken)
+      ∙ ap (λ a. notes_by (subcommand_of (tsobench_app names) a)) itself
+      ∙ ap notes_by (subcommand_found names c among rest) ∙ by_name names c among notes_in no_notes _
+      ∙ ap (λ texts. notes_of (text_by_name c.parameters texts))
+      (give_texts (memory_of names) known_names are (shape names c) c.parameters (offers names c among) (defaults_taken names c among) rest texts more give)
 
   pub help_is : (arguments : List Text) (asked : Asked) → AsksHelp arguments → IsFound names arguments asked → asked ≡ showing
   help_is arguments asked asks.help is = by_kind _ asked _ _ (options_shown names).0 is

@@ -11,10 +11,11 @@ use Rattle.command_line.specs.Offered.{several_in, text_in}
 use Rattle.command_line.specs.Parameters.{Parameter, offered_app}
 use Rattle.command_line.specs.declared.options.OptionNames.{OptionNames}
 use Rattle.command_line.specs.declared.options.Presentation.TheVariants.{Report}
+use Rattle.command_line.specs.declared.requests.Notes.{Notes}
 use Rattle.command_line.specs.declared.parameters.NameList.{NameList}
 use Rattle.command_line.specs.declared.parameters.NameList.TheVariants.{Units, Models, Formats}
 use Rattle.command_line.specs.Requests.{Text, Asked, judging, refusing, showing}
-use Rattle.command_line.specs.Subcommands.{Subcommand, asks, known_names, subcommands, text_by_name}
+use Rattle.command_line.specs.Subcommands.{Subcommand, asks, known_names, no_notes, notes_of, subcommands, text_by_name}
 
 -- ---- the command line
 
@@ -45,10 +46,21 @@ given_in parameters rows = text_by_name parameters (map (text_in rows) parameter
 abbrev pub asked_in : Subcommand → List Row → Asked
 asked_in c rows = asks c (given_in c.parameters rows) (several_in rows c.parameters)
 
--- by the subcommand's name and its rows; without a subcommand standard input is judged, with one worker
+-- what is told beside it
+abbrev pub notes_in : Subcommand → List Row → Notes
+notes_in c rows = notes_of (given_in c.parameters rows)
+
+-- by the subcommand's name and its rows, or what it is without a subcommand
+abbrev pub by_subcommand : {X : Type 0} → (Subcommand → List Row → X) → X → Option (Text × List Row) → X
+by_subcommand value none None = none
+by_subcommand value none (Some found) = option_map_or (λ c. value c found.1) (find (λ c. bytes_eq c.name found.0) subcommands) none
+
+-- without a subcommand standard input is judged, with one worker, and nothing is told beside it
 abbrev pub asked_by : Option (Text × List Row) → Asked
-asked_by None = judging Report None 1 None
-asked_by (Some found) = option_map_or (λ c. asked_in c found.1) (find (λ c. bytes_eq c.name found.0) subcommands) (judging Report None 1 None)
+asked_by = by_subcommand asked_in (judging Report None 1 None)
+
+abbrev pub notes_by : Option (Text × List Row) → Notes
+notes_by = by_subcommand notes_in no_notes
 
 -- ---- what a kind of error stands for
 

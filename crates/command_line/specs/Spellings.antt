@@ -2,8 +2,9 @@
 use Rattle.std.specs.Prelude.{Contains, List, [], ◌∷◌, Option, None, codes}
 use Rattle.command_line.specs.Spelled.{Give}
 use Rattle.command_line.specs.declared.options.Presentation.TheVariants.{Report}
+use Rattle.command_line.specs.declared.requests.Notes.{Notes}
 use Rattle.command_line.specs.Requests.{Text, Asked, judging}
-use Rattle.command_line.specs.Subcommands.{Subcommand, asks, known_names, subcommands, text_by_name}
+use Rattle.command_line.specs.Subcommands.{Subcommand, asks, known_names, no_notes, notes_of, subcommands, text_by_name}
 
 -- the arguments ask for this
 pub data Asks : List Text → Asked → Type 0 where
@@ -12,6 +13,12 @@ pub data Asks : List Text → Asked → Type 0 where
   -- the name of a subcommand, and then its parameters in a usual spelling and any order
   subcommand : (c : Subcommand) (rest : List Text) (texts : List (Option Text)) (more : List Text) → Contains subcommands c → Give known_names c.parameters rest texts more
       → Asks (c.name ∷ rest) (asks c (text_by_name c.parameters texts) more)
+
+-- the arguments ask that this be told beside what they ask for
+pub data AsksNotes : List Text → Notes → Type 0 where
+  unnoted : AsksNotes [] no_notes
+  noted : (c : Subcommand) (rest : List Text) (texts : List (Option Text)) (more : List Text) → Contains subcommands c → Give known_names c.parameters rest texts more
+      → AsksNotes (c.name ∷ rest) (notes_of (text_by_name c.parameters texts))
 
 -- the arguments ask for the help or for the version
 pub data AsksHelp : List Text → Type 0 where

@@ -23,10 +23,11 @@ use Rattle.command_line.specs.declared.options.RunOptions.{RunOptions}
 use Rattle.command_line.specs.declared.options.ShapeNumbers.{ShapeNumbers}
 use Rattle.command_line.specs.declared.options.UnitKind.TheVariants.{Serial}
 use Rattle.command_line.specs.declared.options.UnitOptions.{UnitOptions}
+use Rattle.command_line.specs.declared.requests.Notes.{Notes}
 use Rattle.command_line.specs.declared.parameters.NameList.{NameList}
 use Rattle.command_line.specs.declared.parameters.NameList.TheVariants.{Units, Models, Formats}
 use Rattle.command_line.specs.Names.{formats, models, units}
-use Rattle.command_line.specs.Requests.{Text, Asked, batching, campaigning, capacity_limit, checking, drain_turns_limit, judging, log_effort_limit, log_violation_limit, logging, making, number_limit, refusing, replaying, running, worker_limit}
+use Rattle.command_line.specs.Requests.{Text, Asked, batching, campaigning, capacity_limit, checking, drain_turns_limit, judging, log_effort_limit, log_violation_limit, logging, making, number_limit, reducing, refusing, replaying, running, worker_limit}
 
 pub record Subcommand : Type 0 where
   pub name : Text
@@ -74,6 +75,14 @@ workers = option (codes "workers") (range 1 worker_limit) (Some (codes "1"))
 abbrev pub nth : Parameter NameList
 nth = optional (codes "nth") (range 1 number_limit)
 
+-- `--verbose`
+abbrev pub verbose : Parameter NameList
+verbose = flag (codes "verbose")
+
+-- `--progress`
+abbrev pub progress : Parameter NameList
+progress = flag (codes "progress")
+
 -- `--unit UNIT [--capacity C] [--trigger T] [--workers N]`: a capacity of 8 and a trigger of 1 where they are left out
 abbrev pub unit_parameters : List (Parameter NameList)
 unit_parameters =
@@ -82,20 +91,20 @@ unit_parameters =
     ∷ option (codes "trigger") (range 1 number_limit) (Some (codes "1"))
     ∷ workers ∷ []
 
--- those, and `[--trace|--explain] [--with-trace]`
+-- those, and `[--trace|--explain] [--with-trace] [--verbose]`
 abbrev pub run_parameters : List (Parameter NameList)
-run_parameters = unit_parameters ++ flag (codes "trace") ∷ flag (codes "explain") ∷ flag (codes "with-trace") ∷ []
+run_parameters = unit_parameters ++ flag (codes "trace") ∷ flag (codes "explain") ∷ flag (codes "with-trace") ∷ verbose ∷ []
 
 -- `--drain-turns T`: none where it is left out
 abbrev pub drain_turns : Parameter NameList
 drain_turns = option (codes "drain-turns") (range 0 drain_turns_limit) (Some (codes "0"))
 
--- `[--most K] [--effort N] [--trace|--explain]`: 10 violations and an effort of 100 where they are left out
+-- `[--most K] [--effort N] [--trace|--explain] [--progress] [--verbose]`: 10 violations and an effort of 100 where they are left out
 abbrev pub log_parameters : List (Parameter NameList)
 log_parameters =
     option (codes "most") (range 1 log_violation_limit) (Some (codes "10"))
     ∷ option (codes "effort") (range 0 log_effort_limit) (Some (codes "100"))
-    ∷ flag (codes "trace") ∷ flag (codes "explain") ∷ []
+    ∷ flag (codes "trace") ∷ flag (codes "explain") ∷ progress ∷ verbose ∷ []
 
 -- `--name N`, which may not be left out
 abbrev pub required : Text → Parameter NameList
@@ -143,6 +152,14 @@ unit_of given = record {
 -- a flag is used
 abbrev pub is_true : Option Text → Bool
 is_true text = option_map_or (λ t. bytes_eq t (codes "true")) text false
+
+-- nothing is told beside what is asked for
+abbrev pub no_notes : Notes
+no_notes = record { verbose = false; progress = false }
+
+-- what is told beside what is asked for, by the text of the parameter of each name
+abbrev pub notes_of : (Text → Option Text) → Notes
+notes_of given = record { verbose = is_true (given (codes "verbose")); progress = is_true (given (codes "progress")) }
 
 -- what a run prints, by whether the flags of trace and of explanation are used, of which one may be
 abbrev pub printing_of : Bool → Bool → Option Printing
@@ -195,24 +212,33 @@ pair_of first second = if is_some first || is_some second then Some (first, seco
 
 -- ---- the subcommands
 
--- `NAME [--workers N] [--nth K] [FILE]`: judges a file, or standard input, or of the traces that stand there one after the other that of a number, and
+-- `NAME [--workers N] [--nth K] [--verbose] [FILE]`: judges a file, or standard input, or of the traces that stand there one after the other that of a number, and
 -- presents the verdict in this form
 abbrev pub judge_as : Text → Presentation → Subcommand
 judge_as name presentation = record {
   name = name;
-  parameters = workers ∷ nth ∷ other (codes "file") false ∷ [];
+  parameters = workers ∷ nth ∷ verbose ∷ other (codes "file") false ∷ [];
   ask = λ given. judging presentation (file_of (given (codes "file"))) (workers_of given) (number_of (given (codes "nth")));
 }
 
--- `batch [--workers N] [--format FORMAT] [--quiet] [--violations] [FILE]...`: judges the traces that stand one after the other in files, or on standard input
+-- `reduce [--nth K] [--verbose] [FILE]`: reduces the trace in a file, or on standard input, or of the traces that stand there one after the other that of a
+-- number
+abbrev pub reduce : Subcommand
+reduce = record {
+  name = codes "reduce";
+  parameters = nth ∷ verbose ∷ other (codes "file") false ∷ [];
+  ask = λ given. reducing (file_of (given (codes "file"))) (number_of (given (codes "nth")));
+}
+
+-- `batch [--workers N] [--format FORMAT] [--quiet] [--violations] [--progress] [--verbose] [FILE]...`: judges the traces that stand one after the other in files, or on standard input
 abbrev pub batch : Subcommand
 batch = record {
   name = codes "batch";
-  parameters = workers ∷ format ∷ flag (codes "quiet") ∷ flag (codes "violations") ∷ several (codes "file") ∷ [];
+  parameters = workers ∷ format ∷ flag (codes "quiet") ∷ flag (codes "violations") ∷ progress ∷ verbose ∷ several (codes "file") ∷ [];
   ask = λ given. batching [] (workers_of given) (batch_printing_of given);
 }
 
--- `log [--most K] [--trace|--explain] [FILE]`: finds violations of the log in a file, or on standard input
+-- `log [--most K] [--effort N] [--trace|--explain] [--progress] [--verbose] [FILE]`: finds violations of the log in a file, or on standard input
 abbrev pub log : Subcommand
 log = record {
   name = codes "log";
@@ -220,16 +246,17 @@ log = record {
   ask = λ given. option_map_or (logging (file_of (given (codes "file")))) (log_options_of given) refusing;
 }
 
--- `check [--nth K] TRACE CERT`: checks a certificate against its trace, or against that of a number among those that stand one after the other
+-- `check [--nth K] [--verbose] TRACE CERT`: checks a certificate against its trace, or against that of a number among those that stand one after the other
 abbrev pub check : Subcommand
 check = record {
   name = codes "check";
-  parameters = nth ∷ other (codes "trace") true ∷ other (codes "cert") true ∷ [];
+  parameters = nth ∷ verbose ∷ other (codes "trace") true ∷ other (codes "cert") true ∷ [];
   ask = λ given.
       option_map_or (λ texts. checking texts.0 texts.1 (number_of (given (codes "nth")))) (pair_of (file_of (given (codes "trace"))) (file_of (given (codes "cert")))) refusing;
 }
 
--- `replay --unit UNIT [--capacity C] [--trigger T] [--workers N] [--trace|--explain] [--with-trace] PROGRAM SCHEDULE`: replays a program by a schedule
+-- `replay --unit UNIT [--capacity C] [--trigger T] [--workers N] [--trace|--explain] [--with-trace] [--verbose] PROGRAM SCHEDULE`: replays a program by a
+-- schedule
 abbrev pub replay : Subcommand
 replay = record {
   name = codes "replay";
@@ -239,8 +266,8 @@ replay = record {
       (run_of given) refusing;
 }
 
--- `run --unit UNIT [--capacity C] [--trigger T] [--workers N] [--trace|--explain] [--with-trace] --seed N [--drain-turns T] PROGRAM`: runs a program with a
--- thread per processor, and no drainer where its turns are left out
+-- `run --unit UNIT [--capacity C] [--trigger T] [--workers N] [--trace|--explain] [--with-trace] [--verbose] --seed N [--drain-turns T] PROGRAM`: runs a
+-- program with a thread per processor, and no drainer where its turns are left out
 abbrev pub run : Subcommand
 run = record {
   name = codes "run";
@@ -263,12 +290,12 @@ make = record {
   });
 }
 
--- `campaign --unit UNIT [--capacity C] [--trigger T] [--workers N] [--replay] [--drain-turns T] [--trace] [--model MODEL] --first S --count K --procs P
--- --ops O --addrs A`: runs or replays the programs that many seeds draw
+-- `campaign --unit UNIT [--capacity C] [--trigger T] [--workers N] [--replay] [--drain-turns T] [--trace] [--progress] [--model MODEL] --first S --count K
+-- --procs P --ops O --addrs A`: runs or replays the programs that many seeds draw
 abbrev pub campaign : Subcommand
 campaign = record {
   name = codes "campaign";
-  parameters = unit_parameters ++ flag (codes "replay") ∷ drain_turns ∷ flag (codes "trace") ∷ model ∷ required (codes "first") ∷ required (codes "count") ∷ shape_parameters;
+  parameters = unit_parameters ++ flag (codes "replay") ∷ drain_turns ∷ flag (codes "trace") ∷ progress ∷ model ∷ required (codes "first") ∷ required (codes "count") ∷ shape_parameters;
   ask = λ given. campaigning (record {
     unit = unit_of given;
     workers = workers_of given;
@@ -285,4 +312,4 @@ campaign = record {
 abbrev pub subcommands : List Subcommand
 subcommands =
     judge_as (codes "judge") form.Report ∷ judge_as (codes "explain") form.Explanation ∷ judge_as (codes "draw") form.Picture
-    ∷ batch ∷ log ∷ check ∷ replay ∷ run ∷ make ∷ campaign ∷ []
+    ∷ reduce ∷ batch ∷ log ∷ check ∷ replay ∷ run ∷ make ∷ campaign ∷ []

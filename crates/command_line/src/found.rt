@@ -1,9 +1,9 @@
 //! What the matches of a subcommand ask for. The command has refused arguments without what may not be left out.
-ghost use Rattle.std.specs.Prelude.{◌≡◌, ◌≤◌, [], codes, count_by, is_none, map, option_map, unwrap_or, IfOk, Some};
+ghost use Rattle.std.specs.Prelude.{◌≡◌, ◌≤◌, [], codes, count_by, false, is_none, map, option_map, unwrap_or, IfOk, Some};
 ghost use Rattle.clap.specs.Words.{first_of, found_of, one_of, rows_of};
 ghost use Rattle.command_line.specs.Commands.{asked_in, given_in};
 ghost use Rattle.command_line.specs.Requests.{asked_of, drain_turns_limit, files_of, refusing, worker_limit};
-ghost use Rattle.command_line.specs.Subcommands.{batch, batch_printing_of, batch_texts, campaign, check, chosen_format, chosen_order, file_of, is_true, judge_as, log, log_form_of, log_options_of, log_parameters, make, model, number_of, number_or, pair_of, printing_of, replay, run, run_of, run_parameters, shape_of, shape_parameters, unit_of, unit_parameters, within};
+ghost use Rattle.command_line.specs.Subcommands.{batch, batch_printing_of, batch_texts, campaign, check, chosen_format, chosen_order, file_of, is_true, judge_as, log, log_form_of, log_options_of, log_parameters, make, model, number_of, number_or, pair_of, printing_of, reduce, replay, run, run_of, run_parameters, shape_of, shape_parameters, unit_of, unit_parameters, within};
 
 use crate::help;
 use crate::options::{
@@ -13,7 +13,8 @@ use crate::options::{
     order_named,
 };
 use crate::requests::{
-    BatchRequest, CheckRequest, JudgeRequest, LogRequest, Request, RunRequest, TextPair,
+    BatchRequest, CheckRequest, JudgeRequest, LogRequest, Notes, ReduceRequest, Request,
+    RunRequest, TextPair,
 };
 use clap::ArgMatches;
 use std::alloc::{AllocError, Global};
@@ -31,6 +32,16 @@ pub(crate) fn judge<'a>(matches: &ArgMatches<'a>, presentation: Presentation) ->
         workers: workers(matches),
         nth: nth(matches),
         presentation,
+    })
+}
+
+/// Of `reduce`.
+pub(crate) fn reduce<'a>(matches: &ArgMatches<'a>) -> Request<'a>
+    ensures { asked_of result ≡ asked_in reduce (rows_of (found_of matches.now)) }
+{
+    Request::Reduce(ReduceRequest {
+        file: file(matches, "file"),
+        nth: nth(matches),
     })
 }
 
@@ -343,6 +354,36 @@ fn drain_turns(matches: &ArgMatches<'_>) -> u64
     ensures range { result ≤ drain_turns_limit }
 {
     number_within(matches, "drain-turns", 0, 0, MAX_DRAIN_TURNS)
+}
+
+/// What is told of what reads files, which has a flag for reasons of faults.
+pub(crate) fn verbose_notes(matches: &ArgMatches<'_>) -> Notes
+    ensures { let rows = rows_of (found_of matches.now) in (result.verbose ≡ is_true (one_of (codes "verbose") rows)) × (result.progress ≡ false) }
+{
+    Notes {
+        verbose: is_used(matches, "verbose"),
+        progress: false,
+    }
+}
+
+/// What is told of what takes long, which has a flag for progress.
+pub(crate) fn progress_notes(matches: &ArgMatches<'_>) -> Notes
+    ensures { let rows = rows_of (found_of matches.now) in (result.verbose ≡ false) × (result.progress ≡ is_true (one_of (codes "progress") rows)) }
+{
+    Notes {
+        verbose: false,
+        progress: is_used(matches, "progress"),
+    }
+}
+
+/// What is told of what reads files and takes long, which has both flags.
+pub(crate) fn both_notes(matches: &ArgMatches<'_>) -> Notes
+    ensures { let rows = rows_of (found_of matches.now) in (result.verbose ≡ is_true (one_of (codes "verbose") rows)) × (result.progress ≡ is_true (one_of (codes "progress") rows)) }
+{
+    Notes {
+        verbose: is_used(matches, "verbose"),
+        progress: is_used(matches, "progress"),
+    }
 }
 
 /// Whether the flag of this name is used.

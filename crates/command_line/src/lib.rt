@@ -17,6 +17,6 @@ pub use options::{
     Printing, RunOptions, ShapeNumbers, UnitKind, UnitOptions,
 };
 pub use requests::{
-    BatchRequest, CheckRequest, JudgeRequest, LogRequest, Request, RunRequest, TextPair,
-    read_arguments,
+    BatchRequest, CheckRequest, CommandLine, JudgeRequest, LogRequest, Notes, ReduceRequest,
+    Request, RunRequest, TextPair, read_arguments,
 };

@@ -3,10 +3,11 @@ ghost use Rattle.std.specs.Prelude.{◌≡◌, IfOk, IsErr, map, option_map, unw
 ghost use Rattle.clap.specs.Words.{FailsBy, app_of, fault_of, kind_of, subcommand_of, subcommand_rows_of};
 ghost use Rattle.clap.specs.declared.error.kind.ErrorKind.TheVariants.{OutOfMemory};
 ghost use Rattle.command_line.specs.Requests.{Asked, HasDrainTurns, HasLogRanges, HasOneInput, HasUnitRanges, HasWorkers, asked_of, refusing, showing, texts_in};
-ghost use Rattle.command_line.specs.Spellings.{Asks, AsksHelp};
+ghost use Rattle.command_line.specs.Spellings.{Asks, AsksHelp, AsksNotes};
 ghost use Rattle.command_line.specs.Refusals.{Refuses};
+ghost use Rattle.command_line.specs.declared.requests.Notes.{Notes as NotesValue};
 ghost use Rattle.command_line.specs.Commands.{IsAskedFor, asked_at, tsobench_app};
-ghost use Rattle.command_line.specs.Internal.Computed.{IsFound, parsed_as};
+ghost use Rattle.command_line.specs.Internal.Computed.{AreNotesFound, IsFound, parsed_as};
 
 use crate::options::{
     BatchPrinting, CampaignOptions, LogOptions, MakeOptions, OptionNames, Presentation, RunOptions,
@@ -54,6 +55,15 @@ pub struct JudgeRequest<'a> {
     pub presentation: Presentation,
 }
 
+/// Which trace is reduced.
+#[derive(Clone, Copy, Debug)]
+pub struct ReduceRequest<'a> {
+    /// The file with the trace; standard input where none is named.
+    pub file: Option<&'a str>,
+    /// Which of the traces that stand there one after the other is reduced, from 1; none where it is the only one.
+    pub nth: Option<u64>,
+}
+
 /// Which certificate is checked, and against which trace.
 #[derive(Clone, Copy, Debug)]
 pub struct CheckRequest<'a> {
@@ -88,6 +98,8 @@ pub struct LogRequest<'a> {
 pub enum Request<'a> {
     /// To judge one trace.
     Judge(JudgeRequest<'a>),
+    /// To reduce a trace to a small one that shows its violation.
+    Reduce(ReduceRequest<'a>),
     /// To judge traces that stand one after the other.
     Batch(BatchRequest<'a>),
     /// To find violations of a log.
@@ -111,42 +123,78 @@ pub enum Request<'a> {
     Refuse(String),
 }
 
-/// What these arguments ask for; the program's name is none of them.
-///
-/// Its only error is that memory ran out, and it may come for any arguments.
-pub fn read_arguments<'a>(alloc: Global, arguments: &'a [String]) -> Result<Request<'a>, AllocError>
-    ensures parsed { IfOk result (λ request. IsAskedFor (texts_in arguments.now) (asked_of request)) }
-    ensures asked { (asked : Asked) → Asks (texts_in arguments.now) asked
-        → IfOk result (λ request. asked_of request ≡ asked) }
-    ensures helped { AsksHelp (texts_in arguments.now)
-        → IfOk result (λ request. asked_of request ≡ showing) }
-    ensures refused { Refuses (texts_in arguments.now)
-        → IfOk result (λ request. asked_of request ≡ refusing) }
-    ensures workers { IfOk result (λ request. HasWorkers (asked_of request)) }
-    ensures unit { IfOk result (λ request. HasUnitRanges (asked_of request)) }
-    ensures turns { IfOk result (λ request. HasDrainTurns (asked_of request)) }
-    ensures log { IfOk result (λ request. HasLogRanges (asked_of request)) }
-    ensures input { IfOk result (λ request. HasOneInput (asked_of request)) }
-{
-    request_by(alloc, option_names(), arguments)
+/// What is told on standard error beside what a request asks for.
+#[derive(Clone, Copy, Debug, PartialEq, Eq)]
+pub struct Notes {
+    /// Whether a second line after `FAULT Read` names the file and the system's reason.
+    pub verbose: bool,
+    /// Whether it is told, at most once a second, how much is done.
+    pub progress: bool,
 }
 
-/// What these arguments ask for, where options take these names.
-fn request_by<'a>(
+/// Nothing is told.
+pub(crate) const NO_NOTES: Notes = Notes {
+    verbose: false,
+    progress: false,
+};
+
+/// What the arguments of a command line say.
+#[derive(Debug, Drop)]
+pub struct CommandLine<'a> {
+    /// What they ask for.
+    pub request: Request<'a>,
+    /// What is told beside it.
+    pub notes: Notes,
+}
+
+/// What these arguments say; the program's name is none of them.
+///
+/// Its only error is that memory ran out, and it may come for any arguments.
+pub fn read_arguments<'a>(
+    alloc: Global,
+    arguments: &'a [String],
+) -> Result<CommandLine<'a>, AllocError>
+    ensures parsed { IfOk result (λ line. IsAskedFor (texts_in arguments.now) (asked_of line.request)) }
+    ensures asked { (asked : Asked) → Asks (texts_in arguments.now) asked
+        → IfOk result (λ line. asked_of line.request ≡ asked) }
+    ensures helped { AsksHelp (texts_in arguments.now)
+        → IfOk result (λ line. asked_of line.request ≡ showing) }
+    ensures refused { Refuses (texts_in arguments.now)
+        → IfOk result (λ line. asked_of line.request ≡ refusing) }
+    ensures notes { (notes : NotesValue) → AsksNotes (texts_in arguments.now) notes
+        → IfOk result (λ line. line.notes ≡ notes) }
+    ensures workers { IfOk result (λ line. HasWorkers (asked_of line.request)) }
+    ensures unit { IfOk result (λ line. HasUnitRanges (asked_of line.request)) }
+    ensures turns { IfOk result (λ line. HasDrainTurns (asked_of line.request)) }
+    ensures log { IfOk result (λ line. HasLogRanges (asked_of line.request)) }
+    ensures input { IfOk result (λ line. HasOneInput (asked_of line.request)) }
+{
+    command_line_by(alloc, option_names(), arguments)
+}
+
+/// What these arguments say, where options take these names.
+fn command_line_by<'a>(
     alloc: Global,
     names: OptionNames<'a>,
     arguments: &'a [String],
-) -> Result<Request<'a>, AllocError>
-    ensures found { IfOk result (λ request. IsFound names.entry (texts_in arguments.now) (asked_of request)) }
-    ensures workers { IfOk result (λ request. HasWorkers (asked_of request)) }
-    ensures unit { IfOk result (λ request. HasUnitRanges (asked_of request)) }
-    ensures turns { IfOk result (λ request. HasDrainTurns (asked_of request)) }
-    ensures log { IfOk result (λ request. HasLogRanges (asked_of request)) }
-    ensures input { IfOk result (λ request. HasOneInput (asked_of request)) }
+) -> Result<CommandLine<'a>, AllocError>
+    ensures found { IfOk result (λ line. IsFound names.entry (texts_in arguments.now) (asked_of line.request)) }
+    ensures notes { IfOk result (λ line. AreNotesFound names.entry (texts_in arguments.now) line.notes) }
+    ensures workers { IfOk result (λ line. HasWorkers (asked_of line.request)) }
+    ensures unit { IfOk result (λ line. HasUnitRanges (asked_of line.request)) }
+    ensures turns { IfOk result (λ line. HasDrainTurns (asked_of line.request)) }
+    ensures log { IfOk result (λ line. HasLogRanges (asked_of line.request)) }
+    ensures input { IfOk result (λ line. HasOneInput (asked_of line.request)) }
 {
     match matches(alloc, names, arguments) {
-        Ok(matches) => subcommands::request(alloc, &matches),
-        Err(error) => text_request(alloc, &error),
+        Ok(matches) => Ok(CommandLine {
+            request: subcommands::request(alloc, &matches)?,
+            notes: subcommands::notes(&matches),
+        }),
+        Err(error) => Ok(CommandLine {
+            request: text_request(alloc, &error)?,
+            notes: NO_NOTES,
+        }),
     }
 }
 

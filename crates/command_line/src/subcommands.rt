@@ -5,13 +5,13 @@ ghost use Rattle.clap.specs.Words.{app_of, found_of, rows_of, subcommand_rows_of
 ghost use Rattle.clap.specs.declared.builder.command.Command.TheViews.{out-Command as fields_of};
 ghost use Rattle.command_line.specs.Requests.{HasDrainTurns, HasLogRanges, HasOneInput, HasUnitRanges, HasWorkers, asked_of};
 ghost use Rattle.command_line.specs.Parameters.{offered_app};
-ghost use Rattle.command_line.specs.Commands.{asked_by, asked_in, memory_of, program_app, tsobench_app};
+ghost use Rattle.command_line.specs.Commands.{asked_by, asked_in, memory_of, notes_by, notes_in, program_app, tsobench_app};
 ghost use Rattle.command_line.specs.Subcommands.{subcommands};
 ghost use Rattle.command_line.specs.Internal.Computed.{help_option_of, member_of, parameter_of};
 
 use crate::options::{OptionNames, Presentation};
 use crate::parameters::{Description, subcommand_of};
-use crate::requests::{JudgeRequest, Request};
+use crate::requests::{JudgeRequest, NO_NOTES, Notes, Request};
 use crate::{found, help};
 use clap::{ArgMatches, Command};
 use std::alloc::{AllocError, Global};
@@ -24,6 +24,7 @@ mod explain;
 mod judge;
 mod log;
 mod make;
+mod reduce;
 mod replay;
 mod run;
 mod shared;
@@ -37,6 +38,7 @@ enum Subcommand {
     Judge,
     Explain,
     Draw,
+    Reduce,
     Batch,
     Log,
     Check,
@@ -47,10 +49,11 @@ enum Subcommand {
 }
 
 /// All of them, as the help lists them.
-static SUBCOMMANDS: [Subcommand; 10] = [
+static SUBCOMMANDS: [Subcommand; 11] = [
     Subcommand::Judge,
     Subcommand::Explain,
     Subcommand::Draw,
+    Subcommand::Reduce,
     Subcommand::Batch,
     Subcommand::Log,
     Subcommand::Check,
@@ -70,6 +73,7 @@ impl Subcommand {
             Subcommand::Judge => &judge::JUDGE,
             Subcommand::Explain => &explain::EXPLAIN,
             Subcommand::Draw => &draw::DRAW,
+            Subcommand::Reduce => &reduce::REDUCE,
             Subcommand::Batch => &batch::BATCH,
             Subcommand::Log => &log::LOG,
             Subcommand::Check => &check::CHECK,
@@ -108,6 +112,7 @@ impl Subcommand {
             Subcommand::Judge => Ok(found::judge(matches, Presentation::Report)),
             Subcommand::Explain => Ok(found::judge(matches, Presentation::Explanation)),
             Subcommand::Draw => Ok(found::judge(matches, Presentation::Picture)),
+            Subcommand::Reduce => Ok(found::reduce(matches)),
             Subcommand::Batch => found::batch(alloc, matches),
             Subcommand::Log => found::log(alloc, matches),
             Subcommand::Check => found::check(alloc, matches),
@@ -115,6 +120,24 @@ impl Subcommand {
             Subcommand::Run => found::run(alloc, matches),
             Subcommand::Make => Ok(found::make(matches)),
             Subcommand::Campaign => Ok(found::campaign(matches)),
+        }
+    }
+
+    /// What its matches say is to be told.
+    fn notes(self, matches: &ArgMatches<'_>) -> Notes
+        ensures { result ≡ notes_in (member_of self) (rows_of (found_of matches.now)) }
+    {
+        match self {
+            Subcommand::Judge
+            | Subcommand::Explain
+            | Subcommand::Draw
+            | Subcommand::Reduce
+            | Subcommand::Check
+            | Subcommand::Replay
+            | Subcommand::Run => found::verbose_notes(matches),
+            Subcommand::Batch | Subcommand::Log => found::both_notes(matches),
+            Subcommand::Campaign => found::progress_notes(matches),
+            Subcommand::Make => NO_NOTES,
         }
     }
 }
@@ -186,6 +209,18 @@ pub(crate) fn request<'a>(
         nth: None,
         presentation: Presentation::Report,
     }))
+}
+
+/// What the matches say is to be told: nothing without a subcommand.
+pub(crate) fn notes(matches: &ArgMatches<'_>) -> Notes
+    ensures { result ≡ notes_by (subcommand_rows_of matches.now) }
+{
+    if let Some((name, found)) = matches.subcommand() {
+        if let Some(subcommand) = subcommand_named(name) {
+            return subcommand.notes(found);
+        }
+    }
+    NO_NOTES
 }
 
 /// The subcommand of this name.

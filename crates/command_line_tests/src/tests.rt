@@ -7,6 +7,7 @@ use std::test::Fail;
 
 mod accepted;
 mod help;
+mod notes;
 mod refused;
 
 /// The options of a run, as text.
@@ -71,6 +72,11 @@ fn described(alloc: Global, request: &Request<'_>) -> Result<String, AllocError>
                 judge.presentation, judge.file, judge.workers
             )
         }
+        Request::Reduce(reduce) => {
+            let file = reduce.file;
+            let nth = reduce.nth;
+            format!(in alloc; "reduce {file:?} nth {nth:?}")
+        }
         Request::Batch(batch) => format!(in alloc;
             "batch {:?} with {} {:?} quiet {} violations {}",
             batch.texts,
@@ -129,7 +135,7 @@ fn asked(alloc: Global, arguments: &[&str]) -> Result<String, AllocError> {
     for argument in arguments {
         owned.push(String::from_str(alloc, argument)?)?;
     }
-    described(alloc, &read_arguments(alloc, &owned)?)
+    described(alloc, &read_arguments(alloc, &owned)?.request)
 }
 
 /// Compares what each of these arguments ask for with this word and the text beside them.

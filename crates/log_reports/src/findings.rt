@@ -5,8 +5,10 @@ ghost use Rattle.log_text.specs.LogValues.{NumberedLog};
 ghost use Rattle.log_reports.specs.Findings.{AreFindings, IsListed};
 
 use crate::judging::TraceJudge;
+use crate::reports::LogOptions;
 use log_search::{Found, Search, reduce};
 use log_selections::{Kept, KnownLog, Selected, Shown, UnwrittenLoad};
+use progress_meters::Meter;
 use std::alloc::{AllocFailed, Global};
 use std::sync::Wait;
 use std::thread::Threads;
@@ -37,7 +39,8 @@ pub struct LogFindings {
     pub violations: Vec<LogViolation>,
     /// Operations of more than 16 processors that should have no memory order. They can't be judged as a trace.
     pub unjudged: Vec<Vec<Shown>>,
-    /// How many proposals of the search were no violations when they were judged, and loads of what nothing wrote were written.
+    /// How many were left out: proposals of the search that were no violations when they were judged, and loads whose value had
+    /// been written after all.
     pub not_shown: usize,
     /// In how many parts the addresses of the log were searched: what needs addresses of two parts isn't found.
     pub parts: usize,
@@ -45,16 +48,17 @@ pub struct LogFindings {
     pub is_early: bool,
 }
 
-/// Finds violations of a log, so many at most: first loads of what nothing wrote, in the order of their processors, and then
-/// what the search finds, which may do so many steps for each load and store of the log.
+/// Finds violations of a log, as many at most as the options say: first loads of what nothing wrote, in the order of their
+/// processors, and then what the search finds, with the effort that they allow it. The meter hears of each operation that the
+/// search looks at.
 ///
 /// Faults: OutOfMemory where an allocation was refused, and NoThread where the system refused a thread.
-pub fn find_violations<H: Threads + Wait>(
+pub fn find_violations<H: Threads + Wait, M: Meter>(
     rt: &H,
     alloc: Global,
     known: &KnownLog,
-    most: usize,
-    effort: usize,
+    options: LogOptions,
+    meter: &M,
 ) -> Result<LogFindings, Fault>
     ensures found { IfOk result (AreFindings known.now) }
     ensures fault { IfErr result (λ fault. (fault ≡ Fault.OutOfMemory) ⊎ (fault ≡ Fault.NoThread)) }
@@ -66,8 +70,8 @@ pub fn find_violations<H: Threads + Wait>(
         parts: 1,
         is_early: false,
     };
-    findings.list_unwritten(alloc, known, most)?;
-    findings.search(rt, alloc, known, most, effort)?;
+    findings.list_unwritten(alloc, known, options.most)?;
+    findings.search(rt, alloc, known, options, meter)?;
     Ok(findings)
 }
 
@@ -90,24 +94,24 @@ impl LogFindings {
         Ok(())
     }
 
-    /// Searches the log, with so much effort, until there are so many violations.
-    fn search<H: Threads + Wait>(
+    /// Searches the log, with the effort of the options, until there are as many violations as they say.
+    fn search<H: Threads + Wait, M: Meter>(
         &mut self,
         rt: &H,
         alloc: Global,
         known: &KnownLog,
-        most: usize,
-        effort: usize,
+        options: LogOptions,
+        meter: &M,
     ) -> Result<(), Fault>
         ensures found { OnOk result (AreFindings known.now self.old → AreFindings known.now self.new) }
         ensures fault { IfErr result (λ fault. (fault ≡ Fault.OutOfMemory) ⊎ (fault ≡ Fault.NoThread)) }
     {
-        let mut search = Search::new(alloc, known, effort)?;
+        let mut search = Search::new(alloc, known, options.effort)?;
         for _ in 0..usize::MAX {
-            if self.violations.len() >= most {
+            if self.violations.len() >= options.most {
                 break;
             }
-            let found = search.next(alloc)?;
+            let found = search.next(alloc, meter)?;
             self.parts = search.parts();
             match found {
                 Found::Proposal(kept) => self.consider(rt, alloc, known, kept)?,

@@ -8,12 +8,15 @@ use std::thread::Threads;
 use trace_judging::{Fault, find_violation};
 use tso_ops::OutOfMemory;
 
-/// Judges operations of a log as a trace.
+/// Judges operations of a log as a trace, on one worker: they are accused where the trace is a violation.
 #[derive(Drop)]
-pub(crate) struct TraceJudge<'a, H> {
-    pub(crate) rt: &'a H,
-    pub(crate) alloc: Global,
-    pub(crate) known: &'a KnownLog,
+pub struct TraceJudge<'a, H> {
+    /// The runtime.
+    pub rt: &'a H,
+    /// The allocator.
+    pub alloc: Global,
+    /// The log.
+    pub known: &'a KnownLog,
 }
 
 impl<H: Threads + Wait> Judge for TraceJudge<'_, H> {

@@ -16,6 +16,7 @@ use crate::notes::render_notes;
 use crate::rendering::{LogForm, render};
 use log_selections::KnownLog;
 use log_text::{Log, read_log};
+use progress_meters::Meter;
 use std::alloc::Global;
 use std::io::{Read, Write};
 use std::sync::Wait;
@@ -29,7 +30,7 @@ use tso_text::TextFault;
 pub struct LogOptions {
     /// How many violations are listed at most.
     pub most: usize,
-    /// How many steps the search may do for each load and store of the log. It may do as many as for 50,000 of them in any log.
+    /// How many steps the search may do for each load and store of the log, and for 50,000 more.
     pub effort: usize,
     /// What is printed.
     pub form: LogForm,
@@ -58,13 +59,14 @@ struct LogReport {
 
 /// Reports on the log that a reader has: writes its violations, or the line of its refusal where the text is no log's.
 ///
-/// Notes on what was left out go to `errors`; what that doesn't take is lost. Faults: OutOfMemory where an allocation was
+/// Notes on what was left out go to `errors`; what that doesn't take is lost. The meter hears of each operation that the search
+/// looks at. Faults: OutOfMemory where an allocation was
 /// refused; Read where the reader failed, or didn't show its end within 2,097,152 calls of `read`; NoThread where the system
 /// refused a thread; Write where the writer failed, took no byte or was interrupted more than 1,048,576 times.
-pub fn report_log<H: Threads + Wait, R: Read, W: Write, E: Write>(
+pub fn report_log<H: Threads + Wait + AllocGlobal, M: Meter, R: Read, W: Write, E: Write>(
     rt: &H,
-    alloc: Global,
     options: LogOptions,
+    meter: &M,
     reader: &mut R,
     writer: &mut W,
     errors: &mut E,
@@ -76,7 +78,7 @@ pub fn report_log<H: Threads + Wait, R: Read, W: Write, E: Write>(
     ensures told { (text : List ℕ) × AppendsPrefix (E.contents errors.old) (E.contents errors.new) text }
     ensures untold { OnErr result (Keeps (E.contents errors.old) (E.contents errors.new)) }
 {
-    let report = read_report(rt, alloc, options, reader)?;
+    let report = read_report(rt, options, meter, reader)?;
     write_text(writer, report.text.as_bytes())?;
     // The report is written: nothing can be done where notes on it can't be.
     let _ = write_text(errors, report.notes.as_bytes());
@@ -84,39 +86,41 @@ pub fn report_log<H: Threads + Wait, R: Read, W: Write, E: Write>(
 }
 
 /// The report on the log that a reader has.
-fn read_report<H: Threads + Wait, R: Read>(
+fn read_report<H: Threads + Wait + AllocGlobal, M: Meter, R: Read>(
     rt: &H,
-    alloc: Global,
     options: LogOptions,
+    meter: &M,
     reader: &mut R,
 ) -> Result<LogReport, Fault>
     ensures report { IfOk result (λ report. IsLogReportOfReader options.form (R.remaining reader.old) (string_bytes report.text) report.verdict) }
     ensures taken { IfOk result (λ _. IfSome (R.remaining reader.old) (λ all. Consumes (R.remaining reader.old) (R.remaining reader.new) all)) }
     ensures fault { IfErr result (λ fault. (fault ≡ Fault.OutOfMemory) ⊎ (fault ≡ Fault.NoThread) ⊎ (fault ≡ Fault.Read)) }
 {
+    let alloc = rt.alloc();
     let text = read_all(alloc, reader, usize::MAX)?;
     match read_log(alloc, &text) {
         Ok(log) => {
             // A long log's text takes memory that the search needs.
             drop(text);
-            report_on(rt, alloc, options, log)
+            report_on(rt, options, meter, log)
         }
         Err(fault) => Ok(refuse(alloc, fault)?),
     }
 }
 
 /// The report on a log.
-fn report_on<H: Threads + Wait>(
+fn report_on<H: Threads + Wait + AllocGlobal, M: Meter>(
     rt: &H,
-    alloc: Global,
     options: LogOptions,
+    meter: &M,
     log: Log,
 ) -> Result<LogReport, Fault>
     ensures report { IfOk result (λ report. IsReportOf (log_value log) options.form (string_bytes report.text) report.verdict) }
     ensures fault { IfErr result (λ fault. (fault ≡ Fault.OutOfMemory) ⊎ (fault ≡ Fault.NoThread)) }
 {
+    let alloc = rt.alloc();
     let known = KnownLog::new(alloc, log)?;
-    let findings = find_violations(rt, alloc, &known, options.most, options.effort)?;
+    let findings = find_violations(rt, alloc, &known, options, meter)?;
     let unknown = known.ambiguous_loads();
     Ok(LogReport {
         text: render(alloc, options.form, &known, unknown, &findings)?,

@@ -7,6 +7,7 @@ mod refused_allocations;
 mod reports;
 
 use log_reports::{LogForm, LogOptions, LogVerdict, report_log};
+use progress_meters::NoMeter;
 use std::alloc::Global;
 use std::sync::Wait;
 use std::test::Fail;
@@ -26,7 +27,7 @@ fn usual(form: LogForm) -> LogOptions {
 }
 
 /// Compares what is said of the log of a text, and what is written of it.
-fn expect_case<H: Threads + Wait>(
+fn expect_case<H: Threads + Wait + AllocGlobal>(
     rt: &H,
     alloc: Global,
     options: LogOptions,
@@ -35,14 +36,21 @@ fn expect_case<H: Threads + Wait>(
     let mut written = Vec::new(alloc);
     let mut errors = Vec::new(alloc);
     let mut reader = text.as_bytes();
-    let said = report_log(rt, alloc, options, &mut reader, &mut written, &mut errors);
+    let said = report_log(
+        rt,
+        options,
+        &NoMeter,
+        &mut reader,
+        &mut written,
+        &mut errors,
+    );
     expect_equal(text, said, Ok(verdict))?;
     expect_equal(text, written.as_slice(), report.as_bytes())?;
     expect_equal(text, errors.as_slice(), notes.as_bytes())
 }
 
 /// The same of each of these.
-fn expect_cases<H: Threads + Wait>(
+fn expect_cases<H: Threads + Wait + AllocGlobal>(
     rt: &H,
     alloc: Global,
     form: LogForm,

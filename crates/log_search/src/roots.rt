@@ -8,6 +8,7 @@ use crate::lookups::line_of;
 use crate::nodes::Kind;
 use crate::numbers::{NONE, item, narrow, put};
 use log_selections::KnownLog;
+use progress_meters::Meter;
 use std::alloc::Global;
 use tso_ops::OutOfMemory;
 
@@ -57,11 +58,12 @@ impl Roots {
         self.stack.clear();
     }
 
-    /// Does the nodes that aren't done, up to a violation or the end of the budget.
-    pub(crate) fn advance(
+    /// Does the nodes that aren't done, up to a violation or the end of the budget. The meter hears of each that is looked at.
+    pub(crate) fn advance<M: Meter>(
         &mut self,
         known: &KnownLog,
         derivation: &mut Derivation,
+        meter: &M,
     ) -> Result<(), OutOfMemory> {
         for _ in 0..usize::MAX {
             if derivation.closing.is_some() || derivation.work.is_spent() {
@@ -72,6 +74,7 @@ impl Roots {
             };
             self.stack.push((root, false))?;
             self.visit(derivation)?;
+            meter.advance(1);
         }
         derivation.apply()
     }

@@ -7,6 +7,7 @@ use crate::roots::Roots;
 use crate::selections::select;
 use crate::surveys::{Addresses, Survey};
 use log_selections::{Kept, KnownLog};
+use progress_meters::Meter;
 use std::alloc::Global;
 use tso_ops::OutOfMemory;
 
@@ -72,10 +73,10 @@ impl<'a> Search<'a> {
     }
 
     /// The next proposal, or the end. The loads of a proposal are left out of what is looked at after it. OutOfMemory where
-    /// an allocation was refused.
-    pub fn next(&mut self, alloc: Global) -> Result<Found, OutOfMemory> {
+    /// an allocation was refused. The meter hears of each operation that is looked at.
+    pub fn next<M: Meter>(&mut self, alloc: Global, meter: &M) -> Result<Found, OutOfMemory> {
         for _ in 0..usize::MAX {
-            self.roots.advance(self.known, &mut self.derivation)?;
+            self.roots.advance(self.known, &mut self.derivation, meter)?;
             if self.derivation.closing.is_some() {
                 return self.propose(alloc);
             }

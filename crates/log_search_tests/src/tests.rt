@@ -16,6 +16,7 @@ use judges::RulesJudge;
 use log_search::{Found, Judge, Search};
 use log_selections::{Kept, KnownLog};
 use log_text::read_log;
+use progress_meters::NoMeter;
 use std::alloc::Global;
 use std::fmt::Write;
 use std::test::Fail;
@@ -44,7 +45,7 @@ fn proposals_of(alloc: Global, known: &KnownLog) -> Result<String, Fail> {
     let mut judge = RulesJudge::new(alloc, known);
     let mut lines = String::new(alloc);
     for _ in 0..MAX_PROPOSALS {
-        match search.next(alloc)? {
+        match search.next(alloc, &NoMeter)? {
             Found::Proposal(kept) => push_proposal(&mut lines, &mut judge, &kept)?,
             Found::End => return Ok(lines),
             Found::BudgetEnd => {

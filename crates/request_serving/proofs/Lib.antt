@@ -5,5 +5,6 @@ pub mod EndFacts
 pub mod LawfulFacts
 pub mod NthFacts
 pub mod PartedLines
+pub mod ReducingFacts
 pub mod ReplayingFacts
 pub mod RunningFacts

@@ -1,4 +1,4 @@
--- Lemmas on the reports on logs.
+-- Lemmas on the reports on logs, and on texts with notes.
 use Rattle.std.proofs.Common.{◌≡◌, ◌∙◌, ℕ, List, ◌++◌, Err, None, Ok, Result, Some, IfErr, IfOk, ap, inl, inr, subst, take}
 use Rattle.std.specs.Prelude.{OnErr, Option, codes}
 use Rattle.std.specs.Fmt.{decimal}
@@ -11,8 +11,7 @@ use Rattle.trace_judging.specs.Streams.{AppendsPrefix}
 use Rattle.trace_judging.specs.WrittenReports.{LeavesAtFault, WritesWhole}
 use Rattle.trace_judging.specs.declared.faults.Fault.{Fault}
 use Rattle.trace_judging.specs.declared.faults.Fault.TheVariants.{OutOfMemory, Read, Write, NoThread, Missing}
-use Rattle.request_serving.specs.Endings.{EndsLogged, Outputs, WritesFaultLine, fault_line}
-use Rattle.request_serving.specs.Logs.{status_of_log}
+use Rattle.request_serving.specs.Endings.{EndsWithNotes, Outputs, WritesFaultLine, fault_line}
 use Rattle.request_serving.specs.OpenedFiles.{HasKnown}
 use Rattle.request_serving.proofs.EndFacts.{known_reads}
 
@@ -43,15 +42,15 @@ kept_fault_line a b c Write kept appends = kept_AppendsPrefix a b c (fault_line 
 kept_fault_line a b c NoThread kept appends = kept_AppendsPrefix a b c (fault_line (codes "NoThread")) kept appends
 kept_fault_line a b c (Missing seed) kept appends = kept_AppendsPrefix a b c (fault_line (codes "Missing " ++ decimal seed)) kept appends
 
--- ---- how the report on a log ends
+-- ---- how a text with notes ends
 
-pub ends_logged : (form : LogForm) (remaining mid : Option (List ℕ)) (o : Outputs) (outcome : Result LogVerdict Fault) (status : ℕ)
-    → IfOk outcome (WritesWhole (IsLogReportOfReader form remaining) o.written_before o.written)
-    → IfErr outcome (LeavesAtFault (IsLogReportOfReader form remaining) o.written_before o.written)
+pub ends_noted : {X : Type 0} (is_text : List ℕ → X → Type 0) (status_by : X → ℕ) (mid : Option (List ℕ)) (o : Outputs) (outcome : Result X Fault) (status : ℕ)
+    → IfOk outcome (WritesWhole is_text o.written_before o.written)
+    → IfErr outcome (LeavesAtFault is_text o.written_before o.written)
     → IfOk outcome (λ _. (text : List ℕ) × AppendsPrefix o.errors_before mid text) → OnErr outcome (Keeps o.errors_before mid)
-    → IfOk outcome (λ verdict. (status ≡ status_of_log verdict) × Keeps mid o.errors) → IfErr outcome (λ fault. WritesFaultLine mid o.errors fault × (status ≡ 4))
-    → EndsLogged form remaining o status
-ends_logged form remaining mid o (Ok verdict) status whole left told untold done faulty =
-    inl (verdict, whole, (told.0, prefix_kept o.errors_before mid o.errors told.0 told.1 done.1), done.0)
-ends_logged form remaining mid o (Err fault) status whole left told untold done faulty =
+    → IfOk outcome (λ said. (status ≡ status_by said) × Keeps mid o.errors) → IfErr outcome (λ fault. WritesFaultLine mid o.errors fault × (status ≡ 4))
+    → EndsWithNotes is_text status_by o status
+ends_noted is_text status_by mid o (Ok said) status whole left told untold done faulty =
+    inl (said, whole, (told.0, prefix_kept o.errors_before mid o.errors told.0 told.1 done.1), done.0)
+ends_noted is_text status_by mid o (Err fault) status whole left told untold done faulty =
     inr (fault, left, (kept_fault_line o.errors_before mid o.errors fault untold faulty.0, faulty.1))

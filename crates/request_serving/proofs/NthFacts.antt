@@ -66,7 +66,7 @@ none_is (Some trace) same = absurd (true≢false (sym (ap (λ o. is_some o) same
 
 module _ (Is : List ℕ → List ℕ → Verdict → Type 0) (of_first : (piece text : List ℕ) (verdict : Verdict) → Is (take trace_read_limit piece) text verdict → Is piece text verdict) (number : ℕ)
     (remaining : Option (List ℕ)) where
-  said_of_kept : (kept : List ℕ) → ReadsAs remaining (λ stream. IsKeptOfNth number stream (Some kept)) → (text : List ℕ) (verdict : Verdict) → Is kept text verdict →
+  pub said_of_kept : (kept : List ℕ) → ReadsAs remaining (λ stream. IsKeptOfNth number stream (Some kept)) → (text : List ℕ) (verdict : Verdict) → Is kept text verdict →
       ReadsAs remaining (λ stream. IsSaidOfNth (Some number) Is stream text verdict)
   said_of_kept kept reads text verdict is = reads_more go remaining reads
     where
@@ -83,12 +83,12 @@ module _ (Is : List ℕ → List ℕ → Verdict → Type 0) (of_first : (piece 
       go stream of = (None, subst (IsNthPiece number stream) (none_is of.0 of.2) of.1, (same, refused))
 
   -- that there are fewer was written, or a prefix of it
-  fewer_written : ReadsAs remaining (λ stream. IsKeptOfNth number stream None) → (old new : Option (List ℕ)) (outcome : Result Verdict Fault) → IfOk outcome (λ verdict. (verdict ≡ Refused) × Appends old new nth_refusal) →
+  pub fewer_written : ReadsAs remaining (λ stream. IsKeptOfNth number stream None) → (old new : Option (List ℕ)) (outcome : Result Verdict Fault) → IfOk outcome (λ verdict. (verdict ≡ Refused) × Appends old new nth_refusal) →
       IfOk outcome (WritesWhole (λ text verdict. ReadsAs remaining (λ stream. IsSaidOfNth (Some number) Is stream text verdict)) old new)
   fewer_written reads old new (Ok verdict) wrote = (nth_refusal, said_of_none reads nth_refusal verdict refl wrote.0, wrote.1)
   fewer_written reads old new (Err fault) wrote = tt
 
-  fewer_left : ReadsAs remaining (λ stream. IsKeptOfNth number stream None) → (old new : Option (List ℕ)) (outcome : Result Verdict Fault) → IfErr outcome (λ fault. (fault ≡ Write) × AppendsPrefix old new nth_refusal) →
+  pub fewer_left : ReadsAs remaining (λ stream. IsKeptOfNth number stream None) → (old new : Option (List ℕ)) (outcome : Result Verdict Fault) → IfErr outcome (λ fault. (fault ≡ Write) × AppendsPrefix old new nth_refusal) →
       IfErr outcome (LeavesAtFault (λ text verdict. ReadsAs remaining (λ stream. IsSaidOfNth (Some number) Is stream text verdict)) old new)
   fewer_left reads old new (Ok verdict) left = tt
   fewer_left reads old new (Err fault) left =

@@ -9,13 +9,13 @@ use Rattle.trace_batches.specs.declared.batches.BatchFormat.TheVariants.{Words, 
 use Rattle.trace_batches.specs.declared.batches.BatchPrinting.{BatchPrinting}
 use Rattle.request_serving.specs.OpenedFiles.{text_bytes}
 
-abbrev pub format_of : AskedFormat → BatchFormat
-format_of asked.Words = Words
-format_of asked.Json = Json
-format_of asked.Junit = Junit
+abbrev pub asked_format : AskedFormat → BatchFormat
+asked_format asked.Words = Words
+asked_format asked.Json = Json
+asked_format asked.Junit = Junit
 
-abbrev pub printing_of : AskedPrinting → BatchPrinting
-printing_of printing = record { format = format_of printing.format; quiet = printing.quiet; violations = printing.violations }
+abbrev pub asked_printing : AskedPrinting → BatchPrinting
+asked_printing printing = record { format = asked_format printing.format; quiet = printing.quiet; violations = printing.violations }
 
 -- the name of a text in its lines, `-` for standard input, where there are several texts
 abbrev pub told_name : Bool → Option (List ℕ) → Option (List ℕ)

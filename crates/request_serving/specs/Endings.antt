@@ -18,12 +18,13 @@ use Rattle.trace_batches.specs.declared.batches.BatchPrinting.{BatchPrinting}
 use Rattle.log_reports.specs.declared.rendering.LogForm.{LogForm}
 use Rattle.log_reports.specs.declared.reports.LogVerdict.{LogVerdict}
 use Rattle.log_reports.specs.LogReports.{IsLogReportOfReader}
-use Rattle.request_serving.specs.Batches.{printing_of, texts_of_batch}
+use Rattle.request_serving.specs.Batches.{asked_printing, texts_of_batch}
 use Rattle.request_serving.specs.Campaigning.{IsCampaignText, LeavesCampaignText}
 use Rattle.request_serving.specs.Logs.{form_of, status_of_log}
 use Rattle.request_serving.specs.MadePrograms.{IsMadeText, LeavesMadeText}
 use Rattle.request_serving.specs.NthTraces.{IsSaidOfNth}
 use Rattle.request_serving.specs.OpenedFiles.{text_bytes}
+use Rattle.request_serving.specs.Reducing.{IsReduced}
 use Rattle.request_serving.specs.Replaying.{IsReplayText}
 use Rattle.request_serving.specs.Running.{IsRunText}
 use Rattle.request_serving.specs.Statuses.{status_of}
@@ -35,7 +36,7 @@ use Rattle.command_line.specs.declared.requests.Request.TheVariants.{Show, Refus
 use Rattle.command_line.specs.Commands.{IsAskedFor}
 use Rattle.command_line.specs.Refusals.{Refuses}
 use Rattle.command_line.specs.Spellings.{Asks, AsksHelp}
-use Rattle.command_line.specs.Requests.{Asked, Text, judging, batching, logging, checking, replaying, running, making, campaigning, showing, refusing}
+use Rattle.command_line.specs.Requests.{Asked, Text, judging, reducing, batching, logging, checking, replaying, running, making, campaigning, showing, refusing}
 
 -- ---- the lines of faults
 
@@ -120,13 +121,16 @@ EndsBatched printing texts o status =
     × ((noted : Option (List ℕ)) × LeavesBatch printing texts o.written_before o.written o.errors_before noted × WritesFaultLine noted o.errors fault)
     × (status ≡ 4))
 
--- The report on the log that a reader's bytes spell, or its refusal, with the status of what it says; notes on what it doesn't say, or a prefix of them, may
--- be written to the errors. Or a fault left nothing or, on Write, a prefix of the report.
+-- The output grows by a text of this kind, with the status of what the text says; notes on what it doesn't say, or a prefix of them, may be written to the
+-- errors. Or a fault left nothing or, on Write, a prefix of such a text.
+abbrev pub EndsWithNotes : {X : Type 0} → (List ℕ → X → Type 0) → (X → ℕ) → Outputs → ℕ → Type 0
+EndsWithNotes {X} is_text status_by o status =
+    ((said : X) × WritesWhole is_text o.written_before o.written said × ((notes : List ℕ) × AppendsPrefix o.errors_before o.errors notes) × (status ≡ status_by said))
+    ⊎ ((fault : Fault) × LeavesAtFault is_text o.written_before o.written fault × EndsByFault fault o status)
+
+-- the report on the log that a reader's bytes spell, or its refusal
 abbrev pub EndsLogged : LogForm → Option (List ℕ) → Outputs → ℕ → Type 0
-EndsLogged form remaining o status =
-    let is_report = IsLogReportOfReader form remaining in
-    ((verdict : LogVerdict) × WritesWhole is_report o.written_before o.written verdict × ((notes : List ℕ) × AppendsPrefix o.errors_before o.errors notes) × (status ≡ status_of_log verdict))
-    ⊎ ((fault : Fault) × LeavesAtFault is_report o.written_before o.written fault × EndsByFault fault o status)
+EndsLogged form remaining o status = EndsWithNotes (IsLogReportOfReader form remaining) status_of_log o status
 
 -- A run gave no record: the output is as it was, the line of the fault was written to the errors, and the status is 4.
 abbrev pub EndsUnrecorded : Outputs → ℕ → Type 0
@@ -157,7 +161,8 @@ EndsOutOfMemory o status = Keeps o.written_before o.written × EndsByFault OutOf
 -- what was asked for was done, where standard input has these bytes, and the file of each name those
 abbrev pub EndsAsAsked : Asked → Option (List ℕ) → (List ℕ → Option (List ℕ)) → Outputs → ℕ → Type 0
 EndsAsAsked (judging presentation file workers nth) input files o status = EndsByReport (IsPresented presentation nth (text_bytes file input files)) o status
-EndsAsAsked (batching texts workers printing) input files o status = EndsBatched (printing_of printing) (texts_of_batch texts input files) o status
+EndsAsAsked (reducing file nth) input files o status = EndsWithNotes (IsReduced nth (text_bytes file input files)) status_of o status
+EndsAsAsked (batching texts workers printing) input files o status = EndsBatched (asked_printing printing) (texts_of_batch texts input files) o status
 EndsAsAsked (logging file options) input files o status = EndsLogged (form_of options.form) (text_bytes file input files) o status
 EndsAsAsked (checking trace certificate nth) input files o status = EndsChecked nth (text_bytes trace input files) (text_bytes certificate input files) o status
 EndsAsAsked (replaying options program schedule) input files o status =

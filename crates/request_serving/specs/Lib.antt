@@ -10,6 +10,7 @@ pub mod MadePrograms
 pub mod NthTraces
 pub mod OpenedFiles
 pub mod Printing
+pub mod Reducing
 pub mod Replaying
 pub mod Running
 pub mod Statuses

@@ -3,7 +3,7 @@ use Rattle.std.specs.Prelude.{◌≡◌, ◌⊎◌, ℕ, Bool, ◌≤◌, List, 
 use Rattle.std.specs.List.{list_all}
 use Rattle.std.specs.Borrow.{Bor}
 use Rattle.std.specs.Io.KnownBytes.{Consumes}
-use Rattle.command_line.specs.Requests.{Asked, batching, checking, judging, logging, needs, replaying}
+use Rattle.command_line.specs.Requests.{Asked, batching, checking, judging, logging, needs, reducing, replaying}
 use Rattle.request_serving.specs.NthTraces.{IsRefusedNth, TakesTrace}
 use Rattle.trace_judging.specs.Limits.{certificate_read_limit, trace_read_limit}
 use Rattle.trace_judging.specs.Streams.{LosesPrefix}
@@ -28,6 +28,7 @@ abbrev pub TakesInput : Asked → Option (List ℕ) → Option (List ℕ) → Ty
 TakesInput (batching texts workers printing) old new = IfSome old (λ all. Consumes old new all)
 TakesInput (logging file options) old new = IfSome old (λ all. Consumes old new all)
 TakesInput (judging presentation file workers nth) old new = TakesTrace nth old new
+TakesInput (reducing file nth) old new = TakesTrace nth old new
 TakesInput (checking None certificate nth) old new = TakesTrace nth old new
 TakesInput (checking (Some trace) certificate nth) old new = (new ≡ old) ⊎ LosesPrefix certificate_read_limit old new
 TakesInput (replaying options (Some program) schedule) old new = (new ≡ old) ⊎ LosesPrefix trace_read_limit old new

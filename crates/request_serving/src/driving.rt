@@ -10,13 +10,14 @@ ghost use Rattle.request_serving.specs.Endings.{LeadTo, WritesFaultLine, invalid
 ghost use Rattle.request_serving.specs.LawfulRequests.{RunsLawfully, runs_on_lawful_unit};
 ghost use Rattle.request_serving.specs.OpenedFiles.{HasRefusedFirstText, OpensFirst, TakesInput, files_named, reads_input};
 
-use crate::endings::end_by;
-use crate::files::{NamedFiles, SystemFiles};
+use crate::diagnostics::Diagnostics;
+use crate::endings::{FAULT, end_by};
+use crate::files::{Surroundings, SystemFiles};
 use crate::serving::{refuse, serve};
 use command_line::read_arguments;
 use std::io;
 use std::io::{Read, Write};
-use std::rt::Files;
+use std::rt::{Clock, Files};
 use std::sync::Wait;
 use std::thread::Threads;
 use trace_judging::Fault;
@@ -24,19 +25,28 @@ use trace_judging::Fault;
 /// Does what the arguments of a command line ask for, and answers the status that the program ends with.
 ///
 /// Without arguments it judges what the reader has, with one worker, and writes its report; so it does, by the arguments
-/// `judge [--workers N] [FILE]`, for a file; `explain` writes why, `draw` a picture, `batch` a line for each of many traces
-/// or the texts of those that are violations, and `log` the violations of a log. By `check TRACE CERT` it checks a certificate against a trace. `replay` and
-/// `run` execute a program on a memory unit and judge the record, `make` draws a program from a seed, and `campaign` runs
-/// those of many seeds. A file `-` is what the reader has.
+/// `judge [--workers N] [FILE]`, for a file; `explain` writes why, `draw` a picture, `batch` a line for each of many traces or
+/// the texts of those that are violations, and `log` the violations of a log. By `check TRACE CERT` it checks a certificate
+/// against a trace. `replay` and `run` execute a program on a memory unit and judge the record, `make` draws a program from a
+/// seed, and `campaign` runs those of many seeds. A file `-` is what the reader has.
 ///
 /// Status 0: no violation was found, or a text was asked for and written. 2: a text, a certificate, a shape or seeds were
 /// refused; or a log or the arguments were, whose refusal is written to `errors`. 3: a violation, or a certificate that
 /// holds. 4: a fault; one line, as `FAULT Read`, is written to `errors`. All files that the arguments name are opened, in
-/// their order, before one is read; but those of `batch` each when its turn comes. At most 1,048,577 bytes of a trace, of a program and of a schedule are read, 67,108,865 of
-/// a certificate; of many traces and of a log all are.
-pub fn drive<H: Threads + Wait + Sync + Files + AllocGlobal, R: Read, W: Write, E: Write>(
+/// their order, before one is read; but those of `batch` each when its turn comes. At most 1,048,577 bytes of a trace, of a
+/// program and of a schedule are read, 67,108,865 of a certificate; of many traces and of a log all are.
+///
+/// With `--verbose` the diagnostics tell after the line of a fault why a file can't be opened or read, or the reader where they
+/// watch it, and with `--progress` how much is done: on the standard error of their runtime, of which no clause speaks.
+pub fn drive<
+    H: Threads + Wait + Sync + Files + AllocGlobal + Eprint + Clock,
+    R: Read,
+    W: Write,
+    E: Write,
+>(
     rt: &H,
     arguments: &[String],
+    diagnostics: &Diagnostics<'_, H>,
     reader: &mut R,
     writer: &mut W,
     errors: &mut E,
@@ -49,14 +59,18 @@ pub fn drive<H: Threads + Wait + Sync + Files + AllocGlobal, R: Read, W: Write, 
     ensures unread_refusal { Refuses (texts_in arguments.now) → reader.new ≡ reader.old }
     ensures taken { (asked : Asked) → Asks (texts_in arguments.now) asked → reads_input asked ≡ true → result ≢ 4 → TakesInput asked (R.remaining reader.old) (R.remaining reader.new) }
 {
-    let mut files = SystemFiles::new(rt);
-    drive_over(rt, arguments, &mut files, reader, writer, errors)
+    let mut files = SystemFiles::new(rt, diagnostics);
+    let status = drive_over(rt, arguments, &mut files, reader, writer, errors);
+    if status == FAULT {
+        diagnostics.tell_failure();
+    }
+    status
 }
 
 /// Does the same over these files, which need not be the system's.
 pub fn drive_over<
     H: Threads + Wait + Sync + AllocGlobal,
-    O: NamedFiles,
+    O: Surroundings,
     R: Read,
     W: Write,
     E: Write,
@@ -72,7 +86,10 @@ pub fn drive_over<
     ensures taken { (asked : Asked) → Asks (texts_in arguments.now) asked → reads_input asked ≡ true → result ≢ 4 → TakesInput asked (R.remaining reader.old) (R.remaining reader.new) }
 {
     match read_arguments(rt.alloc(), arguments) {
-        Ok(request) => serve(rt, &request, files, reader, writer, errors),
+        Ok(line) => {
+            files.begin(line.notes);
+            serve(rt, &line.request, files, reader, writer, errors)
+        }
         Err(_) => end_by(Fault::OutOfMemory, errors),
     }
 }

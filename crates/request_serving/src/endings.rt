@@ -27,7 +27,7 @@ pub(crate) const REFUSED: u8 = 2;
 const VIOLATION: u8 = 3;
 
 /// The status of a fault.
-const FAULT: u8 = 4;
+pub(crate) const FAULT: u8 = 4;
 
 /// The status of a verdict; or that of a fault, whose line it writes.
 pub(crate) fn end<E: Write>(outcome: Result<Verdict, Fault>, errors: &mut E) -> u8

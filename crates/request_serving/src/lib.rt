@@ -4,12 +4,14 @@
 //! that is had already. `README.md` says what is proved.
 #![tactic(auto)]
 
+pub use diagnostics::{Diagnostics, WatchedReader};
 pub use driving::{drive, drive_over, end_without_arguments};
 pub use endings::{end_by, end_run};
 pub use failures::{RunFailure, failure_of};
-pub use files::{NamedFiles, SystemFiles};
+pub use files::{Surroundings, SystemFiles};
 pub use serving::serve;
 
+mod diagnostics;
 mod driving;
 mod endings;
 mod failures;

@@ -8,13 +8,14 @@ ghost use Rattle.request_serving.specs.LawfulRequests.{RunsLawfully, runs_on_law
 ghost use Rattle.request_serving.specs.OpenedFiles.{HasRefusedFirstText, OpensFirst, OpensNext, TakesInput, files_named, reads_input};
 
 use crate::endings::{DONE, REFUSED, end, end_by, end_log, end_run, end_with};
-use crate::files::NamedFiles;
+use crate::files::Surroundings;
 use crate::serving::batching::batch_named;
 use crate::serving::campaigning::campaign_by;
 use crate::serving::checking::check_named;
 use crate::serving::judging::judge_named;
 use crate::serving::logging::log_named;
 use crate::serving::making::make;
+use crate::serving::reducing::reduce_named;
 use crate::serving::replaying::replay_named;
 use crate::serving::running::run_named;
 use command_line::Request;
@@ -30,6 +31,7 @@ mod judging;
 mod logging;
 mod making;
 mod numbering;
+mod reducing;
 mod replaying;
 mod running;
 
@@ -40,7 +42,7 @@ const _: () = prove!(command_line::MAX_WORKERS == MAX_WORKERS);
 ///
 /// `Judge` judges the trace in a file, or else what `reader` has, and writes its report to `writer`, or the explanation of
 /// the verdict. Where the request names a number, it judges that one of the traces that stand there one after the other, or
-/// writes `REFUSED Nth`, with status 2, where there are fewer; so does `Check`. `Batch` writes a line for each of the traces
+/// writes `REFUSED Nth`, with status 2, where there are fewer; so does `Check`. `Reduce` writes a small trace that shows the violation of the trace, with lines on its operations to `errors`. `Batch` writes a line for each of the traces
 /// of texts, or the texts of those that are violations, with their numbers to `errors`. `Log` writes the violations of a
 /// log, or their traces: with status 1 where none was found in the part of the log that was searched. `Check` checks a
 /// certificate against a trace and writes the report of both. The status of those that judge or check is that of the
@@ -51,7 +53,7 @@ const _: () = prove!(command_line::MAX_WORKERS == MAX_WORKERS);
 /// and `Refuse` to `errors`, with status 2. At a fault the status is 4 and one line, as `FAULT Read`, is written to
 /// `errors`; a file that can't be opened is the fault Read. All files that the request names are opened, in their order,
 /// before one is read; but those of `Batch` each when its turn comes.
-pub fn serve<H: Threads + Wait + Sync + AllocGlobal, O: NamedFiles, R: Read, W: Write, E: Write>(
+pub fn serve<H: Threads + Wait + Sync + AllocGlobal, O: Surroundings, R: Read, W: Write, E: Write>(
     rt: &H,
     request: &Request<'_>,
     files: &mut O,
@@ -75,12 +77,18 @@ pub fn serve<H: Threads + Wait + Sync + AllocGlobal, O: NamedFiles, R: Read, W: 
 {
     match request {
         Request::Judge(request) => end(judge_named(rt, request, files, reader, writer), errors),
+        Request::Reduce(request) => {
+            let reduced = reduce_named(rt, request, files, reader, writer, errors);
+            end(reduced, errors)
+        }
         Request::Batch(request) => {
             let judged = batch_named(rt, request, files, reader, writer, errors);
+            files.finish();
             end(judged, errors)
         }
         Request::Log(request) => {
             let reported = log_named(rt, request, files, reader, writer, errors);
+            files.finish();
             end_log(reported, errors)
         }
         Request::Check(request) => {
@@ -97,7 +105,9 @@ pub fn serve<H: Threads + Wait + Sync + AllocGlobal, O: NamedFiles, R: Read, W: 
             end_with(made, errors)
         }
         Request::Campaign(options) => {
-            let ran = campaign_by(rt, options, writer);
+            let meter = files.meter("seeds", Some(options.count));
+            let ran = campaign_by(rt, options, &meter, writer);
+            files.finish();
             end_with(ran, errors)
         }
         Request::Show(text) => show(text, writer, errors),

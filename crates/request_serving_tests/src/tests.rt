@@ -1,3 +1,4 @@
+mod diagnostics;
 mod drainer;
 mod failures;
 mod folders;
@@ -9,13 +10,13 @@ mod replays;
 mod requests;
 mod statuses;
 
-use request_serving::{drive, end_without_arguments};
+use request_serving::{Diagnostics, drive, end_without_arguments};
 use std::alloc::{AllocError, Global};
 use std::fmt::Debug;
 use std::io;
 use std::io::{Error, ErrorKind, Read, Write};
 use std::process::Abort;
-use std::rt::Files;
+use std::rt::{Clock, Files};
 use std::sync::Wait;
 use std::test::Fail;
 use std::thread::Threads;
@@ -52,7 +53,7 @@ struct Ended {
     errors: Vec<u8>,
 }
 
-fn driven<H: Threads + Wait + Sync + Files + AllocGlobal, R: Read>(
+fn driven<H: Threads + Wait + Sync + Files + AllocGlobal + Eprint + Clock, R: Read>(
     rt: &H,
     alloc: Global,
     arguments: &[&str],
@@ -64,7 +65,8 @@ fn driven<H: Threads + Wait + Sync + Files + AllocGlobal, R: Read>(
     }
     let mut written = Vec::new(alloc);
     let mut errors = Vec::new(alloc);
-    let status = drive(rt, &owned, reader, &mut written, &mut errors);
+    let diagnostics = Diagnostics::new(rt, false);
+    let status = drive(rt, &owned, &diagnostics, reader, &mut written, &mut errors);
     Ok(Ended {
         status,
         written,
@@ -73,13 +75,20 @@ fn driven<H: Threads + Wait + Sync + Files + AllocGlobal, R: Read>(
 }
 
 /// What a run without arguments gives where the output can't be written.
-fn driven_to_a_failing_writer<H: Threads + Wait + Sync + Files + AllocGlobal, R: Read>(
-    rt: &H,
-    alloc: Global,
-    reader: &mut R,
-) -> Ended {
+fn driven_to_a_failing_writer<
+    H: Threads + Wait + Sync + Files + AllocGlobal + Eprint + Clock,
+    R: Read,
+>(rt: &H, alloc: Global, reader: &mut R) -> Ended {
     let mut errors = Vec::new(alloc);
-    let status = drive(rt, &[], reader, &mut FailingWriter, &mut errors);
+    let diagnostics = Diagnostics::new(rt, false);
+    let status = drive(
+        rt,
+        &[],
+        &diagnostics,
+        reader,
+        &mut FailingWriter,
+        &mut errors,
+    );
     Ended {
         status,
         written: Vec::new(alloc),
@@ -113,9 +122,11 @@ fn faults_have_a_line(rt: HostRuntime) -> Result<(), Fail> {
 
 #[test]
 fn faults_whose_line_cannot_be_written(rt: HostRuntime) {
+    let diagnostics = Diagnostics::new(&rt, false);
     let status = drive(
         &rt,
         &[],
+        &diagnostics,
         &mut FailingReader,
         &mut FailingWriter,
         &mut FailingWriter,

@@ -23,7 +23,7 @@ use Rattle.trace_judging.specs.Limits.{trace_read_limit}
 use Rattle.trace_judging.proofs.InputFacts.{refusal_of_prefix, spells_of_prefix}
 use Rattle.trace_batches.specs.declared.judgments.Judgment.{Judgment}
 use Rattle.trace_batches.specs.declared.judgments.Judgment.TheVariants.{NoViolation, Violation, Refused}
-use Rattle.trace_batches.specs.Judgments.{AreJudgments, IsJudgment, verdict_of}
+use Rattle.trace_batches.specs.Judgments.{AreJudgments, IsJudgment, judgment_verdict}
 
 -- ---- what is found of the trace that a piece spells
 
@@ -72,7 +72,7 @@ one_judgment piece (Refused f) (Refused g) first second =
 
 -- ---- what the report says
 
-pub verdict_said : (piece text : List ℕ) (v : Verdict) (judgment : Judgment) → IsReport piece text v → IsJudgment piece judgment → v ≡ verdict_of judgment
+pub verdict_said : (piece text : List ℕ) (v : Verdict) (judgment : Judgment) → IsReport piece text v → IsJudgment piece judgment → v ≡ judgment_verdict judgment
 verdict_said piece text v Violation report is = (violation_exactly reported refusal_shown piece text v report).1 is
 verdict_said piece text v (Refused f) report is = (refused_exactly reported refusal_shown piece text v report).1 (f.line, f.why, is)
 verdict_said piece text v NoViolation (inl p) is =

@@ -10,7 +10,7 @@ use Rattle.trace_judging.specs.Streams.{AppendsPrefix}
 use Rattle.trace_judging.proofs.StreamFacts.{none_written, prefix_after, prefix_of_more, whole_written}
 use Rattle.trace_batches.specs.declared.batches.BatchFormat.{BatchFormat}
 use Rattle.trace_batches.specs.declared.batches.BatchPrinting.{BatchPrinting}
-use Rattle.trace_batches.specs.declared.batches.Course.{Course}
+use Rattle.trace_batches.specs.declared.batches.TextJudging.{TextJudging}
 use Rattle.trace_batches.specs.declared.begun.Batch.{Batch}
 use Rattle.trace_batches.specs.declared.judgments.Judgment.{Judgment}
 use Rattle.trace_batches.specs.declared.tallies.Tally.{Tally}
@@ -122,7 +122,7 @@ one_batch printing streams text other notes others v w p q =
       p.says ∙ ap (λ all. batch_verdict (all_judgments all)) same ∙ sym q.says,
     )
 
--- ---- a batch on its way
+-- ---- a batch that has begun
 
 -- what is left of it, where this was written of what is printed
 left_of : (printing : BatchPrinting) (texts : List BatchText) (all : List TextResults) (old new before : Option (List ℕ)) (first more : List ℕ) → AreResultsOfAll texts all →
@@ -221,33 +221,33 @@ module _ (batch : Batch) (printing : BatchPrinting) (texts : List BatchText) (ol
 same_way : (p q : BatchPrinting) (l m : List ℕ) → p ≡ q → l ≡ m → ◌≡◌ {A = TextPrinting} (record { printing = p; label = l }) (record { printing = q; label = m })
 same_way p q l m printings labels = rw (printings, labels) refl
 
-module _ (text : BatchText) (batch : Batch) (course : Course) (printings : course.options.printing ≡ batch.options.printing) (labels : course.label.now ≡ text_label batch.options.printing.format text.name) where
-  way_is : (printing : BatchPrinting) → batch.options.printing ≡ printing → printing_by course ≡ under_name printing text.name
+module _ (text : BatchText) (batch : Batch) (judging : TextJudging) (printings : judging.options.printing ≡ batch.options.printing) (labels : judging.label.now ≡ text_label batch.options.printing.format text.name) where
+  way_is : (printing : BatchPrinting) → batch.options.printing ≡ printing → printing_by judging ≡ under_name printing text.name
   way_is printing prints = same_way _ _ _ _ (printings ∙ prints) (labels ∙ ap (λ (p : BatchPrinting). text_label p.format text.name) prints)
 
   -- it was judged
-  pub text_judged : (after : Batch) (tally : Tally) (old new : Option (List ℕ)) → Told (printing_by course) text.bytes old new tally → after.options.printing ≡ batch.options.printing →
+  pub text_judged : (after : Batch) (tally : Tally) (old new : Option (List ℕ)) → Told (printing_by judging) text.bytes old new tally → after.options.printing ≡ batch.options.printing →
       ((judgments others : List Judgment) → Counts batch.tally judgments → Counts tally others → Counts after.tally (judgments ++ others)) → Judges text batch after old new
   text_judged after tally old new t same added printing all has =
       let results : TextResults = record { name = text.name; pieces = t.pieces; judgments = t.judgments } in (
         results,
-        (refl, told_results (printing_by course) text.bytes old new tally t),
+        (refl, told_results (printing_by judging) text.bytes old new tally t),
         record { prints = same ∙ has.prints; counts = subst (Counts after.tally) (sym (judgments-push all results)) (added (all_judgments all) t.judgments has.counts t.counts) },
         subst (λ (way : TextPrinting). Appends old new (pieces_text way 1 t.pieces t.judgments)) (way_is printing has.prints) t.written,
       )
 
   -- it was told, and a fault came then
-  pub text_told : (tally : Tally) (old new : Option (List ℕ)) → Told (printing_by course) text.bytes old new tally → LeavesText text batch old new
+  pub text_told : (tally : Tally) (old new : Option (List ℕ)) → Told (printing_by judging) text.bytes old new tally → LeavesText text batch old new
   text_told tally old new t printing all has =
       let results : TextResults = record { name = text.name; pieces = t.pieces; judgments = t.judgments } in (
         results,
-        (refl, told_results (printing_by course) text.bytes old new tally t),
+        (refl, told_results (printing_by judging) text.bytes old new tally t),
         subst (λ (way : TextPrinting). AppendsPrefix old new (pieces_text way 1 t.pieces t.judgments)) (way_is printing has.prints)
-            (whole_written old new (pieces_text (printing_by course) 1 t.pieces t.judgments) t.written),
+            (whole_written old new (pieces_text (printing_by judging) 1 t.pieces t.judgments) t.written),
       )
 
   -- a fault came while it was told
-  pub text_left : (old new : Option (List ℕ)) → LeavesPieces (printing_by course) text.bytes old new → LeavesText text batch old new
+  pub text_left : (old new : Option (List ℕ)) → LeavesPieces (printing_by judging) text.bytes old new → LeavesText text batch old new
   text_left old new left printing all has =
       let results : TextResults = record { name = text.name; pieces = left.0; judgments = left.1 } in (
         results,

@@ -6,13 +6,13 @@ use Rattle.trace_batches.specs.declared.batches.BatchFormat.TheVariants.{Words, 
 
 -- ---- in words and in JSON
 
--- a digit of base 16
-abbrev pub base_16_digit : ℕ → List ℕ
-base_16_digit d = encode_utf8 (slice_index (codes "0123456789abcdef") d)
+-- a hexadecimal digit
+abbrev pub hexadecimal_digit : ℕ → List ℕ
+hexadecimal_digit d = encode_utf8 (slice_index (codes "0123456789abcdef") d)
 
--- a control character, one below 32, as JSON escapes it: by its number, in four digits of base 16
+-- a control character, one below 32, as JSON escapes it: by its number, in four hexadecimal digits
 abbrev pub control_escape : ℕ → List ℕ
-control_escape c = codes "\\u00" ++ base_16_digit (c / 16) ++ base_16_digit (c % 16)
+control_escape c = codes "\\u00" ++ hexadecimal_digit (c / 16) ++ hexadecimal_digit (c % 16)
 
 -- in words just these are escaped
 abbrev pub word_character : ℕ → List ℕ

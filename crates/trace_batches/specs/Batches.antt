@@ -158,7 +158,7 @@ abbrev pub IsBatchFault : Fault → Type 0
 IsBatchFault (Missing seed) = ⊥
 IsBatchFault _ = Unit {0}
 
--- ---- a batch on its way
+-- ---- a batch that has begun
 
 -- these are the numbers of the judgments
 pub record Counts (tally : Tally) (judgments : List Judgment) : Type 0 where

@@ -24,10 +24,10 @@ AreJudgments (piece ∷ pieces) [] = ⊥
 AreJudgments (piece ∷ pieces) (judgment ∷ judgments) = IsJudgment piece judgment × AreJudgments pieces judgments
 
 -- the verdict of the piece's report
-abbrev pub verdict_of : Judgment → Verdict
-verdict_of NoViolation = verdict.NoViolation
-verdict_of Violation = verdict.Violation
-verdict_of (Refused fault) = verdict.Refused
+abbrev pub judgment_verdict : Judgment → Verdict
+judgment_verdict NoViolation = verdict.NoViolation
+judgment_verdict Violation = verdict.Violation
+judgment_verdict (Refused fault) = verdict.Refused
 
 -- it says a violation
 abbrev pub says_violation : Judgment → Bool

@@ -1,4 +1,4 @@
-//! The way of a text of a batch: read, cut, judge, write.
+//! Judges one text of a batch: it is read and cut, and its pieces are judged and written.
 ghost use Rattle.std.specs.Prelude.{◌≡◌, ◌≤◌, ◌+◌, ◌∷◌, ◌++◌, [], List, ℕ, Option, map, take, IfSome, IfOk, IfErr, OnOk, OnErr};
 ghost use Rattle.std.specs.Io.KnownBytes.{Appends, Consumes, IsAtEnd, prepend_known};
 ghost use Rattle.trace_batches.specs.Internal.Cutters.{IsAt, rows};
@@ -14,6 +14,7 @@ use crate::judgments::Judgment;
 use crate::lines::written_line;
 use crate::streams::{read_some, write_flushed};
 use crate::tallies::Tally;
+use progress_meters::Meter;
 use std::alloc::Global;
 use std::io::{Read, Write};
 use std::sync::Wait;
@@ -62,7 +63,7 @@ pub struct BatchOptions {
 
 /// How the pieces of a text are judged and printed.
 #[derive(Clone, Copy)]
-pub(crate) struct Course<'a> {
+pub(crate) struct TextJudging<'a> {
     pub(crate) alloc: Global,
     pub(crate) options: BatchOptions,
     /// What stands in each line of the text.
@@ -77,71 +78,74 @@ struct Progress {
 }
 
 /// Judges a stream, and writes what is printed of its pieces, numbered from 1: how many there were.
-pub(crate) fn judge_pieces<H: Threads + Wait + Sync, R: Read, W: Write>(
+pub(crate) fn judge_pieces<H: Threads + Wait + Sync, M: Meter, R: Read, W: Write>(
     rt: &H,
-    course: &Course<'_>,
+    judging: &TextJudging<'_>,
+    meter: &M,
     reader: &mut R,
     writer: &mut W,
 ) -> Result<Tally, Fault>
-    requires { 1 ≤ course.now.options.workers }
-    ensures told { IfOk result (Told (printing_by course.now) (R.remaining reader.old) (W.contents writer.old) (W.contents writer.new)) }
+    requires { 1 ≤ judging.now.options.workers }
+    ensures told { IfOk result (Told (printing_by judging.now) (R.remaining reader.old) (W.contents writer.old) (W.contents writer.new)) }
     ensures taken { IfOk result (λ _. IfSome (R.remaining reader.old) (λ all. Consumes (R.remaining reader.old) (R.remaining reader.new) all)) }
-    ensures left { OnErr result (LeavesPieces (printing_by course.now) (R.remaining reader.old) (W.contents writer.old) (W.contents writer.new)) }
+    ensures left { OnErr result (LeavesPieces (printing_by judging.now) (R.remaining reader.old) (W.contents writer.old) (W.contents writer.new)) }
     ensures fault { IfErr result IsBatchFault }
 {
-    let Progress { cutter, mut tally } = read_pieces(rt, course, reader, writer)?;
-    let pieces = last_pieces(course.alloc, cutter)?;
-    tell(rt, course, pieces, &mut tally, writer)?;
+    let Progress { cutter, mut tally } = read_pieces(rt, judging, meter, reader, writer)?;
+    let pieces = last_pieces(judging.alloc, cutter)?;
+    tell(rt, judging, meter, pieces, &mut tally, writer)?;
     Ok(tally)
 }
 
 /// Reads a stream to its end, and writes what is printed of the pieces that end in it.
-fn read_pieces<H: Threads + Wait + Sync, R: Read, W: Write>(
+fn read_pieces<H: Threads + Wait + Sync, M: Meter, R: Read, W: Write>(
     rt: &H,
-    course: &Course<'_>,
+    judging: &TextJudging<'_>,
+    meter: &M,
     reader: &mut R,
     writer: &mut W,
 ) -> Result<Progress, Fault>
-    requires { 1 ≤ course.now.options.workers }
-    ensures stands { IfOk result (λ p. Stands (printing_by course.now) (R.remaining reader.old) (R.remaining reader.new) (W.contents writer.old) (W.contents writer.new) p.cutter p.tally) }
+    requires { 1 ≤ judging.now.options.workers }
+    ensures stands { IfOk result (λ p. Stands (printing_by judging.now) (R.remaining reader.old) (R.remaining reader.new) (W.contents writer.old) (W.contents writer.new) p.cutter p.tally) }
     ensures end { OnOk result (IsAtEnd (R.remaining reader.new)) }
-    ensures left { OnErr result (LeavesPieces (printing_by course.now) (R.remaining reader.old) (W.contents writer.old) (W.contents writer.new)) }
+    ensures left { OnErr result (LeavesPieces (printing_by judging.now) (R.remaining reader.old) (W.contents writer.old) (W.contents writer.new)) }
     ensures fault { IfErr result IsBatchFault }
 {
     let mut progress = Progress {
-        cutter: Cutter::new(course.alloc, MAX_TEXT_BYTES + 1),
+        cutter: Cutter::new(judging.alloc, MAX_TEXT_BYTES + 1),
         tally: Tally::new(),
     };
-    let mut buffer = vec![in course.alloc; 0u8; CHUNK]?;
+    let mut buffer = vec![in judging.alloc; 0u8; CHUNK]?;
     let chunk = buffer.as_mut_slice();
     for _ in rt.forever() {
         let count = read_some(reader, chunk)?;
         if count == 0 {
             return Ok(progress);
         }
-        tell_chunk(rt, course, &mut progress, &chunk[..count], writer)?;
+        tell_chunk(rt, judging, meter, &mut progress, &chunk[..count], writer)?;
     }
     unreachable!()
 }
 
 /// Cuts the next bytes of a stream, and writes what is printed of the pieces that end in them.
-fn tell_chunk<H: Threads + Wait + Sync, W: Write>(
+fn tell_chunk<H: Threads + Wait + Sync, M: Meter, W: Write>(
     rt: &H,
-    course: &Course<'_>,
+    judging: &TextJudging<'_>,
+    meter: &M,
     progress: &mut Progress,
     chunk: &[u8],
     writer: &mut W,
 ) -> Result<(), Fault>
-    requires { 1 ≤ course.now.options.workers }
-    ensures stands { OnOk result ((remaining now old : Option (List ℕ)) → Stands (printing_by course.now) remaining (prepend_known chunk.now now) old (W.contents writer.old) progress.old.cutter progress.old.tally → Stands (printing_by course.now) remaining now old (W.contents writer.new) progress.new.cutter progress.new.tally) }
-    ensures left { OnErr result ((remaining now old : Option (List ℕ)) → Stands (printing_by course.now) remaining (prepend_known chunk.now now) old (W.contents writer.old) progress.old.cutter progress.old.tally → LeavesPieces (printing_by course.now) remaining old (W.contents writer.new)) }
+    requires { 1 ≤ judging.now.options.workers }
+    ensures stands { OnOk result ((remaining now old : Option (List ℕ)) → Stands (printing_by judging.now) remaining (prepend_known chunk.now now) old (W.contents writer.old) progress.old.cutter progress.old.tally → Stands (printing_by judging.now) remaining now old (W.contents writer.new) progress.new.cutter progress.new.tally) }
+    ensures left { OnErr result ((remaining now old : Option (List ℕ)) → Stands (printing_by judging.now) remaining (prepend_known chunk.now now) old (W.contents writer.old) progress.old.cutter progress.old.tally → LeavesPieces (printing_by judging.now) remaining old (W.contents writer.new)) }
     ensures fault { IfErr result IsBatchFault }
 {
-    let most = course.options.workers.saturating_mul(PIECES_PER_WORKER);
+    let most = judging.options.workers.saturating_mul(PIECES_PER_WORKER);
     let mut from = 0;
     while from < chunk.len() {
         let (pieces, count) = progress.cutter.cut(&chunk[from..], most)?;
-        tell(rt, course, pieces, &mut progress.tally, writer)?;
+        tell(rt, judging, meter, pieces, &mut progress.tally, writer)?;
         from += count;
     }
     Ok(())
@@ -158,37 +162,40 @@ fn last_pieces(alloc: Global, cutter: Cutter) -> Result<Vec<Vec<u8>>, OutOfMemor
     Ok(pieces)
 }
 
-/// Judges pieces side by side, and writes what is printed of them in order.
-fn tell<H: Threads + Wait + Sync, W: Write>(
+/// Judges pieces side by side, and writes what is printed of them in order. The meter hears how many there were.
+fn tell<H: Threads + Wait + Sync, M: Meter, W: Write>(
     rt: &H,
-    course: &Course<'_>,
+    judging: &TextJudging<'_>,
+    meter: &M,
     pieces: Vec<Vec<u8>>,
     tally: &mut Tally,
     writer: &mut W,
 ) -> Result<(), Fault>
-    requires { 1 ≤ course.now.options.workers }
-    ensures whole { OnOk result (WroteAll (printing_by course.now) tally.old tally.new (rows pieces.items) (W.contents writer.old) (W.contents writer.new)) }
-    ensures some { OnErr result (WroteSome (printing_by course.now) tally.old (rows pieces.items) (W.contents writer.old) (W.contents writer.new)) }
+    requires { 1 ≤ judging.now.options.workers }
+    ensures whole { OnOk result (WroteAll (printing_by judging.now) tally.old tally.new (rows pieces.items) (W.contents writer.old) (W.contents writer.new)) }
+    ensures some { OnErr result (WroteSome (printing_by judging.now) tally.old (rows pieces.items) (W.contents writer.old) (W.contents writer.new)) }
     ensures fault { IfErr result IsBatchFault }
 {
-    let jobs = judge_all(rt, course.alloc, pieces, course.options.workers)?;
-    write_jobs(course, &jobs, tally, writer)
+    let jobs = judge_all(rt, judging.alloc, pieces, judging.options.workers)?;
+    write_jobs(judging, &jobs, tally, writer)?;
+    meter.advance(jobs.len() as u64);
+    Ok(())
 }
 
 /// Writes what is printed of these jobs, in order, up to one that wasn't judged.
 fn write_jobs<W: Write>(
-    course: &Course<'_>,
+    judging: &TextJudging<'_>,
     jobs: &[Job],
     tally: &mut Tally,
     writer: &mut W,
 ) -> Result<(), Fault>
-    ensures whole { OnOk result ((pieces : List (List ℕ)) → AreJudged pieces jobs.now → WroteAll (printing_by course.now) tally.old tally.new pieces (W.contents writer.old) (W.contents writer.new)) }
-    ensures some { OnErr result ((pieces : List (List ℕ)) → AreJudged pieces jobs.now → WroteSome (printing_by course.now) tally.old pieces (W.contents writer.old) (W.contents writer.new)) }
+    ensures whole { OnOk result ((pieces : List (List ℕ)) → AreJudged pieces jobs.now → WroteAll (printing_by judging.now) tally.old tally.new pieces (W.contents writer.old) (W.contents writer.new)) }
+    ensures some { OnErr result ((pieces : List (List ℕ)) → AreJudged pieces jobs.now → WroteSome (printing_by judging.now) tally.old pieces (W.contents writer.old) (W.contents writer.new)) }
     ensures fault { IfErr result (λ fault. (pieces : List (List ℕ)) → AreJudged pieces jobs.now → IsBatchFault fault) }
 {
     for job in jobs {
         match job.outcome {
-            Ok(judgment) => write_piece(course, &job.piece, judgment, tally, writer)?,
+            Ok(judgment) => write_piece(judging, &job.piece, judgment, tally, writer)?,
             Err(fault) => return Err(fault),
         }
     }
@@ -197,7 +204,7 @@ fn write_jobs<W: Write>(
 
 /// Counts what is said of a piece, and writes what is printed of it.
 fn write_piece<W: Write>(
-    course: &Course<'_>,
+    judging: &TextJudging<'_>,
     piece: &[u8],
     judgment: Judgment,
     tally: &mut Tally,
@@ -205,15 +212,15 @@ fn write_piece<W: Write>(
 ) -> Result<(), Fault>
     ensures counted { OnOk result ((judgments : List Judgment) → Counts tally.old judgments → Counts tally.new (judgments ++ judgment ∷ [])) }
     ensures traces { OnOk result (tally.new.traces ≡ tally.old.traces + 1) }
-    ensures whole { OnOk result (Appends (W.contents writer.old) (W.contents writer.new) (piece_text (printing_by course.now) (tally.old.traces + 1) piece.now judgment)) }
-    ensures prefix { AppendsPrefix (W.contents writer.old) (W.contents writer.new) (piece_text (printing_by course.now) (tally.old.traces + 1) piece.now judgment) }
+    ensures whole { OnOk result (Appends (W.contents writer.old) (W.contents writer.new) (piece_text (printing_by judging.now) (tally.old.traces + 1) piece.now judgment)) }
+    ensures prefix { AppendsPrefix (W.contents writer.old) (W.contents writer.new) (piece_text (printing_by judging.now) (tally.old.traces + 1) piece.now judgment) }
     ensures fault { IfErr result IsBatchFault }
 {
     tally.count(judgment)?;
-    if course.options.printing.violations {
+    if judging.options.printing.violations {
         return write_flushed(writer, violating_text(piece, judgment));
     }
-    let line = written_line(course, tally.traces, judgment)?;
+    let line = written_line(judging, tally.traces, judgment)?;
     write_flushed(writer, line.as_bytes())
 }
 

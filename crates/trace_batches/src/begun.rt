@@ -1,11 +1,11 @@
-//! A batch on its way.
+//! A batch that has begun.
 ghost use Rattle.std.specs.Prelude.{◌≤◌};
 
 use crate::batches::BatchOptions;
 use crate::tallies::Tally;
 use std::alloc::Global;
 
-/// A batch on its way: `begin` begins it, `judge` judges one text more, and `end` ends it.
+/// A batch that has begun: `begin` begins it, `judge` judges one text more, and `end` ends it.
 ///
 /// At a fault of one of them the batch has ended: what was written is a prefix of what the batch of these texts writes.
 #[derive(Drop)]

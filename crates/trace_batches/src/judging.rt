@@ -4,12 +4,13 @@ ghost use Rattle.std.specs.Io.KnownBytes.{Appends, Consumes};
 ghost use Rattle.trace_judging.specs.Streams.{AppendsPrefix};
 ghost use Rattle.trace_batches.specs.Batches.{EndsBatch, HasJudged, IsBatchFault, Judges, LeavesBatch, LeavesEnd, LeavesText, WritesBatch, head_text, last_text, note_text, one_text};
 
-use crate::batches::{BatchOptions, BatchPrinting, Course, judge_pieces};
+use crate::batches::{BatchOptions, BatchPrinting, TextJudging, judge_pieces};
 use crate::begun::Batch;
 use crate::lines::{head, last_format, total_line};
 use crate::names::text_label;
 use crate::streams::write_flushed;
 use crate::tallies::Tally;
+use progress_meters::{Meter, NoMeter};
 use std::alloc::Global;
 use std::io::{Read, Write};
 use std::sync::Wait;
@@ -43,15 +44,16 @@ impl Batch {
     ///
     /// The texts are the same for each number of workers. Of a trace at most 1,048,577 bytes are kept: a longer one is
     /// refused as TooLong at line 0, and the next begins after its line `end`. What is printed of all traces that came is
-    /// written and flushed before more is read.
+    /// written and flushed before more is read, and then the meter hears how many there were.
     ///
     /// Faults: OutOfMemory where an allocation was refused; Read where the reader failed, was interrupted 1,048,576 times in
     /// a row, or gave 2^64 pieces with those before; Write where the writer failed, took no byte or was interrupted more
     /// than 1,048,576 times in a line or a piece; NoThread where judging a piece needed a thread that the system refused.
     /// It may wait.
-    pub fn judge<H: Threads + Wait + Sync, R: Read, W: Write>(
+    pub fn judge<H: Threads + Wait + Sync, M: Meter, R: Read, W: Write>(
         &mut self,
         rt: &H,
+        meter: &M,
         name: Option<&str>,
         reader: &mut R,
         writer: &mut W,
@@ -62,12 +64,12 @@ impl Batch {
         ensures fault { IfErr result IsBatchFault }
     {
         let label = text_label(self.alloc, self.options.printing.format, name)?;
-        let course = Course {
+        let judging = TextJudging {
             alloc: self.alloc,
             options: self.options,
             label: label.as_str(),
         };
-        let tally = judge_pieces(rt, &course, reader, writer)?;
+        let tally = judge_pieces(rt, &judging, meter, reader, writer)?;
         self.tally.add(&tally)
     }
 
@@ -114,7 +116,7 @@ pub fn judge_batch<H: Threads + Wait + Sync, R: Read, W: Write, E: Write>(
     ensures fault { IfErr result IsBatchFault }
 {
     let mut batch = Batch::begin(alloc, options, writer)?;
-    batch.judge(rt, None, reader, writer)?;
+    batch.judge(rt, &NoMeter, None, reader, writer)?;
     batch.end(writer, errors)
 }
 

@@ -12,7 +12,7 @@ ghost use Rattle.tso_text.specs.Texts.{text_byte_limit};
 ghost use Rattle.tso_text.specs.declared.faults.TextFault.{TextFault};
 ghost use Rattle.tso_text.specs.declared.faults.Why.{Why};
 ghost use Rattle.trace_batches.specs.Batches.{BatchText, IsBatch, head_text, known_texts, last_line, last_text, pieces_text, under_name};
-ghost use Rattle.trace_batches.specs.Judgments.{AreJudgments, IsJudgment, verdict_of};
+ghost use Rattle.trace_batches.specs.Judgments.{AreJudgments, IsJudgment, judgment_verdict};
 ghost use Rattle.trace_batches.specs.declared.batches.BatchPrinting.{BatchPrinting};
 ghost use Rattle.trace_batches.specs.declared.judgments.Judgment.{Judgment};
 
@@ -27,7 +27,7 @@ pub fn pieces()
 pub fn judgments()
     ensures exists { (piece : List ℕ) → (judgment : Judgment) × IsJudgment piece judgment }
     ensures one { (piece : List ℕ) (judgment other : Judgment) → IsJudgment piece judgment → IsJudgment piece other → judgment ≡ other }
-    ensures verdict { (piece text : List ℕ) (verdict : Verdict) (judgment : Judgment) → IsReport piece text verdict → IsJudgment piece judgment → verdict ≡ verdict_of judgment }
+    ensures verdict { (piece text : List ℕ) (verdict : Verdict) (judgment : Judgment) → IsReport piece text verdict → IsJudgment piece judgment → verdict ≡ judgment_verdict judgment }
     ensures refusal { (piece text : List ℕ) (verdict : Verdict) (fault : TextFault) → IsReport piece text verdict → IsJudgment piece (Judgment.Refused fault) → text ≡ refusal_text fault.line fault.why }
 {}
 

@@ -5,7 +5,7 @@ ghost use Rattle.trace_batches.specs.Batches.{head_text, is_left_out, last_forma
 ghost use Rattle.trace_batches.specs.Internal.Progress.{printing_by};
 ghost use Rattle.trace_batches.specs.BatchLines.{head_of, json_line, json_refusal, json_total, json_verdict, junit_case, junit_error, junit_line, junit_total, total_text, trace_line, word_line, word_total};
 
-use crate::batches::{BatchFormat, BatchPrinting, Course};
+use crate::batches::{BatchFormat, BatchPrinting, TextJudging};
 use crate::judgments::Judgment;
 use crate::tallies::Tally;
 use std::alloc::Global;
@@ -66,16 +66,16 @@ fn note_format(format: BatchFormat) -> BatchFormat
 
 /// The line of the trace of this number, or nothing where a quiet batch leaves it out.
 pub(crate) fn written_line(
-    course: &Course<'_>,
+    judging: &TextJudging<'_>,
     number: u64,
     judgment: Judgment,
 ) -> Result<String, OutOfMemory>
-    ensures { IfOk result (λ line. string_bytes line ≡ written_line (printing_by course.now) number judgment) }
+    ensures { IfOk result (λ line. string_bytes line ≡ written_line (printing_by judging.now) number judgment) }
 {
-    if is_left_out(course.options.printing.quiet, judgment) {
-        Ok(String::new(course.alloc))
+    if is_left_out(judging.options.printing.quiet, judgment) {
+        Ok(String::new(judging.alloc))
     } else {
-        trace_line(course, number, judgment)
+        trace_line(judging, number, judgment)
     }
 }
 
@@ -90,13 +90,17 @@ fn is_left_out(quiet: bool, judgment: Judgment) -> bool
 }
 
 /// The line of the trace of this number.
-fn trace_line(course: &Course<'_>, number: u64, judgment: Judgment) -> Result<String, OutOfMemory>
-    ensures { IfOk result (λ line. string_bytes line ≡ trace_line course.now.options.printing.format course.now.label.now number judgment) }
+fn trace_line(
+    judging: &TextJudging<'_>,
+    number: u64,
+    judgment: Judgment,
+) -> Result<String, OutOfMemory>
+    ensures { IfOk result (λ line. string_bytes line ≡ trace_line judging.now.options.printing.format judging.now.label.now number judgment) }
 {
-    match course.options.printing.format {
-        BatchFormat::Words => word_line(course.alloc, course.label, number, judgment),
-        BatchFormat::Json => json_line(course.alloc, course.label, number, judgment),
-        BatchFormat::Junit => junit_line(course.alloc, course.label, number, judgment),
+    match judging.options.printing.format {
+        BatchFormat::Words => word_line(judging.alloc, judging.label, number, judgment),
+        BatchFormat::Json => json_line(judging.alloc, judging.label, number, judgment),
+        BatchFormat::Junit => junit_line(judging.alloc, judging.label, number, judgment),
     }
 }
 

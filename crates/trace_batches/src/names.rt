@@ -1,13 +1,13 @@
 //! The names of texts, as they stand in the lines of a batch.
 ghost use Rattle.std.specs.Prelude.{◌≡◌, ◌<◌, ◌++◌, None, Some, IfOk, OnOk, option_map, string_bytes};
-ghost use Rattle.trace_batches.specs.BatchNames.{base_16_digit, control_escape, escaped_name, is_outside_xml, is_xml_space, json_character, name_character, plain_xml_character, text_label, word_character, xml_character};
+ghost use Rattle.trace_batches.specs.BatchNames.{hexadecimal_digit, control_escape, escaped_name, is_outside_xml, is_xml_space, json_character, name_character, plain_xml_character, text_label, word_character, xml_character};
 
 use crate::batches::BatchFormat;
 use std::alloc::Global;
 use std::fmt::Write;
 use tso_ops::OutOfMemory;
 
-/// The digits of base 16.
+/// The hexadecimal digits.
 const DIGITS: [char; 16] = [
     '0', '1', '2', '3', '4', '5', '6', '7', '8', '9', 'a', 'b', 'c', 'd', 'e', 'f',
 ];
@@ -98,10 +98,10 @@ fn push_control(text: &mut String, code: u32) -> Result<(), OutOfMemory>
     push_digit(text, code % 16)
 }
 
-/// Appends a digit of base 16.
+/// Appends a hexadecimal digit.
 fn push_digit(text: &mut String, digit: u32) -> Result<(), OutOfMemory>
     requires { digit < 16 }
-    ensures { OnOk result (string_bytes text.new ≡ string_bytes text.old ++ base_16_digit digit) }
+    ensures { OnOk result (string_bytes text.new ≡ string_bytes text.old ++ hexadecimal_digit digit) }
 {
     Ok(text.push(DIGITS[digit as usize])?)
 }

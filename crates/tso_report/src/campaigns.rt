@@ -9,6 +9,7 @@ ghost use Rattle.trace_judging.specs.WrittenReports.{WritesWhole};
 
 use gathering::Gathered;
 use lines::campaign_text;
+use progress_meters::{Meter, NoMeter};
 use seeds::SeedUnits;
 use std::alloc::Global;
 use std::io::Write;
@@ -103,9 +104,8 @@ impl CampaignPlan {
 /// system refused a thread; Missing with the least seed of which no record was judged; with each nothing was written. Write
 /// where the writer failed, took no byte or was interrupted more than 1,048,576 times: then what was written is a prefix of
 /// the text. It may wait.
-pub fn campaign<R: Threads + Wait + Sync, W: Write>(
+pub fn campaign<R: Threads + Wait + Sync + AllocGlobal, W: Write>(
     rt: &R,
-    alloc: Global,
     plan: CampaignPlan,
     units: Vec<Box<dyn MemoryUnit + Send>>,
     workers: usize,
@@ -119,16 +119,21 @@ pub fn campaign<R: Threads + Wait + Sync, W: Write>(
     ensures whole { IfOk result (WritesWhole (IsCampaign plan (map (λ unit. value_of unit) units.items)) (W.contents writer.old) (W.contents writer.new)) }
     ensures fault { IfErr result (LeavesCampaign plan (map (λ unit. value_of unit) units.items) (W.contents writer.old) (W.contents writer.new)) }
 {
-    campaign_over(rt, alloc, plan, units, workers, writer)
+    campaign_over(rt, plan, units, workers, &NoMeter, writer)
 }
 
-/// `campaign` over units of any one type.
-pub fn campaign_over<U: MemoryUnit + Send, R: Threads + Wait + Sync, W: Write>(
+/// `campaign` over units of any one type. The meter hears of each seed whose result came in.
+pub fn campaign_over<
+    U: MemoryUnit + Send,
+    R: Threads + Wait + Sync + AllocGlobal,
+    M: Meter,
+    W: Write,
+>(
     rt: &R,
-    alloc: Global,
     plan: CampaignPlan,
     units: Vec<U>,
     workers: usize,
+    meter: &M,
     writer: &mut W,
 ) -> Result<Verdict, Fault>
     requires some { 1 ≤ workers }
@@ -139,16 +144,22 @@ pub fn campaign_over<U: MemoryUnit + Send, R: Threads + Wait + Sync, W: Write>(
     ensures whole { IfOk result (WritesWhole (IsCampaign plan (map (λ unit. U.value_of unit) units.items)) (W.contents writer.old) (W.contents writer.new)) }
     ensures fault { IfErr result (LeavesCampaign plan (map (λ unit. U.value_of unit) units.items) (W.contents writer.old) (W.contents writer.new)) }
 {
-    campaign_of::<Brand, U, R, W>(rt, alloc, plan, units, workers, writer)
+    campaign_of::<Brand, U, R, M, W>(rt, plan, units, workers, meter, writer)
 }
 
 /// `campaign_over` where these are the units of the seeds.
-fn campaign_of<S: SeedUnits + Send, U: MemoryUnit + Send, R: Threads + Wait + Sync, W: Write>(
+fn campaign_of<
+    S: SeedUnits + Send,
+    U: MemoryUnit + Send,
+    R: Threads + Wait + Sync + AllocGlobal,
+    M: Meter,
+    W: Write,
+>(
     rt: &R,
-    alloc: Global,
     plan: CampaignPlan,
     units: Vec<U>,
     workers: usize,
+    meter: &M,
     writer: &mut W,
 ) -> Result<Verdict, Fault>
     requires some { 1 ≤ workers }
@@ -160,9 +171,10 @@ fn campaign_of<S: SeedUnits + Send, U: MemoryUnit + Send, R: Threads + Wait + Sy
     ensures whole { IfOk result (WritesWhole (IsCampaign plan (map (λ unit. U.value_of unit) units.items)) (W.contents writer.old) (W.contents writer.new)) }
     ensures fault { IfErr result (LeavesCampaign plan (map (λ unit. U.value_of unit) units.items) (W.contents writer.old) (W.contents writer.new)) }
 {
+    let alloc = rt.alloc();
     let (first, printing) = (plan.first, plan.printing);
     let gathered: Gathered<S> = Gathered::new(alloc, plan, units.len())?;
-    let gathered = gather(rt, alloc, gathered, units, workers)?;
+    let gathered = gather(rt, gathered, units, workers, meter)?;
     let known = gathered.known(alloc)?;
     let text = campaign_text(alloc, printing, first, &known)?;
     write_text(writer, &text)?;

@@ -1,4 +1,4 @@
-//! The way of a unit's record: judge its trace, write the report.
+//! Judges the trace of a unit's record, and writes the report.
 ghost use Rattle.std.specs.Prelude.{◌≡◌, ◌≢◌, ◌⊎◌, ◌↔◌, ◌≤◌, ℕ, List, true, string_bytes, IfOk, IfErr};
 ghost use Rattle.std.specs.Io.KnownBytes.{Appends};
 ghost use Rattle.trace_judging.specs.Limits.{worker_limit};

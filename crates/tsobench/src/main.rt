@@ -3,18 +3,21 @@
 //! `README.md` says how it is run, and `crates/request_serving/README.md` what is proved of it.
 #![tactic(auto)]
 
-use request_serving::{drive, end_without_arguments};
+use request_serving::{Diagnostics, drive, end_without_arguments};
+use std::io::IsTerminal;
 use std::process::ExitCode;
 use std::rt::Env;
 use std::{env, io};
 
 fn main(rt: HostRuntime) -> ExitCode {
     let mut errors = rt.stderr();
+    let diagnostics = Diagnostics::new(&rt, errors.is_terminal());
     let status = match arguments(&rt) {
         Ok(arguments) => drive(
             &rt,
             &arguments,
-            &mut rt.stdin(),
+            &diagnostics,
+            &mut diagnostics.watch_input(rt.stdin()),
             &mut rt.stdout(),
             &mut errors,
         ),

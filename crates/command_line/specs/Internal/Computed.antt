@@ -1,16 +1,17 @@
 -- For private functions: what they parse in place of the arguments.
-use Rattle.std.specs.Prelude.{List, [], ◌∷◌, Option, codes, find, option_map, unwrap_or, if◌then◌else◌}
+use Rattle.std.specs.Prelude.{◌≡◌, List, [], ◌∷◌, Option, codes, find, option_map, unwrap_or, if◌then◌else◌}
 use Rattle.std.specs.Str.{bytes_eq}
 use Rattle.command_line.specs.Parameters.{Parameter, Values, flag, listed, option, optional, other, range, several}
 use Rattle.clap.specs.Words.{fault_of, subcommand_of}
-use Rattle.command_line.specs.Commands.{IsAskedBy, tsobench_app}
+use Rattle.command_line.specs.Commands.{IsAskedBy, notes_by, tsobench_app}
 use Rattle.command_line.specs.Requests.{Text, Asked}
+use Rattle.command_line.specs.declared.requests.Notes.{Notes}
 use Rattle.command_line.specs.declared.options.OptionNames.{OptionNames}
 use Rattle.command_line.specs.declared.options.Presentation.TheVariants as form
 use Rattle.command_line.specs.Subcommands as s
 use Rattle.command_line.specs.Subcommands.{subcommands}
 use Rattle.command_line.specs.declared.subcommands.Subcommand.{Subcommand}
-use Rattle.command_line.specs.declared.subcommands.Subcommand.TheVariants.{Judge, Explain, Draw, Batch, Log, Check, Replay, Run, Make, Campaign}
+use Rattle.command_line.specs.declared.subcommands.Subcommand.TheVariants.{Judge, Explain, Draw, Reduce, Batch, Log, Check, Replay, Run, Make, Campaign}
 use Rattle.command_line.specs.declared.parameters.NameList.{NameList}
 use Rattle.command_line.specs.declared.parameters.Parameter.{Parameter as Declared}
 use Rattle.command_line.specs.declared.parameters.Parameter.TheVariants as declared
@@ -36,6 +37,7 @@ abbrev pub member_of : Subcommand → s.Subcommand
 member_of Judge = s.judge_as (codes "judge") form.Report
 member_of Explain = s.judge_as (codes "explain") form.Explanation
 member_of Draw = s.judge_as (codes "draw") form.Picture
+member_of Reduce = s.reduce
 member_of Batch = s.batch
 member_of Log = s.log
 member_of Check = s.check
@@ -61,3 +63,7 @@ parsed_as (first ∷ second ∷ third ∷ rest) = first ∷ second ∷ third ∷
 -- what a parse of the arguments says of what is asked for
 abbrev pub IsFound : OptionNames → List Text → Asked → Type 0
 IsFound names arguments asked = IsAskedBy (fault_of (tsobench_app names) (parsed_as arguments)) (subcommand_of (tsobench_app names) (parsed_as arguments)) asked
+
+-- what a parse of the arguments, where nothing fails, says of what is told beside it
+abbrev pub AreNotesFound : OptionNames → List Text → Notes → Type 0
+AreNotesFound names arguments notes = fault_of (tsobench_app names) (parsed_as arguments) ≡ [] → notes ≡ notes_by (subcommand_of (tsobench_app names) (parsed_as arguments))

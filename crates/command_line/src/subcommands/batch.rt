@@ -1,7 +1,8 @@
-//! `batch [--workers N] [--format FORMAT] [--quiet] [--violations] [FILE]...`: judges traces that stand one after the other.
+//! `batch [--workers N] [--format FORMAT] [--quiet] [--violations] [--progress] [--verbose] [FILE]...`: judges traces that stand one after the other.
 
 use crate::options::MAX_WORKERS;
 use crate::parameters::{Accepted, Description, NameList, Parameter};
+use crate::subcommands::shared;
 
 /// The text of its help after the list of its parameters.
 const HELP: &str = "\
@@ -69,6 +70,8 @@ pub(crate) static BATCH: Description = Description {
             name: "violations",
             help: "Print the texts of the violations in place of lines",
         },
+        shared::PROGRESS,
+        shared::VERBOSE,
         Parameter::Several {
             name: "file",
             value_name: "FILE",

@@ -73,6 +73,7 @@ pub(crate) static CAMPAIGN: Description = Description {
             name: "trace",
             help: "Prints the recorded traces in place of lines",
         },
+        shared::PROGRESS,
         shared::MODEL,
         Parameter::Option {
             name: "first",

@@ -30,6 +30,7 @@ pub(crate) static CHECK: Description = Description {
     help: HELP,
     parameters: &[
         shared::NTH,
+        shared::VERBOSE,
         Parameter::Other {
             name: "trace",
             value_name: "TRACE",

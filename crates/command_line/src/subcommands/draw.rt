@@ -30,5 +30,10 @@ pub(crate) static DRAW: Description = Description {
     help_option: ["draw", "--help"],
     about: "Draws a trace and why it is a violation, for Graphviz",
     help: HELP,
-    parameters: &[shared::WORKERS, shared::NTH, shared::TRACE_FILE],
+    parameters: &[
+        shared::WORKERS,
+        shared::NTH,
+        shared::VERBOSE,
+        shared::TRACE_FILE,
+    ],
 };

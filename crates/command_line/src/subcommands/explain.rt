@@ -28,5 +28,10 @@ pub(crate) static EXPLAIN: Description = Description {
     help_option: ["explain", "--help"],
     about: "Explains in words why a trace is a violation",
     help: HELP,
-    parameters: &[shared::WORKERS, shared::NTH, shared::TRACE_FILE],
+    parameters: &[
+        shared::WORKERS,
+        shared::NTH,
+        shared::VERBOSE,
+        shared::TRACE_FILE,
+    ],
 };

@@ -28,5 +28,10 @@ pub(crate) static JUDGE: Description = Description {
     help_option: ["judge", "--help"],
     about: "Judges a trace and prints its report",
     help: HELP,
-    parameters: &[shared::WORKERS, shared::NTH, shared::TRACE_FILE],
+    parameters: &[
+        shared::WORKERS,
+        shared::NTH,
+        shared::VERBOSE,
+        shared::TRACE_FILE,
+    ],
 };

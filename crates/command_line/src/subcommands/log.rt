@@ -1,7 +1,8 @@
-//! `log [--most K] [--effort N] [--trace|--explain] [FILE]`: finds violations of a log.
+//! `log [--most K] [--effort N] [--trace|--explain] [--progress] [--verbose] [FILE]`: finds violations of a log.
 
 use crate::options::{MAX_LOG_EFFORT, MAX_LOG_VIOLATIONS};
 use crate::parameters::{Accepted, Description, Parameter};
+use crate::subcommands::shared;
 
 /// The text of its help after the list of its parameters.
 const HELP: &str = "\
@@ -71,6 +72,8 @@ pub(crate) static LOG: Description = Description {
             name: "explain",
             help: "Explains each violation after its lines",
         },
+        shared::PROGRESS,
+        shared::VERBOSE,
         Parameter::Other {
             name: "file",
             value_name: "FILE",

@@ -43,6 +43,7 @@ pub(crate) static REPLAY: Description = Description {
         shared::TRACE,
         shared::EXPLAIN,
         shared::WITH_TRACE,
+        shared::VERBOSE,
         Parameter::Other {
             name: "program",
             value_name: "PROGRAM",

@@ -51,6 +51,7 @@ pub(crate) static RUN: Description = Description {
         shared::TRACE,
         shared::EXPLAIN,
         shared::WITH_TRACE,
+        shared::VERBOSE,
         Parameter::Option {
             name: "seed",
             value_name: "N",

@@ -88,6 +88,18 @@ pub(crate) const DRAIN_TURNS: Parameter = Parameter::Option {
 
 const _: () = prove!(MAX_DRAIN_TURNS == 1_000_000);
 
+/// `--verbose`.
+pub(crate) const VERBOSE: Parameter = Parameter::Flag {
+    name: "verbose",
+    help: "Names the file and the reason after FAULT Read",
+};
+
+/// `--progress`.
+pub(crate) const PROGRESS: Parameter = Parameter::Flag {
+    name: "progress",
+    help: "Tells on standard error, at most once a second, how much is done",
+};
+
 /// `--model MODEL`.
 pub(crate) const MODEL: Parameter = Parameter::Option {
     name: "model",

@@ -4,7 +4,7 @@ use super::{asked, expect_each};
 use std::test::Fail;
 
 /// Arguments, and what they ask for.
-const ACCEPTED: [(&[&str], &str); 54] = [
+const ACCEPTED: [(&[&str], &str); 58] = [
     (&[], "Report of None with 1"),
     (&["judge"], "Report of None with 1"),
     (&["judge", "a.trace"], "Report of Some(\"a.trace\") with 1"),
@@ -69,6 +69,13 @@ const ACCEPTED: [(&[&str], &str); 54] = [
         "Explanation of Some(\"-x\") with 2",
     ),
     (&["draw"], "Picture of None with 1"),
+    (&["reduce"], "reduce None nth None"),
+    (&["reduce", "-"], "reduce None nth None"),
+    (
+        &["reduce", "--nth", "2", "t"],
+        "reduce Some(\"t\") nth Some(2)",
+    ),
+    (&["reduce", "--", "-x"], "reduce Some(\"-x\") nth None"),
     (
         &["draw", "--workers", "3", "t"],
         "Picture of Some(\"t\") with 3",

@@ -39,11 +39,14 @@ fn help_on_traces(rt: HostRuntime) -> Result<(), Fail> {
     expect_each(&rt, rt.alloc(), "show ", &OF_TRACES)
 }
 
-/// Those that ask for the help of `draw`.
-const OF_PICTURES: [(&[&str], &str); 3] = [
+/// Those that ask for the help of `draw` or of `reduce`.
+const OF_PICTURES: [(&[&str], &str); 6] = [
     (&["draw", "--help"], DRAW_HELP),
     (&["draw", "-h"], DRAW_HELP),
     (&["help", "draw"], DRAW_HELP),
+    (&["reduce", "--help"], REDUCE_HELP),
+    (&["reduce", "-h"], REDUCE_HELP),
+    (&["help", "reduce"], REDUCE_HELP),
 ];
 
 #[test]
@@ -97,6 +100,7 @@ Commands:
   judge     Judges a trace and prints its report
   explain   Explains in words why a trace is a violation
   draw      Draws a trace and why it is a violation, for Graphviz
+  reduce    Reduces a violation to the few operations that show it
   batch     Judges many traces, with a line for each
   log       Finds violations of a log, and prints their lines
   check     Checks a certificate of a violation against its trace
@@ -149,6 +153,7 @@ Arguments:
 Options:
       --workers <N>  How many workers judge, 1 to 64 [default: 1]
       --nth <K>      Which of the traces that stand one after the other, from 1
+      --verbose      Names the file and the reason after FAULT Read
   -h, --help         Print help
 
 It reads the text of a trace, at most 1,048,576 bytes, and prints its report:
@@ -181,6 +186,7 @@ Arguments:
 Options:
       --workers <N>  How many workers judge, 1 to 64 [default: 1]
       --nth <K>      Which of the traces that stand one after the other, from 1
+      --verbose      Names the file and the reason after FAULT Read
   -h, --help         Print help
 
 It reads the text of a trace, as `tsobench judge` does, and prints its report up
@@ -202,6 +208,40 @@ Example:
   tsobench explain TRACE
 ";
 
+const REDUCE_HELP: &str = "\
+Reduces a violation to the few operations that show it
+
+Usage: tsobench reduce [OPTIONS] [FILE]
+
+Arguments:
+  [FILE]  The text of a trace; standard input where it is - or left out
+
+Options:
+      --nth <K>  Which of the traces that stand one after the other, from 1
+      --verbose  Names the file and the reason after FAULT Read
+  -h, --help     Print help
+
+It reads the text of a trace, as `tsobench judge` does. Where the trace is a
+violation it prints the text of a small trace that shows this: some of its
+operations, with other addresses and values, which are a violation by
+themselves, and of which none can be left out; or a load of a value that nothing
+wrote. Violations that differ in their names alone often give the same text: the
+processors stand in the order of the least text, where there are at most six. On
+standard error a line tells where each operation stands in the trace. Of a trace
+without a violation it prints NO VIOLATION FOUND, and of a text that is no trace
+one line, as REFUSED BadLine line 3. With --nth K it reduces the K-th of the
+traces that stand one after the other, as `tsobench judge` judges it.
+
+Exit status:
+  0  no violation was found, which proves nothing about the trace
+  2  the text is no trace, or the command line was refused
+  3  the trace violates its memory model
+  4  a fault, which one line on standard error names, as FAULT Read
+
+Example:
+  tsobench reduce TRACE | tsobench explain
+";
+
 const DRAW_HELP: &str = "\
 Draws a trace and why it is a violation, for Graphviz
 
@@ -213,6 +253,7 @@ Arguments:
 Options:
       --workers <N>  How many workers judge, 1 to 64 [default: 1]
       --nth <K>      Which of the traces that stand one after the other, from 1
+      --verbose      Names the file and the reason after FAULT Read
   -h, --help         Print help
 
 It reads the text of a trace, as `tsobench judge` does, and prints a picture of
@@ -249,6 +290,8 @@ Options:
       --format <FORMAT>  How lines are written, words, json or junit [default: words] [possible values: words, json, junit]
       --quiet            Leave out the lines of traces without a violation
       --violations       Print the texts of the violations in place of lines
+      --progress         Tells on standard error, at most once a second, how much is done
+      --verbose          Names the file and the reason after FAULT Read
   -h, --help             Print help
 
 It reads texts of traces that stand one after the other: each ends with its line
@@ -301,6 +344,8 @@ Options:
       --effort <N>  How many steps the search may do for each load and store, 0 to 1000000 [default: 100]
       --trace       Prints the traces of the violations, and no report
       --explain     Explains each violation after its lines
+      --progress    Tells on standard error, at most once a second, how much is done
+      --verbose     Names the file and the reason after FAULT Read
   -h, --help        Print help
 
 It reads a log of what the processors of a machine did, of any length, and looks
@@ -353,6 +398,7 @@ Arguments:
 
 Options:
       --nth <K>  Which of the traces that stand one after the other, from 1
+      --verbose  Names the file and the reason after FAULT Read
   -h, --help     Print help
 
 It reads the text of a trace and that of a certificate, at most 67,108,864
@@ -391,6 +437,7 @@ Options:
       --trace         Prints the recorded trace alone
       --explain       Prints the explanation of the verdict alone
       --with-trace    Prints the recorded trace after the report or the explanation
+      --verbose       Names the file and the reason after FAULT Read
   -h, --help          Print help
 
 It reads the text of a program and that of a schedule, and runs the program on
@@ -434,6 +481,7 @@ Options:
       --trace            Prints the recorded trace alone
       --explain          Prints the explanation of the verdict alone
       --with-trace       Prints the recorded trace after the report or the explanation
+      --verbose          Names the file and the reason after FAULT Read
       --seed <N>         The seed of the drains, 0 to 18446744073709551615
       --drain-turns <T>  How many turns a drainer takes beside the processors, 0 to 1000000 [default: 0]
   -h, --help             Print help
@@ -526,6 +574,7 @@ Options:
       --replay           Replays each program by the schedule of its seed
       --drain-turns <T>  How many turns a drainer takes beside the processors, 0 to 1000000 [default: 0]
       --trace            Prints the recorded traces in place of lines
+      --progress         Tells on standard error, at most once a second, how much is done
       --model <MODEL>    The memory model of the program, tso or pso [default: tso] [possible values: tso, pso]
       --first <S>        The first seed, 0 to 18446744073709551615
       --count <K>        How many seeds there are, each one more than the last, at most 1000

@@ -1,6 +1,7 @@
 //! Readers and writers that fail.
 
 use log_reports::{LogForm, LogOptions, LogVerdict, report_log};
+use progress_meters::NoMeter;
 use std::alloc::Global;
 use std::io::{ErrorKind, Read};
 use std::sync::Wait;
@@ -33,7 +34,7 @@ const TRACES: LogOptions = LogOptions {
 };
 
 /// Compares what a reader leads to, and that nothing is written at a fault.
-fn expect_read<H: Threads + Wait, R: Read>(
+fn expect_read<H: Threads + Wait + AllocGlobal, R: Read>(
     rt: &H,
     alloc: Global,
     reader: &mut R,
@@ -42,7 +43,7 @@ fn expect_read<H: Threads + Wait, R: Read>(
 ) -> Result<(), Fail> {
     let mut written = Vec::new(alloc);
     let mut errors = Vec::new(alloc);
-    let given = report_log(rt, alloc, LINES, reader, &mut written, &mut errors);
+    let given = report_log(rt, LINES, &NoMeter, reader, &mut written, &mut errors);
     expect_equal("said", given, said)?;
     expect_equal("written", written.as_slice(), report)?;
     expect_equal("errors", errors.len(), 0)
@@ -62,14 +63,7 @@ fn writer_stops(rt: HostRuntime) -> Result<(), Fail> {
     let mut writer = ShortWriter::new(rt.alloc(), 20, Full::TakesNothing);
     let mut errors = Vec::new(rt.alloc());
     let mut reader = LOG;
-    let said = report_log(
-        &rt,
-        rt.alloc(),
-        LINES,
-        &mut reader,
-        &mut writer,
-        &mut errors,
-    );
+    let said = report_log(&rt, LINES, &NoMeter, &mut reader, &mut writer, &mut errors);
     expect_equal("said", said, Err(Fault::Write))?;
     expect_equal("written", writer.taken.as_slice(), &REPORT[..20])?;
     expect_equal("errors", errors.len(), 0)
@@ -83,8 +77,8 @@ fn errors_stop(rt: HostRuntime) -> Result<(), Fail> {
     let mut reader = LOG;
     let said = report_log(
         &rt,
-        rt.alloc(),
         TRACES,
+        &NoMeter,
         &mut reader,
         &mut written,
         &mut errors,

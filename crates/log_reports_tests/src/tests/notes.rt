@@ -2,6 +2,7 @@
 
 use super::usual;
 use log_reports::{LogForm, LogVerdict, report_log};
+use progress_meters::NoMeter;
 use std::alloc::{AllocError, Global};
 use std::fmt::Write;
 use std::sync::Wait;
@@ -10,7 +11,7 @@ use std::thread::Threads;
 use traces_for_tests::expect_equal;
 
 /// Compares what is said of a log, and what is noted on its report.
-fn expect_notes<H: Threads + Wait>(
+fn expect_notes<H: Threads + Wait + AllocGlobal>(
     rt: &H,
     alloc: Global,
     log: &str,
@@ -21,7 +22,14 @@ fn expect_notes<H: Threads + Wait>(
     let mut errors = Vec::new(alloc);
     let mut reader = log.as_bytes();
     let options = usual(LogForm::Lines);
-    let said = report_log(rt, alloc, options, &mut reader, &mut written, &mut errors);
+    let said = report_log(
+        rt,
+        options,
+        &NoMeter,
+        &mut reader,
+        &mut written,
+        &mut errors,
+    );
     expect_equal("said", said, Ok(verdict))?;
     expect_equal("notes", errors.as_slice(), notes.as_bytes())
 }

@@ -3,6 +3,7 @@
 //! The call that meets it answers OutOfMemory and wrote nothing; the next call writes the report.
 
 use log_reports::{LogForm, LogOptions, LogVerdict, report_log};
+use progress_meters::NoMeter;
 use std::alloc::Global;
 use std::sync::Wait;
 use std::test::Fail;
@@ -27,7 +28,7 @@ const OPTIONS: LogOptions = LogOptions {
 };
 
 /// Writes the report on the log into these bytes; how much of the room is left.
-fn reported_into<H: Threads + Wait>(
+fn reported_into<H: Threads + Wait + AllocGlobal>(
     rt: &H,
     alloc: Global,
     bytes: &mut [u8; ROOM],
@@ -36,7 +37,7 @@ fn reported_into<H: Threads + Wait>(
     let mut reader = LOG;
     let mut room = [0u8; ROOM];
     let mut errors = room.as_mut_slice();
-    let said = report_log(rt, alloc, OPTIONS, &mut reader, &mut writer, &mut errors);
+    let said = report_log(rt, OPTIONS, &NoMeter, &mut reader, &mut writer, &mut errors);
     (said, writer.len())
 }
 

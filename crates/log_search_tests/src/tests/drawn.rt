@@ -6,6 +6,7 @@ use super::minimality::is_minimal;
 use super::{EFFORT, MAX_PROPOSALS, proposals_of};
 use log_search::{Found, Judge, Search, reduce};
 use log_selections::KnownLog;
+use progress_meters::NoMeter;
 use std::alloc::Global;
 use std::test::Fail;
 use traces_for_tests::{DrawingMachine, Draws, expect_equal};
@@ -77,7 +78,7 @@ fn search_beside_rules(alloc: Global, known: &KnownLog, seed: u64) -> Result<usi
     let mut search = Search::new(alloc, known, EFFORT)?;
     let mut left = all_known(alloc, known)?;
     for count in 0..MAX_PROPOSALS {
-        match search.next(alloc)? {
+        match search.next(alloc, &NoMeter)? {
             Found::Proposal(kept) => {
                 left = without_loads_of(alloc, known, &left, &kept)?;
                 let reduced = reduce(alloc, known, kept, &mut judge)?;

@@ -5,6 +5,7 @@ use super::logs::{exchange, log_of};
 use super::{EFFORT, MAX_PROPOSALS};
 use log_search::{Found, Search};
 use log_selections::{Kept, KnownLog};
+use progress_meters::NoMeter;
 use std::alloc::Global;
 use std::collections::HashSet;
 use std::test::Fail;
@@ -55,7 +56,7 @@ fn propose_all(alloc: Global, known: &KnownLog) -> Result<Proposed, Fail> {
         shares: false,
     };
     for _ in 0..MAX_PROPOSALS {
-        let Found::Proposal(kept) = search.next(alloc)? else {
+        let Found::Proposal(kept) = search.next(alloc, &NoMeter)? else {
             break;
         };
         let is_cut = known.trace_of(alloc, &kept)?.is_some();

@@ -7,6 +7,7 @@ use super::judges::Needing;
 use log_search::{Found, Search, reduce};
 use log_selections::{Kept, KnownLog};
 use log_text::read_log;
+use progress_meters::NoMeter;
 use std::alloc::Global;
 use std::test::Fail;
 use traces_for_tests::expect_equal;
@@ -24,7 +25,7 @@ fn known_log(alloc: Global) -> Result<KnownLog, OutOfMemory> {
 
 /// What is kept that is found first, if anything is.
 fn first_found(alloc: Global, known: &KnownLog) -> Result<Option<Vec<Vec<Kept>>>, OutOfMemory> {
-    match Search::new(alloc, known, EFFORT)?.next(alloc)? {
+    match Search::new(alloc, known, EFFORT)?.next(alloc, &NoMeter)? {
         Found::Proposal(kept) => Ok(Some(kept)),
         Found::End | Found::BudgetEnd => Ok(None),
     }

@@ -5,11 +5,11 @@ ghost use Rattle.std.specs.Io.KnownBytes.{Consumes};
 ghost use Rattle.std.specs.List.{list_all};
 ghost use Rattle.trace_batches.specs.Batches.{HasWritten, IsBatchFault, Judges, LeavesBatch, LeavesText, WritesBatch};
 ghost use Rattle.trace_batches.specs.declared.batches.BatchPrinting.{BatchPrinting};
-ghost use Rattle.request_serving.specs.Batches.{are_several, format_of, printing_of, texts_of_batch, told_name};
+ghost use Rattle.request_serving.specs.Batches.{are_several, asked_format, asked_printing, texts_of_batch, told_name};
 ghost use Rattle.request_serving.specs.OpenedFiles.{OpensFirst, OpensNext, name_in};
 ghost use Rattle.request_serving.specs.Internal.Batching.{files_in, reads_one, text_named};
 
-use crate::files::{NamedFiles, open};
+use crate::files::{Surroundings, open};
 use command_line::{BatchFormat as AskedFormat, BatchPrinting as AskedPrinting, BatchRequest};
 use std::io::{Read, Write};
 use std::sync::Wait;
@@ -33,7 +33,7 @@ struct NamedText<'a> {
 /// has.
 pub(crate) fn batch_named<
     H: Threads + Wait + Sync + AllocGlobal,
-    O: NamedFiles,
+    O: Surroundings,
     R: Read,
     W: Write,
     E: Write,
@@ -47,8 +47,8 @@ pub(crate) fn batch_named<
 ) -> Result<Verdict, Fault>
     requires workers { 1 ≤ request.now.workers }
     requires input { reads_one (files_in request.now.texts.items) }
-    ensures whole { let texts = texts_of_batch (files_in request.now.texts.items) (R.remaining reader.old) (O.bytes files.old) in IfOk result (WritesBatch (printing_of request.now.printing) texts (W.contents writer.old) (W.contents writer.new) (E.contents errors.old) (E.contents errors.new)) }
-    ensures left { let texts = texts_of_batch (files_in request.now.texts.items) (R.remaining reader.old) (O.bytes files.old) in OnErr result (LeavesBatch (printing_of request.now.printing) texts (W.contents writer.old) (W.contents writer.new) (E.contents errors.old) (E.contents errors.new)) }
+    ensures whole { let texts = texts_of_batch (files_in request.now.texts.items) (R.remaining reader.old) (O.bytes files.old) in IfOk result (WritesBatch (asked_printing request.now.printing) texts (W.contents writer.old) (W.contents writer.new) (E.contents errors.old) (E.contents errors.new)) }
+    ensures left { let texts = texts_of_batch (files_in request.now.texts.items) (R.remaining reader.old) (O.bytes files.old) in OnErr result (LeavesBatch (asked_printing request.now.printing) texts (W.contents writer.old) (W.contents writer.new) (E.contents errors.old) (E.contents errors.new)) }
     ensures fault { IfErr result IsBatchFault }
     ensures first { OpensFirst (O.opened files.old) (O.opened files.new) (filter_map (λ file. file) (files_in request.now.texts.items)) }
     ensures opened { IfOk result (λ _. OpensNext (O.opened files.old) (O.opened files.new) (filter_map (λ file. file) (files_in request.now.texts.items))) }
@@ -57,7 +57,7 @@ pub(crate) fn batch_named<
 {
     let options = BatchOptions {
         workers: request.workers,
-        printing: printing_of(request.printing),
+        printing: asked_printing(request.printing),
     };
     let mut batch = Batch::begin(rt.alloc(), options, writer)?;
     judge_each(rt, &mut batch, &request.texts, files, reader, writer)?;
@@ -65,7 +65,7 @@ pub(crate) fn batch_named<
 }
 
 /// Judges the texts of a batch, one after the other.
-fn judge_each<H: Threads + Wait + Sync, O: NamedFiles, R: Read, W: Write>(
+fn judge_each<H: Threads + Wait + Sync, O: Surroundings, R: Read, W: Write>(
     rt: &H,
     batch: &mut Batch,
     texts: &[Option<&str>],
@@ -120,7 +120,7 @@ fn told_name(several: bool, file: Option<&str>) -> Option<&str>
 }
 
 /// Judges one text of a batch.
-fn judge_text<H: Threads + Wait + Sync, O: NamedFiles, R: Read, W: Write>(
+fn judge_text<H: Threads + Wait + Sync, O: Surroundings, R: Read, W: Write>(
     rt: &H,
     batch: &mut Batch,
     text: NamedText<'_>,
@@ -136,29 +136,30 @@ fn judge_text<H: Threads + Wait + Sync, O: NamedFiles, R: Read, W: Write>(
     ensures unread { IfSome text.entry.file (λ _. reader.new ≡ reader.old) }
     ensures taken { text.entry.file ≡ None → OnOk result (IfSome (R.remaining reader.old) (λ all. Consumes (R.remaining reader.old) (R.remaining reader.new) all)) }
 {
+    let meter = files.meter("traces", None);
     match text.file {
-        None => batch.judge(rt, text.name, reader, writer),
+        None => batch.judge(rt, &meter, text.name, reader, writer),
         Some(name) => {
             let mut file = open(files, name)?;
-            batch.judge(rt, text.name, &mut file, writer)
+            batch.judge(rt, &meter, text.name, &mut file, writer)
         }
     }
 }
 
 /// What is printed of a batch, as it was asked for.
-fn printing_of(printing: AskedPrinting) -> BatchPrinting
-    ensures { result ≡ printing_of printing }
+fn asked_printing(printing: AskedPrinting) -> BatchPrinting
+    ensures { result ≡ asked_printing printing }
 {
     BatchPrinting {
-        format: format_of(printing.format),
+        format: asked_format(printing.format),
         quiet: printing.quiet,
         violations: printing.violations,
     }
 }
 
 /// How the lines of a batch are written, as it was asked for.
-fn format_of(format: AskedFormat) -> BatchFormat
-    ensures { result ≡ format_of format }
+fn asked_format(format: AskedFormat) -> BatchFormat
+    ensures { result ≡ asked_format format }
 {
     match format {
         AskedFormat::Words => BatchFormat::Words,

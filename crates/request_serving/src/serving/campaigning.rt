@@ -9,6 +9,7 @@ use crate::endings::{REFUSED, status_of};
 use crate::serving::making::{SHAPE_REFUSAL, asked_shape};
 use crate::units::make_units;
 use command_line::CampaignOptions;
+use progress_meters::Meter;
 use std::io::Write;
 use std::sync::Wait;
 use std::thread::Threads;
@@ -69,9 +70,10 @@ fn are_seeds(first: u64, count: u64) -> bool
 }
 
 /// Runs a campaign and writes its text, or that the shape or the seeds are refused: the status.
-pub(crate) fn campaign_by<H: Threads + Wait + Sync + AllocGlobal, W: Write>(
+pub(crate) fn campaign_by<H: Threads + Wait + Sync + AllocGlobal, M: Meter, W: Write>(
     rt: &H,
     options: &CampaignOptions,
+    meter: &M,
     writer: &mut W,
 ) -> Result<u8, Fault>
     requires ranges { IsCampaignInRange options.now }
@@ -79,7 +81,7 @@ pub(crate) fn campaign_by<H: Threads + Wait + Sync + AllocGlobal, W: Write>(
     ensures fault { IfErr result (LeavesCampaignText options.now (W.contents writer.old) (W.contents writer.new)) }
 {
     match asked_plan(options) {
-        Ok(plan) => campaign_by_plan(rt, options, plan, writer),
+        Ok(plan) => campaign_by_plan(rt, options, plan, meter, writer),
         Err(line) => {
             write_text(writer, line)?;
             Ok(REFUSED)
@@ -88,10 +90,11 @@ pub(crate) fn campaign_by<H: Threads + Wait + Sync + AllocGlobal, W: Write>(
 }
 
 /// Makes a unit for each seed, runs the campaign over them and writes its text: the status.
-fn campaign_by_plan<H: Threads + Wait + Sync + AllocGlobal, W: Write>(
+fn campaign_by_plan<H: Threads + Wait + Sync + AllocGlobal, M: Meter, W: Write>(
     rt: &H,
     options: &CampaignOptions,
     plan: CampaignPlan,
+    meter: &M,
     writer: &mut W,
 ) -> Result<u8, Fault>
     requires plan { IsPlanOf options.now plan }
@@ -100,15 +103,16 @@ fn campaign_by_plan<H: Threads + Wait + Sync + AllocGlobal, W: Write>(
     ensures fault { IfErr result (LeavesCampaignText options.now (W.contents writer.old) (W.contents writer.new)) }
 {
     let units = make_units(rt.alloc(), options.unit, options.count)?;
-    campaign_on(rt, options, plan, units, writer)
+    campaign_on(rt, options, plan, units, meter, writer)
 }
 
 /// Runs the campaign over units, each of which is as the options ask for, and writes its text: the status.
-fn campaign_on<H: Threads + Wait + Sync + AllocGlobal, U: MemoryUnit + Send, W: Write>(
+fn campaign_on<H: Threads + Wait + Sync + AllocGlobal, U: MemoryUnit + Send, M: Meter, W: Write>(
     rt: &H,
     options: &CampaignOptions,
     plan: CampaignPlan,
     units: Vec<U>,
+    meter: &M,
     writer: &mut W,
 ) -> Result<u8, Fault>
     requires plan { IsPlanOf options.now plan }
@@ -117,6 +121,6 @@ fn campaign_on<H: Threads + Wait + Sync + AllocGlobal, U: MemoryUnit + Send, W: 
     ensures text { IfOk result (WritesWhole (IsCampaignText options.now) (W.contents writer.old) (W.contents writer.new)) }
     ensures fault { IfErr result (LeavesCampaignText options.now (W.contents writer.old) (W.contents writer.new)) }
 {
-    let verdict = campaign_over(rt, rt.alloc(), plan, units, options.workers, writer)?;
+    let verdict = campaign_over(rt, plan, units, options.workers, meter, writer)?;
     Ok(status_of(verdict))
 }

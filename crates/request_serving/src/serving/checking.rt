@@ -10,7 +10,7 @@ ghost use Rattle.request_serving.specs.Endings.{IsCheckOfNth};
 ghost use Rattle.request_serving.specs.NthTraces.{IsRefusedNth, TakesTrace};
 ghost use Rattle.request_serving.specs.OpenedFiles.{HasRefusedFirstText, OpensFirst, OpensNext, TakesInput, files_named, reads_input, text_bytes};
 
-use crate::files::{NamedFiles, open};
+use crate::files::{Surroundings, open};
 use crate::serving::numbering::refuse_number;
 use command_line::{CheckRequest, TextPair};
 use std::alloc::Global;
@@ -19,7 +19,7 @@ use trace_batches::read_piece;
 use trace_judging::{Fault, Verdict, check_texts};
 
 /// Checks a certificate against a trace. Their files are opened before one is read.
-pub(crate) fn check_named<O: NamedFiles, R: Read, W: Write>(
+pub(crate) fn check_named<O: Surroundings, R: Read, W: Write>(
     alloc: Global,
     request: &CheckRequest<'_>,
     files: &mut O,

@@ -11,7 +11,7 @@ ghost use Rattle.request_serving.specs.Endings.{IsPresented, refused_as, said_as
 ghost use Rattle.request_serving.specs.NthTraces.{TakesTrace};
 ghost use Rattle.request_serving.specs.OpenedFiles.{OpensNext, files_named, name_in, text_bytes};
 
-use crate::files::{NamedFiles, open};
+use crate::files::{Surroundings, open};
 use crate::serving::numbering::refuse_number;
 use command_line::{JudgeRequest, Presentation};
 use std::io::{Read, Write};
@@ -23,7 +23,12 @@ use trace_judging::{Fault, Verdict, judge, judge_with};
 use trace_pictures::AsPicture;
 
 /// Judges the trace in a file, or else in what the reader has, and presents the verdict.
-pub(crate) fn judge_named<H: Threads + Wait + Sync + AllocGlobal, O: NamedFiles, R: Read, W: Write>(
+pub(crate) fn judge_named<
+    H: Threads + Wait + Sync + AllocGlobal,
+    O: Surroundings,
+    R: Read,
+    W: Write,
+>(
     rt: &H,
     request: &JudgeRequest<'_>,
     files: &mut O,

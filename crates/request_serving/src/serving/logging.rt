@@ -9,7 +9,7 @@ ghost use Rattle.request_serving.specs.OpenedFiles.{OpensNext, files_named, name
 ghost use Rattle.command_line.specs.Requests.{asked_of};
 ghost use Rattle.command_line.specs.declared.requests.Request.TheVariants.{Log};
 
-use crate::files::{NamedFiles, open};
+use crate::files::{Surroundings, open};
 use command_line::{LogForm as AskedForm, LogRequest};
 use log_reports::{LogForm, LogOptions, LogVerdict, report_log};
 use std::io::{Read, Write};
@@ -20,7 +20,7 @@ use trace_judging::Fault;
 /// Reports on the log in a file, or else in what the reader has. Nothing is written to the errors at a fault.
 pub(crate) fn log_named<
     H: Threads + Wait + AllocGlobal,
-    O: NamedFiles,
+    O: Surroundings,
     R: Read,
     W: Write,
     E: Write,
@@ -45,11 +45,12 @@ pub(crate) fn log_named<
         effort: request.options.effort,
         form: form_of(request.options.form),
     };
+    let meter = files.meter("operations", None);
     match request.file {
-        None => report_log(rt, rt.alloc(), options, reader, writer, errors),
+        None => report_log(rt, options, &meter, reader, writer, errors),
         Some(name) => {
             let mut file = open(files, name)?;
-            report_log(rt, rt.alloc(), options, &mut file, writer, errors)
+            report_log(rt, options, &meter, &mut file, writer, errors)
         }
     }
 }

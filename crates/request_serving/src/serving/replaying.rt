@@ -1,4 +1,4 @@
-//! The way of a replay: read the program, then the schedule, run the one by the other, judge or print, write.
+//! `replay`: a program is read, and then a schedule by which it is run; what was recorded is judged or printed.
 ghost use Rattle.std.specs.Prelude.{◌≡◌, ◌⊎◌, ◌≤◌, [], ◌∷◌, IfOk, IfErr, IfSome, OnOk, true, false};
 ghost use Rattle.command_line.specs.Requests.{asked_of, files_of};
 ghost use Rattle.command_line.specs.declared.requests.Request.TheVariants.{Replay};
@@ -12,7 +12,7 @@ ghost use Rattle.request_serving.specs.OpenedFiles.{HasRefusedFirstText, OpensFi
 ghost use Rattle.request_serving.specs.Printing.{unit_of};
 ghost use Rattle.request_serving.specs.Replaying.{IsReplayOf, IsReplayText, IsScheduledText};
 
-use crate::files::{NamedFiles, open};
+use crate::files::{Surroundings, open};
 use crate::printing::{Printed, print_record, print_refusal};
 use crate::units::make_unit;
 use command_line::{RunOptions, TextPair};
@@ -26,7 +26,7 @@ use unit_core::{Account, MemoryUnit, replay};
 
 /// Replays a program, the first text, by a schedule, the second, and writes what the options ask for: the status. Their
 /// files are opened before one is read.
-pub(crate) fn replay_named<H: Threads + Wait + AllocGlobal, O: NamedFiles, R: Read, W: Write>(
+pub(crate) fn replay_named<H: Threads + Wait + AllocGlobal, O: Surroundings, R: Read, W: Write>(
     rt: &H,
     options: &RunOptions,
     texts: TextPair<'_>,

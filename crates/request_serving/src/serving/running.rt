@@ -1,4 +1,4 @@
-//! The way of a run: read the program, run it with a thread per processor and a drainer, judge or print, write.
+//! `run`: a program is read, and run with a thread per processor and a drainer; what was recorded is judged or printed.
 ghost use Rattle.std.specs.Prelude.{◌≡◌, ◌⊎◌, ◌≤◌, [], ◌∷◌, IfOk, IfErr, IfSome, None};
 ghost use Rattle.command_line.specs.Requests.{asked_of, drain_turns_limit};
 ghost use Rattle.command_line.specs.declared.requests.Request.TheVariants.{Run};
@@ -13,7 +13,7 @@ ghost use Rattle.request_serving.specs.Running.{IsRunPrinted, IsRunText};
 ghost use Rattle.trace_judging.specs.WrittenReports.{WritesWhole};
 
 use crate::failures::{RunFailure, failure_of};
-use crate::files::{NamedFiles, open};
+use crate::files::{Surroundings, open};
 use crate::printing::{Printed, print_record, print_refusal};
 use crate::units::make_unit;
 use command_line::RunRequest;
@@ -27,7 +27,7 @@ use tso_text::{MAX_TEXT_BYTES, read_program};
 use unit_core::{Account, MemoryUnit};
 
 /// Runs the program in a file, or else what the reader has, and writes what the request's options ask for: the status.
-pub(crate) fn run_named<H: Threads + Wait + Sync + AllocGlobal, O: NamedFiles, R: Read, W: Write>(
+pub(crate) fn run_named<H: Threads + Wait + Sync + AllocGlobal, O: Surroundings, R: Read, W: Write>(
     rt: &H,
     request: &RunRequest<'_>,
     files: &mut O,

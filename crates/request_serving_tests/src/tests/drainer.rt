@@ -4,7 +4,7 @@ use super::folders::{ended, new_folder, write};
 use std::alloc::{AllocError, Global};
 use std::fs;
 use std::process::Abort;
-use std::rt::Files;
+use std::rt::{Clock, Files};
 use std::sync::Wait;
 use std::test::Fail;
 use std::thread::Threads;
@@ -18,7 +18,7 @@ fn watching(alloc: Global, loads: usize) -> Result<String, AllocError> {
 
 /// Whether the run of the program in the file `watching`, beside a drainer of so many turns, prints a trace in which the
 /// second processor loads what the first stored.
-fn is_seen<H: Threads + Wait + Sync + Files + AllocGlobal + Abort>(
+fn is_seen<H: Threads + Wait + Sync + Files + AllocGlobal + Eprint + Clock + Abort>(
     rt: &H,
     alloc: Global,
     folder: &str,

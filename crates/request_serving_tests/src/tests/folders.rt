@@ -2,7 +2,7 @@
 
 use super::{Ended, FailingReader, driven};
 use std::alloc::Global;
-use std::rt::Files;
+use std::rt::{Clock, Files};
 use std::sync::Wait;
 use std::test::Fail;
 use std::thread::Threads;
@@ -34,7 +34,7 @@ fn named(alloc: Global, folder: &str, argument: &str) -> Result<String, Fail> {
 
 /// What these arguments lead to, between which stand spaces, and of which one that begins with `@` names a file of the
 /// folder. Standard input fails.
-pub(super) fn ended<H: Threads + Wait + Sync + Files + AllocGlobal>(
+pub(super) fn ended<H: Threads + Wait + Sync + Files + AllocGlobal + Eprint + Clock>(
     rt: &H,
     alloc: Global,
     folder: &str,

@@ -3,7 +3,7 @@
 use super::folders::{ended, new_folder, write};
 use std::alloc::{AllocError, Global};
 use std::fs;
-use std::rt::Files;
+use std::rt::{Clock, Files};
 use std::sync::Wait;
 use std::test::Fail;
 use std::thread::Threads;
@@ -17,7 +17,7 @@ fn watching(alloc: Global, loads: usize) -> Result<String, AllocError> {
 
 /// Whether the run with this seed of the program in the file `watching` prints a trace in which each processor loads what
 /// the other stored.
-fn is_interleaved<H: Threads + Wait + Sync + Files + AllocGlobal>(
+fn is_interleaved<H: Threads + Wait + Sync + Files + AllocGlobal + Eprint + Clock>(
     rt: &H,
     alloc: Global,
     folder: &str,

@@ -2,8 +2,9 @@
 
 use super::folders::{ended, new_folder, write};
 use super::{FailingReader, driven, expect};
-use command_line::{LogForm, LogOptions, LogRequest, Request};
-use request_serving::{NamedFiles, serve};
+use command_line::{LogForm, LogOptions, LogRequest, Notes, Request};
+use progress_meters::NoMeter;
+use request_serving::{Surroundings, serve};
 use std::io::{Error, ErrorKind};
 use std::sync::Wait;
 use std::test::Fail;
@@ -103,12 +104,22 @@ fn log_in_a_file(rt: HostRuntime) -> Result<(), Fail> {
 #[derive(Drop)]
 struct NoFiles;
 
-impl NamedFiles for NoFiles {
+impl Surroundings for NoFiles {
     type File = FailingReader;
+
+    type Meter = NoMeter;
 
     fn open(&mut self, _name: &str) -> io::Result<FailingReader> {
         Err(Error::from(ErrorKind::NotFound))
     }
+
+    fn begin(&self, _notes: Notes) {}
+
+    fn meter(&self, _parts: &'static str, _total: Option<u64>) -> NoMeter {
+        NoMeter
+    }
+
+    fn finish(&self) {}
 }
 
 /// The room that a report gets.

@@ -4,9 +4,11 @@ ghost use Rattle.command_line.specs.Requests.{HasDrainTurns, HasOneInput, HasUni
 
 use super::{Ended, FailingReader, FailingWriter, expect};
 use command_line::{
-    CheckRequest, JudgeRequest, LogForm, LogOptions, LogRequest, Presentation, Request, TextPair,
+    CheckRequest, JudgeRequest, LogForm, LogOptions, LogRequest, Notes, Presentation,
+    ReduceRequest, Request, TextPair,
 };
-use request_serving::{NamedFiles, drive_over, end_by, serve};
+use progress_meters::NoMeter;
+use request_serving::{Surroundings, drive_over, end_by, serve};
 use std::alloc::{AllocError, Global};
 use std::io;
 use std::io::{Error, ErrorKind, Read, Write};
@@ -36,8 +38,10 @@ impl Read for Opened {
     }
 }
 
-impl NamedFiles for MemoryFiles {
+impl Surroundings for MemoryFiles {
     type File = Opened;
+
+    type Meter = NoMeter;
 
     fn open(&mut self, name: &str) -> io::Result<Opened> {
         self.opened.push(String::from_str(self.alloc, name)?)?;
@@ -50,6 +54,14 @@ impl NamedFiles for MemoryFiles {
         }
         Err(Error::from(ErrorKind::NotFound))
     }
+
+    fn begin(&self, _notes: Notes) {}
+
+    fn meter(&self, _parts: &'static str, _total: Option<u64>) -> NoMeter {
+        NoMeter
+    }
+
+    fn finish(&self) {}
 }
 
 const TEXTS: [(&str, &str); 8] = [
@@ -193,6 +205,26 @@ fn judging(rt: HostRuntime) -> Result<(), Fail> {
         presentation,
     });
     compare(&rt, &input, outcome(&[], 4, "", READ))
+}
+
+/// What is printed of the trace when it is reduced, and where its operation stands in it.
+const REDUCED: (&str, &str) = ("tso trace 2\nproc\nld 0 1\nend\n", "line 3 P0 'ld 0 1'\n");
+
+#[test]
+fn reducing(rt: HostRuntime) -> Result<(), Fail> {
+    let mut request = ReduceRequest {
+        file: Some("trace"),
+        nth: None,
+    };
+    let reduced = outcome(&["trace"], 3, REDUCED.0, REDUCED.1);
+    compare(&rt, &Request::Reduce(request), reduced)?;
+    request.nth = Some(1);
+    compare(&rt, &Request::Reduce(request), reduced)?;
+    request.nth = Some(2);
+    let fewer = outcome(&["trace"], 2, "REFUSED Nth\n", "");
+    compare(&rt, &Request::Reduce(request), fewer)?;
+    request.file = None;
+    compare(&rt, &Request::Reduce(request), outcome(&[], 4, "", READ))
 }
 
 /// What a batch of the trace, of a text that is none and of the trace prints.

@@ -7,7 +7,7 @@ use Rattle.trace_judging.specs.declared.faults.Fault.{Fault}
 use Rattle.trace_judging.specs.Limits.{trace_read_limit}
 use Rattle.trace_reports.specs.Readings.{ReadsAs}
 use Rattle.trace_judging.specs.Streams.{AppendsPrefix}
-use Rattle.trace_batches.specs.declared.batches.Course.{Course}
+use Rattle.trace_batches.specs.declared.batches.TextJudging.{TextJudging}
 use Rattle.trace_batches.specs.declared.jobs.Job.{Job}
 use Rattle.trace_batches.specs.declared.judgments.Judgment.{Judgment}
 use Rattle.trace_batches.specs.declared.tallies.Tally.{Tally}
@@ -79,5 +79,5 @@ LeavesPieces of remaining old new =
     (pieces : List (List ℕ)) × (judgments : List Judgment) × ReadsAs remaining (λ stream. AreResults stream pieces judgments) × AppendsPrefix old new (pieces_text of 1 pieces judgments)
 
 -- how the pieces of a text are printed
-abbrev pub printing_by : Course → TextPrinting
-printing_by course = record { printing = course.options.printing; label = course.label.now }
+abbrev pub printing_by : TextJudging → TextPrinting
+printing_by judging = record { printing = judging.options.printing; label = judging.label.now }

@@ -1,6 +1,7 @@
 //! Names of texts, as they stand in lines.
 
 use super::expect;
+use progress_meters::NoMeter;
 use std::alloc::Global;
 use std::sync::Wait;
 use std::test::Fail;
@@ -28,7 +29,7 @@ fn named<H: Threads + Wait + Sync>(
     let mut errors = Vec::new(alloc);
     let mut reader = VIOLATION;
     let mut batch = Batch::begin(alloc, BatchOptions { workers, printing }, output)?;
-    batch.judge(rt, Some(name), &mut reader, output)?;
+    batch.judge(rt, &NoMeter, Some(name), &mut reader, output)?;
     batch.end(output, &mut errors)
 }
 

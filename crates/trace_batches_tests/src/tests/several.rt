@@ -2,7 +2,9 @@
 ghost use Rattle.std.specs.Prelude.{◌≡◌, ◌≤◌};
 
 use super::{STREAM, TEXT, expect};
+use progress_meters::{Meter, NoMeter};
 use std::alloc::Global;
+use std::cell::Cell;
 use std::io::{ErrorKind, Write};
 use std::sync::Wait;
 use std::test::Fail;
@@ -61,7 +63,7 @@ fn judged<H: Threads + Wait + Sync, W: Write, E: Write>(
     let mut batch = Batch::begin(alloc, options, writer)?;
     for (name, bytes) in texts {
         let mut reader = *bytes;
-        batch.judge(rt, *name, &mut reader, writer)?;
+        batch.judge(rt, &NoMeter, *name, &mut reader, writer)?;
     }
     batch.end(writer, errors)
 }
@@ -163,6 +165,30 @@ fn second_text_fails(rt: HostRuntime) -> Result<(), Fail> {
     expect(0, said, Err(Fault::Read), &output, lines)
 }
 
+/// Counts the traces of which a batch's meter hears.
+#[derive(Drop)]
+struct TraceCount(Cell<u64>);
+
+impl Meter for TraceCount {
+    fn advance(&self, count: u64) {
+        self.0.set(self.0.get().saturating_add(count));
+    }
+}
+
+/// The meter hears of each trace of all texts, of refused ones too.
+#[test]
+fn meter_hears_of_each_trace(rt: HostRuntime) -> Result<(), Fail> {
+    let meter = TraceCount(Cell::new(0));
+    let mut output = Vec::new(rt.alloc());
+    let words = options(2, BatchFormat::Words, true, false);
+    let mut batch = Batch::begin(rt.alloc(), words, &mut output)?;
+    for text in [OTHER, STREAM] {
+        let mut reader = text;
+        batch.judge(&rt, &meter, None, &mut reader, &mut output)?;
+    }
+    expect_equal("traces", meter.0.get(), 5)
+}
+
 /// Judges a text and then one that fails.
 fn judged_both<H: Threads + Wait + Sync>(
     rt: &H,
@@ -176,8 +202,8 @@ fn judged_both<H: Threads + Wait + Sync>(
 {
     let mut errors = Vec::new(alloc);
     let mut batch = Batch::begin(alloc, options, output)?;
-    batch.judge(rt, Some("a"), first, output)?;
-    batch.judge(rt, Some("b"), second, output)?;
+    batch.judge(rt, &NoMeter, Some("a"), first, output)?;
+    batch.judge(rt, &NoMeter, Some("b"), second, output)?;
     batch.end(output, &mut errors)
 }
 

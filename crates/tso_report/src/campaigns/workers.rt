@@ -8,6 +8,7 @@ use super::CampaignPlan;
 use super::gathering::Gathered;
 use super::seeds::{Job, JobResult, SeedUnits, job_of, result_of};
 use crossbeam_channel::{Receiver, Sender, bounded};
+use progress_meters::Meter;
 use std::alloc::Global;
 use std::sync::Wait;
 use std::thread;
@@ -22,16 +23,22 @@ struct Ends<S: SeedUnits, U: MemoryUnit> {
     results: Sender<JobResult<S>>,
 }
 
-/// Has the jobs of all seeds done by `workers` threads, and takes their results in. With no seed no thread is started.
+/// Has the jobs of all seeds done by `workers` threads, and takes their results in; the meter hears of each. With no seed no
+/// thread is started.
 ///
 /// Faults: OutOfMemory where an allocation was refused; NoThread where the system refused a thread, and then no job was
 /// sent. On every return what the started threads had to do has ended.
-pub(super) fn gather<S: SeedUnits + Send, U: MemoryUnit + Send, R: Threads + Wait + Sync>(
+pub(super) fn gather<
+    S: SeedUnits + Send,
+    U: MemoryUnit + Send,
+    R: Threads + Wait + Sync + AllocGlobal,
+    M: Meter,
+>(
     rt: &R,
-    alloc: Global,
     gathered: Gathered<S>,
     units: Vec<U>,
     workers: usize,
+    meter: &M,
 ) -> Result<Gathered<S>, Fault>
     requires most { length units.items ≤ seed_count_limit }
     requires one_each { length units.items ≡ length gathered.violations }
@@ -53,17 +60,24 @@ pub(super) fn gather<S: SeedUnits + Send, U: MemoryUnit + Send, R: Threads + Wai
             requires units { AreUnitsFrom S.unit_of gathered.plan.first (map (λ unit. U.value_of unit) units.items) }
             ensures seeds { IfOk result (KeepsSeeds gathered) }
             ensures fault { IfErr result (λ fault. (fault ≡ Fault.OutOfMemory) ⊎ (fault ≡ Fault.NoThread)) }
-        { gather_in(scope, rt, alloc, gathered, units, workers) },
+        { gather_in(scope, rt, gathered, units, workers, meter) },
     )
 }
 
-fn gather_in<'s, E, S: SeedUnits + Send + 's, U: MemoryUnit + Send + 's, R: Threads + Wait + Sync>(
+fn gather_in<
+    's,
+    E,
+    S: SeedUnits + Send + 's,
+    U: MemoryUnit + Send + 's,
+    R: Threads + Wait + Sync + AllocGlobal,
+    M: Meter,
+>(
     scope: &'s Scope<'s, E>,
     rt: &'s R,
-    alloc: Global,
     gathered: Gathered<S>,
     units: Vec<U>,
     workers: usize,
+    meter: &M,
 ) -> Result<Gathered<S>, Fault>
     requires most { length units.items ≤ seed_count_limit }
     requires one_each { length units.items ≡ length gathered.violations }
@@ -72,13 +86,15 @@ fn gather_in<'s, E, S: SeedUnits + Send + 's, U: MemoryUnit + Send + 's, R: Thre
     ensures seeds { IfOk result (KeepsSeeds gathered) }
     ensures fault { IfErr result (λ fault. (fault ≡ Fault.OutOfMemory) ⊎ (fault ≡ Fault.NoThread)) }
 {
+    let alloc = rt.alloc();
     let plan = gathered.plan();
     let first = plan.first;
-    let (to_workers, jobs) = bounded(alloc, workers)?;
+    // All jobs fit, so that results are taken in from the first one on.
+    let (to_workers, jobs) = bounded(alloc, units.len())?;
     let (results, from_workers) = bounded(alloc, units.len())?;
     start_workers(scope, rt, alloc, plan, Ends { jobs, results }, workers)?;
     send_jobs(rt, to_workers, first, units);
-    Ok(receive_results(rt, from_workers, gathered))
+    Ok(receive_results(rt, from_workers, gathered, meter))
 }
 
 /// Starts the workers, each with ends of its own. NoThread where the system refused a thread.
@@ -146,11 +162,12 @@ fn send_jobs<S: SeedUnits, U: MemoryUnit, R: Wait>(
     }
 }
 
-/// Takes results in until they end.
-fn receive_results<S: SeedUnits, R: Wait>(
+/// Takes results in until they end. The meter hears of each.
+fn receive_results<S: SeedUnits, R: Wait, M: Meter>(
     rt: &R,
     from_workers: Receiver<JobResult<S>>,
     gathered: Gathered<S>,
+    meter: &M,
 ) -> Gathered<S>
     ensures { KeepsSeeds gathered result }
 {
@@ -160,6 +177,7 @@ fn receive_results<S: SeedUnits, R: Wait>(
             break;
         };
         gathered.accept(result);
+        meter.advance(1);
     }
     gathered
 }

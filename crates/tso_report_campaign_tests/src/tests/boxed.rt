@@ -80,7 +80,7 @@ fn meeting_unit(alloc: Global, meeting: &Arc<Meeting, Global>) -> Result<Boxed, 
 }
 
 /// The answer of a campaign of the seeds from 1 on over these units, which writes to this writer.
-fn campaign_into<H: Threads + Wait + Sync, W: Write>(
+fn campaign_into<H: Threads + Wait + Sync + AllocGlobal, W: Write>(
     rt: &H,
     alloc: Global,
     of: (Shape, usize),
@@ -99,11 +99,11 @@ fn campaign_into<H: Threads + Wait + Sync, W: Write>(
         execution: Execution::Threads { drain_turns: 0 },
         printing: CampaignPrinting::Lines,
     };
-    campaign(rt, alloc, plan, units, of.1, writer)
+    campaign(rt, plan, units, of.1, writer)
 }
 
 /// Whether a campaign over these units gives this answer and this text.
-fn is_ran<H: Threads + Wait + Sync>(
+fn is_ran<H: Threads + Wait + Sync + AllocGlobal>(
     rt: &H,
     alloc: Global,
     of: (Shape, usize),
@@ -204,7 +204,7 @@ fn have_served(
 type Served<'a> = (&'a CallCounts, &'a [u64]);
 
 /// Runs a campaign over three units, and compares its answer, its text and their calls.
-fn expect_served<H: Threads + Wait + Sync>(
+fn expect_served<H: Threads + Wait + Sync + AllocGlobal>(
     rt: &H,
     alloc: Global,
     of: (Shape, usize),
@@ -238,7 +238,7 @@ fn serial_units(alloc: Global, counts: &Arc<CallCounts, Global>) -> Result<Vec<B
 }
 
 /// Runs a campaign on serial units, and compares their calls.
-fn serve_serial_units<H: Threads + Wait + Sync>(
+fn serve_serial_units<H: Threads + Wait + Sync + AllocGlobal>(
     rt: &H,
     alloc: Global,
     workers: usize,
@@ -273,7 +273,7 @@ fn faulty_units(alloc: Global, counts: &Arc<CallCounts, Global>) -> Result<Vec<B
 }
 
 /// Runs a campaign on units that aren't lawful, but to whose deviations no run comes, and compares their calls.
-fn serve_unlawful_units<H: Threads + Wait + Sync>(
+fn serve_unlawful_units<H: Threads + Wait + Sync + AllocGlobal>(
     rt: &H,
     alloc: Global,
     workers: usize,
@@ -346,7 +346,7 @@ const FIRST_VIOLATION: &str =
     "seed 1 VIOLATION\nseed 2 NO VIOLATION FOUND\nseed 3 NO VIOLATION FOUND\nseeds 3 violations 1\n";
 
 /// Runs a campaign on units of two types, and compares the calls of each.
-fn serve_two_types<H: Threads + Wait + Sync>(
+fn serve_two_types<H: Threads + Wait + Sync + AllocGlobal>(
     rt: &H,
     alloc: Global,
     workers: usize,
@@ -421,7 +421,7 @@ fn boxed_campaigns_overlap(rt: HostRuntime) -> Result<(), Fail> {
 
 /// Runs a campaign on units of which the first refuses its seventh call, and compares the calls of the others: a worker goes
 /// on after the seed that fails. Nothing is written, and each unit is dropped.
-fn serve_past_a_refusal<H: Threads + Wait + Sync>(
+fn serve_past_a_refusal<H: Threads + Wait + Sync + AllocGlobal>(
     rt: &H,
     alloc: Global,
     workers: usize,
@@ -462,7 +462,7 @@ fn boxed_campaign_of_no_seed(rt: HostRuntime) -> Result<(), Fail> {
 }
 
 /// Whether a campaign on serial units whose writer has room for so many bytes gives this answer and these bytes.
-fn is_ran_with_room<H: Threads + Wait + Sync>(
+fn is_ran_with_room<H: Threads + Wait + Sync + AllocGlobal>(
     rt: &H,
     alloc: Global,
     room: usize,

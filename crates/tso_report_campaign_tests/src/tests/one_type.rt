@@ -5,6 +5,7 @@ ghost use Rattle.std.specs.Prelude.{◌≡◌, ◌≤◌, [], All, IfOk, length}
 ghost use Rattle.trace_judging.specs.Limits.{worker_limit};
 
 use super::{ONE, THREE_SEEDS, THREE_VIOLATIONS, TWENTY, TWO_HUNDRED, list_of, shape_of};
+use progress_meters::NoMeter;
 use std::alloc::Global;
 use std::sync::Wait;
 use std::test::Fail;
@@ -31,7 +32,7 @@ fn is_ran(ran: &Ran, answer: Result<Verdict, Fault>, text: &str) -> bool {
 }
 
 /// A campaign of the seeds from 1 on, of this memory model, over at most three units.
-fn campaign_with_order<H: Threads + Wait + Sync, U: MemoryUnit + Send>(
+fn campaign_with_order<H: Threads + Wait + Sync + AllocGlobal, U: MemoryUnit + Send>(
     rt: &H,
     alloc: Global,
     order: Order,
@@ -52,12 +53,12 @@ fn campaign_with_order<H: Threads + Wait + Sync, U: MemoryUnit + Send>(
         execution: Execution::Threads { drain_turns: 0 },
         printing: CampaignPrinting::Lines,
     };
-    let answer = campaign_over(rt, alloc, plan, units, workers, &mut written);
+    let answer = campaign_over(rt, plan, units, workers, &NoMeter, &mut written);
     Ran { answer, written }
 }
 
 /// `campaign_with_order` under TSO.
-fn campaign_of<H: Threads + Wait + Sync, U: MemoryUnit + Send>(
+fn campaign_of<H: Threads + Wait + Sync + AllocGlobal, U: MemoryUnit + Send>(
     rt: &H,
     alloc: Global,
     shape: Shape,

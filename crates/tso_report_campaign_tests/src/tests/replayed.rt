@@ -5,7 +5,9 @@ ghost use Rattle.trace_judging.specs.Limits.{worker_limit};
 
 use super::one_type::buffer_units;
 use super::{THREE_SEEDS, THREE_VIOLATIONS, list_of, shape_of};
+use progress_meters::Meter;
 use std::alloc::Global;
+use std::cell::Cell;
 use std::sync::atomic::Ordering;
 use std::sync::{Arc, Wait};
 use std::test::Fail;
@@ -32,8 +34,19 @@ const THREE: (u64, u64, u64) = (1, 3, 2);
 const THREE_TRACES: &str =
     "tso trace 1\nproc\nst 0 1\nst 1 2\nld 0 1\nend\ntso trace 1\nproc\nsw 0 0 1\nld 0 1\nld 0 1\nend\ntso trace 1\nproc\nsw 0 0 1\nld 1 0\nsw 1 0 2\nend\n";
 
-/// Executes the programs of the seeds 1, 2 and 3 on these units, and compares the answer and the text.
-fn expect_told<H: Threads + Wait + Sync, U: MemoryUnit + Send>(
+/// Counts the seeds of which a campaign's meter hears.
+#[derive(Drop)]
+struct SeedCount(Cell<u64>);
+
+impl Meter for SeedCount {
+    fn advance(&self, count: u64) {
+        self.0.set(self.0.get().saturating_add(count));
+    }
+}
+
+/// Executes the programs of the seeds 1, 2 and 3 on these units, and compares the answer, the text, and how many seeds the meter
+/// heard of.
+fn expect_told<H: Threads + Wait + Sync + AllocGlobal, U: MemoryUnit + Send>(
     rt: &H,
     alloc: Global,
     plan: CampaignPlan,
@@ -48,9 +61,11 @@ fn expect_told<H: Threads + Wait + Sync, U: MemoryUnit + Send>(
     requires untouched { All (λ unit. (U.value_of unit).steps ≡ []) units.items }
 {
     let mut written = Vec::new(alloc);
-    let answer = campaign_over(rt, alloc, plan, units, workers, &mut written);
+    let meter = SeedCount(Cell::new(0));
+    let answer = campaign_over(rt, plan, units, workers, &meter, &mut written);
     let is_told = answer == Ok(told.0) && written.as_slice() == told.1.as_bytes();
-    expect_equal(workers, is_told, true)
+    expect_equal(workers, is_told, true)?;
+    expect_equal("seeds", meter.0.get(), 3)
 }
 
 /// The plan of a campaign from seed 1 on.
@@ -135,7 +150,7 @@ fn counting_units(
 }
 
 /// How many drains three units get in a campaign with a drainer of so many turns.
-fn drains_beside<H: Threads + Wait + Sync>(
+fn drains_beside<H: Threads + Wait + Sync + AllocGlobal>(
     rt: &H,
     alloc: Global,
     drain_turns: u64,

@@ -4,11 +4,14 @@ use Rattle.request_serving.specs.Endings.{IsPresented, Outputs, outputs}
 use Rattle.request_serving.specs.OpenedFiles.{name_in, text_bytes}
 use Rattle.request_serving.specs.Replaying.{IsReplayText}
 use Rattle.request_serving.specs.Statuses.{status_of}
-use Rattle.request_serving.specs.Batches.{printing_of, texts_of_batch}
+use Rattle.request_serving.specs.Batches.{asked_printing, texts_of_batch}
 use Rattle.request_serving.specs.Internal.Batching.{files_in}
 use Rattle.request_serving.specs.Logs.{form_of}
 use Rattle.request_serving.proofs.BatchingFacts.{ends_batched, read_files, unread_files}
-use Rattle.request_serving.proofs.LoggingFacts.{ends_logged}
+use Rattle.log_reports.specs.LogReports.{IsLogReportOfReader}
+use Rattle.request_serving.proofs.LoggingFacts.{ends_noted}
+use Rattle.request_serving.specs.Logs.{status_of_log}
+use Rattle.request_serving.specs.Reducing.{IsReduced}
 use Rattle.request_serving.proofs.EndFacts.{at_text, ends_as, named, opens_all, unnamed}
 use Rattle.request_serving.proofs.RunningFacts.{ends_run}
 use Rattle.request_serving.proofs.LawfulFacts.{known_status, lawful_status}
@@ -18,7 +21,7 @@ pub returns-in-Judge-clause-ends : goal.returns-in-Judge-clause-ends
 returns-in-Judge-clause-ends g c =
     let o : Outputs = outputs (g.W.Write.contents c.args.writer.now) (g.W.Write.contents c.judge_named.new.writer) (g.E.Write.contents c.args.errors.now) (g.E.Write.contents c.end.new.errors) in
     let judged = c.in-Judge.request in
-    let is_text = IsPresented judged.presentation judged.nth (text_bytes (name_in judged.file) (g.R.Read.remaining c.args.reader.now) (g.O.NamedFiles.bytes c.args.files.now)) in
+    let is_text = IsPresented judged.presentation judged.nth (text_bytes (name_in judged.file) (g.R.Read.remaining c.args.reader.now) (g.O.Surroundings.bytes c.args.files.now)) in
     rw c.in-Judge.is (ends_as is_text status_of (LeavesAtFault is_text) o c.judge_named.result c.end.result c.judge_named.ensures.presented c.judge_named.ensures.fault c.end.ensures.verdict c.end.ensures.fault)
 
 pub returns-in-Judge-clause-first : goal.returns-in-Judge-clause-first
@@ -31,13 +34,31 @@ pub returns-in-Judge-clause-taken : goal.returns-in-Judge-clause-taken
 returns-in-Judge-clause-taken g c = rw c.in-Judge.is (λ reads other.
     at_text c.judge_named.result c.end.result _ _ _ c.end.ensures.fault (c.judge_named.ensures.taken (unnamed c.in-Judge.request.file reads)) other)
 
+pub returns-in-Reduce-clause-ends : goal.returns-in-Reduce-clause-ends
+returns-in-Reduce-clause-ends g c =
+    let o : Outputs = outputs (g.W.Write.contents c.args.writer.now) (g.W.Write.contents c.reduce_named-reduced.new.writer) (g.E.Write.contents c.args.errors.now) (g.E.Write.contents c.end-in-Reduce.new.errors) in
+    let request = c.in-Reduce.request in
+    let remaining = text_bytes (name_in request.file) (g.R.Read.remaining c.args.reader.now) (g.O.Surroundings.bytes c.args.files.now) in
+    let reduced = c.reduce_named-reduced.ensures in
+    rw c.in-Reduce.is (ends_noted (IsReduced request.nth remaining) status_of (g.E.Write.contents c.reduce_named-reduced.new.errors) o c.reduce_named-reduced.result c.end-in-Reduce.result reduced.whole reduced.left reduced.told reduced.untold c.end-in-Reduce.ensures.verdict c.end-in-Reduce.ensures.fault)
+
+pub returns-in-Reduce-clause-first : goal.returns-in-Reduce-clause-first
+returns-in-Reduce-clause-first g c = rw c.in-Reduce.is (opens_all _ _ _ c.reduce_named-reduced.ensures.opened)
+
+pub returns-in-Reduce-clause-unread : goal.returns-in-Reduce-clause-unread
+returns-in-Reduce-clause-unread g c = rw c.in-Reduce.is (λ unread. named c.in-Reduce.request.file c.reduce_named-reduced.ensures.unread unread)
+
+pub returns-in-Reduce-clause-taken : goal.returns-in-Reduce-clause-taken
+returns-in-Reduce-clause-taken g c = rw c.in-Reduce.is (λ reads other.
+    at_text c.reduce_named-reduced.result c.end-in-Reduce.result _ _ _ c.end-in-Reduce.ensures.fault (c.reduce_named-reduced.ensures.taken (unnamed c.in-Reduce.request.file reads)) other)
+
 pub returns-in-Batch-clause-ends : goal.returns-in-Batch-clause-ends
 returns-in-Batch-clause-ends g c =
     let o : Outputs = outputs (g.W.Write.contents c.args.writer.now) (g.W.Write.contents c.batch_named-judged.new.writer) (g.E.Write.contents c.args.errors.now) (g.E.Write.contents c.end-in-Batch.new.errors) in
     let request = c.in-Batch.request in
-    let texts = texts_of_batch (files_in request.texts.items) (g.R.Read.remaining c.args.reader.now) (g.O.NamedFiles.bytes c.args.files.now) in
+    let texts = texts_of_batch (files_in request.texts.items) (g.R.Read.remaining c.args.reader.now) (g.O.Surroundings.bytes c.args.files.now) in
     let judged = c.batch_named-judged.ensures in
-    rw c.in-Batch.is (ends_batched (printing_of request.printing) texts (g.E.Write.contents c.batch_named-judged.new.errors) o c.batch_named-judged.result c.end-in-Batch.result judged.whole judged.left judged.fault c.end-in-Batch.ensures.verdict c.end-in-Batch.ensures.fault)
+    rw c.in-Batch.is (ends_batched (asked_printing request.printing) texts (g.E.Write.contents c.batch_named-judged.new.errors) o c.batch_named-judged.result c.end-in-Batch.result judged.whole judged.left judged.fault c.end-in-Batch.ensures.verdict c.end-in-Batch.ensures.fault)
 
 pub returns-in-Batch-clause-first : goal.returns-in-Batch-clause-first
 returns-in-Batch-clause-first g c = rw c.in-Batch.is c.batch_named-judged.ensures.first
@@ -57,9 +78,9 @@ pub returns-in-Log-clause-ends : goal.returns-in-Log-clause-ends
 returns-in-Log-clause-ends g c =
     let o : Outputs = outputs (g.W.Write.contents c.args.writer.now) (g.W.Write.contents c.log_named-reported.new.writer) (g.E.Write.contents c.args.errors.now) (g.E.Write.contents c.end_log.new.errors) in
     let request = c.in-Log.request in
-    let remaining = text_bytes (name_in request.file) (g.R.Read.remaining c.args.reader.now) (g.O.NamedFiles.bytes c.args.files.now) in
+    let remaining = text_bytes (name_in request.file) (g.R.Read.remaining c.args.reader.now) (g.O.Surroundings.bytes c.args.files.now) in
     let logged = c.log_named-reported.ensures in
-    rw c.in-Log.is (ends_logged (form_of request.options.form) remaining (g.E.Write.contents c.log_named-reported.new.errors) o c.log_named-reported.result c.end_log.result logged.whole logged.left logged.told logged.untold c.end_log.ensures.verdict c.end_log.ensures.fault)
+    rw c.in-Log.is (ends_noted (IsLogReportOfReader (form_of request.options.form) remaining) status_of_log (g.E.Write.contents c.log_named-reported.new.errors) o c.log_named-reported.result c.end_log.result logged.whole logged.left logged.told logged.untold c.end_log.ensures.verdict c.end_log.ensures.fault)
 
 pub returns-in-Log-clause-first : goal.returns-in-Log-clause-first
 returns-in-Log-clause-first g c = rw c.in-Log.is (opens_all _ _ _ c.log_named-reported.ensures.opened)
@@ -75,7 +96,7 @@ pub returns-in-Replay-clause-ends : goal.returns-in-Replay-clause-ends
 returns-in-Replay-clause-ends g c =
     let o : Outputs = outputs (g.W.Write.contents c.args.writer.now) (g.W.Write.contents c.replay_named-replayed.new.writer) (g.E.Write.contents c.args.errors.now) (g.E.Write.contents c.end_with.new.errors) in
     let input = g.R.Read.remaining c.args.reader.now in
-    let files = g.O.NamedFiles.bytes c.args.files.now in
+    let files = g.O.Surroundings.bytes c.args.files.now in
     let is_text = IsReplayText c.in-Replay.options (text_bytes (files_of c.in-Replay.texts).0 input files) (text_bytes (files_of c.in-Replay.texts).1 input files) in
     rw c.in-Replay.is (ends_as is_text (λ said. said) (LeavesAtFault is_text) o c.replay_named-replayed.result c.end_with.result c.replay_named-replayed.ensures.text c.replay_named-replayed.ensures.fault c.end_with.ensures.status c.end_with.ensures.fault)
 
@@ -90,7 +111,7 @@ pub returns-in-Run-clause-ends : goal.returns-in-Run-clause-ends
 returns-in-Run-clause-ends g c =
     let o : Outputs = outputs (g.W.Write.contents c.args.writer.now) (g.W.Write.contents c.run_named.new.writer) (g.E.Write.contents c.args.errors.now) (g.E.Write.contents c.end_run.new.errors) in
     let run = c.in-Run.request in
-    let programs = text_bytes (name_in run.program) (g.R.Read.remaining c.args.reader.now) (g.O.NamedFiles.bytes c.args.files.now) in
+    let programs = text_bytes (name_in run.program) (g.R.Read.remaining c.args.reader.now) (g.O.Surroundings.bytes c.args.files.now) in
     rw c.in-Run.is (ends_run run.options programs o c.run_named.result c.end_run.result c.run_named.ensures.text c.run_named.ensures.fault c.end_run.ensures.status c.end_run.ensures.failure)
 
 pub returns-in-Run-clause-first : goal.returns-in-Run-clause-first

@@ -5,7 +5,7 @@ use Rattle.trace_batches.proofs.batches.read_pieces.Goals as goal
 
 pub returns-in_err-buffer-clause-left : goal.returns-in_err-buffer-clause-left
 returns-in_err-buffer-clause-left g c =
-    let start = stands_at_start (printing_by c.args.course.now) (g.R.Read.remaining c.args.reader.now) (g.W.Write.contents c.args.writer.now) c.new.result c.new-2.result c.new.ensures.limit c.new.ensures.at c.new-2.ensures in
+    let start = stands_at_start (printing_by c.args.judging.now) (g.R.Read.remaining c.args.reader.now) (g.W.Write.contents c.args.writer.now) c.new.result c.new-2.result c.new.ensures.limit c.new.ensures.at c.new-2.ensures in
     let left = stands_left _ _ _ _ _ _ _ start in
     search (rules, left)
 

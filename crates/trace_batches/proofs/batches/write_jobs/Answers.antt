@@ -34,25 +34,25 @@ pub returns-in_err-write_piece-in-Ok-clause-some : goal.returns-in_err-write_pie
 returns-in_err-write_piece-in-Ok-clause-some g c =
     let inside = c.loop-job-test.true in
     let some = λ (pieces : List (List ℕ)) (judged : AreJudged pieces c.args.jobs.now).
-    wrote_some (printing_by c.args.course.now) c.args.tally.now c.loop-job.tally pieces c.loop-job.job-index c.in-Ok.judgment _ _ _ (within pieces c.args.jobs.now c.loop-job.job-index judged inside)
+    wrote_some (printing_by c.args.judging.now) c.args.tally.now c.loop-job.tally pieces c.loop-job.job-index c.in-Ok.judgment _ _ _ (within pieces c.args.jobs.now c.loop-job.job-index judged inside)
     (c.loop-job.invariant pieces judged) (outcome_at pieces c.args.jobs.now c.loop-job.job-index c.job-item.result (Ok c.in-Ok.judgment) judged inside c.job-item.is c.in-Ok.is)
-    (of_job (λ piece. AppendsPrefix (g.W.Write.contents c.loop-job.writer) (g.W.Write.contents c.write_piece.new.writer) (piece_text (printing_by c.args.course.now) (c.loop-job.tally.traces + 1) piece c.in-Ok.judgment))
+    (of_job (λ piece. AppendsPrefix (g.W.Write.contents c.loop-job.writer) (g.W.Write.contents c.write_piece.new.writer) (piece_text (printing_by c.args.judging.now) (c.loop-job.tally.traces + 1) piece c.in-Ok.judgment))
     pieces c.args.jobs.now c.loop-job.job-index c.job-item.result c.deref.result.now judged inside c.job-item.is c.deref.ensures.value c.write_piece.ensures.prefix) in
     search (rules, some)
 
 pub returns-in-Err-clause-some : goal.returns-in-Err-clause-some
 returns-in-Err-clause-some g c = λ pieces judged.
-    wrote_before (printing_by c.args.course.now) c.args.tally.now c.loop-job.tally pieces c.loop-job.job-index _ _ (c.loop-job.invariant pieces judged)
+    wrote_before (printing_by c.args.judging.now) c.args.tally.now c.loop-job.tally pieces c.loop-job.job-index _ _ (c.loop-job.invariant pieces judged)
 
 pub loop-job-preserved : goal.loop-job-preserved
 loop-job-preserved g c = λ pieces judged.
     let inside = c.loop-job-test.true in
     let done = c.in_ok-write_piece-in-Ok.ensures in
     let piece = get_or pieces c.loop-job.job-index [] in
-    let written = of_job (λ piece. Appends (g.W.Write.contents c.loop-job.writer) (g.W.Write.contents c.write_piece.new.writer) (piece_text (printing_by c.args.course.now) (c.loop-job.tally.traces + 1) piece c.in-Ok.judgment))
+    let written = of_job (λ piece. Appends (g.W.Write.contents c.loop-job.writer) (g.W.Write.contents c.write_piece.new.writer) (piece_text (printing_by c.args.judging.now) (c.loop-job.tally.traces + 1) piece c.in-Ok.judgment))
     pieces c.args.jobs.now c.loop-job.job-index c.job-item.result c.deref.result.now judged inside c.job-item.is c.deref.ensures.value done.whole in
-    let more = wrote_more (printing_by c.args.course.now) c.args.tally.now c.loop-job.tally c.write_piece.new.tally (take c.loop-job.job-index pieces) piece c.in-Ok.judgment _ _ _
+    let more = wrote_more (printing_by c.args.judging.now) c.args.tally.now c.loop-job.tally c.write_piece.new.tally (take c.loop-job.job-index pieces) piece c.in-Ok.judgment _ _ _
     (c.loop-job.invariant pieces judged)
     (outcome_at pieces c.args.jobs.now c.loop-job.job-index c.job-item.result (Ok c.in-Ok.judgment) judged inside c.job-item.is c.in-Ok.is) done.counted done.traces written in
-    subst (λ ps. WroteAll (printing_by c.args.course.now) c.args.tally.now c.write_piece.new.tally ps (g.W.Write.contents c.args.writer.now) (g.W.Write.contents c.write_piece.new.writer))
+    subst (λ ps. WroteAll (printing_by c.args.judging.now) c.args.tally.now c.write_piece.new.tally ps (g.W.Write.contents c.args.writer.now) (g.W.Write.contents c.write_piece.new.writer))
     (sym (take_more pieces c.loop-job.job-index [] (within pieces c.args.jobs.now c.loop-job.job-index judged inside))) more

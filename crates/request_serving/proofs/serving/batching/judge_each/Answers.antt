@@ -24,9 +24,9 @@ loop-i-preserved g c =
     let next = next_judged g.R.Read.remaining _ _ _ c.args.batch.now c.loop-i.batch _ _ _ _ c.args.reader.now c.loop-i.reader _ (files_in (take i texts)) refl c.loop-i.invariant
     (option_map (λ f. f.now) file) (files_in (drop (i + 1) texts)) few c.judge_text.new.batch _ _ c.judge_text.new.reader _ _ c.text_at-text.ensures.name c.in_ok-judge_text.ensures.judged c.judge_text.ensures.same
     c.judge_text.ensures.opened (of_file _ file c.judge_text.ensures.unread) (λ e. c.in_ok-judge_text.ensures.taken (no_file file e)) in
-    subst (λ fs. AreJudged g.R.Read.remaining c.are_several-several.result (g.R.Read.remaining c.args.reader.now) (g.O.NamedFiles.bytes c.args.files.now) c.args.batch.now c.judge_text.new.batch
-    (g.W.Write.contents c.args.writer.now) (g.W.Write.contents c.judge_text.new.writer) (g.O.NamedFiles.opened c.args.files.now) (g.O.NamedFiles.opened c.judge_text.new.files) c.args.reader.now
-    c.judge_text.new.reader (g.O.NamedFiles.bytes c.judge_text.new.files) fs) (sym (files_more texts i file c.loop-i-test.true at)) next
+    subst (λ fs. AreJudged g.R.Read.remaining c.are_several-several.result (g.R.Read.remaining c.args.reader.now) (g.O.Surroundings.bytes c.args.files.now) c.args.batch.now c.judge_text.new.batch
+    (g.W.Write.contents c.args.writer.now) (g.W.Write.contents c.judge_text.new.writer) (g.O.Surroundings.opened c.args.files.now) (g.O.Surroundings.opened c.judge_text.new.files) c.args.reader.now
+    c.judge_text.new.reader (g.O.Surroundings.bytes c.judge_text.new.files) fs) (sym (files_more texts i file c.loop-i-test.true at)) next
 
 pub returns-in_err-judge_text-clause-left : goal.returns-in_err-judge_text-clause-left
 returns-in_err-judge_text-clause-left g c =
@@ -38,7 +38,7 @@ returns-in_err-judge_text-clause-left g c =
     let left = next_left g.R.Read.remaining _ _ _ c.args.batch.now c.loop-i.batch _ _ _ _ c.args.reader.now c.loop-i.reader _ (files_in (take i texts)) refl c.loop-i.invariant
     (option_map (λ f. f.now) file) (files_in (drop (i + 1) texts)) few _ _ c.text_at-text.ensures.name c.in_err-judge_text.ensures.left in
     whatever c.from_residual.result (λ printing old before w.
-    of_all _ printing (g.R.Read.remaining c.args.reader.now) (g.O.NamedFiles.bytes c.args.files.now) old _ before _ _ c.are_several-several.ensures at (left printing old before w))
+    of_all _ printing (g.R.Read.remaining c.args.reader.now) (g.O.Surroundings.bytes c.args.files.now) old _ before _ _ c.are_several-several.ensures at (left printing old before w))
 
 pub returns-in_err-judge_text-clause-first : goal.returns-in_err-judge_text-clause-first
 returns-in_err-judge_text-clause-first g c =
@@ -46,7 +46,7 @@ returns-in_err-judge_text-clause-first g c =
     let i = c.loop-i.i in
     let file = c.text_at-text.result.file in
     let at = files_at texts i file c.loop-i-test.true (c.text_at-text.ensures.file file) in
-    subst (λ fs. OpensFirst (g.O.NamedFiles.opened c.args.files.now) (g.O.NamedFiles.opened c.judge_text.new.files) (filter_map (λ f. f) fs)) (sym at)
+    subst (λ fs. OpensFirst (g.O.Surroundings.opened c.args.files.now) (g.O.Surroundings.opened c.judge_text.new.files) (filter_map (λ f. f) fs)) (sym at)
     (first_opened _ _ _ (files_in (take i texts)) (option_map (λ f. f.now) file) (files_in (drop (i + 1) texts)) c.loop-i.invariant.opens c.judge_text.ensures.opened)
 
 pub returns-in_err-judge_text-clause-unread : goal.returns-in_err-judge_text-clause-unread
@@ -60,14 +60,14 @@ returns-in_err-judge_text-clause-unread g c = λ all.
 
 pub returns-clause-judged : goal.returns-clause-judged
 returns-clause-judged g c = λ printing old w.
-    written_all _ c.loop-i.batch printing (g.R.Read.remaining c.args.reader.now) (g.O.NamedFiles.bytes c.args.files.now) old _ _ _ c.are_several-several.ensures (ap files_in (take_all c.loop-i.i c.args.texts.now c.loop-i-test.false)) (c.loop-i.invariant.each printing old w)
+    written_all _ c.loop-i.batch printing (g.R.Read.remaining c.args.reader.now) (g.O.Surroundings.bytes c.args.files.now) old _ _ _ c.are_several-several.ensures (ap files_in (take_all c.loop-i.i c.args.texts.now c.loop-i-test.false)) (c.loop-i.invariant.each printing old w)
 
 pub returns-clause-first : goal.returns-clause-first
-returns-clause-first g c = opens_all _ _ _ (subst (λ fs. OpensNext (g.O.NamedFiles.opened c.args.files.now) (g.O.NamedFiles.opened c.loop-i.files) (filter_map (λ f. f) fs))
+returns-clause-first g c = opens_all _ _ _ (subst (λ fs. OpensNext (g.O.Surroundings.opened c.args.files.now) (g.O.Surroundings.opened c.loop-i.files) (filter_map (λ f. f) fs))
     (ap files_in (take_all c.loop-i.i c.args.texts.now c.loop-i-test.false)) c.loop-i.invariant.opens)
 
 pub returns-clause-opened : goal.returns-clause-opened
-returns-clause-opened g c = subst (λ fs. OpensNext (g.O.NamedFiles.opened c.args.files.now) (g.O.NamedFiles.opened c.loop-i.files) (filter_map (λ f. f) fs))
+returns-clause-opened g c = subst (λ fs. OpensNext (g.O.Surroundings.opened c.args.files.now) (g.O.Surroundings.opened c.loop-i.files) (filter_map (λ f. f) fs))
     (ap files_in (take_all c.loop-i.i c.args.texts.now c.loop-i-test.false)) c.loop-i.invariant.opens
 
 pub returns-clause-unread : goal.returns-clause-unread

@@ -1,0 +1,71 @@
+//! What arguments ask to be told on standard error.
+
+use command_line::{Notes, read_arguments};
+use std::alloc::{AllocError, Global};
+use std::test::Fail;
+
+/// What these arguments ask to be told.
+fn noted(alloc: Global, arguments: &[&str]) -> Result<Notes, AllocError> {
+    let mut owned = Vec::new(alloc);
+    for argument in arguments {
+        owned.push(String::from_str(alloc, argument)?)?;
+    }
+    Ok(read_arguments(alloc, &owned)?.notes)
+}
+
+/// Arguments, whether reasons of faults are told, and whether progress is.
+const CASES: [(&[&str], bool, bool); 17] = [
+    (&[], false, false),
+    (&["judge", "t"], false, false),
+    (&["judge", "--verbose", "t"], true, false),
+    (&["explain", "t", "--verbose"], true, false),
+    (&["draw", "--verbose"], true, false),
+    (&["reduce", "--verbose", "t"], true, false),
+    (&["check", "--verbose", "t", "c"], true, false),
+    (
+        &["replay", "--verbose", "--unit", "serial", "p", "s"],
+        true,
+        false,
+    ),
+    (
+        &["run", "--unit", "serial", "--verbose", "--seed", "1", "p"],
+        true,
+        false,
+    ),
+    (&["batch", "t"], false, false),
+    (&["batch", "--verbose", "t"], true, false),
+    (&["batch", "--progress", "t"], false, true),
+    (&["log", "--progress", "--verbose", "l"], true, true),
+    (&["log", "l"], false, false),
+    (&["judge", "--verbose", "--help"], false, false),
+    (&["make", "--verbose"], false, false),
+    (
+        &[
+            "campaign",
+            "--unit",
+            "serial",
+            "--progress",
+            "--first",
+            "1",
+            "--count",
+            "1",
+            "--procs",
+            "1",
+            "--ops",
+            "1",
+            "--addrs",
+            "1",
+        ],
+        false,
+        true,
+    ),
+];
+
+#[test]
+fn notes_of_arguments(rt: HostRuntime) -> Result<(), Fail> {
+    for (arguments, verbose, progress) in CASES {
+        let notes = noted(rt.alloc(), arguments)?;
+        assert_eq!(&rt; notes, Notes { verbose, progress }, "{arguments:?}");
+    }
+    Ok(())
+}

@@ -1,0 +1,13 @@
+use Rattle.request_serving.proofs.EndFacts.{faults_as, writes_as}
+use Rattle.request_serving.proofs.ReducingFacts.{reduced_of_known}
+use Rattle.request_serving.proofs.serving.reducing.reduce_named.Goals as goal
+
+pub returns-in_ok-file-in-Some-clause-whole : goal.returns-in_ok-file-in-Some-clause-whole
+returns-in_ok-file-in-Some-clause-whole g c =
+    let read = c.reduce_reader-in-Some in
+    rw c.in-Some.is (writes_as _ _ (reduced_of_known c.args.request.now.nth _ _ c.in_ok-file-in-Some.ensures.known) _ _ read.result read.ensures.whole)
+
+pub returns-in_ok-file-in-Some-clause-left : goal.returns-in_ok-file-in-Some-clause-left
+returns-in_ok-file-in-Some-clause-left g c =
+    let read = c.reduce_reader-in-Some in
+    rw c.in-Some.is (faults_as _ _ (reduced_of_known c.args.request.now.nth _ _ c.in_ok-file-in-Some.ensures.known) _ _ read.result read.ensures.left)

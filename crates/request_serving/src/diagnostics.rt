@@ -1,0 +1,195 @@
+//! What is told on standard error beside what a request prints: how much is done, and why a file can't be read.
+
+use command_line::Notes;
+use progress_meters::Meter;
+use std::cell::Cell;
+use std::io;
+use std::io::Read;
+use std::rt::Clock;
+use std::time::{Duration, Instant};
+
+/// How many seconds pass until progress is told again.
+const INTERVAL: u64 = 1;
+
+/// What is told on the standard error of a runtime. Nothing is told that isn't asked for.
+#[derive(Drop)]
+pub struct Diagnostics<'h, H> {
+    rt: &'h H,
+    /// Whether the standard error is a terminal, where progress keeps to one line.
+    is_terminal: bool,
+    notes: Cell<Notes>,
+    /// What is counted, and of how many where that is known.
+    counted: Cell<(&'static str, Option<u64>)>,
+    done: Cell<u64>,
+    /// When progress was told last, or its counting began.
+    told_at: Cell<Option<Instant>>,
+    /// Whether a line of a terminal tells progress.
+    has_line: Cell<bool>,
+    /// The last failure of a file, as it is told.
+    failure: Cell<Option<String>>,
+}
+
+impl<'h, H: Eprint + Clock + AllocGlobal> Diagnostics<'h, H> {
+    /// Tells nothing until `begin`. It is to know whether the standard error is a terminal.
+    pub fn new(rt: &'h H, is_terminal: bool) -> Diagnostics<'h, H> {
+        Diagnostics {
+            rt,
+            is_terminal,
+            notes: Cell::new(Notes {
+                verbose: false,
+                progress: false,
+            }),
+            counted: Cell::new(("", None)),
+            done: Cell::new(0),
+            told_at: Cell::new(None),
+            has_line: Cell::new(false),
+            failure: Cell::new(None),
+        }
+    }
+
+    /// From now on what these notes ask for is told.
+    pub fn begin(&self, notes: Notes) {
+        self.notes.set(notes);
+    }
+
+    /// From now on parts of this name are counted, of so many where that is known.
+    pub fn count(&self, parts: &'static str, total: Option<u64>) {
+        self.counted.set((parts, total));
+        if self.notes.get().progress && self.told_at.get().is_none() {
+            self.told_at.set(Instant::now(self.rt).ok());
+        }
+    }
+
+    /// Tells progress, where it was told long enough ago.
+    fn tell_progress(&self) {
+        let Ok(now) = Instant::now(self.rt) else {
+            return;
+        };
+        let is_due = match self.told_at.get() {
+            Some(told_at) => now.saturating_duration_since(told_at)
+                >= Duration::from_secs(INTERVAL),
+            None => true,
+        };
+        if is_due {
+            self.told_at.set(Some(now));
+            self.print_progress();
+        }
+    }
+
+    /// Prints how much is done: on a terminal over the line before.
+    fn print_progress(&self) {
+        let (before, after) = if self.is_terminal {
+            ("\x1b[K", "\r")
+        } else {
+            ("", "\n")
+        };
+        let (parts, total) = self.counted.get();
+        let done = self.done.get();
+        // Nothing can be done where that can't be written.
+        let _ = match total {
+            Some(total) => eprint!(self.rt; "{before}{parts} {done} of {total}{after}"),
+            None => eprint!(self.rt; "{before}{parts} {done}{after}"),
+        };
+        self.has_line.set(self.is_terminal);
+    }
+
+    /// Takes the line of progress from a terminal, before something else is written there.
+    pub fn finish(&self) {
+        if self.has_line.get() {
+            let _ = eprint!(self.rt; "\x1b[K");
+            self.has_line.set(false);
+        }
+    }
+
+    /// Standard input, whose failures are told.
+    pub fn watch_input<R: Read>(&'h self, reader: R) -> WatchedReader<'h, R, H> {
+        WatchedReader {
+            reader,
+            name: String::new(self.rt.alloc()),
+            is_input: true,
+            diagnostics: self,
+        }
+    }
+
+    /// The file of this name, whose failures are told.
+    pub(crate) fn watch_file<R: Read>(&'h self, reader: R, name: &str) -> WatchedReader<'h, R, H> {
+        WatchedReader {
+            reader,
+            name: self.told_name(name),
+            is_input: false,
+            diagnostics: self,
+        }
+    }
+
+    /// The name of a file, where its failures are told. Without memory for it they are told without a name.
+    fn told_name(&self, name: &str) -> String {
+        let alloc = self.rt.alloc();
+        if self.notes.get().verbose {
+            String::from_str(alloc, name).unwrap_or(String::new(alloc))
+        } else {
+            String::new(alloc)
+        }
+    }
+
+    /// Notes why a file can't be opened or read, where that is to be told.
+    pub(crate) fn note_failure(&self, name: &str, error: &io::Error) {
+        if self.notes.get().verbose {
+            let text = format!(in self.rt.alloc(); "{name}: {error}\n");
+            self.failure.set(text.ok());
+        }
+    }
+
+    /// Tells the last failure that was noted, if there is one.
+    pub(crate) fn tell_failure(&self) {
+        if let Some(text) = self.failure.replace(None) {
+            let _ = eprint!(self.rt; "{text}");
+        }
+    }
+}
+
+impl<H: Eprint + Clock + AllocGlobal> Meter for &Diagnostics<'_, H> {
+    fn advance(&self, count: u64) {
+        if self.notes.get().progress {
+            self.done.set(self.done.get().saturating_add(count));
+            self.tell_progress();
+        }
+    }
+}
+
+/// A reader whose failures are told.
+#[derive(Drop)]
+pub struct WatchedReader<'h, R, H> {
+    reader: R,
+    /// The name of a file, where its failures are told.
+    name: String,
+    /// Whether it is standard input, which has no name.
+    is_input: bool,
+    diagnostics: &'h Diagnostics<'h, H>,
+}
+
+impl<R, H> WatchedReader<'_, R, H> {
+    /// What it is called where a failure is told.
+    fn told_name(&self) -> &str {
+        if self.is_input {
+            "standard input"
+        } else {
+            self.name.as_str()
+        }
+    }
+}
+
+impl<R: Read, H: Eprint + Clock + AllocGlobal> Read for WatchedReader<'_, R, H> {
+    ghost remaining = { λ watched. R.remaining watched.reader };
+
+    fn read(&mut self, buf: &mut [u8]) -> io::Result<usize> {
+        match self.reader.read(buf) {
+            Ok(count) => Ok(count),
+            Err(error) => {
+                if error.kind() != io::ErrorKind::Interrupted {
+                    self.diagnostics.note_failure(self.told_name(), &error);
+                }
+                Err(error)
+            }
+        }
+    }
+}

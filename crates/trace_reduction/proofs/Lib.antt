@@ -1,0 +1,3 @@
+pub mod LoneLoads
+pub mod ReductionFacts
+pub mod SelectionFacts

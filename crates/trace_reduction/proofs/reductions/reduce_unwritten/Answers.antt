@@ -1,0 +1,7 @@
+use Rattle.std.proofs.Common.{◌∙◌, ap}
+use Rattle.trace_reduction.specs.Reductions.{lone_load}
+use Rattle.trace_reduction.proofs.ReductionFacts.{lone_text}
+use Rattle.trace_reduction.proofs.reductions.reduce_unwritten.Goals as goal
+
+pub returns : goal.returns
+returns c = lone_text c.args.trace.now c.in_ok-small.small c.args.load c.tell.result c.requires (c.in_ok-small.ensures ∙ ap lone_load c.order.ensures) c.tell.ensures.text c.tell.ensures.verdict

@@ -1,0 +1,50 @@
+//! Readers and writers that fail.
+
+use super::cases::COHERENCE;
+use std::io::ErrorKind;
+use std::test::Fail;
+use trace_judging::{Fault, Verdict};
+use trace_reduction::reduce_trace;
+use traces_for_tests::{Full, ShortWriter, TornReader, expect_equal};
+
+#[test]
+fn reader_fails(rt: HostRuntime) -> Result<(), Fail> {
+    let mut reader = TornReader::new(COHERENCE.0.as_bytes(), ErrorKind::Other);
+    let mut written = Vec::new(rt.alloc());
+    let mut errors = Vec::new(rt.alloc());
+    let said = reduce_trace(&rt, rt.alloc(), &mut reader, &mut written, &mut errors);
+    expect_equal("said", said, Err(Fault::Read))?;
+    expect_equal("written", written.len(), 0)?;
+    expect_equal("errors", errors.len(), 0)
+}
+
+#[test]
+fn writer_stops(rt: HostRuntime) -> Result<(), Fail> {
+    let mut reader = COHERENCE.0.as_bytes();
+    let mut writer = ShortWriter::new(rt.alloc(), 20, Full::TakesNothing);
+    let mut errors = Vec::new(rt.alloc());
+    let said = reduce_trace(&rt, rt.alloc(), &mut reader, &mut writer, &mut errors);
+    expect_equal("said", said, Err(Fault::Write))?;
+    expect_equal(
+        "written",
+        writer.taken.as_slice(),
+        &COHERENCE.2.as_bytes()[..20],
+    )?;
+    expect_equal("errors", errors.len(), 0)
+}
+
+/// What the errors don't take of the notes is lost, and that is no fault.
+#[test]
+fn errors_stop(rt: HostRuntime) -> Result<(), Fail> {
+    let mut reader = COHERENCE.0.as_bytes();
+    let mut written = Vec::new(rt.alloc());
+    let mut errors = ShortWriter::new(rt.alloc(), 8, Full::TakesNothing);
+    let said = reduce_trace(&rt, rt.alloc(), &mut reader, &mut written, &mut errors);
+    expect_equal("said", said, Ok(Verdict::Violation))?;
+    expect_equal("written", written.as_slice(), COHERENCE.2.as_bytes())?;
+    expect_equal(
+        "errors",
+        errors.taken.as_slice(),
+        &COHERENCE.3.as_bytes()[..8],
+    )
+}
