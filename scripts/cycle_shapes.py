@@ -10,10 +10,13 @@ from typing import NamedTuple
 UNWRITTEN = "unwritten"
 SELF = "self"
 TORN = "torn"
+LONG = "long"
 OTHER = "other"
+# Of more operations no cycle is looked for: with 85 the search took half a minute.
+MAX_OPERATIONS = 40
 PROGRAM = ("Po", "Membar", "Stbar", "Swap")
 PLAIN = {UNWRITTEN: "value that nothing wrote", SELF: "swap that reads its own value", TORN: "atomicity of a swap",
-         OTHER: ""}
+         LONG: f"violation of more than {MAX_OPERATIONS} operations", OTHER: ""}
 # The cycles of known litmus tests, in any rotation. Barriers and swaps on them are told apart afterwards.
 TESTS = {
     "PodWR Fre PodWR Fre": "SB", "PodWW Rfe PodRR Fre": "MP", "PodRW Rfe PodRW Rfe": "LB", "PodWW Rfe PodRW Coe": "S",
@@ -246,6 +249,8 @@ def shape_of(text):
         return UNWRITTEN
     if any(load == source for load, source in orders.sources.items()):
         return SELF
+    if len(orders.trace.operations) > MAX_OPERATIONS:
+        return LONG
     cycle = inferred_cycle(orders, Orders.address_edges)
     if cycle:
         return cycle
