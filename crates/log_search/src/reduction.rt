@@ -12,13 +12,18 @@ use tso_ops::{OutOfMemory, Part};
 pub trait Judge {
     /// Whether these operations of each processor are accused. OutOfMemory where an allocation was refused.
     fn accuses(&mut self, kept: &[Vec<Kept>]) -> Result<bool, OutOfMemory>;
+
+    /// Whether it judges nothing more: then nothing more is left out.
+    fn is_done(&self) -> bool {
+        false
+    }
 }
 
 /// An operation of a processor.
 type Entry = (usize, Kept);
 
 /// Leaves out operations of a log that a judge accuses, as long as it accuses what is left: half of them, a quarter, .., and
-/// then single ones, until there is none without which the others are accused.
+/// then single ones, until there is none without which the others are accused, or the judge is done.
 ///
 /// A load goes with its source; of a swap whose load goes the store stays. OutOfMemory where an allocation was refused.
 pub fn reduce<J: Judge>(
@@ -98,7 +103,7 @@ fn leave_out_parts<J: Judge>(
 ) -> Result<Vec<Entry>, OutOfMemory> {
     let mut at: usize = 0;
     for _ in 0..entries.len().saturating_mul(2) {
-        if at >= entries.len() {
+        if at >= entries.len() || judge.is_done() {
             break;
         }
         let fewer = without(alloc, known, &entries, at, size)?;

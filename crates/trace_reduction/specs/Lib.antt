@@ -1,2 +1,3 @@
 pub mod Internal
 pub mod Reductions
+pub mod Remarks

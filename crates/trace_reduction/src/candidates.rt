@@ -22,10 +22,33 @@ pub(crate) fn candidate_of(
     known: &KnownLog,
     kept: &[Vec<Kept>],
 ) -> Result<Option<Candidate>, OutOfMemory> {
-    let Some(trace) = known.trace_of(alloc, kept)? else {
-        return Ok(None);
-    };
-    let Ordered { trace, order, .. } = least_order(alloc, trace)?;
+    match known.trace_of(alloc, kept)? {
+        Some(trace) => candidate_in_order(alloc, known, kept, least_order(alloc, trace)?),
+        None => Ok(None),
+    }
+}
+
+/// The trace of these operations of each processor, its processors in the order in which they are. OutOfMemory where an allocation
+/// was refused.
+pub(crate) fn candidate_as_it_is(
+    alloc: Global,
+    known: &KnownLog,
+    kept: &[Vec<Kept>],
+) -> Result<Option<Candidate>, OutOfMemory> {
+    match known.trace_of(alloc, kept)? {
+        Some(trace) => candidate_in_order(alloc, known, kept, Ordered::new(alloc, trace)?),
+        None => Ok(None),
+    }
+}
+
+/// The trace of these operations of each processor, with where they stand.
+fn candidate_in_order(
+    alloc: Global,
+    known: &KnownLog,
+    kept: &[Vec<Kept>],
+    ordered: Ordered,
+) -> Result<Option<Candidate>, OutOfMemory> {
+    let Ordered { trace, order, .. } = ordered;
     let present = present_in(alloc, kept)?;
     let mut candidate = Candidate {
         trace,

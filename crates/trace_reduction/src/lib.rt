@@ -6,16 +6,21 @@
 pub use reports::reduce_trace;
 
 mod candidates;
+mod efforts;
+mod judging;
 mod kept_events;
 mod kept_pairs;
 pub mod laws;
 mod logs;
+mod losses;
 mod named;
 mod notes;
 mod orders;
+mod parts;
 mod permutations;
 mod reductions;
 mod reports;
 mod searching;
 mod selections;
+mod trials;
 mod unwritten;

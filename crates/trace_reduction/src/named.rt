@@ -1,20 +1,25 @@
-//! The operations that a certificate names: those of its events, the sources of its loads, and barriers.
+//! The operations that a certificate names: those of its events, the sources of its loads, loads by which a store is seen, and
+//! barriers.
 
+use crate::parts::Parts;
 use log_selections::Kept;
 use std::alloc::Global;
 use tso_cert::{BaseRule, CertStep, Reason, StepList};
-use tso_ops::{EventOperation, Operations, OutOfMemory, Outcome, Part, Trace};
+use tso_ops::{Operations, OutOfMemory, Outcome, Part, Trace};
 
-/// Which part of each operation of each processor is named, if one is.
+/// How many events a trace has at least in which a search among all operations is long.
+const LONG: usize = 1_000;
+
+/// The parts of a trace's operations that are named.
 #[derive(Drop)]
 struct Named<'a> {
     trace: &'a Trace,
     operations: Operations,
-    parts: Vec<Vec<Option<Part>>>,
+    parts: Parts,
 }
 
-/// The operations that the steps of a trace's certificate name, with the sources of their loads, and a barrier for each step
-/// that needs one. OutOfMemory where an allocation was refused.
+/// The operations that the steps of a trace's certificate name, with the sources of their loads, and a load or a barrier for each
+/// step that needs one. OutOfMemory where an allocation was refused.
 pub(crate) fn named_operations(
     alloc: Global,
     trace: &Trace,
@@ -23,45 +28,12 @@ pub(crate) fn named_operations(
     let mut named = Named {
         trace,
         operations: trace.operations(alloc)?,
-        parts: no_parts(alloc, trace)?,
+        parts: Parts::none(alloc, trace)?,
     };
     for step in steps.items() {
         named.name_step(step);
     }
-    let mut kept = Vec::new(alloc);
-    for parts in &named.parts {
-        kept.push(kept_list(alloc, parts)?)?;
-    }
-    Ok(kept)
-}
-
-/// No part of any operation.
-fn no_parts(alloc: Global, trace: &Trace) -> Result<Vec<Vec<Option<Part>>>, OutOfMemory> {
-    let mut parts = Vec::new(alloc);
-    for p in 0..trace.processors() {
-        parts.push(no_part(alloc, trace.ops(p).len())?)?;
-    }
-    Ok(parts)
-}
-
-/// No part of so many operations.
-fn no_part(alloc: Global, count: usize) -> Result<Vec<Option<Part>>, OutOfMemory> {
-    let mut parts = Vec::with_capacity(alloc, count)?;
-    for _ in 0..count {
-        parts.push(None)?;
-    }
-    Ok(parts)
-}
-
-/// The operations of which a part is named.
-fn kept_list(alloc: Global, parts: &[Option<Part>]) -> Result<Vec<Kept>, OutOfMemory> {
-    let mut kept = Vec::new(alloc);
-    for (index, part) in parts.iter().enumerate() {
-        if let Some(part) = *part {
-            kept.push(Kept { index, part })?;
-        }
-    }
-    Ok(kept)
+    named.parts.lists(alloc)
 }
 
 impl Named<'_> {
@@ -72,6 +44,7 @@ impl Named<'_> {
         match &step.reason {
             Reason::Base(BaseRule::Membar) => self.name_barrier(step, Outcome::Mb),
             Reason::Base(BaseRule::Stbar) => self.name_barrier(step, Outcome::Sb),
+            Reason::Base(BaseRule::Own) => self.name_load(step),
             Reason::Base(_) => {}
             Reason::Inferred { load, path, .. } => {
                 self.name_event(*load);
@@ -99,16 +72,20 @@ impl Named<'_> {
     /// Names the operation of an event, or this part of it.
     fn name(&mut self, number: usize) {
         if let Some(operation) = self.operations.operation_of(number) {
-            self.name_part(operation);
+            let part = operation.part;
+            self.parts.mark(operation.proc, operation.place, part);
         }
     }
 
-    /// Names a part of an operation, beside what is named of it.
-    fn name_part(&mut self, operation: EventOperation) {
-        if let Some(parts) = self.parts.get_mut(operation.proc)
-            && let Some(part) = parts.get_mut(operation.place)
-        {
-            *part = Some(both(*part, operation.part));
+    /// Names the load by which a step leads from a store of its processor to another store, which it read: in a long trace. From
+    /// a short one's operations without it the search goes on with all, and then finds the same small trace more often.
+    fn name_load(&mut self, step: &CertStep) {
+        if self.trace.events() < LONG {
+            return;
+        }
+        let load = first_load(self.trace, step.from as usize, step.to as usize);
+        if let Some(load) = load {
+            self.name(load);
         }
     }
 
@@ -120,21 +97,24 @@ impl Named<'_> {
         if from.proc >= self.trace.processors() {
             return;
         }
-        if let Some(place) = first_after(self.trace.ops(from.proc), from.place, barrier)
-            && let Some(parts) = self.parts.get_mut(from.proc)
-            && let Some(part) = parts.get_mut(place)
-        {
-            *part = Some(Part::Whole);
+        if let Some(place) = first_after(self.trace.ops(from.proc), from.place, barrier) {
+            self.parts.mark(from.proc, place, Part::Whole);
         }
     }
 }
 
-/// A part of an operation, beside what is named of it.
-fn both(named: Option<Part>, part: Part) -> Part {
-    match named {
-        Some(other) if other != part => Part::Whole,
-        _ => part,
+/// The first load after a store, of its address, that read another store.
+fn first_load(trace: &Trace, store: usize, other: usize) -> Option<usize> {
+    for before in store..trace.events() {
+        let load = before + 1;
+        if trace.source_number(load) == Some(other)
+            && trace.is_earlier(store, load)
+            && trace.same_address(store, load)
+        {
+            return Some(load);
+        }
     }
+    None
 }
 
 /// The place of the first such operation after this place.

@@ -1,24 +1,60 @@
-//! Lines that say which operations a small trace has.
+//! Lines that say which operations a small trace has, and how the search for it went.
+ghost use Rattle.std.specs.Prelude.{◌≡◌, ◌++◌, ℕ, List, IfOk, OnOk, string_bytes};
+ghost use Rattle.trace_reduction.specs.Remarks.{remark_text};
 
 use std::alloc::{AllocError, Global};
 use std::fmt::Write;
 use tso_ops::{Outcome, Trace};
 use tso_text::print_outcome;
 
+/// What is to be said of the search for a small trace.
+#[derive(Clone, Copy)]
+pub(crate) enum Remark {
+    /// Nothing: no operation can be left out.
+    Nothing,
+    /// It ended after so many trials, since its effort was spent.
+    EndedEarly {
+        /// How many traces were judged.
+        trials: usize,
+    },
+    /// What it found failed the check, so that the whole trace is printed.
+    FailedCheck,
+}
+
 /// A line for each operation of a small trace, by the lines of the whole trace's text where they stand: `line 12 P0 'st 0 1'`.
-/// OutOfMemory where an allocation was refused.
+/// Then what is to be said of the search, in a line. OutOfMemory where an allocation was refused.
 pub(crate) fn render_notes(
     alloc: Global,
     trace: &Trace,
     lines: &[Vec<usize>],
-) -> Result<String, AllocError> {
+    remark: Remark,
+) -> Result<String, AllocError>
+    ensures { IfOk result (λ text. (lines : List ℕ) × (string_bytes text ≡ lines ++ remark_text remark)) }
+{
     let mut text = String::new(alloc);
     for p in 0..trace.processors() {
         if let Some(lines) = lines.get(p) {
             push_notes(&mut text, p, trace.ops(p), lines)?;
         }
     }
+    push_remark(&mut text, remark)?;
     Ok(text)
+}
+
+/// Appends what is to be said of a search.
+fn push_remark(text: &mut String, remark: Remark) -> Result<(), AllocError>
+    ensures { OnOk result (string_bytes text.new ≡ string_bytes text.old ++ remark_text remark) }
+{
+    match remark {
+        Remark::Nothing => Ok(()),
+        Remark::EndedEarly { trials } => write!(
+            text,
+            "note: the search ended after {trials} trials; operations of this trace might be left out\n"
+        ),
+        Remark::FailedCheck => {
+            text.push_str("note: this is the whole trace; the small one didn't pass its check\n")
+        }
+    }
 }
 
 /// Appends a line for each operation of a processor.

@@ -22,16 +22,23 @@ pub(crate) struct Ordered {
     text: String,
 }
 
+impl Ordered {
+    /// The trace as it is. OutOfMemory where an allocation was refused.
+    pub(crate) fn new(alloc: Global, trace: Trace) -> Result<Ordered, OutOfMemory> {
+        Ok(Ordered {
+            text: print_trace(alloc, &trace)?,
+            order: ascending(alloc, trace.processors())?,
+            trace,
+        })
+    }
+}
+
 /// The trace with its processors in the order of which the text is the least; as they are where there are more than 6.
 /// OutOfMemory where an allocation was refused.
 pub(crate) fn least_order(alloc: Global, trace: Trace) -> Result<Ordered, OutOfMemory> {
     let log = log_of(alloc, &trace)?;
     let mut order = ascending(alloc, trace.processors())?;
-    let mut least = Ordered {
-        text: print_trace(alloc, &trace)?,
-        order: Vec::from_slice(alloc, &order)?,
-        trace,
-    };
+    let mut least = Ordered::new(alloc, trace)?;
     if order.len() > MAX_ORDERED {
         return Ok(least);
     }

@@ -1,15 +1,17 @@
 //! From a trace to a small one that shows its violation.
-ghost use Rattle.std.specs.Prelude.{◌≡◌, ◌⊎◌, IfErr, IfOk, IfSome, string_bytes};
+ghost use Rattle.std.specs.Prelude.{◌≡◌, ◌⊎◌, ◌++◌, ℕ, List, IfErr, IfOk, IfSome, string_bytes};
 ghost use Rattle.tso_ops.specs.Events.{IsUnwritten};
 ghost use Rattle.tso_text.specs.Printed.{trace_text};
 ghost use Rattle.tso_model.specs.Certs.{IsCertificateOf};
 ghost use Rattle.trace_judging.specs.declared.faults.Fault.{Fault};
 ghost use Rattle.trace_reports.specs.declared.verdicts.Verdict.{Verdict};
 ghost use Rattle.trace_reduction.specs.Reductions.{IsReducedText, IsReduction};
+ghost use Rattle.trace_reduction.specs.Remarks.{remark_text};
 
 use crate::candidates::Candidate;
+use crate::efforts::Effort;
 use crate::logs::log_of;
-use crate::notes::render_notes;
+use crate::notes::{Remark, render_notes};
 use crate::searching::search;
 use crate::selections::is_selection;
 use crate::unwritten::lone_load;
@@ -23,7 +25,7 @@ use tso_cert::{Certificate, StepList};
 use tso_ops::{OutOfMemory, Trace};
 use tso_text::print_trace;
 
-/// What is printed of a trace, and notes on the operations of the small trace.
+/// What is printed of a trace, and notes on the operations of the small trace and on the search.
 #[derive(Drop)]
 pub(crate) struct Reduction {
     pub(crate) text: String,
@@ -43,22 +45,24 @@ pub(crate) fn reduce<H: Threads + Wait>(
     ensures fault { IfErr result (λ fault. (fault ≡ Fault.OutOfMemory) ⊎ (fault ≡ Fault.NoThread)) }
 {
     let finding = find_violation(rt, alloc, trace, 1)?;
+    let effort = Effort::new(trace.events(), finding.rounds as usize);
     match finding.certificate {
         None => Ok(Reduction {
             text: String::from_str(alloc, verdict_line(false))?,
             notes: String::new(alloc),
             verdict: Verdict::NoViolation,
         }),
-        Some(certificate) => reduce_violation(rt, alloc, trace, &certificate),
+        Some(certificate) => reduce_violation(rt, alloc, trace, &certificate, effort),
     }
 }
 
-/// Reduces a trace that is a violation, by its certificate.
+/// Reduces a trace that is a violation, by its certificate, with this effort.
 fn reduce_violation<H: Threads + Wait>(
     rt: &H,
     alloc: Global,
     trace: &Trace,
     certificate: &Certificate,
+    mut effort: Effort,
 ) -> Result<Reduction, Fault>
     requires { IsCertificateOf trace.now certificate.now }
     ensures reduced { IfOk result (λ reduction. IsReducedText trace.now (string_bytes reduction.text) reduction.verdict) }
@@ -68,10 +72,15 @@ fn reduce_violation<H: Threads + Wait>(
     let _processors = trace.processors();
     match certificate {
         Certificate::Unwritten(load) => Ok(reduce_unwritten(alloc, trace, *load as usize)?),
-        Certificate::Cycle { steps, .. } => match find_small(rt, alloc, trace, steps)? {
-            Some(small) => Ok(tell(alloc, &small.trace, &small.lines)?),
-            None => Ok(tell(alloc, trace, &lines_of(alloc, trace)?)?),
-        },
+        Certificate::Cycle { steps, .. } => {
+            match find_small(rt, alloc, trace, steps, &mut effort)? {
+                Some(small) => Ok(tell(alloc, &small.trace, &small.lines, effort.remark())?),
+                None => {
+                    let lines = lines_of(alloc, trace)?;
+                    Ok(tell(alloc, trace, &lines, effort.remark_on_whole())?)
+                }
+            }
+        }
     }
 }
 
@@ -82,7 +91,7 @@ fn reduce_unwritten(alloc: Global, trace: &Trace, load: usize) -> Result<Reducti
 {
     let small = lone_load(alloc, trace.order())?;
     let lines = lines_of_load(alloc, trace, load)?;
-    tell(alloc, &small, &lines)
+    tell(alloc, &small, &lines, Remark::Nothing)
 }
 
 /// The line of a load in the trace's text, as that of the one operation of one processor.
@@ -100,18 +109,19 @@ fn lines_of_load(
     Ok(lists)
 }
 
-/// A small trace that shows the violation of which the trace's certificate has these steps: None where what the search gives
-/// isn't one.
+/// A small trace that shows the violation of which the trace's certificate has these steps: None where the effort is spent already,
+/// or what the search gives isn't one.
 fn find_small<H: Threads + Wait>(
     rt: &H,
     alloc: Global,
     trace: &Trace,
     steps: &StepList,
+    effort: &mut Effort,
 ) -> Result<Option<Candidate>, Fault>
     ensures found { IfOk result (λ found. IfSome found (λ small. IsReduction trace.now small.trace)) }
     ensures fault { IfErr result (λ fault. (fault ≡ Fault.OutOfMemory) ⊎ (fault ≡ Fault.NoThread)) }
 {
-    let Some(small) = search(rt, alloc, trace, steps)? else {
+    let Some(small) = search(rt, alloc, trace, steps, effort)? else {
         return Ok(None);
     };
     if !is_selection(trace, &small.trace, &small.origins) {
@@ -127,14 +137,21 @@ fn find_small<H: Threads + Wait>(
     }
 }
 
-/// What is printed of a violation by a small trace, the operations of which stand in these lines of the whole trace's text.
-fn tell(alloc: Global, small: &Trace, lines: &[Vec<usize>]) -> Result<Reduction, OutOfMemory>
+/// What is printed of a violation by a small trace, the operations of which stand in these lines of the whole trace's text, with
+/// what is to be said of the search.
+fn tell(
+    alloc: Global,
+    small: &Trace,
+    lines: &[Vec<usize>],
+    remark: Remark,
+) -> Result<Reduction, OutOfMemory>
     ensures text { IfOk result (λ reduction. string_bytes reduction.text ≡ trace_text small.now) }
     ensures verdict { IfOk result (λ reduction. reduction.verdict ≡ Verdict.Violation) }
+    ensures remark { IfOk result (λ reduction. (lines : List ℕ) × (string_bytes reduction.notes ≡ lines ++ remark_text remark)) }
 {
     Ok(Reduction {
         text: print_trace(alloc, small)?,
-        notes: render_notes(alloc, small, lines)?,
+        notes: render_notes(alloc, small, lines, remark)?,
         verdict: Verdict::Violation,
     })
 }

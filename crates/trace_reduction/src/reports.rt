@@ -31,6 +31,10 @@ use tso_text::{MAX_TEXT_BYTES, TextFault, read_trace};
 /// text, where there are at most 6 of them. Each of its operations gives a line on `errors`, as `line 12 P0 'st 0 1'`, with the
 /// line where it stands in the trace's text; what `errors` doesn't take is lost. At most 1,048,577 bytes are read.
 ///
+/// Where the search for it gets too long, it ends with what it has, or doesn't begin: then operations might be left out, the
+/// processors stand as in the trace, and a last line on `errors` says so. Another one says so where the whole trace is written
+/// since the small one failed the check.
+///
 /// Faults: OutOfMemory where an allocation was refused; Read where the reader failed or passed 2,097,152 calls; NoThread where
 /// the system refused a thread; with each nothing was written. Write where the writer failed, took no byte or was interrupted
 /// more than 1,048,576 times: then what was written is a prefix of the text.

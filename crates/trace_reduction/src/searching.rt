@@ -1,9 +1,10 @@
 //! Fewer operations of a trace that are still a violation.
 
-use crate::candidates::{Candidate, candidate_of};
+use crate::candidates::{Candidate, candidate_as_it_is, candidate_of};
+use crate::efforts::Effort;
+use crate::judging::SparingJudge;
 use crate::logs::{keep_all, log_of};
 use crate::named::named_operations;
-use log_reports::TraceJudge;
 use log_search::{Judge, reduce};
 use log_selections::{Kept, KnownLog};
 use log_text::LogOperation;
@@ -21,28 +22,43 @@ struct Place {
 }
 
 /// A small trace that should show the violation, of which the trace's certificate has these steps: what these name is made
-/// smaller as long as it is a violation by itself. OutOfMemory where an allocation was refused.
+/// smaller as long as it is a violation by itself, and as long as the effort isn't spent. None where it is too much to begin.
+/// OutOfMemory where an allocation was refused.
 pub(crate) fn search<H: Threads + Wait>(
     rt: &H,
     alloc: Global,
     trace: &Trace,
     steps: &StepList,
+    effort: &mut Effort,
 ) -> Result<Option<Candidate>, OutOfMemory> {
     let known = KnownLog::new(alloc, log_of(alloc, trace)?)?;
-    let mut judge = TraceJudge {
-        rt,
-        alloc,
-        known: &known,
-    };
-    let mut kept = named_operations(alloc, trace, steps)?;
-    if !judge.accuses(&kept)? {
-        kept = keep_all(alloc, known.log())?;
+    let all = keep_all(alloc, known.log())?;
+    let named = named_operations(alloc, trace, steps)?;
+    if effort.is_too_much(count(&named), count(&all)) {
+        effort.give_up();
+        return Ok(None);
     }
+    let mut judge = SparingJudge::new(rt, alloc, trace, &known, *effort)?;
+    let kept = if judge.judge_all(&named)? { named } else { all };
     let mut fewer = reduce(alloc, &known, kept, &mut judge)?;
     for place in swaps(alloc, &known, &fewer)? {
         halve(&mut fewer, place, &mut judge)?;
     }
-    candidate_of(alloc, &known, &fewer)
+    *effort = judge.effort();
+    if effort.is_spent() {
+        candidate_as_it_is(alloc, &known, &fewer)
+    } else {
+        candidate_of(alloc, &known, &fewer)
+    }
+}
+
+/// How many operations there are.
+fn count(kept: &[Vec<Kept>]) -> usize {
+    let mut count: usize = 0;
+    for list in kept {
+        count = count.saturating_add(list.len());
+    }
+    count
 }
 
 /// Where swaps are kept as a whole.

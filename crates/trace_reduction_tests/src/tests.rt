@@ -1,6 +1,7 @@
 //! Traces that are reduced, and what the tests of them share.
 
 mod cases;
+mod chains;
 mod faults;
 mod parts;
 
@@ -13,13 +14,13 @@ use trace_reduction::reduce_trace;
 use traces_for_tests::expect_equal;
 
 /// The text of a trace; what is said of it, and what is written to the output and to the errors.
-type Case = (&'static str, Verdict, &'static str, &'static str);
+type Case<'a> = (&'a str, Verdict, &'a str, &'a str);
 
 /// Compares what is said of the trace of a text, and what is written of it.
 fn expect_case<H: Threads + Wait>(
     rt: &H,
     alloc: Global,
-    (text, verdict, small, notes): Case,
+    (text, verdict, small, notes): Case<'_>,
 ) -> Result<(), Fail> {
     let mut written = Vec::new(alloc);
     let mut errors = Vec::new(alloc);

@@ -5,7 +5,7 @@ use std::test::Fail;
 use trace_judging::Verdict;
 
 /// Store buffering with barriers, between other operations.
-pub(crate) const STORE_BUFFERING: Case = (
+pub(crate) const STORE_BUFFERING: Case<'static> = (
     "tso trace 2\ninit 3 9\nproc\nst 7 70\nsw 5 0 50\nst 1 10\nmb\nst 4 40\nld 2 0\nproc\nld 7 70\nproc\nst 2 20\nmb\nmb\nld 3 9\nld 1 0\nend\n",
     Verdict::Violation,
     "tso trace 2\nproc\nst 0 1\nmb\nld 1 0\nproc\nst 1 2\nmb\nld 0 0\nend\n",
@@ -14,7 +14,7 @@ pub(crate) const STORE_BUFFERING: Case = (
 
 /// Message passing: address 6 has a first value, and the flag is at address 4. The processor that loads stands last here, and
 /// first in the small trace. Its last load comes too late for a flag.
-pub(crate) const MESSAGE_PASSING: Case = (
+pub(crate) const MESSAGE_PASSING: Case<'static> = (
     "tso trace 2\ninit 6 5\nproc\nst 6 8\nmb\nst 5 3\nst 4 1\nproc\nst 9 2\nproc\nld 9 2\nld 4 1\nld 6 5\nld 5 3\nend\n",
     Verdict::Violation,
     "tso trace 2\nproc\nld 0 2\nld 1 0\nproc\nst 1 1\nst 0 2\nend\n",
@@ -22,7 +22,7 @@ pub(crate) const MESSAGE_PASSING: Case = (
 );
 
 /// Loads of one location that go back.
-pub(crate) const COHERENCE: Case = (
+pub(crate) const COHERENCE: Case<'static> = (
     "tso trace 1\nproc\nst 3 1\nld 3 1\nld 8 0\nproc\nld 3 1\nst 8 2\nld 3 0\nproc\nld 3 1\nend\n",
     Verdict::Violation,
     "tso trace 2\nproc\nld 0 1\nld 0 0\nproc\nst 0 1\nend\n",
@@ -30,7 +30,7 @@ pub(crate) const COHERENCE: Case = (
 );
 
 /// Two swaps that both read the first value.
-pub(crate) const SWAPS: Case = (
+pub(crate) const SWAPS: Case<'static> = (
     "tso trace 2\nmodel pso\nproc\nsw 1 0 4\nst 1 5\nproc\nstbar\nsw 1 0 6\nend\n",
     Verdict::Violation,
     "tso trace 2\nmodel pso\nproc\nsw 0 0 1\nproc\nsw 0 0 2\nend\n",
@@ -38,7 +38,7 @@ pub(crate) const SWAPS: Case = (
 );
 
 /// A swap of which its store is enough, and an STBAR.
-pub(crate) const STORE_OF_A_SWAP: Case = (
+pub(crate) const STORE_OF_A_SWAP: Case<'static> = (
     "tso trace 2\nmodel pso\nproc\nst 1 1\nstbar\nsw 2 0 2\nproc\nld 2 2\nld 1 0\nend\n",
     Verdict::Violation,
     "tso trace 2\nmodel pso\nproc\nld 0 2\nld 1 0\nproc\nst 1 1\nstbar\nst 0 2\nend\n",
@@ -46,7 +46,7 @@ pub(crate) const STORE_OF_A_SWAP: Case = (
 );
 
 /// A load of what nothing wrote, in a trace that has another violation.
-pub(crate) const UNWRITTEN: Case = (
+pub(crate) const UNWRITTEN: Case<'static> = (
     "tso trace 2\nmodel pso\ninit 1 2\nproc\nst 1 3\nld 1 2\nproc\nld 0 0\nmb\nsw 1 4 5\nend\n",
     Verdict::Violation,
     "tso trace 2\nmodel pso\nproc\nld 0 1\nend\n",

@@ -1,0 +1,71 @@
+//! Whether a trace is a violation, and how much work it was to find out.
+ghost use Rattle.std.specs.Prelude.{◌≡◌, ℕ, false};
+ghost use Rattle.tso_ops.specs.Events.{IsUnwritten};
+
+use crate::efforts::Effort;
+use order_graph::Graph;
+use round_pool::{PoolFault, PoolGate, rounds};
+use std::alloc::Global;
+use std::sync::Wait;
+use std::sync::atomic::{AtomicUsize, Ordering};
+use std::thread::Threads;
+use tso_ops::{OutOfMemory, Trace};
+
+/// Counts the rows of rounds.
+#[derive(Drop)]
+struct RowCounter {
+    rows: AtomicUsize,
+}
+
+impl PoolGate for RowCounter {
+    fn row(&self, _worker: usize, _row: usize) {
+        self.rows.fetch_add(1, Ordering::SeqCst);
+    }
+}
+
+/// Whether a trace is a violation, by rounds on one worker; the effort counts them. OutOfMemory where an allocation was refused.
+pub(crate) fn is_violation<H: Threads + Wait>(
+    rt: &H,
+    alloc: Global,
+    trace: &Trace,
+    effort: &mut Effort,
+) -> Result<bool, OutOfMemory> {
+    if has_unwritten(trace) {
+        return Ok(true);
+    }
+    let counter = RowCounter {
+        rows: AtomicUsize::new(0),
+    };
+    match rounds(rt, alloc, trace, 1, &counter) {
+        Ok(ranked) => {
+            let rows = counter.rows.load(Ordering::SeqCst);
+            effort.count(trace.events(), ranked.rounds() as usize, rows);
+            Ok(has_cycle(ranked.last()))
+        }
+        Err(PoolFault::OutOfMemory) => Err(OutOfMemory),
+        // One worker starts no thread.
+        Err(PoolFault::NoThread) => Ok(false),
+    }
+}
+
+/// Whether a trace has a load whose value nothing wrote.
+fn has_unwritten(trace: &Trace) -> bool
+    ensures { result ≡ false → (l : ℕ) → IsUnwritten trace.now l → ⊥ }
+{
+    for n in 0..trace.events() {
+        if trace.is_unwritten(n + 1) {
+            return true;
+        }
+    }
+    false
+}
+
+/// Whether a number of the graph reaches itself.
+fn has_cycle(graph: &Graph) -> bool {
+    for x in 0..graph.nodes() {
+        if graph.reaches(x, x) {
+            return true;
+        }
+    }
+    false
+}
