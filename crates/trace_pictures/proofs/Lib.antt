@@ -1,3 +1,4 @@
 pub mod ChoiceFacts
+pub mod LineFacts
 pub mod RowFacts
 pub mod WantedFacts

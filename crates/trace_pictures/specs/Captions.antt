@@ -15,7 +15,7 @@ abbrev pub red_words : Option Certificate → List ℕ
 red_words None = []
 red_words (Some (Unwritten n)) = codes "red box: a load of a value that nothing wrote to its address\\l"
 red_words (Some (Cycle steps cycle)) =
-    codes "red: the cycle, each event before the next, and the loads that its edges speak of\\ldashed: other derived edges, from an event to one that comes later\\lnumber and rule at an edge: its step in the explanation\\l"
+    codes "red: the cycle, each event before the next, and the loads that its edges speak of\\lorange: the paths by which edges of the cycle are inferred, each event before the next\\ldashed: other derived edges, from an event to one that comes later\\lsmall lines in a box: the edges from it, by number and rule of the step in the explanation\\l"
 
 -- the captions, each of which ends its line at the left
 unfoldable pub captions_text : Order → Option Certificate → ℕ → ℕ → List ℕ

@@ -1,8 +1,10 @@
+pub mod Arrows
 pub mod Captions
 pub mod Choice
 pub mod Edges
 pub mod Labels
 pub mod Nodes
+pub mod Paths
 pub mod Pictured
 pub mod Pictures
 pub mod Rows

@@ -52,7 +52,7 @@ fn drawn_words(alloc: Global, drawn: usize, events: usize) -> Result<String, All
     }
 }
 
-/// What red says, and dashed edges.
+/// What red, orange, dashed edges and small lines say.
 fn red_words(certificate: &Option<Certificate>) -> &'static str
     ensures { result.now ≡ red_words certificate.now }
 {
@@ -61,6 +61,6 @@ fn red_words(certificate: &Option<Certificate>) -> &'static str
         Some(Certificate::Unwritten(_)) =>
             "red box: a load of a value that nothing wrote to its address\\l",
         Some(Certificate::Cycle { .. }) =>
-            "red: the cycle, each event before the next, and the loads that its edges speak of\\ldashed: other derived edges, from an event to one that comes later\\lnumber and rule at an edge: its step in the explanation\\l",
+            "red: the cycle, each event before the next, and the loads that its edges speak of\\lorange: the paths by which edges of the cycle are inferred, each event before the next\\ldashed: other derived edges, from an event to one that comes later\\lsmall lines in a box: the edges from it, by number and rule of the step in the explanation\\l",
     }
 }

@@ -5,18 +5,23 @@
 //! `trace_judging::judge_with`. `README.md` says what is proved.
 #![tactic(auto)]
 
+pub use arrows::{Arrow, Mark};
 pub use pictures::draw;
 pub use rendering::AsPicture;
 pub use rows::Row;
 
+mod arrows;
 mod captions;
 mod choice;
 mod cycles;
 mod edges;
 mod labels;
 pub mod laws;
+mod lines;
+mod looks;
 mod members;
 mod nodes;
+mod paths;
 mod pictures;
 mod placed;
 mod rendering;

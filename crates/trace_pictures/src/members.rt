@@ -23,7 +23,7 @@ pub(crate) fn are_nodes(nodes: &[usize], u: usize, v: usize) -> bool
     is_among(u, nodes) && is_among(v, nodes)
 }
 
-/// Whether both numbers are among these, and the edge from `u` to `v` is none of the cycle's.
+/// Whether both numbers are among these, and the edge from `u` to `v` is none of these.
 pub(crate) fn is_beside(nodes: &[usize], links: &[(u64, u64)], u: usize, v: usize) -> bool
     ensures { result ≡ is_beside nodes.now links.now (u, v) }
 {

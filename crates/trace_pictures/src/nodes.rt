@@ -1,19 +1,23 @@
 //! The nodes of a picture, and the edges from each to the one below it.
-ghost use Rattle.std.specs.Prelude.{◌≡◌, ◌++◌, ◌+◌, ◌*◌, ◌%◌, ◌^◌, ◌<◌, ◌≤◌, ◌&&◌, ℕ, [], codes, cond, false, not, string_bytes, IfOk, OnOk};
+ghost use Rattle.std.specs.Prelude.{◌≡◌, ◌++◌, ◌+◌, ◌*◌, ◌%◌, ◌^◌, ◌<◌, ◌≤◌, ◌&&◌, ℕ, [], codes, cond, false, length, not, string_bytes, IfOk, OnOk};
 ghost use Rattle.std.specs.Fmt.{decimal};
 ghost use Rattle.std.specs.List.{flat_map, range_with_len};
 ghost use Rattle.std.specs.Option.{option_map_or};
 ghost use Rattle.tso_ops.specs.Events.{processor_count};
 ghost use Rattle.trace_explanation.specs.Steps.{is_number};
-ghost use Rattle.trace_pictures.specs.Nodes.{down_text, first_values_text, is_close, node_text, processor_text, row_label, row_marks, row_name, row_step, rows_text};
+ghost use Rattle.trace_pictures.specs.Nodes.{border_mark, down_text, first_values_text, init_text, is_close, node_text, processor_text, row_arrows, row_label, row_marks, row_name, row_step, rows_text, small_lines};
 
+use crate::arrows::Arrow;
 use crate::labels::event_label;
+use crate::lines::{arrows_at, small_lines};
+use crate::looks::NodeLooks;
 use crate::members::is_among;
 use crate::placed::PlacedTrace;
 use crate::rows::{Row, rows_of};
 use std::alloc::{AllocError, Global};
 use std::fmt::Write;
 use trace_explanation::{outcome_text, source_of};
+use tso_cert::CertStep;
 use tso_ops::Event;
 
 /// A processor and where its column stands, in points.
@@ -23,45 +27,64 @@ pub(crate) struct Column {
     x: u128,
 }
 
-/// Appends the node of the first values, where the cycle has them.
+/// Appends the node of the first values, where the cycle has them. OutOfMemory where an allocation was refused.
 #[tactic(auto, unfolding(crate::specs::Nodes::first_values_text))]
 pub(crate) fn push_first_values(
+    alloc: Global,
     text: &mut String,
+    looks: &NodeLooks<'_>,
     width: u128,
     processors: usize,
     cycle: &[usize],
 ) -> Result<(), AllocError>
     requires processors { processors ≤ 16 }
     requires width { width < 2 ^ 70 }
-    ensures { OnOk result (string_bytes text.new ≡ string_bytes text.old ++ first_values_text width processors cycle.now) }
+    ensures { OnOk result (string_bytes text.new ≡ string_bytes text.old ++ first_values_text looks.now width processors cycle.now) }
 {
     if is_among(0, cycle) {
         let x = width * processors.saturating_sub(1) as u128 / 2;
-        write!(
-            text,
-            "  init [label=\"first values\", shape=ellipse, pos=\"{x},0!\", color=\"#c00000\", penwidth=2];\n"
-        )
+        let arrows = arrows_at(alloc, looks.arrows(), 0)?;
+        push_init(alloc, text, looks.steps(), &arrows, x)
     } else {
         Ok(())
     }
 }
 
-/// Appends the nodes of all processors, of which these events are drawn and these numbers are red. OutOfMemory where an
-/// allocation was refused.
+/// Appends the node of the first values, with the small lines of these arrows.
+#[tactic(auto, unfolding(crate::specs::Nodes::init_text))]
+fn push_init(
+    alloc: Global,
+    text: &mut String,
+    steps: &[CertStep],
+    arrows: &[Arrow],
+    x: u128,
+) -> Result<(), AllocError>
+    requires { length arrows.now ≤ 40 }
+    ensures { OnOk result (string_bytes text.new ≡ string_bytes text.old ++ init_text steps.now arrows.now x) }
+{
+    let lines = small_lines(alloc, steps, arrows)?;
+    let height = 8 * arrows.len();
+    write!(
+        text,
+        "  init [label=<first values{lines}>, shape=ellipse, pos=\"{x},{height}!\", color=\"#c00000\", penwidth=2];\n"
+    )
+}
+
+/// Appends the nodes of all processors, of which these events are drawn. OutOfMemory where an allocation was refused.
 pub(crate) fn push_processors(
     alloc: Global,
     text: &mut String,
     placed: &PlacedTrace<'_>,
     drawn: &[usize],
-    red: &[usize],
+    looks: &NodeLooks<'_>,
     width: u128,
 ) -> Result<(), AllocError>
     requires { width < 2 ^ 70 }
-    ensures { OnOk result (string_bytes text.new ≡ string_bytes text.old ++ flat_map (processor_text placed.now drawn.now red.now width) (range_with_len 0 (processor_count placed.now))) }
+    ensures { OnOk result (string_bytes text.new ≡ string_bytes text.old ++ flat_map (processor_text placed.now drawn.now looks.now width) (range_with_len 0 (processor_count placed.now))) }
 {
     let mut x = 0;
     for proc in 0..placed.trace().processors() {
-        push_processor(alloc, text, placed, drawn, red, Column { proc, x })?;
+        push_processor(alloc, text, placed, drawn, looks, Column { proc, x })?;
         x += width;
     }
     Ok(())
@@ -74,11 +97,11 @@ fn push_processor(
     text: &mut String,
     placed: &PlacedTrace<'_>,
     drawn: &[usize],
-    red: &[usize],
+    looks: &NodeLooks<'_>,
     column: Column,
 ) -> Result<(), AllocError>
     requires { column.proc < processor_count placed.now }
-    ensures { (width : ℕ) → column.x ≡ width * column.proc → OnOk result (string_bytes text.new ≡ string_bytes text.old ++ processor_text placed.now drawn.now red.now width column.proc) }
+    ensures { (width : ℕ) → column.x ≡ width * column.proc → OnOk result (string_bytes text.new ≡ string_bytes text.old ++ processor_text placed.now drawn.now looks.now width column.proc) }
 {
     let rows = rows_of(alloc, placed, drawn, column.proc)?;
     let proc = column.proc;
@@ -87,7 +110,7 @@ fn push_processor(
         text,
         "  p{proc} [label=\"P{proc}\", shape=plaintext, fontsize=14, pos=\"{x},-70!\"];\n"
     )?;
-    push_rows(alloc, text, placed, red, column, &rows)
+    push_rows(alloc, text, placed, looks, column, &rows)
 }
 
 /// Appends these rows of a processor, below its head.
@@ -95,22 +118,25 @@ fn push_rows(
     alloc: Global,
     text: &mut String,
     placed: &PlacedTrace<'_>,
-    red: &[usize],
+    looks: &NodeLooks<'_>,
     column: Column,
     rows: &[Row],
 ) -> Result<(), AllocError>
-    ensures { OnOk result (string_bytes text.new ≡ string_bytes text.old ++ rows_text placed.now red.now column.proc column.x (70 + 26 * (column.proc % 2)) (codes "p" ++ decimal column.proc) rows.now) }
+    ensures { OnOk result (string_bytes text.new ≡ string_bytes text.old ++ rows_text placed.now looks.now column.proc column.x (70 + 26 * (column.proc % 2)) (codes "p" ++ decimal column.proc) rows.now) }
 {
     let mut y = first_height(column.proc);
     let mut above = head_name(alloc, column.proc)?;
     for row in rows {
         let name = row_name(alloc, column.proc, *row)?;
-        let label = row_label(alloc, placed, *row)?;
-        let marks = row_marks(alloc, placed, red, *row)?;
+        let arrows = row_arrows(alloc, looks.arrows(), *row)?;
+        let label = whole_label(alloc, placed, looks.steps(), &arrows, *row)?;
+        let marks = row_marks(alloc, placed, looks, *row)?;
         let close = is_close(placed, *row);
-        y += row_step(close);
-        push_node(text, &name, &label, &marks, column.x, y)?;
+        let top = y + row_step(close);
+        let count = arrows.len() as u128;
+        push_node(text, &name, &label, &marks, column.x, top + 6 * count)?;
         push_down(text, &above, &name, close)?;
+        y = top + 12 * count;
         above = name;
     }
     Ok(())
@@ -163,20 +189,46 @@ fn row_label(alloc: Global, placed: &PlacedTrace<'_>, row: Row) -> Result<String
     }
 }
 
-/// What a row looks like, where these numbers are red.
+/// The arrows of which a row speaks.
+fn row_arrows(alloc: Global, arrows: &[Arrow], row: Row) -> Result<Vec<Arrow>, AllocError>
+    ensures is { IfOk result (λ here. here.items ≡ row_arrows arrows.now row) }
+    ensures most { IfOk result (λ here. length here.items ≤ 40) }
+{
+    match row {
+        Row::Event(n) => arrows_at(alloc, arrows, n),
+        Row::Barrier { .. } | Row::Gap { .. } => Ok(Vec::new(alloc)),
+    }
+}
+
+/// What a row says, with the small lines of these arrows.
+fn whole_label(
+    alloc: Global,
+    placed: &PlacedTrace<'_>,
+    steps: &[CertStep],
+    arrows: &[Arrow],
+    row: Row,
+) -> Result<String, AllocError>
+    ensures { IfOk result (λ text. string_bytes text ≡ row_label placed.now row ++ small_lines steps.now arrows.now) }
+{
+    let label = row_label(alloc, placed, row)?;
+    let lines = small_lines(alloc, steps, arrows)?;
+    format!(in alloc; "{label}{lines}")
+}
+
+/// What a row looks like.
 #[tactic(auto, unfolding(crate::specs::Nodes::row_marks))]
 fn row_marks(
     alloc: Global,
     placed: &PlacedTrace<'_>,
-    red: &[usize],
+    looks: &NodeLooks<'_>,
     row: Row,
 ) -> Result<String, AllocError>
-    ensures { IfOk result (λ text. string_bytes text ≡ row_marks placed.now red.now row) }
+    ensures { IfOk result (λ text. string_bytes text ≡ row_marks placed.now looks.now.red looks.now.orange row) }
 {
     match row {
         Row::Event(n) => {
             let first = first_mark(source_of(placed.trace(), n));
-            let border = red_mark(is_among(n, red));
+            let border = border_mark(looks.red(), looks.orange(), n);
             format!(in alloc; "{first}{border}")
         },
         Row::Barrier { .. } => String::from_str(
@@ -199,12 +251,14 @@ fn first_mark(source: Option<usize>) -> &'static str
     }
 }
 
-/// The mark of a red border.
-fn red_mark(red: bool) -> &'static str
-    ensures { result.now ≡ cond red (codes ", color=\"#c00000\", penwidth=2") [] }
+/// The mark of the border of event `n`, where these numbers are red and these orange.
+fn border_mark(red: &[usize], orange: &[usize], n: usize) -> &'static str
+    ensures { result.now ≡ border_mark red.now orange.now n }
 {
-    if red {
+    if is_among(n, red) {
         ", color=\"#c00000\", penwidth=2"
+    } else if is_among(n, orange) {
+        ", color=\"#e07b00\", penwidth=2"
     } else {
         ""
     }
@@ -244,7 +298,7 @@ fn push_node(
 {
     write!(
         text,
-        "  {name} [label=\"{label}\", pos=\"{x},-{y}!\"{marks}];\n"
+        "  {name} [label=<{label}>, pos=\"{x},-{y}!\"{marks}];\n"
     )
 }
 

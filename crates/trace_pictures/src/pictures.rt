@@ -1,14 +1,16 @@
 //! The picture of a trace.
-ghost use Rattle.std.specs.Prelude.{◌≡◌, ◌++◌, length, string_bytes, OnOk};
-ghost use Rattle.trace_pictures.specs.Edges.{cycle_in, steps_in};
-ghost use Rattle.trace_pictures.specs.Pictures.{edges_text, layout_text, nodes_text, picture_of, picture_text};
+ghost use Rattle.std.specs.Prelude.{◌≡◌, ◌++◌, string_bytes, OnOk};
+ghost use Rattle.trace_pictures.specs.Pictures.{edges_text, graph_text, layout_text, nodes_text, picture_of, picture_text};
 
+use crate::arrows::{Arrow, list_arrows, list_shown, push_arrows};
 use crate::captions::push_captions;
 use crate::choice::choose_events;
-use crate::cycles::{LinkedCycle, list_red, steps_in};
-use crate::edges::{list_nodes, push_cycle, push_dashed, push_reads};
+use crate::cycles::{LinkedCycle, steps_in};
+use crate::edges::{list_nodes, push_reads};
 use crate::labels::column_width;
+use crate::looks::NodeLooks;
 use crate::nodes::{push_first_values, push_processors};
+use crate::paths::list_orange;
 use crate::placed::PlacedTrace;
 use std::alloc::{AllocError, Global};
 use trace_explanation::NumberedSteps;
@@ -46,8 +48,7 @@ fn push_picture(
     let order = trace.order();
     push_layout(text)?;
     push_captions(alloc, text, order, certificate, drawn.len(), trace.events())?;
-    push_nodes(alloc, text, placed, certificate, drawn)?;
-    push_edges(alloc, text, placed, certificate, drawn)?;
+    push_graph(alloc, text, placed, certificate, drawn)?;
     text.push_str("}\n")
 }
 
@@ -57,11 +58,32 @@ fn push_layout(text: &mut String) -> Result<(), AllocError>
     ensures { OnOk result (string_bytes text.new ≡ string_bytes text.old ++ layout_text) }
 {
     text.push_str(
-        "digraph trace {\n  graph [layout=neato, inputscale=72, splines=true, outputorder=nodesfirst, fontname=\"Helvetica\", fontsize=12, labelloc=t, labeljust=l];\n  node [shape=box, style=filled, fillcolor=\"#ffffff\", fontname=\"Helvetica\", fontsize=12, height=0.34, width=1.2];\n  edge [fontname=\"Helvetica\", fontsize=10, arrowsize=0.7, labeldistance=5, labelangle=18];\n",
+        "digraph trace {\n  graph [layout=neato, inputscale=72, splines=true, outputorder=nodesfirst, fontname=\"Helvetica\", fontsize=12, labelloc=t, labeljust=l];\n  node [shape=box, style=filled, fillcolor=\"#ffffff\", fontname=\"Helvetica\", fontsize=12, height=0.34, width=1.2];\n  edge [arrowsize=0.7];\n",
     )
 }
 
-/// Appends the nodes.
+/// Appends the nodes and the edges.
+#[tactic(auto, unfolding(crate::specs::Pictures::graph_text))]
+fn push_graph(
+    alloc: Global,
+    text: &mut String,
+    placed: &PlacedTrace<'_>,
+    certificate: &Option<Certificate>,
+    drawn: &[usize],
+) -> Result<(), AllocError>
+    ensures { OnOk result (string_bytes text.new ≡ string_bytes text.old ++ graph_text placed.now certificate.now drawn.now) }
+{
+    let numbered = NumberedSteps::new(alloc, steps_in(certificate))?;
+    let cycle = LinkedCycle::new(alloc, certificate)?;
+    let nodes = list_nodes(alloc, drawn, &cycle)?;
+    let orange = list_orange(alloc, &numbered, &nodes, cycle.links())?;
+    let arrows = list_arrows(alloc, &numbered, &nodes, &cycle, &orange)?;
+    let shown = list_shown(alloc, &cycle, &orange)?;
+    push_nodes(alloc, text, placed, certificate, drawn, &arrows)?;
+    push_edges(alloc, text, placed.trace(), drawn, &shown, &arrows)
+}
+
+/// Appends the nodes, with these arrows.
 #[tactic(auto, unfolding(crate::specs::Pictures::nodes_text))]
 fn push_nodes(
     alloc: Global,
@@ -69,33 +91,37 @@ fn push_nodes(
     placed: &PlacedTrace<'_>,
     certificate: &Option<Certificate>,
     drawn: &[usize],
+    arrows: &[Arrow],
 ) -> Result<(), AllocError>
-    ensures { OnOk result (string_bytes text.new ≡ string_bytes text.old ++ nodes_text placed.now certificate.now drawn.now) }
+    ensures { OnOk result (string_bytes text.new ≡ string_bytes text.old ++ nodes_text placed.now certificate.now drawn.now arrows.now) }
 {
     let trace = placed.trace();
     let cycle = LinkedCycle::new(alloc, certificate)?;
-    let red = list_red(alloc, trace, certificate)?;
+    let looks = NodeLooks::new(alloc, trace, certificate, arrows)?;
     let width = column_width(alloc, placed, drawn)?;
-    push_first_values(text, width, trace.processors(), cycle.numbers())?;
-    push_processors(alloc, text, placed, drawn, &red, width)
+    push_first_values(
+        alloc,
+        text,
+        &looks,
+        width,
+        trace.processors(),
+        cycle.numbers(),
+    )?;
+    push_processors(alloc, text, placed, drawn, &looks, width)
 }
 
-/// Appends the edges.
+/// Appends the edges: these arrows, and from stores to loads what isn't among the edges that they show.
 #[tactic(auto, unfolding(crate::specs::Pictures::edges_text))]
 fn push_edges(
     alloc: Global,
     text: &mut String,
-    placed: &PlacedTrace<'_>,
-    certificate: &Option<Certificate>,
+    trace: &Trace,
     drawn: &[usize],
+    shown: &[(u64, u64)],
+    arrows: &[Arrow],
 ) -> Result<(), AllocError>
-    ensures { OnOk result (string_bytes text.new ≡ string_bytes text.old ++ edges_text placed.now certificate.now drawn.now) }
+    ensures { OnOk result (string_bytes text.new ≡ string_bytes text.old ++ edges_text trace.now drawn.now shown.now arrows.now) }
 {
-    let steps = steps_in(certificate);
-    let numbered = NumberedSteps::new(alloc, steps)?;
-    let cycle = LinkedCycle::new(alloc, certificate)?;
-    let nodes = list_nodes(alloc, drawn, &cycle)?;
-    push_reads(text, placed.trace(), drawn, &cycle)?;
-    push_dashed(alloc, text, placed, steps, &nodes, &cycle)?;
-    push_cycle(alloc, text, placed, &numbered, &nodes, &cycle)
+    push_reads(text, trace, drawn, shown)?;
+    push_arrows(alloc, text, arrows)
 }

@@ -4,11 +4,15 @@ ghost use Rattle.std.specs.List.{flat_map};
 ghost use Rattle.std.specs.Option.{option_to_list};
 ghost use Rattle.trace_explanation.specs.Explanations.{stores_to};
 ghost use Rattle.trace_explanation.specs.Names.{address_at};
-ghost use Rattle.trace_explanation.specs.Steps.{step_numbers};
+ghost use Rattle.trace_explanation.specs.Steps.{links_of, step_numbers};
 ghost use Rattle.trace_pictures.specs.Choice.{verdict_numbers, wanted};
+ghost use Rattle.trace_pictures.specs.Paths.{path_numbers};
 
+use crate::paths::push_path_numbers;
 use std::alloc::{AllocError, Global};
-use trace_explanation::{address_of, first_of, list_stores, source_of, step_load};
+use trace_explanation::{
+    NumberedSteps, address_of, first_of, list_links, list_stores, source_of, step_load,
+};
 use tso_cert::{CertStep, Certificate};
 use tso_ops::Trace;
 
@@ -55,11 +59,26 @@ fn list_verdict(
         None => Ok(Vec::new(alloc)),
         Some(Certificate::Unwritten(n)) => list_unwritten(alloc, trace, *n as usize),
         Some(Certificate::Cycle { steps, cycle }) => {
-            let mut numbers = list_cycle(alloc, cycle.items())?;
-            push_steps(&mut numbers, trace, steps.items())?;
-            Ok(numbers)
+            list_cycle_first(alloc, trace, steps.items(), cycle.items())
         },
     }
+}
+
+/// The numbers of a cycle, those of the paths by which its edges are inferred, and those of the steps.
+fn list_cycle_first(
+    alloc: Global,
+    trace: &Trace,
+    steps: &[CertStep],
+    cycle: &[u64],
+) -> Result<Vec<usize>, AllocError>
+    ensures { IfOk result (λ numbers. numbers.items ≡ cycle.now ++ path_numbers steps.now (links_of cycle.now) ++ flat_map (step_numbers trace.now) (reverse steps.now)) }
+{
+    let numbered = NumberedSteps::new(alloc, steps)?;
+    let links = list_links(alloc, cycle)?;
+    let mut numbers = list_cycle(alloc, cycle)?;
+    push_path_numbers(&mut numbers, &numbered, &links)?;
+    push_steps(&mut numbers, trace, steps)?;
+    Ok(numbers)
 }
 
 /// An unwritten load, and the first stores to its address.

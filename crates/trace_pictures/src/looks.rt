@@ -1,0 +1,95 @@
+//! What the nodes of a picture show beside the trace.
+ghost use Rattle.std.specs.Prelude.{◌≡◌, IfOk};
+ghost use Rattle.trace_explanation.specs.Steps.{links_of};
+ghost use Rattle.trace_pictures.specs.Edges.{cycle_in, steps_in};
+ghost use Rattle.trace_pictures.specs.Paths.{path_numbers};
+ghost use Rattle.trace_pictures.specs.Pictures.{looks_of};
+
+use crate::arrows::Arrow;
+use crate::cycles::{LinkedCycle, list_red, steps_in};
+use crate::paths::push_path_numbers;
+use std::alloc::{AllocError, Global};
+use std::marker::Model;
+use trace_explanation::NumberedSteps;
+use tso_cert::{CertStep, Certificate};
+use tso_ops::Trace;
+
+/// The steps of a certificate, the arrows, and which numbers are red and orange.
+#[derive(Debug, Drop)]
+pub(crate) struct NodeLooks<'s> {
+    steps: &'s [CertStep],
+    arrows: &'s [Arrow],
+    red: Vec<usize>,
+    orange: Vec<usize>,
+}
+
+impl<'s> Model for NodeLooks<'s> {
+    ghost use Rattle.trace_pictures.specs.Nodes.{Looks};
+
+    ghost Value = { Looks };
+
+    ghost view = { λ l. record { steps = l.steps.now; arrows = l.arrows.now; red = l.red.items; orange = l.orange.items } };
+}
+
+impl<'s> NodeLooks<'s> {
+    /// What the nodes show with these arrows, or OutOfMemory where an allocation was refused.
+    pub(crate) fn new(
+        alloc: Global,
+        trace: &Trace,
+        certificate: &'s Option<Certificate>,
+        arrows: &'s [Arrow],
+    ) -> Result<NodeLooks<'s>, AllocError>
+        ensures { IfOk result (λ looks. looks ≡ looks_of trace.now certificate.now arrows.now) }
+    {
+        let red = list_red(alloc, trace, certificate)?;
+        let orange = list_path_numbers(alloc, certificate)?;
+        Ok(NodeLooks {
+            steps: steps_in(certificate),
+            arrows,
+            red,
+            orange,
+        })
+    }
+
+    /// The steps.
+    pub(crate) fn steps(&self) -> &'s [CertStep]
+        ensures { result.now ≡ self.now.steps }
+    {
+        self.steps
+    }
+
+    /// The arrows.
+    pub(crate) fn arrows(&self) -> &'s [Arrow]
+        ensures { result.now ≡ self.now.arrows }
+    {
+        self.arrows
+    }
+
+    /// The numbers that have a red border.
+    pub(crate) fn red(&self) -> &[usize]
+        ensures { result.now ≡ self.now.red }
+    {
+        &self.red
+    }
+
+    /// The numbers that have an orange border where they have no red one.
+    pub(crate) fn orange(&self) -> &[usize]
+        ensures { result.now ≡ self.now.orange }
+    {
+        &self.orange
+    }
+}
+
+/// The numbers of the paths of the cycle's edges. OutOfMemory where an allocation was refused.
+fn list_path_numbers(
+    alloc: Global,
+    certificate: &Option<Certificate>,
+) -> Result<Vec<usize>, AllocError>
+    ensures { IfOk result (λ orange. orange.items ≡ path_numbers (steps_in certificate.now) (links_of (cycle_in certificate.now))) }
+{
+    let numbered = NumberedSteps::new(alloc, steps_in(certificate))?;
+    let cycle = LinkedCycle::new(alloc, certificate)?;
+    let mut orange = Vec::new(alloc);
+    push_path_numbers(&mut orange, &numbered, cycle.links())?;
+    Ok(orange)
+}
