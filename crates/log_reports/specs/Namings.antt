@@ -11,9 +11,10 @@ use Rattle.trace_explanation.specs.Namings.{NamingValue}
 use Rattle.trace_explanation.specs.declared.subjects.Subject.TheVariants.{Log}
 use Rattle.log_reports.specs.Lines.{operation_text}
 
--- an event: its name, its line, and its address
+-- an event: its name, its processor, its line, and its address
 pub record EventName : Type 0 where
   pub name : List ℕ
+  pub processor : ℕ
   pub line : ℕ
   pub address : ℕ
 
@@ -21,6 +22,7 @@ pub record EventName : Type 0 where
 abbrev pub event_of : Shown → ℕ → List ℕ → EventName
 event_of s a part = record {
   name = codes "P" ++ decimal s.processor ++ codes " '" ++ operation_text s.logged.operation ++ codes "'" ++ part ++ codes " (line " ++ decimal s.logged.line ++ codes ")";
+  processor = s.processor;
   line = s.logged.line;
   address = a;
 }
@@ -50,4 +52,4 @@ named_events processors shown = flat_map (events_of shown) (range_with_len 0 pro
 abbrev pub naming_of_shown : ℕ → List Shown → NamingValue
 naming_of_shown processors shown =
     let events = named_events processors shown in
-    record { subject = Log; names = map (λ e. e.name) events; lines = map (λ e. e.line) events; addresses = map (λ e. e.address) events }
+    record { subject = Log; names = map (λ e. e.name) events; processors = map (λ e. e.processor) events; lines = map (λ e. e.line) events; addresses = map (λ e. e.address) events }

@@ -11,10 +11,11 @@ use std::fmt::Write;
 use trace_explanation::EventNames;
 use tso_ops::Part;
 
-/// The names, the lines and the addresses of events.
+/// The names, the processors, the lines and the addresses of events.
 #[derive(Drop)]
 struct NamedEvents {
     names: Vec<String>,
+    processors: Vec<usize>,
     lines: Vec<usize>,
     addresses: Vec<u64>,
 }
@@ -30,13 +31,14 @@ pub(crate) fn name_events(
 {
     let mut named = NamedEvents {
         names: Vec::new(alloc),
+        processors: Vec::new(alloc),
         lines: Vec::new(alloc),
         addresses: Vec::new(alloc),
     };
     for p in 0..processors {
         named.push_processor(alloc, shown, p)?;
     }
-    Ok(EventNames::of_log(named.names, named.lines, named.addresses))
+    Ok(EventNames::of_log(named.names, named.processors, named.lines, named.addresses))
 }
 
 impl NamedEvents {
@@ -89,6 +91,7 @@ impl NamedEvents {
         push_operation(&mut name, shown.logged.operation)?;
         write!(name, "'{part} (line {line})")?;
         self.names.push(name)?;
+        self.processors.push(processor)?;
         self.lines.push(line)?;
         self.addresses.push(a)?;
         Ok(())

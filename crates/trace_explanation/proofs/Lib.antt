@@ -6,3 +6,4 @@ pub mod OrderFacts
 pub mod ReferenceFacts
 pub mod StepFacts
 pub mod TextFacts
+pub mod WalkFacts

@@ -12,6 +12,7 @@ use Rattle.tso_ops.specs.Events.{event_at}
 use Rattle.tso_cert.specs.declared.steps.CertStep.{CertStep}
 use Rattle.tso_cert.specs.declared.steps.Certificate.{Certificate}
 use Rattle.tso_cert.specs.declared.steps.Certificate.TheVariants.{Unwritten, Cycle}
+use Rattle.trace_explanation.specs.Diagnoses.{diagnosis_text}
 use Rattle.trace_explanation.specs.JoinedTexts.{joined}
 use Rattle.trace_explanation.specs.declared.subjects.Subject.{Subject}
 use Rattle.trace_explanation.specs.Names.{event_numbers, is_store_where}
@@ -60,7 +61,7 @@ places_head subject = joined (codes "\nThe events named above, by their lines in
 
 unfoldable pub cycle_text : NamingValue → TraceValue → List CertStep → List ℕ → List ℕ
 cycle_text naming t steps cycle =
-    cycle_head t.setting.order naming.subject ++ chain_text naming t steps cycle
+    diagnosis_text naming t steps cycle ++ cycle_head t.setting.order naming.subject ++ chain_text naming t steps cycle
     ++ codes "\nWhy each step holds, the last step first. A step rests only on steps of smaller numbers.\n\n" ++ flat_map (λ numbered. step_text naming t steps numbered.0 numbered.1) (reverse (enumerate_from 1 steps))
     ++ places_head naming.subject ++ flat_map (place_text naming t) (filter (is_named t steps) (event_numbers t))
 

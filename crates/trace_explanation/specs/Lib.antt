@@ -1,4 +1,7 @@
 pub mod Claims
+pub mod CycleNames
+pub mod CycleShapes
+pub mod Diagnoses
 pub mod Explained
 pub mod Explanations
 pub mod Internal
@@ -9,4 +12,5 @@ pub mod JoinedTexts
 pub mod Places
 pub mod Refusals
 pub mod Steps
+pub mod UnfoldedCycles
 pub mod Words

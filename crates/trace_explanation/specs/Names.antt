@@ -47,6 +47,10 @@ load_source t e =
 unfoldable pub source_of : TraceValue → ℕ → Option ℕ
 source_of t n = option_and_then (λ e. cond e.load (load_source t e) None) (event_at t n)
 
+-- the processor of event n
+abbrev pub processor_at : TraceValue → ℕ → ℕ
+processor_at t n = option_map_or (λ e. e.proc) (event_at t n) 0
+
 -- the address of event n
 abbrev pub address_at : TraceValue → ℕ → ℕ
 address_at t n = option_map_or (λ e. e.a) (event_at t n) 0

@@ -1,4 +1,4 @@
--- What an explanation calls the events of a trace: their names, the lines where they stand, and their addresses. They are those of the trace, or those
+-- What an explanation calls the events of a trace: their names, their processors, the lines where they stand, and their addresses. They are those of the trace, or those
 -- of the log that the trace was selected from.
 use Rattle.std.specs.Prelude.{ℕ, zero, suc, List, [], map, get_or, codes}
 use Rattle.std.specs.Option.{option_map_or}
@@ -6,12 +6,13 @@ use Rattle.tso_ops.specs.Values.{TraceValue}
 use Rattle.tso_ops.specs.Operations.{operation_at}
 use Rattle.trace_explanation.specs.declared.subjects.Subject.{Subject}
 use Rattle.trace_explanation.specs.declared.subjects.Subject.TheVariants.{Trace, Log}
-use Rattle.trace_explanation.specs.Names.{address_at, event_name, event_numbers}
+use Rattle.trace_explanation.specs.Names.{address_at, event_name, event_numbers, processor_at}
 
--- what the explanation is of, and for each event, in the order of the events' numbers, its name, its line and its address
+-- what the explanation is of, and for each event, in the order of the events' numbers, its name, its processor, its line and its address
 pub record NamingValue : Type 0 where
   pub subject : Subject
   pub names : List (List ℕ)
+  pub processors : List ℕ
   pub lines : List ℕ
   pub addresses : List ℕ
 
@@ -24,6 +25,11 @@ noun Log = codes "log"
 abbrev pub name_text : NamingValue → ℕ → List ℕ
 name_text naming zero = codes "the first values"
 name_text naming (suc k) = get_or naming.names k []
+
+-- the processor of event n, or 0 where there is none
+abbrev pub processor_named : NamingValue → ℕ → ℕ
+processor_named naming zero = 0
+processor_named naming (suc k) = get_or naming.processors k 0
 
 -- the line of event n, or 0 where there is none
 abbrev pub line_named : NamingValue → ℕ → ℕ
@@ -50,6 +56,7 @@ abbrev pub naming_of : TraceValue → NamingValue
 naming_of t = record {
   subject = Trace;
   names = map (own_name t) (event_numbers t);
+  processors = map (processor_at t) (event_numbers t);
   lines = map (line_at t) (event_numbers t);
   addresses = map (address_at t) (event_numbers t);
 }

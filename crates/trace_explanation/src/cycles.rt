@@ -5,6 +5,7 @@ ghost use Rattle.std.specs.Option.{option_copied, option_map_or};
 ghost use Rattle.trace_explanation.specs.Words.{reason_short};
 ghost use Rattle.trace_explanation.specs.Explanations.{chain_text, cycle_head, cycle_text, link_text, model_name, places_head, step_text};
 
+use crate::diagnoses::push_diagnosis;
 use crate::links::list_links;
 use crate::marks::list_named;
 use crate::names::NamedTrace;
@@ -29,6 +30,7 @@ pub(crate) fn push_cycle(
     ensures { OnOk result (string_bytes text.new ≡ string_bytes text.old ++ cycle_text named.now.names.now named.now.trace.now steps.now cycle.now) }
 {
     let numbered = NumberedSteps::new(alloc, steps)?;
+    push_diagnosis(alloc, text, named, &numbered, cycle)?;
     push_head(text, named.trace.order(), named.names.subject())?;
     push_chain(alloc, text, named, &numbered, cycle)?;
     text.push_str(

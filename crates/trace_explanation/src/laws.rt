@@ -1,5 +1,5 @@
 //! The laws of the sentences: what each says is true.
-ghost use Rattle.std.specs.Prelude.{◌≡◌, ◌≢◌, ◌-◌, ◌<◌, ◌≤◌, ℕ, List, Some, slice_get};
+ghost use Rattle.std.specs.Prelude.{◌≡◌, ◌≢◌, ◌-◌, ◌<◌, ◌≤◌, ℕ, List, Some, get_or, slice_get, true};
 ghost use Rattle.std.specs.List.{flat_map};
 ghost use Rattle.order_paths.specs.Neighbours.{AreNeighbours};
 ghost use Rattle.tso_ops.specs.Values.{TraceValue};
@@ -19,7 +19,10 @@ ghost use Rattle.trace_explanation.specs.Lines.{ended_line, text_lines};
 ghost use Rattle.trace_explanation.specs.Names.{outcome_text};
 ghost use Rattle.tso_ops.specs.Operations.{operation_at};
 ghost use Rattle.trace_explanation.specs.Claims.{BaseSays, InferredSays, LoadPastToInitSays, OwnToInitSays};
+ghost use Rattle.trace_explanation.specs.CycleShapes.{last_of};
 ghost use Rattle.trace_explanation.specs.Steps.{own_load, step_number};
+ghost use Rattle.trace_explanation.specs.UnfoldedCycles.{is_of_kind, walk_by};
+ghost use Rattle.trace_explanation.specs.declared.unfolded_cycles.EdgeKind.{EdgeKind};
 
 /// What the sentence of a base rule says of an edge that the rule gives is true of every memory order that meets the rule's
 /// axiom, whether it meets the others or not: so it is said of violations, too, which no order explains that meets all. Value
@@ -76,4 +79,11 @@ pub fn steps_rest_on_smaller_numbers()
 pub fn operations_stand_on_their_lines()
     ensures lines { (t : TraceValue) → trace_text t ≡ flat_map ended_line (text_lines t) }
     ensures operation { (t : TraceValue) (n : ℕ) (o : EventOperation) → operation_at t n ≡ Some o → (0 < o.line) × (slice_get (text_lines t) (o.line - 1) ≡ Some (outcome_text o.outcome)) }
+{}
+
+/// A diagnosis speaks of the two ends of a step: the walk that it goes by begins where the step leads, and ends where the step
+/// comes from. For what it says of them see the laws on the sentences of that step's rule.
+pub fn diagnoses_rest_on_steps()
+    ensures { (steps : List CertStep) (kind : EdgeKind) (cycle walk : List ℕ) → walk_by steps kind cycle ≡ Some walk →
+        (k : ℕ) × (s : CertStep) × (slice_get steps k ≡ Some s) × (s.from ≡ last_of walk) × (s.to ≡ get_or walk 0 0) × (is_of_kind kind s.reason ≡ true) }
 {}

@@ -17,7 +17,11 @@ pub use refusals::explain_refusal;
 pub use rendering::AsExplanation;
 pub use unwritten::list_stores;
 
+mod cycle_names;
+mod cycle_shapes;
 mod cycles;
+mod diagnoses;
+mod diagnosis_words;
 mod explanations;
 pub mod laws;
 mod links;
@@ -32,5 +36,6 @@ mod refusals;
 mod rendering;
 mod rule_sentences;
 mod subjects;
+mod unfolded_cycles;
 mod unwritten;
 mod words;

@@ -3,8 +3,8 @@ ghost use Rattle.std.specs.Prelude.{◌≡◌, ◌++◌, [], List, String, map, 
 ghost use Rattle.std.specs.Option.{option_map_or};
 ghost use Rattle.std.specs.Global.{Global};
 ghost use Rattle.tso_ops.specs.Operations.{operations_of};
-ghost use Rattle.trace_explanation.specs.Names.{address_at, event_name, event_numbers};
-ghost use Rattle.trace_explanation.specs.Namings.{address_named, line_at, line_named, name_text, naming_of, own_name};
+ghost use Rattle.trace_explanation.specs.Names.{address_at, event_name, event_numbers, processor_at};
+ghost use Rattle.trace_explanation.specs.Namings.{address_named, line_at, line_named, name_text, naming_of, own_name, processor_named};
 
 use crate::names::{address_of, outcome_text, part_text};
 use crate::subjects::Subject;
@@ -12,12 +12,13 @@ use std::alloc::{AllocError, Global};
 use std::marker::Model;
 use tso_ops::{EventOperation, Operations, Trace};
 
-/// What an explanation calls the events of a trace: for each event, in the order of their numbers, its name, the line where it
-/// stands, and its address.
+/// What an explanation calls the events of a trace: for each event, in the order of their numbers, its name, its processor, the
+/// line where it stands, and its address.
 #[derive(Debug, Drop)]
 pub struct EventNames {
     subject: Subject,
     names: Vec<String>,
+    processors: Vec<usize>,
     lines: Vec<usize>,
     addresses: Vec<u64>,
 }
@@ -28,18 +29,24 @@ impl Model for EventNames {
 
     ghost Value = { NamingValue };
 
-    ghost view = { λ n. record { subject = n.subject; names = map string_bytes n.names.items; lines = n.lines.items; addresses = n.addresses.items } };
+    ghost view = { λ n. record { subject = n.subject; names = map string_bytes n.names.items; processors = n.processors.items; lines = n.lines.items; addresses = n.addresses.items } };
 }
 
 impl EventNames {
     /// What a log calls the events of a trace that was selected from it: for each event of the trace, in the order of their
-    /// numbers, its name, its line in the log, from 1, and its address in the log.
-    pub fn of_log(names: Vec<String>, lines: Vec<usize>, addresses: Vec<u64>) -> EventNames
-        ensures { result ≡ record { subject = Subject.Log; names = map string_bytes names.items; lines = lines.items; addresses = addresses.items } }
+    /// numbers, its name, its processor in the log, from 0, its line there, from 1, and its address there.
+    pub fn of_log(
+        names: Vec<String>,
+        processors: Vec<usize>,
+        lines: Vec<usize>,
+        addresses: Vec<u64>,
+    ) -> EventNames
+        ensures { result ≡ record { subject = Subject.Log; names = map string_bytes names.items; processors = processors.items; lines = lines.items; addresses = addresses.items } }
     {
         EventNames {
             subject: Subject::Log,
             names,
+            processors,
             lines,
             addresses,
         }
@@ -53,6 +60,7 @@ impl EventNames {
         Ok(EventNames {
             subject: Subject::Trace,
             names: list_names(alloc, trace, &operations)?,
+            processors: list_processors(alloc, trace)?,
             lines: list_lines(alloc, trace, &operations)?,
             addresses: list_addresses(alloc, trace)?,
         })
@@ -83,6 +91,19 @@ impl EventNames {
         match self.names.get(n) {
             Some(name) => name,
             None => "",
+        }
+    }
+
+    /// The processor of event `n`: 0 where it has none.
+    pub(crate) fn processor(&self, n: usize) -> usize
+        ensures { result ≡ processor_named self.now n }
+    {
+        if n == 0 {
+            return 0;
+        }
+        match self.processors.get(n - 1) {
+            Some(processor) => *processor,
+            None => 0,
         }
     }
 
@@ -149,6 +170,27 @@ fn line_of(operation: Option<EventOperation>) -> usize
 {
     match operation {
         Some(operation) => operation.line,
+        None => 0,
+    }
+}
+
+/// The processors of a trace's events.
+fn list_processors(alloc: Global, trace: &Trace) -> Result<Vec<usize>, AllocError>
+    ensures { IfOk result (λ processors. processors.items ≡ map (processor_at trace.now) (event_numbers trace.now)) }
+{
+    let mut processors = Vec::new(alloc);
+    for n in 0..trace.events() {
+        processors.push(processor_of(trace, n + 1))?;
+    }
+    Ok(processors)
+}
+
+/// The processor of event `n`: 0 where there is no such event.
+fn processor_of(trace: &Trace, n: usize) -> usize
+    ensures { result ≡ processor_at trace.now n }
+{
+    match trace.event(n) {
+        Some(event) => event.proc,
         None => 0,
     }
 }

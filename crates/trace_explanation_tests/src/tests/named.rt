@@ -19,6 +19,9 @@ const NAMES: [&str; 4] = [
     "P17 'ld 94231678252672 0' (line 543511)",
 ];
 
+/// Their processors in the log.
+const PROCESSORS: [usize; 4] = [3, 3, 17, 17];
+
 /// Their lines in the log.
 const LINES: [usize; 4] = [543_507, 543_508, 543_510, 543_511];
 
@@ -41,7 +44,7 @@ const STEPS: [Listed; 5] = [
 
 /// The explanation of the cycle, as the definition gives it with these names.
 const OF_THE_CYCLE: &str =
-    "\nTSO asks for one order of all loads and stores, the memory order.\nA load sees the stores to its address that come before it in that order or earlier on its own processor.\nIt reads the last of these in that order, or the first value of its address where there is none.\nNo memory order explains this log: it would have to put each of these before the next, and the last is the first again.\n\n  the first values\n    before P3 'st 94231678252672 5' (line 543507): they come before every event (step 1)\n    before the first values: P17 'ld 94231678252672 0' (line 543511) sees the former, yet it read the latter (step 5)\n\nWhy each step holds, the last step first. A step rests only on steps of smaller numbers.\n\n5. P3 'st 94231678252672 5' (line 543507) before the first values: a load sees the store, yet read something else.\n   P17 'ld 94231678252672 0' (line 543511) sees the store, which comes before it by steps 2, 3, 4, and it read the first value of address 94231678252672.\n   A load reads the last of the stores that it sees, so what it read comes after this store.\n4. P17 'ld 94231678252680 7' (line 543510) before P17 'ld 94231678252672 0' (line 543511): program order; a load comes before all that follows it on its processor.\n3. P3 'st 94231678252680 7' (line 543508) before P17 'ld 94231678252680 7' (line 543510): the load read this store.\n   It sees the store, which is not earlier on its own processor, so the store comes before it.\n2. P3 'st 94231678252672 5' (line 543507) before P3 'st 94231678252680 7' (line 543508): program order; a processor keeps its stores in order.\n1. the first values before P3 'st 94231678252672 5' (line 543507): they come before every event.\n\nThe events named above, by their lines in the log:\n\n  line 543507: P3 'st 94231678252672 5' (line 543507)\n  line 543508: P3 'st 94231678252680 7' (line 543508)\n  line 543510: P17 'ld 94231678252680 7' (line 543510) read P3 'st 94231678252680 7' (line 543508)\n  line 543511: P17 'ld 94231678252672 0' (line 543511) read the first value of address 94231678252672\n";
+    "\nP17 read address 94231678252672 from before P3's store (line 543507), though it had seen the later store (line 543508): message passing.\n\nTSO asks for one order of all loads and stores, the memory order.\nA load sees the stores to its address that come before it in that order or earlier on its own processor.\nIt reads the last of these in that order, or the first value of its address where there is none.\nNo memory order explains this log: it would have to put each of these before the next, and the last is the first again.\n\n  the first values\n    before P3 'st 94231678252672 5' (line 543507): they come before every event (step 1)\n    before the first values: P17 'ld 94231678252672 0' (line 543511) sees the former, yet it read the latter (step 5)\n\nWhy each step holds, the last step first. A step rests only on steps of smaller numbers.\n\n5. P3 'st 94231678252672 5' (line 543507) before the first values: a load sees the store, yet read something else.\n   P17 'ld 94231678252672 0' (line 543511) sees the store, which comes before it by steps 2, 3, 4, and it read the first value of address 94231678252672.\n   A load reads the last of the stores that it sees, so what it read comes after this store.\n4. P17 'ld 94231678252680 7' (line 543510) before P17 'ld 94231678252672 0' (line 543511): program order; a load comes before all that follows it on its processor.\n3. P3 'st 94231678252680 7' (line 543508) before P17 'ld 94231678252680 7' (line 543510): the load read this store.\n   It sees the store, which is not earlier on its own processor, so the store comes before it.\n2. P3 'st 94231678252672 5' (line 543507) before P3 'st 94231678252680 7' (line 543508): program order; a processor keeps its stores in order.\n1. the first values before P3 'st 94231678252672 5' (line 543507): they come before every event.\n\nThe events named above, by their lines in the log:\n\n  line 543507: P3 'st 94231678252672 5' (line 543507)\n  line 543508: P3 'st 94231678252680 7' (line 543508)\n  line 543510: P17 'ld 94231678252680 7' (line 543510) read P3 'st 94231678252680 7' (line 543508)\n  line 543511: P17 'ld 94231678252672 0' (line 543511) read the first value of address 94231678252672\n";
 
 /// The names, the lines and the addresses that the log gives.
 fn names_of_log(alloc: Global) -> Result<EventNames, AllocError> {
@@ -49,7 +52,9 @@ fn names_of_log(alloc: Global) -> Result<EventNames, AllocError> {
     for name in NAMES {
         names.push(String::from_str(alloc, name)?)?;
     }
-    Ok(EventNames::of_log(names, LINES.to_vec(alloc)?, ADDRESSES.to_vec(alloc)?))
+    let processors = PROCESSORS.to_vec(alloc)?;
+    let lines = LINES.to_vec(alloc)?;
+    Ok(EventNames::of_log(names, processors, lines, ADDRESSES.to_vec(alloc)?))
 }
 
 /// The certificate of the cycle.

@@ -7,7 +7,8 @@ pub returns : goal.returns
 unfolding cycle_text
 returns c =
     let old = string_bytes c.args.text.now in
-    let head = rw (c.order.ensures, c.subject.ensures) at c.in_ok-push_head.ensures in
+    let said = rw c.in_ok-numbered.ensures at c.in_ok-push_diagnosis.ensures in
+    let head = grown old _ _ _ _ said (rw (c.order.ensures, c.subject.ensures) at c.in_ok-push_head.ensures) in
     let chain = grown old _ _ _ _ head (rw c.in_ok-numbered.ensures at c.in_ok-push_chain.ensures) in
     let why = grown old _ _ _ _ chain c.in_ok-push_str.ensures.bytes in
     let steps = grown old _ _ _ _ why (rw c.in_ok-numbered.ensures at c.in_ok-push_steps.ensures) in

@@ -1,0 +1,106 @@
+-- The line that begins the explanation of a cycle: a load of it that read something too old, or a store that comes later, and what the cycle is called.
+use Rattle.std.specs.Prelude.{ℕ, ◌==◌, ◌&&◌, ◌||◌, Bool, not, nat_lt, List, [], ◌∷◌, ◌++◌, length, reverse, get_or, cond, codes}
+use Rattle.std.specs.Option.{option_map_or, option_to_list}
+use Rattle.std.specs.List.{find}
+use Rattle.std.specs.Fmt.{decimal}
+use Rattle.tso_ops.specs.Values.{TraceValue}
+use Rattle.tso_cert.specs.declared.steps.CertStep.{CertStep}
+use Rattle.tso_cert.specs.declared.steps.Reason.{Reason}
+use Rattle.tso_cert.specs.declared.steps.Reason.TheVariants.{Base, Inferred}
+use Rattle.trace_explanation.specs.JoinedTexts.{joined}
+use Rattle.trace_explanation.specs.declared.subjects.Subject.{Subject}
+use Rattle.trace_explanation.specs.declared.subjects.Subject.TheVariants.{Trace, Log}
+use Rattle.trace_explanation.specs.declared.unfolded_cycles.EdgeKind.TheVariants.{FromRead, Missed, ReadFrom}
+use Rattle.trace_explanation.specs.Names.{source_of}
+use Rattle.trace_explanation.specs.Namings.{address_named, line_named, processor_named, NamingValue}
+use Rattle.trace_explanation.specs.Steps.{is_edge, is_number, links_of, own_load}
+use Rattle.trace_explanation.specs.CycleShapes.{cycle_shape, is_load_at, is_one_operation, last_of, on_one_processor, shape_text}
+use Rattle.trace_explanation.specs.UnfoldedCycles.{unfolded_cycle, walk_by}
+
+-- ---- events in short
+
+-- an event, by its number or by its line in the log
+abbrev pub place_by : Subject → NamingValue → ℕ → List ℕ
+place_by Trace naming n = decimal n
+place_by Log naming n = codes "line " ++ decimal (line_named naming n)
+
+-- the same in parentheses
+unfoldable pub place_words : NamingValue → ℕ → List ℕ
+place_words naming n = joined (codes "(" ∷ place_by naming.subject naming n ∷ codes ")" ∷ [])
+
+-- the store s, said of the processor of load l
+unfoldable pub store_words : NamingValue → TraceValue → ℕ → ℕ → List ℕ
+store_words naming t l s =
+    cond (on_one_processor t s l) (joined (codes "its own store " ∷ place_words naming s ∷ []))
+    (joined (codes "P" ∷ decimal (processor_named naming s) ∷ codes "'s store " ∷ place_words naming s ∷ []))
+
+-- that load l read its address
+unfoldable pub load_words : NamingValue → ℕ → List ℕ
+load_words naming l = joined (codes "P" ∷ decimal (processor_named naming l) ∷ codes " read address " ∷ decimal (address_named naming l) ∷ [])
+
+-- ---- what the processor of a load had seen or stored
+
+-- the edge leads to the processor of load l from elsewhere
+abbrev pub arrives : TraceValue → ℕ → ℕ × ℕ → Bool
+arrives t l edge = on_one_processor t edge.1 l && not (on_one_processor t edge.0 l)
+
+-- an earlier load of the same processor read store x, which is store w or comes later
+abbrev pub seen_words : NamingValue → ℕ → ℕ → List ℕ
+seen_words naming w x = cond (x == w) (codes ", though it had seen that store") (codes ", though it had seen the later store " ++ place_words naming x)
+
+-- store y, which comes later than store w, is of the same processor and program-earlier than load l, or is of its swap
+unfoldable pub stored_words : NamingValue → TraceValue → ℕ → ℕ → List ℕ
+stored_words naming t l y =
+    cond (nat_lt y l) (codes ", though it had made the later store " ++ place_words naming y)
+    (cond (is_one_operation t l y) (joined (codes ", though the store " ∷ place_words naming y ∷ codes " of its swap comes after that" ∷ [])) [])
+
+-- the same by the edge that leads to the processor
+unfoldable pub arrival_words : NamingValue → TraceValue → ℕ → ℕ → ℕ × ℕ → List ℕ
+arrival_words naming t w l edge =
+    cond (is_load_at t edge.1) (cond (nat_lt edge.1 l && nat_lt 0 edge.0 && is_number edge.0 (source_of t edge.1)) (seen_words naming w edge.0) []) (stored_words naming t l edge.1)
+
+-- the same by the last edge of the walk that leads to the processor of load l
+abbrev pub before_words : NamingValue → TraceValue → List ℕ → ℕ → ℕ → List ℕ
+before_words naming t walk w l = option_map_or (arrival_words naming t w l) (find (arrives t l) (reverse (links_of walk))) []
+
+-- ---- the line
+
+-- a walk from a store to a load that read something older than that store; the cycle has this shape
+unfoldable pub stale_line : NamingValue → TraceValue → List ℕ → List ℕ → List ℕ
+stale_line naming t shape walk = joined (
+    codes "\n" ∷ load_words naming (last_of walk) ∷ codes " from before " ∷ store_words naming t (last_of walk) (get_or walk 0 0) ∷ before_words naming t walk (get_or walk 0 0) (last_of walk)
+    ∷ codes ": " ∷ shape_text shape ∷ codes ".\n" ∷ [])
+
+-- the path from store u to a load that sees it and read what number v wrote
+abbrev pub missed_path : TraceValue → ℕ → ℕ → Reason → List ℕ
+missed_path t u v (Base rule) = u ∷ option_to_list (own_load t u v)
+missed_path t u v (Inferred rule load path) = path
+
+-- The walk leads from the first values, or to the store by one edge or through its swap's load: then the path alone has the cycle's shape.
+abbrev pub is_direct : TraceValue → List ℕ → Bool
+is_direct t walk = (get_or walk 0 0 == 0) || (length walk == 2) || ((length walk == 3) && is_one_operation t (get_or walk 1 0) (last_of walk))
+
+-- a walk to a store from what a load read, which sees that store by this path
+abbrev pub missed_by : NamingValue → TraceValue → List ℕ → List ℕ → List ℕ
+missed_by naming t walk path = stale_line naming t (cycle_shape t (cond (is_direct t walk) path walk)) path
+
+-- the same by the steps
+unfoldable pub missed_line : NamingValue → TraceValue → List CertStep → List ℕ → List ℕ
+missed_line naming t steps walk =
+    option_map_or (λ s. missed_by naming t walk (missed_path t s.from s.to s.reason)) (find (is_edge (last_of walk, get_or walk 0 0)) steps) []
+
+-- a walk from a load to a store that it read
+unfoldable pub future_line : NamingValue → TraceValue → List ℕ → List ℕ
+future_line naming t walk = joined (
+    codes "\n" ∷ load_words naming (get_or walk 0 0) ∷ codes " from " ∷ store_words naming t (get_or walk 0 0) (last_of walk) ∷ codes ", though that store comes after the load "
+    ∷ place_words naming (get_or walk 0 0) ∷ codes ": " ∷ shape_text (cycle_shape t walk) ∷ codes ".\n" ∷ [])
+
+-- of the first load that read something older than a store of the cycle, or missed one, or read from a later store
+unfoldable pub diagnosis_by : NamingValue → TraceValue → List CertStep → List ℕ → List ℕ
+diagnosis_by naming t steps cycle =
+    option_map_or (λ walk. stale_line naming t (cycle_shape t walk) walk) (walk_by steps FromRead cycle)
+    (option_map_or (missed_line naming t steps) (walk_by steps Missed cycle) (option_map_or (future_line naming t) (walk_by steps ReadFrom cycle) []))
+
+-- the line of a cycle
+abbrev pub diagnosis_text : NamingValue → TraceValue → List CertStep → List ℕ → List ℕ
+diagnosis_text naming t steps cycle = diagnosis_by naming t steps (unfolded_cycle steps cycle)
