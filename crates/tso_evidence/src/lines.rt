@@ -1,0 +1,159 @@
+ghost use Rattle.std.specs.Prelude.{◌≡◌, ◌≢◌, ◌+◌, ◌<◌, ◌^◌, [], ◌∷◌, Result, IfOk, IfErr};
+ghost use Rattle.line_text.specs.Lines.{tokens_of, tokens_after};
+ghost use Rattle.tso_cert.specs.Internal.LineValues.{reason_said, unwritten_said};
+ghost use Rattle.tso_cert.specs.declared.faults.Why.{Why};
+ghost use Rattle.tso_evidence.specs.Printed.{number_after};
+ghost use Rattle.tso_evidence.specs.Internal.LineValues.{evidence_line_said, order_said, numbered_said, named_said};
+
+use crate::refutations::RefutationLine;
+use crate::tokens::{base_rule, event, events, inferred_rule, is_decimal, token_of};
+use line_text::next_token;
+use std::alloc::Global;
+use tso_cert::{CertStep, NumList, Reason, Why};
+
+/// What a line of evidence says.
+#[derive(Drop)]
+pub(crate) enum Line {
+    Refuting(RefutationLine),
+    Unwritten(u64),
+    Order(NumList),
+}
+
+/// The number of the next line, where this line has `number`, or is a cycle, which has none and leaves it to the next.
+pub(crate) fn number_after(number: usize, line: &RefutationLine) -> usize
+    requires { number + 1 < 2 ^ 64 }
+    ensures { result ≡ number_after number line.now }
+{
+    match line {
+        RefutationLine::Cycle(_) => number,
+        _ => number + 1,
+    }
+}
+
+/// What this line of the text says, or its fault; `number` is that of its step, case or other side, where it is one.
+#[tactic(auto, unfolding(crate::specs::Internal::LineValues::evidence_line_said))]
+pub(crate) fn read_line(
+    alloc: Global,
+    line: usize,
+    number: usize,
+    bytes: &[u8],
+) -> Result<Line, Why>
+    ensures found { IfOk result (λ l. evidence_line_said line number (tokens_of bytes.now) ≡ Result.Ok l) }
+    ensures refused { IfErr result (λ why. why ≢ Why.OutOfMemory → evidence_line_said line number (tokens_of bytes.now) ≡ Result.Err why) }
+{
+    let (word, tokens) = next_token(bytes);
+    if word == b"cycle".as_slice() {
+        let cycle = events(alloc, tokens)?;
+        Ok(Line::Refuting(RefutationLine::Cycle(NumList::new(cycle))))
+    } else if word == b"unwritten".as_slice() {
+        let n = read_unwritten(line, tokens)?;
+        Ok(Line::Unwritten(n))
+    } else if word == b"order".as_slice() {
+        let numbers = read_order(alloc, line, tokens)?;
+        Ok(Line::Order(numbers))
+    } else {
+        let refuting = read_numbered(alloc, number, word, tokens)?;
+        Ok(Line::Refuting(refuting))
+    }
+}
+
+/// The load of a line `unwritten`, of the tokens after the keyword.
+#[tactic(auto, unfolding(tso_cert::specs::Internal::LineValues::unwritten_said))]
+fn read_unwritten(line: usize, tokens: Option<&[u8]>) -> Result<u64, Why>
+    ensures { result ≡ unwritten_said line (tokens_after tokens.entry) }
+{
+    let (token, rest) = token_of(tokens)?;
+    match rest {
+        None if line == 1 => event(token),
+        None => Err(Why::BadLine),
+        Some(_) => Err(Why::BadLine),
+    }
+}
+
+/// The events of a line `order`, of the tokens after the keyword.
+#[tactic(auto, unfolding(crate::specs::Internal::LineValues::order_said))]
+fn read_order(alloc: Global, line: usize, tokens: Option<&[u8]>) -> Result<NumList, Why>
+    ensures found { IfOk result (λ numbers. order_said line (tokens_after tokens.entry) ≡ Result.Ok numbers) }
+    ensures refused { IfErr result (λ why. why ≢ Why.OutOfMemory → order_said line (tokens_after tokens.entry) ≡ Result.Err why) }
+{
+    if line != 1 {
+        return Err(Why::BadLine);
+    }
+    let numbers = events(alloc, tokens)?;
+    Ok(NumList::new(numbers))
+}
+
+/// The step, case or other side of this number, of the first token of its line and the tokens after it.
+#[tactic(auto, unfolding(crate::specs::Internal::LineValues::numbered_said))]
+fn read_numbered(
+    alloc: Global,
+    number: usize,
+    first: &[u8],
+    tokens: Option<&[u8]>,
+) -> Result<RefutationLine, Why>
+    ensures found { IfOk result (λ l. numbered_said number (first.now ∷ tokens_after tokens.entry) ≡ Result.Ok l) }
+    ensures refused { IfErr result (λ why. why ≢ Why.OutOfMemory → numbered_said number (first.now ∷ tokens_after tokens.entry) ≡ Result.Err why) }
+{
+    let (from, rest) = token_of(tokens)?;
+    let (to, rest) = token_of(rest)?;
+    let (name, rest) = token_of(rest)?;
+    if !is_decimal(first, number) {
+        return Err(Why::BadNumber);
+    }
+    let from = event(from)?;
+    let to = event(to)?;
+    read_named(alloc, from, to, name, rest)
+}
+
+/// The line from one event to another of this name and the tokens after it: a case, its other side, or a step by a rule.
+#[tactic(auto, unfolding(crate::specs::Internal::LineValues::named_said))]
+fn read_named(
+    alloc: Global,
+    from: u64,
+    to: u64,
+    name: &[u8],
+    tokens: Option<&[u8]>,
+) -> Result<RefutationLine, Why>
+    ensures found { IfOk result (λ l. named_said from to name.now (tokens_after tokens.entry) ≡ Result.Ok l) }
+    ensures refused { IfErr result (λ why. why ≢ Why.OutOfMemory → named_said from to name.now (tokens_after tokens.entry) ≡ Result.Err why) }
+{
+    let Some(line) = tokens else {
+        return read_alone(from, to, name);
+    };
+    let (load, path) = next_token(line);
+    let reason = read_inferred(alloc, name, load, path)?;
+    Ok(RefutationLine::Step(CertStep { from, to, reason }))
+}
+
+/// The line from one event to another of this name, with no token after it.
+#[tactic(auto, unfolding(crate::specs::Internal::LineValues::named_said, tso_cert::specs::Internal::LineValues::reason_said))]
+fn read_alone(from: u64, to: u64, name: &[u8]) -> Result<RefutationLine, Why>
+    ensures { result ≡ named_said from to name.now [] }
+{
+    let (first, second) = (from, to);
+    if name == b"Case".as_slice() {
+        Ok(RefutationLine::Case { first, second })
+    } else if name == b"Else".as_slice() {
+        Ok(RefutationLine::Else { first, second })
+    } else {
+        let reason = Reason::Base(base_rule(name)?);
+        Ok(RefutationLine::Step(CertStep { from, to, reason }))
+    }
+}
+
+/// The reason of the name of an inferred rule, the token of its load, and those of its path.
+#[tactic(auto, unfolding(tso_cert::specs::Internal::LineValues::reason_said))]
+fn read_inferred(
+    alloc: Global,
+    name: &[u8],
+    load: &[u8],
+    path: Option<&[u8]>,
+) -> Result<Reason, Why>
+    ensures found { IfOk result (λ reason. reason_said name.now (load.now ∷ tokens_after path.entry) ≡ Result.Ok reason) }
+    ensures refused { IfErr result (λ why. why ≢ Why.OutOfMemory → reason_said name.now (load.now ∷ tokens_after path.entry) ≡ Result.Err why) }
+{
+    let load = event(load)?;
+    let path = NumList::new(events(alloc, path)?);
+    let rule = inferred_rule(name)?;
+    Ok(Reason::Inferred { rule, load, path })
+}

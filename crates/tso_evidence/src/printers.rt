@@ -1,0 +1,128 @@
+ghost use Rattle.std.specs.Prelude.{◌≡◌, ◌++◌, ◌∷◌, All, string_bytes, OnOk};
+ghost use Rattle.std.specs.List.{flat_map, join_with_byte};
+ghost use Rattle.std.specs.Fmt.{decimal};
+ghost use Rattle.line_text.specs.Lines.{line_text};
+ghost use Rattle.tso_cert.specs.Printed.{base_name, inferred_name, event_text, reason_tokens, Fits, ReasonFits};
+ghost use Rattle.tso_evidence.specs.Printed.{line_tokens, lines_tokens, evidence_text, LineFits, EvidenceFits};
+ghost use Rattle.tso_evidence.specs.Spelling.{SpellsEvidence};
+
+use crate::evidence::Evidence;
+use crate::lines::number_after;
+use crate::refutations::RefutationLine;
+use std::fmt::Write;
+use tso_cert::{OutOfMemory, Reason};
+
+/// Appends the text of the evidence. It spells the evidence, so `read_evidence` reads it back. OutOfMemory where an allocation
+/// was refused: what the text holds then isn't said.
+pub fn print_evidence(text: &mut String, evidence: &Evidence) -> Result<(), OutOfMemory>
+    ensures lines { OnOk result (string_bytes text.new ≡ string_bytes text.old ++ evidence_text evidence.now) }
+    ensures spells { OnOk result (SpellsEvidence (evidence_text evidence.now) evidence.now) }
+{
+    match evidence {
+        Evidence::Unwritten(n) => {
+            text.push_str("unwritten")?;
+            print_event(text, *n)?;
+            text.push_str("\n")
+        }
+        Evidence::Order(numbers) => {
+            text.push_str("order")?;
+            print_events(text, numbers.items())?;
+            text.push_str("\n")
+        }
+        Evidence::Refutation(lines) => print_lines(text, lines.items()),
+    }
+}
+
+/// Appends the lines of a refutation.
+fn print_lines(text: &mut String, lines: &[RefutationLine]) -> Result<(), OutOfMemory>
+    ensures lines { OnOk result (string_bytes text.new ≡ string_bytes text.old ++ flat_map line_text (lines_tokens 1 lines.now)) }
+    ensures fits { OnOk result (All LineFits lines.now) }
+{
+    let mut number: usize = 1;
+    for line in lines {
+        print_line(text, number, line)?;
+        number = number_after(number, line);
+    }
+    Ok(())
+}
+
+/// Appends a line of a refutation, whose number is this one where it has any.
+fn print_line(text: &mut String, number: usize, line: &RefutationLine) -> Result<(), OutOfMemory>
+    ensures line { OnOk result (string_bytes text.new ≡ string_bytes text.old ++ line_text (line_tokens number line.now)) }
+    ensures fits { OnOk result (LineFits line.now) }
+{
+    print_tokens(text, number, line)?;
+    text.push_str("\n")
+}
+
+/// Appends the tokens of a line of a refutation, with spaces between them.
+fn print_tokens(text: &mut String, number: usize, line: &RefutationLine) -> Result<(), OutOfMemory>
+    ensures tokens { OnOk result (string_bytes text.new ≡ string_bytes text.old ++ join_with_byte 32 (line_tokens number line.now)) }
+    ensures fits { OnOk result (LineFits line.now) }
+{
+    match line {
+        RefutationLine::Step(step) => {
+            print_pair(text, number, step.from, step.to)?;
+            print_reason(text, &step.reason)
+        }
+        RefutationLine::Case { first, second } => {
+            print_pair(text, number, *first, *second)?;
+            text.push_str(" Case")
+        }
+        RefutationLine::Else { first, second } => {
+            print_pair(text, number, *first, *second)?;
+            text.push_str(" Else")
+        }
+        RefutationLine::Cycle(cycle) => {
+            text.push_str("cycle")?;
+            print_events(text, cycle.items())
+        }
+    }
+}
+
+/// Appends the number of a line and two event numbers.
+fn print_pair(text: &mut String, number: usize, from: u64, to: u64) -> Result<(), OutOfMemory>
+    ensures tokens { OnOk result (string_bytes text.new ≡ ((string_bytes text.old ++ decimal number) ++ 32 ∷ event_text from) ++ 32 ∷ event_text to) }
+    ensures fits { Fits from × Fits to }
+{
+    write!(text, "{number}")?;
+    print_event(text, from)?;
+    print_event(text, to)
+}
+
+/// Appends the tokens of a reason, each after a space.
+fn print_reason(text: &mut String, reason: &Reason) -> Result<(), OutOfMemory>
+    ensures tokens { OnOk result (string_bytes text.new ≡ string_bytes text.old ++ flat_map (λ token. 32 ∷ token) (reason_tokens reason.now)) }
+    ensures fits { OnOk result (ReasonFits reason.now) }
+{
+    match reason {
+        Reason::Base(rule) => write!(text, " {}", rule.name()),
+        Reason::Inferred { rule, load, path } => {
+            write!(text, " {}", rule.name())?;
+            print_event(text, *load)?;
+            print_events(text, path.items())
+        }
+    }
+}
+
+/// Appends a space and the event number, for each of them.
+fn print_events(text: &mut String, numbers: &[u64]) -> Result<(), OutOfMemory>
+    ensures tokens { OnOk result (string_bytes text.new ≡ string_bytes text.old ++ flat_map (λ n. 32 ∷ event_text n) numbers.now) }
+    ensures fits { OnOk result (All Fits numbers.now) }
+{
+    for number in numbers {
+        print_event(text, *number)?;
+    }
+    Ok(())
+}
+
+/// Appends a space and the event number.
+fn print_event(text: &mut String, number: u64) -> Result<(), OutOfMemory>
+    ensures token { OnOk result (string_bytes text.new ≡ string_bytes text.old ++ 32 ∷ event_text number) }
+    ensures fits { Fits number }
+{
+    match number {
+        0 => text.push_str(" init"),
+        _ => write!(text, " {number}"),
+    }
+}

@@ -1,0 +1,5 @@
+//! Tests of `tso_evidence`, by its public calls.
+#![tactic(auto)]
+
+#[cfg(test)]
+mod tests;
