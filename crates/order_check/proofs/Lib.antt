@@ -1,0 +1,10 @@
+pub mod AxiomFacts
+pub mod LeftFacts
+pub mod ListFacts
+pub mod MetFacts
+pub mod PlaceFacts
+pub mod ProgressFacts
+pub mod RefusalExists
+pub mod RefusalFacts
+pub mod SwapOrder
+pub mod ValueFacts
