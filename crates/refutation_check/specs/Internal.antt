@@ -1,0 +1,5 @@
+-- What private tables keep and how far loops have come. No public contract uses these definitions.
+pub mod Pairs
+pub mod Sides
+pub mod Structure
+pub mod Walks
