@@ -1,0 +1,3 @@
+pub mod ClosedOrderFacts
+pub mod ModelOrderFacts
+pub mod SwapProcessors
