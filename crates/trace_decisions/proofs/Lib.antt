@@ -1,0 +1,2 @@
+pub mod DecisionFacts
+pub mod EvidenceFacts

@@ -1,0 +1,5 @@
+use Rattle.tso_model.proofs.CertificateHolds.{certificate_holds}
+use Rattle.trace_decisions.proofs.decisions.found.Goals as goal
+
+pub as_evidence-requires : goal.as_evidence-requires
+as_evidence-requires g c = certificate_holds c.args.trace.now c.in-Some-2.certificate (rw c.in-Some-2.is at c.in_ok-certificate.ensures)

@@ -1,0 +1,32 @@
+-- What evidence says of a trace, and what is decided of one.
+use Rattle.std.specs.Prelude.{◌≡◌, ℕ}
+use Rattle.tso_ops.specs.Values.{TraceValue}
+use Rattle.tso_ops.specs.Events.{IsUnwritten}
+use Rattle.tso_model.specs.Axioms.{IsModelOrder, IsConsistent}
+use Rattle.tso_evidence.specs.declared.evidence.Evidence.{Evidence}
+use Rattle.tso_evidence.specs.declared.evidence.Evidence.TheVariants.{Unwritten, Order, Refutation}
+use Rattle.refutation_check.specs.Refutations.{RefutationHolds}
+use Rattle.trace_decisions.specs.declared.decisions.Decision.{Decision}
+use Rattle.trace_decisions.specs.declared.decisions.Decision.TheVariants.{Decided, Undecided}
+
+-- The evidence holds for the trace: an order meets the axioms, a refutation holds, a load is unwritten.
+abbrev pub HoldsFor : TraceValue → Evidence → Type 0
+HoldsFor t (Unwritten n) = IsUnwritten t n
+HoldsFor t (Order order) = IsModelOrder t order
+HoldsFor t (Refutation lines) = RefutationHolds t lines
+
+-- the evidence says that the trace is consistent, or else that it isn't
+abbrev pub Says : TraceValue → Evidence → Type 0
+Says t (Unwritten n) = IsConsistent t → ⊥
+Says t (Order order) = IsConsistent t
+Says t (Refutation lines) = IsConsistent t → ⊥
+
+-- The decision on the trace: evidence that holds, or none after as many cases as were to be looked at.
+abbrev pub IsDecision : TraceValue → ℕ → Decision → Type 0
+IsDecision t effort (Decided e) = HoldsFor t e
+IsDecision t effort (Undecided cases) = cases ≡ effort
+
+-- what a decision says of the trace
+abbrev pub Tells : TraceValue → Decision → Type 0
+Tells t (Decided e) = Says t e
+Tells t (Undecided cases) = Unit {0}

@@ -1,0 +1,202 @@
+//! The decision on a trace.
+ghost use Rattle.std.specs.Prelude.{◌≡◌, ◌⊎◌, ◌≤◌, ℕ, IfOk, IfErr, MatchOption};
+ghost use Rattle.round_pool.specs.Workers.{worker_limit};
+ghost use Rattle.tso_ops.specs.Events.{IsUnwritten};
+ghost use Rattle.tso_ops.specs.Limits.{IsTrace};
+ghost use Rattle.tso_model.specs.Certs.{Holds};
+ghost use Rattle.refutation_check.specs.Refutations.{RefutationHolds, certificate_lines};
+ghost use Rattle.trace_judging.specs.declared.faults.Fault.{Fault};
+ghost use Rattle.trace_decisions.specs.Decisions.{HoldsFor, IsDecision, Tells};
+
+use crate::search::{Next, Search};
+use order_check::check_order;
+use refutation_check::check_refutation;
+use round_pool::{OpenPoolGate, Ranked, rounds};
+use std::alloc::Global;
+use std::sync::Wait;
+use std::thread::Threads;
+use trace_judging::{Fault, build_cert};
+use tso_cert::{CertStep, Certificate, NumList, Reason};
+use tso_evidence::{Evidence, LineList, RefutationLine};
+use tso_ops::{OutOfMemory, Trace};
+
+/// What was decided of a trace.
+#[derive(Debug, Drop)]
+pub enum Decision {
+    /// This evidence holds: an order, which makes the trace consistent, or what shows that it has none.
+    Decided(Evidence),
+    /// After so many cases neither was found.
+    Undecided(u64),
+}
+
+/// Decides whether a trace has an order that meets the axioms of its memory model, on `workers` workers (1 to 64), with at most
+/// `effort` cases.
+///
+/// A load whose value nothing wrote, and a cycle of the edges that the rules force, are found as a violation is. Else an order is
+/// searched for, and where two stores of one address could come in either order, both are supposed in turn. What is answered was
+/// accepted by the checker of orders or by that of refutations.
+///
+/// Faults: OutOfMemory where an allocation was refused, NoThread where the system refused a thread.
+pub fn decide<H: Threads + Wait>(
+    rt: &H,
+    alloc: Global,
+    trace: &Trace,
+    workers: usize,
+    effort: u64,
+) -> Result<Decision, Fault>
+    requires some { 1 ≤ workers }
+    requires most { workers ≤ worker_limit }
+    ensures decided { IfOk result (IsDecision trace.now effort) }
+    ensures tells { IfOk result (Tells trace.now) }
+    ensures fault { IfErr result (λ fault. (fault ≡ Fault.OutOfMemory) ⊎ (fault ≡ Fault.NoThread)) }
+{
+    found(rt, alloc, trace, workers, effort)
+}
+
+/// What is found of the trace.
+fn found<H: Threads + Wait>(
+    rt: &H,
+    alloc: Global,
+    trace: &Trace,
+    workers: usize,
+    effort: u64,
+) -> Result<Decision, Fault>
+    requires some { 1 ≤ workers }
+    requires most { workers ≤ worker_limit }
+    ensures decided { IfOk result (IsDecision trace.now effort) }
+    ensures kept { IsTrace trace.now }
+    ensures fault { IfErr result (λ fault. (fault ≡ Fault.OutOfMemory) ⊎ (fault ≡ Fault.NoThread)) }
+{
+    // The call is for the proof: its clause `kept` says that the trace is within the limits of traces.
+    let _events = trace.events();
+    if let Some(load) = least_unwritten(trace) {
+        return Ok(Decision::Decided(Evidence::Unwritten(load as u64)));
+    }
+    let ranked = rounds(rt, alloc, trace, workers, &OpenPoolGate)?;
+    match build_cert(alloc, trace, &ranked)? {
+        Some(certificate) => Ok(Decision::Decided(as_evidence(alloc, trace, &certificate)?)),
+        None => Ok(by_search(alloc, trace, &ranked, effort)?),
+    }
+}
+
+/// The least load whose value nothing wrote.
+fn least_unwritten(trace: &Trace) -> Option<usize>
+    ensures { MatchOption result ((l : ℕ) → IsUnwritten trace.now l → ⊥) (IsUnwritten trace.now) }
+{
+    for n in 0..trace.events() {
+        if trace.is_unwritten(n + 1) {
+            return Some(n + 1);
+        }
+    }
+    None
+}
+
+/// A certificate as evidence, which the checker of refutations has accepted. OutOfMemory where an allocation was refused.
+fn as_evidence(
+    alloc: Global,
+    trace: &Trace,
+    certificate: &Certificate,
+) -> Result<Evidence, OutOfMemory>
+    requires { Holds trace.now certificate.now }
+    ensures { IfOk result (HoldsFor trace.now) }
+{
+    match certificate {
+        Certificate::Unwritten(n) => Ok(Evidence::Unwritten(*n)),
+        Certificate::Cycle { steps, cycle } => {
+            let lines = lines_of(alloc, steps.items(), cycle.items())?;
+            accepted(alloc, trace, lines)
+        }
+    }
+}
+
+/// The evidence of lines that hold, once the checker of refutations has accepted them. OutOfMemory where an allocation was refused.
+fn accepted(
+    alloc: Global,
+    trace: &Trace,
+    lines: Vec<RefutationLine>,
+) -> Result<Evidence, OutOfMemory>
+    requires { RefutationHolds trace.now lines.items }
+    ensures { IfOk result (HoldsFor trace.now) }
+{
+    match check_refutation(alloc, trace, &lines)? {
+        Ok(()) => Ok(Evidence::Refutation(LineList::new(lines))),
+        Err(_) => unreachable!(),
+    }
+}
+
+/// The lines of a certificate's steps and its cycle. OutOfMemory where an allocation was refused.
+fn lines_of(
+    alloc: Global,
+    steps: &[CertStep],
+    cycle: &[u64],
+) -> Result<Vec<RefutationLine>, OutOfMemory>
+    ensures { IfOk result (λ lines. lines.items ≡ certificate_lines steps.now cycle.now) }
+{
+    let mut lines = Vec::new(alloc);
+    for step in steps {
+        lines.push(RefutationLine::Step(copy_of(alloc, step)?))?;
+    }
+    let cycle = NumList::new(Vec::from_slice(alloc, cycle)?);
+    lines.push(RefutationLine::Cycle(cycle))?;
+    Ok(lines)
+}
+
+/// The same step. OutOfMemory where an allocation was refused.
+fn copy_of(alloc: Global, step: &CertStep) -> Result<CertStep, OutOfMemory>
+    ensures { IfOk result (λ copy. copy ≡ step.now) }
+{
+    let reason = match &step.reason {
+        Reason::Base(rule) => Reason::Base(*rule),
+        Reason::Inferred { rule, load, path } => Reason::Inferred {
+            rule: *rule,
+            load: *load,
+            path: NumList::new(Vec::from_slice(alloc, path.items())?),
+        },
+    };
+    Ok(CertStep {
+        from: step.from,
+        to: step.to,
+        reason,
+    })
+}
+
+/// What a search over so many cases finds. OutOfMemory where an allocation was refused.
+fn by_search(
+    alloc: Global,
+    trace: &Trace,
+    ranked: &Ranked,
+    effort: u64,
+) -> Result<Decision, OutOfMemory>
+    ensures { IfOk result (IsDecision trace.now effort) }
+{
+    let mut search = Search::new(alloc, trace, ranked)?;
+    let mut next = search.begin()?;
+    for _ in 0..effort {
+        match checked(alloc, trace, next)? {
+            Ok(evidence) => return Ok(Decision::Decided(evidence)),
+            Err(open) => next = search.step(open)?,
+        }
+    }
+    match checked(alloc, trace, next)? {
+        Ok(evidence) => Ok(Decision::Decided(evidence)),
+        Err(_) => Ok(Decision::Undecided(effort)),
+    }
+}
+
+/// What a search found, as evidence that its checker has accepted; else what it does next. OutOfMemory where an allocation was
+/// refused.
+fn checked(alloc: Global, trace: &Trace, next: Next) -> Result<Result<Evidence, Next>, OutOfMemory>
+    ensures { IfOk result (λ found. IfOk found (HoldsFor trace.now)) }
+{
+    match next {
+        Next::Order(order) => match check_order(alloc, trace, &order)? {
+            Ok(()) => Ok(Ok(Evidence::Order(NumList::new(order)))),
+            Err(_) => Ok(Err(Next::Lost)),
+        },
+        Next::Refuted(lines) => match check_refutation(alloc, trace, &lines)? {
+            Ok(()) => Ok(Ok(Evidence::Refutation(LineList::new(lines)))),
+            Err(_) => Ok(Err(Next::Lost)),
+        },
+        open => Ok(Err(open)),
+    }
+}

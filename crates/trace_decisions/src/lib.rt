@@ -1,0 +1,18 @@
+//! Whether a trace has an order that meets the axioms of its memory model, with evidence for either answer; and the check of such
+//! evidence.
+//!
+//! `README.md` says what is proved.
+#![tactic(auto)]
+
+pub use answers::Answer;
+pub use decisions::{Decision, decide};
+pub use texts::{Said, decide_input, decide_text};
+pub use verifying::verify_texts;
+
+mod answers;
+mod decisions;
+mod evidence_lines;
+pub mod laws;
+mod search;
+mod texts;
+mod verifying;

@@ -1,0 +1,52 @@
+//! How many loads of each store are left.
+
+use bitsets::has_number;
+use std::alloc::Global;
+use tso_ops::{OutOfMemory, Trace};
+
+/// For each store how many loads of what it wrote haven't come.
+#[derive(Drop)]
+pub(crate) struct Readers {
+    left: Vec<usize>,
+}
+
+impl Readers {
+    /// Of all stores of a trace, with all loads left. OutOfMemory where an allocation was refused.
+    pub(crate) fn new(alloc: Global, trace: &Trace) -> Result<Readers, OutOfMemory> {
+        let mut readers = Readers {
+            left: vec![in alloc; 0; trace.node_count()]?,
+        };
+        for n in 0..trace.node_count() {
+            if let Some(source) = trace.source_number(n)
+                && let Some(entry) = readers.left.get_mut(source)
+            {
+                *entry = entry.saturating_add(1);
+            }
+        }
+        Ok(readers)
+    }
+
+    /// Counts that a load has come.
+    pub(crate) fn count(&mut self, trace: &Trace, load: usize) {
+        if let Some(source) = trace.source_number(load)
+            && let Some(entry) = self.left.get_mut(source)
+        {
+            *entry = entry.saturating_sub(1);
+        }
+    }
+
+    /// How many loads of a store are left.
+    pub(crate) fn left(&self, store: usize) -> usize {
+        self.left.get(store).copied().unwrap_or(0)
+    }
+
+    /// How many are left besides this event, which may be one of them.
+    pub(crate) fn left_besides(&self, trace: &Trace, store: usize, besides: usize) -> usize {
+        let left = self.left(store);
+        if besides != 0 && has_number(trace.reader_words(store), besides) {
+            left.saturating_sub(1)
+        } else {
+            left
+        }
+    }
+}

@@ -1,0 +1,95 @@
+//! Evidence against its trace: read the one, then the other, check, render, write.
+ghost use Rattle.std.specs.Prelude.{◌≡◌, ◌≢◌, ◌⊎◌, ◌≤◌, length, take, string_bytes, IfSome, IfOk, IfErr};
+ghost use Rattle.tso_ops.specs.Values.{TraceValue};
+ghost use Rattle.tso_text.specs.Refusals.{IsRefusedTrace};
+ghost use Rattle.tso_text.specs.Texts.{SpellsTrace};
+ghost use Rattle.trace_judging.specs.declared.faults.Fault.{Fault};
+ghost use Rattle.trace_judging.specs.Limits.{certificate_byte_limit, certificate_read_limit, trace_read_limit};
+ghost use Rattle.trace_judging.specs.Streams.{LosesPrefix};
+ghost use Rattle.trace_judging.specs.WrittenReports.{LeavesAtFault, WritesWhole};
+ghost use Rattle.trace_decisions.specs.DecisionTexts.{AnswerSays};
+ghost use Rattle.trace_decisions.specs.EvidenceReports.{IsEvidenceReportOfReader, IsVerificationOfReaders};
+
+use crate::answers::Answer;
+use crate::evidence_lines::render_evidence;
+use crate::texts::Said;
+use std::alloc::Global;
+use std::io::{Read, Write};
+use trace_judging::{Fault, MAX_CERTIFICATE_BYTES, read_all, write_text};
+use trace_reports::render_refusal;
+use tso_ops::Trace;
+use tso_text::{MAX_TEXT_BYTES, read_trace};
+
+/// Checks evidence against a trace: reads the text of the trace, then that of the evidence, and writes the line that says
+/// whether it holds.
+///
+/// The answer is Consistent where an order holds, Violation where an unwritten load or a refutation does, else Refused. A first
+/// text that is no trace is reported by its refusal, and the evidence isn't read then. At most 1,048,577 bytes of the trace are
+/// read and 67,108,865 of the evidence. Faults: OutOfMemory where an allocation was refused; Read where a reader failed or passed
+/// 2,097,152 calls, or the text of the evidence has more than 67,108,864 bytes; with each nothing was written. Write where the
+/// writer failed, took no byte or was interrupted more than 1,048,576 times: then what was written is a prefix of the line.
+pub fn verify_texts<T: Read, E: Read, W: Write>(
+    alloc: Global,
+    traces: &mut T,
+    evidence: &mut E,
+    writer: &mut W,
+) -> Result<Answer, Fault>
+    ensures report { IfOk result (WritesWhole (IsVerificationOfReaders (T.remaining traces.old) (E.remaining evidence.old)) (W.contents writer.old) (W.contents writer.new)) }
+    ensures says { IfOk result (λ answer. IfSome (T.remaining traces.old) (λ all. (t : TraceValue) → SpellsTrace all t → AnswerSays t answer)) }
+    ensures taken { IfOk result (λ _. LosesPrefix trace_read_limit (T.remaining traces.old) (T.remaining traces.new)) }
+    ensures taken_after { IfOk result (λ _. evidence.new ≡ evidence.old ⊎ LosesPrefix certificate_read_limit (E.remaining evidence.old) (E.remaining evidence.new)) }
+    ensures unread { IfSome (T.remaining traces.old) (λ trace. IsRefusedTrace trace → evidence.new ≡ evidence.old) }
+    ensures fault { IfErr result (LeavesAtFault (IsVerificationOfReaders (T.remaining traces.old) (E.remaining evidence.old)) (W.contents writer.old) (W.contents writer.new)) }
+    ensures no_thread { IfErr result (λ fault. fault ≢ Fault.NoThread) }
+{
+    let said = verify_readers(alloc, traces, evidence)?;
+    write_text(writer, said.text.as_bytes())?;
+    Ok(said.answer)
+}
+
+/// The line on what two readers have.
+fn verify_readers<T: Read, E: Read>(
+    alloc: Global,
+    traces: &mut T,
+    evidence: &mut E,
+) -> Result<Said, Fault>
+    ensures report { IfOk result (λ said. IsVerificationOfReaders (T.remaining traces.old) (E.remaining evidence.old) (string_bytes said.text) said.answer) }
+    ensures says { IfOk result (λ said. IfSome (T.remaining traces.old) (λ all. (t : TraceValue) → SpellsTrace all t → AnswerSays t said.answer)) }
+    ensures taken { IfOk result (λ _. LosesPrefix trace_read_limit (T.remaining traces.old) (T.remaining traces.new)) }
+    ensures taken_after { IfOk result (λ _. evidence.new ≡ evidence.old ⊎ LosesPrefix certificate_read_limit (E.remaining evidence.old) (E.remaining evidence.new)) }
+    ensures unread { IfSome (T.remaining traces.old) (λ trace. IsRefusedTrace trace → evidence.new ≡ evidence.old) }
+    ensures fault { IfErr result (λ fault. (fault ≡ Fault.OutOfMemory) ⊎ (fault ≡ Fault.Read)) }
+{
+    let input = read_all(alloc, traces, MAX_TEXT_BYTES)?;
+    match read_trace(alloc, &input) {
+        Ok(trace) => verify_reader(alloc, &trace, evidence),
+        Err(fault) => Ok(Said {
+            answer: Answer::Refused,
+            text: render_refusal(alloc, fault)?.text,
+        }),
+    }
+}
+
+/// The line on what a reader has of evidence, on a trace.
+fn verify_reader<E: Read>(alloc: Global, trace: &Trace, reader: &mut E) -> Result<Said, Fault>
+    ensures report { IfOk result (λ said. IsEvidenceReportOfReader trace.now (E.remaining reader.old) (string_bytes said.text) said.answer) }
+    ensures taken { IfOk result (λ _. LosesPrefix certificate_read_limit (E.remaining reader.old) (E.remaining reader.new)) }
+    ensures fault { IfErr result (λ fault. (fault ≡ Fault.OutOfMemory) ⊎ (fault ≡ Fault.Read)) }
+{
+    let input = read_evidence_text(alloc, reader)?;
+    Ok(render_evidence(alloc, trace, &input)?)
+}
+
+/// All bytes of a reader, which are no more than the text of evidence may have.
+fn read_evidence_text<E: Read>(alloc: Global, reader: &mut E) -> Result<Vec<u8>, Fault>
+    ensures prefix { IfOk result (λ bytes. IfSome (E.remaining reader.old) (λ all. bytes.items ≡ take certificate_read_limit all)) }
+    ensures taken { IfOk result (λ _. LosesPrefix certificate_read_limit (E.remaining reader.old) (E.remaining reader.new)) }
+    ensures within { IfOk result (λ bytes. length bytes.items ≤ certificate_byte_limit) }
+    ensures fault { IfErr result (λ fault. (fault ≡ Fault.OutOfMemory) ⊎ (fault ≡ Fault.Read)) }
+{
+    let input = read_all(alloc, reader, MAX_CERTIFICATE_BYTES)?;
+    if input.len() > MAX_CERTIFICATE_BYTES {
+        return Err(Fault::Read);
+    }
+    Ok(input)
+}

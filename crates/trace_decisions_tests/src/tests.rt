@@ -1,0 +1,68 @@
+//! Traces that are decided, evidence that is checked, and what the tests of both share.
+
+mod decisions;
+mod evidence;
+mod examples;
+mod faults;
+mod refused_allocations;
+
+ghost use Rattle.std.specs.Prelude.{◌≤◌};
+ghost use Rattle.round_pool.specs.Workers.{worker_limit};
+
+use std::alloc::Global;
+use std::sync::Wait;
+use std::test::Fail;
+use std::thread::Threads;
+use trace_decisions::{Answer, decide_input, verify_texts};
+use traces_for_tests::expect_equal;
+
+/// What follows the first three lines of a text: after the head of a decision, two lines, and its answer the evidence begins.
+fn evidence_of(text: &[u8]) -> &[u8] {
+    let mut lines: usize = 0;
+    for (place, byte) in text.iter().enumerate() {
+        if lines == 3 {
+            return text.get(place..).unwrap_or(b"");
+        }
+        if *byte == b'\n' {
+            lines = lines.saturating_add(1);
+        }
+    }
+    b""
+}
+
+/// Decides on the trace of a text with so many workers, and compares what is answered; the evidence has to hold.
+fn expect_decided<H: Threads + Wait>(
+    rt: &H,
+    alloc: Global,
+    workers: usize,
+    case: (&str, Answer),
+) -> Result<(), Fail>
+    requires some { 1 ≤ workers }
+    requires most { workers ≤ worker_limit }
+{
+    let (text, answer) = case;
+    let mut written = Vec::new(alloc);
+    let mut reader = text.as_bytes();
+    let said = decide_input(rt, alloc, &mut reader, &mut written, workers, 100);
+    expect_equal(text, said, Ok(answer))?;
+    let mut line = Vec::new(alloc);
+    let mut trace = text.as_bytes();
+    let mut rest = evidence_of(&written);
+    let verified = verify_texts(alloc, &mut trace, &mut rest, &mut line);
+    expect_equal(text, verified, Ok(answer))
+}
+
+/// Compares the line on evidence, and what it says.
+fn expect_line(
+    alloc: Global,
+    trace: &str,
+    evidence: &str,
+    (answer, line): (Answer, &str),
+) -> Result<(), Fail> {
+    let mut written = Vec::new(alloc);
+    let mut first = trace.as_bytes();
+    let mut second = evidence.as_bytes();
+    let said = verify_texts(alloc, &mut first, &mut second, &mut written);
+    expect_equal(evidence, said, Ok(answer))?;
+    expect_equal(evidence, written.as_slice(), line.as_bytes())
+}

@@ -1,0 +1,85 @@
+//! Decisions.
+
+use super::examples::{BUFFERING, THIRTY_EVENTS, TWELVE_EVENTS};
+use super::expect_decided;
+use std::test::Fail;
+use trace_decisions::{Answer, decide_input};
+use traces_for_tests::expect_equal;
+
+/// Traces, and what is to be said of them: by the axioms, or by the worked example that each is.
+static CASES: [(&str, Answer); 10] = [
+    ("tso trace 1\nend\n", Answer::Consistent),
+    (BUFFERING, Answer::Consistent),
+    (
+        "tso trace 1\nproc\nst 1 1\nmb\nld 2 0\nproc\nst 2 2\nmb\nld 1 0\nend\n",
+        Answer::Violation,
+    ),
+    // A processor sees its own store before memory has it.
+    (
+        "tso trace 1\nproc\nst 1 1\nld 1 1\nld 2 0\nproc\nst 2 2\nld 2 2\nld 1 0\nend\n",
+        Answer::Consistent,
+    ),
+    (
+        "tso trace 1\nproc\nst 1 1\nst 2 2\nproc\nld 2 2\nld 1 0\nend\n",
+        Answer::Violation,
+    ),
+    (
+        "tso trace 1\nmodel pso\nproc\nst 1 1\nst 2 2\nproc\nld 2 2\nld 1 0\nend\n",
+        Answer::Consistent,
+    ),
+    ("tso trace 1\nproc\nld 1 5\nend\n", Answer::Violation),
+    (
+        "tso trace 1\nproc\nsw 1 0 1\nproc\nsw 1 1 2\nend\n",
+        Answer::Consistent,
+    ),
+    (TWELVE_EVENTS, Answer::Violation),
+    (THIRTY_EVENTS, Answer::Violation),
+];
+
+#[test]
+fn traces_are_decided(rt: HostRuntime) -> Result<(), Fail> {
+    for case in CASES {
+        expect_decided(&rt, rt.alloc(), 1, case)?;
+    }
+    Ok(())
+}
+
+#[test]
+fn workers_decide_alike(rt: HostRuntime) -> Result<(), Fail> {
+    expect_decided(&rt, rt.alloc(), 3, (TWELVE_EVENTS, Answer::Violation))?;
+    expect_decided(&rt, rt.alloc(), 2, (BUFFERING, Answer::Consistent))
+}
+
+/// The effort is how many cases are looked at: a refutation of the twelve events takes two, and the step back to the first.
+#[test]
+fn effort_ends(rt: HostRuntime) -> Result<(), Fail> {
+    for (effort, answer, line) in [
+        (0, Answer::Undecided, "UNDECIDED 0\n"),
+        (1, Answer::Undecided, "UNDECIDED 1\n"),
+    ] {
+        let mut written = Vec::new(rt.alloc());
+        let mut reader = TWELVE_EVENTS.as_bytes();
+        let said = decide_input(&rt, rt.alloc(), &mut reader, &mut written, 1, effort);
+        expect_equal(effort, said, Ok(answer))?;
+        let mut expected = String::from_str(
+            rt.alloc(),
+            "TSO DECISION 1\nprocessors 4 events 12\n",
+        )?;
+        expected.push_str(line)?;
+        expect_equal(effort, written.as_slice(), expected.as_bytes())?;
+    }
+    Ok(())
+}
+
+#[test]
+fn text_is_refused(rt: HostRuntime) -> Result<(), Fail> {
+    let mut written = Vec::new(rt.alloc());
+    let mut reader = "tso trace 1\nproc\nld 1\nend\n".as_bytes();
+    let said = decide_input(&rt, rt.alloc(), &mut reader, &mut written, 1, 100);
+    expect_equal("said", said, Ok(Answer::Refused))?;
+    expect_equal(
+        "line",
+        written.as_slice(),
+        "REFUSED BadLine line 3\n".as_bytes(),
+    )
+}
