@@ -8,7 +8,7 @@ _tsobench() {
     esac
     for ((i = 1; i < COMP_CWORD; i++)); do
         case ${COMP_WORDS[i]} in
-            judge | explain | draw | reduce | batch | log | check | replay | run | make | campaign | help)
+            judge | decide | explain | draw | reduce | batch | log | check | verify | replay | run | make | campaign | help)
                 command=${COMP_WORDS[i]}
                 break
                 ;;
@@ -17,6 +17,9 @@ _tsobench() {
     case $command/$before in
         judge/--workers) ;;
         judge/--nth) ;;
+        decide/--effort) ;;
+        decide/--workers) ;;
+        decide/--nth) ;;
         explain/--workers) ;;
         explain/--nth) ;;
         draw/--workers) ;;
@@ -27,6 +30,7 @@ _tsobench() {
         log/--most) ;;
         log/--effort) ;;
         check/--nth) ;;
+        verify/--nth) ;;
         replay/--unit) words='serial buffer partial newest-first no-forward stale-load torn-swap idle-membar lost-drain' ;;
         replay/--capacity) ;;
         replay/--trigger) ;;
@@ -53,19 +57,21 @@ _tsobench() {
         campaign/--procs) ;;
         campaign/--ops) ;;
         campaign/--addrs) ;;
-        /*) words='judge explain draw reduce batch log check replay run make campaign help -h --help -V --version' ;;
+        /*) words='judge decide explain draw reduce batch log check verify replay run make campaign help -h --help -V --version' ;;
         judge/*) words='--workers --nth --verbose -h --help' files=yes ;;
+        decide/*) words='--effort --workers --nth --verbose -h --help' files=yes ;;
         explain/*) words='--workers --nth --verbose -h --help' files=yes ;;
         draw/*) words='--workers --nth --verbose -h --help' files=yes ;;
         reduce/*) words='--nth --verbose -h --help' files=yes ;;
         batch/*) words='--workers --format --quiet --violations --progress --verbose -h --help' files=yes ;;
         log/*) words='--most --effort --trace --explain --progress --verbose -h --help' files=yes ;;
         check/*) words='--nth --verbose -h --help' files=yes ;;
+        verify/*) words='--nth --verbose -h --help' files=yes ;;
         replay/*) words='--unit --capacity --trigger --workers --trace --explain --with-trace --verbose -h --help' files=yes ;;
         run/*) words='--unit --capacity --trigger --workers --trace --explain --with-trace --verbose --seed --drain-turns -h --help' files=yes ;;
         make/*) words='--schedule --model --seed --procs --ops --addrs -h --help' ;;
         campaign/*) words='--unit --capacity --trigger --workers --replay --drain-turns --trace --progress --model --first --count --procs --ops --addrs -h --help' ;;
-        help/*) words='judge explain draw reduce batch log check replay run make campaign' ;;
+        help/*) words='judge decide explain draw reduce batch log check verify replay run make campaign' ;;
     esac
     if [[ -n $files && $word != -* ]]; then
         words=''

@@ -20,10 +20,10 @@ use Rattle.command_line.specs.declared.options.LogForm.{LogForm}
 use Rattle.command_line.specs.declared.options.LogOptions.{LogOptions}
 use Rattle.command_line.specs.declared.options.RunOptions.{RunOptions}
 use Rattle.command_line.specs.declared.options.UnitOptions.{UnitOptions}
-use Rattle.command_line.specs.Requests.{Asked, Text, asked_of, batching, capacity_limit, checking, drain_turns_limit, log_effort_limit, log_violation_limit, logging, number_limit, refusing, replaying, running, worker_limit}
+use Rattle.command_line.specs.Requests.{Asked, Text, asked_of, batching, capacity_limit, checking, drain_turns_limit, log_effort_limit, log_violation_limit, logging, number_limit, refusing, replaying, running, verifying, worker_limit}
 use Rattle.command_line.specs.declared.options.Printing.{Printing}
 use Rattle.command_line.specs.declared.requests.Request.{Request}
-use Rattle.command_line.specs.Subcommands.{batch, batch_printing_of, batch_texts, check, file_of, is_true, log, log_form_of, log_options_in, log_options_of, log_parameters, number_of, number_or, pair_of, printing_of, replay, run, run_of, run_parameters, unit_of, within, workers_of}
+use Rattle.command_line.specs.Subcommands.{batch, batch_printing_of, batch_texts, check, file_of, is_true, log, log_form_of, log_options_in, log_options_of, log_parameters, number_of, number_or, pair_of, printing_of, replay, run, run_of, run_parameters, unit_of, verify, within, workers_of}
 use Rattle.command_line.specs.Commands.{asked_in, given_in}
 
 -- the file that a value names which was asked for by its id
@@ -105,6 +105,11 @@ log_options_found given most effort form most_is effort_is form_is = rw (most_is
 pub check_asked : (rows : List Row) (texts : Option (Option Text × Option Text)) → texts ≡ pair_of (file_of (first_of (codes "trace") rows)) (file_of (first_of (codes "cert") rows)) → (nth : Option ℕ)
     → nth ≡ number_of (one_of (codes "nth") rows) → option_map_or (λ t. checking t.0 t.1 nth) texts refusing ≡ asked_in check rows
 check_asked rows texts texts_are nth nth_is = rw (texts_are, nth_is) refl
+
+-- what `verify` asks for, likewise
+pub verify_asked : (rows : List Row) (texts : Option (Option Text × Option Text)) → texts ≡ pair_of (file_of (first_of (codes "trace") rows)) (file_of (first_of (codes "evidence") rows)) → (nth : Option ℕ)
+    → nth ≡ number_of (one_of (codes "nth") rows) → option_map_or (λ t. verifying t.0 t.1 nth) texts refusing ≡ asked_in verify rows
+verify_asked rows texts texts_are nth nth_is = rw (texts_are, nth_is) refl
 
 -- the texts that arguments name, by those behind references
 now_count : (texts : List (Option (Bor Text))) → count_by is_none (map (option_map (λ (f : Bor Text). f.now)) texts) ≡ count_by is_none texts

@@ -12,7 +12,7 @@ use Rattle.command_line.specs.declared.options.Printing.{Printing}
 use Rattle.command_line.specs.declared.options.Printing.TheVariants.{Report, Trace, Explanation}
 use Rattle.command_line.specs.declared.options.RunOptions.{RunOptions}
 use Rattle.command_line.specs.declared.options.UnitOptions.{UnitOptions}
-use Rattle.command_line.specs.declared.requests.Request.TheVariants.{Judge, Reduce, Batch, Log, Check, Replay, Run, Make, Campaign, Show, Refuse}
+use Rattle.command_line.specs.declared.requests.Request.TheVariants.{Judge, Decide, Reduce, Batch, Log, Check, Verify, Replay, Run, Make, Campaign, Show, Refuse}
 
 -- the bytes of a text
 abbrev pub Text : Type 0
@@ -34,6 +34,9 @@ pub data Asked : Type 0 where
   -- to judge a trace with so many workers, and to present the verdict in this form: the only trace of a text, or the one of this number among those that
   -- stand in it one after the other
   judging : Presentation → Option Text → ℕ → Option ℕ → Asked
+  -- to decide, with so many workers and after so many cases at most, whether a trace, the only one of a text or the one of this number, has an order that meets
+  -- the axioms of its memory model
+  deciding : Option Text → ℕ → Option ℕ → ℕ → Asked
   -- to reduce a trace, the only one of a text or the one of this number, to a small one that shows its violation
   reducing : Option Text → Option ℕ → Asked
   -- to judge the traces of these texts, which stand one after the other, with so many workers, and to print this of them
@@ -42,6 +45,8 @@ pub data Asked : Type 0 where
   logging : Option Text → LogOptions → Asked
   -- to check against a trace, the first text or the trace of this number in it, a certificate, the second
   checking : Option Text → Option Text → Option ℕ → Asked
+  -- to check evidence, the second text, of whether a trace, the first text or the trace of this number in it, has such an order
+  verifying : Option Text → Option Text → Option ℕ → Asked
   -- to replay a program, the first text, by a schedule, the second, with these options
   replaying : RunOptions → Option Text → Option Text → Asked
   -- to run a program with a thread per processor, with these options and this seed of the drains, beside a drainer that
@@ -65,10 +70,12 @@ files_of (FileAndInput first) = (Some first.now, None)
 -- what a request asks for
 abbrev pub asked_of : Request → Asked
 asked_of (Judge judge) = judging judge.presentation (option_map (λ f. f.now) judge.file) judge.workers judge.nth
+asked_of (Decide decide) = deciding (option_map (λ f. f.now) decide.file) decide.workers decide.nth decide.effort
 asked_of (Reduce reduce) = reducing (option_map (λ f. f.now) reduce.file) reduce.nth
 asked_of (Batch batch) = batching (map (option_map (λ f. f.now)) batch.texts.items) batch.workers batch.printing
 asked_of (Log log) = logging (option_map (λ f. f.now) log.file) log.options
 asked_of (Check check) = checking (files_of check.texts).0 (files_of check.texts).1 check.nth
+asked_of (Verify check) = verifying (files_of check.texts).0 (files_of check.texts).1 check.nth
 asked_of (Replay options texts) = replaying options (files_of texts).0 (files_of texts).1
 asked_of (Run run) = running run.options run.drain_seed run.drain_turns (option_map (λ f. f.now) run.program)
 asked_of (Make options) = making options
@@ -117,10 +124,12 @@ nothing_needed = record { texts = []; workers = None; unit = None; program = Non
 
 abbrev pub needs : Asked → Needs
 needs (judging presentation file workers nth) = record nothing_needed { texts = file ∷ []; workers = Some workers }
+needs (deciding file workers nth effort) = record nothing_needed { texts = file ∷ []; workers = Some workers }
 needs (reducing file nth) = record nothing_needed { texts = file ∷ [] }
 needs (batching texts workers printing) = record nothing_needed { texts = texts; workers = Some workers }
 needs (logging file options) = record nothing_needed { texts = file ∷ [] }
 needs (checking trace certificate nth) = record nothing_needed { texts = trace ∷ certificate ∷ [] }
+needs (verifying trace evidence nth) = record nothing_needed { texts = trace ∷ evidence ∷ [] }
 needs (replaying options program schedule) = record {
   texts = program ∷ schedule ∷ [];
   workers = Some options.workers;

@@ -27,7 +27,7 @@ use Rattle.command_line.specs.declared.requests.Notes.{Notes}
 use Rattle.command_line.specs.declared.parameters.NameList.{NameList}
 use Rattle.command_line.specs.declared.parameters.NameList.TheVariants.{Units, Models, Formats}
 use Rattle.command_line.specs.Names.{formats, models, units}
-use Rattle.command_line.specs.Requests.{Text, Asked, batching, campaigning, capacity_limit, checking, drain_turns_limit, judging, log_effort_limit, log_violation_limit, logging, making, number_limit, reducing, refusing, replaying, running, worker_limit}
+use Rattle.command_line.specs.Requests.{Text, Asked, batching, campaigning, capacity_limit, checking, deciding, drain_turns_limit, judging, log_effort_limit, log_violation_limit, logging, making, number_limit, reducing, refusing, replaying, running, verifying, worker_limit}
 
 pub record Subcommand : Type 0 where
   pub name : Text
@@ -221,6 +221,15 @@ judge_as name presentation = record {
   ask = λ given. judging presentation (file_of (given (codes "file"))) (workers_of given) (number_of (given (codes "nth")));
 }
 
+-- `decide [--effort N] [--workers N] [--nth K] [--verbose] [FILE]`: decides whether the trace in a file, or on standard input, or of the traces that stand there
+-- one after the other that of a number, has an order that meets the axioms of its memory model; after 100,000 cases at most where the effort is left out
+abbrev pub decide : Subcommand
+decide = record {
+  name = codes "decide";
+  parameters = option (codes "effort") (range 0 number_limit) (Some (codes "100000")) ∷ workers ∷ nth ∷ verbose ∷ other (codes "file") false ∷ [];
+  ask = λ given. deciding (file_of (given (codes "file"))) (workers_of given) (number_of (given (codes "nth"))) (number_or 100000 (given (codes "effort")));
+}
+
 -- `reduce [--nth K] [--verbose] [FILE]`: reduces the trace in a file, or on standard input, or of the traces that stand there one after the other that of a
 -- number
 abbrev pub reduce : Subcommand
@@ -253,6 +262,15 @@ check = record {
   parameters = nth ∷ verbose ∷ other (codes "trace") true ∷ other (codes "cert") true ∷ [];
   ask = λ given.
       option_map_or (λ texts. checking texts.0 texts.1 (number_of (given (codes "nth")))) (pair_of (file_of (given (codes "trace"))) (file_of (given (codes "cert")))) refusing;
+}
+
+-- `verify [--nth K] [--verbose] TRACE EVIDENCE`: checks evidence on a trace, or on that of a number among those that stand one after the other
+abbrev pub verify : Subcommand
+verify = record {
+  name = codes "verify";
+  parameters = nth ∷ verbose ∷ other (codes "trace") true ∷ other (codes "evidence") true ∷ [];
+  ask = λ given.
+      option_map_or (λ texts. verifying texts.0 texts.1 (number_of (given (codes "nth")))) (pair_of (file_of (given (codes "trace"))) (file_of (given (codes "evidence")))) refusing;
 }
 
 -- `replay --unit UNIT [--capacity C] [--trigger T] [--workers N] [--trace|--explain] [--with-trace] [--verbose] PROGRAM SCHEDULE`: replays a program by a
@@ -311,5 +329,5 @@ campaign = record {
 
 abbrev pub subcommands : List Subcommand
 subcommands =
-    judge_as (codes "judge") form.Report ∷ judge_as (codes "explain") form.Explanation ∷ judge_as (codes "draw") form.Picture
-    ∷ reduce ∷ batch ∷ log ∷ check ∷ replay ∷ run ∷ make ∷ campaign ∷ []
+    judge_as (codes "judge") form.Report ∷ decide ∷ judge_as (codes "explain") form.Explanation ∷ judge_as (codes "draw") form.Picture
+    ∷ reduce ∷ batch ∷ log ∷ check ∷ verify ∷ replay ∷ run ∷ make ∷ campaign ∷ []

@@ -1,27 +1,25 @@
 //! What the matches of a subcommand ask for. The command has refused arguments without what may not be left out.
-ghost use Rattle.std.specs.Prelude.{◌≡◌, ◌≤◌, [], codes, count_by, false, is_none, map, option_map, unwrap_or, IfOk, Some};
+ghost use Rattle.std.specs.Prelude.{◌≡◌, [], codes, count_by, false, is_none, map, option_map, unwrap_or, IfOk, Some};
 ghost use Rattle.clap.specs.Words.{first_of, found_of, one_of, rows_of};
 ghost use Rattle.command_line.specs.Commands.{asked_in, given_in};
-ghost use Rattle.command_line.specs.Requests.{asked_of, drain_turns_limit, files_of, refusing, worker_limit};
-ghost use Rattle.command_line.specs.Subcommands.{batch, batch_printing_of, batch_texts, campaign, check, chosen_format, chosen_order, file_of, is_true, judge_as, log, log_form_of, log_options_of, log_parameters, make, model, number_of, number_or, pair_of, printing_of, reduce, replay, run, run_of, run_parameters, shape_of, shape_parameters, unit_of, unit_parameters, within};
+ghost use Rattle.command_line.specs.Requests.{asked_of, files_of, refusing};
+ghost use Rattle.command_line.specs.Subcommands.{batch, batch_printing_of, batch_texts, campaign, check, decide, file_of, is_true, judge_as, log, log_form_of, log_options_of, log_parameters, make, pair_of, printing_of, reduce, replay, run, run_of, run_parameters, shape_of, shape_parameters, unit_of, unit_parameters, verify};
 
 use crate::help;
 use crate::options::{
-    BatchFormat, BatchPrinting, CampaignOptions, LogForm, LogOptions, MAX_CAPACITY,
-    MAX_DRAIN_TURNS, MAX_LOG_EFFORT, MAX_LOG_VIOLATIONS, MAX_WORKERS, MakeOptions, Presentation,
-    Printing, RunOptions, ShapeNumbers, UnitKind, UnitOptions, format_named, kind_named,
-    order_named,
+    BatchPrinting, CampaignOptions, LogForm, LogOptions, MAX_CAPACITY, MAX_LOG_EFFORT,
+    MAX_LOG_VIOLATIONS, MakeOptions, Presentation, Printing, RunOptions, ShapeNumbers, UnitKind,
+    UnitOptions, kind_named,
 };
 use crate::requests::{
-    BatchRequest, CheckRequest, JudgeRequest, LogRequest, Notes, ReduceRequest, Request,
-    RunRequest, TextPair,
+    BatchRequest, CheckRequest, DecideRequest, JudgeRequest, LogRequest, Notes, ReduceRequest,
+    Request, RunRequest, TextPair,
+};
+use crate::values::{
+    drain_turns, file, format, is_used, named_file, nth, number, number_within, order, workers,
 };
 use clap::ArgMatches;
 use std::alloc::{AllocError, Global};
-use tso_ops::Order;
-
-/// What stands for standard input in place of the name of a file.
-const STANDARD_INPUT: &str = "-";
 
 /// Of `judge`, `explain` and `draw`, which present the verdict in this form.
 pub(crate) fn judge<'a>(matches: &ArgMatches<'a>, presentation: Presentation) -> Request<'a>
@@ -32,6 +30,18 @@ pub(crate) fn judge<'a>(matches: &ArgMatches<'a>, presentation: Presentation) ->
         workers: workers(matches),
         nth: nth(matches),
         presentation,
+    })
+}
+
+/// Of `decide`.
+pub(crate) fn decide<'a>(matches: &ArgMatches<'a>) -> Request<'a>
+    ensures { asked_of result ≡ asked_in decide (rows_of (found_of matches.now)) }
+{
+    Request::Decide(DecideRequest {
+        file: file(matches, "file"),
+        workers: workers(matches),
+        nth: nth(matches),
+        effort: number(matches, "effort", 100_000),
     })
 }
 
@@ -79,6 +89,19 @@ pub(crate) fn check<'a>(alloc: Global, matches: &ArgMatches<'a>) -> Result<Reque
 {
     match text_pair(matches, "trace", "cert") {
         Some(texts) => Ok(Request::Check(CheckRequest {
+            texts,
+            nth: nth(matches),
+        })),
+        None => refuse(alloc, help::TWO_INPUTS),
+    }
+}
+
+/// Of `verify`: a refusal where both texts would be standard input.
+pub(crate) fn verify<'a>(alloc: Global, matches: &ArgMatches<'a>) -> Result<Request<'a>, AllocError>
+    ensures { IfOk result (λ request. asked_of request ≡ asked_in verify (rows_of (found_of matches.now))) }
+{
+    match text_pair(matches, "trace", "evidence") {
+        Some(texts) => Ok(Request::Verify(CheckRequest {
             texts,
             nth: nth(matches),
         })),
@@ -150,24 +173,6 @@ fn refuse<'a>(alloc: Global, text: &str) -> Result<Request<'a>, AllocError>
     Ok(Request::Refuse(String::from_str(alloc, text)?))
 }
 
-/// The file that an argument names; none where it is left out or a hyphen, which stand for standard input.
-fn file<'a>(matches: &ArgMatches<'a>, name: &str) -> Option<&'a str>
-    ensures { option_map (λ file. file.now) result ≡ file_of (first_of name.now (rows_of (found_of matches.now))) }
-{
-    let named = matches.get_str(name)?;
-    named_file(named)
-}
-
-/// The file of this name; none where it is a hyphen.
-fn named_file<'a>(name: &'a str) -> Option<&'a str>
-    ensures { option_map (λ file. file.now) result ≡ file_of (Some name.now) }
-{
-    if name == STANDARD_INPUT {
-        return None;
-    }
-    Some(name)
-}
-
 /// The texts of a batch that these arguments name, where there are any.
 fn texts_found<'a>(
     alloc: Global,
@@ -235,14 +240,6 @@ fn text_pair<'a>(matches: &ArgMatches<'a>, first: &str, second: &str) -> Option<
     }
 }
 
-/// The memory model: TSO where none is named.
-fn order(matches: &ArgMatches<'_>) -> Order
-    ensures { result ≡ chosen_order (first_of (codes "model") (rows_of (found_of matches.now))) }
-{
-    let named = matches.get_str("model").and_then(order_named);
-    named.unwrap_or(Order::Tso)
-}
-
 /// What the options say of a shape.
 fn shape_numbers(matches: &ArgMatches<'_>) -> ShapeNumbers
     ensures { result ≡ shape_of (given_in shape_parameters (rows_of (found_of matches.now))) }
@@ -277,14 +274,6 @@ fn printing(matches: &ArgMatches<'_>) -> Option<Printing>
         (false, true) => Some(Printing::Explanation),
         (true, true) => None,
     }
-}
-
-/// How the lines of a batch are written: in words where no format is named.
-fn format(matches: &ArgMatches<'_>) -> BatchFormat
-    ensures { result ≡ chosen_format (first_of (codes "format") (rows_of (found_of matches.now))) }
-{
-    let named = matches.get_str("format").and_then(format_named);
-    named.unwrap_or(BatchFormat::Words)
 }
 
 /// What the options say of what is printed of a batch.
@@ -334,28 +323,6 @@ fn unit_options(matches: &ArgMatches<'_>) -> UnitOptions
     }
 }
 
-/// The number of a trace among those that stand one after the other; none where it is left out.
-fn nth(matches: &ArgMatches<'_>) -> Option<u64>
-    ensures { result ≡ number_of (one_of (codes "nth") (rows_of (found_of matches.now))) }
-{
-    matches.get_one("nth")
-}
-
-/// The number of workers, 1 where none is named.
-fn workers(matches: &ArgMatches<'_>) -> usize
-    ensures { result ≡ within 1 worker_limit (number_or 1 (one_of (codes "workers") (rows_of (found_of matches.now)))) }
-{
-    number_within(matches, "workers", 1, 1, MAX_WORKERS as u64) as usize
-}
-
-/// How many turns a drainer takes, none where they are left out.
-fn drain_turns(matches: &ArgMatches<'_>) -> u64
-    ensures value { result ≡ within 0 drain_turns_limit (number_or 0 (one_of (codes "drain-turns") (rows_of (found_of matches.now)))) }
-    ensures range { result ≤ drain_turns_limit }
-{
-    number_within(matches, "drain-turns", 0, 0, MAX_DRAIN_TURNS)
-}
-
 /// What is told of what reads files, which has a flag for reasons of faults.
 pub(crate) fn verbose_notes(matches: &ArgMatches<'_>) -> Notes
     ensures { let rows = rows_of (found_of matches.now) in (result.verbose ≡ is_true (one_of (codes "verbose") rows)) × (result.progress ≡ false) }
@@ -384,29 +351,4 @@ pub(crate) fn both_notes(matches: &ArgMatches<'_>) -> Notes
         verbose: is_used(matches, "verbose"),
         progress: is_used(matches, "progress"),
     }
-}
-
-/// Whether the flag of this name is used.
-fn is_used(matches: &ArgMatches<'_>, name: &str) -> bool
-    ensures { result ≡ is_true (one_of name.now (rows_of (found_of matches.now))) }
-{
-    matches.get_one(name).unwrap_or(false)
-}
-
-/// The number of the option of this name, and the default where there is none, clamped: the command has refused numbers
-/// out of range, but what `clap` promises of the values of a subcommand doesn't say so.
-fn number_within(matches: &ArgMatches<'_>, name: &str, default: u64, least: u64, most: u64) -> u64
-    requires { least ≤ most }
-    ensures value { result ≡ within least most (number_or default (one_of name.now (rows_of (found_of matches.now)))) }
-    ensures range { (least ≤ result) × (result ≤ most) }
-{
-    number(matches, name, default).clamp(least, most)
-}
-
-/// The number of the option of this name, and the default where there is none.
-fn number(matches: &ArgMatches<'_>, name: &str, default: u64) -> u64
-    ensures { result ≡ number_or default (one_of name.now (rows_of (found_of matches.now))) }
-{
-    let named: Option<u64> = matches.get_one(name);
-    named.unwrap_or(default)
 }

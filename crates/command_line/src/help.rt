@@ -23,11 +23,15 @@ judged against Total Store Order. Of version 2, `tso trace 2`, it may have
 8,000 events in place of 2,000, and lines as `init 1 7` say what memory has at
 first.
 
+Where `tsobench judge` finds no violation there may be one. `tsobench decide`
+looks on, for an order that meets the axioms of the memory model or for a proof
+that there is none; `tsobench verify` checks either.
+
 Exit status:
-  0  no violation was found, which proves nothing about the trace
-  1  no violation of a log was found, and the search ended early
+  0  no violation was found, which proves nothing, or the trace is consistent
+  1  no violation was found, and the search in a log or by cases ended early
   2  a text or the command line was refused
-  3  the trace violates its memory model, or the certificate holds
+  3  the trace violates its memory model, or the certificate or refutation holds
   4  a fault, which one line on standard error names
 
 Example:

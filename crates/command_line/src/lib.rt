@@ -10,6 +10,7 @@ mod options;
 mod parameters;
 mod requests;
 mod subcommands;
+mod values;
 
 pub use options::{
     BatchFormat, BatchPrinting, CampaignOptions, LogForm, LogOptions, MAX_CAPACITY,
@@ -17,6 +18,6 @@ pub use options::{
     Printing, RunOptions, ShapeNumbers, UnitKind, UnitOptions,
 };
 pub use requests::{
-    BatchRequest, CheckRequest, CommandLine, JudgeRequest, LogRequest, Notes, ReduceRequest,
-    Request, RunRequest, TextPair, read_arguments,
+    BatchRequest, CheckRequest, CommandLine, DecideRequest, JudgeRequest, LogRequest, Notes,
+    ReduceRequest, Request, RunRequest, TextPair, read_arguments,
 };

@@ -55,6 +55,19 @@ pub struct JudgeRequest<'a> {
     pub presentation: Presentation,
 }
 
+/// Of which trace it is decided whether it has an order that meets the axioms of its memory model, and with what effort.
+#[derive(Clone, Copy, Debug)]
+pub struct DecideRequest<'a> {
+    /// The file with the trace; standard input where none is named.
+    pub file: Option<&'a str>,
+    /// The number of workers, 1 to 64.
+    pub workers: usize,
+    /// Which of the traces that stand there one after the other is decided, from 1; none where it is the only one.
+    pub nth: Option<u64>,
+    /// How many cases are looked at, at most.
+    pub effort: u64,
+}
+
 /// Which trace is reduced.
 #[derive(Clone, Copy, Debug)]
 pub struct ReduceRequest<'a> {
@@ -64,10 +77,10 @@ pub struct ReduceRequest<'a> {
     pub nth: Option<u64>,
 }
 
-/// Which certificate is checked, and against which trace.
+/// Which certificate, or which evidence, is checked against which trace.
 #[derive(Clone, Copy, Debug)]
 pub struct CheckRequest<'a> {
-    /// The trace, and the certificate.
+    /// The trace, and the certificate or the evidence.
     pub texts: TextPair<'a>,
     /// Which of the traces that stand one after the other in the first text it is, from 1; none where it is the only one.
     pub nth: Option<u64>,
@@ -98,6 +111,8 @@ pub struct LogRequest<'a> {
 pub enum Request<'a> {
     /// To judge one trace.
     Judge(JudgeRequest<'a>),
+    /// To decide whether a trace has an order that meets the axioms of its memory model.
+    Decide(DecideRequest<'a>),
     /// To reduce a trace to a small one that shows its violation.
     Reduce(ReduceRequest<'a>),
     /// To judge traces that stand one after the other.
@@ -106,6 +121,8 @@ pub enum Request<'a> {
     Log(LogRequest<'a>),
     /// To check a certificate against its trace.
     Check(CheckRequest<'a>),
+    /// To check evidence on a trace: that it has an order that meets the axioms of its memory model, or none.
+    Verify(CheckRequest<'a>),
     /// To replay a program, the first text, by a schedule, the second.
     Replay {
         options: RunOptions,

@@ -19,6 +19,7 @@ use std::alloc::{AllocError, Global};
 mod batch;
 mod campaign;
 mod check;
+mod decide;
 mod draw;
 mod explain;
 mod judge;
@@ -28,6 +29,7 @@ mod reduce;
 mod replay;
 mod run;
 mod shared;
+mod verify;
 
 /// The version of the program.
 const VERSION: &str = "0.9.0";
@@ -36,12 +38,14 @@ const VERSION: &str = "0.9.0";
 #[derive(Clone, Copy)]
 enum Subcommand {
     Judge,
+    Decide,
     Explain,
     Draw,
     Reduce,
     Batch,
     Log,
     Check,
+    Verify,
     Replay,
     Run,
     Make,
@@ -49,14 +53,16 @@ enum Subcommand {
 }
 
 /// All of them, as the help lists them.
-static SUBCOMMANDS: [Subcommand; 11] = [
+static SUBCOMMANDS: [Subcommand; 13] = [
     Subcommand::Judge,
+    Subcommand::Decide,
     Subcommand::Explain,
     Subcommand::Draw,
     Subcommand::Reduce,
     Subcommand::Batch,
     Subcommand::Log,
     Subcommand::Check,
+    Subcommand::Verify,
     Subcommand::Replay,
     Subcommand::Run,
     Subcommand::Make,
@@ -71,12 +77,14 @@ impl Subcommand {
     {
         match self {
             Subcommand::Judge => &judge::JUDGE,
+            Subcommand::Decide => &decide::DECIDE,
             Subcommand::Explain => &explain::EXPLAIN,
             Subcommand::Draw => &draw::DRAW,
             Subcommand::Reduce => &reduce::REDUCE,
             Subcommand::Batch => &batch::BATCH,
             Subcommand::Log => &log::LOG,
             Subcommand::Check => &check::CHECK,
+            Subcommand::Verify => &verify::VERIFY,
             Subcommand::Replay => &replay::REPLAY,
             Subcommand::Run => &run::RUN,
             Subcommand::Make => &make::MAKE,
@@ -110,12 +118,14 @@ impl Subcommand {
     {
         match self {
             Subcommand::Judge => Ok(found::judge(matches, Presentation::Report)),
+            Subcommand::Decide => Ok(found::decide(matches)),
             Subcommand::Explain => Ok(found::judge(matches, Presentation::Explanation)),
             Subcommand::Draw => Ok(found::judge(matches, Presentation::Picture)),
             Subcommand::Reduce => Ok(found::reduce(matches)),
             Subcommand::Batch => found::batch(alloc, matches),
             Subcommand::Log => found::log(alloc, matches),
             Subcommand::Check => found::check(alloc, matches),
+            Subcommand::Verify => found::verify(alloc, matches),
             Subcommand::Replay => found::replay(alloc, matches),
             Subcommand::Run => found::run(alloc, matches),
             Subcommand::Make => Ok(found::make(matches)),
@@ -129,10 +139,12 @@ impl Subcommand {
     {
         match self {
             Subcommand::Judge
+            | Subcommand::Decide
             | Subcommand::Explain
             | Subcommand::Draw
             | Subcommand::Reduce
             | Subcommand::Check
+            | Subcommand::Verify
             | Subcommand::Replay
             | Subcommand::Run => found::verbose_notes(matches),
             Subcommand::Batch | Subcommand::Log => found::both_notes(matches),

@@ -1,11 +1,14 @@
 //! What arguments ask for, and the texts of help and of refusals.
 
-use command_line::{CampaignOptions, Request, RunOptions, ShapeNumbers, TextPair, read_arguments};
+use command_line::{
+    CampaignOptions, CheckRequest, Request, RunOptions, ShapeNumbers, TextPair, read_arguments,
+};
 use std::alloc::{AllocError, Global};
 use std::process::Abort;
 use std::test::Fail;
 
 mod accepted;
+mod decisions;
 mod help;
 mod notes;
 mod refused;
@@ -62,6 +65,15 @@ fn described_nth(alloc: Global, nth: Option<u64>) -> Result<String, AllocError> 
     }
 }
 
+/// The texts of a check, and the number of its trace, as text.
+fn described_check(alloc: Global, check: &CheckRequest<'_>) -> Result<String, AllocError> {
+    let word = match check.nth {
+        Some(number) => format!(in alloc; "nth {number} against")?,
+        None => String::from_str(alloc, "against")?,
+    };
+    described_texts(alloc, check.texts, word.as_str())
+}
+
 /// What a request is, as one line of text with the texts that it shows.
 fn described(alloc: Global, request: &Request<'_>) -> Result<String, AllocError> {
     match request {
@@ -70,6 +82,13 @@ fn described(alloc: Global, request: &Request<'_>) -> Result<String, AllocError>
             format!(in alloc;
                 "{:?} of {:?}{nth} with {}",
                 judge.presentation, judge.file, judge.workers
+            )
+        }
+        Request::Decide(decide) => {
+            let nth = described_nth(alloc, decide.nth)?;
+            format!(in alloc;
+                "decide {:?}{nth} by {} cases with {}",
+                decide.file, decide.effort, decide.workers
             )
         }
         Request::Reduce(reduce) => {
@@ -90,12 +109,12 @@ fn described(alloc: Global, request: &Request<'_>) -> Result<String, AllocError>
             log.file, log.options.most, log.options.effort, log.options.form
         ),
         Request::Check(check) => {
-            let word = match check.nth {
-                Some(number) => format!(in alloc; "nth {number} against")?,
-                None => String::from_str(alloc, "against")?,
-            };
-            let texts = described_texts(alloc, check.texts, word.as_str())?;
+            let texts = described_check(alloc, check)?;
             format!(in alloc; "check {texts}")
+        }
+        Request::Verify(check) => {
+            let texts = described_check(alloc, check)?;
+            format!(in alloc; "verify {texts}")
         }
         Request::Replay { options, texts } => {
             let texts = described_texts(alloc, *texts, "by")?;

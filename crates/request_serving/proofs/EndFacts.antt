@@ -7,6 +7,7 @@ use Rattle.std.specs.Io.KnownBytes.{Keeps}
 use Rattle.command_line.specs.declared.options.Presentation.{Presentation}
 use Rattle.std.proofs.lemmas.List.{append-nil}
 use Rattle.trace_reports.specs.declared.verdicts.Verdict.{Verdict}
+use Rattle.trace_reports.specs.declared.verdicts.Verdict.TheVariants.{Refused}
 use Rattle.trace_judging.specs.declared.faults.Fault.{Fault}
 use Rattle.trace_judging.specs.declared.faults.Fault.TheVariants.{Write}
 use Rattle.trace_judging.specs.WrittenReports.{LeavesAtFault, WritesWhole}
@@ -32,19 +33,19 @@ known_reads None remaining has Is reads = record { bytes = reads.bytes; of_read 
 known_reads (Some all) remaining has Is reads = subst (λ r. ReadsAs r Is) has reads
 
 -- what is said of the trace that is asked for follows from what else is said of it
-said_as_well : (A B : List ℕ → List ℕ → Verdict → Type 0) → ((trace text : List ℕ) (verdict : Verdict) → A trace text verdict → B trace text verdict) → (nth : Option ℕ) (input text : List ℕ) (verdict : Verdict) →
-    IsSaidOfNth nth A input text verdict → IsSaidOfNth nth B input text verdict
-said_as_well A B implied None input text verdict said = implied input text verdict said
-said_as_well A B implied (Some number) input text verdict (None, piece, said) = (None, piece, said)
-said_as_well A B implied (Some number) input text verdict (Some trace, piece, said) = (Some trace, piece, implied trace text verdict said)
+pub said_as_well : {X : Type 0} (refused : X) (A B : List ℕ → List ℕ → X → Type 0) → ((trace text : List ℕ) (said : X) → A trace text said → B trace text said) → (nth : Option ℕ) (input text : List ℕ) (said : X) →
+    IsSaidOfNth refused nth A input text said → IsSaidOfNth refused nth B input text said
+said_as_well refused A B implied None input text said is = implied input text said is
+said_as_well refused A B implied (Some number) input text said (None, piece, is) = (None, piece, is)
+said_as_well refused A B implied (Some number) input text said (Some trace, piece, is) = (Some trace, piece, implied trace text said is)
 
 pub check_of_known : (nth : Option ℕ) (trace traces cert certs : Option (List ℕ)) → HasKnown trace traces → HasKnown cert certs → (text : List ℕ) (verdict : Verdict) → IsCheckOfNth nth traces certs text verdict →
     IsCheckOfNth nth trace cert text verdict
 check_of_known nth trace traces cert certs has also text verdict report =
     let implied : (bytes text : List ℕ) (verdict : Verdict) → IsCheckedBy certs bytes text verdict → IsCheckedBy cert bytes text verdict =
     λ bytes text verdict. known_reads cert certs also (λ other. IsCheckReport bytes other text verdict) in
-    known_reads trace traces has (λ input. IsSaidOfNth nth (IsCheckedBy cert) input text verdict)
-    (reads_more (λ input. said_as_well (IsCheckedBy certs) (IsCheckedBy cert) implied nth input text verdict) traces report)
+    known_reads trace traces has (λ input. IsSaidOfNth Refused nth (IsCheckedBy cert) input text verdict)
+    (reads_more (λ input. said_as_well Refused (IsCheckedBy certs) (IsCheckedBy cert) implied nth input text verdict) traces report)
 
 -- what is written of one kind of text is written of any kind that it is
 pub writes_as : {X E : Type 0} (A B : List ℕ → X → Type 0) → ((text : List ℕ) (said : X) → A text said → B text said) → (old new : Option (List ℕ)) (outcome : Result X E) →
@@ -65,7 +66,7 @@ faults_as A B implied old new (Err fault) leaves = leaves_as A B implied old new
 pub presented_of_known : (presentation : Presentation) (nth : Option ℕ) (known remaining : Option (List ℕ)) → HasKnown known remaining → (text : List ℕ) (verdict : Verdict) →
     IsPresented presentation nth remaining text verdict → IsPresented presentation nth known text verdict
 presented_of_known presentation nth known remaining has text verdict =
-    known_reads known remaining has (λ input. IsSaidOfNth nth (IsTextOfInput (said_as presentation) (refused_as presentation)) input text verdict)
+    known_reads known remaining has (λ input. IsSaidOfNth Refused nth (IsTextOfInput (said_as presentation) (refused_as presentation)) input text verdict)
 
 -- ---- files opened
 

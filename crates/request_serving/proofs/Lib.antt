@@ -1,5 +1,6 @@
 pub mod BatchingFacts
 pub mod CampaigningFacts
+pub mod DecidingFacts
 pub mod LoggingFacts
 pub mod EndFacts
 pub mod LawfulFacts

@@ -24,7 +24,7 @@ use Rattle.trace_reports.proofs.ReadingFacts.{reads_more}
 use Rattle.tso_text.specs.Refusals.{IsRefusedTrace}
 use Rattle.tso_text.proofs.TextLaws.{trace_laws}
 use Rattle.request_serving.specs.Endings.{IsCheckOfNth, IsCheckedBy, IsPresented, refused_as, said_as}
-use Rattle.request_serving.specs.NthTraces.{IsRefusedNth, IsSaidOf, IsSaidOfNth, nth_refusal}
+use Rattle.request_serving.specs.NthTraces.{IsRefusedNth, IsSaidOfNth, nth_refusal}
 use Rattle.request_serving.proofs.EndFacts.{faults_as, writes_as}
 
 -- ---- what is said of the first bytes of a piece is said of the piece
@@ -64,36 +64,36 @@ none_is : (piece : Option (List ℕ)) → None ≡ option_map (take trace_read_l
 none_is None same = refl
 none_is (Some trace) same = absurd (true≢false (sym (ap (λ o. is_some o) same)))
 
-module _ (Is : List ℕ → List ℕ → Verdict → Type 0) (of_first : (piece text : List ℕ) (verdict : Verdict) → Is (take trace_read_limit piece) text verdict → Is piece text verdict) (number : ℕ)
-    (remaining : Option (List ℕ)) where
-  pub said_of_kept : (kept : List ℕ) → ReadsAs remaining (λ stream. IsKeptOfNth number stream (Some kept)) → (text : List ℕ) (verdict : Verdict) → Is kept text verdict →
-      ReadsAs remaining (λ stream. IsSaidOfNth (Some number) Is stream text verdict)
-  said_of_kept kept reads text verdict is = reads_more go remaining reads
+module _ {X : Type 0} (refused : X) (Is : List ℕ → List ℕ → X → Type 0) (of_first : (piece text : List ℕ) (said : X) → Is (take trace_read_limit piece) text said → Is piece text said)
+    (number : ℕ) (remaining : Option (List ℕ)) where
+  pub said_of_kept : (kept : List ℕ) → ReadsAs remaining (λ stream. IsKeptOfNth number stream (Some kept)) → (text : List ℕ) (said : X) → Is kept text said →
+      ReadsAs remaining (λ stream. IsSaidOfNth refused (Some number) Is stream text said)
+  said_of_kept kept reads text said is = reads_more go remaining reads
     where
-      go : (stream : List ℕ) → IsKeptOfNth number stream (Some kept) → IsSaidOfNth (Some number) Is stream text verdict
+      go : (stream : List ℕ) → IsKeptOfNth number stream (Some kept) → IsSaidOfNth refused (Some number) Is stream text said
       go stream of =
           let trace = kept_is kept of.0 of.2 in
-          (Some trace.0, subst (IsNthPiece number stream) trace.1 of.1, of_first trace.0 text verdict (subst (λ bytes. Is bytes text verdict) trace.2 is))
+          (Some trace.0, subst (IsNthPiece number stream) trace.1 of.1, of_first trace.0 text said (subst (λ bytes. Is bytes text said) trace.2 is))
 
-  said_of_none : ReadsAs remaining (λ stream. IsKeptOfNth number stream None) → (text : List ℕ) (verdict : Verdict) → text ≡ nth_refusal → verdict ≡ Refused →
-      ReadsAs remaining (λ stream. IsSaidOfNth (Some number) Is stream text verdict)
-  said_of_none reads text verdict same refused = reads_more go remaining reads
+  said_of_none : ReadsAs remaining (λ stream. IsKeptOfNth number stream None) → (text : List ℕ) (said : X) → text ≡ nth_refusal → said ≡ refused →
+      ReadsAs remaining (λ stream. IsSaidOfNth refused (Some number) Is stream text said)
+  said_of_none reads text said same answered = reads_more go remaining reads
     where
-      go : (stream : List ℕ) → IsKeptOfNth number stream None → IsSaidOfNth (Some number) Is stream text verdict
-      go stream of = (None, subst (IsNthPiece number stream) (none_is of.0 of.2) of.1, (same, refused))
+      go : (stream : List ℕ) → IsKeptOfNth number stream None → IsSaidOfNth refused (Some number) Is stream text said
+      go stream of = (None, subst (IsNthPiece number stream) (none_is of.0 of.2) of.1, (same, answered))
 
   -- that there are fewer was written, or a prefix of it
-  pub fewer_written : ReadsAs remaining (λ stream. IsKeptOfNth number stream None) → (old new : Option (List ℕ)) (outcome : Result Verdict Fault) → IfOk outcome (λ verdict. (verdict ≡ Refused) × Appends old new nth_refusal) →
-      IfOk outcome (WritesWhole (λ text verdict. ReadsAs remaining (λ stream. IsSaidOfNth (Some number) Is stream text verdict)) old new)
-  fewer_written reads old new (Ok verdict) wrote = (nth_refusal, said_of_none reads nth_refusal verdict refl wrote.0, wrote.1)
+  pub fewer_written : ReadsAs remaining (λ stream. IsKeptOfNth number stream None) → (old new : Option (List ℕ)) (outcome : Result X Fault) → IfOk outcome (λ said. (said ≡ refused) × Appends old new nth_refusal) →
+      IfOk outcome (WritesWhole (λ text said. ReadsAs remaining (λ stream. IsSaidOfNth refused (Some number) Is stream text said)) old new)
+  fewer_written reads old new (Ok said) wrote = (nth_refusal, said_of_none reads nth_refusal said refl wrote.0, wrote.1)
   fewer_written reads old new (Err fault) wrote = tt
 
-  pub fewer_left : ReadsAs remaining (λ stream. IsKeptOfNth number stream None) → (old new : Option (List ℕ)) (outcome : Result Verdict Fault) → IfErr outcome (λ fault. (fault ≡ Write) × AppendsPrefix old new nth_refusal) →
-      IfErr outcome (LeavesAtFault (λ text verdict. ReadsAs remaining (λ stream. IsSaidOfNth (Some number) Is stream text verdict)) old new)
-  fewer_left reads old new (Ok verdict) left = tt
+  pub fewer_left : ReadsAs remaining (λ stream. IsKeptOfNth number stream None) → (old new : Option (List ℕ)) (outcome : Result X Fault) → IfErr outcome (λ fault. (fault ≡ Write) × AppendsPrefix old new nth_refusal) →
+      IfErr outcome (LeavesAtFault (λ text said. ReadsAs remaining (λ stream. IsSaidOfNth refused (Some number) Is stream text said)) old new)
+  fewer_left reads old new (Ok said) left = tt
   fewer_left reads old new (Err fault) left =
-      leaves_prefix (λ text verdict. ReadsAs remaining (λ stream. IsSaidOfNth (Some number) Is stream text verdict)) old new nth_refusal nth_refusal Refused fault
-      (said_of_none reads nth_refusal Refused refl refl) refl left.1 left.0
+      leaves_prefix (λ text said. ReadsAs remaining (λ stream. IsSaidOfNth refused (Some number) Is stream text said)) old new nth_refusal nth_refusal refused fault
+      (said_of_none reads nth_refusal refused refl refl) refl left.1 left.0
 
 -- what was kept of the piece, as it was read
 pub kept_read : (number : ℕ) (remaining : Option (List ℕ)) (found : Option (Vec ℕ)) (piece : Vec ℕ) (bytes : List ℕ) → ReadsAs remaining (λ stream. IsKeptOfNth number stream (option_map (λ piece. piece.items) found)) →
@@ -114,7 +114,7 @@ module _ (presentation : Presentation) (number : ℕ) (remaining : Option (List 
 
   module _ (kept : List ℕ) (reads : ReadsAs remaining (λ stream. IsKeptOfNth number stream (Some kept))) where
     of_kept : (text : List ℕ) (verdict : Verdict) → IsTextOfReader (said_as presentation) (refused_as presentation) (Some kept) text verdict → IsPresented presentation (Some number) remaining text verdict
-    of_kept text verdict is = said_of_kept IsText (presented_of_first presentation) number remaining kept reads text verdict is.of_all
+    of_kept text verdict is = said_of_kept Refused IsText (presented_of_first presentation) number remaining kept reads text verdict is.of_all
 
     pub nth_presented : IfOk outcome (WritesWhole (IsTextOfReader (said_as presentation) (refused_as presentation) (Some kept)) old new) →
         IfOk outcome (WritesWhole (IsPresented presentation (Some number) remaining) old new)
@@ -126,17 +126,17 @@ module _ (presentation : Presentation) (number : ℕ) (remaining : Option (List 
 
   module _ (reads : ReadsAs remaining (λ stream. IsKeptOfNth number stream None)) where
     pub fewer_presented : IfOk outcome (λ verdict. (verdict ≡ Refused) × Appends old new nth_refusal) → IfOk outcome (WritesWhole (IsPresented presentation (Some number) remaining) old new)
-    fewer_presented = fewer_written IsText (presented_of_first presentation) number remaining reads old new outcome
+    fewer_presented = fewer_written Refused IsText (presented_of_first presentation) number remaining reads old new outcome
 
     pub fewer_presented_left : IfErr outcome (λ fault. (fault ≡ Write) × AppendsPrefix old new nth_refusal) → IfErr outcome (LeavesAtFault (IsPresented presentation (Some number) remaining) old new)
-    fewer_presented_left = fewer_left IsText (presented_of_first presentation) number remaining reads old new outcome
+    fewer_presented_left = fewer_left Refused IsText (presented_of_first presentation) number remaining reads old new outcome
 
 -- ---- a certificate against the trace of a number
 
 module _ (number : ℕ) (traces certs : Option (List ℕ)) (old new : Option (List ℕ)) (outcome : Result Verdict Fault) where
   module _ (kept : List ℕ) (reads : ReadsAs traces (λ stream. IsKeptOfNth number stream (Some kept))) where
     checked_kept : (text : List ℕ) (verdict : Verdict) → IsCheckReportOfReaders (Some kept) certs text verdict → IsCheckOfNth (Some number) traces certs text verdict
-    checked_kept text verdict is = said_of_kept (IsCheckedBy certs) (checked_of_first certs) number traces kept reads text verdict is.of_all
+    checked_kept text verdict is = said_of_kept Refused (IsCheckedBy certs) (checked_of_first certs) number traces kept reads text verdict is.of_all
 
     pub nth_checked : IfOk outcome (WritesWhole (IsCheckReportOfReaders (Some kept) certs) old new) → IfOk outcome (WritesWhole (IsCheckOfNth (Some number) traces certs) old new)
     nth_checked = writes_as _ _ checked_kept old new outcome
@@ -146,10 +146,10 @@ module _ (number : ℕ) (traces certs : Option (List ℕ)) (old new : Option (Li
 
   module _ (reads : ReadsAs traces (λ stream. IsKeptOfNth number stream None)) where
     pub fewer_checked : IfOk outcome (λ verdict. (verdict ≡ Refused) × Appends old new nth_refusal) → IfOk outcome (WritesWhole (IsCheckOfNth (Some number) traces certs) old new)
-    fewer_checked = fewer_written (IsCheckedBy certs) (checked_of_first certs) number traces reads old new outcome
+    fewer_checked = fewer_written Refused (IsCheckedBy certs) (checked_of_first certs) number traces reads old new outcome
 
     pub fewer_checked_left : IfErr outcome (λ fault. (fault ≡ Write) × AppendsPrefix old new nth_refusal) → IfErr outcome (LeavesAtFault (IsCheckOfNth (Some number) traces certs) old new)
-    fewer_checked_left = fewer_left (IsCheckedBy certs) (checked_of_first certs) number traces reads old new outcome
+    fewer_checked_left = fewer_left Refused (IsCheckedBy certs) (checked_of_first certs) number traces reads old new outcome
 
 -- a piece that is refused is so by what was kept of it
 pub unread_by_kept : {P : Type 0} (number : ℕ) (traces : Option (List ℕ)) (kept : List ℕ) → ReadsAs traces (λ stream. IsKeptOfNth number stream (Some kept)) → (IsRefusedTrace kept → P) →

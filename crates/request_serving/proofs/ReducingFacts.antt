@@ -1,7 +1,7 @@
 -- Lemmas on what `reduce` prints.
-use Rattle.std.proofs.Common.{ℕ, List, None, Some, Ok, Err, Result, IfOk, IfErr, take, ◌≡◌}
-use Rattle.std.specs.Prelude.{OnErr, Option}
-use Rattle.std.specs.Io.KnownBytes.{Appends, Keeps}
+use Rattle.std.proofs.Common.{ℕ, List, None, Some, Result, IfOk, IfErr, ◌≡◌}
+use Rattle.std.specs.Prelude.{Option}
+use Rattle.std.specs.Io.KnownBytes.{Appends}
 use Rattle.trace_batches.specs.NthPieces.{IsKeptOfNth}
 use Rattle.trace_judging.specs.declared.faults.Fault.{Fault}
 use Rattle.trace_judging.specs.declared.faults.Fault.TheVariants.{Write}
@@ -20,14 +20,14 @@ use Rattle.request_serving.proofs.NthFacts.{fewer_left, fewer_written, said_of_k
 
 -- what is said of a file of which less may be known
 pub reduced_of_known : (nth : Option ℕ) (known remaining : Option (List ℕ)) → HasKnown known remaining → (text : List ℕ) (verdict : Verdict) → IsReduced nth remaining text verdict → IsReduced nth known text verdict
-reduced_of_known nth known remaining has text verdict = known_reads known remaining has (λ input. IsSaidOfNth nth IsReductionOf input text verdict)
+reduced_of_known nth known remaining has text verdict = known_reads known remaining has (λ input. IsSaidOfNth Refused nth IsReductionOf input text verdict)
 
 -- ---- the trace of a number
 
 module _ (number : ℕ) (remaining : Option (List ℕ)) (old new : Option (List ℕ)) (outcome : Result Verdict Fault) where
   module _ (kept : List ℕ) (reads : ReadsAs remaining (λ stream. IsKeptOfNth number stream (Some kept))) where
     of_kept : (text : List ℕ) (verdict : Verdict) → IsReductionOfReader (Some kept) text verdict → IsReduced (Some number) remaining text verdict
-    of_kept text verdict is = said_of_kept IsReductionOf reduction_of_prefix number remaining kept reads text verdict is.of_all
+    of_kept text verdict is = said_of_kept Refused IsReductionOf reduction_of_prefix number remaining kept reads text verdict is.of_all
 
     pub nth_reduced : IfOk outcome (WritesWhole (IsReductionOfReader (Some kept)) old new) → IfOk outcome (WritesWhole (IsReduced (Some number) remaining) old new)
     nth_reduced = writes_as _ _ of_kept old new outcome
@@ -37,7 +37,7 @@ module _ (number : ℕ) (remaining : Option (List ℕ)) (old new : Option (List 
 
   module _ (reads : ReadsAs remaining (λ stream. IsKeptOfNth number stream None)) where
     pub fewer_reduced : IfOk outcome (λ verdict. (verdict ≡ Refused) × Appends old new nth_refusal) → IfOk outcome (WritesWhole (IsReduced (Some number) remaining) old new)
-    fewer_reduced = fewer_written IsReductionOf reduction_of_prefix number remaining reads old new outcome
+    fewer_reduced = fewer_written Refused IsReductionOf reduction_of_prefix number remaining reads old new outcome
 
     pub fewer_reduced_left : IfErr outcome (λ fault. (fault ≡ Write) × AppendsPrefix old new nth_refusal) → IfErr outcome (LeavesAtFault (IsReduced (Some number) remaining) old new)
-    fewer_reduced_left = fewer_left IsReductionOf reduction_of_prefix number remaining reads old new outcome
+    fewer_reduced_left = fewer_left Refused IsReductionOf reduction_of_prefix number remaining reads old new outcome

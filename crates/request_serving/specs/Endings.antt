@@ -3,6 +3,7 @@ use Rattle.std.specs.Prelude.{◌≡◌, ◌≢◌, ◌⊎◌, ℕ, List, [], �
 use Rattle.std.specs.Fmt.{decimal}
 use Rattle.std.specs.Io.KnownBytes.{Appends, Keeps}
 use Rattle.trace_reports.specs.declared.verdicts.Verdict.{Verdict}
+use Rattle.trace_reports.specs.declared.verdicts.Verdict.TheVariants.{Refused}
 use Rattle.trace_judging.specs.declared.faults.Fault.{Fault}
 use Rattle.trace_judging.specs.declared.faults.Fault.TheVariants.{OutOfMemory, Read, Write, NoThread, Missing}
 use Rattle.trace_judging.specs.Streams.{AppendsPrefix}
@@ -16,10 +17,10 @@ use Rattle.trace_reports.specs.Reports.{refusal_shown, reported}
 use Rattle.trace_batches.specs.Batches.{BatchText, IsBatchFault, LeavesBatch, WritesBatch}
 use Rattle.trace_batches.specs.declared.batches.BatchPrinting.{BatchPrinting}
 use Rattle.log_reports.specs.declared.rendering.LogForm.{LogForm}
-use Rattle.log_reports.specs.declared.reports.LogVerdict.{LogVerdict}
 use Rattle.log_reports.specs.LogReports.{IsLogReportOfReader}
 use Rattle.request_serving.specs.Batches.{asked_printing, texts_of_batch}
 use Rattle.request_serving.specs.Campaigning.{IsCampaignText, LeavesCampaignText}
+use Rattle.request_serving.specs.Deciding.{IsDecided, IsVerificationOfNth, status_of_answer}
 use Rattle.request_serving.specs.Logs.{form_of, status_of_log}
 use Rattle.request_serving.specs.MadePrograms.{IsMadeText, LeavesMadeText}
 use Rattle.request_serving.specs.NthTraces.{IsSaidOfNth}
@@ -36,7 +37,7 @@ use Rattle.command_line.specs.declared.requests.Request.TheVariants.{Show, Refus
 use Rattle.command_line.specs.Commands.{IsAskedFor}
 use Rattle.command_line.specs.Refusals.{Refuses}
 use Rattle.command_line.specs.Spellings.{Asks, AsksHelp}
-use Rattle.command_line.specs.Requests.{Asked, Text, judging, reducing, batching, logging, checking, replaying, running, making, campaigning, showing, refusing}
+use Rattle.command_line.specs.Requests.{Asked, Text, judging, deciding, reducing, batching, logging, checking, verifying, replaying, running, making, campaigning, showing, refusing}
 
 -- ---- the lines of faults
 
@@ -96,7 +97,7 @@ refused_as Picture = refusal_shown
 
 -- the verdict on a trace in this form: on the only one of a reader's bytes, or on the one of this number
 abbrev pub IsPresented : Presentation → Option ℕ → Option (List ℕ) → List ℕ → Verdict → Type 0
-IsPresented presentation nth remaining text verdict = ReadsAs remaining (λ input. IsSaidOfNth nth (IsTextOfInput (said_as presentation) (refused_as presentation)) input text verdict)
+IsPresented presentation nth remaining text verdict = ReadsAs remaining (λ input. IsSaidOfNth Refused nth (IsTextOfInput (said_as presentation) (refused_as presentation)) input text verdict)
 
 -- the report of the certificate that a reader has on a trace
 abbrev pub IsCheckedBy : Option (List ℕ) → List ℕ → List ℕ → Verdict → Type 0
@@ -104,13 +105,11 @@ IsCheckedBy certs trace text verdict = ReadsAs certs (λ cert. IsCheckReport tra
 
 -- the report of the certificate on the only trace of another reader's bytes, or on the one of this number
 abbrev pub IsCheckOfNth : Option ℕ → Option (List ℕ) → Option (List ℕ) → List ℕ → Verdict → Type 0
-IsCheckOfNth nth traces certs text verdict = ReadsAs traces (λ input. IsSaidOfNth nth (IsCheckedBy certs) input text verdict)
+IsCheckOfNth nth traces certs text verdict = ReadsAs traces (λ input. IsSaidOfNth Refused nth (IsCheckedBy certs) input text verdict)
 
--- The report of a certificate, of which and of whose trace readers have these bytes. No thread is started for it, so none is refused.
-abbrev pub EndsChecked : Option ℕ → Option (List ℕ) → Option (List ℕ) → Outputs → ℕ → Type 0
-EndsChecked nth traces certs o status =
-    let is_report = IsCheckOfNth nth traces certs in
-    Ends is_report status_of (λ old new fault. (fault ≢ NoThread) × LeavesAtFault is_report old new fault) o status
+-- A text of this kind, with the status of what it says. No thread is started for it, so none is refused.
+abbrev pub EndsWithoutThread : {X : Type 0} → (List ℕ → X → Type 0) → (X → ℕ) → Outputs → ℕ → Type 0
+EndsWithoutThread {X} is_text status_by o status = Ends is_text status_by (λ old new fault. (fault ≢ NoThread) × LeavesAtFault is_text old new fault) o status
 
 -- What is printed of the traces of texts, which stand one after the other: the output grows by the text of their batch, and the errors
 -- by its notes. Or a fault left a prefix of both, and then its line was written to the errors.
@@ -161,10 +160,14 @@ EndsOutOfMemory o status = Keeps o.written_before o.written × EndsByFault OutOf
 -- what was asked for was done, where standard input has these bytes, and the file of each name those
 abbrev pub EndsAsAsked : Asked → Option (List ℕ) → (List ℕ → Option (List ℕ)) → Outputs → ℕ → Type 0
 EndsAsAsked (judging presentation file workers nth) input files o status = EndsByReport (IsPresented presentation nth (text_bytes file input files)) o status
+EndsAsAsked (deciding file workers nth effort) input files o status =
+    let is_text = IsDecided effort nth (text_bytes file input files) in Ends is_text status_of_answer (LeavesAtFault is_text) o status
 EndsAsAsked (reducing file nth) input files o status = EndsWithNotes (IsReduced nth (text_bytes file input files)) status_of o status
 EndsAsAsked (batching texts workers printing) input files o status = EndsBatched (asked_printing printing) (texts_of_batch texts input files) o status
 EndsAsAsked (logging file options) input files o status = EndsLogged (form_of options.form) (text_bytes file input files) o status
-EndsAsAsked (checking trace certificate nth) input files o status = EndsChecked nth (text_bytes trace input files) (text_bytes certificate input files) o status
+EndsAsAsked (checking trace certificate nth) input files o status = EndsWithoutThread (IsCheckOfNth nth (text_bytes trace input files) (text_bytes certificate input files)) status_of o status
+EndsAsAsked (verifying trace evidence nth) input files o status =
+    EndsWithoutThread (IsVerificationOfNth nth (text_bytes trace input files) (text_bytes evidence input files)) status_of_answer o status
 EndsAsAsked (replaying options program schedule) input files o status =
     let is_text = IsReplayText options (text_bytes program input files) (text_bytes schedule input files) in EndsByText is_text (LeavesAtFault is_text) o status
 EndsAsAsked (running options seed turns program) input files o status = EndsRun options (text_bytes program input files) o status

@@ -1,6 +1,7 @@
 pub mod Batches
 pub mod BenchUnits
 pub mod Campaigning
+pub mod Deciding
 pub mod Endings
 pub mod Failures
 pub mod Internal

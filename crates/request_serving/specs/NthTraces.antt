@@ -4,23 +4,21 @@ use Rattle.std.specs.Io.KnownBytes.{Consumes}
 use Rattle.trace_batches.specs.NthPieces.{IsNthPiece}
 use Rattle.trace_judging.specs.Limits.{trace_read_limit}
 use Rattle.trace_judging.specs.Streams.{LosesPrefix}
-use Rattle.trace_reports.specs.declared.verdicts.Verdict.{Verdict}
-use Rattle.trace_reports.specs.declared.verdicts.Verdict.TheVariants.{Refused}
 use Rattle.tso_text.specs.Refusals.{IsRefusedTrace}
 
 -- the line that says that there are fewer traces
 abbrev pub nth_refusal : List ℕ
 nth_refusal = codes "REFUSED Nth" ++ 10 ∷ []
 
--- The text and the verdict are of this piece of a stream; or the text is that line where there is no piece.
-abbrev pub IsSaidOf : (List ℕ → List ℕ → Verdict → Type 0) → Option (List ℕ) → List ℕ → Verdict → Type 0
-IsSaidOf Is (Some piece) text verdict = Is piece text verdict
-IsSaidOf Is None text verdict = (text ≡ nth_refusal) × (verdict ≡ Refused)
+-- The text, and what it says, are of this piece of a stream; or the text is that line, and says that of a refusal, where there is no piece.
+abbrev pub IsSaidOf : {X : Type 0} → X → (List ℕ → List ℕ → X → Type 0) → Option (List ℕ) → List ℕ → X → Type 0
+IsSaidOf {X} refused Is (Some piece) text said = Is piece text said
+IsSaidOf {X} refused Is None text said = (text ≡ nth_refusal) × (said ≡ refused)
 
--- The text and the verdict are of the input, or of its piece of this number.
-abbrev pub IsSaidOfNth : Option ℕ → (List ℕ → List ℕ → Verdict → Type 0) → List ℕ → List ℕ → Verdict → Type 0
-IsSaidOfNth None Is input text verdict = Is input text verdict
-IsSaidOfNth (Some number) Is input text verdict = (piece : Option (List ℕ)) × IsNthPiece number input piece × IsSaidOf Is piece text verdict
+-- The text, and what it says, are of the input, or of its piece of this number.
+abbrev pub IsSaidOfNth : {X : Type 0} → X → Option ℕ → (List ℕ → List ℕ → X → Type 0) → List ℕ → List ℕ → X → Type 0
+IsSaidOfNth {X} refused None Is input text said = Is input text said
+IsSaidOfNth {X} refused (Some number) Is input text said = (piece : Option (List ℕ)) × IsNthPiece number input piece × IsSaidOf refused Is piece text said
 
 -- The input is no trace; or its piece of this number is none, or there are fewer.
 abbrev pub IsRefusedNth : Option ℕ → List ℕ → Type 0

@@ -26,15 +26,17 @@ use trace_judging::Fault;
 ///
 /// Without arguments it judges what the reader has, with one worker, and writes its report; so it does, by the arguments
 /// `judge [--workers N] [FILE]`, for a file; `explain` writes why, `draw` a picture, `batch` a line for each of many traces or
-/// the texts of those that are violations, and `log` the violations of a log. By `check TRACE CERT` it checks a certificate
-/// against a trace. `replay` and `run` execute a program on a memory unit and judge the record, `make` draws a program from a
-/// seed, and `campaign` runs those of many seeds. A file `-` is what the reader has.
+/// the texts of those that are violations, and `log` the violations of a log. `decide` writes an order of a trace that meets
+/// the axioms of its memory model, or a refutation of all orders. `check TRACE CERT` checks a certificate against a trace, and
+/// `verify TRACE EVIDENCE` an order or a refutation. `replay` and `run` execute a program on a memory unit and judge the record,
+/// `make` draws a program from a seed, and `campaign` runs those of many seeds. A file `-` is what the reader has.
 ///
-/// Status 0: no violation was found, or a text was asked for and written. 2: a text, a certificate, a shape or seeds were
-/// refused; or a log or the arguments were, whose refusal is written to `errors`. 3: a violation, or a certificate that
-/// holds. 4: a fault; one line, as `FAULT Read`, is written to `errors`. All files that the arguments name are opened, in
-/// their order, before one is read; but those of `batch` each when its turn comes. At most 1,048,577 bytes of a trace, of a
-/// program and of a schedule are read, 67,108,865 of a certificate; of many traces and of a log all are.
+/// Status 0: no violation was found, a trace has an order or the order holds, or a text was asked for and written. 1: the search
+/// in a log ended early, or nothing was decided. 2: a text, a certificate, evidence, a shape or seeds were refused; or a log or
+/// the arguments were, whose refusal is written to `errors`. 3: a violation, or a certificate or a refutation that holds. 4: a
+/// fault; one line, as `FAULT Read`, is written to `errors`. All files that the arguments name are opened, in their order,
+/// before one is read; but those of `batch` each when its turn comes. At most 1,048,577 bytes of a trace, of a program and of a
+/// schedule are read, 67,108,865 of a certificate and of evidence; of many traces and of a log all are.
 ///
 /// With `--verbose` the diagnostics tell after the line of a fault why a file can't be opened or read, or the reader where they
 /// watch it, and with `--progress` how much is done: on the standard error of their runtime, of which no clause speaks.

@@ -3,6 +3,7 @@ ghost use Rattle.std.specs.Prelude.{◌≡◌, ◌++◌, ◌∷◌, [], IfOk, If
 ghost use Rattle.std.specs.Fmt.{decimal};
 ghost use Rattle.std.specs.Io.KnownBytes.{Keeps};
 ghost use Rattle.trace_judging.specs.Streams.{AppendsPrefix};
+ghost use Rattle.request_serving.specs.Deciding.{status_of_answer};
 ghost use Rattle.request_serving.specs.Endings.{WritesFaultLine};
 ghost use Rattle.request_serving.specs.Failures.{WritesFailureLine};
 ghost use Rattle.request_serving.specs.Logs.{status_of_log};
@@ -12,18 +13,20 @@ use crate::failures::RunFailure;
 use itoa::Buffer;
 use log_reports::LogVerdict;
 use std::io::Write;
+use trace_decisions::Answer;
 use trace_judging::{Fault, Verdict, write_text};
 
-/// The status of a trace in which no violation was found, and of a text that was asked for.
+/// The status of a trace in which no violation was found or which has an order, of an order that holds, and of a text that was
+/// asked for.
 pub(crate) const DONE: u8 = 0;
 
-/// The status of a log in which no violation was found before the search ended early.
+/// The status of a log in which no violation was found before the search ended early, and of a trace on which nothing was decided.
 const ENDED_EARLY: u8 = 1;
 
-/// The status of what was refused: a text, a certificate, or the arguments.
+/// The status of what was refused: a text, a certificate, evidence, or the arguments.
 pub(crate) const REFUSED: u8 = 2;
 
-/// The status of a violation, and of a certificate that holds.
+/// The status of a violation, and of a certificate or a refutation that holds.
 const VIOLATION: u8 = 3;
 
 /// The status of a fault.
@@ -35,6 +38,14 @@ pub(crate) fn end<E: Write>(outcome: Result<Verdict, Fault>, errors: &mut E) -> 
     ensures fault { IfErr outcome (λ fault. WritesFaultLine (E.contents errors.old) (E.contents errors.new) fault × (result ≡ 4)) }
 {
     end_with(outcome.map(status_of), errors)
+}
+
+/// The status of what a decision or evidence says of a trace; or that of a fault, whose line it writes.
+pub(crate) fn end_answer<E: Write>(outcome: Result<Answer, Fault>, errors: &mut E) -> u8
+    ensures answer { IfOk outcome (λ answer. (result ≡ status_of_answer answer) × Keeps (E.contents errors.old) (E.contents errors.new)) }
+    ensures fault { IfErr outcome (λ fault. WritesFaultLine (E.contents errors.old) (E.contents errors.new) fault × (result ≡ 4)) }
+{
+    end_with(outcome.map(status_of_answer), errors)
 }
 
 /// The status of what is said of a log; or that of a fault, whose line it writes.
@@ -120,5 +131,17 @@ fn status_of_log(verdict: LogVerdict) -> u8
         LogVerdict::EndedEarly => ENDED_EARLY,
         LogVerdict::Refused => REFUSED,
         LogVerdict::Violation => VIOLATION,
+    }
+}
+
+/// The status of what a decision or evidence says of a trace.
+fn status_of_answer(answer: Answer) -> u8
+    ensures { result ≡ status_of_answer answer }
+{
+    match answer {
+        Answer::Consistent => DONE,
+        Answer::Undecided => ENDED_EARLY,
+        Answer::Refused => REFUSED,
+        Answer::Violation => VIOLATION,
     }
 }

@@ -7,17 +7,19 @@ ghost use Rattle.request_serving.specs.Endings.{EndsAsAsked, EndsShowing, EndsWi
 ghost use Rattle.request_serving.specs.LawfulRequests.{RunsLawfully, runs_on_lawful_unit};
 ghost use Rattle.request_serving.specs.OpenedFiles.{HasRefusedFirstText, OpensFirst, OpensNext, TakesInput, files_named, reads_input};
 
-use crate::endings::{DONE, REFUSED, end, end_by, end_log, end_run, end_with};
+use crate::endings::{DONE, REFUSED, end, end_answer, end_by, end_log, end_run, end_with};
 use crate::files::Surroundings;
 use crate::serving::batching::batch_named;
 use crate::serving::campaigning::campaign_by;
 use crate::serving::checking::check_named;
+use crate::serving::deciding::decide_named;
 use crate::serving::judging::judge_named;
 use crate::serving::logging::log_named;
 use crate::serving::making::make;
 use crate::serving::reducing::reduce_named;
 use crate::serving::replaying::replay_named;
 use crate::serving::running::run_named;
+use crate::serving::verifying::verify_named;
 use command_line::Request;
 use std::io::{Read, Write};
 use std::sync::Wait;
@@ -27,6 +29,7 @@ use trace_judging::{Fault, MAX_WORKERS, write_text};
 mod batching;
 mod campaigning;
 mod checking;
+mod deciding;
 mod judging;
 mod logging;
 mod making;
@@ -34,6 +37,7 @@ mod numbering;
 mod reducing;
 mod replaying;
 mod running;
+mod verifying;
 
 /// The command line lets just those numbers of workers through that a trace is judged with.
 const _: () = prove!(command_line::MAX_WORKERS == MAX_WORKERS);
@@ -42,15 +46,19 @@ const _: () = prove!(command_line::MAX_WORKERS == MAX_WORKERS);
 ///
 /// `Judge` judges the trace in a file, or else what `reader` has, and writes its report to `writer`, or the explanation of
 /// the verdict. Where the request names a number, it judges that one of the traces that stand there one after the other, or
-/// writes `REFUSED Nth`, with status 2, where there are fewer; so does `Check`. `Reduce` writes a small trace that shows the violation of the trace, with lines on its operations to `errors`. `Batch` writes a line for each of the traces
-/// of texts, or the texts of those that are violations, with their numbers to `errors`. `Log` writes the violations of a
-/// log, or their traces: with status 1 where none was found in the part of the log that was searched. `Check` checks a
-/// certificate against a trace and writes the report of both. The status of those that judge or check is that of the
-/// verdict: 0 where no violation was found, 2 where a text or the certificate was refused, 3 at a violation or a
-/// certificate that holds. `Replay` and `Run` print what a record gives: never a violation where the unit is lawful for
-/// programs of the memory model that the program's text names, so their status isn't 3 there. A run whose request names
-/// turns of a drainer, at most 1,000,000, has one beside its processors. `Show` writes its text to `writer`, with status 0,
-/// and `Refuse` to `errors`, with status 2. At a fault the status is 4 and one line, as `FAULT Read`, is written to
+/// writes `REFUSED Nth`, with status 2, where there are fewer; so do `Decide`, `Reduce`, `Check` and `Verify`. `Decide` writes an
+/// order of the trace that meets the axioms of its memory model, or a refutation of all orders, or that neither was found with as
+/// many cases as the request names. `Reduce` writes a small trace that shows the violation of the trace, with lines on its
+/// operations to `errors`. `Batch` writes a line for each of the traces of texts, or the texts of those that are violations, with
+/// their numbers to `errors`. `Log` writes the violations of a log, or their traces. `Check` checks a certificate against a trace
+/// and writes the report of both; `Verify` checks an order or a refutation, and writes whether it holds.
+///
+/// The status of these is that of what they say: 0 where no violation was found, or there is an order or it holds; 1 where none
+/// was found in the part of a log that was searched, or nothing was decided; 2 where a text, a certificate or evidence was refused;
+/// 3 at a violation, or a certificate or a refutation that holds. `Replay` and `Run` print what a record gives: never a violation
+/// where the unit is lawful for programs of the memory model that the program's text names, so their status isn't 3 there. A run
+/// whose request names turns of a drainer, at most 1,000,000, has one beside its processors. `Show` writes its text to `writer`,
+/// with status 0, and `Refuse` to `errors`, with status 2. At a fault the status is 4 and one line, as `FAULT Read`, is written to
 /// `errors`; a file that can't be opened is the fault Read. All files that the request names are opened, in their order,
 /// before one is read; but those of `Batch` each when its turn comes.
 pub fn serve<H: Threads + Wait + Sync + AllocGlobal, O: Surroundings, R: Read, W: Write, E: Write>(
@@ -77,6 +85,10 @@ pub fn serve<H: Threads + Wait + Sync + AllocGlobal, O: Surroundings, R: Read, W
 {
     match request {
         Request::Judge(request) => end(judge_named(rt, request, files, reader, writer), errors),
+        Request::Decide(request) => {
+            let decided = decide_named(rt, request, files, reader, writer);
+            end_answer(decided, errors)
+        }
         Request::Reduce(request) => {
             let reduced = reduce_named(rt, request, files, reader, writer, errors);
             end(reduced, errors)
@@ -94,6 +106,10 @@ pub fn serve<H: Threads + Wait + Sync + AllocGlobal, O: Surroundings, R: Read, W
         Request::Check(request) => {
             let checked = check_named(rt.alloc(), request, files, reader, writer);
             end(checked, errors)
+        }
+        Request::Verify(request) => {
+            let verified = verify_named(rt.alloc(), request, files, reader, writer);
+            end_answer(verified, errors)
         }
         Request::Replay { options, texts } => {
             let replayed = replay_named(rt, options, *texts, files, reader, writer);

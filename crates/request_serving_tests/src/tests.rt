@@ -1,3 +1,4 @@
+mod decisions;
 mod diagnostics;
 mod drainer;
 mod failures;

@@ -11,7 +11,7 @@ use Rattle.command_line.specs.declared.options.Presentation.TheVariants as form
 use Rattle.command_line.specs.Subcommands as s
 use Rattle.command_line.specs.Subcommands.{subcommands}
 use Rattle.command_line.specs.declared.subcommands.Subcommand.{Subcommand}
-use Rattle.command_line.specs.declared.subcommands.Subcommand.TheVariants.{Judge, Explain, Draw, Reduce, Batch, Log, Check, Replay, Run, Make, Campaign}
+use Rattle.command_line.specs.declared.subcommands.Subcommand.TheVariants.{Judge, Decide, Explain, Draw, Reduce, Batch, Log, Check, Verify, Replay, Run, Make, Campaign}
 use Rattle.command_line.specs.declared.parameters.NameList.{NameList}
 use Rattle.command_line.specs.declared.parameters.Parameter.{Parameter as Declared}
 use Rattle.command_line.specs.declared.parameters.Parameter.TheVariants as declared
@@ -35,12 +35,14 @@ parameter_of (declared.Several id value_name help) = several id.now
 
 abbrev pub member_of : Subcommand → s.Subcommand
 member_of Judge = s.judge_as (codes "judge") form.Report
+member_of Decide = s.decide
 member_of Explain = s.judge_as (codes "explain") form.Explanation
 member_of Draw = s.judge_as (codes "draw") form.Picture
 member_of Reduce = s.reduce
 member_of Batch = s.batch
 member_of Log = s.log
 member_of Check = s.check
+member_of Verify = s.verify
 member_of Replay = s.replay
 member_of Run = s.run
 member_of Make = s.make

@@ -12,7 +12,9 @@ can check. A text that is no trace gets one line, as REFUSED BadLine line 3.
 The report is the same for each number of workers. With --nth K it judges the
 K-th of the traces that stand one after the other, each ended by its line `end`,
 as `tsobench batch` numbers them: one line, REFUSED Nth, says that there are
-fewer, with status 2.
+fewer, with status 2. That no violation was found proves nothing about the
+trace: `tsobench decide` can show whether it has an order that meets the axioms
+of its memory model.
 
 Exit status:
   0  no violation was found, which proves nothing about the trace

@@ -8,8 +8,9 @@ const HELP: &str = "\
 It reads the text of a trace, as `tsobench judge` does. Where the trace is a
 violation it prints the text of a small trace that shows this: some of its
 operations, with other addresses and values, which are a violation by
-themselves, and of which none can be left out; or a load of a value that nothing
-wrote. Violations that differ in their names alone often give the same text: the
+themselves, and of which none can be left out, unless a note on standard error
+says that the search ended early; or a load of a value that nothing wrote.
+Violations that differ in their names alone often give the same text: the
 processors stand in the order of the least text, where there are at most six. On
 standard error a line tells where each operation stands in the trace. Of a trace
 without a violation it prints NO VIOLATION FOUND, and of a text that is no trace

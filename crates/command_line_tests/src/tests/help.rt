@@ -98,12 +98,14 @@ Usage: tsobench [COMMAND]
 
 Commands:
   judge     Judges a trace and prints its report
+  decide    Decides whether a trace has an order that its memory model allows
   explain   Explains in words why a trace is a violation
   draw      Draws a trace and why it is a violation, for Graphviz
   reduce    Reduces a violation to the few operations that show it
   batch     Judges many traces, with a line for each
   log       Finds violations of a log, and prints their lines
   check     Checks a certificate of a violation against its trace
+  verify    Checks an order of a trace, or evidence that there is none
   replay    Replays a program by a schedule, and judges the trace
   run       Runs a program with a thread per processor, and judges the trace
   make      Prints the program that is drawn from a seed, or its schedule
@@ -131,11 +133,15 @@ judged against Total Store Order. Of version 2, `tso trace 2`, it may have
 8,000 events in place of 2,000, and lines as `init 1 7` say what memory has at
 first.
 
+Where `tsobench judge` finds no violation there may be one. `tsobench decide`
+looks on, for an order that meets the axioms of the memory model or for a proof
+that there is none; `tsobench verify` checks either.
+
 Exit status:
-  0  no violation was found, which proves nothing about the trace
-  1  no violation of a log was found, and the search ended early
+  0  no violation was found, which proves nothing, or the trace is consistent
+  1  no violation was found, and the search in a log or by cases ended early
   2  a text or the command line was refused
-  3  the trace violates its memory model, or the certificate holds
+  3  the trace violates its memory model, or the certificate or refutation holds
   4  a fault, which one line on standard error names
 
 Example:
@@ -163,7 +169,9 @@ can check. A text that is no trace gets one line, as REFUSED BadLine line 3.
 The report is the same for each number of workers. With --nth K it judges the
 K-th of the traces that stand one after the other, each ended by its line `end`,
 as `tsobench batch` numbers them: one line, REFUSED Nth, says that there are
-fewer, with status 2.
+fewer, with status 2. That no violation was found proves nothing about the
+trace: `tsobench decide` can show whether it has an order that meets the axioms
+of its memory model.
 
 Exit status:
   0  no violation was found, which proves nothing about the trace
@@ -224,8 +232,9 @@ Options:
 It reads the text of a trace, as `tsobench judge` does. Where the trace is a
 violation it prints the text of a small trace that shows this: some of its
 operations, with other addresses and values, which are a violation by
-themselves, and of which none can be left out; or a load of a value that nothing
-wrote. Violations that differ in their names alone often give the same text: the
+themselves, and of which none can be left out, unless a note on standard error
+says that the search ended early; or a load of a value that nothing wrote.
+Violations that differ in their names alone often give the same text: the
 processors stand in the order of the least text, where there are at most six. On
 standard error a line tells where each operation stands in the trace. Of a trace
 without a violation it prints NO VIOLATION FOUND, and of a text that is no trace

@@ -14,12 +14,16 @@ fn noted(alloc: Global, arguments: &[&str]) -> Result<Notes, AllocError> {
 }
 
 /// Arguments, whether reasons of faults are told, and whether progress is.
-const CASES: [(&[&str], bool, bool); 17] = [
+const CASES: [(&[&str], bool, bool); 21] = [
     (&[], false, false),
     (&["judge", "t"], false, false),
     (&["judge", "--verbose", "t"], true, false),
     (&["explain", "t", "--verbose"], true, false),
     (&["draw", "--verbose"], true, false),
+    (&["decide", "t"], false, false),
+    (&["decide", "--effort", "1", "--verbose"], true, false),
+    (&["verify", "t", "e"], false, false),
+    (&["verify", "t", "--verbose", "e"], true, false),
     (&["reduce", "--verbose", "t"], true, false),
     (&["check", "--verbose", "t", "c"], true, false),
     (

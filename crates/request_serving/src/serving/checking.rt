@@ -73,7 +73,7 @@ fn check_readers<T: Read, C: Read, W: Write>(
         None => check_texts(alloc, traces, certificates, writer),
         Some(number) => match read_piece(alloc, number, traces)? {
             Some(piece) => check_texts(alloc, &mut piece.as_slice(), certificates, writer),
-            None => refuse_number(writer),
+            None => refuse_number(Verdict::Refused, writer),
         },
     }
 }

@@ -68,7 +68,7 @@ fn judge_reader<H: Threads + Wait + Sync + AllocGlobal, R: Read, W: Write>(
         None => present(rt, request, reader, writer),
         Some(number) => match read_piece(rt.alloc(), number, reader)? {
             Some(piece) => present(rt, request, &mut piece.as_slice(), writer),
-            None => refuse_number(writer),
+            None => refuse_number(Verdict::Refused, writer),
         },
     }
 }

@@ -4,16 +4,15 @@ ghost use Rattle.std.specs.Io.KnownBytes.{Appends};
 ghost use Rattle.request_serving.specs.NthTraces.{nth_refusal};
 ghost use Rattle.trace_judging.specs.Streams.{AppendsPrefix};
 ghost use Rattle.trace_judging.specs.declared.faults.Fault.{Fault};
-ghost use Rattle.trace_reports.specs.declared.verdicts.Verdict.{Verdict};
 
 use std::io::Write;
-use trace_judging::{Fault, Verdict, write_text};
+use trace_judging::{Fault, write_text};
 
-/// Writes that there are fewer traces.
-pub(crate) fn refuse_number<W: Write>(writer: &mut W) -> Result<Verdict, Fault>
-    ensures whole { IfOk result (λ verdict. (verdict ≡ Verdict.Refused) × Appends (W.contents writer.old) (W.contents writer.new) nth_refusal) }
+/// Writes that there are fewer traces, and answers what is said of a refusal.
+pub(crate) fn refuse_number<X: Copy, W: Write>(refused: X, writer: &mut W) -> Result<X, Fault>
+    ensures whole { IfOk result (λ said. (said ≡ refused) × Appends (W.contents writer.old) (W.contents writer.new) nth_refusal) }
     ensures fault { IfErr result (λ fault. (fault ≡ Fault.Write) × AppendsPrefix (W.contents writer.old) (W.contents writer.new) nth_refusal) }
 {
     write_text(writer, b"REFUSED Nth\n")?;
-    Ok(Verdict::Refused)
+    Ok(refused)
 }

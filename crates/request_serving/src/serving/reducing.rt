@@ -70,7 +70,7 @@ fn reduce_reader<H: Threads + Wait + AllocGlobal, R: Read, W: Write, E: Write>(
         None => reduce_trace(rt, alloc, reader, writer, errors),
         Some(number) => match read_piece(alloc, number, reader)? {
             Some(piece) => reduce_trace(rt, alloc, &mut piece.as_slice(), writer, errors),
-            None => refuse_number(writer),
+            None => refuse_number(Verdict::Refused, writer),
         },
     }
 }

@@ -2,6 +2,7 @@
 
 use super::{Ended, FailingReader, driven};
 use std::alloc::Global;
+use std::io::Read;
 use std::rt::{Clock, Files};
 use std::sync::Wait;
 use std::test::Fail;
@@ -40,10 +41,21 @@ pub(super) fn ended<H: Threads + Wait + Sync + Files + AllocGlobal + Eprint + Cl
     folder: &str,
     arguments: &str,
 ) -> Result<Ended, Fail> {
+    ended_on(rt, alloc, folder, arguments, &mut FailingReader)
+}
+
+/// The same, where this is standard input.
+pub(super) fn ended_on<H: Threads + Wait + Sync + Files + AllocGlobal + Eprint + Clock, R: Read>(
+    rt: &H,
+    alloc: Global,
+    folder: &str,
+    arguments: &str,
+    reader: &mut R,
+) -> Result<Ended, Fail> {
     let mut all = Vec::new(alloc);
     for argument in arguments.split(' ') {
         all.push(named(alloc, folder, argument)?)?;
     }
     let arguments: Vec<&str> = all.iter().map(|argument| argument.as_str()).collect(alloc)?;
-    Ok(driven(rt, alloc, &arguments, &mut FailingReader)?)
+    Ok(driven(rt, alloc, &arguments, reader)?)
 }

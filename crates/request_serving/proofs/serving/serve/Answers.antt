@@ -1,5 +1,6 @@
 use Rattle.command_line.specs.Requests.{asked_of, files_of}
 use Rattle.trace_judging.specs.WrittenReports.{LeavesAtFault}
+use Rattle.request_serving.specs.Deciding.{IsDecided, status_of_answer}
 use Rattle.request_serving.specs.Endings.{IsPresented, Outputs, outputs}
 use Rattle.request_serving.specs.OpenedFiles.{name_in, text_bytes}
 use Rattle.request_serving.specs.Replaying.{IsReplayText}
@@ -33,6 +34,23 @@ returns-in-Judge-clause-unread g c = rw c.in-Judge.is (λ unread. named c.in-Jud
 pub returns-in-Judge-clause-taken : goal.returns-in-Judge-clause-taken
 returns-in-Judge-clause-taken g c = rw c.in-Judge.is (λ reads other.
     at_text c.judge_named.result c.end.result _ _ _ c.end.ensures.fault (c.judge_named.ensures.taken (unnamed c.in-Judge.request.file reads)) other)
+
+pub returns-in-Decide-clause-ends : goal.returns-in-Decide-clause-ends
+returns-in-Decide-clause-ends g c =
+    let o : Outputs = outputs (g.W.Write.contents c.args.writer.now) (g.W.Write.contents c.decide_named-decided.new.writer) (g.E.Write.contents c.args.errors.now) (g.E.Write.contents c.end_answer.new.errors) in
+    let request = c.in-Decide.request in
+    let is_text = IsDecided request.effort request.nth (text_bytes (name_in request.file) (g.R.Read.remaining c.args.reader.now) (g.O.Surroundings.bytes c.args.files.now)) in
+    rw c.in-Decide.is (ends_as is_text status_of_answer (LeavesAtFault is_text) o c.decide_named-decided.result c.end_answer.result c.decide_named-decided.ensures.decided c.decide_named-decided.ensures.fault c.end_answer.ensures.answer c.end_answer.ensures.fault)
+
+pub returns-in-Decide-clause-first : goal.returns-in-Decide-clause-first
+returns-in-Decide-clause-first g c = rw c.in-Decide.is (opens_all _ _ _ c.decide_named-decided.ensures.opened)
+
+pub returns-in-Decide-clause-unread : goal.returns-in-Decide-clause-unread
+returns-in-Decide-clause-unread g c = rw c.in-Decide.is (λ unread. named c.in-Decide.request.file c.decide_named-decided.ensures.unread unread)
+
+pub returns-in-Decide-clause-taken : goal.returns-in-Decide-clause-taken
+returns-in-Decide-clause-taken g c = rw c.in-Decide.is (λ reads other.
+    at_text c.decide_named-decided.result c.end_answer.result _ _ _ c.end_answer.ensures.fault (c.decide_named-decided.ensures.taken (unnamed c.in-Decide.request.file reads)) other)
 
 pub returns-in-Reduce-clause-ends : goal.returns-in-Reduce-clause-ends
 returns-in-Reduce-clause-ends g c =

@@ -4,7 +4,7 @@ use Rattle.clap.proofs.WalkLemmas.{first_value-rows}
 use Rattle.command_line.specs.Given.{value_named}
 use Rattle.command_line.specs.Names.{models}
 use Rattle.tso_ops.specs.declared.settings.Order.TheVariants.{Tso}
-use Rattle.command_line.proofs.found.order.Goals as goal
+use Rattle.command_line.proofs.values.order.Goals as goal
 
 pub returns : goal.returns
 returns c =

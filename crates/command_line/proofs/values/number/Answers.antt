@@ -2,7 +2,7 @@ use Rattle.std.proofs.Common.{◌∙◌}
 use Rattle.std.specs.Str.Parse.{ExplainsUnsignedError, HasUnsignedDigitsIfOk, ParsesUnsigned}
 use Rattle.clap.specs.Words.{found_of}
 use Rattle.command_line.proofs.FoundLemmas.{number_found}
-use Rattle.command_line.proofs.found.number.Goals as goal
+use Rattle.command_line.proofs.values.number.Goals as goal
 
 pub returns : goal.returns
 returns c =

@@ -2,7 +2,7 @@ use Rattle.std.specs.Str.Parse.{ExplainsUnsignedError, HasUnsignedDigitsIfOk, Pa
 use Rattle.std.specs.Prelude.{codes}
 use Rattle.clap.specs.Words.{found_of}
 use Rattle.command_line.proofs.FoundLemmas.{number_read}
-use Rattle.command_line.proofs.found.nth.Goals as goal
+use Rattle.command_line.proofs.values.nth.Goals as goal
 
 pub returns : goal.returns
 returns c =

@@ -1,0 +1,55 @@
+//! `verify [--nth K] [--verbose] TRACE EVIDENCE`: checks evidence of whether a trace has an order that meets the axioms of
+//! its memory model.
+
+use crate::parameters::{Description, Parameter};
+use crate::subcommands::shared;
+
+/// The text of its help after the list of its parameters.
+const HELP: &str = "\
+It reads the text of a trace and that of evidence on it, at most 67,108,864
+bytes, as it stands in a decision of `tsobench decide` after the line CONSISTENT
+or VIOLATION: an order, a line `unwritten N`, a certificate or a refutation by
+cases. It prints one line:
+
+  ORDER HOLDS       of an order: it has all events, and meets the axioms of the
+                    memory model
+  REFUTATION HOLDS  of the others: no order of the trace meets the axioms
+
+or ORDER REFUSED, REFUTATION REFUSED or EVIDENCE REFUSED, with the reason and
+its place. A text that is no trace gets a line as REFUSED BadLine line 3, and
+the evidence isn't read. One of the two may be -, which is standard input. With
+--nth K the evidence is on the K-th of the traces that stand one after the
+other, as `tsobench judge` judges it.
+
+Exit status:
+  0  the order holds: the trace is consistent
+  2  the trace, the evidence or the command line was refused
+  3  the refutation holds: the trace violates its memory model
+  4  a fault, which one line on standard error names, as FAULT Read
+
+Example:
+  tsobench decide TRACE | sed 1,3d > EVIDENCE
+  tsobench verify TRACE EVIDENCE";
+
+/// What is told of it.
+pub(crate) static VERIFY: Description = Description {
+    help_option: ["verify", "--help"],
+    about: "Checks an order of a trace, or evidence that there is none",
+    help: HELP,
+    parameters: &[
+        shared::NTH,
+        shared::VERBOSE,
+        Parameter::Other {
+            name: "trace",
+            value_name: "TRACE",
+            required: true,
+            help: "The text of a trace",
+        },
+        Parameter::Other {
+            name: "evidence",
+            value_name: "EVIDENCE",
+            required: true,
+            help: "The text of an order, a certificate or a refutation",
+        },
+    ],
+};

@@ -1,0 +1,89 @@
+-- Lemmas on what `decide` and `verify` print.
+use Rattle.std.proofs.Common.{◌≡◌, ℕ, List, take, None, Some, Result, IfOk, IfErr, inl, inr}
+use Rattle.std.specs.Prelude.{Option}
+use Rattle.std.specs.Io.KnownBytes.{Appends}
+use Rattle.trace_batches.specs.NthPieces.{IsKeptOfNth}
+use Rattle.trace_decisions.specs.declared.answers.Answer.{Answer}
+use Rattle.trace_decisions.specs.declared.answers.Answer.TheVariants.{Refused}
+use Rattle.trace_decisions.specs.DecisionTexts.{IsDecisionOf, IsDecisionOfReader}
+use Rattle.trace_decisions.specs.EvidenceReports.{IsVerification, IsVerificationOfReaders}
+use Rattle.trace_judging.specs.declared.faults.Fault.{Fault}
+use Rattle.trace_judging.specs.declared.faults.Fault.TheVariants.{Write}
+use Rattle.trace_judging.specs.Limits.{trace_read_limit}
+use Rattle.trace_judging.specs.Streams.{AppendsPrefix}
+use Rattle.trace_judging.specs.WrittenReports.{LeavesAtFault, WritesWhole}
+use Rattle.trace_judging.proofs.InputFacts.{refusal_of_prefix, spells_of_prefix}
+use Rattle.trace_reports.specs.Readings.{ReadsAs}
+use Rattle.trace_reports.proofs.ReadingFacts.{reads_more}
+use Rattle.request_serving.specs.Deciding.{IsDecided, IsVerificationOfNth, IsVerifiedBy}
+use Rattle.request_serving.specs.NthTraces.{IsSaidOfNth, nth_refusal}
+use Rattle.request_serving.specs.OpenedFiles.{HasKnown}
+use Rattle.request_serving.proofs.EndFacts.{faults_as, known_reads, said_as_well, writes_as}
+use Rattle.request_serving.proofs.NthFacts.{fewer_left, fewer_written, said_of_kept}
+
+-- ---- what is said of files of which less may be known
+
+pub decided_of_known : (effort : ℕ) (nth : Option ℕ) (known remaining : Option (List ℕ)) → HasKnown known remaining → (text : List ℕ) (answer : Answer) → IsDecided effort nth remaining text answer →
+    IsDecided effort nth known text answer
+decided_of_known effort nth known remaining has text answer = known_reads known remaining has (λ input. IsSaidOfNth Refused nth (IsDecisionOf effort) input text answer)
+
+pub verification_of_known : (nth : Option ℕ) (trace traces known evidence : Option (List ℕ)) → HasKnown trace traces → HasKnown known evidence → (text : List ℕ) (answer : Answer) →
+    IsVerificationOfNth nth traces evidence text answer → IsVerificationOfNth nth trace known text answer
+verification_of_known nth trace traces known evidence has also text answer report =
+    let implied : (bytes text : List ℕ) (answer : Answer) → IsVerifiedBy evidence bytes text answer → IsVerifiedBy known bytes text answer =
+    λ bytes text answer. known_reads known evidence also (λ other. IsVerification bytes other text answer) in
+    known_reads trace traces has (λ input. IsSaidOfNth Refused nth (IsVerifiedBy known) input text answer)
+    (reads_more (λ input. said_as_well Refused (IsVerifiedBy evidence) (IsVerifiedBy known) implied nth input text answer) traces report)
+
+-- ---- what is said of the first bytes of a piece is said of the piece
+
+decision_of_first : (effort : ℕ) (piece text : List ℕ) (answer : Answer) → IsDecisionOf effort (take trace_read_limit piece) text answer → IsDecisionOf effort piece text answer
+decision_of_first effort piece text answer (inl p) = inl (p.0, spells_of_prefix piece p.0 p.1, p.2)
+decision_of_first effort piece text answer (inr p) = inr (p.0, p.1, refusal_of_prefix piece p.0 p.1 p.2, p.3, p.4)
+
+verification_of_first : (trace evidence text : List ℕ) (answer : Answer) → IsVerification (take trace_read_limit trace) evidence text answer → IsVerification trace evidence text answer
+verification_of_first trace evidence text answer (inl p) = inl (p.0, spells_of_prefix trace p.0 p.1, p.2, p.3)
+verification_of_first trace evidence text answer (inr p) = inr (p.0, p.1, refusal_of_prefix trace p.0 p.1 p.2, p.3, p.4)
+
+verified_of_first : (evidence : Option (List ℕ)) (piece text : List ℕ) (answer : Answer) → IsVerifiedBy evidence (take trace_read_limit piece) text answer → IsVerifiedBy evidence piece text answer
+verified_of_first evidence piece text answer = reads_more (λ input. verification_of_first piece input text answer) evidence
+
+-- ---- a decision on the trace of a number
+
+module _ (effort number : ℕ) (remaining : Option (List ℕ)) (old new : Option (List ℕ)) (outcome : Result Answer Fault) where
+  module _ (kept : List ℕ) (reads : ReadsAs remaining (λ stream. IsKeptOfNth number stream (Some kept))) where
+    decided_kept : (text : List ℕ) (answer : Answer) → IsDecisionOfReader effort (Some kept) text answer → IsDecided effort (Some number) remaining text answer
+    decided_kept text answer is = said_of_kept Refused (IsDecisionOf effort) (decision_of_first effort) number remaining kept reads text answer is.of_all
+
+    pub nth_decided : IfOk outcome (WritesWhole (IsDecisionOfReader effort (Some kept)) old new) → IfOk outcome (WritesWhole (IsDecided effort (Some number) remaining) old new)
+    nth_decided = writes_as _ _ decided_kept old new outcome
+
+    pub nth_decided_left : IfErr outcome (LeavesAtFault (IsDecisionOfReader effort (Some kept)) old new) → IfErr outcome (LeavesAtFault (IsDecided effort (Some number) remaining) old new)
+    nth_decided_left = faults_as _ _ decided_kept old new outcome
+
+  module _ (reads : ReadsAs remaining (λ stream. IsKeptOfNth number stream None)) where
+    pub fewer_decided : IfOk outcome (λ answer. (answer ≡ Refused) × Appends old new nth_refusal) → IfOk outcome (WritesWhole (IsDecided effort (Some number) remaining) old new)
+    fewer_decided = fewer_written Refused (IsDecisionOf effort) (decision_of_first effort) number remaining reads old new outcome
+
+    pub fewer_decided_left : IfErr outcome (λ fault. (fault ≡ Write) × AppendsPrefix old new nth_refusal) → IfErr outcome (LeavesAtFault (IsDecided effort (Some number) remaining) old new)
+    fewer_decided_left = fewer_left Refused (IsDecisionOf effort) (decision_of_first effort) number remaining reads old new outcome
+
+-- ---- evidence against the trace of a number
+
+module _ (number : ℕ) (traces evidence : Option (List ℕ)) (old new : Option (List ℕ)) (outcome : Result Answer Fault) where
+  module _ (kept : List ℕ) (reads : ReadsAs traces (λ stream. IsKeptOfNth number stream (Some kept))) where
+    verified_kept : (text : List ℕ) (answer : Answer) → IsVerificationOfReaders (Some kept) evidence text answer → IsVerificationOfNth (Some number) traces evidence text answer
+    verified_kept text answer is = said_of_kept Refused (IsVerifiedBy evidence) (verified_of_first evidence) number traces kept reads text answer is.of_all
+
+    pub nth_verified : IfOk outcome (WritesWhole (IsVerificationOfReaders (Some kept) evidence) old new) → IfOk outcome (WritesWhole (IsVerificationOfNth (Some number) traces evidence) old new)
+    nth_verified = writes_as _ _ verified_kept old new outcome
+
+    pub nth_verified_left : IfErr outcome (LeavesAtFault (IsVerificationOfReaders (Some kept) evidence) old new) → IfErr outcome (LeavesAtFault (IsVerificationOfNth (Some number) traces evidence) old new)
+    nth_verified_left = faults_as _ _ verified_kept old new outcome
+
+  module _ (reads : ReadsAs traces (λ stream. IsKeptOfNth number stream None)) where
+    pub fewer_verified : IfOk outcome (λ answer. (answer ≡ Refused) × Appends old new nth_refusal) → IfOk outcome (WritesWhole (IsVerificationOfNth (Some number) traces evidence) old new)
+    fewer_verified = fewer_written Refused (IsVerifiedBy evidence) (verified_of_first evidence) number traces reads old new outcome
+
+    pub fewer_verified_left : IfErr outcome (λ fault. (fault ≡ Write) × AppendsPrefix old new nth_refusal) → IfErr outcome (LeavesAtFault (IsVerificationOfNth (Some number) traces evidence) old new)
+    fewer_verified_left = fewer_left Refused (IsVerifiedBy evidence) (verified_of_first evidence) number traces reads old new outcome
