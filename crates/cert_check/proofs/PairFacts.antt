@@ -5,11 +5,12 @@ use Rattle.std.proofs.lemmas.List.Elements.{All-get_or}
 use Rattle.std.proofs.lemmas.Option.{none-some, same_Some}
 use Rattle.tso_cert.specs.declared.steps.CertStep.{CertStep}
 use Rattle.tso_model.specs.Certs.{IsStep}
-use Rattle.cert_check.specs.declared.pairs.PairTable.{PairTable}
+use Rattle.cert_check.specs.declared.pair_tables.PairTable.{PairTable}
 use Rattle.cert_check.specs.declared.pairs.Pairs.{Pairs}
 use Rattle.cert_check.specs.declared.pairs.Pairs.TheVariants.{Steps, Table}
 use Rattle.cert_check.specs.Refusals.{IsStepUpTo}
-use Rattle.cert_check.specs.Internal.Pairs.{Fits, HasPair, HasPairsOf, IsSquare, ListsOf, ListsUpTo}
+use Rattle.cert_check.specs.PairTables.{HasPair, IsSquare}
+use Rattle.cert_check.specs.Internal.Pairs.{Fits, HasPairsOf, ListsOf, ListsUpTo}
 
 -- ---- the pairs of steps
 

@@ -40,7 +40,7 @@ fn is_step_up_to(last: u64, step: &CertStep) -> bool
 }
 
 /// Whether no number of the reason is above `last`.
-fn is_reason_up_to(last: u64, reason: &Reason) -> bool
+pub fn is_reason_up_to(last: u64, reason: &Reason) -> bool
     ensures { IsTrue result ↔ IsReasonUpTo last reason.now }
 {
     match reason {
@@ -50,7 +50,7 @@ fn is_reason_up_to(last: u64, reason: &Reason) -> bool
 }
 
 /// Whether none of the numbers is above `last`.
-fn are_up_to(last: u64, numbers: &[u64]) -> bool
+pub fn are_up_to(last: u64, numbers: &[u64]) -> bool
     ensures { IsTrue result ↔ AreUpTo last numbers.now }
 {
     numbers.iter().all(|n| *n <= last)

@@ -8,7 +8,7 @@ use tso_model::conditions::{Ends, inferred_ends};
 use tso_ops::Trace;
 
 /// Whether the rule gives the edge from `u` to `v` for load `l` by a path with the ends of this one.
-pub(crate) fn has_sides(
+pub fn has_sides(
     trace: &Trace,
     rule: InferredRule,
     l: usize,

@@ -1,51 +1,28 @@
 -- A certificate with a cycle, as a refutation without cases.
-use Rattle.std.proofs.Common.{◌≡◌, ◌∙◌, ◌⊎◌, ◌↔◌, inl, inr, ℕ, zero, suc, ◌≤◌, List, [], ◌∷◌, ◌++◌, length, take, Some, slice_get, refl, sym, ap, subst, append_assoc, length-append, arith}
+use Rattle.std.proofs.Common.{◌≡◌, ◌∙◌, ◌↔◌, inl, inr, ℕ, suc, ◌≤◌, List, [], ◌∷◌, ◌++◌, length, take, Some, slice_get, refl, sym, ap, subst, append_assoc, length-append, arith}
 use Rattle.std.proofs.lemmas.Bool.{cases_lt}
 use Rattle.std.proofs.lemmas.List.{append-nil, take_at}
-use Rattle.std.proofs.lemmas.Option.{none-some, same_Some, slice_get_within}
+use Rattle.std.proofs.lemmas.Option.{same_Some, slice_get_within}
 use Rattle.tso_ops.specs.Values.{TraceValue}
 use Rattle.tso_cert.specs.declared.steps.CertStep.{CertStep}
 use Rattle.tso_evidence.specs.declared.refutations.RefutationLine.TheVariants.{Step}
+use Rattle.tso_evidence.specs.Certificates.{certificate_lines}
 use Rattle.tso_evidence.specs.Refutations.{Refutation, cycle, step, lines_of}
 use Rattle.order_paths.specs.Paths.{IsCycle}
 use Rattle.tso_model.specs.Certs.{IsStep, MeetsRule, IsPathIn, StepsHold}
-use Rattle.refutation_check.specs.Refutations.{NoPair, WithPair, HoldsUnder, RefutationHolds, certificate_lines}
+use Rattle.cert_check.proofs.PairFacts.{none_listed, earlier_or_last}
+use Rattle.refutation_check.specs.Refutations.{NoPair, WithPair, HoldsUnder, RefutationHolds}
 use Rattle.refutation_check.proofs.TreeFacts.{holds_more}
 use Rattle.refutation_check.proofs.RefusalFacts.{one_refutation}
 
 -- ---- the pairs of steps
 
-no_step : (u v : ℕ) → IsStep [] u v → ⊥
-no_step u v is = none-some is.1 is.2
-
--- a pair is that of the first step, or of a later one
-first_or_later : (s : CertStep) (steps : List CertStep) (u v : ℕ) → IsStep (s ∷ steps) u v ↔ (((s.from ≡ u) × (s.to ≡ v)) ⊎ IsStep steps u v)
-first_or_later s steps u v = (to, back)
-  where
-    to : IsStep (s ∷ steps) u v → ((s.from ≡ u) × (s.to ≡ v)) ⊎ IsStep steps u v
-    to (zero, d, at, starts, ends) = inl (subst (λ e. (e.from ≡ u) × (e.to ≡ v)) (sym (same_Some s d at)) (starts, ends))
-    to (suc k, d, at, starts, ends) = inr (k, d, at, starts, ends)
-
-    back : ((s.from ≡ u) × (s.to ≡ v)) ⊎ IsStep steps u v → IsStep (s ∷ steps) u v
-    back (inl here) = (0, s, refl, here.0, here.1)
-    back (inr later) = (suc later.0, later.1, later.2, later.3, later.4)
-
 -- a pair is that of an earlier step, or of the last one
 last_to : (steps : List CertStep) (s : CertStep) (u v : ℕ) → IsStep (steps ++ s ∷ []) u v → WithPair (λ x y. IsStep steps x y) s.from s.to u v
-last_to [] s u v is = elim ((first_or_later s [] u v).0 is) [ inl here ↦ inr here | inr none ↦ inl none ]
-last_to (a ∷ steps) s u v is = elim ((first_or_later a (steps ++ s ∷ []) u v).0 is) [
-  | inl here ↦ inl ((first_or_later a steps u v).1 (inl here))
-  | inr later ↦ elim (last_to steps s u v later) [ inl earlier ↦ inl ((first_or_later a steps u v).1 (inr earlier)) | inr last ↦ inr last ]
-]
+last_to steps s u v is = (earlier_or_last steps s u v).0 is
 
 last_from : (steps : List CertStep) (s : CertStep) (u v : ℕ) → WithPair (λ x y. IsStep steps x y) s.from s.to u v → IsStep (steps ++ s ∷ []) u v
-last_from [] s u v (inl none) = absurd (no_step u v none)
-last_from [] s u v (inr here) = (first_or_later s [] u v).1 (inl here)
-last_from (a ∷ steps) s u v (inl one) = (first_or_later a (steps ++ s ∷ []) u v).1 (elim ((first_or_later a steps u v).0 one) [
-  | inl here ↦ inl here
-  | inr later ↦ inr (last_from steps s u v (inl later))
-])
-last_from (a ∷ steps) s u v (inr last) = (first_or_later a (steps ++ s ∷ []) u v).1 (inr (last_from steps s u v (inr last)))
+last_from steps s u v one = (earlier_or_last steps s u v).1 one
 
 -- ---- the steps as a refutation
 
@@ -114,7 +91,7 @@ certificate_holds_as t steps numbers = (
   λ holds. (
     steps_then steps numbers,
     lines_of_steps steps numbers,
-    holds_more t (λ x y. IsStep [] x y) NoPair no_step (steps_then steps numbers) (rest_to t [] steps numbers (λ k s from at. holds.0 k s at) holds.1),
+    holds_more t (λ x y. IsStep [] x y) NoPair none_listed (steps_then steps numbers) (rest_to t [] steps numbers (λ k s from at. holds.0 k s at) holds.1),
   ),
   λ refuted. (
       let same : refuted.0 ≡ steps_then steps numbers = one_refutation refuted.0 (steps_then steps numbers) (sym refuted.1 ∙ lines_of_steps steps numbers) in

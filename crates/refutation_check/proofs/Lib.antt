@@ -1,5 +1,4 @@
 pub mod CertificateFacts
-pub mod ListFacts
 pub mod PairFacts
 pub mod RefusalExists
 pub mod RefusalFacts

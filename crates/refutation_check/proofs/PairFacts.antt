@@ -4,9 +4,10 @@ use Rattle.std.proofs.lemmas.List.{append-nil}
 use Rattle.std.proofs.lemmas.Bool.{cases_eq}
 use Rattle.order_paths.proofs.Decisions.{Decision, Decision-both, Decision-either}
 use Rattle.refutation_check.specs.declared.pairs.Pair.{Pair}
-use Rattle.refutation_check.specs.declared.pairs.PairTable.{PairTable}
+use Rattle.cert_check.specs.declared.pair_tables.PairTable.{PairTable}
+use Rattle.cert_check.specs.PairTables.{HasPair, IsSquare}
 use Rattle.refutation_check.specs.Refutations.{WithPair}
-use Rattle.refutation_check.specs.Internal.Pairs.{AreDistinct, HasPair, InForce, IsSquare, IsTableOf, IsWith}
+use Rattle.refutation_check.specs.Internal.Pairs.{AreDistinct, InForce, IsTableOf, IsWith}
 
 -- a pair is an earlier one, or the last one
 pub earlier_or_last : (pairs : List Pair) (p : Pair) (u v : ℕ) → InForce (pairs ++ p ∷ []) u v → InForce pairs u v ⊎ ((p.from ≡ u) × (p.to ≡ v))

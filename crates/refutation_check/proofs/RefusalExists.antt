@@ -18,11 +18,12 @@ use Rattle.tso_evidence.specs.Refutations.{Refutation, cycle, step, split, lines
 use Rattle.tso_model.specs.Rules.{InferredBy}
 use Rattle.tso_model.specs.Certs.{IsPathIn, MeetsRule}
 use Rattle.tso_model.proofs.Decided.{BasePair-decided, InferredBy-decided, IsEvent-decided}
+use Rattle.cert_check.specs.Refusals.{AreUpTo, IsReasonUpTo, IsBase}
 use Rattle.refutation_check.specs.declared.faults.RefutationFault.{RefutationFault}
 use Rattle.refutation_check.specs.declared.faults.RefutationFault.TheVariants.{Misplaced, Unfinished, EventRange, BaseRefused, SideRefused, PathUnlisted, CaseRefused, CycleUnlisted, EmptyCycle}
 use Rattle.refutation_check.specs.declared.structure.OpenCase.{OpenCase}
 use Rattle.refutation_check.specs.Refutations.{NoPair, WithPair, AreTwoEvents, StepHolds, HoldsUnder, RefutationHolds}
-use Rattle.refutation_check.specs.Refusals.{AreUpTo, IsReasonUpTo, IsLineUpTo, IsBase, IsStructureFault, HasStepFault, HasCycleFault, HasFirstFault, IsRefutationRefusal}
+use Rattle.refutation_check.specs.Refusals.{IsLineUpTo, IsStructureFault, HasStepFault, HasCycleFault, HasFirstFault, IsRefutationRefusal}
 use Rattle.refutation_check.specs.Internal.Structure.{IsMissing}
 use Rattle.refutation_check.proofs.StructureFacts.{Leaves, leaves_none, leaves_at, misplaced_at, all_leave, unfinished, none_missing, missing_step, missing_case, missing_cycle, missing_no_else}
 

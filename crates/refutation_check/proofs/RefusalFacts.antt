@@ -16,10 +16,11 @@ use Rattle.tso_evidence.specs.Refutations.{Refutation, cycle, step, split, lines
 use Rattle.order_paths.specs.Paths.{Linked, HasEnds, IsCycle, last_of}
 use Rattle.tso_model.specs.Certs.{MeetsRule, IsPathIn}
 use Rattle.tso_model.proofs.Bounds.{BasePair-within, InferredBy-within}
+use Rattle.cert_check.specs.Refusals.{IsReasonUpTo, IsBase}
 use Rattle.refutation_check.specs.declared.faults.RefutationFault.{RefutationFault}
 use Rattle.refutation_check.specs.declared.faults.RefutationFault.TheVariants.{Misplaced, Unfinished, EventRange, BaseRefused, SideRefused, PathUnlisted, CaseRefused, CycleUnlisted, EmptyCycle}
 use Rattle.refutation_check.specs.Refutations.{NoPair, WithPair, StepHolds, HoldsUnder, RefutationHolds}
-use Rattle.refutation_check.specs.Refusals.{IsBeginning, IsStructureFault, IsReasonUpTo, IsLineUpTo, IsInRange, IsBase, HasStepFault, HasCycleFault, HasFirstFault, IsLineFault, IsRefutationRefusal}
+use Rattle.refutation_check.specs.Refusals.{IsBeginning, IsStructureFault, IsLineUpTo, IsInRange, HasStepFault, HasCycleFault, HasFirstFault, IsLineFault, IsRefutationRefusal}
 
 -- ---- lines have one refutation at most
 

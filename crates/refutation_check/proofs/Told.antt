@@ -1,5 +1,5 @@
 -- What the check answers.
-use Rattle.std.proofs.Common.{◌≡◌, inr, List, [], Option, None, Some, Result, Ok, Err, IsOk, OnOk, IfOk, MatchOption, MatchResult, refl}
+use Rattle.std.proofs.Common.{◌≡◌, inr, List, [], Option, None, Some, Result, Ok, Err, IsOk, OnOk, MatchOption, MatchResult, refl}
 use Rattle.tso_ops.specs.Values.{TraceValue}
 use Rattle.tso_ops.specs.Limits.{IsTrace}
 use Rattle.tso_ops.proofs.NumberFacts.{own_values}
@@ -13,11 +13,6 @@ use Rattle.refutation_check.specs.Internal.Walks.{Walks}
 use Rattle.refutation_check.proofs.TreeFacts.{not_consistent}
 use Rattle.refutation_check.proofs.WalkFacts.{walked_through, walked_to_fault}
 use Rattle.refutation_check.proofs.RefusalFacts.{not_refused}
-
--- what is told of a value that a call may answer
-pub if_ok : {A E : Type 0} (P Q : A → Type 0) → ((a : A) → P a → Q a) → (r : Result A E) → IfOk r P → IfOk r Q
-if_ok P Q more (Ok a) told = more a told
-if_ok P Q more (Err e) told = tt
 
 pub structure_of_none : (lines : List RefutationLine) (o : Option RefutationFault) → o ≡ None → MatchOption o (IsRefutation lines) (IsStructureFault lines) → IsRefutation lines
 structure_of_none lines None none told = told

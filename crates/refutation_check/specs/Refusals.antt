@@ -2,14 +2,13 @@
 use Rattle.std.specs.Prelude.{◌≡◌, ◌≢◌, ◌⊎◌, ℕ, suc, ◌+◌, ◌<◌, ◌≤◌, List, [], ◌++◌, length, take, All, Some, slice_get}
 use Rattle.tso_ops.specs.Values.{TraceValue}
 use Rattle.tso_ops.specs.Events.{event_total}
-use Rattle.tso_cert.specs.declared.steps.Reason.{Reason}
-use Rattle.tso_cert.specs.declared.steps.Reason.TheVariants.{Base, Inferred}
 use Rattle.tso_cert.specs.declared.steps.CertStep.{CertStep}
 use Rattle.tso_evidence.specs.declared.refutations.RefutationLine.{RefutationLine}
 use Rattle.tso_evidence.specs.declared.refutations.RefutationLine.TheVariants.{Step, Case, Else, Cycle}
 use Rattle.tso_evidence.specs.Refutations.{Refutation, cycle, step, split, lines_of, IsRefutation}
 use Rattle.order_paths.specs.Paths.{IsCycle}
 use Rattle.tso_model.specs.Certs.{MeetsRule, IsPathIn}
+use Rattle.cert_check.specs.Refusals.{AreUpTo, IsStepUpTo, IsBase}
 use Rattle.refutation_check.specs.declared.faults.RefutationFault.{RefutationFault}
 use Rattle.refutation_check.specs.declared.faults.RefutationFault.TheVariants.{Misplaced, Unfinished, EventRange, BaseRefused, SideRefused, PathUnlisted, CaseRefused, CycleUnlisted, EmptyCycle}
 use Rattle.refutation_check.specs.Refutations.{NoPair, WithPair, AreTwoEvents, StepHolds, HoldsUnder}
@@ -37,18 +36,9 @@ IsStructureFault lines (EmptyCycle line) = ⊥
 
 -- ---- the numbers
 
--- the numbers are none above this one
-abbrev pub AreUpTo : ℕ → List ℕ → Type 0
-AreUpTo last numbers = All (λ n. n ≤ last) numbers
-
--- the numbers of a reason are none above this one
-abbrev pub IsReasonUpTo : ℕ → Reason → Type 0
-IsReasonUpTo last (Base rule) = Unit {0}
-IsReasonUpTo last (Inferred rule load path) = (load ≤ last) × AreUpTo last path
-
 -- the numbers of a line are none above this one
 abbrev pub IsLineUpTo : ℕ → RefutationLine → Type 0
-IsLineUpTo last (Step s) = (s.from ≤ last) × (s.to ≤ last) × IsReasonUpTo last s.reason
+IsLineUpTo last (Step s) = IsStepUpTo last s
 IsLineUpTo last (Case u v) = (u ≤ last) × (v ≤ last)
 IsLineUpTo last (Else u v) = (u ≤ last) × (v ≤ last)
 IsLineUpTo last (Cycle numbers) = AreUpTo last numbers
@@ -58,10 +48,6 @@ abbrev pub IsInRange : TraceValue → List RefutationLine → Type 0
 IsInRange t lines = All (IsLineUpTo (event_total t)) lines
 
 -- ---- the lines, one after the other
-
-abbrev pub IsBase : Reason → Type 0
-IsBase (Base rule) = Unit {0}
-IsBase (Inferred rule load path) = ⊥
 
 -- The step on the line with this number has the fault, where these pairs are in force.
 abbrev pub HasStepFault : TraceValue → (ℕ → ℕ → Type 0) → ℕ → CertStep → RefutationFault → Type 0

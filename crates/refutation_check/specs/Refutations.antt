@@ -1,10 +1,9 @@
 -- Which refutations hold for a trace, so that it has no order of its model.
-use Rattle.std.specs.Prelude.{◌≡◌, ◌≢◌, ◌⊎◌, ℕ, List, [], ◌∷◌, ◌++◌, map}
+use Rattle.std.specs.Prelude.{◌≡◌, ◌≢◌, ◌⊎◌, ℕ, List}
 use Rattle.tso_ops.specs.Values.{TraceValue}
 use Rattle.tso_ops.specs.Events.{IsEvent}
 use Rattle.tso_cert.specs.declared.steps.CertStep.{CertStep}
 use Rattle.tso_evidence.specs.declared.refutations.RefutationLine.{RefutationLine}
-use Rattle.tso_evidence.specs.declared.refutations.RefutationLine.TheVariants.{Step, Cycle}
 use Rattle.tso_evidence.specs.Refutations.{Refutation, cycle, step, split, lines_of}
 use Rattle.order_paths.specs.Paths.{IsCycle}
 use Rattle.tso_model.specs.Certs.{MeetsRule, IsPathIn}
@@ -39,7 +38,3 @@ HoldsUnder t Pair (split u v first second) =
 -- The lines are those of a refutation that holds, where no pair is in force at its beginning.
 abbrev pub RefutationHolds : TraceValue → List RefutationLine → Type 0
 RefutationHolds t lines = (r : Refutation) × (lines ≡ lines_of r) × HoldsUnder t NoPair r
-
--- the lines of a certificate of these steps and this cycle
-abbrev pub certificate_lines : List CertStep → List ℕ → List RefutationLine
-certificate_lines steps numbers = map Step steps ++ Cycle numbers ∷ []

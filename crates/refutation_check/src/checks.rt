@@ -1,5 +1,5 @@
 //! The check of a refutation.
-ghost use Rattle.std.specs.Prelude.{◌≡◌, ◌⊎◌, ◌+◌, [], All, IsOk, OnOk, IfOk, IfErr, MatchResult, None, Some};
+ghost use Rattle.std.specs.Prelude.{◌≡◌, ◌⊎◌, ◌+◌, [], IsOk, OnOk, IfOk, IfErr, MatchResult, None, Some};
 ghost use Rattle.tso_ops.specs.Limits.{IsTrace};
 ghost use Rattle.tso_ops.specs.Events.{event_total};
 ghost use Rattle.tso_evidence.specs.Refutations.{IsRefutation};

@@ -5,11 +5,12 @@ ghost use Rattle.tso_ops.specs.Limits.{IsTrace};
 ghost use Rattle.tso_cert.specs.declared.steps.CertStep.{CertStep};
 ghost use Rattle.tso_cert.specs.declared.steps.Certificate.TheVariants.{Cycle};
 ghost use Rattle.tso_evidence.specs.declared.refutations.RefutationLine.{RefutationLine};
+ghost use Rattle.tso_evidence.specs.Certificates.{certificate_lines};
 ghost use Rattle.tso_evidence.specs.Refutations.{Refutation, lines_of};
 ghost use Rattle.tso_model.specs.Axioms.{IsConsistent};
 ghost use Rattle.tso_model.specs.Certs.{Holds};
 ghost use Rattle.refutation_check.specs.declared.faults.RefutationFault.{RefutationFault};
-ghost use Rattle.refutation_check.specs.Refutations.{RefutationHolds, certificate_lines};
+ghost use Rattle.refutation_check.specs.Refutations.{RefutationHolds};
 ghost use Rattle.refutation_check.specs.Refusals.{IsRefutationRefusal};
 
 /// A refutation that holds for a trace leaves no order of its model.

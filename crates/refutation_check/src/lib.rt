@@ -11,5 +11,4 @@ mod line_faults;
 mod listed;
 mod pairs;
 mod ranges;
-mod sides;
 mod structure;

@@ -9,7 +9,7 @@ ghost use Rattle.refutation_check.specs.Internal.Walks.{HasLineFault, LineHolds}
 use crate::faults::RefutationFault;
 use crate::listed::{is_cycle, is_linked};
 use crate::pairs::PairsInForce;
-use crate::sides::has_sides;
+use cert_check::sides::has_sides;
 use tso_cert::{CertStep, Reason};
 use tso_evidence::RefutationLine;
 use tso_model::conditions::is_base_pair;

@@ -1,10 +1,10 @@
 //! The pairs in force, and the open cases.
-ghost use Rattle.std.specs.Prelude.{◌≡◌, ◌⊎◌, ◌↔◌, ◌<◌, ◌≤◌, ◌^◌, ◌∷◌, ◌++◌, ◌+◌, ◌-◌, ℕ, [], IsTrue, IfOk, OnOk, take, reverse};
+ghost use Rattle.std.specs.Prelude.{◌≡◌, ◌↔◌, ◌<◌, ◌^◌, ◌+◌, ◌-◌, [], IsTrue, IfOk, OnOk, take, reverse};
 ghost use Rattle.refutation_check.specs.Refusals.{IsLineUpTo};
-ghost use Rattle.refutation_check.specs.Internal.Pairs.{HasPair, InForce, IsKept, IsSquare, IsTableOf, IsWith};
+ghost use Rattle.refutation_check.specs.Internal.Pairs.{InForce, IsKept, IsTableOf, IsWith};
 ghost use Rattle.refutation_check.specs.Internal.Walks.{IsAfter};
 
-use bitsets::{BitTable, bit, clear_bit, set_bit};
+use cert_check::pair_tables::PairTable;
 use std::alloc::{AllocError, Global};
 use tso_evidence::RefutationLine;
 
@@ -13,70 +13,6 @@ use tso_evidence::RefutationLine;
 pub(crate) struct Pair {
     from: usize,
     to: usize,
-}
-
-/// A set of pairs of numbers below `nodes`, as a bit for each two of them: a row of `width` words for each first number.
-#[derive(Debug, Drop)]
-pub(crate) struct PairTable {
-    nodes: usize,
-    width: usize,
-    words: Vec<u64>,
-}
-
-impl PairTable {
-    /// The table without a pair, or OutOfMemory where its allocation was refused.
-    fn new(alloc: Global, nodes: usize) -> Result<PairTable, AllocError>
-        requires { nodes < 2 ^ 32 }
-        ensures square { IfOk result IsSquare }
-        ensures nodes { IfOk result (λ table. table.nodes ≡ nodes) }
-        ensures empty { IfOk result (λ table. (u v : ℕ) → HasPair table u v → ⊥) }
-    {
-        let width = nodes.div_ceil(64);
-        Ok(PairTable {
-            nodes,
-            width,
-            words: vec![in alloc; 0; nodes * width]?,
-        })
-    }
-
-    /// Whether the table has the pair. It has none with a number of `nodes` or above.
-    #[inline]
-    fn has(&self, u: usize, v: usize) -> bool
-        requires { IsSquare self.now }
-        ensures { IsTrue result ↔ HasPair self.now u v }
-    {
-        let table = BitTable {
-            words: &self.words,
-            width: self.width,
-        };
-        u < self.nodes && v < self.nodes && bit(table, u, v)
-    }
-
-    /// Adds a pair.
-    #[inline]
-    fn add(&mut self, from: usize, to: usize)
-        requires square { IsSquare self.old }
-        requires from { from < self.old.nodes }
-        requires to { to < self.old.nodes }
-        ensures square { IsSquare self.new }
-        ensures nodes { self.new.nodes ≡ self.old.nodes }
-        ensures pairs { (u v : ℕ) → HasPair self.new u v ↔ (HasPair self.old u v ⊎ ((from ≡ u) × (to ≡ v))) }
-    {
-        set_bit(&mut self.words, self.width, from, to);
-    }
-
-    /// Takes a pair away.
-    #[inline]
-    fn remove(&mut self, from: usize, to: usize)
-        requires square { IsSquare self.old }
-        requires from { from < self.old.nodes }
-        requires to { to < self.old.nodes }
-        ensures square { IsSquare self.new }
-        ensures nodes { self.new.nodes ≡ self.old.nodes }
-        ensures pairs { (u v : ℕ) → HasPair self.new u v ↔ (HasPair self.old u v × ((from ≡ u) × (to ≡ v) → ⊥)) }
-    {
-        clear_bit(&mut self.words, self.width, from, to);
-    }
 }
 
 /// The pairs in force at a line of a refutation, and the cases that are open there.

@@ -1,8 +1,8 @@
 //! Whether the numbers of lines are numbers of events.
 ghost use Rattle.std.specs.Prelude.{◌↔◌, IsTrue, All};
-ghost use Rattle.refutation_check.specs.Refusals.{AreUpTo, IsLineUpTo, IsReasonUpTo};
+ghost use Rattle.refutation_check.specs.Refusals.{IsLineUpTo};
 
-use tso_cert::Reason;
+use cert_check::ranges::{are_up_to, is_reason_up_to};
 use tso_evidence::RefutationLine;
 
 /// Whether no number of the lines is above `last`.
@@ -29,21 +29,4 @@ fn is_line_up_to(last: u64, line: &RefutationLine) -> bool
         RefutationLine::Else { first, second } => *first <= last && *second <= last,
         RefutationLine::Cycle(cycle) => are_up_to(last, cycle.items()),
     }
-}
-
-/// Whether no number of the reason is above `last`.
-fn is_reason_up_to(last: u64, reason: &Reason) -> bool
-    ensures { IsTrue result ↔ IsReasonUpTo last reason.now }
-{
-    match reason {
-        Reason::Base(_) => true,
-        Reason::Inferred { load, path, .. } => *load <= last && are_up_to(last, path.items()),
-    }
-}
-
-/// Whether none of the numbers is above `last`.
-fn are_up_to(last: u64, numbers: &[u64]) -> bool
-    ensures { IsTrue result ↔ AreUpTo last numbers.now }
-{
-    numbers.iter().all(|n| *n <= last)
 }

@@ -33,7 +33,7 @@ use Rattle.trace_reports.proofs.RenderingFacts.{one_of_refusal}
 -- ---- what is read
 
 -- a prefix that ends before the limit is all
-take_short : (all : List ℕ) → length (take certificate_read_limit all) ≤ certificate_byte_limit → take certificate_read_limit all ≡ all
+pub take_short : (all : List ℕ) → length (take certificate_read_limit all) ≤ certificate_byte_limit → take certificate_read_limit all ≡ all
 take_short all few = ⊎_elim long short (cases_lt certificate_byte_limit (length all))
   where
     short : length all ≤ certificate_byte_limit → take certificate_read_limit all ≡ all

@@ -30,7 +30,8 @@ module _ (said : SaidOfTrace) (refused : SaidOfRefusal) where
   abbrev pub ShowsNoWhole : Type 0
   ShowsNoWhole = (a b : List ℕ) (why : Why) → refused a 0 why ≡ refused b 0 why
 
-  same_of_prefix : ShowsNoWhole → (input : List ℕ) (line : ℕ) (why : Why) → IsTraceRefusal (take trace_read_limit input) line why → refused (take trace_read_limit input) line why ≡ refused input line why
+  -- of the prefix up to one past the limit the same is said as of all
+  pub same_of_prefix : ShowsNoWhole → (input : List ℕ) (line : ℕ) (why : Why) → IsTraceRefusal (take trace_read_limit input) line why → refused (take trace_read_limit input) line why ≡ refused input line why
   same_of_prefix whole input line why refusal =
       ⊎_elim
       (λ (past : text_byte_limit < length input).

@@ -84,8 +84,9 @@ fn read_certificate<C: Read>(alloc: Global, trace: &Trace, reader: &mut C) -> Re
     Ok(render_check(alloc, trace, &input)?)
 }
 
-/// All bytes of a reader, which are no more than the text of a certificate may have.
-fn read_cert_text<C: Read>(alloc: Global, reader: &mut C) -> Result<Vec<u8>, Fault>
+/// All bytes of a reader, which are no more than the text of a certificate may have, or other evidence. Faults: OutOfMemory where
+/// an allocation was refused; Read where the reader failed or passed 2,097,152 calls, or has more than 67,108,864 bytes.
+pub fn read_cert_text<C: Read>(alloc: Global, reader: &mut C) -> Result<Vec<u8>, Fault>
     ensures prefix { IfOk result (λ bytes. IfSome (C.remaining reader.old) (λ all. bytes.items ≡ take certificate_read_limit all)) }
     ensures taken { IfOk result (λ _. LosesPrefix certificate_read_limit (C.remaining reader.old) (C.remaining reader.new)) }
     ensures within { IfOk result (λ bytes. length bytes.items ≤ certificate_byte_limit) }

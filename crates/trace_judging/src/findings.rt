@@ -47,7 +47,7 @@ pub fn find_violation<H: Threads + Wait>(
 }
 
 /// The least load whose value nothing wrote.
-pub(crate) fn least_unwritten(trace: &Trace) -> Option<usize>
+pub fn least_unwritten(trace: &Trace) -> Option<usize>
     ensures { MatchOption result ((l : ℕ) → IsUnwritten trace.now l → ⊥) (λ n. IsCertificateOf trace.now (Unwritten n)) }
 {
     for n in 0..trace.events() {

@@ -1,12 +1,13 @@
 ghost use Rattle.std.specs.Prelude.{◌≡◌, ◌≢◌, [], ◌∷◌, Result, IfOk, IfErr};
 ghost use Rattle.line_text.specs.Lines.{tokens_of, tokens_after};
-ghost use Rattle.tso_cert.specs.Internal.LineValues.{cert_line_said, step_said, unwritten_said, reason_said};
+ghost use Rattle.tso_cert.specs.Internal.LineValues.{cert_line_said, step_said, reason_said};
 ghost use Rattle.tso_cert.specs.declared.faults.Why.{Why};
 
 use crate::faults::Why;
 use crate::lists::NumList;
+use crate::parts::{read_inferred, read_unwritten};
 use crate::steps::{CertStep, Reason};
-use crate::tokens::{base_rule, event, events, inferred_rule, is_decimal, token_of};
+use crate::tokens::{base_rule, event, events, is_decimal, token_of};
 use line_text::next_token;
 use std::alloc::Global;
 
@@ -34,19 +35,6 @@ pub(crate) fn read_line(alloc: Global, number: usize, line: &[u8]) -> Result<Lin
     } else {
         let step = read_step(alloc, number, word, tokens)?;
         Ok(Line::Step(step))
-    }
-}
-
-/// The load of a line `unwritten`, of the tokens after the keyword.
-#[tactic(auto, unfolding(crate::specs::Internal::LineValues::unwritten_said))]
-fn read_unwritten(number: usize, tokens: Option<&[u8]>) -> Result<u64, Why>
-    ensures { result ≡ unwritten_said number (tokens_after tokens.entry) }
-{
-    let (token, rest) = token_of(tokens)?;
-    match rest {
-        None if number == 1 => event(token),
-        None => Err(Why::BadLine),
-        Some(_) => Err(Why::BadLine),
     }
 }
 
@@ -79,13 +67,14 @@ fn read_reason(alloc: Global, name: &[u8], tokens: Option<&[u8]>) -> Result<Reas
     ensures found { IfOk result (λ reason. reason_said name.now (tokens_after tokens.entry) ≡ Result.Ok reason) }
     ensures refused { IfErr result (λ why. why ≢ Why.OutOfMemory → reason_said name.now (tokens_after tokens.entry) ≡ Result.Err why) }
 {
-    let Some(line) = tokens else {
-        let rule = base_rule(name)?;
-        return Ok(Reason::Base(rule));
-    };
-    let (load, rest) = next_token(line);
-    let load = event(load)?;
-    let path = NumList::new(events(alloc, rest)?);
-    let rule = inferred_rule(name)?;
-    Ok(Reason::Inferred { rule, load, path })
+    match tokens {
+        None => {
+            let rule = base_rule(name)?;
+            Ok(Reason::Base(rule))
+        }
+        Some(line) => {
+            let (load, path) = next_token(line);
+            read_inferred(alloc, name, load, path)
+        }
+    }
 }

@@ -1,11 +1,12 @@
 ghost use Rattle.std.specs.Prelude.{◌≡◌, ◌++◌, ◌∷◌, All, string_bytes, OnOk, IfOk};
 ghost use Rattle.std.specs.List.{flat_map};
 ghost use Rattle.line_text.specs.Lines.{line_text};
-ghost use Rattle.tso_cert.specs.Printed.{base_name, inferred_name, event_text, reason_tokens, step_tokens, steps_tokens, cert_text, Fits, ReasonFits, StepFits, CertFits};
+ghost use Rattle.tso_cert.specs.Printed.{event_text, step_tokens, steps_tokens, cert_text, Fits, StepFits, CertFits};
 ghost use Rattle.tso_cert.specs.Spelling.{SpellsCertificate};
 
 use crate::faults::OutOfMemory;
-use crate::steps::{CertStep, Certificate, Reason};
+use crate::parts::{print_event, print_events, print_reason};
+use crate::steps::{CertStep, Certificate};
 use std::alloc::Global;
 use std::fmt::Write;
 
@@ -61,41 +62,4 @@ fn print_step(text: &mut String, number: usize, step: &CertStep) -> Result<(), O
     print_event(text, step.to)?;
     print_reason(text, &step.reason)?;
     text.push_str("\n")
-}
-
-/// Appends the tokens of a reason, each after a space.
-fn print_reason(text: &mut String, reason: &Reason) -> Result<(), OutOfMemory>
-    ensures tokens { OnOk result (string_bytes text.new ≡ string_bytes text.old ++ flat_map (λ token. 32 ∷ token) (reason_tokens reason.now)) }
-    ensures fits { OnOk result (ReasonFits reason.now) }
-{
-    match reason {
-        Reason::Base(rule) => write!(text, " {}", rule.name()),
-        Reason::Inferred { rule, load, path } => {
-            write!(text, " {}", rule.name())?;
-            print_event(text, *load)?;
-            print_events(text, path.items())
-        }
-    }
-}
-
-/// Appends a space and the event number, for each of them.
-fn print_events(text: &mut String, numbers: &[u64]) -> Result<(), OutOfMemory>
-    ensures tokens { OnOk result (string_bytes text.new ≡ string_bytes text.old ++ flat_map (λ n. 32 ∷ event_text n) numbers.now) }
-    ensures fits { OnOk result (All Fits numbers.now) }
-{
-    for number in numbers {
-        print_event(text, *number)?;
-    }
-    Ok(())
-}
-
-/// Appends a space and the event number.
-fn print_event(text: &mut String, number: u64) -> Result<(), OutOfMemory>
-    ensures token { OnOk result (string_bytes text.new ≡ string_bytes text.old ++ 32 ∷ event_text number) }
-    ensures fits { Fits number }
-{
-    match number {
-        0 => text.push_str(" init"),
-        _ => write!(text, " {number}"),
-    }
 }

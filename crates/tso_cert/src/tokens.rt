@@ -1,3 +1,4 @@
+//! Tokens of the lines of a certificate, and their values. Other texts with such lines read them too.
 ghost use Rattle.std.specs.Prelude.{◌≡◌, ◌≢◌, [], ◌∷◌, Result, IfOk, IfErr};
 ghost use Rattle.std.specs.Str.{bytes_eq};
 ghost use Rattle.std.specs.Fmt.{decimal};
@@ -11,7 +12,7 @@ use line_text::{next_token, number_of};
 use std::alloc::Global;
 
 /// The next token, and what stands after its space; BadLine where there is none.
-pub(crate) fn token_of(tokens: Option<&[u8]>) -> Result<(&[u8], Option<&[u8]>), Why>
+pub fn token_of(tokens: Option<&[u8]>) -> Result<(&[u8], Option<&[u8]>), Why>
     ensures found { IfOk result (λ found. tokens_after tokens.entry ≡ found.0.now ∷ tokens_after found.1) }
     ensures none { IfErr result (λ why. (tokens_after tokens.entry ≡ []) × (why ≡ Why.BadLine)) }
 {
@@ -22,14 +23,14 @@ pub(crate) fn token_of(tokens: Option<&[u8]>) -> Result<(&[u8], Option<&[u8]>), 
 }
 
 /// Whether a token is this number in decimal.
-pub(crate) fn is_decimal(token: &[u8], number: usize) -> bool
+pub fn is_decimal(token: &[u8], number: usize) -> bool
     ensures { result ≡ bytes_eq token.now (decimal number) }
 {
     number_of(token) == Some(number as u64)
 }
 
 /// The event number that a token spells.
-pub(crate) fn event_number(token: &[u8]) -> Option<u64>
+fn event_number(token: &[u8]) -> Option<u64>
     ensures { result ≡ event_number token.now }
 {
     if token == b"init".as_slice() {
@@ -42,14 +43,14 @@ pub(crate) fn event_number(token: &[u8]) -> Option<u64>
 }
 
 /// The event number that a token spells, or BadNumber.
-pub(crate) fn event(token: &[u8]) -> Result<u64, Why>
+pub fn event(token: &[u8]) -> Result<u64, Why>
     ensures { result ≡ event token.now }
 {
     event_number(token).ok_or(Why::BadNumber)
 }
 
 /// The event numbers of all these tokens, or BadNumber.
-pub(crate) fn events(alloc: Global, tokens: Option<&[u8]>) -> Result<Vec<u64>, Why>
+pub fn events(alloc: Global, tokens: Option<&[u8]>) -> Result<Vec<u64>, Why>
     ensures found { IfOk result (λ numbers. events (tokens_after tokens.entry) ≡ Result.Ok numbers.items) }
     ensures refused { IfErr result (λ why. why ≢ Why.OutOfMemory → events (tokens_after tokens.entry) ≡ Result.Err why) }
 {
@@ -64,7 +65,7 @@ pub(crate) fn events(alloc: Global, tokens: Option<&[u8]>) -> Result<Vec<u64>, W
 }
 
 /// The base rule of this name, or BadRule.
-pub(crate) fn base_rule(name: &[u8]) -> Result<BaseRule, Why>
+pub fn base_rule(name: &[u8]) -> Result<BaseRule, Why>
     ensures { result ≡ base_rule name.now }
 {
     for k in 0..BaseRule::ALL.len() {
@@ -77,7 +78,7 @@ pub(crate) fn base_rule(name: &[u8]) -> Result<BaseRule, Why>
 }
 
 /// The inferred rule of this name, or BadRule.
-pub(crate) fn inferred_rule(name: &[u8]) -> Result<InferredRule, Why>
+pub fn inferred_rule(name: &[u8]) -> Result<InferredRule, Why>
     ensures { result ≡ inferred_rule name.now }
 {
     for k in 0..InferredRule::ALL.len() {

@@ -1,6 +1,6 @@
 -- Certificates as evidence: their texts, and the numbers in them.
 use Rattle.std.proofs.Common.{◌≡◌, ℕ, suc, List, [], ◌∷◌, ◌++◌, refl, ap, sym, ◌∙◌}
-use Rattle.std.specs.Prelude.{All, map}
+use Rattle.std.specs.Prelude.{All}
 use Rattle.std.specs.List.{flat_map}
 use Rattle.std.proofs.lemmas.List.Elements.{All-nil, All-cons}
 use Rattle.line_text.specs.Lines.{line_text}
@@ -12,11 +12,11 @@ use Rattle.tso_cert.specs.Spelling.{SpellsCertificate}
 use Rattle.tso_cert.proofs.SayingFacts.{all_first, all_after}
 use Rattle.tso_evidence.specs.declared.refutations.RefutationLine.TheVariants.{Step, Cycle}
 use Rattle.tso_evidence.specs.Printed.{lines_tokens, evidence_text, LineFits, EvidenceFits}
-use Rattle.tso_evidence.specs.Certificates.{evidence_of}
+use Rattle.tso_evidence.specs.Certificates.{certificate_lines, evidence_of}
 use Rattle.tso_evidence.specs.Spelling.{SpellsEvidence}
 
 -- steps and a cycle have the same lines as in a certificate
-steps_lines : (k : ℕ) (steps : List CertStep) (cycle : List ℕ) → steps_tokens k steps ++ cycle_tokens cycle ∷ [] ≡ lines_tokens k (map Step steps ++ Cycle cycle ∷ [])
+steps_lines : (k : ℕ) (steps : List CertStep) (cycle : List ℕ) → steps_tokens k steps ++ cycle_tokens cycle ∷ [] ≡ lines_tokens k (certificate_lines steps cycle)
 steps_lines k [] cycle = refl
 steps_lines k (s ∷ steps) cycle = ap (λ rest. step_tokens k s ∷ rest) (steps_lines (suc k) steps cycle)
 
@@ -25,15 +25,15 @@ unfolding cert_text evidence_text
 same_text (UnwrittenLoad n) = refl
 same_text (CycleOf steps cycle) = ap (flat_map line_text) (steps_lines 1 steps cycle)
 
-steps_fit : (steps : List CertStep) (cycle : List ℕ) → All StepFits steps → All Fits cycle → All LineFits (map Step steps ++ Cycle cycle ∷ [])
+steps_fit : (steps : List CertStep) (cycle : List ℕ) → All StepFits steps → All Fits cycle → All LineFits (certificate_lines steps cycle)
 steps_fit [] cycle fits last = All-cons LineFits (Cycle cycle) [] last (All-nil LineFits)
-steps_fit (s ∷ steps) cycle fits last = All-cons LineFits (Step s) (map Step steps ++ Cycle cycle ∷ []) (all_first StepFits s steps fits) (steps_fit steps cycle (all_after StepFits s steps fits) last)
+steps_fit (s ∷ steps) cycle fits last = All-cons LineFits (Step s) (certificate_lines steps cycle) (all_first StepFits s steps fits) (steps_fit steps cycle (all_after StepFits s steps fits) last)
 
-lines_fit : (steps : List CertStep) (cycle : List ℕ) → All LineFits (map Step steps ++ Cycle cycle ∷ []) → All StepFits steps × All Fits cycle
+lines_fit : (steps : List CertStep) (cycle : List ℕ) → All LineFits (certificate_lines steps cycle) → All StepFits steps × All Fits cycle
 lines_fit [] cycle fits = (All-nil StepFits, all_first LineFits (Cycle cycle) [] fits)
 lines_fit (s ∷ steps) cycle fits =
-    let more = lines_fit steps cycle (all_after LineFits (Step s) (map Step steps ++ Cycle cycle ∷ []) fits) in
-    (All-cons StepFits s steps (all_first LineFits (Step s) (map Step steps ++ Cycle cycle ∷ []) fits) more.0, more.1)
+    let more = lines_fit steps cycle (all_after LineFits (Step s) (certificate_lines steps cycle) fits) in
+    (All-cons StepFits s steps (all_first LineFits (Step s) (certificate_lines steps cycle) fits) more.0, more.1)
 
 fits_in : (c : Certificate) → CertFits c → EvidenceFits (evidence_of c)
 fits_in (UnwrittenLoad n) fits = fits

@@ -10,7 +10,7 @@ use Rattle.tso_cert.specs.declared.faults.Why.{Why}
 use Rattle.tso_cert.specs.Printed.{event_text, reason_tokens, ReasonFits, cycle_tokens, unwritten_tokens, Fits}
 use Rattle.tso_cert.specs.Spelling.{IsEventToken, HasStepNumbers}
 use Rattle.tso_cert.specs.Internal.LineValues.{unwritten_said}
-use Rattle.tso_cert.proofs.SayingFacts.{all_first, all_after, event-text, events-text, decimal_differs, base_said, inferred_said}
+use Rattle.tso_cert.proofs.SayingFacts.{event-text, events-text, events_tokens, decimal_differs, base_said, inferred_said}
 use Rattle.tso_evidence.specs.declared.refutations.RefutationLine.{RefutationLine}
 use Rattle.tso_evidence.specs.declared.refutations.RefutationLine.TheVariants.{Step, Case, Else, Cycle}
 use Rattle.tso_evidence.specs.declared.lines.Line.{Line}
@@ -46,8 +46,7 @@ said-tokens line k (Order ns) fits = rw (fits.1, events-text ns fits.0) refl
 -- ---- and have no fault
 
 events_all : (ns : List ℕ) → All Fits ns → All IsEventToken (map event_text ns)
-events_all [] fits = All-nil IsEventToken
-events_all (n ∷ ns) fits = All-cons IsEventToken (event_text n) (map event_text ns) (n, all_first Fits n ns fits, refl) (events_all ns (all_after Fits n ns fits))
+events_all ns fits = events_tokens (map event_text ns) ns (events-text ns fits)
 
 two_fit : (u v : ℕ) (ns : List ℕ) → Fits u → Fits v → All Fits ns → All Fits (u ∷ v ∷ ns)
 two_fit u v ns from to more = All-cons Fits u (v ∷ ns) from (All-cons Fits v ns to more)

@@ -81,17 +81,17 @@ bytes-push text rest bytes after prefix tokens whole cut is =
     ∙ ap (λ t. t ++ after) (sym (flat_map-append line_text prefix (tokens ∷ [])))
 
 -- the number of the line after these
-line_number : (lines : List RefutationLine) → suc (length lines) ≡ length (parts_of (flat_map line_text (lines_tokens 1 lines)))
+line_number : (lines : List RefutationLine) → All LineFits lines → suc (length lines) ≡ length (parts_of (flat_map line_text (lines_tokens 1 lines)))
 unfolding parts_of
-line_number lines =
-    let count = ap (λ t. length (parts_of t)) (sym (append-nil (flat_map line_text (lines_tokens 1 lines)))) ∙ lines_parts 1 lines [] in
+line_number lines fits =
+    let count = ap (λ t. length (parts_of t)) (sym (append-nil (flat_map line_text (lines_tokens 1 lines)))) ∙ lines_parts 1 lines [] fits in
     omega (arith, count)
 
 -- the fault of a line after these
 read_refused : (text rest : List ℕ) (lines : List RefutationLine) (why : EvidenceFault) → IsRead text rest lines → (rest ≢ []) → ArePartsRefused BadLine BadLine (IsLineFault (suc (length lines)) (number_past 1 lines)) (parts_of rest) why →
     IsEvidenceTextRefusal text (suc (length lines)) why
 unfolding IsEvidenceTextRefusal
-read_refused text rest lines why r some refused = inl (lines, r.fits, record { rest = rest; whole = r.bytes; at = line_number lines; refused = (some, refused) })
+read_refused text rest lines why r some refused = inl (lines, r.fits, record { rest = rest; whole = r.bytes; at = line_number lines r.fits; refused = (some, refused) })
 
 no_nil : (rest line after : List ℕ) → rest ≡ line ++ 10 ∷ after → rest ≢ []
 no_nil rest [] after is = λ none. absurd (let s : [] ≡ 10 ∷ after = sym none ∙ is in cc)
@@ -105,9 +105,9 @@ read_bad text rest lines cut why r is =
     read_refused text rest lines (line_fault why) r (no_nil rest cut.line cut.rest cut.bytes) (rw (cut.parts, p.2) (refused (suc (length lines)) (number_past 1 lines) (tokens_of cut.line) why is))
 
 -- the parts of a line alone
-one_parts : (l : Line) → length (parts_of (line_text (said_tokens 1 l) ++ [])) ≡ 2
+one_parts : (l : Line) → SaidFits 1 l → length (parts_of (line_text (said_tokens 1 l) ++ [])) ≡ 2
 unfolding parts_of
-one_parts l = ap length ((said_cut 1 l).parts [])
+one_parts l fits = ap length ((said_cut 1 1 l fits).parts [])
 
 -- the line of evidence of one line, and what stands after it
 read_one : (text rest : List ℕ) (lines : List RefutationLine) (l : Line) (e : Evidence) (cut : HasLine rest) → IsRead text rest lines → suc (length lines) ≡ 1 → evidence_line_said (suc (length lines)) (number_past 1 lines) (tokens_of cut.line) ≡ Ok l →
@@ -117,7 +117,7 @@ read_one text rest (m ∷ lines) l e cut r one is alone tokens fits = absurd (om
 read_one text rest [] l e cut r one is alone tokens fits =
     let t = told 1 1 (tokens_of cut.line) l is in
     let bytes : text ≡ evidence_text e ++ cut.rest = bytes-push text rest cut.line cut.rest [] (said_tokens 1 l) r.bytes cut.bytes t.says ∙ ap (λ ls. flat_map line_text ls ++ cut.rest) tokens in
-    let count : length (parts_of (evidence_text e)) ≡ 2 = ap (λ ls. length (parts_of (flat_map line_text ls))) (sym tokens) ∙ one_parts l in
+    let count : length (parts_of (evidence_text e)) ≡ 2 = ap (λ ls. length (parts_of (flat_map line_text ls))) (sym tokens) ∙ one_parts l t.fits in
     by count cut.rest bytes
   where
     by : length (parts_of (evidence_text e)) ≡ 2 → (rest : List ℕ) → text ≡ evidence_text e ++ rest → IsRightFor text (ended_with e 2 (parts_of rest))
@@ -177,7 +177,7 @@ line_read : (lines : List RefutationLine) (l : Line) (rest : List ℕ) → SaidF
 line_read lines l rest fits =
     let line = suc (length lines) in
     let k = number_past 1 lines in
-    let cut = said_cut k l in
+    let cut = said_cut line k l fits in
     read_parts-line lines _ _ rest (Ok l) (cut.parts rest) (ap (evidence_line_said line k) cut.cut ∙ said-tokens line k l fits)
 
 -- printed lines are read
@@ -195,11 +195,11 @@ one_read : (e : Evidence) (rest : List ℕ) → IsOfOneLine e → EvidenceFits e
 unfolding evidence_text
 one_read (UnwrittenLoad n) rest alone fits = (
   ap (λ t. read_parts [] (parts_of (t ++ rest))) (append-nil (line_text (unwritten_tokens n))) ∙ line_read [] (Unwritten n) rest (fits, refl),
-  one_parts (Unwritten n),
+  one_parts (Unwritten n) (fits, refl),
 )
 one_read (OrderOf ns) rest alone fits = (
   ap (λ t. read_parts [] (parts_of (t ++ rest))) (append-nil (line_text (order_tokens ns))) ∙ line_read [] (Order ns) rest (fits, refl),
-  one_parts (Order ns),
+  one_parts (Order ns) (fits, refl),
 )
 one_read (Refutation lines) rest alone fits = absurd alone
 
@@ -245,7 +245,7 @@ one_reading text (Ok e) spells = ap (λ t. read_parts [] (parts_of t)) spells.1 
 one_reading text (Err fault) refusal =
     ⊎_elim
     (λ (r : (lines : List RefutationLine) × All LineFits lines × IsRefusedAfter text (flat_map line_text (lines_tokens 1 lines)) fault.0 (λ rest. (rest ≢ []) × ArePartsRefused BadLine BadLine (IsLineFault fault.0 (number_past 1 lines)) (parts_of rest) fault.1)).
-    let at : fault.0 ≡ suc (length r.0) = r.2.at ∙ sym (line_number r.0) in
+    let at : fault.0 ≡ suc (length r.0) = r.2.at ∙ sym (line_number r.0 r.1) in
     ap (λ t. read_parts [] (parts_of t)) r.2.whole ∙ lines_read [] r.0 r.2.rest r.1
     ∙ refused_read r.0 r.2.rest fault.1 r.2.refused.0 (subst (λ n. ArePartsRefused BadLine BadLine (IsLineFault n (number_past 1 r.0)) (parts_of r.2.rest) fault.1) at r.2.refused.1) ∙ ap (λ n. Err (n, fault.1)) (sym at))
     (λ (r : (e : Evidence) × IsOfOneLine e × EvidenceFits e × IsRefusedAfter text (evidence_text e) fault.0 (λ rest. (rest ≢ []) × (fault.1 ≡ AfterEnd))).

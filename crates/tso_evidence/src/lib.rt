@@ -16,4 +16,3 @@ mod lines;
 mod printers;
 mod readers;
 mod refutations;
-mod tokens;

@@ -1,14 +1,14 @@
 ghost use Rattle.std.specs.Prelude.{◌≡◌, ◌≢◌, ◌+◌, ◌<◌, ◌^◌, [], ◌∷◌, Result, IfOk, IfErr};
 ghost use Rattle.line_text.specs.Lines.{tokens_of, tokens_after};
-ghost use Rattle.tso_cert.specs.Internal.LineValues.{reason_said, unwritten_said};
 ghost use Rattle.tso_cert.specs.declared.faults.Why.{Why};
 ghost use Rattle.tso_evidence.specs.Printed.{number_after};
 ghost use Rattle.tso_evidence.specs.Internal.LineValues.{evidence_line_said, order_said, numbered_said, named_said};
 
 use crate::refutations::RefutationLine;
-use crate::tokens::{base_rule, event, events, inferred_rule, is_decimal, token_of};
 use line_text::next_token;
 use std::alloc::Global;
+use tso_cert::parts::{read_inferred, read_unwritten};
+use tso_cert::tokens::{base_rule, event, events, is_decimal, token_of};
 use tso_cert::{CertStep, NumList, Reason, Why};
 
 /// What a line of evidence says.
@@ -54,19 +54,6 @@ pub(crate) fn read_line(
     } else {
         let refuting = read_numbered(alloc, number, word, tokens)?;
         Ok(Line::Refuting(refuting))
-    }
-}
-
-/// The load of a line `unwritten`, of the tokens after the keyword.
-#[tactic(auto, unfolding(tso_cert::specs::Internal::LineValues::unwritten_said))]
-fn read_unwritten(line: usize, tokens: Option<&[u8]>) -> Result<u64, Why>
-    ensures { result ≡ unwritten_said line (tokens_after tokens.entry) }
-{
-    let (token, rest) = token_of(tokens)?;
-    match rest {
-        None if line == 1 => event(token),
-        None => Err(Why::BadLine),
-        Some(_) => Err(Why::BadLine),
     }
 }
 
@@ -139,21 +126,4 @@ fn read_alone(from: u64, to: u64, name: &[u8]) -> Result<RefutationLine, Why>
         let reason = Reason::Base(base_rule(name)?);
         Ok(RefutationLine::Step(CertStep { from, to, reason }))
     }
-}
-
-/// The reason of the name of an inferred rule, the token of its load, and those of its path.
-#[tactic(auto, unfolding(tso_cert::specs::Internal::LineValues::reason_said))]
-fn read_inferred(
-    alloc: Global,
-    name: &[u8],
-    load: &[u8],
-    path: Option<&[u8]>,
-) -> Result<Reason, Why>
-    ensures found { IfOk result (λ reason. reason_said name.now (load.now ∷ tokens_after path.entry) ≡ Result.Ok reason) }
-    ensures refused { IfErr result (λ why. why ≢ Why.OutOfMemory → reason_said name.now (load.now ∷ tokens_after path.entry) ≡ Result.Err why) }
-{
-    let load = event(load)?;
-    let path = NumList::new(events(alloc, path)?);
-    let rule = inferred_rule(name)?;
-    Ok(Reason::Inferred { rule, load, path })
 }

@@ -2,15 +2,16 @@ ghost use Rattle.std.specs.Prelude.{◌≡◌, ◌++◌, ◌∷◌, All, string_
 ghost use Rattle.std.specs.List.{flat_map, join_with_byte};
 ghost use Rattle.std.specs.Fmt.{decimal};
 ghost use Rattle.line_text.specs.Lines.{line_text};
-ghost use Rattle.tso_cert.specs.Printed.{base_name, inferred_name, event_text, reason_tokens, Fits, ReasonFits};
-ghost use Rattle.tso_evidence.specs.Printed.{line_tokens, lines_tokens, evidence_text, LineFits, EvidenceFits};
+ghost use Rattle.tso_cert.specs.Printed.{event_text, Fits};
+ghost use Rattle.tso_evidence.specs.Printed.{line_tokens, lines_tokens, evidence_text, LineFits};
 ghost use Rattle.tso_evidence.specs.Spelling.{SpellsEvidence};
 
 use crate::evidence::Evidence;
 use crate::lines::number_after;
 use crate::refutations::RefutationLine;
 use std::fmt::Write;
-use tso_cert::{OutOfMemory, Reason};
+use tso_cert::OutOfMemory;
+use tso_cert::parts::{print_event, print_events, print_reason};
 
 /// Appends the text of the evidence. It spells the evidence, so `read_evidence` reads it back. OutOfMemory where an allocation
 /// was refused: what the text holds then isn't said.
@@ -88,41 +89,4 @@ fn print_pair(text: &mut String, number: usize, from: u64, to: u64) -> Result<()
     write!(text, "{number}")?;
     print_event(text, from)?;
     print_event(text, to)
-}
-
-/// Appends the tokens of a reason, each after a space.
-fn print_reason(text: &mut String, reason: &Reason) -> Result<(), OutOfMemory>
-    ensures tokens { OnOk result (string_bytes text.new ≡ string_bytes text.old ++ flat_map (λ token. 32 ∷ token) (reason_tokens reason.now)) }
-    ensures fits { OnOk result (ReasonFits reason.now) }
-{
-    match reason {
-        Reason::Base(rule) => write!(text, " {}", rule.name()),
-        Reason::Inferred { rule, load, path } => {
-            write!(text, " {}", rule.name())?;
-            print_event(text, *load)?;
-            print_events(text, path.items())
-        }
-    }
-}
-
-/// Appends a space and the event number, for each of them.
-fn print_events(text: &mut String, numbers: &[u64]) -> Result<(), OutOfMemory>
-    ensures tokens { OnOk result (string_bytes text.new ≡ string_bytes text.old ++ flat_map (λ n. 32 ∷ event_text n) numbers.now) }
-    ensures fits { OnOk result (All Fits numbers.now) }
-{
-    for number in numbers {
-        print_event(text, *number)?;
-    }
-    Ok(())
-}
-
-/// Appends a space and the event number.
-fn print_event(text: &mut String, number: u64) -> Result<(), OutOfMemory>
-    ensures token { OnOk result (string_bytes text.new ≡ string_bytes text.old ++ 32 ∷ event_text number) }
-    ensures fits { Fits number }
-{
-    match number {
-        0 => text.push_str(" init"),
-        _ => write!(text, " {number}"),
-    }
 }

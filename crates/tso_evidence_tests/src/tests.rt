@@ -6,7 +6,6 @@ use std::test::Fail;
 use tso_evidence::{Evidence, TextFault, print_evidence, read_evidence};
 
 mod certificates;
-mod examples;
 mod fault_texts;
 mod lines;
 mod read_and_print;

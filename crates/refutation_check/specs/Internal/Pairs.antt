@@ -1,8 +1,8 @@
 -- Where the checker looks up the pairs in force.
-use Rattle.std.specs.Prelude.{◌≡◌, ◌⊎◌, ◌↔◌, ℕ, ◌+◌, ◌*◌, ◌/◌, ◌^◌, ◌<◌, List, [], ◌∷◌, ◌++◌, length}
-use Rattle.bitsets.specs.Tables.{IsSet}
+use Rattle.std.specs.Prelude.{◌≡◌, ◌⊎◌, ◌↔◌, ℕ, ◌<◌, List, [], ◌∷◌, ◌++◌}
+use Rattle.cert_check.specs.declared.pair_tables.PairTable.{PairTable}
+use Rattle.cert_check.specs.PairTables.{HasPair, IsSquare}
 use Rattle.refutation_check.specs.declared.pairs.Pair.{Pair}
-use Rattle.refutation_check.specs.declared.pairs.PairTable.{PairTable}
 use Rattle.refutation_check.specs.declared.pairs.PairsInForce.{PairsInForce}
 
 -- one of the pairs is that of u and v
@@ -19,16 +19,6 @@ AreDistinct (p ∷ pairs) = (InForce pairs p.from p.to → ⊥) × AreDistinct p
 abbrev pub IsWith : List Pair → ℕ → ℕ → List Pair → Type 0
 IsWith pairs u v next =
     (InForce pairs u v × (next ≡ pairs)) ⊎ ((InForce pairs u v → ⊥) × (next ≡ pairs ++ record { from = u; to = v } ∷ []))
-
--- The table has a row for each number below `nodes`, with a bit for each of these numbers.
-pub record IsSquare (table : PairTable) : Type 0 where
-  pub small : table.nodes < 2 ^ 32
-  pub fits : table.width ≡ (table.nodes + 63) / 64
-  pub sized : length table.words.items ≡ table.nodes * table.width
-
--- the pair's bit is set, in the row of its first number
-abbrev pub HasPair : PairTable → ℕ → ℕ → Type 0
-HasPair table u v = (u < table.nodes) × (v < table.nodes) × IsSet table.words.items table.width u v
 
 -- The table has the pairs of the list, and no others, and the list has each of them once.
 pub record IsTableOf (table : PairTable) (pairs : List Pair) : Type 0 where

@@ -1,16 +1,14 @@
 //! Texts of evidence, read and printed back.
-use super::examples::{
-    ORDER_OF_STORE_BUFFERING, REFUTATION_OF_FOUR_LEAVES, REFUTATION_OF_TWELVE_EVENTS,
-};
 use super::{expect_text, printed, read_back};
+use evidence_for_tests::{BUFFERING_ORDER, THIRTY_REFUTED, TWELVE_REFUTED};
 use std::test::Fail;
 use tso_evidence::{Evidence, print_evidence};
 
 /// Texts, by name.
 const TEXTS: [(&str, &str); 16] = [
-    ("order_of_store_buffering", ORDER_OF_STORE_BUFFERING),
-    ("refutation_of_twelve_events", REFUTATION_OF_TWELVE_EVENTS),
-    ("refutation_of_four_leaves", REFUTATION_OF_FOUR_LEAVES),
+    ("order_of_store_buffering", BUFFERING_ORDER),
+    ("refutation_of_twelve_events", TWELVE_REFUTED),
+    ("refutation_of_four_leaves", THIRTY_REFUTED),
     ("no line", ""),
     ("no event", "order\n"),
     ("an order of init", "order init 1 init\n"),

@@ -1,8 +1,8 @@
 //! Allocations refused in turn: `rt try --test --fail-alloc N` refuses the Nth of each test.
 //!
 //! The call that meets it answers OutOfMemory, at line 0 where it is the reader, and the next call the ordinary answer.
-use super::examples::REFUTATION_OF_TWELVE_EVENTS;
 use super::{expect_fault, expect_text, read};
+use evidence_for_tests::TWELVE_REFUTED;
 use std::alloc::{AllocError, Global};
 use std::process::Abort;
 use std::test::Fail;
@@ -44,7 +44,7 @@ fn expect_back<H: Abort>(rt: &H, alloc: Global, text: &str) -> Result<(), Fail> 
 
 #[test]
 fn refused_allocations_of_a_refutation(rt: HostRuntime) -> Result<(), Fail> {
-    expect_back(&rt, rt.alloc(), REFUTATION_OF_TWELVE_EVENTS)
+    expect_back(&rt, rt.alloc(), TWELVE_REFUTED)
 }
 
 #[test]

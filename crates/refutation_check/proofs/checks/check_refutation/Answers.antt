@@ -1,4 +1,5 @@
-use Rattle.refutation_check.proofs.Told.{if_ok, told_no_order, told_accepted}
+use Rattle.cert_check.proofs.RefusalFacts.{if_ok}
+use Rattle.refutation_check.proofs.Told.{told_no_order, told_accepted}
 use Rattle.refutation_check.proofs.checks.check_refutation.Goals as goal
 
 pub returns-clause-no_order : goal.returns-clause-no_order

@@ -1,7 +1,8 @@
 use Rattle.std.proofs.Common.{All, refl, subst, arith}
 use Rattle.tso_ops.proofs.EventFacts.{event_total-most}
 use Rattle.refutation_check.specs.Refusals.{IsLineUpTo}
-use Rattle.refutation_check.proofs.Told.{if_ok, told_of_walk, structure_of_none}
+use Rattle.cert_check.proofs.RefusalFacts.{if_ok}
+use Rattle.refutation_check.proofs.Told.{told_of_walk, structure_of_none}
 use Rattle.refutation_check.proofs.checks.judge.Goals as goal
 
 pub new-requires : goal.new-requires

@@ -1,6 +1,6 @@
 use Rattle.std.proofs.Common.{refl}
 use Rattle.refutation_check.specs.Internal.Pairs.{InForce}
-use Rattle.refutation_check.proofs.ListFacts.{cycle_by_place}
+use Rattle.cert_check.proofs.Facts.{cycle_by_place}
 use Rattle.refutation_check.proofs.listed.is_cycle.Goals as goal
 
 pub returns-then-is_linked : goal.returns-then-is_linked

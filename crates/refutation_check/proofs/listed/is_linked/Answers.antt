@@ -1,5 +1,5 @@
 use Rattle.refutation_check.specs.Internal.Pairs.{InForce}
-use Rattle.refutation_check.proofs.ListFacts.{linked_short}
+use Rattle.cert_check.proofs.Facts.{linked_short}
 use Rattle.refutation_check.proofs.listed.is_linked.Goals as goal
 
 pub returns : goal.returns

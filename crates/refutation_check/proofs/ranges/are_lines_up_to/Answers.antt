@@ -1,6 +1,6 @@
 use Rattle.std.proofs.Common.{refl}
 use Rattle.refutation_check.specs.Refusals.{IsLineUpTo}
-use Rattle.refutation_check.proofs.ListFacts.{all_more, all_of}
+use Rattle.cert_check.proofs.Facts.{all_more, all_of}
 use Rattle.refutation_check.proofs.ranges.are_lines_up_to.Goals as goal
 
 pub loop-line-preserved : goal.loop-line-preserved

@@ -1,10 +1,51 @@
-//! The worked examples of the texts of evidence.
+//! Worked examples for tests: traces, and evidence on them.
+#![tactic(auto)]
 
-/// The order of two processors that store and load what the other stored, each before the other's store is seen.
-pub(super) const ORDER_OF_STORE_BUFFERING: &str = "order 4 2 3 1\n";
+/// Store buffering.
+pub const BUFFERING: &str = "\
+tso trace 1
+proc
+st 1 1
+ld 2 0
+proc
+st 2 2
+ld 1 0
+end
+";
 
-/// A refutation of twelve events, with one case.
-pub(super) const REFUTATION_OF_TWELVE_EVENTS: &str = "\
+/// An order of it.
+pub const BUFFERING_ORDER: &str = "\
+order 4 2 3 1
+";
+
+/// Twelve events with neither a derived cycle nor an order.
+pub const TWELVE_EVENTS: &str = "\
+tso trace 1
+proc
+st 1 1
+mb
+ld 2 3
+ld 1 1
+proc
+st 1 2
+mb
+ld 2 4
+ld 1 2
+proc
+st 2 3
+mb
+ld 1 2
+ld 2 3
+proc
+st 2 4
+mb
+ld 1 1
+ld 2 4
+end
+";
+
+/// A refutation of them, with one case.
+pub const TWELVE_REFUTED: &str = "\
 1 1 2 Membar
 2 1 11 Read
 3 2 3 LoadOp
@@ -31,8 +72,59 @@ cycle 7 8 1 11 12
 cycle 10 11 4 8 9
 ";
 
-/// A refutation with cases in cases, that ends in four cycles.
-pub(super) const REFUTATION_OF_FOUR_LEAVES: &str = "\
+/// Thirty events under PSO with neither.
+pub const THIRTY_EVENTS: &str = "\
+tso trace 1
+model pso
+proc
+st 1 3
+st 2 5
+st 0 1
+proc
+st 2 6
+st 0 2
+st 1 4
+proc
+ld 0 1
+ld 1 4
+proc
+ld 0 2
+ld 1 3
+proc
+ld 0 1
+ld 1 3
+proc
+ld 0 2
+ld 1 4
+proc
+ld 1 3
+ld 2 6
+proc
+ld 1 4
+ld 2 6
+proc
+ld 1 4
+ld 2 5
+proc
+ld 1 3
+ld 2 5
+proc
+ld 2 6
+ld 0 1
+proc
+ld 2 5
+ld 0 1
+proc
+ld 2 6
+ld 0 2
+proc
+ld 2 5
+ld 0 2
+end
+";
+
+/// A refutation of them, with four parts that end in a cycle.
+pub const THIRTY_REFUTED: &str = "\
 1 1 15 Read
 2 1 21 Read
 3 2 25 Read

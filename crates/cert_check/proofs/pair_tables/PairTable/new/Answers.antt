@@ -1,7 +1,7 @@
 use Rattle.std.proofs.Common.{subst}
 use Rattle.bitsets.specs.Tables.{IsSet}
 use Rattle.bitsets.proofs.TableFacts.{no_bit}
-use Rattle.cert_check.proofs.pairs.PairTable.new.Goals as goal
+use Rattle.cert_check.proofs.pair_tables.PairTable.new.Goals as goal
 
 pub returns-clause-empty : goal.returns-clause-empty
 returns-clause-empty c = λ u v has.

@@ -1,5 +1,5 @@
 use Rattle.tso_cert.proofs.PrintFacts.{inferred-printed}
-use Rattle.tso_cert.proofs.printers.print_reason.Goals as goal
+use Rattle.tso_cert.proofs.parts.print_reason.Goals as goal
 
 pub returns-in_ok-print_event-in-Inferred-clause-tokens : goal.returns-in_ok-print_event-in-Inferred-clause-tokens
 returns-in_ok-print_event-in-Inferred-clause-tokens c =
