@@ -1,0 +1,2 @@
+pub mod EventOrders
+pub mod Evidence
