@@ -1,7 +1,5 @@
 -- Of which bytes lines on evidence are.
-use Rattle.std.proofs.Common.{◌≡◌, ℕ, ◌<◌, ◌≤◌, ◌∙◌, List, length, take, Some, None, IfSome, refl, sym, subst, arith, inl, inr, ⊎_elim}
-use Rattle.std.proofs.lemmas.Bool.{cases_lt}
-use Rattle.std.proofs.lemmas.List.{take_all, length-take-le}
+use Rattle.std.proofs.Common.{◌≡◌, ℕ, ◌≤◌, List, length, take, IfSome, sym, subst, inl, inr}
 use Rattle.std.specs.Prelude.{Option}
 use Rattle.tso_ops.specs.Values.{TraceValue}
 use Rattle.tso_ops.specs.Limits.{IsTrace}
@@ -9,6 +7,7 @@ use Rattle.tso_text.specs.declared.faults.Why.{Why}
 use Rattle.tso_text.specs.Texts.{SpellsTrace}
 use Rattle.tso_text.specs.Refusals.{IsTraceRefusal}
 use Rattle.trace_judging.specs.Limits.{certificate_byte_limit, certificate_read_limit, trace_read_limit}
+use Rattle.trace_judging.proofs.CheckFacts.{take_short}
 use Rattle.trace_judging.proofs.InputFacts.{refusal_of_prefix, spells_of_prefix}
 use Rattle.trace_reports.specs.Readings.{ReadsAs}
 use Rattle.trace_reports.specs.RefusalLines.{refusal_text}
@@ -16,18 +15,8 @@ use Rattle.trace_reports.proofs.ReadingFacts.{reads_any, reads_as, reads_more}
 use Rattle.trace_decisions.specs.declared.answers.Answer.{Answer}
 use Rattle.trace_decisions.specs.declared.answers.Answer.TheVariants.{Refused}
 use Rattle.trace_decisions.specs.DecisionTexts.{AnswerSays}
-use Rattle.trace_decisions.specs.EvidenceReports.{IsEvidenceLine, IsEvidenceReport, IsEvidenceReportOfReader, IsVerification, IsVerificationOfReaders}
+use Rattle.trace_decisions.specs.EvidenceReports.{IsEvidenceReport, IsEvidenceReportOfReader, IsVerification, IsVerificationOfReaders}
 use Rattle.trace_decisions.proofs.DecisionFacts.{answer_says, says}
-
--- a prefix that ends before the limit is all
-take_short : (all : List ℕ) → length (take certificate_read_limit all) ≤ certificate_byte_limit → take certificate_read_limit all ≡ all
-take_short all few = ⊎_elim long short (cases_lt certificate_byte_limit (length all))
-  where
-    short : length all ≤ certificate_byte_limit → take certificate_read_limit all ≡ all
-    short fits = take_all certificate_read_limit all (omega arith)
-
-    long : certificate_byte_limit < length all → take certificate_read_limit all ≡ all
-    long past = let count = length-take-le certificate_read_limit all (omega arith) in absurd (omega (arith, few, count))
 
 pub evidence_report_of_reader : (t : TraceValue) (remaining : Option (List ℕ)) (bytes seen text : List ℕ) (answer : Answer) → IfSome remaining (λ all. bytes ≡ take certificate_read_limit all) → seen ≡ bytes →
     length bytes ≤ certificate_byte_limit → IsEvidenceReport t seen text answer → IsEvidenceReportOfReader t remaining text answer

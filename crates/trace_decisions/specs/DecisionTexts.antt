@@ -1,5 +1,5 @@
 -- The text of a decision on a trace.
-use Rattle.std.specs.Prelude.{◌≡◌, ◌⊎◌, ℕ, List, ◌++◌, codes, Option}
+use Rattle.std.specs.Prelude.{◌≡◌, ◌⊎◌, ℕ, List, [], ◌++◌, codes, Option}
 use Rattle.std.specs.Fmt.{decimal}
 use Rattle.tso_ops.specs.Values.{TraceValue}
 use Rattle.tso_ops.specs.Events.{processor_count, event_total}
@@ -10,7 +10,7 @@ use Rattle.tso_model.specs.Axioms.{IsConsistent}
 use Rattle.tso_evidence.specs.declared.evidence.Evidence.{Evidence}
 use Rattle.tso_evidence.specs.declared.evidence.Evidence.TheVariants.{Unwritten, Order, Refutation}
 use Rattle.tso_evidence.specs.Printed.{evidence_text}
-use Rattle.trace_reports.specs.RefusalLines.{refusal_text}
+use Rattle.trace_reports.specs.Renderings.{SaidOfRefusal}
 use Rattle.trace_reports.specs.Readings.{ReadsAs}
 use Rattle.trace_decisions.specs.declared.answers.Answer.{Answer}
 use Rattle.trace_decisions.specs.declared.answers.Answer.TheVariants.{Consistent, Violation, Undecided as NotDecided, Refused}
@@ -42,25 +42,46 @@ answer_line (Unwritten n) = codes "VIOLATION\n"
 answer_line (Order order) = codes "CONSISTENT\n"
 answer_line (Refutation lines) = codes "VIOLATION\n"
 
--- the lines after the head: the answer, and the evidence
-abbrev pub decided_text : Decision → List ℕ
-decided_text (Decided e) = answer_line e ++ evidence_text e
-decided_text (Undecided cases) = codes "UNDECIDED " ++ decimal cases ++ codes "\n"
+-- the line of the answer
+abbrev pub decided_line : Decision → List ℕ
+decided_line (Decided e) = answer_line e
+decided_line (Undecided cases) = codes "UNDECIDED " ++ decimal cases ++ codes "\n"
+
+-- the first lines: how many processors and events the trace has, and the answer
+abbrev pub decision_head : TraceValue → Decision → List ℕ
+decision_head t d = codes "TSO DECISION 1\nprocessors " ++ decimal (processor_count t) ++ codes " events " ++ decimal (event_total t) ++ codes "\n" ++ decided_line d
+
+-- the evidence, where there is any
+abbrev pub shown_evidence : Decision → List ℕ
+shown_evidence (Decided e) = evidence_text e
+shown_evidence (Undecided cases) = []
 
 -- the text of a decision on a trace
 abbrev pub decision_text : TraceValue → Decision → List ℕ
-decision_text t d = codes "TSO DECISION 1\nprocessors " ++ decimal (processor_count t) ++ codes " events " ++ decimal (event_total t) ++ codes "\n" ++ decided_text d
+decision_text t d = decision_head t d ++ shown_evidence d
 
--- The text is that of a decision on the trace, and the answer is what the decision says.
-abbrev pub IsDecisionText : TraceValue → ℕ → List ℕ → Answer → Type 0
-IsDecisionText t effort text answer = (d : Decision) × IsDecision t effort d × (text ≡ decision_text t d) × (answer ≡ answer_of d)
+-- ---- texts that follow from a decision, or from the refusal of an input
 
--- The text is that of a decision on the trace that the input spells, or that of the refusal of the input.
-abbrev pub IsDecisionOf : ℕ → List ℕ → List ℕ → Answer → Type 0
-IsDecisionOf effort input text answer =
-    ((t : TraceValue) × SpellsTrace input t × IsDecisionText t effort text answer)
-    ⊎ ((line : ℕ) × (why : Why) × IsTraceRefusal input line why × (text ≡ refusal_text line why) × (answer ≡ Refused))
+-- what is said of a trace by a decision on it
+abbrev pub SaidOfDecision : Type 0
+SaidOfDecision = TraceValue → Decision → List ℕ
+
+-- The text is what is said of the trace by a decision on it, and the answer is what the decision says.
+pub record IsDecisionText (said : SaidOfDecision) (t : TraceValue) (effort : ℕ) (text : List ℕ) (answer : Answer) : Type 0 where
+  pub decision : Decision
+  pub decided : IsDecision t effort decision
+  pub whole : text ≡ said t decision
+  pub says : answer ≡ answer_of decision
+
+-- The input is refused, and the text is what is said of that.
+abbrev pub IsRefusalText : SaidOfRefusal → List ℕ → List ℕ → Answer → Type 0
+IsRefusalText refused input text answer = (line : ℕ) × (why : Why) × IsTraceRefusal input line why × (text ≡ refused input line why) × (answer ≡ Refused)
+
+-- The text is what is said of a decision on the trace that the input spells, or of the refusal of the input.
+abbrev pub IsDecisionOf : SaidOfDecision → SaidOfRefusal → ℕ → List ℕ → List ℕ → Answer → Type 0
+IsDecisionOf said refused effort input text answer =
+    ((t : TraceValue) × SpellsTrace input t × IsDecisionText said t effort text answer) ⊎ IsRefusalText refused input text answer
 
 -- the same of the bytes of a reader
-abbrev pub IsDecisionOfReader : ℕ → Option (List ℕ) → List ℕ → Answer → Type 0
-IsDecisionOfReader effort remaining text answer = ReadsAs remaining (λ input. IsDecisionOf effort input text answer)
+abbrev pub IsDecisionOfReader : SaidOfDecision → SaidOfRefusal → ℕ → Option (List ℕ) → List ℕ → Answer → Type 0
+IsDecisionOfReader said refused effort remaining text answer = ReadsAs remaining (λ input. IsDecisionOf said refused effort input text answer)

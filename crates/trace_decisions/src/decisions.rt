@@ -1,10 +1,10 @@
 //! The decision on a trace.
-ghost use Rattle.std.specs.Prelude.{◌≡◌, ◌⊎◌, ◌≤◌, ℕ, IfOk, IfErr, MatchOption};
+ghost use Rattle.std.specs.Prelude.{◌≡◌, ◌⊎◌, ◌≤◌, IfOk, IfErr};
 ghost use Rattle.round_pool.specs.Workers.{worker_limit};
-ghost use Rattle.tso_ops.specs.Events.{IsUnwritten};
 ghost use Rattle.tso_ops.specs.Limits.{IsTrace};
 ghost use Rattle.tso_model.specs.Certs.{Holds};
-ghost use Rattle.refutation_check.specs.Refutations.{RefutationHolds, certificate_lines};
+ghost use Rattle.tso_evidence.specs.Certificates.{certificate_lines};
+ghost use Rattle.refutation_check.specs.Refutations.{RefutationHolds};
 ghost use Rattle.trace_judging.specs.declared.faults.Fault.{Fault};
 ghost use Rattle.trace_decisions.specs.Decisions.{HoldsFor, IsDecision, Tells};
 
@@ -15,7 +15,7 @@ use round_pool::{OpenPoolGate, Ranked, rounds};
 use std::alloc::Global;
 use std::sync::Wait;
 use std::thread::Threads;
-use trace_judging::{Fault, build_cert};
+use trace_judging::{Fault, build_cert, least_unwritten};
 use tso_cert::{CertStep, Certificate, NumList, Reason};
 use tso_evidence::{Evidence, LineList, RefutationLine};
 use tso_ops::{OutOfMemory, Trace};
@@ -77,18 +77,6 @@ fn found<H: Threads + Wait>(
         Some(certificate) => Ok(Decision::Decided(as_evidence(alloc, trace, &certificate)?)),
         None => Ok(by_search(alloc, trace, &ranked, effort)?),
     }
-}
-
-/// The least load whose value nothing wrote.
-fn least_unwritten(trace: &Trace) -> Option<usize>
-    ensures { MatchOption result ((l : ℕ) → IsUnwritten trace.now l → ⊥) (IsUnwritten trace.now) }
-{
-    for n in 0..trace.events() {
-        if trace.is_unwritten(n + 1) {
-            return Some(n + 1);
-        }
-    }
-    None
 }
 
 /// A certificate as evidence, which the checker of refutations has accepted. OutOfMemory where an allocation was refused.

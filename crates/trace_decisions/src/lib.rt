@@ -6,13 +6,15 @@
 
 pub use answers::Answer;
 pub use decisions::{Decision, decide};
-pub use texts::{Said, decide_input, decide_text};
+pub use renderings::{AsDecision, DecisionRendering, render_decision_head};
+pub use texts::{DecisionLimits, Said, decide_input, decide_text};
 pub use verifying::verify_texts;
 
 mod answers;
 mod decisions;
 mod evidence_lines;
 pub mod laws;
+mod renderings;
 mod search;
 mod texts;
 mod verifying;

@@ -1,26 +1,27 @@
-//! The text of a decision.
-ghost use Rattle.std.specs.Prelude.{◌≡◌, ◌⊎◌, ◌≤◌, ◌++◌, IfOk, IfErr, IfSome, OnOk, string_bytes};
+//! The decision on the trace that a text spells, and what is said of it: read, parse, decide, render, write.
+ghost use Rattle.std.specs.Prelude.{◌≡◌, ◌≢◌, ◌⊎◌, ◌≤◌, IfOk, IfErr, IfSome, string_bytes};
 ghost use Rattle.round_pool.specs.Workers.{worker_limit};
 ghost use Rattle.tso_ops.specs.Values.{TraceValue};
+ghost use Rattle.tso_text.specs.Refusals.{IsTraceRefusal};
 ghost use Rattle.tso_text.specs.Texts.{SpellsTrace};
+ghost use Rattle.tso_text.specs.declared.faults.Why.{Why};
 ghost use Rattle.trace_judging.specs.Limits.{trace_read_limit};
 ghost use Rattle.trace_judging.specs.Streams.{LosesPrefix};
 ghost use Rattle.trace_judging.specs.WrittenReports.{LeavesAtFault, WritesWhole};
 ghost use Rattle.trace_judging.specs.declared.faults.Fault.{Fault};
-ghost use Rattle.trace_decisions.specs.DecisionTexts.{AnswerSays, IsDecisionOf, IsDecisionOfReader, answer_by, answer_line, answer_of, decided_text, decision_text};
+ghost use Rattle.trace_decisions.specs.DecisionTexts.{AnswerSays, IsDecisionOf, IsDecisionOfReader, IsDecisionText, IsRefusalText, answer_by, answer_of};
 
 use crate::answers::Answer;
 use crate::decisions::{Decision, decide};
+use crate::renderings::DecisionRendering;
 use std::alloc::Global;
-use std::fmt::Write as _;
 use std::io::{Read, Write};
 use std::sync::Wait;
 use std::thread::Threads;
 use trace_judging::{Fault, read_all, write_text};
-use trace_reports::render_refusal;
-use tso_evidence::{Evidence, print_evidence};
-use tso_ops::{OutOfMemory, Trace};
-use tso_text::{MAX_TEXT_BYTES, read_trace};
+use tso_evidence::Evidence;
+use tso_ops::Trace;
+use tso_text::{MAX_TEXT_BYTES, TextFault, Why, read_trace};
 
 /// A whole text, and what it says.
 #[derive(Drop)]
@@ -31,62 +32,106 @@ pub struct Said {
     pub text: String,
 }
 
-/// Decides on the trace that a reader has, on `workers` workers (1 to 64) with at most `effort` cases, and writes the decision.
+/// On how many workers, and with how many cases, it is decided.
+#[derive(Clone, Copy, Debug, PartialEq, Eq)]
+pub struct DecisionLimits {
+    /// The number of workers, 1 to 64.
+    pub workers: usize,
+    /// How many cases are looked at, at most.
+    pub effort: u64,
+}
+
+/// Decides on the trace that a reader has, and writes what the rendering says of the decision.
 ///
 /// A text that is no trace is Refused, by its line. At most 1,048,577 bytes are read. Faults: OutOfMemory where an allocation was
 /// refused; Read where the reader failed or passed 2,097,152 calls; NoThread where the system refused a thread; with each nothing
 /// was written. Write where the writer failed, took no byte or was interrupted more than 1,048,576 times: then what was written is
 /// a prefix of the text.
-pub fn decide_input<H: Threads + Wait, R: Read, W: Write>(
+pub fn decide_input<H: Threads + Wait, R: Read, W: Write, P: DecisionRendering>(
     rt: &H,
     alloc: Global,
     reader: &mut R,
     writer: &mut W,
-    workers: usize,
-    effort: u64,
+    limits: DecisionLimits,
+    rendering: &P,
 ) -> Result<Answer, Fault>
-    requires some { 1 ≤ workers }
-    requires most { workers ≤ worker_limit }
-    ensures decided { IfOk result (WritesWhole (IsDecisionOfReader effort (R.remaining reader.old)) (W.contents writer.old) (W.contents writer.new)) }
+    requires some { 1 ≤ limits.workers }
+    requires most { limits.workers ≤ worker_limit }
+    ensures decided { IfOk result (WritesWhole (IsDecisionOfReader P.said P.refused limits.effort (R.remaining reader.old)) (W.contents writer.old) (W.contents writer.new)) }
     ensures says { IfOk result (λ answer. IfSome (R.remaining reader.old) (λ all. (t : TraceValue) → SpellsTrace all t → AnswerSays t answer)) }
     ensures taken { IfOk result (λ _. LosesPrefix trace_read_limit (R.remaining reader.old) (R.remaining reader.new)) }
-    ensures fault { IfErr result (LeavesAtFault (IsDecisionOfReader effort (R.remaining reader.old)) (W.contents writer.old) (W.contents writer.new)) }
+    ensures fault { IfErr result (LeavesAtFault (IsDecisionOfReader P.said P.refused limits.effort (R.remaining reader.old)) (W.contents writer.old) (W.contents writer.new)) }
 {
     let input = read_all(alloc, reader, MAX_TEXT_BYTES)?;
-    let said = decide_text(rt, alloc, &input, workers, effort)?;
+    let said = decide_text(rt, alloc, &input, limits, rendering)?;
     write_text(writer, said.text.as_bytes())?;
     Ok(said.answer)
 }
 
-/// Decides on the trace that a text spells, on `workers` workers (1 to 64) with at most `effort` cases.
+/// Decides on the trace that a text spells: what the rendering says of the decision, or of the refusal of the text.
 ///
 /// Faults: OutOfMemory where an allocation was refused, NoThread where the system refused a thread.
-pub fn decide_text<H: Threads + Wait>(
+pub fn decide_text<H: Threads + Wait, P: DecisionRendering>(
     rt: &H,
     alloc: Global,
     input: &[u8],
-    workers: usize,
-    effort: u64,
+    limits: DecisionLimits,
+    rendering: &P,
 ) -> Result<Said, Fault>
-    requires some { 1 ≤ workers }
-    requires most { workers ≤ worker_limit }
-    ensures decided { IfOk result (λ said. IsDecisionOf effort input.now (string_bytes said.text) said.answer) }
+    requires some { 1 ≤ limits.workers }
+    requires most { limits.workers ≤ worker_limit }
+    ensures decided { IfOk result (λ said. IsDecisionOf P.said P.refused limits.effort input.now (string_bytes said.text) said.answer) }
     ensures says { IfOk result (λ said. (t : TraceValue) → SpellsTrace input.now t → AnswerSays t said.answer) }
     ensures fault { IfErr result (λ fault. (fault ≡ Fault.OutOfMemory) ⊎ (fault ≡ Fault.NoThread)) }
 {
     match read_trace(alloc, input) {
-        Ok(trace) => {
-            let decision = decide(rt, alloc, &trace, workers, effort)?;
-            Ok(Said {
-                answer: answer_of(&decision),
-                text: text_of(alloc, &trace, &decision)?,
-            })
-        }
-        Err(fault) => Ok(Said {
-            answer: Answer::Refused,
-            text: render_refusal(alloc, fault)?.text,
-        }),
+        Ok(trace) => decide_trace(rt, alloc, &trace, limits, rendering),
+        Err(fault) => refuse_text(alloc, input, fault, rendering),
     }
+}
+
+/// Decides on a trace: what the rendering says of the decision.
+///
+/// Faults: OutOfMemory where an allocation was refused, NoThread where the system refused a thread.
+fn decide_trace<H: Threads + Wait, P: DecisionRendering>(
+    rt: &H,
+    alloc: Global,
+    trace: &Trace,
+    limits: DecisionLimits,
+    rendering: &P,
+) -> Result<Said, Fault>
+    requires some { 1 ≤ limits.workers }
+    requires most { limits.workers ≤ worker_limit }
+    ensures decided { IfOk result (λ said. IsDecisionText P.said trace.now limits.effort (string_bytes said.text) said.answer) }
+    ensures says { IfOk result (λ said. AnswerSays trace.now said.answer) }
+    ensures fault { IfErr result (λ fault. (fault ≡ Fault.OutOfMemory) ⊎ (fault ≡ Fault.NoThread)) }
+{
+    let decision = decide(rt, alloc, trace, limits.workers, limits.effort)?;
+    let text = rendering.text_of_decision(alloc, trace, &decision)?;
+    Ok(Said {
+        answer: answer_of(&decision),
+        text,
+    })
+}
+
+/// What the rendering says of a text that is refused for this fault. OutOfMemory where an allocation was refused, also where the
+/// fault says that one of its reader was.
+fn refuse_text<P: DecisionRendering>(
+    alloc: Global,
+    input: &[u8],
+    fault: TextFault,
+    rendering: &P,
+) -> Result<Said, Fault>
+    ensures refused { (fault.why ≢ Why.OutOfMemory → IsTraceRefusal input.now fault.line fault.why) → IfOk result (λ said. IsRefusalText P.refused input.now (string_bytes said.text) said.answer) }
+    ensures fault { IfErr result (λ fault. fault ≡ Fault.OutOfMemory) }
+{
+    if fault.why == Why::OutOfMemory {
+        return Err(Fault::OutOfMemory);
+    }
+    Ok(Said {
+        answer: Answer::Refused,
+        text: rendering.text_of_refusal(alloc, input, fault)?,
+    })
 }
 
 /// What a decision says.
@@ -106,39 +151,5 @@ pub(crate) fn answer_by(evidence: &Evidence) -> Answer
     match evidence {
         Evidence::Order(_) => Answer::Consistent,
         Evidence::Unwritten(_) | Evidence::Refutation(_) => Answer::Violation,
-    }
-}
-
-/// The text of a decision on a trace. OutOfMemory where an allocation was refused.
-fn text_of(alloc: Global, trace: &Trace, decision: &Decision) -> Result<String, OutOfMemory>
-    ensures { IfOk result (λ text. string_bytes text ≡ decision_text trace.now decision.now) }
-{
-    let processors = trace.processors();
-    let events = trace.events();
-    let mut text = format!(in alloc; "TSO DECISION 1\nprocessors {processors} events {events}\n")?;
-    print_decision(&mut text, decision)?;
-    Ok(text)
-}
-
-/// Appends the lines of a decision after the head.
-fn print_decision(text: &mut String, decision: &Decision) -> Result<(), OutOfMemory>
-    ensures { OnOk result (string_bytes text.new ≡ string_bytes text.old ++ decided_text decision.now) }
-{
-    match decision {
-        Decision::Decided(evidence) => {
-            text.push_str(answer_line(evidence))?;
-            print_evidence(text, evidence)
-        }
-        Decision::Undecided(cases) => write!(text, "UNDECIDED {cases}\n"),
-    }
-}
-
-/// The line that says whether there is an order.
-fn answer_line(evidence: &Evidence) -> &'static str
-    ensures { result.now ≡ answer_line evidence.now }
-{
-    match evidence {
-        Evidence::Order(_) => "CONSISTENT\n",
-        Evidence::Unwritten(_) | Evidence::Refutation(_) => "VIOLATION\n",
     }
 }

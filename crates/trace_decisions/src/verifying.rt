@@ -1,10 +1,10 @@
 //! Evidence against its trace: read the one, then the other, check, render, write.
-ghost use Rattle.std.specs.Prelude.{◌≡◌, ◌≢◌, ◌⊎◌, ◌≤◌, length, take, string_bytes, IfSome, IfOk, IfErr};
+ghost use Rattle.std.specs.Prelude.{◌≡◌, ◌≢◌, ◌⊎◌, string_bytes, IfSome, IfOk, IfErr};
 ghost use Rattle.tso_ops.specs.Values.{TraceValue};
 ghost use Rattle.tso_text.specs.Refusals.{IsRefusedTrace};
 ghost use Rattle.tso_text.specs.Texts.{SpellsTrace};
 ghost use Rattle.trace_judging.specs.declared.faults.Fault.{Fault};
-ghost use Rattle.trace_judging.specs.Limits.{certificate_byte_limit, certificate_read_limit, trace_read_limit};
+ghost use Rattle.trace_judging.specs.Limits.{certificate_read_limit, trace_read_limit};
 ghost use Rattle.trace_judging.specs.Streams.{LosesPrefix};
 ghost use Rattle.trace_judging.specs.WrittenReports.{LeavesAtFault, WritesWhole};
 ghost use Rattle.trace_decisions.specs.DecisionTexts.{AnswerSays};
@@ -15,7 +15,7 @@ use crate::evidence_lines::render_evidence;
 use crate::texts::Said;
 use std::alloc::Global;
 use std::io::{Read, Write};
-use trace_judging::{Fault, MAX_CERTIFICATE_BYTES, read_all, write_text};
+use trace_judging::{Fault, read_all, read_cert_text, write_text};
 use trace_reports::render_refusal;
 use tso_ops::Trace;
 use tso_text::{MAX_TEXT_BYTES, read_trace};
@@ -76,20 +76,6 @@ fn verify_reader<E: Read>(alloc: Global, trace: &Trace, reader: &mut E) -> Resul
     ensures taken { IfOk result (λ _. LosesPrefix certificate_read_limit (E.remaining reader.old) (E.remaining reader.new)) }
     ensures fault { IfErr result (λ fault. (fault ≡ Fault.OutOfMemory) ⊎ (fault ≡ Fault.Read)) }
 {
-    let input = read_evidence_text(alloc, reader)?;
+    let input = read_cert_text(alloc, reader)?;
     Ok(render_evidence(alloc, trace, &input)?)
-}
-
-/// All bytes of a reader, which are no more than the text of evidence may have.
-fn read_evidence_text<E: Read>(alloc: Global, reader: &mut E) -> Result<Vec<u8>, Fault>
-    ensures prefix { IfOk result (λ bytes. IfSome (E.remaining reader.old) (λ all. bytes.items ≡ take certificate_read_limit all)) }
-    ensures taken { IfOk result (λ _. LosesPrefix certificate_read_limit (E.remaining reader.old) (E.remaining reader.new)) }
-    ensures within { IfOk result (λ bytes. length bytes.items ≤ certificate_byte_limit) }
-    ensures fault { IfErr result (λ fault. (fault ≡ Fault.OutOfMemory) ⊎ (fault ≡ Fault.Read)) }
-{
-    let input = read_all(alloc, reader, MAX_CERTIFICATE_BYTES)?;
-    if input.len() > MAX_CERTIFICATE_BYTES {
-        return Err(Fault::Read);
-    }
-    Ok(input)
 }

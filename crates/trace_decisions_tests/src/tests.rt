@@ -2,18 +2,19 @@
 
 mod decisions;
 mod evidence;
-mod examples;
 mod faults;
 mod refused_allocations;
 
-ghost use Rattle.std.specs.Prelude.{◌≤◌};
+ghost use Rattle.std.specs.Prelude.{◌≡◌, ◌≤◌};
 ghost use Rattle.round_pool.specs.Workers.{worker_limit};
 
 use std::alloc::Global;
+use std::io::{Read, Write};
 use std::sync::Wait;
 use std::test::Fail;
 use std::thread::Threads;
-use trace_decisions::{Answer, decide_input, verify_texts};
+use trace_decisions::{Answer, AsDecision, DecisionLimits, decide_input, verify_texts};
+use trace_judging::Fault;
 use traces_for_tests::expect_equal;
 
 /// What follows the first three lines of a text: after the head of a decision, two lines, and its answer the evidence begins.
@@ -30,6 +31,27 @@ fn evidence_of(text: &[u8]) -> &[u8] {
     b""
 }
 
+/// On how many workers, and with how many cases, it is decided.
+fn limits(workers: usize, effort: u64) -> DecisionLimits
+    ensures { result.workers ≡ workers }
+{
+    DecisionLimits { workers, effort }
+}
+
+/// Decides on the trace that a reader has, and writes the text of the decision.
+fn decided<H: Threads + Wait, R: Read, W: Write>(
+    rt: &H,
+    alloc: Global,
+    reader: &mut R,
+    writer: &mut W,
+    limits: DecisionLimits,
+) -> Result<Answer, Fault>
+    requires some { 1 ≤ limits.workers }
+    requires most { limits.workers ≤ worker_limit }
+{
+    decide_input(rt, alloc, reader, writer, limits, &AsDecision)
+}
+
 /// Decides on the trace of a text with so many workers, and compares what is answered; the evidence has to hold.
 fn expect_decided<H: Threads + Wait>(
     rt: &H,
@@ -43,7 +65,7 @@ fn expect_decided<H: Threads + Wait>(
     let (text, answer) = case;
     let mut written = Vec::new(alloc);
     let mut reader = text.as_bytes();
-    let said = decide_input(rt, alloc, &mut reader, &mut written, workers, 100);
+    let said = decided(rt, alloc, &mut reader, &mut written, limits(workers, 100));
     expect_equal(text, said, Ok(answer))?;
     let mut line = Vec::new(alloc);
     let mut trace = text.as_bytes();

@@ -1,9 +1,9 @@
 //! Decisions.
 
-use super::examples::{BUFFERING, THIRTY_EVENTS, TWELVE_EVENTS};
-use super::expect_decided;
+use super::{decided, expect_decided, limits};
+use evidence_for_tests::{BUFFERING, THIRTY_EVENTS, TWELVE_EVENTS};
 use std::test::Fail;
-use trace_decisions::{Answer, decide_input};
+use trace_decisions::Answer;
 use traces_for_tests::expect_equal;
 
 /// Traces, and what is to be said of them: by the axioms, or by the worked example that each is.
@@ -59,7 +59,13 @@ fn effort_ends(rt: HostRuntime) -> Result<(), Fail> {
     ] {
         let mut written = Vec::new(rt.alloc());
         let mut reader = TWELVE_EVENTS.as_bytes();
-        let said = decide_input(&rt, rt.alloc(), &mut reader, &mut written, 1, effort);
+        let said = decided(
+            &rt,
+            rt.alloc(),
+            &mut reader,
+            &mut written,
+            limits(1, effort),
+        );
         expect_equal(effort, said, Ok(answer))?;
         let mut expected = String::from_str(
             rt.alloc(),
@@ -75,7 +81,7 @@ fn effort_ends(rt: HostRuntime) -> Result<(), Fail> {
 fn text_is_refused(rt: HostRuntime) -> Result<(), Fail> {
     let mut written = Vec::new(rt.alloc());
     let mut reader = "tso trace 1\nproc\nld 1\nend\n".as_bytes();
-    let said = decide_input(&rt, rt.alloc(), &mut reader, &mut written, 1, 100);
+    let said = decided(&rt, rt.alloc(), &mut reader, &mut written, limits(1, 100));
     expect_equal("said", said, Ok(Answer::Refused))?;
     expect_equal(
         "line",

@@ -1,12 +1,39 @@
 //! Lines on evidence.
 
-use super::examples::{
-    BUFFERING, BUFFERING_ORDER, THIRTY_EVENTS, THIRTY_REFUTED, TWELVE_EVENTS, TWELVE_REFUTED,
-    TWELVE_REFUTED_ELSEWHERE,
-};
 use super::expect_line;
+use evidence_for_tests::{
+    BUFFERING, BUFFERING_ORDER, THIRTY_EVENTS, THIRTY_REFUTED, TWELVE_EVENTS, TWELVE_REFUTED,
+};
 use std::test::Fail;
 use trace_decisions::Answer;
+
+/// The refutation of twelve events with a step of its first part in the second, where its path isn't in force.
+const TWELVE_REFUTED_ELSEWHERE: &str = "\
+1 1 2 Membar
+2 1 11 Read
+3 2 3 LoadOp
+4 4 5 Membar
+5 4 8 Read
+6 5 6 LoadOp
+7 7 2 Read
+8 7 8 Membar
+9 8 9 LoadOp
+10 10 5 Read
+11 10 11 Membar
+12 11 12 LoadOp
+13 4 1 Case
+14 6 1 StorePast 6 4 1
+15 8 1 StorePast 8 4 1
+16 10 7 LoadPast 2 10 5 6 1 2
+17 12 7 StorePast 12 10 7
+cycle 7 8 1 11 12
+18 1 4 Else
+19 6 1 StorePast 6 4 1
+20 11 4 StorePast 11 1 4
+21 7 10 LoadPast 5 7 2 3 4 5
+22 9 10 StorePast 9 7 10
+cycle 10 11 4 8 9
+";
 
 /// Traces, evidence on them, and the line on it.
 static CASES: [(&str, &str, (Answer, &str)); 11] = [

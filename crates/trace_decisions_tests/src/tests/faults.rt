@@ -1,9 +1,10 @@
 //! Readers and writers that fail.
 
-use super::examples::{BUFFERING, BUFFERING_ORDER};
+use super::{decided, limits};
+use evidence_for_tests::{BUFFERING, BUFFERING_ORDER};
 use std::io::ErrorKind;
 use std::test::Fail;
-use trace_decisions::{decide_input, verify_texts};
+use trace_decisions::verify_texts;
 use trace_judging::Fault;
 use traces_for_tests::{Full, ShortWriter, TornReader, expect_equal};
 
@@ -11,7 +12,7 @@ use traces_for_tests::{Full, ShortWriter, TornReader, expect_equal};
 fn reader_fails(rt: HostRuntime) -> Result<(), Fail> {
     let mut reader = TornReader::new(BUFFERING.as_bytes(), ErrorKind::Other);
     let mut written = Vec::new(rt.alloc());
-    let said = decide_input(&rt, rt.alloc(), &mut reader, &mut written, 1, 100);
+    let said = decided(&rt, rt.alloc(), &mut reader, &mut written, limits(1, 100));
     expect_equal("said", said, Err(Fault::Read))?;
     expect_equal("written", written.len(), 0)
 }
@@ -20,7 +21,7 @@ fn reader_fails(rt: HostRuntime) -> Result<(), Fail> {
 fn writer_stops(rt: HostRuntime) -> Result<(), Fail> {
     let mut reader = BUFFERING.as_bytes();
     let mut writer = ShortWriter::new(rt.alloc(), 14, Full::TakesNothing);
-    let said = decide_input(&rt, rt.alloc(), &mut reader, &mut writer, 1, 100);
+    let said = decided(&rt, rt.alloc(), &mut reader, &mut writer, limits(1, 100));
     expect_equal("said", said, Err(Fault::Write))?;
     expect_equal(
         "written",

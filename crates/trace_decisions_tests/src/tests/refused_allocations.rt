@@ -2,12 +2,13 @@
 //!
 //! The call that meets it answers OutOfMemory and wrote nothing; the next call writes the whole text.
 
-use super::examples::{BUFFERING, BUFFERING_ORDER, TWELVE_EVENTS, TWELVE_REFUTED};
+use super::{decided, limits};
+use evidence_for_tests::{BUFFERING, BUFFERING_ORDER, TWELVE_EVENTS, TWELVE_REFUTED};
 use std::alloc::Global;
 use std::sync::Wait;
 use std::test::Fail;
 use std::thread::Threads;
-use trace_decisions::{Answer, decide_input, verify_texts};
+use trace_decisions::{Answer, verify_texts};
 use trace_judging::Fault;
 use traces_for_tests::expect_equal;
 
@@ -25,7 +26,7 @@ fn decided_into<H: Threads + Wait>(
 ) -> (Result<Answer, Fault>, usize) {
     let mut writer = bytes.as_mut_slice();
     let mut reader = TWELVE_EVENTS.as_bytes();
-    let said = decide_input(rt, alloc, &mut reader, &mut writer, 1, 1);
+    let said = decided(rt, alloc, &mut reader, &mut writer, limits(1, 1));
     (said, writer.len())
 }
 

@@ -1,6 +1,7 @@
 use Rattle.std.proofs.Common.{◌≡◌, ◌∙◌, ap, sym, subst}
 use Rattle.tso_model.specs.Certs.{Holds}
-use Rattle.refutation_check.specs.Refutations.{RefutationHolds, certificate_lines}
+use Rattle.tso_evidence.specs.Certificates.{certificate_lines}
+use Rattle.refutation_check.specs.Refutations.{RefutationHolds}
 use Rattle.refutation_check.proofs.CertificateFacts.{certificate_holds_as}
 use Rattle.trace_decisions.proofs.decisions.as_evidence.Goals as goal
 
