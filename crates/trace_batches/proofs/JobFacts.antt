@@ -11,8 +11,9 @@ use Rattle.trace_judging.specs.declared.faults.Fault.{Fault}
 use Rattle.trace_judging.specs.declared.faults.Fault.TheVariants.{NoThread}
 use Rattle.trace_judging.specs.Streams.{AppendsPrefix}
 use Rattle.trace_batches.specs.declared.jobs.Job.{Job}
+use Rattle.trace_batches.specs.declared.batches.BatchMethod.{BatchMethod}
 use Rattle.trace_batches.specs.declared.judgments.Judgment.{Judgment}
-use Rattle.trace_batches.specs.declared.judgments.Judgment.TheVariants.{NoViolation, Violation, Refused}
+use Rattle.trace_batches.specs.declared.judgments.Judgment.TheVariants.{NoViolation, Violation, Consistent, Undecided, Refused}
 use Rattle.trace_batches.specs.declared.tallies.Tally.{Tally}
 use Rattle.trace_batches.specs.Batches.{Counts, IsBatchFault, TextPrinting, piece_text, pieces_text}
 use Rattle.trace_batches.specs.Judgments.{AreJudgments, IsJudgment}
@@ -23,13 +24,14 @@ use Rattle.trace_judging.proofs.StreamFacts.{prefix_after, whole_written}
 
 -- ---- judgments
 
-pub AreJudgments-append : (ps qs : List (List ℕ)) (rs ss : List Judgment) → AreJudgments ps rs → AreJudgments qs ss → AreJudgments (ps ++ qs) (rs ++ ss)
-AreJudgments-append [] qs [] ss first second = second
-AreJudgments-append (p ∷ ps) qs (r ∷ rs) ss first second = (first.0, AreJudgments-append ps qs rs ss first.1 second)
-AreJudgments-append ps qs rs ss first second = absurd first
+pub AreJudgments-append : (method : BatchMethod) (ps qs : List (List ℕ)) (rs ss : List Judgment) → AreJudgments method ps rs → AreJudgments method qs ss → AreJudgments method (ps ++ qs) (rs ++ ss)
+AreJudgments-append method [] qs [] ss first second = second
+AreJudgments-append method (p ∷ ps) qs (r ∷ rs) ss first second = (first.0, AreJudgments-append method ps qs rs ss first.1 second)
+AreJudgments-append method ps qs rs ss first second = absurd first
 
-pub AreJudgments-push : (ps : List (List ℕ)) (rs : List Judgment) (p : List ℕ) (r : Judgment) → AreJudgments ps rs → IsJudgment p r → AreJudgments (ps ++ p ∷ []) (rs ++ r ∷ [])
-AreJudgments-push ps rs p r first last = AreJudgments-append ps (p ∷ []) rs (r ∷ []) first (last, tt)
+pub AreJudgments-push : (method : BatchMethod) (ps : List (List ℕ)) (rs : List Judgment) (p : List ℕ) (r : Judgment) → AreJudgments method ps rs → IsJudgment method p r →
+    AreJudgments method (ps ++ p ∷ []) (rs ++ r ∷ [])
+AreJudgments-push method ps rs p r first last = AreJudgments-append method ps (p ∷ []) rs (r ∷ []) first (last, tt)
 
 -- the pieces of new jobs
 pieces_of : (pieces : List (Vec ℕ)) → map (λ (job : Job). job.piece.items) (map (λ piece. record { piece = piece; outcome = Err NoThread }) pieces) ≡ rows pieces
@@ -37,17 +39,17 @@ pieces_of [] = refl
 pieces_of (piece ∷ pieces) = ap (λ rest. piece.items ∷ rest) (pieces_of pieces)
 
 -- all of them, which were new, were done
-pub judged_all : (pieces : List (Vec ℕ)) (jobs done : List Job) (n : ℕ) → n ≡ length jobs → jobs ≡ map (λ piece. record { piece = piece; outcome = Err NoThread }) pieces →
-    AreJudged (map (λ (job : Job). job.piece.items) jobs) done → AreJudged (rows pieces) (take n (done ++ drop (length done) jobs))
-judged_all pieces jobs done n count new judged =
+pub judged_all : (method : BatchMethod) (pieces : List (Vec ℕ)) (jobs done : List Job) (n : ℕ) → n ≡ length jobs → jobs ≡ map (λ piece. record { piece = piece; outcome = Err NoThread }) pieces →
+    AreJudged method (map (λ (job : Job). job.piece.items) jobs) done → AreJudged method (rows pieces) (take n (done ++ drop (length done) jobs))
+judged_all method pieces jobs done n count new judged =
     let given : map (λ (job : Job). job.piece.items) jobs ≡ rows pieces = ap (map (λ (job : Job). job.piece.items)) new ∙ pieces_of pieces in
     let all : n ≡ length done = count ∙ sym (length-map jobs (λ (job : Job). job.piece.items)) ∙ sym judged.one_each in
     let whole : take n (done ++ drop (length done) jobs) ≡ done = ap (λ m. take m (done ++ drop (length done) jobs)) all ∙ take-append_seam done (drop (length done) jobs) in
-    subst (AreJudged (rows pieces)) (sym whole) (subst (λ ps. AreJudged ps done) given judged)
+    subst (AreJudged method (rows pieces)) (sym whole) (subst (λ ps. AreJudged method ps done) given judged)
 
 -- ---- what is printed
 
-pub pieces_text-append : (way : TextPrinting) (number : ℕ) (ps qs : List (List ℕ)) (rs ss : List Judgment) → AreJudgments ps rs →
+pub pieces_text-append : (way : TextPrinting) (number : ℕ) (ps qs : List (List ℕ)) (rs ss : List Judgment) → AreJudgments way.printing.method ps rs →
     pieces_text way number (ps ++ qs) (rs ++ ss) ≡ pieces_text way number ps rs ++ pieces_text way (number + length rs) qs ss
 pieces_text-append way number [] qs [] ss are = ap (λ n. pieces_text way n qs ss) (omega arith)
 pieces_text-append way number (p ∷ ps) qs (r ∷ rs) ss are =
@@ -56,18 +58,20 @@ pieces_text-append way number (p ∷ ps) qs (r ∷ rs) ss are =
     ∙ ap (λ n. (piece_text way number p r ++ pieces_text way (suc number) ps rs) ++ pieces_text way n qs ss) (omega arith)
 pieces_text-append way number ps qs rs ss are = absurd are
 
-pieces_text-push : (way : TextPrinting) (number : ℕ) (ps : List (List ℕ)) (rs : List Judgment) (p : List ℕ) (r : Judgment) → AreJudgments ps rs →
+pieces_text-push : (way : TextPrinting) (number : ℕ) (ps : List (List ℕ)) (rs : List Judgment) (p : List ℕ) (r : Judgment) → AreJudgments way.printing.method ps rs →
     pieces_text way number (ps ++ p ∷ []) (rs ++ r ∷ []) ≡ pieces_text way number ps rs ++ piece_text way (number + length rs) p r
 pieces_text-push way number ps rs p r are =
     pieces_text-append way number ps (p ∷ []) rs (r ∷ []) are ∙ ap (λ t. pieces_text way number ps rs ++ t) (append-nil (piece_text way (number + length rs) p r))
 
 -- of the first bytes of a piece the same is printed as of the piece: all of a violation is kept
-kept_text : (way : TextPrinting) (number : ℕ) (p : List ℕ) (r : Judgment) → IsJudgment p r → piece_text way number (take trace_read_limit p) r ≡ piece_text way number p r
+kept_text : (way : TextPrinting) (number : ℕ) (p : List ℕ) (r : Judgment) → IsJudgment way.printing.method p r → piece_text way number (take trace_read_limit p) r ≡ piece_text way number p r
 kept_text way number p NoViolation is = refl
-kept_text way number p Violation is = ap (λ bytes. piece_text way number bytes Violation) (kept_violation p is)
+kept_text way number p Consistent is = refl
+kept_text way number p (Undecided cases) is = refl
+kept_text way number p Violation is = ap (λ bytes. piece_text way number bytes Violation) (kept_violation way.printing.method p is)
 kept_text way number p (Refused fault) is = refl
 
-pub kept_texts : (way : TextPrinting) (number : ℕ) (ps : List (List ℕ)) (rs : List Judgment) → AreJudgments ps rs → pieces_text way number (firsts ps) rs ≡ pieces_text way number ps rs
+pub kept_texts : (way : TextPrinting) (number : ℕ) (ps : List (List ℕ)) (rs : List Judgment) → AreJudgments way.printing.method ps rs → pieces_text way number (firsts ps) rs ≡ pieces_text way number ps rs
 kept_texts way number [] [] are = refl
 kept_texts way number (p ∷ ps) (r ∷ rs) are =
     ap (λ t. t ++ pieces_text way (suc number) (firsts ps) rs) (kept_text way number p r are.0) ∙ ap (λ t. piece_text way number p r ++ t) (kept_texts way (suc number) ps rs are.1)
@@ -91,7 +95,7 @@ wrote_none way tally a = record {
 
 -- one more
 pub wrote_more : (way : TextPrinting) (before mid after : Tally) (pieces : List (List ℕ)) (piece : List ℕ) (judgment : Judgment) (a b c : Option (List ℕ)) → WroteAll way before mid pieces a b →
-    IsJudgment piece judgment → ((judgments : List Judgment) → Counts mid judgments → Counts after (judgments ++ judgment ∷ [])) → after.traces ≡ mid.traces + 1 →
+    IsJudgment way.printing.method piece judgment → ((judgments : List Judgment) → Counts mid judgments → Counts after (judgments ++ judgment ∷ [])) → after.traces ≡ mid.traces + 1 →
     Appends b c (piece_text way (mid.traces + 1) piece judgment) → WroteAll way before after (pieces ++ piece ∷ []) a c
 wrote_more way before mid after pieces piece judgment a b c so_far is counted more text =
     let number = next_number before mid (length so_far.judgments) so_far.traces in
@@ -99,7 +103,7 @@ wrote_more way before mid after pieces piece judgment a b c so_far is counted mo
     let one = so_far.traces in
     record {
       judgments = so_far.judgments ++ judgment ∷ [];
-      are_judgments = AreJudgments-push pieces so_far.judgments piece judgment so_far.are_judgments is;
+      are_judgments = AreJudgments-push way.printing.method pieces so_far.judgments piece judgment so_far.are_judgments is;
       counts = λ earlier counts. subst (Counts after) (append_assoc earlier so_far.judgments (judgment ∷ [])) (counted (earlier ++ so_far.judgments) (so_far.counts earlier counts));
       traces = omega (arith, more, count, one);
       written =
@@ -120,7 +124,7 @@ wrote_before way before mid pieces i a b so_far = record {
 
 -- a fault in what is printed of it
 pub wrote_some : (way : TextPrinting) (before mid : Tally) (pieces : List (List ℕ)) (i : ℕ) (judgment : Judgment) (a b c : Option (List ℕ)) → i < length pieces → WroteAll way before mid (take i pieces) a b →
-    IsJudgment (get_or pieces i []) judgment → AppendsPrefix b c (piece_text way (mid.traces + 1) (get_or pieces i []) judgment) → WroteSome way before pieces a c
+    IsJudgment way.printing.method (get_or pieces i []) judgment → AppendsPrefix b c (piece_text way (mid.traces + 1) (get_or pieces i []) judgment) → WroteSome way before pieces a c
 wrote_some way before mid pieces i judgment a b c inside so_far is text =
     let number = next_number before mid (length so_far.judgments) so_far.traces in
     let piece = get_or pieces i [] in
@@ -129,7 +133,7 @@ wrote_some way before mid pieces i judgment a b c inside so_far is text =
     record {
       count = i + 1;
       judgments = judgments;
-      are_judgments = subst (λ ps. AreJudgments ps judgments) same (AreJudgments-push (take i pieces) so_far.judgments piece judgment so_far.are_judgments is);
+      are_judgments = subst (λ ps. AreJudgments way.printing.method ps judgments) same (AreJudgments-push way.printing.method (take i pieces) so_far.judgments piece judgment so_far.are_judgments is);
       written =
           subst (AppendsPrefix a c)
           (ap (λ n. pieces_text way (suc before.traces) (take i pieces) so_far.judgments ++ piece_text way n piece judgment) (sym number)
@@ -141,18 +145,18 @@ wrote_some way before mid pieces i judgment a b c inside so_far is text =
 -- ---- the jobs
 
 -- what judging a piece gave is its outcome
-pub outcome_of : (piece : List ℕ) (outcome : Result Judgment Fault) → IfOk outcome (IsJudgment piece) → IfErr outcome IsBatchFault → IsOutcome piece outcome
-outcome_of piece (Ok judgment) said fault = said
-outcome_of piece (Err why) said fault = fault
+pub outcome_of : (method : BatchMethod) (piece : List ℕ) (outcome : Result Judgment Fault) → IfOk outcome (IsJudgment method piece) → IfErr outcome IsBatchFault → IsOutcome method piece outcome
+outcome_of method piece (Ok judgment) said fault = said
+outcome_of method piece (Err why) said fault = fault
 
 -- each judged its piece
-pub judged_each : (old new : List Job) → length new ≡ length old → ((i : ℕ) (d : Job) → i < length old → IsJobOf (get_or old i d).piece.items (get_or new i d)) →
-    AreJudged (map (λ (job : Job). job.piece.items) old) new
-judged_each old new same each =
+pub judged_each : (method : BatchMethod) (old new : List Job) → length new ≡ length old → ((i : ℕ) (d : Job) → i < length old → IsJobOf method (get_or old i d).piece.items (get_or new i d)) →
+    AreJudged method (map (λ (job : Job). job.piece.items) old) new
+judged_each method old new same each =
     let piece_in : Job → List ℕ = λ job. job.piece.items in
     record {
       one_each = same ∙ sym (length-map old piece_in);
       each = λ i d below.
           let within = subst (λ n. i < n) (length-map old piece_in) below in
-          subst (λ piece. IsJobOf piece (get_or new i d)) (sym (get_or-map piece_in old i d [] within)) (each i d within);
+          subst (λ piece. IsJobOf method piece (get_or new i d)) (sym (get_or-map piece_in old i d [] within)) (each i d within);
     }

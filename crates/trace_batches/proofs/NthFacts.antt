@@ -8,8 +8,8 @@ use Rattle.std.proofs.lemmas.List.{append-nil, length-append, length-map, take-a
 use Rattle.std.proofs.lemmas.Option.{slice_get-map, slice_get_past}
 use Rattle.trace_batches.specs.Internal.Cutters.{Accepts, CutterValue, Cuts, IsAt, IsLastPiece, rows}
 use Rattle.trace_batches.specs.Internal.Searches.{Finds, IsBefore}
-use Rattle.trace_batches.specs.NthPieces.{IsKeptOfNth, IsNthPiece}
-use Rattle.trace_batches.specs.Pieces.{ArePieces, IsSplit, last_piece}
+use Rattle.trace_batches.specs.NthPieces.{IsKeptOfNth}
+use Rattle.trace_batches.specs.Pieces.{ArePieces, last_piece}
 use Rattle.trace_batches.specs.declared.nth_pieces.Search.{Search}
 use Rattle.trace_batches.proofs.CutterFacts.{cuts_on, cuts_one, cuts_start}
 use Rattle.trace_batches.proofs.PieceFacts.{cut_at_start, cut_joined, some_cut}

@@ -4,15 +4,17 @@ use Rattle.std.specs.Prelude.{OnErr, Option}
 use Rattle.std.specs.Io.KnownBytes.{Appends}
 use Rattle.std.proofs.KnownBytes.{Appends-trans}
 use Rattle.std.proofs.lemmas.List.{append-nil}
-use Rattle.trace_reports.specs.declared.verdicts.Verdict.{Verdict}
 use Rattle.trace_reports.proofs.ReadingFacts.{reads_whole}
 use Rattle.trace_judging.specs.Streams.{AppendsPrefix}
 use Rattle.trace_judging.proofs.StreamFacts.{none_written, prefix_after, prefix_of_more, whole_written}
 use Rattle.trace_batches.specs.declared.batches.BatchFormat.{BatchFormat}
+use Rattle.trace_batches.specs.declared.batches.BatchMethod.{BatchMethod}
+use Rattle.trace_batches.specs.declared.batches.BatchMethod.TheVariants.{Judge}
 use Rattle.trace_batches.specs.declared.batches.BatchPrinting.{BatchPrinting}
 use Rattle.trace_batches.specs.declared.batches.TextJudging.{TextJudging}
 use Rattle.trace_batches.specs.declared.begun.Batch.{Batch}
 use Rattle.trace_batches.specs.declared.judgments.Judgment.{Judgment}
+use Rattle.trace_batches.specs.declared.tallies.BatchVerdict.{BatchVerdict}
 use Rattle.trace_batches.specs.declared.tallies.Tally.{Tally}
 use Rattle.trace_batches.specs.BatchLines.{total_text}
 use Rattle.trace_batches.specs.BatchNames.{text_label}
@@ -31,29 +33,30 @@ whatever (Err e) holds = holds
 
 -- ---- the results of texts
 
-results-append : (texts more : List BatchText) (all others : List TextResults) → AreResultsOfAll texts all → AreResultsOfAll more others → AreResultsOfAll (texts ++ more) (all ++ others)
-results-append [] more [] others first second = second
-results-append (text ∷ texts) more (results ∷ all) others first second = (first.0, results-append texts more all others first.1 second)
-results-append texts more all others first second = absurd first
+results-append : (method : BatchMethod) (texts more : List BatchText) (all others : List TextResults) → AreResultsOfAll method texts all → AreResultsOfAll method more others →
+    AreResultsOfAll method (texts ++ more) (all ++ others)
+results-append method [] more [] others first second = second
+results-append method (text ∷ texts) more (results ∷ all) others first second = (first.0, results-append method texts more all others first.1 second)
+results-append method texts more all others first second = absurd first
 
-some_results : (text : BatchText) → (results : TextResults) × AreResultsOf text results
-some_results text =
+some_results : (method : BatchMethod) (text : BatchText) → (results : TextResults) × AreResultsOf method text results
+some_results method text =
     let stream = unwrap_or text.bytes [] in
     let pieces = some_pieces stream in
-    let judgments = some_judgments pieces.0 in (
+    let judgments = some_judgments method pieces.0 in (
       record { name = text.name; pieces = pieces.0; judgments = judgments.0 },
-      (refl, reads_whole (λ s. AreResults s pieces.0 judgments.0) text.bytes stream (own text.bytes) (record { are_pieces = pieces.1; are_judgments = judgments.1 })),
+      (refl, reads_whole (λ s. AreResults method s pieces.0 judgments.0) text.bytes stream (own text.bytes) (record { are_pieces = pieces.1; are_judgments = judgments.1 })),
     )
   where
     own : (bytes : Option (List ℕ)) → IfSome bytes (λ all. unwrap_or bytes [] ≡ all)
     own None = tt
     own (Some all) = refl
 
-some_results_of_all : (texts : List BatchText) → (all : List TextResults) × AreResultsOfAll texts all
-some_results_of_all [] = ([], tt)
-some_results_of_all (text ∷ texts) =
-    let one = some_results text in
-    let rest = some_results_of_all texts in
+some_results_of_all : (method : BatchMethod) (texts : List BatchText) → (all : List TextResults) × AreResultsOfAll method texts all
+some_results_of_all method [] = ([], tt)
+some_results_of_all method (text ∷ texts) =
+    let one = some_results method text in
+    let rest = some_results_of_all method texts in
     (one.0 ∷ rest.0, (one.1, rest.1))
 
 same_results : (a b : TextResults) → a.name ≡ b.name → a.pieces ≡ b.pieces → a.judgments ≡ b.judgments → a ≡ b
@@ -63,15 +66,15 @@ same_results a b name pieces judgments = same a.name b.name a.pieces b.pieces a.
         ◌≡◌ {A = TextResults} (record { name = n; pieces = ps; judgments = js }) (record { name = m; pieces = qs; judgments = ks })
     same n m ps qs js ks names pieces judgments = rw (names, pieces, judgments) refl
 
-one_results : (name : Option (List ℕ)) (stream : List ℕ) (a b : TextResults) → AreResultsOf (record { name = name; bytes = Some stream }) a → AreResultsOf (record { name = name; bytes = Some stream }) b → a ≡ b
+one_results : (name : Option (List ℕ)) (stream : List ℕ) (a b : TextResults) → AreResultsOf Judge (record { name = name; bytes = Some stream }) a → AreResultsOf Judge (record { name = name; bytes = Some stream }) b → a ≡ b
 one_results name stream a b p q =
     let first = p.1.of_all in
     let second = q.1.of_all in
     let pieces = one_list_of_pieces stream a.pieces b.pieces first.are_pieces second.are_pieces in
-    let are = subst (λ (ps : List (List ℕ)). AreJudgments ps a.judgments) pieces first.are_judgments in
+    let are = subst (λ (ps : List (List ℕ)). AreJudgments Judge ps a.judgments) pieces first.are_judgments in
     same_results a b (p.0 ∙ sym q.0) pieces (one_list_of_judgments b.pieces a.judgments b.judgments are second.are_judgments)
 
-one_results_of_all : (streams : List (Option (List ℕ) × List ℕ)) (all others : List TextResults) → AreResultsOfAll (known_texts streams) all → AreResultsOfAll (known_texts streams) others → all ≡ others
+one_results_of_all : (streams : List (Option (List ℕ) × List ℕ)) (all others : List TextResults) → AreResultsOfAll Judge (known_texts streams) all → AreResultsOfAll Judge (known_texts streams) others → all ≡ others
 one_results_of_all [] [] [] p q = refl
 one_results_of_all [] [] (b ∷ others) p q = absurd q
 one_results_of_all [] (a ∷ all) others p q = absurd p
@@ -104,19 +107,21 @@ text_of printing all = head_text printing ++ (results_texts printing all ++ last
 abbrev notes_of : BatchPrinting → List TextResults → List ℕ
 notes_of printing all = note_text printing (last_line printing (all_judgments all))
 
-batch_of : (printing : BatchPrinting) (texts : List BatchText) (all : List TextResults) → AreResultsOfAll texts all →
+batch_of : (printing : BatchPrinting) (texts : List BatchText) (all : List TextResults) → AreResultsOfAll printing.method texts all →
     IsBatch printing texts (text_of printing all) (notes_of printing all) (batch_verdict (all_judgments all))
 batch_of printing texts all are = record { all = all; are_results = are; whole = refl; noted = refl; says = refl }
 
-pub some_batch : (printing : BatchPrinting) (texts : List BatchText) → (text : List ℕ) × (notes : List ℕ) × (verdict : Verdict) × IsBatch printing texts text notes verdict
+pub some_batch : (printing : BatchPrinting) (texts : List BatchText) → (text : List ℕ) × (notes : List ℕ) × (verdict : BatchVerdict) × IsBatch printing texts text notes verdict
 some_batch printing texts =
-    let some = some_results_of_all texts in
+    let some = some_results_of_all printing.method texts in
     (text_of printing some.0, notes_of printing some.0, batch_verdict (all_judgments some.0), batch_of printing texts some.0 some.1)
 
-pub one_batch : (printing : BatchPrinting) (streams : List (Option (List ℕ) × List ℕ)) (text other notes others : List ℕ) (v w : Verdict) → IsBatch printing (known_texts streams) text notes v →
-    IsBatch printing (known_texts streams) other others w → (text ≡ other) × (notes ≡ others) × (v ≡ w)
-one_batch printing streams text other notes others v w p q =
-    let same = one_results_of_all streams p.all q.all p.are_results q.are_results in (
+pub one_batch : (printing : BatchPrinting) (streams : List (Option (List ℕ) × List ℕ)) (text other notes others : List ℕ) (v w : BatchVerdict) → printing.method ≡ Judge →
+    IsBatch printing (known_texts streams) text notes v → IsBatch printing (known_texts streams) other others w → (text ≡ other) × (notes ≡ others) × (v ≡ w)
+one_batch printing streams text other notes others v w rules p q =
+    let by_rules : (all : List TextResults) → AreResultsOfAll printing.method (known_texts streams) all → AreResultsOfAll Judge (known_texts streams) all =
+    λ all are. subst (λ method. AreResultsOfAll method (known_texts streams) all) rules are in
+    let same = one_results_of_all streams p.all q.all (by_rules p.all p.are_results) (by_rules q.all q.are_results) in (
       p.whole ∙ ap (text_of printing) same ∙ sym q.whole,
       p.noted ∙ ap (notes_of printing) same ∙ sym q.noted,
       p.says ∙ ap (λ all. batch_verdict (all_judgments all)) same ∙ sym q.says,
@@ -125,7 +130,7 @@ one_batch printing streams text other notes others v w p q =
 -- ---- a batch that has begun
 
 -- what is left of it, where this was written of what is printed
-left_of : (printing : BatchPrinting) (texts : List BatchText) (all : List TextResults) (old new before : Option (List ℕ)) (first more : List ℕ) → AreResultsOfAll texts all →
+left_of : (printing : BatchPrinting) (texts : List BatchText) (all : List TextResults) (old new before : Option (List ℕ)) (first more : List ℕ) → AreResultsOfAll printing.method texts all →
     first ++ more ≡ text_of printing all → AppendsPrefix old new first → LeavesBatch printing texts old new before before
 left_of printing texts all old new before first more are same written = (
   batch_verdict (all_judgments all),
@@ -142,7 +147,7 @@ begun batch printing old new has written = record { all = []; are_results = tt; 
 
 pub head_left : (printing : BatchPrinting) (texts : List BatchText) (old new before : Option (List ℕ)) → AppendsPrefix old new (head_text printing) → LeavesBatch printing texts old new before before
 head_left printing texts old new before written =
-    let some = some_results_of_all texts in
+    let some = some_results_of_all printing.method texts in
     left_of printing texts some.0 old new before (head_text printing) (results_texts printing some.0 ++ last_of printing some.0) some.1 refl written
 
 module _ (batch : Batch) (printing : BatchPrinting) (texts : List BatchText) (old mid : Option (List ℕ)) (w : HasWritten batch printing texts old mid) where
@@ -161,7 +166,7 @@ module _ (batch : Batch) (printing : BatchPrinting) (texts : List BatchText) (ol
       append_assoc (head_text printing) told this ∙ ap (λ t. head_text printing ++ t) (sym (texts-append printing w.all (one.0 ∷ []) ∙ ap (λ t. told ++ t) (append-nil this))) in
       record {
         all = w.all ++ one.0 ∷ [];
-        are_results = results-append texts (text ∷ []) w.all (one.0 ∷ []) w.are_results (one.1, tt);
+        are_results = results-append printing.method texts (text ∷ []) w.all (one.0 ∷ []) w.are_results (one.1, tt);
         judged = one.2;
         written = subst (Appends old new) same (Appends-trans old mid new so_far this w.written one.3);
       }
@@ -170,7 +175,7 @@ module _ (batch : Batch) (printing : BatchPrinting) (texts : List BatchText) (ol
   pub judged_left : (text : BatchText) (later : List BatchText) (new before : Option (List ℕ)) → LeavesText text batch mid new → LeavesBatch printing (texts ++ text ∷ later) old new before before
   judged_left text later new before left =
       let one = left printing w.all w.judged in
-      let rest = some_results_of_all later in
+      let rest = some_results_of_all printing.method later in
       let this = results_text printing one.0 in
       let all = w.all ++ one.0 ∷ rest.0 in
       let others = results_texts printing rest.0 in
@@ -178,26 +183,26 @@ module _ (batch : Batch) (printing : BatchPrinting) (texts : List BatchText) (ol
       let same : (so_far ++ this) ++ (others ++ last) ≡ text_of printing all =
       append_assoc so_far this (others ++ last) ∙ append_assoc (head_text printing) told (this ++ (others ++ last)) ∙ ap (λ t. head_text printing ++ (told ++ t)) (sym (append_assoc this others last))
       ∙ ap (λ t. head_text printing ++ t) (sym (append_assoc told (this ++ others) last)) ∙ ap (λ t. head_text printing ++ (t ++ last)) (sym (texts-append printing w.all (one.0 ∷ rest.0))) in
-      left_of printing (texts ++ text ∷ later) all old new before (so_far ++ this) (others ++ last) (results-append texts (text ∷ later) w.all (one.0 ∷ rest.0) w.are_results (one.1, rest.1)) same
+      left_of printing (texts ++ text ∷ later) all old new before (so_far ++ this) (others ++ last) (results-append printing.method texts (text ∷ later) w.all (one.0 ∷ rest.0) w.are_results (one.1, rest.1)) same
       (prefix_after old mid new so_far this w.written one.2)
 
   -- no more was written
   pub stopped : (later : List BatchText) (before : Option (List ℕ)) → LeavesBatch printing (texts ++ later) old mid before before
   stopped later before =
-      let rest = some_results_of_all later in
+      let rest = some_results_of_all printing.method later in
       let all = w.all ++ rest.0 in
       let others = results_texts printing rest.0 in
       let last = last_of printing all in
       let same : so_far ++ (others ++ last) ≡ text_of printing all =
       append_assoc (head_text printing) told (others ++ last) ∙ ap (λ t. head_text printing ++ t) (sym (append_assoc told others last))
       ∙ ap (λ t. head_text printing ++ (t ++ last)) (sym (texts-append printing w.all rest.0)) in
-      left_of printing (texts ++ later) all old mid before so_far (others ++ last) (results-append texts later w.all rest.0 w.are_results rest.1) same (whole_written old mid so_far w.written)
+      left_of printing (texts ++ later) all old mid before so_far (others ++ last) (results-append printing.method texts later w.all rest.0 w.are_results rest.1) same (whole_written old mid so_far w.written)
 
   -- the last line was written, or a prefix of it
   all_of : so_far ++ last_of printing w.all ≡ text_of printing w.all
   all_of = append_assoc (head_text printing) told (last_of printing w.all)
 
-  pub ended : (new before after : Option (List ℕ)) (verdict : Verdict) → EndsBatch batch mid new before after verdict → WritesBatch printing texts old new before after verdict
+  pub ended : (new before after : Option (List ℕ)) (verdict : BatchVerdict) → EndsBatch batch mid new before after verdict → WritesBatch printing texts old new before after verdict
   ended new before after verdict ends = (
     text_of printing w.all,
     notes_of printing w.all,
@@ -225,13 +230,17 @@ module _ (text : BatchText) (batch : Batch) (judging : TextJudging) (printings :
   way_is : (printing : BatchPrinting) → batch.options.printing ≡ printing → printing_by judging ≡ under_name printing text.name
   way_is printing prints = same_way _ _ _ _ (printings ∙ prints) (labels ∙ ap (λ (p : BatchPrinting). text_label p.format text.name) prints)
 
+  -- its results are what the batch is asked for
+  of_method : (printing : BatchPrinting) (results : TextResults) → batch.options.printing ≡ printing → AreResultsOf judging.options.printing.method text results → AreResultsOf printing.method text results
+  of_method printing results prints are = subst (λ (p : BatchPrinting). AreResultsOf p.method text results) (printings ∙ prints) are
+
   -- it was judged
   pub text_judged : (after : Batch) (tally : Tally) (old new : Option (List ℕ)) → Told (printing_by judging) text.bytes old new tally → after.options.printing ≡ batch.options.printing →
       ((judgments others : List Judgment) → Counts batch.tally judgments → Counts tally others → Counts after.tally (judgments ++ others)) → Judges text batch after old new
   text_judged after tally old new t same added printing all has =
       let results : TextResults = record { name = text.name; pieces = t.pieces; judgments = t.judgments } in (
         results,
-        (refl, told_results (printing_by judging) text.bytes old new tally t),
+        of_method printing results has.prints (refl, told_results (printing_by judging) text.bytes old new tally t),
         record { prints = same ∙ has.prints; counts = subst (Counts after.tally) (sym (judgments-push all results)) (added (all_judgments all) t.judgments has.counts t.counts) },
         subst (λ (way : TextPrinting). Appends old new (pieces_text way 1 t.pieces t.judgments)) (way_is printing has.prints) t.written,
       )
@@ -241,7 +250,7 @@ module _ (text : BatchText) (batch : Batch) (judging : TextJudging) (printings :
   text_told tally old new t printing all has =
       let results : TextResults = record { name = text.name; pieces = t.pieces; judgments = t.judgments } in (
         results,
-        (refl, told_results (printing_by judging) text.bytes old new tally t),
+        of_method printing results has.prints (refl, told_results (printing_by judging) text.bytes old new tally t),
         subst (λ (way : TextPrinting). AppendsPrefix old new (pieces_text way 1 t.pieces t.judgments)) (way_is printing has.prints)
             (whole_written old new (pieces_text (printing_by judging) 1 t.pieces t.judgments) t.written),
       )
@@ -251,26 +260,26 @@ module _ (text : BatchText) (batch : Batch) (judging : TextJudging) (printings :
   text_left old new left printing all has =
       let results : TextResults = record { name = text.name; pieces = left.0; judgments = left.1 } in (
         results,
-        (refl, left.2),
+        of_method printing results has.prints (refl, left.2),
         subst (λ (way : TextPrinting). AppendsPrefix old new (pieces_text way 1 left.0 left.1)) (way_is printing has.prints) left.3,
       )
 
 -- or before
 pub none_of_text : (text : BatchText) (batch : Batch) (old : Option (List ℕ)) → LeavesText text batch old old
 none_of_text text batch old printing all has =
-    let one = some_results text in
+    let one = some_results printing.method text in
     (one.0, one.1, none_written old (results_text printing one.0))
 
 -- ---- the last line
 
 module _ (batch : Batch) (line : List ℕ) (old new before after : Option (List ℕ)) (format : BatchFormat) (formats : format ≡ last_format batch.options.printing)
-    (lines : line ≡ total_text format batch.tally.traces batch.tally.violations batch.tally.refused) where
+    (lines : line ≡ total_text format batch.options.printing.method batch.tally) where
   line_is : (printing : BatchPrinting) (all : List TextResults) → HasJudged batch printing all → line ≡ last_line printing (all_judgments all)
   line_is printing all has =
-      lines ∙ ap (λ f. total_text f batch.tally.traces batch.tally.violations batch.tally.refused) (formats ∙ ap last_format has.prints)
-      ∙ total_by_counts (last_format printing) batch.tally (all_judgments all) has.counts
+      lines ∙ ap (λ f. total_text f batch.options.printing.method batch.tally) (formats ∙ ap last_format has.prints)
+      ∙ ap (λ (p : BatchPrinting). total_text (last_format printing) p.method batch.tally) has.prints ∙ total_by_counts (last_format printing) printing.method batch.tally (all_judgments all) has.counts
 
-  pub end_whole : (verdict : Verdict) → Appends old new (last_text batch.options.printing line) → Appends before after (note_text batch.options.printing line) →
+  pub end_whole : (verdict : BatchVerdict) → Appends old new (last_text batch.options.printing line) → Appends before after (note_text batch.options.printing line) →
       ((judgments : List Judgment) → Counts batch.tally judgments → verdict ≡ batch_verdict judgments) → EndsBatch batch old new before after verdict
   end_whole verdict written noted says = record {
     written = λ printing all has. subst (Appends old new) (ap₂ last_text has.prints (line_is printing all has)) written;

@@ -6,27 +6,28 @@ use Rattle.tso_text.specs.declared.faults.TextFault.{TextFault}
 use Rattle.tso_text.specs.RefusalNames.{refusal_name}
 use Rattle.trace_batches.specs.declared.batches.BatchFormat.{BatchFormat}
 use Rattle.trace_batches.specs.declared.batches.BatchFormat.TheVariants.{Words, Json, Junit}
+use Rattle.trace_batches.specs.declared.batches.BatchMethod.{BatchMethod}
+use Rattle.trace_batches.specs.declared.batches.BatchMethod.TheVariants.{Judge, Decide}
 use Rattle.trace_batches.specs.declared.judgments.Judgment.{Judgment}
-use Rattle.trace_batches.specs.declared.judgments.Judgment.TheVariants.{NoViolation, Violation, Refused}
-use Rattle.trace_batches.specs.Judgments.{says_refused, says_violation}
+use Rattle.trace_batches.specs.declared.judgments.Judgment.TheVariants.{NoViolation, Violation, Consistent, Undecided, Refused}
+use Rattle.trace_batches.specs.declared.tallies.Tally.{Tally}
+use Rattle.trace_batches.specs.Judgments.{says_consistent, says_refused, says_undecided, says_violation}
 use Rattle.trace_reports.specs.RefusalLines.{refusal_text}
 use Rattle.trace_reports.specs.Verdicts.{verdict_line}
 
 -- ---- in words
 
--- the end of a line: what the piece's report says, without certificate
+-- the end of a line: what the piece's report says, without certificate, or its decision, without evidence
 abbrev pub line_end_of : Judgment → List ℕ
 line_end_of NoViolation = verdict_line false
 line_end_of Violation = verdict_line true
+line_end_of Consistent = codes "CONSISTENT\n"
+line_end_of (Undecided cases) = codes "UNDECIDED " ++ decimal cases ++ 10 ∷ []
 line_end_of (Refused fault) = refusal_text fault.line fault.why
 
 -- the line of the trace of this number
 abbrev pub word_line : List ℕ → ℕ → Judgment → List ℕ
 word_line label number judgment = label ++ codes "trace " ++ decimal number ++ codes " " ++ line_end_of judgment
-
--- the last line: how many traces, how many of them are violations, and how many are refused
-abbrev pub word_total : ℕ → ℕ → ℕ → List ℕ
-word_total traces violations refused = codes "traces " ++ decimal traces ++ codes " violations " ++ decimal violations ++ codes " refused " ++ decimal refused ++ 10 ∷ []
 
 -- ---- in JSON, an object on each line
 
@@ -39,16 +40,18 @@ json_refusal label number fault =
     codes "{"
     ++ (label ++ (codes "\"trace\":" ++ (decimal number ++ (codes ",\"verdict\":\"refused\",\"name\":\"" ++ (refusal_name fault.why ++ (codes "\",\"line\":" ++ (decimal fault.line ++ codes "}\n")))))))
 
+-- after how many cases it is undecided
+unfoldable pub json_undecided : List ℕ → ℕ → ℕ → List ℕ
+json_undecided label number cases =
+    codes "{" ++ (label ++ (codes "\"trace\":" ++ (decimal number ++ (codes ",\"verdict\":\"undecided\",\"cases\":" ++ (decimal cases ++ codes "}\n")))))
+
 -- the line of the trace of this number
 abbrev pub json_line : List ℕ → ℕ → Judgment → List ℕ
 json_line label number NoViolation = json_verdict label number (codes "no_violation_found")
 json_line label number Violation = json_verdict label number (codes "violation")
+json_line label number Consistent = json_verdict label number (codes "consistent")
+json_line label number (Undecided cases) = json_undecided label number cases
 json_line label number (Refused fault) = json_refusal label number fault
-
--- the last line
-unfoldable pub json_total : ℕ → ℕ → ℕ → List ℕ
-json_total traces violations refused =
-    codes "{\"traces\":" ++ (decimal traces ++ (codes ",\"violations\":" ++ (decimal violations ++ (codes ",\"refused\":" ++ (decimal refused ++ codes "}\n")))))
 
 -- ---- in JUnit's XML, one document with a test case for each trace
 
@@ -64,17 +67,17 @@ junit_case label number end = codes "<testcase classname=\"" ++ label ++ codes "
 unfoldable pub junit_error : TextFault → List ℕ
 junit_error fault = codes "><error message=\"REFUSED " ++ (refusal_name fault.why ++ (codes " line " ++ (decimal fault.line ++ codes "\"/></testcase>")))
 
+-- the end of an undecided trace: it is skipped, after so many cases
+unfoldable pub junit_skipped : ℕ → List ℕ
+junit_skipped cases = codes "><skipped message=\"UNDECIDED " ++ (decimal cases ++ codes "\"/></testcase>")
+
 -- the line of the trace of this number: a violation is a failure
 abbrev pub junit_line : List ℕ → ℕ → Judgment → List ℕ
 junit_line label number NoViolation = junit_case label number (codes "/>")
 junit_line label number Violation = junit_case label number (codes "><failure message=\"VIOLATION\"/></testcase>")
+junit_line label number Consistent = junit_case label number (codes "/>")
+junit_line label number (Undecided cases) = junit_case label number (junit_skipped cases)
 junit_line label number (Refused fault) = junit_case label number (junit_error fault)
-
--- what stands after the test cases: the numbers, and the end of the document
-unfoldable pub junit_total : ℕ → ℕ → ℕ → List ℕ
-junit_total traces violations refused =
-    codes "<system-out>traces "
-    ++ (decimal traces ++ (codes " violations " ++ (decimal violations ++ (codes " refused " ++ (decimal refused ++ codes "</system-out>\n</testsuite>\n</testsuites>\n")))))
 
 -- ---- in each format
 
@@ -89,11 +92,50 @@ trace_line Words label number judgment = word_line label number judgment
 trace_line Json label number judgment = json_line label number judgment
 trace_line Junit label number judgment = junit_line label number judgment
 
-abbrev pub total_text : BatchFormat → ℕ → ℕ → ℕ → List ℕ
-total_text Words traces violations refused = word_total traces violations refused
-total_text Json traces violations refused = json_total traces violations refused
-total_text Junit traces violations refused = junit_total traces violations refused
+-- ---- the last line: how many traces, and of how many which is said
+
+-- in words
+unfoldable pub judged_words : Tally → List ℕ
+judged_words tally = codes "traces " ++ (decimal tally.traces ++ (codes " violations " ++ (decimal tally.violations ++ (codes " refused " ++ decimal tally.refused))))
+
+unfoldable pub decided_words : Tally → List ℕ
+decided_words tally =
+    codes "traces "
+    ++ (decimal tally.traces ++ (codes " consistent " ++ (decimal tally.consistent ++ (codes " violations " ++ (decimal tally.violations ++ (codes " undecided " ++ (decimal tally.undecided ++ (codes " refused " ++ decimal tally.refused))))))))
+
+abbrev pub total_words : BatchMethod → Tally → List ℕ
+total_words Judge tally = judged_words tally
+total_words (Decide effort) tally = decided_words tally
+
+-- in JSON
+unfoldable pub judged_json : Tally → List ℕ
+judged_json tally = codes "{\"traces\":" ++ (decimal tally.traces ++ (codes ",\"violations\":" ++ (decimal tally.violations ++ (codes ",\"refused\":" ++ (decimal tally.refused ++ codes "}\n")))))
+
+unfoldable pub decided_json : Tally → List ℕ
+decided_json tally =
+    codes "{\"traces\":"
+    ++ (decimal tally.traces ++ (codes ",\"consistent\":" ++ (decimal tally.consistent ++ (codes ",\"violations\":" ++ (decimal tally.violations ++ (codes ",\"undecided\":" ++ (decimal tally.undecided ++ (codes ",\"refused\":" ++ (decimal tally.refused ++ codes "}\n")))))))))
+
+abbrev pub total_json : BatchMethod → Tally → List ℕ
+total_json Judge tally = judged_json tally
+total_json (Decide effort) tally = decided_json tally
+
+-- in each format; in XML it ends the document
+abbrev pub total_text : BatchFormat → BatchMethod → Tally → List ℕ
+total_text Words method tally = total_words method tally ++ codes "\n"
+total_text Json method tally = total_json method tally
+total_text Junit method tally = codes "<system-out>" ++ total_words method tally ++ codes "</system-out>\n</testsuite>\n</testsuites>\n"
+
+-- the numbers of these judgments
+abbrev pub tally_of : List Judgment → Tally
+tally_of judgments = record {
+  traces = length judgments;
+  consistent = count_by says_consistent judgments;
+  violations = count_by says_violation judgments;
+  undecided = count_by says_undecided judgments;
+  refused = count_by says_refused judgments;
+}
 
 -- the last line after these judgments
-abbrev pub total_line : BatchFormat → List Judgment → List ℕ
-total_line format judgments = total_text format (length judgments) (count_by says_violation judgments) (count_by says_refused judgments)
+abbrev pub total_line : BatchFormat → BatchMethod → List Judgment → List ℕ
+total_line format method judgments = total_text format method (tally_of judgments)

@@ -4,28 +4,29 @@ use Rattle.std.specs.Io.KnownBytes.{Appends}
 use Rattle.std.specs.List.{count_by, list_any}
 use Rattle.trace_batches.specs.declared.batches.BatchFormat.{BatchFormat}
 use Rattle.trace_batches.specs.declared.batches.BatchFormat.TheVariants.{Words, Junit}
+use Rattle.trace_batches.specs.declared.batches.BatchMethod.{BatchMethod}
 use Rattle.trace_batches.specs.declared.batches.BatchPrinting.{BatchPrinting}
 use Rattle.trace_batches.specs.declared.begun.Batch.{Batch}
 use Rattle.trace_batches.specs.declared.judgments.Judgment.{Judgment}
 use Rattle.trace_batches.specs.declared.judgments.Judgment.TheVariants as judged
+use Rattle.trace_batches.specs.declared.tallies.BatchVerdict.{BatchVerdict}
+use Rattle.trace_batches.specs.declared.tallies.BatchVerdict.TheVariants.{NoViolation, Violation, Undecided, Refused}
 use Rattle.trace_batches.specs.declared.tallies.Tally.{Tally}
 use Rattle.trace_batches.specs.BatchLines.{head_of, total_line, trace_line}
 use Rattle.trace_batches.specs.BatchNames.{text_label}
-use Rattle.trace_batches.specs.Judgments.{AreJudgments, says_refused, says_violation}
+use Rattle.trace_batches.specs.Judgments.{AreJudgments, says_consistent, says_refused, says_undecided, says_violation}
 use Rattle.trace_batches.specs.Pieces.{ArePieces}
 use Rattle.trace_judging.specs.declared.faults.Fault.{Fault}
 use Rattle.trace_judging.specs.declared.faults.Fault.TheVariants.{Missing}
 use Rattle.trace_judging.specs.Streams.{AppendsPrefix}
 use Rattle.trace_reports.specs.Readings.{ReadsAs}
-use Rattle.trace_reports.specs.declared.verdicts.Verdict.{Verdict}
-use Rattle.trace_reports.specs.declared.verdicts.Verdict.TheVariants.{NoViolation, Violation, Refused}
 
 -- ---- the results
 
 -- The results of a stream: its pieces, in order, and what is said of each.
-pub record AreResults (stream : List ℕ) (pieces : List (List ℕ)) (judgments : List Judgment) : Type 0 where
+pub record AreResults (method : BatchMethod) (stream : List ℕ) (pieces : List (List ℕ)) (judgments : List Judgment) : Type 0 where
   pub are_pieces : ArePieces stream pieces
-  pub are_judgments : AreJudgments pieces judgments
+  pub are_judgments : AreJudgments method pieces judgments
 
 -- a text of a batch: its name where lines have one, and its bytes where these are known
 pub record BatchText : Type 0 where
@@ -39,24 +40,28 @@ pub record TextResults : Type 0 where
   pub judgments : List Judgment
 
 -- these are the results of the text
-abbrev pub AreResultsOf : BatchText → TextResults → Type 0
-AreResultsOf text results = (results.name ≡ text.name) × ReadsAs text.bytes (λ stream. AreResults stream results.pieces results.judgments)
+abbrev pub AreResultsOf : BatchMethod → BatchText → TextResults → Type 0
+AreResultsOf method text results = (results.name ≡ text.name) × ReadsAs text.bytes (λ stream. AreResults method stream results.pieces results.judgments)
 
 -- these are the results of the texts, one each, in order
-abbrev pub AreResultsOfAll : List BatchText → List TextResults → Type 0
-AreResultsOfAll [] [] = Unit {0}
-AreResultsOfAll [] (results ∷ all) = ⊥
-AreResultsOfAll (text ∷ texts) [] = ⊥
-AreResultsOfAll (text ∷ texts) (results ∷ all) = AreResultsOf text results × AreResultsOfAll texts all
+abbrev pub AreResultsOfAll : BatchMethod → List BatchText → List TextResults → Type 0
+AreResultsOfAll method [] [] = Unit {0}
+AreResultsOfAll method [] (results ∷ all) = ⊥
+AreResultsOfAll method (text ∷ texts) [] = ⊥
+AreResultsOfAll method (text ∷ texts) (results ∷ all) = AreResultsOf method text results × AreResultsOfAll method texts all
 
 -- what is said of all pieces of all texts
 abbrev pub all_judgments : List TextResults → List Judgment
 all_judgments [] = []
 all_judgments (results ∷ all) = results.judgments ++ all_judgments all
 
--- Violation where a judgment says so, else Refused where one says that
-abbrev pub batch_verdict : List Judgment → Verdict
-batch_verdict judgments = if list_any says_violation judgments then Violation else if list_any says_refused judgments then Refused else NoViolation
+-- Violation where a judgment says so, else Refused or Undecided where one says that
+abbrev pub batch_verdict : List Judgment → BatchVerdict
+batch_verdict judgments =
+    if list_any says_violation judgments then Violation
+    else if list_any says_refused judgments then Refused
+    else if list_any says_undecided judgments then Undecided
+    else NoViolation
 
 -- ---- what is printed of a text
 
@@ -65,9 +70,10 @@ pub record TextPrinting : Type 0 where
   pub printing : BatchPrinting
   pub label : List ℕ
 
--- a quiet batch leaves out the lines of traces without a violation
+-- a quiet batch leaves out the lines of traces without a violation, and of consistent ones
 abbrev pub is_left_out : Bool → Judgment → Bool
 is_left_out quiet judged.NoViolation = quiet
+is_left_out quiet judged.Consistent = quiet
 is_left_out quiet _ = false
 
 abbrev pub written_line : TextPrinting → ℕ → Judgment → List ℕ
@@ -116,7 +122,7 @@ last_format printing = if printing.violations then note_format printing.format e
 
 -- the last line after these judgments
 abbrev pub last_line : BatchPrinting → List Judgment → List ℕ
-last_line printing judgments = total_line (last_format printing) judgments
+last_line printing judgments = total_line (last_format printing) printing.method judgments
 
 -- The last line follows lines, and is a note beside texts of violations.
 abbrev pub last_text : BatchPrinting → List ℕ → List ℕ
@@ -126,9 +132,9 @@ abbrev pub note_text : BatchPrinting → List ℕ → List ℕ
 note_text printing line = if printing.violations then line else []
 
 -- The text and the notes are those of the batch of these texts, by their results.
-pub record IsBatch (printing : BatchPrinting) (texts : List BatchText) (text notes : List ℕ) (verdict : Verdict) : Type 0 where
+pub record IsBatch (printing : BatchPrinting) (texts : List BatchText) (text notes : List ℕ) (verdict : BatchVerdict) : Type 0 where
   pub all : List TextResults
-  pub are_results : AreResultsOfAll texts all
+  pub are_results : AreResultsOfAll printing.method texts all
   pub whole : text ≡ head_text printing ++ (results_texts printing all ++ last_text printing (last_line printing (all_judgments all)))
   pub noted : notes ≡ note_text printing (last_line printing (all_judgments all))
   pub says : verdict ≡ batch_verdict (all_judgments all)
@@ -136,14 +142,14 @@ pub record IsBatch (printing : BatchPrinting) (texts : List BatchText) (text not
 -- ---- what is written
 
 -- known bytes of the writer grow by the text of the batch of these texts, and those of the errors by its notes
-abbrev pub WritesBatch : BatchPrinting → List BatchText → Option (List ℕ) → Option (List ℕ) → Option (List ℕ) → Option (List ℕ) → Verdict → Type 0
+abbrev pub WritesBatch : BatchPrinting → List BatchText → Option (List ℕ) → Option (List ℕ) → Option (List ℕ) → Option (List ℕ) → BatchVerdict → Type 0
 WritesBatch printing texts old new before after verdict =
     (text : List ℕ) × (notes : List ℕ) × IsBatch printing texts text notes verdict × Appends old new text × Appends before after notes
 
 -- known bytes of the writer grow by a prefix of the text of the batch, and those of the errors by one of its notes
 abbrev pub LeavesBatch : BatchPrinting → List BatchText → Option (List ℕ) → Option (List ℕ) → Option (List ℕ) → Option (List ℕ) → Type 0
 LeavesBatch printing texts old new before after =
-    (verdict : Verdict) × (text : List ℕ) × (notes : List ℕ) × IsBatch printing texts text notes verdict × AppendsPrefix old new text × AppendsPrefix before after notes
+    (verdict : BatchVerdict) × (text : List ℕ) × (notes : List ℕ) × IsBatch printing texts text notes verdict × AppendsPrefix old new text × AppendsPrefix before after notes
 
 -- a text without a name, alone
 abbrev pub one_text : Option (List ℕ) → List BatchText
@@ -163,7 +169,9 @@ IsBatchFault _ = Unit {0}
 -- these are the numbers of the judgments
 pub record Counts (tally : Tally) (judgments : List Judgment) : Type 0 where
   pub traces : tally.traces ≡ length judgments
+  pub consistent : tally.consistent ≡ count_by says_consistent judgments
   pub violations : tally.violations ≡ count_by says_violation judgments
+  pub undecided : tally.undecided ≡ count_by says_undecided judgments
   pub refused : tally.refused ≡ count_by says_refused judgments
 
 -- The batch prints so, and has judged texts that have these results.
@@ -174,15 +182,15 @@ pub record HasJudged (batch : Batch) (printing : BatchPrinting) (all : List Text
 -- The next text was judged: what is printed of it was written.
 abbrev pub Judges : BatchText → Batch → Batch → Option (List ℕ) → Option (List ℕ) → Type 0
 Judges text before after old new = (printing : BatchPrinting) (all : List TextResults) → HasJudged before printing all →
-    (results : TextResults) × AreResultsOf text results × HasJudged after printing (all ++ results ∷ []) × Appends old new (results_text printing results)
+    (results : TextResults) × AreResultsOf printing.method text results × HasJudged after printing (all ++ results ∷ []) × Appends old new (results_text printing results)
 
 -- A prefix of what is printed of the next text was written.
 abbrev pub LeavesText : BatchText → Batch → Option (List ℕ) → Option (List ℕ) → Type 0
 LeavesText text before old new = (printing : BatchPrinting) (all : List TextResults) → HasJudged before printing all →
-    (results : TextResults) × AreResultsOf text results × AppendsPrefix old new (results_text printing results)
+    (results : TextResults) × AreResultsOf printing.method text results × AppendsPrefix old new (results_text printing results)
 
 -- The last line was written, and the notes; or a prefix of each.
-pub record EndsBatch (batch : Batch) (old new before after : Option (List ℕ)) (verdict : Verdict) : Type 0 where
+pub record EndsBatch (batch : Batch) (old new before after : Option (List ℕ)) (verdict : BatchVerdict) : Type 0 where
   pub written : (printing : BatchPrinting) (all : List TextResults) → HasJudged batch printing all → Appends old new (last_text printing (last_line printing (all_judgments all)))
   pub noted : (printing : BatchPrinting) (all : List TextResults) → HasJudged batch printing all → Appends before after (note_text printing (last_line printing (all_judgments all)))
   pub says : (printing : BatchPrinting) (all : List TextResults) → HasJudged batch printing all → verdict ≡ batch_verdict (all_judgments all)
@@ -194,6 +202,6 @@ pub record LeavesEnd (batch : Batch) (old new before after : Option (List ℕ)) 
 -- A batch that has judged just these texts, and has written what is printed of them, after the head.
 pub record HasWritten (batch : Batch) (printing : BatchPrinting) (texts : List BatchText) (old new : Option (List ℕ)) : Type 0 where
   pub all : List TextResults
-  pub are_results : AreResultsOfAll texts all
+  pub are_results : AreResultsOfAll printing.method texts all
   pub judged : HasJudged batch printing all
   pub written : Appends old new (head_text printing ++ results_texts printing all)

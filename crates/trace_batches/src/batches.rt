@@ -41,12 +41,26 @@ pub enum BatchFormat {
     Junit,
 }
 
-/// What is printed of a batch.
+/// How it is found out what is said of a trace.
+#[derive(Clone, Copy, Debug, PartialEq, Eq)]
+pub enum BatchMethod {
+    /// By the rules: a violation, or none was found.
+    Judge,
+    /// By a decision: whether it has an order that meets the axioms of its memory model.
+    Decide {
+        /// With how many cases at most, for each trace.
+        effort: u64,
+    },
+}
+
+/// What is said and printed of the traces of a batch.
 #[derive(Clone, Copy, Debug, PartialEq, Eq)]
 pub struct BatchPrinting {
+    /// How it is found out what is said of a trace.
+    pub method: BatchMethod,
     /// How lines are written.
     pub format: BatchFormat,
-    /// Whether the lines of traces without a violation are left out.
+    /// Whether the lines of traces without a violation, or of consistent ones, are left out.
     pub quiet: bool,
     /// Whether the texts of violations are printed in place of all lines.
     pub violations: bool,
@@ -176,7 +190,7 @@ fn tell<H: Threads + Wait + Sync, M: Meter, W: Write>(
     ensures some { OnErr result (WroteSome (printing_by judging.now) tally.old (rows pieces.items) (W.contents writer.old) (W.contents writer.new)) }
     ensures fault { IfErr result IsBatchFault }
 {
-    let jobs = judge_all(rt, judging.alloc, pieces, judging.options.workers)?;
+    let jobs = judge_all(rt, judging.alloc, pieces, judging.options)?;
     write_jobs(judging, &jobs, tally, writer)?;
     meter.advance(jobs.len() as u64);
     Ok(())
@@ -189,9 +203,9 @@ fn write_jobs<W: Write>(
     tally: &mut Tally,
     writer: &mut W,
 ) -> Result<(), Fault>
-    ensures whole { OnOk result ((pieces : List (List ℕ)) → AreJudged pieces jobs.now → WroteAll (printing_by judging.now) tally.old tally.new pieces (W.contents writer.old) (W.contents writer.new)) }
-    ensures some { OnErr result ((pieces : List (List ℕ)) → AreJudged pieces jobs.now → WroteSome (printing_by judging.now) tally.old pieces (W.contents writer.old) (W.contents writer.new)) }
-    ensures fault { IfErr result (λ fault. (pieces : List (List ℕ)) → AreJudged pieces jobs.now → IsBatchFault fault) }
+    ensures whole { OnOk result ((pieces : List (List ℕ)) → AreJudged judging.now.options.printing.method pieces jobs.now → WroteAll (printing_by judging.now) tally.old tally.new pieces (W.contents writer.old) (W.contents writer.new)) }
+    ensures some { OnErr result ((pieces : List (List ℕ)) → AreJudged judging.now.options.printing.method pieces jobs.now → WroteSome (printing_by judging.now) tally.old pieces (W.contents writer.old) (W.contents writer.new)) }
+    ensures fault { IfErr result (λ fault. (pieces : List (List ℕ)) → AreJudged judging.now.options.printing.method pieces jobs.now → IsBatchFault fault) }
 {
     for job in jobs {
         match job.outcome {
@@ -230,6 +244,9 @@ fn violating_text(piece: &[u8], judgment: Judgment) -> &[u8]
 {
     match judgment {
         Judgment::Violation => piece,
-        Judgment::NoViolation | Judgment::Refused(_) => &[],
+        Judgment::NoViolation
+        | Judgment::Consistent
+        | Judgment::Undecided(_)
+        | Judgment::Refused(_) => &[],
     }
 }

@@ -3,6 +3,7 @@ ghost use Rattle.std.specs.Prelude.{◌≡◌, ◌≤◌, IfOk, map};
 ghost use Rattle.trace_batches.specs.Internal.Cutters.{rows};
 ghost use Rattle.trace_batches.specs.Internal.Progress.{AreJudged, IsJobOf};
 
+use crate::batches::{BatchMethod, BatchOptions};
 use crate::judgments::{Judgment, judge_piece};
 use std::alloc::Global;
 use std::sync::Wait;
@@ -31,26 +32,26 @@ impl Job {
     }
 
     /// Judges the piece with one worker.
-    fn judge<H: Threads + Wait>(&mut self, rt: &H, alloc: Global)
-        ensures { IsJobOf self.old.piece.items self.new }
+    fn judge<H: Threads + Wait>(&mut self, rt: &H, alloc: Global, method: BatchMethod)
+        ensures { IsJobOf method self.old.piece.items self.new }
     {
-        self.outcome = judge_piece(rt, alloc, &self.piece);
+        self.outcome = judge_piece(rt, alloc, &self.piece, method);
     }
 }
 
-/// Judges these pieces by `workers` threads at most, each piece with one worker: a job for each, in order. OutOfMemory
-/// where an allocation for the jobs was refused.
+/// Judges these pieces by as many threads at most as the options say, each piece with one worker: a job for each, in order.
+/// OutOfMemory where an allocation for the jobs was refused.
 pub(crate) fn judge_all<H: Threads + Wait + Sync>(
     rt: &H,
     alloc: Global,
     pieces: Vec<Vec<u8>>,
-    workers: usize,
+    options: BatchOptions,
 ) -> Result<Vec<Job>, OutOfMemory>
-    requires { 1 ≤ workers }
-    ensures { IfOk result (λ jobs. AreJudged (rows pieces.items) jobs.items) }
+    requires { 1 ≤ options.workers }
+    ensures { IfOk result (λ jobs. AreJudged options.printing.method (rows pieces.items) jobs.items) }
 {
     let mut jobs = jobs_of(alloc, pieces)?;
-    judge_each(rt, alloc, &mut jobs, workers);
+    judge_each(rt, alloc, &mut jobs, options);
     Ok(jobs)
 }
 
@@ -65,12 +66,18 @@ fn jobs_of(alloc: Global, pieces: Vec<Vec<u8>>) -> Result<Vec<Job>, OutOfMemory>
 }
 
 /// Does the jobs.
-fn judge_each<H: Threads + Wait + Sync>(rt: &H, alloc: Global, jobs: &mut [Job], workers: usize)
-    requires { 1 ≤ workers }
-    ensures { AreJudged (map (λ job. job.piece.items) jobs.old) jobs.new }
+fn judge_each<H: Threads + Wait + Sync>(
+    rt: &H,
+    alloc: Global,
+    jobs: &mut [Job],
+    options: BatchOptions,
+)
+    requires { 1 ≤ options.workers }
+    ensures { AreJudged options.printing.method (map (λ job. job.piece.items) jobs.old) jobs.new }
 {
+    let method = options.printing.method;
     let judge = |_: usize, job: &mut Job|
-        ensures { IsJobOf job.entry.now.piece.items job.exit.now }
-    { job.judge(rt, alloc) };
-    thread::for_each_mut(rt, jobs, workers, &judge);
+        ensures { IsJobOf method job.entry.now.piece.items job.exit.now }
+    { job.judge(rt, alloc, method) };
+    thread::for_each_mut(rt, jobs, options.workers, &judge);
 }

@@ -6,16 +6,17 @@ ghost use Rattle.trace_batches.specs.Batches.{EndsBatch, HasJudged, IsBatchFault
 
 use crate::batches::{BatchOptions, BatchPrinting, TextJudging, judge_pieces};
 use crate::begun::Batch;
-use crate::lines::{head, last_format, total_line};
+use crate::lines::{head, last_format};
 use crate::names::text_label;
 use crate::streams::write_flushed;
-use crate::tallies::Tally;
+use crate::tallies::{BatchVerdict, Tally};
+use crate::totals::total_line;
 use progress_meters::{Meter, NoMeter};
 use std::alloc::Global;
 use std::io::{Read, Write};
 use std::sync::Wait;
 use std::thread::Threads;
-use trace_judging::{Fault, Verdict, write_text};
+use trace_judging::{Fault, write_text};
 
 impl Batch {
     /// Begins a batch: writes what stands before all lines, which is something in JUnit's XML alone.
@@ -75,17 +76,26 @@ impl Batch {
 
     /// Ends a batch: writes the last line, with the numbers of all texts, to the writer or, where the texts of violations
     /// are printed, to `errors`. The verdict is Violation where a trace is one, else Refused where one is refused, else
-    /// NoViolation.
+    /// Undecided where one is that, else NoViolation.
     ///
     /// Faults: OutOfMemory where an allocation was refused; Write where a writer failed, took no byte or was interrupted
     /// more than 1,048,576 times.
-    pub fn end<W: Write, E: Write>(self, writer: &mut W, errors: &mut E) -> Result<Verdict, Fault>
+    pub fn end<W: Write, E: Write>(
+        self,
+        writer: &mut W,
+        errors: &mut E,
+    ) -> Result<BatchVerdict, Fault>
         ensures ended { IfOk result (EndsBatch self (W.contents writer.old) (W.contents writer.new) (E.contents errors.old) (E.contents errors.new)) }
         ensures left { OnErr result (LeavesEnd self (W.contents writer.old) (W.contents writer.new) (E.contents errors.old) (E.contents errors.new)) }
         ensures fault { IfErr result IsBatchFault }
     {
         let printing = self.options.printing;
-        let line = total_line(self.alloc, last_format(printing), &self.tally)?;
+        let line = total_line(
+            self.alloc,
+            last_format(printing),
+            printing.method,
+            &self.tally,
+        )?;
         write_total(printing, line.as_bytes(), writer, errors)?;
         Ok(self.tally.verdict())
     }
@@ -95,9 +105,10 @@ impl Batch {
 ///
 /// A piece of the stream ends with a line `end`; what follows the last one, if there is a byte, is a last piece. The line of
 /// the K-th piece is `trace K` and what its report says: `NO VIOLATION FOUND`, which a quiet batch leaves out, `VIOLATION`,
-/// or `REFUSED` with name and line. Where violations are to be printed, the texts of the pieces that are violations, as they
+/// or `REFUSED` with name and line; or what its decision says: `CONSISTENT`, which a quiet batch leaves out, `VIOLATION`,
+/// `UNDECIDED` with the number of cases, or `REFUSED` with name and line. Where violations are to be printed, the texts of the pieces that are violations, as they
 /// came, stand in the place of all lines, and the last line goes to `errors`. In JSON each line is an object, with the
-/// verdict `violation`, `no_violation_found` or `refused`; in JUnit's XML it is a test case of one document.
+/// verdict `violation`, `no_violation_found`, `consistent`, `undecided` or `refused`; in JUnit's XML it is a test case of one document.
 ///
 /// It is a batch of this one text, without a name: see `Batch` for what is kept of a piece, for the verdict and for the
 /// faults, with each of which a prefix of the texts was written. It may wait.
@@ -108,7 +119,7 @@ pub fn judge_batch<H: Threads + Wait + Sync, R: Read, W: Write, E: Write>(
     reader: &mut R,
     writer: &mut W,
     errors: &mut E,
-) -> Result<Verdict, Fault>
+) -> Result<BatchVerdict, Fault>
     requires { 1 ≤ options.workers }
     ensures whole { IfOk result (WritesBatch options.printing (one_text (R.remaining reader.old)) (W.contents writer.old) (W.contents writer.new) (E.contents errors.old) (E.contents errors.new)) }
     ensures taken { IfOk result (λ _. IfSome (R.remaining reader.old) (λ all. Consumes (R.remaining reader.old) (R.remaining reader.new) all)) }

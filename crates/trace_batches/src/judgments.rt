@@ -5,13 +5,20 @@ ghost use Rattle.tso_text.specs.Refusals.{IsTraceRefusal};
 ghost use Rattle.tso_text.specs.Texts.{SpellsTrace};
 ghost use Rattle.tso_text.specs.declared.faults.Why.TheVariants.{OutOfMemory};
 ghost use Rattle.trace_reports.specs.Findings.{IsFinding};
+ghost use Rattle.trace_decisions.specs.Decisions.{IsDecision, Tells};
 ghost use Rattle.trace_batches.specs.Batches.{IsBatchFault};
-ghost use Rattle.trace_batches.specs.Judgments.{IsJudgment};
+ghost use Rattle.trace_batches.specs.Judgments.{IsJudgment, IsJudgmentOn};
+ghost use Rattle.trace_batches.specs.declared.batches.BatchMethod.{BatchMethod};
+ghost use Rattle.trace_batches.specs.declared.batches.BatchMethod.TheVariants.{Judge, Decide};
 
+use crate::batches::BatchMethod;
 use std::alloc::Global;
 use std::sync::Wait;
 use std::thread::Threads;
+use trace_decisions::{Decision, decide};
 use trace_judging::{Fault, Finding, find_violation};
+use tso_evidence::Evidence;
+use tso_ops::Trace;
 use tso_text::{TextFault, Why, read_trace};
 
 /// What is said of a piece of a stream.
@@ -21,6 +28,10 @@ pub(crate) enum Judgment {
     NoViolation,
     /// It is a trace that is a violation.
     Violation,
+    /// It is a trace that has an order.
+    Consistent,
+    /// It is a trace of which neither was shown with so many cases.
+    Undecided(u64),
     /// It is no trace: at which line it is refused, and why.
     Refused(TextFault),
 }
@@ -32,22 +43,42 @@ pub(crate) fn judge_piece<H: Threads + Wait>(
     rt: &H,
     alloc: Global,
     piece: &[u8],
+    method: BatchMethod,
 ) -> Result<Judgment, Fault>
-    ensures said { IfOk result (IsJudgment piece.now) }
+    ensures said { IfOk result (IsJudgment method piece.now) }
     ensures fault { IfErr result IsBatchFault }
 {
     match read_trace(alloc, piece) {
-        Ok(trace) => {
-            let finding = find_violation(rt, alloc, &trace, 1)?;
-            Ok(judgment_by(&finding))
-        }
+        Ok(trace) => judge_trace(rt, alloc, &trace, method),
         Err(fault) => refused_for(fault),
     }
 }
 
-/// What is said of a piece that spells a trace, of which this was found.
+/// What is said of a trace.
+fn judge_trace<H: Threads + Wait>(
+    rt: &H,
+    alloc: Global,
+    trace: &Trace,
+    method: BatchMethod,
+) -> Result<Judgment, Fault>
+    ensures said { IfOk result (IsJudgmentOn method trace.now) }
+    ensures fault { IfErr result IsBatchFault }
+{
+    match method {
+        BatchMethod::Judge => {
+            let finding = find_violation(rt, alloc, trace, 1)?;
+            Ok(judgment_by(&finding))
+        }
+        BatchMethod::Decide { effort } => {
+            let decision = decide(rt, alloc, trace, 1, effort)?;
+            Ok(judgment_of(&decision))
+        }
+    }
+}
+
+/// What is said of a trace of which this was found.
 fn judgment_by(finding: &Finding) -> Judgment
-    ensures { (piece : List ℕ) (t : TraceValue) → SpellsTrace piece t → IsFinding t finding.now → IsJudgment piece result }
+    ensures { (t : TraceValue) → IsFinding t finding.now → IsJudgmentOn Judge t result }
 {
     match finding.certificate {
         Some(_) => Judgment::Violation,
@@ -55,9 +86,20 @@ fn judgment_by(finding: &Finding) -> Judgment
     }
 }
 
+/// What is said of a trace of which this was decided.
+fn judgment_of(decision: &Decision) -> Judgment
+    ensures { (t : TraceValue) (effort : ℕ) → IsDecision t effort decision.now → Tells t decision.now → IsJudgmentOn (Decide effort) t result }
+{
+    match decision {
+        Decision::Decided(Evidence::Order(_)) => Judgment::Consistent,
+        Decision::Decided(Evidence::Unwritten(_) | Evidence::Refutation(_)) => Judgment::Violation,
+        Decision::Undecided(cases) => Judgment::Undecided(*cases),
+    }
+}
+
 /// What is said of a piece that is refused for this fault. OutOfMemory where the fault says that an allocation was refused.
 fn refused_for(fault: TextFault) -> Result<Judgment, Fault>
-    ensures said { IfOk result (λ judgment. (piece : List ℕ) → (fault.why ≢ OutOfMemory → IsTraceRefusal piece fault.line fault.why) → IsJudgment piece judgment) }
+    ensures said { IfOk result (λ judgment. (method : BatchMethod) (piece : List ℕ) → (fault.why ≢ OutOfMemory → IsTraceRefusal piece fault.line fault.why) → IsJudgment method piece judgment) }
     ensures fault { IfErr result IsBatchFault }
 {
     if fault.why == Why::OutOfMemory {

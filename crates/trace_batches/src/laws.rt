@@ -1,5 +1,5 @@
 //! What the definitions of pieces and batches say, proved of all streams.
-ghost use Rattle.std.specs.Prelude.{◌≡◌, ◌<◌, ◌↔◌, ◌∷◌, ◌++◌, [], ℕ, List, Option, length, map, take};
+ghost use Rattle.std.specs.Prelude.{◌≡◌, ◌⊎◌, ◌<◌, ◌↔◌, ◌∷◌, ◌++◌, [], ℕ, List, Option, length, map, take, true};
 ghost use Rattle.std.specs.List.{concat, flat_map};
 ghost use Rattle.trace_batches.specs.Pieces.{ArePieces};
 ghost use Rattle.tso_ops.specs.Values.{TraceValue};
@@ -12,9 +12,12 @@ ghost use Rattle.tso_text.specs.Texts.{text_byte_limit};
 ghost use Rattle.tso_text.specs.declared.faults.TextFault.{TextFault};
 ghost use Rattle.tso_text.specs.declared.faults.Why.{Why};
 ghost use Rattle.trace_batches.specs.Batches.{BatchText, IsBatch, head_text, known_texts, last_line, last_text, pieces_text, under_name};
-ghost use Rattle.trace_batches.specs.Judgments.{AreJudgments, IsJudgment, judgment_verdict};
+ghost use Rattle.trace_batches.specs.Judgments.{AreJudgments, IsJudgment, judgment_verdict, says_undecided};
+ghost use Rattle.trace_batches.specs.declared.batches.BatchMethod.{BatchMethod};
+ghost use Rattle.trace_batches.specs.declared.batches.BatchMethod.TheVariants.{Judge, Decide};
 ghost use Rattle.trace_batches.specs.declared.batches.BatchPrinting.{BatchPrinting};
 ghost use Rattle.trace_batches.specs.declared.judgments.Judgment.{Judgment};
+ghost use Rattle.trace_batches.specs.declared.tallies.BatchVerdict.{BatchVerdict};
 
 /// Each stream has one list of pieces, which joined are the stream.
 pub fn pieces()
@@ -23,30 +26,36 @@ pub fn pieces()
     ensures joined { (stream : List ℕ) (pieces : List (List ℕ)) → ArePieces stream pieces → stream ≡ concat pieces }
 {}
 
-/// Of each piece one thing is said, which is what its report says: the verdict, and the line of a refusal.
+/// By the rules one thing is said of each piece, which is what its report says: the verdict, and the line of a refusal.
 pub fn judgments()
-    ensures exists { (piece : List ℕ) → (judgment : Judgment) × IsJudgment piece judgment }
-    ensures one { (piece : List ℕ) (judgment other : Judgment) → IsJudgment piece judgment → IsJudgment piece other → judgment ≡ other }
-    ensures verdict { (piece text : List ℕ) (verdict : Verdict) (judgment : Judgment) → IsReport piece text verdict → IsJudgment piece judgment → verdict ≡ judgment_verdict judgment }
-    ensures refusal { (piece text : List ℕ) (verdict : Verdict) (fault : TextFault) → IsReport piece text verdict → IsJudgment piece (Judgment.Refused fault) → text ≡ refusal_text fault.line fault.why }
+    ensures exists { (piece : List ℕ) → (judgment : Judgment) × IsJudgment Judge piece judgment }
+    ensures one { (piece : List ℕ) (judgment other : Judgment) → IsJudgment Judge piece judgment → IsJudgment Judge piece other → judgment ≡ other }
+    ensures verdict { (piece text : List ℕ) (verdict : Verdict) (judgment : Judgment) → IsReport piece text verdict → IsJudgment Judge piece judgment → verdict ≡ judgment_verdict judgment }
+    ensures refusal { (piece text : List ℕ) (verdict : Verdict) (fault : TextFault) → IsReport piece text verdict → IsJudgment Judge piece (Judgment.Refused fault) → text ≡ refusal_text fault.line fault.why }
 {}
 
-/// Texts have one batch, with one text, one text of notes and one verdict, whatever is printed of them.
+/// By a decision one thing is said of each piece, unless it is undecided; a refusal is the same as by the rules.
+pub fn decisions()
+    ensures one { (effort : ℕ) (piece : List ℕ) (judgment other : Judgment) → IsJudgment (Decide effort) piece judgment → IsJudgment (Decide effort) piece other → (says_undecided judgment ≡ true) ⊎ (says_undecided other ≡ true) ⊎ (judgment ≡ other) }
+    ensures refusal { (effort : ℕ) (piece : List ℕ) (fault : TextFault) → IsJudgment (Decide effort) piece (Judgment.Refused fault) ↔ IsJudgment Judge piece (Judgment.Refused fault) }
+{}
+
+/// Texts have a batch, and by the rules one, with one text, one text of notes and one verdict, whatever is printed of them.
 pub fn batches()
-    ensures exists { (printing : BatchPrinting) (texts : List BatchText) → (text : List ℕ) × (notes : List ℕ) × (verdict : Verdict) × IsBatch printing texts text notes verdict }
-    ensures one { (printing : BatchPrinting) (streams : List (Option (List ℕ) × List ℕ)) (text other notes others : List ℕ) (v w : Verdict) → IsBatch printing (known_texts streams) text notes v → IsBatch printing (known_texts streams) other others w → (text ≡ other) × (notes ≡ others) × (v ≡ w) }
+    ensures exists { (printing : BatchPrinting) (texts : List BatchText) → (text : List ℕ) × (notes : List ℕ) × (verdict : BatchVerdict) × IsBatch printing texts text notes verdict }
+    ensures one { (printing : BatchPrinting) (streams : List (Option (List ℕ) × List ℕ)) (text other notes others : List ℕ) (v w : BatchVerdict) → printing.method ≡ Judge → IsBatch printing (known_texts streams) text notes v → IsBatch printing (known_texts streams) other others w → (text ≡ other) × (notes ≡ others) × (v ≡ w) }
 {}
 
 /// A piece of more than 1,048,576 bytes has one report, a refusal as TooLong at line 0. Of what is kept of a piece, its
 /// first 1,048,577 bytes, the same is said as of the piece.
 pub fn long_pieces()
     ensures refused { (piece text : List ℕ) (verdict : Verdict) → text_byte_limit < length piece → IsReport piece text verdict ↔ ((text ≡ refusal_text 0 Why.TooLong) × (verdict ≡ Verdict.Refused)) }
-    ensures kept { (piece : List ℕ) (judgment : Judgment) → IsJudgment (take trace_read_limit piece) judgment ↔ IsJudgment piece judgment }
+    ensures kept { (method : BatchMethod) (piece : List ℕ) (judgment : Judgment) → IsJudgment method (take trace_read_limit piece) judgment ↔ IsJudgment method piece judgment }
 {}
 
 /// The pieces of the texts of traces one after another, as `log --trace` prints them, are these texts: the K-th line of a batch that
 /// isn't quiet is that of the K-th trace.
 pub fn printed_traces()
     ensures pieces { (traces : List TraceValue) (pieces : List (List ℕ)) → ArePieces (flat_map trace_text traces) pieces ↔ (pieces ≡ map trace_text traces) }
-    ensures texts { (printing : BatchPrinting) (name : Option (List ℕ)) (traces : List TraceValue) (text notes : List ℕ) (verdict : Verdict) → IsBatch printing (known_texts ((name, flat_map trace_text traces) ∷ [])) text notes verdict → (judgments : List Judgment) × AreJudgments (map trace_text traces) judgments × (text ≡ head_text printing ++ (pieces_text (under_name printing name) 1 (map trace_text traces) judgments ++ last_text printing (last_line printing judgments))) }
+    ensures texts { (printing : BatchPrinting) (name : Option (List ℕ)) (traces : List TraceValue) (text notes : List ℕ) (verdict : BatchVerdict) → IsBatch printing (known_texts ((name, flat_map trace_text traces) ∷ [])) text notes verdict → (judgments : List Judgment) × AreJudgments printing.method (map trace_text traces) judgments × (text ≡ head_text printing ++ (pieces_text (under_name printing name) 1 (map trace_text traces) judgments ++ last_text printing (last_line printing judgments))) }
 {}

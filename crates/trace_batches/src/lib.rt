@@ -1,12 +1,13 @@
-//! Batches: texts of traces, judged one after the other and piece by piece, a line for each.
+//! Batches: texts of traces, judged or decided one after the other and piece by piece, a line for each.
 //!
 //! `README.md` says what is proved.
 #![tactic(auto)]
 
-pub use batches::{BatchFormat, BatchOptions, BatchPrinting};
+pub use batches::{BatchFormat, BatchMethod, BatchOptions, BatchPrinting};
 pub use begun::Batch;
 pub use judging::judge_batch;
 pub use nth_pieces::read_piece;
+pub use tallies::BatchVerdict;
 
 mod batches;
 mod begun;
@@ -20,3 +21,4 @@ mod names;
 mod nth_pieces;
 mod streams;
 mod tallies;
+mod totals;

@@ -3,11 +3,10 @@ ghost use Rattle.std.specs.Prelude.{◌≡◌, ◌∷◌, ◌++◌, [], IfOk, co
 ghost use Rattle.std.specs.Fmt.{decimal};
 ghost use Rattle.trace_batches.specs.Batches.{head_text, is_left_out, last_format, note_format, written_line};
 ghost use Rattle.trace_batches.specs.Internal.Progress.{printing_by};
-ghost use Rattle.trace_batches.specs.BatchLines.{head_of, json_line, json_refusal, json_total, json_verdict, junit_case, junit_error, junit_line, junit_total, total_text, trace_line, word_line, word_total};
+ghost use Rattle.trace_batches.specs.BatchLines.{head_of, json_line, json_refusal, json_undecided, json_verdict, junit_case, junit_error, junit_line, junit_skipped, trace_line, word_line};
 
 use crate::batches::{BatchFormat, BatchPrinting, TextJudging};
 use crate::judgments::Judgment;
-use crate::tallies::Tally;
 use std::alloc::Global;
 use std::fmt::Write;
 use trace_judging::render_refusal;
@@ -84,8 +83,8 @@ fn is_left_out(quiet: bool, judgment: Judgment) -> bool
     ensures { result ≡ is_left_out quiet judgment }
 {
     match judgment {
-        Judgment::NoViolation => quiet,
-        Judgment::Violation | Judgment::Refused(_) => false,
+        Judgment::NoViolation | Judgment::Consistent => quiet,
+        Judgment::Violation | Judgment::Undecided(_) | Judgment::Refused(_) => false,
     }
 }
 
@@ -104,21 +103,6 @@ fn trace_line(
     }
 }
 
-/// The last line.
-pub(crate) fn total_line(
-    alloc: Global,
-    format: BatchFormat,
-    tally: &Tally,
-) -> Result<String, OutOfMemory>
-    ensures { IfOk result (λ line. string_bytes line ≡ total_text format tally.now.traces tally.now.violations tally.now.refused) }
-{
-    match format {
-        BatchFormat::Words => word_total(alloc, tally),
-        BatchFormat::Json => json_total(alloc, tally),
-        BatchFormat::Junit => junit_total(alloc, tally),
-    }
-}
-
 /// The line of the trace of this number, in words.
 fn word_line(
     alloc: Global,
@@ -131,6 +115,11 @@ fn word_line(
     match judgment {
         Judgment::NoViolation => numbered(alloc, label, number, verdict_line(false)),
         Judgment::Violation => numbered(alloc, label, number, verdict_line(true)),
+        Judgment::Consistent => numbered(alloc, label, number, "CONSISTENT\n"),
+        Judgment::Undecided(cases) => {
+            let end = format!(in alloc; "UNDECIDED {cases}\n")?;
+            numbered(alloc, label, number, end.as_str())
+        }
         Judgment::Refused(fault) => {
             let refusal = render_refusal(alloc, fault)?;
             numbered(alloc, label, number, refusal.text.as_str())
@@ -147,21 +136,6 @@ fn numbered(alloc: Global, label: &str, number: u64, end: &str) -> Result<String
     Ok(line)
 }
 
-/// The last line, in words.
-fn word_total(alloc: Global, tally: &Tally) -> Result<String, OutOfMemory>
-    ensures { IfOk result (λ line. string_bytes line ≡ word_total tally.now.traces tally.now.violations tally.now.refused) }
-{
-    let traces = tally.traces;
-    let violations = tally.violations;
-    let refused = tally.refused;
-    let mut line = String::new(alloc);
-    write!(
-        line,
-        "traces {traces} violations {violations} refused {refused}\n"
-    )?;
-    Ok(line)
-}
-
 /// The line of the trace of this number, in JSON.
 fn json_line(
     alloc: Global,
@@ -174,6 +148,8 @@ fn json_line(
     match judgment {
         Judgment::NoViolation => json_verdict(alloc, label, number, "no_violation_found"),
         Judgment::Violation => json_verdict(alloc, label, number, "violation"),
+        Judgment::Consistent => json_verdict(alloc, label, number, "consistent"),
+        Judgment::Undecided(cases) => json_undecided(alloc, label, number, cases),
         Judgment::Refused(fault) => json_refusal(alloc, label, number, fault),
     }
 }
@@ -215,18 +191,20 @@ fn json_refusal(
     Ok(line)
 }
 
-/// The last line, in JSON.
-#[tactic(auto, unfolding(crate::specs::BatchLines::json_total))]
-fn json_total(alloc: Global, tally: &Tally) -> Result<String, OutOfMemory>
-    ensures { IfOk result (λ line. string_bytes line ≡ json_total tally.now.traces tally.now.violations tally.now.refused) }
+/// The line of the trace of this number that is undecided after so many cases, in JSON.
+#[tactic(auto, unfolding(crate::specs::BatchLines::json_undecided))]
+fn json_undecided(
+    alloc: Global,
+    label: &str,
+    number: u64,
+    cases: u64,
+) -> Result<String, OutOfMemory>
+    ensures { IfOk result (λ line. string_bytes line ≡ json_undecided label.now number cases) }
 {
-    let traces = tally.traces;
-    let violations = tally.violations;
-    let refused = tally.refused;
     let mut line = String::new(alloc);
     write!(
         line,
-        "{{\"traces\":{traces},\"violations\":{violations},\"refused\":{refused}}}\n"
+        "{{{label}\"trace\":{number},\"verdict\":\"undecided\",\"cases\":{cases}}}\n"
     )?;
     Ok(line)
 }
@@ -241,7 +219,11 @@ fn junit_line(
     ensures { IfOk result (λ line. string_bytes line ≡ junit_line label.now number judgment) }
 {
     match judgment {
-        Judgment::NoViolation => junit_case(alloc, label, number, "/>"),
+        Judgment::NoViolation | Judgment::Consistent => { junit_case(alloc, label, number, "/>") }
+        Judgment::Undecided(cases) => {
+            let end = junit_skipped(alloc, cases)?;
+            junit_case(alloc, label, number, end.as_str())
+        }
         Judgment::Violation => junit_case(
             alloc,
             label,
@@ -282,18 +264,10 @@ fn junit_error(alloc: Global, fault: TextFault) -> Result<String, OutOfMemory>
     Ok(end)
 }
 
-/// What stands after the test cases of a document.
-#[tactic(auto, unfolding(crate::specs::BatchLines::junit_total))]
-fn junit_total(alloc: Global, tally: &Tally) -> Result<String, OutOfMemory>
-    ensures { IfOk result (λ line. string_bytes line ≡ junit_total tally.now.traces tally.now.violations tally.now.refused) }
+/// The end of the test case of a trace that is undecided after so many cases.
+#[tactic(auto, unfolding(crate::specs::BatchLines::junit_skipped))]
+fn junit_skipped(alloc: Global, cases: u64) -> Result<String, OutOfMemory>
+    ensures { IfOk result (λ end. string_bytes end ≡ junit_skipped cases) }
 {
-    let traces = tally.traces;
-    let violations = tally.violations;
-    let refused = tally.refused;
-    let mut line = String::new(alloc);
-    write!(
-        line,
-        "<system-out>traces {traces} violations {violations} refused {refused}</system-out>\n</testsuite>\n</testsuites>\n"
-    )?;
-    Ok(line)
+    format!(in alloc; "><skipped message=\"UNDECIDED {cases}\"/></testcase>")
 }

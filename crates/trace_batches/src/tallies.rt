@@ -5,13 +5,28 @@ ghost use Rattle.trace_batches.specs.declared.judgments.Judgment.{Judgment};
 ghost use Rattle.trace_judging.specs.declared.faults.Fault.{Fault};
 
 use crate::judgments::Judgment;
-use trace_judging::{Fault, Verdict};
+use trace_judging::Fault;
 
-/// How many traces were judged, how many of them are violations, and how many are refused.
+/// What a batch says of its traces.
+#[derive(Clone, Copy, Debug, PartialEq, Eq)]
+pub enum BatchVerdict {
+    /// None of them is one of these: no violation was found, or all are consistent.
+    NoViolation,
+    /// One of them is undecided, and none is refused or a violation.
+    Undecided,
+    /// One of them is refused, and none is a violation.
+    Refused,
+    /// One of them is a violation.
+    Violation,
+}
+
+/// How many traces were judged, and of how many of them each thing is said.
 #[derive(Clone, Copy, Debug)]
 pub(crate) struct Tally {
     pub(crate) traces: u64,
+    pub(crate) consistent: u64,
     pub(crate) violations: u64,
+    pub(crate) undecided: u64,
     pub(crate) refused: u64,
 }
 
@@ -22,7 +37,9 @@ impl Tally {
     {
         Tally {
             traces: 0,
+            consistent: 0,
             violations: 0,
+            undecided: 0,
             refused: 0,
         }
     }
@@ -36,7 +53,9 @@ impl Tally {
         self.traces = sum(self.traces, 1)?;
         match judgment {
             Judgment::NoViolation => {}
+            Judgment::Consistent => self.consistent = sum(self.consistent, 1)?,
             Judgment::Violation => self.violations = sum(self.violations, 1)?,
+            Judgment::Undecided(_) => self.undecided = sum(self.undecided, 1)?,
             Judgment::Refused(_) => self.refused = sum(self.refused, 1)?,
         }
         Ok(())
@@ -48,21 +67,25 @@ impl Tally {
         ensures fault { IfErr result (λ fault. fault ≡ Fault.Read) }
     {
         self.traces = sum(self.traces, more.traces)?;
+        self.consistent = sum(self.consistent, more.consistent)?;
         self.violations = sum(self.violations, more.violations)?;
+        self.undecided = sum(self.undecided, more.undecided)?;
         self.refused = sum(self.refused, more.refused)?;
         Ok(())
     }
 
-    /// Violation where a judgment says so, else Refused where one says that.
-    pub(crate) fn verdict(&self) -> Verdict
+    /// Violation where a judgment says so, else Refused or Undecided where one says that.
+    pub(crate) fn verdict(&self) -> BatchVerdict
         ensures { (judgments : List Judgment) → Counts self.now judgments → result ≡ batch_verdict judgments }
     {
         if self.violations > 0 {
-            Verdict::Violation
+            BatchVerdict::Violation
         } else if self.refused > 0 {
-            Verdict::Refused
+            BatchVerdict::Refused
+        } else if self.undecided > 0 {
+            BatchVerdict::Undecided
         } else {
-            Verdict::NoViolation
+            BatchVerdict::NoViolation
         }
     }
 }

@@ -1,6 +1,7 @@
 //! Batches, and what the tests of them share.
 ghost use Rattle.std.specs.Prelude.{◌≡◌, ◌≤◌};
 
+mod decided;
 mod faults;
 mod json;
 mod junit;
@@ -16,8 +17,10 @@ use std::io::{Read, Write};
 use std::sync::Wait;
 use std::test::Fail;
 use std::thread::Threads;
-use trace_batches::{BatchFormat, BatchOptions, BatchPrinting, judge_batch};
-use trace_judging::{Fault, Verdict};
+use trace_batches::{
+    BatchFormat, BatchMethod, BatchOptions, BatchPrinting, BatchVerdict, judge_batch,
+};
+use trace_judging::Fault;
 use traces_for_tests::expect_equal;
 
 /// A trace without a violation, a violation and a refused text.
@@ -31,8 +34,8 @@ const TEXT: &[u8] =
 /// Compares what a batch came to, and what it wrote, where it was to write the first bytes of its text.
 fn expect(
     case: usize,
-    said: Result<Verdict, Fault>,
-    expected: Result<Verdict, Fault>,
+    said: Result<BatchVerdict, Fault>,
+    expected: Result<BatchVerdict, Fault>,
     written: &[u8],
     text: &[u8],
 ) -> Result<(), Fail> {
@@ -45,6 +48,7 @@ fn options(workers: usize, quiet: bool, violations: bool) -> BatchOptions
     ensures { result.workers ≡ workers }
 {
     let printing = BatchPrinting {
+        method: BatchMethod::Judge,
         format: BatchFormat::Words,
         quiet,
         violations,
@@ -58,7 +62,7 @@ fn judged<H: Threads + Wait + Sync, R: Read, W: Write>(
     alloc: Global,
     reader: &mut R,
     writer: &mut W,
-) -> Result<Verdict, Fault> {
+) -> Result<BatchVerdict, Fault> {
     judged_by(rt, alloc, reader, writer, 1)
 }
 
@@ -70,7 +74,7 @@ fn judged_by<H: Threads + Wait + Sync, R: Read, W: Write>(
     reader: &mut R,
     writer: &mut W,
     workers: usize,
-) -> Result<Verdict, Fault>
+) -> Result<BatchVerdict, Fault>
     requires { 1 ≤ workers }
 {
     let options = options(workers, false, false);

@@ -7,6 +7,7 @@ use Rattle.trace_judging.specs.declared.faults.Fault.{Fault}
 use Rattle.trace_judging.specs.Limits.{trace_read_limit}
 use Rattle.trace_reports.specs.Readings.{ReadsAs}
 use Rattle.trace_judging.specs.Streams.{AppendsPrefix}
+use Rattle.trace_batches.specs.declared.batches.BatchMethod.{BatchMethod}
 use Rattle.trace_batches.specs.declared.batches.TextJudging.{TextJudging}
 use Rattle.trace_batches.specs.declared.jobs.Job.{Job}
 use Rattle.trace_batches.specs.declared.judgments.Judgment.{Judgment}
@@ -17,25 +18,25 @@ use Rattle.trace_batches.specs.Judgments.{AreJudgments, IsJudgment}
 -- ---- jobs
 
 -- what judging the piece gave: what is said of it, or why nothing is
-abbrev pub IsOutcome : List ℕ → Result Judgment Fault → Type 0
-IsOutcome piece (Ok judgment) = IsJudgment piece judgment
-IsOutcome piece (Err fault) = IsBatchFault fault
+abbrev pub IsOutcome : BatchMethod → List ℕ → Result Judgment Fault → Type 0
+IsOutcome method piece (Ok judgment) = IsJudgment method piece judgment
+IsOutcome method piece (Err fault) = IsBatchFault fault
 
 -- the job holds the piece, and judged it
-abbrev pub IsJobOf : List ℕ → Job → Type 0
-IsJobOf piece job = (job.piece.items ≡ piece) × IsOutcome piece job.outcome
+abbrev pub IsJobOf : BatchMethod → List ℕ → Job → Type 0
+IsJobOf method piece job = (job.piece.items ≡ piece) × IsOutcome method piece job.outcome
 
 -- these pieces were judged by the jobs, one each
-pub record AreJudged (pieces : List (List ℕ)) (jobs : List Job) : Type 0 where
+pub record AreJudged (method : BatchMethod) (pieces : List (List ℕ)) (jobs : List Job) : Type 0 where
   pub one_each : length jobs ≡ length pieces
-  pub each : (i : ℕ) (d : Job) → i < length pieces → IsJobOf (get_or pieces i []) (get_or jobs i d)
+  pub each : (i : ℕ) (d : Job) → i < length pieces → IsJobOf method (get_or pieces i []) (get_or jobs i d)
 
 -- ---- what was counted and written
 
 -- What is printed of these pieces was written, and their judgments counted.
 pub record WroteAll (of : TextPrinting) (before after : Tally) (pieces : List (List ℕ)) (old new : Option (List ℕ)) : Type 0 where
   pub judgments : List Judgment
-  pub are_judgments : AreJudgments pieces judgments
+  pub are_judgments : AreJudgments of.printing.method pieces judgments
   pub counts : (earlier : List Judgment) → Counts before earlier → Counts after (earlier ++ judgments)
   pub traces : after.traces ≡ before.traces + length judgments
   pub written : Appends old new (pieces_text of (suc before.traces) pieces judgments)
@@ -44,7 +45,7 @@ pub record WroteAll (of : TextPrinting) (before after : Tally) (pieces : List (L
 pub record WroteSome (of : TextPrinting) (before : Tally) (pieces : List (List ℕ)) (old new : Option (List ℕ)) : Type 0 where
   pub count : ℕ
   pub judgments : List Judgment
-  pub are_judgments : AreJudgments (take count pieces) judgments
+  pub are_judgments : AreJudgments of.printing.method (take count pieces) judgments
   pub written : AppendsPrefix old new (pieces_text of (suc before.traces) (take count pieces) judgments)
 
 -- ---- the whole
@@ -59,7 +60,7 @@ pub record Stands (of : TextPrinting) (remaining now old new : Option (List ℕ)
   pub limit : cutter.limit ≡ trace_read_limit
   pub at : IsAt cutter rest
   pub judgments : List Judgment
-  pub are_judgments : AreJudgments ended judgments
+  pub are_judgments : AreJudgments of.printing.method ended judgments
   pub counts : Counts tally judgments
   pub written : Appends old new (pieces_text of 1 ended judgments)
 
@@ -69,14 +70,14 @@ pub record Told (of : TextPrinting) (remaining old new : Option (List ℕ)) (tal
   pub all : IfSome remaining (λ bytes. stream ≡ bytes)
   pub pieces : List (List ℕ)
   pub judgments : List Judgment
-  pub are_results : AreResults stream pieces judgments
+  pub are_results : AreResults of.printing.method stream pieces judgments
   pub counts : Counts tally judgments
   pub written : Appends old new (pieces_text of 1 pieces judgments)
 
 -- A prefix of what is printed of the pieces of the stream was written.
 abbrev pub LeavesPieces : TextPrinting → Option (List ℕ) → Option (List ℕ) → Option (List ℕ) → Type 0
 LeavesPieces of remaining old new =
-    (pieces : List (List ℕ)) × (judgments : List Judgment) × ReadsAs remaining (λ stream. AreResults stream pieces judgments) × AppendsPrefix old new (pieces_text of 1 pieces judgments)
+    (pieces : List (List ℕ)) × (judgments : List Judgment) × ReadsAs remaining (λ stream. AreResults of.printing.method stream pieces judgments) × AppendsPrefix old new (pieces_text of 1 pieces judgments)
 
 -- how the pieces of a text are printed
 abbrev pub printing_by : TextJudging → TextPrinting

@@ -6,7 +6,8 @@ use std::io::ErrorKind;
 use std::sync::Wait;
 use std::test::Fail;
 use std::thread::Threads;
-use trace_judging::{Fault, Verdict};
+use trace_batches::BatchVerdict;
+use trace_judging::Fault;
 use traces_for_tests::{FlushedWriter, Full, ShortWriter, SlowReader, TornReader, expect_equal};
 
 #[test]
@@ -14,7 +15,7 @@ fn reader_of_one_byte_a_call(rt: HostRuntime) -> Result<(), Fail> {
     let mut written = Vec::new(rt.alloc());
     let mut reader = SlowReader::new(STREAM, 1);
     let said = judged(&rt, rt.alloc(), &mut reader, &mut written);
-    expect(1, said, Ok(Verdict::Violation), &written, TEXT)
+    expect(1, said, Ok(BatchVerdict::Violation), &written, TEXT)
 }
 
 /// How many bytes of the text are written when so many bytes of the stream came: the lines of the pieces that end in them.
@@ -91,6 +92,6 @@ fn each_line_is_flushed(rt: HostRuntime) -> Result<(), Fail> {
     let mut writer = FlushedWriter::new(rt.alloc(), usize::MAX);
     let mut reader = STREAM;
     let said = judged(&rt, rt.alloc(), &mut reader, &mut writer);
-    expect(0, said, Ok(Verdict::Violation), &writer.taken, TEXT)?;
+    expect(0, said, Ok(BatchVerdict::Violation), &writer.taken, TEXT)?;
     expect_equal(0, writer.flushes, 4)
 }

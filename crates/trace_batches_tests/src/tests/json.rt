@@ -5,8 +5,9 @@ use std::alloc::Global;
 use std::sync::Wait;
 use std::test::Fail;
 use std::thread::Threads;
-use trace_batches::{BatchFormat, BatchOptions, BatchPrinting, judge_batch};
-use trace_judging::Verdict;
+use trace_batches::{
+    BatchFormat, BatchMethod, BatchOptions, BatchPrinting, BatchVerdict, judge_batch,
+};
 use traces_for_tests::expect_equal;
 
 /// The lines of the stream.
@@ -35,6 +36,7 @@ fn expect_json<H: Threads + Wait + Sync>(
     let mut written = Vec::new(alloc);
     let mut errors = Vec::new(alloc);
     let printing = BatchPrinting {
+        method: BatchMethod::Judge,
         format: BatchFormat::Json,
         quiet,
         violations,
@@ -43,7 +45,7 @@ fn expect_json<H: Threads + Wait + Sync>(
     let options = BatchOptions { workers, printing };
     let mut reader = STREAM;
     let said = judge_batch(rt, alloc, options, &mut reader, &mut written, &mut errors);
-    expect(0, said, Ok(Verdict::Violation), &written, text)?;
+    expect(0, said, Ok(BatchVerdict::Violation), &written, text)?;
     expect_equal(0, errors.as_slice(), notes)
 }
 

@@ -6,8 +6,10 @@ use std::alloc::Global;
 use std::sync::Wait;
 use std::test::Fail;
 use std::thread::Threads;
-use trace_batches::{BatchFormat, BatchOptions, BatchPrinting, judge_batch};
-use trace_judging::{Fault, Verdict};
+use trace_batches::{
+    BatchFormat, BatchMethod, BatchOptions, BatchPrinting, BatchVerdict, judge_batch,
+};
+use trace_judging::Fault;
 use traces_for_tests::{Full, ShortWriter, expect_equal};
 
 /// The document of the stream.
@@ -27,6 +29,7 @@ fn options(workers: usize, quiet: bool, violations: bool) -> BatchOptions
     ensures { result.workers ≡ workers }
 {
     let printing = BatchPrinting {
+        method: BatchMethod::Judge,
         format: BatchFormat::Junit,
         quiet,
         violations,
@@ -51,7 +54,7 @@ fn expect_document<H: Threads + Wait + Sync>(
     expect(
         options.workers,
         said,
-        Ok(Verdict::Violation),
+        Ok(BatchVerdict::Violation),
         &written,
         text,
     )?;
@@ -94,7 +97,7 @@ fn document_of_no_trace(rt: HostRuntime) -> Result<(), Fail> {
         &mut written,
         &mut errors,
     );
-    expect(0, said, Ok(Verdict::NoViolation), &written, EMPTY)
+    expect(0, said, Ok(BatchVerdict::NoViolation), &written, EMPTY)
 }
 
 /// A writer that stops, in the head, in a test case or after the last, has the first bytes of the document.

@@ -6,8 +6,8 @@ use std::alloc::Global;
 use std::sync::Wait;
 use std::test::Fail;
 use std::thread::Threads;
-use trace_batches::{Batch, BatchFormat, BatchOptions, BatchPrinting};
-use trace_judging::{Fault, Verdict};
+use trace_batches::{Batch, BatchFormat, BatchMethod, BatchOptions, BatchPrinting, BatchVerdict};
+use trace_judging::Fault;
 
 /// A trace that is a violation.
 const VIOLATION: &[u8] = b"tso trace 1\nproc\nld 1 9\nend\n";
@@ -19,8 +19,9 @@ fn named<H: Threads + Wait + Sync>(
     format: BatchFormat,
     name: &str,
     output: &mut Vec<u8>,
-) -> Result<Verdict, Fault> {
+) -> Result<BatchVerdict, Fault> {
     let printing = BatchPrinting {
+        method: BatchMethod::Judge,
         format,
         quiet: false,
         violations: false,
@@ -51,7 +52,7 @@ fn expect_line<H: Threads + Wait + Sync>(
     expect(
         name.len(),
         said,
-        Ok(Verdict::Violation),
+        Ok(BatchVerdict::Violation),
         first,
         line.as_bytes(),
     )

@@ -6,66 +6,65 @@ use std::alloc::Global;
 use std::sync::Wait;
 use std::test::Fail;
 use std::thread::Threads;
-use trace_batches::judge_batch;
-use trace_judging::Verdict;
+use trace_batches::{BatchVerdict, judge_batch};
 use traces_for_tests::expect_equal;
 
 /// A stream, its verdict and the text of its batch.
-type Case = (&'static str, Verdict, &'static str);
+type Case = (&'static str, BatchVerdict, &'static str);
 
 const CASES: [Case; 9] = [
     // empty
     (
         "",
-        Verdict::NoViolation,
+        BatchVerdict::NoViolation,
         "traces 0 violations 0 refused 0\n",
     ),
     // lone_end
     (
         "end\n",
-        Verdict::Refused,
+        BatchVerdict::Refused,
         "trace 1 REFUSED BadHeader line 1\ntraces 1 violations 0 refused 1\n",
     ),
     // end_with_a_space
     (
         "tso trace 1\nend \nend\n",
-        Verdict::Refused,
+        BatchVerdict::Refused,
         "trace 1 REFUSED BadLine line 2\ntraces 1 violations 0 refused 1\n",
     ),
     // longer_line
     (
         "tso trace 1\nends\nend\n",
-        Verdict::Refused,
+        BatchVerdict::Refused,
         "trace 1 REFUSED BadLine line 2\ntraces 1 violations 0 refused 1\n",
     ),
     // line_that_ends_with_end
     (
         "tso trace 1\nxend\nend\n",
-        Verdict::Refused,
+        BatchVerdict::Refused,
         "trace 1 REFUSED BadLine line 2\ntraces 1 violations 0 refused 1\n",
     ),
     // no_last_end
     (
         "tso trace 1\nend\ntso trace 1\nproc\n",
-        Verdict::Refused,
+        BatchVerdict::Refused,
         "trace 1 NO VIOLATION FOUND\ntrace 2 REFUSED MissingEnd line 3\ntraces 2 violations 0 refused 1\n",
     ),
     // no_last_line_end
     (
         "tso trace 1\nend\ntso trace 1\nend",
-        Verdict::Refused,
+        BatchVerdict::Refused,
         "trace 1 NO VIOLATION FOUND\ntrace 2 REFUSED BadLine line 2\ntraces 2 violations 0 refused 1\n",
     ),
     // empty_line_between
     (
         "tso trace 1\nend\n\ntso trace 1\nend\ntso trace 1\nend\n",
-        Verdict::Refused,
+        BatchVerdict::Refused,
         "trace 1 NO VIOLATION FOUND\ntrace 2 REFUSED BadHeader line 1\ntrace 3 NO VIOLATION FOUND\ntraces 3 violations 0 refused 1\n",
     ),
     // violation_after_a_refusal
     (
         "\nend\ntso trace 1\nproc\nld 1 9\nend\n",
-        Verdict::Violation,
+        BatchVerdict::Violation,
         "trace 1 REFUSED BadHeader line 1\ntrace 2 VIOLATION\ntraces 2 violations 1 refused 1\n",
     ),
 ];
@@ -99,12 +98,12 @@ fn streams_are_cut_at_their_end_lines(rt: HostRuntime) -> Result<(), Fail> {
 const QUIET: [Case; 2] = [
     (
         "tso trace 1\nend\ntso trace 1\nproc\nld 1 9\nend\ntso trace 1\nend\nend\n",
-        Verdict::Violation,
+        BatchVerdict::Violation,
         "trace 2 VIOLATION\ntrace 4 REFUSED BadHeader line 1\ntraces 4 violations 1 refused 1\n",
     ),
     (
         "tso trace 1\nend\ntso trace 1\nend\n",
-        Verdict::NoViolation,
+        BatchVerdict::NoViolation,
         "traces 2 violations 0 refused 0\n",
     ),
 ];
@@ -128,7 +127,7 @@ fn expect_workers<H: Threads + Wait + Sync>(
     let mut written = Vec::new(alloc);
     let mut reader = STREAM;
     let said = judged_by(rt, alloc, &mut reader, &mut written, workers);
-    expect(workers, said, Ok(Verdict::Violation), &written, TEXT)
+    expect(workers, said, Ok(BatchVerdict::Violation), &written, TEXT)
 }
 
 #[test]

@@ -7,7 +7,8 @@ use std::alloc::Global;
 use std::sync::Wait;
 use std::test::Fail;
 use std::thread::Threads;
-use trace_judging::{Fault, Verdict};
+use trace_batches::BatchVerdict;
+use trace_judging::Fault;
 use traces_for_tests::expect_equal;
 
 /// The room that a text gets.
@@ -18,7 +19,7 @@ fn judged_into<H: Threads + Wait + Sync>(
     rt: &H,
     alloc: Global,
     bytes: &mut [u8; ROOM],
-) -> (Result<Verdict, Fault>, usize) {
+) -> (Result<BatchVerdict, Fault>, usize) {
     let mut writer = bytes.as_mut_slice();
     let mut reader = STREAM;
     let said = judged(rt, alloc, &mut reader, &mut writer);
@@ -38,5 +39,5 @@ fn refused_allocations_of_a_batch(rt: HostRuntime) -> Result<(), Fail> {
     }
     let count = ROOM.saturating_sub(left);
     let written = bytes.get(..count).unwrap_or(STREAM);
-    expect(count, said, Ok(Verdict::Violation), written, TEXT)
+    expect(count, said, Ok(BatchVerdict::Violation), written, TEXT)
 }

@@ -9,8 +9,8 @@ use std::io::{ErrorKind, Write};
 use std::sync::Wait;
 use std::test::Fail;
 use std::thread::Threads;
-use trace_batches::{Batch, BatchFormat, BatchOptions, BatchPrinting};
-use trace_judging::{Fault, Verdict};
+use trace_batches::{Batch, BatchFormat, BatchMethod, BatchOptions, BatchPrinting, BatchVerdict};
+use trace_judging::Fault;
 use traces_for_tests::{Full, ShortWriter, TornReader, expect_equal};
 
 /// A text of a batch, and its name where lines have one.
@@ -42,6 +42,7 @@ fn options(workers: usize, format: BatchFormat, quiet: bool, violations: bool) -
     ensures { result.workers ≡ workers }
 {
     let printing = BatchPrinting {
+        method: BatchMethod::Judge,
         format,
         quiet,
         violations,
@@ -57,7 +58,7 @@ fn judged<H: Threads + Wait + Sync, W: Write, E: Write>(
     texts: &[NamedStream<'_>],
     writer: &mut W,
     errors: &mut E,
-) -> Result<Verdict, Fault>
+) -> Result<BatchVerdict, Fault>
     requires { 1 ≤ options.workers }
 {
     let mut batch = Batch::begin(alloc, options, writer)?;
@@ -85,7 +86,7 @@ fn expect_texts<H: Threads + Wait + Sync>(
     expect(
         options.workers,
         said,
-        Ok(Verdict::Violation),
+        Ok(BatchVerdict::Violation),
         &output,
         written,
     )?;
@@ -197,7 +198,7 @@ fn judged_both<H: Threads + Wait + Sync>(
     first: &mut &[u8],
     second: &mut TornReader<'_>,
     output: &mut Vec<u8>,
-) -> Result<Verdict, Fault>
+) -> Result<BatchVerdict, Fault>
     requires { 1 ≤ options.workers }
 {
     let mut errors = Vec::new(alloc);

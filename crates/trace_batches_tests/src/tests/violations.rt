@@ -7,8 +7,8 @@ use std::io::Write;
 use std::sync::Wait;
 use std::test::Fail;
 use std::thread::Threads;
-use trace_batches::judge_batch;
-use trace_judging::{Fault, Verdict};
+use trace_batches::{BatchVerdict, judge_batch};
+use trace_judging::Fault;
 use traces_for_tests::{Full, ShortWriter, expect_equal};
 
 /// Two violations, and before, between and after them a trace that is none and refused texts, each of which has a load of a
@@ -39,7 +39,13 @@ fn expect_violations<H: Threads + Wait + Sync>(
     let options = options(workers, quiet, true);
     let mut reader = STREAM;
     let said = judge_batch(rt, alloc, options, &mut reader, &mut written, &mut errors);
-    expect(workers, said, Ok(Verdict::Violation), &written, VIOLATIONS)?;
+    expect(
+        workers,
+        said,
+        Ok(BatchVerdict::Violation),
+        &written,
+        VIOLATIONS,
+    )?;
     expect_equal(workers, errors.as_slice(), NUMBERS)
 }
 
@@ -57,7 +63,7 @@ fn violations_judged_again(rt: HostRuntime) -> Result<(), Fail> {
     let mut written = Vec::new(rt.alloc());
     let mut reader = VIOLATIONS;
     let said = judged(&rt, rt.alloc(), &mut reader, &mut written);
-    expect(0, said, Ok(Verdict::Violation), &written, LINES)
+    expect(0, said, Ok(BatchVerdict::Violation), &written, LINES)
 }
 
 /// Writes the violations of the stream and their numbers.
@@ -66,7 +72,7 @@ fn printed<H: Threads + Wait + Sync, W: Write, E: Write>(
     alloc: Global,
     writer: &mut W,
     errors: &mut E,
-) -> Result<Verdict, Fault> {
+) -> Result<BatchVerdict, Fault> {
     let mut reader = STREAM;
     judge_batch(
         rt,

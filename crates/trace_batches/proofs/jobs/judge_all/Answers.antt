@@ -6,5 +6,5 @@ pub returns : goal.returns
 returns g c =
     let jobs = c.in_ok-jobs.jobs in
     let lent = c.deref_mut.ensures in
-    judged_all c.args.pieces.items jobs.items c.judge_each.new.jobs jobs.len (sym lent.len ∙ ap length lent.value) c.in_ok-jobs.ensures
+    judged_all c.args.options.printing.method c.args.pieces.items jobs.items c.judge_each.new.jobs jobs.len (sym lent.len ∙ ap length lent.value) c.in_ok-jobs.ensures
     (rw (← lent.value) c.judge_each.ensures)

@@ -4,5 +4,5 @@ use Rattle.trace_batches.proofs.jobs.judge_each.Goals as goal
 
 pub returns : goal.returns
 returns g c =
-    let judged = judged_each c.args.jobs.now c.for_each_mut.new.s in
+    let judged = judged_each c.args.options.printing.method c.args.jobs.now c.for_each_mut.new.s in
     search (rules, judged)
