@@ -58,16 +58,26 @@ base_long naming t Read u v = READ_LONG.now
 base_long naming t Own u v = joined (
     SEES_STORE.now ∷ codes "\n   " ∷ option_map_or (name_text naming) (own_load t u v) [] ∷ codes " sees the store, which is earlier on its own processor, and it read " ∷ option_map_or (read_text naming t) (own_load t u v) [] ∷ codes ".\n   " ∷ READS_LAST.now ∷ [])
 
-unfoldable pub inferred_long : NamingValue → TraceValue → List CertStep → InferredRule → ℕ → ℕ → ℕ → List ℕ → List ℕ
-inferred_long naming t steps LoadPast u v l path = joined (
-    SEES_STORE.now ∷ codes "\n   " ∷ name_text naming l ∷ codes " sees the store, which comes before it by " ∷ by_text steps path ∷ codes ", and it read " ∷ read_text naming t l ∷ codes ".\n   " ∷ READS_LAST.now ∷ [])
-inferred_long naming t steps StorePast u v l path = joined (
-    READ_OLDER.now ∷ codes ".\n   It read " ∷ read_text naming t l ∷ codes ", and the store comes after that by " ∷ by_text steps path ∷ codes ".\n   " ∷ WOULD_HAVE_READ.now ∷ [])
-inferred_long naming t steps SwapBefore u v l path = joined (
-    ATOMIC_SWAP.now ∷ codes ".\n   " ∷ name_text naming u ∷ codes " comes before " ∷ name_text naming (suc l) ∷ codes " by " ∷ by_text steps path ∷ codes ".\n   " ∷ BEFORE_BOTH.now ∷ [])
-inferred_long naming t steps SwapAfter u v l path = joined (
-    ATOMIC_SWAP.now ∷ codes ".\n   " ∷ name_text naming v ∷ codes " comes after " ∷ name_text naming l ∷ codes " by " ∷ by_text steps path ∷ codes ".\n   " ∷ AFTER_BOTH.now ∷ [])
+-- an inferred rule, for load l, where this says on which steps the path rests
+unfoldable pub inferred_long : NamingValue → TraceValue → InferredRule → ℕ → ℕ → ℕ → List ℕ → List ℕ
+inferred_long naming t LoadPast u v l by = joined (
+    SEES_STORE.now ∷ codes "\n   " ∷ name_text naming l ∷ codes " sees the store, which comes before it by " ∷ by ∷ codes ", and it read " ∷ read_text naming t l ∷ codes ".\n   " ∷ READS_LAST.now ∷ [])
+inferred_long naming t StorePast u v l by = joined (
+    READ_OLDER.now ∷ codes ".\n   It read " ∷ read_text naming t l ∷ codes ", and the store comes after that by " ∷ by ∷ codes ".\n   " ∷ WOULD_HAVE_READ.now ∷ [])
+inferred_long naming t SwapBefore u v l by = joined (
+    ATOMIC_SWAP.now ∷ codes ".\n   " ∷ name_text naming u ∷ codes " comes before " ∷ name_text naming (suc l) ∷ codes " by " ∷ by ∷ codes ".\n   " ∷ BEFORE_BOTH.now ∷ [])
+inferred_long naming t SwapAfter u v l by = joined (
+    ATOMIC_SWAP.now ∷ codes ".\n   " ∷ name_text naming v ∷ codes " comes after " ∷ name_text naming l ∷ codes " by " ∷ by ∷ codes ".\n   " ∷ AFTER_BOTH.now ∷ [])
+
+-- a reason, where this says on which steps its path rests
+abbrev pub reason_by : NamingValue → TraceValue → List ℕ → ℕ → ℕ → Reason → List ℕ
+reason_by naming t by u v (Base rule) = base_long naming t rule u v
+reason_by naming t by u v (Inferred rule load path) = inferred_long naming t rule u v load by
+
+-- the steps on which the path of a reason rests
+abbrev pub path_text : List CertStep → Reason → List ℕ
+path_text steps (Base rule) = []
+path_text steps (Inferred rule load path) = by_text steps path
 
 abbrev pub reason_long : NamingValue → TraceValue → List CertStep → ℕ → ℕ → Reason → List ℕ
-reason_long naming t steps u v (Base rule) = base_long naming t rule u v
-reason_long naming t steps u v (Inferred rule load path) = inferred_long naming t steps rule u v load path
+reason_long naming t steps u v reason = reason_by naming t (path_text steps reason) u v reason

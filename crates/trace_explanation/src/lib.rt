@@ -9,13 +9,14 @@ pub use cycles::model_name;
 pub use explanations::{explain, explain_named};
 pub use links::list_links;
 pub use loads::step_load;
-pub use names::{address_of, outcome_text, part_text, source_of};
+pub use names::{NamedTrace, address_of, outcome_text, part_text, source_of};
 pub use namings::EventNames;
 pub use numbers::NumberedSteps;
 pub use prefixes::first_of;
 pub use refusals::explain_refusal;
 pub use rendering::AsExplanation;
 pub use unwritten::list_stores;
+pub use words::reason_words;
 
 mod cycle_names;
 mod cycle_shapes;

@@ -12,14 +12,16 @@ use tso_text::print_outcome;
 
 /// A trace with what an explanation calls its events.
 #[derive(Debug, Drop)]
-pub(crate) struct NamedTrace<'t> {
-    pub(crate) trace: &'t Trace,
-    pub(crate) names: &'t EventNames,
+pub struct NamedTrace<'t> {
+    /// The trace.
+    pub trace: &'t Trace,
+    /// The names of its events.
+    pub names: &'t EventNames,
 }
 
 impl<'t> NamedTrace<'t> {
     /// What load `l` read, by its source `s`. OutOfMemory where an allocation was refused.
-    fn source_text(&self, alloc: Global, l: usize, s: usize) -> Result<String, AllocError>
+    pub fn source_text(&self, alloc: Global, l: usize, s: usize) -> Result<String, AllocError>
         ensures { IfOk result (λ text. string_bytes text ≡ source_text self.now.names.now l s) }
     {
         if s == 0 {
@@ -32,7 +34,7 @@ impl<'t> NamedTrace<'t> {
 
     /// What load `l` read: nothing where it is no load or has no source. OutOfMemory where an allocation was refused.
     #[tactic(auto, unfolding(crate::specs::Places::read_text))]
-    pub(crate) fn read(&self, alloc: Global, l: usize) -> Result<String, AllocError>
+    pub fn read(&self, alloc: Global, l: usize) -> Result<String, AllocError>
         ensures { IfOk result (λ text. string_bytes text ≡ read_text self.now.names.now self.now.trace.now l) }
     {
         match source_of(self.trace, l) {
@@ -55,14 +57,9 @@ impl<'t> NamedTrace<'t> {
         }
     }
 
-    /// Appends the line of event `n`: its line, its name, and what it read.
+    /// Appends the line of event `n`: its line, its name, and what it read. OutOfMemory where an allocation was refused.
     #[tactic(auto, unfolding(crate::specs::Places::place_text))]
-    pub(crate) fn push_place(
-        &self,
-        alloc: Global,
-        text: &mut String,
-        n: usize,
-    ) -> Result<(), AllocError>
+    pub fn push_place(&self, alloc: Global, text: &mut String, n: usize) -> Result<(), AllocError>
         ensures { OnOk result (string_bytes text.new ≡ string_bytes text.old ++ place_text self.now.names.now self.now.trace.now n) }
     {
         let line = self.names.line(n);

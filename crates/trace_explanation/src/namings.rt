@@ -74,7 +74,7 @@ impl EventNames {
     }
 
     /// The name of number `n`: nothing where it has none.
-    pub(crate) fn name(&self, n: usize) -> &str
+    pub fn name(&self, n: usize) -> &str
         ensures { result.now ≡ name_text self.now n }
     {
         if n == 0 {
@@ -85,7 +85,7 @@ impl EventNames {
     }
 
     /// The name of the number after `n`.
-    pub(crate) fn name_after(&self, n: usize) -> &str
+    pub fn name_after(&self, n: usize) -> &str
         ensures { result.now ≡ name_text self.now (suc n) }
     {
         match self.names.get(n) {
@@ -108,7 +108,7 @@ impl EventNames {
     }
 
     /// The line of event `n`: 0 where it has none.
-    pub(crate) fn line(&self, n: usize) -> usize
+    pub fn line(&self, n: usize) -> usize
         ensures { result ≡ line_named self.now n }
     {
         if n == 0 {
@@ -121,7 +121,7 @@ impl EventNames {
     }
 
     /// The address of event `n`: 0 where it has none.
-    pub(crate) fn address(&self, n: usize) -> u64
+    pub fn address(&self, n: usize) -> u64
         ensures { result ≡ address_named self.now n }
     {
         if n == 0 {

@@ -1,14 +1,13 @@
 //! The words of each rule, in short and in full.
-ghost use Rattle.std.specs.Prelude.{◌≡◌, ◌≢◌, ℕ, List, [], string_bytes, IfOk};
+ghost use Rattle.std.specs.Prelude.{◌≡◌, ◌≢◌, ℕ, [], string_bytes, IfOk};
 ghost use Rattle.std.specs.Option.{option_map_or};
 ghost use Rattle.tso_ops.specs.Values.{TraceValue};
 ghost use Rattle.tso_cert.specs.declared.rules.BaseRule.{BaseRule};
 ghost use Rattle.tso_cert.specs.declared.rules.InferredRule.{InferredRule};
-ghost use Rattle.tso_cert.specs.declared.steps.CertStep.{CertStep};
 ghost use Rattle.trace_explanation.specs.Namings.{name_text, NamingValue};
 ghost use Rattle.trace_explanation.specs.Places.{read_text};
-ghost use Rattle.trace_explanation.specs.Steps.{by_text, own_load};
-ghost use Rattle.trace_explanation.specs.Words.{base_long, base_short, inferred_long, inferred_short, kept_stores, reason_long, reason_short};
+ghost use Rattle.trace_explanation.specs.Steps.{own_load};
+ghost use Rattle.trace_explanation.specs.Words.{base_long, base_short, inferred_long, inferred_short, kept_stores, path_text, reason_by, reason_long, reason_short};
 
 use crate::loads::own_load;
 use crate::names::NamedTrace;
@@ -89,16 +88,43 @@ pub(crate) fn long_words(
 ) -> Result<String, AllocError>
     ensures { IfOk result (λ text. string_bytes text ≡ reason_long named.now.names.now named.now.trace.now numbered.now step.now.from step.now.to step.now.reason) }
 {
+    let by = path_words(alloc, numbered, &step.reason)?;
+    reason_words(alloc, named, step, &by)
+}
+
+/// The steps on which the path of a reason rests.
+fn path_words(
+    alloc: Global,
+    numbered: &NumberedSteps<'_>,
+    reason: &Reason,
+) -> Result<String, AllocError>
+    ensures { IfOk result (λ text. string_bytes text ≡ path_text numbered.now reason.now) }
+{
+    match reason {
+        Reason::Base(_) => Ok(String::new(alloc)),
+        Reason::Inferred { path, .. } => numbered.by(alloc, path.items()),
+    }
+}
+
+/// Why the edge of a step holds, in full, where `by` says on which steps its path rests, as `steps 2, 5`. OutOfMemory where an
+/// allocation was refused.
+pub fn reason_words(
+    alloc: Global,
+    named: &NamedTrace<'_>,
+    step: &CertStep,
+    by: &str,
+) -> Result<String, AllocError>
+    ensures { IfOk result (λ text. string_bytes text ≡ reason_by named.now.names.now named.now.trace.now by.now step.now.from step.now.to step.now.reason) }
+{
     match &step.reason {
         Reason::Base(rule) => base_long(alloc, named, *rule, step.from as usize, step.to as usize),
-        Reason::Inferred { rule, load, path } => {
-            let by = numbered.by(alloc, path.items())?;
+        Reason::Inferred { rule, load, .. } => {
             let l = *load as usize;
             match rule {
-                InferredRule::LoadPast => load_past(alloc, named, l, &by),
-                InferredRule::StorePast => store_past(alloc, named, l, &by),
-                InferredRule::SwapBefore => swap_before(alloc, named, step.from as usize, l, &by),
-                InferredRule::SwapAfter => swap_after(alloc, named, step.to as usize, l, &by),
+                InferredRule::LoadPast => load_past(alloc, named, l, by),
+                InferredRule::StorePast => store_past(alloc, named, l, by),
+                InferredRule::SwapBefore => swap_before(alloc, named, step.from as usize, l, by),
+                InferredRule::SwapAfter => swap_after(alloc, named, step.to as usize, l, by),
             }
         },
     }
@@ -163,7 +189,7 @@ fn load_past(
     l: usize,
     by: &str,
 ) -> Result<String, AllocError>
-    ensures { (steps : List CertStep) (u v : ℕ) (path : List ℕ) → by.now ≡ by_text steps path → IfOk result (λ text. string_bytes text ≡ inferred_long named.now.names.now named.now.trace.now steps InferredRule.LoadPast u v l path) }
+    ensures { (u v : ℕ) → IfOk result (λ text. string_bytes text ≡ inferred_long named.now.names.now named.now.trace.now InferredRule.LoadPast u v l by.now) }
 {
     let name = named.names.name(l);
     let read = named.read(alloc, l)?;
@@ -180,7 +206,7 @@ fn store_past(
     l: usize,
     by: &str,
 ) -> Result<String, AllocError>
-    ensures { (steps : List CertStep) (u v : ℕ) (path : List ℕ) → by.now ≡ by_text steps path → IfOk result (λ text. string_bytes text ≡ inferred_long named.now.names.now named.now.trace.now steps InferredRule.StorePast u v l path) }
+    ensures { (u v : ℕ) → IfOk result (λ text. string_bytes text ≡ inferred_long named.now.names.now named.now.trace.now InferredRule.StorePast u v l by.now) }
 {
     let read = named.read(alloc, l)?;
     format!(in alloc;
@@ -197,7 +223,7 @@ fn swap_before(
     l: usize,
     by: &str,
 ) -> Result<String, AllocError>
-    ensures { (steps : List CertStep) (v : ℕ) (path : List ℕ) → by.now ≡ by_text steps path → IfOk result (λ text. string_bytes text ≡ inferred_long named.now.names.now named.now.trace.now steps InferredRule.SwapBefore u v l path) }
+    ensures { (v : ℕ) → IfOk result (λ text. string_bytes text ≡ inferred_long named.now.names.now named.now.trace.now InferredRule.SwapBefore u v l by.now) }
 {
     let store = named.names.name(u);
     let swap_store = named.names.name_after(l);
@@ -215,7 +241,7 @@ fn swap_after(
     l: usize,
     by: &str,
 ) -> Result<String, AllocError>
-    ensures { (steps : List CertStep) (u : ℕ) (path : List ℕ) → by.now ≡ by_text steps path → IfOk result (λ text. string_bytes text ≡ inferred_long named.now.names.now named.now.trace.now steps InferredRule.SwapAfter u v l path) }
+    ensures { (u : ℕ) → IfOk result (λ text. string_bytes text ≡ inferred_long named.now.names.now named.now.trace.now InferredRule.SwapAfter u v l by.now) }
 {
     let store = named.names.name(v);
     let swap_load = named.names.name(l);

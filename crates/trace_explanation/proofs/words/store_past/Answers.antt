@@ -3,4 +3,4 @@ use Rattle.trace_explanation.proofs.words.store_past.Goals as goal
 
 pub returns : goal.returns
 unfolding inferred_long
-returns c steps u v path by = rw (c.in_ok-read.ensures, by) at c.format.ensures.ok
+returns c u v = rw (c.in_ok-read.ensures) at c.format.ensures.ok

@@ -3,4 +3,4 @@ use Rattle.trace_explanation.proofs.words.swap_after.Goals as goal
 
 pub returns : goal.returns
 unfolding inferred_long
-returns c steps u path by = rw (c.name-store.ensures, c.name-swap_load.ensures, by) at c.format.ensures.ok
+returns c u = rw (c.name-store.ensures, c.name-swap_load.ensures) at c.format.ensures.ok

@@ -3,4 +3,4 @@ use Rattle.trace_explanation.proofs.words.swap_before.Goals as goal
 
 pub returns : goal.returns
 unfolding inferred_long
-returns c steps v path by = rw (c.name-store.ensures, c.name_after-swap_store.ensures, by) at c.format.ensures.ok
+returns c v = rw (c.name-store.ensures, c.name_after-swap_store.ensures) at c.format.ensures.ok

@@ -1,0 +1,9 @@
+pub mod Cases
+pub mod Certificates
+pub mod Claims
+pub mod Explained
+pub mod Explanations
+pub mod InForce
+pub mod Internal
+pub mod Orders
+pub mod Reasons
