@@ -1,6 +1,7 @@
 pub mod Arrows
 pub mod Captions
 pub mod Choice
+pub mod Contents
 pub mod Edges
 pub mod Labels
 pub mod Nodes

@@ -13,7 +13,7 @@ use Rattle.trace_pictures.specs.declared.arrows.Arrow.{Arrow}
 use Rattle.trace_pictures.specs.declared.rows.Row.{Row}
 use Rattle.trace_pictures.specs.declared.rows.Row.TheVariants.{Event, Barrier, Gap}
 use Rattle.trace_pictures.specs.Arrows.{arrow_words, arrows_at}
-use Rattle.trace_pictures.specs.Labels.{event_label}
+use Rattle.trace_pictures.specs.Labels.{event_label, number_at, number_label}
 use Rattle.trace_pictures.specs.Rows.{rows_of}
 
 -- ---- what a row is called, says and looks like
@@ -27,6 +27,12 @@ unfoldable pub row_label : TraceValue → Row → List ℕ
 row_label t (Event n) = event_label t n
 row_label t (Barrier i outcome) = outcome_text outcome
 row_label t (Gap i count) = joined (decimal count ∷ codes " more" ∷ [])
+
+-- what stands after a row's label: the number of its event in an order
+abbrev pub row_number : List ℕ → Row → List ℕ
+row_number order (Event n) = number_label (number_at order n)
+row_number order (Barrier i outcome) = []
+row_number order (Gap i count) = []
 
 -- the arrows of which a row speaks
 abbrev pub row_arrows : List Arrow → Row → List Arrow
@@ -70,17 +76,22 @@ down_text above name close = joined (codes "  " ∷ above ∷ codes " -> " ∷ n
 abbrev pub small_lines : List CertStep → List Arrow → List ℕ
 small_lines steps arrows = flat_map (arrow_words steps) arrows
 
--- What the rows of a picture show: the steps, the arrows, and which numbers are red and orange.
+-- What the rows of a picture show: the steps, the arrows, which numbers are red and orange, and an order in which events have numbers.
 pub record Looks : Type 0 where
   pub steps : List CertStep
   pub arrows : List Arrow
   pub red : List ℕ
   pub orange : List ℕ
+  pub order : List ℕ
+
+-- what a row says, with the lines of the steps of these arrows
+unfoldable pub row_words : TraceValue → Looks → List Arrow → Row → List ℕ
+row_words t looks arrows row = joined (row_label t row ∷ row_number looks.order row ∷ small_lines looks.steps arrows ∷ [])
 
 -- the lines of a row of processor p, which says this much at a place, below the row of this name
 abbrev pub row_text : TraceValue → Looks → ℕ → ℕ → ℕ → List ℕ → Row → List ℕ
 row_text t looks p x y above row =
-    node_text (row_name p row) (row_label t row ++ small_lines looks.steps (row_arrows looks.arrows row)) (row_marks t looks.red looks.orange row) x y
+    node_text (row_name p row) (row_words t looks (row_arrows looks.arrows row) row) (row_marks t looks.red looks.orange row) x y
     ++ down_text above (row_name p row) (is_close t row)
 
 -- how many small lines a row has

@@ -1,11 +1,13 @@
 -- The text of a picture, in the language of Graphviz: what a trace did, by its certificate if it is a violation.
-use Rattle.std.specs.Prelude.{ℕ, List, ◌++◌, length, Option, codes}
+use Rattle.std.specs.Prelude.{ℕ, List, [], ◌++◌, length, Option, None, codes}
 use Rattle.std.specs.List.{flat_map, range_with_len}
 use Rattle.tso_ops.specs.Values.{TraceValue}
 use Rattle.tso_ops.specs.Events.{event_total, processor_count}
 use Rattle.tso_cert.specs.declared.steps.Certificate.{Certificate}
-use Rattle.trace_pictures.specs.Captions.{captions_text}
+use Rattle.trace_pictures.specs.declared.captions.Caption.{Caption}
+use Rattle.trace_pictures.specs.Captions.{caption_of, captions_text}
 use Rattle.trace_pictures.specs.Choice.{drawn_events}
+use Rattle.trace_pictures.specs.Contents.{Shown, shown_of}
 use Rattle.trace_explanation.specs.Names.{event_numbers}
 use Rattle.trace_explanation.specs.Steps.{links_of}
 use Rattle.trace_pictures.specs.declared.arrows.Arrow.{Arrow}
@@ -29,29 +31,44 @@ abbrev pub arrows_in : Option Certificate → List ℕ → List Arrow
 arrows_in c drawn = arrows_of (steps_in c) (nodes_of drawn (cycle_in c)) (cycle_in c) (orange_in c drawn)
 
 -- what the nodes show with these arrows
-abbrev pub looks_of : TraceValue → Option Certificate → List Arrow → Looks
-looks_of t c arrows = record { steps = steps_in c; arrows = arrows; red = red_numbers t c; orange = path_numbers (steps_in c) (links_of (cycle_in c)) }
+abbrev pub looks_of : TraceValue → Shown → List Arrow → Looks
+looks_of t shown arrows = record {
+  steps = steps_in shown.certificate;
+  arrows = arrows;
+  red = red_numbers t shown.certificate;
+  orange = path_numbers (steps_in shown.certificate) (links_of (cycle_in shown.certificate));
+  order = shown.order;
+}
 
 -- the nodes of these drawn events, with these arrows
-unfoldable pub nodes_text : TraceValue → Option Certificate → List ℕ → List Arrow → List ℕ
-nodes_text t c drawn arrows =
-    first_values_text (looks_of t c arrows) (column_width t drawn) (processor_count t) (cycle_in c)
-    ++ flat_map (processor_text t drawn (looks_of t c arrows) (column_width t drawn)) (range_with_len 0 (processor_count t))
+unfoldable pub nodes_text : TraceValue → Shown → List ℕ → List Arrow → List ℕ
+nodes_text t shown drawn arrows =
+    first_values_text (looks_of t shown arrows) (column_width t drawn) (processor_count t) (cycle_in shown.certificate)
+    ++ flat_map (processor_text t drawn (looks_of t shown arrows) (column_width t drawn)) (range_with_len 0 (processor_count t))
 
 -- the edges between these drawn events: these arrows, and from stores to loads what isn't among the edges that they show
 unfoldable pub edges_text : TraceValue → List ℕ → List (ℕ × ℕ) → List Arrow → List ℕ
 edges_text t drawn shown arrows = flat_map (read_edge t drawn shown) (event_numbers t) ++ flat_map arrow_line arrows
 
 -- the nodes and edges of these drawn events
-unfoldable pub graph_text : TraceValue → Option Certificate → List ℕ → List ℕ
-graph_text t c drawn =
-    nodes_text t c drawn (arrows_in c drawn) ++ edges_text t drawn (links_of (cycle_in c) ++ orange_in c drawn) (arrows_in c drawn)
+unfoldable pub graph_text : TraceValue → Shown → List ℕ → List ℕ
+graph_text t shown drawn =
+    nodes_text t shown drawn (arrows_in shown.certificate drawn)
+    ++ edges_text t drawn (links_of (cycle_in shown.certificate) ++ orange_in shown.certificate drawn) (arrows_in shown.certificate drawn)
 
 -- the picture with these drawn events
-unfoldable pub picture_of : TraceValue → Option Certificate → List ℕ → List ℕ
-picture_of t c drawn =
-    layout_text ++ captions_text t.setting.order c (length drawn) (event_total t) ++ graph_text t c drawn ++ codes "}\n"
+unfoldable pub picture_of : TraceValue → Shown → List ℕ → List ℕ
+picture_of t shown drawn =
+    layout_text ++ captions_text t.setting.order shown.caption (length drawn) (event_total t) ++ graph_text t shown drawn ++ codes "}\n"
 
--- the picture of a trace, by its certificate if it has one
+-- the picture that shows this
+abbrev pub picture_with : TraceValue → Shown → List ℕ
+picture_with t shown = picture_of t shown (drawn_events t shown.certificate)
+
+-- the picture of a trace, by its certificate if it has one: events have no numbers in an order
 abbrev pub picture_text : TraceValue → Option Certificate → List ℕ
-picture_text t c = picture_of t c (drawn_events t c)
+picture_text t c = picture_with t (shown_of c [] (caption_of c))
+
+-- the picture of a trace without a certificate, with the numbers of events in an order, and with this caption
+abbrev pub numbered_picture : TraceValue → List ℕ → Caption → List ℕ
+numbered_picture t order caption = picture_with t (shown_of None order caption)

@@ -1,12 +1,40 @@
 //! What stands above a picture.
-ghost use Rattle.std.specs.Prelude.{◌≡◌, ◌++◌, codes, cond, is_some, string_bytes, IfOk, OnOk};
-ghost use Rattle.trace_pictures.specs.Captions.{captions_text, drawn_words, red_words};
+ghost use Rattle.std.specs.Prelude.{◌≡◌, ◌++◌, string_bytes, IfOk, OnOk};
+ghost use Rattle.trace_pictures.specs.Captions.{caption_of, captions_text, colour_words, drawn_words, verdict_words};
 
 use std::alloc::{AllocError, Global};
 use std::fmt::Write;
 use trace_explanation::model_name;
 use tso_cert::Certificate;
 use tso_ops::Order;
+
+/// What the caption of a picture says of its trace.
+#[derive(Clone, Copy, Debug, PartialEq, Eq)]
+pub enum Caption {
+    /// The rules find no violation.
+    NoViolation,
+    /// A load read a value that nothing wrote.
+    Unwritten,
+    /// There is a cycle of edges that every order has to keep.
+    Cycle,
+    /// The numbers at events are places in an order that the memory model allows.
+    Consistent,
+    /// A refutation by cases, which the picture doesn't show, says that there is no such order.
+    Refuted,
+    /// Neither an order nor a refutation was found.
+    Undecided,
+}
+
+/// The caption of a picture by a certificate, or by none.
+pub(crate) fn caption_of(certificate: &Option<Certificate>) -> Caption
+    ensures { result ≡ caption_of certificate.now }
+{
+    match certificate {
+        None => Caption::NoViolation,
+        Some(Certificate::Unwritten(_)) => Caption::Unwritten,
+        Some(Certificate::Cycle { .. }) => Caption::Cycle,
+    }
+}
 
 /// Appends the verdict, how many of the events are drawn, and what the colours say. OutOfMemory where an allocation was
 /// refused.
@@ -15,29 +43,34 @@ pub(crate) fn push_captions(
     alloc: Global,
     text: &mut String,
     order: Order,
-    certificate: &Option<Certificate>,
+    caption: Caption,
     drawn: usize,
     events: usize,
 ) -> Result<(), AllocError>
-    ensures { OnOk result (string_bytes text.new ≡ string_bytes text.old ++ captions_text order certificate.now drawn events) }
+    ensures { OnOk result (string_bytes text.new ≡ string_bytes text.old ++ captions_text order caption drawn events) }
 {
     let model = model_name(order);
-    let verdict = verdict_words(certificate);
+    let verdict = verdict_words(caption);
     let count = drawn_words(alloc, drawn, events)?;
-    let red = red_words(certificate);
+    let colours = colour_words(caption);
     write!(
         text,
-        "  label=\"{model}{verdict}{count}blue edge: from a store to a load that read it\\lblue box: a load that read the first value of its address\\l{red}\";\n"
+        "  label=\"{model}{verdict}{count}blue edge: from a store to a load that read it\\lblue box: a load that read the first value of its address\\l{colours}\";\n"
     )
 }
 
-/// The verdict of a certificate, or of none.
-fn verdict_words(certificate: &Option<Certificate>) -> &'static str
-    ensures { result.now ≡ cond (is_some certificate.now) (codes ", violation\\l") (codes ", no violation found\\l") }
+/// The verdict, after the name of the memory model.
+fn verdict_words(caption: Caption) -> &'static str
+    ensures { result.now ≡ verdict_words caption }
 {
-    match certificate {
-        None => ", no violation found\\l",
-        Some(_) => ", violation\\l",
+    match caption {
+        Caption::NoViolation => ", no violation found\\l",
+        Caption::Unwritten | Caption::Cycle => ", violation\\l",
+        Caption::Consistent => ", consistent\\l",
+        Caption::Refuted =>
+            ", violation\\lno memory order explains this trace: explain --decide has the cases\\l",
+        Caption::Undecided =>
+            ", undecided\\lneither a memory order that explains this trace nor a refutation was found\\l",
     }
 }
 
@@ -52,15 +85,16 @@ fn drawn_words(alloc: Global, drawn: usize, events: usize) -> Result<String, All
     }
 }
 
-/// What red, orange, dashed edges and small lines say.
-fn red_words(certificate: &Option<Certificate>) -> &'static str
-    ensures { result.now ≡ red_words certificate.now }
+/// What colours, dashed edges and small lines say, beside the blue ones.
+fn colour_words(caption: Caption) -> &'static str
+    ensures { result.now ≡ colour_words caption }
 {
-    match certificate {
-        None => "",
-        Some(Certificate::Unwritten(_)) =>
-            "red box: a load of a value that nothing wrote to its address\\l",
-        Some(Certificate::Cycle { .. }) =>
+    match caption {
+        Caption::NoViolation | Caption::Refuted | Caption::Undecided => "",
+        Caption::Unwritten => "red box: a load of a value that nothing wrote to its address\\l",
+        Caption::Cycle =>
             "red: the cycle, each event before the next, and the loads that its edges speak of\\lorange: the paths by which edges of the cycle are inferred, each event before the next\\ldashed: other derived edges, from an event to one that comes later\\lsmall lines in a box: the edges from it, by number and rule of the step in the explanation\\l",
+        Caption::Consistent =>
+            "green number: the place of the event in a memory order that the model allows\\l",
     }
 }

@@ -1,7 +1,7 @@
 //! What stands at nodes and edges, and how far apart processors are.
 ghost use Rattle.std.specs.Prelude.{◌≡◌, ◌+◌, ◌*◌, ◌^◌, ◌<◌, length, max, string_bytes, IfOk};
 ghost use Rattle.std.specs.List.{fold};
-ghost use Rattle.trace_pictures.specs.Labels.{column_width, event_label, rule_name, step_label};
+ghost use Rattle.trace_pictures.specs.Labels.{column_width, event_label, number_at, number_label, rule_name, step_label};
 
 use crate::placed::PlacedTrace;
 use std::alloc::{AllocError, Global};
@@ -25,6 +25,31 @@ pub(crate) fn event_label(
         },
         None => Ok(String::new(alloc)),
     }
+}
+
+/// What stands after the label of an event that has this number in an order. OutOfMemory where an allocation was refused.
+#[tactic(auto, unfolding(crate::specs::Labels::number_label))]
+pub(crate) fn number_label(alloc: Global, number: Option<usize>) -> Result<String, AllocError>
+    ensures { IfOk result (λ text. string_bytes text ≡ number_label number) }
+{
+    match number {
+        Some(k) => format!(in alloc; " <font color=\"#2e7d32\"><b>#{k}</b></font>"),
+        None => Ok(String::new(alloc)),
+    }
+}
+
+/// The number of event `n` in an order: its place, from 1, or None where it doesn't stand there.
+pub(crate) fn number_at(order: &[u64], n: usize) -> Option<usize>
+    ensures { result ≡ number_at order.now n }
+{
+    let mut place = 0;
+    for other in order {
+        if *other == n as u64 {
+            return Some(place + 1);
+        }
+        place += 1;
+    }
+    None
 }
 
 /// From one processor to the next, in points. OutOfMemory where an allocation was refused.

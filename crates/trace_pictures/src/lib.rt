@@ -1,18 +1,20 @@
 //! Pictures of traces: the text of a picture, in the language of Graphviz, that shows what each processor did, which load
 //! read which store, and why a trace is a violation.
 //!
-//! `draw` writes it by the trace and its certificate; `AsPicture` is the rendering for
+//! `draw` writes it by the trace and its certificate, `draw_numbered` with the places of events in an order; `AsPicture` is the rendering for
 //! `trace_judging::judge_with`. `README.md` says what is proved.
 #![tactic(auto)]
 
 pub use arrows::{Arrow, Mark};
-pub use pictures::draw;
+pub use captions::Caption;
+pub use pictures::{draw, draw_numbered};
 pub use rendering::AsPicture;
 pub use rows::Row;
 
 mod arrows;
 mod captions;
 mod choice;
+mod contents;
 mod cycles;
 mod edges;
 mod labels;

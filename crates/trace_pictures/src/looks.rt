@@ -6,6 +6,7 @@ ghost use Rattle.trace_pictures.specs.Paths.{path_numbers};
 ghost use Rattle.trace_pictures.specs.Pictures.{looks_of};
 
 use crate::arrows::Arrow;
+use crate::contents::Content;
 use crate::cycles::{LinkedCycle, list_red, steps_in};
 use crate::paths::push_path_numbers;
 use std::alloc::{AllocError, Global};
@@ -14,13 +15,14 @@ use trace_explanation::NumberedSteps;
 use tso_cert::{CertStep, Certificate};
 use tso_ops::Trace;
 
-/// The steps of a certificate, the arrows, and which numbers are red and orange.
+/// The steps of a certificate, the arrows, which numbers are red and orange, and an order in which events have numbers.
 #[derive(Debug, Drop)]
 pub(crate) struct NodeLooks<'s> {
     steps: &'s [CertStep],
     arrows: &'s [Arrow],
     red: Vec<usize>,
     orange: Vec<usize>,
+    order: &'s [u64],
 }
 
 impl<'s> Model for NodeLooks<'s> {
@@ -28,26 +30,27 @@ impl<'s> Model for NodeLooks<'s> {
 
     ghost Value = { Looks };
 
-    ghost view = { λ l. record { steps = l.steps.now; arrows = l.arrows.now; red = l.red.items; orange = l.orange.items } };
+    ghost view = { λ l. record { steps = l.steps.now; arrows = l.arrows.now; red = l.red.items; orange = l.orange.items; order = l.order.now } };
 }
 
 impl<'s> NodeLooks<'s> {
-    /// What the nodes show with these arrows, or OutOfMemory where an allocation was refused.
+    /// What the nodes show of this content with these arrows, or OutOfMemory where an allocation was refused.
     pub(crate) fn new(
         alloc: Global,
         trace: &Trace,
-        certificate: &'s Option<Certificate>,
+        content: &Content<'s>,
         arrows: &'s [Arrow],
     ) -> Result<NodeLooks<'s>, AllocError>
-        ensures { IfOk result (λ looks. looks ≡ looks_of trace.now certificate.now arrows.now) }
+        ensures { IfOk result (λ looks. looks ≡ looks_of trace.now content.now arrows.now) }
     {
-        let red = list_red(alloc, trace, certificate)?;
-        let orange = list_path_numbers(alloc, certificate)?;
+        let red = list_red(alloc, trace, content.certificate())?;
+        let orange = list_path_numbers(alloc, content.certificate())?;
         Ok(NodeLooks {
-            steps: steps_in(certificate),
+            steps: steps_in(content.certificate()),
             arrows,
             red,
             orange,
+            order: content.order(),
         })
     }
 
@@ -77,6 +80,13 @@ impl<'s> NodeLooks<'s> {
         ensures { result.now ≡ self.now.orange }
     {
         &self.orange
+    }
+
+    /// The order in which events have numbers.
+    pub(crate) fn order(&self) -> &'s [u64]
+        ensures { result.now ≡ self.now.order }
+    {
+        self.order
     }
 }
 

@@ -5,10 +5,10 @@ ghost use Rattle.std.specs.List.{flat_map, range_with_len};
 ghost use Rattle.std.specs.Option.{option_map_or};
 ghost use Rattle.tso_ops.specs.Events.{processor_count};
 ghost use Rattle.trace_explanation.specs.Steps.{is_number};
-ghost use Rattle.trace_pictures.specs.Nodes.{border_mark, down_text, first_values_text, init_text, is_close, node_text, processor_text, row_arrows, row_label, row_marks, row_name, row_step, rows_text, small_lines};
+ghost use Rattle.trace_pictures.specs.Nodes.{border_mark, down_text, first_values_text, init_text, is_close, node_text, processor_text, row_arrows, row_label, row_marks, row_name, row_number, row_step, row_words, rows_text, small_lines};
 
 use crate::arrows::Arrow;
-use crate::labels::event_label;
+use crate::labels::{event_label, number_at, number_label};
 use crate::lines::{arrows_at, small_lines};
 use crate::looks::NodeLooks;
 use crate::members::is_among;
@@ -129,7 +129,7 @@ fn push_rows(
     for row in rows {
         let name = row_name(alloc, column.proc, *row)?;
         let arrows = row_arrows(alloc, looks.arrows(), *row)?;
-        let label = whole_label(alloc, placed, looks.steps(), &arrows, *row)?;
+        let label = whole_label(alloc, placed, looks, &arrows, *row)?;
         let marks = row_marks(alloc, placed, looks, *row)?;
         let close = is_close(placed, *row);
         let top = y + row_step(close);
@@ -200,19 +200,31 @@ fn row_arrows(alloc: Global, arrows: &[Arrow], row: Row) -> Result<Vec<Arrow>, A
     }
 }
 
-/// What a row says, with the small lines of these arrows.
+/// What stands after a row's label: the number of its event in an order.
+fn row_number(alloc: Global, order: &[u64], row: Row) -> Result<String, AllocError>
+    ensures { IfOk result (λ text. string_bytes text ≡ row_number order.now row) }
+{
+    match row {
+        Row::Event(n) => number_label(alloc, number_at(order, n)),
+        Row::Barrier { .. } | Row::Gap { .. } => Ok(String::new(alloc)),
+    }
+}
+
+/// What a row says, with its number and the small lines of these arrows.
+#[tactic(auto, unfolding(crate::specs::Nodes::row_words))]
 fn whole_label(
     alloc: Global,
     placed: &PlacedTrace<'_>,
-    steps: &[CertStep],
+    looks: &NodeLooks<'_>,
     arrows: &[Arrow],
     row: Row,
 ) -> Result<String, AllocError>
-    ensures { IfOk result (λ text. string_bytes text ≡ row_label placed.now row ++ small_lines steps.now arrows.now) }
+    ensures { IfOk result (λ text. string_bytes text ≡ row_words placed.now looks.now arrows.now row) }
 {
     let label = row_label(alloc, placed, row)?;
-    let lines = small_lines(alloc, steps, arrows)?;
-    format!(in alloc; "{label}{lines}")
+    let number = row_number(alloc, looks.order(), row)?;
+    let lines = small_lines(alloc, looks.steps(), arrows)?;
+    format!(in alloc; "{label}{number}{lines}")
 }
 
 /// What a row looks like.

@@ -1,10 +1,11 @@
 //! The picture of a trace.
 ghost use Rattle.std.specs.Prelude.{◌≡◌, ◌++◌, string_bytes, OnOk};
-ghost use Rattle.trace_pictures.specs.Pictures.{edges_text, graph_text, layout_text, nodes_text, picture_of, picture_text};
+ghost use Rattle.trace_pictures.specs.Pictures.{edges_text, graph_text, layout_text, nodes_text, numbered_picture, picture_of, picture_text, picture_with};
 
 use crate::arrows::{Arrow, list_arrows, list_shown, push_arrows};
-use crate::captions::push_captions;
+use crate::captions::{Caption, caption_of, push_captions};
 use crate::choice::choose_events;
+use crate::contents::Content;
 use crate::cycles::{LinkedCycle, steps_in};
 use crate::edges::{list_nodes, push_reads};
 use crate::labels::column_width;
@@ -28,9 +29,40 @@ pub fn draw(
 ) -> Result<(), AllocError>
     ensures { OnOk result (string_bytes text.new ≡ string_bytes text.old ++ picture_text trace.now certificate.now) }
 {
+    let content = Content::new(certificate, &[], caption_of(certificate));
+    push_content(alloc, text, trace, &content)
+}
+
+/// Appends the picture of a trace without a certificate: with this caption, and, at each drawn event that stands in `order`,
+/// with the number of its place there, from 1. Other numbers in `order` change nothing.
+///
+/// OutOfMemory where an allocation was refused.
+pub fn draw_numbered(
+    alloc: Global,
+    text: &mut String,
+    trace: &Trace,
+    order: &[u64],
+    caption: Caption,
+) -> Result<(), AllocError>
+    ensures { OnOk result (string_bytes text.new ≡ string_bytes text.old ++ numbered_picture trace.now order.now caption) }
+{
+    let certificate = None;
+    let content = Content::new(&certificate, order, caption);
+    push_content(alloc, text, trace, &content)
+}
+
+/// Appends the picture with this content.
+fn push_content(
+    alloc: Global,
+    text: &mut String,
+    trace: &Trace,
+    content: &Content<'_>,
+) -> Result<(), AllocError>
+    ensures { OnOk result (string_bytes text.new ≡ string_bytes text.old ++ picture_with trace.now content.now) }
+{
     let placed = PlacedTrace::new(alloc, trace)?;
-    let drawn = choose_events(alloc, &placed, certificate)?;
-    push_picture(alloc, text, &placed, certificate, &drawn)
+    let drawn = choose_events(alloc, &placed, content.certificate())?;
+    push_picture(alloc, text, &placed, content, &drawn)
 }
 
 /// Appends the picture with these drawn events.
@@ -39,16 +71,23 @@ fn push_picture(
     alloc: Global,
     text: &mut String,
     placed: &PlacedTrace<'_>,
-    certificate: &Option<Certificate>,
+    content: &Content<'_>,
     drawn: &[usize],
 ) -> Result<(), AllocError>
-    ensures { OnOk result (string_bytes text.new ≡ string_bytes text.old ++ picture_of placed.now certificate.now drawn.now) }
+    ensures { OnOk result (string_bytes text.new ≡ string_bytes text.old ++ picture_of placed.now content.now drawn.now) }
 {
     let trace = placed.trace();
     let order = trace.order();
     push_layout(text)?;
-    push_captions(alloc, text, order, certificate, drawn.len(), trace.events())?;
-    push_graph(alloc, text, placed, certificate, drawn)?;
+    push_captions(
+        alloc,
+        text,
+        order,
+        content.caption(),
+        drawn.len(),
+        trace.events(),
+    )?;
+    push_graph(alloc, text, placed, content, drawn)?;
     text.push_str("}\n")
 }
 
@@ -68,18 +107,18 @@ fn push_graph(
     alloc: Global,
     text: &mut String,
     placed: &PlacedTrace<'_>,
-    certificate: &Option<Certificate>,
+    content: &Content<'_>,
     drawn: &[usize],
 ) -> Result<(), AllocError>
-    ensures { OnOk result (string_bytes text.new ≡ string_bytes text.old ++ graph_text placed.now certificate.now drawn.now) }
+    ensures { OnOk result (string_bytes text.new ≡ string_bytes text.old ++ graph_text placed.now content.now drawn.now) }
 {
-    let numbered = NumberedSteps::new(alloc, steps_in(certificate))?;
-    let cycle = LinkedCycle::new(alloc, certificate)?;
+    let numbered = NumberedSteps::new(alloc, steps_in(content.certificate()))?;
+    let cycle = LinkedCycle::new(alloc, content.certificate())?;
     let nodes = list_nodes(alloc, drawn, &cycle)?;
     let orange = list_orange(alloc, &numbered, &nodes, cycle.links())?;
     let arrows = list_arrows(alloc, &numbered, &nodes, &cycle, &orange)?;
     let shown = list_shown(alloc, &cycle, &orange)?;
-    push_nodes(alloc, text, placed, certificate, drawn, &arrows)?;
+    push_nodes(alloc, text, placed, content, drawn, &arrows)?;
     push_edges(alloc, text, placed.trace(), drawn, &shown, &arrows)
 }
 
@@ -89,15 +128,15 @@ fn push_nodes(
     alloc: Global,
     text: &mut String,
     placed: &PlacedTrace<'_>,
-    certificate: &Option<Certificate>,
+    content: &Content<'_>,
     drawn: &[usize],
     arrows: &[Arrow],
 ) -> Result<(), AllocError>
-    ensures { OnOk result (string_bytes text.new ≡ string_bytes text.old ++ nodes_text placed.now certificate.now drawn.now arrows.now) }
+    ensures { OnOk result (string_bytes text.new ≡ string_bytes text.old ++ nodes_text placed.now content.now drawn.now arrows.now) }
 {
     let trace = placed.trace();
-    let cycle = LinkedCycle::new(alloc, certificate)?;
-    let looks = NodeLooks::new(alloc, trace, certificate, arrows)?;
+    let cycle = LinkedCycle::new(alloc, content.certificate())?;
+    let looks = NodeLooks::new(alloc, trace, content, arrows)?;
     let width = column_width(alloc, placed, drawn)?;
     push_first_values(
         alloc,

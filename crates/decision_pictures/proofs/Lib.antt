@@ -1,0 +1,2 @@
+pub mod CertificateFacts
+pub mod NumberFacts

@@ -1,0 +1,2 @@
+pub mod Pictured
+pub mod Pictures

@@ -1,0 +1,9 @@
+-- The picture of a trace as a rendering of a decision on it.
+use Rattle.trace_decisions.specs.declared.decisions.Decision.TheVariants.{Decided, Undecided}
+use Rattle.trace_decisions.specs.DecisionTexts.{SaidOfDecision}
+use Rattle.decision_pictures.specs.Pictures.{evidence_picture, undecided_picture}
+
+-- by its evidence, or with none
+abbrev pub decision_pictured : SaidOfDecision
+decision_pictured t (Decided e) = evidence_picture t e
+decision_pictured t (Undecided cases) = undecided_picture t
