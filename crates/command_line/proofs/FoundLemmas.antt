@@ -7,6 +7,7 @@ use Rattle.std.specs.Borrow.{Bor}
 use Rattle.std.specs.Option.{option_map_or}
 use Rattle.std.specs.Str.{bytes_eq}
 use Rattle.std.proofs.lemmas.Slice.Eq.{bytes_eq-Decides}
+use Rattle.std.proofs.lemmas.Option.{none-some, same_Some}
 use Rattle.std.specs.Str.Parse.{ParsesBool, ParsesUnsigned, digits_value, without_leading_plus}
 use Rattle.clap.specs.ValueTests.{is_unsigned_in}
 use Rattle.clap.specs.Words.{ReadsOne, Row, all_of, first_of, first_value, one_of, one_text, rows_of}
@@ -143,6 +144,15 @@ pub batch_asked : (rows : List Row) (names : List Text) (texts : Option (List (O
     → workers ≡ workers_of (given_in batch.parameters rows) → printing ≡ batch_printing_of (given_in batch.parameters rows)
     → option_map_or (λ ts. batching ts workers printing) texts refusing ≡ asked_in batch rows
 batch_asked rows names texts names_are texts_are workers printing workers_are printing_is = rw (texts_are, names_are, workers_are, printing_is) refl
+
+-- what `explain` and `draw` ask for, where an effort is given with a decision or none is
+pub asked_with_effort : (decides : Bool) (given effort : ℕ) → Some effort ≡ (if decides then Some given else None) → (ask : ℕ → Asked) (verdict : Asked) → ask effort ≡ (if decides then ask given else verdict)
+asked_with_effort true given effort is ask verdict = ap ask (same_Some effort given is)
+asked_with_effort false given effort is ask verdict = absurd (none-some effort (sym is))
+
+pub asked_without_effort : (decides : Bool) (given : ℕ) → None ≡ (if decides then Some given else None) → (decision verdict : Asked) → verdict ≡ (if decides then decision else verdict)
+asked_without_effort true given is decision verdict = absurd (none-some given is)
+asked_without_effort false given is decision verdict = refl
 
 -- what `log` asks for with these options, where there are any, and this file
 pub log_asked : (rows : List Row) (options : Option LogOptions) → options ≡ log_options_of (given_in log_parameters rows) → (file : Option Text) → file ≡ file_of (first_of (codes "file") rows)

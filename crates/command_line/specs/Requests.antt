@@ -35,11 +35,11 @@ pub data Asked : Type 0 where
   -- stand in it one after the other
   judging : Presentation → Option Text → ℕ → Option ℕ → Asked
   -- to decide, with so many workers and after so many cases at most, whether a trace, the only one of a text or the one of this number, has an order that meets
-  -- the axioms of its memory model
-  deciding : Option Text → ℕ → Option ℕ → ℕ → Asked
+  -- the axioms of its memory model, and to present the decision in this form
+  deciding : Presentation → Option Text → ℕ → Option ℕ → ℕ → Asked
   -- to reduce a trace, the only one of a text or the one of this number, to a small one that shows its violation
   reducing : Option Text → Option ℕ → Asked
-  -- to judge the traces of these texts, which stand one after the other, with so many workers, and to print this of them
+  -- to judge the traces of these texts, which stand one after the other, or to decide on them, with so many workers, and to print this of them
   batching : List (Option Text) → ℕ → BatchPrinting → Asked
   -- to find violations of a log, and to show so many at most in this form
   logging : Option Text → LogOptions → Asked
@@ -70,7 +70,7 @@ files_of (FileAndInput first) = (Some first.now, None)
 -- what a request asks for
 abbrev pub asked_of : Request → Asked
 asked_of (Judge judge) = judging judge.presentation (option_map (λ f. f.now) judge.file) judge.workers judge.nth
-asked_of (Decide decide) = deciding (option_map (λ f. f.now) decide.file) decide.workers decide.nth decide.effort
+asked_of (Decide decide) = deciding decide.presentation (option_map (λ f. f.now) decide.file) decide.workers decide.nth decide.effort
 asked_of (Reduce reduce) = reducing (option_map (λ f. f.now) reduce.file) reduce.nth
 asked_of (Batch batch) = batching (map (option_map (λ f. f.now)) batch.texts.items) batch.workers batch.printing
 asked_of (Log log) = logging (option_map (λ f. f.now) log.file) log.options
@@ -124,7 +124,7 @@ nothing_needed = record { texts = []; workers = None; unit = None; program = Non
 
 abbrev pub needs : Asked → Needs
 needs (judging presentation file workers nth) = record nothing_needed { texts = file ∷ []; workers = Some workers }
-needs (deciding file workers nth effort) = record nothing_needed { texts = file ∷ []; workers = Some workers }
+needs (deciding presentation file workers nth effort) = record nothing_needed { texts = file ∷ []; workers = Some workers }
 needs (reducing file nth) = record nothing_needed { texts = file ∷ [] }
 needs (batching texts workers printing) = record nothing_needed { texts = texts; workers = Some workers }
 needs (logging file options) = record nothing_needed { texts = file ∷ [] }

@@ -75,6 +75,10 @@ workers = option (codes "workers") (range 1 worker_limit) (Some (codes "1"))
 abbrev pub nth : Parameter NameList
 nth = optional (codes "nth") (range 1 number_limit)
 
+-- `--effort N`: 100,000 cases where it is left out
+abbrev pub effort : Parameter NameList
+effort = option (codes "effort") (range 0 number_limit) (Some (codes "100000"))
+
 -- `--verbose`
 abbrev pub verbose : Parameter NameList
 verbose = flag (codes "verbose")
@@ -139,6 +143,9 @@ within least most n = max least (min n most)
 abbrev pub workers_of : (Text → Option Text) → ℕ
 workers_of given = within 1 worker_limit (number_or 1 (given (codes "workers")))
 
+abbrev pub effort_of : (Text → Option Text) → ℕ
+effort_of given = number_or 100000 (given (codes "effort"))
+
 abbrev pub drain_turns_of : (Text → Option Text) → ℕ
 drain_turns_of given = within 0 drain_turns_limit (number_or 0 (given (codes "drain-turns")))
 
@@ -178,6 +185,7 @@ batch_printing_of given = record {
   format = chosen_format (given (codes "format"));
   quiet = is_true (given (codes "quiet"));
   violations = is_true (given (codes "violations"));
+  effort = if is_true (given (codes "decide")) then Some (effort_of given) else None;
 }
 
 -- the form in which violations are shown, by whether the flags of traces and of explanations are used, of which one may be
@@ -212,13 +220,29 @@ pair_of first second = if is_some first || is_some second then Some (first, seco
 
 -- ---- the subcommands
 
--- `NAME [--workers N] [--nth K] [--verbose] [FILE]`: judges a file, or standard input, or of the traces that stand there one after the other that of a number, and
--- presents the verdict in this form
-abbrev pub judge_as : Text → Presentation → Subcommand
-judge_as name presentation = record {
-  name = name;
+-- the verdict on a trace in this form
+abbrev pub verdict_asked : Presentation → (Text → Option Text) → Asked
+verdict_asked presentation given = judging presentation (file_of (given (codes "file"))) (workers_of given) (number_of (given (codes "nth")))
+
+-- the decision on a trace in this form
+abbrev pub decision_asked : Presentation → (Text → Option Text) → Asked
+decision_asked presentation given = deciding presentation (file_of (given (codes "file"))) (workers_of given) (number_of (given (codes "nth"))) (effort_of given)
+
+-- `judge [--workers N] [--nth K] [--verbose] [FILE]`: judges a file, or standard input, or of the traces that stand there one after the other that of a number
+abbrev pub judge : Subcommand
+judge = record {
+  name = codes "judge";
   parameters = workers ∷ nth ∷ verbose ∷ other (codes "file") false ∷ [];
-  ask = λ given. judging presentation (file_of (given (codes "file"))) (workers_of given) (number_of (given (codes "nth")));
+  ask = verdict_asked form.Report;
+}
+
+-- `NAME [--decide] [--effort N] [--workers N] [--nth K] [--verbose] [FILE]`: presents the verdict on a trace as `judge` has it, or the decision as `decide` has it, in
+-- this form
+abbrev pub present_as : Text → Presentation → Subcommand
+present_as name presentation = record {
+  name = name;
+  parameters = flag (codes "decide") ∷ effort ∷ workers ∷ nth ∷ verbose ∷ other (codes "file") false ∷ [];
+  ask = λ given. if is_true (given (codes "decide")) then decision_asked presentation given else verdict_asked presentation given;
 }
 
 -- `decide [--effort N] [--workers N] [--nth K] [--verbose] [FILE]`: decides whether the trace in a file, or on standard input, or of the traces that stand there
@@ -226,8 +250,8 @@ judge_as name presentation = record {
 abbrev pub decide : Subcommand
 decide = record {
   name = codes "decide";
-  parameters = option (codes "effort") (range 0 number_limit) (Some (codes "100000")) ∷ workers ∷ nth ∷ verbose ∷ other (codes "file") false ∷ [];
-  ask = λ given. deciding (file_of (given (codes "file"))) (workers_of given) (number_of (given (codes "nth"))) (number_or 100000 (given (codes "effort")));
+  parameters = effort ∷ workers ∷ nth ∷ verbose ∷ other (codes "file") false ∷ [];
+  ask = decision_asked form.Report;
 }
 
 -- `reduce [--nth K] [--verbose] [FILE]`: reduces the trace in a file, or on standard input, or of the traces that stand there one after the other that of a
@@ -239,11 +263,12 @@ reduce = record {
   ask = λ given. reducing (file_of (given (codes "file"))) (number_of (given (codes "nth")));
 }
 
--- `batch [--workers N] [--format FORMAT] [--quiet] [--violations] [--progress] [--verbose] [FILE]...`: judges the traces that stand one after the other in files, or on standard input
+-- `batch [--workers N] [--format FORMAT] [--quiet] [--violations] [--decide] [--effort N] [--progress] [--verbose] [FILE]...`: judges the traces that stand one
+-- after the other in files, or on standard input, or decides on them
 abbrev pub batch : Subcommand
 batch = record {
   name = codes "batch";
-  parameters = workers ∷ format ∷ flag (codes "quiet") ∷ flag (codes "violations") ∷ progress ∷ verbose ∷ several (codes "file") ∷ [];
+  parameters = workers ∷ format ∷ flag (codes "quiet") ∷ flag (codes "violations") ∷ flag (codes "decide") ∷ effort ∷ progress ∷ verbose ∷ several (codes "file") ∷ [];
   ask = λ given. batching [] (workers_of given) (batch_printing_of given);
 }
 
@@ -329,5 +354,5 @@ campaign = record {
 
 abbrev pub subcommands : List Subcommand
 subcommands =
-    judge_as (codes "judge") form.Report ∷ decide ∷ judge_as (codes "explain") form.Explanation ∷ judge_as (codes "draw") form.Picture
+    judge ∷ decide ∷ present_as (codes "explain") form.Explanation ∷ present_as (codes "draw") form.Picture
     ∷ reduce ∷ batch ∷ log ∷ check ∷ verify ∷ replay ∷ run ∷ make ∷ campaign ∷ []

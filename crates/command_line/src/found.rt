@@ -3,7 +3,7 @@ ghost use Rattle.std.specs.Prelude.{◌≡◌, [], codes, count_by, false, is_no
 ghost use Rattle.clap.specs.Words.{first_of, found_of, one_of, rows_of};
 ghost use Rattle.command_line.specs.Commands.{asked_in, given_in};
 ghost use Rattle.command_line.specs.Requests.{asked_of, files_of, refusing};
-ghost use Rattle.command_line.specs.Subcommands.{batch, batch_printing_of, batch_texts, campaign, check, decide, file_of, is_true, judge_as, log, log_form_of, log_options_of, log_parameters, make, pair_of, printing_of, reduce, replay, run, run_of, run_parameters, shape_of, shape_parameters, unit_of, unit_parameters, verify};
+ghost use Rattle.command_line.specs.Subcommands.{batch, batch_printing_of, batch_texts, campaign, check, decide, file_of, is_true, judge, log, log_form_of, log_options_of, log_parameters, make, pair_of, present_as, printing_of, reduce, replay, run, run_of, run_parameters, shape_of, shape_parameters, unit_of, unit_parameters, verify};
 
 use crate::help;
 use crate::options::{
@@ -16,21 +16,43 @@ use crate::requests::{
     Request, RunRequest, TextPair,
 };
 use crate::values::{
-    drain_turns, file, format, is_used, named_file, nth, number, number_within, order, workers,
+    decision_effort, drain_turns, effort, file, format, is_used, named_file, nth, number,
+    number_within, order, workers,
 };
 use clap::ArgMatches;
 use std::alloc::{AllocError, Global};
 
-/// Of `judge`, `explain` and `draw`, which present the verdict in this form.
-pub(crate) fn judge<'a>(matches: &ArgMatches<'a>, presentation: Presentation) -> Request<'a>
-    ensures { asked_of result ≡ asked_in (judge_as (codes "judge") presentation) (rows_of (found_of matches.now)) }
+/// Of `judge`.
+pub(crate) fn judge<'a>(matches: &ArgMatches<'a>) -> Request<'a>
+    ensures { asked_of result ≡ asked_in judge (rows_of (found_of matches.now)) }
 {
     Request::Judge(JudgeRequest {
         file: file(matches, "file"),
         workers: workers(matches),
         nth: nth(matches),
-        presentation,
+        presentation: Presentation::Report,
     })
+}
+
+/// Of `explain` and `draw`, which present the verdict, or the decision where it is asked for, in this form.
+pub(crate) fn present<'a>(matches: &ArgMatches<'a>, presentation: Presentation) -> Request<'a>
+    ensures { asked_of result ≡ asked_in (present_as (codes "explain") presentation) (rows_of (found_of matches.now)) }
+{
+    match decision_effort(matches) {
+        Some(effort) => Request::Decide(DecideRequest {
+            file: file(matches, "file"),
+            workers: workers(matches),
+            nth: nth(matches),
+            effort,
+            presentation,
+        }),
+        None => Request::Judge(JudgeRequest {
+            file: file(matches, "file"),
+            workers: workers(matches),
+            nth: nth(matches),
+            presentation,
+        }),
+    }
 }
 
 /// Of `decide`.
@@ -41,7 +63,8 @@ pub(crate) fn decide<'a>(matches: &ArgMatches<'a>) -> Request<'a>
         file: file(matches, "file"),
         workers: workers(matches),
         nth: nth(matches),
-        effort: number(matches, "effort", 100_000),
+        effort: effort(matches),
+        presentation: Presentation::Report,
     })
 }
 
@@ -284,6 +307,7 @@ fn batch_printing(matches: &ArgMatches<'_>) -> BatchPrinting
         format: format(matches),
         quiet: is_used(matches, "quiet"),
         violations: is_used(matches, "violations"),
+        effort: decision_effort(matches),
     }
 }
 

@@ -114,14 +114,14 @@ pub struct UnitOptions {
     pub trigger: u64,
 }
 
-/// In which form the verdict on a trace is presented.
+/// In which form the verdict or the decision on a trace is presented.
 #[derive(Clone, Copy, Debug, PartialEq, Eq)]
 pub enum Presentation {
-    /// The report, with the certificate of a violation.
+    /// The report, with the certificate of a violation; or the decision, with its evidence.
     Report,
-    /// The verdict, and why the trace is a violation in words.
+    /// What was found, and why it is so in words.
     Explanation,
-    /// A picture of the trace and of a violation, as a text for Graphviz.
+    /// A picture of the trace and of what was found, as a text for Graphviz.
     Picture,
 }
 
@@ -175,15 +175,17 @@ pub(crate) fn format_named(name: &str) -> Option<BatchFormat>
     }
 }
 
-/// What is printed of a batch.
+/// What is said and printed of the traces of a batch.
 #[derive(Clone, Copy, Debug, PartialEq, Eq)]
 pub struct BatchPrinting {
     /// How lines are written.
     pub format: BatchFormat,
-    /// Whether the lines of traces without a violation are left out.
+    /// Whether the lines of traces without a violation, or of consistent ones, are left out.
     pub quiet: bool,
     /// Whether the texts of violations are printed in place of all lines.
     pub violations: bool,
+    /// With how many cases at most it is decided whether each trace has an order; none where the traces are judged.
+    pub effort: Option<u64>,
 }
 
 /// In which form the violations of a log are shown.

@@ -66,6 +66,8 @@ pub struct DecideRequest<'a> {
     pub nth: Option<u64>,
     /// How many cases are looked at, at most.
     pub effort: u64,
+    /// In which form the decision is presented.
+    pub presentation: Presentation,
 }
 
 /// Which trace is reduced.
@@ -86,7 +88,7 @@ pub struct CheckRequest<'a> {
     pub nth: Option<u64>,
 }
 
-/// Which traces are judged, one after the other.
+/// Which traces are judged or decided on, one after the other.
 #[derive(Debug, Drop)]
 pub struct BatchRequest<'a> {
     /// The texts with the traces, one or more: each in a file, or on standard input where none is named, as at most one is.
@@ -115,7 +117,7 @@ pub enum Request<'a> {
     Decide(DecideRequest<'a>),
     /// To reduce a trace to a small one that shows its violation.
     Reduce(ReduceRequest<'a>),
-    /// To judge traces that stand one after the other.
+    /// To judge traces that stand one after the other, or to decide on them.
     Batch(BatchRequest<'a>),
     /// To find violations of a log.
     Log(LogRequest<'a>),

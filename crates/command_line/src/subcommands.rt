@@ -117,10 +117,10 @@ impl Subcommand {
         ensures input { IfOk result (λ request. HasOneInput (asked_of request)) }
     {
         match self {
-            Subcommand::Judge => Ok(found::judge(matches, Presentation::Report)),
+            Subcommand::Judge => Ok(found::judge(matches)),
             Subcommand::Decide => Ok(found::decide(matches)),
-            Subcommand::Explain => Ok(found::judge(matches, Presentation::Explanation)),
-            Subcommand::Draw => Ok(found::judge(matches, Presentation::Picture)),
+            Subcommand::Explain => Ok(found::present(matches, Presentation::Explanation)),
+            Subcommand::Draw => Ok(found::present(matches, Presentation::Picture)),
             Subcommand::Reduce => Ok(found::reduce(matches)),
             Subcommand::Batch => found::batch(alloc, matches),
             Subcommand::Log => found::log(alloc, matches),

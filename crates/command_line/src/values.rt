@@ -1,5 +1,5 @@
 //! What the matches of a subcommand have for its options, flags and other arguments.
-ghost use Rattle.std.specs.Prelude.{◌≡◌, ◌≤◌, codes, option_map, Some};
+ghost use Rattle.std.specs.Prelude.{◌≡◌, ◌≤◌, codes, if◌then◌else◌, option_map, None, Some};
 ghost use Rattle.clap.specs.Words.{first_of, found_of, one_of, rows_of};
 ghost use Rattle.command_line.specs.Requests.{drain_turns_limit, worker_limit};
 ghost use Rattle.command_line.specs.Subcommands.{chosen_format, chosen_order, file_of, is_true, number_of, number_or, within};
@@ -57,6 +57,24 @@ pub(crate) fn workers(matches: &ArgMatches<'_>) -> usize
     ensures { result ≡ within 1 worker_limit (number_or 1 (one_of (codes "workers") (rows_of (found_of matches.now)))) }
 {
     number_within(matches, "workers", 1, 1, MAX_WORKERS as u64) as usize
+}
+
+/// How many cases are looked at, at most: 100,000 where the effort is left out.
+pub(crate) fn effort(matches: &ArgMatches<'_>) -> u64
+    ensures { result ≡ number_or 100000 (one_of (codes "effort") (rows_of (found_of matches.now))) }
+{
+    number(matches, "effort", 100_000)
+}
+
+/// How many cases are looked at, at most, where a decision is asked for.
+pub(crate) fn decision_effort(matches: &ArgMatches<'_>) -> Option<u64>
+    ensures { result ≡ (if is_true (one_of (codes "decide") (rows_of (found_of matches.now))) then Some (number_or 100000 (one_of (codes "effort") (rows_of (found_of matches.now)))) else None) }
+{
+    if is_used(matches, "decide") {
+        Some(effort(matches))
+    } else {
+        None
+    }
 }
 
 /// How many turns a drainer takes, none where they are left out.

@@ -1,7 +1,8 @@
 //! What arguments ask for, and the texts of help and of refusals.
 
 use command_line::{
-    CampaignOptions, CheckRequest, Request, RunOptions, ShapeNumbers, TextPair, read_arguments,
+    CampaignOptions, CheckRequest, Presentation, Request, RunOptions, ShapeNumbers, TextPair,
+    read_arguments,
 };
 use std::alloc::{AllocError, Global};
 use std::process::Abort;
@@ -65,6 +66,22 @@ fn described_nth(alloc: Global, nth: Option<u64>) -> Result<String, AllocError> 
     }
 }
 
+/// The form of a decision, as text; nothing where it is a report.
+fn described_form(alloc: Global, form: Presentation) -> Result<String, AllocError> {
+    match form {
+        Presentation::Report => Ok(String::new(alloc)),
+        Presentation::Explanation | Presentation::Picture => format!(in alloc; " as {form:?}"),
+    }
+}
+
+/// With how many cases traces are decided, as text; nothing where they are judged.
+fn described_effort(alloc: Global, effort: Option<u64>) -> Result<String, AllocError> {
+    match effort {
+        Some(cases) => format!(in alloc; " decided by {cases} cases"),
+        None => Ok(String::new(alloc)),
+    }
+}
+
 /// The texts of a check, and the number of its trace, as text.
 fn described_check(alloc: Global, check: &CheckRequest<'_>) -> Result<String, AllocError> {
     let word = match check.nth {
@@ -86,8 +103,9 @@ fn described(alloc: Global, request: &Request<'_>) -> Result<String, AllocError>
         }
         Request::Decide(decide) => {
             let nth = described_nth(alloc, decide.nth)?;
+            let form = described_form(alloc, decide.presentation)?;
             format!(in alloc;
-                "decide {:?}{nth} by {} cases with {}",
+                "decide {:?}{nth} by {} cases with {}{form}",
                 decide.file, decide.effort, decide.workers
             )
         }
@@ -96,14 +114,17 @@ fn described(alloc: Global, request: &Request<'_>) -> Result<String, AllocError>
             let nth = reduce.nth;
             format!(in alloc; "reduce {file:?} nth {nth:?}")
         }
-        Request::Batch(batch) => format!(in alloc;
-            "batch {:?} with {} {:?} quiet {} violations {}",
-            batch.texts,
-            batch.workers,
-            batch.printing.format,
-            batch.printing.quiet,
-            batch.printing.violations
-        ),
+        Request::Batch(batch) => {
+            let decided = described_effort(alloc, batch.printing.effort)?;
+            format!(in alloc;
+                "batch {:?} with {} {:?} quiet {} violations {}{decided}",
+                batch.texts,
+                batch.workers,
+                batch.printing.format,
+                batch.printing.quiet,
+                batch.printing.violations
+            )
+        }
         Request::Log(log) => format!(in alloc;
             "log {:?} at most {} by {} as {:?}",
             log.file, log.options.most, log.options.effort, log.options.form

@@ -10,34 +10,35 @@ use Rattle.std.proofs.Math.Seq.{take-append_seam}
 use Rattle.std.proofs.lemmas.Bool.{and_parts}
 use Rattle.std.proofs.lemmas.List.{append-nil, length-append, map-append, take-append-drop, take_more}
 use Rattle.std.proofs.lemmas.List.Sums.{sum_by-append, sum_by-cons}
+use Rattle.trace_batches.specs.declared.batches.BatchMethod.{BatchMethod}
 use Rattle.trace_batches.specs.declared.batches.BatchPrinting.{BatchPrinting}
 use Rattle.trace_batches.specs.declared.begun.Batch.{Batch}
 use Rattle.trace_batches.specs.Batches.{AreResults, AreResultsOf, BatchText, HasWritten, IsBatchFault, Judges, LeavesBatch, LeavesText, TextResults, WritesBatch}
 use Rattle.trace_batches.proofs.WholeFacts.{judged_left, judged_more}
 use Rattle.trace_judging.specs.declared.faults.Fault.{Fault}
-use Rattle.trace_reports.specs.declared.verdicts.Verdict.{Verdict}
-use Rattle.request_serving.specs.Batches.{are_several, batch_text, texts_of_batch, told_name}
+use Rattle.trace_batches.specs.declared.tallies.BatchVerdict.{BatchVerdict}
+use Rattle.request_serving.specs.Batches.{are_several, batch_text, status_of_batch, texts_of_batch, told_name}
 use Rattle.request_serving.specs.Endings.{EndsBatched, Outputs, WritesFaultLine}
 use Rattle.request_serving.specs.Internal.Batching.{files_in}
 use Rattle.request_serving.specs.OpenedFiles.{HasKnown, OpensFirst, OpensNext, text_bytes}
-use Rattle.request_serving.specs.Statuses.{status_of}
 use Rattle.request_serving.proofs.EndFacts.{known_reads}
 
 -- ---- texts of files of which less may be known
 
 module _ (name : Option (List ℕ)) (known remaining : Option (List ℕ)) (has : HasKnown known remaining) where
-  results_of_known : (results : TextResults) → AreResultsOf (record { name = name; bytes = remaining }) results → AreResultsOf (record { name = name; bytes = known }) results
-  results_of_known results are = (are.0, known_reads known remaining has (λ stream. AreResults stream results.pieces results.judgments) are.1)
+  results_of_known : (method : BatchMethod) (results : TextResults) → AreResultsOf method (record { name = name; bytes = remaining }) results →
+      AreResultsOf method (record { name = name; bytes = known }) results
+  results_of_known method results are = (are.0, known_reads known remaining has (λ stream. AreResults method stream results.pieces results.judgments) are.1)
 
   pub judges_known : (before after : Batch) (old new : Option (List ℕ)) → Judges (record { name = name; bytes = remaining }) before after old new → Judges (record { name = name; bytes = known }) before after old new
   judges_known before after old new judges printing all judged =
       let one = judges printing all judged in
-      (one.0, results_of_known one.0 one.1, one.2, one.3)
+      (one.0, results_of_known printing.method one.0 one.1, one.2, one.3)
 
   pub leaves_known : (before : Batch) (old new : Option (List ℕ)) → LeavesText (record { name = name; bytes = remaining }) before old new → LeavesText (record { name = name; bytes = known }) before old new
   leaves_known before old new left printing all judged =
       let one = left printing all judged in
-      (one.0, results_of_known one.0 one.1, one.2)
+      (one.0, results_of_known printing.method one.0 one.1, one.2)
 
   pub on_ok_known : {E : Type 0} (before after : Batch) (old new : Option (List ℕ)) (outcome : Result Unit E) → OnOk outcome (Judges (record { name = name; bytes = remaining }) before after old new) →
       OnOk outcome (Judges (record { name = name; bytes = known }) before after old new)
@@ -253,9 +254,9 @@ read_files files reads = go (list_all is_some files) reads
 
 -- ---- how a batch ends
 
-pub ends_batched : (printing : BatchPrinting) (texts : List BatchText) (noted : Option (List ℕ)) (o : Outputs) (outcome : Result Verdict Fault) (status : ℕ)
+pub ends_batched : (printing : BatchPrinting) (texts : List BatchText) (noted : Option (List ℕ)) (o : Outputs) (outcome : Result BatchVerdict Fault) (status : ℕ)
     → IfOk outcome (WritesBatch printing texts o.written_before o.written o.errors_before noted) → OnErr outcome (LeavesBatch printing texts o.written_before o.written o.errors_before noted)
-    → IfErr outcome IsBatchFault → IfOk outcome (λ verdict. (status ≡ status_of verdict) × Keeps noted o.errors) → IfErr outcome (λ fault. WritesFaultLine noted o.errors fault × (status ≡ 4))
+    → IfErr outcome IsBatchFault → IfOk outcome (λ verdict. (status ≡ status_of_batch verdict) × Keeps noted o.errors) → IfErr outcome (λ fault. WritesFaultLine noted o.errors fault × (status ≡ 4))
     → EndsBatched printing texts o status
 ends_batched printing texts noted o (Ok verdict) status writes left fault done faulty =
     inl (verdict, (writes.0, writes.1, writes.2, writes.3, Appends-kept o.errors_before noted o.errors writes.1 writes.4 done.1), done.0)

@@ -2,10 +2,12 @@
 use Rattle.std.proofs.Common.{◌≡◌, ℕ, List, take, None, Some, Result, IfOk, IfErr, inl, inr}
 use Rattle.std.specs.Prelude.{Option}
 use Rattle.std.specs.Io.KnownBytes.{Appends}
+use Rattle.command_line.specs.declared.options.Presentation.{Presentation}
 use Rattle.trace_batches.specs.NthPieces.{IsKeptOfNth}
 use Rattle.trace_decisions.specs.declared.answers.Answer.{Answer}
 use Rattle.trace_decisions.specs.declared.answers.Answer.TheVariants.{Refused}
 use Rattle.trace_decisions.specs.DecisionTexts.{IsDecisionOf, IsDecisionOfReader}
+use Rattle.trace_decisions.proofs.DecisionFacts.{decision_of_prefix}
 use Rattle.trace_decisions.specs.EvidenceReports.{IsVerification, IsVerificationOfReaders}
 use Rattle.trace_judging.specs.declared.faults.Fault.{Fault}
 use Rattle.trace_judging.specs.declared.faults.Fault.TheVariants.{Write}
@@ -19,13 +21,15 @@ use Rattle.request_serving.specs.Deciding.{IsDecided, IsVerificationOfNth, IsVer
 use Rattle.request_serving.specs.NthTraces.{IsSaidOfNth, nth_refusal}
 use Rattle.request_serving.specs.OpenedFiles.{HasKnown}
 use Rattle.request_serving.proofs.EndFacts.{faults_as, known_reads, said_as_well, writes_as}
-use Rattle.request_serving.proofs.NthFacts.{fewer_left, fewer_written, said_of_kept}
+use Rattle.request_serving.specs.Presentations.{decided_as, refused_as}
+use Rattle.request_serving.proofs.NthFacts.{fewer_left, fewer_written, said_of_kept, shows_no_whole}
 
 -- ---- what is said of files of which less may be known
 
-pub decided_of_known : (effort : ℕ) (nth : Option ℕ) (known remaining : Option (List ℕ)) → HasKnown known remaining → (text : List ℕ) (answer : Answer) → IsDecided effort nth remaining text answer →
-    IsDecided effort nth known text answer
-decided_of_known effort nth known remaining has text answer = known_reads known remaining has (λ input. IsSaidOfNth Refused nth (IsDecisionOf effort) input text answer)
+pub decided_of_known : (presentation : Presentation) (effort : ℕ) (nth : Option ℕ) (known remaining : Option (List ℕ)) → HasKnown known remaining → (text : List ℕ) (answer : Answer) →
+    IsDecided presentation effort nth remaining text answer → IsDecided presentation effort nth known text answer
+decided_of_known presentation effort nth known remaining has text answer =
+    known_reads known remaining has (λ input. IsSaidOfNth Refused nth (IsDecisionOf (decided_as presentation) (refused_as presentation) effort) input text answer)
 
 pub verification_of_known : (nth : Option ℕ) (trace traces known evidence : Option (List ℕ)) → HasKnown trace traces → HasKnown known evidence → (text : List ℕ) (answer : Answer) →
     IsVerificationOfNth nth traces evidence text answer → IsVerificationOfNth nth trace known text answer
@@ -37,10 +41,6 @@ verification_of_known nth trace traces known evidence has also text answer repor
 
 -- ---- what is said of the first bytes of a piece is said of the piece
 
-decision_of_first : (effort : ℕ) (piece text : List ℕ) (answer : Answer) → IsDecisionOf effort (take trace_read_limit piece) text answer → IsDecisionOf effort piece text answer
-decision_of_first effort piece text answer (inl p) = inl (p.0, spells_of_prefix piece p.0 p.1, p.2)
-decision_of_first effort piece text answer (inr p) = inr (p.0, p.1, refusal_of_prefix piece p.0 p.1 p.2, p.3, p.4)
-
 verification_of_first : (trace evidence text : List ℕ) (answer : Answer) → IsVerification (take trace_read_limit trace) evidence text answer → IsVerification trace evidence text answer
 verification_of_first trace evidence text answer (inl p) = inl (p.0, spells_of_prefix trace p.0 p.1, p.2, p.3)
 verification_of_first trace evidence text answer (inr p) = inr (p.0, p.1, refusal_of_prefix trace p.0 p.1 p.2, p.3, p.4)
@@ -50,23 +50,33 @@ verified_of_first evidence piece text answer = reads_more (λ input. verificatio
 
 -- ---- a decision on the trace of a number
 
-module _ (effort number : ℕ) (remaining : Option (List ℕ)) (old new : Option (List ℕ)) (outcome : Result Answer Fault) where
-  module _ (kept : List ℕ) (reads : ReadsAs remaining (λ stream. IsKeptOfNth number stream (Some kept))) where
-    decided_kept : (text : List ℕ) (answer : Answer) → IsDecisionOfReader effort (Some kept) text answer → IsDecided effort (Some number) remaining text answer
-    decided_kept text answer is = said_of_kept Refused (IsDecisionOf effort) (decision_of_first effort) number remaining kept reads text answer is.of_all
+module _ (presentation : Presentation) (effort number : ℕ) (remaining : Option (List ℕ)) (old new : Option (List ℕ)) (outcome : Result Answer Fault) where
+  abbrev IsText : List ℕ → List ℕ → Answer → Type 0
+  IsText = IsDecisionOf (decided_as presentation) (refused_as presentation) effort
 
-    pub nth_decided : IfOk outcome (WritesWhole (IsDecisionOfReader effort (Some kept)) old new) → IfOk outcome (WritesWhole (IsDecided effort (Some number) remaining) old new)
+  of_first : (piece text : List ℕ) (answer : Answer) → IsText (take trace_read_limit piece) text answer → IsText piece text answer
+  of_first = decision_of_prefix (decided_as presentation) (refused_as presentation) (shows_no_whole presentation) effort
+
+  abbrev IsTextOfKept : List ℕ → List ℕ → Answer → Type 0
+  IsTextOfKept kept = IsDecisionOfReader (decided_as presentation) (refused_as presentation) effort (Some kept)
+
+  module _ (kept : List ℕ) (reads : ReadsAs remaining (λ stream. IsKeptOfNth number stream (Some kept))) where
+    decided_kept : (text : List ℕ) (answer : Answer) → IsTextOfKept kept text answer → IsDecided presentation effort (Some number) remaining text answer
+    decided_kept text answer is = said_of_kept Refused IsText of_first number remaining kept reads text answer is.of_all
+
+    pub nth_decided : IfOk outcome (WritesWhole (IsTextOfKept kept) old new) → IfOk outcome (WritesWhole (IsDecided presentation effort (Some number) remaining) old new)
     nth_decided = writes_as _ _ decided_kept old new outcome
 
-    pub nth_decided_left : IfErr outcome (LeavesAtFault (IsDecisionOfReader effort (Some kept)) old new) → IfErr outcome (LeavesAtFault (IsDecided effort (Some number) remaining) old new)
+    pub nth_decided_left : IfErr outcome (LeavesAtFault (IsTextOfKept kept) old new) → IfErr outcome (LeavesAtFault (IsDecided presentation effort (Some number) remaining) old new)
     nth_decided_left = faults_as _ _ decided_kept old new outcome
 
   module _ (reads : ReadsAs remaining (λ stream. IsKeptOfNth number stream None)) where
-    pub fewer_decided : IfOk outcome (λ answer. (answer ≡ Refused) × Appends old new nth_refusal) → IfOk outcome (WritesWhole (IsDecided effort (Some number) remaining) old new)
-    fewer_decided = fewer_written Refused (IsDecisionOf effort) (decision_of_first effort) number remaining reads old new outcome
+    pub fewer_decided : IfOk outcome (λ answer. (answer ≡ Refused) × Appends old new nth_refusal) → IfOk outcome (WritesWhole (IsDecided presentation effort (Some number) remaining) old new)
+    fewer_decided = fewer_written Refused IsText of_first number remaining reads old new outcome
 
-    pub fewer_decided_left : IfErr outcome (λ fault. (fault ≡ Write) × AppendsPrefix old new nth_refusal) → IfErr outcome (LeavesAtFault (IsDecided effort (Some number) remaining) old new)
-    fewer_decided_left = fewer_left Refused (IsDecisionOf effort) (decision_of_first effort) number remaining reads old new outcome
+    pub fewer_decided_left : IfErr outcome (λ fault. (fault ≡ Write) × AppendsPrefix old new nth_refusal) →
+        IfErr outcome (LeavesAtFault (IsDecided presentation effort (Some number) remaining) old new)
+    fewer_decided_left = fewer_left Refused IsText of_first number remaining reads old new outcome
 
 -- ---- evidence against the trace of a number
 

@@ -15,7 +15,8 @@ use Rattle.trace_judging.specs.Checks.{IsCheckReport}
 use Rattle.trace_reports.specs.Readings.{ReadsAs}
 use Rattle.trace_reports.proofs.ReadingFacts.{reads_more}
 use Rattle.trace_reports.specs.Renderings.{IsTextOfInput}
-use Rattle.request_serving.specs.Endings.{Ends, IsCheckOfNth, IsCheckedBy, IsPresented, Outputs, WritesFaultLine, refused_as, said_as}
+use Rattle.request_serving.specs.Endings.{Ends, IsCheckOfNth, IsCheckedBy, IsPresented, Outputs, WritesFaultLine}
+use Rattle.request_serving.specs.Presentations.{refused_as, said_as}
 use Rattle.request_serving.specs.NthTraces.{IsSaidOfNth}
 use Rattle.std.proofs.Math.Seq.{take-length}
 use Rattle.request_serving.specs.OpenedFiles.{HasKnown, OpensFirst, OpensNext}

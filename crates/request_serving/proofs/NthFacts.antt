@@ -23,13 +23,14 @@ use Rattle.trace_reports.specs.Renderings.{IsTextOfInput, IsTextOfReader}
 use Rattle.trace_reports.proofs.ReadingFacts.{reads_more}
 use Rattle.tso_text.specs.Refusals.{IsRefusedTrace}
 use Rattle.tso_text.proofs.TextLaws.{trace_laws}
-use Rattle.request_serving.specs.Endings.{IsCheckOfNth, IsCheckedBy, IsPresented, refused_as, said_as}
+use Rattle.request_serving.specs.Endings.{IsCheckOfNth, IsCheckedBy, IsPresented}
+use Rattle.request_serving.specs.Presentations.{refused_as, said_as}
 use Rattle.request_serving.specs.NthTraces.{IsRefusedNth, IsSaidOfNth, nth_refusal}
 use Rattle.request_serving.proofs.EndFacts.{faults_as, writes_as}
 
 -- ---- what is said of the first bytes of a piece is said of the piece
 
-shows_no_whole : (presentation : Presentation) → ShowsNoWhole (said_as presentation) (refused_as presentation)
+pub shows_no_whole : (presentation : Presentation) → ShowsNoWhole (said_as presentation) (refused_as presentation)
 shows_no_whole Report = λ a b why. refl
 shows_no_whole Explanation = whole_explained
 shows_no_whole Picture = λ a b why. refl

@@ -1,11 +1,13 @@
 -- What `decide` and `verify` print, and the statuses of what they say.
 use Rattle.std.specs.Prelude.{ℕ, List, Option}
+use Rattle.command_line.specs.declared.options.Presentation.{Presentation}
 use Rattle.trace_decisions.specs.declared.answers.Answer.{Answer}
 use Rattle.trace_decisions.specs.declared.answers.Answer.TheVariants.{Consistent, Violation, Undecided, Refused}
 use Rattle.trace_decisions.specs.DecisionTexts.{IsDecisionOf}
 use Rattle.trace_decisions.specs.EvidenceReports.{IsVerification}
 use Rattle.trace_reports.specs.Readings.{ReadsAs}
 use Rattle.request_serving.specs.NthTraces.{IsSaidOfNth}
+use Rattle.request_serving.specs.Presentations.{decided_as, refused_as}
 
 abbrev pub status_of_answer : Answer → ℕ
 status_of_answer Consistent = 0
@@ -13,9 +15,10 @@ status_of_answer Undecided = 1
 status_of_answer Refused = 2
 status_of_answer Violation = 3
 
--- the decision, after at most so many cases, on the only trace of a reader's bytes, or on the one of this number
-abbrev pub IsDecided : ℕ → Option ℕ → Option (List ℕ) → List ℕ → Answer → Type 0
-IsDecided effort nth remaining text answer = ReadsAs remaining (λ input. IsSaidOfNth Refused nth (IsDecisionOf effort) input text answer)
+-- the decision in this form, after at most so many cases, on the only trace of a reader's bytes, or on the one of this number
+abbrev pub IsDecided : Presentation → ℕ → Option ℕ → Option (List ℕ) → List ℕ → Answer → Type 0
+IsDecided presentation effort nth remaining text answer =
+    ReadsAs remaining (λ input. IsSaidOfNth Refused nth (IsDecisionOf (decided_as presentation) (refused_as presentation) effort) input text answer)
 
 -- the line on the evidence that a reader has about a trace
 abbrev pub IsVerifiedBy : Option (List ℕ) → List ℕ → List ℕ → Answer → Type 0

@@ -9,28 +9,26 @@ use Rattle.trace_judging.specs.declared.faults.Fault.TheVariants.{OutOfMemory, R
 use Rattle.trace_judging.specs.Streams.{AppendsPrefix}
 use Rattle.trace_judging.specs.Checks.{IsCheckReport}
 use Rattle.trace_judging.specs.WrittenReports.{LeavesAtFault, WritesWhole}
-use Rattle.trace_explanation.specs.Explained.{explained, refusal_explained}
-use Rattle.trace_pictures.specs.Pictured.{pictured}
 use Rattle.trace_reports.specs.Readings.{ReadsAs}
-use Rattle.trace_reports.specs.Renderings.{IsTextOfInput, SaidOfRefusal, SaidOfTrace}
-use Rattle.trace_reports.specs.Reports.{refusal_shown, reported}
+use Rattle.trace_reports.specs.Renderings.{IsTextOfInput}
 use Rattle.trace_batches.specs.Batches.{BatchText, IsBatchFault, LeavesBatch, WritesBatch}
 use Rattle.trace_batches.specs.declared.batches.BatchPrinting.{BatchPrinting}
+use Rattle.trace_batches.specs.declared.tallies.BatchVerdict.{BatchVerdict}
 use Rattle.log_reports.specs.declared.rendering.LogForm.{LogForm}
 use Rattle.log_reports.specs.LogReports.{IsLogReportOfReader}
-use Rattle.request_serving.specs.Batches.{asked_printing, texts_of_batch}
+use Rattle.request_serving.specs.Batches.{asked_printing, status_of_batch, texts_of_batch}
 use Rattle.request_serving.specs.Campaigning.{IsCampaignText, LeavesCampaignText}
 use Rattle.request_serving.specs.Deciding.{IsDecided, IsVerificationOfNth, status_of_answer}
 use Rattle.request_serving.specs.Logs.{form_of, status_of_log}
 use Rattle.request_serving.specs.MadePrograms.{IsMadeText, LeavesMadeText}
 use Rattle.request_serving.specs.NthTraces.{IsSaidOfNth}
 use Rattle.request_serving.specs.OpenedFiles.{text_bytes}
+use Rattle.request_serving.specs.Presentations.{refused_as, said_as}
 use Rattle.request_serving.specs.Reducing.{IsReduced}
 use Rattle.request_serving.specs.Replaying.{IsReplayText}
 use Rattle.request_serving.specs.Running.{IsRunText}
 use Rattle.request_serving.specs.Statuses.{status_of}
 use Rattle.command_line.specs.declared.options.Presentation.{Presentation}
-use Rattle.command_line.specs.declared.options.Presentation.TheVariants.{Report, Explanation, Picture}
 use Rattle.command_line.specs.declared.options.RunOptions.{RunOptions}
 use Rattle.command_line.specs.declared.requests.Request.{Request}
 use Rattle.command_line.specs.declared.requests.Request.TheVariants.{Show, Refuse}
@@ -84,17 +82,6 @@ EndsByReport is_report o status = Ends is_report status_of (LeavesAtFault is_rep
 abbrev pub EndsByText : (List ℕ → ℕ → Type 0) → (Option (List ℕ) → Option (List ℕ) → Fault → Type 0) → Outputs → ℕ → Type 0
 EndsByText is_text leaves o status = Ends is_text (λ said. said) leaves o status
 
--- what is said of a trace in this form, and of an input that is refused
-abbrev pub said_as : Presentation → SaidOfTrace
-said_as Report = reported
-said_as Explanation = explained
-said_as Picture = pictured
-
-abbrev pub refused_as : Presentation → SaidOfRefusal
-refused_as Report = refusal_shown
-refused_as Explanation = refusal_explained
-refused_as Picture = refusal_shown
-
 -- the verdict on a trace in this form: on the only one of a reader's bytes, or on the one of this number
 abbrev pub IsPresented : Presentation → Option ℕ → Option (List ℕ) → List ℕ → Verdict → Type 0
 IsPresented presentation nth remaining text verdict = ReadsAs remaining (λ input. IsSaidOfNth Refused nth (IsTextOfInput (said_as presentation) (refused_as presentation)) input text verdict)
@@ -107,7 +94,8 @@ IsCheckedBy certs trace text verdict = ReadsAs certs (λ cert. IsCheckReport tra
 abbrev pub IsCheckOfNth : Option ℕ → Option (List ℕ) → Option (List ℕ) → List ℕ → Verdict → Type 0
 IsCheckOfNth nth traces certs text verdict = ReadsAs traces (λ input. IsSaidOfNth Refused nth (IsCheckedBy certs) input text verdict)
 
--- A text of this kind, with the status of what it says. No thread is started for it, so none is refused.
+-- A text of this kind, with the status of what it says; or a fault left nothing or, on Write, a prefix of such a text. No thread is started for it, so none
+-- is refused.
 abbrev pub EndsWithoutThread : {X : Type 0} → (List ℕ → X → Type 0) → (X → ℕ) → Outputs → ℕ → Type 0
 EndsWithoutThread {X} is_text status_by o status = Ends is_text status_by (λ old new fault. (fault ≢ NoThread) × LeavesAtFault is_text old new fault) o status
 
@@ -115,7 +103,7 @@ EndsWithoutThread {X} is_text status_by o status = Ends is_text status_by (λ ol
 -- by its notes. Or a fault left a prefix of both, and then its line was written to the errors.
 abbrev pub EndsBatched : BatchPrinting → List BatchText → Outputs → ℕ → Type 0
 EndsBatched printing texts o status =
-    ((verdict : Verdict) × WritesBatch printing texts o.written_before o.written o.errors_before o.errors verdict × (status ≡ status_of verdict))
+    ((verdict : BatchVerdict) × WritesBatch printing texts o.written_before o.written o.errors_before o.errors verdict × (status ≡ status_of_batch verdict))
     ⊎ ((fault : Fault) × IsBatchFault fault
     × ((noted : Option (List ℕ)) × LeavesBatch printing texts o.written_before o.written o.errors_before noted × WritesFaultLine noted o.errors fault)
     × (status ≡ 4))
@@ -160,8 +148,8 @@ EndsOutOfMemory o status = Keeps o.written_before o.written × EndsByFault OutOf
 -- what was asked for was done, where standard input has these bytes, and the file of each name those
 abbrev pub EndsAsAsked : Asked → Option (List ℕ) → (List ℕ → Option (List ℕ)) → Outputs → ℕ → Type 0
 EndsAsAsked (judging presentation file workers nth) input files o status = EndsByReport (IsPresented presentation nth (text_bytes file input files)) o status
-EndsAsAsked (deciding file workers nth effort) input files o status =
-    let is_text = IsDecided effort nth (text_bytes file input files) in Ends is_text status_of_answer (LeavesAtFault is_text) o status
+EndsAsAsked (deciding presentation file workers nth effort) input files o status =
+    let is_text = IsDecided presentation effort nth (text_bytes file input files) in Ends is_text status_of_answer (LeavesAtFault is_text) o status
 EndsAsAsked (reducing file nth) input files o status = EndsWithNotes (IsReduced nth (text_bytes file input files)) status_of o status
 EndsAsAsked (batching texts workers printing) input files o status = EndsBatched (asked_printing printing) (texts_of_batch texts input files) o status
 EndsAsAsked (logging file options) input files o status = EndsLogged (form_of options.form) (text_bytes file input files) o status

@@ -29,7 +29,7 @@ abbrev pub TakesInput : Asked → Option (List ℕ) → Option (List ℕ) → Ty
 TakesInput (batching texts workers printing) old new = IfSome old (λ all. Consumes old new all)
 TakesInput (logging file options) old new = IfSome old (λ all. Consumes old new all)
 TakesInput (judging presentation file workers nth) old new = TakesTrace nth old new
-TakesInput (deciding file workers nth effort) old new = TakesTrace nth old new
+TakesInput (deciding presentation file workers nth effort) old new = TakesTrace nth old new
 TakesInput (reducing file nth) old new = TakesTrace nth old new
 TakesInput (checking None certificate nth) old new = TakesTrace nth old new
 TakesInput (checking (Some trace) certificate nth) old new = (new ≡ old) ⊎ LosesPrefix certificate_read_limit old new

@@ -3,6 +3,7 @@ ghost use Rattle.std.specs.Prelude.{◌≡◌, ◌++◌, ◌∷◌, [], IfOk, If
 ghost use Rattle.std.specs.Fmt.{decimal};
 ghost use Rattle.std.specs.Io.KnownBytes.{Keeps};
 ghost use Rattle.trace_judging.specs.Streams.{AppendsPrefix};
+ghost use Rattle.request_serving.specs.Batches.{status_of_batch};
 ghost use Rattle.request_serving.specs.Deciding.{status_of_answer};
 ghost use Rattle.request_serving.specs.Endings.{WritesFaultLine};
 ghost use Rattle.request_serving.specs.Failures.{WritesFailureLine};
@@ -13,6 +14,7 @@ use crate::failures::RunFailure;
 use itoa::Buffer;
 use log_reports::LogVerdict;
 use std::io::Write;
+use trace_batches::BatchVerdict;
 use trace_decisions::Answer;
 use trace_judging::{Fault, Verdict, write_text};
 
@@ -46,6 +48,14 @@ pub(crate) fn end_answer<E: Write>(outcome: Result<Answer, Fault>, errors: &mut 
     ensures fault { IfErr outcome (λ fault. WritesFaultLine (E.contents errors.old) (E.contents errors.new) fault × (result ≡ 4)) }
 {
     end_with(outcome.map(status_of_answer), errors)
+}
+
+/// The status of what a batch says; or that of a fault, whose line it writes.
+pub(crate) fn end_batch<E: Write>(outcome: Result<BatchVerdict, Fault>, errors: &mut E) -> u8
+    ensures verdict { IfOk outcome (λ verdict. (result ≡ status_of_batch verdict) × Keeps (E.contents errors.old) (E.contents errors.new)) }
+    ensures fault { IfErr outcome (λ fault. WritesFaultLine (E.contents errors.old) (E.contents errors.new) fault × (result ≡ 4)) }
+{
+    end_with(outcome.map(status_of_batch), errors)
 }
 
 /// The status of what is said of a log; or that of a fault, whose line it writes.
@@ -143,5 +153,17 @@ fn status_of_answer(answer: Answer) -> u8
         Answer::Undecided => ENDED_EARLY,
         Answer::Refused => REFUSED,
         Answer::Violation => VIOLATION,
+    }
+}
+
+/// The status of what a batch says.
+fn status_of_batch(verdict: BatchVerdict) -> u8
+    ensures { result ≡ status_of_batch verdict }
+{
+    match verdict {
+        BatchVerdict::NoViolation => DONE,
+        BatchVerdict::Undecided => ENDED_EARLY,
+        BatchVerdict::Refused => REFUSED,
+        BatchVerdict::Violation => VIOLATION,
     }
 }

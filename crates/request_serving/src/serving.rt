@@ -7,7 +7,9 @@ ghost use Rattle.request_serving.specs.Endings.{EndsAsAsked, EndsShowing, EndsWi
 ghost use Rattle.request_serving.specs.LawfulRequests.{RunsLawfully, runs_on_lawful_unit};
 ghost use Rattle.request_serving.specs.OpenedFiles.{HasRefusedFirstText, OpensFirst, OpensNext, TakesInput, files_named, reads_input};
 
-use crate::endings::{DONE, REFUSED, end, end_answer, end_by, end_log, end_run, end_with};
+use crate::endings::{
+    DONE, REFUSED, end, end_answer, end_batch, end_by, end_log, end_run, end_with,
+};
 use crate::files::Surroundings;
 use crate::serving::batching::batch_named;
 use crate::serving::campaigning::campaign_by;
@@ -44,18 +46,19 @@ const _: () = prove!(command_line::MAX_WORKERS == MAX_WORKERS);
 
 /// Does what a request asks for, and answers the status that the program ends with.
 ///
-/// `Judge` judges the trace in a file, or else what `reader` has, and writes its report to `writer`, or the explanation of
-/// the verdict. Where the request names a number, it judges that one of the traces that stand there one after the other, or
-/// writes `REFUSED Nth`, with status 2, where there are fewer; so do `Decide`, `Reduce`, `Check` and `Verify`. `Decide` writes an
-/// order of the trace that meets the axioms of its memory model, or a refutation of all orders, or that neither was found with as
-/// many cases as the request names. `Reduce` writes a small trace that shows the violation of the trace, with lines on its
-/// operations to `errors`. `Batch` writes a line for each of the traces of texts, or the texts of those that are violations, with
-/// their numbers to `errors`. `Log` writes the violations of a log, or their traces. `Check` checks a certificate against a trace
-/// and writes the report of both; `Verify` checks an order or a refutation, and writes whether it holds.
+/// `Judge` judges the trace in a file, or else what `reader` has, and writes its report to `writer`, or the explanation or the
+/// picture of the verdict. Where the request names a number, it judges that one of the traces that stand there one after the
+/// other, or writes `REFUSED Nth`, with status 2, where there are fewer; so do `Decide`, `Reduce`, `Check` and `Verify`.
+/// `Decide` writes an order of the trace that meets the axioms of its memory model, or a refutation of all orders, or that
+/// neither was found with as many cases as the request names; or the explanation or the picture of that. `Reduce` writes a
+/// small trace that shows the violation of the trace, with lines on its operations to `errors`. `Batch` writes a line for each
+/// of the traces of texts, by a verdict or a decision, or the texts of those that are violations, with their numbers to
+/// `errors`. `Log` writes the violations of a log, or their traces. `Check` checks a certificate against a trace and writes
+/// the report of both; `Verify` checks an order or a refutation, and writes whether it holds.
 ///
-/// The status of these is that of what they say: 0 where no violation was found, or there is an order or it holds; 1 where none
-/// was found in the part of a log that was searched, or nothing was decided; 2 where a text, a certificate or evidence was refused;
-/// 3 at a violation, or a certificate or a refutation that holds. `Replay` and `Run` print what a record gives: never a violation
+/// The status of these is that of what they say: 0 where no violation was found, or there is an order or it holds; 1 where
+/// none was found in the part of a log that was searched, or nothing was decided; 2 where a text, a certificate or evidence
+/// was refused; 3 at a violation, or a certificate or a refutation that holds. `Replay` and `Run` print what a record gives: never a violation
 /// where the unit is lawful for programs of the memory model that the program's text names, so their status isn't 3 there. A run
 /// whose request names turns of a drainer, at most 1,000,000, has one beside its processors. `Show` writes its text to `writer`,
 /// with status 0, and `Refuse` to `errors`, with status 2. At a fault the status is 4 and one line, as `FAULT Read`, is written to
@@ -96,7 +99,7 @@ pub fn serve<H: Threads + Wait + Sync + AllocGlobal, O: Surroundings, R: Read, W
         Request::Batch(request) => {
             let judged = batch_named(rt, request, files, reader, writer, errors);
             files.finish();
-            end(judged, errors)
+            end_batch(judged, errors)
         }
         Request::Log(request) => {
             let reported = log_named(rt, request, files, reader, writer, errors);

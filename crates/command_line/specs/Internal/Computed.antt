@@ -34,10 +34,10 @@ parameter_of (declared.Several id value_name help) = several id.now
 -- ---- subcommands as code has them
 
 abbrev pub member_of : Subcommand → s.Subcommand
-member_of Judge = s.judge_as (codes "judge") form.Report
+member_of Judge = s.judge
 member_of Decide = s.decide
-member_of Explain = s.judge_as (codes "explain") form.Explanation
-member_of Draw = s.judge_as (codes "draw") form.Picture
+member_of Explain = s.present_as (codes "explain") form.Explanation
+member_of Draw = s.present_as (codes "draw") form.Picture
 member_of Reduce = s.reduce
 member_of Batch = s.batch
 member_of Log = s.log

@@ -1,4 +1,5 @@
-//! `batch [--workers N] [--format FORMAT] [--quiet] [--violations] [--progress] [--verbose] [FILE]...`: judges traces that stand one after the other.
+//! `batch [--workers N] [--format FORMAT] [--quiet] [--violations] [--decide] [--effort N] [--progress] [--verbose] [FILE]...`: judges
+//! traces that stand one after the other, or decides on them.
 
 use crate::options::MAX_WORKERS;
 use crate::parameters::{Accepted, Description, NameList, Parameter};
@@ -31,8 +32,16 @@ With --format json each line is an object of JSON, as
 which test servers read: a test case for each trace, which fails where the trace
 is a violation and has an error where the text is refused.
 
+With --decide the lines say what `tsobench decide` finds: CONSISTENT, which
+--quiet leaves out, VIOLATION, UNDECIDED 100000 after so many cases, or REFUSED,
+and the last one is as
+traces 4 consistent 1 violations 1 undecided 1 refused 1. An undecided trace is
+{\"trace\":4,\"verdict\":\"undecided\",\"cases\":100000} in JSON, and a test case
+that was skipped in JUnit's XML.
+
 Exit status:
-  0  no violation was found, which proves nothing about the traces
+  0  no violation was found, which proves nothing; or all traces are CONSISTENT
+  1  a trace is UNDECIDED, and no text is refused or a violation
   2  a text is no trace, and none is a violation, or the command line was refused
   3  a trace violates its memory model
   4  a fault, which one line on standard error names, as FAULT Read
@@ -40,7 +49,8 @@ Exit status:
 Example:
   cat *.trace | tsobench batch --workers 4 --quiet
   tsobench batch --format junit *.trace >REPORT.xml
-  tsobench batch --violations TRACES >VIOLATIONS";
+  tsobench batch --violations TRACES >VIOLATIONS
+  tsobench batch --decide --quiet TRACES";
 
 /// What is told of it.
 pub(crate) static BATCH: Description = Description {
@@ -70,6 +80,8 @@ pub(crate) static BATCH: Description = Description {
             name: "violations",
             help: "Print the texts of the violations in place of lines",
         },
+        shared::DECIDE,
+        shared::EFFORT,
         shared::PROGRESS,
         shared::VERBOSE,
         Parameter::Several {

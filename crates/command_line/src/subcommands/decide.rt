@@ -1,7 +1,7 @@
 //! `decide [--effort N] [--workers N] [--nth K] [--verbose] [FILE]`: decides whether a trace has an order that meets the
 //! axioms of its memory model.
 
-use crate::parameters::{Accepted, Description, Parameter};
+use crate::parameters::Description;
 use crate::subcommands::shared;
 
 /// The text of its help after the list of its parameters.
@@ -25,7 +25,8 @@ before U. `tsobench verify` checks the lines after CONSISTENT or VIOLATION.
 The text is the same for each number of workers and in each run. A text that is
 no trace gets one line, as REFUSED BadLine line 3. With --nth K it decides the
 K-th of the traces that stand one after the other, as `tsobench judge` judges
-it.
+it. `tsobench explain --decide` says in words what was found, and
+`tsobench draw --decide` draws it; `tsobench batch --decide` decides many traces.
 
 Exit status:
   0  the trace is consistent: it has an order that meets the axioms
@@ -44,13 +45,7 @@ pub(crate) static DECIDE: Description = Description {
     about: "Decides whether a trace has an order that its memory model allows",
     help: HELP,
     parameters: &[
-        Parameter::Option {
-            name: "effort",
-            value_name: "N",
-            accepted: Accepted::Number(0, u64::MAX),
-            default: Some("100000"),
-            help: "How many cases are looked at, at most",
-        },
+        shared::EFFORT,
         shared::WORKERS,
         shared::NTH,
         shared::VERBOSE,

@@ -1,4 +1,4 @@
-//! `draw [--workers N] [--nth K] [FILE]`: a picture of the verdict on a trace.
+//! `draw [--decide] [--effort N] [--workers N] [--nth K] [--verbose] [FILE]`: a picture of the verdict or the decision on a trace.
 
 use crate::parameters::Description;
 use crate::subcommands::shared;
@@ -16,14 +16,20 @@ line, as REFUSED BadLine line 3. The text is the same for each number of
 workers. With --nth K it is of the K-th of the traces that stand one after the
 other, as `tsobench judge` judges it.
 
+With --decide it draws what `tsobench decide` finds, and a caption says that: of
+a consistent trace the number at each event is its place in an order that its
+memory model allows.
+
 Exit status:
-  0  no violation was found, which proves nothing about the trace
+  0  no violation was found, which proves nothing; or a decision is CONSISTENT
+  1  a decision is UNDECIDED
   2  the text is no trace, or the command line was refused
   3  the trace violates its memory model
   4  a fault, which one line on standard error names, as FAULT Read
 
 Example:
-  tsobench draw TRACE | dot -Tsvg >TRACE.svg";
+  tsobench draw TRACE | dot -Tsvg >TRACE.svg
+  tsobench draw --decide TRACE | dot -Tsvg >ORDER.svg";
 
 /// What is told of it.
 pub(crate) static DRAW: Description = Description {
@@ -31,6 +37,8 @@ pub(crate) static DRAW: Description = Description {
     about: "Draws a trace and why it is a violation, for Graphviz",
     help: HELP,
     parameters: &[
+        shared::DECIDE,
+        shared::EFFORT,
         shared::WORKERS,
         shared::NTH,
         shared::VERBOSE,

@@ -1,4 +1,4 @@
-//! `explain [--workers N] [--nth K] [FILE]`: explains the verdict on a trace.
+//! `explain [--decide] [--effort N] [--workers N] [--nth K] [--verbose] [FILE]`: explains the verdict or the decision on a trace.
 
 use crate::parameters::Description;
 use crate::subcommands::shared;
@@ -14,14 +14,20 @@ no trace it shows the line and says what a line has to be. The text is the same
 for each number of workers. With --nth K it is of the K-th of the traces that
 stand one after the other, as `tsobench judge` judges it.
 
+With --decide it explains what `tsobench decide` finds: of a consistent trace the
+events in an order that its memory model allows, with the store that each load
+read; of a violation without such a cycle the cases, each of which leads to one.
+
 Exit status:
-  0  no violation was found, which proves nothing about the trace
+  0  no violation was found, which proves nothing; or a decision is CONSISTENT
+  1  a decision is UNDECIDED
   2  the text is no trace, or the command line was refused
   3  the trace violates its memory model
   4  a fault, which one line on standard error names, as FAULT Read
 
 Example:
-  tsobench explain TRACE";
+  tsobench explain TRACE
+  tsobench explain --decide TRACE";
 
 /// What is told of it.
 pub(crate) static EXPLAIN: Description = Description {
@@ -29,6 +35,8 @@ pub(crate) static EXPLAIN: Description = Description {
     about: "Explains in words why a trace is a violation",
     help: HELP,
     parameters: &[
+        shared::DECIDE,
+        shared::EFFORT,
         shared::WORKERS,
         shared::NTH,
         shared::VERBOSE,

@@ -22,6 +22,21 @@ pub(crate) const NTH: Parameter = Parameter::Optional {
     help: "Which of the traces that stand one after the other, from 1",
 };
 
+/// `--decide`.
+pub(crate) const DECIDE: Parameter = Parameter::Flag {
+    name: "decide",
+    help: "Decides, as tsobench decide does, in place of judging",
+};
+
+/// `--effort N`, of a decision.
+pub(crate) const EFFORT: Parameter = Parameter::Option {
+    name: "effort",
+    value_name: "N",
+    accepted: Accepted::Number(0, u64::MAX),
+    default: Some("100000"),
+    help: "How many cases a decision looks at, at most",
+};
+
 /// `[FILE]`, with a trace.
 pub(crate) const TRACE_FILE: Parameter = Parameter::Other {
     name: "file",

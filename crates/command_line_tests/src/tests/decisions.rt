@@ -4,7 +4,7 @@ use super::expect_each;
 use std::test::Fail;
 
 /// Arguments, and what they ask for.
-const ACCEPTED: [(&[&str], &str); 21] = [
+const ACCEPTED: [(&[&str], &str); 32] = [
     (&["decide"], "decide None by 100000 cases with 1"),
     (&["decide", "-"], "decide None by 100000 cases with 1"),
     (
@@ -55,6 +55,51 @@ const ACCEPTED: [(&[&str], &str); 21] = [
         &["decide", "decide"],
         "decide Some(\"decide\") by 100000 cases with 1",
     ),
+    (
+        &["explain", "--decide"],
+        "decide None by 100000 cases with 1 as Explanation",
+    ),
+    (
+        &["explain", "--decide", "--effort", "7", "t"],
+        "decide Some(\"t\") by 7 cases with 1 as Explanation",
+    ),
+    (
+        &["explain", "s", "--nth=2", "--decide", "--workers=3"],
+        "decide Some(\"s\") nth 2 by 100000 cases with 3 as Explanation",
+    ),
+    // an effort without a decision changes nothing
+    (
+        &["explain", "--effort", "7", "t"],
+        "Explanation of Some(\"t\") with 1",
+    ),
+    (
+        &["draw", "--decide", "-"],
+        "decide None by 100000 cases with 1 as Picture",
+    ),
+    (
+        &["draw", "t", "--effort=0", "--decide", "--verbose"],
+        "decide Some(\"t\") by 0 cases with 1 as Picture",
+    ),
+    (
+        &["draw", "--effort=0", "t"],
+        "Picture of Some(\"t\") with 1",
+    ),
+    (
+        &["batch", "--decide"],
+        "batch [None] with 1 Words quiet false violations false decided by 100000 cases",
+    ),
+    (
+        &["batch", "--decide", "--effort", "3", "--quiet", "a", "b"],
+        "batch [Some(\"a\"), Some(\"b\")] with 1 Words quiet true violations false decided by 3 cases",
+    ),
+    (
+        &["batch", "--violations", "--decide", "--format=json", "s"],
+        "batch [Some(\"s\")] with 1 Json quiet false violations true decided by 100000 cases",
+    ),
+    (
+        &["batch", "--effort", "3", "s"],
+        "batch [Some(\"s\")] with 1 Words quiet false violations false",
+    ),
     (&["verify", "t", "e"], "verify \"t\" against \"e\""),
     (&["verify", "-", "e"], "verify standard input against \"e\""),
     (&["verify", "t", "-"], "verify \"t\" against standard input"),
@@ -91,7 +136,7 @@ const TWO_INPUTS: &str =
     "error: one of the two files may be '-', and not both: standard input is read once\n\nFor more information, try '--help'.\n";
 
 /// Arguments, and the text of their refusal.
-const REFUSED: [(&[&str], &str); 16] = [
+const REFUSED: [(&[&str], &str); 19] = [
     (
         &["decide", "--effort", "much"],
         "error: invalid value 'much' for '--effort <N>': invalid digit found in string\n\nFor more information, try '--help'.\n",
@@ -127,6 +172,18 @@ const REFUSED: [(&[&str], &str); 16] = [
     (
         &["decide", "a", "b"],
         "error: unexpected argument 'b' found\n\nUsage: tsobench decide [OPTIONS] [FILE]\n\nFor more information, try '--help'.\n",
+    ),
+    (
+        &["explain", "--decide", "--decide", "t"],
+        "error: the argument '--decide' cannot be used multiple times\n\nUsage: tsobench explain [OPTIONS] [FILE]\n\nFor more information, try '--help'.\n",
+    ),
+    (
+        &["draw", "--decide=yes"],
+        "error: unexpected value 'yes' for '--decide' found; no more were expected\n\nUsage: tsobench draw --decide [FILE]\n\nFor more information, try '--help'.\n",
+    ),
+    (
+        &["batch", "--effort", "-1"],
+        "error: unexpected argument '-1' found\n\n  tip: to pass '-1' as a value, use '-- -1'\n\nUsage: tsobench batch [OPTIONS] [FILE]...\n\nFor more information, try '--help'.\n",
     ),
     (&["verify", "-", "-"], TWO_INPUTS),
     (&["verify", "--", "-", "-"], TWO_INPUTS),
@@ -182,7 +239,7 @@ Arguments:
   [FILE]  The text of a trace; standard input where it is - or left out
 
 Options:
-      --effort <N>   How many cases are looked at, at most [default: 100000]
+      --effort <N>   How many cases a decision looks at, at most [default: 100000]
       --workers <N>  How many workers judge, 1 to 64 [default: 1]
       --nth <K>      Which of the traces that stand one after the other, from 1
       --verbose      Names the file and the reason after FAULT Read
@@ -207,7 +264,8 @@ before U. `tsobench verify` checks the lines after CONSISTENT or VIOLATION.
 The text is the same for each number of workers and in each run. A text that is
 no trace gets one line, as REFUSED BadLine line 3. With --nth K it decides the
 K-th of the traces that stand one after the other, as `tsobench judge` judges
-it.
+it. `tsobench explain --decide` says in words what was found, and
+`tsobench draw --decide` draws it; `tsobench batch --decide` decides many traces.
 
 Exit status:
   0  the trace is consistent: it has an order that meets the axioms

@@ -192,6 +192,8 @@ Arguments:
   [FILE]  The text of a trace; standard input where it is - or left out
 
 Options:
+      --decide       Decides, as tsobench decide does, in place of judging
+      --effort <N>   How many cases a decision looks at, at most [default: 100000]
       --workers <N>  How many workers judge, 1 to 64 [default: 1]
       --nth <K>      Which of the traces that stand one after the other, from 1
       --verbose      Names the file and the reason after FAULT Read
@@ -206,14 +208,20 @@ no trace it shows the line and says what a line has to be. The text is the same
 for each number of workers. With --nth K it is of the K-th of the traces that
 stand one after the other, as `tsobench judge` judges it.
 
+With --decide it explains what `tsobench decide` finds: of a consistent trace the
+events in an order that its memory model allows, with the store that each load
+read; of a violation without such a cycle the cases, each of which leads to one.
+
 Exit status:
-  0  no violation was found, which proves nothing about the trace
+  0  no violation was found, which proves nothing; or a decision is CONSISTENT
+  1  a decision is UNDECIDED
   2  the text is no trace, or the command line was refused
   3  the trace violates its memory model
   4  a fault, which one line on standard error names, as FAULT Read
 
 Example:
   tsobench explain TRACE
+  tsobench explain --decide TRACE
 ";
 
 const REDUCE_HELP: &str = "\
@@ -260,6 +268,8 @@ Arguments:
   [FILE]  The text of a trace; standard input where it is - or left out
 
 Options:
+      --decide       Decides, as tsobench decide does, in place of judging
+      --effort <N>   How many cases a decision looks at, at most [default: 100000]
       --workers <N>  How many workers judge, 1 to 64 [default: 1]
       --nth <K>      Which of the traces that stand one after the other, from 1
       --verbose      Names the file and the reason after FAULT Read
@@ -276,14 +286,20 @@ line, as REFUSED BadLine line 3. The text is the same for each number of
 workers. With --nth K it is of the K-th of the traces that stand one after the
 other, as `tsobench judge` judges it.
 
+With --decide it draws what `tsobench decide` finds, and a caption says that: of
+a consistent trace the number at each event is its place in an order that its
+memory model allows.
+
 Exit status:
-  0  no violation was found, which proves nothing about the trace
+  0  no violation was found, which proves nothing; or a decision is CONSISTENT
+  1  a decision is UNDECIDED
   2  the text is no trace, or the command line was refused
   3  the trace violates its memory model
   4  a fault, which one line on standard error names, as FAULT Read
 
 Example:
   tsobench draw TRACE | dot -Tsvg >TRACE.svg
+  tsobench draw --decide TRACE | dot -Tsvg >ORDER.svg
 ";
 
 const BATCH_HELP: &str = "\
@@ -299,6 +315,8 @@ Options:
       --format <FORMAT>  How lines are written, words, json or junit [default: words] [possible values: words, json, junit]
       --quiet            Leave out the lines of traces without a violation
       --violations       Print the texts of the violations in place of lines
+      --decide           Decides, as tsobench decide does, in place of judging
+      --effort <N>       How many cases a decision looks at, at most [default: 100000]
       --progress         Tells on standard error, at most once a second, how much is done
       --verbose          Names the file and the reason after FAULT Read
   -h, --help             Print help
@@ -328,8 +346,16 @@ With --format json each line is an object of JSON, as
 which test servers read: a test case for each trace, which fails where the trace
 is a violation and has an error where the text is refused.
 
+With --decide the lines say what `tsobench decide` finds: CONSISTENT, which
+--quiet leaves out, VIOLATION, UNDECIDED 100000 after so many cases, or REFUSED,
+and the last one is as
+traces 4 consistent 1 violations 1 undecided 1 refused 1. An undecided trace is
+{\"trace\":4,\"verdict\":\"undecided\",\"cases\":100000} in JSON, and a test case
+that was skipped in JUnit's XML.
+
 Exit status:
-  0  no violation was found, which proves nothing about the traces
+  0  no violation was found, which proves nothing; or all traces are CONSISTENT
+  1  a trace is UNDECIDED, and no text is refused or a violation
   2  a text is no trace, and none is a violation, or the command line was refused
   3  a trace violates its memory model
   4  a fault, which one line on standard error names, as FAULT Read
@@ -338,6 +364,7 @@ Example:
   cat *.trace | tsobench batch --workers 4 --quiet
   tsobench batch --format junit *.trace >REPORT.xml
   tsobench batch --violations TRACES >VIOLATIONS
+  tsobench batch --decide --quiet TRACES
 ";
 
 const LOG_HELP: &str = "\

@@ -1,11 +1,11 @@
-//! `batch`: traces that stand one after the other, with a line for each, or the texts of those that are violations.
+//! `batch`: traces that stand one after the other, judged or decided, with a line for each, or the texts of those that are violations.
 ghost use Rattle.std.specs.Prelude.{◌≡◌, ◌<◌, ◌≤◌, [], Bool, List, Option, ℕ, None, false, true, filter_map, get_or, is_some, length, option_to_list, IfOk, IfErr, IfSome, OnErr, OnOk};
 ghost use Rattle.std.specs.Borrow.{Bor};
 ghost use Rattle.std.specs.Io.KnownBytes.{Consumes};
 ghost use Rattle.std.specs.List.{list_all};
 ghost use Rattle.trace_batches.specs.Batches.{HasWritten, IsBatchFault, Judges, LeavesBatch, LeavesText, WritesBatch};
 ghost use Rattle.trace_batches.specs.declared.batches.BatchPrinting.{BatchPrinting};
-ghost use Rattle.request_serving.specs.Batches.{are_several, asked_format, asked_printing, texts_of_batch, told_name};
+ghost use Rattle.request_serving.specs.Batches.{are_several, asked_format, asked_method, asked_printing, texts_of_batch, told_name};
 ghost use Rattle.request_serving.specs.OpenedFiles.{OpensFirst, OpensNext, name_in};
 ghost use Rattle.request_serving.specs.Internal.Batching.{files_in, reads_one, text_named};
 
@@ -14,8 +14,8 @@ use command_line::{BatchFormat as AskedFormat, BatchPrinting as AskedPrinting, B
 use std::io::{Read, Write};
 use std::sync::Wait;
 use std::thread::Threads;
-use trace_batches::{Batch, BatchFormat, BatchOptions, BatchPrinting};
-use trace_judging::{Fault, Verdict};
+use trace_batches::{Batch, BatchFormat, BatchMethod, BatchOptions, BatchPrinting, BatchVerdict};
+use trace_judging::Fault;
 
 /// What stands for standard input in place of the name of a file.
 const STANDARD_INPUT: &str = "-";
@@ -44,7 +44,7 @@ pub(crate) fn batch_named<
     reader: &mut R,
     writer: &mut W,
     errors: &mut E,
-) -> Result<Verdict, Fault>
+) -> Result<BatchVerdict, Fault>
     requires workers { 1 ≤ request.now.workers }
     requires input { reads_one (files_in request.now.texts.items) }
     ensures whole { let texts = texts_of_batch (files_in request.now.texts.items) (R.remaining reader.old) (O.bytes files.old) in IfOk result (WritesBatch (asked_printing request.now.printing) texts (W.contents writer.old) (W.contents writer.new) (E.contents errors.old) (E.contents errors.new)) }
@@ -151,9 +151,20 @@ fn asked_printing(printing: AskedPrinting) -> BatchPrinting
     ensures { result ≡ asked_printing printing }
 {
     BatchPrinting {
+        method: asked_method(printing.effort),
         format: asked_format(printing.format),
         quiet: printing.quiet,
         violations: printing.violations,
+    }
+}
+
+/// How it is found out what is said of a trace, as it was asked for.
+fn asked_method(effort: Option<u64>) -> BatchMethod
+    ensures { result ≡ asked_method effort }
+{
+    match effort {
+        None => BatchMethod::Judge,
+        Some(effort) => BatchMethod::Decide { effort },
     }
 }
 

@@ -2,23 +2,30 @@
 ghost use Rattle.std.specs.Prelude.{◌≡◌, [], ◌∷◌, IfOk, IfErr, IfSome, None};
 ghost use Rattle.command_line.specs.Requests.{asked_of};
 ghost use Rattle.command_line.specs.declared.requests.Request.TheVariants.{Decide};
+ghost use Rattle.trace_decisions.specs.DecisionTexts.{IsDecisionOfReader};
+ghost use Rattle.trace_judging.specs.Limits.{trace_read_limit};
+ghost use Rattle.trace_judging.specs.Streams.{LosesPrefix};
 ghost use Rattle.trace_judging.specs.WrittenReports.{LeavesAtFault, WritesWhole};
 ghost use Rattle.request_serving.specs.Deciding.{IsDecided};
 ghost use Rattle.request_serving.specs.Internal.Ranges.{HasWorkerRange};
 ghost use Rattle.request_serving.specs.NthTraces.{TakesTrace};
+ghost use Rattle.request_serving.specs.Presentations.{decided_as, refused_as};
 ghost use Rattle.request_serving.specs.OpenedFiles.{OpensNext, files_named, name_in, text_bytes};
 
 use crate::files::{Surroundings, open};
 use crate::serving::numbering::refuse_number;
-use command_line::DecideRequest;
+use command_line::{DecideRequest, Presentation};
+use decision_explanation::AsDecisionExplanation;
+use decision_pictures::AsDecisionPicture;
 use std::io::{Read, Write};
 use std::sync::Wait;
 use std::thread::Threads;
 use trace_batches::read_piece;
-use trace_decisions::{Answer, decide_input};
+use trace_decisions::{Answer, AsDecision, DecisionLimits, decide_input};
 use trace_judging::Fault;
 
-/// Decides on the trace in a file, or else in what the reader has, with at most as many cases as the request names.
+/// Decides on the trace in a file, or else in what the reader has, with at most as many cases as the request names, and presents
+/// the decision.
 pub(crate) fn decide_named<H: Threads + Wait + AllocGlobal, O: Surroundings, R: Read, W: Write>(
     rt: &H,
     request: &DecideRequest<'_>,
@@ -27,8 +34,8 @@ pub(crate) fn decide_named<H: Threads + Wait + AllocGlobal, O: Surroundings, R: 
     writer: &mut W,
 ) -> Result<Answer, Fault>
     requires { HasWorkerRange request.now.workers }
-    ensures decided { let remaining = text_bytes (name_in request.now.file) (R.remaining reader.old) (O.bytes files.old) in IfOk result (WritesWhole (IsDecided request.now.effort request.now.nth remaining) (W.contents writer.old) (W.contents writer.new)) }
-    ensures fault { let remaining = text_bytes (name_in request.now.file) (R.remaining reader.old) (O.bytes files.old) in IfErr result (LeavesAtFault (IsDecided request.now.effort request.now.nth remaining) (W.contents writer.old) (W.contents writer.new)) }
+    ensures decided { let remaining = text_bytes (name_in request.now.file) (R.remaining reader.old) (O.bytes files.old) in IfOk result (WritesWhole (IsDecided request.now.presentation request.now.effort request.now.nth remaining) (W.contents writer.old) (W.contents writer.new)) }
+    ensures fault { let remaining = text_bytes (name_in request.now.file) (R.remaining reader.old) (O.bytes files.old) in IfErr result (LeavesAtFault (IsDecided request.now.presentation request.now.effort request.now.nth remaining) (W.contents writer.old) (W.contents writer.new)) }
     ensures opened { OpensNext (O.opened files.old) (O.opened files.new) (files_named (asked_of (Decide request.now))) }
     ensures unread { IfSome request.now.file (λ _. reader.new ≡ reader.old) }
     ensures taken { request.now.file ≡ None → IfOk result (λ _. TakesTrace request.now.nth (R.remaining reader.old) (R.remaining reader.new)) }
@@ -42,7 +49,8 @@ pub(crate) fn decide_named<H: Threads + Wait + AllocGlobal, O: Surroundings, R: 
     }
 }
 
-/// Decides on the trace that a reader has, or on the one of a number among those that it has.
+/// Decides on the trace that a reader has, or on the one of a number among those that it has, and writes the decision in the form
+/// that the request asks for.
 fn decide_reader<H: Threads + Wait + AllocGlobal, R: Read, W: Write>(
     rt: &H,
     request: &DecideRequest<'_>,
@@ -50,25 +58,43 @@ fn decide_reader<H: Threads + Wait + AllocGlobal, R: Read, W: Write>(
     writer: &mut W,
 ) -> Result<Answer, Fault>
     requires { HasWorkerRange request.now.workers }
-    ensures decided { IfOk result (WritesWhole (IsDecided request.now.effort request.now.nth (R.remaining reader.old)) (W.contents writer.old) (W.contents writer.new)) }
-    ensures fault { IfErr result (LeavesAtFault (IsDecided request.now.effort request.now.nth (R.remaining reader.old)) (W.contents writer.old) (W.contents writer.new)) }
+    ensures decided { IfOk result (WritesWhole (IsDecided request.now.presentation request.now.effort request.now.nth (R.remaining reader.old)) (W.contents writer.old) (W.contents writer.new)) }
+    ensures fault { IfErr result (LeavesAtFault (IsDecided request.now.presentation request.now.effort request.now.nth (R.remaining reader.old)) (W.contents writer.old) (W.contents writer.new)) }
     ensures taken { IfOk result (λ _. TakesTrace request.now.nth (R.remaining reader.old) (R.remaining reader.new)) }
 {
-    let alloc = rt.alloc();
     match request.nth {
-        None => decide_input(rt, alloc, reader, writer, request.workers, request.effort),
-        Some(number) => match read_piece(alloc, number, reader)? {
-            Some(piece) => {
-                decide_input(
-                    rt,
-                    alloc,
-                    &mut piece.as_slice(),
-                    writer,
-                    request.workers,
-                    request.effort,
-                )
-            }
+        None => present(rt, request, reader, writer),
+        Some(number) => match read_piece(rt.alloc(), number, reader)? {
+            Some(piece) => present(rt, request, &mut piece.as_slice(), writer),
             None => refuse_number(Answer::Refused, writer),
         },
+    }
+}
+
+/// Decides on the one trace that a reader has, and writes the decision in the form that the request asks for.
+fn present<H: Threads + Wait + AllocGlobal, R: Read, W: Write>(
+    rt: &H,
+    request: &DecideRequest<'_>,
+    reader: &mut R,
+    writer: &mut W,
+) -> Result<Answer, Fault>
+    requires { HasWorkerRange request.now.workers }
+    ensures decided { IfOk result (WritesWhole (IsDecisionOfReader (decided_as request.now.presentation) (refused_as request.now.presentation) request.now.effort (R.remaining reader.old)) (W.contents writer.old) (W.contents writer.new)) }
+    ensures fault { IfErr result (LeavesAtFault (IsDecisionOfReader (decided_as request.now.presentation) (refused_as request.now.presentation) request.now.effort (R.remaining reader.old)) (W.contents writer.old) (W.contents writer.new)) }
+    ensures taken { IfOk result (λ _. LosesPrefix trace_read_limit (R.remaining reader.old) (R.remaining reader.new)) }
+{
+    let alloc = rt.alloc();
+    let limits = DecisionLimits {
+        workers: request.workers,
+        effort: request.effort,
+    };
+    match request.presentation {
+        Presentation::Report => decide_input(rt, alloc, reader, writer, limits, &AsDecision),
+        Presentation::Explanation => {
+            decide_input(rt, alloc, reader, writer, limits, &AsDecisionExplanation)
+        }
+        Presentation::Picture => {
+            decide_input(rt, alloc, reader, writer, limits, &AsDecisionPicture)
+        }
     }
 }

@@ -7,8 +7,9 @@ ghost use Rattle.trace_judging.specs.Streams.{LosesPrefix};
 ghost use Rattle.trace_reports.specs.Renderings.{IsTextOfReader};
 ghost use Rattle.trace_judging.specs.WrittenReports.{LeavesAtFault, WritesWhole};
 ghost use Rattle.request_serving.specs.Internal.Ranges.{HasWorkerRange};
-ghost use Rattle.request_serving.specs.Endings.{IsPresented, refused_as, said_as};
+ghost use Rattle.request_serving.specs.Endings.{IsPresented};
 ghost use Rattle.request_serving.specs.NthTraces.{TakesTrace};
+ghost use Rattle.request_serving.specs.Presentations.{refused_as, said_as};
 ghost use Rattle.request_serving.specs.OpenedFiles.{OpensNext, files_named, name_in, text_bytes};
 
 use crate::files::{Surroundings, open};

@@ -2,6 +2,7 @@
 
 use super::expect;
 use super::folders::{ended_on, new_folder, write};
+use evidence_for_tests::{BUFFERING, BUFFERING_ORDER, TWELVE_EVENTS, TWELVE_REFUTED};
 use std::fs;
 use std::test::Fail;
 
@@ -15,73 +16,23 @@ const FILES: [(&str, &str); 6] = [
     ("unwritten", "unwritten 1\n"),
     // order_of_store_buffering
     ("buffering", BUFFERING),
-    ("order", ORDER),
+    ("order", BUFFERING_ORDER),
     // refutation_of_twelve_events
     ("twelve", TWELVE_EVENTS),
-    ("refutation", REFUTATION),
+    ("refutation", TWELVE_REFUTED),
 ];
-
-const BUFFERING: &str = "tso trace 1\nproc\nst 1 1\nld 2 0\nproc\nst 2 2\nld 1 0\nend\n";
-
-const ORDER: &str = "order 4 2 3 1\n";
-
-const TWELVE_EVENTS: &str = "\
-tso trace 1
-proc
-st 1 1
-mb
-ld 2 3
-ld 1 1
-proc
-st 1 2
-mb
-ld 2 4
-ld 1 2
-proc
-st 2 3
-mb
-ld 1 2
-ld 2 3
-proc
-st 2 4
-mb
-ld 1 1
-ld 2 4
-end
-";
-
-const REFUTATION: &str = "\
-1 1 2 Membar
-2 1 11 Read
-3 2 3 LoadOp
-4 4 5 Membar
-5 4 8 Read
-6 5 6 LoadOp
-7 7 2 Read
-8 7 8 Membar
-9 8 9 LoadOp
-10 10 5 Read
-11 10 11 Membar
-12 11 12 LoadOp
-13 4 1 Case
-14 6 1 StorePast 6 4 1
-15 8 1 StorePast 8 4 1
-16 10 7 LoadPast 2 10 5 6 1 2
-17 12 7 StorePast 12 10 7
-cycle 7 8 1 11 12
-18 1 4 Else
-19 3 4 StorePast 3 1 4
-20 11 4 StorePast 11 1 4
-21 7 10 LoadPast 5 7 2 3 4 5
-22 9 10 StorePast 9 7 10
-cycle 10 11 4 8 9
-";
 
 const FEWER: &str = "REFUSED Nth\n";
 
 const BAD_HEADER: &str = "REFUSED BadHeader line 1\n";
 
 const UNDECIDED: &str = "TSO DECISION 1\nprocessors 4 events 12\nUNDECIDED 0\n";
+
+const UNDECIDED_LINES: &str =
+    "trace 1 UNDECIDED 0\ntraces 1 consistent 0 violations 0 undecided 1 refused 0\n";
+
+const DECIDED_LINES: &str =
+    "trace 1 VIOLATION\ntraces 1 consistent 0 violations 1 undecided 0 refused 0\n";
 
 const ORDER_HOLDS: &str = "ORDER HOLDS\n";
 
@@ -90,7 +41,7 @@ const REFUTATION_HOLDS: &str = "REFUTATION HOLDS\n";
 const READ: &str = "FAULT Read\n";
 
 /// Arguments over these files, standard input, the status, and what is written to the output and to the errors.
-const CASES: [(&str, &str, u8, &str, &str); 18] = [
+const CASES: [(&str, &str, u8, &str, &str); 20] = [
     // two stores of a processor have one order
     (
         "decide --nth 1 @stream",
@@ -112,9 +63,17 @@ const CASES: [(&str, &str, u8, &str, &str); 18] = [
     ("decide --effort 0", TWELVE_EVENTS, 1, UNDECIDED, ""),
     ("decide --effort 0 @twelve", "", 1, UNDECIDED, ""),
     ("decide @missing", "", 4, "", READ),
+    (
+        "batch --decide --effort 0 @twelve",
+        "",
+        1,
+        UNDECIDED_LINES,
+        "",
+    ),
+    ("batch --decide @twelve", "", 3, DECIDED_LINES, ""),
     ("verify @buffering @order", "", 0, ORDER_HOLDS, ""),
     ("verify - @order", BUFFERING, 0, ORDER_HOLDS, ""),
-    ("verify @buffering -", ORDER, 0, ORDER_HOLDS, ""),
+    ("verify @buffering -", BUFFERING_ORDER, 0, ORDER_HOLDS, ""),
     ("verify @twelve @refutation", "", 3, REFUTATION_HOLDS, ""),
     (
         "verify --nth 2 @stream @unwritten",

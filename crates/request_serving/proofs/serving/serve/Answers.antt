@@ -39,7 +39,7 @@ pub returns-in-Decide-clause-ends : goal.returns-in-Decide-clause-ends
 returns-in-Decide-clause-ends g c =
     let o : Outputs = outputs (g.W.Write.contents c.args.writer.now) (g.W.Write.contents c.decide_named-decided.new.writer) (g.E.Write.contents c.args.errors.now) (g.E.Write.contents c.end_answer.new.errors) in
     let request = c.in-Decide.request in
-    let is_text = IsDecided request.effort request.nth (text_bytes (name_in request.file) (g.R.Read.remaining c.args.reader.now) (g.O.Surroundings.bytes c.args.files.now)) in
+    let is_text = IsDecided request.presentation request.effort request.nth (text_bytes (name_in request.file) (g.R.Read.remaining c.args.reader.now) (g.O.Surroundings.bytes c.args.files.now)) in
     rw c.in-Decide.is (ends_as is_text status_of_answer (LeavesAtFault is_text) o c.decide_named-decided.result c.end_answer.result c.decide_named-decided.ensures.decided c.decide_named-decided.ensures.fault c.end_answer.ensures.answer c.end_answer.ensures.fault)
 
 pub returns-in-Decide-clause-first : goal.returns-in-Decide-clause-first
@@ -72,25 +72,25 @@ returns-in-Reduce-clause-taken g c = rw c.in-Reduce.is (λ reads other.
 
 pub returns-in-Batch-clause-ends : goal.returns-in-Batch-clause-ends
 returns-in-Batch-clause-ends g c =
-    let o : Outputs = outputs (g.W.Write.contents c.args.writer.now) (g.W.Write.contents c.batch_named-judged.new.writer) (g.E.Write.contents c.args.errors.now) (g.E.Write.contents c.end-in-Batch.new.errors) in
+    let o : Outputs = outputs (g.W.Write.contents c.args.writer.now) (g.W.Write.contents c.batch_named-judged.new.writer) (g.E.Write.contents c.args.errors.now) (g.E.Write.contents c.end_batch.new.errors) in
     let request = c.in-Batch.request in
     let texts = texts_of_batch (files_in request.texts.items) (g.R.Read.remaining c.args.reader.now) (g.O.Surroundings.bytes c.args.files.now) in
     let judged = c.batch_named-judged.ensures in
-    rw c.in-Batch.is (ends_batched (asked_printing request.printing) texts (g.E.Write.contents c.batch_named-judged.new.errors) o c.batch_named-judged.result c.end-in-Batch.result judged.whole judged.left judged.fault c.end-in-Batch.ensures.verdict c.end-in-Batch.ensures.fault)
+    rw c.in-Batch.is (ends_batched (asked_printing request.printing) texts (g.E.Write.contents c.batch_named-judged.new.errors) o c.batch_named-judged.result c.end_batch.result judged.whole judged.left judged.fault c.end_batch.ensures.verdict c.end_batch.ensures.fault)
 
 pub returns-in-Batch-clause-first : goal.returns-in-Batch-clause-first
 returns-in-Batch-clause-first g c = rw c.in-Batch.is c.batch_named-judged.ensures.first
 
 pub returns-in-Batch-clause-opened : goal.returns-in-Batch-clause-opened
 returns-in-Batch-clause-opened g c = λ other.
-    rw c.in-Batch.is (at_text c.batch_named-judged.result c.end-in-Batch.result _ _ _ c.end-in-Batch.ensures.fault c.batch_named-judged.ensures.opened other)
+    rw c.in-Batch.is (at_text c.batch_named-judged.result c.end_batch.result _ _ _ c.end_batch.ensures.fault c.batch_named-judged.ensures.opened other)
 
 pub returns-in-Batch-clause-unread : goal.returns-in-Batch-clause-unread
 returns-in-Batch-clause-unread g c = rw c.in-Batch.is (λ unread. c.batch_named-judged.ensures.unread (unread_files (files_in c.in-Batch.request.texts.items) unread))
 
 pub returns-in-Batch-clause-taken : goal.returns-in-Batch-clause-taken
 returns-in-Batch-clause-taken g c = rw c.in-Batch.is (λ reads other.
-    at_text c.batch_named-judged.result c.end-in-Batch.result _ _ _ c.end-in-Batch.ensures.fault (c.batch_named-judged.ensures.taken (read_files (files_in c.in-Batch.request.texts.items) reads)) other)
+    at_text c.batch_named-judged.result c.end_batch.result _ _ _ c.end_batch.ensures.fault (c.batch_named-judged.ensures.taken (read_files (files_in c.in-Batch.request.texts.items) reads)) other)
 
 pub returns-in-Log-clause-ends : goal.returns-in-Log-clause-ends
 returns-in-Log-clause-ends g c =

@@ -1,0 +1,19 @@
+use Rattle.request_serving.proofs.serving.deciding.present.Goals as goal
+
+pub returns-in-Report-clause-decided : goal.returns-in-Report-clause-decided
+returns-in-Report-clause-decided g c = rw c.in-Report.is c.decide_input.ensures.decided
+
+pub returns-in-Report-clause-fault : goal.returns-in-Report-clause-fault
+returns-in-Report-clause-fault g c = rw c.in-Report.is c.decide_input.ensures.fault
+
+pub returns-in-Explanation-clause-decided : goal.returns-in-Explanation-clause-decided
+returns-in-Explanation-clause-decided g c = rw c.in-Explanation.is c.decide_input-in-Explanation.ensures.decided
+
+pub returns-in-Explanation-clause-fault : goal.returns-in-Explanation-clause-fault
+returns-in-Explanation-clause-fault g c = rw c.in-Explanation.is c.decide_input-in-Explanation.ensures.fault
+
+pub returns-in-Picture-clause-decided : goal.returns-in-Picture-clause-decided
+returns-in-Picture-clause-decided g c = rw c.in-Picture.is c.decide_input-in-Picture.ensures.decided
+
+pub returns-in-Picture-clause-fault : goal.returns-in-Picture-clause-fault
+returns-in-Picture-clause-fault g c = rw c.in-Picture.is c.decide_input-in-Picture.ensures.fault
