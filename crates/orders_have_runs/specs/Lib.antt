@@ -1,0 +1,2 @@
+pub mod RecordedTraces
+pub mod SwapsTogether
