@@ -8,7 +8,7 @@ use Rattle.tso_cert.specs.declared.steps.CertStep.{CertStep}
 use Rattle.tso_evidence.specs.declared.refutations.RefutationLine.{RefutationLine}
 use Rattle.tso_evidence.specs.declared.refutations.RefutationLine.TheVariants.{Step, Case, Else, Cycle}
 use Rattle.trace_explanation.specs.JoinedTexts.{joined}
-use Rattle.trace_explanation.specs.Explanations.{model_name}
+use Rattle.trace_explanation.specs.Explanations.{model_name, order_sentences}
 use Rattle.trace_explanation.specs.Names.{event_numbers}
 use Rattle.trace_explanation.specs.Namings.{name_text, naming_of}
 use Rattle.trace_explanation.specs.Places.{place_text}
@@ -20,8 +20,8 @@ use Rattle.decision_explanation.specs.Reasons.{reason_text}
 -- what the memory model asks for, and how the lines show that there is no such order
 unfoldable pub cases_head : Order → List ℕ
 cases_head order = joined (
-    codes "\n" ∷ model_name order
-    ∷ codes " asks for one order of all loads and stores, the memory order.\nA load sees the stores to its address that come before it in that order or earlier on its own processor.\nIt reads the last of these in that order, or the first value of its address where there is none.\nNo memory order explains this trace. The steps show it by cases: of two events one comes before the other, and each of the two leads to a contradiction.\nA step holds in each memory order in which what is supposed there is so. It rests only on steps of smaller numbers.\n\n" ∷ [])
+    codes "\n" ∷ model_name order ∷ order_sentences
+    ∷ codes "No memory order explains this trace. The steps show it by cases: of two events one comes before the other, and each of the two leads to a contradiction.\nA step holds in each memory order in which what is supposed there is so. It rests only on steps of smaller numbers.\n\n" ∷ [])
 
 -- a step, whose line has this number: its edge, and why it holds
 unfoldable pub step_text : TraceValue → List NumberedPair → ℕ → CertStep → List ℕ

@@ -7,7 +7,7 @@ use Rattle.tso_ops.specs.declared.settings.Order.{Order}
 use Rattle.tso_ops.specs.Values.{TraceValue}
 use Rattle.tso_model.specs.Axioms.{place}
 use Rattle.trace_explanation.specs.JoinedTexts.{joined}
-use Rattle.trace_explanation.specs.Explanations.{model_name}
+use Rattle.trace_explanation.specs.Explanations.{model_name, order_sentences}
 use Rattle.trace_explanation.specs.Names.{source_of}
 use Rattle.trace_explanation.specs.Namings.{line_named, name_text, naming_of}
 use Rattle.trace_explanation.specs.Places.{source_text}
@@ -15,8 +15,8 @@ use Rattle.trace_explanation.specs.Places.{source_text}
 -- what a memory order is, and that the list is one
 unfoldable pub order_head : Order → List ℕ
 order_head order = joined (
-    codes "\n" ∷ model_name order
-    ∷ codes " asks for one order of all loads and stores, the memory order.\nA load sees the stores to its address that come before it in that order or earlier on its own processor.\nIt reads the last of these in that order, or the first value of its address where there is none.\nThe memory order below explains this trace, so the trace is allowed.\nA load marked 'forwarded' read an earlier store of its own processor that comes after it in that order: the store was still in the store buffer.\n\n" ∷ [])
+    codes "\n" ∷ model_name order ∷ order_sentences
+    ∷ codes "The memory order below explains this trace, so the trace is allowed.\nA load marked 'forwarded' read an earlier store of its own processor that comes after it in that order: the store was still in the store buffer.\n\n" ∷ [])
 
 -- number s, which load l read, is a store that comes after it in the order
 abbrev pub is_forwarded : List ℕ → ℕ → ℕ → Bool

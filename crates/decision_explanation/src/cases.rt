@@ -13,7 +13,7 @@ use crate::named::NamedEvents;
 use crate::reasons::reason_in_force;
 use std::alloc::{AllocError, Global};
 use std::fmt::Write;
-use trace_explanation::{list_links, model_name};
+use trace_explanation::{list_links, model_name, order_sentences};
 use tso_cert::CertStep;
 use tso_evidence::RefutationLine;
 use tso_ops::{Order, Trace};
@@ -56,9 +56,10 @@ fn push_head(text: &mut String, order: Order) -> Result<(), AllocError>
     ensures { OnOk result (string_bytes text.new ≡ string_bytes text.old ++ cases_head order) }
 {
     let model = model_name(order);
+    let sentences = order_sentences();
     write!(
         text,
-        "\n{model} asks for one order of all loads and stores, the memory order.\nA load sees the stores to its address that come before it in that order or earlier on its own processor.\nIt reads the last of these in that order, or the first value of its address where there is none.\nNo memory order explains this trace. The steps show it by cases: of two events one comes before the other, and each of the two leads to a contradiction.\nA step holds in each memory order in which what is supposed there is so. It rests only on steps of smaller numbers.\n\n"
+        "\n{model}{sentences}No memory order explains this trace. The steps show it by cases: of two events one comes before the other, and each of the two leads to a contradiction.\nA step holds in each memory order in which what is supposed there is so. It rests only on steps of smaller numbers.\n\n"
     )
 }
 

@@ -3,7 +3,8 @@ ghost use Rattle.std.specs.Prelude.{◌≡◌, [], IfOk};
 ghost use Rattle.decision_explanation.specs.Certificates.{certificate_of};
 
 use std::alloc::{AllocError, Global};
-use tso_cert::{CertStep, Certificate, NumList, Reason, StepList};
+use trace_decisions::copy_step;
+use tso_cert::{CertStep, Certificate, NumList, StepList};
 use tso_evidence::RefutationLine;
 
 /// The certificate that these lines are: steps and then one cycle; None where they are none. OutOfMemory where an allocation
@@ -17,7 +18,7 @@ pub fn certificate_of(
     let mut steps = Vec::new(alloc);
     for k in 0..lines.len() {
         match &lines[k] {
-            RefutationLine::Step(step) => steps.push(copied_step(alloc, step)?)?,
+            RefutationLine::Step(step) => steps.push(copy_step(alloc, step)?)?,
             RefutationLine::Cycle(cycle) => {
                 let last = k + 1 == lines.len();
                 return if last {
@@ -42,38 +43,6 @@ fn cycle_of(
 {
     Ok(Some(Certificate::Cycle {
         steps: StepList::new(steps),
-        cycle: copied_numbers(alloc, cycle)?,
+        cycle: NumList::new(cycle.items().to_vec(alloc)?),
     }))
-}
-
-/// The same step. OutOfMemory where an allocation was refused.
-fn copied_step(alloc: Global, step: &CertStep) -> Result<CertStep, AllocError>
-    ensures { IfOk result (λ copied. copied ≡ step.now) }
-{
-    Ok(CertStep {
-        from: step.from,
-        to: step.to,
-        reason: copied_reason(alloc, &step.reason)?,
-    })
-}
-
-/// The same reason. OutOfMemory where an allocation was refused.
-fn copied_reason(alloc: Global, reason: &Reason) -> Result<Reason, AllocError>
-    ensures { IfOk result (λ copied. copied ≡ reason.now) }
-{
-    match reason {
-        Reason::Base(rule) => Ok(Reason::Base(*rule)),
-        Reason::Inferred { rule, load, path } => Ok(Reason::Inferred {
-            rule: *rule,
-            load: *load,
-            path: copied_numbers(alloc, path)?,
-        }),
-    }
-}
-
-/// The same numbers. OutOfMemory where an allocation was refused.
-fn copied_numbers(alloc: Global, numbers: &NumList) -> Result<NumList, AllocError>
-    ensures { IfOk result (λ copied. copied ≡ numbers.now) }
-{
-    Ok(NumList::new(numbers.items().to_vec(alloc)?))
 }

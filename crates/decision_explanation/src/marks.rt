@@ -1,15 +1,14 @@
 //! Which events the lines of a refutation name.
-ghost use Rattle.std.specs.Prelude.{◌≡◌, ◌==◌, ◌||◌, ◌<◌, ℕ, suc, false, get_or, length, IfOk};
+ghost use Rattle.std.specs.Prelude.{◌≡◌, ◌||◌, ◌<◌, ℕ, suc, false, get_or, length, IfOk};
 ghost use Rattle.std.specs.List.{filter};
 ghost use Rattle.tso_ops.specs.Events.{event_total};
 ghost use Rattle.trace_explanation.specs.Internal.Tables.{AreMarks};
 ghost use Rattle.trace_explanation.specs.Names.{event_numbers};
-ghost use Rattle.trace_explanation.specs.Steps.{is_among, step_numbers};
+ghost use Rattle.trace_explanation.specs.Steps.{is_among};
 ghost use Rattle.decision_explanation.specs.Cases.{is_named, line_numbers};
 
 use std::alloc::{AllocError, Global};
-use trace_explanation::step_load;
-use tso_cert::CertStep;
+use trace_explanation::{mark, mark_step};
 use tso_evidence::RefutationLine;
 use tso_ops::Trace;
 
@@ -58,27 +57,5 @@ fn mark_line(trace: &Trace, line: &RefutationLine, marks: &mut Vec<bool>)
             mark(marks, *second as usize);
         },
         RefutationLine::Else { .. } | RefutationLine::Cycle(_) => {},
-    }
-}
-
-/// Marks the numbers that a step names.
-fn mark_step(trace: &Trace, step: &CertStep, marks: &mut Vec<bool>)
-    ensures length { length marks.new.items ≡ length marks.old.items }
-    ensures marked { (n : ℕ) → n < length marks.old.items → get_or marks.new.items n false ≡ (is_among n (step_numbers trace.now step.now) || get_or marks.old.items n false) }
-{
-    mark(marks, step.from as usize);
-    mark(marks, step.to as usize);
-    if let Some(load) = step_load(trace, step) {
-        mark(marks, load);
-    }
-}
-
-/// Marks a number; nothing where it is past the end.
-fn mark(marks: &mut Vec<bool>, number: usize)
-    ensures length { length marks.new.items ≡ length marks.old.items }
-    ensures marked { (n : ℕ) → n < length marks.old.items → get_or marks.new.items n false ≡ (number == n || get_or marks.old.items n false) }
-{
-    if number < marks.len() {
-        marks[number] = true;
     }
 }

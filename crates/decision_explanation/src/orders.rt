@@ -10,7 +10,7 @@ use crate::named::NamedEvents;
 use crate::places::list_places;
 use std::alloc::{AllocError, Global};
 use std::fmt::Write;
-use trace_explanation::{model_name, source_of};
+use trace_explanation::{model_name, order_sentences, source_of};
 use tso_ops::{Order, Trace};
 
 /// An order, and for number 0 and each event its place in it.
@@ -43,9 +43,10 @@ fn push_head(text: &mut String, order: Order) -> Result<(), AllocError>
     ensures { OnOk result (string_bytes text.new ≡ string_bytes text.old ++ order_head order) }
 {
     let model = model_name(order);
+    let sentences = order_sentences();
     write!(
         text,
-        "\n{model} asks for one order of all loads and stores, the memory order.\nA load sees the stores to its address that come before it in that order or earlier on its own processor.\nIt reads the last of these in that order, or the first value of its address where there is none.\nThe memory order below explains this trace, so the trace is allowed.\nA load marked 'forwarded' read an earlier store of its own processor that comes after it in that order: the store was still in the store buffer.\n\n"
+        "\n{model}{sentences}The memory order below explains this trace, so the trace is allowed.\nA load marked 'forwarded' read an earlier store of its own processor that comes after it in that order: the store was still in the store buffer.\n\n"
     )
 }
 

@@ -82,19 +82,16 @@ module _ (t : TraceValue) (p bars past : ℕ) (a : ℕ) where
   newest_of (e ∷ buffer) (n ∷ numbers) v waiting =
       newest_more e n numbers v (newest (e ∷ buffer) a v) waiting.0 waiting.2 (newest_of buffer numbers (cond (eqb e.a a) e.v v) waiting.3)
 
--- the order has a processor's stores to one address as the processor made them
-pub record KeepsAddresses (t : TraceValue) (whole : List ℕ) : Type 0 where
-  pub up_to : (u v : ℕ) → IsStore t u → IsStore t v → Earlier t u v → SameAddress t u v → IsUpTo whole u v
-
+-- the stores that the next load of a processor sees
 module _ (t : TraceValue) (past p : ℕ) (l : Numbering) (buffer : List Entry) (stbars : ℕ) (left : List Outcome) (done : List ℕ)
     (numbered : IsNumbered t p l buffer stbars left past) (listed : (u : ℕ) (d : Event) → event_at t u ≡ Some d → d.proc ≡ p → IsListed done l u)
-    (whole later : List ℕ) (keeps : KeepsAddresses t whole) (is : whole ≡ done ++ (l.following ∷ later)) (a : ℕ) (e : Event)
+    (whole later : List ℕ) (is : whole ≡ done ++ (l.following ∷ later)) (a : ℕ) (e : Event)
     (at_n : event_at t l.following ≡ Some e) (proc : e.proc ≡ p) (load : e.load ≡ true) (to : e.a ≡ a) where
-  unlisted : occurrences l.following done ≡ 0
+  pub unlisted : occurrences l.following done ≡ 0
   unlisted = unlisted_following done l l.following (omega arith) (listed l.following e at_n proc)
 
   -- a store that the load sees is to its address, and is listed or waits
-  seen : (s : ℕ) → IsVisible t whole s l.following → IsStoreTo t a s × ((0 < occurrences s done) ⊎ (0 < occurrences s l.waiting))
+  pub seen : (s : ℕ) → IsVisible t whole s l.following → IsStoreTo t a s × ((0 < occurrences s done) ⊎ (0 < occurrences s l.waiting))
   seen s visible = ((visible.0.0, visible.0.1, visible.0.2, address), by_way visible.2)
     where
       address : visible.0.0.a ≡ a
@@ -112,9 +109,18 @@ module _ (t : TraceValue) (past p : ℕ) (l : Numbering) (buffer : List Entry) (
           listed_or_waits t past p l buffer stbars left done numbered listed s earlier.0 earlier.2
           (earlier.4 ∙ ap (λ (x : Event). x.proc) (event_unique t l.following earlier.1 e earlier.3 at_n) ∙ proc) earlier.5
 
-  to_load : (s : ℕ) → IsStoreTo t a s → SameAddress t s l.following
+  -- a store to the address has the address of the load
+  pub to_load : (s : ℕ) → IsStoreTo t a s → SameAddress t s l.following
   to_load s store = (store.0, e, store.1, at_n, store.3 ∙ sym to)
 
+-- the order has a processor's stores to one address as the processor made them
+pub record KeepsAddresses (t : TraceValue) (whole : List ℕ) : Type 0 where
+  pub up_to : (u v : ℕ) → IsStore t u → IsStore t v → Earlier t u v → SameAddress t u v → IsUpTo whole u v
+
+module _ (t : TraceValue) (past p : ℕ) (l : Numbering) (buffer : List Entry) (stbars : ℕ) (left : List Outcome) (done : List ℕ)
+    (numbered : IsNumbered t p l buffer stbars left past) (listed : (u : ℕ) (d : Event) → event_at t u ≡ Some d → d.proc ≡ p → IsListed done l u)
+    (whole later : List ℕ) (keeps : KeepsAddresses t whole) (is : whole ≡ done ++ (l.following ∷ later)) (a : ℕ) (e : Event)
+    (at_n : event_at t l.following ≡ Some e) (proc : e.proc ≡ p) (load : e.load ≡ true) (to : e.a ≡ a) where
   value_of_load : (s v : ℕ) → HasValue t s v → e.value ≡ v → SameValue t s l.following
   value_of_load s v has value = (has.0, e, has.1, at_n, has.2 ∙ sym value)
 
@@ -156,12 +162,12 @@ module _ (t : TraceValue) (past p : ℕ) (l : Numbering) (buffer : List Entry) (
         n,
         (
           (store.0, store.1, store.2),
-          to_load n store,
+          to_load t past p l buffer stbars left done numbered listed whole later is a e at_n proc load to n store,
           inr (stored_event p numbered.bars entry.0, e, entry.1, at_n, sym proc, entry.2),
         ),
         value_of_load n e.value value refl,
         λ other visible.
-            let found = seen other visible in
+            let found = seen t past p l buffer stbars left done numbered listed whole later is a e at_n proc load to other visible in
             elim found.1 [
               | inl in_done ↦ listed_before_waiting other n in_done waits
               | inr in_buffer ↦ waiting_up_to other n in_buffer waits found.0 store (greatest other in_buffer found.0)
@@ -173,7 +179,7 @@ module _ (t : TraceValue) (past p : ℕ) (l : Numbering) (buffer : List Entry) (
   reads_memory none (inl first) = inl (
     (e, at_n, first.0 ∙ ap (first_value t.setting.first) (sym to)),
     λ s visible.
-        let found = seen s visible in
+        let found = seen t past p l buffer stbars left done numbered listed whole later is a e at_n proc load to s visible in
         elim found.1 [
           | inl in_done ↦ omega (arith, in_done, first.1 s found.0)
           | inr waits ↦ none s waits found.0
@@ -186,12 +192,12 @@ module _ (t : TraceValue) (past p : ℕ) (l : Numbering) (buffer : List Entry) (
         n,
         (
           (last.1.0, last.1.1, last.1.2),
-          to_load n last.1,
-          inl (subst (λ list. IsUpTo list n l.following) (sym is) (listed_up_to done (l.following ∷ later) n l.following last.3 unlisted)),
+          to_load t past p l buffer stbars left done numbered listed whole later is a e at_n proc load to n last.1,
+          inl (subst (λ list. IsUpTo list n l.following) (sym is) (listed_up_to done (l.following ∷ later) n l.following last.3 (unlisted t past p l buffer stbars left done numbered listed whole later is a e at_n proc load to))),
         ),
         value_of_load n e.value last.2 refl,
         λ other visible.
-            let found = seen other visible in
+            let found = seen t past p l buffer stbars left done numbered listed whole later is a e at_n proc load to other visible in
             elim found.1 [
               | inl in_done ↦
                   let at_other = place-listed other done (l.following ∷ later) in_done in

@@ -6,17 +6,17 @@ use Rattle.tso_ops.specs.declared.ops.Outcome.{Outcome}
 use Rattle.tso_ops.specs.declared.events.Event.{Event}
 use Rattle.tso_ops.specs.Settings.{first_value}
 use Rattle.tso_ops.specs.Values.{TraceValue}
-use Rattle.tso_ops.specs.Events.{event_at, IsStore, IsStoreTo, HasValue, Earlier, SameAddress, SameValue}
+use Rattle.tso_ops.specs.Events.{event_at, IsStoreTo, HasValue, SameAddress, SameValue}
 use Rattle.tso_model.specs.Axioms.{occurrences, place, IsUpTo, IsVisible, IsModelOrder, ReadsGreatest}
 use Rattle.tso_ops.proofs.NumberFacts.{event_unique}
 use Rattle.unit_core.specs.Machine.{Entry, newest}
 use Rattle.embedding.specs.RunOrder.{Numbering}
 use Rattle.embedding.proofs.Buffers.{entry_of_number, stored_event}
-use Rattle.embedding.proofs.Kept.{listed_or_waits, not_store}
+use Rattle.embedding.proofs.LoadedValues as stores_seen
 use Rattle.embedding.proofs.LoadedValues.{IsNewest, newest_of}
 use Rattle.embedding.proofs.Moments.{IsLastValue, IsListed, IsNumbered}
-use Rattle.embedding.proofs.Places.{listed_at, place-listed, place-past, up_to_next}
-use Rattle.embedding.proofs.Steps.{unlisted_following, unlisted_waiting}
+use Rattle.embedding.proofs.Places.{listed_at, place-listed, place-past}
+use Rattle.embedding.proofs.Steps.{unlisted_waiting}
 use Rattle.orders_have_runs.proofs.SwapSpans.{one_event}
 
 -- a listed number stands before one that isn't listed
@@ -37,31 +37,15 @@ module _ (t : TraceValue) (past p : ℕ) (l : Numbering) (buffer : List Entry) (
 
   module _ (whole later : List ℕ) (axioms : IsModelOrder t whole) (tso : t.setting.order ≡ Tso) (is : whole ≡ done ++ (l.following ∷ later)) (a : ℕ) (e : Event)
       (at_n : event_at t l.following ≡ Some e) (proc : e.proc ≡ p) (load : e.load ≡ true) (to : e.a ≡ a) where
-    unlisted : occurrences l.following done ≡ 0
-    unlisted = unlisted_following done l l.following (omega arith) (listed l.following e at_n proc)
-
-    -- a store that the load sees is to its address, and is listed or waits
+    -- what the load sees
     seen : (s : ℕ) → IsVisible t whole s l.following → IsStoreTo t a s × ((0 < occurrences s done) ⊎ (0 < occurrences s l.waiting))
-    seen s visible = ((visible.0.0, visible.0.1, visible.0.2, address), by_way visible.2)
-      where
-        address : visible.0.0.a ≡ a
-        address =
-            let same = visible.1 in
-            ap (λ (x : Event). x.a) (event_unique t s visible.0.0 same.0 visible.0.1 same.2) ∙ same.4
-            ∙ ap (λ (x : Event). x.a) (event_unique t l.following same.1 e same.3 at_n) ∙ to
+    seen = stores_seen.seen t past p l buffer stbars left done numbered listed whole later is a e at_n proc load to
 
-        by_way : IsUpTo whole s l.following ⊎ Earlier t s l.following → (0 < occurrences s done) ⊎ (0 < occurrences s l.waiting)
-        by_way (inl up_to) = elim (up_to_next done later s l.following unlisted (subst (λ list. IsUpTo list s l.following) is up_to)) [
-          | inl same ↦ absurd (not_store t l.following e at_n load (subst (λ k. IsStore t k) same visible.0))
-          | inr in_done ↦ inl in_done
-        ]
-        by_way (inr earlier) =
-            listed_or_waits t past p l buffer stbars left done numbered listed s earlier.0 earlier.2
-            (earlier.4 ∙ ap (λ (x : Event). x.proc) (event_unique t l.following earlier.1 e earlier.3 at_n) ∙ proc) earlier.5
-
-    -- a store to the address that is listed or waits is seen
     to_load : (s : ℕ) → IsStoreTo t a s → SameAddress t s l.following
-    to_load s store = (store.0, e, store.1, at_n, store.3 ∙ sym to)
+    to_load = stores_seen.to_load t past p l buffer stbars left done numbered listed whole later is a e at_n proc load to
+
+    unlisted : occurrences l.following done ≡ 0
+    unlisted = stores_seen.unlisted t past p l buffer stbars left done numbered listed whole later is a e at_n proc load to
 
     sees_listed : (s : ℕ) → IsStoreTo t a s → 0 < occurrences s done → IsVisible t whole s l.following
     sees_listed s store in_done =

@@ -122,7 +122,7 @@ fn lines_of(
 {
     let mut lines = Vec::new(alloc);
     for step in steps {
-        lines.push(RefutationLine::Step(copy_of(alloc, step)?))?;
+        lines.push(RefutationLine::Step(copy_step(alloc, step)?))?;
     }
     let cycle = NumList::new(Vec::from_slice(alloc, cycle)?);
     lines.push(RefutationLine::Cycle(cycle))?;
@@ -130,7 +130,7 @@ fn lines_of(
 }
 
 /// The same step. OutOfMemory where an allocation was refused.
-fn copy_of(alloc: Global, step: &CertStep) -> Result<CertStep, OutOfMemory>
+pub fn copy_step(alloc: Global, step: &CertStep) -> Result<CertStep, OutOfMemory>
     ensures { IfOk result (λ copy. copy ≡ step.now) }
 {
     let reason = match &step.reason {

@@ -5,7 +5,7 @@
 #![tactic(auto)]
 
 pub use answers::Answer;
-pub use decisions::{Decision, decide};
+pub use decisions::{Decision, copy_step, decide};
 pub use renderings::{AsDecision, DecisionRendering, render_decision_head};
 pub use texts::{DecisionLimits, Said, decide_input, decide_text};
 pub use verifying::verify_texts;

@@ -26,6 +26,11 @@ abbrev pub model_name : Order → List ℕ
 model_name Tso = codes "TSO"
 model_name Pso = codes "PSO"
 
+-- what follows a model's name: that it asks for an order, and what loads read by it
+abbrev pub order_sentences : List ℕ
+order_sentences =
+    codes " asks for one order of all loads and stores, the memory order.\nA load sees the stores to its address that come before it in that order or earlier on its own processor.\nIt reads the last of these in that order, or the first value of its address where there is none.\n"
+
 -- ---- no violation
 
 unfoldable pub silence_text : Order → Subject → List ℕ
@@ -37,8 +42,7 @@ silence_text order subject = joined (
 -- what the memory model asks for, and that there is no such order
 unfoldable pub cycle_head : Order → Subject → List ℕ
 cycle_head order subject = joined (
-    codes "\n" ∷ model_name order
-    ∷ codes " asks for one order of all loads and stores, the memory order.\nA load sees the stores to its address that come before it in that order or earlier on its own processor.\nIt reads the last of these in that order, or the first value of its address where there is none.\nNo memory order explains this " ∷ noun subject ∷ codes ": it would have to put each of these before the next, and the last is the first again.\n\n" ∷ [])
+    codes "\n" ∷ model_name order ∷ order_sentences ∷ codes "No memory order explains this " ∷ noun subject ∷ codes ": it would have to put each of these before the next, and the last is the first again.\n\n" ∷ [])
 
 -- the line of an edge of the cycle: the number that it leads to, and the least step that has it
 unfoldable pub link_text : NamingValue → TraceValue → List CertStep → ℕ × ℕ → List ℕ

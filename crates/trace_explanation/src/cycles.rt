@@ -3,7 +3,7 @@ ghost use Rattle.std.specs.Prelude.{◌≡◌, ◌++◌, [], reverse, string_byt
 ghost use Rattle.std.specs.List.{enumerate_from, flat_map};
 ghost use Rattle.std.specs.Option.{option_copied, option_map_or};
 ghost use Rattle.trace_explanation.specs.Words.{reason_short};
-ghost use Rattle.trace_explanation.specs.Explanations.{chain_text, cycle_head, cycle_text, link_text, model_name, places_head, step_text};
+ghost use Rattle.trace_explanation.specs.Explanations.{chain_text, cycle_head, cycle_text, link_text, model_name, order_sentences, places_head, step_text};
 
 use crate::diagnoses::push_diagnosis;
 use crate::links::list_links;
@@ -47,10 +47,11 @@ fn push_head(text: &mut String, order: Order, subject: Subject) -> Result<(), Al
     ensures { OnOk result (string_bytes text.new ≡ string_bytes text.old ++ cycle_head order subject) }
 {
     let model = model_name(order);
+    let sentences = order_sentences();
     let noun = noun(subject);
     write!(
         text,
-        "\n{model} asks for one order of all loads and stores, the memory order.\nA load sees the stores to its address that come before it in that order or earlier on its own processor.\nIt reads the last of these in that order, or the first value of its address where there is none.\nNo memory order explains this {noun}: it would have to put each of these before the next, and the last is the first again.\n\n"
+        "\n{model}{sentences}No memory order explains this {noun}: it would have to put each of these before the next, and the last is the first again.\n\n"
     )
 }
 
@@ -63,6 +64,13 @@ fn push_places_head(text: &mut String, subject: Subject) -> Result<(), AllocErro
         text,
         "\nThe events named above, by their lines in the {noun}:\n\n"
     )
+}
+
+/// What follows a model's name: that it asks for an order, and what loads read by it.
+pub fn order_sentences() -> &'static str
+    ensures { result.now ≡ order_sentences }
+{
+    " asks for one order of all loads and stores, the memory order.\nA load sees the stores to its address that come before it in that order or earlier on its own processor.\nIt reads the last of these in that order, or the first value of its address where there is none.\n"
 }
 
 /// The name of the memory model.

@@ -5,10 +5,11 @@
 //! `README.md` says what is proved.
 #![tactic(auto)]
 
-pub use cycles::model_name;
+pub use cycles::{model_name, order_sentences};
 pub use explanations::{explain, explain_named};
 pub use links::list_links;
 pub use loads::step_load;
+pub use marks::{mark, mark_step};
 pub use names::{NamedTrace, address_of, outcome_text, part_text, source_of};
 pub use namings::EventNames;
 pub use numbers::NumberedSteps;

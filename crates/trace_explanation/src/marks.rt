@@ -41,7 +41,7 @@ fn mark_named(alloc: Global, trace: &Trace, steps: &[CertStep]) -> Result<Vec<bo
 }
 
 /// Marks the numbers that a step names.
-fn mark_step(trace: &Trace, step: &CertStep, marks: &mut Vec<bool>)
+pub fn mark_step(trace: &Trace, step: &CertStep, marks: &mut Vec<bool>)
     ensures length { length marks.new.items ≡ length marks.old.items }
     ensures marked { (n : ℕ) → n < length marks.old.items → get_or marks.new.items n false ≡ (is_among n (step_numbers trace.now step.now) || get_or marks.old.items n false) }
 {
@@ -53,7 +53,7 @@ fn mark_step(trace: &Trace, step: &CertStep, marks: &mut Vec<bool>)
 }
 
 /// Marks a number; nothing where it is past the end.
-fn mark(marks: &mut Vec<bool>, number: usize)
+pub fn mark(marks: &mut Vec<bool>, number: usize)
     ensures length { length marks.new.items ≡ length marks.old.items }
     ensures marked { (n : ℕ) → n < length marks.old.items → get_or marks.new.items n false ≡ (number == n || get_or marks.old.items n false) }
 {
