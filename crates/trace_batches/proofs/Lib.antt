@@ -4,6 +4,7 @@ pub mod JobFacts
 pub mod JudgmentFacts
 pub mod NthFacts
 pub mod PieceFacts
+pub mod PieceReaderFacts
 pub mod TallyFacts
 mod PieceReports
 mod TracePieces

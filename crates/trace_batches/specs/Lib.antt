@@ -3,5 +3,6 @@ pub mod BatchNames
 pub mod Batches
 pub mod Judgments
 pub mod NthPieces
+pub mod PieceReading
 pub mod Pieces
 pub mod Internal

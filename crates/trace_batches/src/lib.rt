@@ -7,6 +7,7 @@ pub use batches::{BatchFormat, BatchMethod, BatchOptions, BatchPrinting};
 pub use begun::Batch;
 pub use judging::judge_batch;
 pub use nth_pieces::read_piece;
+pub use piece_readers::PieceReader;
 pub use tallies::BatchVerdict;
 
 mod batches;
@@ -19,6 +20,7 @@ pub mod laws;
 mod lines;
 mod names;
 mod nth_pieces;
+mod piece_readers;
 mod streams;
 mod tallies;
 mod totals;
