@@ -1,0 +1,3 @@
+pub mod FinalStates
+pub mod Internal
+pub mod RunStates

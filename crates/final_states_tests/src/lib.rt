@@ -1,0 +1,5 @@
+//! Tests of `final_states`, by its public call.
+#![tactic(auto)]
+
+#[cfg(test)]
+mod tests;
