@@ -1,0 +1,10 @@
+pub mod CountFacts
+pub mod LawFacts
+pub mod LineFacts
+pub mod ReadValues
+pub mod SaidFacts
+pub mod SameOutcomes
+pub mod SightingFacts
+pub mod StreamFacts
+pub mod TraceListFacts
+pub mod ValueOrder

@@ -1,0 +1,4 @@
+pub mod Counting
+pub mod PartLines
+pub mod Streams
+pub mod TraceLists

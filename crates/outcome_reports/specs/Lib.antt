@@ -1,0 +1,4 @@
+pub mod Outcomes
+pub mod SeenTraces
+pub mod StateLines
+pub mod Internal

@@ -1,0 +1,23 @@
+//! What the definitions of outcomes and of seen traces say, proved of all programs and streams.
+ghost use Rattle.std.specs.Prelude.{◌≡◌, ◌+◌, ℕ, List, length};
+ghost use Rattle.std.specs.List.{count_by};
+ghost use Rattle.tso_ops.specs.Values.{ProgramValue, TraceValue};
+ghost use Rattle.trace_batches.specs.declared.tallies.BatchVerdict.{BatchVerdict};
+ghost use Rattle.outcome_reports.specs.Outcomes.{AreTracesOf, IsListing};
+ghost use Rattle.outcome_reports.specs.SeenTraces.{AreSightings, CountsSeen, IsSighting, is_foreign, is_unreached, seen_total};
+ghost use Rattle.outcome_reports.specs.declared.options.OutcomeForm.{OutcomeForm};
+ghost use Rattle.outcome_reports.specs.declared.sightings.Sighting.{Sighting};
+
+/// A program has one list of traces, and in each form one text of its outcomes.
+pub fn listings()
+    ensures traces { (program : ProgramValue) (traces others : List TraceValue) → AreTracesOf program traces → AreTracesOf program others → traces ≡ others }
+    ensures text { (form : OutcomeForm) (program : ProgramValue) (text other : List ℕ) → IsListing form program text → IsListing form program other → text ≡ other }
+{}
+
+/// A piece of a stream is one thing to the traces of a program, each piece is counted once, and a program and a stream have one
+/// text and one verdict.
+pub fn seen_traces()
+    ensures one { (program : ProgramValue) (traces : List TraceValue) (piece : List ℕ) (sighting other : Sighting) → AreTracesOf program traces → IsSighting program traces piece sighting → IsSighting program traces piece other → sighting ≡ other }
+    ensures each { (program : ProgramValue) (traces : List TraceValue) (pieces : List (List ℕ)) (sightings : List Sighting) → AreSightings program traces pieces sightings → seen_total sightings 0 (length traces) + count_by is_unreached sightings + count_by is_foreign sightings ≡ length pieces }
+    ensures text { (program : ProgramValue) (stream text other : List ℕ) (verdict said : BatchVerdict) → CountsSeen program stream text verdict → CountsSeen program stream other said → (text ≡ other) × (verdict ≡ said) }
+{}

@@ -1,0 +1,19 @@
+//! What is printed of the outcomes of a program, and how often a stream of traces has each.
+//!
+//! `README.md` says what is proved.
+#![tactic(auto)]
+
+pub use listing::list_outcomes;
+pub use options::{OutcomeForm, OutcomeOptions};
+pub use seen::count_seen;
+
+mod counts;
+mod different;
+pub mod laws;
+mod lines;
+mod listing;
+mod options;
+mod places;
+mod seen;
+mod sightings;
+mod values;
