@@ -1,5 +1,5 @@
 -- What the values found for an argument stand for.
-use Rattle.std.proofs.Common.{◌≡◌, ◌∙◌, ◌+◌, ◌≤◌, ◌^◌, ◌-◌, ap, ap₂, cond, length, refl, sym, arith, ℕ, Bool, true, false, Option, Some, None, Result, Ok, Err, unwrap_or, map, option_map, codes, if◌then◌else◌, List, [], ◌∷◌, IfOk, subst}
+use Rattle.std.proofs.Common.{◌≡◌, ◌∙◌, ◌+◌, ◌≤◌, ◌^◌, ◌-◌, ◌==◌, ap, ap₂, cond, length, refl, sym, arith, ℕ, Bool, true, false, Option, Some, None, Result, Ok, Err, unwrap_or, map, option_map, codes, if◌then◌else◌, List, [], ◌∷◌, IfOk, subst}
 use Rattle.std.specs.Prelude.{count_by, is_none, nat_le}
 use Rattle.std.proofs.lemmas.Bool.{leb-true}
 use Rattle.std.proofs.lemmas.List.Sums.{sum_by-cons}
@@ -21,10 +21,10 @@ use Rattle.command_line.specs.declared.options.LogForm.{LogForm}
 use Rattle.command_line.specs.declared.options.LogOptions.{LogOptions}
 use Rattle.command_line.specs.declared.options.RunOptions.{RunOptions}
 use Rattle.command_line.specs.declared.options.UnitOptions.{UnitOptions}
-use Rattle.command_line.specs.Requests.{Asked, Text, asked_of, batching, capacity_limit, checking, drain_turns_limit, log_effort_limit, log_violation_limit, logging, number_limit, refusing, replaying, running, verifying, worker_limit}
+use Rattle.command_line.specs.Requests.{Asked, Text, asked_of, batching, capacity_limit, checking, drain_turns_limit, log_effort_limit, log_violation_limit, logging, number_limit, prints_trace, refusing, repeating, replaying, run_times_limit, running, verifying, worker_limit}
 use Rattle.command_line.specs.declared.options.Printing.{Printing}
 use Rattle.command_line.specs.declared.requests.Request.{Request}
-use Rattle.command_line.specs.Subcommands.{batch, batch_printing_of, batch_texts, check, file_of, is_true, log, log_form_of, log_options_in, log_options_of, log_parameters, number_of, number_or, pair_of, printing_of, replay, run, run_of, run_parameters, unit_of, verify, within, workers_of}
+use Rattle.command_line.specs.Subcommands.{batch, batch_printing_of, batch_texts, check, file_of, is_true, log, log_form_of, log_options_in, log_options_of, log_parameters, number_of, number_or, outcomes, outcomes_asked, pair_of, printing_of, replay, run, run_asked, run_of, run_parameters, unit_of, verify, within, workers_of}
 use Rattle.command_line.specs.Commands.{asked_in, given_in}
 
 -- the file that a value names which was asked for by its id
@@ -159,11 +159,18 @@ pub log_asked : (rows : List Row) (options : Option LogOptions) → options ≡ 
     → option_map_or (logging file) options refusing ≡ asked_in log rows
 log_asked rows options options_are file file_is = rw (options_are, file_is) refl
 
--- what a run asks for with these options, where there are any, and these texts
-pub run_asked : (rows : List Row) (options : Option RunOptions) → options ≡ run_of (given_in run_parameters rows) → (seed turns : ℕ) (program : Option Text)
+-- what `run` asks for with these options, where there are any
+pub run_found : (rows : List Row) (options : Option RunOptions) → options ≡ run_of (given_in run_parameters rows) → (seed turns times : ℕ) (program : Option Text)
     → seed ≡ number_or 0 (one_of (codes "seed") rows) → turns ≡ within 0 drain_turns_limit (number_or 0 (one_of (codes "drain-turns") rows))
-    → program ≡ file_of (first_of (codes "program") rows) → option_map_or (λ o. running o seed turns program) options refusing ≡ asked_in run rows
-run_asked rows options options_are seed turns program seed_is turns_are program_is = rw (options_are, seed_is, turns_are, program_is) refl
+    → times ≡ within 1 run_times_limit (number_or 1 (one_of (codes "times") rows))
+    → program ≡ file_of (first_of (codes "program") rows) → option_map_or (λ o. run_asked o seed turns times program) options refusing ≡ asked_in run rows
+run_found rows options options_are seed turns times program seed_is turns_are times_are program_is = rw (options_are, seed_is, turns_are, times_are, program_is) refl
+
+-- what `outcomes` asks for
+pub outcomes_found : (rows : List Row) (states : Bool) (limit : ℕ) (program : Option Text) → states ≡ is_true (one_of (codes "states") rows) → limit ≡ number_or 1000000 (one_of (codes "limit") rows)
+    → program ≡ file_of (first_of (codes "program") rows) → (stream : Option Text) → stream ≡ first_of (codes "seen") rows
+    → outcomes_asked states limit program stream ≡ asked_in outcomes rows
+outcomes_found rows states limit program states_are limit_is program_is stream stream_is = rw (states_are, limit_is, program_is, stream_is) refl
 
 -- what holds of a refusal, and of what is asked for with options in their ranges, holds of what `replay`, `run` and `log` ask for
 module _ (P : Asked → Type 0) (refused : P refusing) where
@@ -193,9 +200,25 @@ module _ (P : Asked → Type 0) (refused : P refusing) where
 
   pub of_run : ((options : RunOptions) (seed turns : ℕ) (program : Option Text) → 1 ≤ options.workers → options.workers ≤ worker_limit → 1 ≤ options.unit.capacity → options.unit.capacity ≤ capacity_limit
       → 1 ≤ options.unit.trigger → turns ≤ drain_turns_limit → P (running options seed turns program))
+      → ((unit : UnitOptions) (seed turns times : ℕ) (program : Option Text) → 1 ≤ unit.capacity → unit.capacity ≤ capacity_limit → 1 ≤ unit.trigger → turns ≤ drain_turns_limit
+      → P (repeating unit seed turns times program))
       → (rows : List Row) → P (asked_in run rows)
-  of_run asked rows =
-      of_options _ (given_in run.parameters rows) (λ options some most capacity capacity_most trigger. asked options _ _ _ some most capacity capacity_most trigger (omega arith))
+  of_run once more rows =
+      of_options _ (given_in run.parameters rows) (λ options some most capacity capacity_most trigger.
+      by_times options _ _ _ _ (λ few. once options _ _ _ some most capacity capacity_most trigger few) (λ few. more options.unit _ _ _ _ capacity capacity_most trigger few) (omega arith))
+    where
+      by_trace : (traces : Bool) (asked : Asked) → P asked → P (if traces then asked else refusing)
+      by_trace true asked holds = holds
+      by_trace false asked holds = refused
+
+      by_one : (one : Bool) (first second : Asked) → P first → P second → P (if one then first else second)
+      by_one true first second holds other = holds
+      by_one false first second holds other = other
+
+      by_times : (options : RunOptions) (seed turns times : ℕ) (program : Option Text) → (turns ≤ drain_turns_limit → P (running options seed turns program))
+          → (turns ≤ drain_turns_limit → P (repeating options.unit seed turns times program)) → turns ≤ drain_turns_limit → P (run_asked options seed turns times program)
+      by_times options seed turns times program first second few =
+          by_one (times == 1) _ _ (first few) (by_trace (prints_trace options.printing) _ (second few))
 
   pub of_log : ((file : Option Text) (options : LogOptions) → 1 ≤ options.most → options.most ≤ log_violation_limit → options.effort ≤ log_effort_limit → P (logging file options)) → (rows : List Row) → P (asked_in log rows)
   of_log asked rows = go (log_form_of (is_true (given_in log.parameters rows (codes "trace"))) (is_true (given_in log.parameters rows (codes "explain"))))

@@ -17,7 +17,7 @@ use Rattle.clap.specs.Walk.{Row, Rule, Text, is_empty, row_text}
 use Rattle.clap.specs.declared.builder.value_parser.Reading.TheVariants.{AsWritten}
 use Rattle.clap.proofs.WalkLemmas.{list_any-map}
 use Rattle.command_line.specs.Offered.{itself, several_in, text_in}
-use Rattle.command_line.specs.Parameters.{Parameter, Values, listed, offered_rule, parser_of, range, takes, takes_default, valued}
+use Rattle.command_line.specs.Parameters.{Parameter, Values, any_text, listed, offered_rule, parser_of, range, takes, takes_default, valued}
 use Rattle.command_line.specs.Spelled.{OptionTakes, are_whole, several_given, texts_given}
 use Rattle.command_line.proofs.Rows.{DefaultsPass, has_id}
 use Rattle.command_line.proofs.Uses.{IsOptionRow}
@@ -49,6 +49,9 @@ module _ {N : Type 0} (memory : N → Bor (List (Bor Text))) where
     option_text i id (listed n) None required None row = ap (option_and_then (λ r. slice_get r.values 0)) row
     option_text i id (listed n) (Some text) required None row = ap (option_and_then (λ r. slice_get r.values 0)) row
     option_text i id (listed n) default required (Some value) row = ap (option_and_then (λ r. slice_get r.values 0)) row.1 ∙ row.3
+    option_text i id any_text None required None row = ap (option_and_then (λ r. slice_get r.values 0)) row
+    option_text i id any_text (Some text) required None row = ap (option_and_then (λ r. slice_get r.values 0)) row
+    option_text i id any_text default required (Some value) row = ap (option_and_then (λ r. slice_get r.values 0)) row.1 ∙ row.3
 
     -- ---- what is required
 
@@ -105,10 +108,12 @@ module _ {N : Type 0} (memory : N → Bor (List (Bor Text))) where
     pub accepts_is : (values : Values N) (text : Text) → accepts false (parser_of memory values) text ≡ takes known values text
     accepts_is (range least most) text = refl
     accepts_is (listed n) text = list_any-map (λ (t : Text). bytes_eq t text) (λ t. t.now) (memory n).now ∙ ap (list_any (λ (t : Text). bytes_eq t text)) (named n)
+    accepts_is any_text text = refl
 
     pub as_written : (values : Values N) → reading_of (parser_of memory values) ≡ AsWritten
     as_written (range least most) = refl
     as_written (listed n) = refl
+    as_written any_text = refl
 
     -- the first option whose value is not taken
     pub record FirstWrong (ps : List (Parameter N)) (options : List (Text × Text)) : Type 0 where

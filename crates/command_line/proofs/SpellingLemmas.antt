@@ -5,7 +5,7 @@ use Rattle.clap.specs.Values.{refused_kind}
 use Rattle.clap.specs.Words.{Kinds, Row, fault_of, subcommand_of}
 use Rattle.clap.specs.declared.error.kind.ErrorKind.{ErrorKind}
 use Rattle.clap.specs.declared.error.kind.ErrorKind.TheVariants.{InvalidSubcommand, UnknownArgument}
-use Rattle.command_line.specs.Parameters.{Values, listed, parser_of, range}
+use Rattle.command_line.specs.Parameters.{Values, any_text, listed, parser_of, range}
 use Rattle.command_line.proofs.GivenParameters.{give_several, give_taken, give_texts, left_out_refused, wrong_value_refused}
 use Rattle.command_line.proofs.ValueTexts.{value_is}
 use Rattle.command_line.specs.Commands.{HasKnownNames, IsAskedBy, asked_at, asked_by, asked_in, memory_of, notes_by, notes_in, tsobench_app}
@@ -48,6 +48,7 @@ module _ (found : Option (Text × List Row)) (asked : Asked) where
 wrong_is_refused : (names : OptionNames) (values : Values NameList) → asked_at (refused_kind (parser_of (memory_of names) values)) ≡ refusing
 wrong_is_refused names (range least most) = refl
 wrong_is_refused names (listed list) = refl
+wrong_is_refused names any_text = refl
 
 module _ (names : OptionNames) where
   abbrev IsFoundOf : List Text → Asked → Type 0

@@ -8,7 +8,7 @@ use Rattle.clap.specs.Lexer.{long_of}
 use Rattle.clap.specs.Simple.{Shape, filled_from, help_rule}
 use Rattle.clap.specs.Walk.{Row, Rule, Text, all_of, arg_by_id, arg_by_index, arg_by_long, first_of, is_empty, one_of, reading_by}
 use Rattle.clap.specs.declared.parser.matches.ValueSource.TheVariants.{DefaultValue}
-use Rattle.command_line.specs.Parameters.{Parameter, flag, id_of, listed, offered_rule, other, range, several, valued}
+use Rattle.command_line.specs.Parameters.{Parameter, any_text, flag, id_of, listed, offered_rule, other, range, several, valued}
 
 -- ---- the rules of the parameters, and what a parse finds by their names
 
@@ -67,6 +67,7 @@ module _ {N : Type 0} where
   abbrev pub text_in : List Row → Parameter N → Option Text
   text_in rows (valued id (range least most) default required) = one_of id rows
   text_in rows (valued id (listed n) default required) = first_of id rows
+  text_in rows (valued id any_text default required) = first_of id rows
   text_in rows (flag id) = one_of id rows
   text_in rows (other id required) = first_of id rows
   text_in rows (several id) = first_of id rows

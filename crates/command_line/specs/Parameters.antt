@@ -16,6 +16,8 @@ pub data Values (N : Type 0) : Type 0 where
   range : ℕ → ℕ → Values N
   -- one of the names of a list
   listed : N → Values N
+  -- any text, as the name of a file
+  any_text : Values N
 
 -- what may be given
 pub data Parameter (N : Type 0) : Type 0 where
@@ -49,6 +51,7 @@ module _ {N : Type 0} (memory : N → Bor (List (Bor Text))) where
   abbrev pub parser_of : Values N → ValueParser
   parser_of (range least most) = parser.Unsigned least most
   parser_of (listed n) = parser.Names (memory n)
+  parser_of any_text = parser.String
 
   abbrev pub offered_rule : Parameter N → Rule
   offered_rule (valued id values default required) = record (new_rule id) {
@@ -73,6 +76,7 @@ module _ {N : Type 0} (known : N → List Text) where
   abbrev pub takes : Values N → Text → Bool
   takes (range least most) text = is_unsigned_in least most text
   takes (listed n) text = list_any (λ t. bytes_eq t text) (known n)
+  takes any_text text = true
 
   -- a default is one that its own option takes
   abbrev pub takes_default : Parameter N → Bool

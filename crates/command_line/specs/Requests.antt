@@ -12,7 +12,7 @@ use Rattle.command_line.specs.declared.options.Printing.{Printing}
 use Rattle.command_line.specs.declared.options.Printing.TheVariants.{Report, Trace, Explanation}
 use Rattle.command_line.specs.declared.options.RunOptions.{RunOptions}
 use Rattle.command_line.specs.declared.options.UnitOptions.{UnitOptions}
-use Rattle.command_line.specs.declared.requests.Request.TheVariants.{Judge, Decide, Reduce, Batch, Log, Check, Verify, Replay, Run, Make, Campaign, Show, Refuse}
+use Rattle.command_line.specs.declared.requests.Request.TheVariants.{Judge, Decide, Reduce, Batch, Log, Check, Verify, Outcomes, Seen, Replay, Run, RunTimes, Make, Campaign, Show, Refuse}
 
 -- the bytes of a text
 abbrev pub Text : Type 0
@@ -47,11 +47,18 @@ pub data Asked : Type 0 where
   checking : Option Text → Option Text → Option ℕ → Asked
   -- to check evidence, the second text, of whether a trace, the first text or the trace of this number in it, has such an order
   verifying : Option Text → Option Text → Option ℕ → Asked
+  -- to list the outcomes of a program whose runs reach so many states at most: their traces, or their final states where this is true
+  listing : Option Text → ℕ → Bool → Asked
+  -- to count how often a stream of traces, the second text, has each trace of the runs of a program, the first, where they reach so many states at most
+  counting : Option Text → Option Text → ℕ → Asked
   -- to replay a program, the first text, by a schedule, the second, with these options
   replaying : RunOptions → Option Text → Option Text → Asked
   -- to run a program with a thread per processor, with these options and this seed of the drains, beside a drainer that
   -- takes so many turns
   running : RunOptions → ℕ → ℕ → Option Text → Asked
+  -- to run a program so many times with a thread per processor, on this unit, with this seed of the drains and then each with the next, beside a drainer that
+  -- takes so many turns, and to print the trace of each
+  repeating : UnitOptions → ℕ → ℕ → ℕ → Option Text → Asked
   -- to print the program made from a seed, or the schedule
   making : MakeOptions → Asked
   -- to run the programs made from the seeds of a campaign, and to judge the trace of each
@@ -76,8 +83,11 @@ asked_of (Batch batch) = batching (map (option_map (λ f. f.now)) batch.texts.it
 asked_of (Log log) = logging (option_map (λ f. f.now) log.file) log.options
 asked_of (Check check) = checking (files_of check.texts).0 (files_of check.texts).1 check.nth
 asked_of (Verify check) = verifying (files_of check.texts).0 (files_of check.texts).1 check.nth
+asked_of (Outcomes outcomes) = listing (option_map (λ f. f.now) outcomes.program) outcomes.limit outcomes.states
+asked_of (Seen seen) = counting (files_of seen.texts).0 (files_of seen.texts).1 seen.limit
 asked_of (Replay options texts) = replaying options (files_of texts).0 (files_of texts).1
 asked_of (Run run) = running run.options run.drain_seed run.drain_turns (option_map (λ f. f.now) run.program)
+asked_of (RunTimes run) = repeating run.unit run.drain_seed run.drain_turns run.times (option_map (λ f. f.now) run.program)
 asked_of (Make options) = making options
 asked_of (Campaign options) = campaigning options
 asked_of (Show text) = showing
@@ -94,6 +104,10 @@ capacity_limit = 64
 -- the greatest number of turns of a drainer
 abbrev pub drain_turns_limit : ℕ
 drain_turns_limit = 1000000
+
+-- the greatest number of times that a program is run
+abbrev pub run_times_limit : ℕ
+run_times_limit = 1000000
 
 -- the greatest number of violations of a log that are shown
 abbrev pub log_violation_limit : ℕ
@@ -130,6 +144,8 @@ needs (batching texts workers printing) = record nothing_needed { texts = texts;
 needs (logging file options) = record nothing_needed { texts = file ∷ [] }
 needs (checking trace certificate nth) = record nothing_needed { texts = trace ∷ certificate ∷ [] }
 needs (verifying trace evidence nth) = record nothing_needed { texts = trace ∷ evidence ∷ [] }
+needs (listing program limit states) = record nothing_needed { texts = program ∷ [] }
+needs (counting program stream limit) = record nothing_needed { texts = program ∷ stream ∷ [] }
 needs (replaying options program schedule) = record {
   texts = program ∷ schedule ∷ [];
   workers = Some options.workers;
@@ -137,6 +153,7 @@ needs (replaying options program schedule) = record {
   program = Some program;
 }
 needs (running options seed turns program) = record { texts = program ∷ []; workers = Some options.workers; unit = Some options.unit; program = Some program }
+needs (repeating unit seed turns times program) = record nothing_needed { texts = program ∷ []; unit = Some unit; program = Some program }
 needs (campaigning options) = record nothing_needed { workers = Some options.workers; unit = Some options.unit }
 needs asked = nothing_needed
 
@@ -151,6 +168,7 @@ HasUnitRanges asked = IfSome (needs asked).unit (λ unit. (1 ≤ unit.capacity) 
 -- a drainer takes no more turns than it may
 abbrev pub HasDrainTurns : Asked → Type 0
 HasDrainTurns (running options seed turns program) = turns ≤ drain_turns_limit
+HasDrainTurns (repeating unit seed turns times program) = turns ≤ drain_turns_limit
 HasDrainTurns asked = Unit {0}
 
 -- the options of a log are within their ranges

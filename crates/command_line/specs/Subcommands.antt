@@ -1,12 +1,12 @@
 -- The subcommands as values: the parameters of each, and what it asks for by their texts.
-use Rattle.std.specs.Prelude.{◌&&◌, ◌||◌, ℕ, Bool, true, false, List, [], ◌∷◌, ◌++◌, Option, Some, None, codes, count_by, find, is_none, is_some, map, max, min, nat_le, option_and_then, option_map, unwrap_or, zip, if◌then◌else◌}
+use Rattle.std.specs.Prelude.{◌&&◌, ◌||◌, ◌==◌, ℕ, Bool, true, false, List, [], ◌∷◌, ◌++◌, Option, Some, None, codes, count_by, find, is_none, is_some, map, max, min, nat_le, option_and_then, option_map, unwrap_or, zip, if◌then◌else◌}
 use Rattle.std.specs.List.{list_any}
 use Rattle.std.specs.Option.{option_map_or}
 use Rattle.std.specs.Str.{bytes_eq}
 use Rattle.std.specs.Str.Parse.{digits_value, without_leading_plus}
 use Rattle.clap.specs.ValueTests.{is_unsigned_in}
 use Rattle.command_line.specs.Given.{value_named}
-use Rattle.command_line.specs.Parameters.{Parameter, flag, id_of, is_several, listed, option, optional, other, range, several}
+use Rattle.command_line.specs.Parameters.{Parameter, any_text, flag, id_of, is_several, listed, option, optional, other, range, several}
 use Rattle.tso_ops.specs.declared.settings.Order.{Order}
 use Rattle.tso_ops.specs.declared.settings.Order.TheVariants.{Tso}
 use Rattle.command_line.specs.declared.options.BatchFormat.{BatchFormat}
@@ -27,7 +27,7 @@ use Rattle.command_line.specs.declared.requests.Notes.{Notes}
 use Rattle.command_line.specs.declared.parameters.NameList.{NameList}
 use Rattle.command_line.specs.declared.parameters.NameList.TheVariants.{Units, Models, Formats}
 use Rattle.command_line.specs.Names.{formats, models, units}
-use Rattle.command_line.specs.Requests.{Text, Asked, batching, campaigning, capacity_limit, checking, deciding, drain_turns_limit, judging, log_effort_limit, log_violation_limit, logging, making, number_limit, reducing, refusing, replaying, running, verifying, worker_limit}
+use Rattle.command_line.specs.Requests.{Text, Asked, batching, campaigning, capacity_limit, checking, counting, deciding, drain_turns_limit, judging, listing, log_effort_limit, log_violation_limit, logging, making, number_limit, prints_trace, reducing, refusing, repeating, replaying, run_times_limit, running, verifying, worker_limit}
 
 pub record Subcommand : Type 0 where
   pub name : Text
@@ -103,6 +103,10 @@ run_parameters = unit_parameters ++ flag (codes "trace") ∷ flag (codes "explai
 abbrev pub drain_turns : Parameter NameList
 drain_turns = option (codes "drain-turns") (range 0 drain_turns_limit) (Some (codes "0"))
 
+-- `--times N`: once where it is left out
+abbrev pub times : Parameter NameList
+times = option (codes "times") (range 1 run_times_limit) (Some (codes "1"))
+
 -- `[--most K] [--effort N] [--trace|--explain] [--progress] [--verbose]`: 10 violations and an effort of 100 where they are left out
 abbrev pub log_parameters : List (Parameter NameList)
 log_parameters =
@@ -148,6 +152,9 @@ effort_of given = number_or 100000 (given (codes "effort"))
 
 abbrev pub drain_turns_of : (Text → Option Text) → ℕ
 drain_turns_of given = within 0 drain_turns_limit (number_or 0 (given (codes "drain-turns")))
+
+abbrev pub times_of : (Text → Option Text) → ℕ
+times_of given = within 1 run_times_limit (number_or 1 (given (codes "times")))
 
 abbrev pub unit_of : (Text → Option Text) → UnitOptions
 unit_of given = record {
@@ -298,6 +305,24 @@ verify = record {
       option_map_or (λ texts. verifying texts.0 texts.1 (number_of (given (codes "nth")))) (pair_of (file_of (given (codes "trace"))) (file_of (given (codes "evidence")))) refusing;
 }
 
+-- to list outcomes, or to count those of a stream where one is named: then final states aren't asked for, since a trace doesn't tell last values
+abbrev pub outcomes_asked : (states : Bool) → (limit : ℕ) → (program : Option Text) → (stream : Option Text) → Asked
+outcomes_asked states limit program None = listing program limit states
+outcomes_asked states limit program (Some name) =
+    if states then refusing else option_map_or (λ texts. counting texts.0 texts.1 limit) (pair_of program (file_of (Some name))) refusing
+
+-- `outcomes [--states] [--limit N] [--seen STREAM] [--verbose] PROGRAM`: lists the outcomes of a program, or counts those of a stream of traces; runs may
+-- reach 1,000,000 states where the limit is left out
+abbrev pub outcomes : Subcommand
+outcomes = record {
+  name = codes "outcomes";
+  parameters =
+      flag (codes "states") ∷ option (codes "limit") (range 1 number_limit) (Some (codes "1000000")) ∷ optional (codes "seen") any_text ∷ verbose
+      ∷ other (codes "program") true ∷ [];
+  ask = λ given.
+      outcomes_asked (is_true (given (codes "states"))) (number_or 1000000 (given (codes "limit"))) (file_of (given (codes "program"))) (given (codes "seen"));
+}
+
 -- `replay --unit UNIT [--capacity C] [--trigger T] [--workers N] [--trace|--explain] [--with-trace] [--verbose] PROGRAM SCHEDULE`: replays a program by a
 -- schedule
 abbrev pub replay : Subcommand
@@ -309,14 +334,21 @@ replay = record {
       (run_of given) refusing;
 }
 
--- `run --unit UNIT [--capacity C] [--trigger T] [--workers N] [--trace|--explain] [--with-trace] [--verbose] --seed N [--drain-turns T] PROGRAM`: runs a
--- program with a thread per processor, and no drainer where its turns are left out
+-- to run a program once with these options, or more times, where its traces are to be printed
+abbrev pub run_asked : RunOptions → (seed turns times : ℕ) → Option Text → Asked
+run_asked options seed turns times program =
+    if times == 1 then running options seed turns program
+    else if prints_trace options.printing then repeating options.unit seed turns times program
+    else refusing
+
+-- `run --unit UNIT [--capacity C] [--trigger T] [--workers N] [--trace|--explain] [--with-trace] [--verbose] --seed N [--drain-turns T] [--times N] PROGRAM`:
+-- runs a program with a thread per processor, and no drainer where its turns are left out
 abbrev pub run : Subcommand
 run = record {
   name = codes "run";
-  parameters = run_parameters ++ required (codes "seed") ∷ drain_turns ∷ other (codes "program") true ∷ [];
+  parameters = run_parameters ++ required (codes "seed") ∷ drain_turns ∷ times ∷ other (codes "program") true ∷ [];
   ask = λ given. option_map_or (λ options.
-      running options (number_or 0 (given (codes "seed"))) (drain_turns_of given)
+      run_asked options (number_or 0 (given (codes "seed"))) (drain_turns_of given) (times_of given)
       (file_of (given (codes "program")))) (run_of given) refusing;
 }
 
@@ -355,4 +387,4 @@ campaign = record {
 abbrev pub subcommands : List Subcommand
 subcommands =
     judge ∷ decide ∷ present_as (codes "explain") form.Explanation ∷ present_as (codes "draw") form.Picture
-    ∷ reduce ∷ batch ∷ log ∷ check ∷ verify ∷ replay ∷ run ∷ make ∷ campaign ∷ []
+    ∷ reduce ∷ batch ∷ log ∷ check ∷ verify ∷ outcomes ∷ replay ∷ run ∷ make ∷ campaign ∷ []

@@ -3,7 +3,13 @@ ghost use Rattle.std.specs.Prelude.{◌≡◌, [], codes, count_by, false, is_no
 ghost use Rattle.clap.specs.Words.{first_of, found_of, one_of, rows_of};
 ghost use Rattle.command_line.specs.Commands.{asked_in, given_in};
 ghost use Rattle.command_line.specs.Requests.{asked_of, files_of, refusing};
-ghost use Rattle.command_line.specs.Subcommands.{batch, batch_printing_of, batch_texts, campaign, check, decide, file_of, is_true, judge, log, log_form_of, log_options_of, log_parameters, make, pair_of, present_as, printing_of, reduce, replay, run, run_of, run_parameters, shape_of, shape_parameters, unit_of, unit_parameters, verify};
+ghost use Rattle.command_line.specs.Subcommands.{batch, batch_printing_of, batch_texts, campaign, check, decide, file_of, is_true, judge, log, log_form_of, log_options_of, log_parameters, make, pair_of, present_as, printing_of, reduce, replay, run_of, run_parameters, shape_of, shape_parameters, unit_of, unit_parameters, verify};
+
+pub(crate) use outcomes::outcomes;
+pub(crate) use runs::run;
+
+mod outcomes;
+mod runs;
 
 use crate::help;
 use crate::options::{
@@ -13,7 +19,7 @@ use crate::options::{
 };
 use crate::requests::{
     BatchRequest, CheckRequest, DecideRequest, JudgeRequest, LogRequest, Notes, ReduceRequest,
-    Request, RunRequest, TextPair,
+    Request, TextPair,
 };
 use crate::values::{
     decision_effort, drain_turns, effort, file, format, is_used, named_file, nth, number,
@@ -145,21 +151,6 @@ pub(crate) fn replay<'a>(alloc: Global, matches: &ArgMatches<'a>) -> Result<Requ
     }
 }
 
-/// Of `run`: a refusal of both flags.
-pub(crate) fn run<'a>(alloc: Global, matches: &ArgMatches<'a>) -> Result<Request<'a>, AllocError>
-    ensures { IfOk result (λ request. asked_of request ≡ asked_in run (rows_of (found_of matches.now))) }
-{
-    match run_options(matches) {
-        Some(options) => Ok(Request::Run(RunRequest {
-            options,
-            drain_seed: number(matches, "seed", 0),
-            drain_turns: drain_turns(matches),
-            program: file(matches, "program"),
-        })),
-        None => refuse(alloc, help::BOTH),
-    }
-}
-
 /// Of `make`.
 pub(crate) fn make<'a>(matches: &ArgMatches<'a>) -> Request<'a>
     ensures { asked_of result ≡ asked_in make (rows_of (found_of matches.now)) }
@@ -255,7 +246,14 @@ fn inputs_among(texts: &[Option<&str>]) -> usize
 fn text_pair<'a>(matches: &ArgMatches<'a>, first: &str, second: &str) -> Option<TextPair<'a>>
     ensures { let rows = rows_of (found_of matches.now) in option_map files_of result ≡ pair_of (file_of (first_of first.now rows)) (file_of (first_of second.now rows)) }
 {
-    match (file(matches, first), file(matches, second)) {
+    pair_of(file(matches, first), file(matches, second))
+}
+
+/// Two texts, each in a file or on standard input; none where both would be there.
+fn pair_of<'a>(first: Option<&'a str>, second: Option<&'a str>) -> Option<TextPair<'a>>
+    ensures { option_map files_of result ≡ pair_of (option_map (λ file. file.now) first.entry) (option_map (λ file. file.now) second.entry) }
+{
+    match (first, second) {
         (Some(first), Some(second)) => Some(TextPair::Files(first, second)),
         (None, Some(second)) => Some(TextPair::InputAndFile(second)),
         (Some(first), None) => Some(TextPair::FileAndInput(first)),

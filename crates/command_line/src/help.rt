@@ -25,11 +25,13 @@ first.
 
 Where `tsobench judge` finds no violation there may be one. `tsobench decide`
 looks on, for an order that meets the axioms of the memory model or for a proof
-that there is none; `tsobench verify` checks either.
+that there is none; `tsobench verify` checks either. `tsobench outcomes` lists
+what all runs of a program leave.
 
 Exit status:
   0  no violation was found, which proves nothing, or the trace is consistent
-  1  no violation was found, and the search in a log or by cases ended early
+  1  no violation was found, and the search in a log or by cases ended early, or
+     a trace under PSO is of no run
   2  a text or the command line was refused
   3  the trace violates its memory model, or the certificate or refutation holds
   4  a fault, which one line on standard error names
@@ -47,6 +49,20 @@ For more information, try '--help'.
 /// The refusal of several files on standard input.
 pub(crate) const SEVERAL_INPUTS: &str = "\
 error: one of the files may be '-', and no more: standard input is read once
+
+For more information, try '--help'.
+";
+
+/// The refusal of more runs than one whose traces aren't printed.
+pub(crate) const TIMES_WITHOUT_TRACE: &str = "\
+error: the argument '--times <N>' needs '--trace' where N is more than 1
+
+For more information, try '--help'.
+";
+
+/// The refusal of `--states` with `--seen`.
+pub(crate) const STATES_SEEN: &str = "\
+error: the argument '--states' cannot be used with '--seen <STREAM>'
 
 For more information, try '--help'.
 ";

@@ -14,10 +14,11 @@ mod values;
 
 pub use options::{
     BatchFormat, BatchPrinting, CampaignOptions, LogForm, LogOptions, MAX_CAPACITY,
-    MAX_DRAIN_TURNS, MAX_LOG_EFFORT, MAX_LOG_VIOLATIONS, MAX_WORKERS, MakeOptions, Presentation,
-    Printing, RunOptions, ShapeNumbers, UnitKind, UnitOptions,
+    MAX_DRAIN_TURNS, MAX_LOG_EFFORT, MAX_LOG_VIOLATIONS, MAX_RUN_TIMES, MAX_WORKERS, MakeOptions,
+    Presentation, Printing, RunOptions, ShapeNumbers, UnitKind, UnitOptions,
 };
 pub use requests::{
     BatchRequest, CheckRequest, CommandLine, DecideRequest, JudgeRequest, LogRequest, Notes,
-    ReduceRequest, Request, RunRequest, TextPair, read_arguments,
+    OutcomesRequest, ReduceRequest, Request, RunRequest, RunTimesRequest, SeenRequest, TextPair,
+    read_arguments,
 };

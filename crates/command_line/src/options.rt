@@ -3,6 +3,7 @@ ghost use Rattle.std.specs.Prelude.{◌≡◌};
 ghost use Rattle.command_line.specs.Given.{value_named};
 ghost use Rattle.command_line.specs.Commands.{HasKnownNames};
 ghost use Rattle.command_line.specs.Names.{formats, models, units};
+ghost use Rattle.command_line.specs.Requests.{prints_trace};
 
 use tso_ops::Order;
 use unit_faulty::FaultKind;
@@ -15,6 +16,9 @@ pub const MAX_CAPACITY: usize = 64;
 
 /// The greatest number of turns that a drainer takes beside the issuers of a run.
 pub const MAX_DRAIN_TURNS: u64 = 1_000_000;
+
+/// The greatest number of times that a program is run.
+pub const MAX_RUN_TIMES: u64 = 1_000_000;
 
 /// The greatest number of violations of a log that are shown.
 pub const MAX_LOG_VIOLATIONS: usize = 1_000_000;
@@ -134,6 +138,18 @@ pub enum Printing {
     Trace,
     /// The explanation of the verdict on the recorded trace alone.
     Explanation,
+}
+
+impl Printing {
+    /// Whether it is the recorded trace.
+    pub(crate) fn is_trace(self) -> bool
+        ensures { result ≡ prints_trace self }
+    {
+        match self {
+            Printing::Trace => true,
+            Printing::Report | Printing::Explanation => false,
+        }
+    }
 }
 
 /// How a program is run, and what is printed of it.

@@ -29,6 +29,8 @@ pub(crate) enum Accepted {
     Number(u64, u64),
     /// One of the names of a list.
     Name(NameList),
+    /// Any text, as the name of a file.
+    Text,
 }
 
 /// What may stand after the name of a subcommand. A text of help stands beside each.
@@ -168,5 +170,6 @@ fn parser<'a>(names: OptionNames<'a>, accepted: Accepted) -> ValueParser<'a>
         Accepted::Name(NameList::Units) => ValueParser::Names(names.units),
         Accepted::Name(NameList::Models) => ValueParser::Names(names.models),
         Accepted::Name(NameList::Formats) => ValueParser::Names(names.formats),
+        Accepted::Text => ValueParser::String,
     }
 }

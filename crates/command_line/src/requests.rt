@@ -11,7 +11,7 @@ ghost use Rattle.command_line.specs.Internal.Computed.{AreNotesFound, IsFound, p
 
 use crate::options::{
     BatchPrinting, CampaignOptions, LogOptions, MakeOptions, OptionNames, Presentation, RunOptions,
-    option_names,
+    UnitOptions, option_names,
 };
 use crate::subcommands;
 use clap::error::ErrorKind;
@@ -29,6 +29,41 @@ pub struct RunRequest<'a> {
     pub drain_turns: u64,
     /// The file of the program; standard input where none is named.
     pub program: Option<&'a str>,
+}
+
+/// Which program to run more than once with a thread per processor, and how; the trace of each run is printed.
+#[derive(Clone, Copy, Debug, PartialEq, Eq)]
+pub struct RunTimesRequest<'a> {
+    /// The unit on which it is run.
+    pub unit: UnitOptions,
+    /// The seed that the drains of the first run follow; each further run has the next seed, and 0 follows the greatest.
+    pub drain_seed: u64,
+    /// How many turns a drainer takes beside the processors of each run, 0, where there is none, to 1,000,000.
+    pub drain_turns: u64,
+    /// How often it is run, 2 to 1,000,000.
+    pub times: u64,
+    /// The file of the program; standard input where none is named.
+    pub program: Option<&'a str>,
+}
+
+/// Of which program the outcomes are listed, and how.
+#[derive(Clone, Copy, Debug, PartialEq, Eq)]
+pub struct OutcomesRequest<'a> {
+    /// The file of the program; standard input where none is named.
+    pub program: Option<&'a str>,
+    /// How many states its runs may reach, at most.
+    pub limit: u64,
+    /// Whether final states are listed, in place of traces.
+    pub states: bool,
+}
+
+/// The outcomes of which program are counted in which stream of traces.
+#[derive(Clone, Copy, Debug)]
+pub struct SeenRequest<'a> {
+    /// The program, and the stream.
+    pub texts: TextPair<'a>,
+    /// How many states runs of the program may reach, at most.
+    pub limit: u64,
 }
 
 /// Where two texts are read from. Standard input can be read once, so it has at most one of them.
@@ -125,6 +160,10 @@ pub enum Request<'a> {
     Check(CheckRequest<'a>),
     /// To check evidence on a trace: that it has an order that meets the axioms of its memory model, or none.
     Verify(CheckRequest<'a>),
+    /// To list the outcomes of a program.
+    Outcomes(OutcomesRequest<'a>),
+    /// To count how often a stream of traces has each outcome of a program.
+    Seen(SeenRequest<'a>),
     /// To replay a program, the first text, by a schedule, the second.
     Replay {
         options: RunOptions,
@@ -132,6 +171,8 @@ pub enum Request<'a> {
     },
     /// To run a program with a thread per processor.
     Run(RunRequest<'a>),
+    /// To run a program more than once, and to print the trace of each run.
+    RunTimes(RunTimesRequest<'a>),
     /// To print the program that is drawn from a seed, or its schedule.
     Make(MakeOptions),
     /// To run the programs that are drawn from many seeds, and to judge the trace of each.

@@ -25,6 +25,7 @@ mod explain;
 mod judge;
 mod log;
 mod make;
+mod outcomes;
 mod reduce;
 mod replay;
 mod run;
@@ -46,6 +47,7 @@ enum Subcommand {
     Log,
     Check,
     Verify,
+    Outcomes,
     Replay,
     Run,
     Make,
@@ -53,7 +55,7 @@ enum Subcommand {
 }
 
 /// All of them, as the help lists them.
-static SUBCOMMANDS: [Subcommand; 13] = [
+static SUBCOMMANDS: [Subcommand; 14] = [
     Subcommand::Judge,
     Subcommand::Decide,
     Subcommand::Explain,
@@ -63,6 +65,7 @@ static SUBCOMMANDS: [Subcommand; 13] = [
     Subcommand::Log,
     Subcommand::Check,
     Subcommand::Verify,
+    Subcommand::Outcomes,
     Subcommand::Replay,
     Subcommand::Run,
     Subcommand::Make,
@@ -85,6 +88,7 @@ impl Subcommand {
             Subcommand::Log => &log::LOG,
             Subcommand::Check => &check::CHECK,
             Subcommand::Verify => &verify::VERIFY,
+            Subcommand::Outcomes => &outcomes::OUTCOMES,
             Subcommand::Replay => &replay::REPLAY,
             Subcommand::Run => &run::RUN,
             Subcommand::Make => &make::MAKE,
@@ -126,6 +130,7 @@ impl Subcommand {
             Subcommand::Log => found::log(alloc, matches),
             Subcommand::Check => found::check(alloc, matches),
             Subcommand::Verify => found::verify(alloc, matches),
+            Subcommand::Outcomes => found::outcomes(alloc, matches),
             Subcommand::Replay => found::replay(alloc, matches),
             Subcommand::Run => found::run(alloc, matches),
             Subcommand::Make => Ok(found::make(matches)),
@@ -145,6 +150,7 @@ impl Subcommand {
             | Subcommand::Reduce
             | Subcommand::Check
             | Subcommand::Verify
+            | Subcommand::Outcomes
             | Subcommand::Replay
             | Subcommand::Run => found::verbose_notes(matches),
             Subcommand::Batch | Subcommand::Log => found::both_notes(matches),

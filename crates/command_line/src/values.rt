@@ -1,10 +1,12 @@
 //! What the matches of a subcommand have for its options, flags and other arguments.
 ghost use Rattle.std.specs.Prelude.{◌≡◌, ◌≤◌, codes, if◌then◌else◌, option_map, None, Some};
 ghost use Rattle.clap.specs.Words.{first_of, found_of, one_of, rows_of};
-ghost use Rattle.command_line.specs.Requests.{drain_turns_limit, worker_limit};
+ghost use Rattle.command_line.specs.Requests.{drain_turns_limit, run_times_limit, worker_limit};
 ghost use Rattle.command_line.specs.Subcommands.{chosen_format, chosen_order, file_of, is_true, number_of, number_or, within};
 
-use crate::options::{BatchFormat, MAX_DRAIN_TURNS, MAX_WORKERS, format_named, order_named};
+use crate::options::{
+    BatchFormat, MAX_DRAIN_TURNS, MAX_RUN_TIMES, MAX_WORKERS, format_named, order_named,
+};
 use clap::ArgMatches;
 use tso_ops::Order;
 
@@ -83,6 +85,13 @@ pub(crate) fn drain_turns(matches: &ArgMatches<'_>) -> u64
     ensures range { result ≤ drain_turns_limit }
 {
     number_within(matches, "drain-turns", 0, 0, MAX_DRAIN_TURNS)
+}
+
+/// How often a program is run, once where nothing says how often.
+pub(crate) fn times(matches: &ArgMatches<'_>) -> u64
+    ensures { result ≡ within 1 run_times_limit (number_or 1 (one_of (codes "times") (rows_of (found_of matches.now)))) }
+{
+    number_within(matches, "times", 1, 1, MAX_RUN_TIMES)
 }
 
 /// Whether the flag of this name is used.

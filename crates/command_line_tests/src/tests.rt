@@ -1,8 +1,8 @@
 //! What arguments ask for, and the texts of help and of refusals.
 
 use command_line::{
-    CampaignOptions, CheckRequest, Presentation, Request, RunOptions, ShapeNumbers, TextPair,
-    read_arguments,
+    CampaignOptions, CheckRequest, Presentation, Request, RunOptions, RunTimesRequest,
+    ShapeNumbers, TextPair, read_arguments,
 };
 use std::alloc::{AllocError, Global};
 use std::process::Abort;
@@ -12,6 +12,7 @@ mod accepted;
 mod decisions;
 mod help;
 mod notes;
+mod outcomes;
 mod refused;
 
 /// The options of a run, as text.
@@ -91,6 +92,16 @@ fn described_check(alloc: Global, check: &CheckRequest<'_>) -> Result<String, Al
     described_texts(alloc, check.texts, word.as_str())
 }
 
+/// More runs than one, as text.
+fn described_times(alloc: Global, run: &RunTimesRequest<'_>) -> Result<String, AllocError> {
+    let unit = run.unit;
+    let program = run.program.unwrap_or("standard input");
+    format!(in alloc;
+        "run {program:?} {} times seeded {} and {} turns on {:?} {} {}",
+        run.times, run.drain_seed, run.drain_turns, unit.kind, unit.capacity, unit.trigger
+    )
+}
+
 /// What a request is, as one line of text with the texts that it shows.
 fn described(alloc: Global, request: &Request<'_>) -> Result<String, AllocError> {
     match request {
@@ -137,6 +148,17 @@ fn described(alloc: Global, request: &Request<'_>) -> Result<String, AllocError>
             let texts = described_check(alloc, check)?;
             format!(in alloc; "verify {texts}")
         }
+        Request::Outcomes(outcomes) => {
+            let listed = if outcomes.states { "states" } else { "traces" };
+            format!(in alloc;
+                "list {listed} of {:?} within {}",
+                outcomes.program, outcomes.limit
+            )
+        }
+        Request::Seen(seen) => {
+            let texts = described_texts(alloc, seen.texts, "seen in")?;
+            format!(in alloc; "count {texts} within {}", seen.limit)
+        }
         Request::Replay { options, texts } => {
             let texts = described_texts(alloc, *texts, "by")?;
             let options = described_options(alloc, options)?;
@@ -148,6 +170,7 @@ fn described(alloc: Global, request: &Request<'_>) -> Result<String, AllocError>
             let program = run.program.unwrap_or("standard input");
             format!(in alloc; "run {program:?} seeded {seeded} {options}")
         }
+        Request::RunTimes(run) => described_times(alloc, run),
         Request::Make(options) => {
             let shape = described_shape(alloc, &options.shape)?;
             let drawn = if options.schedule {

@@ -1,7 +1,7 @@
 -- For private functions: what they parse in place of the arguments.
 use Rattle.std.specs.Prelude.{◌≡◌, List, [], ◌∷◌, Option, codes, find, option_map, unwrap_or, if◌then◌else◌}
 use Rattle.std.specs.Str.{bytes_eq}
-use Rattle.command_line.specs.Parameters.{Parameter, Values, flag, listed, option, optional, other, range, several}
+use Rattle.command_line.specs.Parameters.{Parameter, Values, any_text, flag, listed, option, optional, other, range, several}
 use Rattle.clap.specs.Words.{fault_of, subcommand_of}
 use Rattle.command_line.specs.Commands.{IsAskedBy, notes_by, tsobench_app}
 use Rattle.command_line.specs.Requests.{Text, Asked}
@@ -11,7 +11,7 @@ use Rattle.command_line.specs.declared.options.Presentation.TheVariants as form
 use Rattle.command_line.specs.Subcommands as s
 use Rattle.command_line.specs.Subcommands.{subcommands}
 use Rattle.command_line.specs.declared.subcommands.Subcommand.{Subcommand}
-use Rattle.command_line.specs.declared.subcommands.Subcommand.TheVariants.{Judge, Decide, Explain, Draw, Reduce, Batch, Log, Check, Verify, Replay, Run, Make, Campaign}
+use Rattle.command_line.specs.declared.subcommands.Subcommand.TheVariants.{Judge, Decide, Explain, Draw, Reduce, Batch, Log, Check, Verify, Outcomes, Replay, Run, Make, Campaign}
 use Rattle.command_line.specs.declared.parameters.NameList.{NameList}
 use Rattle.command_line.specs.declared.parameters.Parameter.{Parameter as Declared}
 use Rattle.command_line.specs.declared.parameters.Parameter.TheVariants as declared
@@ -23,6 +23,7 @@ use Rattle.command_line.specs.declared.parameters.Accepted.TheVariants as accept
 abbrev pub values_of : Accepted → Values NameList
 values_of (accepted.Number least most) = range least most
 values_of (accepted.Name list) = listed list
+values_of accepted.Text = any_text
 
 abbrev pub parameter_of : Declared → Parameter NameList
 parameter_of (declared.Option id value_name accepts default help) = option id.now (values_of accepts) (option_map (λ text. text.now) default)
@@ -43,6 +44,7 @@ member_of Batch = s.batch
 member_of Log = s.log
 member_of Check = s.check
 member_of Verify = s.verify
+member_of Outcomes = s.outcomes
 member_of Replay = s.replay
 member_of Run = s.run
 member_of Make = s.make

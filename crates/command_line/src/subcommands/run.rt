@@ -1,6 +1,7 @@
-//! `run --unit UNIT [--capacity C] [--trigger T] [--workers N] [--trace|--explain] [--with-trace] --seed N [--drain-turns T] PROGRAM`: runs a
-//! program with a thread per processor.
+//! `run --unit UNIT [--capacity C] [--trigger T] [--workers N] [--trace|--explain] [--with-trace] --seed N [--drain-turns T] [--times N] PROGRAM`:
+//! runs a program with a thread per processor.
 
+use crate::options::MAX_RUN_TIMES;
 use crate::parameters::{Accepted, Description, Parameter};
 use crate::subcommands::shared;
 
@@ -20,6 +21,10 @@ and with --explain what `tsobench explain` prints of it; one of the two may be
 used. With --with-trace the recorded trace follows the report or the
 explanation. A text that is no program gets one line that says why.
 
+With --times N and --trace it runs the program N times, each time with the next
+seed, and prints the recorded traces one after the other, as `tsobench batch`
+and `tsobench outcomes --seen` read them. Seed 0 follows the greatest.
+
 The system, and not the seed, says in which order the threads come to the unit:
 two runs of the same arguments may record different traces. To run a program in
 an order that is the same each time, use `tsobench replay`.
@@ -36,7 +41,10 @@ Exit status:
   4  a fault, which one line on standard error names, as FAULT Read
 
 Example:
-  tsobench run --unit buffer --seed 1 PROGRAM";
+  tsobench run --unit buffer --seed 1 PROGRAM
+  tsobench run --unit buffer --seed 1 --times 1000 --trace PROGRAM";
+
+const _: () = prove!(MAX_RUN_TIMES == 1_000_000);
 
 /// What is told of it.
 pub(crate) static RUN: Description = Description {
@@ -60,6 +68,13 @@ pub(crate) static RUN: Description = Description {
             help: "The seed of the drains, 0 to 18446744073709551615",
         },
         shared::DRAIN_TURNS,
+        Parameter::Option {
+            name: "times",
+            value_name: "N",
+            accepted: Accepted::Number(1, MAX_RUN_TIMES),
+            default: Some("1"),
+            help: "How often the program is run, 1 to 1000000, with --trace",
+        },
         Parameter::Other {
             name: "program",
             value_name: "PROGRAM",

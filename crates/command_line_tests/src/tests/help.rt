@@ -106,6 +106,7 @@ Commands:
   log       Finds violations of a log, and prints their lines
   check     Checks a certificate of a violation against its trace
   verify    Checks an order of a trace, or evidence that there is none
+  outcomes  Lists all outcomes of a program, or counts those in a stream
   replay    Replays a program by a schedule, and judges the trace
   run       Runs a program with a thread per processor, and judges the trace
   make      Prints the program that is drawn from a seed, or its schedule
@@ -135,11 +136,13 @@ first.
 
 Where `tsobench judge` finds no violation there may be one. `tsobench decide`
 looks on, for an order that meets the axioms of the memory model or for a proof
-that there is none; `tsobench verify` checks either.
+that there is none; `tsobench verify` checks either. `tsobench outcomes` lists
+what all runs of a program leave.
 
 Exit status:
   0  no violation was found, which proves nothing, or the trace is consistent
-  1  no violation was found, and the search in a log or by cases ended early
+  1  no violation was found, and the search in a log or by cases ended early, or
+     a trace under PSO is of no run
   2  a text or the command line was refused
   3  the trace violates its memory model, or the certificate or refutation holds
   4  a fault, which one line on standard error names
@@ -520,6 +523,7 @@ Options:
       --verbose          Names the file and the reason after FAULT Read
       --seed <N>         The seed of the drains, 0 to 18446744073709551615
       --drain-turns <T>  How many turns a drainer takes beside the processors, 0 to 1000000 [default: 0]
+      --times <N>        How often the program is run, 1 to 1000000, with --trace [default: 1]
   -h, --help             Print help
 
 It reads the text of a program, and runs the program on the memory unit: each
@@ -535,6 +539,10 @@ numbers of the unit's steps. With --trace it prints the recorded trace alone,
 and with --explain what `tsobench explain` prints of it; one of the two may be
 used. With --with-trace the recorded trace follows the report or the
 explanation. A text that is no program gets one line that says why.
+
+With --times N and --trace it runs the program N times, each time with the next
+seed, and prints the recorded traces one after the other, as `tsobench batch`
+and `tsobench outcomes --seen` read them. Seed 0 follows the greatest.
 
 The system, and not the seed, says in which order the threads come to the unit:
 two runs of the same arguments may record different traces. To run a program in
@@ -553,6 +561,7 @@ Exit status:
 
 Example:
   tsobench run --unit buffer --seed 1 PROGRAM
+  tsobench run --unit buffer --seed 1 --times 1000 --trace PROGRAM
 ";
 
 const MAKE_HELP: &str = "\

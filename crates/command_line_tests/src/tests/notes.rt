@@ -14,7 +14,7 @@ fn noted(alloc: Global, arguments: &[&str]) -> Result<Notes, AllocError> {
 }
 
 /// Arguments, whether reasons of faults are told, and whether progress is.
-const CASES: [(&[&str], bool, bool); 21] = [
+const CASES: [(&[&str], bool, bool); 23] = [
     (&[], false, false),
     (&["judge", "t"], false, false),
     (&["judge", "--verbose", "t"], true, false),
@@ -24,6 +24,8 @@ const CASES: [(&[&str], bool, bool); 21] = [
     (&["decide", "--effort", "1", "--verbose"], true, false),
     (&["verify", "t", "e"], false, false),
     (&["verify", "t", "--verbose", "e"], true, false),
+    (&["outcomes", "p"], false, false),
+    (&["outcomes", "--verbose", "p"], true, false),
     (&["reduce", "--verbose", "t"], true, false),
     (&["check", "--verbose", "t", "c"], true, false),
     (

@@ -34,16 +34,16 @@ returns-in-Replay-clause-turns c =
 
 pub returns-in-Run-clause-workers : goal.returns-in-Run-clause-workers
 returns-in-Run-clause-workers c =
-    of_request HasWorkers _ (of_run HasWorkers tt (λ options seed turns program some most capacity capacity_most trigger few. (some, most)) (rows_of (found_of c.args.matches.now))) _ c.run.ensures
+    of_request HasWorkers _ (of_run HasWorkers tt (λ options seed turns program some most capacity capacity_most trigger few. (some, most)) (λ unit seed turns times program capacity capacity_most trigger few. tt) (rows_of (found_of c.args.matches.now))) _ c.run.ensures
 
 pub returns-in-Run-clause-unit : goal.returns-in-Run-clause-unit
 returns-in-Run-clause-unit c =
-    of_request HasUnitRanges _ (of_run HasUnitRanges tt (λ options seed turns program some most capacity capacity_most trigger few. (capacity, capacity_most, trigger)) (rows_of (found_of c.args.matches.now))) _
+    of_request HasUnitRanges _ (of_run HasUnitRanges tt (λ options seed turns program some most capacity capacity_most trigger few. (capacity, capacity_most, trigger)) (λ unit seed turns times program capacity capacity_most trigger few. (capacity, capacity_most, trigger)) (rows_of (found_of c.args.matches.now))) _
     c.run.ensures
 
 pub returns-in-Run-clause-turns : goal.returns-in-Run-clause-turns
 returns-in-Run-clause-turns c =
-    of_request HasDrainTurns _ (of_run HasDrainTurns tt (λ options seed turns program some most capacity capacity_most trigger few. few) (rows_of (found_of c.args.matches.now))) _ c.run.ensures
+    of_request HasDrainTurns _ (of_run HasDrainTurns tt (λ options seed turns program some most capacity capacity_most trigger few. few) (λ unit seed turns times program capacity capacity_most trigger few. few) (rows_of (found_of c.args.matches.now))) _ c.run.ensures
 
 pub returns-in-Replay-clause-asked : goal.returns-in-Replay-clause-asked
 returns-in-Replay-clause-asked c = rw c.in-Replay.is c.replay.ensures
@@ -60,7 +60,7 @@ returns-in-Replay-clause-input c =
 
 pub returns-in-Run-clause-input : goal.returns-in-Run-clause-input
 returns-in-Run-clause-input c =
-    of_request HasOneInput _ (of_run HasOneInput tt (λ options seed turns program some most capacity capacity_most trigger few. tt) (rows_of (found_of c.args.matches.now))) _ c.run.ensures
+    of_request HasOneInput _ (of_run HasOneInput tt (λ options seed turns program some most capacity capacity_most trigger few. tt) (λ unit seed turns times program capacity capacity_most trigger few. tt) (rows_of (found_of c.args.matches.now))) _ c.run.ensures
 
 pub returns-in-Batch-clause-workers : goal.returns-in-Batch-clause-workers
 returns-in-Batch-clause-workers c = of_request HasWorkers _ (of_batch HasWorkers tt (λ texts workers printing some most few. (some, most)) (rows_of (found_of c.args.matches.now))) _ c.batch.ensures
@@ -79,3 +79,9 @@ returns-in-Batch-clause-input c = of_request HasOneInput _ (of_batch HasOneInput
 
 pub returns-in-Batch-clause-asked : goal.returns-in-Batch-clause-asked
 returns-in-Batch-clause-asked c = rw c.in-Batch.is c.batch.ensures
+
+pub returns-in-Check-clause-asked : goal.returns-in-Check-clause-asked
+returns-in-Check-clause-asked c = rw c.in-Check.is c.check.ensures
+
+pub returns-in-Verify-clause-asked : goal.returns-in-Verify-clause-asked
+returns-in-Verify-clause-asked c = rw c.in-Verify.is c.verify.ensures

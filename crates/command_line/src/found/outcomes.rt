@@ -1,0 +1,51 @@
+//! What the matches of `outcomes` ask for.
+ghost use Rattle.std.specs.Prelude.{◌≡◌, IfOk, codes, option_map};
+ghost use Rattle.clap.specs.Words.{first_of, found_of, rows_of};
+ghost use Rattle.command_line.specs.Commands.{asked_in};
+ghost use Rattle.command_line.specs.Requests.{asked_of};
+ghost use Rattle.command_line.specs.Subcommands.{file_of, is_true, number_or, outcomes, outcomes_asked};
+
+use super::{pair_of, refuse};
+use crate::help;
+use crate::requests::{OutcomesRequest, Request, SeenRequest};
+use crate::values::{file, is_used, named_file, number};
+use clap::ArgMatches;
+use std::alloc::{AllocError, Global};
+
+/// Of `outcomes`: a refusal of final states of a stream, or where both texts would be standard input.
+pub(crate) fn outcomes<'a>(
+    alloc: Global,
+    matches: &ArgMatches<'a>,
+) -> Result<Request<'a>, AllocError>
+    ensures { IfOk result (λ request. asked_of request ≡ asked_in outcomes (rows_of (found_of matches.now))) }
+{
+    let request = OutcomesRequest {
+        program: file(matches, "program"),
+        limit: number(matches, "limit", 1_000_000),
+        states: is_used(matches, "states"),
+    };
+    match matches.get_str("seen") {
+        Some(name) => seen(alloc, request, name),
+        None => Ok(Request::Outcomes(request)),
+    }
+}
+
+/// What is asked for where outcomes are counted in the stream of this name.
+fn seen<'a>(
+    alloc: Global,
+    outcomes: OutcomesRequest<'a>,
+    name: &'a str,
+) -> Result<Request<'a>, AllocError>
+    ensures { IfOk result (λ request. asked_of request ≡ outcomes_asked outcomes.entry.states outcomes.entry.limit (option_map (λ file. file.now) outcomes.entry.program) (Some name.now)) }
+{
+    if outcomes.states {
+        return refuse(alloc, help::STATES_SEEN);
+    }
+    match pair_of(outcomes.program, named_file(name)) {
+        Some(texts) => Ok(Request::Seen(SeenRequest {
+            texts,
+            limit: outcomes.limit,
+        })),
+        None => refuse(alloc, help::TWO_INPUTS),
+    }
+}
