@@ -9,7 +9,7 @@ use Rattle.std.proofs.lemmas.List.{append-nil}
 use Rattle.trace_reports.specs.declared.verdicts.Verdict.{Verdict}
 use Rattle.trace_reports.specs.declared.verdicts.Verdict.TheVariants.{Refused}
 use Rattle.trace_judging.specs.declared.faults.Fault.{Fault}
-use Rattle.trace_judging.specs.declared.faults.Fault.TheVariants.{Write}
+use Rattle.trace_judging.specs.declared.faults.Fault.TheVariants.{NoThread, Write}
 use Rattle.trace_judging.specs.WrittenReports.{LeavesAtFault, WritesWhole}
 use Rattle.trace_judging.specs.Checks.{IsCheckReport}
 use Rattle.trace_reports.specs.Readings.{ReadsAs}
@@ -89,6 +89,12 @@ pub ends_as : {X : Type 0} (is_text : List ℕ → X → Type 0) (status_by : X 
     IfErr outcome (λ fault. WritesFaultLine o.errors_before o.errors fault × (status ≡ 4)) → Ends is_text status_by leaves o status
 ends_as is_text status_by leaves o (Ok said) status writes left told faulty = inl (said, writes, told.1, told.0)
 ends_as is_text status_by leaves o (Err fault) status writes left told faulty = inr (fault, left, faulty)
+
+-- what a fault leaves, where no thread was started
+pub without_thread : {X : Type 0} (is_text : List ℕ → X → Type 0) (old new : Option (List ℕ)) (outcome : Result X Fault) → IfErr outcome (λ fault. fault ≢ NoThread) →
+    IfErr outcome (LeavesAtFault is_text old new) → IfErr outcome (λ fault. (fault ≢ NoThread) × LeavesAtFault is_text old new fault)
+without_thread is_text old new (Ok said) other left = tt
+without_thread is_text old new (Err fault) other left = (other, left)
 
 -- where nothing was opened
 pub opens_none : (old : Option (List (List ℕ))) (names : List (List ℕ)) → OpensFirst old old names

@@ -3,7 +3,7 @@ use Rattle.std.proofs.Common.{◌≡◌, ◌≢◌, ◌&&◌, inl, inr, ℕ, tru
 use Rattle.std.proofs.lemmas.Bool.{false≢true}
 use Rattle.tso_ops.specs.Values.{ProgramValue}
 use Rattle.tso_ops.specs.declared.settings.Order.{Order}
-use Rattle.command_line.specs.Requests.{Asked, replaying, running}
+use Rattle.command_line.specs.Requests.{Asked, repeating, replaying, running}
 use Rattle.command_line.specs.declared.options.Printing.{Printing}
 use Rattle.command_line.specs.declared.options.Printing.TheVariants.{Report, Trace, Explanation}
 use Rattle.command_line.specs.declared.options.RunOptions.{RunOptions}
@@ -21,12 +21,12 @@ use Rattle.tso_text.proofs.TextLaws.{program_laws}
 use Rattle.unit_core.specs.declared.accounts.Account.{Account}
 use Rattle.unit_core.specs.Records.{RecordedValue, is_within}
 use Rattle.request_serving.specs.BenchUnits.{is_lawful_kind, is_lawful_under_all, order_of_kind}
-use Rattle.request_serving.specs.Endings.{EndsAsAsked, EndsByText, EndsRun, Outputs}
+use Rattle.request_serving.specs.Endings.{EndsAsAsked, EndsByText, EndsRun, EndsRunTimes, Outputs}
 use Rattle.request_serving.specs.LawfulRequests.{RunsLawfully, SpellsForLawfulUnit, runs_on_lawful_unit}
 use Rattle.request_serving.specs.OpenedFiles.{text_bytes}
 use Rattle.request_serving.specs.Printing.{IsPrintedOf, Presents, unit_of}
 use Rattle.request_serving.specs.Replaying.{IsReplayOf, IsReplayText, IsScheduledText}
-use Rattle.request_serving.specs.Running.{IsRunPrinted, IsRunText}
+use Rattle.request_serving.specs.Running.{AreRunTraces, IsRunPrinted, IsRunText, IsRunTimesText, LeavesRunTimes}
 use Rattle.request_serving.specs.Statuses.{status_of}
 
 -- a unit that is lawful for programs of each memory model is lawful for those of this one
@@ -106,11 +106,20 @@ replayed_status : (options : RunOptions) (programs schedules : Option (List ℕ)
 replayed_status options programs schedules o status lawful =
     text_status (IsReplayText options programs schedules) (LeavesAtFault (IsReplayText options programs schedules)) o status (λ text said. replay_status options programs schedules text said lawful)
 
+-- more runs than one don't end as a violation
+repeated_status : (unit : UnitOptions) (times : ℕ) (programs : Option (List ℕ)) (o : Outputs) (status : ℕ) → EndsRunTimes unit times programs o status → status ≢ 3
+repeated_status unit times programs o status (inl ends) =
+    text_status (IsRunTimesText unit times programs) (λ old new fault. LeavesRunTimes unit times programs old new) o status (λ text said is.
+    let whole = whole_read programs is in
+    printed_status SpellsProgram IsProgramRefusal (λ program text status. AreRunTraces unit program times text × (status ≡ 0)) whole.0 text said (λ program spelled printed three. omega (arith, printed.1, three)) whole.2) ends
+repeated_status unit times programs o status (inr ends) = λ three. omega (arith, ends.1, three)
+
 pub lawful_status : (asked : Asked) (input : Option (List ℕ)) (files : List ℕ → Option (List ℕ)) (o : Outputs) (status : ℕ) →
     EndsAsAsked asked input files o status → runs_on_lawful_unit asked ≡ true → status ≢ 3
 lawful_status (replaying options program schedule) input files o status ends lawful =
     replayed_status options (text_bytes program input files) (text_bytes schedule input files) o status (for_all options.unit _ lawful) ends
 lawful_status (running options seed turns program) input files o status ends lawful = ran_status options (text_bytes program input files) o status (for_all options.unit _ lawful) ends
+lawful_status (repeating unit seed turns times program) input files o status ends lawful = repeated_status unit times (text_bytes program input files) o status ends
 lawful_status asked input files o status ends lawful = absurd (false≢true lawful)
 
 pub known_status : (asked : Asked) (input : Option (List ℕ)) (files : List ℕ → Option (List ℕ)) (o : Outputs) (status : ℕ) →
@@ -118,4 +127,5 @@ pub known_status : (asked : Asked) (input : Option (List ℕ)) (files : List ℕ
 known_status (replaying options program schedule) input files o status ends lawful =
     replayed_status options (text_bytes program input files) (text_bytes schedule input files) o status (for_text options.unit _ lawful) ends
 known_status (running options seed turns program) input files o status ends lawful = ran_status options (text_bytes program input files) o status (for_text options.unit _ lawful) ends
+known_status (repeating unit seed turns times program) input files o status ends lawful = repeated_status unit times (text_bytes program input files) o status ends
 known_status asked input files o status ends lawful = absurd lawful

@@ -1,11 +1,13 @@
 pub mod BatchingFacts
 pub mod CampaigningFacts
 pub mod DecidingFacts
-pub mod LoggingFacts
 pub mod EndFacts
 pub mod LawfulFacts
+pub mod LoggingFacts
 pub mod NthFacts
+pub mod OutcomeFacts
 pub mod PartedLines
 pub mod ReducingFacts
+pub mod RepeatingFacts
 pub mod ReplayingFacts
 pub mod RunningFacts

@@ -5,7 +5,7 @@ use Rattle.std.specs.Io.KnownBytes.{Keeps}
 use Rattle.command_line.specs.declared.options.RunOptions.{RunOptions}
 use Rattle.tso_ops.specs.Values.{ProgramValue}
 use Rattle.tso_text.specs.declared.faults.Why.{Why}
-use Rattle.tso_text.specs.Refusals.{IsProgramRefusal, IsRefusedProgram, IsScheduleRefusal}
+use Rattle.tso_text.specs.Refusals.{IsProgramRefusal, IsScheduleRefusal}
 use Rattle.tso_text.specs.Texts.{SpellsProgram, SpellsSchedule}
 use Rattle.trace_judging.specs.declared.faults.Fault.{Fault}
 use Rattle.trace_judging.specs.declared.faults.Fault.TheVariants.{OutOfMemory, Read, NoThread}
@@ -15,7 +15,7 @@ use Rattle.trace_judging.specs.WrittenReports.{LeavesAtFault, WritesWhole}
 use Rattle.trace_judging.proofs.InputFacts.{refused_of_prefix, spelled_of_prefix}
 use Rattle.trace_reports.proofs.ReadingFacts.{reads_as, reads_more}
 use Rattle.request_serving.specs.OpenedFiles.{HasKnown}
-use Rattle.tso_text.proofs.TextLaws.{AreTextLaws, program_laws}
+use Rattle.tso_text.proofs.TextLaws.{AreTextLaws}
 use Rattle.request_serving.proofs.EndFacts.{faults_as, known_reads, writes_as}
 use Rattle.request_serving.specs.Printing.{IsPrintedOf}
 use Rattle.request_serving.specs.Replaying.{IsReplayOf, IsReplayText, IsScheduledText}
@@ -33,14 +33,6 @@ module _ {V : Type 0} {Spells : List ℕ → V → Type 0} {IsRefusal : List ℕ
       IsPrintedOf Spells IsRefusal Prints seen text status → ReadsAs remaining (λ b. IsPrintedOf Spells IsRefusal Prints b text status)
   printed_as remaining bytes seen text status prefix same is =
       reads_as (λ b. IsPrintedOf Spells IsRefusal Prints b text status) trace_read_limit (printed_of_prefix text status) remaining bytes seen prefix same is
-
--- what spells a program isn't refused
-pub not_refused_program : (X : Type 0) (remaining : Option (List ℕ)) (bytes seen : List ℕ) (program : ProgramValue) → IfSome remaining (λ all. bytes ≡ take trace_read_limit all) → seen ≡ bytes →
-    SpellsProgram seen program → IfSome remaining (λ all. IsRefusedProgram all → X)
-not_refused_program X None bytes seen program prefix same spells = tt
-not_refused_program X (Some all) bytes seen program prefix same spells =
-    let whole = spelled_of_prefix program_laws all program (subst (λ b. SpellsProgram b program) (same ∙ prefix) spells) in
-    λ refused. absurd (program_laws.not_both all program refused.0 refused.1 whole refused.2)
 
 -- ---- files of which less may be known than of their readers
 

@@ -1,22 +1,26 @@
 -- Lemmas on how a run ends.
-use Rattle.std.proofs.Common.{◌≡◌, ◌∙◌, ◌⊎◌, ℕ, List, Ok, Err, Result, IfOk, IfErr, ap, subst, sym, inl, inr, true≢false}
+use Rattle.std.proofs.Common.{◌≡◌, ◌∙◌, ◌⊎◌, ◌≤◌, ℕ, List, Ok, Err, Result, IfOk, IfErr, ap, subst, sym, inl, inr, true≢false}
 use Rattle.std.proofs.lemmas.Result.{IfOk-at_ok}
-use Rattle.std.specs.Prelude.{Option}
+use Rattle.std.specs.Prelude.{Option, OnErr}
 use Rattle.std.specs.Io.KnownBytes.{Keeps}
 use Rattle.std.specs.Result.{MatchResult, is_ok}
 use Rattle.command_line.specs.declared.options.RunOptions.{RunOptions}
 use Rattle.request_serving.specs.OpenedFiles.{HasKnown}
-use Rattle.request_serving.specs.Running.{IsRunText}
+use Rattle.command_line.specs.declared.options.UnitOptions.{UnitOptions}
+use Rattle.tso_text.specs.Refusals.{IsProgramRefusal}
+use Rattle.tso_text.specs.Texts.{SpellsProgram}
+use Rattle.request_serving.specs.Printing.{IsPrintedOf}
+use Rattle.request_serving.specs.Running.{AreRunTraces, IsRunText, IsRunTimesText, LeavesRunTimes}
 use Rattle.issue_desk.specs.declared.faults.RunFault.{RunFault}
 use Rattle.unit_core.specs.Records.{RecordedValue}
 use Rattle.request_serving.specs.declared.failures.RunFailure.{RunFailure}
 use Rattle.request_serving.specs.declared.failures.RunFailure.TheVariants.{Fault as ByFault, Torn, OtherProgram}
-use Rattle.request_serving.specs.Endings.{EndsRun, Outputs}
+use Rattle.request_serving.specs.Endings.{EndsRun, EndsRunTimes, Outputs}
 use Rattle.request_serving.specs.Failures.{WritesFailureLine}
 use Rattle.trace_judging.specs.declared.faults.Fault.TheVariants.{OutOfMemory, Read, NoThread}
 use Rattle.request_serving.specs.Internal.Runs.{LeavesAtFailure, OnFault}
 use Rattle.request_serving.proofs.ReplayingFacts.{known_run, leaves_nothing}
-use Rattle.request_serving.proofs.EndFacts.{leaves_as, writes_as}
+use Rattle.request_serving.proofs.EndFacts.{known_reads, leaves_as, writes_as}
 use Rattle.trace_judging.specs.WrittenReports.{WritesWhole}
 
 -- What holds of a run's answer holds of the record, where only its failure was told in another way.
@@ -48,3 +52,29 @@ ends_run options programs o (Ok told) status writes leaves tells failed = inl (i
 ends_run options programs o (Err (ByFault fault)) status writes leaves tells failed = inl (inr (fault, leaves, failed))
 ends_run options programs o (Err (Torn p)) status writes leaves tells failed = inr (leaves, failed.1, inl (p, failed.0))
 ends_run options programs o (Err OtherProgram) status writes leaves tells failed = inr (leaves, failed.1, inr failed.0)
+
+-- ---- more runs than one
+
+-- what is printed of a program of which less may be known than its reader has
+pub known_run_times : (unit : UnitOptions) (times : ℕ) (program programs : Option (List ℕ)) → HasKnown program programs → (text : List ℕ) (status : ℕ) → IsRunTimesText unit times programs text status →
+    IsRunTimesText unit times program text status
+known_run_times unit times program programs has text status =
+    known_reads program programs has (λ bytes. IsPrintedOf SpellsProgram IsProgramRefusal (λ p text status. AreRunTraces unit p times text × (status ≡ 0)) bytes text status)
+
+known_left : (unit : UnitOptions) (times : ℕ) (program programs old new : Option (List ℕ)) → HasKnown program programs → LeavesRunTimes unit times programs old new → LeavesRunTimes unit times program old new
+known_left unit times program programs old new has (inl keeps) = inl keeps
+known_left unit times program programs old new has (inr (done, few, (said, text, is, prefix))) = inr (done, few, (said, text, known_run_times unit done program programs has text said is, prefix))
+
+pub times_left : (unit : UnitOptions) (times : ℕ) (program programs old new : Option (List ℕ)) → HasKnown program programs → (outcome : Result ℕ RunFailure) → OnErr outcome (LeavesRunTimes unit times programs old new) →
+    OnErr outcome (LeavesRunTimes unit times program old new)
+times_left unit times program programs old new has (Ok status) leaves = tt
+times_left unit times program programs old new has (Err failure) leaves = known_left unit times program programs old new has leaves
+
+pub ends_run_times : (unit : UnitOptions) (times : ℕ) (programs : Option (List ℕ)) (o : Outputs) (outcome : Result ℕ RunFailure) (status : ℕ) →
+    IfOk outcome (WritesWhole (IsRunTimesText unit times programs) o.written_before o.written) → OnErr outcome (LeavesRunTimes unit times programs o.written_before o.written) →
+    IfOk outcome (λ told. (status ≡ told) × Keeps o.errors_before o.errors) → IfErr outcome (λ failure. WritesFailureLine o.errors_before o.errors failure × (status ≡ 4)) →
+    EndsRunTimes unit times programs o status
+ends_run_times unit times programs o (Ok told) status writes leaves tells failed = inl (inl (told, writes, tells.1, tells.0))
+ends_run_times unit times programs o (Err (ByFault fault)) status writes leaves tells failed = inl (inr (fault, leaves, failed))
+ends_run_times unit times programs o (Err (Torn p)) status writes leaves tells failed = inr (leaves, failed.1, inl (p, failed.0))
+ends_run_times unit times programs o (Err OtherProgram) status writes leaves tells failed = inr (leaves, failed.1, inr failed.0)

@@ -16,6 +16,8 @@ use Rattle.trace_batches.specs.declared.batches.BatchPrinting.{BatchPrinting}
 use Rattle.trace_batches.specs.declared.tallies.BatchVerdict.{BatchVerdict}
 use Rattle.log_reports.specs.declared.rendering.LogForm.{LogForm}
 use Rattle.log_reports.specs.LogReports.{IsLogReportOfReader}
+use Rattle.outcome_reports.specs.Outcomes.{IsOutcomesOfReader}
+use Rattle.outcome_reports.specs.SeenTraces.{IsSeenOfReaders}
 use Rattle.request_serving.specs.Batches.{asked_printing, status_of_batch, texts_of_batch}
 use Rattle.request_serving.specs.Campaigning.{IsCampaignText, LeavesCampaignText}
 use Rattle.request_serving.specs.Deciding.{IsDecided, IsVerificationOfNth, status_of_answer}
@@ -23,19 +25,21 @@ use Rattle.request_serving.specs.Logs.{form_of, status_of_log}
 use Rattle.request_serving.specs.MadePrograms.{IsMadeText, LeavesMadeText}
 use Rattle.request_serving.specs.NthTraces.{IsSaidOfNth}
 use Rattle.request_serving.specs.OpenedFiles.{text_bytes}
+use Rattle.request_serving.specs.Outcomes.{asked_outcomes}
 use Rattle.request_serving.specs.Presentations.{refused_as, said_as}
 use Rattle.request_serving.specs.Reducing.{IsReduced}
 use Rattle.request_serving.specs.Replaying.{IsReplayText}
-use Rattle.request_serving.specs.Running.{IsRunText}
+use Rattle.request_serving.specs.Running.{IsRunText, IsRunTimesText, LeavesRunTimes}
 use Rattle.request_serving.specs.Statuses.{status_of}
 use Rattle.command_line.specs.declared.options.Presentation.{Presentation}
 use Rattle.command_line.specs.declared.options.RunOptions.{RunOptions}
+use Rattle.command_line.specs.declared.options.UnitOptions.{UnitOptions}
 use Rattle.command_line.specs.declared.requests.Request.{Request}
 use Rattle.command_line.specs.declared.requests.Request.TheVariants.{Show, Refuse}
 use Rattle.command_line.specs.Commands.{IsAskedFor}
 use Rattle.command_line.specs.Refusals.{Refuses}
 use Rattle.command_line.specs.Spellings.{Asks, AsksHelp}
-use Rattle.command_line.specs.Requests.{Asked, Text, judging, deciding, reducing, batching, logging, checking, verifying, replaying, running, making, campaigning, showing, refusing}
+use Rattle.command_line.specs.Requests.{Asked, Text, judging, deciding, reducing, batching, logging, checking, verifying, listing, counting, replaying, running, repeating, making, campaigning, showing, refusing}
 
 -- ---- the lines of faults
 
@@ -119,15 +123,25 @@ EndsWithNotes {X} is_text status_by o status =
 abbrev pub EndsLogged : LogForm → Option (List ℕ) → Outputs → ℕ → Type 0
 EndsLogged form remaining o status = EndsWithNotes (IsLogReportOfReader form remaining) status_of_log o status
 
+-- The line that a run gave no record was written to the errors.
+abbrev pub TellsUnrecorded : Outputs → Type 0
+TellsUnrecorded o =
+    ((p : ℕ) × AppendsPrefix o.errors_before o.errors (fault_line (codes "Torn " ++ decimal p))) ⊎ AppendsPrefix o.errors_before o.errors (fault_line (codes "OtherProgram"))
+
 -- A run gave no record: the output is as it was, the line of the fault was written to the errors, and the status is 4.
 abbrev pub EndsUnrecorded : Outputs → ℕ → Type 0
-EndsUnrecorded o status =
-    Keeps o.written_before o.written × (status ≡ 4)
-    × (((p : ℕ) × AppendsPrefix o.errors_before o.errors (fault_line (codes "Torn " ++ decimal p))) ⊎ AppendsPrefix o.errors_before o.errors (fault_line (codes "OtherProgram")))
+EndsUnrecorded o status = Keeps o.written_before o.written × (status ≡ 4) × TellsUnrecorded o
 
 -- what is printed of a run, where a reader has these bytes of the program, or that it gave no record
 abbrev pub EndsRun : RunOptions → Option (List ℕ) → Outputs → ℕ → Type 0
 EndsRun options programs o status = EndsByText (IsRunText options programs) (LeavesAtFault (IsRunText options programs)) o status ⊎ EndsUnrecorded o status
+
+-- What is printed of so many runs, where a reader has these bytes of the program; or one of them gave no record, or a fault came, and then the line that says so was
+-- written to the errors, and the status is 4.
+abbrev pub EndsRunTimes : UnitOptions → ℕ → Option (List ℕ) → Outputs → ℕ → Type 0
+EndsRunTimes options times programs o status =
+    EndsByText (IsRunTimesText options times programs) (λ old new fault. LeavesRunTimes options times programs old new) o status
+    ⊎ (LeavesRunTimes options times programs o.written_before o.written × (status ≡ 4) × TellsUnrecorded o)
 
 -- The output grows by the text and the errors by nothing, and the status is 0; or the fault Write left a prefix of the text.
 abbrev pub EndsShowing : List ℕ → Outputs → ℕ → Type 0
@@ -156,9 +170,13 @@ EndsAsAsked (logging file options) input files o status = EndsLogged (form_of op
 EndsAsAsked (checking trace certificate nth) input files o status = EndsWithoutThread (IsCheckOfNth nth (text_bytes trace input files) (text_bytes certificate input files)) status_of o status
 EndsAsAsked (verifying trace evidence nth) input files o status =
     EndsWithoutThread (IsVerificationOfNth nth (text_bytes trace input files) (text_bytes evidence input files)) status_of_answer o status
+EndsAsAsked (listing program limit states) input files o status = EndsWithoutThread (IsOutcomesOfReader (asked_outcomes limit states) (text_bytes program input files)) status_of_batch o status
+EndsAsAsked (counting program stream limit) input files o status =
+    EndsWithoutThread (IsSeenOfReaders limit (text_bytes program input files) (text_bytes stream input files)) status_of_batch o status
 EndsAsAsked (replaying options program schedule) input files o status =
     let is_text = IsReplayText options (text_bytes program input files) (text_bytes schedule input files) in EndsByText is_text (LeavesAtFault is_text) o status
 EndsAsAsked (running options seed turns program) input files o status = EndsRun options (text_bytes program input files) o status
+EndsAsAsked (repeating unit seed turns times program) input files o status = EndsRunTimes unit times (text_bytes program input files) o status
 EndsAsAsked (making options) input files o status = EndsByText (IsMadeText options) (LeavesMadeText options) o status
 EndsAsAsked (campaigning options) input files o status = EndsByText (IsCampaignText options) (LeavesCampaignText options) o status
 EndsAsAsked showing input files o status = (text : Text) × EndsShowing text o status

@@ -10,6 +10,7 @@ pub mod Logs
 pub mod MadePrograms
 pub mod NthTraces
 pub mod OpenedFiles
+pub mod Outcomes
 pub mod Presentations
 pub mod Printing
 pub mod Reducing

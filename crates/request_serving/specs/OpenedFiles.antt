@@ -3,7 +3,7 @@ use Rattle.std.specs.Prelude.{◌≡◌, ◌⊎◌, ℕ, Bool, ◌≤◌, List, 
 use Rattle.std.specs.List.{list_all}
 use Rattle.std.specs.Borrow.{Bor}
 use Rattle.std.specs.Io.KnownBytes.{Consumes}
-use Rattle.command_line.specs.Requests.{Asked, batching, checking, deciding, judging, logging, needs, reducing, replaying, verifying}
+use Rattle.command_line.specs.Requests.{Asked, batching, checking, counting, deciding, judging, logging, needs, reducing, replaying, verifying}
 use Rattle.request_serving.specs.NthTraces.{IsRefusedNth, TakesTrace}
 use Rattle.trace_judging.specs.Limits.{certificate_read_limit, trace_read_limit}
 use Rattle.trace_judging.specs.Streams.{LosesPrefix}
@@ -23,8 +23,8 @@ abbrev pub reads_input : Asked → Bool
 reads_input asked = not (list_all is_some (needs asked).texts)
 
 -- What is taken of standard input where it is read: of traces that stand one after the other and of a log all bytes, or of the traces some of the first
--- where one alone is asked for; of another text so many that one of too many bytes is seen; or nothing of a certificate, of evidence or of a schedule, where the trace or the program
--- before it was refused.
+-- where one alone is asked for; of another text so many that one of too many bytes is seen; or nothing of a certificate, of evidence, of a schedule or of a stream
+-- of traces, where the trace or the program before it was refused.
 abbrev pub TakesInput : Asked → Option (List ℕ) → Option (List ℕ) → Type 0
 TakesInput (batching texts workers printing) old new = IfSome old (λ all. Consumes old new all)
 TakesInput (logging file options) old new = IfSome old (λ all. Consumes old new all)
@@ -35,6 +35,7 @@ TakesInput (checking None certificate nth) old new = TakesTrace nth old new
 TakesInput (checking (Some trace) certificate nth) old new = (new ≡ old) ⊎ LosesPrefix certificate_read_limit old new
 TakesInput (verifying None evidence nth) old new = TakesTrace nth old new
 TakesInput (verifying (Some trace) evidence nth) old new = (new ≡ old) ⊎ LosesPrefix certificate_read_limit old new
+TakesInput (counting (Some program) stream limit) old new = (new ≡ old) ⊎ IfSome old (λ all. Consumes old new all)
 TakesInput (replaying options (Some program) schedule) old new = (new ≡ old) ⊎ LosesPrefix trace_read_limit old new
 TakesInput asked old new = LosesPrefix trace_read_limit old new
 
@@ -42,6 +43,7 @@ TakesInput asked old new = LosesPrefix trace_read_limit old new
 abbrev pub HasRefusedFirstText : Asked → (List ℕ → Option (List ℕ)) → Type 0
 HasRefusedFirstText (checking (Some trace) certificate nth) files = (text : List ℕ) × (files trace ≡ Some text) × IsRefusedNth nth text
 HasRefusedFirstText (verifying (Some trace) evidence nth) files = (text : List ℕ) × (files trace ≡ Some text) × IsRefusedNth nth text
+HasRefusedFirstText (counting (Some program) stream limit) files = (text : List ℕ) × (files program ≡ Some text) × IsRefusedProgram text
 HasRefusedFirstText (replaying options (Some program) schedule) files = (text : List ℕ) × (files program ≡ Some text) × IsRefusedProgram text
 HasRefusedFirstText asked files = ⊥
 

@@ -2,6 +2,7 @@
 ghost use Rattle.std.specs.Prelude.{◌≡◌, ◌≢◌, ◌⊎◌, ◌≤◌, ◌&&◌, not, IfOk, IfErr};
 ghost use Rattle.trace_judging.specs.declared.faults.Fault.{Fault};
 ghost use Rattle.trace_reports.specs.RefusalLines.{refusal_text};
+ghost use Rattle.tso_text.specs.Printed.{trace_text};
 ghost use Rattle.tso_text.specs.declared.faults.Why.{Why};
 ghost use Rattle.command_line.specs.declared.options.Printing.TheVariants.{Explanation};
 ghost use Rattle.unit_core.specs.declared.accounts.Account.{Account as AccountValue};
@@ -54,10 +55,17 @@ fn following_trace(
     ensures { IfOk result (λ text. text.items ≡ following_trace options.now recorded.now.trace) }
 {
     if options.with_trace && !prints_trace(options.printing) {
-        Ok(print_trace(alloc, recorded.trace())?.into_bytes())
+        recorded_text(alloc, recorded)
     } else {
         Ok(Vec::new(alloc))
     }
+}
+
+/// The text of a record's trace.
+pub(crate) fn recorded_text(alloc: Global, recorded: &Recorded) -> Result<Vec<u8>, OutOfMemory>
+    ensures { IfOk result (λ text. text.items ≡ trace_text recorded.now.trace) }
+{
+    Ok(print_trace(alloc, recorded.trace())?.into_bytes())
 }
 
 /// Whether the trace is what is printed.

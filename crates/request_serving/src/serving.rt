@@ -14,11 +14,14 @@ use crate::files::Surroundings;
 use crate::serving::batching::batch_named;
 use crate::serving::campaigning::campaign_by;
 use crate::serving::checking::check_named;
+use crate::serving::counting::count_named;
 use crate::serving::deciding::decide_named;
 use crate::serving::judging::judge_named;
+use crate::serving::listing::list_named;
 use crate::serving::logging::log_named;
 use crate::serving::making::make;
 use crate::serving::reducing::reduce_named;
+use crate::serving::repeating::repeat_named;
 use crate::serving::replaying::replay_named;
 use crate::serving::running::run_named;
 use crate::serving::verifying::verify_named;
@@ -31,12 +34,15 @@ use trace_judging::{Fault, MAX_WORKERS, write_text};
 mod batching;
 mod campaigning;
 mod checking;
+mod counting;
 mod deciding;
 mod judging;
+mod listing;
 mod logging;
 mod making;
 mod numbering;
 mod reducing;
+mod repeating;
 mod replaying;
 mod running;
 mod verifying;
@@ -54,13 +60,15 @@ const _: () = prove!(command_line::MAX_WORKERS == MAX_WORKERS);
 /// small trace that shows the violation of the trace, with lines on its operations to `errors`. `Batch` writes a line for each
 /// of the traces of texts, by a verdict or a decision, or the texts of those that are violations, with their numbers to
 /// `errors`. `Log` writes the violations of a log, or their traces. `Check` checks a certificate against a trace and writes
-/// the report of both; `Verify` checks an order or a refutation, and writes whether it holds.
+/// the report of both; `Verify` checks an order or a refutation, and writes whether it holds. `Outcomes` writes the traces
+/// that complete runs of a program leave, or its final states; `Seen` how often a stream of traces has each of these traces.
 ///
 /// The status of these is that of what they say: 0 where no violation was found, or there is an order or it holds; 1 where
 /// none was found in the part of a log that was searched, or nothing was decided; 2 where a text, a certificate or evidence
-/// was refused; 3 at a violation, or a certificate or a refutation that holds. `Replay` and `Run` print what a record gives: never a violation
-/// where the unit is lawful for programs of the memory model that the program's text names, so their status isn't 3 there. A run
-/// whose request names turns of a drainer, at most 1,000,000, has one beside its processors. `Show` writes its text to `writer`,
+/// was refused, or runs reach too many states; 3 at a violation, or a certificate or a refutation that holds. `Replay` and `Run`
+/// print what a record gives: never a violation where the unit is lawful for programs of the memory model that the program's
+/// text names, so their status isn't 3 there. A run whose request names turns of a drainer, at most 1,000,000, has one beside
+/// its processors. `RunTimes` writes the trace of each run as it ends. `Show` writes its text to `writer`,
 /// with status 0, and `Refuse` to `errors`, with status 2. At a fault the status is 4 and one line, as `FAULT Read`, is written to
 /// `errors`; a file that can't be opened is the fault Read. All files that the request names are opened, in their order,
 /// before one is read; but those of `Batch` each when its turn comes.
@@ -114,11 +122,23 @@ pub fn serve<H: Threads + Wait + Sync + AllocGlobal, O: Surroundings, R: Read, W
             let verified = verify_named(rt.alloc(), request, files, reader, writer);
             end_answer(verified, errors)
         }
+        Request::Outcomes(request) => {
+            let listed = list_named(rt.alloc(), request, files, reader, writer);
+            end_batch(listed, errors)
+        }
+        Request::Seen(request) => {
+            let counted = count_named(rt.alloc(), request, files, reader, writer);
+            end_batch(counted, errors)
+        }
         Request::Replay { options, texts } => {
             let replayed = replay_named(rt, options, *texts, files, reader, writer);
             end_with(replayed, errors)
         }
         Request::Run(request) => end_run(run_named(rt, request, files, reader, writer), errors),
+        Request::RunTimes(request) => {
+            let repeated = repeat_named(rt, request, files, reader, writer);
+            end_run(repeated, errors)
+        }
         Request::Make(options) => {
             let made = make(rt.alloc(), options, writer);
             end_with(made, errors)

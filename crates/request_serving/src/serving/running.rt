@@ -1,5 +1,6 @@
 //! `run`: a program is read, and run with a thread per processor and a drainer; what was recorded is judged or printed.
-ghost use Rattle.std.specs.Prelude.{◌≡◌, ◌⊎◌, ◌≤◌, [], ◌∷◌, IfOk, IfErr, IfSome, None};
+ghost use Rattle.std.specs.Prelude.{◌≡◌, ◌⊎◌, ◌≤◌, [], ◌∷◌, IfOk, IfErr, IfSome, None, Ok};
+ghost use Rattle.issue_desk.specs.Running.{Runs};
 ghost use Rattle.command_line.specs.Requests.{asked_of, drain_turns_limit};
 ghost use Rattle.command_line.specs.declared.requests.Request.TheVariants.{Run};
 ghost use Rattle.trace_judging.specs.declared.faults.Fault.{Fault};
@@ -24,7 +25,15 @@ use std::thread::Threads;
 use trace_judging::{read_all, write_text};
 use tso_ops::Program;
 use tso_text::{MAX_TEXT_BYTES, read_program};
-use unit_core::{Account, MemoryUnit};
+use unit_core::{Account, MemoryUnit, Recorded};
+
+/// When the stores of a run are drained: by the processors' threads, as drawn from the seed, and by a drainer with so many
+/// turns, none where it takes none.
+#[derive(Clone, Copy)]
+pub(crate) struct Drains {
+    pub(crate) seed: u64,
+    pub(crate) turns: u64,
+}
 
 /// Runs the program in a file, or else what the reader has, and writes what the request's options ask for: the status.
 pub(crate) fn run_named<H: Threads + Wait + Sync + AllocGlobal, O: Surroundings, R: Read, W: Write>(
@@ -118,17 +127,35 @@ fn run_on<H: Threads + Wait + Sync + AllocGlobal>(
     ensures text { IfOk result (λ printed. IsRunPrinted request.now.options program.now printed.text.items printed.status) }
     ensures fault { IfErr result (OnFault (λ fault. (fault ≡ Fault.OutOfMemory) ⊎ (fault ≡ Fault.NoThread))) }
 {
-    let issuers = Issuers {
-        gate: &OpenGate,
-        drain_seed: request.drain_seed,
-    };
-    let threads = RunThreads {
-        issuers,
+    let drains = Drains {
+        seed: request.drain_seed,
         turns: request.drain_turns,
     };
     let mut account = Account::new();
-    match run_with_drainer(rt, rt.alloc(), program, unit, threads, &mut account) {
-        Ok(recorded) => Ok(print_record(rt, &request.options, &recorded, &account)?),
-        Err(fault) => Err(failure_of(fault)),
-    }
+    let recorded = record_run(rt, program, unit, drains, &mut account)?;
+    Ok(print_record(rt, &request.options, &recorded, &account)?)
+}
+
+/// The record of a run of the program on this unit, with its account.
+pub(crate) fn record_run<H: Threads + Wait + Sync + AllocGlobal>(
+    rt: &H,
+    program: &Program,
+    unit: Box<dyn MemoryUnit + Send>,
+    drains: Drains,
+    account: &mut Account,
+) -> Result<Recorded, RunFailure>
+    requires untouched { (value_of unit).steps ≡ [] }
+    requires turns { drains.turns ≤ drain_turns_limit }
+    ensures ran { IfOk result (λ recorded. Runs program.now (value_of unit) account.new (Ok recorded)) }
+    ensures fault { IfErr result (OnFault (λ fault. (fault ≡ Fault.OutOfMemory) ⊎ (fault ≡ Fault.NoThread))) }
+{
+    let issuers = Issuers {
+        gate: &OpenGate,
+        drain_seed: drains.seed,
+    };
+    let threads = RunThreads {
+        issuers,
+        turns: drains.turns,
+    };
+    run_with_drainer(rt, rt.alloc(), program, unit, threads, account).map_err(failure_of)
 }

@@ -5,7 +5,7 @@ use Rattle.request_serving.specs.Endings.{IsPresented, Outputs, outputs}
 use Rattle.request_serving.specs.OpenedFiles.{name_in, text_bytes}
 use Rattle.request_serving.specs.Replaying.{IsReplayText}
 use Rattle.request_serving.specs.Statuses.{status_of}
-use Rattle.request_serving.specs.Batches.{asked_printing, texts_of_batch}
+use Rattle.request_serving.specs.Batches.{asked_printing, status_of_batch, texts_of_batch}
 use Rattle.request_serving.specs.Internal.Batching.{files_in}
 use Rattle.request_serving.specs.Logs.{form_of}
 use Rattle.request_serving.proofs.BatchingFacts.{ends_batched, read_files, unread_files}
@@ -13,8 +13,12 @@ use Rattle.log_reports.specs.LogReports.{IsLogReportOfReader}
 use Rattle.request_serving.proofs.LoggingFacts.{ends_noted}
 use Rattle.request_serving.specs.Logs.{status_of_log}
 use Rattle.request_serving.specs.Reducing.{IsReduced}
-use Rattle.request_serving.proofs.EndFacts.{at_text, ends_as, named, opens_all, unnamed}
-use Rattle.request_serving.proofs.RunningFacts.{ends_run}
+use Rattle.request_serving.proofs.EndFacts.{at_text, ends_as, named, opens_all, unnamed, without_thread}
+use Rattle.std.specs.Prelude.{◌≢◌}
+use Rattle.outcome_reports.specs.Outcomes.{IsOutcomesOfReader}
+use Rattle.trace_judging.specs.declared.faults.Fault.TheVariants.{NoThread}
+use Rattle.request_serving.specs.Outcomes.{asked_outcomes}
+use Rattle.request_serving.proofs.RunningFacts.{ends_run, ends_run_times}
 use Rattle.request_serving.proofs.LawfulFacts.{known_status, lawful_status}
 use Rattle.request_serving.proofs.serving.serve.Goals as goal
 
@@ -146,3 +150,44 @@ returns-in-Replay-clause-no_false_alarm_of_text g c = λ lawful. known_status (a
 
 pub returns-in-Run-clause-no_false_alarm_of_text : goal.returns-in-Run-clause-no_false_alarm_of_text
 returns-in-Run-clause-no_false_alarm_of_text g c = λ lawful. known_status (asked_of c.args.request.now) _ _ _ _ (returns-in-Run-clause-ends g c) lawful
+
+pub returns-in-Outcomes-clause-ends : goal.returns-in-Outcomes-clause-ends
+returns-in-Outcomes-clause-ends g c =
+    let o : Outputs = outputs (g.W.Write.contents c.args.writer.now) (g.W.Write.contents c.list_named-listed.new.writer) (g.E.Write.contents c.args.errors.now) (g.E.Write.contents c.end_batch-in-Outcomes.new.errors) in
+    let request = c.in-Outcomes.request in
+    let is_text = IsOutcomesOfReader (asked_outcomes request.limit request.states) (text_bytes (name_in request.program) (g.R.Read.remaining c.args.reader.now) (g.O.Surroundings.bytes c.args.files.now)) in
+    let listed = c.list_named-listed in
+    let ended = c.end_batch-in-Outcomes in
+    rw c.in-Outcomes.is (ends_as is_text status_of_batch (λ old new fault. (fault ≢ NoThread) × LeavesAtFault is_text old new fault) o listed.result ended.result listed.ensures.whole
+    (without_thread is_text _ _ listed.result listed.ensures.no_thread listed.ensures.fault) ended.ensures.verdict ended.ensures.fault)
+
+pub returns-in-Outcomes-clause-first : goal.returns-in-Outcomes-clause-first
+returns-in-Outcomes-clause-first g c = rw c.in-Outcomes.is (opens_all _ _ _ c.list_named-listed.ensures.opened)
+
+pub returns-in-Outcomes-clause-unread : goal.returns-in-Outcomes-clause-unread
+returns-in-Outcomes-clause-unread g c = rw c.in-Outcomes.is (λ unread. named c.in-Outcomes.request.program c.list_named-listed.ensures.unread unread)
+
+pub returns-in-Outcomes-clause-taken : goal.returns-in-Outcomes-clause-taken
+returns-in-Outcomes-clause-taken g c = rw c.in-Outcomes.is (λ reads other.
+    at_text c.list_named-listed.result c.end_batch-in-Outcomes.result _ _ _ c.end_batch-in-Outcomes.ensures.fault (c.list_named-listed.ensures.taken (unnamed c.in-Outcomes.request.program reads)) other)
+
+pub returns-in-RunTimes-clause-ends : goal.returns-in-RunTimes-clause-ends
+returns-in-RunTimes-clause-ends g c =
+    let o : Outputs = outputs (g.W.Write.contents c.args.writer.now) (g.W.Write.contents c.repeat_named-repeated.new.writer) (g.E.Write.contents c.args.errors.now) (g.E.Write.contents c.end_run-in-RunTimes.new.errors) in
+    let request = c.in-RunTimes.request in
+    let programs = text_bytes (name_in request.program) (g.R.Read.remaining c.args.reader.now) (g.O.Surroundings.bytes c.args.files.now) in
+    let repeated = c.repeat_named-repeated in
+    let ended = c.end_run-in-RunTimes in
+    rw c.in-RunTimes.is (ends_run_times request.unit request.times programs o repeated.result ended.result repeated.ensures.whole repeated.ensures.left ended.ensures.status ended.ensures.failure)
+
+pub returns-in-RunTimes-clause-first : goal.returns-in-RunTimes-clause-first
+returns-in-RunTimes-clause-first g c = rw c.in-RunTimes.is (opens_all _ _ _ c.repeat_named-repeated.ensures.opened)
+
+pub returns-in-RunTimes-clause-no_false_alarm : goal.returns-in-RunTimes-clause-no_false_alarm
+returns-in-RunTimes-clause-no_false_alarm g c = λ lawful. lawful_status (asked_of c.args.request.now) _ _ _ _ (returns-in-RunTimes-clause-ends g c) lawful
+
+pub returns-in-RunTimes-clause-no_false_alarm_of_text : goal.returns-in-RunTimes-clause-no_false_alarm_of_text
+returns-in-RunTimes-clause-no_false_alarm_of_text g c = λ lawful. known_status (asked_of c.args.request.now) _ _ _ _ (returns-in-RunTimes-clause-ends g c) lawful
+
+pub returns-in-Seen-clause-first : goal.returns-in-Seen-clause-first
+returns-in-Seen-clause-first g c = rw c.in-Seen.is c.count_named-counted.ensures.first

@@ -2,7 +2,8 @@ use Rattle.std.proofs.Common.{inl, inr}
 use Rattle.std.proofs.lemmas.Result.{IfOk-weaker}
 use Rattle.tso_text.proofs.TextLaws.{program_laws}
 use Rattle.request_serving.specs.Replaying.{IsScheduledText}
-use Rattle.request_serving.proofs.ReplayingFacts.{not_refused_program, printed_as}
+use Rattle.outcome_reports.proofs.SaidFacts.{not_refused_program}
+use Rattle.request_serving.proofs.ReplayingFacts.{printed_as}
 use Rattle.request_serving.proofs.serving.replaying.replay_texts.Goals as goal
 
 pub returns-in-Ok-clause-text : goal.returns-in-Ok-clause-text

@@ -1,0 +1,53 @@
+use Rattle.unit_core.proofs.RecordFacts.{holds_ok}
+use Rattle.request_serving.proofs.EndFacts.{faults_as, knows_itself, opens_all, opens_both, writes_as}
+use Rattle.request_serving.proofs.OutcomeFacts.{seen_of_known}
+use Rattle.request_serving.proofs.serving.counting.count_named.Goals as goal
+
+pub returns-in_ok-stream-in-Files-clause-whole : goal.returns-in_ok-stream-in-Files-clause-whole
+returns-in_ok-stream-in-Files-clause-whole g c =
+    let also = rw c.in_ok-program-in-Files.ensures.same at c.in_ok-stream-in-Files.ensures.known in
+    rw c.in-Files.is (writes_as _ _ (seen_of_known c.args.request.now.limit _ _ _ _ c.in_ok-program-in-Files.ensures.known also) _ _ c.count_seen.result c.count_seen.ensures.whole)
+
+pub returns-in_ok-stream-in-Files-clause-fault : goal.returns-in_ok-stream-in-Files-clause-fault
+returns-in_ok-stream-in-Files-clause-fault g c =
+    let also = rw c.in_ok-program-in-Files.ensures.same at c.in_ok-stream-in-Files.ensures.known in
+    rw c.in-Files.is (faults_as _ _ (seen_of_known c.args.request.now.limit _ _ _ _ c.in_ok-program-in-Files.ensures.known also) _ _ c.count_seen.result c.count_seen.ensures.fault)
+
+pub returns-in_ok-stream-in-Files-clause-first : goal.returns-in_ok-stream-in-Files-clause-first
+returns-in_ok-stream-in-Files-clause-first g c =
+    rw c.in-Files.is (opens_all _ _ _ (opens_both (g.O.Surroundings.opened c.args.files.now) (g.O.Surroundings.opened c.open.new.files) (g.O.Surroundings.opened c.open-in-Files.new.files) c.in-Files.program.now c.in-Files.stream.now
+    c.in_ok-program-in-Files.ensures.opened c.in_ok-stream-in-Files.ensures.opened))
+
+pub returns-in_err-stream-in-Files-clause-first : goal.returns-in_err-stream-in-Files-clause-first
+returns-in_err-stream-in-Files-clause-first g c =
+    rw c.in-Files.is (opens_all _ _ _ (opens_both (g.O.Surroundings.opened c.args.files.now) (g.O.Surroundings.opened c.open.new.files) (g.O.Surroundings.opened c.open-in-Files.new.files) c.in-Files.program.now c.in-Files.stream.now
+    c.in_ok-program-in-Files.ensures.opened c.in_err-stream-in-Files.ensures.opened))
+
+pub returns-in_ok-stream-in-InputAndFile-clause-whole : goal.returns-in_ok-stream-in-InputAndFile-clause-whole
+returns-in_ok-stream-in-InputAndFile-clause-whole g c =
+    rw c.in-InputAndFile.is (writes_as _ _ (seen_of_known c.args.request.now.limit _ _ _ _ (knows_itself _) c.in_ok-stream-in-InputAndFile.ensures.known) _ _ c.count_seen-in-InputAndFile.result c.count_seen-in-InputAndFile.ensures.whole)
+
+pub returns-in_ok-stream-in-InputAndFile-clause-fault : goal.returns-in_ok-stream-in-InputAndFile-clause-fault
+returns-in_ok-stream-in-InputAndFile-clause-fault g c =
+    rw c.in-InputAndFile.is (faults_as _ _ (seen_of_known c.args.request.now.limit _ _ _ _ (knows_itself _) c.in_ok-stream-in-InputAndFile.ensures.known) _ _ c.count_seen-in-InputAndFile.result c.count_seen-in-InputAndFile.ensures.fault)
+
+pub returns-in_ok-stream-in-InputAndFile-clause-first : goal.returns-in_ok-stream-in-InputAndFile-clause-first
+returns-in_ok-stream-in-InputAndFile-clause-first g c = rw c.in-InputAndFile.is (opens_all _ _ _ c.in_ok-stream-in-InputAndFile.ensures.opened)
+
+pub returns-in_ok-program-in-FileAndInput-clause-whole : goal.returns-in_ok-program-in-FileAndInput-clause-whole
+returns-in_ok-program-in-FileAndInput-clause-whole g c =
+    let counted = c.count_seen-in-FileAndInput in
+    rw c.in-FileAndInput.is (writes_as _ _ (seen_of_known c.args.request.now.limit _ _ _ _ c.in_ok-program-in-FileAndInput.ensures.known (knows_itself _)) _ _ counted.result counted.ensures.whole)
+
+pub returns-in_ok-program-in-FileAndInput-clause-fault : goal.returns-in_ok-program-in-FileAndInput-clause-fault
+returns-in_ok-program-in-FileAndInput-clause-fault g c =
+    let counted = c.count_seen-in-FileAndInput in
+    rw c.in-FileAndInput.is (faults_as _ _ (seen_of_known c.args.request.now.limit _ _ _ _ c.in_ok-program-in-FileAndInput.ensures.known (knows_itself _)) _ _ counted.result counted.ensures.fault)
+
+pub returns-in_ok-program-in-FileAndInput-clause-first : goal.returns-in_ok-program-in-FileAndInput-clause-first
+returns-in_ok-program-in-FileAndInput-clause-first g c = rw c.in-FileAndInput.is (opens_all _ _ _ c.in_ok-program-in-FileAndInput.ensures.opened)
+
+pub returns-in_ok-stream-in-Files-clause-opened : goal.returns-in_ok-stream-in-Files-clause-opened
+returns-in_ok-stream-in-Files-clause-opened g c =
+    rw c.in-Files.is (holds_ok c.count_seen.result _ (opens_both (g.O.Surroundings.opened c.args.files.now) (g.O.Surroundings.opened c.open.new.files) (g.O.Surroundings.opened c.open-in-Files.new.files) c.in-Files.program.now c.in-Files.stream.now
+    c.in_ok-program-in-Files.ensures.opened c.in_ok-stream-in-Files.ensures.opened))
