@@ -8,7 +8,7 @@ _tsobench() {
     esac
     for ((i = 1; i < COMP_CWORD; i++)); do
         case ${COMP_WORDS[i]} in
-            judge | decide | explain | draw | reduce | batch | log | check | verify | replay | run | make | campaign | help)
+            judge | decide | explain | draw | reduce | batch | log | check | verify | outcomes | replay | run | make | campaign | help)
                 command=${COMP_WORDS[i]}
                 break
                 ;;
@@ -34,6 +34,8 @@ _tsobench() {
         log/--effort) ;;
         check/--nth) ;;
         verify/--nth) ;;
+        outcomes/--limit) ;;
+        outcomes/--seen) files=yes ;;
         replay/--unit) words='serial buffer partial newest-first no-forward stale-load torn-swap idle-membar lost-drain' ;;
         replay/--capacity) ;;
         replay/--trigger) ;;
@@ -44,6 +46,7 @@ _tsobench() {
         run/--workers) ;;
         run/--seed) ;;
         run/--drain-turns) ;;
+        run/--times) ;;
         make/--model) words='tso pso' ;;
         make/--seed) ;;
         make/--procs) ;;
@@ -60,7 +63,7 @@ _tsobench() {
         campaign/--procs) ;;
         campaign/--ops) ;;
         campaign/--addrs) ;;
-        /*) words='judge decide explain draw reduce batch log check verify replay run make campaign help -h --help -V --version' ;;
+        /*) words='judge decide explain draw reduce batch log check verify outcomes replay run make campaign help -h --help -V --version' ;;
         judge/*) words='--workers --nth --verbose -h --help' files=yes ;;
         decide/*) words='--effort --workers --nth --verbose -h --help' files=yes ;;
         explain/*) words='--decide --effort --workers --nth --verbose -h --help' files=yes ;;
@@ -70,11 +73,12 @@ _tsobench() {
         log/*) words='--most --effort --trace --explain --progress --verbose -h --help' files=yes ;;
         check/*) words='--nth --verbose -h --help' files=yes ;;
         verify/*) words='--nth --verbose -h --help' files=yes ;;
+        outcomes/*) words='--states --limit --seen --verbose -h --help' files=yes ;;
         replay/*) words='--unit --capacity --trigger --workers --trace --explain --with-trace --verbose -h --help' files=yes ;;
-        run/*) words='--unit --capacity --trigger --workers --trace --explain --with-trace --verbose --seed --drain-turns -h --help' files=yes ;;
+        run/*) words='--unit --capacity --trigger --workers --trace --explain --with-trace --verbose --seed --drain-turns --times -h --help' files=yes ;;
         make/*) words='--schedule --model --seed --procs --ops --addrs -h --help' ;;
         campaign/*) words='--unit --capacity --trigger --workers --replay --drain-turns --trace --progress --model --first --count --procs --ops --addrs -h --help' ;;
-        help/*) words='judge decide explain draw reduce batch log check verify replay run make campaign' ;;
+        help/*) words='judge decide explain draw reduce batch log check verify outcomes replay run make campaign' ;;
     esac
     if [[ -n $files && $word != -* ]]; then
         words=''
