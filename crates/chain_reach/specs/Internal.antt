@@ -1,0 +1,3 @@
+-- What private tables keep and how far loops have come. No public contract uses these definitions.
+pub mod FirstTables
+pub mod Lists
