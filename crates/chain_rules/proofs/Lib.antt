@@ -1,0 +1,16 @@
+pub mod BaseReachFacts
+pub mod ChainKeyFacts
+pub mod FirstLaterFacts
+pub mod JoinedFacts
+pub mod ListedFacts
+pub mod LoopFacts
+pub mod LoweringFacts
+pub mod ProgramOrderFacts
+pub mod RoundFacts
+pub mod RowFacts
+pub mod RowListFacts
+pub mod RuleFacts
+pub mod SourceFacts
+pub mod SwapProcessorFacts
+pub mod TableFacts
+pub mod TraceBounds

@@ -1,0 +1,8 @@
+-- How far loops have come. No public contract uses these definitions.
+pub mod Accesses
+pub mod BaseJoins
+pub mod Joined
+pub mod Layouts
+pub mod LeastRows
+pub mod Lowering
+pub mod RoundEnds

@@ -1,0 +1,5 @@
+pub mod Chains
+pub mod Internal
+pub mod Rounds
+pub mod Rows
+pub mod Tables
