@@ -13,7 +13,8 @@ impl Groups {
     pub fn of_keys(alloc: Global, keys: Vec<u16>, count: usize) -> Result<Groups, AllocError>
         requires most { length keys.items < 2 ^ 16 }
         requires within { All (λ key. key < count) keys.items }
-        ensures keys { IfOk result (λ g. g.keys.items ≡ keys.items) }
+        ensures nodes { IfOk result (λ g. nodes_of g ≡ length keys.items) }
+        ensures keys { IfOk result (λ g. (n : ℕ) → n < length keys.items → group_of g n ≡ slice_index keys.items n) }
         ensures count { IfOk result (λ g. count_of g ≡ count) }
     {
         let mut lists = empty_lists(alloc, count)?;

@@ -19,7 +19,7 @@ use Rattle.chain_reach.specs.Groups.{nodes_of, count_of, group_of, IsIn, IsLastB
 use Rattle.chain_reach.specs.Leading.{Leads, Joins}
 use Rattle.chain_rules.specs.Chains.{AreChainsOf}
 use Rattle.chain_rules.specs.Rows.{IsRankReach}
-use Rattle.chain_rules.specs.Tables.{slot_of, AreTablesOf}
+use Rattle.chain_rules.specs.Internal.Tables.{slot_of, HasTables}
 use Rattle.chain_rules.specs.declared.types.RuleTables.{RuleTables}
 use Rattle.chain_rules.specs.Internal.BaseJoins.{IsAfter, IsFirstAfter, GrowsByBase}
 use Rattle.chain_rules.proofs.ProgramOrderFacts.{after_greater, after_within, event_node}
@@ -60,7 +60,7 @@ all_led t L after reads on x y path =
     Reaches-into (RankSet t 0) L on (λ u v edge. elim ((base_by t u v).1 edge) [ inl is ↦ after u v is | inr read ↦ reads read.0 u v read.1 ]) x y path
 
 -- a store to an address before a load is the last of its processor before it, or stands before that one in its chain
-pub last_or_before : (t : TraceValue) (g : Groups) (tables : RuleTables) → AreChainsOf t g → AreTablesOf t g tables → (p a l w : ℕ) → p < processor_count t → a < tables.addresses →
+pub last_or_before : (t : TraceValue) (g : Groups) (tables : RuleTables) → AreChainsOf t g → HasTables t g tables → (p a l w : ℕ) → p < processor_count t → a < tables.addresses →
     IsLastBefore tables.stores (slot_of tables p a) l w → (u : ℕ) → IsStoreTo t a u → IsEventOf t p u → u < l → (u ≡ w) ⊎ IsLaterIn g u w
 last_or_before t g tables chains are p a l w low_p low_a last u store of before =
     let at = are.stores p a w low_p low_a in
@@ -120,7 +120,7 @@ no_store_zero t s e store = let above = event_above_zero t s (store_event t s st
 -- An event with its source, and the tables that have its slot.
 pub record HasSlot (t : TraceValue) (g : Groups) (tables : RuleTables) (l s : ℕ) (event : Event) : Type 0 where
   pub chains : AreChainsOf t g
-  pub tables_are : AreTablesOf t g tables
+  pub tables_are : HasTables t g tables
   pub at : event_at t l ≡ Some event
   pub source : HasSource t l s
 

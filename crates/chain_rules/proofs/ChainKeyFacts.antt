@@ -184,9 +184,9 @@ stores_together t g have p x y (d, at_x, d_store) (e, at_y, e_store) same d_of e
     ∙ sym (key_at t g have y e (omega (arith, y_low, nodes)) at_y ∙ store_chain l e e_store)
 
 -- the groups of these keys are the chains of the trace
-pub chains_are : (t : TraceValue) (g : Groups) (keys : List ℕ) (n : ℕ) → IsTrace t → AreChainKeys t keys n → n ≡ suc (event_total t) → g.keys.items ≡ keys →
+pub chains_are : (t : TraceValue) (g : Groups) (keys : List ℕ) (n : ℕ) → IsTrace t → AreChainKeys t keys n → n ≡ suc (event_total t) → nodes_of g ≡ length keys → ((m : ℕ) → m < length keys → group_of g m ≡ get_or keys m 0) →
     count_of g ≡ layout_count (layout_of t) → AreChainsOf t g
-chains_are t g keys n trace are all is counted = record {
+chains_are t g keys n trace are all sized keyed counted = record {
   nodes = have.nodes;
   few = (let most = chain_total-most t trace in omega (arith, most, counted));
   ordered = chains_ordered t g have;
@@ -206,6 +206,6 @@ chains_are t g keys n trace are all is counted = record {
   where
     have : HaveChains t g
     have = record {
-      nodes = ap length is ∙ are.sized ∙ all;
-      keys = λ k low. ap (λ xs. get_or xs k 0) is ∙ are.each k (omega (arith, low, all));
+      nodes = sized ∙ are.sized ∙ all;
+      keys = λ k low. keyed k (let counted = are.sized in omega (arith, low, all, counted)) ∙ are.each k (omega (arith, low, all));
     }

@@ -1,6 +1,6 @@
 -- Which rows a round looks at.
 use Rattle.std.proofs.Common.{◌≡◌, inl, inr, ℕ, suc, ◌+◌, ◌-◌, ◌<◌, List, [], ◌∷◌, ◌++◌, length, length-append, get_or, sym, subst, ap, ◌∙◌, arith}
-use Rattle.std.specs.Prelude.{AllPairs}
+use Rattle.std.specs.Prelude.{AllPairs, Contains}
 use Rattle.std.proofs.lemmas.Bool.{cases_lt}
 use Rattle.std.proofs.lemmas.List.{get_or_default, get_or_at, get_or_append_left}
 use Rattle.bitsets.specs.Rows.{IsListOf, IsAscending}
@@ -114,3 +114,8 @@ changed_listed t k old new grown numbers follows list rows = record {
     | inr none ↦ absurd (unchanged t k old new grown u v follows list (λ affected. none (rows.all u affected)) is)
   ];
 }
+
+-- a row that is listed rests on a number that leads to more
+pub changed_rests : (t : TraceValue) (r : Reach) (grown numbers : List ℕ) → IsListOf grown (HasGrown r) → IsListOf numbers (IsAffected t grown) →
+    (u : ℕ) → Contains numbers u → (x : ℕ) × HasGrown r x × RestsOn t x u
+changed_rests t r grown numbers list rows u has = (let rests = rows.only u has in (rests.0, list.only rests.0 rests.1, rests.2))

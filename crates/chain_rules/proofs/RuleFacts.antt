@@ -16,8 +16,8 @@ use Rattle.chain_reach.specs.declared.types.Reach.{Reach}
 use Rattle.chain_reach.specs.Groups.{nodes_of, count_of, group_of, IsIn, IsFirstFrom}
 use Rattle.chain_reach.specs.Leading.{Leads}
 use Rattle.chain_rules.specs.declared.types.RuleTables.{RuleTables}
-use Rattle.chain_rules.specs.Tables.{slot_of}
 use Rattle.chain_rules.specs.Internal.Lowering.{LowersAt, LowersFor, AreReady, IsNewOf, IsGivenOrSame}
+use Rattle.chain_rules.specs.Internal.Tables.{slot_of}
 use Rattle.chain_rules.proofs.LoweringFacts.{Lowers-at, Lowers-row, Lowers-none}
 use Rattle.chain_rules.proofs.SwapProcessorFacts.{swap_processor}
 

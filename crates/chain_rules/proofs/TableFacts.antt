@@ -7,15 +7,20 @@ use Rattle.std.proofs.lemmas.List.{get_or_append_left, get_or_push, length-appen
 use Rattle.std.specs.Option.{unwrap_or}
 use Rattle.tso_ops.specs.declared.events.Event.{Event}
 use Rattle.tso_ops.specs.Values.{TraceValue}
+use Rattle.tso_ops.specs.Limits.{IsTrace}
 use Rattle.tso_ops.specs.Events.{processor_count, event_total, IsSwapLoad, IsEventOf}
 use Rattle.tso_ops.proofs.NumberFacts.{event_unique, IsEvent-within}
 use Rattle.tso_ops.proofs.SwapFacts.{IsSwapLoad-within}
 use Rattle.chain_reach.specs.declared.types.Groups.{Groups}
+use Rattle.chain_reach.specs.declared.types.Reach.{Reach}
 use Rattle.chain_reach.specs.Groups.{nodes_of, count_of, group_of, IsIn}
-use Rattle.chain_rules.specs.Chains.{address_total}
+use Rattle.chain_reach.specs.Leading.{Leads}
+use Rattle.chain_rules.specs.Chains.{address_total, AreChainsOf}
 use Rattle.chain_rules.specs.Tables.{AreTablesOf}
 use Rattle.chain_rules.specs.declared.types.RuleTables.{RuleTables}
 use Rattle.chain_rules.specs.Internal.LeastRows.{AreLeastFrom}
+use Rattle.chain_rules.specs.Internal.Lowering.{AreReady}
+use Rattle.chain_rules.specs.Internal.Tables.{HasTables}
 use Rattle.chain_rules.specs.Internal.Accesses.{IsAccess, HasSlot, AreAccesses, HasSwapChain, AreSwapStores, AreKeys}
 use Rattle.chain_rules.proofs.TraceBounds.{address_below, slot_below}
 
@@ -56,20 +61,20 @@ found_below None others low = omega arith
 found_below (Some s) others low = omega arith
 
 -- a group of such keys, but the last, has what has its key
-in_keys : (g : Groups) (keys : List ℕ) (Has : ℕ → ℕ → Type 0) (others n s k : ℕ) → AreKeys keys Has others n → g.keys.items ≡ keys →
+in_keys : (g : Groups) (keys : List ℕ) (Has : ℕ → ℕ → Type 0) (others n s k : ℕ) → AreKeys keys Has others n → nodes_of g ≡ length keys → ((m : ℕ) → m < length keys → group_of g m ≡ get_or keys m 0) →
     ((r : ℕ) → Has k r → Has k s → r ≡ s) → s < others → IsIn g s k ↔ ((k < n) × Has k s)
-in_keys g keys Has others n s k are is one low = (to, from)
+in_keys g keys Has others n s k are all keyed one low = (to, from)
   where
     nodes : nodes_of g ≡ n
-    nodes = ap length is ∙ are.sized
+    nodes = all ∙ are.sized
 
-    key : group_of g k ≡ get_or keys k 0
-    key = ap (λ xs. get_or xs k 0) is
+    key : k < n → group_of g k ≡ get_or keys k 0
+    key less = keyed k (let sized = are.sized in omega (arith, less, sized))
 
     to : IsIn g s k → (k < n) × Has k s
     to (within, at) =
         let less : k < n = omega (arith, within, nodes) in
-        let same : get_or keys k 0 ≡ s = sym key ∙ at in
+        let same : get_or keys k 0 ≡ s = sym (key less) ∙ at in
         elim (are.each k less) [
           | inl has ↦ (less, subst (Has k) same has)
           | inr none ↦ absurd (let last = none.0 in omega (arith, last, same, low))
@@ -77,7 +82,7 @@ in_keys g keys Has others n s k are is one low = (to, from)
 
     from : (k < n) × Has k s → IsIn g s k
     from (less, has) = elim (are.each k less) [
-      | inl own ↦ (omega (arith, less, nodes), key ∙ one (get_or keys k 0) own has)
+      | inl own ↦ (omega (arith, less, nodes), key less ∙ one (get_or keys k 0) own has)
       | inr none ↦ absurd (none.1 s has)
     ]
 
@@ -95,12 +100,12 @@ slots_below t addresses loads n (Some s) is within (e, at, load, s_is) = (let lo
 
 -- the groups of these keys are those of the loads, or of the stores
 pub accesses_are : (t : TraceValue) (addresses : ℕ) (loads : Bool) (g : Groups) (keys : List ℕ) (n others : ℕ) → addresses ≡ address_total t → others ≡ processor_count t * addresses →
-    n ≡ suc (event_total t) → AreKeys keys (HasSlot t addresses loads) others n → g.keys.items ≡ keys → count_of g ≡ others + 1 → AreAccesses t addresses loads g
-accesses_are t addresses loads g keys n others all last nodes are is counted = record {
+    n ≡ suc (event_total t) → AreKeys keys (HasSlot t addresses loads) others n → nodes_of g ≡ length keys → ((m : ℕ) → m < length keys → group_of g m ≡ get_or keys m 0) → count_of g ≡ others + 1 → AreAccesses t addresses loads g
+accesses_are t addresses loads g keys n others all last nodes are sized keyed counted = record {
   slots = omega (arith, counted, last);
   is = λ p a k p_low a_low.
       let fits : p * addresses + addresses ≤ processor_count t * addresses = row_fits p addresses (processor_count t) addresses p_low (omega arith) in
-      let both = in_keys g keys (HasSlot t addresses loads) others n (p * addresses + a) k are is (λ r. slot_one t addresses loads k r (p * addresses + a)) (omega (arith, fits, a_low, last)) in
+      let both = in_keys g keys (HasSlot t addresses loads) others n (p * addresses + a) k are sized keyed (λ r. slot_one t addresses loads k r (p * addresses + a)) (omega (arith, fits, a_low, last)) in
       (λ inside. to p a k a_low (both.0 inside), λ access. both.1 (from p a k access));
 }
   where
@@ -119,11 +124,11 @@ accesses_are t addresses loads g keys n others all last nodes are is counted = r
 -- ---- the stores of swaps by chain
 
 pub swaps_are : (t : TraceValue) (chains g : Groups) (keys : List ℕ) (n others : ℕ) → others ≡ count_of chains → n ≡ suc (event_total t) → AreKeys keys (HasSwapChain t chains) others n →
-    g.keys.items ≡ keys → count_of g ≡ others + 1 → AreSwapStores t chains g
-swaps_are t chains g keys n others last nodes are is counted = record {
+    nodes_of g ≡ length keys → ((m : ℕ) → m < length keys → group_of g m ≡ get_or keys m 0) → count_of g ≡ others + 1 → AreSwapStores t chains g
+swaps_are t chains g keys n others last nodes are sized keyed counted = record {
   slots = omega (arith, counted, last);
   is = λ d k low.
-      let both = in_keys g keys (HasSwapChain t chains) others n d k are is (λ r left right. sym left.3 ∙ right.3) (omega (arith, low, last)) in
+      let both = in_keys g keys (HasSwapChain t chains) others n d k are sized keyed (λ r left right. sym left.3 ∙ right.3) (omega (arith, low, last)) in
       (λ inside. (let has = both.0 inside in let less = has.0 in (omega (arith, less, nodes), has.1)), λ has. both.1 (let less = has.0 in (omega (arith, less, nodes), has.1)));
 }
 
@@ -151,6 +156,7 @@ access_below t addresses loads a n is access =
 -- tables of these parts are those of the trace
 pub tables_are : (t : TraceValue) (chains : Groups) (tables : RuleTables) → tables.addresses ≡ address_total t → AreAccesses t tables.addresses true tables.loads →
     AreAccesses t tables.addresses false tables.stores → AreSwapStores t chains tables.swaps → AreLeastFrom t chains tables.least.items 0 → AreTablesOf t chains tables
+unfolding AreTablesOf
 tables_are t chains tables all loads stores swaps least = record {
   addresses = λ a n. access_below t tables.addresses true a n all;
   store_addresses = λ a n. access_below t tables.addresses false a n all;
@@ -165,3 +171,12 @@ tables_are t chains tables all loads stores swaps least = record {
   below = λ l d v load low from at. (least.made l d (omega arith) load low).below v from at;
   least = λ l d load low within. (least.made l d (omega arith) load low).least within;
 }
+
+-- what the tables of a trace keep
+pub tables_keep : (t : TraceValue) (chains : Groups) (tables : RuleTables) → AreTablesOf t chains tables → HasTables t chains tables
+unfolding AreTablesOf
+tables_keep t chains tables are = are
+
+-- what the rules look at, of a trace with its tables
+pub are_ready : (t : TraceValue) (tables : RuleTables) (r : Reach) → IsTrace t → AreChainsOf t r.chains → AreTablesOf t r.chains tables → ((x : ℕ) → Leads r x x → ⊥) → AreReady t tables r
+are_ready t tables r trace chains are acyclic = record { trace = trace; chains = chains; tables = tables_keep t r.chains tables are; acyclic = acyclic }

@@ -1,4 +1,4 @@
--- How far loops have come. No public contract uses these definitions.
+-- What private tables keep and how far loops have come. No public contract names these definitions.
 pub mod Accesses
 pub mod BaseJoins
 pub mod Joined
@@ -6,3 +6,4 @@ pub mod Layouts
 pub mod LeastRows
 pub mod Lowering
 pub mod RoundEnds
+pub mod Tables

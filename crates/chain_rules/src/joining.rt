@@ -22,7 +22,7 @@ pub fn join_rows(reach: &mut Reach, numbers: &[usize], made: &[Vec<u16>])
     for (i, row) in made.iter().enumerate() {
         join_row(reach, numbers[i], row);
     }
-    // For the proof, as above.
+    // The call is for the proof: what leads to what is transitive, and each number leads to those after it in its chain.
     let _chains = reach.chains();
 }
 

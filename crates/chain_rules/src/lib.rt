@@ -3,6 +3,7 @@
 
 pub use base::base_reach;
 pub use chains::{chain_count, chains_of};
+pub use forms::RoundForm;
 pub use joining::{closes_cycle, join_rows};
 pub use rounds::{RoundCount, count_rounds, least_rows};
 pub use rows::{RowTables, least_row};
@@ -11,6 +12,7 @@ pub use worksets::{all_rows, changed_rows};
 
 mod base;
 mod chains;
+mod forms;
 mod joining;
 mod lowering;
 mod ordered;

@@ -26,6 +26,8 @@ use tso_ops::{OutOfMemory, Trace};
 pub struct RoundCount {
     /// The number of rounds.
     pub rounds: u64,
+    /// How many rows of new edges were computed, over all rounds.
+    pub rows: u64,
     /// Whether the rank set after them has a cycle.
     pub is_cyclic: bool,
 }
@@ -43,6 +45,10 @@ enum RoundEnd {
 
 /// Makes the rounds over a trace in which no load is unwritten, in the caller's thread, and counts them. OutOfMemory where an
 /// allocation was refused.
+///
+/// Each round adds the edges that an inferred rule gives by a path over the edges before it, and that have no path yet. The
+/// rounds end with the first rank set that has a cycle, or to which the next round would add nothing. They end: a round that
+/// adds edges makes a path between two numbers that had none.
 pub fn count_rounds(alloc: Global, trace: &Trace) -> Result<RoundCount, OutOfMemory>
     requires written { (l : ℕ) → IsUnwritten trace.now l → ⊥ }
     ensures rounds { IfOk result (λ count. IsRounds trace.now count.rounds) }
@@ -53,29 +59,27 @@ pub fn count_rounds(alloc: Global, trace: &Trace) -> Result<RoundCount, OutOfMem
     let chains = chains_of(alloc, trace)?;
     let tables = RuleTables::new(alloc, trace, &chains)?;
     let mut reach = base_reach(alloc, trace, chains, &tables)?;
-    let mut rounds: u64 = 0;
-    if reach.has_cycle() {
-        return Ok(RoundCount {
-            rounds,
-            is_cyclic: true,
-        });
+    let mut count = RoundCount {
+        rounds: 0,
+        rows: 0,
+        is_cyclic: reach.has_cycle(),
+    };
+    if count.is_cyclic {
+        return Ok(count);
     }
     let mut numbers = all_rows(alloc, trace)?;
     loop {
+        count.rows = count.rows.saturating_add(numbers.len() as u64);
         match make_round(alloc, trace, &tables, &mut reach, &numbers)? {
-            RoundEnd::Nothing => {
-                return Ok(RoundCount {
-                    rounds,
-                    is_cyclic: false,
-                });
-            }
+            RoundEnd::Nothing => return Ok(count),
             RoundEnd::Cycle => {
                 return Ok(RoundCount {
-                    rounds: rounds + 1,
+                    rounds: count.rounds + 1,
                     is_cyclic: true,
+                    ..count
                 });
             }
-            RoundEnd::Open => rounds += 1,
+            RoundEnd::Open => count.rounds += 1,
         }
         numbers = changed_rows(alloc, trace, &reach)?;
     }

@@ -17,8 +17,11 @@ use tso_ops::{Event, OutOfMemory, Trace};
 /// What rows are computed from.
 #[derive(Clone, Copy)]
 pub struct RowTables<'a> {
+    /// The trace.
     pub trace: &'a Trace,
+    /// The trace's tables, for the chains of `reach`.
     pub tables: &'a RuleTables,
+    /// What leads to what by the edges so far.
     pub reach: &'a Reach,
 }
 

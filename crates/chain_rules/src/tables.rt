@@ -3,7 +3,8 @@ ghost use Rattle.std.specs.Prelude.{◌≡◌, ◌<◌, ◌^◌, ℕ, IfOk, IfSo
 ghost use Rattle.chain_reach.specs.Groups.{nodes_of, count_of};
 ghost use Rattle.chain_rules.specs.Chains.{AreChainsOf, address_total};
 ghost use Rattle.chain_rules.specs.Internal.Accesses.{AreAccesses, AreSwapStores, HasSlot, HasSwapChain};
-ghost use Rattle.chain_rules.specs.Tables.{slot_of, AreTablesOf};
+ghost use Rattle.chain_rules.specs.Internal.Tables.{slot_of};
+ghost use Rattle.chain_rules.specs.Tables.{AreTablesOf};
 
 use crate::chains::address_count;
 use crate::sources::least_sources;

@@ -3,6 +3,8 @@ ghost use Rattle.std.specs.Prelude.{◌≡◌, IfOk};
 ghost use Rattle.chain_rules.specs.Chains.{AreChainsOf};
 ghost use Rattle.chain_rules.specs.Tables.{AreTablesOf};
 
+mod counts;
+mod forms;
 mod refused_allocations;
 mod rounds;
 

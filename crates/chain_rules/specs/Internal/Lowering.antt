@@ -10,7 +10,7 @@ use Rattle.chain_reach.specs.Groups.{nodes_of, group_of}
 use Rattle.chain_reach.specs.Leading.{Leads}
 use Rattle.chain_rules.specs.declared.types.RuleTables.{RuleTables}
 use Rattle.chain_rules.specs.Chains.{AreChainsOf}
-use Rattle.chain_rules.specs.Tables.{AreTablesOf}
+use Rattle.chain_rules.specs.Internal.Tables.{HasTables}
 
 -- The numbers of the chains were lowered: to each number that must be, and to no number but those that may be. What is no number of the chains
 -- stands for none.
@@ -31,7 +31,7 @@ pub record LowersAt (old new : List ℕ) (chain n : ℕ) : Type 0 where
 pub record AreReady (t : TraceValue) (lists : RuleTables) (r : Reach) : Type 0 where
   pub trace : IsTrace t
   pub chains : AreChainsOf t r.chains
-  pub tables : AreTablesOf t r.chains lists
+  pub tables : HasTables t r.chains lists
   pub acyclic : (x : ℕ) → Leads r x x → ⊥
 
 -- the rule gives the edge from u to v for a load with this, where what leads on is a path, and u doesn't lead to v

@@ -5,6 +5,7 @@ ghost use Rattle.std.specs.Prelude.{◌≡◌, IfOk};
 ghost use Rattle.chain_rules.specs.Chains.{AreChainsOf};
 ghost use Rattle.chain_rules.specs.Tables.{AreTablesOf};
 
+use super::counts::OF_TWO_SWAPS;
 use super::{base_of, chain_of, counted, join};
 use chain_reach::{Groups, Reach};
 use chain_rules::{
@@ -96,11 +97,8 @@ fn count(alloc: Global, trace: &Trace) -> Result<Option<RoundCount>, OutOfMemory
 #[test]
 fn refused_allocations_of_counted_rounds(rt: HostRuntime) -> Result<(), Fail> {
     let alloc = rt.alloc();
-    let wanted = RoundCount {
-        rounds: 2,
-        is_cyclic: true,
-    };
-    expect_equal("two swaps", count(alloc, &trace(alloc)?)?, Some(wanted))?;
+    let found = count(alloc, &trace(alloc)?)?;
+    expect_equal("two swaps", found, Some(OF_TWO_SWAPS))?;
     Ok(())
 }
 

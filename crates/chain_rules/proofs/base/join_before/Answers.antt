@@ -3,21 +3,22 @@ use Rattle.tso_ops.proofs.NumberFacts.{HasSource-within}
 use Rattle.tso_cert.specs.declared.rules.BaseRule.TheVariants.{Own}
 use Rattle.chain_reach.specs.Groups.{count_of, IsIn, IsLastBefore}
 use Rattle.chain_reach.specs.Leading.{Leads}
-use Rattle.chain_rules.specs.Tables.{slot_of}
+use Rattle.chain_rules.specs.Internal.Tables.{slot_of}
 use Rattle.chain_rules.proofs.BaseReachFacts.{HasSlot, slot_low, own_inside, inside_own, own_before, grows_join}
+use Rattle.chain_rules.proofs.TableFacts.{tables_keep}
 use Rattle.chain_rules.proofs.base.join_before.Goals as goal
 
 pub slot-slot-requires : goal.slot-slot-requires
 slot-slot-requires c =
     let has : HasSlot c.args.trace.now c.args.reach.now.chains c.args.tables.now c.args.l c.args.s c.in-Some.event =
-    record { chains = c.requires.chains; tables_are = c.requires.tables; at = sym c.in-Some.ensures; source = c.requires.source } in
+    record { chains = c.requires.chains; tables_are = tables_keep c.args.trace.now c.args.reach.now.chains c.args.tables.now c.requires.tables; at = sym c.in-Some.ensures; source = c.requires.source } in
     let low = slot_low c.args.trace.now c.args.reach.now.chains c.args.tables.now c.args.l c.args.s c.in-Some.event has in
     omega (arith, low, c.count-slots.ensures, c.count-slots.type_inv)
 
 pub last_before-requires : goal.last_before-requires
 last_before-requires c =
     let has : HasSlot c.args.trace.now c.args.reach.now.chains c.args.tables.now c.args.l c.args.s c.in-Some.event =
-    record { chains = c.requires.chains; tables_are = c.requires.tables; at = sym c.in-Some.ensures; source = c.requires.source } in
+    record { chains = c.requires.chains; tables_are = tables_keep c.args.trace.now c.args.reach.now.chains c.args.tables.now c.requires.tables; at = sym c.in-Some.ensures; source = c.requires.source } in
     let low = slot_low c.args.trace.now c.args.reach.now.chains c.args.tables.now c.args.l c.args.s c.in-Some.event has in
     subst (λ n. n < count_of c.args.tables.now.stores) (sym c.slot-slot.ensures) low
 
@@ -25,7 +26,7 @@ pub returns-in_default-last_before-clause-led : goal.returns-in_default-last_bef
 returns-in_default-last_before-clause-led c = λ u own.
     let tables = c.args.tables.now in
     let has : HasSlot c.args.trace.now c.args.reach.now.chains tables c.args.l c.args.s c.in-Some.event =
-    record { chains = c.requires.chains; tables_are = c.requires.tables; at = sym c.in-Some.ensures; source = c.requires.source } in
+    record { chains = c.requires.chains; tables_are = tables_keep c.args.trace.now c.args.reach.now.chains c.args.tables.now c.requires.tables; at = sym c.in-Some.ensures; source = c.requires.source } in
     let inside = own_inside c.args.trace.now c.args.reach.now.chains tables c.args.l c.args.s c.in-Some.event has u own in
     let less = inside.1 in
     let past : c.args.l ≤ u = c.in_default-last_before.ensures u (subst (λ n. IsIn tables.stores n u) (sym c.slot-slot.ensures) inside.0) in
@@ -49,7 +50,7 @@ returns-then-w-s-clause-grows c =
     let tables = c.args.tables.now in
     let w = c.in-Some-last_before.w in
     let has : HasSlot c.args.trace.now c.args.reach.now.chains tables c.args.l c.args.s c.in-Some.event =
-    record { chains = c.requires.chains; tables_are = c.requires.tables; at = sym c.in-Some.ensures; source = c.requires.source } in
+    record { chains = c.requires.chains; tables_are = tables_keep c.args.trace.now c.args.reach.now.chains c.args.tables.now c.requires.tables; at = sym c.in-Some.ensures; source = c.requires.source } in
     let last = c.in-Some-last_before.ensures in
     grows_join c.args.trace.now c.args.reach.now c.join.new.self w c.args.s (
       Own,
@@ -65,7 +66,7 @@ returns-then-w-s-clause-led c = λ u own.
     let tables = c.args.tables.now in
     let w = c.in-Some-last_before.w in
     let has : HasSlot c.args.trace.now c.args.reach.now.chains tables c.args.l c.args.s c.in-Some.event =
-    record { chains = c.requires.chains; tables_are = c.requires.tables; at = sym c.in-Some.ensures; source = c.requires.source } in
+    record { chains = c.requires.chains; tables_are = tables_keep c.args.trace.now c.args.reach.now.chains c.args.tables.now c.requires.tables; at = sym c.in-Some.ensures; source = c.requires.source } in
     let last : IsLastBefore tables.stores (slot_of tables c.in-Some.event.proc c.in-Some.event.a) c.args.l w =
     subst (λ n. IsLastBefore tables.stores n c.args.l w) c.slot-slot.ensures c.in-Some-last_before.ensures in
     c.join.ensures.joined u c.args.s (elim (own_before c.args.trace.now c.args.reach.now.chains tables c.args.l c.args.s c.in-Some.event has w last u own) [
@@ -78,7 +79,7 @@ returns-else-w-s-clause-led c = λ u own.
     let tables = c.args.tables.now in
     let w = c.in-Some-last_before.w in
     let has : HasSlot c.args.trace.now c.args.reach.now.chains tables c.args.l c.args.s c.in-Some.event =
-    record { chains = c.requires.chains; tables_are = c.requires.tables; at = sym c.in-Some.ensures; source = c.requires.source } in
+    record { chains = c.requires.chains; tables_are = tables_keep c.args.trace.now c.args.reach.now.chains c.args.tables.now c.requires.tables; at = sym c.in-Some.ensures; source = c.requires.source } in
     let last : IsLastBefore tables.stores (slot_of tables c.in-Some.event.proc c.in-Some.event.a) c.args.l w =
     subst (λ n. IsLastBefore tables.stores n c.args.l w) c.slot-slot.ensures c.in-Some-last_before.ensures in
     elim (own_before c.args.trace.now c.args.reach.now.chains tables c.args.l c.args.s c.in-Some.event has w last u own) [

@@ -54,5 +54,5 @@ of_keys-requires-clause-within c =
 pub returns-clause-chains : goal.returns-clause-chains
 returns-clause-chains c =
     chains_are c.args.trace.now c.in_ok-of_keys.field-0 c.loop-n.keys.items c.loop-n.n c.node_count.ensures.kept c.loop-n.invariant
-    (omega (arith, c.loop-n-test.false, c.node_count-n-end.ensures.count, c.loop-n.auto.n-end)) c.in_ok-of_keys.ensures.keys
+    (omega (arith, c.loop-n-test.false, c.node_count-n-end.ensures.count, c.loop-n.auto.n-end)) c.in_ok-of_keys.ensures.nodes c.in_ok-of_keys.ensures.keys
     (c.in_ok-of_keys.ensures.count ∙ c.count.ensures ∙ ap layout_count c.of-layout.ensures)

@@ -4,9 +4,10 @@ use Rattle.std.proofs.lemmas.Option.{none-some}
 use Rattle.tso_ops.proofs.NumberFacts.{IsEvent-within}
 use Rattle.chain_reach.specs.declared.types.Groups.{Groups}
 use Rattle.chain_reach.specs.Groups.{count_of}
-use Rattle.chain_rules.specs.Internal.Lowering.{AreReady, AreLeft}
+use Rattle.chain_rules.specs.Internal.Lowering.{AreLeft}
 use Rattle.chain_rules.specs.Rows.{IsLeastRow}
 use Rattle.chain_rules.proofs.RuleFacts.{ready_within}
+use Rattle.chain_rules.proofs.TableFacts.{are_ready}
 use Rattle.chain_rules.proofs.RowFacts.{AreLowered, AreLowered-from, LeastRow, LeastRow-none, written_back}
 use Rattle.chain_rules.proofs.rows.least_row.Goals as goal
 
@@ -16,12 +17,12 @@ returns-in_default c =
 
 pub new_numbers-requires-clause-number : goal.new_numbers-requires-clause-number
 new_numbers-requires-clause-number c =
-    let ready : AreReady c.args.input.trace.now c.args.input.tables.now c.args.input.reach.now = record { trace = c.node_count-nodes.ensures.kept; chains = c.requires.chains; tables = c.requires.tables; acyclic = c.requires.acyclic } in
+    let ready = are_ready c.args.input.trace.now c.args.input.tables.now c.args.input.reach.now c.node_count-nodes.ensures.kept c.requires.chains c.requires.tables c.requires.acyclic in
     ready_within c.args.input.trace.now c.args.input.tables.now c.args.input.reach.now c.args.u ready (IsEvent-within c.args.input.trace.now c.args.u (c.in-Some.event, sym c.in-Some.ensures))
 
 pub new_numbers-requires-clause-members : goal.new_numbers-requires-clause-members
 new_numbers-requires-clause-members c =
-    let ready : AreReady c.args.input.trace.now c.args.input.tables.now c.args.input.reach.now = record { trace = c.node_count-nodes.ensures.kept; chains = c.requires.chains; tables = c.requires.tables; acyclic = c.requires.acyclic } in
+    let ready = are_ready c.args.input.trace.now c.args.input.tables.now c.args.input.reach.now c.node_count-nodes.ensures.kept c.requires.chains c.requires.tables c.requires.acyclic in
     let count : c.count.result ≡ count_of c.args.input.reach.now.chains = c.count.ensures ∙ ap (λ (g : Groups). count_of g) c.chains.ensures.chains in
     let first : c.deref_mut.result.now ≡ replicate c.count.result c.node_count-nodes.result = c.deref_mut.ensures.value ∙ c.in_ok-least.ensures.items_if_clones_equal (λ y e. e) in
     let sized = c.lower_by_rules.ensures.sized in
@@ -33,7 +34,7 @@ new_numbers-requires-clause-members c =
 
 pub returns : goal.returns
 returns c =
-    let ready : AreReady c.args.input.trace.now c.args.input.tables.now c.args.input.reach.now = record { trace = c.node_count-nodes.ensures.kept; chains = c.requires.chains; tables = c.requires.tables; acyclic = c.requires.acyclic } in
+    let ready = are_ready c.args.input.trace.now c.args.input.tables.now c.args.input.reach.now c.node_count-nodes.ensures.kept c.requires.chains c.requires.tables c.requires.acyclic in
     let count : c.count.result ≡ count_of c.args.input.reach.now.chains = c.count.ensures ∙ ap (λ (g : Groups). count_of g) c.chains.ensures.chains in
     let first : c.deref_mut.result.now ≡ replicate c.count.result c.node_count-nodes.result = c.deref_mut.ensures.value ∙ c.in_ok-least.ensures.items_if_clones_equal (λ y e. e) in
     let sized = c.lower_by_rules.ensures.sized in
@@ -43,3 +44,6 @@ returns c =
     (AreLowered-from c.args.input.trace.now c.args.input.tables.now c.args.input.reach.now c.args.u c.node_count-nodes.result c.count.result c.deref_mut.result.now c.lower_by_rules.new.least ready c.node_count-nodes.ensures.count count first c.lower_by_rules.ensures) in
     IfOk-weaker c.new_numbers.result (λ row. AreLeft c.args.input.reach.now c.args.u c.deref.result.now (length c.deref.result.now) row.items) (λ row. IsLeastRow c.args.input.trace.now c.args.input.reach.now c.args.u row.items)
     (λ row left. LeastRow c.args.input.trace.now c.args.input.tables.now c.args.input.reach.now c.args.u c.deref.result.now row.items lowered left) c.new_numbers.ensures
+
+pub lower_by_rules-requires-clause-ready : goal.lower_by_rules-requires-clause-ready
+lower_by_rules-requires-clause-ready c = are_ready c.args.input.trace.now c.args.input.tables.now c.args.input.reach.now c.node_count-nodes.ensures.kept c.requires.chains c.requires.tables c.requires.acyclic

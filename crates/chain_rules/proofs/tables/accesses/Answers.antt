@@ -55,4 +55,4 @@ pub returns : goal.returns
 returns c =
     accesses_are c.args.trace.now c.args.addresses c.args.loads c.in_ok-of_keys.field-0 c.loop-n.keys.items c.loop-n.n (c.processors.result * c.args.addresses) c.requires
     (ap (λ k. k * c.args.addresses) c.processors.ensures.count) (omega (arith, c.loop-n-test.false, c.loop-n.auto.n-end, c.node_count-n-end.ensures.count)) c.loop-n.invariant
-    c.in_ok-of_keys.ensures.keys c.in_ok-of_keys.ensures.count
+    c.in_ok-of_keys.ensures.nodes c.in_ok-of_keys.ensures.keys c.in_ok-of_keys.ensures.count

@@ -21,4 +21,4 @@ of_keys-requires-clause-within c = all_below c.loop-n.keys.items c.loop-n.n (c.c
 pub returns : goal.returns
 returns c =
     swaps_are c.args.trace.now c.args.chains.now c.in_ok-of_keys.field-0 c.loop-n.keys.items c.loop-n.n c.count-others.result c.count-others.ensures
-    (omega (arith, c.loop-n-test.false, c.loop-n.auto.n-end, c.node_count-n-end.ensures.count)) c.loop-n.invariant c.in_ok-of_keys.ensures.keys c.in_ok-of_keys.ensures.count
+    (omega (arith, c.loop-n-test.false, c.loop-n.auto.n-end, c.node_count-n-end.ensures.count)) c.loop-n.invariant c.in_ok-of_keys.ensures.nodes c.in_ok-of_keys.ensures.keys c.in_ok-of_keys.ensures.count
