@@ -33,9 +33,9 @@ pub const MAX_WORKERS: usize = 64;
 /// before changed: u, ascending, where u, its source if it is a load, or the load of its swap reaches more than before.
 /// No other row has an edge to give.
 ///
-/// The rows of a round are claimed, one after the other, by `workers` threads, 1 to 64: the caller's is worker 0. The
-/// others are started for the first round as far as there are rows, for a later one as far as there are 64 rows for each.
-/// Each worker calls the gate before it computes a row. The answer is the same for each number of workers and each gate.
+/// The rows of a round are computed by `workers` threads, 1 to 64: the caller's is worker 0. The others are started for the
+/// first round as far as there are rows, for a later one as far as there are 64 rows for each; then the workers claim one
+/// row after the other. Each worker calls the gate before it computes a row. The answer is the same for each number of workers and each gate.
 ///
 /// OutOfMemory where an allocation was refused, the caller's or a worker's; else NoThread where the system refused a thread. All
 /// threads are joined on each.

@@ -228,14 +228,13 @@ fn run_in_scope<H: Threads + Wait, G: PoolGate + Sync>(
     )
 }
 
-/// The rows that the workers of these claimants compute, none of them twice. A worker alone runs in the caller's thread
-/// without a scope: most rounds have few rows, and a scope takes longer than they do.
+/// The rows that the workers of these claimants compute, none of them twice.
 fn rows_of_workers<H: Threads + Wait, G: PoolGate + Sync>(
     rt: &H,
     alloc: Global,
     work: Work<'_>,
     gate: &G,
-    mut claimants: Vec<Claimant>,
+    claimants: Vec<Claimant>,
 ) -> Result<Vec<ComputedRow>, PoolFault>
     requires some { 1 ≤ length claimants.items }
     requires fresh { All (IsFresh work.claims.now) claimants.items }
@@ -243,11 +242,6 @@ fn rows_of_workers<H: Threads + Wait, G: PoolGate + Sync>(
     ensures each { IfOk result (λ made. All (IsRow work.entry.input.trace.now work.entry.input.graph.now) made.items) }
     ensures once { IfOk result (λ made. NoneTwice (numbers_of made.items)) }
 {
-    if claimants.len() == 1 {
-        let claimant = claimants.pop().unwrap();
-        let own = worker_loop(alloc, work, claimant, gate, 0)?;
-        return Ok(own.rows);
-    }
     let made = run_in_scope(rt, alloc, work, gate, claimants)?;
     Ok(made.rows)
 }
@@ -293,10 +287,30 @@ fn rows_in_order(
     Ok(made)
 }
 
+/// The rows of these numbers, in their order, all computed in the caller's thread. It calls the gate before each, as worker 0.
+/// OutOfMemory where an allocation was refused.
+fn rows_of_caller<G: PoolGate>(
+    alloc: Global,
+    input: RowInput<'_>,
+    gate: &G,
+    numbers: &[usize],
+) -> Result<Vec<Vec<u16>>, OutOfMemory>
+    requires base { AreOverBase input.trace.now input.graph.now input.masks.now }
+    ensures { IfOk result (λ made. AreRowsOf input.entry.trace.now input.entry.graph.now numbers.now (rows made.items)) }
+{
+    let mut computed = Vec::with_capacity(alloc, numbers.len())?;
+    for number in numbers {
+        gate.row(0, *number);
+        computed.push(compute_row(alloc, input, *number)?)?;
+    }
+    Ok(computed)
+}
+
 /// The rows of edges that a round adds to the graph of a rank set from these numbers, in their order.
 ///
 /// They are shared among `workers` threads, 1 to 64, of which the caller's is the first: each claims one row after the
-/// other, and calls the gate before it computes a row.
+/// other, and calls the gate before it computes a row. The caller alone computes them without claims: most rounds have few
+/// rows, and claims take longer than they do.
 ///
 /// OutOfMemory where an allocation was refused, the caller's or a worker's; else NoThread where the system refused a
 /// thread. All threads are joined on each.
@@ -314,6 +328,9 @@ pub fn rows_by_workers<H: Threads + Wait, G: PoolGate + Sync>(
     requires most { workers ≤ worker_limit }
     ensures { IfOk result (λ made. AreRowsOf input.entry.trace.now input.entry.graph.now numbers.now (rows made.items)) }
 {
+    if workers == 1 {
+        return Ok(rows_of_caller(alloc, input, gate, numbers)?);
+    }
     let (claims, claimants) = Claims::new(alloc, numbers.to_vec(alloc)?, workers)?;
     let work = Work {
         input,
