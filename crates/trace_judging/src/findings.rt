@@ -1,21 +1,24 @@
 //! What is found of a trace.
-ghost use Rattle.std.specs.Prelude.{◌≡◌, ◌⊎◌, ◌≤◌, ℕ, MatchOption, IfOk, IfErr};
+ghost use Rattle.std.specs.Prelude.{◌≡◌, ◌⊎◌, ◌≤◌, ℕ, MatchOption, IfOk, IfErr, IfSome};
 ghost use Rattle.round_pool.specs.Workers.{worker_limit};
 ghost use Rattle.tso_ops.specs.Events.{IsUnwritten};
 ghost use Rattle.tso_cert.specs.declared.steps.Certificate.TheVariants.{Unwritten};
 ghost use Rattle.tso_model.specs.Certs.{IsCertificateOf};
+ghost use Rattle.tso_model.specs.Ranks.{IsRounds};
+ghost use Rattle.tso_model.specs.Rules.{HasDerivedCycle};
 ghost use Rattle.trace_judging.specs.declared.faults.Fault.{Fault};
 ghost use Rattle.trace_reports.specs.Findings.{IsFinding};
 
 use crate::certificates::build_cert;
 use crate::faults::Fault;
+use chain_rules::{RoundForm, count_rounds};
 use round_pool::{OpenPoolGate, rounds};
 use std::alloc::Global;
 use std::sync::Wait;
 use std::thread::Threads;
 use trace_reports::Finding;
 use tso_cert::Certificate;
-use tso_ops::Trace;
+use tso_ops::{OutOfMemory, Trace};
 
 /// Finds out whether a trace is a violation, on `workers` workers (1 to 64): its least load whose value nothing wrote,
 /// or else its rounds, and the certificate where the last rank set has a cycle.
@@ -33,10 +36,35 @@ pub fn find_violation<H: Threads + Wait>(
     ensures found { IfOk result (IsFinding trace.now) }
     ensures fault { IfErr result (λ fault. (fault ≡ Fault.OutOfMemory) ⊎ (fault ≡ Fault.NoThread)) }
 {
+    find_violation_by(rt, alloc, trace, workers, RoundForm::of(trace))
+}
+
+/// Finds out what `find_violation` does, by rounds in this form. The finding is the same in each form.
+///
+/// Rounds by chains are made in the caller's thread, and only counted: where they end with a cycle, they are made once
+/// more by rows of bits, on the workers, for the ranks of the edges, which the certificate needs.
+pub fn find_violation_by<H: Threads + Wait>(
+    rt: &H,
+    alloc: Global,
+    trace: &Trace,
+    workers: usize,
+    form: RoundForm,
+) -> Result<Finding, Fault>
+    requires some { 1 ≤ workers }
+    requires most { workers ≤ worker_limit }
+    ensures found { IfOk result (IsFinding trace.now) }
+    ensures fault { IfErr result (λ fault. (fault ≡ Fault.OutOfMemory) ⊎ (fault ≡ Fault.NoThread)) }
+{
     if let Some(load) = least_unwritten(trace) {
         return Ok(Finding {
             rounds: 0,
             certificate: Some(Certificate::Unwritten(load as u64)),
+        });
+    }
+    if let Some(rounds) = rounds_without_cycle(alloc, trace, form)? {
+        return Ok(Finding {
+            rounds,
+            certificate: None,
         });
     }
     let ranked = rounds(rt, alloc, trace, workers, &OpenPoolGate)?;
@@ -44,6 +72,27 @@ pub fn find_violation<H: Threads + Wait>(
         rounds: ranked.rounds(),
         certificate: build_cert(alloc, trace, &ranked)?,
     })
+}
+
+/// How many rounds a trace takes, where its form is that of chains and they end without a cycle. OutOfMemory where an
+/// allocation was refused.
+fn rounds_without_cycle(
+    alloc: Global,
+    trace: &Trace,
+    form: RoundForm,
+) -> Result<Option<u64>, OutOfMemory>
+    requires written { (l : ℕ) → IsUnwritten trace.now l → ⊥ }
+    ensures rounds { IfOk result (λ found. IfSome found (IsRounds trace.now)) }
+    ensures none { IfOk result (λ found. IfSome found (λ _. HasDerivedCycle trace.now → ⊥)) }
+{
+    if form == RoundForm::BitRows {
+        return Ok(None);
+    }
+    let count = count_rounds(alloc, trace)?;
+    if count.is_cyclic {
+        return Ok(None);
+    }
+    Ok(Some(count.rounds))
 }
 
 /// The least load whose value nothing wrote.

@@ -7,9 +7,10 @@
 #![tactic(auto)]
 
 pub use certificates::build_cert;
+pub use chain_rules::RoundForm;
 pub use checking::{MAX_CERTIFICATE_BYTES, check_texts, read_cert_text};
 pub use faults::Fault;
-pub use findings::{find_violation, least_unwritten};
+pub use findings::{find_violation, find_violation_by, least_unwritten};
 pub use judging::{judge, judge_text, judge_trace, judge_with};
 pub use round_pool::MAX_WORKERS;
 pub use streams::reading::read_all;

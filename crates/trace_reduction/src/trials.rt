@@ -3,6 +3,7 @@ ghost use Rattle.std.specs.Prelude.{◌≡◌, ℕ, false};
 ghost use Rattle.tso_ops.specs.Events.{IsUnwritten};
 
 use crate::efforts::Effort;
+use chain_rules::{RoundForm, count_rounds};
 use order_graph::Graph;
 use round_pool::{PoolFault, PoolGate, rounds};
 use std::alloc::Global;
@@ -23,7 +24,8 @@ impl PoolGate for RowCounter {
     }
 }
 
-/// Whether a trace is a violation, by rounds on one worker; the effort counts them. OutOfMemory where an allocation was refused.
+/// Whether a trace is a violation, by rounds in the caller's thread; the effort counts them. OutOfMemory where an allocation was
+/// refused.
 pub(crate) fn is_violation<H: Threads + Wait>(
     rt: &H,
     alloc: Global,
@@ -33,6 +35,30 @@ pub(crate) fn is_violation<H: Threads + Wait>(
     if has_unwritten(trace) {
         return Ok(true);
     }
+    match RoundForm::of(trace) {
+        RoundForm::Chains => closes_chains(alloc, trace, effort),
+        RoundForm::BitRows => closes_bit_rows(rt, alloc, trace, effort),
+    }
+}
+
+/// Whether rounds by chains end with a cycle; the effort counts them. OutOfMemory where an allocation was refused.
+fn closes_chains(alloc: Global, trace: &Trace, effort: &mut Effort) -> Result<bool, OutOfMemory>
+    requires { (l : ℕ) → IsUnwritten trace.now l → ⊥ }
+{
+    let count = count_rounds(alloc, trace)?;
+    effort.count(trace.events(), count.rounds as usize, count.rows as usize);
+    Ok(count.is_cyclic)
+}
+
+/// Whether rounds by rows of bits end with a cycle; the effort counts them. OutOfMemory where an allocation was refused.
+fn closes_bit_rows<H: Threads + Wait>(
+    rt: &H,
+    alloc: Global,
+    trace: &Trace,
+    effort: &mut Effort,
+) -> Result<bool, OutOfMemory>
+    requires { (l : ℕ) → IsUnwritten trace.now l → ⊥ }
+{
     let counter = RowCounter {
         rows: AtomicUsize::new(0),
     };
