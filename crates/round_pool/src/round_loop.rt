@@ -35,7 +35,8 @@ pub const MAX_WORKERS: usize = 64;
 ///
 /// The rows of a round are computed by `workers` threads, 1 to 64: the caller's is worker 0. The others are started for the
 /// first round as far as there are rows, for a later one as far as there are 64 rows for each; then the workers claim one
-/// row after the other. Each worker calls the gate before it computes a row. The answer is the same for each number of workers and each gate.
+/// row after the other. Each worker calls the gate before it computes a row. The answer is the same for each number of
+/// workers and each gate.
 ///
 /// OutOfMemory where an allocation was refused, the caller's or a worker's; else NoThread where the system refused a thread. All
 /// threads are joined on each.
