@@ -36,8 +36,8 @@ layout_placed t n e within at = record {
   place = place_below t.setting.order e.a (address_total t) (address_below t n e within at);
 }
 
-place_fits : (l : Layout) (e : Event) → IsPlaced l e → e.proc * l.width + l.width ≤ l.processors * l.width
-place_fits l e placed = row_fits e.proc l.width l.processors l.width placed.processor (omega arith)
+layout_fits : (l : Layout) (e : Event) → IsPlaced l e → e.proc * l.width + l.width ≤ l.processors * l.width
+layout_fits l e placed = row_fits e.proc l.width l.processors l.width placed.processor (omega arith)
 
 chain_in_count : (load : Bool) (processors width p place rows all : ℕ) → p < processors → place < width → p * width + width ≤ rows → all ≡ processors + rows →
     cond load (1 + p) (1 + processors + p * width + place) < 1 + all
@@ -47,7 +47,7 @@ chain_in_count false processors width p place rows all low within fits is = omeg
 -- an event's chain is one of the layout's
 chain_within : (l : Layout) (e : Event) → IsPlaced l e → chain_in l e < layout_count l
 chain_within l e placed =
-    chain_in_count e.load l.processors l.width e.proc (place_in l e) (l.processors * l.width) (l.processors * (1 + l.width)) placed.processor placed.place (place_fits l e placed) (omega arith)
+    chain_in_count e.load l.processors l.width e.proc (place_in l e) (l.processors * l.width) (l.processors * (1 + l.width)) placed.processor placed.place (layout_fits l e placed) (omega arith)
 
 -- ---- the keys one after another
 
@@ -157,8 +157,8 @@ load_chain l d load = ap (λ b. cond b (1 + d.proc) (1 + l.processors + d.proc *
 store_chain : (l : Layout) (d : Event) → d.load ≡ false → chain_in l d ≡ 1 + l.processors + d.proc * l.width + place_in l d
 store_chain l d store = ap (λ b. cond b (1 + d.proc) (1 + l.processors + d.proc * l.width + place_in l d)) store
 
-loads_together : (t : TraceValue) (g : Groups) → HaveChains t g → (p x y : ℕ) → IsLoad t x → IsLoad t y → IsEventOf t p x → IsEventOf t p y → group_of g x ≡ group_of g y
-loads_together t g have p x y (d, at_x, d_load) (e, at_y, e_load) d_of e_of =
+loads_share_chain : (t : TraceValue) (g : Groups) → HaveChains t g → (p x y : ℕ) → IsLoad t x → IsLoad t y → IsEventOf t p x → IsEventOf t p y → group_of g x ≡ group_of g y
+loads_share_chain t g have p x y (d, at_x, d_load) (e, at_y, e_load) d_of e_of =
     let nodes = have.nodes in
     let x_low = IsLoad-within t x (d, at_x, d_load) in
     let y_low = IsLoad-within t y (e, at_y, e_load) in
@@ -167,9 +167,9 @@ loads_together t g have p x y (d, at_x, d_load) (e, at_y, e_load) d_of e_of =
     key_at t g have x d (omega (arith, x_low, nodes)) at_x ∙ load_chain (layout_of t) d d_load ∙ ap (λ k. 1 + k) (d_proc ∙ sym e_proc)
     ∙ sym (key_at t g have y e (omega (arith, y_low, nodes)) at_y ∙ load_chain (layout_of t) e e_load)
 
-stores_together : (t : TraceValue) (g : Groups) → HaveChains t g → (p x y : ℕ) → IsStore t x → IsStore t y → SameAddress t x y → IsEventOf t p x → IsEventOf t p y →
+stores_share_chain : (t : TraceValue) (g : Groups) → HaveChains t g → (p x y : ℕ) → IsStore t x → IsStore t y → SameAddress t x y → IsEventOf t p x → IsEventOf t p y →
     group_of g x ≡ group_of g y
-stores_together t g have p x y (d, at_x, d_store) (e, at_y, e_store) same d_of e_of =
+stores_share_chain t g have p x y (d, at_x, d_store) (e, at_y, e_store) same d_of e_of =
     let nodes = have.nodes in
     let l = layout_of t in
     let x_low = IsStore-within t x (d, at_x, d_store) in
@@ -200,8 +200,8 @@ chains_are t g keys n trace are all sized keyed counted = record {
       let same = same_group t g have x y store.0 event.0 together store.1 event.1 in
       (event.0, event.1, sym same.0 ∙ store.2)
       );
-  loads = loads_together t g have;
-  stores = stores_together t g have;
+  loads = loads_share_chain t g have;
+  stores = stores_share_chain t g have;
 }
   where
     have : HaveChains t g

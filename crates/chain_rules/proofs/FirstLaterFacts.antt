@@ -8,10 +8,11 @@ use Rattle.chain_reach.specs.Groups.{IsIn, IsFirstFrom}
 use Rattle.chain_reach.proofs.ListFacts.{ascending_at, contains_place}
 use Rattle.tso_ops.specs.Values.{TraceValue}
 use Rattle.tso_ops.specs.Events.{Earlier}
-use Rattle.tso_rules.specs.Internal.MarkedRows.{IsLater}
+use Rattle.tso_rules.specs.Rows.{IsLater}
 use Rattle.chain_rules.specs.Chains.{AreChainsOf}
 use Rattle.chain_rules.specs.Internal.BaseJoins.{IsAfter, IsFirstAfter, IsFirstLater}
-use Rattle.chain_rules.proofs.ProgramOrderFacts.{after_greater, after_later, later_earlier, later_along, earlier_along, together_in}
+use Rattle.tso_rules.proofs.BaseFacts.{later_earlier}
+use Rattle.chain_rules.proofs.ProgramOrderFacts.{after_greater, after_later, later_along, earlier_along, together_in}
 
 -- No item below low has it, and all from high on have it.
 pub record IsCutWithin (list : List ℕ) (Of : ℕ → Type 0) (low high : ℕ) : Type 0 where

@@ -138,8 +138,8 @@ JoinsBelow-start r numbers rows = record {
   sound = λ t k edges old. old;
 }
 
-below_more : (numbers : List ℕ) (rows : List (List ℕ)) (n u v : ℕ) → IsListedBelow numbers rows n u v → IsListedBelow numbers rows (n + 1) u v
-below_more numbers rows n u v listed = (let low = listed.1 in (listed.0, omega (arith, low), listed.2, listed.3))
+listed_more : (numbers : List ℕ) (rows : List (List ℕ)) (n u v : ℕ) → IsListedBelow numbers rows n u v → IsListedBelow numbers rows (n + 1) u v
+listed_more numbers rows n u v listed = (let low = listed.1 in (listed.0, omega (arith, low), listed.2, listed.3))
 
 below_here : (numbers : List ℕ) (rows : List (List ℕ)) (n v : ℕ) → Contains (get_or rows n []) v → IsListedBelow numbers rows (n + 1) (get_or numbers n 0) v
 below_here numbers rows n v has = (n, omega arith, refl, has)
@@ -157,7 +157,7 @@ JoinsBelow-step old now new numbers rows n is joins = record {
   passes = λ x y leads. elim (joins.passes x y leads) [
     | inl before ↦ elim (is.passes x y before) [
       | inl first ↦ inl first
-      | inr by ↦ inr (by.0, by.1, below_more numbers rows n by.0 by.1 by.2, or_kept now new x by.0 joins.kept by.3, or_kept now new by.1 y joins.kept by.4)
+      | inr by ↦ inr (by.0, by.1, listed_more numbers rows n by.0 by.1 by.2, or_kept now new x by.0 joins.kept by.3, or_kept now new by.1 y joins.kept by.4)
     ]
     | inr by ↦ inr (get_or numbers n 0, by.0, below_here numbers rows n by.0 by.1, by.2, by.3)
   ];
@@ -167,7 +167,7 @@ JoinsBelow-step old now new numbers rows n is joins = record {
   ];
   still_grown = λ x has. joins.still_grown x (is.still_grown x has);
   sound = λ t k edges old_sound. joins.sound t k (λ v has. edges (get_or numbers n 0) v (below_here numbers rows n v has))
-      (is.sound t k (λ u v listed. edges u v (below_more numbers rows n u v listed)) old_sound);
+      (is.sound t k (λ u v listed. edges u v (listed_more numbers rows n u v listed)) old_sound);
 }
 
 pub JoinsBelow-end : (old new : Reach) (numbers : List ℕ) (rows : List (List ℕ)) (n : ℕ) → JoinsBelow old new numbers rows n → n ≡ length numbers → JoinsListed old new numbers rows
@@ -234,12 +234,6 @@ next_rank t k old new numbers rows n is end on ordered rank least = record {
     back x y path = Reaches-into (RankSet t (suc k)) (Leads new) (λ a b c p q. on a b c p q) each x y path
 
 -- ---- rows in vectors
-
--- the row at a place
-pub row_at : (vectors : List (Vec ℕ)) (i : ℕ) (v : Vec ℕ) → i < length vectors → v ≡ get_or vectors i v → v.items ≡ get_or (rows vectors) i []
-row_at [] i v low is = absurd (omega arith)
-row_at (w ∷ vectors) zero v low is = ap (λ (u : Vec ℕ). u.items) is
-row_at (w ∷ vectors) (suc i) v low is = row_at vectors i v (omega arith) is
 
 -- the numbers of the row at a place are listed
 pub listed_at : (numbers : List ℕ) (made : List (List ℕ)) (i v : ℕ) (row : List ℕ) → i < length made → length made ≡ length numbers → row ≡ get_or made i [] → Contains row v →

@@ -43,8 +43,8 @@ IsBelow t n k = (q : ℕ) × (q < n) × IsEventOf t q k
 pub below_none : (t : TraceValue) (k : ℕ) → IsBelow t 0 k → ⊥
 below_none t k below = (let low = below.1 in omega (arith, low))
 
-pub below_more : (t : TraceValue) (n k : ℕ) → IsBelow t (n + 1) k → IsBelow t n k ⊎ IsEventOf t n k
-below_more t n k below = elim (cases_eq below.0 n) [
+pub processor_more : (t : TraceValue) (n k : ℕ) → IsBelow t (n + 1) k → IsBelow t n k ⊎ IsEventOf t n k
+processor_more t n k below = elim (cases_eq below.0 n) [
   | inl e ↦ inr (subst (λ q. IsEventOf t q k) e below.2)
   | inr ne ↦ inl (below.0, (let low = below.1 in omega (arith, low, ne)), below.2)
 ]

@@ -10,19 +10,13 @@ use Rattle.tso_cert.specs.declared.rules.BaseRule.{BaseRule}
 use Rattle.tso_cert.specs.declared.rules.BaseRule.TheVariants.{Init, LoadOp, StoreStore, Stbar, Membar, Read, Own}
 use Rattle.tso_model.specs.Rules.{BasePair}
 use Rattle.tso_model.specs.Ranks.{RankSet}
-use Rattle.tso_rules.specs.Internal.MarkedRows.{IsLater, IsOrdered}
-use Rattle.tso_rules.proofs.BaseFacts.{later_is}
+use Rattle.tso_rules.specs.Rows.{IsLater}
+use Rattle.tso_rules.specs.Internal.MarkedRows.{IsOrdered}
+use Rattle.tso_rules.proofs.BaseFacts.{later_is, later_earlier}
 use Rattle.chain_reach.specs.declared.types.Groups.{Groups}
 use Rattle.chain_reach.specs.Groups.{nodes_of, IsIn}
 use Rattle.chain_rules.specs.Chains.{AreTogether, AreChainsOf}
 use Rattle.chain_rules.specs.Internal.BaseJoins.{IsAfter}
-
--- program order leads to program-later events
-pub later_earlier : (t : TraceValue) (u v : ℕ) → IsLater t u v → Earlier t u v
-later_earlier t u v (inl pair) = pair.1
-later_earlier t u v (inr (inl pair)) = pair.2
-later_earlier t u v (inr (inr (inl pair))) = pair.2
-later_earlier t u v (inr (inr (inr pair))) = pair.2
 
 pub after_greater : (t : TraceValue) (u v : ℕ) → IsAfter t u v → u < v
 after_greater t u v (inl init) = let above = event_above_zero t v init.1 in let zero_is = init.0 in omega (arith, above, zero_is)

@@ -15,7 +15,7 @@ use Rattle.tso_model.specs.Rules.{InferredBy}
 use Rattle.tso_model.specs.NewEdges.{IsGivenBy}
 use Rattle.tso_model.specs.Ranks.{RankSet}
 use Rattle.tso_rules.specs.Affected.{RestsOn, IsAffected}
-use Rattle.tso_rules.proofs.AffectedFacts.{rests_within}
+use Rattle.tso_rules.proofs.AffectedFacts.{rests_within, rests_on_start, from_init}
 use Rattle.chain_reach.specs.declared.types.Reach.{Reach}
 use Rattle.chain_reach.specs.Leading.{Leads, HasGrown}
 use Rattle.chain_reach.proofs.ListFacts.{ascending_at, contains_or}
@@ -25,12 +25,6 @@ use Rattle.chain_rules.proofs.RowFacts.{new_ends}
 use Rattle.chain_rules.proofs.JoinedFacts.{Leads-decided, new_edge}
 
 -- no new edge leads from `init`
-from_init : (t : TraceValue) (rule : InferredRule) (l v x y : ℕ) → InferredBy t rule l 0 v x y → ⊥
-from_init t LoadPast l v x y by = let low = event_above_zero t 0 (store_event t 0 by.0) in omega (arith, low)
-from_init t StorePast l v x y by = let low = event_above_zero t l (load_event t l (source_load t l x by.3)) in let at = by.0 in omega (arith, low, at)
-from_init t SwapBefore l v x y by = let low = event_above_zero t 0 (store_event t 0 by.2) in omega (arith, low)
-from_init t SwapAfter l v x y by = let at = by.1 in omega (arith, at)
-
 not_from_init : (t : TraceValue) (r : Reach) (u v : ℕ) → IsNewBy t r u v → u ≡ 0 → ⊥
 not_from_init t r u v new none = (let p = new.0 in let by = p.2 in from_init t p.0 p.1 v by.0 by.1 (subst (λ n. InferredBy t p.0 p.1 n v by.0 by.1) none by.2))
 
@@ -78,13 +72,6 @@ all_listed t numbers n are all r = record {
     at k d low = (let size = are.size in get_or_default numbers k d 0 low ∙ are.each k (omega (arith, low, size)))
 
 -- ---- the rows that changed
-
--- a rule that gives an edge asks for a path from a number that the row rests on
-rests_on_start : (t : TraceValue) (rule : InferredRule) (l u v x y : ℕ) → InferredBy t rule l u v x y → RestsOn t x u
-rests_on_start t LoadPast l u v x y by = inl (sym by.4, subst (IsEvent t) (sym by.4) (store_event t u by.0))
-rests_on_start t StorePast l u v x y by = inr (inl (subst (λ n. HasSource t n x) (sym by.0) by.3))
-rests_on_start t SwapBefore l u v x y by = inl (sym by.4, subst (IsEvent t) (sym by.4) (store_event t u by.2))
-rests_on_start t SwapAfter l u v x y by = inr (inr (subst (IsSwapLoad t) (sym by.4) by.0, by.1 ∙ ap suc (sym by.4)))
 
 -- what was new by the one is led to in the other
 still_led : (t : TraceValue) (k : ℕ) (old new : Reach) (u v : ℕ) → FollowsRound t k old new → ((rule : InferredRule) × (l : ℕ) × IsGivenBy t rule l (Leads old) u v) → (Leads new u v → ⊥) → Leads new u v

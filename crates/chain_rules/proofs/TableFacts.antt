@@ -27,8 +27,8 @@ use Rattle.chain_rules.proofs.TraceBounds.{address_below, slot_below}
 -- ---- keys
 
 -- what holds of each key below a bound on their number
-pub all_below : (keys : List ℕ) (n most : ℕ) → length keys ≡ n → ((k : ℕ) → k < n → get_or keys k 0 < most) → (k d : ℕ) → k < length keys → get_or keys k d < most
-all_below keys n most sized all k d low = subst (λ x. x < most) (sym (get_or_default_zero keys k d low)) (all k (omega (arith, low, sized)))
+pub keys_below : (keys : List ℕ) (n most : ℕ) → length keys ≡ n → ((k : ℕ) → k < n → get_or keys k 0 < most) → (k d : ℕ) → k < length keys → get_or keys k d < most
+keys_below keys n most sized all k d low = subst (λ x. x < most) (sym (get_or_default_zero keys k d low)) (all k (omega (arith, low, sized)))
 
 pub more_keys : (keys : List ℕ) (Has : ℕ → ℕ → Type 0) (others n key : ℕ) → AreKeys keys Has others n → key < others + 1 →
     Has n key ⊎ ((key ≡ others) × ((s : ℕ) → Has n s → ⊥)) → AreKeys (keys ++ key ∷ []) Has others (n + 1)

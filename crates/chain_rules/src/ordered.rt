@@ -1,7 +1,7 @@
 //! What program order puts after a store.
 ghost use Rattle.std.specs.Prelude.{◌↔◌, ◌<◌, ℕ, IsTrue, MatchOption, length, slice_index};
 ghost use Rattle.tso_ops.specs.Events.{IsStore, Earlier};
-ghost use Rattle.tso_rules.specs.Internal.MarkedRows.{IsLater};
+ghost use Rattle.tso_rules.specs.Rows.{IsLater};
 ghost use Rattle.chain_rules.specs.Internal.BaseJoins.{IsFirstLater};
 
 use tso_ops::Trace;

@@ -18,6 +18,7 @@ use Rattle.tso_model.proofs.Bounds.{RankSet-within}
 use Rattle.tso_ops.proofs.NumberFacts.{event_above_zero, store_event, load_event}
 use Rattle.tso_ops.proofs.TableFacts.{source_load}
 use Rattle.tso_model.proofs.NewEdgeFacts.{new_within}
+use Rattle.tso_rules.proofs.AffectedFacts.{from_init}
 use Rattle.round_pool.specs.declared.ranked.Edge.{Edge}
 use Rattle.round_pool.specs.RankGraphs.{IsRankGraph, AddsEdges}
 use Rattle.round_pool.specs.Rankings.{ListsEdge, edge_from}
@@ -59,18 +60,6 @@ empty_list y has = let low : has.0 < 0 = has.1 in omega arith
 -- no rule gives an edge from `init`
 pub no_new_from_init : (t : TraceValue) (Edge : ℕ → ℕ → Type 0) (v : ℕ) → IsNew t Edge 0 v → ⊥
 no_new_from_init t Edge v new = from_init t new.0.0 new.0.1 v new.0.2 new.0.3 new.0.4
-  where
-    from_init : (t : TraceValue) (rule : InferredRule) (l v x y : ℕ) → InferredBy t rule l 0 v x y → ⊥
-    from_init t LoadPast l v x y by = let low = event_above_zero t 0 (store_event t 0 by.0) in omega (arith, low)
-    from_init t StorePast l v x y by = let low = event_above_zero t l (load_event t l (source_load t l x by.3)) in let at = by.0 in omega (arith, low, at)
-    from_init t SwapBefore l v x y by = let low = event_above_zero t 0 (store_event t 0 by.2) in omega (arith, low)
-    from_init t SwapAfter l v x y by = let at = by.1 in omega (arith, at)
-
--- the list that a vector of a list holds
-pub row_at : {X : Type 0} (vectors : List (Vec X)) (i : ℕ) (v : Vec X) → i < length vectors → v ≡ get_or vectors i v → v.items ≡ get_or (rows vectors) i []
-row_at [] i v low is = absurd (omega arith)
-row_at {X} (w ∷ vectors) zero v low is = ap (λ (u : Vec X). u.items) is
-row_at (w ∷ vectors) (suc i) v low is = row_at vectors i v (omega arith) is
 
 -- ---- edges that are added
 

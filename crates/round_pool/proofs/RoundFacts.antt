@@ -1,5 +1,6 @@
 -- Lemmas on rounds: what each adds, and when they end.
-use Rattle.std.proofs.Common.{◌≡◌, ◌⊎◌, ◌↔◌, inl, inr, ⊎_elim, ℕ, suc, ◌+◌, ◌<◌, List, [], ◌∷◌, ◌++◌, length, get_or, refl, sym, ◌∙◌, subst, arith}
+use Rattle.std.proofs.Common.{◌≡◌, ◌⊎◌, ◌↔◌, inl, inr, ⊎_elim, ℕ, suc, ◌+◌, ◌<◌, ◌≤◌, List, [], ◌∷◌, ◌++◌, length, get_or, refl, sym, ◌∙◌, subst, arith}
+use Rattle.std.proofs.lemmas.Bool.{cases_lt}
 use Rattle.std.proofs.lemmas.List.{length-append, get_or_append_left, get_or_at}
 use borrow.Author.Count.{below_more}
 use Rattle.order_paths.specs.Paths.{Reaches, HasCycle}
@@ -140,9 +141,17 @@ settled_adds g settled new Added same_nodes same adds = record {
 pub settled_grown : (g settled new : Digraph) → ((x y : ℕ) → IsEdge settled x y ↔ IsEdge g x y) → OnlyGrown (IsEdge settled) new → OnlyGrown (IsEdge g) new
 settled_grown g settled new same only = λ x more none. only x (more.0, more.1, λ path. more.2 (Reaches-mono (IsEdge settled) (IsEdge g) (λ a b e. (same a b).0 e) x more.0 path)) none
 
--- the graph has no cycle after a round whose edges close none
-pub still_acyclic : (t : TraceValue) (g new : Digraph) (added : List (List Edge)) (edges : List Edge) → RoundStep t g new added edges → IsAcyclic g → (ClosesCycle new (ListsEdge edges) → ⊥) → IsAcyclic new
-still_acyclic t g new added edges step acyclic unclosed = record { none = λ cycle. unclosed (cycle_closed g new (ListsEdge edges) step.adds acyclic.none cycle) }
+-- The graph has no cycle after a round whose edges close none. Nothing looks for one where the rank set that the round makes is among the first
+-- ones, of which none has a cycle.
+pub still_acyclic : (t : TraceValue) (g new : Digraph) (added : List (List Edge)) (edges : List Edge) (number acyclic : ℕ) → RoundStep t g new added edges → IsAcyclic g →
+    number ≡ length added + 1 → ((k : ℕ) → k < acyclic → HasCycle (RankSet t k) → ⊥) → ((acyclic ≤ number) × ClosesCycle new (ListsEdge edges) → ⊥) → IsAcyclic new
+still_acyclic t g new added edges number acyclic step before is known unclosed = record {
+  none = λ cycle. ⊎_elim
+      (λ (low : number < acyclic). known (length (added ++ edges ∷ [])) (omega (arith, low, is, length-append added (edges ∷ [])))
+      (set_cycle t (length (added ++ edges ∷ [])) new step.made.graph cycle))
+      (λ (looked : acyclic ≤ number). unclosed (looked, cycle_closed g new (ListsEdge edges) step.adds before.none cycle))
+      (cases_lt number acyclic);
+}
 
 -- the rounds end with a cycle
 pub made_with_cycle : (t : TraceValue) (g : Digraph) (added : List (List Edge)) → AreRoundsMade t g added → ((l : ℕ) → IsUnwritten t l → ⊥) → HasCycle (IsEdge g) →

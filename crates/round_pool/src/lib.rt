@@ -6,7 +6,7 @@ pub use claims::{Claimant, Claims};
 pub use faults::PoolFault;
 pub use gates::{OpenPoolGate, PoolGate};
 pub use ranked::{Edge, Ranked};
-pub use round_loop::{MAX_WORKERS, rounds};
+pub use round_loop::{MAX_WORKERS, rounds, rounds_after_acyclic};
 
 mod answers;
 mod claims;

@@ -1,8 +1,9 @@
 //! The rounds of a trace.
-ghost use Rattle.std.specs.Prelude.{◌≡◌, ◌↔◌, ◌≤◌, ℕ, IsTrue, IfOk};
+ghost use Rattle.std.specs.Prelude.{◌≡◌, ◌↔◌, ◌≤◌, ◌<◌, ℕ, IsTrue, IfOk};
 ghost use Rattle.order_paths.specs.Paths.{HasCycle};
 ghost use Rattle.order_graph.specs.Digraphs.{IsEdge};
 ghost use Rattle.tso_ops.specs.Events.{IsUnwritten};
+ghost use Rattle.tso_model.specs.Ranks.{RankSet};
 ghost use Rattle.round_pool.specs.Internal.Worksets.{OnlyGrown, ClosesCycle};
 ghost use Rattle.round_pool.specs.RankGraphs.{AddsEdges};
 ghost use Rattle.round_pool.specs.Rankings.{IsRankingOf, ListsEdge, AreEdgesWithin};
@@ -52,12 +53,32 @@ pub fn rounds<H: Threads + Wait, G: PoolGate + Sync>(
     requires most { workers ≤ worker_limit }
     ensures { IfOk result (IsRankingOf trace.now) }
 {
-    let mut last = base_graph(alloc, trace)?;
+    rounds_after_acyclic(rt, alloc, trace, workers, gate, 0)
+}
+
+/// Makes the rounds that `rounds` makes, with the same answers and faults, for a trace of which the first `acyclic` rank sets
+/// are known to have no cycle: no cycle is looked for after a round that makes one of them. Rank set 0, the base edges, is
+/// always looked at.
+pub fn rounds_after_acyclic<H: Threads + Wait, G: PoolGate + Sync>(
+    rt: &H,
+    alloc: Global,
+    trace: &Trace,
+    workers: usize,
+    gate: &G,
+    acyclic: u64,
+) -> Result<Ranked, PoolFault>
+    requires written { (l : ℕ) → IsUnwritten trace.now l → ⊥ }
+    requires some { 1 ≤ workers }
+    requires most { workers ≤ worker_limit }
+    requires acyclic { (k : ℕ) → k < acyclic → HasCycle (RankSet trace.now k) → ⊥ }
+    ensures { IfOk result (IsRankingOf trace.now) }
+{
+    let masks = SourceMasks::new(alloc, trace)?;
+    let mut last = base_graph(alloc, trace, &masks)?;
     let mut added = Vec::new(alloc);
     if has_cycle(&last) {
         return Ok(Ranked { last, added });
     }
-    let masks = SourceMasks::new(alloc, trace)?;
     let mut numbers = all_rows(alloc, trace)?;
     let mut sharing = first_workers(workers, numbers.len());
     loop {
@@ -70,7 +91,8 @@ pub fn rounds<H: Threads + Wait, G: PoolGate + Sync>(
         if edges.is_empty() {
             return Ok(Ranked { last, added });
         }
-        let is_cyclic = add_round(&mut last, &edges);
+        add_round(&mut last, &edges);
+        let is_cyclic = ends_in_cycle(&last, &edges, added.len() as u64 + 1, acyclic);
         added.push(edges)?;
         if is_cyclic {
             return Ok(Ranked { last, added });
@@ -80,17 +102,23 @@ pub fn rounds<H: Threads + Wait, G: PoolGate + Sync>(
     }
 }
 
-/// Adds the edges of a round, and says whether one of them closes a cycle. The graph is settled before: what reaches more by
-/// the edges has grown in it then.
-fn add_round(graph: &mut Graph, edges: &[Edge]) -> bool
+/// Adds the edges of a round. The graph is settled before: what reaches more by the edges has grown in it then.
+fn add_round(graph: &mut Graph, edges: &[Edge])
     requires { AreEdgesWithin graph.old.nodes edges.now }
     ensures edges { AddsEdges graph.old graph.new (ListsEdge edges.now) }
     ensures grown { OnlyGrown (IsEdge graph.old) graph.new }
-    ensures cycle { IsTrue result ↔ ClosesCycle graph.new (ListsEdge edges.now) }
 {
     graph.settle();
     add_edges(graph, edges);
-    closes_cycle(graph, edges)
+}
+
+/// Whether one of the edges of the round that made rank set `number` closes a cycle. No cycle is looked for where this is one
+/// of the first `acyclic` rank sets, those from 0 to `acyclic - 1`.
+fn ends_in_cycle(graph: &Graph, edges: &[Edge], number: u64, acyclic: u64) -> bool
+    requires { AreEdgesWithin graph.now.nodes edges.now }
+    ensures { IsTrue result ↔ (acyclic ≤ number) × ClosesCycle graph.now (ListsEdge edges.now) }
+{
+    number >= acyclic && closes_cycle(graph, edges)
 }
 
 /// Whether one of these edges leads from a number that its end reaches.

@@ -1,11 +1,13 @@
 -- Lemmas on what is found of a trace.
-use Rattle.std.proofs.Common.{ℕ, ◌<◌, ◌≤◌, arith, ⊎_elim}
+use Rattle.std.proofs.Common.{ℕ, ◌<◌, ◌≤◌, arith, inl, inr, ⊎_elim}
 use Rattle.std.specs.Prelude.{Option, None, Some, MatchOption}
 use Rattle.std.proofs.lemmas.Bool.{cases_lt}
+use Rattle.order_paths.specs.Paths.{HasCycle}
 use Rattle.tso_ops.specs.Values.{TraceValue}
 use Rattle.tso_ops.specs.Events.{event_total, IsUnwritten}
 use Rattle.tso_cert.specs.declared.steps.Certificate.{Certificate}
 use Rattle.tso_model.specs.Certs.{IsCertificateOf}
+use Rattle.tso_model.specs.Ranks.{RankSet, IsRounds}
 use Rattle.tso_model.specs.Rules.{HasDerivedCycle}
 use Rattle.tso_ops.proofs.NumberFacts.{event_at-within}
 use Rattle.trace_reports.specs.Violations.{IsViolation}
@@ -25,6 +27,14 @@ pub least_of : (P : ℕ → Type 0) (n : ℕ) → ((k : ℕ) → k < n → P k �
 least_of P n none k p = ⊎_elim (λ less. absurd (none k less p)) (λ most. most) (cases_lt k n)
 
 -- ---- what is found
+
+-- no rank set before that of the rounds number has a cycle
+pub acyclic_before : (t : TraceValue) (n : ℕ) → ((l : ℕ) → IsUnwritten t l → ⊥) → IsRounds t n → (k : ℕ) → k < n → HasCycle (RankSet t k) → ⊥
+acyclic_before t n written (inl none) k low cycle = written none.1.0 none.1.1
+acyclic_before t n written (inr made) k low cycle = elim made.1 [
+  | inl first ↦ first.1 k low cycle
+  | inr last ↦ last.0 k cycle
+]
 
 -- what was found, where no load is unwritten
 pub finding_written : (t : TraceValue) (found : Option Certificate) → ((l : ℕ) → IsUnwritten t l → ⊥) → MatchOption found (HasDerivedCycle t → ⊥) (IsCertificateOf t) →

@@ -1,24 +1,24 @@
 //! What is found of a trace.
-ghost use Rattle.std.specs.Prelude.{◌≡◌, ◌⊎◌, ◌≤◌, ℕ, MatchOption, IfOk, IfErr, IfSome};
+ghost use Rattle.std.specs.Prelude.{◌≡◌, ◌⊎◌, ◌≤◌, ◌<◌, ℕ, MatchOption, IfOk, IfErr};
+ghost use Rattle.order_paths.specs.Paths.{HasCycle};
 ghost use Rattle.round_pool.specs.Workers.{worker_limit};
 ghost use Rattle.tso_ops.specs.Events.{IsUnwritten};
 ghost use Rattle.tso_cert.specs.declared.steps.Certificate.TheVariants.{Unwritten};
 ghost use Rattle.tso_model.specs.Certs.{IsCertificateOf};
-ghost use Rattle.tso_model.specs.Ranks.{IsRounds};
-ghost use Rattle.tso_model.specs.Rules.{HasDerivedCycle};
+ghost use Rattle.tso_model.specs.Ranks.{RankSet};
 ghost use Rattle.trace_judging.specs.declared.faults.Fault.{Fault};
 ghost use Rattle.trace_reports.specs.Findings.{IsFinding};
 
 use crate::certificates::build_cert;
 use crate::faults::Fault;
 use chain_rules::{RoundForm, count_rounds};
-use round_pool::{OpenPoolGate, rounds};
+use round_pool::{OpenPoolGate, rounds_after_acyclic};
 use std::alloc::Global;
 use std::sync::Wait;
 use std::thread::Threads;
 use trace_reports::Finding;
 use tso_cert::Certificate;
-use tso_ops::{OutOfMemory, Trace};
+use tso_ops::Trace;
 
 /// Finds out whether a trace is a violation, on `workers` workers (1 to 64): its least load whose value nothing wrote,
 /// or else its rounds, and the certificate where the last rank set has a cycle.
@@ -42,7 +42,8 @@ pub fn find_violation<H: Threads + Wait>(
 /// Finds out what `find_violation` does, by rounds in this form. The finding is the same in each form.
 ///
 /// Rounds by chains are made in the caller's thread, and only counted: where they end with a cycle, they are made once
-/// more by rows of bits, on the workers, for the ranks of the edges, which the certificate needs.
+/// more by rows of bits, on the workers, for the ranks of the edges, which the certificate needs. By the count only the
+/// last rank set has a cycle, so none is looked for after the rounds before the last.
 pub fn find_violation_by<H: Threads + Wait>(
     rt: &H,
     alloc: Global,
@@ -61,38 +62,40 @@ pub fn find_violation_by<H: Threads + Wait>(
             certificate: Some(Certificate::Unwritten(load as u64)),
         });
     }
-    if let Some(rounds) = rounds_without_cycle(alloc, trace, form)? {
-        return Ok(Finding {
-            rounds,
-            certificate: None,
-        });
+    if form == RoundForm::BitRows {
+        return find_by_ranks(rt, alloc, trace, workers, 0);
     }
-    let ranked = rounds(rt, alloc, trace, workers, &OpenPoolGate)?;
+    let count = count_rounds(alloc, trace)?;
+    if count.is_cyclic {
+        return find_by_ranks(rt, alloc, trace, workers, count.rounds);
+    }
+    Ok(Finding {
+        rounds: count.rounds,
+        certificate: None,
+    })
+}
+
+/// Finds out the rounds and the certificate of a trace in which no load is unwritten by the ranks of its edges, on `workers`
+/// workers. The first `acyclic` rank sets are known to have no cycle.
+fn find_by_ranks<H: Threads + Wait>(
+    rt: &H,
+    alloc: Global,
+    trace: &Trace,
+    workers: usize,
+    acyclic: u64,
+) -> Result<Finding, Fault>
+    requires written { (l : ℕ) → IsUnwritten trace.now l → ⊥ }
+    requires some { 1 ≤ workers }
+    requires most { workers ≤ worker_limit }
+    requires acyclic { (k : ℕ) → k < acyclic → HasCycle (RankSet trace.now k) → ⊥ }
+    ensures found { IfOk result (IsFinding trace.now) }
+    ensures fault { IfErr result (λ fault. (fault ≡ Fault.OutOfMemory) ⊎ (fault ≡ Fault.NoThread)) }
+{
+    let ranked = rounds_after_acyclic(rt, alloc, trace, workers, &OpenPoolGate, acyclic)?;
     Ok(Finding {
         rounds: ranked.rounds(),
         certificate: build_cert(alloc, trace, &ranked)?,
     })
-}
-
-/// How many rounds a trace takes, where its form is that of chains and they end without a cycle. OutOfMemory where an
-/// allocation was refused.
-fn rounds_without_cycle(
-    alloc: Global,
-    trace: &Trace,
-    form: RoundForm,
-) -> Result<Option<u64>, OutOfMemory>
-    requires written { (l : ℕ) → IsUnwritten trace.now l → ⊥ }
-    ensures rounds { IfOk result (λ found. IfSome found (IsRounds trace.now)) }
-    ensures none { IfOk result (λ found. IfSome found (λ _. HasDerivedCycle trace.now → ⊥)) }
-{
-    if form == RoundForm::BitRows {
-        return Ok(None);
-    }
-    let count = count_rounds(alloc, trace)?;
-    if count.is_cyclic {
-        return Ok(None);
-    }
-    Ok(Some(count.rounds))
 }
 
 /// The least load whose value nothing wrote.

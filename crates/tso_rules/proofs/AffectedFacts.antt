@@ -10,8 +10,9 @@ use Rattle.order_paths.specs.Paths.{Reaches}
 use Rattle.order_paths.proofs.Reach.{Reaches-edge, Reaches-mono}
 use Rattle.tso_ops.specs.Values.{TraceValue}
 use Rattle.tso_ops.specs.Events.{event_total, IsEvent, IsSwapLoad, HasSource}
-use Rattle.tso_ops.proofs.NumberFacts.{store_event, IsEvent-within, HasSource-within}
+use Rattle.tso_ops.proofs.NumberFacts.{event_above_zero, load_event, store_event, IsEvent-within, HasSource-within}
 use Rattle.tso_ops.proofs.SwapFacts.{IsSwapLoad-within}
+use Rattle.tso_ops.proofs.TableFacts.{source_load}
 use Rattle.tso_cert.specs.declared.rules.InferredRule.{InferredRule}
 use Rattle.tso_cert.specs.declared.rules.InferredRule.TheVariants.{LoadPast, StorePast, SwapBefore, SwapAfter}
 use Rattle.tso_model.specs.Rules.{InferredBy}
@@ -44,11 +45,18 @@ affected_is t grown count whole u = (
 )
 
 -- a rule that gives an edge asks for a path from a number that the row rests on
-rests_on_start : (t : TraceValue) (rule : InferredRule) (l u v x y : ℕ) → InferredBy t rule l u v x y → RestsOn t x u
+pub rests_on_start : (t : TraceValue) (rule : InferredRule) (l u v x y : ℕ) → InferredBy t rule l u v x y → RestsOn t x u
 rests_on_start t LoadPast l u v x y by = inl (sym by.4, subst (IsEvent t) (sym by.4) (store_event t u by.0))
 rests_on_start t StorePast l u v x y by = inr (inl (subst (λ n. HasSource t n x) (sym by.0) by.3))
 rests_on_start t SwapBefore l u v x y by = inl (sym by.4, subst (IsEvent t) (sym by.4) (store_event t u by.2))
 rests_on_start t SwapAfter l u v x y by = inr (inr (subst (IsSwapLoad t) (sym by.4) by.0, by.1 ∙ ap suc (sym by.4)))
+
+-- no rule gives an edge from `init`
+pub from_init : (t : TraceValue) (rule : InferredRule) (l v x y : ℕ) → InferredBy t rule l 0 v x y → ⊥
+from_init t LoadPast l v x y by = let low = event_above_zero t 0 (store_event t 0 by.0) in omega (arith, low)
+from_init t StorePast l v x y by = let low = event_above_zero t l (load_event t l (source_load t l x by.3)) in let at = by.0 in omega (arith, low, at)
+from_init t SwapBefore l v x y by = let low = event_above_zero t 0 (store_event t 0 by.2) in omega (arith, low)
+from_init t SwapAfter l v x y by = let at = by.1 in omega (arith, at)
 
 -- a row that rests on no number that reaches more than before gives no edge that it didn't give before
 pub unaffected : (t : TraceValue) (grown : List ℕ) (old new : Digraph) (u : ℕ) → ((x y : ℕ) → IsEdge old x y → IsEdge new x y) →

@@ -1,5 +1,5 @@
 -- Lemmas on rows of base pairs.
-use Rattle.std.proofs.Common.{◌≡◌, ◌⊎◌, ◌↔◌, inl, inr, ℕ, ◌+◌, ◌*◌, ◌/◌, ◌%◌, ◌^◌, ◌<◌, ◌≤◌, Bool, true, false, List, get_or, Some, refl, sym, ap, ◌∙◌, subst, arith}
+use Rattle.std.proofs.Common.{◌≡◌, ◌⊎◌, ◌↔◌, inl, inr, ℕ, ◌+◌, ◌*◌, ◌/◌, ◌%◌, ◌^◌, ◌<◌, ◌≤◌, Bool, true, false, List, get_or, None, Some, refl, sym, ap, ◌∙◌, subst, arith}
 use Rattle.tso_ops.specs.declared.events.Event.{Event}
 use Rattle.tso_ops.specs.declared.settings.Order.TheVariants.{Tso, Pso}
 use Rattle.tso_ops.specs.Values.{TraceValue}
@@ -11,14 +11,15 @@ use Rattle.bitsets.proofs.WordFacts.{HasBit-or, HasBit-and, HasBit-not}
 use Rattle.std.specs.Prelude.{bit_and, bit_or}
 use Rattle.std.specs.Int.{bit_not, w64}
 use Rattle.std.proofs.lemmas.Bool.{false≢true, cases_lt}
-use Rattle.bitsets.proofs.MarkFacts.{marks_as, marks_both, earlier_words_more, IsInEarlierWord, OnWord, words_more, ByWords}
+use Rattle.bitsets.proofs.MarkFacts.{marks_as, earlier_words_more, IsInEarlierWord, OnWord, words_more, ByWords}
 use Rattle.bitsets.proofs.RowFacts.{word_number}
 use Rattle.tso_cert.specs.declared.rules.BaseRule.{BaseRule}
 use Rattle.tso_cert.specs.declared.rules.BaseRule.TheVariants.{Init, LoadOp, StoreStore, Stbar, Membar, Read, Own}
-use Rattle.tso_model.specs.Rules.{BasePair}
+use Rattle.tso_model.specs.Rules.{BasePair, IsOwnBy}
 use Rattle.tso_model.specs.Ranks.{RankSet}
 use Rattle.tso_ops.proofs.NumberFacts.{event_unique}
-use Rattle.tso_rules.specs.Internal.MarkedRows.{IsKeptStore, IsLater, IsOrdered, IsReadBy, IsSourceIn}
+use Rattle.tso_rules.specs.Rows.{IsLater}
+use Rattle.tso_rules.specs.Internal.MarkedRows.{IsBaseButOwn, IsKeptStore, IsOrdered, IsReadBy, IsSourceIn}
 
 -- a base pair is one of the rule Init, of program order, or by a load
 pub base_by : (t : TraceValue) (u v : ℕ) → ((BasePair t Init u v ⊎ IsLater t u v) ⊎ ((l : ℕ) × IsReadBy t u l v)) ↔ RankSet t 0 u v
@@ -41,6 +42,20 @@ base_by t u v = (to, λ edge. from edge.0 edge.1)
     from Membar pair = inl (inr (inr (inr (inr pair))))
     from Read pair = inr (v, inl (refl, pair))
     from Own pair = inr (pair.0, inr pair.1)
+
+-- and one of the rule Own, or of another
+pub base_or_own : (t : TraceValue) (u v : ℕ) → (IsBaseButOwn t u v ⊎ BasePair t Own u v) ↔ RankSet t 0 u v
+base_or_own t u v = (to, λ edge. from ((base_by t u v).1 edge))
+  where
+    to : IsBaseButOwn t u v ⊎ BasePair t Own u v → RankSet t 0 u v
+    to (inl (inl other)) = (base_by t u v).0 (inl other)
+    to (inl (inr read)) = (Read, read)
+    to (inr own) = (Own, own)
+
+    from : (BasePair t Init u v ⊎ IsLater t u v) ⊎ ((l : ℕ) × IsReadBy t u l v) → IsBaseButOwn t u v ⊎ BasePair t Own u v
+    from (inl other) = inl (inl other)
+    from (inr (l, inl read)) = inl (inr (subst (λ m. BasePair t Read u m) (sym read.0) read.1))
+    from (inr (l, inr own)) = inr (l, own)
 
 -- an event is a load or a store
 event_kind : (t : TraceValue) (n : ℕ) (e : Event) (load : Bool) → event_at t n ≡ Some e → e.load ≡ load → IsLoad t n ⊎ IsStore t n
@@ -68,7 +83,7 @@ kept_of t u v event at store (inr same) =
     (store, inr (store.0, store.1, store.2, ap (λ (x : Event). x.a) second ∙ sym same.4 ∙ ap (λ (x : Event). x.a) first))
 
 -- a load is no store
-no_store : (t : TraceValue) (n : ℕ) → IsLoad t n → IsStore t n → ⊥
+pub no_store : (t : TraceValue) (n : ℕ) → IsLoad t n → IsStore t n → ⊥
 no_store t n load store = false≢true (sym store.2 ∙ ap (λ (x : Event). x.load) (event_unique t n store.0 load.0 store.1 load.1) ∙ load.2)
 
 -- Program order leads from an event to the program-later ones that it puts after it.
@@ -140,7 +155,7 @@ pub record AreOrderWords (t : TraceValue) (event : Event) (stores no_stbar no_ba
   pub barrier_fits : c < 2 ^ 64
 
 -- a bit of a row's word is that of its number
-word_bit : (row : List ℕ) (Of : ℕ → Type 0) (j word k : ℕ) → k < 64 → IsMask row Of → word ≡ get_or row j 0 → HasBit word k ↔ Of (64 * j + k)
+pub word_bit : (row : List ℕ) (Of : ℕ → Type 0) (j word k : ℕ) → k < 64 → IsMask row Of → word ≡ get_or row j 0 → HasBit word k ↔ Of (64 * j + k)
 word_bit row Of j word k low mask is =
     let n : ℕ = 64 * j + k in
     let at : n / 64 ≡ j = omega arith in
@@ -215,20 +230,39 @@ later_word processor Of u j a above v at mask a_is above_is =
       λ is. both.1 (first.1 (of.1 is.0), second.1 (subst (λ m. u < m) (sym place) is.1)),
     )
 
--- one word more of the program-later numbers
-pub later_more : (t : TraceValue) (u : ℕ) (event : Event) (first old new processor : List ℕ) (j a above ordered : ℕ) → event_at t u ≡ Some event → IsMask processor (IsEventOf t event.proc) →
-    Marks first old (IsInEarlierWord (IsLater t u) j) → OnWord old new j (bit_and (bit_and a above) ordered) → a ≡ get_or processor j 0 → ((k : ℕ) → k < 64 → HasBit above k ↔ (u < 64 * j + k)) →
-    ((k : ℕ) → k < 64 → HasBit ordered k ↔ IsOrdered t event (64 * j + k)) → Marks first new (IsInEarlierWord (IsLater t u) (j + 1))
-later_more t u event first old new processor j a above ordered at mask before step a_is above_is ordered_is =
-    earlier_words_more first old new j (bit_and (bit_and a above) ordered) (IsLater t u) before step
+-- the word of a processor's program-later numbers that program order puts after an event
+pub later_bit : (t : TraceValue) (u : ℕ) (event : Event) (processor : List ℕ) (j a above ordered k : ℕ) → k < 64 → event_at t u ≡ Some event → IsMask processor (IsEventOf t event.proc) →
+    a ≡ get_or processor j 0 → HasBit above k ↔ (u < 64 * j + k) → HasBit ordered k ↔ IsOrdered t event (64 * j + k) →
+    HasBit (bit_and (bit_and a above) ordered) k ↔ IsLater t u (64 * j + k)
+later_bit t u event processor j a above ordered k low at mask a_is above_is ordered_is =
+    let later = HasBit-and a above k in
+    let both = HasBit-and (bit_and a above) ordered k in
+    let of = word_bit processor (IsEventOf t event.proc) j a k low mask a_is in
+    let is = later_is t u (64 * j + k) event at in (
+      λ bit. is.0 ((of.0 (later.0 (both.0 bit).0).0, above_is.0 (later.0 (both.0 bit).0).1), ordered_is.0 (both.0 bit).1),
+      λ edge. (let to = is.1 edge in both.1 (later.1 (of.1 to.0.0, above_is.1 to.0.1), ordered_is.1 to.1)),
+    )
+
+-- what program order puts after an event is program-later
+pub later_earlier : (t : TraceValue) (u v : ℕ) → IsLater t u v → Earlier t u v
+later_earlier t u v (inl pair) = pair.1
+later_earlier t u v (inr (inl pair)) = pair.2
+later_earlier t u v (inr (inr (inl pair))) = pair.2
+later_earlier t u v (inr (inr (inr pair))) = pair.2
+
+-- so it puts nothing after a number that is no event
+pub none_later : (t : TraceValue) (u v : ℕ) → event_at t u ≡ None → IsLater t u v → ⊥
+none_later t u v none later = let e = later_earlier t u v later in absurd (let clash : None ≡ Some e.0 = sym none ∙ e.2 in cc)
+
+-- one word more of the numbers that program order puts after a number
+pub later_more : (t : TraceValue) (u : ℕ) (first old new : List ℕ) (j word : ℕ) → Marks first old (IsInEarlierWord (IsLater t u) j) → OnWord old new j word →
+    ((k : ℕ) → k < 64 → HasBit word k ↔ IsLater t u (64 * j + k)) → Marks first new (IsInEarlierWord (IsLater t u) (j + 1))
+later_more t u first old new j word before step word_is =
+    earlier_words_more first old new j word (IsLater t u) before step
     (λ v in_word.
-    let later = later_word processor (IsEventOf t event.proc) u j a above v in_word mask a_is above_is in
     let place : 64 * j + v % 64 ≡ v = omega arith in
-    let both = HasBit-and (bit_and a above) ordered (v % 64) in
-    let last = ordered_is (v % 64) (omega arith) in (
-      λ bit. (later_is t u v event at).0 (later.0 (both.0 bit).0, subst (IsOrdered t event) place (last.0 (both.0 bit).1)),
-      λ is. (let to = (later_is t u v event at).1 is in both.1 (later.1 to.0, last.1 (subst (IsOrdered t event) (sym place) to.1))),
-    ))
+    let is = word_is (v % 64) (omega arith) in
+    (λ bit. subst (IsLater t u) place (is.0 bit), λ later. is.1 (subst (IsLater t u) (sym place) later)))
 
 -- a load of an event's address
 pub load_at : (t : TraceValue) (u l : ℕ) (event : Event) → event_at t u ≡ Some event → IsLoad t l → SameAddress t u l → IsLoadAt t event.a l
@@ -257,19 +291,33 @@ pub read_store : (t : TraceValue) (u l v : ℕ) → IsReadBy t u l v → IsStore
 read_store t u l v (inl read) = read.1.0
 read_store t u l v (inr own) = own.0
 
--- What the loads of one word give: those that read u and aren't program-later, and the other sources of the program-later ones of its address.
-pub reads_more : (t : TraceValue) (u : ℕ) (event : Event) (first old middle new loads readers processor : List ℕ) (j w r a above : ℕ) → event_at t u ≡ Some event → event.load ≡ false →
-    IsMask loads (IsLoadAt t event.a) → IsMask readers (λ l. HasSource t l u) → IsMask processor (IsEventOf t event.proc) → Marks first old (ByWords (IsReadBy t u) j) →
-    OnWord old middle j (bit_and r (bit_not w64 (bit_and a above))) → Marks middle new (IsSourceIn t u j (bit_and w (bit_and a above))) → w ≡ get_or loads j 0 → r ≡ get_or readers j 0 →
-    a ≡ get_or processor j 0 → bit_and a above < 2 ^ 64 → ((k : ℕ) → k < 64 → HasBit above k ↔ (u < 64 * j + k)) → Marks first new (ByWords (IsReadBy t u) (j + 1))
-reads_more t u event first old middle new loads readers processor j w r a above at store loads_are readers_are processor_is before read sources w_is r_is a_is fits above_is =
-    words_more first old new j (IsReadBy t u) before (marks_as old new _ _ (marks_both old middle new _ _ read sources) (λ v. (to v, from v)))
+-- one word more of the loads that read a store and aren't program-later
+pub readers_more : (t : TraceValue) (u : ℕ) (event : Event) (first old new readers processor : List ℕ) (j r a above : ℕ) → event_at t u ≡ Some event → event.load ≡ false →
+    IsMask readers (λ l. HasSource t l u) → IsMask processor (IsEventOf t event.proc) → Marks first old (IsInEarlierWord (BasePair t Read u) j) →
+    OnWord old new j (bit_and r (bit_not w64 (bit_and a above))) → r ≡ get_or readers j 0 → a ≡ get_or processor j 0 → bit_and a above < 2 ^ 64 →
+    ((k : ℕ) → k < 64 → HasBit above k ↔ (u < 64 * j + k)) → Marks first new (IsInEarlierWord (BasePair t Read u) (j + 1))
+readers_more t u event first old new readers processor j r a above at store readers_are processor_is before step r_is a_is fits above_is =
+    earlier_words_more first old new j (bit_and r (bit_not w64 (bit_and a above))) (BasePair t Read u) before step
+    (λ v in_word.
+    let later = later_word processor (IsEventOf t event.proc) u j a above v in_word processor_is a_is above_is in
+    let both = HasBit-and r (bit_not w64 (bit_and a above)) (v % 64) in
+    let not = HasBit-not (bit_and a above) (v % 64) fits (omega arith) in
+    let word = word_number readers j r v in_word r_is in
+    let mask = readers_are.bits v in (
+      λ bit. ((event, at, store), mask.0 (word.0 (both.0 bit).0), λ e. not.0 (both.0 bit).1 (later.1 (of_earlier t u v event at e))),
+      λ read. both.1 (word.1 (mask.1 read.1), not.1 (λ is. read.2 (let to = later.0 is in earlier_of t u v event at to.0 to.1))),
+    ))
+
+-- What the program-later loads of one word give a store to their address: their other sources.
+pub own_more : (t : TraceValue) (u : ℕ) (event : Event) (first old new loads processor : List ℕ) (j w a above : ℕ) → event_at t u ≡ Some event → event.load ≡ false →
+    IsMask loads (IsLoadAt t event.a) → IsMask processor (IsEventOf t event.proc) → Marks first old (ByWords (λ l v. IsOwnBy t l u v) j) →
+    Marks old new (IsSourceIn t u j (bit_and w (bit_and a above))) → w ≡ get_or loads j 0 → a ≡ get_or processor j 0 →
+    ((k : ℕ) → k < 64 → HasBit above k ↔ (u < 64 * j + k)) → Marks first new (ByWords (λ l v. IsOwnBy t l u v) (j + 1))
+own_more t u event first old new loads processor j w a above at store loads_are processor_is before sources w_is a_is above_is =
+    words_more first old new j (λ l v. IsOwnBy t l u v) before (marks_as old new _ _ sources (λ v. (to v, from v)))
   where
     later : (l : ℕ) → l / 64 ≡ j → HasBit (bit_and a above) (l % 64) ↔ (IsEventOf t event.proc l × (u < l))
     later l in_word = later_word processor (IsEventOf t event.proc) u j a above l in_word processor_is a_is above_is
-
-    earlier : (l : ℕ) → IsEventOf t event.proc l × (u < l) → Earlier t u l
-    earlier l is = earlier_of t u l event at is.0 is.1
 
     of_load : (l : ℕ) → l / 64 ≡ j → HasBit w (l % 64) ↔ IsLoadAt t event.a l
     of_load l in_word =
@@ -277,29 +325,14 @@ reads_more t u event first old middle new loads readers processor j w r a above 
         let mask = loads_are.bits l in
         (λ bit. mask.0 (word.0 bit), λ is. word.1 (mask.1 is))
 
-    of_reader : (l : ℕ) → l / 64 ≡ j → HasBit r (l % 64) ↔ HasSource t l u
-    of_reader l in_word =
-        let word = word_number readers j r l in_word r_is in
-        let mask = readers_are.bits l in
-        (λ bit. mask.0 (word.0 bit), λ is. word.1 (mask.1 is))
-
-    to : (v : ℕ) → (((v / 64 ≡ j) × HasBit (bit_and r (bit_not w64 (bit_and a above))) (v % 64)) ⊎ IsSourceIn t u j (bit_and w (bit_and a above)) v) →
-        (n : ℕ) × (n / 64 ≡ j) × IsReadBy t u n v
-    to v (inl by) =
-        let both = (HasBit-and r (bit_not w64 (bit_and a above)) (v % 64)).0 by.1 in
-        let not = (HasBit-not (bit_and a above) (v % 64) fits (omega arith)).0 both.1 in
-        (v, by.0, inl (refl, ((event, at, store), (of_reader v by.0).0 both.0, λ e. not ((later v by.0).1 (of_earlier t u v event at e)))))
-    to v (inr by) =
+    to : (v : ℕ) → IsSourceIn t u j (bit_and w (bit_and a above)) v → (n : ℕ) × (n / 64 ≡ j) × IsOwnBy t n u v
+    to v by =
         let both = (HasBit-and w (bit_and a above) (by.0 % 64)).0 by.2 in
         let own = by.3 in
-        (by.0, by.1, inr ((event, at, store), at_load t u by.0 event at ((of_load by.0 by.1).0 both.0), earlier by.0 ((later by.0 by.1).0 both.1), own.0, own.1))
+        let after = (later by.0 by.1).0 both.1 in
+        (by.0, by.1, ((event, at, store), at_load t u by.0 event at ((of_load by.0 by.1).0 both.0), earlier_of t u by.0 event at after.0 after.1, own.0, own.1))
 
-    from : (v : ℕ) → ((n : ℕ) × (n / 64 ≡ j) × IsReadBy t u n v) →
-        ((v / 64 ≡ j) × HasBit (bit_and r (bit_not w64 (bit_and a above))) (v % 64)) ⊎ IsSourceIn t u j (bit_and w (bit_and a above)) v
-    from v (n, in_word, inl read) =
-        let not = (HasBit-not (bit_and a above) (n % 64) fits (omega arith)).1 (λ is. read.1.2 (earlier n ((later n in_word).0 is))) in
-        let bit = (HasBit-and r (bit_not w64 (bit_and a above)) (n % 64)).1 ((of_reader n in_word).1 read.1.1, not) in
-        inl (subst (λ m. (m / 64 ≡ j) × HasBit (bit_and r (bit_not w64 (bit_and a above))) (m % 64)) (sym read.0) (in_word, bit))
-    from v (n, in_word, inr own) =
+    from : (v : ℕ) → ((n : ℕ) × (n / 64 ≡ j) × IsOwnBy t n u v) → IsSourceIn t u j (bit_and w (bit_and a above)) v
+    from v (n, in_word, own) =
         let bit = (of_load n in_word).1 (load_at t u n event at (source_load t n v own.3) own.1) in
-        inr (n, in_word, (HasBit-and w (bit_and a above) (n % 64)).1 (bit, (later n in_word).1 (of_earlier t u n event at own.2)), (own.3, own.4))
+        (n, in_word, (HasBit-and w (bit_and a above) (n % 64)).1 (bit, (later n in_word).1 (of_earlier t u n event at own.2)), (own.3, own.4))

@@ -7,3 +7,4 @@ pub mod AboveFacts
 pub mod SourceMaskFacts
 pub mod PassedFacts
 pub mod OptionFacts
+pub mod VectorFacts

@@ -1,16 +1,19 @@
 -- Lemmas on the table of source masks: its rows are made from the last load on.
-use Rattle.std.proofs.Common.{◌≡◌, ◌≢◌, ◌⊎◌, ◌↔◌, inl, inr, ℕ, suc, ◌+◌, ◌*◌, ◌/◌, ◌%◌, ◌<◌, ◌≤◌, List, get_or, refl, sym, subst, ap, ◌∙◌, arith, length, replicate}
+use Rattle.std.proofs.Common.{◌≡◌, ◌≢◌, ◌⊎◌, ◌↔◌, inl, inr, ℕ, suc, ◌+◌, ◌*◌, ◌/◌, ◌%◌, ◌<◌, ◌≤◌, List, [], get_or, refl, sym, subst, ap, ◌∙◌, arith, length, replicate}
 use Rattle.std.proofs.lemmas.Bool.{cases_eq, cases_lt}
 use Rattle.std.proofs.lemmas.List.{length-replicate}
 use Rattle.bitsets.specs.Rows.{HasBit, HasNumber}
 use Rattle.bitsets.specs.Tables.{IsSet, Adds}
 use Rattle.bitsets.proofs.TableFacts.{IsSet-word, Leaves, Adds-iff, no_bit}
+use Rattle.bitsets.proofs.RowFacts.{HasNumber-none}
 use Rattle.bitsets.proofs.FillFacts.{RowFrom, RowFrom-step}
 use Rattle.tso_ops.specs.Values.{TraceValue}
 use Rattle.tso_ops.specs.declared.events.Event.{Event}
-use Rattle.tso_ops.specs.Events.{event_total, IsLoad, HasSource, SameAddress, Earlier}
+use Rattle.tso_ops.specs.Events.{event_total, IsLoad, IsStore, HasSource, SameAddress, Earlier}
 use Rattle.tso_ops.proofs.NumberFacts.{event_unique, IsLoad-within, HasSource-within}
 use Rattle.tso_ops.proofs.TableFacts.{source_load}
+use Rattle.tso_cert.specs.declared.rules.BaseRule.TheVariants.{Own}
+use Rattle.tso_model.specs.Rules.{BasePair}
 use Rattle.tso_rules.specs.declared.masks.SourceMasks.{SourceMasks}
 use Rattle.tso_rules.specs.SourceMasks.{IsSourceFrom, AreSourceMasks}
 use Rattle.tso_rules.specs.Internal.MaskTables.{IsLaterLoad, IsNextLoad, IsSourceAfter, AreMasksFrom}
@@ -181,3 +184,28 @@ mask_row t masks row l are load row_is v = (
       let low : v / 64 < masks.width = omega (arith, within, are.fits) in
       (row_is v).1 (low, (are.bits l v load low).1 from)),
 )
+
+-- ---- the rule Own
+
+-- what the rule gives a store: the other sources of the later loads of its address
+own_after : (t : TraceValue) (u v : ℕ) → IsStore t u → (IsSourceAfter t u v × (v ≢ u)) ↔ BasePair t Own u v
+own_after t u v store = (
+  λ is. (let later = is.0.1 in (is.0.0, (store, later.1, later.2, is.0.2, λ e. is.1 (sym e)))),
+  λ pair. (let own = pair.1 in ((pair.0, (source_load t pair.0 v own.3, own.1, own.2), own.3), λ e. own.4 (sym e))),
+)
+
+-- the mask of the next load has them
+pub own_masked : (t : TraceValue) (masks : SourceMasks) (row : List ℕ) (u m v : ℕ) → AreSourceMasks t masks → IsStore t u → IsNextLoad t u m →
+    ((k : ℕ) → HasNumber row k ↔ ((k / 64 < masks.width) × IsSet masks.words.items masks.width m k)) →
+    ((HasNumber row v × (HasNumber [] v → ⊥)) × (v ≢ u)) ↔ BasePair t Own u v
+own_masked t masks row u m v are store next row_is =
+    let of = mask_row t masks row m are next.0.0 row_is v in
+    let after = source_after_is t u m v next in
+    let own = own_after t u v store in (
+      λ is. own.0 (after.0 (of.0 is.0.0), is.1),
+      λ by. (let is = own.1 by in ((of.1 (after.1 is.0), HasNumber-none v), is.1)),
+    )
+
+-- without a later load of its address there are none
+pub own_none : (t : TraceValue) (u v : ℕ) → ((m : ℕ) → IsLaterLoad t u m → ⊥) → BasePair t Own u v → ⊥
+own_none t u v none pair = let own = pair.1 in none pair.0 (source_load t pair.0 v own.3, own.1, own.2)

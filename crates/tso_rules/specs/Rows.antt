@@ -2,6 +2,7 @@
 use Rattle.std.specs.Prelude.{◌≡◌, ◌⊎◌, ℕ, ◌<◌, ◌≤◌}
 use Rattle.tso_ops.specs.Values.{TraceValue}
 use Rattle.tso_cert.specs.declared.rules.BaseRule.{BaseRule}
+use Rattle.tso_cert.specs.declared.rules.BaseRule.TheVariants.{LoadOp, StoreStore, Stbar, Membar}
 use Rattle.tso_cert.specs.declared.rules.InferredRule.{InferredRule}
 use Rattle.tso_cert.specs.declared.steps.Reason.{Reason}
 use Rattle.tso_cert.specs.declared.steps.Reason.TheVariants.{Base, Inferred}
@@ -9,6 +10,10 @@ use Rattle.order_paths.specs.Paths.{Reaches, IsLeastPath}
 use Rattle.tso_model.specs.Rules.{BasePair, InferredBy}
 use Rattle.tso_model.specs.NewEdges.{IsGivenBy}
 use Rattle.tso_model.specs.Certs.{IsFirstBase, inferred_index}
+
+-- program order gives the edge
+abbrev pub IsLater : TraceValue → ℕ → ℕ → Type 0
+IsLater t u v = BasePair t LoadOp u v ⊎ BasePair t StoreStore u v ⊎ BasePair t Stbar u v ⊎ BasePair t Membar u v
 
 -- Rule and load come first among those that give the edge by a path over these edges: the first rule, then the least load.
 abbrev pub IsFirstGiven : TraceValue → (ℕ → ℕ → Type 0) → ℕ → ℕ → InferredRule → ℕ → Type 0

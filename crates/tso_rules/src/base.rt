@@ -1,11 +1,12 @@
 //! The base rules.
 ghost use Rattle.std.specs.Prelude.{◌≡◌, ◌↔◌, ◌<◌, ◌+◌, ◌*◌, ◌/◌, ◌^◌, ℕ, suc, Some, IsTrue, IfOk, OnOk, IfSome, MatchOption};
 ghost use Rattle.bitsets.specs.Rows.{HasBit, HasNumber, IsListOf, Marks};
-ghost use Rattle.tso_ops.specs.Events.{event_total, IsEvent};
+ghost use Rattle.tso_ops.specs.Events.{event_at, event_total, IsEvent};
 ghost use Rattle.tso_model.specs.Rules.{BasePair};
 ghost use Rattle.tso_model.specs.Ranks.{RankSet};
 ghost use Rattle.tso_model.specs.Certs.{IsFirstBase};
-ghost use Rattle.tso_rules.specs.Internal.MarkedRows.{IsKeptStore, IsLater, IsOrdered, IsReadBy};
+ghost use Rattle.tso_rules.specs.Internal.MarkedRows.{IsBaseButOwn, IsKeptStore, IsOrdered};
+ghost use Rattle.tso_rules.specs.Rows.{IsLater};
 
 use crate::sources::mark_sources;
 use bitsets::{mark_if_some, mark_word, marked, word_above, word_at};
@@ -39,7 +40,7 @@ pub fn base_row(alloc: Global, trace: &Trace, u: usize) -> Result<Vec<usize>, Ou
 /// word `v / 64`. OutOfMemory where an allocation was refused.
 ///
 /// For 0 it takes one look at each event; else a few looks at each word of the trace's rows, and, for a store, one at each
-/// program-later load of its address.
+/// program-later load of its address. For the rows of many numbers `masked_base_words` takes less.
 pub fn base_words(alloc: Global, trace: &Trace, u: usize) -> Result<Vec<u64>, OutOfMemory>
     ensures { IfOk result (λ row. (v : ℕ) → HasNumber row.items v ↔ RankSet trace.now 0 u v) }
 {
@@ -49,7 +50,7 @@ pub fn base_words(alloc: Global, trace: &Trace, u: usize) -> Result<Vec<u64>, Ou
 }
 
 /// The number of words that a row of bits has at most, for the numbers of a trace.
-fn word_count(trace: &Trace) -> usize
+pub(crate) fn word_count(trace: &Trace) -> usize
     ensures count { (v : ℕ) → v < suc (event_total trace.now) → v / 64 < result }
     ensures small { result < 2 ^ 32 }
 {
@@ -61,9 +62,21 @@ fn word_count(trace: &Trace) -> usize
 fn mark_base(trace: &Trace, marks: &mut Vec<u64>, u: usize) -> Result<(), OutOfMemory>
     ensures { OnOk result (Marks marks.old.items marks.new.items (RankSet trace.now 0 u)) }
 {
+    mark_all_but_own(trace, marks, u)?;
+    mark_own(trace, marks, u)
+}
+
+/// Marks the numbers to which a base rule other than Own gives an edge from `u`.
+pub(crate) fn mark_all_but_own(
+    trace: &Trace,
+    marks: &mut Vec<u64>,
+    u: usize,
+) -> Result<(), OutOfMemory>
+    ensures { OnOk result (Marks marks.old.items marks.new.items (IsBaseButOwn trace.now u)) }
+{
     mark_events(trace, marks, u)?;
     mark_later(trace, marks, u)?;
-    mark_reads(trace, marks, u)
+    mark_readers(trace, marks, u)
 }
 
 /// Marks the numbers to which the rule Init gives an edge from `u`: all events, if it is 0.
@@ -95,12 +108,31 @@ fn mark_later(trace: &Trace, marks: &mut Vec<u64>, u: usize) -> Result<(), OutOf
     let Some(event) = trace.event(u) else {
         return Ok(());
     };
-    let processor = trace.processor_words(event.proc);
-    for j in u / 64..processor.len() {
-        let later = word_at(processor, j) & word_above(u, j);
-        mark_word(marks, j, later & ordered_word(trace, event, j))?;
+    for j in u / 64..trace.processor_words(event.proc).len() {
+        mark_word(marks, j, later_word_of(trace, event, u, j))?;
     }
     Ok(())
+}
+
+/// Word `j` of the row of the numbers to which program order gives an edge from `u`: that of the number v is bit `v % 64` of
+/// word `v / 64`.
+pub fn later_word(trace: &Trace, u: usize, j: usize) -> u64
+    ensures { (k : ℕ) → k < 64 → HasBit result k ↔ IsLater trace.now u (64 * j + k) }
+{
+    match trace.event(u) {
+        Some(event) => later_word_of(trace, event, u, j),
+        None => 0,
+    }
+}
+
+/// The same for event `u`, which is this one.
+#[inline]
+fn later_word_of(trace: &Trace, event: Event, u: usize, j: usize) -> u64
+    requires { event_at trace.now u ≡ Some event }
+    ensures { (k : ℕ) → k < 64 → HasBit result k ↔ IsLater trace.now u (64 * j + k) }
+{
+    let processor = trace.processor_words(event.proc);
+    word_at(processor, j) & word_above(u, j) & ordered_word(trace, event, j)
 }
 
 /// Word `j` of the row of the numbers that program order puts after the event, if they are program-later: all for a load,
@@ -132,10 +164,30 @@ fn kept_word(trace: &Trace, event: Event, j: usize) -> u64
     }
 }
 
-/// Marks the numbers to which the rules Read and Own give an edge from `u`, if it is a store: the loads that read it but
-/// aren't program-later, and the other sources of the program-later loads of its address.
-fn mark_reads(trace: &Trace, marks: &mut Vec<u64>, u: usize) -> Result<(), OutOfMemory>
-    ensures { OnOk result (Marks marks.old.items marks.new.items (λ v. (l : ℕ) × IsReadBy trace.now u l v)) }
+/// Marks the numbers to which the rule Read gives an edge from `u`, if it is a store: the loads that read it but aren't
+/// program-later.
+fn mark_readers(trace: &Trace, marks: &mut Vec<u64>, u: usize) -> Result<(), OutOfMemory>
+    ensures { OnOk result (Marks marks.old.items marks.new.items (BasePair trace.now BaseRule.Read u)) }
+{
+    let Some(event) = trace.event(u) else {
+        return Ok(());
+    };
+    if event.load {
+        return Ok(());
+    }
+    let readers = trace.reader_words(u);
+    let processor = trace.processor_words(event.proc);
+    for j in 0..readers.len() {
+        let later = word_at(processor, j) & word_above(u, j);
+        mark_word(marks, j, readers[j] & !later)?;
+    }
+    Ok(())
+}
+
+/// Marks the numbers to which the rule Own gives an edge from `u`, if it is a store: the other sources of the program-later
+/// loads of its address.
+fn mark_own(trace: &Trace, marks: &mut Vec<u64>, u: usize) -> Result<(), OutOfMemory>
+    ensures { OnOk result (Marks marks.old.items marks.new.items (BasePair trace.now BaseRule.Own u)) }
 {
     let Some(event) = trace.event(u) else {
         return Ok(());
@@ -144,11 +196,9 @@ fn mark_reads(trace: &Trace, marks: &mut Vec<u64>, u: usize) -> Result<(), OutOf
         return Ok(());
     }
     let loads = trace.load_words(event.a);
-    let readers = trace.reader_words(u);
     let processor = trace.processor_words(event.proc);
     for j in 0..word_count(trace) {
         let later = word_at(processor, j) & word_above(u, j);
-        mark_word(marks, j, word_at(readers, j) & !later)?;
         mark_sources(trace, marks, u, j, word_at(loads, j) & later)?;
     }
     Ok(())

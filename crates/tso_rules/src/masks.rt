@@ -85,7 +85,7 @@ fn add_source(trace: &Trace, words: &mut [u64], width: usize, load: usize)
 }
 
 /// The next load of the event's address on its processor.
-fn next_load(trace: &Trace, n: usize) -> Option<usize>
+pub(crate) fn next_load(trace: &Trace, n: usize) -> Option<usize>
     ensures { MatchOption result ((m : ℕ) → IsLaterLoad trace.now n m → ⊥) (IsNextLoad trace.now n) }
 {
     let _events = trace.events();

@@ -92,7 +92,7 @@ fn mark_load_past_over_base(
 }
 
 /// Marks the numbers of a row that aren't reached and aren't `u`. In most rows all are reached, which takes one look.
-fn mark_unreached(
+pub(crate) fn mark_unreached(
     marks: &mut Vec<u64>,
     row: &[u64],
     reached: &[u64],

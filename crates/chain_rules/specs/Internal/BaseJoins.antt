@@ -5,7 +5,7 @@ use Rattle.tso_cert.specs.declared.rules.BaseRule.TheVariants.{Init}
 use Rattle.order_paths.specs.Paths.{Reaches}
 use Rattle.tso_model.specs.Rules.{BasePair}
 use Rattle.tso_model.specs.Ranks.{RankSet}
-use Rattle.tso_rules.specs.Internal.MarkedRows.{IsLater}
+use Rattle.tso_rules.specs.Rows.{IsLater}
 use Rattle.chain_reach.specs.declared.types.Groups.{Groups}
 use Rattle.chain_reach.specs.declared.types.Reach.{Reach}
 use Rattle.chain_reach.specs.Groups.{IsIn}

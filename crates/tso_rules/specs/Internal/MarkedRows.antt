@@ -4,17 +4,14 @@ use Rattle.tso_ops.specs.Values.{TraceValue}
 use Rattle.tso_ops.specs.declared.events.Event.{Event}
 use Rattle.tso_ops.specs.declared.settings.Order.TheVariants.{Tso}
 use Rattle.tso_ops.specs.Events.{HasSource, IsStore, IsStoreTo, HasBarriersBefore, HasStbarsBefore}
-use Rattle.tso_cert.specs.declared.rules.BaseRule.TheVariants.{LoadOp, StoreStore, Stbar, Membar, Read}
+use Rattle.tso_cert.specs.declared.rules.BaseRule.TheVariants.{Init, Read}
 use Rattle.tso_cert.specs.declared.rules.InferredRule.{InferredRule}
 use Rattle.tso_cert.specs.declared.rules.InferredRule.TheVariants.{LoadPast}
 use Rattle.bitsets.specs.Rows.{HasBit, HasNumber}
 use Rattle.order_paths.specs.Paths.{Reaches}
 use Rattle.tso_model.specs.Rules.{BasePair, IsOwnBy, InferredBy}
 use Rattle.tso_model.specs.NewEdges.{IsGivenBy}
-
--- program order gives the edge
-abbrev pub IsLater : TraceValue → ℕ → ℕ → Type 0
-IsLater t u v = BasePair t LoadOp u v ⊎ BasePair t StoreStore u v ⊎ BasePair t Stbar u v ⊎ BasePair t Membar u v
+use Rattle.tso_rules.specs.Rows.{IsLater}
 
 -- the memory model keeps store n after the event, a store, without an STBAR, if it is program-later
 abbrev pub IsKeptStore : TraceValue → Event → ℕ → Type 0
@@ -25,6 +22,10 @@ IsKeptStore t event n = IsStore t n × ((t.setting.order ≡ Tso) ⊎ IsStoreTo 
 abbrev pub IsOrdered : TraceValue → Event → ℕ → Type 0
 IsOrdered t event n =
     IsTrue event.load ⊎ IsKeptStore t event n ⊎ (IsStore t n × (HasStbarsBefore t event.stbars n → ⊥)) ⊎ ((IsStore t n → ⊥) × (HasBarriersBefore t event.bars n → ⊥))
+
+-- a base rule other than Own gives the edge
+abbrev pub IsBaseButOwn : TraceValue → ℕ → ℕ → Type 0
+IsBaseButOwn t u v = (BasePair t Init u v ⊎ IsLater t u v) ⊎ BasePair t Read u v
 
 -- load l gives the edge from store u: the load reads it, or reads past it what v wrote
 abbrev pub IsReadBy : TraceValue → ℕ → ℕ → ℕ → Type 0

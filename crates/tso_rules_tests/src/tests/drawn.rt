@@ -15,7 +15,10 @@ use traces_for_tests::{
 };
 use tso_cert::Reason;
 use tso_ops::Trace;
-use tso_rules::{SourceMasks, base_edge, base_row, justify, row_edges, row_edges_over_base};
+use tso_rules::{
+    SourceMasks, base_edge, base_row, base_words, justify, masked_base_words, row_edges,
+    row_edges_over_base,
+};
 
 /// The numbers below `nodes` to which the edges lead from `u`, ascending.
 fn plain_row(
@@ -33,15 +36,21 @@ fn plain_row(
     Ok(row)
 }
 
-/// Compares the rows of base edges with the plain ones.
+/// Compares the rows of base edges with the plain ones, and those with masks with those without.
 fn compare_base(rt: &impl Abort, alloc: Global, trace: &Trace) -> Result<(), AllocError> {
     let nodes = trace.node_count();
     let edges = base_edges(alloc, trace)?;
+    let masks = SourceMasks::new(alloc, trace)?;
     for u in 0..nodes {
         assert_eq!(rt;
             base_row(alloc, trace, u)?,
             plain_row(alloc, &edges, nodes, u)?,
             "base row {u} of {trace:?}"
+        );
+        assert_eq!(rt;
+            masked_base_words(alloc, trace, &masks, u)?,
+            base_words(alloc, trace, u)?,
+            "base row {u} of {trace:?}, with masks"
         );
     }
     Ok(())

@@ -3,6 +3,7 @@
 //! The call that meets it answers OutOfMemory, and the next call the ordinary answer.
 
 use super::over_base::{LOADED_IN_TURN, row_over_base};
+use super::rows::{OWN_STORE_OVERWRITTEN, expect_words, masked_words_of};
 use super::{edges_of, expect_inferred, expect_row, graph_of, reason_of, row_of, set_of};
 use order_graph::{EdgeSet, Graph, PathSearch};
 use std::alloc::{AllocError, Global};
@@ -30,6 +31,20 @@ fn graph(alloc: Global) -> Result<Graph, AllocError> {
 fn base(alloc: Global, trace: &Trace) -> Result<Vec<usize>, AllocError> {
     match row_of(alloc, trace, 0) {
         Err(AllocError) => row_of(alloc, trace, 0),
+        first => first,
+    }
+}
+
+fn own_store_overwritten(alloc: Global) -> Result<Trace, ValueFault> {
+    match trace_of(alloc, Order::Tso, &OWN_STORE_OVERWRITTEN) {
+        Err(ValueFault::OutOfMemory) => trace_of(alloc, Order::Tso, &OWN_STORE_OVERWRITTEN),
+        first => first,
+    }
+}
+
+fn masked_base(alloc: Global, trace: &Trace) -> Result<Vec<u64>, AllocError> {
+    match masked_words_of(alloc, trace, 1) {
+        Err(AllocError) => masked_words_of(alloc, trace, 1),
         first => first,
     }
 }
@@ -78,6 +93,14 @@ fn refused_allocations_of_a_base_row(rt: HostRuntime) -> Result<(), Fail> {
     let alloc = rt.alloc();
     let row = base(alloc, &trace(alloc)?)?;
     expect_row(&rt, "base edges from 0", &row, &[1, 2, 3, 4]);
+    Ok(())
+}
+
+#[test]
+fn refused_allocations_of_a_masked_base_row(rt: HostRuntime) -> Result<(), Fail> {
+    let alloc = rt.alloc();
+    let row = masked_base(alloc, &own_store_overwritten(alloc)?)?;
+    expect_words(&rt, "base edges from 1", &row, &[0b10000]);
     Ok(())
 }
 

@@ -11,17 +11,23 @@ use std::test::Fail;
 use traces_for_tests::{STORE_BUFFERING, trace_of, two_swaps_both_first};
 use tso_cert::{BaseRule, InferredRule};
 use tso_ops::{Order, Outcome, Trace};
-use tso_rules::{base_edge, base_words};
+use tso_rules::{SourceMasks, base_edge, base_words, masked_base_words};
 
 fn words_of(alloc: Global, trace: &Trace, u: usize) -> Result<Vec<u64>, AllocError> {
     base_words(alloc, trace, u)
+}
+
+/// The row of `u` by masks, which are made for it.
+pub fn masked_words_of(alloc: Global, trace: &Trace, u: usize) -> Result<Vec<u64>, AllocError> {
+    let masks = SourceMasks::new(alloc, trace)?;
+    masked_base_words(alloc, trace, &masks, u)
 }
 
 fn rule_of(trace: &Trace, u: usize, v: usize) -> Option<BaseRule> {
     base_edge(trace, u, v)
 }
 
-fn expect_words(rt: &impl Abort, name: &str, found: &[u64], wanted: &[u64]) {
+pub fn expect_words(rt: &impl Abort, name: &str, found: &[u64], wanted: &[u64]) {
     assert_eq!(rt; found, wanted, "{name}");
 }
 
@@ -64,6 +70,27 @@ fn base_edges_by_hand(rt: HostRuntime) -> Result<(), Fail> {
     expect_rule(&rt, alloc, &LOAD_BEFORE_ITS_STORE, (2, 1), read)?;
     expect_rule(&rt, alloc, &STORE_BUFFERING, (1, 2), None)?;
     expect_rule(&rt, alloc, &STORE_FORWARDED, (1, 2), None)
+}
+
+/// Loads of what their own processor wrote, number 1, and of what another did, number 4.
+pub const OWN_STORE_OVERWRITTEN: [&[Outcome]; 2] = [
+    &[
+        Outcome::St { a: 1, v: 1 },
+        Outcome::Ld { a: 1, r: 1 },
+        Outcome::Ld { a: 1, r: 2 },
+    ],
+    &[Outcome::St { a: 1, v: 2 }],
+];
+
+#[test]
+fn masked_base_words_by_hand(rt: HostRuntime) -> Result<(), Fail> {
+    let alloc = rt.alloc();
+    let trace = trace_of(alloc, Order::Tso, &OWN_STORE_OVERWRITTEN)?;
+    expect_words(&rt, "0", &masked_words_of(alloc, &trace, 0)?, &[0b11110]);
+    expect_words(&rt, "1", &masked_words_of(alloc, &trace, 1)?, &[0b10000]);
+    expect_words(&rt, "2", &masked_words_of(alloc, &trace, 2)?, &[0b1000]);
+    expect_words(&rt, "4", &masked_words_of(alloc, &trace, 4)?, &[0b1000]);
+    Ok(())
 }
 
 /// The base edges of two_swaps_both_first.

@@ -4,7 +4,7 @@ use Rattle.tso_ops.proofs.EventFacts.{event_total-most}
 use Rattle.chain_rules.specs.Internal.Layouts.{IsSmall, IsPlaced, layout_of, layout_count, chain_at, chain_in, AreChainKeys}
 use Rattle.chain_rules.proofs.TraceBounds.{chain_total-most}
 use Rattle.chain_rules.proofs.ChainKeyFacts.{layout_small, layout_placed, key_of_event, key_of_none, keys_more, chains_are}
-use Rattle.chain_rules.proofs.TableFacts.{all_below}
+use Rattle.chain_rules.proofs.TableFacts.{keys_below}
 use Rattle.chain_rules.proofs.chains.chains_of.Goals as goal
 use Rattle.chain_rules.proofs.chains.chains_of.Goals.{in-Some, in-None}
 
@@ -49,7 +49,7 @@ of_keys-requires-clause-most c =
 pub of_keys-requires-clause-within : goal.of_keys-requires-clause-within
 of_keys-requires-clause-within c =
     let count : c.count.result ≡ layout_count (layout_of c.args.trace.now) = c.count.ensures ∙ ap layout_count c.of-layout.ensures in
-    all_below c.loop-n.keys.items c.loop-n.n c.count.result c.loop-n.invariant.sized (λ k low. subst (λ m. get_or c.loop-n.keys.items k 0 < m) (sym count) (c.loop-n.invariant.within k low))
+    keys_below c.loop-n.keys.items c.loop-n.n c.count.result c.loop-n.invariant.sized (λ k low. subst (λ m. get_or c.loop-n.keys.items k 0 < m) (sym count) (c.loop-n.invariant.within k low))
 
 pub returns-clause-chains : goal.returns-clause-chains
 returns-clause-chains c =

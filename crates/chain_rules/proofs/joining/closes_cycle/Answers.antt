@@ -5,7 +5,8 @@ use Rattle.std.proofs.lemmas.List.{length-map}
 use Rattle.std.specs.Global.{Vec}
 use Rattle.tso_ops.specs.Values.{rows}
 use Rattle.chain_reach.specs.Leading.{Leads}
-use Rattle.chain_rules.proofs.JoinedFacts.{row_at, listed_at}
+use Rattle.tso_rules.proofs.VectorFacts.{row_at}
+use Rattle.chain_rules.proofs.JoinedFacts.{listed_at}
 use Rattle.chain_rules.proofs.joining.closes_cycle.Goals as goal
 
 pub one_leads_to-requires-clause-to : goal.one_leads_to-requires-clause-to

@@ -4,7 +4,8 @@ use Rattle.std.specs.Global.{Vec}
 use Rattle.tso_ops.specs.Values.{rows}
 use Rattle.chain_reach.specs.Groups.{nodes_of}
 use Rattle.chain_rules.specs.Internal.Joined.{JoinsRow}
-use Rattle.chain_rules.proofs.JoinedFacts.{JoinsBelow-start, JoinsBelow-step, JoinsBelow-end, next_rank, row_at, listed_at}
+use Rattle.tso_rules.proofs.VectorFacts.{row_at}
+use Rattle.chain_rules.proofs.JoinedFacts.{JoinsBelow-start, JoinsBelow-step, JoinsBelow-end, next_rank, listed_at}
 use Rattle.chain_rules.proofs.joining.join_rows.Goals as goal
 
 pub loop-i-init : goal.loop-i-init

@@ -1,6 +1,6 @@
 use Rattle.std.proofs.Common.{◌+◌, ◌-◌, ◌/◌, ◌<◌, length, refl, arith}
 use Rattle.std.proofs.lemmas.Bool.{both_ways}
-use Rattle.tso_rules.specs.Internal.MarkedRows.{IsLater}
+use Rattle.tso_rules.specs.Rows.{IsLater}
 use Rattle.chain_rules.proofs.FirstLaterFacts.{within_below, within_above}
 use Rattle.chain_rules.proofs.ordered.first_ordered.Goals as goal
 

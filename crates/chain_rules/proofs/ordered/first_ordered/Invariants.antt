@@ -1,5 +1,5 @@
 use Rattle.std.proofs.Common.{◌-◌}
-use Rattle.tso_rules.specs.Internal.MarkedRows.{IsLater}
+use Rattle.tso_rules.specs.Rows.{IsLater}
 use Rattle.chain_rules.proofs.FirstLaterFacts.{IsCutWithin}
 use Rattle.chain_rules.proofs.ordered.first_ordered.Given as goal
 

@@ -6,7 +6,7 @@ use Rattle.std.proofs.lemmas.Bool.Decides.{nat_tests}
 use Rattle.std.proofs.lemmas.List.{get_or_past, length-map}
 use Rattle.std.proofs.lemmas.List.Elements.{Contains-get_or}
 use Rattle.tso_ops.specs.Values.{rows}
-use Rattle.chain_rules.proofs.JoinedFacts.{row_at}
+use Rattle.tso_rules.proofs.VectorFacts.{row_at}
 use Rattle.chain_rules.proofs.rounds.are_empty.Goals as goal
 
 none_in : (list : List ℕ) (v : ℕ) → length list ≡ 0 → Contains list v → ⊥

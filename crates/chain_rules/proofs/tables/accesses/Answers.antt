@@ -3,7 +3,7 @@ use Rattle.std.specs.Option.{unwrap_or}
 use Rattle.tso_ops.proofs.EventFacts.{event_total-most}
 use Rattle.chain_rules.specs.Internal.Accesses.{AreKeys, HasSlot}
 use Rattle.chain_rules.proofs.TraceBounds.{slots-most}
-use Rattle.chain_rules.proofs.TableFacts.{all_below, more_keys, key_found, found_below, slots_below, accesses_are}
+use Rattle.chain_rules.proofs.TableFacts.{keys_below, more_keys, key_found, found_below, slots_below, accesses_are}
 use Rattle.chain_rules.proofs.tables.accesses.Goals as goal
 
 pub overflow_mul-others : goal.overflow_mul-others
@@ -49,7 +49,7 @@ of_keys-requires-clause-most c =
     omega (arith, sized, most, c.loop-n.auto.n-end, c.node_count-n-end.ensures.count)
 
 pub of_keys-requires-clause-within : goal.of_keys-requires-clause-within
-of_keys-requires-clause-within c = all_below c.loop-n.keys.items c.loop-n.n (c.processors.result * c.args.addresses + 1) c.loop-n.invariant.sized c.loop-n.invariant.within
+of_keys-requires-clause-within c = keys_below c.loop-n.keys.items c.loop-n.n (c.processors.result * c.args.addresses + 1) c.loop-n.invariant.sized c.loop-n.invariant.within
 
 pub returns : goal.returns
 returns c =

@@ -1,7 +1,7 @@
 use Rattle.std.proofs.Common.{◌+◌, ◌<◌, [], ◌∷◌, ◌++◌, IfSome, sym, subst, ap, ◌∙◌, arith}
 use Rattle.std.specs.Option.{unwrap_or}
 use Rattle.chain_rules.specs.Internal.Accesses.{AreKeys, HasSwapChain}
-use Rattle.chain_rules.proofs.TableFacts.{all_below, more_keys, key_found, found_below, swaps_are}
+use Rattle.chain_rules.proofs.TableFacts.{keys_below, more_keys, key_found, found_below, swaps_are}
 use Rattle.chain_rules.proofs.tables.swap_stores.Goals as goal
 
 pub loop-n-preserved : goal.loop-n-preserved
@@ -16,7 +16,7 @@ loop-n-preserved c =
     (key_found c.swap_chain.result (HasSwapChain t g c.loop-n.n) others c.swap_chain.ensures.is))
 
 pub of_keys-requires-clause-within : goal.of_keys-requires-clause-within
-of_keys-requires-clause-within c = all_below c.loop-n.keys.items c.loop-n.n (c.count-others.result + 1) c.loop-n.invariant.sized c.loop-n.invariant.within
+of_keys-requires-clause-within c = keys_below c.loop-n.keys.items c.loop-n.n (c.count-others.result + 1) c.loop-n.invariant.sized c.loop-n.invariant.within
 
 pub returns : goal.returns
 returns c =

@@ -4,9 +4,9 @@ use Rattle.std.specs.Global.{Vec}
 use Rattle.std.proofs.lemmas.List.Elements.{Contains-get_or}
 use Rattle.bitsets.specs.Rows.{IsAscending as IsAscendingRow}
 use Rattle.tso_ops.specs.Values.{rows}
+use Rattle.tso_rules.proofs.VectorFacts.{row_at}
 use Rattle.round_pool.specs.Internal.EdgeLists.{AreEdgesOf}
 use Rattle.round_pool.proofs.EdgeFacts.{edges_none, edges_row}
-use Rattle.round_pool.proofs.GraphFacts.{row_at}
 use Rattle.round_pool.proofs.edges.edges_of.Goals as goal
 
 pub push_row-requires : goal.push_row-requires

@@ -1,18 +1,17 @@
-use Rattle.std.proofs.Common.{None, IfSome, sym, subst}
-use Rattle.tso_model.specs.Ranks.{IsRounds}
-use Rattle.tso_model.specs.Rules.{HasDerivedCycle}
-use Rattle.trace_judging.proofs.ReportFacts.{finding_written}
+use Rattle.std.proofs.Common.{None, sym, ◌∙◌}
+use Rattle.std.proofs.lemmas.Bool.{false≢true}
+use Rattle.tso_model.proofs.RoundsNumber.{rounds_tell_cycles}
+use Rattle.trace_judging.proofs.ReportFacts.{acyclic_before, finding_written}
 use Rattle.trace_judging.proofs.findings.find_violation_by.Goals as goal
 
-pub returns-in-Some-2-clause-found : goal.returns-in-Some-2-clause-found
-returns-in-Some-2-clause-found g c =
-    let t = c.args.trace.now in record {
-      rounds = subst (λ found. IfSome found (IsRounds t)) c.in-Some-2.is c.in_ok-rounds.ensures.rounds;
-      certificate = finding_written t None c.in_default.ensures (subst (λ found. IfSome found (λ _. HasDerivedCycle t → ⊥)) c.in-Some-2.is c.in_ok-rounds.ensures.none);
+pub returns-clause-found : goal.returns-clause-found
+returns-clause-found g c =
+    let t = c.args.trace.now in
+    let count = c.in_ok-count.count in
+    let tells = rounds_tell_cycles t count.rounds c.in_default.ensures c.in_ok-count.ensures.rounds in record {
+      rounds = c.in_ok-count.ensures.rounds;
+      certificate = finding_written t None c.in_default.ensures (λ derived. false≢true (sym c.if-count.false ∙ c.in_ok-count.ensures.cycle.1 (tells.0 derived)));
     }
 
-pub returns-clause-found : goal.returns-clause-found
-returns-clause-found g c = record {
-  rounds = subst (IsRounds c.args.trace.now) (sym c.rounds-2.ensures) c.in_ok-ranked.ensures.rounds;
-  certificate = finding_written c.args.trace.now c.in_ok-build_cert.field-0 c.in_default.ensures c.in_ok-build_cert.ensures;
-}
+pub find_by_ranks-requires-then-count-clause-acyclic : goal.find_by_ranks-requires-then-count-clause-acyclic
+find_by_ranks-requires-then-count-clause-acyclic g c = acyclic_before c.args.trace.now c.in_ok-count.count.rounds c.in_default.ensures c.in_ok-count.ensures.rounds

@@ -1,5 +1,5 @@
 use Rattle.bitsets.specs.Rows.{Marks}
-use Rattle.tso_rules.specs.Internal.MarkedRows.{IsLater}
+use Rattle.tso_rules.specs.Rows.{IsLater}
 use Rattle.bitsets.proofs.MarkFacts.{IsInEarlierWord}
 use Rattle.tso_rules.proofs.base.mark_later.Given as goal
 

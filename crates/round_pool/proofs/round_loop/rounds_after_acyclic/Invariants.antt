@@ -3,7 +3,7 @@ use Rattle.tso_model.proofs.LastRankSet.{last_exists}
 use Rattle.round_pool.specs.Internal.Worksets.{IsWorkset}
 use Rattle.round_pool.specs.Workers.{worker_limit}
 use Rattle.round_pool.proofs.RoundFacts.{AreRoundsMade, IsAcyclic}
-use Rattle.round_pool.proofs.round_loop.rounds.Given as goal
+use Rattle.round_pool.proofs.round_loop.rounds_after_acyclic.Given as goal
 
 abbrev pub invariant-loop-numbers : goal.invariant-loop-numbers
 invariant-loop-numbers g l =

@@ -1,4 +1,4 @@
-use Rattle.std.proofs.Common.{◌≡◌, ◌<◌, ◌∙◌, ◌∷◌, [], List, length, map, ap, sym, subst, arith}
+use Rattle.std.proofs.Common.{◌≡◌, ◌<◌, ◌≤◌, ◌+◌, ◌∙◌, ◌∷◌, [], List, length, map, ap, sym, subst, arith}
 use Rattle.std.specs.Global.{Vec}
 use Rattle.std.proofs.lemmas.Bool.Decides.{nat_tests}
 use Rattle.std.proofs.lemmas.List.{length-append, length-map, map-append}
@@ -13,7 +13,7 @@ use Rattle.round_pool.specs.Internal.Worksets.{ClosesCycle}
 use Rattle.round_pool.specs.Rankings.{ListsEdge}
 use Rattle.round_pool.proofs.RoundFacts.{AreRoundsMade, over_base, made_none, made_with_cycle, made_without_cycle, made_before_last, round_step, still_acyclic, made_then_cycle}
 use Rattle.round_pool.proofs.RankedFacts.{added_within}
-use Rattle.round_pool.proofs.round_loop.rounds.Goals as goal
+use Rattle.round_pool.proofs.round_loop.rounds_after_acyclic.Goals as goal
 
 pub returns-then-has_cycle : goal.returns-then-has_cycle
 returns-then-has_cycle g c =
@@ -49,11 +49,18 @@ invariant_of-result-then-is_empty g c =
     added_within c.args.trace.now (record { last = c.loop-numbers.last; added = added })
     (made_without_cycle c.args.trace.now c.loop-numbers.last added edges.items c.loop-numbers.invariant.0 c.requires.written c.loop-numbers.invariant.1.none c.in_ok-edges.ensures empty)
 
-pub add_round-is_cyclic-requires : goal.add_round-is_cyclic-requires
-add_round-is_cyclic-requires g c = λ u v has.
+pub add_round-requires : goal.add_round-requires
+add_round-requires g c = λ u v has.
     let edges = subst (λ (l : List Edge). ListsEdge l u v) c.deref-in-loop-numbers.ensures.value has in
     let within = new_within c.args.trace.now (IsEdge c.loop-numbers.last) u v (c.in_ok-edges.ensures.only u v edges) in
     let nodes = c.loop-numbers.invariant.0.graph.nodes in
+    (omega (arith, within.0, nodes), omega (arith, within.1, nodes))
+
+pub ends_in_cycle-is_cyclic-requires : goal.ends_in_cycle-is_cyclic-requires
+ends_in_cycle-is_cyclic-requires g c = λ u v has.
+    let edges = subst (λ (l : List Edge). ListsEdge l u v) c.deref-in-loop-numbers-2.ensures.value has in
+    let within = new_within c.args.trace.now (IsEdge c.loop-numbers.last) u v (c.in_ok-edges.ensures.only u v edges) in
+    let nodes = c.add_round.ensures.edges.nodes ∙ c.loop-numbers.invariant.0.graph.nodes in
     (omega (arith, within.0, nodes), omega (arith, within.1, nodes))
 
 pub returns-then-is_cyclic : goal.returns-then-is_cyclic
@@ -62,11 +69,11 @@ returns-then-is_cyclic g c =
     let t = c.args.trace.now in
     let some : 0 < length edges.items = grind (arith, nat_tests, c.is_empty.ensures, edges.ok.0) in
     let added = map (λ (v : Vec Edge). v.items) c.loop-numbers.added.items in
-    let step = round_step t c.loop-numbers.last c.add_round-is_cyclic.new.graph added edges.items c.loop-numbers.invariant.0 c.loop-numbers.invariant.1 c.in_ok-edges.ensures some (RankSet-decided t (length added))
-    (subst (λ (l : List Edge). AddsEdges c.loop-numbers.last c.add_round-is_cyclic.new.graph (ListsEdge l)) c.deref-in-loop-numbers.ensures.value c.add_round-is_cyclic.ensures.edges) c.add_round-is_cyclic.ensures.grown in
-    let closes = subst (λ (l : List Edge). ClosesCycle c.add_round-is_cyclic.new.graph (ListsEdge l)) c.deref-in-loop-numbers.ensures.value (c.add_round-is_cyclic.ensures.cycle.0 c.if-is_cyclic.true) in
+    let step = round_step t c.loop-numbers.last c.add_round.new.graph added edges.items c.loop-numbers.invariant.0 c.loop-numbers.invariant.1 c.in_ok-edges.ensures some (RankSet-decided t (length added))
+    (subst (λ (l : List Edge). AddsEdges c.loop-numbers.last c.add_round.new.graph (ListsEdge l)) c.deref-in-loop-numbers.ensures.value c.add_round.ensures.edges) c.add_round.ensures.grown in
+    let closes = subst (λ (l : List Edge). ClosesCycle c.add_round.new.graph (ListsEdge l)) c.deref-in-loop-numbers-2.ensures.value ((c.ends_in_cycle-is_cyclic.ensures.0 c.if-is_cyclic.true).1) in
     let pushed = ap (λ (l : List (Vec Edge)). map (λ (v : Vec Edge). v.items) l) c.in_ok-push.ensures.items ∙ map-append (λ (v : Vec Edge). v.items) c.loop-numbers.added.items (edges ∷ []) in
-    made_then_cycle t c.loop-numbers.last c.add_round-is_cyclic.new.graph added (map (λ (v : Vec Edge). v.items) c.push.new.self.items) edges.items step c.requires.written closes pushed
+    made_then_cycle t c.loop-numbers.last c.add_round.new.graph added (map (λ (v : Vec Edge). v.items) c.push.new.self.items) edges.items step c.requires.written closes pushed
 
 pub invariant_of-result-then-is_cyclic : goal.invariant_of-result-then-is_cyclic
 invariant_of-result-then-is_cyclic g c =
@@ -74,11 +81,11 @@ invariant_of-result-then-is_cyclic g c =
     let t = c.args.trace.now in
     let some : 0 < length edges.items = grind (arith, nat_tests, c.is_empty.ensures, edges.ok.0) in
     let added = map (λ (v : Vec Edge). v.items) c.loop-numbers.added.items in
-    let step = round_step t c.loop-numbers.last c.add_round-is_cyclic.new.graph added edges.items c.loop-numbers.invariant.0 c.loop-numbers.invariant.1 c.in_ok-edges.ensures some (RankSet-decided t (length added))
-    (subst (λ (l : List Edge). AddsEdges c.loop-numbers.last c.add_round-is_cyclic.new.graph (ListsEdge l)) c.deref-in-loop-numbers.ensures.value c.add_round-is_cyclic.ensures.edges) c.add_round-is_cyclic.ensures.grown in
-    let closes = subst (λ (l : List Edge). ClosesCycle c.add_round-is_cyclic.new.graph (ListsEdge l)) c.deref-in-loop-numbers.ensures.value (c.add_round-is_cyclic.ensures.cycle.0 c.if-is_cyclic.true) in
+    let step = round_step t c.loop-numbers.last c.add_round.new.graph added edges.items c.loop-numbers.invariant.0 c.loop-numbers.invariant.1 c.in_ok-edges.ensures some (RankSet-decided t (length added))
+    (subst (λ (l : List Edge). AddsEdges c.loop-numbers.last c.add_round.new.graph (ListsEdge l)) c.deref-in-loop-numbers.ensures.value c.add_round.ensures.edges) c.add_round.ensures.grown in
+    let closes = subst (λ (l : List Edge). ClosesCycle c.add_round.new.graph (ListsEdge l)) c.deref-in-loop-numbers-2.ensures.value ((c.ends_in_cycle-is_cyclic.ensures.0 c.if-is_cyclic.true).1) in
     let pushed = ap (λ (l : List (Vec Edge)). map (λ (v : Vec Edge). v.items) l) c.in_ok-push.ensures.items ∙ map-append (λ (v : Vec Edge). v.items) c.loop-numbers.added.items (edges ∷ []) in
-    added_within t (record { last = c.add_round-is_cyclic.new.graph; added = map (λ (v : Vec Edge). v.items) c.push.new.self.items }) (made_then_cycle t c.loop-numbers.last c.add_round-is_cyclic.new.graph added (map (λ (v : Vec Edge). v.items) c.push.new.self.items) edges.items step c.requires.written closes pushed)
+    added_within t (record { last = c.add_round.new.graph; added = map (λ (v : Vec Edge). v.items) c.push.new.self.items }) (made_then_cycle t c.loop-numbers.last c.add_round.new.graph added (map (λ (v : Vec Edge). v.items) c.push.new.self.items) edges.items step c.requires.written closes pushed)
 
 pub loop-numbers-smaller : goal.loop-numbers-smaller
 loop-numbers-smaller g c =
@@ -96,13 +103,16 @@ loop-numbers-preserved g c =
     let t = c.args.trace.now in
     let some : 0 < length edges.items = grind (arith, nat_tests, c.is_empty.ensures, edges.ok.0) in
     let added = map (λ (v : Vec Edge). v.items) c.loop-numbers.added.items in
-    let step = round_step t c.loop-numbers.last c.add_round-is_cyclic.new.graph added edges.items c.loop-numbers.invariant.0 c.loop-numbers.invariant.1 c.in_ok-edges.ensures some (RankSet-decided t (length added))
-    (subst (λ (l : List Edge). AddsEdges c.loop-numbers.last c.add_round-is_cyclic.new.graph (ListsEdge l)) c.deref-in-loop-numbers.ensures.value c.add_round-is_cyclic.ensures.edges) c.add_round-is_cyclic.ensures.grown in
-    let unclosed = refused (ClosesCycle c.add_round-is_cyclic.new.graph (ListsEdge c.deref-in-loop-numbers.result.now)) (rw c.if-is_cyclic.false at c.add_round-is_cyclic.ensures.cycle) in
+    let step = round_step t c.loop-numbers.last c.add_round.new.graph added edges.items c.loop-numbers.invariant.0 c.loop-numbers.invariant.1 c.in_ok-edges.ensures some (RankSet-decided t (length added))
+    (subst (λ (l : List Edge). AddsEdges c.loop-numbers.last c.add_round.new.graph (ListsEdge l)) c.deref-in-loop-numbers.ensures.value c.add_round.ensures.edges) c.add_round.ensures.grown in
+    let number = c.len-in-loop-numbers.result + 1 in
+    let acyclic = c.args.acyclic in
+    let counted : number ≡ length added + 1 = omega (arith, c.len-in-loop-numbers.ensures, length-map c.loop-numbers.added.items (λ (v : Vec Edge). v.items)) in
+    let unclosed = refused ((acyclic ≤ number) × ClosesCycle c.add_round.new.graph (ListsEdge c.deref-in-loop-numbers-2.result.now)) (rw c.if-is_cyclic.false at c.ends_in_cycle-is_cyclic.ensures) in
     let pushed = ap (λ (l : List (Vec Edge)). map (λ (v : Vec Edge). v.items) l) c.in_ok-push.ensures.items ∙ map-append (λ (v : Vec Edge). v.items) c.loop-numbers.added.items (edges ∷ []) in (
-      subst (λ l. AreRoundsMade t c.add_round-is_cyclic.new.graph l) (sym pushed) step.made,
-      still_acyclic t c.loop-numbers.last c.add_round-is_cyclic.new.graph added edges.items step c.loop-numbers.invariant.1
-          (subst (λ (l : List Edge). ClosesCycle c.add_round-is_cyclic.new.graph (ListsEdge l) → ⊥) c.deref-in-loop-numbers.ensures.value unclosed),
+      subst (λ l. AreRoundsMade t c.add_round.new.graph l) (sym pushed) step.made,
+      still_acyclic t c.loop-numbers.last c.add_round.new.graph added edges.items number acyclic step c.loop-numbers.invariant.1 counted c.requires.acyclic
+          (subst (λ (l : List Edge). (acyclic ≤ number) × ClosesCycle c.add_round.new.graph (ListsEdge l) → ⊥) c.deref-in-loop-numbers-2.ensures.value unclosed),
       c.in_ok-numbers-2.ensures (length added) c.loop-numbers.last step.follows,
       c.later_workers-sharing.ensures.some,
       omega (arith, c.later_workers-sharing.ensures.most, c.requires.most),
