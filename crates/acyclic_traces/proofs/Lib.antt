@@ -1,0 +1,5 @@
+pub mod ClosedFacts
+pub mod OrderFacts
+pub mod PairFacts
+pub mod ProductFacts
+pub mod ReadFacts
