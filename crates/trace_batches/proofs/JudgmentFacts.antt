@@ -1,6 +1,7 @@
 -- Lemmas on what is said of pieces: one thing of each, which is what its report says, and the same of its first bytes.
-use Rattle.std.proofs.Common.{◌≡◌, ◌∙◌, ◌↔◌, ◌⊎◌, ℕ, ◌<◌, ◌≤◌, true, List, length, take, map, [], ◌∷◌, Some, refl, ap, ap₂, sym, subst, inl, inr, arith, ⊎_elim}
-use Rattle.std.specs.Option.{option_map_or}
+use Rattle.std.proofs.Common.{◌≡◌, ◌∙◌, ◌↔◌, ◌⊎◌, ℕ, ◌<◌, ◌≤◌, true, false, Option, None, List, length, take, map, [], ◌∷◌, Some, refl, ap, ap₂, sym, subst, inl, inr, arith, ⊎_elim}
+use Rattle.std.specs.Option.{option_map_or, is_some}
+use Rattle.std.specs.Prelude.{MatchOption}
 use Rattle.std.proofs.lemmas.Bool.{cases_lt}
 use Rattle.std.proofs.lemmas.List.{take_all}
 use Rattle.tso_ops.specs.Values.{TraceValue}
@@ -213,3 +214,8 @@ one_list_of_judgments (p ∷ ps) (j ∷ js) (k ∷ ks) first second = ap₂ (λ 
 one_list_of_judgments [] js (k ∷ ks) first second = absurd second
 one_list_of_judgments (p ∷ ps) js [] first second = absurd second
 one_list_of_judgments pieces js ks first second = absurd first
+
+-- what holds where an option has nothing
+pub none_holds : {X : Type 0} (o : Option X) (Nothing : Type 0) (Something : X → Type 0) → is_some o ≡ false → MatchOption o Nothing Something → Nothing
+none_holds None Nothing Something none holds = holds
+none_holds (Some x) Nothing Something none holds = absurd (let clash : true ≡ false = none in cc)

@@ -1,12 +1,12 @@
 -- Lemmas on the search for the piece of one number.
-use Rattle.std.proofs.Common.{◌≡◌, ◌≢◌, ◌∙◌, ℕ, zero, suc, ◌+◌, ◌-◌, ◌<◌, List, [], ◌∷◌, ◌++◌, get_or, length, take, drop, map, None, Some, IfSome, refl, ap, sym, subst, arith, append_assoc}
+use Rattle.std.proofs.Common.{◌≡◌, ◌≢◌, ◌∙◌, ℕ, zero, suc, ◌+◌, ◌-◌, ◌<◌, List, [], ◌∷◌, ◌++◌, length, take, drop, map, None, Some, IfSome, refl, ap, sym, subst, arith, append_assoc}
 use Rattle.std.specs.Prelude.{Option, option_map, slice_get}
 use Rattle.std.specs.Global.{Vec}
 use Rattle.std.specs.Io.KnownBytes.{Consumes, IsAtEnd}
 use Rattle.std.proofs.KnownBytes.{Consumes-nil, Consumes-trans, Consumes-whole}
 use Rattle.std.proofs.lemmas.List.{append-nil, length-append, length-map, take-append-drop}
 use Rattle.std.proofs.lemmas.Option.{slice_get-map, slice_get_past}
-use Rattle.trace_batches.specs.Internal.Cutters.{Accepts, CutterValue, Cuts, IsAt, IsLastPiece, rows}
+use Rattle.trace_batches.specs.Internal.Cutters.{CutterValue, Cuts, IsAt, IsLastPiece, Takes, rows}
 use Rattle.trace_batches.specs.Internal.Searches.{Finds, IsBefore}
 use Rattle.trace_batches.specs.NthPieces.{IsKeptOfNth}
 use Rattle.trace_batches.specs.Pieces.{ArePieces, last_piece}
@@ -57,34 +57,34 @@ kept_last limit pieces piece ended are =
     sym (slice_get-map (λ (row : Vec ℕ). row.items) (pieces ++ piece ∷ []) (length pieces) ∙ ap (option_map (λ (row : Vec ℕ). row.items)) (at_last pieces piece))
     ∙ ap (λ (rs : List (List ℕ)). slice_get rs (length pieces)) are ∙ slice_get-map (take limit) ended (length pieces)
 
--- ---- a chunk, byte by byte
+-- ---- a chunk, stretch by stretch
 
 -- nothing of it
 pub finds_start : (old : Search) (bytes : List ℕ) → IsAt old.cutter bytes → Finds old old bytes [] None
 finds_start old bytes at = ([], cuts_start old.cutter bytes at, zero_plus old.before)
 
-module _ (old mid : Search) (after : CutterValue) (bytes chunk : List ℕ) (i : ℕ) (answer : Option (Vec ℕ)) (inside : i < length chunk) (limit : after.limit ≡ mid.cutter.limit)
-    (accepts : (rest : List ℕ) → IsAt mid.cutter rest → Accepts mid.cutter after rest (get_or chunk i 0) answer) (so_far : Finds old mid bytes (take i chunk) None) where
-  -- the byte of this place, which ends no piece
-  pub finds_on : answer ≡ None → Finds old (record { cutter = after; before = mid.before }) bytes (take (i + 1) chunk) None
-  finds_on none = (so_far.0, cuts_on old.cutter mid.cutter after bytes chunk i answer so_far.0 inside so_far.1 limit none accepts, so_far.2)
+module _ (old mid : Search) (after : CutterValue) (bytes chunk : List ℕ) (from count : ℕ) (answer : Option (Vec ℕ)) (limit : after.limit ≡ mid.cutter.limit)
+    (takes : (rest : List ℕ) → IsAt mid.cutter rest → Takes mid.cutter after rest (take count (take (length chunk - from) (drop from chunk))) answer) (so_far : Finds old mid bytes (take from chunk) None) where
+  -- the next bytes, in which no piece ends
+  pub finds_on : answer ≡ None → Finds old (record { cutter = after; before = mid.before }) bytes (take (from + count) chunk) None
+  finds_on none = (so_far.0, cuts_on old.cutter mid.cutter after bytes chunk from count answer so_far.0 so_far.1 limit takes none, so_far.2)
 
   module _ (piece : Vec ℕ) (is : answer ≡ Some piece) where
-    cuts_also : Cuts old.cutter after bytes (take (i + 1) chunk) (so_far.0 ++ piece ∷ [])
-    cuts_also = cuts_one old.cutter mid.cutter after bytes chunk i answer so_far.0 (so_far.0 ++ piece ∷ []) piece inside so_far.1 limit is accepts refl
+    cuts_also : Cuts old.cutter after bytes (take (from + count) chunk) (so_far.0 ++ piece ∷ [])
+    cuts_also = cuts_one old.cutter mid.cutter after bytes chunk from count answer so_far.0 so_far.1 limit takes piece is
 
-    -- one that ends a piece before
-    pub finds_later : mid.before ≢ 0 → Finds old (record { cutter = after; before = mid.before - 1 }) bytes (take (i + 1) chunk) None
+    -- those that end a piece before
+    pub finds_later : mid.before ≢ 0 → Finds old (record { cutter = after; before = mid.before - 1 }) bytes (take (from + count) chunk) None
     finds_later some =
         let more = length-append so_far.0 (piece ∷ []) in
-        let count = so_far.2 in
-        (so_far.0 ++ piece ∷ [], cuts_also, omega (arith, more, count, some))
+        let before = so_far.2 in
+        (so_far.0 ++ piece ∷ [], cuts_also, omega (arith, more, before, some))
 
-    -- one that ends the piece
+    -- those that end the piece
     pub finds_it : mid.before ≡ 0 → (new : Search) → Finds old new bytes chunk (Some piece)
     finds_it none new =
-        let count = so_far.2 in
-        (so_far.0, i + 1, after, cuts_also, omega (arith, count, none))
+        let before = so_far.2 in
+        (so_far.0, from + count, after, cuts_also, omega (arith, before, none))
 
 -- ---- while the stream is read
 

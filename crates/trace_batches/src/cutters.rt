@@ -1,7 +1,7 @@
 //! Streams, cut into pieces.
-ghost use Rattle.std.specs.Prelude.{◌≡◌, ◌∷◌, ◌++◌, [], List, ℕ, ◌+◌, ◌<◌, ◌≤◌, Decides, IfOk, length, take};
-ghost use Rattle.trace_batches.specs.Internal.Cutters.{Accepts, Cuts, IsAt, IsLastPiece};
-ghost use Rattle.trace_batches.specs.Pieces.{end_line};
+ghost use Rattle.std.specs.Prelude.{◌≡◌, ◌++◌, [], List, ℕ, ◌<◌, ◌≤◌, Decides, IfOk, None, length, take};
+ghost use Rattle.trace_batches.specs.Internal.Cutters.{Cuts, IsAt, IsFound, IsLastPiece, IsPlaceOf, Takes};
+ghost use Rattle.trace_batches.specs.Pieces.{EndsWithin, end_line};
 
 use std::alloc::{AllocError, Global};
 use std::marker::Model;
@@ -38,6 +38,15 @@ impl Model for Cutter {
     ghost invariant = { λ c. 1 ≤ c.limit };
 }
 
+/// What a chunk of a stream was found to have.
+#[derive(Clone, Copy)]
+enum Found {
+    /// The end of a piece, the first one, after so many bytes.
+    PieceEnd(usize),
+    /// No end of a piece; its last line begins after so many bytes.
+    LastLine(usize),
+}
+
 impl Cutter {
     /// A cutter at the start of a stream, which keeps at most `limit` bytes of each piece, 1 or more.
     pub(crate) fn new(alloc: Global, limit: usize) -> Cutter
@@ -69,12 +78,15 @@ impl Cutter {
         ensures most { IfOk result (λ cut. length cut.0.items ≤ most) }
     {
         let mut pieces = Vec::new(self.alloc);
-        for i in 0..chunk.len() {
-            match self.accept(chunk[i])? {
+        let mut from = 0;
+        while from < chunk.len() {
+            let (piece, count) = self.take_piece(&chunk[from..])?;
+            from += count;
+            match piece {
                 Some(piece) => {
                     pieces.push(piece)?;
                     if pieces.len() >= most {
-                        return Ok((pieces, i + 1));
+                        return Ok((pieces, from));
                     }
                 }
                 None => {}
@@ -83,22 +95,35 @@ impl Cutter {
         Ok((pieces, chunk.len()))
     }
 
-    /// Takes the next byte: the first bytes of the piece that it ends, if it ends one.
-    pub(crate) fn accept(&mut self, byte: u8) -> Result<Option<Vec<u8>>, AllocError>
+    /// Takes the next bytes of the stream, up to the end of the first piece that ends in them: its first bytes, and how many
+    /// bytes were taken. All are where none ends in them. An error where an allocation was refused: then the cutter is not to
+    /// be used again.
+    pub(crate) fn take_piece(
+        &mut self,
+        chunk: &[u8],
+    ) -> Result<(Option<Vec<u8>>, usize), AllocError>
         ensures limit { self.new.limit ≡ self.old.limit }
-        ensures piece { IfOk result (λ piece. (bytes : List ℕ) → IsAt self.old bytes → Accepts self.old self.new bytes byte piece) }
+        ensures piece { IfOk result (λ taken. (bytes : List ℕ) → IsAt self.old bytes → Takes self.old self.new bytes (take taken.1 chunk.now) taken.0) }
+        ensures within { IfOk result (λ taken. taken.1 ≤ length chunk.now) }
+        ensures some { IfOk result (λ taken. 0 < length chunk.now → 0 < taken.1) }
+        ensures all { IfOk result (λ taken. taken.0 ≡ None → taken.1 ≡ length chunk.now) }
     {
-        push_within(&mut self.kept, self.limit, byte)?;
-        if byte != LINE_END {
-            push_within(&mut self.line, LINE_LIMIT, byte)?;
-            return Ok(None);
+        match first_end(self.line.as_slice(), chunk) {
+            Found::PieceEnd(end) => {
+                extend_within(&mut self.kept, self.limit, &chunk[..end])?;
+                self.line.clear();
+                let piece = mem::replace(&mut self.kept, Vec::new(self.alloc));
+                Ok((Some(piece), end))
+            }
+            Found::LastLine(start) => {
+                extend_within(&mut self.kept, self.limit, chunk)?;
+                if start > 0 {
+                    self.line.clear();
+                }
+                extend_within(&mut self.line, LINE_LIMIT, &chunk[start..])?;
+                Ok((None, chunk.len()))
+            }
         }
-        let is_end = is_end_line(self.line.as_slice());
-        self.line.clear();
-        if !is_end {
-            return Ok(None);
-        }
-        Ok(Some(mem::replace(&mut self.kept, Vec::new(self.alloc))))
     }
 
     /// The first bytes of the last piece, at the end of the stream; None where no byte follows the last line `end`.
@@ -110,19 +135,40 @@ impl Cutter {
     }
 }
 
-/// Whether a line is `end`.
-fn is_end_line(line: &[u8]) -> bool
-    ensures { Decides result (line.now ≡ end_line) }
+/// Where the first piece ends in a chunk, which follows these first bytes of a line; where none ends in it, where its last
+/// line begins.
+fn first_end(line: &[u8], chunk: &[u8]) -> Found
+    ensures found { (bytes part : List ℕ) → EndsWithin bytes part → line.now ≡ take 4 part → IsFound bytes part chunk.now result }
+    ensures place { IsPlaceOf chunk.now result }
 {
-    line == b"end".as_slice()
+    let mut before = line;
+    let mut start = 0;
+    for i in 0..chunk.len() {
+        if chunk[i] == LINE_END {
+            if is_end_line(before, &chunk[start..i]) {
+                return Found::PieceEnd(i + 1);
+            }
+            before = &[];
+            start = i + 1;
+        }
+    }
+    Found::LastLine(start)
 }
 
-/// Pushes a byte, where fewer than `limit` are there.
-fn push_within(bytes: &mut Vec<u8>, limit: usize, byte: u8) -> Result<(), AllocError>
-    ensures { IfOk result (λ _. (all : List ℕ) → bytes.old.items ≡ take limit all → bytes.new.items ≡ take limit (all ++ byte ∷ [])) }
+/// Whether the two parts of a line make `end`.
+fn is_end_line(before: &[u8], after: &[u8]) -> bool
+    ensures { Decides result (before.now ++ after.now ≡ end_line) }
 {
-    if bytes.len() < limit {
-        bytes.push(byte)?;
+    match b"end".as_slice().strip_suffix(after) {
+        Some(rest) => before == rest,
+        None => false,
     }
-    Ok(())
+}
+
+/// Appends bytes, up to a length of `limit`.
+fn extend_within(bytes: &mut Vec<u8>, limit: usize, more: &[u8]) -> Result<(), AllocError>
+    ensures { IfOk result (λ _. (all : List ℕ) → bytes.old.items ≡ take limit all → bytes.new.items ≡ take limit (all ++ more.now)) }
+{
+    let room = limit.saturating_sub(bytes.len());
+    bytes.extend_from_slice(&more[..more.len().min(room)])
 }

@@ -12,11 +12,12 @@ ghost use Rattle.trace_batches.specs.declared.batches.BatchMethod.{BatchMethod};
 ghost use Rattle.trace_batches.specs.declared.batches.BatchMethod.TheVariants.{Judge, Decide};
 
 use crate::batches::BatchMethod;
+use acyclic_traces::is_shown_acyclic;
 use std::alloc::Global;
 use std::sync::Wait;
 use std::thread::Threads;
 use trace_decisions::{Decision, decide};
-use trace_judging::{Fault, Finding, find_violation};
+use trace_judging::{Fault, Finding, find_violation, least_unwritten};
 use tso_evidence::Evidence;
 use tso_ops::Trace;
 use tso_text::{TextFault, Why, read_trace};
@@ -65,15 +66,29 @@ fn judge_trace<H: Threads + Wait>(
     ensures fault { IfErr result IsBatchFault }
 {
     match method {
-        BatchMethod::Judge => {
-            let finding = find_violation(rt, alloc, trace, 1)?;
-            Ok(judgment_by(&finding))
-        }
+        BatchMethod::Judge => judge_by_rules(rt, alloc, trace),
         BatchMethod::Decide { effort } => {
             let decision = decide(rt, alloc, trace, 1, effort)?;
             Ok(judgment_of(&decision))
         }
     }
+}
+
+/// What is said of a trace by the rules. A short trace without a violation is mostly shown to have none, which takes less time than
+/// its rounds.
+fn judge_by_rules<H: Threads + Wait>(
+    rt: &H,
+    alloc: Global,
+    trace: &Trace,
+) -> Result<Judgment, Fault>
+    ensures said { IfOk result (IsJudgmentOn Judge trace.now) }
+    ensures fault { IfErr result IsBatchFault }
+{
+    if least_unwritten(trace).is_none() && is_shown_acyclic(trace) {
+        return Ok(Judgment::NoViolation);
+    }
+    let finding = find_violation(rt, alloc, trace, 1)?;
+    Ok(judgment_by(&finding))
 }
 
 /// What is said of a trace of which this was found.

@@ -69,8 +69,11 @@ impl Search {
     fn take(&mut self, chunk: &[u8]) -> Result<Option<Vec<u8>>, AllocError>
         ensures { IfOk result (λ piece. (bytes : List ℕ) → IsAt self.old.cutter bytes → Finds self.old self.new bytes chunk.now piece) }
     {
-        for i in 0..chunk.len() {
-            match self.cutter.accept(chunk[i])? {
+        let mut from = 0;
+        while from < chunk.len() {
+            let (piece, count) = self.cutter.take_piece(&chunk[from..])?;
+            from += count;
+            match piece {
                 Some(piece) => {
                     if self.before == 0 {
                         return Ok(Some(piece));

@@ -10,12 +10,16 @@ use trace_batches::BatchVerdict;
 use trace_judging::Fault;
 use traces_for_tests::{FlushedWriter, Full, ShortWriter, SlowReader, TornReader, expect_equal};
 
+/// Each line `end` is read in two parts, at each place.
 #[test]
-fn reader_of_one_byte_a_call(rt: HostRuntime) -> Result<(), Fail> {
-    let mut written = Vec::new(rt.alloc());
-    let mut reader = SlowReader::new(STREAM, 1);
-    let said = judged(&rt, rt.alloc(), &mut reader, &mut written);
-    expect(1, said, Ok(BatchVerdict::Violation), &written, TEXT)
+fn reader_of_few_bytes_a_call(rt: HostRuntime) -> Result<(), Fail> {
+    for most in 1..STREAM.len() {
+        let mut written = Vec::new(rt.alloc());
+        let mut reader = SlowReader::new(STREAM, most);
+        let said = judged(&rt, rt.alloc(), &mut reader, &mut written);
+        expect(most, said, Ok(BatchVerdict::Violation), &written, TEXT)?;
+    }
+    Ok(())
 }
 
 /// How many bytes of the text are written when so many bytes of the stream came: the lines of the pieces that end in them.

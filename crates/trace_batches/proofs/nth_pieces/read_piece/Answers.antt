@@ -1,5 +1,4 @@
-use Rattle.std.proofs.Common.{List, ℕ, None, subst, take}
-use Rattle.trace_batches.specs.Internal.Cutters.{IsAt}
+use Rattle.std.proofs.Common.{subst, take}
 use Rattle.trace_batches.specs.Internal.Searches.{Finds}
 use Rattle.trace_batches.proofs.NthFacts.{before_later, before_more, before_start, bytes_taken, end_read, piece_read, whole_taken}
 use Rattle.trace_batches.proofs.nth_pieces.read_piece.Goals as goal
