@@ -1,5 +1,4 @@
 use Rattle.std.proofs.Common.{inl, inr}
-
 use Rattle.trace_batches.proofs.JudgmentFacts.{none_holds}
 use Rattle.trace_batches.proofs.judgments.judge_by_rules.Goals as goal
 
