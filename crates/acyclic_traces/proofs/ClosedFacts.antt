@@ -8,7 +8,7 @@ use Rattle.tso_cert.specs.declared.rules.BaseRule.TheVariants.{Init, LoadOp, Sto
 use Rattle.tso_cert.specs.declared.rules.InferredRule.{InferredRule}
 use Rattle.tso_cert.specs.declared.rules.InferredRule.TheVariants.{LoadPast, StorePast, SwapBefore, SwapAfter}
 use Rattle.tso_model.specs.Rules.{BasePair, InferredBy, IsClosed, HasDerivedCycle}
-use Rattle.acyclic_traces.specs.Pairs.{HasPair, HasAllPairs, IsStrictOrder, AreOrderPairs, IsClosedForReads, IsClosedForSwap}
+use Rattle.acyclic_traces.specs.Internal.Pairs.{HasPair, HasAllPairs, IsStrictOrder, AreOrderPairs, IsClosedForReads, IsClosedForSwap}
 
 module _ (t : TraceValue) (rows order : List ℕ) (in_order : AreOrderPairs t order) (has_order : HasAllPairs rows order) (strict : IsStrictOrder rows)
     (reads : (l : ℕ) → IsClosedForReads t rows l) (swaps : (l : ℕ) → IsClosedForSwap t rows l) where

@@ -9,7 +9,7 @@ use Rattle.tso_ops.specs.Events.{event_total}
 use Rattle.tso_ops.proofs.NumberFacts.{event_at-within}
 use Rattle.tso_rules.specs.Rows.{IsLater}
 use Rattle.tso_rules.proofs.BaseFacts.{later_earlier}
-use Rattle.acyclic_traces.specs.Pairs.{HasPair}
+use Rattle.acyclic_traces.specs.Internal.Pairs.{HasPair}
 
 -- program order leads from an event to an event
 pub later_from : (t : TraceValue) (u v : ℕ) → IsLater t u v → (0 < u) × (u ≤ event_total t)

@@ -9,7 +9,7 @@ use Rattle.std.proofs.lemmas.Nat.Bits.{bit_at_above, bit_at_and, bit_at-lt, shr_
 use Rattle.bitsets.specs.Rows.{HasBit}
 use Rattle.bitsets.proofs.WordFacts.{HasBit-decided, HasBit-zero, HasBit-and, HasBit-not, HasBit-drop, drop_less, one_bit}
 use Rattle.acyclic_traces.specs.Internal.Rows.{IsCoveredRow}
-use Rattle.acyclic_traces.specs.Pairs.{HasPair, IsStrictOrder}
+use Rattle.acyclic_traces.specs.Internal.Pairs.{HasPair, IsStrictOrder}
 
 -- the test of a bit
 pub bit_test : (word k : ℕ) → IsTrue (eqb (bit_and (word / 2 ^ k) 1) 1) ↔ HasBit word k

@@ -6,7 +6,7 @@ use Rattle.std.proofs.lemmas.Bool.{cases_eq}
 use Rattle.std.proofs.lemmas.List.{get_or-set_same, get_or-set_other}
 use Rattle.bitsets.specs.Rows.{HasBit}
 use Rattle.bitsets.proofs.WordFacts.{HasBit-zero, HasBit-or, HasBit-drop, HasBit-lowest}
-use Rattle.acyclic_traces.specs.Pairs.{HasPair, AreTransposed}
+use Rattle.acyclic_traces.specs.Internal.Pairs.{HasPair, AreTransposed}
 
 -- The numbers of `from` that aren't left were given pairs with those of `to`.
 pub record GivesProduct (old new : List ℕ) (from to left : ℕ) : Type 0 where

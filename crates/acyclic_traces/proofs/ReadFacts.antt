@@ -11,27 +11,27 @@ use Rattle.tso_ops.specs.Events.{event_at, event_total, IsStore, IsEventOf, IsLo
 use Rattle.tso_ops.proofs.NumberFacts.{event_unique, HasSource-within}
 use Rattle.tso_ops.proofs.SwapFacts.{IsSwapLoad-within}
 use Rattle.tso_rules.proofs.BaseFacts.{word_bit, no_store}
-use Rattle.acyclic_traces.specs.Pairs.{HasPair, AreTransposed, IsClosedForReads, IsClosedForSwap}
+use Rattle.acyclic_traces.specs.Internal.Pairs.{HasPair, AreTransposed, IsClosedForReads, IsClosedForSwap}
 use Rattle.acyclic_traces.proofs.PairFacts.{own_bit}
 
--- the bits of a row's first word
-pub low_bit : (row : List ℕ) (Of : ℕ → Type 0) (word k : ℕ) → k < 64 → IsMask row Of → word ≡ get_or row 0 0 → HasBit word k ↔ Of k
-low_bit row Of word k low mask is = let bit = word_bit row Of 0 word k low mask is in
+-- the bits of the first of a mask's words
+pub low_bit : (words : List ℕ) (Of : ℕ → Type 0) (word k : ℕ) → k < 64 → IsMask words Of → word ≡ get_or words 0 0 → HasBit word k ↔ Of k
+low_bit words Of word k low mask is = let bit = word_bit words Of 0 word k low mask is in
     let place : 64 * 0 + k ≡ k = omega arith in
     (λ set. subst Of place (bit.0 set), λ of. bit.1 (subst Of (sym place) of))
 
 -- and without one number
-pub other_bit : (row : List ℕ) (Of : ℕ → Type 0) (word s k : ℕ) → s < 64 → k < 64 → IsMask row Of → word ≡ get_or row 0 0 → Of k → k ≢ s →
+pub other_bit : (words : List ℕ) (Of : ℕ → Type 0) (word s k : ℕ) → s < 64 → k < 64 → IsMask words Of → word ≡ get_or words 0 0 → Of k → k ≢ s →
     HasBit (bit_and word (bit_not w64 (1 * 2 ^ s % 2 ^ 64))) k
-other_bit row Of word s k s_low low mask is of other = (HasBit-clear word s k s_low low).1 (other, (low_bit row Of word k low mask is).1 of)
+other_bit words Of word s k s_low low mask is of other = (HasBit-clear word s k s_low low).1 (other, (low_bit words Of word k low mask is).1 of)
 
 -- and without those above one
-pub upto_bit : (row : List ℕ) (Of : ℕ → Type 0) (word above l k : ℕ) → k < 64 → above < 2 ^ 64 → IsMask row Of → word ≡ get_or row 0 0 → ((j : ℕ) → j < 64 → HasBit above j ↔ (l < 64 * 0 + j)) →
+pub upto_bit : (words : List ℕ) (Of : ℕ → Type 0) (word above l k : ℕ) → k < 64 → above < 2 ^ 64 → IsMask words Of → word ≡ get_or words 0 0 → ((j : ℕ) → j < 64 → HasBit above j ↔ (l < 64 * 0 + j)) →
     HasBit (bit_and word (bit_not w64 above)) k ↔ (Of k × (k ≤ l))
-upto_bit row Of word above l k low fits mask is above_is =
+upto_bit words Of word above l k low fits mask is above_is =
     let both = HasBit-and word (bit_not w64 above) k in
     let not = HasBit-not above k fits low in
-    let of = low_bit row Of word k low mask is in
+    let of = low_bit words Of word k low mask is in
     let past = above_is k low in (
       λ bit. (
         of.0 (both.0 bit).0,

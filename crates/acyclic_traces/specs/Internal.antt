@@ -1,2 +1,3 @@
--- What is looked at in the rows of a table. No public contract uses these definitions.
+-- Pairs that are kept as rows of bits, and what is looked at in these rows. No public contract uses these definitions.
+pub mod Pairs
 pub mod Rows

@@ -1,7 +1,7 @@
 //! The pairs that a load gives by what it reads.
 ghost use Rattle.std.specs.Prelude.{◌≡◌, ◌≤◌, suc, false, length};
 ghost use Rattle.tso_ops.specs.Events.{event_total};
-ghost use Rattle.acyclic_traces.specs.Pairs.{AreTransposed, IsClosedForReads};
+ghost use Rattle.acyclic_traces.specs.Internal.Pairs.{AreTransposed, IsClosedForReads};
 
 use crate::pairs::{add_after, add_before};
 use bitsets::{word_above, word_at};

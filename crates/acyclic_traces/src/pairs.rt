@@ -2,7 +2,7 @@
 ghost use Rattle.std.specs.Prelude.{◌≡◌, ◌⊎◌, ◌↔◌, ◌<◌, ℕ, false, IsTrue, length};
 ghost use Rattle.bitsets.specs.Rows.{HasBit};
 ghost use Rattle.acyclic_traces.specs.Internal.Rows.{IsCoveredRow};
-ghost use Rattle.acyclic_traces.specs.Pairs.{HasPair, HasAllPairs, AreTransposed, IsStrictOrder};
+ghost use Rattle.acyclic_traces.specs.Internal.Pairs.{HasPair, HasAllPairs, AreTransposed, IsStrictOrder};
 
 /// How many numbers a table has.
 pub(crate) const NUMBERS: usize = 64;

@@ -1,7 +1,7 @@
 //! The pairs that program order gives, and those of the number 0.
 ghost use Rattle.std.specs.Prelude.{◌≡◌, ◌<◌, ◌≤◌, suc, ℕ, length};
 ghost use Rattle.tso_ops.specs.Events.{event_total};
-ghost use Rattle.acyclic_traces.specs.Pairs.{AreOrderPairs};
+ghost use Rattle.acyclic_traces.specs.Internal.Pairs.{AreOrderPairs};
 
 use crate::pairs::joined_rows;
 use tso_ops::Trace;

@@ -2,7 +2,7 @@
 ghost use Rattle.std.specs.Prelude.{◌≡◌, ◌≤◌, ℕ, suc, false, IsTrue, length};
 ghost use Rattle.tso_ops.specs.Events.{event_total};
 ghost use Rattle.tso_model.specs.Rules.{HasDerivedCycle};
-ghost use Rattle.acyclic_traces.specs.Pairs.{AreTransposed, IsClosedForReads, IsClosedForSwap};
+ghost use Rattle.acyclic_traces.specs.Internal.Pairs.{AreTransposed, IsClosedForReads, IsClosedForSwap};
 
 use crate::loads::add_by_load;
 use crate::pairs::{NUMBERS, has_all, is_strict_order, transpose};

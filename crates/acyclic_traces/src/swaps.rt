@@ -1,7 +1,7 @@
 //! The pairs that a swap gives: nothing comes between its load and its store.
 ghost use Rattle.std.specs.Prelude.{◌≡◌, ◌≤◌, ℕ, suc, false, length};
 ghost use Rattle.tso_ops.specs.Events.{event_total};
-ghost use Rattle.acyclic_traces.specs.Pairs.{AreTransposed, IsClosedForSwap};
+ghost use Rattle.acyclic_traces.specs.Internal.Pairs.{AreTransposed, IsClosedForSwap};
 
 use crate::pairs::{add_after, add_before};
 use bitsets::word_at;

@@ -1,6 +1,6 @@
 -- What is looked at in a row, so that all rows together are a strict order.
 use Rattle.std.specs.Prelude.{◌≡◌, ◌⊎◌, ℕ, List}
-use Rattle.acyclic_traces.specs.Pairs.{HasPair}
+use Rattle.acyclic_traces.specs.Internal.Pairs.{HasPair}
 
 -- Number x has a pair with v or is v, number u one with x, and u has all pairs of x.
 pub record IsCovered (rows : List ℕ) (u v : ℕ) : Type 0 where

@@ -8,7 +8,7 @@ use Rattle.tso_ops.specs.Events.{event_total, IsStoreTo, IsEventOf}
 use Rattle.tso_ops.proofs.NumberFacts.{IsStore-within, HasSource-within}
 use Rattle.tso_ops.proofs.TableFacts.{source_load}
 use Rattle.tso_rules.proofs.BaseFacts.{store_to}
-use Rattle.acyclic_traces.specs.Pairs.{HasPair}
+use Rattle.acyclic_traces.specs.Internal.Pairs.{HasPair}
 use Rattle.acyclic_traces.proofs.ReadFacts.{other_bit, upto_bit, earlier_own, own_earlier, read_given, seen_given, closed_for_reads}
 use Rattle.acyclic_traces.proofs.loads.add_by_load.Goals as goal
 

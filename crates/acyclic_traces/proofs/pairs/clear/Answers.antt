@@ -3,7 +3,7 @@ use Rattle.std.proofs.lemmas.Bool.{cases_eq, cases_lt}
 use Rattle.std.proofs.lemmas.List.{length-set, get_or-set_same, get_or-set_other}
 use Rattle.bitsets.specs.Rows.{HasBit}
 use Rattle.bitsets.proofs.WordFacts.{HasBit-zero}
-use Rattle.acyclic_traces.specs.Pairs.{HasPair}
+use Rattle.acyclic_traces.specs.Internal.Pairs.{HasPair}
 use Rattle.acyclic_traces.proofs.PairFacts.{none_past}
 use Rattle.acyclic_traces.proofs.pairs.clear.Goals as goal
 

@@ -1,5 +1,5 @@
 use Rattle.std.proofs.Common.{ℕ, ◌<◌}
-use Rattle.acyclic_traces.specs.Pairs.{HasPair}
+use Rattle.acyclic_traces.specs.Internal.Pairs.{HasPair}
 use Rattle.acyclic_traces.proofs.pairs.has_all.Given as goal
 
 -- the table has the other's pairs of the numbers passed

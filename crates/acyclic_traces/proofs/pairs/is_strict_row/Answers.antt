@@ -4,7 +4,7 @@ use Rattle.std.specs.Prelude.{bit_and}
 use Rattle.std.proofs.lemmas.Bool.{both_ways}
 use Rattle.std.proofs.lemmas.Nat.{and_le_l}
 use Rattle.bitsets.proofs.WordFacts.{HasBit-and, HasBit-lowest}
-use Rattle.acyclic_traces.specs.Pairs.{HasPair}
+use Rattle.acyclic_traces.specs.Internal.Pairs.{HasPair}
 use Rattle.acyclic_traces.specs.Internal.Rows.{IsCovered}
 use Rattle.acyclic_traces.proofs.PairFacts.{covered, looked_start, looked_more, looked_without, looked_less, looked_all}
 use Rattle.acyclic_traces.proofs.pairs.is_strict_row.Goals as goal

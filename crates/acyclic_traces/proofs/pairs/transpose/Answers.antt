@@ -1,7 +1,7 @@
 use Rattle.std.proofs.Common.{◌<◌, inl, inr, sym, subst, arith}
 use Rattle.std.proofs.lemmas.Bool.{cases_eq, cases_lt}
 use Rattle.bitsets.specs.Rows.{HasBit}
-use Rattle.acyclic_traces.specs.Pairs.{HasPair}
+use Rattle.acyclic_traces.specs.Internal.Pairs.{HasPair}
 use Rattle.acyclic_traces.proofs.PairFacts.{none_past, own_bit, own_bit_only}
 use Rattle.acyclic_traces.proofs.pairs.transpose.Goals as goal
 

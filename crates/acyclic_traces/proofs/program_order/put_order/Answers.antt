@@ -7,7 +7,7 @@ use Rattle.bitsets.proofs.WordFacts.{HasBit-or}
 use Rattle.tso_ops.specs.Events.{event_total}
 use Rattle.tso_ops.proofs.NumberFacts.{event_at-within}
 use Rattle.tso_rules.specs.Rows.{IsLater}
-use Rattle.acyclic_traces.specs.Pairs.{HasPair}
+use Rattle.acyclic_traces.specs.Internal.Pairs.{HasPair}
 use Rattle.acyclic_traces.proofs.PairFacts.{own_bit}
 use Rattle.acyclic_traces.proofs.OrderFacts.{later_from, written_pair, other_pair, later_pair}
 use Rattle.acyclic_traces.proofs.program_order.put_order.Goals as goal

@@ -1,7 +1,7 @@
 use Rattle.std.proofs.Common.{◌≡◌, ℕ, suc, ◌≤◌, ◌<◌, length}
 use Rattle.tso_ops.specs.Events.{event_total}
 use Rattle.tso_rules.specs.Rows.{IsLater}
-use Rattle.acyclic_traces.specs.Pairs.{HasPair}
+use Rattle.acyclic_traces.specs.Internal.Pairs.{HasPair}
 use Rattle.acyclic_traces.proofs.program_order.put_order.Given as goal
 
 -- the table has the pairs of 0, and those that program order gives of the numbers passed

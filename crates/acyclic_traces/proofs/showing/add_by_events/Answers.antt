@@ -1,6 +1,6 @@
 use Rattle.std.proofs.Common.{inl, inr, subst, sym, ◌∙◌, arith}
 use Rattle.std.proofs.lemmas.Bool.{cases_eq, cases_lt, or_parts}
-use Rattle.acyclic_traces.specs.Pairs.{IsClosedForReads, IsClosedForSwap}
+use Rattle.acyclic_traces.specs.Internal.Pairs.{IsClosedForReads, IsClosedForSwap}
 use Rattle.acyclic_traces.proofs.ReadFacts.{reads_past}
 use Rattle.acyclic_traces.proofs.showing.add_by_events.Goals as goal
 

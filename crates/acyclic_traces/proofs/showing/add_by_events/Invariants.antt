@@ -1,5 +1,5 @@
 use Rattle.std.proofs.Common.{◌≡◌, ℕ, ◌<◌, false, length}
-use Rattle.acyclic_traces.specs.Pairs.{AreTransposed, IsClosedForReads}
+use Rattle.acyclic_traces.specs.Internal.Pairs.{AreTransposed, IsClosedForReads}
 use Rattle.acyclic_traces.proofs.showing.add_by_events.Given as goal
 
 -- the tables are turned, and where nothing was added they have what the numbers passed give

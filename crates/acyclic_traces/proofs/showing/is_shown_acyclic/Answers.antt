@@ -1,5 +1,5 @@
 use Rattle.std.proofs.Common.{◌≡◌, false, subst}
-use Rattle.acyclic_traces.specs.Pairs.{HasAllPairs, IsStrictOrder}
+use Rattle.acyclic_traces.specs.Internal.Pairs.{HasAllPairs, IsStrictOrder}
 use Rattle.acyclic_traces.proofs.ClosedFacts.{no_cycle}
 use Rattle.acyclic_traces.proofs.showing.is_shown_acyclic.Goals as goal
 

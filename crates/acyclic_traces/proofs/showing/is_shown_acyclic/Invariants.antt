@@ -1,4 +1,4 @@
-use Rattle.acyclic_traces.specs.Pairs.{AreTransposed}
+use Rattle.acyclic_traces.specs.Internal.Pairs.{AreTransposed}
 use Rattle.acyclic_traces.proofs.showing.is_shown_acyclic.Given as goal
 
 -- the tables are turned

@@ -6,7 +6,7 @@ use Rattle.bitsets.specs.Rows.{HasBit}
 use Rattle.tso_ops.specs.Events.{event_total, IsStore}
 use Rattle.tso_ops.proofs.NumberFacts.{IsStore-within}
 use Rattle.tso_ops.proofs.SwapFacts.{IsSwapLoad-within}
-use Rattle.acyclic_traces.specs.Pairs.{HasPair}
+use Rattle.acyclic_traces.specs.Internal.Pairs.{HasPair}
 use Rattle.acyclic_traces.proofs.ReadFacts.{other_bit, before_given, closed_for_swap}
 use Rattle.acyclic_traces.proofs.swaps.add_by_swap.Goals as goal
 

@@ -1,7 +1,7 @@
 use Rattle.std.proofs.Common.{◌≡◌, true, false, sym, subst, ◌∙◌, arith}
 use Rattle.std.specs.Int.{trailing_zeros, w64}
 use Rattle.tso_ops.specs.Events.{IsSwapLoad}
-use Rattle.acyclic_traces.specs.Pairs.{IsClosedForSwap}
+use Rattle.acyclic_traces.specs.Internal.Pairs.{IsClosedForSwap}
 use Rattle.acyclic_traces.proofs.PairFacts.{looked_more, looked_all}
 use Rattle.acyclic_traces.proofs.ReadFacts.{low_bit, closed_if_swap}
 use Rattle.acyclic_traces.proofs.swaps.add_by_swaps.Goals.{then-add_by_swap, else-add_by_swap}

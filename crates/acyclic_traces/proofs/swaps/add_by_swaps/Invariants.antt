@@ -1,5 +1,5 @@
 use Rattle.std.proofs.Common.{◌≡◌, false, length}
-use Rattle.acyclic_traces.specs.Pairs.{AreTransposed, IsClosedForSwap}
+use Rattle.acyclic_traces.specs.Internal.Pairs.{AreTransposed, IsClosedForSwap}
 use Rattle.acyclic_traces.proofs.PairFacts.{Looked}
 use Rattle.acyclic_traces.proofs.swaps.add_by_swaps.Given as goal
 
