@@ -1,4 +1,4 @@
-# Completions of tsobench for bash. Written by scripts/compare-help from the texts of help.
+# Completions of tsobench for bash. Written by tests/compare-help from the texts of help.
 _tsobench() {
     local word=${COMP_WORDS[COMP_CWORD]} before=${COMP_WORDS[COMP_CWORD - 1]} command='' words='' files='' i
     # --unit=serial comes as three words

@@ -1,4 +1,4 @@
-# Completions of tsobench for fish. Written by scripts/compare-help from the texts of help.
+# Completions of tsobench for fish. Written by tests/compare-help from the texts of help.
 complete -c tsobench -n __fish_use_subcommand -f
 complete -c tsobench -n __fish_use_subcommand -a judge -d 'Judges a trace and prints its report'
 complete -c tsobench -n __fish_use_subcommand -a decide -d 'Decides whether a trace has an order that its memory model allows'

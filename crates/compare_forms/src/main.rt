@@ -1,6 +1,6 @@
 //! Judges the trace on standard input by each form of rounds, and compares the two reports.
 //!
-//! `scripts/compare-forms` runs it on drawn traces. It prints the report, status 0; where the reports differ, both of them,
+//! `tests/compare-forms` runs it on drawn traces. It prints the report, status 0; where the reports differ, both of them,
 //! status 1; where there is no report, why, status 2.
 #![tactic(auto)]
 

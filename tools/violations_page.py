@@ -1,0 +1,130 @@
+"""The page of tools/sort-violations: its groups in a table, and for each its picture, its explanation, its reduced traces and where
+its violations stand in the stream. It stands alone: nothing is fetched, and there is no script in it."""
+
+from __future__ import annotations
+
+import concurrent.futures
+import functools
+import html
+import os
+import re
+import subprocess
+
+STYLE = """\
+body { font-family: sans-serif; line-height: 1.4; margin: 2em auto; max-width: 70em; padding: 0 1em; color: #222; background: #fff }
+table { border-collapse: collapse }
+th, td { border-bottom: 1px solid #ccc; padding: .3em .8em; text-align: left; vertical-align: top }
+td.number, th.number { text-align: right }
+section { border-top: 2px solid #888; margin-top: 2em }
+pre { background: #f4f4f4; overflow-x: auto; padding: .6em 1em }
+.sides { display: flex; flex-wrap: wrap; gap: 1em 2em; align-items: flex-start }
+.sides > * { margin: 0; min-width: 0 }
+svg { height: auto; max-width: 100% }
+summary { cursor: pointer }
+"""
+
+
+class Failure(Exception):
+    """Why there is no page."""
+
+
+def output_of(command, text, statuses):
+    """What a command prints of a text, where it ends with one of these statuses."""
+    done = subprocess.run(command, input=text, capture_output=True, check=False)
+    if done.returncode not in statuses:
+        name = " ".join(map(os.path.basename, command))
+        raise Failure(f"{name} ended with status {done.returncode}: {os.fsdecode(done.stderr)[:200].strip()}")
+    return done.stdout
+
+
+def picture_of(program, trace, prefix):
+    """The picture of a trace as an element of a page, with ids that begin so."""
+    drawn = output_of(["dot", "-Tsvg"], output_of([program, "draw"], trace.encode(), (3,)), (0,)).decode("utf-8")
+    element = re.sub(r"<!--.*?-->\n?", "", drawn[drawn.index("<svg"):], flags=re.DOTALL).rstrip()
+    return re.sub(r'(<[a-z]+(?: [a-z:]+="[^"]*")*? id=")', rf"\g<1>{prefix}", element)
+
+
+def explanation_of(program, trace):
+    """The explanation alone, without the report before it."""
+    return output_of([program, "explain"], trace.encode(), (3,)).decode("ascii").split("\n\n", 1)[-1]
+
+
+def folded(summary, content):
+    return f"<details>\n<summary>{summary}</summary>\n{content}\n</details>\n"
+
+
+def further_traces(group):
+    """The reduced traces of a group but the first, folded."""
+    parts = [f"<p>{len(numbers)}, the first is trace {numbers[0]}:</p>\n<pre>{html.escape(trace)}</pre>"
+             for trace, numbers in group.traces[1:]]
+    return folded(f"{len(parts)} more reduced traces of this shape", "\n".join(parts)) if parts else ""
+
+
+def section_of(program, numbered):
+    """What the page says of a group."""
+    number, group = numbered
+    trace, numbers = group.traces[0]
+    positions = group.positions
+    return f"""\
+<section id="group-{number}">
+<h2>Group {number}: {html.escape(group.name or "no known test")}</h2>
+<p>Shape <code>{html.escape(group.shape)}</code>. {len(positions)} violations, the first is trace {positions[0]} of the stream. \
+<a href="#groups">All groups</a></p>
+<div class="sides">
+<figure>{picture_of(program, trace, f"picture-{number}-")}</figure>
+<div>
+<h3>Reduced trace</h3>
+<p>{len(numbers)} of the group's violations are reduced to it, the first is trace {numbers[0]}.</p>
+<pre>{html.escape(trace)}</pre>
+</div>
+</div>
+<h3>Why it can't be</h3>
+<pre>{html.escape(explanation_of(program, trace))}</pre>
+{folded(f"{len(positions)} positions in the stream", f"<p>{', '.join(map(str, positions))}</p>")}{further_traces(group)}</section>
+"""
+
+
+def row_of(number, group):
+    return (f'<tr><td class="number"><a href="#group-{number}">{number}</a></td><td class="number">{len(group.positions)}</td>'
+            f'<td><a href="#group-{number}">{html.escape(group.name or "no known test")}</a></td>'
+            f'<td><code>{html.escape(group.shape)}</code></td><td class="number">{group.positions[0]}</td></tr>\n')
+
+
+def page_of(stream, groups, sections):
+    count = sum(len(group.positions) for group in groups)
+    rows = "".join(row_of(number, group) for number, group in enumerate(groups, 1))
+    return f"""\
+<!DOCTYPE html>
+<html lang="en">
+<head>
+<meta charset="utf-8">
+<meta name="viewport" content="width=device-width, initial-scale=1">
+<title>Violations of {html.escape(stream)}</title>
+<style>
+{STYLE}</style>
+</head>
+<body>
+<h1>Violations of {html.escape(stream)}</h1>
+<p>{count} violations in {len(groups)} groups, the largest first. Each violation was reduced to a small trace that shows it, with other \
+addresses and values; a group is those whose small traces have a cycle of the same shape. <code>tools/sort-violations --help</code> \
+says what shapes and names mean. <code>tsobench explain --nth N</code> explains the violation at position N as it came.</p>
+<table id="groups">
+<thead><tr><th class="number">Group</th><th class="number">Violations</th><th>Name</th><th>Shape</th><th class="number">First</th></tr></thead>
+<tbody>
+{rows}</tbody>
+</table>
+<p>In a picture a column is a processor. Red is the cycle, each event before the next; the number at an edge is its step in the \
+explanation. A blue edge leads from a store to a load that read it; a load in a blue box read the first value. \
+The cycle of picture and explanation may be another than that of the shape, where a trace has several.</p>
+{"".join(sections)}</body>
+</html>
+"""
+
+
+def write(path, program, stream, groups, workers):
+    """Writes the page, of which no part stands there before all is made."""
+    with concurrent.futures.ThreadPoolExecutor(workers) as pool:
+        sections = list(pool.map(functools.partial(section_of, program), enumerate(groups, 1)))
+    shown = "standard input" if stream == "-" else stream.encode("utf-8", "replace").decode("utf-8")
+    with open(path, "w", encoding="utf-8") as file:
+        file.write(page_of(shown, groups, sections))
