@@ -1,4 +1,4 @@
-"""A second checker of orders and refutations, and a search through all orders, written from the definitions of docs/MODEL.md."""
+"""A second checker of orders and refutations, and a search through all orders, written from the definitions of docs/believe/MODEL.md."""
 
 from __future__ import annotations
 

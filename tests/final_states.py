@@ -1,5 +1,5 @@
 """The final states of a program, by a search through all states of the store-buffer machine: written apart from the program
-`tsobench`, from docs/MODEL.md and the definition of the machine, to compare `tsobench outcomes` with it."""
+`tsobench`, from docs/believe/MODEL.md and the definition of the machine, to compare `tsobench outcomes` with it."""
 
 from __future__ import annotations
 

@@ -146,7 +146,7 @@ class Orders:
         return edges
 
     def infer_from_read(self, reached):
-        """Infers from-reads by paths, as the rule StorePast of docs/MODEL.md does. Whether there are more."""
+        """Infers from-reads by paths, as the rule StorePast of docs/believe/MODEL.md does. Whether there are more."""
         known = len(self.from_read)
         self.from_read |= {(load, store) for load, source in self.sources.items() for store in self.others(load)
                            if source is None or (source, store) in reached}

@@ -1,4 +1,4 @@
-/* Programs of loads, stores, swaps and barriers, and the traces that they leave. docs/FORMATS.md has their texts. */
+/* Programs of loads, stores, swaps and barriers, and the traces that they leave. docs/use/FORMATS.md has their texts. */
 #ifndef CAPTURE_PROGRAMS_H
 #define CAPTURE_PROGRAMS_H
 
