@@ -1,0 +1,129 @@
+//! Of the crates that answer a question about a text or a stream.
+
+use log_reports::{LogForm, LogOptions, LogVerdict, report_log};
+use outcome_reports::{OutcomeForm, OutcomeOptions, count_seen, list_outcomes};
+use progress_meters::NoMeter;
+use std::alloc::{AllocGlobal, Global};
+use std::io::{Read, Write};
+use std::sync::Wait;
+use std::thread::Threads;
+use trace_batches::{Batch, BatchFormat, BatchMethod, BatchOptions, BatchPrinting, BatchVerdict};
+use trace_decisions::{Answer, AsDecision, DecisionLimits, decide_input};
+use trace_judging::{Fault, Verdict, judge};
+use trace_reduction::reduce_trace;
+use tso_report::judge_recorded;
+use unit_core::Recorded;
+
+/// `trace_judging`: judges the trace of a reader by four workers.
+pub fn judge_a_reader<H: Threads + Wait + Sync, R: Read, W: Write>(
+    rt: &H,
+    alloc: Global,
+    reader: &mut R,
+    writer: &mut W,
+) -> Result<Verdict, Fault> {
+    let verdict = judge(rt, alloc, reader, writer, 4)?;
+    Ok(verdict)
+}
+
+/// `trace_decisions`: decides the trace of a reader.
+pub fn decide_a_reader<H: Threads + Wait, R: Read, W: Write>(
+    rt: &H,
+    alloc: Global,
+    reader: &mut R,
+    writer: &mut W,
+) -> Result<Answer, Fault> {
+    let limits = DecisionLimits {
+        workers: 1,
+        effort: 100_000,
+    };
+    let answer = decide_input(rt, alloc, reader, writer, limits, &AsDecision)?;
+    Ok(answer)
+}
+
+/// `trace_batches`: judges the traces of a reader by four workers.
+pub fn judge_many<H: Threads + Wait + Sync, R: Read, W: Write, E: Write>(
+    rt: &H,
+    alloc: Global,
+    reader: &mut R,
+    writer: &mut W,
+    errors: &mut E,
+) -> Result<BatchVerdict, Fault> {
+    let printing = BatchPrinting {
+        method: BatchMethod::Judge,
+        format: BatchFormat::Words,
+        quiet: false,
+        violations: false,
+    };
+    let options = BatchOptions {
+        workers: 4,
+        printing,
+    };
+    let mut batch = Batch::begin(alloc, options, writer)?;
+    batch.judge(rt, &NoMeter, None, reader, writer)?;
+    let verdict = batch.end(writer, errors)?;
+    Ok(verdict)
+}
+
+/// `log_reports`: finds violations of the log of a reader.
+pub fn report_a_log<H: Threads + Wait + AllocGlobal, R: Read, W: Write, E: Write>(
+    rt: &H,
+    reader: &mut R,
+    writer: &mut W,
+    errors: &mut E,
+) -> Result<LogVerdict, Fault> {
+    let options = LogOptions {
+        most: 10,
+        effort: 100,
+        form: LogForm::Explained,
+    };
+    let verdict = report_log(rt, options, &NoMeter, reader, writer, errors)?;
+    Ok(verdict)
+}
+
+/// `trace_reduction`: the few operations of a reader's violation that show it.
+pub fn reduce_a_violation<H: Threads + Wait, R: Read, W: Write, E: Write>(
+    rt: &H,
+    alloc: Global,
+    reader: &mut R,
+    writer: &mut W,
+    errors: &mut E,
+) -> Result<Verdict, Fault> {
+    let verdict = reduce_trace(rt, alloc, reader, writer, errors)?;
+    Ok(verdict)
+}
+
+/// `outcome_reports`: the final states of a reader's program.
+pub fn list_the_states<P: Read, W: Write>(
+    alloc: Global,
+    programs: &mut P,
+    writer: &mut W,
+) -> Result<BatchVerdict, Fault> {
+    let options = OutcomeOptions {
+        limit: 1_000_000,
+        form: OutcomeForm::States,
+    };
+    let verdict = list_outcomes(alloc, programs, writer, options)?;
+    Ok(verdict)
+}
+
+/// `outcome_reports`: how often a stream of traces shows each outcome of a program.
+pub fn count_the_outcomes<P: Read, S: Read, W: Write>(
+    alloc: Global,
+    programs: &mut P,
+    stream: &mut S,
+    writer: &mut W,
+) -> Result<BatchVerdict, Fault> {
+    let verdict = count_seen(alloc, programs, stream, writer, 1_000_000)?;
+    Ok(verdict)
+}
+
+/// `tso_report`: judges what a memory unit recorded.
+pub fn judge_a_record<H: Threads + Wait, W: Write>(
+    rt: &H,
+    alloc: Global,
+    recorded: &Recorded,
+    writer: &mut W,
+) -> Result<Verdict, Fault> {
+    let verdict = judge_recorded(rt, alloc, recorded, writer, 4)?;
+    Ok(verdict)
+}

@@ -1,0 +1,36 @@
+//! Of the model and the independent checkers.
+
+use cert_check::{CertFault, check};
+use order_check::{OrderFault, check_order};
+use refutation_check::{RefutationFault, check_refutation};
+use std::alloc::{AllocError, Global};
+use tso_cert::{BaseRule, Certificate};
+use tso_evidence::LineList;
+use tso_model::first_base_rule;
+use tso_ops::Trace;
+
+/// `tso_model`: the base rule that puts event 1 before event 2.
+pub fn rule_of_an_edge(trace: &Trace) -> Option<BaseRule> {
+    first_base_rule(trace, 1, 2)
+}
+
+/// `cert_check`: whether a certificate holds for a trace.
+pub fn check_a_certificate(trace: &Trace, certificate: &Certificate) -> Result<(), CertFault> {
+    check(trace, certificate)
+}
+
+/// `order_check`: whether an order of four events meets the axioms of a trace's model.
+pub fn check_an_order(alloc: Global, trace: &Trace) -> Result<Result<(), OrderFault>, AllocError> {
+    let answer = check_order(alloc, trace, &[4, 2, 3, 1])?;
+    Ok(answer)
+}
+
+/// `refutation_check`: whether lines are a refutation that holds for a trace.
+pub fn check_the_lines_of_a_refutation(
+    alloc: Global,
+    trace: &Trace,
+    lines: &LineList,
+) -> Result<Result<(), RefutationFault>, AllocError> {
+    let answer = check_refutation(alloc, trace, lines.items())?;
+    Ok(answer)
+}

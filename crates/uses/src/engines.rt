@@ -1,0 +1,89 @@
+//! Of the engines, which find from values.
+
+ghost use Rattle.std.specs.Prelude.{⊥, ℕ};
+ghost use Rattle.tso_ops.specs.Events.{IsUnwritten};
+
+use acyclic_traces::is_shown_acyclic;
+use chain_rules::{RoundCount, count_rounds};
+use final_states::{FinalState, StatesFault, final_states};
+use log_search::{Found, Search};
+use log_selections::{Kept, KnownLog, Selected};
+use log_text::Log;
+use order_graph::Graph;
+use progress_meters::NoMeter;
+use reference_rounds::rounds_number;
+use round_pool::{OpenPoolGate, PoolFault, Ranked, rounds};
+use std::alloc::{AllocError, Global};
+use std::sync::Wait;
+use std::thread::Threads;
+use tso_cert::Reason;
+use tso_ops::{Program, Trace};
+use tso_rules::justify;
+
+/// `acyclic_traces`: whether a short trace is shown to have no cycle.
+pub fn show_a_trace_acyclic(trace: &Trace) -> bool {
+    is_shown_acyclic(trace)
+}
+
+/// `chain_rules`: how many rounds a trace takes, by chains.
+pub fn count_the_rounds(alloc: Global, trace: &Trace) -> Result<RoundCount, AllocError>
+    requires written { (l : ℕ) → IsUnwritten trace.now l → ⊥ }
+{
+    let count = count_rounds(alloc, trace)?;
+    Ok(count)
+}
+
+/// `round_pool`: the rounds of a trace, by four workers.
+pub fn rank_edges<H: Threads + Wait>(
+    rt: &H,
+    alloc: Global,
+    trace: &Trace,
+) -> Result<Ranked, PoolFault>
+    requires written { (l : ℕ) → IsUnwritten trace.now l → ⊥ }
+{
+    let ranked = rounds(rt, alloc, trace, 4, &OpenPoolGate)?;
+    Ok(ranked)
+}
+
+/// `tso_rules`: why a rule gives the edge from event 1 to event 2.
+pub fn reason_of_an_edge(
+    alloc: Global,
+    trace: &Trace,
+    graph: &Graph,
+) -> Result<Option<Reason>, AllocError> {
+    let found = justify(alloc, trace, graph, 1, 2)?;
+    Ok(found)
+}
+
+/// `reference_rounds`: how many rounds a trace takes, by the definition.
+pub fn count_rounds_slowly(alloc: Global, trace: &Trace) -> Result<usize, AllocError> {
+    let number = rounds_number(alloc, trace)?;
+    Ok(number)
+}
+
+/// `final_states`: what complete runs of a program leave.
+pub fn states_of_a_program(
+    alloc: Global,
+    program: &Program,
+) -> Result<Vec<FinalState>, StatesFault> {
+    let states = final_states(alloc, program, 1_000_000)?;
+    Ok(states)
+}
+
+/// `log_selections`: the operations of a log that are kept, as a trace.
+pub fn select_of_a_log(
+    alloc: Global,
+    log: Log,
+    kept: &[Vec<Kept>],
+) -> Result<Option<Selected>, AllocError> {
+    let known = KnownLog::new(alloc, log)?;
+    let selected = known.select(alloc, kept)?;
+    Ok(selected)
+}
+
+/// `log_search`: the first operations of a log that should have no order.
+pub fn search_a_log(alloc: Global, known: &KnownLog) -> Result<Found, AllocError> {
+    let mut search = Search::new(alloc, known, 100)?;
+    let found = search.next(alloc, &NoMeter)?;
+    Ok(found)
+}

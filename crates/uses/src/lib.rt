@@ -1,0 +1,12 @@
+//! The calls that the READMEs of the crates show, so that they compile and are proved.
+#![tactic(auto)]
+
+pub mod answers;
+pub mod checkers;
+pub mod engines;
+pub mod generic;
+pub mod program;
+pub mod texts;
+pub mod theorems;
+pub mod units;
+pub mod words;

@@ -1,0 +1,46 @@
+//! Of the memory units, replays and runs.
+
+use issue_desk::{Issuers, OpenGate, RunFault, run};
+use std::alloc::{AllocError, Global};
+use std::sync::Wait;
+use std::thread::Threads;
+use tso_ops::{Act, Program};
+use unit_core::{Account, MemoryUnit, Recorded, replay};
+use unit_faulty::{FaultKind, FaultyUnit};
+use unit_kinds::StoreBufferUnit;
+
+/// `unit_kinds` and `unit_core`: a replay on a unit with store buffers of eight entries.
+pub fn replay_on_store_buffers(
+    alloc: Global,
+    program: &Program,
+    schedule: &[Act],
+    account: &mut Account,
+) -> Result<Recorded, AllocError> {
+    let unit = StoreBufferUnit::new(alloc, 8)?;
+    let unit: Box<dyn MemoryUnit + Send> = Box::new(alloc, unit)?;
+    let recorded = replay(alloc, unit, program, schedule, account)?;
+    Ok(recorded)
+}
+
+/// `unit_faulty`: a unit whose loads miss its store buffers, from the first occasion on.
+pub fn faulty_unit(alloc: Global) -> Result<FaultyUnit, AllocError> {
+    let unit = FaultyUnit::new(alloc, FaultKind::NoForward, 1, 8)?;
+    Ok(unit)
+}
+
+/// `issue_desk`: a run with a thread per processor on a unit with store buffers.
+pub fn run_on_store_buffers<R: Threads + Wait + Sync>(
+    rt: &R,
+    alloc: Global,
+    program: &Program,
+    account: &mut Account,
+) -> Result<Result<Recorded, RunFault>, AllocError> {
+    let unit = StoreBufferUnit::new(alloc, 8)?;
+    let unit: Box<dyn MemoryUnit + Send> = Box::new(alloc, unit)?;
+    let issuers = Issuers {
+        gate: &OpenGate,
+        drain_seed: 1,
+    };
+    let answer = run(rt, alloc, program, unit, issuers, account);
+    Ok(answer)
+}
