@@ -6,7 +6,7 @@ use refutation_check::{RefutationFault, check_refutation};
 use std::alloc::{AllocError, Global};
 use tso_cert::{BaseRule, Certificate};
 use tso_evidence::LineList;
-use tso_model::first_base_rule;
+use tso_model::conditions::first_base_rule;
 use tso_ops::Trace;
 
 /// `tso_model`: the base rule that puts event 1 before event 2.
