@@ -1,6 +1,6 @@
 //! Of the engines, which find from values.
 
-ghost use Rattle.std.specs.Prelude.{⊥, ℕ};
+ghost use Rattle.std.specs.Prelude.{ℕ};
 ghost use Rattle.tso_ops.specs.Events.{IsUnwritten};
 
 use acyclic_traces::is_shown_acyclic;
