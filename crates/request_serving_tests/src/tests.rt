@@ -1,44 +1,57 @@
+//! Requests over files in memory, from the arguments on, and what else the tests of this crate share.
+
+mod checks;
 mod decisions;
 mod diagnostics;
-mod drainer;
-mod failures;
-mod folders;
-mod interleaving;
+mod endings;
 mod logs;
-mod numbers;
 mod refused_allocations;
 mod replays;
-mod requests;
-mod statuses;
+mod threads;
+mod traces;
 
-use request_serving::{Diagnostics, drive, end_without_arguments};
+use command_line::Notes;
+use evidence_for_tests::{BUFFERING, BUFFERING_ORDER, TWELVE_EVENTS, TWELVE_REFUTED};
+use progress_meters::NoMeter;
+use request_serving::{Surroundings, drive_over};
 use std::alloc::{AllocError, Global};
-use std::fmt::Debug;
 use std::io;
 use std::io::{Error, ErrorKind, Read, Write};
 use std::process::Abort;
-use std::rt::{Clock, Files};
 use std::sync::Wait;
 use std::test::Fail;
 use std::thread::Threads;
 
-/// A reader that fails.
+/// A reader of these bytes, or one that fails.
 #[derive(Drop)]
-struct FailingReader;
+struct Input {
+    rest: &'static [u8],
+    fails: bool,
+}
 
-impl Read for FailingReader {
-    fn read(&mut self, _buf: &mut [u8]) -> io::Result<usize> {
-        Err(Error::from(ErrorKind::Other))
+impl Read for Input {
+    fn read(&mut self, buf: &mut [u8]) -> io::Result<usize> {
+        if self.fails {
+            return Err(Error::from(ErrorKind::Other));
+        }
+        self.rest.read(buf)
     }
 }
 
-/// A writer that fails.
+/// A writer that takes all bytes, or one that fails.
 #[derive(Drop)]
-struct FailingWriter;
+struct Output {
+    taken: Vec<u8>,
+    fails: bool,
+}
 
-impl Write for FailingWriter {
-    fn write(&mut self, _buf: &[u8]) -> io::Result<usize> {
-        Err(Error::from(ErrorKind::BrokenPipe))
+impl Write for Output {
+    fn write(&mut self, buf: &[u8]) -> io::Result<usize> {
+        if self.fails {
+            return Err(Error::from(ErrorKind::BrokenPipe));
+        }
+        self.taken.extend_from_slice(buf)?;
+        Ok(buf.len())
     }
 
     fn flush(&mut self) -> io::Result<()> {
@@ -46,110 +59,185 @@ impl Write for FailingWriter {
     }
 }
 
-/// What a run over memory gave.
+/// The files below, and the names that were to be opened, each with a semicolon after it.
 #[derive(Drop)]
-struct Ended {
-    status: u8,
-    written: Vec<u8>,
-    errors: Vec<u8>,
+struct MemoryFiles {
+    opened: String,
 }
 
-fn driven<H: Threads + Wait + Sync + Files + AllocGlobal + Eprint + Clock, R: Read>(
-    rt: &H,
-    alloc: Global,
-    arguments: &[&str],
-    reader: &mut R,
-) -> Result<Ended, AllocError> {
-    let mut owned = Vec::new(alloc);
-    for argument in arguments {
-        owned.push(String::from_str(alloc, argument)?)?;
+impl Surroundings for MemoryFiles {
+    type File = Input;
+
+    type Meter = NoMeter;
+
+    fn open(&mut self, name: &str) -> io::Result<Input> {
+        self.opened.push_str(name)?;
+        self.opened.push_str(";")?;
+        for (known, text) in TEXTS {
+            if known == name {
+                return Ok(Input {
+                    rest: text.as_bytes(),
+                    fails: false,
+                });
+            }
+        }
+        Err(Error::from(ErrorKind::NotFound))
     }
-    let mut written = Vec::new(alloc);
-    let mut errors = Vec::new(alloc);
-    let diagnostics = Diagnostics::new(rt, false);
-    let status = drive(rt, &owned, &diagnostics, reader, &mut written, &mut errors);
-    Ok(Ended {
-        status,
-        written,
-        errors,
-    })
+
+    fn begin(&self, _notes: Notes) {}
+
+    fn meter(&self, _parts: &'static str, _total: Option<u64>) -> NoMeter {
+        NoMeter
+    }
+
+    fn finish(&self) {}
 }
 
-/// What a run without arguments gives where the output can't be written.
-fn driven_to_a_failing_writer<
-    H: Threads + Wait + Sync + Files + AllocGlobal + Eprint + Clock,
-    R: Read,
->(rt: &H, alloc: Global, reader: &mut R) -> Ended {
-    let mut errors = Vec::new(alloc);
-    let diagnostics = Diagnostics::new(rt, false);
-    let status = drive(
+/// A trace without a violation, a violation, a refused text and what is no whole text.
+const STREAM: &str =
+    "tso trace 1\nproc\nst 1 1\nld 1 1\nend\ntso trace 1\nproc\nld 1 9\nend\n\nend\ntso trace 1\n";
+
+/// Message passing: the load of the flag is new, that of the data old.
+const MESSAGE_PASSING: &str = "0 st 4096 7\n0 st 8192 1\n1 ld 8192 1\n1 ld 4096 0\n";
+
+/// The texts of files, each with its name before it.
+const TEXTS: [(&str, &str); 15] = [
+    ("trace", "tso trace 1\nproc\nld 1 9\nend\n"),
+    ("certificate", "unwritten 1\n"),
+    ("program", "tso program 1\nproc\nst 1 1\nld 1\nend\n"),
+    ("schedule", "tso schedule 1\nend\n"),
+    ("log", "0 st 1 1\n1 ld 1 1\n"),
+    ("message_passing", MESSAGE_PASSING),
+    (
+        "pso_stores",
+        "tso program 1\nmodel pso\nproc\nst 1 1\nst 2 2\nproc\nld 2\nld 1\nend\n",
+    ),
+    (
+        "tso_stores",
+        "tso program 1\nproc\nst 1 1\nst 2 2\nproc\nld 2\nld 1\nend\n",
+    ),
+    (
+        "one_drain",
+        "tso schedule 1\ni 0\ni 0\nd 0\ni 1\ni 1\nend\n",
+    ),
+    ("stream", STREAM),
+    // a trace without a violation, a violation and a text that is refused
+    (
+        "two_stores",
+        "tso trace 1\nproc\nst 1 1\nst 1 2\nend\ntso trace 1\nproc\nld 1 9\nend\n\nend\n",
+    ),
+    // order_of_store_buffering
+    ("buffering", BUFFERING),
+    ("order", BUFFERING_ORDER),
+    // refutation_of_twelve_events
+    ("twelve", TWELVE_EVENTS),
+    ("refutation", TWELVE_REFUTED),
+];
+
+/// Arguments, between which stand blanks; the text on standard input, None where it fails; the names of the files that are
+/// opened, each with a semicolon after it; the status; and what is written to the output and to the errors.
+type Case = (
+    &'static str,
+    Option<&'static str>,
+    &'static str,
+    u8,
+    &'static str,
+    &'static str,
+);
+
+const READ: &str = "FAULT Read\n";
+
+const BAD_HEADER: &str = "REFUSED BadHeader line 1\n";
+
+/// There are fewer traces than the number that was asked for.
+const FEWER: &str = "REFUSED Nth\n";
+
+/// The words of a text.
+fn words(alloc: Global, text: &str) -> Result<Vec<String>, AllocError> {
+    let mut owned = Vec::new(alloc);
+    for word in text.split_whitespace() {
+        owned.push(String::from_str(alloc, word)?)?;
+    }
+    Ok(owned)
+}
+
+/// Compares what the arguments of a case come to, where the output or the errors can't be written if these say so.
+fn expect_case<H: Threads + Wait + Sync + AllocGlobal + Abort>(
+    rt: &H,
+    case: Case,
+    output_fails: bool,
+    errors_fail: bool,
+) -> Result<(), Fail> {
+    let (arguments, input, opened, status, written, told) = case;
+    let alloc = rt.alloc();
+    let mut files = MemoryFiles {
+        opened: String::new(alloc),
+    };
+    let mut reader = Input {
+        rest: input.unwrap_or("").as_bytes(),
+        fails: input.is_none(),
+    };
+    let mut output = Output {
+        taken: Vec::new(alloc),
+        fails: output_fails,
+    };
+    let mut errors = Output {
+        taken: Vec::new(alloc),
+        fails: errors_fail,
+    };
+    let owned = words(alloc, arguments)?;
+    let ended = drive_over(
         rt,
-        &[],
-        &diagnostics,
-        reader,
-        &mut FailingWriter,
+        &owned,
+        &mut files,
+        &mut reader,
+        &mut output,
         &mut errors,
     );
-    Ended {
-        status,
-        written: Vec::new(alloc),
-        errors,
-    }
+    assert_eq!(rt; ended, status, "{arguments}");
+    assert_eq!(rt; files.opened.as_str(), opened, "{arguments}");
+    assert_eq!(rt; output.taken.as_slice(), written.as_bytes(), "{arguments}");
+    assert_eq!(rt; errors.taken.as_slice(), told.as_bytes(), "{arguments}");
+    Ok(())
 }
 
-/// Compares how a run of these arguments or of this text ended.
-fn expect<H: Abort, T: Copy + Debug>(
+/// Compares what the arguments of each case come to.
+fn expect_cases<H: Threads + Wait + Sync + AllocGlobal + Abort>(
     rt: &H,
-    of: T,
-    ended: &Ended,
-    status: u8,
-    output: &str,
-    errors: &str,
-) {
-    assert_eq!(rt; ended.status, status, "{of:?}");
-    assert_eq!(rt; ended.written.as_slice(), output.as_bytes(), "{of:?}");
-    assert_eq!(rt; ended.errors.as_slice(), errors.as_bytes(), "{of:?}");
-}
-
-#[test]
-fn faults_have_a_line(rt: HostRuntime) -> Result<(), Fail> {
-    let alloc = rt.alloc();
-    let unread = driven(&rt, alloc, &[], &mut FailingReader)?;
-    expect(&rt, "no arguments", &unread, 4, "", "FAULT Read\n");
-    let unwritten = driven_to_a_failing_writer(&rt, alloc, &mut b"tso trace 1\nend\n".as_slice());
-    expect(&rt, "no arguments", &unwritten, 4, "", "FAULT Write\n");
+    cases: &[Case],
+) -> Result<(), Fail> {
+    for case in cases {
+        expect_case(rt, *case, false, false)?;
+    }
     Ok(())
 }
 
 #[test]
-fn faults_whose_line_cannot_be_written(rt: HostRuntime) {
-    let diagnostics = Diagnostics::new(&rt, false);
-    let status = drive(
-        &rt,
-        &[],
-        &diagnostics,
-        &mut FailingReader,
-        &mut FailingWriter,
-        &mut FailingWriter,
-    );
-    assert_eq!(rt; status, 4);
+fn requests(rt: HostRuntime) -> Result<(), Fail> {
+    expect_cases(&rt, &traces::CASES)?;
+    expect_cases(&rt, &checks::CASES)?;
+    expect_cases(&rt, &decisions::CASES)?;
+    expect_cases(&rt, &logs::CASES)?;
+    expect_cases(&rt, &replays::CASES)
 }
 
-fn ended_without_arguments(alloc: Global, kind: ErrorKind) -> Ended {
-    let mut errors = Vec::new(alloc);
-    let status = end_without_arguments(kind, &mut errors);
-    Ended {
-        status,
-        written: Vec::new(alloc),
-        errors,
-    }
-}
+/// Whether the output can't be written, whether the errors can't, and what the arguments then come to.
+const UNWRITTEN: [(bool, bool, Case); 4] = [
+    (
+        true,
+        false,
+        ("", Some("tso trace 1\nend\n"), "", 4, "", "FAULT Write\n"),
+    ),
+    (true, false, ("--version", None, "", 4, "", "FAULT Write\n")),
+    // the line of a fault, and a refusal
+    (true, true, ("", None, "", 4, "", "")),
+    (false, true, ("judge a b", None, "", 2, "", "")),
+];
 
 #[test]
-fn arguments_that_cannot_be_had(rt: HostRuntime) {
-    let line = "error: invalid UTF-8 was detected in one or more arguments\n";
-    let invalid = ended_without_arguments(rt.alloc(), ErrorKind::InvalidData);
-    expect(&rt, "not UTF-8", &invalid, 2, "", line);
-    let refused = ended_without_arguments(rt.alloc(), ErrorKind::OutOfMemory);
-    expect(&rt, "out of memory", &refused, 4, "", "FAULT OutOfMemory\n");
+fn texts_that_cannot_be_written(rt: HostRuntime) -> Result<(), Fail> {
+    for (output_fails, errors_fail, case) in UNWRITTEN {
+        expect_case(&rt, case, output_fails, errors_fail)?;
+    }
+    Ok(())
 }

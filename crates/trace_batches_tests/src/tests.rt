@@ -1,88 +1,187 @@
 //! Batches, and what the tests of them share.
-ghost use Rattle.std.specs.Prelude.{◌≡◌, ◌≤◌};
+ghost use Rattle.std.specs.Prelude.{◌≤◌};
 
 mod decided;
 mod faults;
-mod json;
-mod junit;
 mod names;
 mod numbers;
-mod pieces;
-mod refused_allocations;
 mod several;
-mod violations;
+mod streams;
 
+use progress_meters::NoMeter;
 use std::alloc::Global;
-use std::io::{Read, Write};
+use std::io::Write;
+use std::process::Abort;
 use std::sync::Wait;
-use std::test::Fail;
 use std::thread::Threads;
 use trace_batches::{
-    BatchFormat, BatchMethod, BatchOptions, BatchPrinting, BatchVerdict, judge_batch,
+    Batch, BatchFormat, BatchMethod, BatchOptions, BatchPrinting, BatchVerdict, judge_batch,
 };
 use trace_judging::Fault;
-use traces_for_tests::expect_equal;
+use traces_for_tests::{Full, ShortWriter};
+
+/// A text of a batch, and its name where lines have one.
+type NamedText = (Option<&'static str>, &'static str);
+
+/// Texts, what is printed of them, what the batch says, and what it writes to the output and to the errors.
+type Case = (
+    &'static [NamedText],
+    BatchPrinting,
+    BatchVerdict,
+    &'static str,
+    &'static str,
+);
+
+const WORDS: BatchPrinting = BatchPrinting {
+    method: BatchMethod::Judge,
+    format: BatchFormat::Words,
+    quiet: false,
+    violations: false,
+};
+
+const QUIET: BatchPrinting = BatchPrinting {
+    method: BatchMethod::Judge,
+    format: BatchFormat::Words,
+    quiet: true,
+    violations: false,
+};
+
+const VIOLATIONS: BatchPrinting = BatchPrinting {
+    method: BatchMethod::Judge,
+    format: BatchFormat::Words,
+    quiet: false,
+    violations: true,
+};
+
+const JSON: BatchPrinting = BatchPrinting {
+    method: BatchMethod::Judge,
+    format: BatchFormat::Json,
+    quiet: false,
+    violations: false,
+};
+
+const JUNIT: BatchPrinting = BatchPrinting {
+    method: BatchMethod::Judge,
+    format: BatchFormat::Junit,
+    quiet: false,
+    violations: false,
+};
 
 /// A trace without a violation, a violation and a refused text.
-const STREAM: &[u8] =
-    b"tso trace 1\nproc\nst 1 1\nld 1 1\nend\ntso trace 1\nproc\nld 1 9\nend\ntso trace 1\nproc\nld 01 0\nend\n";
+const STREAM: &str =
+    "tso trace 1\nproc\nst 1 1\nld 1 1\nend\ntso trace 1\nproc\nld 1 9\nend\ntso trace 1\nproc\nld 01 0\nend\n";
 
 /// What its batch writes.
-const TEXT: &[u8] =
-    b"trace 1 NO VIOLATION FOUND\ntrace 2 VIOLATION\ntrace 3 REFUSED BadNumber line 3\ntraces 3 violations 1 refused 1\n";
+const TEXT: &str =
+    "trace 1 NO VIOLATION FOUND\ntrace 2 VIOLATION\ntrace 3 REFUSED BadNumber line 3\ntraces 3 violations 1 refused 1\n";
 
-/// Compares what a batch came to, and what it wrote, where it was to write the first bytes of its text.
-fn expect(
-    case: usize,
+/// Its document.
+const DOCUMENT: &str =
+    "<?xml version=\"1.0\" encoding=\"UTF-8\"?>\n<testsuites>\n<testsuite name=\"tsobench batch\">\n<testcase classname=\"batch\" name=\"trace 1\"/>\n<testcase classname=\"batch\" name=\"trace 2\"><failure message=\"VIOLATION\"/></testcase>\n<testcase classname=\"batch\" name=\"trace 3\"><error message=\"REFUSED BadNumber line 3\"/></testcase>\n<system-out>traces 3 violations 1 refused 1</system-out>\n</testsuite>\n</testsuites>\n";
+
+/// A refused text, and one that is a violation.
+const OTHER: &str = "tso trace 1\nld 1 9\nend\ntso trace 1\nproc\nld 2 7\nmb\nend\n";
+
+/// Three texts, of which the second has no trace.
+const THREE: [NamedText; 3] = [
+    (Some("a"), STREAM),
+    (Some("none"), ""),
+    (Some("b/c.trace"), OTHER),
+];
+
+/// What their batch writes.
+const LINES: &str =
+    "a: trace 1 NO VIOLATION FOUND\na: trace 2 VIOLATION\na: trace 3 REFUSED BadNumber line 3\nb/c.trace: trace 1 REFUSED BeforeProc line 2\nb/c.trace: trace 2 VIOLATION\ntraces 5 violations 2 refused 2\n";
+
+/// Two violations, and before, between and after them a trace that is none and refused texts, each of which has a load of a
+/// value that nothing wrote.
+const SIX: &str =
+    "tso trace 1\nproc\nld 01 9\nend\ntso trace 1\nproc\nld 1 9\nend\ntso trace 1\nproc\nst 1 1\nld 1 1\nend\ntso trace 1\nld 1 9\nend\ntso trace 1\nproc\nld 2 7\nmb\nend\ntso trace 1\nproc\nld 1 9\n";
+
+/// The texts of its violations, and of those of the three texts.
+const TWO_VIOLATIONS: &str = "tso trace 1\nproc\nld 1 9\nend\ntso trace 1\nproc\nld 2 7\nmb\nend\n";
+
+/// Judges texts, one after the other, or a single one without a name as it is judged by itself.
+fn judged<H: Threads + Wait + Sync, W: Write, E: Write>(
+    rt: &H,
+    alloc: Global,
+    options: BatchOptions,
+    texts: &[NamedText],
+    writer: &mut W,
+    errors: &mut E,
+) -> Result<BatchVerdict, Fault>
+    requires { 1 ≤ options.workers }
+{
+    if let [(None, text)] = texts {
+        return judge_batch(rt, alloc, options, &mut text.as_bytes(), writer, errors);
+    }
+    let mut batch = Batch::begin(alloc, options, writer)?;
+    for (name, text) in texts {
+        batch.judge(rt, &NoMeter, *name, &mut text.as_bytes(), writer)?;
+    }
+    batch.end(writer, errors)
+}
+
+/// Compares what a batch said, and what it wrote.
+fn expect<H: Abort>(
+    rt: &H,
+    case: &str,
     said: Result<BatchVerdict, Fault>,
     expected: Result<BatchVerdict, Fault>,
     written: &[u8],
-    text: &[u8],
-) -> Result<(), Fail> {
-    expect_equal(case, said, expected)?;
-    expect_equal(case, written, text)
+    text: &str,
+) {
+    assert_eq!(rt; said, expected, "{case}");
+    assert_eq!(rt; written, text.as_bytes(), "{case}");
 }
 
-/// How a batch is judged and printed, in words.
-fn options(workers: usize, quiet: bool, violations: bool) -> BatchOptions
-    ensures { result.workers ≡ workers }
-{
-    let printing = BatchPrinting {
-        method: BatchMethod::Judge,
-        format: BatchFormat::Words,
-        quiet,
-        violations,
-    };
-    BatchOptions { workers, printing }
-}
-
-/// Judges a batch with one worker, and writes all lines.
-fn judged<H: Threads + Wait + Sync, R: Read, W: Write>(
+/// Compares what a batch of a case comes to with so many workers, where the output and the errors have so much room. Where
+/// either is less than is to be written, that fails.
+fn expect_batch<H: Threads + Wait + Sync + Abort>(
     rt: &H,
     alloc: Global,
-    reader: &mut R,
-    writer: &mut W,
-) -> Result<BatchVerdict, Fault> {
-    judged_by(rt, alloc, reader, writer, 1)
-}
-
-/// Judges a batch with so many workers, and writes all lines. It answers Missing, which is no fault of batches, where something
-/// was written to the errors.
-fn judged_by<H: Threads + Wait + Sync, R: Read, W: Write>(
-    rt: &H,
-    alloc: Global,
-    reader: &mut R,
-    writer: &mut W,
+    case: Case,
     workers: usize,
-) -> Result<BatchVerdict, Fault>
-    requires { 1 ≤ workers }
-{
-    let options = options(workers, false, false);
-    let mut errors = Vec::new(alloc);
-    let said = judge_batch(rt, alloc, options, reader, writer, &mut errors);
-    if errors.is_empty() {
-        said
+    room: usize,
+    errors_room: usize,
+) {
+    let (texts, printing, verdict, text, notes) = case;
+    let mut writer = ShortWriter::new(alloc, room, Full::TakesNothing);
+    let mut errors = ShortWriter::new(alloc, errors_room, Full::TakesNothing);
+    let workers = workers.max(1);
+    let options = BatchOptions { workers, printing };
+    let said = judged(rt, alloc, options, texts, &mut writer, &mut errors);
+    let written = text.get(..room).unwrap_or(text);
+    let is_whole = room >= text.len() && errors_room >= notes.len();
+    let expected = if is_whole {
+        Ok(verdict)
     } else {
-        Err(Fault::Missing(0))
+        Err(Fault::Write)
+    };
+    expect(rt, text, said, expected, &writer.taken, written);
+    // nothing is written to the errors where the output failed
+    let told = match notes.get(..errors_room) {
+        _ if room < text.len() => "",
+        Some(first) => first,
+        None => notes,
+    };
+    assert_eq!(rt; errors.taken.as_slice(), told.as_bytes(), "{text}");
+}
+
+/// Compares what batches of these cases come to with each of several numbers of workers.
+fn expect_cases<H: Threads + Wait + Sync + Abort>(rt: &H, alloc: Global, cases: &[Case]) {
+    for case in cases {
+        expect_batch(rt, alloc, *case, 1, usize::MAX, usize::MAX);
+        expect_batch(rt, alloc, *case, 2, usize::MAX, usize::MAX);
+        expect_batch(rt, alloc, *case, 7, usize::MAX, usize::MAX);
+        expect_batch(rt, alloc, *case, 64, usize::MAX, usize::MAX);
     }
+}
+
+#[test]
+fn batches(rt: HostRuntime) {
+    expect_cases(&rt, rt.alloc(), &streams::CASES);
+    expect_cases(&rt, rt.alloc(), &several::CASES);
+    expect_cases(&rt, rt.alloc(), &decided::CASES);
+    expect_cases(&rt, rt.alloc(), &names::CASES);
 }

@@ -1,21 +1,16 @@
-//! Reports and certificates, and what the tests of them share.
+//! What no text of a trace shows of reports: readers and writers that fail, records of memory units, traces that are drawn, and
+//! refused allocations. Reports of texts and of certificates are in `program-cases/` and `examples/`.
 
-mod build_cert;
-mod check;
 mod drawn_replays;
-mod find_violation;
-mod judge;
-mod judge_recorded;
-mod judge_trace;
-mod judge_violations;
-mod print_account;
+mod drawn_traces;
+mod readers;
+mod records;
 mod refused_allocations;
-mod stream_faults;
-mod workers;
+mod texts;
+mod writers;
 
 use std::alloc::{AllocError, Global};
-use std::test::Fail;
-use traces_for_tests::expect_equal;
+use std::process::Abort;
 use tso_report::{Fault, Verdict};
 
 /// What a call came to, and what was written.
@@ -26,33 +21,25 @@ struct Ended {
 }
 
 /// Compares the bytes of this case.
-fn expect_bytes(case: &str, found: &[u8], expected: &[u8]) -> Result<(), Fail> {
-    expect_equal(case, found, expected)
-}
-
-/// Compares what a call of this case came to.
-fn expect_said(
-    case: &str,
-    said: Result<Verdict, Fault>,
-    expected: Result<Verdict, Fault>,
-) -> Result<(), Fail> {
-    expect_equal(case, said, expected)
-}
-
-/// Compares a number of this case, of calls or of bytes.
-fn expect_count(case: &str, found: usize, expected: usize) -> Result<(), Fail> {
-    expect_equal(case, found, expected)
+fn expect_bytes<H: Abort>(rt: &H, case: &str, found: &[u8], expected: &[u8]) {
+    assert_eq!(rt; found, expected, "{case}");
 }
 
 /// Compares what a call of this case came to, and what it wrote.
-fn expect(
+fn expect<H: Abort>(
+    rt: &H,
     case: &str,
     ended: &Ended,
     said: Result<Verdict, Fault>,
-    written: &[u8],
-) -> Result<(), Fail> {
-    expect_said(case, ended.said, said)?;
-    expect_bytes(case, &ended.written, written)
+    written: &str,
+) {
+    assert_eq!(rt; ended.said, said, "{case}");
+    expect_bytes(rt, case, &ended.written, written.as_bytes());
+}
+
+/// Compares a number of this case, of calls or of bytes.
+fn expect_count<H: Abort>(rt: &H, case: &str, found: usize, expected: usize) {
+    assert_eq!(rt; found, expected, "{case}");
 }
 
 /// The report on so many processors, events and rounds without a violation.

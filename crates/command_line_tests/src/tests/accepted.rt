@@ -1,243 +1,172 @@
-//! Arguments that ask for something that the program does.
+//! Arguments that ask for something that the program does, and what they ask for.
+//!
+//! What arguments in a usual spelling ask for is proved (`asked` of `read_arguments`); here are, of each subcommand, those with `--` or
+//! a sign, and a few with all options, whose requests were written down without the definitions.
 
-use super::{asked, expect_each};
+use super::expect_each;
 use std::test::Fail;
 
-/// Arguments, and what they ask for.
-const ACCEPTED: [(&[&str], &str); 58] = [
-    (&[], "Report of None with 1"),
-    (&["judge"], "Report of None with 1"),
-    (&["judge", "a.trace"], "Report of Some(\"a.trace\") with 1"),
-    (&["judge", "-"], "Report of None with 1"),
-    (&["judge", "./-"], "Report of Some(\"./-\") with 1"),
-    (&["judge", "--", "-"], "Report of None with 1"),
-    (&["judge", "--", "--"], "Report of Some(\"--\") with 1"),
-    (&["judge", "--workers", "64"], "Report of None with 64"),
+/// Arguments about traces and logs.
+const TRACES: [(&[&str], &str); 36] = [
     (
-        &["judge", "--workers", "7", "a b"],
-        "Report of Some(\"a b\") with 7",
+        &[],
+        "Judge(JudgeRequest { file: None, workers: 1, nth: None, presentation: Report })",
     ),
     (
-        &["judge", "a b", "--workers", "7"],
-        "Report of Some(\"a b\") with 7",
+        &["judge"],
+        "Judge(JudgeRequest { file: None, workers: 1, nth: None, presentation: Report })",
+    ),
+    (
+        &["judge", "--", "-"],
+        "Judge(JudgeRequest { file: None, workers: 1, nth: None, presentation: Report })",
+    ),
+    (
+        &["judge", "--", "--"],
+        "Judge(JudgeRequest { file: Some(\"--\"), workers: 1, nth: None, presentation: Report })",
     ),
     (
         &["judge", "--workers=2", "--", "-x"],
-        "Report of Some(\"-x\") with 2",
+        "Judge(JudgeRequest { file: Some(\"-x\"), workers: 2, nth: None, presentation: Report })",
     ),
     (
-        &["judge", "--workers=64", "x"],
-        "Report of Some(\"x\") with 64",
+        &["judge", "--workers", "+007"],
+        "Judge(JudgeRequest { file: None, workers: 7, nth: None, presentation: Report })",
     ),
-    (&["judge", "--workers", "+007"], "Report of None with 7"),
-    (&["judge", "check"], "Report of Some(\"check\") with 1"),
-    (&["judge", "--nth", "1"], "Report of None nth 1 with 1"),
     (
         &["judge", "s", "--nth=18446744073709551615", "--workers", "2"],
-        "Report of Some(\"s\") nth 18446744073709551615 with 2",
+        "Judge(JudgeRequest { file: Some(\"s\"), workers: 2, nth: Some(18446744073709551615), presentation: Report })",
     ),
     (
         &["explain", "--nth", "+03", "s"],
-        "Explanation of Some(\"s\") nth 3 with 1",
+        "Judge(JudgeRequest { file: Some(\"s\"), workers: 1, nth: Some(3), presentation: Explanation })",
     ),
-    (&["draw", "--nth=2"], "Picture of None nth 2 with 1"),
-    (&["check", "t", "c"], "check \"t\" against \"c\""),
+    (
+        &["draw", "--nth=2"],
+        "Judge(JudgeRequest { file: None, workers: 1, nth: Some(2), presentation: Picture })",
+    ),
     (
         &["check", "--nth", "2", "-", "c"],
-        "check standard input nth 2 against \"c\"",
+        "Check(CheckRequest { texts: InputAndFile(\"c\"), nth: Some(2) })",
     ),
     (
-        &["check", "t", "-", "--nth=7"],
-        "check \"t\" nth 7 against standard input",
-    ),
-    (&["check", "-", "c"], "check standard input against \"c\""),
-    (&["check", "t", "-"], "check \"t\" against standard input"),
-    (
-        &["check", "./-", "-"],
-        "check \"./-\" against standard input",
-    ),
-    (&["explain", "-"], "Explanation of None with 1"),
-    (&["draw", "-"], "Picture of None with 1"),
-    (&["explain"], "Explanation of None with 1"),
-    (&["explain", "t"], "Explanation of Some(\"t\") with 1"),
-    (
-        &["explain", "t", "--workers=64"],
-        "Explanation of Some(\"t\") with 64",
+        &["explain"],
+        "Judge(JudgeRequest { file: None, workers: 1, nth: None, presentation: Explanation })",
     ),
     (
         &["explain", "--workers", "2", "--", "-x"],
-        "Explanation of Some(\"-x\") with 2",
+        "Judge(JudgeRequest { file: Some(\"-x\"), workers: 2, nth: None, presentation: Explanation })",
     ),
-    (&["draw"], "Picture of None with 1"),
-    (&["reduce"], "reduce None nth None"),
-    (&["reduce", "-"], "reduce None nth None"),
+    (
+        &["draw"],
+        "Judge(JudgeRequest { file: None, workers: 1, nth: None, presentation: Picture })",
+    ),
+    (
+        &["reduce"],
+        "Reduce(ReduceRequest { file: None, nth: None })",
+    ),
     (
         &["reduce", "--nth", "2", "t"],
-        "reduce Some(\"t\") nth Some(2)",
+        "Reduce(ReduceRequest { file: Some(\"t\"), nth: Some(2) })",
     ),
-    (&["reduce", "--", "-x"], "reduce Some(\"-x\") nth None"),
+    (
+        &["reduce", "--", "-x"],
+        "Reduce(ReduceRequest { file: Some(\"-x\"), nth: None })",
+    ),
     (
         &["draw", "--workers", "3", "t"],
-        "Picture of Some(\"t\") with 3",
+        "Judge(JudgeRequest { file: Some(\"t\"), workers: 3, nth: None, presentation: Picture })",
     ),
     (
         &["batch"],
-        "batch [None] with 1 Words quiet false violations false",
-    ),
-    (
-        &["batch", "--quiet"],
-        "batch [None] with 1 Words quiet true violations false",
-    ),
-    (
-        &["batch", "s", "--quiet", "--workers", "4"],
-        "batch [Some(\"s\")] with 4 Words quiet true violations false",
-    ),
-    (
-        &["batch", "--workers=64", "s"],
-        "batch [Some(\"s\")] with 64 Words quiet false violations false",
-    ),
-    (
-        &["batch", "--violations"],
-        "batch [None] with 1 Words quiet false violations true",
-    ),
-    (
-        &["batch", "--violations", "--quiet", "s"],
-        "batch [Some(\"s\")] with 1 Words quiet true violations true",
-    ),
-    (
-        &["batch", "--format", "json"],
-        "batch [None] with 1 Json quiet false violations false",
-    ),
-    (
-        &["batch", "--format=words", "--violations"],
-        "batch [None] with 1 Words quiet false violations true",
-    ),
-    (
-        &["batch", "-"],
-        "batch [None] with 1 Words quiet false violations false",
-    ),
-    (
-        &["batch", "a", "b"],
-        "batch [Some(\"a\"), Some(\"b\")] with 1 Words quiet false violations false",
+        "Batch(BatchRequest { texts: [None], workers: 1, printing: BatchPrinting { format: Words, quiet: false, violations: false, effort: None } })",
     ),
     (
         &["batch", "a", "--quiet", "-", "--workers=2", "a", "c d"],
-        "batch [Some(\"a\"), None, Some(\"a\"), Some(\"c d\")] with 2 Words quiet true violations false",
-    ),
-    (
-        &["batch", "--violations", "a", "--format", "json", "b"],
-        "batch [Some(\"a\"), Some(\"b\")] with 1 Json quiet false violations true",
+        "Batch(BatchRequest { texts: [Some(\"a\"), None, Some(\"a\"), Some(\"c d\")], workers: 2, printing: BatchPrinting { format: Words, quiet: true, violations: false, effort: None } })",
     ),
     (
         &["batch", "--", "--quiet", "-", "batch"],
-        "batch [Some(\"--quiet\"), None, Some(\"batch\")] with 1 Words quiet false violations false",
+        "Batch(BatchRequest { texts: [Some(\"--quiet\"), None, Some(\"batch\")], workers: 1, printing: BatchPrinting { format: Words, quiet: false, violations: false, effort: None } })",
     ),
     (
-        &["batch", "judge", "help"],
-        "batch [Some(\"judge\"), Some(\"help\")] with 1 Words quiet false violations false",
+        &["log"],
+        "Log(LogRequest { file: None, options: LogOptions { most: 10, effort: 100, form: Lines } })",
     ),
-    (
-        &["batch", "", "b"],
-        "batch [Some(\"\"), Some(\"b\")] with 1 Words quiet false violations false",
-    ),
-    (
-        &["batch", "--format", "junit"],
-        "batch [None] with 1 Junit quiet false violations false",
-    ),
-    (
-        &["batch", "--format=junit", "--quiet", "a", "b"],
-        "batch [Some(\"a\"), Some(\"b\")] with 1 Junit quiet true violations false",
-    ),
-    (&["log"], "log None at most 10 by 100 as Lines"),
-    (&["log", "l"], "log Some(\"l\") at most 10 by 100 as Lines"),
     (
         &["log", "l", "--most", "1", "--effort", "0", "--explain"],
-        "log Some(\"l\") at most 1 by 0 as Explained",
+        "Log(LogRequest { file: Some(\"l\"), options: LogOptions { most: 1, effort: 0, form: Explained } })",
     ),
     (
         &["log", "--trace", "--effort=1000000", "--most=1000000", "l"],
-        "log Some(\"l\") at most 1000000 by 1000000 as Traces",
-    ),
-    (&["log", "-"], "log None at most 10 by 100 as Lines"),
-];
-
-#[test]
-fn accepted_arguments(rt: HostRuntime) -> Result<(), Fail> {
-    expect_each(&rt, rt.alloc(), "", &ACCEPTED)
-}
-
-/// Arguments of `replay`, and what they ask for.
-const REPLAYS: [(&[&str], &str); 20] = [
-    (
-        &["replay", "--unit", "serial", "p", "-"],
-        "replay \"p\" by standard input on Serial 8 1 with 1 printing Report",
+        "Log(LogRequest { file: Some(\"l\"), options: LogOptions { most: 1000000, effort: 1000000, form: Traces } })",
     ),
     (
-        &["replay", "--unit", "serial", "p", "s"],
-        "replay \"p\" by \"s\" on Serial 8 1 with 1 printing Report",
+        &["decide"],
+        "Decide(DecideRequest { file: None, workers: 1, nth: None, effort: 100000, presentation: Report })",
     ),
     (
-        &["replay", "--unit", "buffer", "p", "s"],
-        "replay \"p\" by \"s\" on Buffer 8 1 with 1 printing Report",
+        &["decide", "--", "-x"],
+        "Decide(DecideRequest { file: Some(\"-x\"), workers: 1, nth: None, effort: 100000, presentation: Report })",
     ),
     (
-        &["replay", "--capacity=4", "p", "s", "--unit", "partial"],
-        "replay \"p\" by \"s\" on Partial 4 1 with 1 printing Report",
-    ),
-    (
-        &["replay", "--capacity=64", "--unit=buffer", "p", "s"],
-        "replay \"p\" by \"s\" on Buffer 64 1 with 1 printing Report",
-    ),
-    (
-        &["replay", "--unit=serial", "p", "s"],
-        "replay \"p\" by \"s\" on Serial 8 1 with 1 printing Report",
-    ),
-    (
-        &["replay", "p", "--unit", "serial", "s"],
-        "replay \"p\" by \"s\" on Serial 8 1 with 1 printing Report",
-    ),
-    (
-        &["replay", "p", "s", "--unit=serial"],
-        "replay \"p\" by \"s\" on Serial 8 1 with 1 printing Report",
-    ),
-    (
-        &["replay", "--unit", "serial", "--capacity", "1", "p", "s"],
-        "replay \"p\" by \"s\" on Serial 1 1 with 1 printing Report",
-    ),
-    (
-        &["replay", "--capacity=64", "--unit", "serial", "p", "s"],
-        "replay \"p\" by \"s\" on Serial 64 1 with 1 printing Report",
+        &["decide", "t", "--effort", "+007"],
+        "Decide(DecideRequest { file: Some(\"t\"), workers: 1, nth: None, effort: 7, presentation: Report })",
     ),
     (
         &[
-            "replay",
-            "p",
-            "--trigger",
-            "18446744073709551615",
+            "decide",
+            "--nth=3",
+            "--workers=4",
             "s",
-            "--unit=serial",
+            "--effort",
+            "5",
+            "--verbose",
         ],
-        "replay \"p\" by \"s\" on Serial 8 18446744073709551615 with 1 printing Report",
+        "Decide(DecideRequest { file: Some(\"s\"), workers: 4, nth: Some(3), effort: 5, presentation: Report })",
     ),
     (
-        &["replay", "--unit=serial", "--trigger=7", "p", "s"],
-        "replay \"p\" by \"s\" on Serial 8 7 with 1 printing Report",
+        &["explain", "--decide", "--effort", "7", "t"],
+        "Decide(DecideRequest { file: Some(\"t\"), workers: 1, nth: None, effort: 7, presentation: Explanation })",
     ),
     (
-        &["replay", "p", "s", "--workers", "64", "--unit", "serial"],
-        "replay \"p\" by \"s\" on Serial 8 1 with 64 printing Report",
+        &["explain", "s", "--nth=2", "--decide", "--workers=3"],
+        "Decide(DecideRequest { file: Some(\"s\"), workers: 3, nth: Some(2), effort: 100000, presentation: Explanation })",
     ),
+    (
+        &["draw", "--decide", "-"],
+        "Decide(DecideRequest { file: None, workers: 1, nth: None, effort: 100000, presentation: Picture })",
+    ),
+    (
+        &["draw", "t", "--effort=0", "--decide", "--verbose"],
+        "Decide(DecideRequest { file: Some(\"t\"), workers: 1, nth: None, effort: 0, presentation: Picture })",
+    ),
+    (
+        &["batch", "--decide", "--effort", "3", "--quiet", "a", "b"],
+        "Batch(BatchRequest { texts: [Some(\"a\"), Some(\"b\")], workers: 1, printing: BatchPrinting { format: Words, quiet: true, violations: false, effort: Some(3) } })",
+    ),
+    (
+        &["batch", "--violations", "--decide", "--format=json", "s"],
+        "Batch(BatchRequest { texts: [Some(\"s\")], workers: 1, printing: BatchPrinting { format: Json, quiet: false, violations: true, effort: Some(100000) } })",
+    ),
+    (
+        &["verify", "--nth", "2", "-", "e"],
+        "Verify(CheckRequest { texts: InputAndFile(\"e\"), nth: Some(2) })",
+    ),
+    (
+        &["verify", "t", "--verbose", "e"],
+        "Verify(CheckRequest { texts: Files(\"t\", \"e\"), nth: None })",
+    ),
+    (
+        &["verify", "--", "-x", "-y"],
+        "Verify(CheckRequest { texts: Files(\"-x\", \"-y\"), nth: None })",
+    ),
+];
+
+/// Arguments about programs.
+const PROGRAMS: [(&[&str], &str); 19] = [
     (
         &["replay", "--trace", "--unit", "serial", "-", "a b"],
-        "replay standard input by \"a b\" on Serial 8 1 with 1 printing Trace",
-    ),
-    (
-        &["replay", "--unit", "serial", "p", "--explain", "s"],
-        "replay \"p\" by \"s\" on Serial 8 1 with 1 printing Explanation",
-    ),
-    (
-        &["replay", "--unit", "serial", "p", "s", "--trace"],
-        "replay \"p\" by \"s\" on Serial 8 1 with 1 printing Trace",
+        "Replay { options: RunOptions { unit: UnitOptions { kind: Serial, capacity: 8, trigger: 1 }, workers: 1, printing: Trace, with_trace: false }, texts: InputAndFile(\"a b\") }",
     ),
     (
         &[
@@ -252,11 +181,7 @@ const REPLAYS: [(&[&str], &str); 20] = [
             "--unit",
             "serial",
         ],
-        "replay \"p\" by \"s\" on Serial 4 3 with 2 printing Trace",
-    ),
-    (
-        &["replay", "--unit", "serial", "p", "--with-trace", "s"],
-        "replay \"p\" by \"s\" on Serial 8 1 with 1 printing Report and the trace",
+        "Replay { options: RunOptions { unit: UnitOptions { kind: Serial, capacity: 4, trigger: 3 }, workers: 2, printing: Trace, with_trace: false }, texts: Files(\"p\", \"s\") }",
     ),
     (
         &[
@@ -267,161 +192,23 @@ const REPLAYS: [(&[&str], &str); 20] = [
             "p",
             "s",
         ],
-        "replay \"p\" by \"s\" on Serial 8 1 with 1 printing Explanation and the trace",
+        "Replay { options: RunOptions { unit: UnitOptions { kind: Serial, capacity: 8, trigger: 1 }, workers: 1, printing: Explanation, with_trace: true }, texts: Files(\"p\", \"s\") }",
     ),
     (
         &["replay", "--unit", "serial", "--", "--trace", "-s"],
-        "replay \"--trace\" by \"-s\" on Serial 8 1 with 1 printing Report",
-    ),
-];
-
-#[test]
-fn accepted_replays(rt: HostRuntime) -> Result<(), Fail> {
-    expect_each(&rt, rt.alloc(), "", &REPLAYS)
-}
-
-/// Arguments of `run`, and what they ask for.
-const RUNS: [(&[&str], &str); 24] = [
-    (
-        &["run", "--unit", "serial", "--seed", "1", "p"],
-        "run \"p\" seeded 1 and 0 turns on Serial 8 1 with 1 printing Report",
-    ),
-    (
-        &[
-            "run",
-            "--unit",
-            "serial",
-            "--seed",
-            "1",
-            "p",
-            "--with-trace",
-        ],
-        "run \"p\" seeded 1 and 0 turns on Serial 8 1 with 1 printing Report and the trace",
-    ),
-    (
-        &["run", "--unit", "buffer", "--seed", "1", "p"],
-        "run \"p\" seeded 1 and 0 turns on Buffer 8 1 with 1 printing Report",
-    ),
-    (
-        &["run", "--unit=partial", "--seed", "1", "p"],
-        "run \"p\" seeded 1 and 0 turns on Partial 8 1 with 1 printing Report",
-    ),
-    (
-        &["run", "--seed=0", "--unit=lost-drain", "p"],
-        "run \"p\" seeded 0 and 0 turns on Faulty(LostDrain) 8 1 with 1 printing Report",
-    ),
-    (
-        &[
-            "run",
-            "--seed",
-            "18446744073709551615",
-            "--unit=serial",
-            "p",
-        ],
-        "run \"p\" seeded 18446744073709551615 and 0 turns on Serial 8 1 with 1 printing Report",
-    ),
-    (
-        &["run", "--seed", "9223372036854775808", "p", "--unit=serial"],
-        "run \"p\" seeded 9223372036854775808 and 0 turns on Serial 8 1 with 1 printing Report",
-    ),
-    (
-        &["run", "p", "--seed", "7", "--unit", "serial"],
-        "run \"p\" seeded 7 and 0 turns on Serial 8 1 with 1 printing Report",
-    ),
-    (
-        &["run", "p", "--unit=serial", "--seed=7"],
-        "run \"p\" seeded 7 and 0 turns on Serial 8 1 with 1 printing Report",
-    ),
-    (
-        &["run", "--capacity=64", "--seed=7", "p", "--unit=buffer"],
-        "run \"p\" seeded 7 and 0 turns on Buffer 64 1 with 1 printing Report",
-    ),
-    (
-        &["run", "--trace", "--unit", "serial", "--seed=7", "-"],
-        "run \"standard input\" seeded 7 and 0 turns on Serial 8 1 with 1 printing Trace",
+        "Replay { options: RunOptions { unit: UnitOptions { kind: Serial, capacity: 8, trigger: 1 }, workers: 1, printing: Report, with_trace: false }, texts: Files(\"--trace\", \"-s\") }",
     ),
     (
         &["run", "--explain", "--unit", "serial", "--seed=7", "p"],
-        "run \"p\" seeded 7 and 0 turns on Serial 8 1 with 1 printing Explanation",
-    ),
-    (
-        &["run", "--unit", "serial", "a b", "--trace", "--seed=7"],
-        "run \"a b\" seeded 7 and 0 turns on Serial 8 1 with 1 printing Trace",
-    ),
-    (
-        &[
-            "run",
-            "--workers=2",
-            "--trace",
-            "--trigger",
-            "3",
-            "p",
-            "--seed",
-            "5",
-            "--capacity=4",
-            "--unit",
-            "serial",
-        ],
-        "run \"p\" seeded 5 and 0 turns on Serial 4 3 with 2 printing Trace",
+        "Run(RunRequest { options: RunOptions { unit: UnitOptions { kind: Serial, capacity: 8, trigger: 1 }, workers: 1, printing: Explanation, with_trace: false }, drain_seed: 7, drain_turns: 0, program: Some(\"p\") })",
     ),
     (
         &["run", "--unit", "serial", "--seed=+007", "p"],
-        "run \"p\" seeded 7 and 0 turns on Serial 8 1 with 1 printing Report",
+        "Run(RunRequest { options: RunOptions { unit: UnitOptions { kind: Serial, capacity: 8, trigger: 1 }, workers: 1, printing: Report, with_trace: false }, drain_seed: 7, drain_turns: 0, program: Some(\"p\") })",
     ),
     (
         &["run", "--unit", "serial", "--seed=7", "--", "--trace"],
-        "run \"--trace\" seeded 7 and 0 turns on Serial 8 1 with 1 printing Report",
-    ),
-    (
-        &[
-            "run",
-            "--drain-turns",
-            "7",
-            "--unit=serial",
-            "--seed=1",
-            "p",
-        ],
-        "run \"p\" seeded 1 and 7 turns on Serial 8 1 with 1 printing Report",
-    ),
-    (
-        &["run", "--unit=serial", "--seed=1", "p", "--drain-turns=7"],
-        "run \"p\" seeded 1 and 7 turns on Serial 8 1 with 1 printing Report",
-    ),
-    (
-        &["run", "--unit=buffer", "--seed=7", "--drain-turns=0", "p"],
-        "run \"p\" seeded 7 and 0 turns on Buffer 8 1 with 1 printing Report",
-    ),
-    (
-        &[
-            "run",
-            "--unit=buffer",
-            "--drain-turns",
-            "1",
-            "p",
-            "--seed=0",
-        ],
-        "run \"p\" seeded 0 and 1 turns on Buffer 8 1 with 1 printing Report",
-    ),
-    (
-        &[
-            "run",
-            "p",
-            "--drain-turns",
-            "1000000",
-            "--seed=7",
-            "--unit=serial",
-        ],
-        "run \"p\" seeded 7 and 1000000 turns on Serial 8 1 with 1 printing Report",
-    ),
-    (
-        &[
-            "run",
-            "--drain-turns=1000000",
-            "p",
-            "--seed=7",
-            "--unit=serial",
-        ],
-        "run \"p\" seeded 7 and 1000000 turns on Serial 8 1 with 1 printing Report",
+        "Run(RunRequest { options: RunOptions { unit: UnitOptions { kind: Serial, capacity: 8, trigger: 1 }, workers: 1, printing: Report, with_trace: false }, drain_seed: 7, drain_turns: 0, program: Some(\"--trace\") })",
     ),
     (
         &[
@@ -431,7 +218,7 @@ const RUNS: [(&[&str], &str); 24] = [
             "--drain-turns=+007",
             "p",
         ],
-        "run \"p\" seeded 7 and 7 turns on Serial 8 1 with 1 printing Report",
+        "Run(RunRequest { options: RunOptions { unit: UnitOptions { kind: Serial, capacity: 8, trigger: 1 }, workers: 1, printing: Report, with_trace: false }, drain_seed: 7, drain_turns: 7, program: Some(\"p\") })",
     ),
     (
         &[
@@ -446,107 +233,43 @@ const RUNS: [(&[&str], &str); 24] = [
             "--seed=6",
             "--unit=lost-drain",
         ],
-        "run \"p\" seeded 6 and 5 turns on Faulty(LostDrain) 4 3 with 2 printing Trace",
-    ),
-];
-
-#[test]
-fn accepted_runs(rt: HostRuntime) -> Result<(), Fail> {
-    expect_each(&rt, rt.alloc(), "", &RUNS)
-}
-
-/// Arguments of `make`, and what they ask for.
-const MADE: [(&[&str], &str); 12] = [
-    (
-        &[
-            "make", "--seed", "7", "--procs", "2", "--ops", "4", "--addrs", "3",
-        ],
-        "make program of Tso 2x4 at 3 from 7",
+        "Run(RunRequest { options: RunOptions { unit: UnitOptions { kind: Faulty(LostDrain), capacity: 4, trigger: 3 }, workers: 2, printing: Trace, with_trace: false }, drain_seed: 6, drain_turns: 5, program: Some(\"p\") })",
     ),
     (
-        &["make", "--seed=7", "--procs=2", "--ops=4", "--addrs=3"],
-        "make program of Tso 2x4 at 3 from 7",
+        &["outcomes", "p", "--limit=7", "--states", "--verbose"],
+        "Outcomes(OutcomesRequest { program: Some(\"p\"), limit: 7, states: true })",
+    ),
+    (
+        &["outcomes", "--limit", "18446744073709551615", "--", "-x"],
+        "Outcomes(OutcomesRequest { program: Some(\"-x\"), limit: 18446744073709551615, states: false })",
+    ),
+    (
+        &["outcomes", "p", "--seen=s", "--limit", "+02"],
+        "Seen(SeenRequest { texts: Files(\"p\", \"s\"), limit: 2 })",
+    ),
+    (
+        &["outcomes", "-", "--seen", "./-"],
+        "Seen(SeenRequest { texts: InputAndFile(\"./-\"), limit: 1000000 })",
     ),
     (
         &[
-            "make", "--addrs", "3", "--ops=4", "--procs", "2", "--seed=7",
+            "run",
+            "-",
+            "--unit=buffer",
+            "--capacity=3",
+            "--times",
+            "1000000",
+            "--seed",
+            "7",
+            "--drain-turns=9",
+            "--trace",
+            "--with-trace",
         ],
-        "make program of Tso 2x4 at 3 from 7",
-    ),
-    (
-        &["make", "--seed=0", "--procs=0", "--ops=0", "--addrs=0"],
-        "make program of Tso 0x0 at 0 from 0",
-    ),
-    (
-        &[
-            "make",
-            "--seed=18446744073709551615",
-            "--procs=18446744073709551614",
-            "--ops=18446744073709551613",
-            "--addrs=18446744073709551612",
-        ],
-        "make program of Tso 18446744073709551614x18446744073709551613 at 18446744073709551612 from 18446744073709551615",
+        "RunTimes(RunTimesRequest { unit: UnitOptions { kind: Buffer, capacity: 3, trigger: 1 }, drain_seed: 7, drain_turns: 9, times: 1000000, program: None })",
     ),
     (
         &["make", "--seed=+007", "--procs=02", "--ops=4", "--addrs=3"],
-        "make program of Tso 2x4 at 3 from 7",
-    ),
-    (
-        &[
-            "make",
-            "--model",
-            "pso",
-            "--seed=7",
-            "--procs=2",
-            "--ops=4",
-            "--addrs=3",
-        ],
-        "make program of Pso 2x4 at 3 from 7",
-    ),
-    (
-        &[
-            "make",
-            "--seed=7",
-            "--procs=2",
-            "--model=pso",
-            "--ops=4",
-            "--addrs=3",
-        ],
-        "make program of Pso 2x4 at 3 from 7",
-    ),
-    (
-        &[
-            "make",
-            "--seed=7",
-            "--procs=2",
-            "--ops=4",
-            "--addrs=3",
-            "--model",
-            "tso",
-        ],
-        "make program of Tso 2x4 at 3 from 7",
-    ),
-    (
-        &[
-            "make",
-            "--model=tso",
-            "--addrs=3",
-            "--ops=4",
-            "--procs=2",
-            "--seed=7",
-        ],
-        "make program of Tso 2x4 at 3 from 7",
-    ),
-    (
-        &[
-            "make",
-            "--schedule",
-            "--seed=7",
-            "--procs=2",
-            "--ops=4",
-            "--addrs=3",
-        ],
-        "make schedule of Tso 2x4 at 3 from 7",
+        "Make(MakeOptions { order: Tso, seed: 7, shape: ShapeNumbers { processors: 2, operations: 4, addresses: 3 }, schedule: false })",
     ),
     (
         &[
@@ -558,23 +281,7 @@ const MADE: [(&[&str], &str); 12] = [
             "--seed=7",
             "--schedule",
         ],
-        "make schedule of Pso 2x4 at 3 from 7",
-    ),
-];
-
-#[test]
-fn accepted_made_programs(rt: HostRuntime) -> Result<(), Fail> {
-    expect_each(&rt, rt.alloc(), "", &MADE)
-}
-
-/// Arguments of `campaign`, and what they ask for.
-const CAMPAIGNS: [(&[&str], &str); 12] = [
-    (
-        &[
-            "campaign", "--unit", "buffer", "--first", "7", "--count", "20", "--procs", "2",
-            "--ops", "4", "--addrs", "3",
-        ],
-        "campaign 20 from 7 of Tso 2x4 at 3 run beside 0 turns on Buffer 8 1 with 1",
+        "Make(MakeOptions { order: Pso, seed: 7, shape: ShapeNumbers { processors: 2, operations: 4, addresses: 3 }, schedule: true })",
     ),
     (
         &[
@@ -589,65 +296,7 @@ const CAMPAIGNS: [(&[&str], &str); 12] = [
             "--ops=4",
             "--addrs=3",
         ],
-        "campaign 20 from 7 of Tso 2x4 at 3 run beside 0 turns on Faulty(LostDrain) 64 5 with 2",
-    ),
-    (
-        &[
-            "campaign",
-            "--addrs=3",
-            "--ops",
-            "4",
-            "--procs=2",
-            "--count",
-            "20",
-            "--first=7",
-            "--workers",
-            "64",
-            "--trigger=18446744073709551615",
-            "--capacity",
-            "1",
-            "--unit=serial",
-        ],
-        "campaign 20 from 7 of Tso 2x4 at 3 run beside 0 turns on Serial 1 18446744073709551615 with 64",
-    ),
-    (
-        &[
-            "campaign",
-            "--unit=serial",
-            "--first=18446744073709551615",
-            "--count=18446744073709551614",
-            "--procs=18446744073709551613",
-            "--ops=18446744073709551612",
-            "--addrs=18446744073709551611",
-        ],
-        "campaign 18446744073709551614 from 18446744073709551615 of Tso 18446744073709551613x18446744073709551612 at 18446744073709551611 run beside 0 turns on Serial 8 1 with 1",
-    ),
-    (
-        &[
-            "campaign",
-            "--unit=serial",
-            "--first=0",
-            "--count=0",
-            "--procs=0",
-            "--ops=0",
-            "--addrs=0",
-        ],
-        "campaign 0 from 0 of Tso 0x0 at 0 run beside 0 turns on Serial 8 1 with 1",
-    ),
-    (
-        &[
-            "campaign",
-            "--model",
-            "pso",
-            "--unit",
-            "partial",
-            "--first=7",
-            "--count=20",
-            "--procs=2",
-            "--ops=4",
-            "--addrs=3",
-        ],
-        "campaign 20 from 7 of Pso 2x4 at 3 run beside 0 turns on Partial 8 1 with 1",
+        "Campaign(CampaignOptions { unit: UnitOptions { kind: Faulty(LostDrain), capacity: 64, trigger: 5 }, workers: 2, replayed: false, drain_turns: 0, traces: false, order: Tso, first: 7, count: 20, shape: ShapeNumbers { processors: 2, operations: 4, addresses: 3 } })",
     ),
     (
         &[
@@ -661,62 +310,7 @@ const CAMPAIGNS: [(&[&str], &str); 12] = [
             "--ops=4",
             "--addrs=3",
         ],
-        "campaign 20 from 7 of Tso 2x4 at 3 run beside 0 turns on Partial 64 1 with 1",
-    ),
-    (
-        &[
-            "campaign",
-            "--unit=buffer",
-            "--workers=2",
-            "--first=7",
-            "--count=20",
-            "--procs=2",
-            "--ops=4",
-            "--addrs=3",
-            "--model=pso",
-        ],
-        "campaign 20 from 7 of Pso 2x4 at 3 run beside 0 turns on Buffer 8 1 with 2",
-    ),
-    (
-        &[
-            "campaign",
-            "--replay",
-            "--unit=lost-drain",
-            "--first=7",
-            "--count=20",
-            "--procs=2",
-            "--ops=4",
-            "--addrs=3",
-        ],
-        "campaign 20 from 7 of Tso 2x4 at 3 replayed beside 0 turns on Faulty(LostDrain) 8 1 with 1",
-    ),
-    (
-        &[
-            "campaign",
-            "--drain-turns",
-            "1000000",
-            "--unit=lost-drain",
-            "--first=7",
-            "--count=20",
-            "--procs=2",
-            "--ops=4",
-            "--addrs=3",
-        ],
-        "campaign 20 from 7 of Tso 2x4 at 3 run beside 1000000 turns on Faulty(LostDrain) 8 1 with 1",
-    ),
-    (
-        &[
-            "campaign",
-            "--trace",
-            "--drain-turns=0",
-            "--unit=lost-drain",
-            "--first=7",
-            "--count=20",
-            "--procs=2",
-            "--ops=4",
-            "--addrs=3",
-        ],
-        "campaign 20 from 7 of Tso 2x4 at 3 run beside 0 turns on Faulty(LostDrain) 8 1 with 1 as traces",
+        "Campaign(CampaignOptions { unit: UnitOptions { kind: Partial, capacity: 64, trigger: 1 }, workers: 1, replayed: false, drain_turns: 0, traces: false, order: Tso, first: 7, count: 20, shape: ShapeNumbers { processors: 2, operations: 4, addresses: 3 } })",
     ),
     (
         &[
@@ -731,37 +325,69 @@ const CAMPAIGNS: [(&[&str], &str); 12] = [
             "--replay",
             "--drain-turns=5",
         ],
-        "campaign 20 from 7 of Tso 2x4 at 3 replayed beside 5 turns on Faulty(LostDrain) 8 1 with 1 as traces",
+        "Campaign(CampaignOptions { unit: UnitOptions { kind: Faulty(LostDrain), capacity: 8, trigger: 1 }, workers: 1, replayed: true, drain_turns: 5, traces: true, order: Tso, first: 7, count: 20, shape: ShapeNumbers { processors: 2, operations: 4, addresses: 3 } })",
+    ),
+];
+
+/// The names of units.
+const KINDS: [(&[&str], &str); 9] = [
+    (
+        &["replay", "--trigger", "2", "--unit", "serial", "p", "s"],
+        "Replay { options: RunOptions { unit: UnitOptions { kind: Serial, capacity: 8, trigger: 2 }, workers: 1, printing: Report, with_trace: false }, texts: Files(\"p\", \"s\") }",
+    ),
+    (
+        &["replay", "--trigger", "2", "--unit", "buffer", "p", "s"],
+        "Replay { options: RunOptions { unit: UnitOptions { kind: Buffer, capacity: 8, trigger: 2 }, workers: 1, printing: Report, with_trace: false }, texts: Files(\"p\", \"s\") }",
+    ),
+    (
+        &["replay", "--trigger", "2", "--unit", "partial", "p", "s"],
+        "Replay { options: RunOptions { unit: UnitOptions { kind: Partial, capacity: 8, trigger: 2 }, workers: 1, printing: Report, with_trace: false }, texts: Files(\"p\", \"s\") }",
+    ),
+    (
+        &[
+            "replay",
+            "--trigger",
+            "2",
+            "--unit",
+            "newest-first",
+            "p",
+            "s",
+        ],
+        "Replay { options: RunOptions { unit: UnitOptions { kind: Faulty(NewestFirst), capacity: 8, trigger: 2 }, workers: 1, printing: Report, with_trace: false }, texts: Files(\"p\", \"s\") }",
+    ),
+    (
+        &["replay", "--trigger", "2", "--unit", "no-forward", "p", "s"],
+        "Replay { options: RunOptions { unit: UnitOptions { kind: Faulty(NoForward), capacity: 8, trigger: 2 }, workers: 1, printing: Report, with_trace: false }, texts: Files(\"p\", \"s\") }",
+    ),
+    (
+        &["replay", "--trigger", "2", "--unit", "stale-load", "p", "s"],
+        "Replay { options: RunOptions { unit: UnitOptions { kind: Faulty(StaleLoad), capacity: 8, trigger: 2 }, workers: 1, printing: Report, with_trace: false }, texts: Files(\"p\", \"s\") }",
+    ),
+    (
+        &["replay", "--trigger", "2", "--unit", "torn-swap", "p", "s"],
+        "Replay { options: RunOptions { unit: UnitOptions { kind: Faulty(TornSwap), capacity: 8, trigger: 2 }, workers: 1, printing: Report, with_trace: false }, texts: Files(\"p\", \"s\") }",
+    ),
+    (
+        &[
+            "replay",
+            "--trigger",
+            "2",
+            "--unit",
+            "idle-membar",
+            "p",
+            "s",
+        ],
+        "Replay { options: RunOptions { unit: UnitOptions { kind: Faulty(IdleMembar), capacity: 8, trigger: 2 }, workers: 1, printing: Report, with_trace: false }, texts: Files(\"p\", \"s\") }",
+    ),
+    (
+        &["replay", "--trigger", "2", "--unit", "lost-drain", "p", "s"],
+        "Replay { options: RunOptions { unit: UnitOptions { kind: Faulty(LostDrain), capacity: 8, trigger: 2 }, workers: 1, printing: Report, with_trace: false }, texts: Files(\"p\", \"s\") }",
     ),
 ];
 
 #[test]
-fn accepted_campaigns(rt: HostRuntime) -> Result<(), Fail> {
-    expect_each(&rt, rt.alloc(), "", &CAMPAIGNS)
-}
-
-/// Kinds of units by name, and what they print as.
-const KINDS: [(&str, &str); 9] = [
-    ("serial", "Serial"),
-    ("buffer", "Buffer"),
-    ("partial", "Partial"),
-    ("newest-first", "Faulty(NewestFirst)"),
-    ("no-forward", "Faulty(NoForward)"),
-    ("stale-load", "Faulty(StaleLoad)"),
-    ("torn-swap", "Faulty(TornSwap)"),
-    ("idle-membar", "Faulty(IdleMembar)"),
-    ("lost-drain", "Faulty(LostDrain)"),
-];
-
-#[test]
-fn kinds_of_units(rt: HostRuntime) -> Result<(), Fail> {
-    let alloc = rt.alloc();
-    for (name, kind) in KINDS {
-        let arguments = ["replay", "--trigger", "2", "--unit", name, "p", "s"];
-        let request = format!(in alloc;
-            "replay \"p\" by \"s\" on {kind} 8 2 with 1 printing Report"
-        )?;
-        assert!(rt; asked(alloc, &arguments)?.as_str() == request.as_str());
-    }
-    Ok(())
+fn accepted_arguments(rt: HostRuntime) -> Result<(), Fail> {
+    expect_each(&rt, rt.alloc(), &TRACES)?;
+    expect_each(&rt, rt.alloc(), &PROGRAMS)?;
+    expect_each(&rt, rt.alloc(), &KINDS)
 }

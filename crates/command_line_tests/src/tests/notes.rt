@@ -1,17 +1,8 @@
 //! What arguments ask to be told on standard error.
 
-use command_line::{Notes, read_arguments};
-use std::alloc::{AllocError, Global};
+use super::owned;
+use command_line::read_arguments;
 use std::test::Fail;
-
-/// What these arguments ask to be told.
-fn noted(alloc: Global, arguments: &[&str]) -> Result<Notes, AllocError> {
-    let mut owned = Vec::new(alloc);
-    for argument in arguments {
-        owned.push(String::from_str(alloc, argument)?)?;
-    }
-    Ok(read_arguments(alloc, &owned)?.notes)
-}
 
 /// Arguments, whether reasons of faults are told, and whether progress is.
 const CASES: [(&[&str], bool, bool); 23] = [
@@ -70,8 +61,12 @@ const CASES: [(&[&str], bool, bool); 23] = [
 #[test]
 fn notes_of_arguments(rt: HostRuntime) -> Result<(), Fail> {
     for (arguments, verbose, progress) in CASES {
-        let notes = noted(rt.alloc(), arguments)?;
-        assert_eq!(&rt; notes, Notes { verbose, progress }, "{arguments:?}");
+        let owned = owned(rt.alloc(), arguments)?;
+        let notes = read_arguments(rt.alloc(), &owned)?.notes;
+        assert!(rt;
+            notes.verbose == verbose && notes.progress == progress,
+            "{arguments:?}"
+        );
     }
     Ok(())
 }

@@ -70,38 +70,21 @@ fn told(alloc: Global, is_terminal: bool, notes: Notes) -> String {
     host.0.printed.replace(String::new(alloc))
 }
 
-const PROGRESS: Notes = Notes {
-    verbose: false,
-    progress: true,
-};
-
-const NO_PROGRESS: Notes = Notes {
-    verbose: true,
-    progress: false,
-};
-
-/// Progress is told at most once a second: here after the third of seven seeds and after the sixth.
-#[test]
-fn progress_is_told_once_a_second(rt: HostRuntime) -> Result<(), Fail> {
-    let text = told(rt.alloc(), false, PROGRESS);
-    assert_eq!(&rt; text.as_str(), "seeds 3 of 7\nseeds 6 of 7\n");
-    Ok(())
-}
-
-/// On a terminal each telling takes the place of the one before, and the last is taken away.
-#[test]
-fn progress_keeps_to_a_line_of_a_terminal(rt: HostRuntime) -> Result<(), Fail> {
-    let text = told(rt.alloc(), true, PROGRESS);
-    assert_eq!(&rt;
-        text.as_str(),
-        "\x1b[Kseeds 3 of 7\r\x1b[Kseeds 6 of 7\r\x1b[K"
-    );
-    Ok(())
-}
+/// Whether standard error is a terminal, whether progress is to be told, and what is told. It is told at most once a second: here
+/// after the third of seven seeds and after the sixth.
+const TOLD: [(bool, bool, &str); 3] = [
+    (false, true, "seeds 3 of 7\nseeds 6 of 7\n"),
+    // each telling takes the place of the one before, and the last is taken away
+    (true, true, "\x1b[Kseeds 3 of 7\r\x1b[Kseeds 6 of 7\r\x1b[K"),
+    (true, false, ""),
+];
 
 #[test]
-fn progress_that_is_not_asked_for(rt: HostRuntime) -> Result<(), Fail> {
-    let text = told(rt.alloc(), true, NO_PROGRESS);
-    assert_eq!(&rt; text.as_str(), "");
+fn progress_is_told(rt: HostRuntime) -> Result<(), Fail> {
+    for (is_terminal, progress, expected) in TOLD {
+        let verbose = !progress;
+        let text = told(rt.alloc(), is_terminal, Notes { verbose, progress });
+        assert_eq!(rt; text.as_str(), expected);
+    }
     Ok(())
 }

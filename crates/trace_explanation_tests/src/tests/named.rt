@@ -1,15 +1,15 @@
 //! Explanations of a trace that was selected from a log, with the log's names, lines and addresses.
 
-use super::expect_bytes;
 use std::alloc::{AllocError, Global};
 use std::test::Fail;
 use trace_explanation::{EventNames, explain_named};
 use traces_for_tests::Listed::{Base, Inferred};
-use traces_for_tests::{Listed, cycle_of, ld, st, step_of, trace_of};
+use traces_for_tests::{Listed, cycle_of, step_of, trace_of};
 use tso_cert::BaseRule::{Init, LoadOp, Read, StoreStore};
 use tso_cert::Certificate;
 use tso_cert::InferredRule::LoadPast;
-use tso_ops::{Order, Trace};
+use tso_ops::Outcome::{Ld, St};
+use tso_ops::{Order, Outcome};
 
 /// What the log calls the events.
 const NAMES: [&str; 4] = [
@@ -57,54 +57,72 @@ fn names_of_log(alloc: Global) -> Result<EventNames, AllocError> {
     Ok(EventNames::of_log(names, processors, lines, ADDRESSES.to_vec(alloc)?))
 }
 
-/// The certificate of the cycle.
-fn certificate(alloc: Global) -> Result<Certificate, AllocError> {
-    let mut steps = Vec::new(alloc);
-    for step in STEPS {
-        steps.push(step_of(alloc, step)?)?;
+/// What a trace is shown to be by.
+#[derive(Clone, Copy)]
+enum Shown {
+    /// The cycle of the steps.
+    Cycle,
+    /// The load of this number, which is unwritten.
+    Unwritten(u64),
+    /// Nothing.
+    Nothing,
+}
+
+/// The certificate of it.
+fn certificate(alloc: Global, shown: Shown) -> Result<Option<Certificate>, AllocError> {
+    match shown {
+        Shown::Cycle => {
+            let mut steps = Vec::new(alloc);
+            for step in STEPS {
+                steps.push(step_of(alloc, step)?)?;
+            }
+            Ok(Some(cycle_of(alloc, steps, &[0, 1])?))
+        }
+        Shown::Unwritten(event) => Ok(Some(Certificate::Unwritten(event))),
+        Shown::Nothing => Ok(None),
     }
-    cycle_of(alloc, steps, &[0, 1])
 }
 
-/// The explanation of the trace with these names.
-fn explained(
-    alloc: Global,
-    trace: &Trace,
-    certificate: &Option<Certificate>,
-) -> Result<String, AllocError> {
-    let names = names_of_log(alloc)?;
-    let mut text = String::new(alloc);
-    explain_named(alloc, &mut text, trace, certificate, &names)?;
-    Ok(text)
-}
+/// A memory model, what each processor did, what that is shown to be by, and the explanation with the log's names.
+type Case = (Order, &'static [&'static [Outcome]], Shown, &'static str);
 
-#[test]
-fn cycle_of_a_log(rt: HostRuntime) -> Result<(), Fail> {
-    let alloc = rt.alloc();
-    let rows = [[st(1, 1), st(2, 2)], [ld(2, 2), ld(1, 0)]];
-    let trace = trace_of(alloc, Order::Tso, &[&rows[0], &rows[1]])?;
-    let found = Some(certificate(alloc)?);
-    let text = explained(alloc, &trace, &found)?;
-    expect_bytes("cycle", text.as_bytes(), OF_THE_CYCLE.as_bytes())
-}
-
-#[test]
-fn unwritten_load_of_a_log(rt: HostRuntime) -> Result<(), Fail> {
-    let alloc = rt.alloc();
-    let rows = [[st(1, 1), st(2, 2)], [ld(2, 2), ld(1, 9)]];
-    let trace = trace_of(alloc, Order::Tso, &[&rows[0], &rows[1]])?;
-    let text = explained(alloc, &trace, &Some(Certificate::Unwritten(4)))?;
-    let expected =
-        "\nA load read a value that nothing wrote to its address:\n\n  line 543511: P17 'ld 94231678252672 0' (line 543511) read 9\n\nThe first value of address 94231678252672 is 0.\nThe stores to address 94231678252672, 1 in all:\n\n  line 543507: P3 'st 94231678252672 5' (line 543507)\n";
-    expect_bytes("unwritten", text.as_bytes(), expected.as_bytes())
-}
+const CASES: [Case; 3] = [
+    (
+        Order::Tso,
+        &[
+            &[St { a: 1, v: 1 }, St { a: 2, v: 2 }],
+            &[Ld { a: 2, r: 2 }, Ld { a: 1, r: 0 }],
+        ],
+        Shown::Cycle,
+        OF_THE_CYCLE,
+    ),
+    (
+        Order::Tso,
+        &[
+            &[St { a: 1, v: 1 }, St { a: 2, v: 2 }],
+            &[Ld { a: 2, r: 2 }, Ld { a: 1, r: 9 }],
+        ],
+        Shown::Unwritten(4),
+        "\nA load read a value that nothing wrote to its address:\n\n  line 543511: P17 'ld 94231678252672 0' (line 543511) read 9\n\nThe first value of address 94231678252672 is 0.\nThe stores to address 94231678252672, 1 in all:\n\n  line 543507: P3 'st 94231678252672 5' (line 543507)\n",
+    ),
+    (
+        Order::Pso,
+        &[&[St { a: 1, v: 1 }], &[Ld { a: 1, r: 1 }]],
+        Shown::Nothing,
+        "\nThe rules found no contradiction in this log.\nThat does not show that it has a memory order that PSO allows.\n",
+    ),
+];
 
 #[test]
-fn log_without_a_violation(rt: HostRuntime) -> Result<(), Fail> {
+fn explanations_with_names_of_a_log(rt: HostRuntime) -> Result<(), Fail> {
     let alloc = rt.alloc();
-    let trace = trace_of(alloc, Order::Pso, &[&[st(1, 1)], &[ld(1, 1)]])?;
-    let text = explained(alloc, &trace, &None)?;
-    let expected =
-        "\nThe rules found no contradiction in this log.\nThat does not show that it has a memory order that PSO allows.\n";
-    expect_bytes("silent", text.as_bytes(), expected.as_bytes())
+    for (order, rows, shown, expected) in CASES {
+        let trace = trace_of(alloc, order, rows)?;
+        let names = names_of_log(alloc)?;
+        let found = certificate(alloc, shown)?;
+        let mut text = String::new(alloc);
+        explain_named(alloc, &mut text, &trace, &found, &names)?;
+        assert_eq!(rt; text.as_str(), expected);
+    }
+    Ok(())
 }
