@@ -1,127 +1,671 @@
-//! Operations that are refused, and the texts of the faults.
+//! What is wrong with programs and traces, and the texts of the faults.
 
-use super::{
-    RANGE, REPEATED, STORE, ZERO, expect_refusal, expect_text, program_fault, refused_trace,
-    trace_fault,
-};
+use super::{Given, program_of, trace_of};
 use std::alloc::{AllocError, Global};
 use std::test::Fail;
-use traces_for_tests::{expect_equal, lists_of};
-use tso_ops::{Op, Outcome, Program, Refused, ValueFault};
+use traces_for_tests::{empty_lists, expect_equal};
+use tso_ops::Outcome::{Ld, Mb, Sb, St, Sw};
+use tso_ops::{Op, Order, Outcome, Refused, RefusedFirst, ValueFault};
 
-const FAULTS_OF_PAIRS: [([Op; 2], Option<ValueFault>); 10] = [
-    ([STORE, Op::Ld { a: 256 }], RANGE),
-    ([STORE, Op::St { a: 256, v: 0 }], RANGE),
-    ([STORE, Op::St { a: 1, v: 0 }], ZERO),
-    ([STORE, Op::Sw { a: 1, v: 0 }], ZERO),
-    ([STORE, Op::St { a: 2, v: 4 }], REPEATED),
-    ([STORE, Op::Sw { a: 2, v: 4 }], REPEATED),
-    ([Op::Sw { a: 1, v: 4 }, STORE], REPEATED),
-    ([Op::Ld { a: 256 }, Op::St { a: 1, v: 0 }], RANGE),
-    ([Op::St { a: 1, v: 0 }, Op::Ld { a: 256 }], ZERO),
-    ([STORE, Op::Sw { a: 255, v: 5 }], None),
-];
+const LOAD: Outcome = Ld { a: 0, r: 0 };
 
-/// What is wrong with a program of these lists.
-fn fault_of_lists(alloc: Global, lists: &[&[Op]]) -> Result<Option<ValueFault>, AllocError> {
-    Ok(program_fault(alloc, lists_of(alloc, lists)?))
-}
+const STORE: Outcome = St { a: 1, v: 4 };
 
-/// What is wrong with a program of two operations, on one processor and on two.
-fn faults_of_pair(alloc: Global, ops: &[Op; 2]) -> Result<[Option<ValueFault>; 2], AllocError> {
-    let [first, second] = ops;
-    Ok([
-        fault_of_lists(alloc, &[ops])?,
-        fault_of_lists(alloc, &[&[*first], &[*second]])?,
-    ])
-}
+const SWAP: Outcome = Sw { a: 0, r: 0, v: 1 };
 
-fn expect_faults_of_pairs(alloc: Global) -> Result<(), Fail> {
-    for (ops, fault) in &FAULTS_OF_PAIRS {
-        let found = faults_of_pair(alloc, ops)?;
-        expect_equal(ops, found, [*fault; 2])?;
-    }
-    Ok(())
-}
+const MANY: Option<ValueFault> = Some(ValueFault::TooManyEvents);
 
-const FAULTS_OF_OUTCOMES: [(&str, &[Outcome], Option<ValueFault>); 3] = [
-    ("an address", &[Outcome::Ld { a: 256, r: 0 }], RANGE),
-    ("a zero", &[Outcome::Sw { a: 1, r: 3, v: 0 }], ZERO),
+const PROCESSORS: Option<ValueFault> = Some(ValueFault::TooManyProcessors);
+
+const RANGE: Option<ValueFault> = Some(ValueFault::AddressRange);
+
+const ZERO: Option<ValueFault> = Some(ValueFault::ZeroValue);
+
+const REPEATED: Option<ValueFault> = Some(ValueFault::RepeatedValue);
+
+const STBAR: Option<ValueFault> = Some(ValueFault::StbarInTso);
+
+const ORDER: Option<ValueFault> = Some(ValueFault::InitOrder);
+
+/// A processor, what it did, and how often.
+type Done = (usize, Outcome, usize);
+
+/// A name, what is given, how many processors there are, what they did, and what is wrong with a trace of it and with the
+/// program of its operations.
+type Case = (
+    &'static str,
+    Given,
+    usize,
+    &'static [Done],
+    Option<ValueFault>,
+);
+
+const FAULTS: [Case; 26] = [
+    (
+        "an address",
+        Given::Nothing,
+        1,
+        &[(0, STORE, 1), (0, Ld { a: 256, r: 0 }, 1)],
+        RANGE,
+    ),
+    (
+        "an address, on two processors",
+        Given::Nothing,
+        2,
+        &[(0, STORE, 1), (1, Ld { a: 256, r: 0 }, 1)],
+        RANGE,
+    ),
+    (
+        "an address and a zero",
+        Given::Nothing,
+        1,
+        &[(0, STORE, 1), (0, St { a: 256, v: 0 }, 1)],
+        RANGE,
+    ),
+    (
+        "an address and a zero, on two processors",
+        Given::Nothing,
+        2,
+        &[(0, STORE, 1), (1, St { a: 256, v: 0 }, 1)],
+        RANGE,
+    ),
+    (
+        "a zero",
+        Given::Nothing,
+        1,
+        &[(0, STORE, 1), (0, St { a: 1, v: 0 }, 1)],
+        ZERO,
+    ),
+    (
+        "a zero, on two processors",
+        Given::Nothing,
+        2,
+        &[(0, STORE, 1), (1, St { a: 1, v: 0 }, 1)],
+        ZERO,
+    ),
+    (
+        "a zero of a swap",
+        Given::Nothing,
+        1,
+        &[(0, STORE, 1), (0, Sw { a: 1, r: 0, v: 0 }, 1)],
+        ZERO,
+    ),
+    (
+        "a zero of a swap, on two processors",
+        Given::Nothing,
+        2,
+        &[(0, STORE, 1), (1, Sw { a: 1, r: 0, v: 0 }, 1)],
+        ZERO,
+    ),
     (
         "a value again",
-        &[Outcome::Sw { a: 1, r: 3, v: 9 }, Outcome::St { a: 2, v: 9 }],
+        Given::Nothing,
+        1,
+        &[(0, STORE, 1), (0, St { a: 2, v: 4 }, 1)],
         REPEATED,
+    ),
+    (
+        "a value again, on two processors",
+        Given::Nothing,
+        2,
+        &[(0, STORE, 1), (1, St { a: 2, v: 4 }, 1)],
+        REPEATED,
+    ),
+    (
+        "a value of a swap again",
+        Given::Nothing,
+        1,
+        &[(0, STORE, 1), (0, Sw { a: 2, r: 0, v: 4 }, 1)],
+        REPEATED,
+    ),
+    (
+        "a value of a swap again, on two processors",
+        Given::Nothing,
+        2,
+        &[(0, STORE, 1), (1, Sw { a: 2, r: 0, v: 4 }, 1)],
+        REPEATED,
+    ),
+    (
+        "a value after a swap",
+        Given::Nothing,
+        1,
+        &[(0, Sw { a: 1, r: 0, v: 4 }, 1), (0, STORE, 1)],
+        REPEATED,
+    ),
+    (
+        "a value after a swap, on two processors",
+        Given::Nothing,
+        2,
+        &[(0, Sw { a: 1, r: 0, v: 4 }, 1), (1, STORE, 1)],
+        REPEATED,
+    ),
+    (
+        "an address before a zero",
+        Given::Nothing,
+        1,
+        &[(0, Ld { a: 256, r: 0 }, 1), (0, St { a: 1, v: 0 }, 1)],
+        RANGE,
+    ),
+    (
+        "an address before a zero, on two processors",
+        Given::Nothing,
+        2,
+        &[(0, Ld { a: 256, r: 0 }, 1), (1, St { a: 1, v: 0 }, 1)],
+        RANGE,
+    ),
+    (
+        "a zero before an address",
+        Given::Nothing,
+        1,
+        &[(0, St { a: 1, v: 0 }, 1), (0, Ld { a: 256, r: 0 }, 1)],
+        ZERO,
+    ),
+    (
+        "a zero before an address, on two processors",
+        Given::Nothing,
+        2,
+        &[(0, St { a: 1, v: 0 }, 1), (1, Ld { a: 256, r: 0 }, 1)],
+        ZERO,
+    ),
+    (
+        "two values",
+        Given::Nothing,
+        1,
+        &[(0, STORE, 1), (0, Sw { a: 255, r: 0, v: 5 }, 1)],
+        None,
+    ),
+    (
+        "two values, on two processors",
+        Given::Nothing,
+        2,
+        &[(0, STORE, 1), (1, Sw { a: 255, r: 0, v: 5 }, 1)],
+        None,
+    ),
+    (
+        "an address alone",
+        Given::Nothing,
+        1,
+        &[(0, Ld { a: 256, r: 0 }, 1)],
+        RANGE,
+    ),
+    (
+        "a zero after a read",
+        Given::Nothing,
+        1,
+        &[(0, Sw { a: 1, r: 3, v: 0 }, 1)],
+        ZERO,
+    ),
+    (
+        "a value after a read",
+        Given::Nothing,
+        1,
+        &[(0, Sw { a: 1, r: 3, v: 9 }, 1), (0, St { a: 2, v: 9 }, 1)],
+        REPEATED,
+    ),
+    (
+        "an address after an idle processor",
+        Given::Nothing,
+        2,
+        &[(1, Mb, 1), (1, Ld { a: 300, r: 0 }, 1)],
+        RANGE,
+    ),
+    ("an STBAR", Given::Nothing, 1, &[(0, Sb, 1)], STBAR),
+    (
+        "an STBAR under TSO",
+        Given::Model(Order::Tso),
+        1,
+        &[(0, Ld { a: 1, r: 0 }, 1), (0, Sb, 1)],
+        STBAR,
     ),
 ];
 
-/// What is wrong with a trace of one list.
-fn fault_of_list(alloc: Global, list: &[Outcome]) -> Result<Option<ValueFault>, AllocError> {
-    Ok(trace_fault(alloc, lists_of(alloc, &[list])?))
-}
+const LIMITS: [Case; 25] = [
+    (
+        "as many loads",
+        Given::Nothing,
+        1,
+        &[(0, LOAD, 2_000)],
+        None,
+    ),
+    ("more loads", Given::Nothing, 1, &[(0, LOAD, 2_001)], MANY),
+    (
+        "as many loads on two processors",
+        Given::Nothing,
+        2,
+        &[(0, LOAD, 1_000), (1, LOAD, 1_000)],
+        None,
+    ),
+    (
+        "more loads on two processors",
+        Given::Nothing,
+        2,
+        &[(0, LOAD, 1_000), (1, LOAD, 1_001)],
+        MANY,
+    ),
+    (
+        "as many barriers",
+        Given::Nothing,
+        1,
+        &[(0, Mb, 2_000)],
+        None,
+    ),
+    ("more barriers", Given::Nothing, 1, &[(0, Mb, 2_001)], MANY),
+    (
+        "as many barriers on two processors",
+        Given::Nothing,
+        2,
+        &[(0, Mb, 1_000), (1, Mb, 1_000)],
+        None,
+    ),
+    (
+        "more barriers on two processors",
+        Given::Nothing,
+        2,
+        &[(0, Mb, 1_000), (1, Mb, 1_001)],
+        MANY,
+    ),
+    (
+        "as many events with a swap",
+        Given::Nothing,
+        2,
+        &[(0, LOAD, 1_998), (1, SWAP, 1)],
+        None,
+    ),
+    (
+        "an event too many with a swap",
+        Given::Nothing,
+        2,
+        &[(0, LOAD, 1_999), (1, SWAP, 1)],
+        MANY,
+    ),
+    (
+        "two events too many with a swap",
+        Given::Nothing,
+        2,
+        &[(0, LOAD, 2_000), (1, SWAP, 1)],
+        MANY,
+    ),
+    ("16 processors", Given::Nothing, 16, &[], None),
+    ("17 processors", Given::Nothing, 17, &[], PROCESSORS),
+    (
+        "an event too many, with faults of its own",
+        Given::Nothing,
+        1,
+        &[(0, LOAD, 2_000), (0, St { a: 256, v: 0 }, 1)],
+        MANY,
+    ),
+    (
+        "an STBAR too many under TSO",
+        Given::Nothing,
+        1,
+        &[(0, Mb, 2_000), (0, Sb, 1)],
+        MANY,
+    ),
+    (
+        "as many STBARs",
+        Given::Model(Order::Pso),
+        1,
+        &[(0, Sb, 2_000)],
+        None,
+    ),
+    (
+        "both barriers too many",
+        Given::Model(Order::Pso),
+        2,
+        &[(0, Sb, 1_000), (1, Mb, 1_001)],
+        MANY,
+    ),
+    (
+        "more loads than in version 1",
+        Given::First(Order::Pso, &[]),
+        1,
+        &[(0, LOAD, 2_001)],
+        None,
+    ),
+    (
+        "as many loads in version 2",
+        Given::First(Order::Pso, &[]),
+        1,
+        &[(0, LOAD, 8_000)],
+        None,
+    ),
+    (
+        "more loads in version 2",
+        Given::First(Order::Pso, &[]),
+        1,
+        &[(0, LOAD, 8_001)],
+        MANY,
+    ),
+    (
+        "as many barriers in version 2",
+        Given::First(Order::Pso, &[]),
+        1,
+        &[(0, Mb, 8_000)],
+        None,
+    ),
+    (
+        "more barriers in version 2",
+        Given::First(Order::Pso, &[]),
+        1,
+        &[(0, Mb, 8_001)],
+        MANY,
+    ),
+    (
+        "as many STBARs in version 2",
+        Given::First(Order::Pso, &[]),
+        1,
+        &[(0, Sb, 8_000)],
+        None,
+    ),
+    (
+        "more STBARs in version 2",
+        Given::First(Order::Pso, &[]),
+        1,
+        &[(0, Sb, 8_001)],
+        MANY,
+    ),
+    (
+        "both barriers too many in version 2",
+        Given::First(Order::Pso, &[]),
+        2,
+        &[(0, Sb, 4_000), (1, Mb, 4_001)],
+        MANY,
+    ),
+];
 
-fn expect_faults_of_outcomes(alloc: Global) -> Result<(), Fail> {
-    for (name, list, fault) in &FAULTS_OF_OUTCOMES {
-        expect_equal(name, fault_of_list(alloc, list)?, *fault)?;
+/// First values are tried after the number of processors and before the operations.
+const FAULTS_OF_FIRST_VALUES: [Case; 27] = [
+    (
+        "entries",
+        Given::First(Order::Tso, &[(1, 5), (2, 5)]),
+        1,
+        &[],
+        None,
+    ),
+    (
+        "entries, and a store of zero",
+        Given::First(Order::Tso, &[(1, 5), (2, 5)]),
+        1,
+        &[(0, St { a: 1, v: 0 }, 1)],
+        ZERO,
+    ),
+    (
+        "entries, and 17 processors",
+        Given::First(Order::Tso, &[(1, 5), (2, 5)]),
+        17,
+        &[],
+        PROCESSORS,
+    ),
+    (
+        "the least and the greatest address",
+        Given::First(Order::Tso, &[(0, 1), (255, 1)]),
+        1,
+        &[],
+        None,
+    ),
+    (
+        "the least and the greatest address, and a store of zero",
+        Given::First(Order::Tso, &[(0, 1), (255, 1)]),
+        1,
+        &[(0, St { a: 1, v: 0 }, 1)],
+        ZERO,
+    ),
+    (
+        "the least and the greatest address, and 17 processors",
+        Given::First(Order::Tso, &[(0, 1), (255, 1)]),
+        17,
+        &[],
+        PROCESSORS,
+    ),
+    (
+        "addresses that fall",
+        Given::First(Order::Tso, &[(2, 5), (1, 5)]),
+        1,
+        &[],
+        ORDER,
+    ),
+    (
+        "addresses that fall, and a store of zero",
+        Given::First(Order::Tso, &[(2, 5), (1, 5)]),
+        1,
+        &[(0, St { a: 1, v: 0 }, 1)],
+        ORDER,
+    ),
+    (
+        "addresses that fall, and 17 processors",
+        Given::First(Order::Tso, &[(2, 5), (1, 5)]),
+        17,
+        &[],
+        PROCESSORS,
+    ),
+    (
+        "an address again",
+        Given::First(Order::Tso, &[(1, 5), (1, 6)]),
+        1,
+        &[],
+        ORDER,
+    ),
+    (
+        "an address again, and a store of zero",
+        Given::First(Order::Tso, &[(1, 5), (1, 6)]),
+        1,
+        &[(0, St { a: 1, v: 0 }, 1)],
+        ORDER,
+    ),
+    (
+        "an address again, and 17 processors",
+        Given::First(Order::Tso, &[(1, 5), (1, 6)]),
+        17,
+        &[],
+        PROCESSORS,
+    ),
+    (
+        "an address again with a zero",
+        Given::First(Order::Tso, &[(1, 5), (1, 0)]),
+        1,
+        &[],
+        ZERO,
+    ),
+    (
+        "an address again with a zero, and a store of zero",
+        Given::First(Order::Tso, &[(1, 5), (1, 0)]),
+        1,
+        &[(0, St { a: 1, v: 0 }, 1)],
+        ZERO,
+    ),
+    (
+        "an address again with a zero, and 17 processors",
+        Given::First(Order::Tso, &[(1, 5), (1, 0)]),
+        17,
+        &[],
+        PROCESSORS,
+    ),
+    (
+        "a zero before an address out of range",
+        Given::First(Order::Tso, &[(0, 0), (256, 1)]),
+        1,
+        &[],
+        ZERO,
+    ),
+    (
+        "a zero before an address out of range, and a store of zero",
+        Given::First(Order::Tso, &[(0, 0), (256, 1)]),
+        1,
+        &[(0, St { a: 1, v: 0 }, 1)],
+        ZERO,
+    ),
+    (
+        "a zero before an address out of range, and 17 processors",
+        Given::First(Order::Tso, &[(0, 0), (256, 1)]),
+        17,
+        &[],
+        PROCESSORS,
+    ),
+    (
+        "an address out of range with a zero",
+        Given::First(Order::Tso, &[(256, 0), (1, 0)]),
+        1,
+        &[],
+        RANGE,
+    ),
+    (
+        "an address out of range with a zero, and a store of zero",
+        Given::First(Order::Tso, &[(256, 0), (1, 0)]),
+        1,
+        &[(0, St { a: 1, v: 0 }, 1)],
+        RANGE,
+    ),
+    (
+        "an address out of range with a zero, and 17 processors",
+        Given::First(Order::Tso, &[(256, 0), (1, 0)]),
+        17,
+        &[],
+        PROCESSORS,
+    ),
+    (
+        "addresses that fall, and a load out of range",
+        Given::First(Order::Tso, &[(2, 5), (1, 5)]),
+        1,
+        &[(0, Ld { a: 256, r: 0 }, 1)],
+        ORDER,
+    ),
+    (
+        "addresses that fall, under PSO",
+        Given::First(Order::Pso, &[(2, 5), (1, 5)]),
+        1,
+        &[(0, Mb, 1)],
+        ORDER,
+    ),
+    (
+        "a first value stored again",
+        Given::First(Order::Tso, &[(1, 7), (2, 5)]),
+        1,
+        &[(0, St { a: 1, v: 7 }, 1)],
+        REPEATED,
+    ),
+    (
+        "a first value stored elsewhere",
+        Given::First(Order::Tso, &[(1, 7), (2, 5)]),
+        1,
+        &[(0, St { a: 2, v: 7 }, 1)],
+        REPEATED,
+    ),
+    (
+        "a first value swapped in elsewhere",
+        Given::First(Order::Tso, &[(1, 7), (2, 5)]),
+        1,
+        &[(0, Sw { a: 9, r: 0, v: 5 }, 1)],
+        REPEATED,
+    ),
+    (
+        "a value that is no first value",
+        Given::First(Order::Tso, &[(1, 7), (2, 5)]),
+        1,
+        &[(0, St { a: 1, v: 6 }, 1)],
+        None,
+    ),
+];
+
+/// Adds so many copies of an operation to the list of a processor.
+fn push_copies<T: Copy>(
+    lists: &mut Vec<Vec<T>>,
+    (p, item, count): (usize, T, usize),
+) -> Result<(), AllocError> {
+    if let Some(list) = lists.get_mut(p) {
+        for _ in 0..count {
+            list.push(item)?;
+        }
     }
     Ok(())
 }
 
-/// What is wrong with one operation, or with a second one after it.
+/// What is wrong with a trace of so many processors that did this, and with the program of its operations.
+fn faults_of(
+    alloc: Global,
+    given: Given,
+    processors: usize,
+    done: &[Done],
+) -> Result<[Option<ValueFault>; 2], AllocError> {
+    let mut rows = empty_lists(alloc, processors)?;
+    let mut lists = empty_lists(alloc, processors)?;
+    for (p, outcome, count) in done {
+        push_copies(&mut rows, (*p, *outcome, *count))?;
+        push_copies(&mut lists, (*p, outcome.op(), *count))?;
+    }
+    Ok([
+        trace_of(alloc, given, rows).err(),
+        program_of(alloc, given, lists).err(),
+    ])
+}
+
+fn expect_faults(alloc: Global, cases: &[Case]) -> Result<(), Fail> {
+    for (name, given, processors, done, fault) in cases {
+        let found = faults_of(alloc, *given, *processors, done)?;
+        expect_equal(name, found, [*fault; 2])?;
+    }
+    Ok(())
+}
+
 #[test]
-fn faults_of_operations(rt: HostRuntime) -> Result<(), Fail> {
-    let alloc = rt.alloc();
-    expect_faults_of_pairs(alloc)?;
-    expect_faults_of_outcomes(alloc)
-}
-
-fn refused_program(alloc: Global, lists: &[&[Op]]) -> Result<Refused<Op>, Fail> {
-    Ok(
-        Program::new(alloc, lists_of(alloc, lists)?)
-            .err()
-            .ok_or("a refusal")?,
-    )
+fn faults_of_values(rt: HostRuntime) -> Result<(), Fail> {
+    expect_faults(rt.alloc(), &FAULTS)
 }
 
 #[test]
-fn refused_lists_come_back(rt: HostRuntime) -> Result<(), Fail> {
-    let alloc = rt.alloc();
-    let lists: [&[Op]; 2] = [&[], &[Op::Mb, Op::Ld { a: 300 }]];
-    let refused = refused_program(alloc, &lists)?;
-    expect_refusal(&refused, ValueFault::AddressRange, &lists)?;
-    let lists: [&[Outcome]; 1] = [&[Outcome::St { a: 1, v: 2 }, Outcome::St { a: 1, v: 2 }]];
-    let refused = refused_trace(alloc, &lists)?;
-    expect_refusal(&refused, ValueFault::RepeatedValue, &lists)
+fn limits_of_values(rt: HostRuntime) -> Result<(), Fail> {
+    expect_faults(rt.alloc(), &LIMITS)
 }
 
-fn text_of_fault(alloc: Global, why: ValueFault) -> Result<String, Fail> {
-    Ok(format!(in alloc; "{why}")?)
+#[test]
+fn faults_of_first_values(rt: HostRuntime) -> Result<(), Fail> {
+    expect_faults(rt.alloc(), &FAULTS_OF_FIRST_VALUES)
 }
 
-fn text_of_refusal(alloc: Global, why: ValueFault) -> Result<String, Fail> {
+/// Faults, and their texts, which are also those of refusals.
+const TEXTS: [(ValueFault, &str); 8] = [
+    (
+        ValueFault::TooManyProcessors,
+        "TooManyProcessors TooManyProcessors TooManyProcessors",
+    ),
+    (
+        ValueFault::TooManyEvents,
+        "TooManyEvents TooManyEvents TooManyEvents",
+    ),
+    (
+        ValueFault::AddressRange,
+        "AddressRange AddressRange AddressRange",
+    ),
+    (ValueFault::ZeroValue, "ZeroValue ZeroValue ZeroValue"),
+    (
+        ValueFault::RepeatedValue,
+        "RepeatedValue RepeatedValue RepeatedValue",
+    ),
+    (
+        ValueFault::OutOfMemory,
+        "OutOfMemory OutOfMemory OutOfMemory",
+    ),
+    (ValueFault::StbarInTso, "StbarInTso StbarInTso StbarInTso"),
+    (ValueFault::InitOrder, "InitOrder InitOrder InitOrder"),
+];
+
+/// The text of a fault, and those of both refusals for it.
+fn texts_of(alloc: Global, why: ValueFault) -> Result<String, AllocError> {
     let refused = Refused::<Op> {
         why,
         lists: Vec::new(alloc),
     };
-    Ok(format!(in alloc; "{refused}")?)
+    let refused_first = RefusedFirst::<Op> {
+        why,
+        first: Vec::new(alloc),
+        lists: Vec::new(alloc),
+    };
+    format!(in alloc; "{why} {refused} {refused_first}")
 }
-
-const TEXTS: [(ValueFault, &str); 8] = [
-    (ValueFault::TooManyProcessors, "TooManyProcessors"),
-    (ValueFault::TooManyEvents, "TooManyEvents"),
-    (ValueFault::AddressRange, "AddressRange"),
-    (ValueFault::ZeroValue, "ZeroValue"),
-    (ValueFault::RepeatedValue, "RepeatedValue"),
-    (ValueFault::OutOfMemory, "OutOfMemory"),
-    (ValueFault::StbarInTso, "StbarInTso"),
-    (ValueFault::InitOrder, "InitOrder"),
-];
 
 #[test]
 fn texts_of_faults(rt: HostRuntime) -> Result<(), Fail> {
-    let alloc = rt.alloc();
-    for (why, text) in TEXTS {
-        expect_text(&text_of_fault(alloc, why)?, text)?;
-        expect_text(&text_of_refusal(alloc, why)?, text)?;
+    for (why, texts) in TEXTS {
+        expect_equal(texts, texts_of(rt.alloc(), why)?.as_str(), texts)?;
     }
     Ok(())
 }

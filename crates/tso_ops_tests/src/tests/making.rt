@@ -2,13 +2,12 @@
 ghost use Rattle.std.specs.Prelude.{ℕ, ◌%◌, ◌/◌};
 ghost use Rattle.rand_core.specs.Steps.{steps_u64_low, stream_of};
 
-use super::program_of;
 use rand_core::utils::NextWord;
 use rand_core::{Rng, utils};
 use std::alloc::Global;
 use std::marker::Model;
 use std::test::Fail;
-use traces_for_tests::{expect_equal, lists_of};
+use traces_for_tests::{expect_equal, program_of};
 use tso_ops::{Op, Order, Program, Shape, make_program, make_program_with_order};
 
 /// A generator whose words are the bytes of a number, the low one first, and 0 after them.
@@ -47,123 +46,115 @@ impl Rng for ByteWords {
     }
 }
 
-/// Processors, operations and addresses, and whether they are those of a shape.
-const SHAPES: [(u64, u64, u64, bool); 15] = [
-    (1, 1_000, 1, true),
-    (1, 1_001, 1, false),
-    (16, 62, 256, true),
-    (16, 63, 1, false),
-    (0, 1, 1, false),
-    (17, 1, 1, false),
-    (1, 1, 0, false),
-    (1, 1, 257, false),
-    (4, 250, 8, true),
-    (4, 251, 8, false),
-    (16, 0, 1, true),
-    (16, 1 << 60, 1, false),
-    (2, 1 << 63, 1, false),
-    (1, u64::MAX, 1, false),
-    (16, u64::MAX, 1, false),
+/// Processors, operations and addresses, and whether the shape that they are of is that of 2, 3 and 4.
+const SHAPES: [([u64; 3], Option<bool>); 19] = [
+    ([1, 1_000, 1], Some(false)),
+    ([1, 1_001, 1], None),
+    ([16, 62, 256], Some(false)),
+    ([16, 63, 1], None),
+    ([0, 1, 1], None),
+    ([17, 1, 1], None),
+    ([1, 1, 0], None),
+    ([1, 1, 257], None),
+    ([4, 250, 8], Some(false)),
+    ([4, 251, 8], None),
+    ([16, 0, 1], Some(false)),
+    ([16, 1 << 60, 1], None),
+    ([2, 1 << 63, 1], None),
+    ([1, u64::MAX, 1], None),
+    ([16, u64::MAX, 1], None),
+    ([2, 3, 4], Some(true)),
+    ([1, 3, 4], Some(false)),
+    ([2, 2, 4], Some(false)),
+    ([2, 3, 5], Some(false)),
 ];
 
+/// The numbers of a shape, and whether it is that of 2, 3 and 4, as is asked in two ways.
+fn compared([processors, operations, addresses]: [u64; 3]) -> Option<([u64; 3], [bool; 2])> {
+    let other = Shape::new(2, 3, 4)?;
+    let shape = Shape::new(processors, operations, addresses)?;
+    let numbers = [shape.processors(), shape.operations(), shape.addresses()];
+    Some((numbers, [other.is_same(&shape), other == shape]))
+}
+
 #[test]
-fn shapes_keep_their_limits(_rt: HostRuntime) -> Result<(), Fail> {
-    for (processors, operations, addresses, is_within) in SHAPES {
-        let shape = Shape::new(processors, operations, addresses);
-        expect_equal(
-            (processors, operations, addresses),
-            shape.is_some(),
-            is_within,
-        )?;
+fn shapes_and_their_limits(_rt: HostRuntime) -> Result<(), Fail> {
+    for (numbers, same) in &SHAPES {
+        let expected = match same {
+            Some(same) => Some((*numbers, [*same; 2])),
+            None => None,
+        };
+        expect_equal(*numbers, compared(*numbers), expected)?;
     }
     Ok(())
 }
 
-/// Processors, operations and addresses, and whether they are 2, 3 and 4.
-const COMPARED: [(u64, u64, u64, bool); 4] = [
-    (2, 3, 4, true),
-    (1, 3, 4, false),
-    (2, 2, 4, false),
-    (2, 3, 5, false),
-];
-
-#[test]
-fn shapes_are_compared(_rt: HostRuntime) -> Result<(), Fail> {
-    let shape = Shape::new(2, 3, 4).ok_or("a shape")?;
-    let numbers = (shape.processors(), shape.operations(), shape.addresses());
-    expect_equal("numbers", numbers, (2, 3, 4))?;
-    for (processors, operations, addresses, is_same) in COMPARED {
-        let other = Shape::new(processors, operations, addresses).ok_or("a shape")?;
-        expect_equal("is_same", shape.is_same(&other), is_same)?;
-        expect_equal("==", shape == other, is_same)?;
-    }
-    Ok(())
+/// A program that words make in a shape of two processors and four addresses; a 9 comes after the words.
+#[derive(Clone, Copy)]
+struct Made {
+    words: u64,
+    /// The memory model, if one is given.
+    order: Option<Order>,
+    operations: u64,
+    lists: &'static [&'static [Op]],
 }
 
-/// The words 7, 16, 61, 15 and then 9.
-const WORDS: u64 = 0x09_0F_3D_10_07;
-
-const MADE: [&[Op]; 2] = [
-    &[Op::St { a: 0, v: 1 }, Op::Ld { a: 1 }],
-    &[Op::Sw { a: 3, v: 2 }, Op::Mb],
-];
-
-/// The words 31, 8, 15, 63, 47, 95 and then 9.
+/// The words 31, 8, 15, 63, 47, 95 and then 9: one that is 31 modulo 32 makes an STBAR under PSO, and a membar under TSO; all
+/// others make the same.
 const WORDS_OF_BARRIERS: u64 = 0x09_5F_2F_3F_0F_08_1F;
 
-const MADE_UNDER_TSO: [&[Op]; 2] = [
-    &[Op::Mb, Op::St { a: 0, v: 1 }, Op::Mb],
-    &[Op::Mb, Op::Mb, Op::Mb],
+/// The first is of the words 7, 16, 61, 15 and then 9.
+const MADE: [Made; 3] = [
+    Made {
+        words: 0x09_0F_3D_10_07,
+        order: None,
+        operations: 2,
+        lists: &[
+            &[Op::St { a: 0, v: 1 }, Op::Ld { a: 1 }],
+            &[Op::Sw { a: 3, v: 2 }, Op::Mb],
+        ],
+    },
+    Made {
+        words: WORDS_OF_BARRIERS,
+        order: Some(Order::Tso),
+        operations: 3,
+        lists: &[
+            &[Op::Mb, Op::St { a: 0, v: 1 }, Op::Mb],
+            &[Op::Mb, Op::Mb, Op::Mb],
+        ],
+    },
+    Made {
+        words: WORDS_OF_BARRIERS,
+        order: Some(Order::Pso),
+        operations: 3,
+        lists: &[
+            &[Op::Sb, Op::St { a: 0, v: 1 }, Op::Mb],
+            &[Op::Sb, Op::Mb, Op::Sb],
+        ],
+    },
 ];
 
-const MADE_UNDER_PSO: [&[Op]; 2] = [
-    &[Op::Sb, Op::St { a: 0, v: 1 }, Op::Mb],
-    &[Op::Sb, Op::Mb, Op::Sb],
-];
-
-/// The program that four words make in a shape of two processors, two operations and four addresses.
-fn made_program(alloc: Global, words: &mut ByteWords) -> Result<Program, Fail> {
-    let shape = Shape::new(2, 2, 4).ok_or("a shape")?;
-    Ok(make_program(alloc, words, shape)?)
+fn made_program(alloc: Global, made: &Made, words: &mut ByteWords) -> Result<Program, Fail> {
+    let shape = Shape::new(2, made.operations, 4).ok_or("a shape")?;
+    match made.order {
+        None => Ok(make_program(alloc, words, shape)?),
+        Some(order) => Ok(make_program_with_order(alloc, order, words, shape)?),
+    }
 }
 
-/// The program that six words make under a memory model in a shape of two processors, three operations and four addresses.
-fn ordered_program(alloc: Global, order: Order, words: &mut ByteWords) -> Result<Program, Fail> {
-    let shape = Shape::new(2, 3, 4).ok_or("a shape")?;
-    Ok(make_program_with_order(alloc, order, words, shape)?)
-}
-
-fn is_same(made: &Program, wanted: &Program) -> bool {
-    made.is_same(wanted)
-}
-
-fn next_word(words: &mut ByteWords) -> u64 {
-    words.next_u64()
+/// Whether the program is the one by hand, and the next word.
+fn made_so(alloc: Global, made: &Made) -> Result<(bool, u64), Fail> {
+    let mut words = ByteWords(made.words);
+    let program = made_program(alloc, made, &mut words)?;
+    let order = made.order.unwrap_or(Order::Tso);
+    let wanted = program_of(alloc, order, made.lists)?;
+    Ok((program.is_same(&wanted), words.next_u64()))
 }
 
 #[test]
-fn program_of_four_words(rt: HostRuntime) -> Result<(), Fail> {
-    let mut words = ByteWords(WORDS);
-    let made = made_program(rt.alloc(), &mut words)?;
-    let wanted = program_of(rt.alloc(), &MADE)?;
-    expect_equal("the program", is_same(&made, &wanted), true)?;
-    expect_equal("the next word", next_word(&mut words), 9)
-}
-
-/// The program by hand under a memory model.
-fn wanted_program(alloc: Global, order: Order, lists: &[&[Op]]) -> Result<Program, Fail> {
-    Ok(Program::with_order(alloc, order, lists_of(alloc, lists)?).map_err(|refused| refused.why)?)
-}
-
-/// A word that is 31 modulo 32 makes an STBAR under PSO, and a membar under TSO; all others make the same.
-#[test]
-fn programs_of_barriers(rt: HostRuntime) -> Result<(), Fail> {
-    for (order, lists) in [(Order::Tso, &MADE_UNDER_TSO), (Order::Pso, &MADE_UNDER_PSO)] {
-        let mut words = ByteWords(WORDS_OF_BARRIERS);
-        let made = ordered_program(rt.alloc(), order, &mut words)?;
-        let wanted = wanted_program(rt.alloc(), order, lists)?;
-        expect_equal(order, is_same(&made, &wanted), true)?;
-        expect_equal(order, next_word(&mut words), 9)?;
+fn programs_of_words(rt: HostRuntime) -> Result<(), Fail> {
+    for (place, made) in MADE.iter().enumerate() {
+        expect_equal(place, made_so(rt.alloc(), made)?, (true, 9))?;
     }
     Ok(())
 }
