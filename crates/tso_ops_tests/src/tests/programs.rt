@@ -1,188 +1,146 @@
 //! What programs say of themselves, and which of them are the same.
 
-use super::{Given, program_of};
+use super::written::{program_of, value_of};
 use std::alloc::Global;
 use std::test::Fail;
-use traces_for_tests::{expect_equal, lists_of};
-use tso_ops::Op::{Ld, Mb, St, Sw};
-use tso_ops::{Op, Order, Program, ValueFault, Version};
+use traces_for_tests::expect_equal;
+use tso_ops::{Order, Outcome, Program, ValueFault, Version};
 
-/// A program, its setting and some of its first values, and whether it is the same as `COMPARED`.
-#[derive(Clone, Copy)]
-struct Example {
-    given: Given,
-    rows: &'static [&'static [Op]],
-    setting: (Order, Version),
-    first: &'static [(u16, u64)],
-    same: bool,
-}
+/// A program, its setting, an address and its first value, and whether the program is the same as `COMPARED`.
+type Case = (&'static str, (Order, Version), (u16, u64), bool);
 
-const LISTS: [&[Op]; 2] = [&[St { a: 1, v: 1 }, Ld { a: 2 }], &[Mb]];
+const COMPARED: &str = "first, init 1 7, proc, st 1 1, ld 2, proc, mb";
 
-const TSO_FROM_FIRST: (Order, Version) = (Order::Tso, Version::Two);
+const TSO: (Order, Version) = (Order::Tso, Version::One);
 
-const COMPARED: Example = Example {
-    given: Given::First(Order::Tso, &[(1, 7)]),
-    rows: &LISTS,
-    setting: TSO_FROM_FIRST,
-    first: &[(1, 7)],
-    same: true,
-};
+const PSO: (Order, Version) = (Order::Pso, Version::One);
 
-const EXAMPLES: [Example; 14] = [
-    Example {
-        given: Given::Nothing,
-        rows: &[
-            &[
-                St {
-                    a: 255,
-                    v: u64::MAX,
-                },
-                Mb,
-            ],
-            &[Ld { a: 0 }, Sw { a: 1, v: 1 }],
-        ],
-        setting: (Order::Tso, Version::One),
-        first: &[(1, 0)],
-        same: false,
-    },
-    Example {
-        given: Given::Model(Order::Pso),
-        rows: &[&[]],
-        setting: (Order::Pso, Version::One),
-        first: &[(1, 0)],
-        same: false,
-    },
-    Example {
-        given: Given::First(Order::Tso, &[(1, 7), (3, 7), (255, u64::MAX)]),
-        rows: &[&[], &[]],
-        setting: TSO_FROM_FIRST,
-        first: &[(0, 0), (1, 7), (2, 0), (3, 7), (255, u64::MAX), (256, 0)],
-        same: false,
-    },
-    COMPARED,
-    Example {
-        given: Given::Model(Order::Tso),
-        rows: &LISTS,
-        setting: (Order::Tso, Version::One),
-        first: &[(1, 0)],
-        same: false,
-    },
-    Example {
-        given: Given::First(Order::Pso, &[(1, 7)]),
-        rows: &LISTS,
-        setting: (Order::Pso, Version::Two),
-        first: &[(1, 7)],
-        same: false,
-    },
-    Example {
-        given: Given::First(Order::Tso, &[]),
-        rows: &LISTS,
-        setting: TSO_FROM_FIRST,
-        first: &[(1, 0)],
-        same: false,
-    },
-    Example {
-        given: Given::First(Order::Tso, &[(1, 8)]),
-        rows: &LISTS,
-        setting: TSO_FROM_FIRST,
-        first: &[(1, 8)],
-        same: false,
-    },
-    Example {
-        given: Given::First(Order::Tso, &[(2, 7)]),
-        rows: &LISTS,
-        setting: TSO_FROM_FIRST,
-        first: &[(1, 0), (2, 7)],
-        same: false,
-    },
-    Example {
-        given: Given::First(Order::Tso, &[(1, 7), (2, 9)]),
-        rows: &LISTS,
-        setting: TSO_FROM_FIRST,
-        first: &[(1, 7), (2, 9)],
-        same: false,
-    },
-    Example {
-        given: Given::First(Order::Tso, &[(1, 7)]),
-        rows: &[&[St { a: 1, v: 2 }, Ld { a: 2 }], &[Mb]],
-        setting: TSO_FROM_FIRST,
-        first: &[],
-        same: false,
-    },
-    Example {
-        given: Given::First(Order::Tso, &[(1, 7)]),
-        rows: &[&[Ld { a: 2 }, St { a: 1, v: 1 }], &[Mb]],
-        setting: TSO_FROM_FIRST,
-        first: &[],
-        same: false,
-    },
-    Example {
-        given: Given::First(Order::Tso, &[(1, 7)]),
-        rows: &[&[St { a: 1, v: 1 }, Ld { a: 2 }]],
-        setting: TSO_FROM_FIRST,
-        first: &[],
-        same: false,
-    },
-    Example {
-        given: Given::Nothing,
-        rows: &[],
-        setting: (Order::Tso, Version::One),
-        first: &[],
-        same: false,
-    },
+const TSO_FIRST: (Order, Version) = (Order::Tso, Version::Two);
+
+const PSO_FIRST: (Order, Version) = (Order::Pso, Version::Two);
+
+const FIRST: &str = "first, init 1 7, init 3 7, init 255 18446744073709551615, proc, proc";
+
+const CASES: [Case; 20] = [
+    ("", TSO, (1, 0), false),
+    (
+        "proc, st 255 18446744073709551615, mb, proc, ld 0, sw 1 0 1",
+        TSO,
+        (1, 0),
+        false,
+    ),
+    ("pso, proc", PSO, (1, 0), false),
+    ("first, proc", TSO_FIRST, (1, 0), false),
+    (FIRST, TSO_FIRST, (0, 0), false),
+    (FIRST, TSO_FIRST, (1, 7), false),
+    (FIRST, TSO_FIRST, (2, 0), false),
+    (FIRST, TSO_FIRST, (3, 7), false),
+    (FIRST, TSO_FIRST, (255, u64::MAX), false),
+    (FIRST, TSO_FIRST, (256, 0), false),
+    (COMPARED, TSO_FIRST, (1, 7), true),
+    ("tso, proc, st 1 1, ld 2, proc, mb", TSO, (1, 0), false),
+    (
+        "pso, first, init 1 7, proc, st 1 1, ld 2, proc, mb",
+        PSO_FIRST,
+        (1, 7),
+        false,
+    ),
+    (
+        "first, proc, st 1 1, ld 2, proc, mb",
+        TSO_FIRST,
+        (1, 0),
+        false,
+    ),
+    (
+        "first, init 1 8, proc, st 1 1, ld 2, proc, mb",
+        TSO_FIRST,
+        (1, 8),
+        false,
+    ),
+    (
+        "first, init 2 7, proc, st 1 1, ld 2, proc, mb",
+        TSO_FIRST,
+        (2, 7),
+        false,
+    ),
+    (
+        "first, init 1 7, init 2 9, proc, st 1 1, ld 2, proc, mb",
+        TSO_FIRST,
+        (2, 9),
+        false,
+    ),
+    (
+        "first, init 1 7, proc, st 1 2, ld 2, proc, mb",
+        TSO_FIRST,
+        (1, 7),
+        false,
+    ),
+    (
+        "first, init 1 7, proc, ld 2, st 1 1, proc, mb",
+        TSO_FIRST,
+        (1, 7),
+        false,
+    ),
+    (
+        "first, init 1 7, proc, st 1 1, ld 2",
+        TSO_FIRST,
+        (1, 7),
+        false,
+    ),
 ];
 
-fn example_of(alloc: Global, example: &Example) -> Result<Program, ValueFault> {
-    program_of(alloc, example.given, lists_of(alloc, example.rows)?)
-}
-
-/// Whether the processors of a program have these operations.
-fn has_rows(program: &Program, rows: &[&[Op]]) -> bool {
-    let processors = program.processors();
-    if processors != rows.len() {
+/// Whether these are the operations of what was done.
+fn are_ops_of(program: &Program, p: usize, row: &[Outcome]) -> bool {
+    if p >= program.processors() || program.ops(p).len() != row.len() {
         return false;
     }
-    for p in 0..processors {
-        if program.ops(p) != rows[p] {
+    program
+        .ops(p)
+        .iter()
+        .zip(row)
+        .all(|(op, outcome)| *op == outcome.op())
+}
+
+/// Whether the processors of a program have the operations of these rows.
+fn has_rows(program: &Program, rows: &[Vec<Outcome>]) -> bool {
+    let mut p: usize = 0;
+    for row in rows {
+        if !are_ops_of(program, p, row) {
             return false;
         }
+        p = p.saturating_add(1);
     }
-    true
+    program.processors() == p
 }
 
-/// Whether a program has the operations, the setting and the first values of the example.
-fn is_as_written(program: &Program, example: &Example) -> bool {
-    has_rows(program, example.rows)
-        && (program.order(), program.version()) == example.setting
-        && example.first.iter().all(|(a, v)| program.first(*a) == *v)
+/// Whether a program has the operations, the setting and the first value of a case.
+fn is_as_written(alloc: Global, program: &Program, case: &Case) -> Result<bool, ValueFault> {
+    let (line, setting, (a, v), _) = *case;
+    let is_set = (program.order(), program.version()) == setting && program.first(a) == v;
+    Ok(is_set && has_rows(program, &value_of(alloc, line)?.rows))
 }
 
-/// Whether the program and its copy are as written, and they and `COMPARED` are the same, whichever of them is asked.
-fn looked_at(alloc: Global, example: &Example) -> Result<([bool; 2], [bool; 4]), ValueFault> {
-    let program = example_of(alloc, example)?;
-    let compared = example_of(alloc, &COMPARED)?;
+/// Whether two programs are the same, whichever of them is asked.
+fn are_same(one: &Program, other: &Program) -> [bool; 2] {
+    [one.is_same(other), other.is_same(one)]
+}
+
+/// Compares a program and its copy with their case.
+fn expect_case(alloc: Global, case: &Case) -> Result<(), Fail> {
+    let (line, _, _, same) = *case;
+    let program = program_of(alloc, line)?;
+    expect_equal(line, is_as_written(alloc, &program, case)?, true)?;
+    let compared = program_of(alloc, COMPARED)?;
+    expect_equal(line, are_same(&program, &compared), [same; 2])?;
     let copy = program.copy()?;
-    Ok((
-        [
-            is_as_written(&program, example),
-            is_as_written(&copy, example),
-        ],
-        [
-            program.is_same(&copy),
-            copy.is_same(&program),
-            program.is_same(&compared),
-            compared.is_same(&program),
-        ],
-    ))
+    expect_equal(line, is_as_written(alloc, &copy, case)?, true)?;
+    expect_equal(line, are_same(&program, &copy), [true; 2])
 }
 
 #[test]
-fn examples_of_programs(rt: HostRuntime) -> Result<(), Fail> {
-    for (place, example) in EXAMPLES.iter().enumerate() {
-        let found = looked_at(rt.alloc(), example)?;
-        let same = example.same;
-        expect_equal(place, found, ([true; 2], [true, true, same, same]))?;
+fn cases_of_programs(rt: HostRuntime) -> Result<(), Fail> {
+    for case in &CASES {
+        expect_case(rt.alloc(), case)?;
     }
     Ok(())
 }

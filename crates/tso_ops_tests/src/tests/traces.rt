@@ -1,9 +1,9 @@
 //! What traces say of themselves: settings, operations, events, sources, pairs of events and rows of bits.
 
-use super::{Given, trace_of};
+use super::written::trace_of;
 use std::test::Fail;
-use traces_for_tests::{expect_equal, lists_of};
-use tso_ops::Outcome::{Ld, Mb, Sb, St, Sw};
+use traces_for_tests::expect_equal;
+use tso_ops::Outcome::{Ld, Mb};
 use tso_ops::{Event, Order, Outcome, Source, Trace, Version};
 
 /// What is so of a trace.
@@ -98,51 +98,34 @@ fn pair_of(trace: &Trace, u: usize, v: usize) -> [bool; 5] {
 #[derive(Clone, Copy)]
 struct Example {
     name: &'static str,
-    given: Given,
-    rows: &'static [&'static [Outcome]],
+    line: &'static str,
     facts: &'static [Fact],
 }
-
-const LOAD: Outcome = Ld { a: 0, r: 0 };
 
 const EXAMPLES: [Example; 11] = [
     Example {
         name: "nothing given",
-        given: Given::Nothing,
-        rows: &[&[]],
+        line: "proc",
         facts: &[Fact::Setting(Order::Tso, Version::One, 0)],
     },
     Example {
         name: "under PSO",
-        given: Given::Model(Order::Pso),
-        rows: &[&[]],
+        line: "pso, proc",
         facts: &[Fact::Setting(Order::Pso, Version::One, 0)],
     },
     Example {
         name: "first values under PSO",
-        given: Given::First(Order::Pso, &[(1, 7)]),
-        rows: &[&[]],
+        line: "pso, first, init 1 7, proc",
         facts: &[Fact::Setting(Order::Pso, Version::Two, 7)],
     },
     Example {
         name: "no processors",
-        given: Given::Nothing,
-        rows: &[],
+        line: "",
         facts: &[Fact::Counts(0, 0, 1)],
     },
     Example {
         name: "operations come back",
-        given: Given::Nothing,
-        rows: &[
-            &[],
-            &[
-                Ld {
-                    a: 255,
-                    r: u64::MAX,
-                },
-                Mb,
-            ],
-        ],
+        line: "proc, proc, ld 255 18446744073709551615, mb",
         facts: &[
             Fact::Counts(2, 1, 2),
             Fact::Ops(0, &[]),
@@ -160,12 +143,7 @@ const EXAMPLES: [Example; 11] = [
     },
     Example {
         name: "events",
-        given: Given::Nothing,
-        rows: &[
-            &[St { a: 1, v: 1 }, Mb, Sw { a: 2, r: 7, v: 5 }],
-            &[],
-            &[Mb, Mb, Ld { a: 1, r: 1 }],
-        ],
+        line: "proc, st 1 1, mb, sw 2 7 5, proc, proc, mb, mb, ld 1 1",
         facts: &[
             Fact::Counts(3, 4, 5),
             Fact::Event(0, None),
@@ -222,21 +200,7 @@ const EXAMPLES: [Example; 11] = [
     },
     Example {
         name: "sources",
-        given: Given::Nothing,
-        rows: &[
-            &[
-                St { a: 1, v: 4 },
-                Sw { a: 2, r: 8, v: 8 },
-                Ld { a: 1, r: 0 },
-            ],
-            &[
-                Ld { a: 1, r: 4 },
-                Ld { a: 2, r: 4 },
-                Ld { a: 1, r: 9 },
-                Ld { a: 3, r: 6 },
-                St { a: 3, v: 6 },
-            ],
-        ],
+        line: "proc, st 1 4, sw 2 8 8, ld 1 0, proc, ld 1 4, ld 2 4, ld 1 9, ld 3 6, st 3 6",
         facts: &[
             Fact::Source(0, None),
             Fact::Source(1, None),
@@ -258,16 +222,7 @@ const EXAMPLES: [Example; 11] = [
     },
     Example {
         name: "sources by first values",
-        given: Given::First(Order::Tso, &[(1, 7), (3, 7)]),
-        rows: &[&[
-            Ld { a: 1, r: 7 },
-            Ld { a: 1, r: 0 },
-            Ld { a: 2, r: 0 },
-            Ld { a: 2, r: 7 },
-            Ld { a: 3, r: 7 },
-            St { a: 1, v: 8 },
-            Sw { a: 1, r: 8, v: 9 },
-        ]],
+        line: "first, init 1 7, init 3 7, proc, ld 1 7, ld 1 0, ld 2 0, ld 2 7, ld 3 7, st 1 8, sw 1 8 9",
         facts: &[
             Fact::Source(1, Some(Source::Init)),
             Fact::Source(2, Some(Source::Unwritten)),
@@ -281,11 +236,7 @@ const EXAMPLES: [Example; 11] = [
     },
     Example {
         name: "rows of bits of two words",
-        given: Given::Nothing,
-        rows: &[
-            &[LOAD; 66],
-            &[Sw { a: 1, r: 0, v: 7 }, Mb, St { a: 1, v: 8 }],
-        ],
+        line: "proc, ld 0 0, times 66, proc, sw 1 0 7, mb, st 1 8",
         facts: &[
             Fact::Loads(0, &[!1, 0b111]),
             Fact::Loads(1, &[0, 0b1000]),
@@ -305,16 +256,7 @@ const EXAMPLES: [Example; 11] = [
     },
     Example {
         name: "kinds and pairs of events",
-        given: Given::Model(Order::Tso),
-        rows: &[
-            &[
-                St { a: 1, v: 1 },
-                Mb,
-                Ld { a: 2, r: 0 },
-                Sw { a: 1, r: 1, v: 3 },
-            ],
-            &[Ld { a: 1, r: 9 }, St { a: 2, v: 2 }],
-        ],
+        line: "tso, proc, st 1 1, mb, ld 2 0, sw 1 1 3, proc, ld 1 9, st 2 2",
         facts: &[
             Fact::Counts(2, 6, 7),
             Fact::Kind(0, [false, false, false, false]),
@@ -342,18 +284,7 @@ const EXAMPLES: [Example; 11] = [
     },
     Example {
         name: "STBARs",
-        given: Given::Model(Order::Pso),
-        rows: &[
-            &[
-                St { a: 1, v: 1 },
-                Sb,
-                Mb,
-                Sb,
-                Sw { a: 2, r: 0, v: 2 },
-                St { a: 2, v: 3 },
-            ],
-            &[Sb, Ld { a: 1, r: 1 }],
-        ],
+        line: "pso, proc, st 1 1, stbar, mb, stbar, sw 2 0 2, st 2 3, proc, stbar, ld 1 1",
         facts: &[
             Fact::Counts(2, 5, 6),
             Fact::Event(
@@ -424,8 +355,7 @@ fn expect_facts(example: &Example, trace: &Trace) -> Result<(), Fail> {
 #[test]
 fn examples_of_traces(rt: HostRuntime) -> Result<(), Fail> {
     for example in &EXAMPLES {
-        let rows = lists_of(rt.alloc(), example.rows)?;
-        let trace = trace_of(rt.alloc(), example.given, rows)?;
+        let trace = trace_of(rt.alloc(), example.line)?;
         expect_facts(example, &trace)?;
     }
     Ok(())
