@@ -1,11 +1,12 @@
 //! Values made by hand, and their texts.
 
+use super::reading::{Kind, text_back};
 use log_text::read_log;
 use std::alloc::{AllocError, Global};
 use std::test::Fail;
 use traces_for_tests::Listed::{self, Base, Inferred};
 use traces_for_tests::{
-    EXAMPLES, are_equal, cycle_of, expect_equal, program_of, step_of, trace_of,
+    EXAMPLES, Example, are_equal, cycle_of, expect_equal, program_of, step_of, trace_of,
 };
 use tso_cert::BaseRule::{Init, Membar, Own, Stbar};
 use tso_cert::InferredRule::{SwapAfter, SwapBefore};
@@ -114,17 +115,22 @@ fn certificates_by_hand(rt: HostRuntime) -> Result<(), Fail> {
     expect_equal("unwritten", unwritten.as_str(), "unwritten 3\n")
 }
 
+/// Compares what comes of the texts of an example, and the text of its certificate made by hand.
+fn expect_example(alloc: Global, example: &Example) -> Result<(), Fail> {
+    let trace = text_back(alloc, Kind::Trace, example.trace)?;
+    expect_equal(example.name, trace.as_str(), example.trace)?;
+    let certificate = text_back(alloc, Kind::Certificate, example.certificate)?;
+    expect_equal(example.name, certificate.as_str(), example.certificate)?;
+    if example.cycle.is_empty() {
+        return Ok(());
+    }
+    expect_certificate(alloc, example.steps, example.cycle, example.certificate)
+}
+
 #[test]
-fn certificates_of_violations_by_hand(rt: HostRuntime) -> Result<(), Fail> {
+fn examples_of_violations(rt: HostRuntime) -> Result<(), Fail> {
     for example in &EXAMPLES {
-        if !example.cycle.is_empty() {
-            expect_certificate(
-                rt.alloc(),
-                example.steps,
-                example.cycle,
-                example.certificate,
-            )?;
-        }
+        expect_example(rt.alloc(), example)?;
     }
     Ok(())
 }

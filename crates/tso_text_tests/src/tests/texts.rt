@@ -4,7 +4,7 @@ use super::reading::{Kind, text_back};
 use evidence_for_tests::{BUFFERING_ORDER, THIRTY_REFUTED, TWELVE_REFUTED};
 use std::alloc::{AllocError, Global};
 use std::test::Fail;
-use traces_for_tests::{EXAMPLES, expect_equal, repeated};
+use traces_for_tests::{expect_equal, repeated};
 
 /// A kind of text, a text, and what it gives: nothing where it is printed back as it is.
 type Case = (Kind, &'static str, &'static str);
@@ -853,15 +853,6 @@ fn texts(rt: HostRuntime) -> Result<(), Fail> {
     expect_texts(rt.alloc(), &EVIDENCE)?;
     expect_texts(rt.alloc(), &REFUSED_EVIDENCE)?;
     expect_texts(rt.alloc(), &LOGS)
-}
-
-#[test]
-fn texts_of_violations(rt: HostRuntime) -> Result<(), Fail> {
-    for example in &EXAMPLES {
-        expect_text(rt.alloc(), Kind::Trace, example.trace, "")?;
-        expect_text(rt.alloc(), Kind::Certificate, example.certificate, "")?;
-    }
-    Ok(())
 }
 
 /// A kind of text, its first lines, a line, how often it comes, the last lines, how many bytes it has, and what it gives.

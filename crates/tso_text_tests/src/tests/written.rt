@@ -4,6 +4,7 @@
 //! `init A V`, `procs N` (so many more processors), `proc`, operations as in the text of a trace, and `times N` (the
 //! operation before it, so many times in all).
 
+use line_text::number_of;
 use std::alloc::{AllocError, Global};
 use tso_ops::{Op, Order, Outcome, Program, Trace, ValueFault};
 
@@ -30,7 +31,10 @@ pub(super) fn value_of(alloc: Global, line: &str) -> Result<Written, AllocError>
 
 /// A number, or 0 where there is none.
 fn number(token: Option<&str>) -> u64 {
-    token.and_then(|digits| digits.parse().ok()).unwrap_or(0)
+    match token {
+        Some(digits) => number_of(digits.as_bytes()).unwrap_or(0),
+        None => 0,
+    }
 }
 
 impl Written {
