@@ -1,5 +1,6 @@
-//! Replays on memory units, lawful units, and faulty ones.
+//! Memory units: driven by hand, and with programs run on them.
 
-mod faulty;
-mod lawful;
-mod replays;
+mod driven;
+mod refused;
+mod runs;
+mod units;

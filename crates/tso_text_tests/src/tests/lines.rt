@@ -2,66 +2,67 @@
 
 use line_text::{next_line, next_token, number_of};
 use std::test::Fail;
+use traces_for_tests::expect_equal;
+
+/// Texts, their first line and what follows it.
+const LINES: [(&str, &str, &str); 3] = [
+    ("ld 1 0\nend\n", "ld 1 0", "end\n"),
+    ("end\n", "end", ""),
+    ("\n\n", "", "\n"),
+];
 
 #[test]
-fn lines_and_what_follows_them(rt: HostRuntime) -> Result<(), Fail> {
-    let cases: [(&[u8], Option<(&[u8], &[u8])>); 5] = [
-        (
-            b"ld 1 0\nend\n".as_slice(),
-            Some((b"ld 1 0".as_slice(), b"end\n".as_slice())),
-        ),
-        (
-            b"end\n".as_slice(),
-            Some((b"end".as_slice(), b"".as_slice())),
-        ),
-        (b"\n\n".as_slice(), Some((b"".as_slice(), b"\n".as_slice()))),
-        (b"end".as_slice(), None),
-        (b"".as_slice(), None),
-    ];
-    for (text, parts) in cases {
-        assert_eq!(rt; next_line(text), parts);
+fn lines_and_what_follows_them(_rt: HostRuntime) -> Result<(), Fail> {
+    for (text, line, rest) in &LINES {
+        let wanted = Some((line.as_bytes(), rest.as_bytes()));
+        expect_equal(text, next_line(text.as_bytes()), wanted)?;
+    }
+    expect_equal("no line end", next_line(b"end"), None)?;
+    expect_equal("no byte", next_line(b""), None)
+}
+
+/// Lines, their first token, and what follows it if a space does.
+const TOKENS: [(&str, &str, Option<&str>); 5] = [
+    ("ld 1 0", "ld", Some("1 0")),
+    ("ld  1", "ld", Some(" 1")),
+    (" ld", "", Some("ld")),
+    ("mb ", "mb", Some("")),
+    ("mb", "mb", None),
+];
+
+#[test]
+fn tokens_and_what_follows_them(_rt: HostRuntime) -> Result<(), Fail> {
+    for (line, token, rest) in &TOKENS {
+        let wanted = match rest {
+            Some(rest) => Some(rest.as_bytes()),
+            None => None,
+        };
+        expect_equal(
+            line,
+            next_token(line.as_bytes()),
+            (token.as_bytes(), wanted),
+        )?;
     }
     Ok(())
 }
 
-#[test]
-fn tokens_and_what_follows_them(rt: HostRuntime) -> Result<(), Fail> {
-    let cases: [(&[u8], &[u8], Option<&[u8]>); 5] = [
-        (
-            b"ld 1 0".as_slice(),
-            b"ld".as_slice(),
-            Some(b"1 0".as_slice()),
-        ),
-        (
-            b"ld  1".as_slice(),
-            b"ld".as_slice(),
-            Some(b" 1".as_slice()),
-        ),
-        (b" ld".as_slice(), b"".as_slice(), Some(b"ld".as_slice())),
-        (b"mb ".as_slice(), b"mb".as_slice(), Some(b"".as_slice())),
-        (b"mb".as_slice(), b"mb".as_slice(), None),
-    ];
-    for (line, token, rest) in cases {
-        assert_eq!(rt; next_token(line), (token, rest));
-    }
-    Ok(())
-}
+/// Numbers, and tokens that are none.
+const NUMBERS: [(&str, Option<u64>); 9] = [
+    ("0", Some(0)),
+    ("70", Some(70)),
+    ("18446744073709551615", Some(u64::MAX)),
+    ("18446744073709551616", None),
+    ("07", None),
+    ("+7", None),
+    ("7\r", None),
+    ("", None),
+    ("\u{663}", None),
+];
 
 #[test]
-fn numbers_and_tokens_that_are_none(rt: HostRuntime) -> Result<(), Fail> {
-    let cases: [(&[u8], Option<u64>); 9] = [
-        (b"0".as_slice(), Some(0)),
-        (b"70".as_slice(), Some(70)),
-        (b"18446744073709551615".as_slice(), Some(u64::MAX)),
-        (b"18446744073709551616".as_slice(), None),
-        (b"07".as_slice(), None),
-        (b"+7".as_slice(), None),
-        (b"7\r".as_slice(), None),
-        (b"".as_slice(), None),
-        (b"\xd9\xa3".as_slice(), None),
-    ];
-    for (token, number) in cases {
-        assert_eq!(rt; number_of(token), number);
+fn numbers_and_tokens_that_are_none(_rt: HostRuntime) -> Result<(), Fail> {
+    for (token, number) in &NUMBERS {
+        expect_equal(token, number_of(token.as_bytes()), *number)?;
     }
     Ok(())
 }

@@ -1,3 +1,0 @@
-//! What rules ask for.
-
-mod conditions;
