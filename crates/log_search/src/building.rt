@@ -1,30 +1,17 @@
 //! The nodes of a log, with what is known of them before the search.
 
-use crate::chains::{Chains, make_chains};
-use crate::edges::{Edges, Why};
-use crate::groups::{Groups, make_groups};
+use crate::chains::make_chains;
+use crate::edges::Edges;
+use crate::graphs::Graph;
+use crate::groups::make_groups;
 use crate::lookups::{number_of, source_of};
+use crate::memory::Memory;
 use crate::nodes::{FIRST, Kind, Node, node_at};
 use crate::numbers::{NONE, item, narrow, put};
 use crate::surveys::{Addresses, Survey};
 use log_selections::KnownLog;
 use log_text::{LogOperation, LoggedOperation};
-use std::alloc::Global;
-use tso_ops::{Order, OutOfMemory};
-
-/// The nodes, their chains and groups, and the edges that are kept in lists.
-#[derive(Drop)]
-pub(crate) struct Graph {
-    pub(crate) order: Order,
-    pub(crate) nodes: Vec<Node>,
-    pub(crate) chains: Chains,
-    pub(crate) groups: Groups,
-    pub(crate) edges: Edges,
-    /// For each node when it was done, from 1: 0 where it isn't yet.
-    pub(crate) ranks: Vec<u32>,
-    /// The first node of each processor, and the number of nodes.
-    pub(crate) firsts: Vec<u32>,
-}
+use tso_ops::Order;
 
 /// The nodes while they are listed.
 #[derive(Drop)]
@@ -46,146 +33,153 @@ pub(crate) struct Scope<'a> {
 }
 
 /// Lists the nodes of a log at some of its addresses, with their chains, groups and first edges.
-pub(crate) fn build(alloc: Global, scope: Scope<'_>) -> Result<Graph, OutOfMemory> {
-    let Listing {
-        mut nodes,
-        firsts,
-        by_number,
-        membars,
-    } = list_nodes(alloc, scope)?;
-    drop(by_number);
-    let addresses = scope.addresses.len();
-    let order = scope.known.log().order;
-    let processors = scope.known.log().lists.len();
-    let chains = make_chains(alloc, order, addresses, processors, &mut nodes)?;
-    let groups = make_groups(alloc, addresses, &mut nodes)?;
-    find_own_stores(alloc, addresses, &mut nodes)?;
-    let mut graph = Graph {
-        order,
-        chains,
-        groups,
-        edges: Edges::new(alloc, nodes.len())?,
-        ranks: vec![in alloc; 0u32; nodes.len()]?,
-        nodes,
-        firsts,
-    };
-    graph.add_membars(&membars)?;
-    graph.add_own()?;
-    graph.add_stbars()?;
-    Ok(graph)
+pub(crate) fn build(memory: &mut Memory, scope: Scope<'_>) -> Graph {
+    let listing = list_nodes(memory, scope);
+    let membars = listing.membars;
+    let mut graph = Graph::of_nodes(memory, scope, listing.nodes, listing.firsts);
+    graph.add_membars(memory, &membars);
+    graph.add_own(memory);
+    graph.add_stbars(memory);
+    graph
 }
 
-fn list_nodes(alloc: Global, scope: Scope<'_>) -> Result<Listing, OutOfMemory> {
-    let mut listing = Listing {
-        nodes: Vec::new(alloc),
-        firsts: Vec::new(alloc),
-        by_number: vec![in alloc; NONE; scope.known.sources().len()]?,
-        membars: Vec::new(alloc),
-    };
+fn list_nodes(memory: &mut Memory, scope: Scope<'_>) -> Listing {
+    let mut listing = Listing::new(memory, scope.known.sources().len());
     for (processor, list) in scope.known.log().lists.iter().enumerate() {
-        listing.firsts.push(narrow(listing.nodes.len()))?;
-        listing.push_list(scope, processor, list)?;
+        listing.begin_list(memory);
+        listing.push_list(memory, scope, processor, list);
     }
-    listing.firsts.push(narrow(listing.nodes.len()))?;
+    listing.begin_list(memory);
     listing.find_sources(scope.known);
-    Ok(listing)
+    listing.by_number = Vec::new(memory.alloc());
+    listing
 }
 
 impl Listing {
+    /// No nodes yet, of a log with so many events.
+    fn new(memory: &mut Memory, events: usize) -> Listing {
+        let alloc = memory.alloc();
+        Listing {
+            nodes: Vec::new(alloc),
+            firsts: Vec::new(alloc),
+            by_number: memory.numbers(NONE, events),
+            membars: Vec::new(alloc),
+        }
+    }
+
+    /// Notes that the nodes of the next processor begin here.
+    fn begin_list(&mut self, memory: &mut Memory) {
+        memory.push(&mut self.firsts, narrow(self.nodes.len()));
+    }
+
     fn push_list(
         &mut self,
+        memory: &mut Memory,
         scope: Scope<'_>,
         processor: usize,
         list: &[LoggedOperation],
-    ) -> Result<(), OutOfMemory> {
+    ) {
         for (operation, logged) in list.iter().enumerate() {
+            let node = Node::new(narrow(processor), narrow(operation), Kind::Load, NONE);
             let number = number_of(scope.known, processor, operation).unwrap_or(0);
-            let mut node = Node::new(narrow(processor), narrow(operation), Kind::Load, NONE);
-            match logged.operation {
-                LogOperation::Mb => self
-                    .membars
-                    .push((narrow(self.nodes.len()), narrow(operation)))?,
-                LogOperation::Sb => self.push_stbar(scope.known.log().order, node)?,
-                _ => {
-                    if let Some(place) = scope.addresses.place(scope.survey.address(number)) {
-                        node.address = place;
-                        self.push_access(scope, number, node, logged.operation)?;
-                    }
+            self.push_operation(memory, scope, number, node, logged.operation);
+        }
+    }
+
+    /// Pushes the nodes of an operation of this number.
+    fn push_operation(
+        &mut self,
+        memory: &mut Memory,
+        scope: Scope<'_>,
+        number: usize,
+        node: Node,
+        operation: LogOperation,
+    ) {
+        match operation {
+            LogOperation::Mb => {
+                let place = narrow(self.nodes.len());
+                memory.push(&mut self.membars, (place, node.operation));
+            }
+            LogOperation::Sb => self.push_stbar(memory, scope.known.log().order, node),
+            _ => {
+                if let Some(address) = scope.addresses.place(scope.survey.address(number)) {
+                    let node = Node { address, ..node };
+                    self.push_access(memory, scope, number, node, operation);
                 }
             }
         }
-        Ok(())
     }
 
     /// Pushes the nodes of a load, a store or a swap.
     fn push_access(
         &mut self,
+        memory: &mut Memory,
         scope: Scope<'_>,
         number: usize,
         node: Node,
         operation: LogOperation,
-    ) -> Result<(), OutOfMemory> {
+    ) {
         let store = number.saturating_add(1);
         match operation {
-            LogOperation::Ld { .. } if scope.survey.keeps(number) => self.push(number, node),
-            LogOperation::St { .. } => self.push_as(number, node, Kind::Store),
-            LogOperation::Sw { .. } if source_of(scope.known, number).is_some() => {
-                self.push_as(number, node, Kind::SwapLoad)?;
-                self.push_as(store, node, Kind::SwapStore)
+            LogOperation::Ld { .. } if scope.survey.keeps(number) => {
+                self.push(memory, number, node, Kind::Load);
             }
-            LogOperation::Sw { .. } => self.push_as(store, node, Kind::LoneSwapStore),
-            LogOperation::Ld { .. } | LogOperation::Mb | LogOperation::Sb => Ok(()),
+            LogOperation::St { .. } => self.push(memory, number, node, Kind::Store),
+            LogOperation::Sw { .. } if source_of(scope.known, number).is_some() => {
+                self.push(memory, number, node, Kind::SwapLoad);
+                self.push(memory, store, node, Kind::SwapStore);
+            }
+            LogOperation::Sw { .. } => self.push(memory, store, node, Kind::LoneSwapStore),
+            LogOperation::Ld { .. } | LogOperation::Mb | LogOperation::Sb => {}
         }
     }
 
-    fn push_as(&mut self, number: usize, node: Node, kind: Kind) -> Result<(), OutOfMemory> {
-        self.push(number, Node { kind, ..node })
-    }
-
-    fn push(&mut self, number: usize, node: Node) -> Result<(), OutOfMemory> {
-        put(
-            &mut self.by_number,
-            narrow(number),
-            narrow(self.nodes.len()),
-        );
+    fn push(&mut self, memory: &mut Memory, number: usize, node: Node, kind: Kind) {
         let source = narrow(number);
-        self.nodes.push(Node { source, ..node })?;
-        Ok(())
+        put(&mut self.by_number, source, narrow(self.nodes.len()));
+        memory.push(
+            &mut self.nodes,
+            Node {
+                source,
+                kind,
+                ..node
+            },
+        );
     }
 
     /// Pushes an STBAR where one says something: under PSO, after another node of its processor.
-    fn push_stbar(&mut self, order: Order, node: Node) -> Result<(), OutOfMemory> {
+    fn push_stbar(&mut self, memory: &mut Memory, order: Order, node: Node) {
         if order == Order::Pso
             && let Some(last) = self.nodes.last()
             && last.processor == node.processor
             && last.kind != Kind::Stbar
         {
-            self.nodes.push(Node {
-                kind: Kind::Stbar,
-                address: NONE,
-                ..node
-            })?;
+            let kind = Kind::Stbar;
+            memory.push(&mut self.nodes, Node { kind, ..node });
         }
-        Ok(())
     }
 
     /// Writes the node of each load's source, in place of the number of the load, and links the readers of each store.
     fn find_sources(&mut self, known: &KnownLog) {
         for number in 0..self.nodes.len() {
-            let Some(node) = self.nodes.get(number).copied() else {
-                return;
-            };
-            if !node.is_load() {
-                continue;
+            let load = narrow(number);
+            if let Some(node) = node_at(&self.nodes, load)
+                && node.is_load()
+            {
+                let source = self.source_of(known, node);
+                self.link(load, source);
             }
-            let source = match source_of(known, node.source as usize) {
-                None => NONE,
-                Some(0) => FIRST,
-                Some(source) => item(&self.by_number, narrow(source)),
-            };
-            self.link(narrow(number), source);
         }
         self.end_readers();
+    }
+
+    /// The node of the source of a load, whose number stands in the place of its source.
+    fn source_of(&self, known: &KnownLog, load: Node) -> u32 {
+        match source_of(known, load.source as usize) {
+            None => NONE,
+            Some(0) => FIRST,
+            Some(source) => item(&self.by_number, narrow(source)),
+        }
     }
 
     fn link(&mut self, load: u32, source: u32) {
@@ -212,151 +206,58 @@ impl Listing {
     }
 }
 
-/// Writes for each load its processor's last store to its address before it.
-fn find_own_stores(alloc: Global, addresses: usize, nodes: &mut [Node]) -> Result<(), OutOfMemory> {
-    // The last store to each address, with its processor.
-    let mut last = vec![in alloc; (NONE, NONE); addresses]?;
-    for (number, node) in nodes.iter_mut().enumerate() {
-        let Some(slot) = last.get_mut(node.address as usize) else {
-            continue;
-        };
+/// For each address the last store so far, and its processor.
+#[derive(Drop)]
+struct LastStores {
+    processors: Vec<u32>,
+    stores: Vec<u32>,
+}
+
+impl LastStores {
+    /// Looks at the next node: notes a store, and writes for a load its processor's last store to its address before it.
+    fn look_at(&mut self, number: u32, node: &mut Node) {
         if node.is_store() {
-            *slot = (node.processor, narrow(number));
-        } else if slot.0 == node.processor {
-            node.own = slot.1;
+            put(&mut self.processors, node.address, node.processor);
+            put(&mut self.stores, node.address, number);
+        } else if node.is_load() && item(&self.processors, node.address) == node.processor {
+            node.own = item(&self.stores, node.address);
         }
     }
-    Ok(())
+}
+
+/// Writes for each load its processor's last store to its address before it.
+fn find_own_stores(memory: &mut Memory, addresses: usize, nodes: &mut [Node]) {
+    let mut last = LastStores {
+        processors: memory.numbers(NONE, addresses),
+        stores: memory.numbers(NONE, addresses),
+    };
+    for (number, node) in nodes.iter_mut().enumerate() {
+        last.look_at(narrow(number), node);
+    }
 }
 
 impl Graph {
-    /// The node of this number.
-    #[inline]
-    pub(crate) fn node(&self, node: u32) -> Option<Node> {
-        node_at(&self.nodes, node)
-    }
-
-    /// Whether a node is done.
-    #[inline]
-    pub(crate) fn is_done(&self, node: u32) -> bool {
-        let rank = item(&self.ranks, node);
-        rank != 0 && rank != NONE
-    }
-
-    /// Leaves a load out: a swap's store stays.
-    pub(crate) fn leave_out(&mut self, load: u32) {
-        let Some(node) = self.nodes.get_mut(load as usize) else {
-            return;
-        };
-        node.source = NONE;
-        if node.kind == Kind::SwapLoad {
-            node.kind = Kind::Load;
-            if let Some(store) = self.nodes.get_mut(load.saturating_add(1) as usize) {
-                store.kind = Kind::LoneSwapStore;
-            }
+    /// The graph of these nodes, with no edges that are kept in lists.
+    fn of_nodes(
+        memory: &mut Memory,
+        scope: Scope<'_>,
+        listed: Vec<Node>,
+        firsts: Vec<u32>,
+    ) -> Graph {
+        let mut nodes = listed;
+        let log = scope.known.log();
+        let addresses = scope.addresses.len();
+        let chains = make_chains(memory, log.order, addresses, log.lists.len(), &mut nodes);
+        let groups = make_groups(memory, addresses, &mut nodes);
+        find_own_stores(memory, addresses, &mut nodes);
+        Graph {
+            order: log.order,
+            chains,
+            groups,
+            edges: Edges::new(memory, nodes.len()),
+            ranks: memory.numbers(0, nodes.len()),
+            nodes,
+            firsts,
         }
-    }
-
-    /// Where the nodes of a processor begin, and where they end.
-    pub(crate) fn nodes_of(&self, processor: u32) -> (u32, u32) {
-        (
-            item(&self.firsts, processor),
-            item(&self.firsts, processor.saturating_add(1)),
-        )
-    }
-
-    /// The edges of barriers: from the stores before each that none before it covers to the first load after it.
-    fn add_membars(&mut self, membars: &[(u32, u32)]) -> Result<(), OutOfMemory> {
-        let mut covered = 0;
-        for (k, (end, operation)) in membars.iter().enumerate() {
-            let after = membars.get(k.saturating_add(1)).map_or(NONE, |next| next.0);
-            if after == *end {
-                continue;
-            }
-            covered = self.add_membar(covered, *end, *operation)?;
-        }
-        Ok(())
-    }
-
-    /// The edges of the barrier before node `end`: the first node that it doesn't cover.
-    fn add_membar(&mut self, covered: u32, end: u32, barrier: u32) -> Result<u32, OutOfMemory> {
-        let Some(processor) = self.node(end).map(|node| node.processor) else {
-            return Ok(covered);
-        };
-        let (first, last) = self.nodes_of(processor);
-        let Some(load) = self.load_from(end, last) else {
-            return Ok(covered);
-        };
-        for store in covered.max(first)..end {
-            if self.is_last_store(store, end) {
-                self.edges.add(store, load, Why::Membar(barrier), 0)?;
-            }
-        }
-        Ok(end)
-    }
-
-    /// The first load from a node on, before the last.
-    fn load_from(&self, node: u32, last: u32) -> Option<u32> {
-        for load in node..last {
-            if self.node(load).is_some_and(|node| node.is_load()) {
-                return Some(load);
-            }
-        }
-        None
-    }
-
-    /// Whether a node is a store, and no later store before node `end` is in its chain.
-    fn is_last_store(&self, store: u32, end: u32) -> bool {
-        match self.node(store) {
-            Some(node) if node.is_store() => {
-                match self.chains.member(node.chain, node.place.saturating_add(1)) {
-                    Some(next) => next >= end,
-                    None => true,
-                }
-            }
-            _ => false,
-        }
-    }
-
-    /// The edges of the rule Own between stores.
-    fn add_own(&mut self) -> Result<(), OutOfMemory> {
-        for number in 0..self.nodes.len() {
-            let load = narrow(number);
-            if let Some(node) = self.node(load)
-                && node.is_live_load()
-                && node.own != NONE
-                && node.own != node.source
-                && node.source != FIRST
-            {
-                self.edges.add(node.own, node.source, Why::Own(load), 0)?;
-            }
-        }
-        Ok(())
-    }
-
-    /// The edges from stores to the STBARs after them.
-    fn add_stbars(&mut self) -> Result<(), OutOfMemory> {
-        let mut first = 0;
-        for number in 0..self.nodes.len() {
-            let stbar = narrow(number);
-            let Some(node) = self.node(stbar) else {
-                continue;
-            };
-            if node.kind == Kind::Stbar {
-                let start = self.nodes_of(node.processor).0;
-                self.add_stbar(first.max(start), stbar)?;
-                first = stbar;
-            }
-        }
-        Ok(())
-    }
-
-    fn add_stbar(&mut self, first: u32, stbar: u32) -> Result<(), OutOfMemory> {
-        for store in first..stbar {
-            if self.is_last_store(store, stbar) {
-                self.edges.add(store, stbar, Why::Stbar, 0)?;
-            }
-        }
-        Ok(())
     }
 }

@@ -1,10 +1,10 @@
 //! Chains: nodes of a processor of which each comes before the next in every order. Under TSO these are its loads, and its
 //! stores; under PSO its loads, its stores to each address, and its STBARs.
 
+use crate::memory::Memory;
 use crate::nodes::{Kind, Node};
 use crate::numbers::{NONE, begin, count, item, narrow, put};
-use std::alloc::Global;
-use tso_ops::{Order, OutOfMemory};
+use tso_ops::Order;
 
 /// The members of each chain, one chain after the other.
 #[derive(Drop)]
@@ -35,21 +35,24 @@ impl Chains {
         self.members.get(index as usize).copied()
     }
 
-    /// The chain of a processor's loads, if it has any.
-    pub(crate) fn loads_of(&self, processor: usize) -> Option<u32> {
-        chain_at(&self.loads, processor)
+    /// The member before a node in its chain.
+    pub(crate) fn before(&self, node: Node) -> Option<u32> {
+        self.member(node.chain, node.place.saturating_sub(1))
     }
 
-    /// The chain of a processor's STBARs, if it has any.
-    pub(crate) fn stbars_of(&self, processor: usize) -> Option<u32> {
-        chain_at(&self.stbars, processor)
+    /// The member after a node in its chain.
+    pub(crate) fn after(&self, node: Node) -> Option<u32> {
+        self.member(node.chain, node.place.saturating_add(1))
     }
-}
 
-fn chain_at(chains: &[u32], processor: usize) -> Option<u32> {
-    match chains.get(processor).copied() {
-        Some(chain) if chain != NONE => Some(chain),
-        _ => None,
+    /// Under PSO the last load of its processor before a store.
+    pub(crate) fn load_before(&self, store: Node) -> Option<u32> {
+        self.member(item(&self.loads, store.processor), store.load_place)
+    }
+
+    /// Under PSO the last STBAR of its processor before a store.
+    pub(crate) fn stbar_before(&self, store: Node) -> Option<u32> {
+        self.member(item(&self.stbars, store.processor), store.stbar_place)
     }
 }
 
@@ -67,72 +70,40 @@ struct Lanes {
     owners: Vec<u32>,
 }
 
-/// Puts the nodes into chains.
-pub(crate) fn make_chains(
-    alloc: Global,
-    order: Order,
-    addresses: usize,
-    processors: usize,
-    nodes: &mut [Node],
-) -> Result<Chains, OutOfMemory> {
-    let mut lanes = Lanes {
-        order,
-        processor: NONE,
-        loads: NONE,
-        stores: NONE,
-        stbars: NONE,
-        by_address: vec![in alloc; NONE; addresses]?,
-        lengths: Vec::new(alloc),
-        owners: Vec::new(alloc),
-    };
-    let mut loads = vec![in alloc; NONE; processors]?;
-    let mut stbars = vec![in alloc; NONE; processors]?;
-    for node in nodes.iter_mut() {
-        lanes.place(node)?;
-        match node.kind {
-            Kind::Load | Kind::SwapLoad => put(&mut loads, node.processor, node.chain),
-            Kind::Stbar => put(&mut stbars, node.processor, node.chain),
-            Kind::Store | Kind::SwapStore | Kind::LoneSwapStore => {}
-        }
-    }
-    let mut starts = lanes.lengths;
-    starts.push(0)?;
-    begin(&mut starts);
-    let members = list_members(alloc, &starts, nodes)?;
-    Ok(Chains {
-        members,
-        starts,
-        loads,
-        stbars,
-    })
-}
-
-fn list_members(alloc: Global, starts: &[u32], nodes: &[Node]) -> Result<Vec<u32>, OutOfMemory> {
-    let mut members = vec![in alloc; NONE; nodes.len()]?;
-    for (number, node) in nodes.iter().enumerate() {
-        let index = item(starts, node.chain).saturating_add(node.place.saturating_sub(1));
-        put(&mut members, index, narrow(number));
-    }
-    Ok(members)
-}
-
 impl Lanes {
-    /// Gives the next node its chain and its place there.
-    fn place(&mut self, node: &mut Node) -> Result<(), OutOfMemory> {
-        if node.processor != self.processor {
-            self.processor = node.processor;
-            self.loads = NONE;
-            self.stores = NONE;
-            self.stbars = NONE;
+    /// No chains yet, among so many addresses.
+    fn new(memory: &mut Memory, order: Order, addresses: usize) -> Lanes {
+        Lanes {
+            order,
+            processor: NONE,
+            loads: NONE,
+            stores: NONE,
+            stbars: NONE,
+            by_address: memory.numbers(NONE, addresses),
+            lengths: Vec::new(memory.alloc()),
+            owners: Vec::new(memory.alloc()),
         }
-        let chain = self.chain_of(node)?;
+    }
+
+    /// Gives the next node its chain and its place there.
+    fn place(&mut self, memory: &mut Memory, node: &mut Node) {
+        if node.processor != self.processor {
+            self.begin_processor(node.processor);
+        }
+        let chain = self.chain_of(memory, node);
         if node.is_store() && self.order == Order::Pso {
             node.load_place = self.length(self.loads);
             node.stbar_place = self.length(self.stbars);
         }
         node.chain = chain;
         node.place = count(&mut self.lengths, chain).saturating_add(1);
-        Ok(())
+    }
+
+    fn begin_processor(&mut self, processor: u32) {
+        self.processor = processor;
+        self.loads = NONE;
+        self.stores = NONE;
+        self.stbars = NONE;
     }
 
     fn length(&self, chain: u32) -> u32 {
@@ -144,18 +115,24 @@ impl Lanes {
     }
 
     /// The chain of a node, which may be a new one.
-    fn chain_of(&mut self, node: &Node) -> Result<u32, OutOfMemory> {
-        let new = narrow(self.lengths.len());
+    fn chain_of(&mut self, memory: &mut Memory, node: &Node) -> u32 {
         let found = match node.kind {
             Kind::Load | Kind::SwapLoad => self.loads,
             Kind::Stbar => self.stbars,
             Kind::Store | Kind::SwapStore | Kind::LoneSwapStore => self.stores_to(node.address),
         };
-        if found != NONE {
-            return Ok(found);
+        if found == NONE {
+            self.begin_chain(memory, node)
+        } else {
+            found
         }
-        self.lengths.push(0)?;
-        self.owners.push(self.processor)?;
+    }
+
+    /// A new chain, which begins with this node.
+    fn begin_chain(&mut self, memory: &mut Memory, node: &Node) -> u32 {
+        let new = narrow(self.lengths.len());
+        memory.push(&mut self.lengths, 0);
+        memory.push(&mut self.owners, self.processor);
         match node.kind {
             Kind::Load | Kind::SwapLoad => self.loads = new,
             Kind::Stbar => self.stbars = new,
@@ -164,7 +141,7 @@ impl Lanes {
                 put(&mut self.by_address, node.address, new);
             }
         }
-        Ok(new)
+        new
     }
 
     /// The chain of the processor's stores to an address, or `NONE`.
@@ -176,6 +153,52 @@ impl Lanes {
         match self.owners.get(chain as usize) {
             Some(owner) if *owner == self.processor => chain,
             _ => NONE,
+        }
+    }
+}
+
+/// Puts the nodes into chains.
+pub(crate) fn make_chains(
+    memory: &mut Memory,
+    order: Order,
+    addresses: usize,
+    processors: usize,
+    nodes: &mut [Node],
+) -> Chains {
+    let mut lanes = Lanes::new(memory, order, addresses);
+    let mut chains = Chains {
+        members: memory.numbers(NONE, nodes.len()),
+        starts: Vec::new(memory.alloc()),
+        loads: memory.numbers(NONE, processors),
+        stbars: memory.numbers(NONE, processors),
+    };
+    for node in nodes.iter_mut() {
+        lanes.place(memory, node);
+        chains.note(node);
+    }
+    chains.starts = lanes.lengths;
+    chains.list_members(memory, nodes);
+    chains
+}
+
+impl Chains {
+    /// Notes the chain of a load or an STBAR as that of its processor's.
+    fn note(&mut self, node: &Node) {
+        match node.kind {
+            Kind::Load | Kind::SwapLoad => put(&mut self.loads, node.processor, node.chain),
+            Kind::Stbar => put(&mut self.stbars, node.processor, node.chain),
+            Kind::Store | Kind::SwapStore | Kind::LoneSwapStore => {}
+        }
+    }
+
+    /// Lists the members, now that `starts` has the length of each chain.
+    fn list_members(&mut self, memory: &mut Memory, nodes: &[Node]) {
+        memory.push(&mut self.starts, 0);
+        begin(&mut self.starts);
+        for (number, node) in nodes.iter().enumerate() {
+            let before = node.place.saturating_sub(1);
+            let index = item(&self.starts, node.chain).saturating_add(before);
+            put(&mut self.members, index, narrow(number));
         }
     }
 }

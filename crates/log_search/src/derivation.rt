@@ -1,14 +1,13 @@
 //! The derived order as far as it is known: which nodes are done, and what reaches them.
 
-use crate::building::Graph;
 use crate::edges::Why;
-use crate::links::Link;
-use crate::nodes::Kind;
-use crate::numbers::{NONE, item, last_up_to, narrow, put};
+use crate::graphs::Graph;
+use crate::links::Links;
+use crate::memory::Memory;
+use crate::numbers::{NONE, item, narrow, put};
+use crate::queues::Queue;
 use crate::rows::Rows;
-use std::alloc::Global;
-use std::collections::BinaryHeap;
-use tso_ops::OutOfMemory;
+use crate::swaps::Swaps;
 
 /// A search may do as much as in a log with so many events more.
 const EVENTS_MORE: usize = 50_000;
@@ -38,48 +37,22 @@ pub(crate) enum Closing {
     OwnFirst { store: u32, load: u32 },
 }
 
-/// The swaps of a processor: the chain of its loads, and the places of the swaps' loads there.
-#[derive(Drop)]
-pub(crate) struct SwapPlaces {
-    pub(crate) chain: u32,
-    places: Vec<u32>,
-    /// Where the last search ended.
-    near: u32,
-}
-
-impl SwapPlaces {
-    /// How many of the places aren't above this one.
-    pub(crate) fn last_up_to(&mut self, place: u32) -> u32 {
-        let count = narrow(self.places.len());
-        self.near = last_up_to(&self.places, (0, count), self.near, place);
-        self.near
-    }
-
-    /// The place before an index; 0 where there is none.
-    pub(crate) fn place_before(&self, index: u32) -> u32 {
-        match index.checked_sub(1) {
-            Some(last) => item(&self.places, last),
-            None => 0,
-        }
-    }
-}
-
-/// The derived order of the nodes that are done.
+/// The nodes that are done, with their rows, and what was found by them.
 #[derive(Drop)]
 pub(crate) struct Derivation {
     pub(crate) graph: Graph,
     pub(crate) rows: Rows,
-    pub(crate) swaps: Vec<SwapPlaces>,
+    pub(crate) swaps: Swaps,
+    /// How a violation shows, if one was found.
     pub(crate) closing: Option<Closing>,
-    /// For each node since when rows may depend on it: 0 where none does.
+    /// For each node the time since which rows depend on it: 0 where none does.
     since: Vec<u32>,
-    /// When each node's row last grew.
+    /// For each node the last time that its row grew.
     changed: Vec<u32>,
     clock: u32,
-    /// Nodes whose rows grew since their rules were looked at, those done first on top.
-    queue: BinaryHeap<u64>,
-    queued: Vec<bool>,
-    links: Vec<Link>,
+    /// Nodes whose rows grew since their rules were looked at.
+    queue: Queue,
+    links: Links,
     /// How many nodes were done since the rules were looked at.
     waiting: u32,
     pub(crate) work: Work,
@@ -139,49 +112,28 @@ impl Work {
 
 impl Derivation {
     /// No node is done.
-    pub(crate) fn new(alloc: Global, graph: Graph, work: Work) -> Result<Derivation, OutOfMemory> {
+    pub(crate) fn new(memory: &mut Memory, graph: Graph, work: Work) -> Derivation {
         let nodes = graph.nodes.len();
-        let width = graph.chains.len();
-        let mut derivation = Derivation {
-            rows: Rows::new(alloc, nodes, width)?,
-            swaps: Vec::new(alloc),
+        Derivation {
+            rows: Rows::new(memory, nodes, graph.chains.len()),
+            swaps: Swaps::new(memory, &graph.nodes),
             closing: None,
-            since: vec![in alloc; 0u32; nodes]?,
-            changed: vec![in alloc; 0u32; nodes]?,
+            since: memory.numbers(0, nodes),
+            changed: memory.numbers(0, nodes),
             clock: 0,
-            queue: BinaryHeap::new(alloc),
-            queued: vec![in alloc; false; nodes]?,
-            links: Vec::new(alloc),
+            queue: Queue::new(memory, nodes),
+            links: Links::new(memory.alloc()),
             waiting: 0,
             work,
-            done: Vec::with_capacity(alloc, nodes)?,
-            redo: Vec::new(alloc),
+            done: memory.room(nodes),
+            redo: Vec::new(memory.alloc()),
             graph,
-        };
-        derivation.list_swaps(alloc)?;
-        Ok(derivation)
+        }
     }
 
-    fn list_swaps(&mut self, alloc: Global) -> Result<(), OutOfMemory> {
-        for node in &self.graph.nodes {
-            if node.kind != Kind::SwapLoad {
-                continue;
-            }
-            if let Some(last) = self.swaps.last_mut()
-                && last.chain == node.chain
-            {
-                last.places.push(node.place)?;
-                continue;
-            }
-            let mut places = Vec::new(alloc);
-            places.push(node.place)?;
-            self.swaps.push(SwapPlaces {
-                chain: node.chain,
-                places,
-                near: 0,
-            })?;
-        }
-        Ok(())
+    /// Whether nothing more is looked for now: a violation was found, or work or memory came to its end.
+    pub(crate) fn is_stopped(&self, memory: &Memory) -> bool {
+        self.closing.is_some() || self.work.is_spent() || memory.is_refused()
     }
 
     /// Whether a node that is done comes before another that is.
@@ -194,52 +146,53 @@ impl Derivation {
     }
 
     /// The node is done: all that follows is looked for, up to a cycle.
-    pub(crate) fn finish(&mut self, number: u32) -> Result<(), OutOfMemory> {
+    pub(crate) fn finish(&mut self, memory: &mut Memory, number: u32) {
+        self.note_done(memory, number);
+        self.take_all(memory, number);
+        self.look_for_cycle(number);
+        self.queue(memory, number);
+        self.queue_readers(memory, number);
+        self.waiting = self.waiting.saturating_add(1);
+        if self.waiting >= BATCH {
+            self.apply(memory);
+        }
+    }
+
+    fn note_done(&mut self, memory: &mut Memory, number: u32) {
         self.clock = self.clock.saturating_add(1);
         put(&mut self.graph.ranks, number, self.clock);
         put(&mut self.changed, number, self.clock);
-        self.done.push(number)?;
+        memory.push(&mut self.done, number);
         if item(&self.since, number) == 0 {
             put(&mut self.since, number, self.clock);
         }
-        self.graph.links_to(number, &mut self.links)?;
+    }
+
+    /// Notes what reaches a node by its links.
+    fn take_all(&mut self, memory: &mut Memory, number: u32) {
+        self.graph.links_to(memory, number, &mut self.links);
         for k in 0..self.links.len() {
-            let Some(link) = self.links.get(k).copied() else {
+            let Some(link) = self.links.get(k) else {
                 break;
             };
-            if self.graph.is_done(link.node) && self.graph.is_in_use(link.why) {
+            if self.graph.allows(link) {
                 self.take(link.node, number);
             }
         }
-        self.look_for_cycle(number);
-        self.queue(number)?;
-        self.queue_readers(number)?;
-        self.waiting = self.waiting.saturating_add(1);
-        if self.waiting >= BATCH {
-            self.apply()?;
-        }
-        Ok(())
     }
 
     /// The readers of a store that were done before it.
-    fn queue_readers(&mut self, number: u32) -> Result<(), OutOfMemory> {
-        let Some(store) = self.graph.node(number) else {
-            return Ok(());
-        };
-        if !store.is_store() {
-            return Ok(());
-        }
-        let mut reader = store.source;
+    fn queue_readers(&mut self, memory: &mut Memory, number: u32) {
+        let mut reader = self.graph.first_reader(number);
         for _ in 0..self.graph.nodes.len() {
             let Some(load) = self.graph.node(reader) else {
                 break;
             };
             if self.graph.is_done(reader) {
-                self.queue(reader)?;
+                self.queue(memory, reader);
             }
             reader = load.before;
         }
-        Ok(())
     }
 
     /// Notes that `u` and what reaches it reach `v`: whether something of it didn't.
@@ -255,26 +208,25 @@ impl Derivation {
     }
 
     /// `u` comes before `v`, and both are done.
-    pub(crate) fn join(&mut self, u: u32, v: u32) -> Result<(), OutOfMemory> {
+    pub(crate) fn join(&mut self, memory: &mut Memory, u: u32, v: u32) {
         if self.take(u, v) {
             put(&mut self.changed, v, self.clock);
             self.look_for_cycle(v);
-            self.queue(v)?;
+            self.queue(memory, v);
         }
-        Ok(())
     }
 
     /// Adds an edge to a node that is done, unless there is a path.
-    pub(crate) fn infer(&mut self, u: u32, v: u32, why: Why) -> Result<(), OutOfMemory> {
+    pub(crate) fn infer(&mut self, memory: &mut Memory, u: u32, v: u32, why: Why) {
         if self.reaches(u, v) {
-            return Ok(());
+            return;
         }
-        let is_done = self.graph.is_done(u);
-        if !is_done && self.graph.edges.has(u, v) {
-            return Ok(());
+        if self.graph.is_done(u) {
+            self.graph.edges.add(memory, u, v, why, self.clock);
+            self.join(memory, u, v);
+        } else if !self.graph.edges.has(u, v) {
+            self.graph.edges.add(memory, u, v, why, self.clock);
         }
-        self.graph.edges.add(u, v, why, self.clock)?;
-        if is_done { self.join(u, v) } else { Ok(()) }
     }
 
     fn look_for_cycle(&mut self, number: u32) {
@@ -283,54 +235,42 @@ impl Derivation {
         }
     }
 
-    fn queue(&mut self, number: u32) -> Result<(), OutOfMemory> {
-        if let Some(queued) = self.queued.get_mut(number as usize)
-            && !*queued
-        {
-            *queued = true;
-            let rank = u32::MAX - item(&self.graph.ranks, number);
-            self.queue.push(u64::from(rank) << 32 | u64::from(number))?;
-        }
-        Ok(())
+    fn queue(&mut self, memory: &mut Memory, number: u32) {
+        let rank = item(&self.graph.ranks, number);
+        self.queue.push(memory, rank, number);
     }
 
     /// Looks at the rules of the nodes whose rows grew, and hands on what reaches them.
-    pub(crate) fn apply(&mut self) -> Result<(), OutOfMemory> {
+    pub(crate) fn apply(&mut self, memory: &mut Memory) {
         self.waiting = 0;
         for _ in 0..usize::MAX {
-            if self.closing.is_some() || self.work.is_spent() {
+            if self.is_stopped(memory) {
                 break;
             }
-            let Some(top) = self.queue.pop() else {
+            let Some(number) = self.queue.pop() else {
                 break;
             };
-            let number = (top & u64::from(u32::MAX)) as u32;
-            if let Some(queued) = self.queued.get_mut(number as usize) {
-                *queued = false;
-            }
-            self.apply_rules(number)?;
-            self.hand_on(number)?;
+            self.apply_rules(memory, number);
+            self.hand_on(memory, number);
         }
-        Ok(())
     }
 
-    fn hand_on(&mut self, number: u32) -> Result<(), OutOfMemory> {
-        self.graph.links_from(number, &mut self.links)?;
+    fn hand_on(&mut self, memory: &mut Memory, number: u32) {
+        self.graph.links_from(memory, number, &mut self.links);
         let scanned = self.graph.scanned_from(number);
         self.work.spend(scanned.saturating_add(self.links.len()));
         for k in 0..self.links.len() {
-            let Some(link) = self.links.get(k).copied() else {
+            let Some(link) = self.links.get(k) else {
                 break;
             };
-            if self.graph.is_done(link.node) && self.graph.is_in_use(link.why) {
-                self.join(number, link.node)?;
+            if self.graph.allows(link) {
+                self.join(memory, number, link.node);
             }
         }
-        Ok(())
     }
 
     /// Leaves loads out, and takes back all that was found since the first of them was done.
-    pub(crate) fn leave_out(&mut self, loads: &[u32]) -> Result<(), OutOfMemory> {
+    pub(crate) fn leave_out(&mut self, memory: &mut Memory, loads: &[u32]) {
         let mut time = u32::MAX;
         for load in loads {
             let since = item(&self.since, *load);
@@ -339,58 +279,56 @@ impl Derivation {
             }
             self.graph.leave_out(*load);
         }
-        self.take_back(time)
+        self.take_back(memory, time);
     }
 
     /// Takes back all that was found since a time.
-    fn take_back(&mut self, time: u32) -> Result<(), OutOfMemory> {
+    fn take_back(&mut self, memory: &mut Memory, time: u32) {
         self.closing = None;
         self.queue.clear();
         self.graph.edges.forget_from(time);
         let nodes = self.graph.nodes.len();
         self.work.spend(nodes.saturating_mul(SCAN));
         for number in 0..nodes {
-            self.forget(narrow(number), time)?;
+            self.forget(memory, narrow(number), time);
         }
-        for k in (0..self.done.len()).rev() {
-            if let Some(node) = self.done.get(k).copied() {
-                self.take_back_node(node, time)?;
-            }
-        }
+        self.take_back_done(memory, time);
         let ranks = &self.graph.ranks;
         self.done.retain(|node| item(ranks, *node) != 0);
-        Ok(())
     }
 
-    /// Forgets of a node that its rules are to be looked at, that it was begun, and since when rows depend on it, if that is
-    /// since a time.
-    fn forget(&mut self, node: u32, time: u32) -> Result<(), OutOfMemory> {
-        if let Some(queued) = self.queued.get_mut(node as usize) {
-            *queued = false;
+    /// Takes back the done nodes whose rows grew since a time, the last one first.
+    fn take_back_done(&mut self, memory: &mut Memory, time: u32) {
+        for k in (0..self.done.len()).rev() {
+            if let Some(node) = self.done.get(k).copied() {
+                self.take_back_node(memory, node, time);
+            }
         }
+    }
+
+    /// Forgets of a node that it was begun, and since when rows depend on it, if that is since a time.
+    fn forget(&mut self, memory: &mut Memory, node: u32, time: u32) {
         if item(&self.since, node) >= time {
             put(&mut self.since, node, 0);
         }
         if item(&self.graph.ranks, node) == NONE {
             put(&mut self.graph.ranks, node, 0);
-            self.redo.push(node)?;
+            memory.push(&mut self.redo, node);
         }
-        Ok(())
     }
 
     /// Takes a done node back whose row grew since a time. What follows from rows that grew shortly before it is looked for
     /// anew, since it may have been found later.
-    fn take_back_node(&mut self, node: u32, time: u32) -> Result<(), OutOfMemory> {
+    fn take_back_node(&mut self, memory: &mut Memory, node: u32, time: u32) {
         let changed = item(&self.changed, node);
         if changed >= time {
             self.work.spend(self.rows.width());
-            self.redo.push(node)?;
+            memory.push(&mut self.redo, node);
             put(&mut self.graph.ranks, node, 0);
             put(&mut self.changed, node, 0);
             self.rows.clear(node);
         } else if changed.saturating_add(BATCH) >= time {
-            self.queue(node)?;
+            self.queue(memory, node);
         }
-        Ok(())
     }
 }

@@ -1,11 +1,10 @@
 //! Edges that are kept in lists: those of barriers, Own edges, and the inferred ones as they are found.
 
+use crate::memory::Memory;
 use crate::numbers::{NONE, item, narrow, put};
-use std::alloc::Global;
-use tso_ops::OutOfMemory;
 
 /// Why a node comes before another.
-#[derive(Clone, Copy, PartialEq, Eq)]
+#[derive(Clone, Copy)]
 pub(crate) enum Why {
     /// The first is the one before the second in its chain.
     Chain,
@@ -64,28 +63,28 @@ pub(crate) struct Edges {
 
 impl Edges {
     /// No edges between so many nodes.
-    pub(crate) fn new(alloc: Global, nodes: usize) -> Result<Edges, OutOfMemory> {
-        Ok(Edges {
-            edges: Vec::new(alloc),
-            from: vec![in alloc; NONE; nodes]?,
-            to: vec![in alloc; NONE; nodes]?,
-        })
+    pub(crate) fn new(memory: &mut Memory, nodes: usize) -> Edges {
+        Edges {
+            edges: Vec::new(memory.alloc()),
+            from: memory.numbers(NONE, nodes),
+            to: memory.numbers(NONE, nodes),
+        }
     }
 
     /// Adds an edge.
-    pub(crate) fn add(&mut self, u: u32, v: u32, why: Why, time: u32) -> Result<(), OutOfMemory> {
+    pub(crate) fn add(&mut self, memory: &mut Memory, u: u32, v: u32, why: Why, time: u32) {
         let edge = narrow(self.edges.len());
-        self.edges.push(KeptEdge {
+        let kept = KeptEdge {
             u,
             v,
             why,
             time,
             next_from: item(&self.from, u),
             next_to: item(&self.to, v),
-        })?;
+        };
+        memory.push(&mut self.edges, kept);
         put(&mut self.from, u, edge);
         put(&mut self.to, v, edge);
-        Ok(())
     }
 
     /// The edge of this number.

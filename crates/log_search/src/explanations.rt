@@ -2,10 +2,9 @@
 
 use crate::derivation::{Closing, Derivation};
 use crate::edges::Why;
+use crate::memory::Memory;
 use crate::nodes::FIRST;
 use crate::paths::{PathStep, Task, find_path};
-use std::alloc::Global;
-use tso_ops::OutOfMemory;
 
 /// What a violation needs.
 #[derive(Drop)]
@@ -22,134 +21,148 @@ pub(crate) struct Explanation {
 
 /// What a violation needs, where its paths are found; None where the work for them is more than is left.
 pub(crate) fn explain(
-    alloc: Global,
+    memory: &mut Memory,
     derivation: &Derivation,
     closing: Closing,
-) -> Result<Option<Explanation>, OutOfMemory> {
-    let mut explanation = Explanation {
-        nodes: Vec::new(alloc),
-        barriers: Vec::new(alloc),
-        visited: 0,
-        tasks: Vec::new(alloc),
-        seen: Vec::new(alloc),
-    };
-    match closing {
-        Closing::Node(node) => explanation.ask(node, node, u32::MAX)?,
-        Closing::First { store, load } => explanation.ask(store, load, u32::MAX)?,
-        Closing::OwnFirst { store, load } => {
-            explanation.nodes.push(store)?;
-            explanation.nodes.push(load)?;
-        }
-    }
+) -> Option<Explanation> {
+    let mut explanation = Explanation::new(memory);
+    explanation.begin(memory, closing);
     for _ in 0..usize::MAX {
         let Some(task) = explanation.tasks.pop() else {
             break;
         };
         if derivation.work.of_visits(explanation.visited) > derivation.work.left() {
-            return Ok(None);
+            return None;
         }
-        explanation.add_path(alloc, derivation, task)?;
+        explanation.add_path(memory, derivation, task);
     }
-    Ok(Some(explanation))
+    Some(explanation)
 }
 
 impl Explanation {
-    fn ask(&mut self, from: u32, to: u32, limit: u32) -> Result<(), OutOfMemory> {
-        self.nodes.push(from)?;
-        self.nodes.push(to)?;
-        self.tasks.push(Task { from, to, limit })?;
-        Ok(())
+    fn new(memory: &Memory) -> Explanation {
+        let alloc = memory.alloc();
+        Explanation {
+            nodes: Vec::new(alloc),
+            barriers: Vec::new(alloc),
+            visited: 0,
+            tasks: Vec::new(alloc),
+            seen: Vec::new(alloc),
+        }
     }
 
-    fn add_path(
-        &mut self,
-        alloc: Global,
-        derivation: &Derivation,
-        task: Task,
-    ) -> Result<(), OutOfMemory> {
-        let Some(path) = self.find(alloc, derivation, task)? else {
-            return Ok(());
-        };
-        for step in &path {
-            self.add_step(derivation, *step)?;
+    /// Asks for what shows the violation.
+    fn begin(&mut self, memory: &mut Memory, closing: Closing) {
+        match closing {
+            Closing::Node(node) => self.ask(memory, node, node, u32::MAX),
+            Closing::First { store, load } => self.ask(memory, store, load, u32::MAX),
+            Closing::OwnFirst { store, load } => self.add_nodes(memory, store, load),
         }
-        Ok(())
+    }
+
+    fn add_node(&mut self, memory: &mut Memory, node: u32) {
+        memory.push(&mut self.nodes, node);
+    }
+
+    fn add_nodes(&mut self, memory: &mut Memory, first: u32, second: u32) {
+        self.add_node(memory, first);
+        self.add_node(memory, second);
+    }
+
+    fn ask(&mut self, memory: &mut Memory, from: u32, to: u32, limit: u32) {
+        self.add_nodes(memory, from, to);
+        memory.push(&mut self.tasks, Task { from, to, limit });
+    }
+
+    fn add_path(&mut self, memory: &mut Memory, derivation: &Derivation, task: Task) {
+        if let Some(path) = self.find(memory, derivation, task) {
+            for step in &path {
+                self.add_step(memory, derivation, *step);
+            }
+        }
     }
 
     /// A path: if there is none over nodes that are done now, one that was there when the edge was found.
     fn find(
         &mut self,
-        alloc: Global,
+        memory: &mut Memory,
         derivation: &Derivation,
         task: Task,
-    ) -> Result<Option<Vec<PathStep>>, OutOfMemory> {
-        match find_path(alloc, derivation, task, true, &mut self.visited)? {
-            Some(path) => Ok(Some(path)),
-            None => find_path(alloc, derivation, task, false, &mut self.visited),
+    ) -> Option<Vec<PathStep>> {
+        match find_path(memory, derivation, task, true, &mut self.visited) {
+            Some(path) => Some(path),
+            None => find_path(memory, derivation, task, false, &mut self.visited),
         }
     }
 
     /// Adds what a step needs. Steps in program order need the ends of the whole way alone, which the steps beside them add.
-    fn add_step(&mut self, derivation: &Derivation, step: PathStep) -> Result<(), OutOfMemory> {
+    fn add_step(&mut self, memory: &mut Memory, derivation: &Derivation, step: PathStep) {
         match step.why {
-            Why::Chain | Why::LoadOp => return Ok(()),
-            Why::Stbar => return self.add_stbar(derivation, step),
-            Why::Membar(barrier) => self.barriers.push((step.to, barrier))?,
-            Why::Read => {}
-            Why::Own(load) => self.nodes.push(load)?,
-            Why::LoadPast(load) => self.add_premise(load, step.from, load, step)?,
-            Why::StorePast(load) => {
-                let source = match derivation.graph.node(load) {
-                    Some(node) => node.source,
-                    None => FIRST,
-                };
-                self.nodes.push(load)?;
-                if source != FIRST {
-                    self.add_premise(load, source, step.to, step)?;
-                }
+            Why::Chain | Why::LoadOp => {}
+            Why::Stbar => {
+                self.add_stbar(memory, derivation, step.from);
+                self.add_stbar(memory, derivation, step.to);
             }
+            _ => {
+                self.add_premises(memory, derivation, step);
+                self.add_nodes(memory, step.from, step.to);
+            }
+        }
+    }
+
+    /// Adds what a step that isn't in program order follows from.
+    fn add_premises(&mut self, memory: &mut Memory, derivation: &Derivation, step: PathStep) {
+        match step.why {
+            Why::Membar(barrier) => memory.push(&mut self.barriers, (step.to, barrier)),
+            Why::Own(load) => self.add_node(memory, load),
+            Why::LoadPast(load) => self.add_premise(memory, load, step.from, load, step.number),
+            Why::StorePast(load) => self.add_source(memory, derivation, load, step),
             Why::SwapBefore(load) => {
                 let store = load.saturating_add(1);
-                self.add_premise(load, step.from, store, step)?;
+                self.add_premise(memory, load, step.from, store, step.number);
             }
             Why::SwapAfter(load) => {
-                self.nodes.push(load.saturating_add(1))?;
-                self.add_premise(load, load, step.to, step)?;
+                self.add_node(memory, load.saturating_add(1));
+                self.add_premise(memory, load, load, step.to, step.number);
             }
+            Why::Chain | Why::LoadOp | Why::Stbar | Why::Read => {}
         }
-        self.nodes.push(step.from)?;
-        self.nodes.push(step.to)?;
-        Ok(())
     }
 
-    /// Adds the STBAR at one end of a step.
-    fn add_stbar(&mut self, derivation: &Derivation, step: PathStep) -> Result<(), OutOfMemory> {
-        for end in [step.from, step.to] {
-            if let Some(node) = derivation.graph.node(end)
-                && !node.is_load()
-                && !node.is_store()
-            {
-                self.nodes.push(end)?;
-            }
-        }
-        Ok(())
-    }
-
-    /// Adds the path that an inferred step follows from: that of an edge which is kept in no list is one of the chain.
-    fn add_premise(
+    /// Adds what a step of StorePast follows from: that the load's source, if it isn't the first value, comes before the store.
+    fn add_source(
         &mut self,
+        memory: &mut Memory,
+        derivation: &Derivation,
         load: u32,
-        from: u32,
-        to: u32,
         step: PathStep,
-    ) -> Result<(), OutOfMemory> {
-        self.nodes.push(load)?;
-        self.nodes.push(from)?;
-        self.nodes.push(to)?;
-        if step.number > 0 && !self.seen.contains(&step.number) {
-            self.seen.push(step.number)?;
-            self.ask(from, to, step.number)?;
+    ) {
+        self.add_node(memory, load);
+        if let Some(node) = derivation.graph.node(load)
+            && node.source != FIRST
+        {
+            self.add_premise(memory, load, node.source, step.to, step.number);
         }
-        Ok(())
+    }
+
+    /// Adds the end of a step if it is an STBAR.
+    fn add_stbar(&mut self, memory: &mut Memory, derivation: &Derivation, end: u32) {
+        if let Some(node) = derivation.graph.node(end)
+            && !node.is_load()
+            && !node.is_store()
+        {
+            self.add_node(memory, end);
+        }
+    }
+
+    /// Adds the path that an inferred step of this number follows from: that of an edge which is kept in no list is one of the
+    /// chain.
+    fn add_premise(&mut self, memory: &mut Memory, load: u32, from: u32, to: u32, number: u32) {
+        self.add_node(memory, load);
+        self.add_nodes(memory, from, to);
+        if number > 0 && !self.seen.contains(&number) {
+            memory.push(&mut self.seen, number);
+            self.ask(memory, from, to, number);
+        }
     }
 }

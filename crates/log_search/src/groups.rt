@@ -1,9 +1,8 @@
 //! Groups: the stores of a chain to one address.
 
+use crate::memory::Memory;
 use crate::nodes::{FIRST, Node, node_at};
 use crate::numbers::{NONE, begin, count, item, last_up_to, narrow, put};
-use std::alloc::Global;
-use tso_ops::OutOfMemory;
 
 /// The stores of a chain to one address: their places in the chain stand one after the other among the groups' places.
 #[derive(Clone, Copy)]
@@ -66,18 +65,18 @@ impl Groups {
 }
 
 /// The stores, those to one address one after the other, each address' in the order of the nodes.
-fn sort_stores(alloc: Global, addresses: usize, nodes: &[Node]) -> Result<Vec<u32>, OutOfMemory> {
-    let mut starts = vec![in alloc; 0u32; addresses]?;
+fn sort_stores(memory: &mut Memory, addresses: usize, nodes: &[Node]) -> Vec<u32> {
+    let mut starts = memory.numbers(0, addresses);
     let stores = count_stores(nodes, &mut starts);
     begin(&mut starts);
-    let mut sorted = vec![in alloc; NONE; stores]?;
+    let mut sorted = memory.numbers(NONE, stores);
     for (number, node) in nodes.iter().enumerate() {
         if node.is_store() {
             let index = count(&mut starts, node.address);
             put(&mut sorted, index, narrow(number));
         }
     }
-    Ok(sorted)
+    sorted
 }
 
 /// Counts the stores to each address: how many there are in all.
@@ -93,58 +92,57 @@ fn count_stores(nodes: &[Node], counts: &mut [u32]) -> usize {
 }
 
 /// Puts the stores into groups, of which each store knows its neighbours.
-pub(crate) fn make_groups(
-    alloc: Global,
-    addresses: usize,
-    nodes: &mut [Node],
-) -> Result<Groups, OutOfMemory> {
-    let sorted = sort_stores(alloc, addresses, nodes)?;
+pub(crate) fn make_groups(memory: &mut Memory, addresses: usize, nodes: &mut [Node]) -> Groups {
+    let sorted = sort_stores(memory, addresses, nodes);
     let mut groups = Groups {
-        groups: Vec::new(alloc),
-        starts: vec![in alloc; 0u32; addresses.saturating_add(1)]?,
-        places: Vec::with_capacity(alloc, sorted.len())?,
-        first_readers: vec![in alloc; NONE; addresses]?,
+        groups: Vec::new(memory.alloc()),
+        starts: memory.numbers(0, addresses.saturating_add(1)),
+        places: memory.room(sorted.len()),
+        first_readers: memory.numbers(NONE, addresses),
     };
-    let mut last = NONE;
-    for number in &sorted {
-        groups.push(nodes, last, *number)?;
-        last = *number;
-    }
+    groups.push_all(memory, nodes, &sorted);
     begin(&mut groups.starts);
     groups.link_first_readers(nodes);
-    Ok(groups)
+    groups
 }
 
 impl Groups {
+    /// Puts stores into groups, each after those before it.
+    fn push_all(&mut self, memory: &mut Memory, nodes: &mut [Node], stores: &[u32]) {
+        let mut last = NONE;
+        for number in stores {
+            self.push(memory, nodes, last, *number);
+            last = *number;
+        }
+    }
+
     /// Puts the next store into the group of the last one, or into a new one.
-    fn push(&mut self, nodes: &mut [Node], last: u32, number: u32) -> Result<(), OutOfMemory> {
+    fn push(&mut self, memory: &mut Memory, nodes: &mut [Node], last: u32, number: u32) {
         let Some(store) = node_at(nodes, number) else {
-            return Ok(());
+            return;
         };
         let start = narrow(self.places.len());
-        self.places.push(store.place)?;
-        let end = start.saturating_add(1);
-        if let Some(before) = nodes.get_mut(last as usize)
-            && before.address == store.address
-            && before.chain == store.chain
-        {
-            before.own = number;
-            if let Some(store) = nodes.get_mut(number as usize) {
-                store.before = last;
-            }
+        memory.push(&mut self.places, store.place);
+        if follows(nodes, last, store) {
+            link(nodes, last, number);
             if let Some(group) = self.groups.last_mut() {
-                group.end = end;
+                group.end = start.saturating_add(1);
             }
-            return Ok(());
+        } else {
+            self.begin_group(memory, store, start);
         }
+    }
+
+    /// Begins a group with a store, at this index among the places.
+    fn begin_group(&mut self, memory: &mut Memory, store: Node, start: u32) {
         count(&mut self.starts, store.address);
-        self.groups.push(StoreGroup {
+        let group = StoreGroup {
             chain: store.chain,
             start,
-            end,
+            end: start.saturating_add(1),
             near: start,
-        })?;
-        Ok(())
+        };
+        memory.push(&mut self.groups, group);
     }
 
     /// Links the loads of the first value of each address.
@@ -155,5 +153,23 @@ impl Groups {
                 put(&mut self.first_readers, node.address, narrow(number));
             }
         }
+    }
+}
+
+/// Whether a store stands in the group of the store before it.
+fn follows(nodes: &[Node], before: u32, store: Node) -> bool {
+    match node_at(nodes, before) {
+        Some(before) => before.address == store.address && before.chain == store.chain,
+        None => false,
+    }
+}
+
+/// Has two stores know that the first is the one before the second.
+fn link(nodes: &mut [Node], first: u32, second: u32) {
+    if let Some(before) = nodes.get_mut(first as usize) {
+        before.own = second;
+    }
+    if let Some(store) = nodes.get_mut(second as usize) {
+        store.before = first;
     }
 }

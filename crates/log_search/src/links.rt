@@ -1,10 +1,12 @@
 //! The edges at a node, those that are kept in no list among them.
 
-use crate::building::Graph;
 use crate::edges::{KeptEdge, Why};
+use crate::graphs::Graph;
+use crate::memory::Memory;
 use crate::nodes::{FIRST, Kind, Node};
 use crate::numbers::NONE;
-use tso_ops::{Order, OutOfMemory};
+use std::alloc::Global;
+use tso_ops::Order;
 
 /// An edge to a node, or from it.
 #[derive(Clone, Copy)]
@@ -17,54 +19,99 @@ pub(crate) struct Link {
     pub(crate) number: u32,
 }
 
-fn unkept(node: u32, why: Why) -> Link {
-    Link {
-        node,
-        why,
-        number: 0,
+/// Links, and whether memory for one was refused.
+#[derive(Drop)]
+pub(crate) struct Links {
+    links: Vec<Link>,
+    is_refused: bool,
+}
+
+impl Links {
+    /// None yet.
+    pub(crate) fn new(alloc: Global) -> Links {
+        Links {
+            links: Vec::new(alloc),
+            is_refused: false,
+        }
+    }
+
+    /// How many there are.
+    pub(crate) fn len(&self) -> usize {
+        self.links.len()
+    }
+
+    /// The link at an index.
+    pub(crate) fn get(&self, index: usize) -> Option<Link> {
+        self.links.get(index).copied()
+    }
+
+    fn push(&mut self, link: Link) {
+        if self.links.push(link).is_err() {
+            self.is_refused = true;
+        }
+    }
+
+    /// Adds an edge that is kept in no list.
+    fn add(&mut self, node: u32, why: Why) {
+        self.push(Link {
+            node,
+            why,
+            number: 0,
+        });
+    }
+
+    /// Adds such an edge, if there is a node at its other end.
+    fn add_some(&mut self, node: Option<u32>, why: Why) {
+        if let Some(node) = node {
+            self.add(node, why);
+        }
+    }
+
+    /// Adds the edge of this number, which is kept in a list.
+    fn add_kept(&mut self, node: u32, why: Why, number: u32) {
+        self.push(Link {
+            node,
+            why,
+            number: number.saturating_add(1),
+        });
     }
 }
 
 impl Graph {
     /// The edges to a node.
-    pub(crate) fn links_to(&self, number: u32, links: &mut Vec<Link>) -> Result<(), OutOfMemory> {
-        links.clear();
-        let Some(node) = self.node(number) else {
-            return Ok(());
-        };
-        let before = node.place.saturating_sub(1);
-        if let Some(before) = self.chains.member(node.chain, before) {
-            links.push(unkept(before, Why::Chain))?;
+    pub(crate) fn links_to(&self, memory: &mut Memory, number: u32, links: &mut Links) {
+        links.links.clear();
+        if let Some(node) = self.node(number) {
+            links.add_some(self.chains.before(node), Why::Chain);
+            self.add_links_to(number, node, links);
+            self.add_kept_to(number, links);
         }
-        if node.is_load() {
-            self.push_links_to_load(number, node, links)?;
-        } else if node.is_store() {
-            self.push_links_to_store(number, node, links)?;
-        }
-        self.push_kept_to(number, links)
+        memory.note(links.is_refused);
     }
 
-    fn push_links_to_load(
-        &self,
-        number: u32,
-        load: Node,
-        links: &mut Vec<Link>,
-    ) -> Result<(), OutOfMemory> {
-        if !load.is_live_load() {
-            return Ok(());
+    fn add_links_to(&self, number: u32, node: Node, links: &mut Links) {
+        if node.is_live_load() {
+            self.add_links_to_load(number, node, links);
+        } else if node.is_store() {
+            self.add_links_to_store(number, node, links);
         }
+    }
+
+    fn add_links_to_load(&self, number: u32, load: Node, links: &mut Links) {
         if self.is_seen_by_order(load.source, number, load) {
-            links.push(unkept(load.source, Why::Read))?;
+            links.add(load.source, Why::Read);
         }
-        if load.kind == Kind::SwapLoad
-            && let Some(store) = self.node(number.saturating_add(1))
-            && let Some(before) = self
-                .chains
-                .member(store.chain, store.place.saturating_sub(1))
-        {
-            links.push(unkept(before, Why::SwapBefore(number)))?;
+        if load.kind == Kind::SwapLoad {
+            links.add_some(self.before_store_of(number), Why::SwapBefore(number));
         }
-        Ok(())
+    }
+
+    /// What comes before the store of a swap's load in the store's chain.
+    fn before_store_of(&self, load: u32) -> Option<u32> {
+        match self.node(load.saturating_add(1)) {
+            Some(store) => self.chains.before(store),
+            None => None,
+        }
     }
 
     /// Whether a load can see its source, a store, only where that comes before it.
@@ -75,171 +122,149 @@ impl Graph {
         }
     }
 
-    fn push_links_to_store(
-        &self,
-        number: u32,
-        store: Node,
-        links: &mut Vec<Link>,
-    ) -> Result<(), OutOfMemory> {
+    fn add_links_to_store(&self, number: u32, store: Node, links: &mut Links) {
         match self.order {
-            Order::Tso => self.push_load_before(number, store, links)?,
-            Order::Pso => self.push_places_before(store, links)?,
+            Order::Tso => self.add_load_before(number, store, links),
+            Order::Pso => {
+                links.add_some(self.chains.load_before(store), Why::LoadOp);
+                links.add_some(self.chains.stbar_before(store), Why::Stbar);
+            }
         }
-        let mut reader = match self.node(store.before) {
-            Some(before) => before.source,
-            None => self.groups.first_reader(store.address),
-        };
+        let mut reader = self.reader_before(store);
         for _ in 0..self.nodes.len() {
             let Some(load) = self.node(reader) else {
                 break;
             };
             if load.is_live_load() {
-                links.push(unkept(reader, Why::StorePast(reader)))?;
+                links.add(reader, Why::StorePast(reader));
             }
             reader = load.before;
         }
-        Ok(())
+    }
+
+    /// The first reader of the processor's store to its address before a store, or of the first value.
+    fn reader_before(&self, store: Node) -> u32 {
+        match self.node(store.before) {
+            Some(before) => before.source,
+            None => self.groups.first_reader(store.address),
+        }
     }
 
     /// The node before a store, if that is a load of its processor: loads further before come before the store's neighbour in
     /// its chain too.
-    fn push_load_before(
-        &self,
-        number: u32,
-        store: Node,
-        links: &mut Vec<Link>,
-    ) -> Result<(), OutOfMemory> {
-        if let Some(before) = number.checked_sub(1)
-            && let Some(load) = self.node(before)
+    fn add_load_before(&self, number: u32, store: Node, links: &mut Links) {
+        let before = number.saturating_sub(1);
+        if let Some(load) = self.node(before)
             && load.processor == store.processor
             && load.is_load()
         {
-            links.push(unkept(before, Why::LoadOp))?;
+            links.add(before, Why::LoadOp);
         }
-        Ok(())
     }
 
-    /// Under PSO the last load and the last STBAR before a store.
-    fn push_places_before(&self, store: Node, links: &mut Vec<Link>) -> Result<(), OutOfMemory> {
-        if let Some(chain) = self.chains.loads_of(store.processor as usize)
-            && let Some(load) = self.chains.member(chain, store.load_place)
-        {
-            links.push(unkept(load, Why::LoadOp))?;
-        }
-        if let Some(chain) = self.chains.stbars_of(store.processor as usize)
-            && let Some(stbar) = self.chains.member(chain, store.stbar_place)
-        {
-            links.push(unkept(stbar, Why::Stbar))?;
-        }
-        Ok(())
-    }
-
-    fn push_kept_to(&self, node: u32, links: &mut Vec<Link>) -> Result<(), OutOfMemory> {
+    fn add_kept_to(&self, node: u32, links: &mut Links) {
         let mut at = self.edges.last_to(node);
         for _ in 0..self.edges.len() {
             let Some(edge) = self.edges.get(at) else {
                 break;
             };
             if self.holds(edge) {
-                links.push(Link {
-                    node: edge.u,
-                    why: edge.why,
-                    number: at.saturating_add(1),
-                })?;
+                links.add_kept(edge.u, edge.why, at);
             }
             at = edge.next_to;
         }
-        Ok(())
     }
 
     /// Whether the load that an edge needs isn't left out. Under PSO a barrier's edge needs the load that it leads to, since
     /// by it the store comes before later stores.
     fn holds(&self, edge: KeptEdge) -> bool {
-        let load = match edge.why {
-            Why::Membar(_) if self.order == Order::Pso => Some(edge.v),
-            why => why.load(),
-        };
-        match load {
-            Some(load) => self.node(load).is_some_and(|node| node.is_live_load()),
-            None => true,
+        match edge.why {
+            Why::Membar(_) if self.order == Order::Pso => self.is_live(edge.v),
+            why => match why.load() {
+                Some(load) => self.is_live(load),
+                None => true,
+            },
         }
     }
 
-    /// Whether an edge may be used now: that of the rule Own once its load is done, so that all that follows from the load
-    /// is found later than the load is done.
-    pub(crate) fn is_in_use(&self, why: Why) -> bool {
-        match why {
-            Why::Own(load) => self.is_done(load),
-            _ => true,
+    /// Whether a node is a load that isn't left out.
+    fn is_live(&self, load: u32) -> bool {
+        match self.node(load) {
+            Some(node) => node.is_live_load(),
+            None => false,
         }
+    }
+
+    /// Whether a link may be used now: its other end is done, and, if it is of the rule Own, the load that it needs too, so
+    /// that all that follows from the load is found later than the load is done.
+    pub(crate) fn allows(&self, link: Link) -> bool {
+        self.is_done(link.node)
+            && match link.why {
+                Why::Own(load) => self.is_done(load),
+                _ => true,
+            }
     }
 
     /// The edges from a node.
-    pub(crate) fn links_from(&self, number: u32, links: &mut Vec<Link>) -> Result<(), OutOfMemory> {
-        links.clear();
-        let Some(node) = self.node(number) else {
-            return Ok(());
-        };
-        let after = node.place.saturating_add(1);
-        if let Some(after) = self.chains.member(node.chain, after) {
-            links.push(unkept(after, Why::Chain))?;
-            self.push_swap_after(after, links)?;
+    pub(crate) fn links_from(&self, memory: &mut Memory, number: u32, links: &mut Links) {
+        links.links.clear();
+        if let Some(node) = self.node(number) {
+            if let Some(after) = self.chains.after(node) {
+                links.add(after, Why::Chain);
+                self.add_swap_after(after, links);
+            }
+            self.add_links_from(number, node, links);
+            self.add_kept_from(number, links);
         }
+        memory.note(links.is_refused);
+    }
+
+    fn add_links_from(&self, number: u32, node: Node, links: &mut Links) {
         match node.kind {
-            Kind::Load | Kind::SwapLoad => self.push_links_from_load(number, node, links)?,
-            Kind::Store | Kind::SwapStore | Kind::LoneSwapStore => self.push_readers(
-                number, node, links,
-            )?,
-            Kind::Stbar => self.push_stores_from(number, node, links)?,
+            Kind::Load | Kind::SwapLoad => self.add_links_from_load(number, node, links),
+            Kind::Store | Kind::SwapStore | Kind::LoneSwapStore => {
+                self.add_readers(number, node, links);
+            }
+            Kind::Stbar => self.add_stores_from(number, node, links),
         }
-        self.push_kept_from(number, links)
     }
 
     /// The load of a swap whose store comes next in the chain of a store.
-    fn push_swap_after(&self, after: u32, links: &mut Vec<Link>) -> Result<(), OutOfMemory> {
+    fn add_swap_after(&self, after: u32, links: &mut Links) {
         if let Some(next) = self.node(after)
             && next.kind == Kind::SwapStore
-            && let Some(load) = after.checked_sub(1)
         {
-            links.push(unkept(load, Why::SwapBefore(load)))?;
+            let load = after.saturating_sub(1);
+            links.add(load, Why::SwapBefore(load));
         }
-        Ok(())
     }
 
-    fn push_links_from_load(
-        &self,
-        number: u32,
-        load: Node,
-        links: &mut Vec<Link>,
-    ) -> Result<(), OutOfMemory> {
-        self.push_stores_from(number, load, links)?;
+    fn add_links_from_load(&self, number: u32, load: Node, links: &mut Links) {
+        self.add_stores_from(number, load, links);
         if load.source == FIRST {
-            let (start, end) = self.groups.range(load.address);
-            for index in start..end {
-                let Some(group) = self.groups.get(index) else {
-                    break;
-                };
-                let place = self.groups.first_place(group);
-                if let Some(store) = self.chains.member(group.chain, place) {
-                    links.push(unkept(store, Why::StorePast(number)))?;
-                }
-            }
-        } else if load.source != NONE
-            && let Some(source) = self.node(load.source)
+            self.add_first_stores(number, load, links);
+        } else if let Some(source) = self.node(load.source)
             && source.own != NONE
         {
-            links.push(unkept(source.own, Why::StorePast(number)))?;
+            links.add(source.own, Why::StorePast(number));
         }
-        Ok(())
+    }
+
+    /// The first store of each chain to the address of a load of the first value.
+    fn add_first_stores(&self, number: u32, load: Node, links: &mut Links) {
+        let (start, end) = self.groups.range(load.address);
+        for index in start..end {
+            let Some(group) = self.groups.get(index) else {
+                break;
+            };
+            let place = self.groups.first_place(group);
+            let store = self.chains.member(group.chain, place);
+            links.add_some(store, Why::StorePast(number));
+        }
     }
 
     /// The stores after a load or an STBAR up to the next one: under TSO the next node, if it is one.
-    fn push_stores_from(
-        &self,
-        number: u32,
-        from: Node,
-        links: &mut Vec<Link>,
-    ) -> Result<(), OutOfMemory> {
+    fn add_stores_from(&self, number: u32, from: Node, links: &mut Links) {
         let why = if from.is_load() {
             Why::LoadOp
         } else {
@@ -251,15 +276,17 @@ impl Graph {
                 break;
             };
             if node.is_store() {
-                links.push(unkept(after, why))?;
+                links.add(after, why);
             }
-            let is_next = node.kind == Kind::Stbar || node.is_load();
-            let is_same = from.is_load() == node.is_load();
-            if self.order == Order::Tso || (is_next && is_same) {
+            if self.ends_stores(from, node) {
                 break;
             }
         }
-        Ok(())
+    }
+
+    /// Whether no store after this node is looked at among those after a load or an STBAR.
+    fn ends_stores(&self, from: Node, node: Node) -> bool {
+        self.order == Order::Tso || (!node.is_store() && from.is_load() == node.is_load())
     }
 
     /// How many nodes are looked at to find the stores after a load or an STBAR under PSO.
@@ -270,48 +297,36 @@ impl Graph {
         if self.order == Order::Tso || node.is_store() {
             return 0;
         }
-        let after = node.place.saturating_add(1);
-        let end = match self.chains.member(node.chain, after) {
+        let end = match self.chains.after(node) {
             Some(next) => next,
             None => self.nodes_of(node.processor).1,
         };
         end.saturating_sub(number) as usize
     }
 
-    fn push_readers(
-        &self,
-        number: u32,
-        store: Node,
-        links: &mut Vec<Link>,
-    ) -> Result<(), OutOfMemory> {
+    fn add_readers(&self, number: u32, store: Node, links: &mut Links) {
         let mut reader = store.source;
         for _ in 0..self.nodes.len() {
             let Some(load) = self.node(reader) else {
                 break;
             };
             if load.is_live_load() && self.is_seen_by_order(number, reader, load) {
-                links.push(unkept(reader, Why::Read))?;
+                links.add(reader, Why::Read);
             }
             reader = load.before;
         }
-        Ok(())
     }
 
-    fn push_kept_from(&self, node: u32, links: &mut Vec<Link>) -> Result<(), OutOfMemory> {
+    fn add_kept_from(&self, node: u32, links: &mut Links) {
         let mut at = self.edges.last_from(node);
         for _ in 0..self.edges.len() {
             let Some(edge) = self.edges.get(at) else {
                 break;
             };
             if self.holds(edge) {
-                links.push(Link {
-                    node: edge.v,
-                    why: edge.why,
-                    number: at.saturating_add(1),
-                })?;
+                links.add_kept(edge.v, edge.why, at);
             }
             at = edge.next_from;
         }
-        Ok(())
     }
 }

@@ -2,11 +2,10 @@
 
 use crate::derivation::Derivation;
 use crate::edges::Why;
-use crate::links::Link;
+use crate::links::{Link, Links};
+use crate::memory::Memory;
 use crate::numbers::NONE;
-use std::alloc::Global;
 use std::collections::{BinaryHeap, HashMap};
-use tso_ops::OutOfMemory;
 
 /// What a step costs that a base rule gives.
 const BASE: u32 = 2;
@@ -46,39 +45,33 @@ struct Ways {
     task: Task,
     ways: HashMap<u32, Way>,
     next: BinaryHeap<u64>,
+    links: Links,
+    /// Whether only nodes that are done, and that the beginning is known to reach, are on the way.
+    is_narrow: bool,
+    /// How many nodes and edges to them were come to.
+    visited: usize,
 }
 
 /// A cheap path, if there is one; only over nodes that are done and that the beginning is known to reach, if `is_narrow`.
 /// `visited` counts nodes and the edges to them.
 pub(crate) fn find_path(
-    alloc: Global,
+    memory: &mut Memory,
     derivation: &Derivation,
     task: Task,
     is_narrow: bool,
     visited: &mut usize,
-) -> Result<Option<Vec<PathStep>>, OutOfMemory> {
+) -> Option<Vec<PathStep>> {
     let mut ways = Ways {
         task,
-        ways: HashMap::new(alloc),
-        next: BinaryHeap::new(alloc),
+        ways: HashMap::new(memory.alloc()),
+        next: BinaryHeap::new(memory.alloc()),
+        links: Links::new(memory.alloc()),
+        is_narrow,
+        visited: *visited,
     };
-    let mut links = Vec::new(alloc);
-    ways.next.push(key(0, task.to))?;
-    for _ in 0..usize::MAX {
-        let Some((cost, node)) = ways.pop() else {
-            return Ok(None);
-        };
-        if node == NONE {
-            break;
-        }
-        *visited = visited.saturating_add(1);
-        if cost > ways.cost(node) {
-            continue;
-        }
-        ways.go_back(derivation, node, cost, is_narrow, &mut links)?;
-        *visited = visited.saturating_add(links.len());
-    }
-    ways.path(alloc)
+    ways.search(memory, derivation);
+    *visited = ways.visited;
+    ways.path(memory)
 }
 
 fn key(cost: u32, node: u32) -> u64 {
@@ -95,11 +88,34 @@ fn cost_of(why: Why) -> u32 {
 }
 
 impl Ways {
+    /// Goes back from the end to the beginning, if a path leads there.
+    fn search(&mut self, memory: &mut Memory, derivation: &Derivation) {
+        self.push(memory, 0, self.task.to);
+        for _ in 0..usize::MAX {
+            let Some((cost, node)) = self.pop() else {
+                return;
+            };
+            if node == NONE || memory.is_refused() {
+                return;
+            }
+            self.visited = self.visited.saturating_add(1);
+            if cost <= self.cost(node) {
+                self.go_back(memory, derivation, node, cost);
+            }
+        }
+    }
+
     /// The cheapest node to go on from.
     fn pop(&mut self) -> Option<(u32, u32)> {
-        let top = self.next.pop()?;
+        let Some(top) = self.next.pop() else {
+            return None;
+        };
         let cost = u32::MAX - (top >> 32) as u32;
         Some((cost, (top & u64::from(u32::MAX)) as u32))
+    }
+
+    fn push(&mut self, memory: &mut Memory, cost: u32, node: u32) {
+        memory.note(self.next.push(key(cost, node)).is_err());
     }
 
     fn cost(&self, node: u32) -> u32 {
@@ -113,79 +129,84 @@ impl Ways {
     }
 
     /// Goes back from a node by each edge to it.
-    fn go_back(
-        &mut self,
-        derivation: &Derivation,
-        node: u32,
-        cost: u32,
-        is_narrow: bool,
-        links: &mut Vec<Link>,
-    ) -> Result<(), OutOfMemory> {
+    fn go_back(&mut self, memory: &mut Memory, derivation: &Derivation, node: u32, cost: u32) {
         let from = self.task.from;
         if is_after_in_chain(derivation, from, node) {
-            return self.add(from, node, Why::Chain, 0, cost);
+            self.visited = self.visited.saturating_add(self.links.len());
+            let step = PathStep {
+                from,
+                to: node,
+                why: Why::Chain,
+                number: 0,
+            };
+            return self.add(memory, step, cost);
         }
-        derivation.graph.links_to(node, links)?;
-        for link in &*links {
-            let is_wanted = !is_narrow || leads_back(derivation, from, *link);
-            if link.number < self.task.limit && is_wanted {
+        derivation.graph.links_to(memory, node, &mut self.links);
+        self.visited = self.visited.saturating_add(self.links.len());
+        for k in 0..self.links.len() {
+            if let Some(link) = self.links.get(k)
+                && self.wants(derivation, link)
+            {
                 let cost = cost.saturating_add(cost_of(link.why));
-                self.add(link.node, node, link.why, link.number, cost)?;
+                self.add(memory, step_by(link, node), cost);
             }
         }
-        Ok(())
+    }
+
+    /// Whether going back by an edge may be part of the path.
+    fn wants(&self, derivation: &Derivation, link: Link) -> bool {
+        link.number < self.task.limit
+            && (!self.is_narrow || leads_back(derivation, self.task.from, link))
     }
 
     /// Adds a way, if it is the cheapest so far.
-    fn add(
-        &mut self,
-        from: u32,
-        to: u32,
-        why: Why,
-        number: u32,
-        cost: u32,
-    ) -> Result<(), OutOfMemory> {
-        let at = if from == self.task.from { NONE } else { from };
+    fn add(&mut self, memory: &mut Memory, step: PathStep, cost: u32) {
+        let at = if step.from == self.task.from {
+            NONE
+        } else {
+            step.from
+        };
         let is_better = match self.ways.get(&at) {
             Some(way) => cost < way.cost,
             None => at != self.task.to,
         };
         if is_better {
-            let step = PathStep {
-                from,
-                to,
-                why,
-                number,
-            };
-            self.ways.insert(at, Way { cost, step })?;
-            self.next.push(key(cost, at))?;
+            memory.note(self.ways.insert(at, Way { cost, step }).is_err());
+            self.push(memory, cost, at);
         }
-        Ok(())
     }
 
     /// The path that was found.
-    fn path(&self, alloc: Global) -> Result<Option<Vec<PathStep>>, OutOfMemory> {
-        let mut path = Vec::new(alloc);
+    fn path(&self, memory: &mut Memory) -> Option<Vec<PathStep>> {
+        let mut path = Vec::new(memory.alloc());
         let mut at = NONE;
         for _ in 0..self.ways.len() {
             let Some(way) = self.ways.get(&at) else {
-                return Ok(None);
+                return None;
             };
-            path.push(way.step)?;
+            memory.push(&mut path, way.step);
             at = way.step.to;
             if at == self.task.to {
-                return Ok(Some(path));
+                return Some(path);
             }
         }
-        Ok(None)
+        None
+    }
+}
+
+/// The step by an edge to a node.
+fn step_by(link: Link, node: u32) -> PathStep {
+    PathStep {
+        from: link.node,
+        to: node,
+        why: link.why,
+        number: link.number,
     }
 }
 
 /// Whether going back by an edge may lead to the beginning, as far as the rows of nodes that are done say.
 fn leads_back(derivation: &Derivation, from: u32, link: Link) -> bool {
-    (link.node == from || derivation.reaches(from, link.node))
-        && derivation.graph.is_done(link.node)
-        && derivation.graph.is_in_use(link.why)
+    (link.node == from || derivation.reaches(from, link.node)) && derivation.graph.allows(link)
 }
 
 /// Whether a node stands after another in its chain.

@@ -1,7 +1,8 @@
 //! Fewer operations that are still accused.
 
 use crate::lookups::{logged_at, number_of, source_of};
-use crate::selections::empty_lists;
+use crate::memory::Memory;
+use crate::selections::{empty_lists, push_kept};
 use log_selections::{Kept, KnownLog};
 use log_text::LogOperation;
 use std::alloc::Global;
@@ -32,88 +33,102 @@ pub fn reduce<J: Judge>(
     kept: Vec<Vec<Kept>>,
     judge: &mut J,
 ) -> Result<Vec<Vec<Kept>>, OutOfMemory> {
-    let mut entries = list(alloc, &kept)?;
-    let mut size = entries.len();
-    for _ in 0..usize::BITS {
-        size = size.div_ceil(2);
-        if size <= 1 {
-            break;
+    let mut reduction = Reduction {
+        memory: Memory::new(alloc),
+        known,
+        judge,
+        entries: Vec::new(alloc),
+    };
+    reduction.list(&kept);
+    reduction.leave_out_halves()?;
+    reduction.leave_out_singles()?;
+    let lists = gather(&mut reduction.memory, known, &reduction.entries);
+    reduction.memory.whole(lists)
+}
+
+/// The operations that are left, and what is asked about them.
+#[derive(Drop)]
+struct Reduction<'a, J> {
+    memory: Memory,
+    known: &'a KnownLog,
+    judge: &'a mut J,
+    entries: Vec<Entry>,
+}
+
+impl<J: Judge> Reduction<'_, J> {
+    /// Lists the operations, one processor's after the other's.
+    fn list(&mut self, kept: &[Vec<Kept>]) {
+        for (processor, list) in kept.iter().enumerate() {
+            for kept in list {
+                self.memory.push(&mut self.entries, (processor, *kept));
+            }
         }
-        entries = leave_out_parts(alloc, known, entries, size, judge)?;
     }
-    entries = leave_out_singles(alloc, known, entries, judge)?;
-    gather(alloc, known, &entries)
-}
 
-/// The operations, one processor's after the other's.
-fn list(alloc: Global, kept: &[Vec<Kept>]) -> Result<Vec<Entry>, OutOfMemory> {
-    let mut entries = Vec::new(alloc);
-    for (processor, list) in kept.iter().enumerate() {
-        push_list(&mut entries, processor, list)?;
+    /// Leaves out half of the operations at a time, a quarter, .., two.
+    fn leave_out_halves(&mut self) -> Result<(), OutOfMemory> {
+        let mut size = self.entries.len();
+        for _ in 0..usize::BITS {
+            size = size.div_ceil(2);
+            if size <= 1 {
+                break;
+            }
+            self.leave_out_parts(size)?;
+        }
+        Ok(())
     }
-    Ok(entries)
-}
 
-fn push_list(entries: &mut Vec<Entry>, processor: usize, list: &[Kept]) -> Result<(), OutOfMemory> {
-    for kept in list {
-        entries.push((processor, *kept))?;
+    /// Leaves out single operations, in passes, until none can be left out.
+    fn leave_out_singles(&mut self) -> Result<(), OutOfMemory> {
+        for _ in 0..self.entries.len() {
+            let before = self.entries.len();
+            self.leave_out_parts(1)?;
+            if self.entries.len() == before {
+                break;
+            }
+        }
+        Ok(())
     }
-    Ok(())
+
+    /// Leaves out each part of so many operations without which the others are still accused. Barriers go only as single ones.
+    fn leave_out_parts(&mut self, size: usize) -> Result<(), OutOfMemory> {
+        let mut at: usize = 0;
+        for _ in 0..self.entries.len().saturating_mul(2) {
+            if at >= self.entries.len() || self.judge.is_done() {
+                break;
+            }
+            if !self.leaves_out(at, size)? {
+                at = at.saturating_add(size);
+            }
+        }
+        Ok(())
+    }
+
+    /// Leaves out so many operations from an index on, if the others are still accused, and answers whether they are.
+    fn leaves_out(&mut self, at: usize, size: usize) -> Result<bool, OutOfMemory> {
+        let fewer = without(&mut self.memory, self.known, &self.entries, at, size);
+        let is_left = fewer.len() < self.entries.len() && self.accuses(&fewer)?;
+        if is_left {
+            self.entries = fewer;
+        }
+        Ok(is_left)
+    }
+
+    /// Whether the judge accuses these operations.
+    fn accuses(&mut self, entries: &[Entry]) -> Result<bool, OutOfMemory> {
+        let lists = gather(&mut self.memory, self.known, entries);
+        let lists = self.memory.whole(lists)?;
+        self.judge.accuses(&lists)
+    }
 }
 
 /// These operations by their processors.
-fn gather(
-    alloc: Global,
-    known: &KnownLog,
-    entries: &[Entry],
-) -> Result<Vec<Vec<Kept>>, OutOfMemory> {
-    let mut lists = empty_lists(alloc, known.log().lists.len())?;
+fn gather(memory: &mut Memory, known: &KnownLog, entries: &[Entry]) -> Vec<Vec<Kept>> {
+    let mut lists = empty_lists(memory, known.log().lists.len());
     for (processor, kept) in entries {
-        if let Some(list) = lists.get_mut(*processor) {
-            list.push(*kept)?;
-        }
+        push_kept(memory, &mut lists, *processor, *kept);
     }
-    Ok(lists)
-}
-
-/// Leaves out single operations, in passes, until none can be left out.
-fn leave_out_singles<J: Judge>(
-    alloc: Global,
-    known: &KnownLog,
-    mut entries: Vec<Entry>,
-    judge: &mut J,
-) -> Result<Vec<Entry>, OutOfMemory> {
-    for _ in 0..entries.len() {
-        let before = entries.len();
-        entries = leave_out_parts(alloc, known, entries, 1, judge)?;
-        if entries.len() == before {
-            break;
-        }
-    }
-    Ok(entries)
-}
-
-/// Leaves out each part of so many operations without which the others are still accused. Barriers go only as single ones.
-fn leave_out_parts<J: Judge>(
-    alloc: Global,
-    known: &KnownLog,
-    mut entries: Vec<Entry>,
-    size: usize,
-    judge: &mut J,
-) -> Result<Vec<Entry>, OutOfMemory> {
-    let mut at: usize = 0;
-    for _ in 0..entries.len().saturating_mul(2) {
-        if at >= entries.len() || judge.is_done() {
-            break;
-        }
-        let fewer = without(alloc, known, &entries, at, size)?;
-        if fewer.len() < entries.len() && judge.accuses(&gather(alloc, known, &fewer)?)? {
-            entries = fewer;
-        } else {
-            at = at.saturating_add(size);
-        }
-    }
-    Ok(entries)
+    lists
 }
 
 fn is_barrier(known: &KnownLog, entry: Entry) -> bool {
@@ -125,51 +140,59 @@ fn is_barrier(known: &KnownLog, entry: Entry) -> bool {
 
 /// The operations without so many from an index on, and without loads whose sources are gone. Of several, barriers stay.
 fn without(
-    alloc: Global,
+    memory: &mut Memory,
     known: &KnownLog,
     entries: &[Entry],
     from: usize,
     size: usize,
-) -> Result<Vec<Entry>, OutOfMemory> {
+) -> Vec<Entry> {
     let to = from.saturating_add(size);
-    let mut left = Vec::new(alloc);
-    let mut stores = HashSet::new(alloc);
+    let mut left = Vec::new(memory.alloc());
     for (index, entry) in entries.iter().enumerate() {
         let is_outside = index < from || index >= to;
         if is_outside || (size > 1 && is_barrier(known, *entry)) {
-            left.push(*entry)?;
-            if let Some(number) = store_of(known, *entry) {
-                stores.insert(number)?;
-            }
+            memory.push(&mut left, *entry);
         }
     }
-    with_sources(alloc, known, &left, &stores)
+    with_sources(memory, known, &left)
 }
 
-/// The operations without loads whose sources aren't among these stores.
-fn with_sources(
-    alloc: Global,
-    known: &KnownLog,
-    entries: &[Entry],
-    stores: &HashSet<usize>,
-) -> Result<Vec<Entry>, OutOfMemory> {
-    let mut fewer = Vec::new(alloc);
+/// The operations without loads whose sources aren't among them.
+fn with_sources(memory: &mut Memory, known: &KnownLog, entries: &[Entry]) -> Vec<Entry> {
+    let stores = stores_of(memory, known, entries);
+    let mut fewer = Vec::new(memory.alloc());
     for (processor, kept) in entries {
-        if let Some(part) = part_left(known, (*processor, *kept), stores) {
+        if let Some(part) = part_left(known, (*processor, *kept), &stores) {
             let index = kept.index;
-            fewer.push((*processor, Kept { index, part }))?;
+            memory.push(&mut fewer, (*processor, Kept { index, part }));
         }
     }
-    Ok(fewer)
+    fewer
+}
+
+/// The numbers of the stores of operations.
+fn stores_of(memory: &mut Memory, known: &KnownLog, entries: &[Entry]) -> HashSet<usize> {
+    let mut stores = HashSet::new(memory.alloc());
+    for entry in entries {
+        if let Some(number) = store_of(known, *entry) {
+            memory.note(stores.insert(number).is_err());
+        }
+    }
+    stores
 }
 
 /// The number of the store of an operation.
 fn store_of(known: &KnownLog, entry: Entry) -> Option<usize> {
     let (processor, kept) = entry;
-    let number = number_of(known, processor, kept.index)?;
-    match logged_at(known, processor, kept.index)?.operation {
-        LogOperation::St { .. } => Some(number),
-        LogOperation::Sw { .. } if kept.part != Part::SwapLoad => number.checked_add(1),
+    let Some(logged) = logged_at(known, processor, kept.index) else {
+        return None;
+    };
+    let number = number_of(known, processor, kept.index);
+    match (logged.operation, number) {
+        (LogOperation::St { .. }, Some(number)) => Some(number),
+        (LogOperation::Sw { .. }, Some(number)) if kept.part != Part::SwapLoad => {
+            number.checked_add(1)
+        }
         _ => None,
     }
 }
@@ -177,14 +200,15 @@ fn store_of(known: &KnownLog, entry: Entry) -> Option<usize> {
 /// What is left of an operation with these stores.
 fn part_left(known: &KnownLog, entry: Entry, stores: &HashSet<usize>) -> Option<Part> {
     let (processor, kept) = entry;
-    let is_left = has_source(known, processor, kept.index, stores);
-    match (
-        logged_at(known, processor, kept.index)?.operation,
-        kept.part,
-    ) {
-        (LogOperation::Ld { .. }, _) | (LogOperation::Sw { .. }, Part::SwapLoad) if !is_left =>
-            None,
-        (LogOperation::Sw { .. }, Part::Whole) if !is_left => Some(Part::SwapStore),
+    let Some(logged) = logged_at(known, processor, kept.index) else {
+        return None;
+    };
+    if has_source(known, processor, kept.index, stores) {
+        return Some(kept.part);
+    }
+    match (logged.operation, kept.part) {
+        (LogOperation::Ld { .. }, _) | (LogOperation::Sw { .. }, Part::SwapLoad) => None,
+        (LogOperation::Sw { .. }, Part::Whole) => Some(Part::SwapStore),
         (_, part) => Some(part),
     }
 }
@@ -196,8 +220,10 @@ fn has_source(
     operation: usize,
     stores: &HashSet<usize>,
 ) -> bool {
-    let source = number_of(known, processor, operation).and_then(|number| source_of(known, number));
-    match source {
+    let Some(number) = number_of(known, processor, operation) else {
+        return false;
+    };
+    match source_of(known, number) {
         Some(source) => source == 0 || stores.contains(&source),
         None => false,
     }

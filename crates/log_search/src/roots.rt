@@ -1,16 +1,14 @@
 //! The order in which nodes are done: each after those before it, as far as they are known, and what was done at one time
 //! together.
 
-use crate::building::Graph;
 use crate::derivation::Derivation;
-use crate::links::Link;
+use crate::graphs::Graph;
+use crate::links::Links;
 use crate::lookups::line_of;
-use crate::nodes::Kind;
+use crate::memory::Memory;
 use crate::numbers::{NONE, item, narrow, put};
 use log_selections::KnownLog;
 use progress_meters::Meter;
-use std::alloc::Global;
-use tso_ops::OutOfMemory;
 
 /// After all processors wait for another, so many nodes of one are passed.
 const FORCED: u32 = 64;
@@ -30,27 +28,23 @@ pub(crate) struct Roots {
     other: usize,
     /// Nodes that are to be done, the next one last, each with whether what comes before it was put on top of it.
     stack: Vec<(u32, bool)>,
-    links: Vec<Link>,
+    links: Links,
 }
 
 impl Roots {
     /// At the beginning.
-    pub(crate) fn new(
-        alloc: Global,
-        known: &KnownLog,
-        graph: &Graph,
-    ) -> Result<Roots, OutOfMemory> {
-        Ok(Roots {
+    pub(crate) fn new(memory: &mut Memory, known: &KnownLog, graph: &Graph) -> Roots {
+        Roots {
             clock: Clock::new(known),
             round: 0,
             processor: 0,
-            positions: Vec::from_slice(alloc, &graph.firsts)?,
+            positions: memory.copied(&graph.firsts),
             has_moved: false,
             forced: 0,
             other: 0,
-            stack: Vec::new(alloc),
-            links: Vec::new(alloc),
-        })
+            stack: Vec::new(memory.alloc()),
+            links: Links::new(memory.alloc()),
+        }
     }
 
     /// Goes on after nodes were taken back.
@@ -61,22 +55,23 @@ impl Roots {
     /// Does the nodes that aren't done, up to a violation or the end of the budget. The meter hears of each that is looked at.
     pub(crate) fn advance<M: Meter>(
         &mut self,
+        memory: &mut Memory,
         known: &KnownLog,
         derivation: &mut Derivation,
         meter: &M,
-    ) -> Result<(), OutOfMemory> {
+    ) {
         for _ in 0..usize::MAX {
-            if derivation.closing.is_some() || derivation.work.is_spent() {
+            if derivation.is_stopped(memory) {
                 break;
             }
             let Some(root) = self.next(known, derivation) else {
                 break;
             };
-            self.stack.push((root, false))?;
-            self.visit(derivation)?;
+            memory.push(&mut self.stack, (root, false));
+            self.visit(memory, derivation);
             meter.advance(1);
         }
-        derivation.apply()
+        derivation.apply(memory);
     }
 
     /// The next node that isn't done: those that were taken back come first.
@@ -84,12 +79,17 @@ impl Roots {
         if let Some(node) = derivation.redo.pop() {
             return Some(node);
         }
-        if let Some(load) = self.next_load(known, derivation) {
-            return Some(load);
+        match self.next_load(known, &derivation.graph) {
+            Some(load) => Some(load),
+            None => self.next_other(&derivation.graph),
         }
-        for number in self.other..derivation.graph.nodes.len() {
+    }
+
+    /// The next node that isn't done, loads or others.
+    fn next_other(&mut self, graph: &Graph) -> Option<u32> {
+        for number in self.other..graph.nodes.len() {
             self.other = number;
-            if !derivation.graph.is_done(narrow(number)) {
+            if !graph.is_done(narrow(number)) {
                 return Some(narrow(number));
             }
         }
@@ -98,8 +98,7 @@ impl Roots {
 
     /// The next load that isn't done. In a round each processor passes the nodes of a time, but waits at a load that read what
     /// another one stores later than it has come, so that what happened together is done together.
-    fn next_load(&mut self, known: &KnownLog, derivation: &Derivation) -> Option<u32> {
-        let graph = &derivation.graph;
+    fn next_load(&mut self, known: &KnownLog, graph: &Graph) -> Option<u32> {
         let processors = graph.firsts.len().saturating_sub(1);
         for _ in 0..usize::MAX {
             if self.processor >= processors && !self.begin_pass() {
@@ -110,18 +109,20 @@ impl Roots {
                 self.processor = self.processor.saturating_add(1);
                 continue;
             }
-            self.has_moved = true;
-            self.forced = self.forced.saturating_sub(1);
-            let next = position.saturating_add(1);
-            put(&mut self.positions, narrow(self.processor), next);
-            if let Some(node) = graph.node(position)
-                && node.is_load()
-                && !graph.is_done(position)
-            {
+            self.pass(position);
+            if graph.is_load_to_do(position) {
                 return Some(position);
             }
         }
         None
+    }
+
+    /// Passes the processor's next node, this one.
+    fn pass(&mut self, position: u32) {
+        self.has_moved = true;
+        self.forced = self.forced.saturating_sub(1);
+        let next = position.saturating_add(1);
+        put(&mut self.positions, narrow(self.processor), next);
     }
 
     /// Whether the processor's next node, this one, is to be passed now.
@@ -168,37 +169,34 @@ impl Roots {
     }
 
     /// Does the nodes of the stack, and before each what comes before it.
-    fn visit(&mut self, derivation: &mut Derivation) -> Result<(), OutOfMemory> {
+    fn visit(&mut self, memory: &mut Memory, derivation: &mut Derivation) {
         for _ in 0..usize::MAX {
-            if derivation.closing.is_some() || derivation.work.is_spent() {
+            if derivation.is_stopped(memory) {
                 break;
             }
             let Some((number, is_begun)) = self.stack.pop() else {
                 break;
             };
-            if derivation.graph.is_done(number) {
-                continue;
-            }
             if is_begun {
-                finish(derivation, number)?;
-            } else if item(&derivation.graph.ranks, number) != NONE {
+                finish(memory, derivation, number);
+            } else if item(&derivation.graph.ranks, number) == 0 {
                 put(&mut derivation.graph.ranks, number, NONE);
-                self.stack.push((number, true))?;
-                self.push_before(derivation, number)?;
+                memory.push(&mut self.stack, (number, true));
+                self.push_before(memory, &derivation.graph, number);
             }
         }
-        Ok(())
     }
 
     /// Pushes what comes before a node and isn't begun: what is begun waits for this one.
-    fn push_before(&mut self, derivation: &Derivation, number: u32) -> Result<(), OutOfMemory> {
-        derivation.graph.links_to(number, &mut self.links)?;
-        for link in &self.links {
-            if item(&derivation.graph.ranks, link.node) == 0 {
-                self.stack.push((link.node, false))?;
+    fn push_before(&mut self, memory: &mut Memory, graph: &Graph, number: u32) {
+        graph.links_to(memory, number, &mut self.links);
+        for k in 0..self.links.len() {
+            if let Some(link) = self.links.get(k)
+                && item(&graph.ranks, link.node) == 0
+            {
+                memory.push(&mut self.stack, (link.node, false));
             }
         }
-        Ok(())
     }
 }
 
@@ -214,46 +212,31 @@ struct Clock {
 
 impl Clock {
     fn new(known: &KnownLog) -> Clock {
-        let mut clock = Clock {
+        let mut sums = Sums {
             operations: 0,
             lines: 0,
-            rounds: 0,
-            has_lines: false,
+            spans: 0,
+            processors: 0,
         };
-        let mut spans: usize = 0;
-        let mut processors: usize = 0;
         for (processor, list) in known.log().lists.iter().enumerate() {
-            if let Some(last) = list.len().checked_sub(1) {
-                let end = line_of(known, processor, last);
-                let start = line_of(known, processor, 0);
-                clock.operations = clock.operations.saturating_add(list.len());
-                clock.lines = clock.lines.max(end);
-                spans = spans.saturating_add(end.saturating_sub(start));
-                processors = processors.saturating_add(1);
-            }
+            sums.add(known, processor, list.len());
         }
-        clock.has_lines = spans > clock.lines.saturating_mul(processors) / 2;
-        clock.rounds = clock
-            .operations
-            .checked_div(processors)
-            .unwrap_or(0)
-            .saturating_add(1);
-        clock
+        Clock {
+            operations: sums.operations,
+            lines: sums.lines,
+            rounds: quotient(sums.operations, sums.processors).saturating_add(1),
+            has_lines: sums.spans > sums.lines.saturating_mul(sums.processors) / 2,
+        }
     }
 
     fn time_of(self, known: &KnownLog, processor: usize, operation: usize) -> usize {
         if self.has_lines {
             return line_of(known, processor, operation);
         }
-        let count = known
-            .log()
-            .lists
-            .get(processor)
-            .map_or(0, |list| list.len());
-        operation
-            .saturating_mul(self.operations)
-            .checked_div(count)
-            .unwrap_or(0)
+        match known.log().lists.get(processor) {
+            Some(list) => quotient(operation.saturating_mul(self.operations), list.len()),
+            None => 0,
+        }
     }
 
     /// The last time of a round.
@@ -266,24 +249,55 @@ impl Clock {
         } else {
             self.operations
         };
-        all.saturating_mul(round)
-            .checked_div(self.rounds)
-            .unwrap_or(0)
+        quotient(all.saturating_mul(round), self.rounds)
+    }
+}
+
+/// Sums over the processors that have operations.
+#[derive(Clone, Copy)]
+struct Sums {
+    operations: usize,
+    /// The last line of all.
+    lines: usize,
+    /// Over how many lines each processor's operations go, together.
+    spans: usize,
+    processors: usize,
+}
+
+impl Sums {
+    /// Adds a processor with so many operations.
+    fn add(&mut self, known: &KnownLog, processor: usize, operations: usize) {
+        if operations == 0 {
+            return;
+        }
+        let end = line_of(known, processor, operations.saturating_sub(1));
+        let start = line_of(known, processor, 0);
+        self.operations = self.operations.saturating_add(operations);
+        self.lines = self.lines.max(end);
+        self.spans = self.spans.saturating_add(end.saturating_sub(start));
+        self.processors = self.processors.saturating_add(1);
+    }
+}
+
+/// The quotient of two numbers; 0 where there is none.
+fn quotient(number: usize, divisor: usize) -> usize {
+    match number.checked_div(divisor) {
+        Some(quotient) => quotient,
+        None => 0,
     }
 }
 
 /// A node is done, and with a swap's load its store.
-fn finish(derivation: &mut Derivation, number: u32) -> Result<(), OutOfMemory> {
-    derivation.finish(number)?;
+fn finish(memory: &mut Memory, derivation: &mut Derivation, number: u32) {
+    if derivation.graph.is_done(number) {
+        return;
+    }
+    derivation.finish(memory, number);
     let store = number.saturating_add(1);
     if derivation.closing.is_none()
-        && derivation
-            .graph
-            .node(number)
-            .is_some_and(|node| node.kind == Kind::SwapLoad)
+        && derivation.graph.is_swap_load(number)
         && !derivation.graph.is_done(store)
     {
-        derivation.finish(store)?;
+        derivation.finish(memory, store);
     }
-    Ok(())
 }

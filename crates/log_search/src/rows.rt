@@ -1,7 +1,6 @@
 //! What reaches each node: for each chain the greatest place of it that does, 0 where none does.
 
-use std::alloc::Global;
-use tso_ops::OutOfMemory;
+use crate::memory::Memory;
 
 /// A row for each node.
 #[derive(Drop)]
@@ -12,14 +11,18 @@ pub(crate) struct Rows {
 
 impl Rows {
     /// Rows of so many nodes and chains, which nothing reaches.
-    pub(crate) fn new(alloc: Global, nodes: usize, width: usize) -> Result<Rows, OutOfMemory> {
-        let Some(size) = nodes.checked_mul(width) else {
-            return Err(OutOfMemory);
+    pub(crate) fn new(memory: &mut Memory, nodes: usize, width: usize) -> Rows {
+        let size = match nodes.checked_mul(width) {
+            Some(size) => size,
+            None => {
+                memory.note(true);
+                0
+            }
         };
-        Ok(Rows {
-            places: vec![in alloc; 0u32; size]?,
+        Rows {
+            places: memory.numbers(0, size),
             width,
-        })
+        }
     }
 
     /// How many chains there are.

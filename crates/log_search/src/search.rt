@@ -3,6 +3,8 @@
 use crate::building::{Scope, build};
 use crate::derivation::{Derivation, Work};
 use crate::explanations::explain;
+use crate::graphs::Graph;
+use crate::memory::Memory;
 use crate::roots::Roots;
 use crate::selections::select;
 use crate::surveys::{Addresses, Survey};
@@ -42,23 +44,21 @@ impl<'a> Search<'a> {
         known: &'a KnownLog,
         effort: usize,
     ) -> Result<Search<'a>, OutOfMemory> {
-        let survey = Survey::new(alloc, known)?;
+        let mut memory = Memory::new(alloc);
+        let survey = Survey::new(&mut memory, known);
         let addresses = survey.addresses_from(0);
-        let scope = Scope {
-            known,
-            survey: &survey,
-            addresses,
-        };
-        let graph = build(alloc, scope)?;
+        let graph = graph_at(&mut memory, known, &survey, addresses);
         let work = Work::new(effort, known.sources().len(), graph.chains.len());
-        Ok(Search {
+        let roots = Roots::new(&mut memory, known, &graph);
+        let search = Search {
             known,
             survey,
             addresses,
             parts: 1,
-            roots: Roots::new(alloc, known, &graph)?,
-            derivation: Derivation::new(alloc, graph, work)?,
-        })
+            roots,
+            derivation: Derivation::new(&mut memory, graph, work),
+        };
+        memory.whole(search)
     }
 
     /// How much work was done so far, in updates of rows.
@@ -75,57 +75,73 @@ impl<'a> Search<'a> {
     /// The next proposal, or the end. The loads of a proposal are left out of what is looked at after it. OutOfMemory where
     /// an allocation was refused. The meter hears of each operation that is looked at.
     pub fn next<M: Meter>(&mut self, alloc: Global, meter: &M) -> Result<Found, OutOfMemory> {
+        let mut memory = Memory::new(alloc);
+        let found = self.find(&mut memory, meter);
+        memory.whole(found)
+    }
+
+    /// The next proposal, or the end.
+    fn find<M: Meter>(&mut self, memory: &mut Memory, meter: &M) -> Found {
         for _ in 0..usize::MAX {
-            self.roots.advance(self.known, &mut self.derivation, meter)?;
+            self.roots
+                .advance(memory, self.known, &mut self.derivation, meter);
             if self.derivation.closing.is_some() {
-                return self.propose(alloc);
+                return self.propose(memory);
             }
-            if self.derivation.work.is_spent() {
-                return Ok(Found::BudgetEnd);
+            if self.derivation.is_stopped(memory) {
+                return Found::BudgetEnd;
             }
             if self.addresses.to >= self.survey.count() {
                 break;
             }
-            self.begin_part(alloc)?;
+            self.begin_part(memory);
         }
-        Ok(Found::End)
+        Found::End
     }
 
     /// Goes on with the next part of the addresses.
-    fn begin_part(&mut self, alloc: Global) -> Result<(), OutOfMemory> {
+    fn begin_part(&mut self, memory: &mut Memory) {
         self.addresses = self.survey.addresses_from(self.addresses.to);
         self.parts = self.parts.saturating_add(1);
-        let scope = Scope {
-            known: self.known,
-            survey: &self.survey,
-            addresses: self.addresses,
-        };
-        let graph = build(alloc, scope)?;
-        self.roots = Roots::new(alloc, self.known, &graph)?;
+        let graph = graph_at(memory, self.known, &self.survey, self.addresses);
+        self.roots = Roots::new(memory, self.known, &graph);
         let mut work = self.derivation.work;
         work.spend(self.known.sources().len());
-        self.derivation = Derivation::new(alloc, graph, work)?;
-        Ok(())
+        self.derivation = Derivation::new(memory, graph, work);
     }
 
     /// What the violation needs that was found.
-    fn propose(&mut self, alloc: Global) -> Result<Found, OutOfMemory> {
-        let Some(closing) = self.derivation.closing else {
-            return Ok(Found::End);
-        };
-        let Some(explanation) = explain(alloc, &self.derivation, closing)? else {
-            return Ok(Found::BudgetEnd);
-        };
-        let words = self.derivation.work.of_visits(explanation.visited);
-        self.derivation.work.spend(words);
-        let mut loads = Vec::new(alloc);
-        let selection = select(alloc, &self.derivation, &explanation, &mut loads)?;
+    fn propose(&mut self, memory: &mut Memory) -> Found {
+        let mut loads = Vec::new(memory.alloc());
+        let selection = self.select(memory, &mut loads);
         if loads.is_empty() {
             // Without a load to leave out the search would find the same again.
-            return Ok(Found::BudgetEnd);
+            return Found::BudgetEnd;
         }
-        self.derivation.leave_out(&loads)?;
+        self.derivation.leave_out(memory, &loads);
         self.roots.go_on();
-        Ok(Found::Proposal(selection))
+        Found::Proposal(selection)
     }
+
+    /// The operations that the violation needs that was found, and its loads; none where the work for them is more than is left.
+    fn select(&mut self, memory: &mut Memory, loads: &mut Vec<u32>) -> Vec<Vec<Kept>> {
+        if let Some(closing) = self.derivation.closing
+            && let Some(explanation) = explain(memory, &self.derivation, closing)
+        {
+            let words = self.derivation.work.of_visits(explanation.visited);
+            self.derivation.work.spend(words);
+            return select(memory, &self.derivation, &explanation, loads);
+        }
+        Vec::new(memory.alloc())
+    }
+}
+
+/// The graph of a log at some of its addresses.
+fn graph_at(memory: &mut Memory, known: &KnownLog, survey: &Survey, addresses: Addresses) -> Graph {
+    let scope = Scope {
+        known,
+        survey,
+        addresses,
+    };
+    build(memory, scope)
 }

@@ -2,35 +2,52 @@
 
 use crate::derivation::Derivation;
 use crate::explanations::Explanation;
+use crate::memory::Memory;
 use crate::nodes::{Kind, Node};
 use log_selections::Kept;
-use std::alloc::Global;
-use tso_ops::{OutOfMemory, Part};
+use tso_ops::Part;
 
 /// No operations of so many processors.
-pub(crate) fn empty_lists(alloc: Global, processors: usize) -> Result<Vec<Vec<Kept>>, OutOfMemory> {
-    let mut lists = Vec::with_capacity(alloc, processors)?;
+pub(crate) fn empty_lists(memory: &mut Memory, processors: usize) -> Vec<Vec<Kept>> {
+    let alloc = memory.alloc();
+    let mut lists = Vec::new(alloc);
     for _ in 0..processors {
-        lists.push(Vec::new(alloc))?;
+        memory.note(lists.push(Vec::new(alloc)).is_err());
     }
-    Ok(lists)
+    lists
+}
+
+/// Pushes an operation to those of its processor.
+pub(crate) fn push_kept(
+    memory: &mut Memory,
+    lists: &mut [Vec<Kept>],
+    processor: usize,
+    kept: Kept,
+) {
+    if let Some(list) = lists.get_mut(processor) {
+        memory.push(list, kept);
+    }
 }
 
 /// Keeps an operation after those of its processor, or another part of the last one.
-fn keep(lists: &mut [Vec<Kept>], processor: u32, kept: Kept) -> Result<(), OutOfMemory> {
-    let Some(list) = lists.get_mut(processor as usize) else {
-        return Ok(());
-    };
-    if let Some(last) = list.last_mut()
+fn keep(memory: &mut Memory, lists: &mut [Vec<Kept>], processor: usize, kept: Kept) {
+    if !joins_last(lists, processor, kept) {
+        push_kept(memory, lists, processor, kept);
+    }
+}
+
+/// Whether an operation is the last one of its processor, of which this part is then kept too.
+fn joins_last(lists: &mut [Vec<Kept>], processor: usize, kept: Kept) -> bool {
+    if let Some(list) = lists.get_mut(processor)
+        && let Some(last) = list.last_mut()
         && last.index == kept.index
     {
         if last.part != kept.part {
             last.part = Part::Whole;
         }
-        return Ok(());
+        return true;
     }
-    list.push(kept)?;
-    Ok(())
+    false
 }
 
 /// What is selected: a processor, an index among its operations, and which part of a swap it is.
@@ -38,75 +55,74 @@ type Pick = (u32, u32, Part);
 
 /// The operations of an explanation: its nodes, the sources of its loads, and its barriers. `loads` gets its loads.
 pub(crate) fn select(
-    alloc: Global,
+    memory: &mut Memory,
     derivation: &Derivation,
     explanation: &Explanation,
     loads: &mut Vec<u32>,
-) -> Result<Vec<Vec<Kept>>, OutOfMemory> {
-    let mut picks = Vec::new(alloc);
+) -> Vec<Vec<Kept>> {
+    let mut picks = Vec::new(memory.alloc());
     for number in &explanation.nodes {
-        if let Some(node) = derivation.graph.node(*number) {
-            push_node(derivation, *number, node, loads, &mut picks)?;
-        }
+        push_node(memory, derivation, *number, loads, &mut picks);
     }
-    push_barriers(derivation, &explanation.barriers, &mut picks)?;
+    push_barriers(memory, derivation, &explanation.barriers, &mut picks);
     picks.sort_unstable_by_key(|pick: &Pick| (pick.0, pick.1));
     let processors = derivation.graph.firsts.len().saturating_sub(1);
-    gather(alloc, processors, &picks)
+    gather(memory, processors, &picks)
 }
 
 fn push_barriers(
+    memory: &mut Memory,
     derivation: &Derivation,
     barriers: &[(u32, u32)],
     picks: &mut Vec<Pick>,
-) -> Result<(), OutOfMemory> {
+) {
     for (number, barrier) in barriers {
         if let Some(node) = derivation.graph.node(*number) {
-            picks.push((node.processor, *barrier, Part::Whole))?;
+            memory.push(picks, (node.processor, *barrier, Part::Whole));
         }
     }
-    Ok(())
 }
 
 /// What picks keep, which are in the order of their processors and operations.
-fn gather(alloc: Global, processors: usize, picks: &[Pick]) -> Result<Vec<Vec<Kept>>, OutOfMemory> {
-    let mut lists = empty_lists(alloc, processors)?;
+fn gather(memory: &mut Memory, processors: usize, picks: &[Pick]) -> Vec<Vec<Kept>> {
+    let mut lists = empty_lists(memory, processors);
     for (processor, operation, part) in picks {
         let kept = Kept {
             index: *operation as usize,
             part: *part,
         };
-        keep(&mut lists, *processor, kept)?;
+        keep(memory, &mut lists, *processor as usize, kept);
     }
-    Ok(lists)
+    lists
 }
 
-/// Picks a node, and with a load its source.
+/// Picks a node, and with a load, if it isn't left out, its source.
 fn push_node(
+    memory: &mut Memory,
     derivation: &Derivation,
     number: u32,
-    node: Node,
     loads: &mut Vec<u32>,
     picks: &mut Vec<Pick>,
-) -> Result<(), OutOfMemory> {
-    if node.is_load() {
-        if !node.is_live_load() {
-            return Ok(());
-        }
-        loads.push(number)?;
+) {
+    let Some(node) = derivation.graph.node(number) else {
+        return;
+    };
+    if node.is_live_load() {
+        memory.push(loads, number);
         if let Some(source) = derivation.graph.node(node.source) {
-            push_pick(source, picks)?;
+            memory.push(picks, pick_of(source));
         }
+    } else if node.is_load() {
+        return;
     }
-    push_pick(node, picks)
+    memory.push(picks, pick_of(node));
 }
 
-fn push_pick(node: Node, picks: &mut Vec<Pick>) -> Result<(), OutOfMemory> {
+fn pick_of(node: Node) -> Pick {
     let part = match node.kind {
         Kind::SwapLoad => Part::SwapLoad,
         Kind::SwapStore | Kind::LoneSwapStore => Part::SwapStore,
         Kind::Load | Kind::Store | Kind::Stbar => Part::Whole,
     };
-    picks.push((node.processor, node.operation, part))?;
-    Ok(())
+    (node.processor, node.operation, part)
 }

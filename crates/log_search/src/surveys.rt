@@ -1,12 +1,12 @@
 //! What of a log matters to the search: the numbers of addresses, and the loads that say something.
 
 use crate::lookups::{number_of, source_of};
+use crate::memory::Memory;
 use crate::numbers::{NONE, count, item, narrow, put};
 use log_selections::KnownLog;
 use log_text::{LogOperation, LoggedOperation};
-use std::alloc::Global;
 use std::collections::HashMap;
-use tso_ops::{Order, OutOfMemory};
+use tso_ops::Order;
 
 /// By the numbers of events: the number of each one's address, and which loads are kept.
 #[derive(Drop)]
@@ -39,10 +39,10 @@ impl Addresses {
     /// The number of an address among these, if it is one of them.
     pub(crate) fn place(self, address: u32) -> Option<u32> {
         let address = address as usize;
-        if address < self.to {
-            address.checked_sub(self.from).map(narrow)
-        } else {
+        if address < self.from || address >= self.to {
             None
+        } else {
+            Some(narrow(address.saturating_sub(self.from)))
         }
     }
 }
@@ -67,31 +67,31 @@ pub(crate) fn address_of(operation: LogOperation) -> Option<u64> {
 
 impl Survey {
     /// Looks at a log.
-    pub(crate) fn new(alloc: Global, known: &KnownLog) -> Result<Survey, OutOfMemory> {
+    pub(crate) fn new(memory: &mut Memory, known: &KnownLog) -> Survey {
+        let events = known.sources().len();
         let mut survey = Survey {
             order: known.log().order,
-            addresses: vec![in alloc; NONE; known.sources().len()]?,
-            kept: vec![in alloc; false; known.sources().len()]?,
+            addresses: memory.numbers(NONE, events),
+            kept: memory.flags(events),
             count: 0,
             processors: known.log().lists.len(),
-            writers: Vec::new(alloc),
+            writers: Vec::new(memory.alloc()),
         };
-        survey.number_addresses(alloc, known)?;
-        survey.thin(alloc, known)?;
-        if known.log().order == Order::Pso {
-            survey.count_writers(alloc, known)?;
+        survey.number_addresses(memory, known);
+        survey.thin(memory, known);
+        if survey.order == Order::Pso {
+            survey.count_writers(memory, known);
         }
-        Ok(survey)
+        survey
     }
 
     /// Counts for each address the processors that store there.
-    fn count_writers(&mut self, alloc: Global, known: &KnownLog) -> Result<(), OutOfMemory> {
-        self.writers = vec![in alloc; 0u32; self.count]?;
-        let mut last = vec![in alloc; NONE; self.count]?;
+    fn count_writers(&mut self, memory: &mut Memory, known: &KnownLog) {
+        self.writers = memory.numbers(0, self.count);
+        let mut last = memory.numbers(NONE, self.count);
         for (processor, list) in known.log().lists.iter().enumerate() {
             self.count_stores(known, processor, list, &mut last);
         }
-        Ok(())
     }
 
     fn count_stores(
@@ -102,18 +102,19 @@ impl Survey {
         last: &mut [u32],
     ) {
         for (operation, logged) in list.iter().enumerate() {
-            if !matches!(
-                logged.operation,
-                LogOperation::St { .. } | LogOperation::Sw { .. }
-            ) {
-                continue;
+            if stores(logged.operation) {
+                let number = number_of(known, processor, operation).unwrap_or(0);
+                let address = self.address(number);
+                self.count_store(narrow(processor), address, last);
             }
-            let number = number_of(known, processor, operation).unwrap_or(0);
-            let address = self.address(number);
-            if item(last, address) != narrow(processor) {
-                put(last, address, narrow(processor));
-                count(&mut self.writers, address);
-            }
+        }
+    }
+
+    /// Counts a processor that stores to an address, if it isn't the last that did.
+    fn count_store(&mut self, processor: u32, address: u32, last: &mut [u32]) {
+        if item(last, address) != processor {
+            put(last, address, processor);
+            count(&mut self.writers, address);
         }
     }
 
@@ -153,49 +154,39 @@ impl Survey {
         self.kept.get(number).copied().unwrap_or(false)
     }
 
-    fn number_addresses(&mut self, alloc: Global, known: &KnownLog) -> Result<(), OutOfMemory> {
-        let mut numbers = HashMap::new(alloc);
+    fn number_addresses(&mut self, memory: &mut Memory, known: &KnownLog) {
+        let mut numbers = HashMap::new(memory.alloc());
         for (processor, list) in known.log().lists.iter().enumerate() {
-            self.number_list(known, processor, list, &mut numbers)?;
+            self.number_list(memory, known, processor, list, &mut numbers);
         }
         self.count = numbers.len();
-        Ok(())
     }
 
     fn number_list(
         &mut self,
+        memory: &mut Memory,
         known: &KnownLog,
         processor: usize,
         list: &[LoggedOperation],
         numbers: &mut HashMap<u64, u32>,
-    ) -> Result<(), OutOfMemory> {
+    ) {
         for (operation, logged) in list.iter().enumerate() {
-            let (Some(a), Some(number)) = (
-                address_of(logged.operation),
-                number_of(known, processor, operation),
-            ) else {
-                continue;
-            };
-            let address = match numbers.get(&a).copied() {
-                Some(address) => address,
-                None => {
-                    let address = narrow(numbers.len());
-                    numbers.insert(a, address)?;
-                    address
-                }
-            };
-            put(&mut self.addresses, narrow(number), address);
+            if let Some(a) = address_of(logged.operation)
+                && let Some(number) = number_of(known, processor, operation)
+            {
+                let address = number_in(memory, numbers, a);
+                put(&mut self.addresses, narrow(number), address);
+            }
         }
-        Ok(())
     }
 
     /// Keeps of the loads of a processor with one source the last, and the first if the source isn't a store before it. Those
     /// between say nothing more: what comes before one of them comes before the last, and what comes after it after the first.
-    fn thin(&mut self, alloc: Global, known: &KnownLog) -> Result<(), OutOfMemory> {
+    fn thin(&mut self, memory: &mut Memory, known: &KnownLog) {
         let size = known.sources().len().saturating_add(self.count);
         let mut readers = Readers {
-            first: vec![in alloc; 0u32; size]?,
-            last: vec![in alloc; 0u32; size]?,
+            first: memory.numbers(0, size),
+            last: memory.numbers(0, size),
             low: 0,
         };
         for (processor, list) in known.log().lists.iter().enumerate() {
@@ -203,19 +194,36 @@ impl Survey {
             self.find_readers(known, processor, list, &mut readers);
             self.keep_readers(known, processor, list, &readers);
         }
-        Ok(())
     }
 
-    /// The index of the source of the load of this number among `Readers`.
-    fn index_of(&self, known: &KnownLog, number: usize) -> Option<u32> {
-        match source_of(known, number)? {
-            0 => Some(narrow(
-                known
-                    .sources()
-                    .len()
-                    .saturating_add(self.address(number) as usize),
-            )),
-            source => Some(narrow(source)),
+    /// The number of a load, and the index of its source among `Readers`; None where the operation is no load, or its source
+    /// isn't known.
+    fn load_of(
+        &self,
+        known: &KnownLog,
+        processor: usize,
+        operation: usize,
+        logged: &LoggedOperation,
+    ) -> Option<(usize, u32)> {
+        match logged.operation {
+            LogOperation::Ld { .. } => match number_of(known, processor, operation) {
+                Some(number) => self.with_index(known, number),
+                None => None,
+            },
+            _ => None,
+        }
+    }
+
+    /// The number of a load, with the index of its source among `Readers`.
+    fn with_index(&self, known: &KnownLog, number: usize) -> Option<(usize, u32)> {
+        match source_of(known, number) {
+            Some(0) => {
+                let events = known.sources().len();
+                let index = events.saturating_add(self.address(number) as usize);
+                Some((number, narrow(index)))
+            }
+            Some(source) => Some((number, narrow(source))),
+            None => None,
         }
     }
 
@@ -227,16 +235,8 @@ impl Survey {
         readers: &mut Readers,
     ) {
         for (operation, logged) in list.iter().enumerate() {
-            if !matches!(logged.operation, LogOperation::Ld { .. }) {
-                continue;
-            }
-            if let Some(number) = number_of(known, processor, operation)
-                && let Some(index) = self.index_of(known, number)
-            {
-                put(&mut readers.last, index, narrow(number));
-                if (item(&readers.first, index) as usize) < readers.low {
-                    put(&mut readers.first, index, narrow(number));
-                }
+            if let Some((number, index)) = self.load_of(known, processor, operation, logged) {
+                readers.add(number, index);
             }
         }
     }
@@ -248,30 +248,53 @@ impl Survey {
         list: &[LoggedOperation],
         readers: &Readers,
     ) {
-        let mut barrier = false;
+        // Under PSO a store comes by a load after a barrier before its processor's later stores.
+        let mut follows = false;
         for (operation, logged) in list.iter().enumerate() {
             if logged.operation == LogOperation::Mb {
-                barrier = true;
+                follows = self.order == Order::Pso;
             }
-            if !matches!(logged.operation, LogOperation::Ld { .. }) {
-                continue;
+            if let Some((number, index)) = self.load_of(known, processor, operation, logged) {
+                self.keep(number, follows || readers.needs(known, number, index));
+                follows = false;
             }
-            if let Some(number) = number_of(known, processor, operation)
-                && let Some(index) = self.index_of(known, number)
-            {
-                // Under PSO a store comes by such a load before its processor's later stores.
-                let follows = barrier && known.log().order == Order::Pso;
-                let kept = follows || readers.needs(known, number, index);
-                if let Some(slot) = self.kept.get_mut(number) {
-                    *slot = kept;
-                }
-                barrier = false;
-            }
+        }
+    }
+
+    /// Notes whether a load is kept.
+    fn keep(&mut self, number: usize, is_kept: bool) {
+        if let Some(slot) = self.kept.get_mut(number) {
+            *slot = is_kept;
+        }
+    }
+}
+
+/// Whether an operation stores.
+fn stores(operation: LogOperation) -> bool {
+    matches!(operation, LogOperation::St { .. } | LogOperation::Sw { .. })
+}
+
+/// The number of an address, a new one where it has none yet.
+fn number_in(memory: &mut Memory, numbers: &mut HashMap<u64, u32>, a: u64) -> u32 {
+    match numbers.get(&a).copied() {
+        Some(number) => number,
+        None => {
+            let number = narrow(numbers.len());
+            memory.note(numbers.insert(a, number).is_err());
+            number
         }
     }
 }
 
 impl Readers {
+    /// Adds a load of this number, whose source has this index.
+    fn add(&mut self, number: usize, index: u32) {
+        put(&mut self.last, index, narrow(number));
+        if (item(&self.first, index) as usize) < self.low {
+            put(&mut self.first, index, narrow(number));
+        }
+    }
+
     fn needs(&self, known: &KnownLog, number: usize, index: u32) -> bool {
         if item(&self.last, index) as usize == number {
             return true;
