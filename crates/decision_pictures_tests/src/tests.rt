@@ -39,7 +39,7 @@ fn captioned(alloc: Global, caption: &str, below: &str) -> Result<String, AllocE
 
 #[test]
 fn evidence(rt: HostRuntime) -> Result<(), Fail> {
-    for (trace, evidence, caption, below) in CASES {
+    for (trace, evidence, caption, below) in &CASES {
         let found = drawn(rt.alloc(), trace, evidence)?;
         let expected = captioned(rt.alloc(), caption, below)?;
         assert!(rt; found == expected, "{evidence}: {found}");

@@ -57,9 +57,16 @@ const ALL: (usize, usize) = (usize::MAX, usize::MAX);
 
 #[test]
 fn reports_by_hand(rt: HostRuntime) {
-    for (options, log, verdict, report, notes) in reports::CASES {
+    for (options, log, verdict, report, notes) in &reports::CASES {
         let mut reader = log.as_bytes();
-        expect(&rt, &mut reader, options, ALL, Ok(verdict), (report, notes));
+        expect(
+            &rt,
+            &mut reader,
+            *options,
+            ALL,
+            Ok(*verdict),
+            (*report, *notes),
+        );
     }
 }
 

@@ -46,7 +46,7 @@ const TRACES: Asked = Asked::Outcomes(OutcomeForm::Traces);
 /// A program, what is asked about it, how many states its runs may reach, and the answer with its text.
 type Case = (&'static str, Asked, u64, BatchVerdict, &'static str);
 
-const CASES: [Case; 13] = [
+static CASES: [Case; 13] = [
     (
         STORE_BUFFERING,
         STATES,
@@ -194,8 +194,8 @@ fn expect_case<H: Abort>(rt: &H, alloc: Global, case: Case) {
 
 #[test]
 fn outcomes_by_hand(rt: HostRuntime) {
-    for case in CASES {
-        expect_case(&rt, rt.alloc(), case);
+    for case in &CASES {
+        expect_case(&rt, rt.alloc(), *case);
     }
 }
 

@@ -4,7 +4,7 @@ use super::Case;
 use evidence_for_tests::{BUFFERING, TWELVE_EVENTS, TWELVE_REFUTED};
 
 /// Orders, and then refutations.
-pub(super) const CASES: [Case; 11] = [
+pub(super) static CASES: [Case; 11] = [
     // both loads come before both stores in memory
     (
         BUFFERING,

@@ -21,7 +21,7 @@ const EXPLAINED: LogOptions = LogOptions {
     form: LogForm::Explained,
 };
 
-pub(super) const CASES: [Case; 17] = [
+pub(super) static CASES: [Case; 17] = [
     // two violations that have no load in common
     (
         LINES,
