@@ -2,12 +2,11 @@
 
 mod orders;
 mod refutations;
-mod undecided;
 
-use decision_explanation::explain_evidence;
+use decision_explanation::{explain_evidence, explain_undecided};
 use std::alloc::Global;
+use std::process::Abort;
 use std::test::Fail;
-use traces_for_tests::expect_equal;
 use tso_evidence::read_evidence;
 use tso_text::read_trace;
 
@@ -23,17 +22,43 @@ fn explained(alloc: Global, trace: &str, evidence: &str) -> Result<String, Fail>
     Ok(text)
 }
 
-/// Compares what is written of a case: these lines after that head.
-fn expect_explained(alloc: Global, case: Case, head: &str) -> Result<(), Fail> {
-    let (trace, evidence, lines) = case;
-    let expected = format!(in alloc; "{head}{lines}")?;
-    let text = explained(alloc, trace, evidence)?;
-    expect_equal(evidence, text.as_str(), expected.as_str())
+/// Compares what is written of each case: its lines after this head, or among others where there is none.
+fn expect_cases<H: Abort>(
+    rt: &H,
+    alloc: Global,
+    head: Option<&str>,
+    cases: &[Case],
+) -> Result<(), Fail> {
+    for (trace, evidence, lines) in cases {
+        let text = explained(alloc, trace, evidence)?;
+        let is_as_expected = match head {
+            Some(head) => text.strip_prefix(head) == Some(*lines),
+            None => text.contains(*lines),
+        };
+        assert!(rt; is_as_expected, "{evidence}: {text}");
+    }
+    Ok(())
 }
 
-/// Looks for these lines in what is written of a case.
-fn expect_line(alloc: Global, case: Case) -> Result<(), Fail> {
-    let (trace, evidence, lines) = case;
-    let text = explained(alloc, trace, evidence)?;
-    expect_equal(lines, text.contains(lines), true)
+#[test]
+fn evidence(rt: HostRuntime) -> Result<(), Fail> {
+    let (tso, pso) = (Some(orders::TSO_HEAD), Some(orders::PSO_HEAD));
+    expect_cases(&rt, rt.alloc(), tso, &orders::UNDER_TSO)?;
+    expect_cases(&rt, rt.alloc(), pso, &orders::UNDER_PSO)?;
+    let by_cases = Some(refutations::CASES_HEAD);
+    expect_cases(&rt, rt.alloc(), by_cases, &refutations::BY_CASES)?;
+    expect_cases(&rt, rt.alloc(), None, &refutations::LINES_OF_TWELVE_EVENTS)?;
+    expect_cases(&rt, rt.alloc(), None, &refutations::LINES_OF_THIRTY_EVENTS)?;
+    expect_cases(&rt, rt.alloc(), None, &refutations::OF_CERTIFICATES)
+}
+
+const UNDECIDED: &str =
+    "\nThe search ended after 1000 cases, with neither a memory order of this trace nor a refutation.\nThat does not show whether there is a memory order. A greater --effort looks at more cases.\n";
+
+#[test]
+fn undecided(rt: HostRuntime) -> Result<(), Fail> {
+    let mut text = String::new(rt.alloc());
+    explain_undecided(&mut text, 1000)?;
+    assert!(rt; text.as_str() == UNDECIDED, "{text}");
+    Ok(())
 }

@@ -1,15 +1,10 @@
-//! Programs with their outcomes by hand, and what the tests of them share.
-
-mod listing;
-mod refused_allocations;
-mod seen;
+//! Programs with their outcomes by hand, and refused allocations.
 
 use outcome_reports::{OutcomeForm, OutcomeOptions, count_seen, list_outcomes};
 use std::alloc::Global;
-use std::test::Fail;
+use std::process::Abort;
 use trace_batches::BatchVerdict;
 use trace_judging::Fault;
-use traces_for_tests::expect_equal;
 
 /// More states than runs of any of these programs reach.
 const LIMIT: u64 = 1_000;
@@ -28,43 +23,211 @@ const MESSAGE_PASSING_UNDER_PSO: &str =
 const TWO_PLUS_TWO_WRITES: &str =
     "tso program 1\nproc\nst 0 1\nst 1 2\nproc\nst 1 3\nst 0 4\nend\n";
 
-/// Compares what is written of the outcomes of a program.
-fn expect_outcomes(
-    alloc: Global,
-    program: &str,
-    form: OutcomeForm,
-    limit: u64,
-    expected: (BatchVerdict, &str),
-) -> Result<(), Fail> {
-    let mut written = Vec::new(alloc);
-    let mut programs = program.as_bytes();
-    let options = OutcomeOptions { limit, form };
-    let said = list_outcomes(alloc, &mut programs, &mut written, options);
-    expect_said(program, said, &written, expected)
+/// Its trace.
+const TRACE: &str = "tso trace 1\nproc\nst 0 1\nst 1 2\nproc\nst 1 3\nst 0 4\nend\n";
+
+/// One trace of store buffering once and another twice, one that no run leaves, one of another program, and a broken one.
+const STREAM: &str =
+    "tso trace 1\nproc\nst 0 1\nld 1 2\nproc\nst 1 2\nld 0 1\nend\ntso trace 1\nproc\nst 0 1\nld 1 0\nproc\nst 1 2\nld 0 0\nend\ntso trace 1\nproc\nst 0 1\nld 1 9\nproc\nst 1 2\nld 0 0\nend\ntso trace 1\nproc\nst 0 1\nend\ntso trace 1\nproc\nst 0 1\nld 1 2\nproc\nst 1 2\nld 0 1\nend\ntso trace 1\nproc\nst 0 1\n";
+
+/// What is asked about a program.
+#[derive(Clone, Copy)]
+enum Asked {
+    /// Its outcomes in this form.
+    Outcomes(OutcomeForm),
+    /// How often a stream has its traces.
+    Seen(&'static str),
 }
 
-/// Compares what is written of the traces of a program that a stream has.
-fn expect_seen(
+const STATES: Asked = Asked::Outcomes(OutcomeForm::States);
+
+const TRACES: Asked = Asked::Outcomes(OutcomeForm::Traces);
+
+/// A program, what is asked about it, how many states its runs may reach, and the answer with its text.
+type Case = (&'static str, Asked, u64, BatchVerdict, &'static str);
+
+static CASES: [Case; 13] = [
+    (
+        STORE_BUFFERING,
+        STATES,
+        LIMIT,
+        BatchVerdict::NoViolation,
+        "States 4\n0:0=0; 1:0=0; [0]=1; [1]=2;\n0:0=0; 1:0=1; [0]=1; [1]=2;\n0:0=2; 1:0=0; [0]=1; [1]=2;\n0:0=2; 1:0=1; [0]=1; [1]=2;\n",
+    ),
+    // the second store is seen only after the first
+    (
+        MESSAGE_PASSING,
+        STATES,
+        LIMIT,
+        BatchVerdict::NoViolation,
+        "States 3\n1:0=0; 1:1=0; [0]=1; [1]=2;\n1:0=0; 1:1=1; [0]=1; [1]=2;\n1:0=2; 1:1=1; [0]=1; [1]=2;\n",
+    ),
+    // or before it
+    (
+        MESSAGE_PASSING_UNDER_PSO,
+        STATES,
+        LIMIT,
+        BatchVerdict::NoViolation,
+        "States 4\n1:0=0; 1:1=0; [0]=1; [1]=2;\n1:0=0; 1:1=1; [0]=1; [1]=2;\n1:0=2; 1:1=0; [0]=1; [1]=2;\n1:0=2; 1:1=1; [0]=1; [1]=2;\n",
+    ),
+    // not both first stores last
+    (
+        TWO_PLUS_TWO_WRITES,
+        STATES,
+        LIMIT,
+        BatchVerdict::NoViolation,
+        "States 3\n[0]=1; [1]=2;\n[0]=4; [1]=2;\n[0]=4; [1]=3;\n",
+    ),
+    (
+        STORE_BUFFERING,
+        TRACES,
+        LIMIT,
+        BatchVerdict::NoViolation,
+        "tso trace 1\nproc\nst 0 1\nld 1 0\nproc\nst 1 2\nld 0 0\nend\ntso trace 1\nproc\nst 0 1\nld 1 0\nproc\nst 1 2\nld 0 1\nend\ntso trace 1\nproc\nst 0 1\nld 1 2\nproc\nst 1 2\nld 0 0\nend\ntso trace 1\nproc\nst 0 1\nld 1 2\nproc\nst 1 2\nld 0 1\nend\n",
+    ),
+    // three final states have one trace
+    (
+        TWO_PLUS_TWO_WRITES,
+        TRACES,
+        LIMIT,
+        BatchVerdict::NoViolation,
+        TRACE,
+    ),
+    (
+        STORE_BUFFERING,
+        STATES,
+        1,
+        BatchVerdict::Refused,
+        "REFUSED States\n",
+    ),
+    (
+        "tso trace 1\nend\n",
+        STATES,
+        LIMIT,
+        BatchVerdict::Refused,
+        "REFUSED BadHeader line 1\n",
+    ),
+    (
+        STORE_BUFFERING,
+        Asked::Seen(STREAM),
+        LIMIT,
+        BatchVerdict::Violation,
+        "Traces 4\n1 0:0=0; 1:0=0;\n0 0:0=0; 1:0=1;\n0 0:0=2; 1:0=0;\n2 0:0=2; 1:0=1;\nSeen 2\nViolations 1\nRefused 2\n",
+    ),
+    // a trace of no run
+    (
+        MESSAGE_PASSING_UNDER_PSO,
+        Asked::Seen("tso trace 1\nmodel pso\nproc\nst 0 1\nst 1 2\nproc\nld 1 2\nld 0 9\nend\n"),
+        LIMIT,
+        BatchVerdict::Undecided,
+        "Traces 4\n0 1:0=0; 1:1=0;\n0 1:0=0; 1:1=1;\n0 1:0=2; 1:1=0;\n0 1:0=2; 1:1=1;\nSeen 0\nUndecided 1\nRefused 0\n",
+    ),
+    // a trace with no load has an empty line; a trace of another program is refused
+    (
+        TWO_PLUS_TWO_WRITES,
+        Asked::Seen(
+            "tso trace 1\nproc\nst 0 1\nst 1 2\nproc\nst 1 3\nst 0 4\nend\ntso trace 1\nend\n",
+        ),
+        LIMIT,
+        BatchVerdict::Refused,
+        "Traces 1\n1 \nSeen 1\nViolations 0\nRefused 1\n",
+    ),
+    (
+        STORE_BUFFERING,
+        Asked::Seen(STREAM),
+        1,
+        BatchVerdict::Refused,
+        "REFUSED States\n",
+    ),
+    (
+        "tso program 1\nx\n",
+        Asked::Seen(STREAM),
+        LIMIT,
+        BatchVerdict::Refused,
+        "REFUSED BadLine line 2\n",
+    ),
+];
+
+/// The room that a text gets.
+const ROOM: usize = 512;
+
+/// Writes what is asked about a program into these bytes; how much of the room is left.
+fn written_into(
     alloc: Global,
-    program: &str,
-    stream: &str,
-    limit: u64,
-    expected: (BatchVerdict, &str),
-) -> Result<(), Fail> {
-    let mut written = Vec::new(alloc);
-    let mut programs = program.as_bytes();
-    let mut pieces = stream.as_bytes();
-    let said = count_seen(alloc, &mut programs, &mut pieces, &mut written, limit);
-    expect_said(stream, said, &written, expected)
+    (program, asked, limit, _, _): Case,
+    bytes: &mut [u8; ROOM],
+) -> (Result<BatchVerdict, Fault>, usize) {
+    let mut writer = bytes.as_mut_slice();
+    let mut program = program.as_bytes();
+    let said = match asked {
+        Asked::Outcomes(form) => {
+            let options = OutcomeOptions { limit, form };
+            list_outcomes(alloc, &mut program, &mut writer, options)
+        }
+        Asked::Seen(stream) => {
+            count_seen(
+                alloc,
+                &mut program,
+                &mut stream.as_bytes(),
+                &mut writer,
+                limit,
+            )
+        }
+    };
+    (said, writer.len())
 }
 
-/// Compares a verdict and a text.
-fn expect_said(
-    case: &str,
-    said: Result<BatchVerdict, Fault>,
-    written: &[u8],
-    expected: (BatchVerdict, &str),
-) -> Result<(), Fail> {
-    expect_equal(case, said, Ok(expected.0))?;
-    expect_equal(case, written, expected.1.as_bytes())
+/// Compares what is written in a case, written once more where an allocation was refused: the call that meets it answers OutOfMemory
+/// and writes nothing.
+fn expect_case<H: Abort>(rt: &H, alloc: Global, case: Case) {
+    let (program, _, _, verdict, text) = case;
+    let mut bytes = [0u8; ROOM];
+    let (mut said, mut left) = written_into(alloc, case, &mut bytes);
+    if said == Err(Fault::OutOfMemory) {
+        assert!(rt; left == ROOM);
+        (said, left) = written_into(alloc, case, &mut bytes);
+    }
+    assert!(rt; said == Ok(verdict), "{program}");
+    let count = ROOM.saturating_sub(left);
+    assert!(rt; bytes.get(..count) == Some(text.as_bytes()), "{program}");
+}
+
+#[test]
+fn outcomes_by_hand(rt: HostRuntime) {
+    for case in &CASES {
+        expect_case(&rt, rt.alloc(), *case);
+    }
+}
+
+/// Those of the program with the fewest states.
+const SMALL: [Case; 3] = [
+    (
+        TWO_PLUS_TWO_WRITES,
+        STATES,
+        LIMIT,
+        BatchVerdict::NoViolation,
+        "States 3\n[0]=1; [1]=2;\n[0]=4; [1]=2;\n[0]=4; [1]=3;\n",
+    ),
+    (
+        TWO_PLUS_TWO_WRITES,
+        TRACES,
+        LIMIT,
+        BatchVerdict::NoViolation,
+        TRACE,
+    ),
+    (
+        TWO_PLUS_TWO_WRITES,
+        Asked::Seen(TRACE),
+        LIMIT,
+        BatchVerdict::NoViolation,
+        "Traces 1\n1 \nSeen 1\nViolations 0\nRefused 0\n",
+    ),
+];
+
+/// Allocations refused in turn: `rt try --test --fail-alloc N` refuses the Nth.
+#[test]
+fn refused_allocations_of_outcomes(rt: HostRuntime) {
+    for case in SMALL {
+        expect_case(&rt, rt.alloc(), case);
+    }
 }

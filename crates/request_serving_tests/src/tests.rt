@@ -73,8 +73,8 @@ impl Surroundings for MemoryFiles {
     fn open(&mut self, name: &str) -> io::Result<Input> {
         self.opened.push_str(name)?;
         self.opened.push_str(";")?;
-        for (known, text) in TEXTS {
-            if known == name {
+        for (known, text) in &TEXTS {
+            if *known == name {
                 return Ok(Input {
                     rest: text.as_bytes(),
                     fails: false,
@@ -101,7 +101,7 @@ const STREAM: &str =
 const MESSAGE_PASSING: &str = "0 st 4096 7\n0 st 8192 1\n1 ld 8192 1\n1 ld 4096 0\n";
 
 /// The texts of files, each with its name before it.
-const TEXTS: [(&str, &str); 15] = [
+static TEXTS: [(&str, &str); 15] = [
     ("trace", "tso trace 1\nproc\nld 1 9\nend\n"),
     ("certificate", "unwritten 1\n"),
     ("program", "tso program 1\nproc\nst 1 1\nld 1\nend\n"),

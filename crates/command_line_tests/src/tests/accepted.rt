@@ -7,7 +7,7 @@ use super::expect_each;
 use std::test::Fail;
 
 /// Arguments about traces and logs.
-const TRACES: [(&[&str], &str); 36] = [
+static TRACES: [(&[&str], &str); 36] = [
     (
         &[],
         "Judge(JudgeRequest { file: None, workers: 1, nth: None, presentation: Report })",
@@ -163,7 +163,7 @@ const TRACES: [(&[&str], &str); 36] = [
 ];
 
 /// Arguments about programs.
-const PROGRAMS: [(&[&str], &str); 19] = [
+static PROGRAMS: [(&[&str], &str); 19] = [
     (
         &["replay", "--trace", "--unit", "serial", "-", "a b"],
         "Replay { options: RunOptions { unit: UnitOptions { kind: Serial, capacity: 8, trigger: 1 }, workers: 1, printing: Trace, with_trace: false }, texts: InputAndFile(\"a b\") }",
@@ -330,7 +330,7 @@ const PROGRAMS: [(&[&str], &str); 19] = [
 ];
 
 /// The names of units.
-const KINDS: [(&[&str], &str); 9] = [
+static KINDS: [(&[&str], &str); 9] = [
     (
         &["replay", "--trigger", "2", "--unit", "serial", "p", "s"],
         "Replay { options: RunOptions { unit: UnitOptions { kind: Serial, capacity: 8, trigger: 2 }, workers: 1, printing: Report, with_trace: false }, texts: Files(\"p\", \"s\") }",

@@ -24,7 +24,7 @@ pub(super) const UNKNOWN: &str =
     "error: unrecognized subcommand 'seek'\n\nUsage: tsobench [COMMAND]\n\nFor more information, try '--help'.\n";
 
 /// Arguments about traces and logs, and the text of their refusal.
-const TRACES: [(&[&str], &str); 36] = [
+static TRACES: [(&[&str], &str); 36] = [
     (&["batch", "-", "-"], SEVERAL_INPUTS),
     (&["batch", "-", "a", "--quiet", "b", "-"], SEVERAL_INPUTS),
     (

@@ -3,7 +3,7 @@
 use super::refused::{BOTH, TIMES_WITHOUT_TRACE, TWO_INPUTS};
 
 /// Arguments, and the text of their refusal.
-pub(super) const RUNS: [(&[&str], &str); 42] = [
+pub(super) static RUNS: [(&[&str], &str); 42] = [
     (&["replay", "--unit", "serial", "-", "-"], TWO_INPUTS),
     (
         &[

@@ -1,7 +1,7 @@
 //! Arguments of `make` and `campaign` that are refused.
 
 /// Arguments, and the text of their refusal.
-pub(super) const SEEDS: [(&[&str], &str); 21] = [
+pub(super) static SEEDS: [(&[&str], &str); 21] = [
     (
         &["make"],
         "error: the following required arguments were not provided:\n  --seed <N>\n  --procs <P>\n  --ops <O>\n  --addrs <A>\n\nUsage: tsobench make --seed <N> --procs <P> --ops <O> --addrs <A>\n\nFor more information, try '--help'.\n",

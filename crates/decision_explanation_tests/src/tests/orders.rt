@@ -1,18 +1,17 @@
 //! Explanations of orders.
 
-use super::{Case, expect_explained};
-use std::test::Fail;
+use super::Case;
 
 /// What comes before the lines of an order under TSO.
-const TSO_HEAD: &str =
+pub(super) const TSO_HEAD: &str =
     "\nTSO asks for one order of all loads and stores, the memory order.\nA load sees the stores to its address that come before it in that order or earlier on its own processor.\nIt reads the last of these in that order, or the first value of its address where there is none.\nThe memory order below explains this trace, so the trace is allowed.\nA load marked 'forwarded' read an earlier store of its own processor that comes after it in that order: the store was still in the store buffer.\n\n";
 
 /// The same under PSO.
-const PSO_HEAD: &str =
+pub(super) const PSO_HEAD: &str =
     "\nPSO asks for one order of all loads and stores, the memory order.\nA load sees the stores to its address that come before it in that order or earlier on its own processor.\nIt reads the last of these in that order, or the first value of its address where there is none.\nThe memory order below explains this trace, so the trace is allowed.\nA load marked 'forwarded' read an earlier store of its own processor that comes after it in that order: the store was still in the store buffer.\n\n";
 
 /// Under TSO.
-const UNDER_TSO: [Case; 6] = [
+pub(super) const UNDER_TSO: [Case; 6] = [
     (
         "tso trace 1\nproc\nst 1 1\nld 2 0\nproc\nst 2 2\nld 1 0\nend\n",
         "order 4 2 3 1\n",
@@ -46,21 +45,8 @@ const UNDER_TSO: [Case; 6] = [
 ];
 
 /// Under PSO: a processor's stores to two addresses are seen in the other order.
-const UNDER_PSO: Case = (
+pub(super) const UNDER_PSO: [Case; 1] = [(
     "tso trace 1\nmodel pso\nproc\nst 1 1\nst 2 2\nproc\nld 2 2\nld 1 0\nend\n",
     "order 2 3 4 1\n",
     "  1. line 5: P0 'st 2 2' (2)\n  2. line 7: P1 'ld 2 2' (3) read P0 'st 2 2' (2)\n  3. line 8: P1 'ld 1 0' (4) read the first value of address 1\n  4. line 4: P0 'st 1 1' (1)\n",
-);
-
-#[test]
-fn under_tso(rt: HostRuntime) -> Result<(), Fail> {
-    for case in UNDER_TSO {
-        expect_explained(rt.alloc(), case, TSO_HEAD)?;
-    }
-    Ok(())
-}
-
-#[test]
-fn under_pso(rt: HostRuntime) -> Result<(), Fail> {
-    expect_explained(rt.alloc(), UNDER_PSO, PSO_HEAD)
-}
+)];

@@ -1,37 +1,28 @@
 //! Long logs of which something is left out, and what is noted then.
 
-use super::usual;
-use log_reports::{LogForm, LogVerdict, report_log};
+use super::LINES;
+use log_reports::{LogVerdict, report_log};
 use progress_meters::NoMeter;
 use std::alloc::{AllocError, Global};
 use std::fmt::Write;
+use std::process::Abort;
 use std::sync::Wait;
 use std::test::Fail;
 use std::thread::Threads;
-use traces_for_tests::expect_equal;
 
 /// Compares what is said of a log, and what is noted on its report.
-fn expect_notes<H: Threads + Wait + AllocGlobal>(
+fn expect_notes<H: Threads + Wait + AllocGlobal + Abort>(
     rt: &H,
-    alloc: Global,
     log: &str,
     verdict: LogVerdict,
     notes: &str,
-) -> Result<(), Fail> {
-    let mut written = Vec::new(alloc);
-    let mut errors = Vec::new(alloc);
+) {
+    let mut written = Vec::new(rt.alloc());
+    let mut errors = Vec::new(rt.alloc());
     let mut reader = log.as_bytes();
-    let options = usual(LogForm::Lines);
-    let said = report_log(
-        rt,
-        options,
-        &NoMeter,
-        &mut reader,
-        &mut written,
-        &mut errors,
-    );
-    expect_equal("said", said, Ok(verdict))?;
-    expect_equal("notes", errors.as_slice(), notes.as_bytes())
+    let said = report_log(rt, LINES, &NoMeter, &mut reader, &mut written, &mut errors);
+    assert!(rt; said == Ok(verdict), "{notes}");
+    assert!(rt; errors.as_slice() == notes.as_bytes(), "{notes}");
 }
 
 /// At each level there are so many addresses: of data, and of a flag that is handed on by 13 processors.
@@ -72,20 +63,6 @@ fn hand_on(log: &mut String, flag: u64) -> Result<u64, AllocError> {
     Ok(a)
 }
 
-#[test]
-fn few_addresses(rt: HostRuntime) -> Result<(), Fail> {
-    let log = levels(rt.alloc(), 4)?;
-    expect_notes(&rt, rt.alloc(), &log, LogVerdict::Violation, "")
-}
-
-/// A trace has 256 addresses at most.
-#[test]
-fn more_addresses_than_a_trace_has(rt: HostRuntime) -> Result<(), Fail> {
-    let log = levels(rt.alloc(), 18)?;
-    let notes = "not shown 1\n";
-    expect_notes(&rt, rt.alloc(), &log, LogVerdict::NoViolation, notes)
-}
-
 /// A log under PSO in which three processors store to so many addresses each, all of them.
 fn stores(alloc: Global, addresses: u64) -> Result<String, AllocError> {
     let mut log = String::new(alloc);
@@ -96,9 +73,15 @@ fn stores(alloc: Global, addresses: u64) -> Result<String, AllocError> {
     Ok(log)
 }
 
+/// Few addresses; more than the 256 that a trace has; and many that have to be searched in parts.
 #[test]
-fn addresses_in_parts(rt: HostRuntime) -> Result<(), Fail> {
+fn long_logs(rt: HostRuntime) -> Result<(), Fail> {
+    let log = levels(rt.alloc(), 4)?;
+    expect_notes(&rt, &log, LogVerdict::Violation, "");
+    let log = levels(rt.alloc(), 18)?;
+    expect_notes(&rt, &log, LogVerdict::NoViolation, "not shown 1\n");
     let log = stores(rt.alloc(), 200)?;
     let notes = "parts of the addresses searched apart 2\n";
-    expect_notes(&rt, rt.alloc(), &log, LogVerdict::NoViolation, notes)
+    expect_notes(&rt, &log, LogVerdict::NoViolation, notes);
+    Ok(())
 }

@@ -4,7 +4,7 @@ use super::{BAD_HEADER, Case, FEWER, READ};
 
 const HOLDS: &str = "CERTIFICATE HOLDS\n";
 
-pub(super) const CASES: [Case; 14] = [
+pub(super) static CASES: [Case; 14] = [
     (
         "check trace certificate",
         None,

@@ -15,7 +15,7 @@ const ORDER_HOLDS: &str = "ORDER HOLDS\n";
 
 const REFUTATION_HOLDS: &str = "REFUTATION HOLDS\n";
 
-pub(super) const CASES: [Case; 20] = [
+pub(super) static CASES: [Case; 20] = [
     // two stores of a processor have one order
     (
         "decide --nth 1 two_stores",

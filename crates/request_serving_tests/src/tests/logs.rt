@@ -12,7 +12,7 @@ const TRACE: &str = "tso trace 2\nproc\nst 0 1\nst 1 2\nproc\nld 1 2\nld 0 0\nen
 /// Two loads of what nothing wrote.
 const UNWRITTEN: &str = "0 ld 1 9\n0 st 2 5\n0 ld 2 9\n";
 
-pub(super) const CASES: [Case; 12] = [
+pub(super) static CASES: [Case; 12] = [
     ("log", Some(MESSAGE_PASSING), "", 3, REPORT, ""),
     ("log --trace -", Some(MESSAGE_PASSING), "", 3, TRACE, ""),
     (

@@ -23,7 +23,7 @@ const REPLAYED_WITH_TRACE: &str =
 const EXPLAINED_WITH_TRACE: &str =
     "TSO REPORT 1\nprocessors 1 events 2 rounds 0\nNO VIOLATION FOUND\n\nThe rules found no contradiction in this trace.\nThat does not show that it has a memory order that TSO allows.\ntso trace 1\nproc\nst 1 1\nld 1 1\nend\n";
 
-pub(super) const CASES: [Case; 16] = [
+pub(super) static CASES: [Case; 16] = [
     (
         "replay --unit serial --workers 2 program schedule",
         None,

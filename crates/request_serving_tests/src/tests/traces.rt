@@ -26,7 +26,7 @@ const BATCHED_FIRST: &str = "trace: trace 1 VIOLATION\n";
 const SECOND_FILE: &str =
     "error: unexpected argument 'b' found\n\nUsage: tsobench judge [OPTIONS] [FILE]\n\nFor more information, try '--help'.\n";
 
-pub(super) const CASES: [Case; 28] = [
+pub(super) static CASES: [Case; 27] = [
     // store_forwarded, missing_end and unwritten_load on standard input
     (
         "",
@@ -121,7 +121,6 @@ pub(super) const CASES: [Case; 28] = [
         READ,
     ),
     ("batch trace - log", None, "trace;", 4, BATCHED_FIRST, READ),
-    // texts that are shown, and those of refusals
-    ("--version", None, "", 0, "tsobench 0.9.0\n", ""),
+    // the text of a refusal; texts of help and the version are in program-cases/
     ("judge a b", None, "", 2, "", SECOND_FILE),
 ];

@@ -43,7 +43,7 @@ const UNDECIDED_JUNIT: BatchPrinting = BatchPrinting {
 };
 
 /// Streams of which it is decided what they are.
-pub(super) const CASES: [Case; 8] = [
+pub(super) static CASES: [Case; 8] = [
     (
         &[(None, STREAM)],
         UNDECIDED_WORDS,

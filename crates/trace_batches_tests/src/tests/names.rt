@@ -7,7 +7,7 @@ use trace_batches::BatchVerdict;
 const VIOLATION: &str = "tso trace 1\nproc\nld 1 9\nend\n";
 
 /// The line of a violation in a text of each name.
-pub(super) const CASES: [Case; 14] = [
+pub(super) static CASES: [Case; 14] = [
     // in words just control characters are escaped
     (
         &[(Some(""), VIOLATION)],

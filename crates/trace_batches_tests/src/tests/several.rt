@@ -20,7 +20,7 @@ const VIOLATIONS_JSON: BatchPrinting = BatchPrinting {
 };
 
 /// Texts with names, and of violations.
-pub(super) const CASES: [Case; 10] = [
+pub(super) static CASES: [Case; 10] = [
     // lines have names, numbers begin anew in each text, and the last line counts all
     (&THREE, WORDS, BatchVerdict::Violation, LINES, ""),
     (

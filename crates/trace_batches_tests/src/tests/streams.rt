@@ -32,7 +32,7 @@ const VIOLATIONS_JUNIT: BatchPrinting = BatchPrinting {
 };
 
 /// Streams without a name.
-pub(super) const CASES: [Case; 19] = [
+pub(super) static CASES: [Case; 19] = [
     // empty
     (
         &[(None, "")],
