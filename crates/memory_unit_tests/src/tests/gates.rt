@@ -1,37 +1,15 @@
-//! When the issuers of a run call its gate, and that they may wait for each other there.
+//! When the issuers of a run call its gate, and gates at which they wait for each other.
 
-use super::expect_equal;
-use issue_desk::{Gate, Issuers, run_over};
+use super::desk_runs::{run_past, threads_at};
+use issue_desk::Gate;
 use std::alloc::{AllocError, Global};
-use std::process::Abort;
 use std::sync::atomic::{AtomicBool, AtomicU64, AtomicUsize, Ordering};
 use std::sync::{Arc, Wait};
 use std::test::Fail;
 use std::thread::{Threads, yield_now};
-use traces_for_tests::program_of;
-use tso_ops::{Op, Order, ValueFault};
-use unit_kinds::StoreBufferUnit;
-use units_for_tests::{CallCounts, CountingUnit, OTHER_ACCOUNT, new_counts};
-
-/// Runs these operations by issuers that pass this gate, on a unit that counts its calls.
-fn run_past<H: Threads + Wait + Sync + Abort, G: Gate + Sync>(
-    rt: &H,
-    alloc: Global,
-    ops: &[&[Op]],
-    gate: &G,
-    counts: &Arc<CallCounts, Global>,
-) -> Result<(), ValueFault> {
-    let program = program_of(alloc, Order::Tso, ops)?;
-    let unit = CountingUnit::new(StoreBufferUnit::new(alloc, 8)?, Arc::try_clone(counts)?);
-    let issuers = Issuers {
-        gate,
-        drain_seed: 1,
-    };
-    let mut account = OTHER_ACCOUNT;
-    let answer = run_over(rt, alloc, &program, unit, issuers, &mut account);
-    assert!(rt; answer.is_ok());
-    Ok(())
-}
+use traces_for_tests::expect_equal;
+use tso_ops::{Op, ValueFault};
+use units_for_tests::{CallCounts, new_counts};
 
 /// A call of a gate, with the number of loads that the unit had then taken.
 #[derive(Drop)]
@@ -110,10 +88,11 @@ const GATE_CALLS: [(usize, usize, u64); 4] = [(0, 0, 0), (0, 1, 1), (0, 2, 2), (
 fn gate_is_called_before_each_operation(rt: HostRuntime) -> Result<(), Fail> {
     let counts = new_counts(rt.alloc())?;
     let gate = LoggingGate::new(rt.alloc(), Arc::try_clone(&counts)?, 8)?;
-    run_past(&rt, rt.alloc(), &[&[LOAD; 3]], &gate, &counts)?;
+    let threads = threads_at(&gate, 1, 0);
+    let ended = run_past(&rt, rt.alloc(), &[&[LOAD; 3]], threads, &counts)?;
+    expect_equal("lawful", ended.lawful(), Ok(true))?;
     let calls = gate.calls(rt.alloc())?;
-    expect_equal(&rt, "calls", calls.as_slice(), GATE_CALLS.as_slice());
-    Ok(())
+    expect_equal("calls", calls.as_slice(), GATE_CALLS.as_slice())
 }
 
 /// How often an issuer looks for the others.
@@ -178,37 +157,36 @@ impl MeetingGate {
     }
 }
 
-/// Whether issuers of these operations meet at their calls with `at` answers.
-fn meet<H: Threads + Wait + Sync + Abort>(
+/// Whether issuers of these operations meet at their calls with `at` answers, and give a lawful record.
+fn meet<H: Threads + Wait + Sync>(
     rt: &H,
     alloc: Global,
     ops: &[&[Op]],
     at: usize,
 ) -> Result<bool, ValueFault> {
     let gate = MeetingGate::new(alloc, ops.len(), at)?;
-    run_past(rt, alloc, ops, &gate, &new_counts(alloc)?)?;
-    Ok(gate.have_met())
+    let threads = threads_at(&gate, 1, 0);
+    let ended = run_past(rt, alloc, ops, threads, &new_counts(alloc)?)?;
+    Ok(ended.lawful() == Ok(true) && gate.have_met())
 }
 
-/// Two loads of each of two processors.
-const TWO_ISSUERS: [&[Op]; 2] = [&[LOAD; 2]; 2];
+/// Two loads of each of two processors, and a load of each of sixteen; the last calls come before the issues that find
+/// nothing left.
+const MEETINGS: [(&[&[Op]], usize); 5] = [
+    (&[&[LOAD; 2], &[LOAD; 2]], 0),
+    (&[&[LOAD; 2], &[LOAD; 2]], 1),
+    (&[&[LOAD; 2], &[LOAD; 2]], 2),
+    (&SIXTEEN_ISSUERS, 0),
+    (&SIXTEEN_ISSUERS, 1),
+];
 
-/// A load of each of sixteen processors.
 const SIXTEEN_ISSUERS: [&[Op]; 16] = [&[LOAD]; 16];
 
-/// The last calls come before the issues that find nothing left.
 #[test]
-fn issuers_meet_after_their_first_operations(rt: HostRuntime) -> Result<(), Fail> {
-    for at in 0..3usize {
-        expect_equal(&rt, at, meet(&rt, rt.alloc(), &TWO_ISSUERS, at)?, true);
-    }
-    Ok(())
-}
-
-#[test]
-fn sixteen_issuers_meet(rt: HostRuntime) -> Result<(), Fail> {
-    for at in 0..2usize {
-        expect_equal(&rt, at, meet(&rt, rt.alloc(), &SIXTEEN_ISSUERS, at)?, true);
+fn issuers_meet_at_each_operation(rt: HostRuntime) -> Result<(), Fail> {
+    for (ops, at) in MEETINGS {
+        let have_met = meet(&rt, rt.alloc(), ops, at)?;
+        expect_equal((ops.len(), at), have_met, true)?;
     }
     Ok(())
 }
