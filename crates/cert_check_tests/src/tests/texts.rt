@@ -505,353 +505,159 @@ static ORDERS: [Case; 59] = [
     ),
 ];
 
-/// Refutations: worked examples, changes of one, and lines for a load before the store that it reads.
-static REFUTATIONS: [Case; 58] = [
+/// Refutations of `TWELVE_EVENTS`: the worked one, and changes of it.
+static OF_TWELVE_EVENTS: [(&str, &str, &str); 11] = [
     (
         "refutation_of_twelve_events",
-        TWELVE_EVENTS,
         "1 1 2 Membar\n2 1 11 Read\n3 2 3 LoadOp\n4 4 5 Membar\n5 4 8 Read\n6 5 6 LoadOp\n7 7 2 Read\n8 7 8 Membar\n9 8 9 LoadOp\n10 10 5 Read\n11 10 11 Membar\n12 11 12 LoadOp\n13 4 1 Case\n14 6 1 StorePast 6 4 1\n15 8 1 StorePast 8 4 1\n16 10 7 LoadPast 2 10 5 6 1 2\n17 12 7 StorePast 12 10 7\ncycle 7 8 1 11 12\n18 1 4 Else\n19 3 4 StorePast 3 1 4\n20 11 4 StorePast 11 1 4\n21 7 10 LoadPast 5 7 2 3 4 5\n22 9 10 StorePast 9 7 10\ncycle 10 11 4 8 9\n",
         "",
     ),
     (
-        "refutation_of_four_leaves",
-        "tso trace 1\nmodel pso\nproc\nst 1 3\nst 2 5\nst 0 1\nproc\nst 2 6\nst 0 2\nst 1 4\nproc\nld 0 1\nld 1 4\nproc\nld 0 2\nld 1 3\nproc\nld 0 1\nld 1 3\nproc\nld 0 2\nld 1 4\nproc\nld 1 3\nld 2 6\nproc\nld 1 4\nld 2 6\nproc\nld 1 4\nld 2 5\nproc\nld 1 3\nld 2 5\nproc\nld 2 6\nld 0 1\nproc\nld 2 5\nld 0 1\nproc\nld 2 6\nld 0 2\nproc\nld 2 5\nld 0 2\nend\n",
-        "1 1 15 Read\n2 1 21 Read\n3 2 25 Read\n4 2 29 Read\n5 3 7 Read\n6 3 11 Read\n7 4 23 Read\n8 4 27 Read\n9 5 9 Read\n10 5 13 Read\n11 6 17 Read\n12 6 19 Read\n13 7 8 LoadOp\n14 9 10 LoadOp\n15 11 12 LoadOp\n16 13 14 LoadOp\n17 15 16 LoadOp\n18 17 18 LoadOp\n19 19 20 LoadOp\n20 21 22 LoadOp\n21 23 24 LoadOp\n22 25 26 LoadOp\n23 27 28 LoadOp\n24 29 30 LoadOp\n25 6 1 Case\n26 8 1 StorePast 8 6 1\n27 14 1 StorePast 14 6 1\n28 5 3 Case\n29 28 3 StorePast 28 5 3\n30 30 3 StorePast 30 5 3\n31 4 2 LoadPast 22 4 27 28 3 7 8 1 21 22\n32 16 2 StorePast 16 4 2\ncycle 2 29 30 3 7 8 1 15 16\n33 3 5 Else\n34 24 5 StorePast 24 3 5\n35 26 5 StorePast 26 3 5\n36 4 2 LoadPast 22 4 23 24 5 13 14 1 21 22\n37 16 2 StorePast 16 4 2\ncycle 2 25 26 5 13 14 1 15 16\n38 1 6 Else\n39 10 6 StorePast 10 1 6\n40 12 6 StorePast 12 1 6\n41 4 2 Case\n42 18 2 StorePast 18 4 2\n43 3 5 LoadPast 30 3 11 12 6 17 18 2 29 30\n44 26 5 StorePast 26 3 5\ncycle 5 9 10 6 17 18 2 25 26\n45 2 4 Else\n46 20 4 StorePast 20 2 4\n47 3 5 LoadPast 28 3 11 12 6 19 20 4 27 28\n48 24 5 StorePast 24 3 5\ncycle 5 9 10 6 19 20 4 23 24\n",
-        "",
-    ),
-    (
         "a step of the start once more in the first part, and used in the second",
-        TWELVE_EVENTS,
         "1 1 2 Membar\n2 1 11 Read\n3 2 3 LoadOp\n4 4 5 Membar\n5 4 8 Read\n6 5 6 LoadOp\n7 7 2 Read\n8 7 8 Membar\n9 8 9 LoadOp\n10 10 5 Read\n11 10 11 Membar\n12 11 12 LoadOp\n13 4 1 Case\n14 2 3 LoadOp\n15 4 5 Membar\n16 6 1 StorePast 6 4 1\n17 8 1 StorePast 8 4 1\n18 10 7 LoadPast 2 10 5 6 1 2\n19 12 7 StorePast 12 10 7\ncycle 7 8 1 11 12\n20 1 4 Else\n21 3 4 StorePast 3 1 4\n22 11 4 StorePast 11 1 4\n23 7 10 LoadPast 5 7 2 3 4 5\n24 9 10 StorePast 9 7 10\ncycle 10 11 4 8 9\n",
         "",
     ),
     (
         "the case the other way round in its first part",
-        TWELVE_EVENTS,
         "1 1 2 Membar\n2 1 11 Read\n3 2 3 LoadOp\n4 4 5 Membar\n5 4 8 Read\n6 5 6 LoadOp\n7 7 2 Read\n8 7 8 Membar\n9 8 9 LoadOp\n10 10 5 Read\n11 10 11 Membar\n12 11 12 LoadOp\n13 4 1 Case\n14 1 4 Case\ncycle 1 4\n15 4 1 Else\n16 6 1 StorePast 6 4 1\n17 8 1 StorePast 8 4 1\n18 10 7 LoadPast 2 10 5 6 1 2\n19 12 7 StorePast 12 10 7\ncycle 7 8 1 11 12\n20 1 4 Else\n21 3 4 StorePast 3 1 4\n22 11 4 StorePast 11 1 4\n23 7 10 LoadPast 5 7 2 3 4 5\n24 9 10 StorePast 9 7 10\ncycle 10 11 4 8 9\n",
         "",
     ),
     (
         "a case that nothing needs, in the second part",
-        TWELVE_EVENTS,
         "1 1 2 Membar\n2 1 11 Read\n3 2 3 LoadOp\n4 4 5 Membar\n5 4 8 Read\n6 5 6 LoadOp\n7 7 2 Read\n8 7 8 Membar\n9 8 9 LoadOp\n10 10 5 Read\n11 10 11 Membar\n12 11 12 LoadOp\n13 4 1 Case\n14 6 1 StorePast 6 4 1\n15 8 1 StorePast 8 4 1\n16 10 7 LoadPast 2 10 5 6 1 2\n17 12 7 StorePast 12 10 7\ncycle 7 8 1 11 12\n18 1 4 Else\n19 3 4 StorePast 3 1 4\n20 11 4 StorePast 11 1 4\n21 7 10 LoadPast 5 7 2 3 4 5\n22 9 10 StorePast 9 7 10\n23 2 6 Case\ncycle 10 11 4 8 9\n24 6 2 Else\ncycle 10 11 4 8 9\n",
         "",
     ),
     (
         "the same case in its first part",
-        TWELVE_EVENTS,
         "1 1 2 Membar\n2 1 11 Read\n3 2 3 LoadOp\n4 4 5 Membar\n5 4 8 Read\n6 5 6 LoadOp\n7 7 2 Read\n8 7 8 Membar\n9 8 9 LoadOp\n10 10 5 Read\n11 10 11 Membar\n12 11 12 LoadOp\n13 4 1 Case\n14 4 1 Case\ncycle 1 4\n15 1 4 Else\n16 6 1 StorePast 6 4 1\n17 8 1 StorePast 8 4 1\n18 10 7 LoadPast 2 10 5 6 1 2\n19 12 7 StorePast 12 10 7\ncycle 7 8 1 11 12\n20 1 4 Else\n21 3 4 StorePast 3 1 4\n22 11 4 StorePast 11 1 4\n23 7 10 LoadPast 5 7 2 3 4 5\n24 9 10 StorePast 9 7 10\ncycle 10 11 4 8 9\n",
         "CycleUnlisted line 15",
     ),
     (
         "a path by a step of the first part",
-        TWELVE_EVENTS,
         "1 1 2 Membar\n2 1 11 Read\n3 2 3 LoadOp\n4 4 5 Membar\n5 4 8 Read\n6 5 6 LoadOp\n7 7 2 Read\n8 7 8 Membar\n9 8 9 LoadOp\n10 10 5 Read\n11 10 11 Membar\n12 11 12 LoadOp\n13 4 1 Case\n14 6 1 StorePast 6 4 1\n15 8 1 StorePast 8 4 1\n16 10 7 LoadPast 2 10 5 6 1 2\n17 12 7 StorePast 12 10 7\ncycle 7 8 1 11 12\n18 1 4 Else\n19 10 7 LoadPast 2 10 5 6 1 2\n20 3 4 StorePast 3 1 4\n21 11 4 StorePast 11 1 4\n22 7 10 LoadPast 5 7 2 3 4 5\n23 9 10 StorePast 9 7 10\ncycle 10 11 4 8 9\n",
         "PathUnlisted line 20",
     ),
     (
         "a path by the case's own pair",
-        TWELVE_EVENTS,
         "1 1 2 Membar\n2 1 11 Read\n3 2 3 LoadOp\n4 4 5 Membar\n5 4 8 Read\n6 5 6 LoadOp\n7 7 2 Read\n8 7 8 Membar\n9 8 9 LoadOp\n10 10 5 Read\n11 10 11 Membar\n12 11 12 LoadOp\n13 4 1 Case\n14 6 1 StorePast 6 4 1\n15 8 1 StorePast 8 4 1\n16 10 7 LoadPast 2 10 5 6 1 2\n17 12 7 StorePast 12 10 7\ncycle 7 8 1 11 12\n18 1 4 Else\n19 6 1 StorePast 6 4 1\n20 3 4 StorePast 3 1 4\n21 11 4 StorePast 11 1 4\n22 7 10 LoadPast 5 7 2 3 4 5\n23 9 10 StorePast 9 7 10\ncycle 10 11 4 8 9\n",
         "PathUnlisted line 20",
     ),
     (
         "a path by the pair of the second part",
-        TWELVE_EVENTS,
         "1 1 2 Membar\n2 1 11 Read\n3 2 3 LoadOp\n4 4 5 Membar\n5 4 8 Read\n6 5 6 LoadOp\n7 7 2 Read\n8 7 8 Membar\n9 8 9 LoadOp\n10 10 5 Read\n11 10 11 Membar\n12 11 12 LoadOp\n13 4 1 Case\n14 3 4 StorePast 3 1 4\n15 6 1 StorePast 6 4 1\n16 8 1 StorePast 8 4 1\n17 10 7 LoadPast 2 10 5 6 1 2\n18 12 7 StorePast 12 10 7\ncycle 7 8 1 11 12\n19 1 4 Else\n20 3 4 StorePast 3 1 4\n21 11 4 StorePast 11 1 4\n22 7 10 LoadPast 5 7 2 3 4 5\n23 9 10 StorePast 9 7 10\ncycle 10 11 4 8 9\n",
         "PathUnlisted line 14",
     ),
     (
         "the cycle of the first part",
-        TWELVE_EVENTS,
         "1 1 2 Membar\n2 1 11 Read\n3 2 3 LoadOp\n4 4 5 Membar\n5 4 8 Read\n6 5 6 LoadOp\n7 7 2 Read\n8 7 8 Membar\n9 8 9 LoadOp\n10 10 5 Read\n11 10 11 Membar\n12 11 12 LoadOp\n13 4 1 Case\n14 6 1 StorePast 6 4 1\n15 8 1 StorePast 8 4 1\n16 10 7 LoadPast 2 10 5 6 1 2\n17 12 7 StorePast 12 10 7\ncycle 7 8 1 11 12\n18 1 4 Else\n19 3 4 StorePast 3 1 4\n20 11 4 StorePast 11 1 4\n21 7 10 LoadPast 5 7 2 3 4 5\n22 9 10 StorePast 9 7 10\ncycle 7 8 1 11 12\n",
         "CycleUnlisted line 24",
     ),
     (
         "a step of an inner case",
-        TWELVE_EVENTS,
         "1 1 2 Membar\n2 1 11 Read\n3 2 3 LoadOp\n4 4 5 Membar\n5 4 8 Read\n6 5 6 LoadOp\n7 7 2 Read\n8 7 8 Membar\n9 8 9 LoadOp\n10 10 5 Read\n11 10 11 Membar\n12 11 12 LoadOp\n13 4 1 Case\n14 6 1 StorePast 6 4 1\n15 8 1 StorePast 8 4 1\n16 10 7 LoadPast 2 10 5 6 1 2\n17 12 7 StorePast 12 10 7\n18 2 6 Case\n19 12 7 StorePast 12 10 7\ncycle 7 8 1 11 12\n20 6 2 Else\ncycle 2 6\n21 1 4 Else\n22 3 4 StorePast 3 1 4\n23 11 4 StorePast 11 1 4\n24 7 10 LoadPast 5 7 2 3 4 5\n25 9 10 StorePast 9 7 10\ncycle 10 11 4 8 9\n",
         "CycleUnlisted line 22",
     ),
     (
         "less step 4",
-        TWELVE_EVENTS,
         "1 1 2 Membar\n2 1 11 Read\n3 2 3 LoadOp\n4 4 8 Read\n5 5 6 LoadOp\n6 7 2 Read\n7 7 8 Membar\n8 8 9 LoadOp\n9 10 5 Read\n10 10 11 Membar\n11 11 12 LoadOp\n12 4 1 Case\n13 6 1 StorePast 6 4 1\n14 8 1 StorePast 8 4 1\n15 10 7 LoadPast 2 10 5 6 1 2\n16 12 7 StorePast 12 10 7\ncycle 7 8 1 11 12\n17 1 4 Else\n18 3 4 StorePast 3 1 4\n19 11 4 StorePast 11 1 4\n20 7 10 LoadPast 5 7 2 3 4 5\n21 9 10 StorePast 9 7 10\ncycle 10 11 4 8 9\n",
         "PathUnlisted line 21",
     ),
+];
+
+/// Lines for a load before the store that it reads: ones that are misplaced, that are missing, that have a number of no event,
+/// a fault or several faults.
+static OF_LOAD_AND_STORE: [(&str, &str); 46] = [
+    ("1 2 1 Else\n", "Misplaced line 1"),
+    ("cycle 1 2\ncycle 1 2\n", "Misplaced line 2"),
+    ("cycle 1 2\n1 2 1 Else\n", "Misplaced line 2"),
+    ("cycle 1 2\n1 1 2 LoadOp\n", "Misplaced line 2"),
+    ("1 1 2 Case\n2 2 1 Else\n", "Misplaced line 2"),
+    ("1 1 2 Case\ncycle 1 2\n2 1 2 Else\n", "Misplaced line 3"),
+    ("1 1 2 Case\ncycle 1 2\n2 2 2 Else\n", "Misplaced line 3"),
+    ("1 1 2 Case\ncycle 1 2\ncycle 1 2\n", "Misplaced line 3"),
+    ("1 1 2 Case\ncycle 1 2\n2 1 2 Case\n", "Misplaced line 3"),
     (
-        "a misplaced line, 0",
-        LOAD_AND_STORE,
-        "1 2 1 Else\n",
-        "Misplaced line 1",
-    ),
-    (
-        "a misplaced line, 1",
-        LOAD_AND_STORE,
-        "cycle 1 2\ncycle 1 2\n",
-        "Misplaced line 2",
-    ),
-    (
-        "a misplaced line, 2",
-        LOAD_AND_STORE,
-        "cycle 1 2\n1 2 1 Else\n",
-        "Misplaced line 2",
-    ),
-    (
-        "a misplaced line, 3",
-        LOAD_AND_STORE,
-        "cycle 1 2\n1 1 2 LoadOp\n",
-        "Misplaced line 2",
-    ),
-    (
-        "a misplaced line, 4",
-        LOAD_AND_STORE,
-        "1 1 2 Case\n2 2 1 Else\n",
-        "Misplaced line 2",
-    ),
-    (
-        "a misplaced line, 5",
-        LOAD_AND_STORE,
-        "1 1 2 Case\ncycle 1 2\n2 1 2 Else\n",
-        "Misplaced line 3",
-    ),
-    (
-        "a misplaced line, 6",
-        LOAD_AND_STORE,
-        "1 1 2 Case\ncycle 1 2\n2 2 2 Else\n",
-        "Misplaced line 3",
-    ),
-    (
-        "a misplaced line, 7",
-        LOAD_AND_STORE,
-        "1 1 2 Case\ncycle 1 2\ncycle 1 2\n",
-        "Misplaced line 3",
-    ),
-    (
-        "a misplaced line, 8",
-        LOAD_AND_STORE,
-        "1 1 2 Case\ncycle 1 2\n2 1 2 Case\n",
-        "Misplaced line 3",
-    ),
-    (
-        "a misplaced line, 9",
-        LOAD_AND_STORE,
         "1 1 2 Case\ncycle 1 2\n2 2 1 Else\ncycle 1 2\n3 2 1 Else\n",
         "Misplaced line 5",
     ),
     (
-        "a misplaced line, 10",
-        LOAD_AND_STORE,
         "1 1 2 Case\n2 init 2 Case\ncycle 1 2\n3 2 1 Else\ncycle 1 2\n4 2 init Else\n",
         "Misplaced line 4",
     ),
+    ("", "Unfinished"),
+    ("1 1 2 LoadOp\n", "Unfinished"),
+    ("1 1 2 Case\n", "Unfinished"),
+    ("1 1 2 Case\ncycle 1 2\n", "Unfinished"),
+    ("1 1 2 Case\ncycle 1 2\n2 2 1 Else\n", "Unfinished"),
     (
-        "lines that are missing, 0",
-        LOAD_AND_STORE,
-        "",
-        "Unfinished",
-    ),
-    (
-        "lines that are missing, 1",
-        LOAD_AND_STORE,
-        "1 1 2 LoadOp\n",
-        "Unfinished",
-    ),
-    (
-        "lines that are missing, 2",
-        LOAD_AND_STORE,
-        "1 1 2 Case\n",
-        "Unfinished",
-    ),
-    (
-        "lines that are missing, 3",
-        LOAD_AND_STORE,
-        "1 1 2 Case\ncycle 1 2\n",
-        "Unfinished",
-    ),
-    (
-        "lines that are missing, 4",
-        LOAD_AND_STORE,
-        "1 1 2 Case\ncycle 1 2\n2 2 1 Else\n",
-        "Unfinished",
-    ),
-    (
-        "lines that are missing, 5",
-        LOAD_AND_STORE,
         "1 1 2 Case\n2 1 2 Case\ncycle 1 2\n3 2 1 Else\ncycle 1 2\n",
         "Unfinished",
     ),
+    ("1 3 1 Read\ncycle 1 2\n", "EventRange"),
+    ("1 1 3 Read\ncycle 1 2\n", "EventRange"),
+    ("1 1 2 StorePast 3 init 2\ncycle 1 2\n", "EventRange"),
+    ("1 1 2 StorePast 1 init 3 2\ncycle 1 2\n", "EventRange"),
     (
-        "a number of no event, 0",
-        LOAD_AND_STORE,
-        "1 3 1 Read\ncycle 1 2\n",
-        "EventRange",
-    ),
-    (
-        "a number of no event, 1",
-        LOAD_AND_STORE,
-        "1 1 3 Read\ncycle 1 2\n",
-        "EventRange",
-    ),
-    (
-        "a number of no event, 2",
-        LOAD_AND_STORE,
-        "1 1 2 StorePast 3 init 2\ncycle 1 2\n",
-        "EventRange",
-    ),
-    (
-        "a number of no event, 3",
-        LOAD_AND_STORE,
-        "1 1 2 StorePast 1 init 3 2\ncycle 1 2\n",
-        "EventRange",
-    ),
-    (
-        "a number of no event, 4",
-        LOAD_AND_STORE,
         "1 3 1 Case\ncycle 1 2\n2 1 3 Else\ncycle 1 2\n",
         "EventRange",
     ),
     (
-        "a number of no event, 5",
-        LOAD_AND_STORE,
         "1 1 18446744073709551615 Case\ncycle 1 2\n2 18446744073709551615 1 Else\ncycle 1 2\n",
         "EventRange",
     ),
+    ("cycle 3\n", "EventRange"),
     (
-        "a number of no event, 6",
-        LOAD_AND_STORE,
-        "cycle 3\n",
-        "EventRange",
-    ),
-    (
-        "a number of no event, 7",
-        LOAD_AND_STORE,
         "1 1 2 Case\ncycle 1 2\n2 2 1 Else\ncycle 1 3\n",
         "EventRange",
     ),
+    ("1 1 2 Membar\ncycle 1 2\n", "BaseRefused line 1"),
+    ("1 1 2 LoadPast 1 1 2\ncycle 1 2\n", "SideRefused line 1"),
+    ("1 2 1 StorePast 1 2\ncycle 1 2\n", "SideRefused line 1"),
     (
-        "a line with a fault, 0",
-        LOAD_AND_STORE,
-        "1 1 2 Membar\ncycle 1 2\n",
-        "BaseRefused line 1",
-    ),
-    (
-        "a line with a fault, 1",
-        LOAD_AND_STORE,
-        "1 1 2 LoadPast 1 1 2\ncycle 1 2\n",
-        "SideRefused line 1",
-    ),
-    (
-        "a line with a fault, 2",
-        LOAD_AND_STORE,
-        "1 2 1 StorePast 1 2\ncycle 1 2\n",
-        "SideRefused line 1",
-    ),
-    (
-        "a line with a fault, 3",
-        LOAD_AND_STORE,
         "1 1 1 Case\ncycle 1 2\n2 1 1 Else\ncycle 1 2\n",
         "CaseRefused line 1",
     ),
     (
-        "a line with a fault, 4",
-        LOAD_AND_STORE,
         "1 init 1 Case\ncycle 1 2\n2 1 init Else\ncycle 1 2\n",
         "CaseRefused line 1",
     ),
     (
-        "a line with a fault, 5",
-        LOAD_AND_STORE,
         "1 1 init Case\ncycle 1 2\n2 init 1 Else\ncycle 1 2\n",
         "CaseRefused line 1",
     ),
+    ("1 1 2 LoadOp\ncycle 1 2\n", "CycleUnlisted line 2"),
+    ("1 1 2 LoadOp\ncycle 1\n", "CycleUnlisted line 2"),
+    ("cycle\n", "EmptyCycle line 1"),
+    ("1 init 1 Init\ncycle\n", "EmptyCycle line 2"),
     (
-        "a line with a fault, 6",
-        LOAD_AND_STORE,
-        "1 1 2 LoadOp\ncycle 1 2\n",
-        "CycleUnlisted line 2",
-    ),
-    (
-        "a line with a fault, 7",
-        LOAD_AND_STORE,
-        "1 1 2 LoadOp\ncycle 1\n",
-        "CycleUnlisted line 2",
-    ),
-    (
-        "a line with a fault, 8",
-        LOAD_AND_STORE,
-        "cycle\n",
-        "EmptyCycle line 1",
-    ),
-    (
-        "a line with a fault, 9",
-        LOAD_AND_STORE,
-        "1 init 1 Init\ncycle\n",
-        "EmptyCycle line 2",
-    ),
-    (
-        "a line with a fault, 10",
-        LOAD_AND_STORE,
         "1 1 2 LoadOp\n2 2 1 Case\ncycle 1 2\n3 1 2 Else\ncycle 1 2\n",
         "CycleUnlisted line 5",
     ),
     (
-        "a line with a fault, 11",
-        LOAD_AND_STORE,
         "1 1 2 LoadOp\n2 2 1 Case\ncycle 1 2\n3 1 2 Else\ncycle\n",
         "EmptyCycle line 5",
     ),
     (
-        "a line with a fault, 12",
-        LOAD_AND_STORE,
         "1 1 2 LoadOp\n2 2 1 Case\ncycle 1 2\n3 1 2 Else\n4 2 1 LoadOp\ncycle 1 2\n",
         "BaseRefused line 5",
     ),
     (
-        "a line with a fault, 13",
-        LOAD_AND_STORE,
         "1 1 2 LoadOp\n2 2 1 Case\ncycle 1 2\n3 1 2 Else\n4 2 2 Case\ncycle 1 2\n5 2 2 Else\ncycle 1 2\n",
         "CaseRefused line 5",
     ),
+    ("1 3 1 Read\ncycle 1 2\ncycle 1 2\n", "Misplaced line 3"),
+    ("1 3 1 Read\n2 1 1 Case\n", "Unfinished"),
+    ("1 1 2 Membar\ncycle 3\n", "EventRange"),
+    ("1 1 1 Case\ncycle 1 2\n2 1 1 Else\ncycle 3\n", "EventRange"),
     (
-        "several faults, 0",
-        LOAD_AND_STORE,
-        "1 3 1 Read\ncycle 1 2\ncycle 1 2\n",
-        "Misplaced line 3",
-    ),
-    (
-        "several faults, 1",
-        LOAD_AND_STORE,
-        "1 3 1 Read\n2 1 1 Case\n",
-        "Unfinished",
-    ),
-    (
-        "several faults, 2",
-        LOAD_AND_STORE,
-        "1 1 2 Membar\ncycle 3\n",
-        "EventRange",
-    ),
-    (
-        "several faults, 3",
-        LOAD_AND_STORE,
-        "1 1 1 Case\ncycle 1 2\n2 1 1 Else\ncycle 3\n",
-        "EventRange",
-    ),
-    (
-        "several faults, 4",
-        LOAD_AND_STORE,
         "1 1 2 Case\ncycle\n2 2 1 Else\n3 1 2 Membar\ncycle 1 2\n",
         "EmptyCycle line 2",
     ),
     (
-        "several faults, 5",
-        LOAD_AND_STORE,
         "1 1 2 Case\n2 1 2 Membar\ncycle\n3 2 1 Else\ncycle 1 2\n",
         "BaseRefused line 2",
     ),
     (
-        "several faults, 6",
-        LOAD_AND_STORE,
         "1 1 1 Case\ncycle\n2 1 1 Else\ncycle\n",
         "CaseRefused line 1",
     ),
@@ -867,23 +673,41 @@ fn certificates(rt: HostRuntime) -> Result<(), Fail> {
     Ok(())
 }
 
-fn expect_evidence(alloc: Global, cases: &[Case]) -> Result<(), Fail> {
-    for (name, trace, evidence, expected) in cases {
-        let trace = read_trace(alloc, trace.as_bytes())?;
-        let said = said_of_evidence(alloc, &trace, evidence)?;
-        expect_equal(name, said.as_str(), *expected)?;
+/// Compares what the check of evidence against a trace says.
+fn expect_evidence(
+    alloc: Global,
+    name: &str,
+    trace: &str,
+    evidence: &str,
+    expected: &str,
+) -> Result<(), Fail> {
+    let trace = read_trace(alloc, trace.as_bytes())?;
+    let said = said_of_evidence(alloc, &trace, evidence)?;
+    expect_equal(name, said.as_str(), expected)
+}
+
+#[test]
+fn orders(rt: HostRuntime) -> Result<(), Fail> {
+    for (name, trace, order, expected) in &ORDERS {
+        expect_evidence(rt.alloc(), name, trace, order, expected)?;
     }
     Ok(())
 }
 
 #[test]
-fn orders(rt: HostRuntime) -> Result<(), Fail> {
-    expect_evidence(rt.alloc(), &ORDERS)
+fn refutations_of_twelve_events(rt: HostRuntime) -> Result<(), Fail> {
+    for (name, refutation, expected) in &OF_TWELVE_EVENTS {
+        expect_evidence(rt.alloc(), name, TWELVE_EVENTS, refutation, expected)?;
+    }
+    Ok(())
 }
 
 #[test]
-fn refutations(rt: HostRuntime) -> Result<(), Fail> {
-    expect_evidence(rt.alloc(), &REFUTATIONS)
+fn refutations_of_a_load_and_a_store(rt: HostRuntime) -> Result<(), Fail> {
+    for (refutation, expected) in &OF_LOAD_AND_STORE {
+        expect_evidence(rt.alloc(), refutation, LOAD_AND_STORE, refutation, expected)?;
+    }
+    Ok(())
 }
 
 /// The certificate of an example holds, also as a refutation, unless it is of an unwritten load.
