@@ -1,4 +1,4 @@
-//! Tests of `cert_check`, by its public calls.
+//! Tests of `cert_check`, `order_check` and `refutation_check`, by their public calls.
 #![tactic(auto)]
 
 #[cfg(test)]

@@ -1,3 +1,6 @@
-//! The checker of certificates.
+//! The checkers of certificates, of orders and of refutations.
 
-mod check;
+mod long;
+mod refused_allocations;
+mod said;
+mod texts;

@@ -1,6 +1,11 @@
 //! Memory units: driven by hand, and with programs run on them.
 
+mod desk_runs;
+mod desks;
 mod driven;
+mod final_states;
+mod gates;
+mod logged_runs;
 mod refused;
 mod runs;
 mod units;

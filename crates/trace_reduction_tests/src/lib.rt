@@ -1,4 +1,4 @@
-//! Tests of `trace_reduction`, by its public call.
+//! Tests of `trace_reduction`, `trace_decisions` and `log_search`, by their public calls.
 #![tactic(auto)]
 
 #[cfg(test)]

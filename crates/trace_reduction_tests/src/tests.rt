@@ -1,9 +1,11 @@
-//! Traces that are reduced, and what the tests of them share.
+//! Traces that are reduced and decided, and searches of logs.
 
 mod cases;
 mod chains;
+mod deciding;
 mod faults;
 mod parts;
+mod searching;
 
 use std::alloc::Global;
 use std::sync::Wait;

@@ -1,4 +1,5 @@
-//! Tests of `tso_rules`, and of `reference_rounds` beside it, by their public calls.
+//! Tests of `bitsets`, `order_graph`, `tso_rules`, `reference_rounds`, `chain_reach`, `chain_rules` and `acyclic_traces`, by their
+//! public calls.
 #![tactic(auto)]
 
 #[cfg(test)]

@@ -1,8 +1,11 @@
-//! Edges and reasons of small traces, by hand, and drawn traces beside the reference program of the model.
+//! Edges and reasons of small traces by hand, graphs, chains, and which traces are shown to have no cycle.
 
+mod acyclic;
 mod affected;
 mod at_limits;
-mod drawn;
+mod chain_groups;
+mod chain_rounds;
+mod graphs;
 mod justify_edges;
 mod over_base;
 mod reference;

@@ -1,5 +1,0 @@
-//! Tests of `chain_rules` by its public calls.
-#![tactic(auto)]
-
-#[cfg(test)]
-mod tests;

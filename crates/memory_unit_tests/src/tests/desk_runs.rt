@@ -1,0 +1,448 @@
+//! Programs that are run by a thread per processor, with a drainer and without: the record, the account, the calls of the unit
+//! and its drop.
+ghost use Rattle.std.specs.Prelude.{◌≡◌, ◌≤◌, []};
+
+use super::desks::STORES_THEN_LOADS;
+use super::gates::MeetingGate;
+use super::runs::{counted_unit, numbers_in};
+use issue_desk::{
+    Gate, Issuers, OpenGate, RunFault, RunThreads, run, run_over, run_with_drainer,
+    run_with_drainer_over,
+};
+use std::alloc::{AllocError, Global};
+use std::sync::{Arc, Wait};
+use std::test::Fail;
+use std::thread::Threads;
+use traces_for_tests::{expect_equal, program_of};
+use tso_ops::{Op, Order, OutOfMemory, Outcome, Program, ValueFault};
+use unit_core::{Account, MemoryUnit, Recorded};
+use unit_kinds::StoreBufferUnit;
+use units_for_tests::{
+    AfterDrain, CallCounts, ForwardingUnit, INVENTED, InventingUnit, OTHER_ACCOUNT, is_record,
+    new_counts, new_log, numbers_of,
+};
+
+/// Issuers that pass this gate, and a drainer with so many turns, none where they are 0.
+pub(super) fn threads_at<G>(gate: &G, drain_seed: u64, turns: u64) -> RunThreads<'_, G>
+    ensures { result.turns ≤ turns }
+{
+    let issuers = Issuers { gate, drain_seed };
+    RunThreads { issuers, turns }
+}
+
+/// How a run on a unit that counts its calls ended: its answer, the account, and the numbers of calls.
+#[derive(Drop)]
+pub(super) struct Ended {
+    answer: Result<Recorded, RunFault>,
+    account: Account,
+    numbers: [u64; 7],
+}
+
+impl Ended {
+    /// Whether the record is lawful, or the fault.
+    pub(super) fn lawful(&self) -> Result<bool, RunFault> {
+        match &self.answer {
+            Ok(recorded) => Ok(recorded.lawful()),
+            Err(fault) => Err(*fault),
+        }
+    }
+
+    /// Whether the answer is a lawful record of these processors.
+    fn is_record_of(&self, rows: &[&[Outcome]]) -> bool {
+        match &self.answer {
+            Ok(recorded) => is_record(recorded, true, rows),
+            Err(_) => false,
+        }
+    }
+
+    /// How many units were dropped.
+    fn drops(&self) -> u64 {
+        let [_, _, _, _, _, _, drops] = self.numbers;
+        drops
+    }
+}
+
+/// Runs a program by these threads on a store-buffer unit, in a box, that counts its calls in these counts and refuses the one
+/// of this number, none where it is 0.
+fn run_counted<H: Threads + Wait + Sync, G: Gate + Sync>(
+    rt: &H,
+    alloc: Global,
+    program: &Program,
+    refused: u64,
+    threads: RunThreads<'_, G>,
+    counts: &Arc<CallCounts, Global>,
+) -> Result<Ended, OutOfMemory>
+    requires { threads.turns ≤ 1000000 }
+{
+    let unit = counted_unit(alloc, true, refused, counts)?;
+    let mut account = OTHER_ACCOUNT;
+    let answer = if threads.turns == 0 {
+        run(rt, alloc, program, unit, threads.issuers, &mut account)
+    } else {
+        run_with_drainer(rt, alloc, program, unit, threads, &mut account)
+    };
+    Ok(Ended {
+        answer,
+        account,
+        numbers: numbers_of(counts),
+    })
+}
+
+/// The run of these operations of which no call is refused.
+pub(super) fn run_past<H: Threads + Wait + Sync, G: Gate + Sync>(
+    rt: &H,
+    alloc: Global,
+    ops: &[&[Op]],
+    threads: RunThreads<'_, G>,
+    counts: &Arc<CallCounts, Global>,
+) -> Result<Ended, ValueFault>
+    requires { threads.turns ≤ 1000000 }
+{
+    let program = program_of(alloc, Order::Tso, ops)?;
+    Ok(run_counted(rt, alloc, &program, 0, threads, counts)?)
+}
+
+/// The run of these operations by issuers that no gate holds back, of which the call of this number is refused.
+fn run_freely<H: Threads + Wait + Sync>(
+    rt: &H,
+    alloc: Global,
+    ops: &[&[Op]],
+    refused: u64,
+    (drain_seed, turns): (u64, u16),
+) -> Result<Ended, ValueFault> {
+    let program = program_of(alloc, Order::Tso, ops)?;
+    let counts = new_counts(alloc)?;
+    let threads = threads_at(&OpenGate, drain_seed, u64::from(turns));
+    Ok(run_counted(rt, alloc, &program, refused, threads, &counts)?)
+}
+
+/// The run of `STORES_THEN_LOADS` past this gate gives a lawful record, closes the account and drops the unit.
+fn expect_stores<H: Threads + Wait + Sync, G: Gate + Sync>(
+    rt: &H,
+    alloc: Global,
+    gate: &G,
+    turns: u16,
+    counts: &Arc<CallCounts, Global>,
+) -> Result<(), Fail> {
+    let threads = threads_at(gate, 1, u64::from(turns));
+    let ended = run_past(rt, alloc, &STORES_THEN_LOADS, threads, counts)?;
+    let found = (ended.lawful(), numbers_in(&ended.account), ended.drops());
+    expect_equal(turns, found, (Ok(true), ([2, 2, 0, 0, 2], true), 1))
+}
+
+#[test]
+fn issuers_meet(rt: HostRuntime) -> Result<(), Fail> {
+    for turns in [0, 1_000] {
+        let gate = MeetingGate::new(rt.alloc(), 2, 0)?;
+        expect_stores(&rt, rt.alloc(), &gate, turns, &new_counts(rt.alloc())?)?;
+        expect_equal(turns, gate.have_met(), true)?;
+    }
+    Ok(())
+}
+
+#[test]
+fn issuers_wait_for_the_drainer(rt: HostRuntime) -> Result<(), Fail> {
+    let counts = new_counts(rt.alloc())?;
+    let gate = AfterDrain::new(Arc::try_clone(&counts)?);
+    expect_stores(&rt, rt.alloc(), &gate, 1_000, &counts)?;
+    expect_equal("waited", gate.has_waited(), true)
+}
+
+/// Turns that take longer than an issuer needs to get the lock.
+const MANY_TURNS: u64 = 100_000;
+
+/// Whether a load came after a drain of the drainer and before its last one.
+fn is_between_turns<H: Threads + Wait + Sync>(rt: &H, alloc: Global) -> Result<bool, ValueFault> {
+    let counts = new_counts(alloc)?;
+    let gate = AfterDrain::new(Arc::try_clone(&counts)?);
+    let threads = threads_at(&gate, 1, MANY_TURNS);
+    let ended = run_past(rt, alloc, &[&[Op::Ld { a: 1 }]], threads, &counts)?;
+    let is_before_last = gate.drains() < MANY_TURNS;
+    Ok(ended.lawful().is_ok() && gate.has_waited() && is_before_last)
+}
+
+/// Whether the load came between two turns in one of 100 runs.
+fn is_seen_between_turns<H: Threads + Wait + Sync>(
+    rt: &H,
+    alloc: Global,
+) -> Result<bool, ValueFault> {
+    for _ in 0..100 {
+        if is_between_turns(rt, alloc)? {
+            return Ok(true);
+        }
+    }
+    Ok(false)
+}
+
+#[test]
+fn operation_comes_between_two_turns(rt: HostRuntime) -> Result<(), Fail> {
+    expect_equal("seen", is_seen_between_turns(&rt, rt.alloc())?, true)
+}
+
+/// A processor that loads what it stored.
+const FORWARDED: [&[Op]; 1] = [&[Op::St { a: 1, v: 1 }, Op::Ld { a: 1 }]];
+
+const FORWARDED_ROWS: [&[Outcome]; 1] = [&[Outcome::St { a: 1, v: 1 }, Outcome::Ld { a: 1, r: 1 }]];
+
+const INVENTED_ROWS: [&[Outcome]; 1] = [&[
+    Outcome::St { a: 1, v: 1 },
+    Outcome::Ld { a: 1, r: INVENTED },
+]];
+
+#[test]
+fn run_forwarded(rt: HostRuntime) -> Result<(), Fail> {
+    for seed in [0, 1, 2, 3, u64::MAX] {
+        let ended = run_freely(&rt, rt.alloc(), &FORWARDED, 0, (seed, 0))?;
+        expect_equal(seed, ended.is_record_of(&FORWARDED_ROWS), true)?;
+        expect_equal(seed, numbers_in(&ended.account), ([1, 1, 0, 0, 1], true))?;
+        let [loads, stores, _, _, _, _, drops] = ended.numbers;
+        expect_equal(seed, [loads, stores, drops], [1; 3])?;
+    }
+    Ok(())
+}
+
+#[test]
+fn program_without_processors_is_run(rt: HostRuntime) -> Result<(), Fail> {
+    let ended = run_freely(&rt, rt.alloc(), &[], 0, (1, 0))?;
+    expect_equal("record", ended.is_record_of(&[]), true)?;
+    expect_equal("account", numbers_in(&ended.account), ([0; 5], true))?;
+    expect_equal("calls", ended.numbers, [0, 0, 0, 0, 0, 0, 1])
+}
+
+/// Whether the run of `FORWARDED` on this unit, which is in no box, gives a record of these processors, lawful or not, as is
+/// said, and closes the account.
+fn is_forwarded<H: Threads + Wait + Sync, U: MemoryUnit + Send>(
+    rt: &H,
+    alloc: Global,
+    unit: U,
+    lawful: bool,
+    rows: &[&[Outcome]],
+) -> Result<bool, ValueFault>
+    requires { (U.value_of unit).steps ≡ [] }
+{
+    let program = program_of(alloc, Order::Tso, &FORWARDED)?;
+    let RunThreads { issuers, .. } = threads_at(&OpenGate, 7, 0);
+    let mut account = OTHER_ACCOUNT;
+    let is_record = match run_over(rt, alloc, &program, unit, issuers, &mut account) {
+        Ok(recorded) => is_record(&recorded, lawful, rows),
+        Err(_) => false,
+    };
+    Ok(is_record && numbers_in(&account) == ([1, 1, 0, 0, 1], true))
+}
+
+#[test]
+fn units_in_no_box(rt: HostRuntime) -> Result<(), Fail> {
+    let unit = StoreBufferUnit::new(rt.alloc(), 8)?;
+    let is_so = is_forwarded(&rt, rt.alloc(), unit, true, &FORWARDED_ROWS)?;
+    expect_equal("a store buffer", is_so, true)?;
+    let unit = InventingUnit::new(rt.alloc())?;
+    let is_so = is_forwarded(&rt, rt.alloc(), unit, false, &INVENTED_ROWS)?;
+    expect_equal("an inventing unit", is_so, true)
+}
+
+/// Operation `k` of processor `p`, whose stored value is no other's.
+fn counted_op(p: u64, k: u64) -> Op {
+    let v = p.wrapping_mul(60).wrapping_add(k).wrapping_add(1);
+    let a = (v % 5) as u16;
+    match k % 6 {
+        0 | 3 => Op::St { a, v },
+        1 | 4 => Op::Ld { a },
+        2 => Op::Sw { a, v },
+        _ => Op::Mb,
+    }
+}
+
+/// The sixty operations of processor `p`.
+fn counted_ops(alloc: Global, p: u64) -> Result<Vec<Op>, AllocError> {
+    let mut ops = Vec::new(alloc);
+    for k in 0..60u64 {
+        ops.push(counted_op(p, k))?;
+    }
+    Ok(ops)
+}
+
+/// A program of sixteen processors with sixty operations each.
+fn large_program(alloc: Global) -> Result<Program, ValueFault> {
+    let mut lists = Vec::new(alloc);
+    for p in 0..16u64 {
+        lists.push(counted_ops(alloc, p)?)?;
+    }
+    Program::with_order(alloc, Order::Tso, lists).map_err(|refused| refused.why)
+}
+
+/// Whether these are outcomes of the operations, all, in order.
+fn are_outcomes_of(outcomes: &[Outcome], ops: &[Op]) -> bool {
+    for (outcome, op) in outcomes.iter().zip(ops) {
+        if outcome.op() != *op {
+            return false;
+        }
+    }
+    outcomes.len() == ops.len()
+}
+
+/// Whether the record is lawful and has all operations of the program, and no others.
+fn is_whole(recorded: &Recorded, program: &Program) -> bool {
+    let trace = recorded.trace();
+    let processors = trace.processors();
+    if processors != program.processors() {
+        return false;
+    }
+    for p in 0..processors {
+        if !are_outcomes_of(trace.ops(p), program.ops(p)) {
+            return false;
+        }
+    }
+    recorded.lawful()
+}
+
+/// Runs the large program, and compares how it ended.
+fn expect_large<H: Threads + Wait + Sync>(
+    rt: &H,
+    alloc: Global,
+    program: &Program,
+    seed: u64,
+) -> Result<(), Fail> {
+    let threads = threads_at(&OpenGate, seed, 0);
+    let ended = run_counted(rt, alloc, program, 0, threads, &new_counts(alloc)?)?;
+    let is_so = match &ended.answer {
+        Ok(recorded) => is_whole(recorded, program),
+        Err(_) => false,
+    };
+    expect_equal(seed, is_so, true)?;
+    let account = ([320, 320, 160, 160, 320], true);
+    expect_equal(seed, numbers_in(&ended.account), account)
+}
+
+#[test]
+fn sixteen_processors_are_run(rt: HostRuntime) -> Result<(), Fail> {
+    let program = large_program(rt.alloc())?;
+    for seed in 0..20u64 {
+        expect_large(&rt, rt.alloc(), &program, seed)?;
+    }
+    Ok(())
+}
+
+/// A processor with an operation of each kind.
+const EACH_KIND: [&[Op]; 1] = [&[
+    Op::St { a: 1, v: 1 },
+    Op::Mb,
+    Op::Ld { a: 2 },
+    Op::Sw { a: 3, v: 3 },
+    Op::St { a: 2, v: 2 },
+]];
+
+/// How many calls these were, without drops.
+fn calls_of(numbers: [u64; 7]) -> u64 {
+    let [loads, stores, swaps, membars, stbars, drains, _] = numbers;
+    [stores, swaps, membars, stbars, drains]
+        .into_iter()
+        .fold(loads, |sum, calls| sum.wrapping_add(calls))
+}
+
+/// The run whose call of this number is refused answers OutOfMemory, closes the account and drops the unit.
+fn expect_refused<H: Threads + Wait + Sync>(
+    rt: &H,
+    alloc: Global,
+    ops: &[&[Op]],
+    refused: u64,
+    turns: u16,
+) -> Result<(), Fail> {
+    let ended = run_freely(rt, alloc, ops, refused, (5, turns))?;
+    let found = (ended.lawful(), ended.account.closed, ended.drops());
+    expect_equal(
+        (refused, turns),
+        found,
+        (Err(RunFault::OutOfMemory), true, 1),
+    )
+}
+
+#[test]
+fn refused_calls_end_the_run(rt: HostRuntime) -> Result<(), Fail> {
+    let ended = run_freely(&rt, rt.alloc(), &EACH_KIND, 0, (5, 0))?;
+    expect_equal("lawful", ended.lawful(), Ok(true))?;
+    let calls = calls_of(ended.numbers);
+    expect_equal(calls, calls > 5, true)?;
+    for refused in 1..=calls {
+        expect_refused(&rt, rt.alloc(), &EACH_KIND, refused, 0)?;
+    }
+    let past = run_freely(&rt, rt.alloc(), &EACH_KIND, calls.wrapping_add(1), (5, 0))?;
+    expect_equal("past the last", past.lawful(), Ok(true))
+}
+
+/// Three processors without operations.
+const NO_OPERATIONS: [&[Op]; 3] = [&[]; 3];
+
+/// Whichever thread makes it, each of the first four calls comes: the programs have four operations, or the drainer ten turns.
+const REFUSED: [(&[&[Op]], u16); 3] = [
+    (&STORES_THEN_LOADS, 0),
+    (&STORES_THEN_LOADS, 10),
+    (&NO_OPERATIONS, 10),
+];
+
+#[test]
+fn refused_calls_end_the_run_of_several_threads(rt: HostRuntime) -> Result<(), Fail> {
+    for (ops, turns) in REFUSED {
+        for refused in 1..=4u64 {
+            expect_refused(&rt, rt.alloc(), ops, refused, turns)?;
+        }
+    }
+    Ok(())
+}
+
+/// The processors of the calls of a unit on which these operations are run with so many turns, in order.
+fn processors_called<H: Threads + Wait + Sync>(
+    rt: &H,
+    alloc: Global,
+    ops: &[&[Op]],
+    turns: u16,
+) -> Result<Vec<usize>, Fail> {
+    let program = program_of(alloc, Order::Tso, ops)?;
+    let log = new_log(alloc, 64)?;
+    let unit = ForwardingUnit::new(StoreBufferUnit::new(alloc, 8)?, Arc::try_clone(&log)?);
+    let threads = threads_at(&OpenGate, 1, u64::from(turns));
+    let mut account = OTHER_ACCOUNT;
+    let answer = run_with_drainer_over(rt, alloc, &program, unit, threads, &mut account);
+    expect_equal(turns, answer.is_ok(), true)?;
+    Ok(log.processors(alloc)?)
+}
+
+/// Turns, a program without operations, and the processors that are drained: those of the turns, and in the end each once.
+const DRAINED: [(u16, &[&[Op]], &[usize]); 5] = [
+    (10, &NO_OPERATIONS, &[0, 1, 2, 0, 1, 2, 0, 1, 2, 0, 0, 1, 2]),
+    (2, &NO_OPERATIONS, &[0, 1, 0, 1, 2]),
+    (3, &[&[]], &[0, 0, 0, 0]),
+    (0, &NO_OPERATIONS, &[0, 1, 2]),
+    (10, &[], &[]),
+];
+
+#[test]
+fn turns_drain_the_processors_in_order(rt: HostRuntime) -> Result<(), Fail> {
+    for (turns, ops, expected) in DRAINED {
+        let found = processors_called(&rt, rt.alloc(), ops, turns)?;
+        expect_equal(turns, found.as_slice(), expected)?;
+    }
+    Ok(())
+}
+
+/// Runs `STORES_THEN_LOADS`, once more where it gave no record; the unit is then dropped, and the account closed.
+fn run_again<H: Threads + Wait + Sync>(rt: &H, alloc: Global) -> Result<Ended, Fail> {
+    match run_freely(rt, alloc, &STORES_THEN_LOADS, 0, (3, 0)) {
+        Err(_) => {},
+        Ok(ended) => {
+            if ended.answer.is_ok() {
+                return Ok(ended);
+            }
+            let found = (ended.account.closed, ended.drops());
+            expect_equal("a refused run", found, (true, 1))?;
+        }
+    }
+    Ok(run_freely(rt, alloc, &STORES_THEN_LOADS, 0, (3, 0))?)
+}
+
+/// `rt try --test --fail-alloc N` refuses the Nth allocation.
+#[test]
+fn refused_allocations_close_the_account_of_a_run(rt: HostRuntime) -> Result<(), Fail> {
+    let ended = run_again(&rt, rt.alloc())?;
+    let found = (ended.lawful(), numbers_in(&ended.account));
+    expect_equal("run", found, (Ok(true), ([2, 2, 0, 0, 2], true)))
+}

@@ -1,7 +1,0 @@
-//! The checker of refutations.
-
-mod branches;
-mod faults;
-mod holding;
-mod refused_allocations;
-mod worked;
