@@ -33,7 +33,7 @@ pub(crate) struct Scope<'a> {
 }
 
 /// Lists the nodes of a log at some of its addresses, with their chains, groups and first edges.
-pub(crate) fn build(memory: &mut Memory, scope: Scope<'_>) -> Graph {
+pub(crate) fn build(memory: &Memory, scope: Scope<'_>) -> Graph {
     let listing = list_nodes(memory, scope);
     let membars = listing.membars;
     let mut graph = Graph::of_nodes(memory, scope, listing.nodes, listing.firsts);
@@ -43,7 +43,7 @@ pub(crate) fn build(memory: &mut Memory, scope: Scope<'_>) -> Graph {
     graph
 }
 
-fn list_nodes(memory: &mut Memory, scope: Scope<'_>) -> Listing {
+fn list_nodes(memory: &Memory, scope: Scope<'_>) -> Listing {
     let mut listing = Listing::new(memory, scope.known.sources().len());
     for (processor, list) in scope.known.log().lists.iter().enumerate() {
         listing.begin_list(memory);
@@ -57,7 +57,7 @@ fn list_nodes(memory: &mut Memory, scope: Scope<'_>) -> Listing {
 
 impl Listing {
     /// No nodes yet, of a log with so many events.
-    fn new(memory: &mut Memory, events: usize) -> Listing {
+    fn new(memory: &Memory, events: usize) -> Listing {
         let alloc = memory.alloc();
         Listing {
             nodes: Vec::new(alloc),
@@ -68,13 +68,13 @@ impl Listing {
     }
 
     /// Notes that the nodes of the next processor begin here.
-    fn begin_list(&mut self, memory: &mut Memory) {
+    fn begin_list(&mut self, memory: &Memory) {
         memory.push(&mut self.firsts, narrow(self.nodes.len()));
     }
 
     fn push_list(
         &mut self,
-        memory: &mut Memory,
+        memory: &Memory,
         scope: Scope<'_>,
         processor: usize,
         list: &[LoggedOperation],
@@ -89,7 +89,7 @@ impl Listing {
     /// Pushes the nodes of an operation of this number.
     fn push_operation(
         &mut self,
-        memory: &mut Memory,
+        memory: &Memory,
         scope: Scope<'_>,
         number: usize,
         node: Node,
@@ -113,7 +113,7 @@ impl Listing {
     /// Pushes the nodes of a load, a store or a swap.
     fn push_access(
         &mut self,
-        memory: &mut Memory,
+        memory: &Memory,
         scope: Scope<'_>,
         number: usize,
         node: Node,
@@ -134,7 +134,7 @@ impl Listing {
         }
     }
 
-    fn push(&mut self, memory: &mut Memory, number: usize, node: Node, kind: Kind) {
+    fn push(&mut self, memory: &Memory, number: usize, node: Node, kind: Kind) {
         let source = narrow(number);
         put(&mut self.by_number, source, narrow(self.nodes.len()));
         memory.push(
@@ -148,7 +148,7 @@ impl Listing {
     }
 
     /// Pushes an STBAR where one says something: under PSO, after another node of its processor.
-    fn push_stbar(&mut self, memory: &mut Memory, order: Order, node: Node) {
+    fn push_stbar(&mut self, memory: &Memory, order: Order, node: Node) {
         if order == Order::Pso
             && let Some(last) = self.nodes.last()
             && last.processor == node.processor
@@ -226,7 +226,7 @@ impl LastStores {
 }
 
 /// Writes for each load its processor's last store to its address before it.
-fn find_own_stores(memory: &mut Memory, addresses: usize, nodes: &mut [Node]) {
+fn find_own_stores(memory: &Memory, addresses: usize, nodes: &mut [Node]) {
     let mut last = LastStores {
         processors: memory.numbers(NONE, addresses),
         stores: memory.numbers(NONE, addresses),
@@ -238,12 +238,7 @@ fn find_own_stores(memory: &mut Memory, addresses: usize, nodes: &mut [Node]) {
 
 impl Graph {
     /// The graph of these nodes, with no edges that are kept in lists.
-    fn of_nodes(
-        memory: &mut Memory,
-        scope: Scope<'_>,
-        listed: Vec<Node>,
-        firsts: Vec<u32>,
-    ) -> Graph {
+    fn of_nodes(memory: &Memory, scope: Scope<'_>, listed: Vec<Node>, firsts: Vec<u32>) -> Graph {
         let mut nodes = listed;
         let log = scope.known.log();
         let addresses = scope.addresses.len();

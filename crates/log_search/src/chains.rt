@@ -72,7 +72,7 @@ struct Lanes {
 
 impl Lanes {
     /// No chains yet, among so many addresses.
-    fn new(memory: &mut Memory, order: Order, addresses: usize) -> Lanes {
+    fn new(memory: &Memory, order: Order, addresses: usize) -> Lanes {
         Lanes {
             order,
             processor: NONE,
@@ -86,7 +86,7 @@ impl Lanes {
     }
 
     /// Gives the next node its chain and its place there.
-    fn place(&mut self, memory: &mut Memory, node: &mut Node) {
+    fn place(&mut self, memory: &Memory, node: &mut Node) {
         if node.processor != self.processor {
             self.begin_processor(node.processor);
         }
@@ -115,7 +115,7 @@ impl Lanes {
     }
 
     /// The chain of a node, which may be a new one.
-    fn chain_of(&mut self, memory: &mut Memory, node: &Node) -> u32 {
+    fn chain_of(&mut self, memory: &Memory, node: &Node) -> u32 {
         let found = match node.kind {
             Kind::Load | Kind::SwapLoad => self.loads,
             Kind::Stbar => self.stbars,
@@ -129,7 +129,7 @@ impl Lanes {
     }
 
     /// A new chain, which begins with this node.
-    fn begin_chain(&mut self, memory: &mut Memory, node: &Node) -> u32 {
+    fn begin_chain(&mut self, memory: &Memory, node: &Node) -> u32 {
         let new = narrow(self.lengths.len());
         memory.push(&mut self.lengths, 0);
         memory.push(&mut self.owners, self.processor);
@@ -159,7 +159,7 @@ impl Lanes {
 
 /// Puts the nodes into chains.
 pub(crate) fn make_chains(
-    memory: &mut Memory,
+    memory: &Memory,
     order: Order,
     addresses: usize,
     processors: usize,
@@ -192,7 +192,7 @@ impl Chains {
     }
 
     /// Lists the members, now that `starts` has the length of each chain.
-    fn list_members(&mut self, memory: &mut Memory, nodes: &[Node]) {
+    fn list_members(&mut self, memory: &Memory, nodes: &[Node]) {
         memory.push(&mut self.starts, 0);
         begin(&mut self.starts);
         for (number, node) in nodes.iter().enumerate() {

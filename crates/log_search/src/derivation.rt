@@ -112,7 +112,7 @@ impl Work {
 
 impl Derivation {
     /// No node is done.
-    pub(crate) fn new(memory: &mut Memory, graph: Graph, work: Work) -> Derivation {
+    pub(crate) fn new(memory: &Memory, graph: Graph, work: Work) -> Derivation {
         let nodes = graph.nodes.len();
         Derivation {
             rows: Rows::new(memory, nodes, graph.chains.len()),
@@ -146,7 +146,7 @@ impl Derivation {
     }
 
     /// The node is done: all that follows is looked for, up to a cycle.
-    pub(crate) fn finish(&mut self, memory: &mut Memory, number: u32) {
+    pub(crate) fn finish(&mut self, memory: &Memory, number: u32) {
         self.note_done(memory, number);
         self.take_all(memory, number);
         self.look_for_cycle(number);
@@ -158,7 +158,7 @@ impl Derivation {
         }
     }
 
-    fn note_done(&mut self, memory: &mut Memory, number: u32) {
+    fn note_done(&mut self, memory: &Memory, number: u32) {
         self.clock = self.clock.saturating_add(1);
         put(&mut self.graph.ranks, number, self.clock);
         put(&mut self.changed, number, self.clock);
@@ -169,7 +169,7 @@ impl Derivation {
     }
 
     /// Notes what reaches a node by its links.
-    fn take_all(&mut self, memory: &mut Memory, number: u32) {
+    fn take_all(&mut self, memory: &Memory, number: u32) {
         self.graph.links_to(memory, number, &mut self.links);
         for k in 0..self.links.len() {
             let Some(link) = self.links.get(k) else {
@@ -182,7 +182,7 @@ impl Derivation {
     }
 
     /// The readers of a store that were done before it.
-    fn queue_readers(&mut self, memory: &mut Memory, number: u32) {
+    fn queue_readers(&mut self, memory: &Memory, number: u32) {
         let mut reader = self.graph.first_reader(number);
         for _ in 0..self.graph.nodes.len() {
             let Some(load) = self.graph.node(reader) else {
@@ -208,7 +208,7 @@ impl Derivation {
     }
 
     /// `u` comes before `v`, and both are done.
-    pub(crate) fn join(&mut self, memory: &mut Memory, u: u32, v: u32) {
+    pub(crate) fn join(&mut self, memory: &Memory, u: u32, v: u32) {
         if self.take(u, v) {
             put(&mut self.changed, v, self.clock);
             self.look_for_cycle(v);
@@ -217,7 +217,7 @@ impl Derivation {
     }
 
     /// Adds an edge to a node that is done, unless there is a path.
-    pub(crate) fn infer(&mut self, memory: &mut Memory, u: u32, v: u32, why: Why) {
+    pub(crate) fn infer(&mut self, memory: &Memory, u: u32, v: u32, why: Why) {
         if self.reaches(u, v) {
             return;
         }
@@ -235,13 +235,13 @@ impl Derivation {
         }
     }
 
-    fn queue(&mut self, memory: &mut Memory, number: u32) {
+    fn queue(&mut self, memory: &Memory, number: u32) {
         let rank = item(&self.graph.ranks, number);
         self.queue.push(memory, rank, number);
     }
 
     /// Looks at the rules of the nodes whose rows grew, and hands on what reaches them.
-    pub(crate) fn apply(&mut self, memory: &mut Memory) {
+    pub(crate) fn apply(&mut self, memory: &Memory) {
         self.waiting = 0;
         for _ in 0..usize::MAX {
             if self.is_stopped(memory) {
@@ -255,7 +255,7 @@ impl Derivation {
         }
     }
 
-    fn hand_on(&mut self, memory: &mut Memory, number: u32) {
+    fn hand_on(&mut self, memory: &Memory, number: u32) {
         self.graph.links_from(memory, number, &mut self.links);
         let scanned = self.graph.scanned_from(number);
         self.work.spend(scanned.saturating_add(self.links.len()));
@@ -270,7 +270,7 @@ impl Derivation {
     }
 
     /// Leaves loads out, and takes back all that was found since the first of them was done.
-    pub(crate) fn leave_out(&mut self, memory: &mut Memory, loads: &[u32]) {
+    pub(crate) fn leave_out(&mut self, memory: &Memory, loads: &[u32]) {
         let mut time = u32::MAX;
         for load in loads {
             let since = item(&self.since, *load);
@@ -283,7 +283,7 @@ impl Derivation {
     }
 
     /// Takes back all that was found since a time.
-    fn take_back(&mut self, memory: &mut Memory, time: u32) {
+    fn take_back(&mut self, memory: &Memory, time: u32) {
         self.closing = None;
         self.queue.clear();
         self.graph.edges.forget_from(time);
@@ -298,7 +298,7 @@ impl Derivation {
     }
 
     /// Takes back the done nodes whose rows grew since a time, the last one first.
-    fn take_back_done(&mut self, memory: &mut Memory, time: u32) {
+    fn take_back_done(&mut self, memory: &Memory, time: u32) {
         for k in (0..self.done.len()).rev() {
             if let Some(node) = self.done.get(k).copied() {
                 self.take_back_node(memory, node, time);
@@ -307,7 +307,7 @@ impl Derivation {
     }
 
     /// Forgets of a node that it was begun, and since when rows depend on it, if that is since a time.
-    fn forget(&mut self, memory: &mut Memory, node: u32, time: u32) {
+    fn forget(&mut self, memory: &Memory, node: u32, time: u32) {
         if item(&self.since, node) >= time {
             put(&mut self.since, node, 0);
         }
@@ -319,7 +319,7 @@ impl Derivation {
 
     /// Takes a done node back whose row grew since a time. What follows from rows that grew shortly before it is looked for
     /// anew, since it may have been found later.
-    fn take_back_node(&mut self, memory: &mut Memory, node: u32, time: u32) {
+    fn take_back_node(&mut self, memory: &Memory, node: u32, time: u32) {
         let changed = item(&self.changed, node);
         if changed >= time {
             self.work.spend(self.rows.width());

@@ -63,7 +63,7 @@ pub(crate) struct Edges {
 
 impl Edges {
     /// No edges between so many nodes.
-    pub(crate) fn new(memory: &mut Memory, nodes: usize) -> Edges {
+    pub(crate) fn new(memory: &Memory, nodes: usize) -> Edges {
         Edges {
             edges: Vec::new(memory.alloc()),
             from: memory.numbers(NONE, nodes),
@@ -72,7 +72,7 @@ impl Edges {
     }
 
     /// Adds an edge.
-    pub(crate) fn add(&mut self, memory: &mut Memory, u: u32, v: u32, why: Why, time: u32) {
+    pub(crate) fn add(&mut self, memory: &Memory, u: u32, v: u32, why: Why, time: u32) {
         let edge = narrow(self.edges.len());
         let kept = KeptEdge {
             u,

@@ -21,7 +21,7 @@ pub(crate) struct Explanation {
 
 /// What a violation needs, where its paths are found; None where the work for them is more than is left.
 pub(crate) fn explain(
-    memory: &mut Memory,
+    memory: &Memory,
     derivation: &Derivation,
     closing: Closing,
 ) -> Option<Explanation> {
@@ -52,7 +52,7 @@ impl Explanation {
     }
 
     /// Asks for what shows the violation.
-    fn begin(&mut self, memory: &mut Memory, closing: Closing) {
+    fn begin(&mut self, memory: &Memory, closing: Closing) {
         match closing {
             Closing::Node(node) => self.ask(memory, node, node, u32::MAX),
             Closing::First { store, load } => self.ask(memory, store, load, u32::MAX),
@@ -60,21 +60,21 @@ impl Explanation {
         }
     }
 
-    fn add_node(&mut self, memory: &mut Memory, node: u32) {
+    fn add_node(&mut self, memory: &Memory, node: u32) {
         memory.push(&mut self.nodes, node);
     }
 
-    fn add_nodes(&mut self, memory: &mut Memory, first: u32, second: u32) {
+    fn add_nodes(&mut self, memory: &Memory, first: u32, second: u32) {
         self.add_node(memory, first);
         self.add_node(memory, second);
     }
 
-    fn ask(&mut self, memory: &mut Memory, from: u32, to: u32, limit: u32) {
+    fn ask(&mut self, memory: &Memory, from: u32, to: u32, limit: u32) {
         self.add_nodes(memory, from, to);
         memory.push(&mut self.tasks, Task { from, to, limit });
     }
 
-    fn add_path(&mut self, memory: &mut Memory, derivation: &Derivation, task: Task) {
+    fn add_path(&mut self, memory: &Memory, derivation: &Derivation, task: Task) {
         if let Some(path) = self.find(memory, derivation, task) {
             for step in &path {
                 self.add_step(memory, derivation, *step);
@@ -85,7 +85,7 @@ impl Explanation {
     /// A path: if there is none over nodes that are done now, one that was there when the edge was found.
     fn find(
         &mut self,
-        memory: &mut Memory,
+        memory: &Memory,
         derivation: &Derivation,
         task: Task,
     ) -> Option<Vec<PathStep>> {
@@ -96,7 +96,7 @@ impl Explanation {
     }
 
     /// Adds what a step needs. Steps in program order need the ends of the whole way alone, which the steps beside them add.
-    fn add_step(&mut self, memory: &mut Memory, derivation: &Derivation, step: PathStep) {
+    fn add_step(&mut self, memory: &Memory, derivation: &Derivation, step: PathStep) {
         match step.why {
             Why::Chain | Why::LoadOp => {}
             Why::Stbar => {
@@ -111,7 +111,7 @@ impl Explanation {
     }
 
     /// Adds what a step that isn't in program order follows from.
-    fn add_premises(&mut self, memory: &mut Memory, derivation: &Derivation, step: PathStep) {
+    fn add_premises(&mut self, memory: &Memory, derivation: &Derivation, step: PathStep) {
         match step.why {
             Why::Membar(barrier) => memory.push(&mut self.barriers, (step.to, barrier)),
             Why::Own(load) => self.add_node(memory, load),
@@ -130,13 +130,7 @@ impl Explanation {
     }
 
     /// Adds what a step of StorePast follows from: that the load's source, if it isn't the first value, comes before the store.
-    fn add_source(
-        &mut self,
-        memory: &mut Memory,
-        derivation: &Derivation,
-        load: u32,
-        step: PathStep,
-    ) {
+    fn add_source(&mut self, memory: &Memory, derivation: &Derivation, load: u32, step: PathStep) {
         self.add_node(memory, load);
         if let Some(node) = derivation.graph.node(load)
             && node.source != FIRST
@@ -146,7 +140,7 @@ impl Explanation {
     }
 
     /// Adds the end of a step if it is an STBAR.
-    fn add_stbar(&mut self, memory: &mut Memory, derivation: &Derivation, end: u32) {
+    fn add_stbar(&mut self, memory: &Memory, derivation: &Derivation, end: u32) {
         if let Some(node) = derivation.graph.node(end)
             && !node.is_load()
             && !node.is_store()
@@ -157,7 +151,7 @@ impl Explanation {
 
     /// Adds the path that an inferred step of this number follows from: that of an edge which is kept in no list is one of the
     /// chain.
-    fn add_premise(&mut self, memory: &mut Memory, load: u32, from: u32, to: u32, number: u32) {
+    fn add_premise(&mut self, memory: &Memory, load: u32, from: u32, to: u32, number: u32) {
         self.add_node(memory, load);
         self.add_nodes(memory, from, to);
         if number > 0 && !self.seen.contains(&number) {

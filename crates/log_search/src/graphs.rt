@@ -91,7 +91,7 @@ impl Graph {
     }
 
     /// The edges of barriers: from the stores before each that none before it covers to the first load after it.
-    pub(crate) fn add_membars(&mut self, memory: &mut Memory, membars: &[(u32, u32)]) {
+    pub(crate) fn add_membars(&mut self, memory: &Memory, membars: &[(u32, u32)]) {
         let mut covered = 0;
         for (k, (end, operation)) in membars.iter().enumerate() {
             // Of several barriers before one node the last one stands for all.
@@ -102,7 +102,7 @@ impl Graph {
     }
 
     /// The edges of the barrier before node `end`: the first node that it doesn't cover.
-    fn add_membar(&mut self, memory: &mut Memory, covered: u32, end: u32, barrier: u32) -> u32 {
+    fn add_membar(&mut self, memory: &Memory, covered: u32, end: u32, barrier: u32) -> u32 {
         let Some(node) = self.node(end) else {
             return covered;
         };
@@ -133,7 +133,7 @@ impl Graph {
     }
 
     /// The edges to a node from the stores from one node on up to another that are the last ones of their chains there.
-    fn add_from_stores(&mut self, memory: &mut Memory, range: (u32, u32), to: u32, why: Why) {
+    fn add_from_stores(&mut self, memory: &Memory, range: (u32, u32), to: u32, why: Why) {
         let (first, end) = range;
         for store in first..end {
             if self.is_last_store(store, end) {
@@ -154,7 +154,7 @@ impl Graph {
     }
 
     /// The edges of the rule Own between stores.
-    pub(crate) fn add_own(&mut self, memory: &mut Memory) {
+    pub(crate) fn add_own(&mut self, memory: &Memory) {
         for number in 0..self.nodes.len() {
             let load = narrow(number);
             if let Some(node) = self.node(load)
@@ -167,7 +167,7 @@ impl Graph {
     }
 
     /// The edges from stores to the STBARs after them.
-    pub(crate) fn add_stbars(&mut self, memory: &mut Memory) {
+    pub(crate) fn add_stbars(&mut self, memory: &Memory) {
         let mut first = 0;
         for number in 0..self.nodes.len() {
             let stbar = narrow(number);

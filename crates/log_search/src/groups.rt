@@ -65,7 +65,7 @@ impl Groups {
 }
 
 /// The stores, those to one address one after the other, each address' in the order of the nodes.
-fn sort_stores(memory: &mut Memory, addresses: usize, nodes: &[Node]) -> Vec<u32> {
+fn sort_stores(memory: &Memory, addresses: usize, nodes: &[Node]) -> Vec<u32> {
     let mut starts = memory.numbers(0, addresses);
     let stores = count_stores(nodes, &mut starts);
     begin(&mut starts);
@@ -92,7 +92,7 @@ fn count_stores(nodes: &[Node], counts: &mut [u32]) -> usize {
 }
 
 /// Puts the stores into groups, of which each store knows its neighbours.
-pub(crate) fn make_groups(memory: &mut Memory, addresses: usize, nodes: &mut [Node]) -> Groups {
+pub(crate) fn make_groups(memory: &Memory, addresses: usize, nodes: &mut [Node]) -> Groups {
     let sorted = sort_stores(memory, addresses, nodes);
     let mut groups = Groups {
         groups: Vec::new(memory.alloc()),
@@ -108,7 +108,7 @@ pub(crate) fn make_groups(memory: &mut Memory, addresses: usize, nodes: &mut [No
 
 impl Groups {
     /// Puts stores into groups, each after those before it.
-    fn push_all(&mut self, memory: &mut Memory, nodes: &mut [Node], stores: &[u32]) {
+    fn push_all(&mut self, memory: &Memory, nodes: &mut [Node], stores: &[u32]) {
         let mut last = NONE;
         for number in stores {
             self.push(memory, nodes, last, *number);
@@ -117,7 +117,7 @@ impl Groups {
     }
 
     /// Puts the next store into the group of the last one, or into a new one.
-    fn push(&mut self, memory: &mut Memory, nodes: &mut [Node], last: u32, number: u32) {
+    fn push(&mut self, memory: &Memory, nodes: &mut [Node], last: u32, number: u32) {
         let Some(store) = node_at(nodes, number) else {
             return;
         };
@@ -134,7 +134,7 @@ impl Groups {
     }
 
     /// Begins a group with a store, at this index among the places.
-    fn begin_group(&mut self, memory: &mut Memory, store: Node, start: u32) {
+    fn begin_group(&mut self, memory: &Memory, store: Node, start: u32) {
         count(&mut self.starts, store.address);
         let group = StoreGroup {
             chain: store.chain,

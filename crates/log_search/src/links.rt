@@ -79,7 +79,7 @@ impl Links {
 
 impl Graph {
     /// The edges to a node.
-    pub(crate) fn links_to(&self, memory: &mut Memory, number: u32, links: &mut Links) {
+    pub(crate) fn links_to(&self, memory: &Memory, number: u32, links: &mut Links) {
         links.links.clear();
         if let Some(node) = self.node(number) {
             links.add_some(self.chains.before(node), Why::Chain);
@@ -206,7 +206,7 @@ impl Graph {
     }
 
     /// The edges from a node.
-    pub(crate) fn links_from(&self, memory: &mut Memory, number: u32, links: &mut Links) {
+    pub(crate) fn links_from(&self, memory: &Memory, number: u32, links: &mut Links) {
         links.links.clear();
         if let Some(node) = self.node(number) {
             if let Some(after) = self.chains.after(node) {

@@ -1,6 +1,7 @@
 //! Memory for lists, which notes that some was refused.
 
 use std::alloc::Global;
+use std::cell::Cell;
 use tso_ops::OutOfMemory;
 
 /// Where lists get their memory. Where some is refused, the list goes without, and that is noted here: whoever makes lists looks
@@ -8,7 +9,7 @@ use tso_ops::OutOfMemory;
 #[derive(Drop)]
 pub(crate) struct Memory {
     alloc: Global,
-    is_refused: bool,
+    is_refused: Cell<bool>,
 }
 
 impl Memory {
@@ -16,7 +17,7 @@ impl Memory {
     pub(crate) fn new(alloc: Global) -> Memory {
         Memory {
             alloc,
-            is_refused: false,
+            is_refused: Cell::new(false),
         }
     }
 
@@ -27,61 +28,49 @@ impl Memory {
 
     /// Whether some was refused.
     pub(crate) fn is_refused(&self) -> bool {
-        self.is_refused
+        self.is_refused.get()
     }
 
     /// Notes whether some was refused.
-    pub(crate) fn note(&mut self, is_refused: bool) {
-        self.is_refused |= is_refused;
+    #[inline]
+    pub(crate) fn note(&self, is_refused: bool) {
+        if is_refused {
+            self.is_refused.set(true);
+        }
     }
 
     /// Pushes an item to a list.
     #[inline]
-    pub(crate) fn push<T: Copy>(&mut self, items: &mut Vec<T>, item: T) {
-        if items.push(item).is_err() {
-            self.is_refused = true;
-        }
+    pub(crate) fn push<T: Copy>(&self, items: &mut Vec<T>, item: T) {
+        self.note(items.push(item).is_err());
     }
 
     /// A list with this number, so many times.
-    pub(crate) fn numbers(&mut self, number: u32, count: usize) -> Vec<u32> {
-        match vec![in self.alloc; number; count] {
-            Ok(numbers) => numbers,
-            Err(_) => {
-                self.is_refused = true;
-                Vec::new(self.alloc)
-            }
-        }
+    pub(crate) fn numbers(&self, number: u32, count: usize) -> Vec<u32> {
+        self.made(vec![in self.alloc; number; count])
     }
 
     /// A list of these numbers.
-    pub(crate) fn copied(&mut self, numbers: &[u32]) -> Vec<u32> {
-        match Vec::from_slice(self.alloc, numbers) {
-            Ok(numbers) => numbers,
-            Err(_) => {
-                self.is_refused = true;
-                Vec::new(self.alloc)
-            }
-        }
+    pub(crate) fn copied(&self, numbers: &[u32]) -> Vec<u32> {
+        self.made(Vec::from_slice(self.alloc, numbers))
     }
 
     /// A list of so many flags, none of which is set.
-    pub(crate) fn flags(&mut self, count: usize) -> Vec<bool> {
-        match vec![in self.alloc; false; count] {
-            Ok(flags) => flags,
-            Err(_) => {
-                self.is_refused = true;
-                Vec::new(self.alloc)
-            }
-        }
+    pub(crate) fn flags(&self, count: usize) -> Vec<bool> {
+        self.made(vec![in self.alloc; false; count])
     }
 
     /// An empty list with room for so many numbers.
-    pub(crate) fn room(&mut self, count: usize) -> Vec<u32> {
-        match Vec::with_capacity(self.alloc, count) {
-            Ok(numbers) => numbers,
+    pub(crate) fn room(&self, count: usize) -> Vec<u32> {
+        self.made(Vec::with_capacity(self.alloc, count))
+    }
+
+    /// The list that was made, or an empty one where its memory was refused.
+    fn made<T: Copy, E: Drop>(&self, made: Result<Vec<T>, E>) -> Vec<T> {
+        match made {
+            Ok(items) => items,
             Err(_) => {
-                self.is_refused = true;
+                self.note(true);
                 Vec::new(self.alloc)
             }
         }
@@ -89,7 +78,7 @@ impl Memory {
 
     /// What was made, unless some memory was refused.
     pub(crate) fn whole<T: Drop>(&self, made: T) -> Result<T, OutOfMemory> {
-        if self.is_refused {
+        if self.is_refused() {
             Err(OutOfMemory)
         } else {
             Ok(made)

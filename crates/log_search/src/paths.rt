@@ -55,7 +55,7 @@ struct Ways {
 /// A cheap path, if there is one; only over nodes that are done and that the beginning is known to reach, if `is_narrow`.
 /// `visited` counts nodes and the edges to them.
 pub(crate) fn find_path(
-    memory: &mut Memory,
+    memory: &Memory,
     derivation: &Derivation,
     task: Task,
     is_narrow: bool,
@@ -89,7 +89,7 @@ fn cost_of(why: Why) -> u32 {
 
 impl Ways {
     /// Goes back from the end to the beginning, if a path leads there.
-    fn search(&mut self, memory: &mut Memory, derivation: &Derivation) {
+    fn search(&mut self, memory: &Memory, derivation: &Derivation) {
         self.push(memory, 0, self.task.to);
         for _ in 0..usize::MAX {
             let Some((cost, node)) = self.pop() else {
@@ -114,7 +114,7 @@ impl Ways {
         Some((cost, (top & u64::from(u32::MAX)) as u32))
     }
 
-    fn push(&mut self, memory: &mut Memory, cost: u32, node: u32) {
+    fn push(&mut self, memory: &Memory, cost: u32, node: u32) {
         memory.note(self.next.push(key(cost, node)).is_err());
     }
 
@@ -129,7 +129,7 @@ impl Ways {
     }
 
     /// Goes back from a node by each edge to it.
-    fn go_back(&mut self, memory: &mut Memory, derivation: &Derivation, node: u32, cost: u32) {
+    fn go_back(&mut self, memory: &Memory, derivation: &Derivation, node: u32, cost: u32) {
         let from = self.task.from;
         if is_after_in_chain(derivation, from, node) {
             self.visited = self.visited.saturating_add(self.links.len());
@@ -160,7 +160,7 @@ impl Ways {
     }
 
     /// Adds a way, if it is the cheapest so far.
-    fn add(&mut self, memory: &mut Memory, step: PathStep, cost: u32) {
+    fn add(&mut self, memory: &Memory, step: PathStep, cost: u32) {
         let at = if step.from == self.task.from {
             NONE
         } else {
@@ -177,7 +177,7 @@ impl Ways {
     }
 
     /// The path that was found.
-    fn path(&self, memory: &mut Memory) -> Option<Vec<PathStep>> {
+    fn path(&self, memory: &Memory) -> Option<Vec<PathStep>> {
         let mut path = Vec::new(memory.alloc());
         let mut at = NONE;
         for _ in 0..self.ways.len() {

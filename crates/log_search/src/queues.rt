@@ -12,7 +12,7 @@ pub(crate) struct Queue {
 
 impl Queue {
     /// None of so many nodes.
-    pub(crate) fn new(memory: &mut Memory, nodes: usize) -> Queue {
+    pub(crate) fn new(memory: &Memory, nodes: usize) -> Queue {
         Queue {
             heap: BinaryHeap::new(memory.alloc()),
             is_queued: memory.flags(nodes),
@@ -20,7 +20,7 @@ impl Queue {
     }
 
     /// Adds a node that was done as the one of this rank, unless it is there.
-    pub(crate) fn push(&mut self, memory: &mut Memory, rank: u32, node: u32) {
+    pub(crate) fn push(&mut self, memory: &Memory, rank: u32, node: u32) {
         if let Some(is_queued) = self.is_queued.get_mut(node as usize)
             && !*is_queued
         {

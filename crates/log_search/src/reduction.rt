@@ -42,7 +42,7 @@ pub fn reduce<J: Judge>(
     reduction.list(&kept);
     reduction.leave_out_halves()?;
     reduction.leave_out_singles()?;
-    let lists = gather(&mut reduction.memory, known, &reduction.entries);
+    let lists = gather(&reduction.memory, known, &reduction.entries);
     reduction.memory.whole(lists)
 }
 
@@ -106,7 +106,7 @@ impl<J: Judge> Reduction<'_, J> {
 
     /// Leaves out so many operations from an index on, if the others are still accused, and answers whether they are.
     fn leaves_out(&mut self, at: usize, size: usize) -> Result<bool, OutOfMemory> {
-        let fewer = without(&mut self.memory, self.known, &self.entries, at, size);
+        let fewer = without(&self.memory, self.known, &self.entries, at, size);
         let is_left = fewer.len() < self.entries.len() && self.accuses(&fewer)?;
         if is_left {
             self.entries = fewer;
@@ -116,14 +116,14 @@ impl<J: Judge> Reduction<'_, J> {
 
     /// Whether the judge accuses these operations.
     fn accuses(&mut self, entries: &[Entry]) -> Result<bool, OutOfMemory> {
-        let lists = gather(&mut self.memory, self.known, entries);
+        let lists = gather(&self.memory, self.known, entries);
         let lists = self.memory.whole(lists)?;
         self.judge.accuses(&lists)
     }
 }
 
 /// These operations by their processors.
-fn gather(memory: &mut Memory, known: &KnownLog, entries: &[Entry]) -> Vec<Vec<Kept>> {
+fn gather(memory: &Memory, known: &KnownLog, entries: &[Entry]) -> Vec<Vec<Kept>> {
     let mut lists = empty_lists(memory, known.log().lists.len());
     for (processor, kept) in entries {
         push_kept(memory, &mut lists, *processor, *kept);
@@ -140,7 +140,7 @@ fn is_barrier(known: &KnownLog, entry: Entry) -> bool {
 
 /// The operations without so many from an index on, and without loads whose sources are gone. Of several, barriers stay.
 fn without(
-    memory: &mut Memory,
+    memory: &Memory,
     known: &KnownLog,
     entries: &[Entry],
     from: usize,
@@ -158,7 +158,7 @@ fn without(
 }
 
 /// The operations without loads whose sources aren't among them.
-fn with_sources(memory: &mut Memory, known: &KnownLog, entries: &[Entry]) -> Vec<Entry> {
+fn with_sources(memory: &Memory, known: &KnownLog, entries: &[Entry]) -> Vec<Entry> {
     let stores = stores_of(memory, known, entries);
     let mut fewer = Vec::new(memory.alloc());
     for (processor, kept) in entries {
@@ -171,7 +171,7 @@ fn with_sources(memory: &mut Memory, known: &KnownLog, entries: &[Entry]) -> Vec
 }
 
 /// The numbers of the stores of operations.
-fn stores_of(memory: &mut Memory, known: &KnownLog, entries: &[Entry]) -> HashSet<usize> {
+fn stores_of(memory: &Memory, known: &KnownLog, entries: &[Entry]) -> HashSet<usize> {
     let mut stores = HashSet::new(memory.alloc());
     for entry in entries {
         if let Some(number) = store_of(known, *entry) {

@@ -33,7 +33,7 @@ pub(crate) struct Roots {
 
 impl Roots {
     /// At the beginning.
-    pub(crate) fn new(memory: &mut Memory, known: &KnownLog, graph: &Graph) -> Roots {
+    pub(crate) fn new(memory: &Memory, known: &KnownLog, graph: &Graph) -> Roots {
         Roots {
             clock: Clock::new(known),
             round: 0,
@@ -55,7 +55,7 @@ impl Roots {
     /// Does the nodes that aren't done, up to a violation or the end of the budget. The meter hears of each that is looked at.
     pub(crate) fn advance<M: Meter>(
         &mut self,
-        memory: &mut Memory,
+        memory: &Memory,
         known: &KnownLog,
         derivation: &mut Derivation,
         meter: &M,
@@ -169,7 +169,7 @@ impl Roots {
     }
 
     /// Does the nodes of the stack, and before each what comes before it.
-    fn visit(&mut self, memory: &mut Memory, derivation: &mut Derivation) {
+    fn visit(&mut self, memory: &Memory, derivation: &mut Derivation) {
         for _ in 0..usize::MAX {
             if derivation.is_stopped(memory) {
                 break;
@@ -188,7 +188,7 @@ impl Roots {
     }
 
     /// Pushes what comes before a node and isn't begun: what is begun waits for this one.
-    fn push_before(&mut self, memory: &mut Memory, graph: &Graph, number: u32) {
+    fn push_before(&mut self, memory: &Memory, graph: &Graph, number: u32) {
         graph.links_to(memory, number, &mut self.links);
         for k in 0..self.links.len() {
             if let Some(link) = self.links.get(k)
@@ -288,7 +288,7 @@ fn quotient(number: usize, divisor: usize) -> usize {
 }
 
 /// A node is done, and with a swap's load its store.
-fn finish(memory: &mut Memory, derivation: &mut Derivation, number: u32) {
+fn finish(memory: &Memory, derivation: &mut Derivation, number: u32) {
     if derivation.graph.is_done(number) {
         return;
     }

@@ -11,7 +11,7 @@ pub(crate) struct Rows {
 
 impl Rows {
     /// Rows of so many nodes and chains, which nothing reaches.
-    pub(crate) fn new(memory: &mut Memory, nodes: usize, width: usize) -> Rows {
+    pub(crate) fn new(memory: &Memory, nodes: usize, width: usize) -> Rows {
         let size = match nodes.checked_mul(width) {
             Some(size) => size,
             None => {

@@ -11,7 +11,7 @@ const SEARCH: usize = 8;
 
 impl Derivation {
     /// The inferred edges that follow from what reaches a node.
-    pub(crate) fn apply_rules(&mut self, memory: &mut Memory, number: u32) {
+    pub(crate) fn apply_rules(&mut self, memory: &Memory, number: u32) {
         let Some(node) = self.graph.node(number) else {
             return;
         };
@@ -24,7 +24,7 @@ impl Derivation {
         }
     }
 
-    fn apply_to_load(&mut self, memory: &mut Memory, number: u32, load: Node) {
+    fn apply_to_load(&mut self, memory: &Memory, number: u32, load: Node) {
         if load.source == FIRST {
             self.look_before_first(number, load);
         } else if self.graph.is_done(load.source) {
@@ -33,7 +33,7 @@ impl Derivation {
         }
     }
 
-    fn apply_to_store(&mut self, memory: &mut Memory, number: u32, store: Node) {
+    fn apply_to_store(&mut self, memory: &Memory, number: u32, store: Node) {
         self.find_store_past(memory, number, store);
         self.find_swap_after(memory, number, store);
         if store.kind == Kind::SwapStore {
@@ -89,7 +89,7 @@ impl Derivation {
     }
 
     /// The rule Own, now that the load is done.
-    fn join_own(&mut self, memory: &mut Memory, load: Node) {
+    fn join_own(&mut self, memory: &Memory, load: Node) {
         let is_other = load.own != NONE && load.own != load.source;
         if is_other && self.graph.is_done(load.own) && !self.reaches(load.own, load.source) {
             self.join(memory, load.own, load.source);
@@ -97,7 +97,7 @@ impl Derivation {
     }
 
     /// LoadPast: the stores to its address that reach the load come before its source.
-    fn find_load_past(&mut self, memory: &mut Memory, number: u32, load: Node) {
+    fn find_load_past(&mut self, memory: &Memory, number: u32, load: Node) {
         let (start, end) = self.begin_groups(load);
         for index in start..end {
             let past = self.place_in_group(load.source, index);
@@ -136,7 +136,7 @@ impl Derivation {
 
     /// StorePast: loads whose source reaches this store to their address come before it. Those of each chain's last store
     /// say all, and nothing is new that reaches the processor's store to the address before this one.
-    fn find_store_past(&mut self, memory: &mut Memory, number: u32, store: Node) {
+    fn find_store_past(&mut self, memory: &Memory, number: u32, store: Node) {
         let (start, end) = self.begin_groups(store);
         for index in start..end {
             let past = self.place_in_group(store.before, index);
@@ -149,7 +149,7 @@ impl Derivation {
         }
     }
 
-    fn put_readers_before(&mut self, memory: &mut Memory, source: u32, store: u32) {
+    fn put_readers_before(&mut self, memory: &Memory, source: u32, store: u32) {
         let mut reader = self.graph.first_reader(source);
         for _ in 0..self.graph.nodes.len() {
             let Some(load) = self.graph.node(reader) else {
@@ -165,7 +165,7 @@ impl Derivation {
 
     /// SwapAfter: the stores of swaps whose loads reach this store come before it. Those of each processor's last swap say
     /// all.
-    fn find_swap_after(&mut self, memory: &mut Memory, number: u32, store: Node) {
+    fn find_swap_after(&mut self, memory: &Memory, number: u32, store: Node) {
         let before = match self.graph.chains.before(store) {
             Some(before) => before,
             None => NONE,
@@ -201,7 +201,7 @@ impl Derivation {
     }
 
     /// SwapBefore: stores that reach this swap's store come before its load.
-    fn find_swap_before(&mut self, memory: &mut Memory, number: u32) {
+    fn find_swap_before(&mut self, memory: &Memory, number: u32) {
         let load = number.saturating_sub(1);
         let width = self.rows.width();
         self.work.spend(width);

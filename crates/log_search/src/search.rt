@@ -44,19 +44,19 @@ impl<'a> Search<'a> {
         known: &'a KnownLog,
         effort: usize,
     ) -> Result<Search<'a>, OutOfMemory> {
-        let mut memory = Memory::new(alloc);
-        let survey = Survey::new(&mut memory, known);
+        let memory = Memory::new(alloc);
+        let survey = Survey::new(&memory, known);
         let addresses = survey.addresses_from(0);
-        let graph = graph_at(&mut memory, known, &survey, addresses);
+        let graph = graph_at(&memory, known, &survey, addresses);
         let work = Work::new(effort, known.sources().len(), graph.chains.len());
-        let roots = Roots::new(&mut memory, known, &graph);
+        let roots = Roots::new(&memory, known, &graph);
         let search = Search {
             known,
             survey,
             addresses,
             parts: 1,
             roots,
-            derivation: Derivation::new(&mut memory, graph, work),
+            derivation: Derivation::new(&memory, graph, work),
         };
         memory.whole(search)
     }
@@ -75,13 +75,13 @@ impl<'a> Search<'a> {
     /// The next proposal, or the end. The loads of a proposal are left out of what is looked at after it. OutOfMemory where
     /// an allocation was refused. The meter hears of each operation that is looked at.
     pub fn next<M: Meter>(&mut self, alloc: Global, meter: &M) -> Result<Found, OutOfMemory> {
-        let mut memory = Memory::new(alloc);
-        let found = self.find(&mut memory, meter);
+        let memory = Memory::new(alloc);
+        let found = self.find(&memory, meter);
         memory.whole(found)
     }
 
     /// The next proposal, or the end.
-    fn find<M: Meter>(&mut self, memory: &mut Memory, meter: &M) -> Found {
+    fn find<M: Meter>(&mut self, memory: &Memory, meter: &M) -> Found {
         for _ in 0..usize::MAX {
             self.roots
                 .advance(memory, self.known, &mut self.derivation, meter);
@@ -100,7 +100,7 @@ impl<'a> Search<'a> {
     }
 
     /// Goes on with the next part of the addresses.
-    fn begin_part(&mut self, memory: &mut Memory) {
+    fn begin_part(&mut self, memory: &Memory) {
         self.addresses = self.survey.addresses_from(self.addresses.to);
         self.parts = self.parts.saturating_add(1);
         let graph = graph_at(memory, self.known, &self.survey, self.addresses);
@@ -111,7 +111,7 @@ impl<'a> Search<'a> {
     }
 
     /// What the violation needs that was found.
-    fn propose(&mut self, memory: &mut Memory) -> Found {
+    fn propose(&mut self, memory: &Memory) -> Found {
         let mut loads = Vec::new(memory.alloc());
         let selection = self.select(memory, &mut loads);
         if loads.is_empty() {
@@ -124,7 +124,7 @@ impl<'a> Search<'a> {
     }
 
     /// The operations that the violation needs that was found, and its loads; none where the work for them is more than is left.
-    fn select(&mut self, memory: &mut Memory, loads: &mut Vec<u32>) -> Vec<Vec<Kept>> {
+    fn select(&mut self, memory: &Memory, loads: &mut Vec<u32>) -> Vec<Vec<Kept>> {
         if let Some(closing) = self.derivation.closing
             && let Some(explanation) = explain(memory, &self.derivation, closing)
         {
@@ -137,7 +137,7 @@ impl<'a> Search<'a> {
 }
 
 /// The graph of a log at some of its addresses.
-fn graph_at(memory: &mut Memory, known: &KnownLog, survey: &Survey, addresses: Addresses) -> Graph {
+fn graph_at(memory: &Memory, known: &KnownLog, survey: &Survey, addresses: Addresses) -> Graph {
     let scope = Scope {
         known,
         survey,

@@ -8,7 +8,7 @@ use log_selections::Kept;
 use tso_ops::Part;
 
 /// No operations of so many processors.
-pub(crate) fn empty_lists(memory: &mut Memory, processors: usize) -> Vec<Vec<Kept>> {
+pub(crate) fn empty_lists(memory: &Memory, processors: usize) -> Vec<Vec<Kept>> {
     let alloc = memory.alloc();
     let mut lists = Vec::new(alloc);
     for _ in 0..processors {
@@ -18,19 +18,14 @@ pub(crate) fn empty_lists(memory: &mut Memory, processors: usize) -> Vec<Vec<Kep
 }
 
 /// Pushes an operation to those of its processor.
-pub(crate) fn push_kept(
-    memory: &mut Memory,
-    lists: &mut [Vec<Kept>],
-    processor: usize,
-    kept: Kept,
-) {
+pub(crate) fn push_kept(memory: &Memory, lists: &mut [Vec<Kept>], processor: usize, kept: Kept) {
     if let Some(list) = lists.get_mut(processor) {
         memory.push(list, kept);
     }
 }
 
 /// Keeps an operation after those of its processor, or another part of the last one.
-fn keep(memory: &mut Memory, lists: &mut [Vec<Kept>], processor: usize, kept: Kept) {
+fn keep(memory: &Memory, lists: &mut [Vec<Kept>], processor: usize, kept: Kept) {
     if !joins_last(lists, processor, kept) {
         push_kept(memory, lists, processor, kept);
     }
@@ -55,7 +50,7 @@ type Pick = (u32, u32, Part);
 
 /// The operations of an explanation: its nodes, the sources of its loads, and its barriers. `loads` gets its loads.
 pub(crate) fn select(
-    memory: &mut Memory,
+    memory: &Memory,
     derivation: &Derivation,
     explanation: &Explanation,
     loads: &mut Vec<u32>,
@@ -71,7 +66,7 @@ pub(crate) fn select(
 }
 
 fn push_barriers(
-    memory: &mut Memory,
+    memory: &Memory,
     derivation: &Derivation,
     barriers: &[(u32, u32)],
     picks: &mut Vec<Pick>,
@@ -84,7 +79,7 @@ fn push_barriers(
 }
 
 /// What picks keep, which are in the order of their processors and operations.
-fn gather(memory: &mut Memory, processors: usize, picks: &[Pick]) -> Vec<Vec<Kept>> {
+fn gather(memory: &Memory, processors: usize, picks: &[Pick]) -> Vec<Vec<Kept>> {
     let mut lists = empty_lists(memory, processors);
     for (processor, operation, part) in picks {
         let kept = Kept {
@@ -98,7 +93,7 @@ fn gather(memory: &mut Memory, processors: usize, picks: &[Pick]) -> Vec<Vec<Kep
 
 /// Picks a node, and with a load, if it isn't left out, its source.
 fn push_node(
-    memory: &mut Memory,
+    memory: &Memory,
     derivation: &Derivation,
     number: u32,
     loads: &mut Vec<u32>,

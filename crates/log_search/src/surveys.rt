@@ -67,7 +67,7 @@ pub(crate) fn address_of(operation: LogOperation) -> Option<u64> {
 
 impl Survey {
     /// Looks at a log.
-    pub(crate) fn new(memory: &mut Memory, known: &KnownLog) -> Survey {
+    pub(crate) fn new(memory: &Memory, known: &KnownLog) -> Survey {
         let events = known.sources().len();
         let mut survey = Survey {
             order: known.log().order,
@@ -86,7 +86,7 @@ impl Survey {
     }
 
     /// Counts for each address the processors that store there.
-    fn count_writers(&mut self, memory: &mut Memory, known: &KnownLog) {
+    fn count_writers(&mut self, memory: &Memory, known: &KnownLog) {
         self.writers = memory.numbers(0, self.count);
         let mut last = memory.numbers(NONE, self.count);
         for (processor, list) in known.log().lists.iter().enumerate() {
@@ -154,7 +154,7 @@ impl Survey {
         self.kept.get(number).copied().unwrap_or(false)
     }
 
-    fn number_addresses(&mut self, memory: &mut Memory, known: &KnownLog) {
+    fn number_addresses(&mut self, memory: &Memory, known: &KnownLog) {
         let mut numbers = HashMap::new(memory.alloc());
         for (processor, list) in known.log().lists.iter().enumerate() {
             self.number_list(memory, known, processor, list, &mut numbers);
@@ -164,7 +164,7 @@ impl Survey {
 
     fn number_list(
         &mut self,
-        memory: &mut Memory,
+        memory: &Memory,
         known: &KnownLog,
         processor: usize,
         list: &[LoggedOperation],
@@ -182,7 +182,7 @@ impl Survey {
 
     /// Keeps of the loads of a processor with one source the last, and the first if the source isn't a store before it. Those
     /// between say nothing more: what comes before one of them comes before the last, and what comes after it after the first.
-    fn thin(&mut self, memory: &mut Memory, known: &KnownLog) {
+    fn thin(&mut self, memory: &Memory, known: &KnownLog) {
         let size = known.sources().len().saturating_add(self.count);
         let mut readers = Readers {
             first: memory.numbers(0, size),
@@ -275,7 +275,7 @@ fn stores(operation: LogOperation) -> bool {
 }
 
 /// The number of an address, a new one where it has none yet.
-fn number_in(memory: &mut Memory, numbers: &mut HashMap<u64, u32>, a: u64) -> u32 {
+fn number_in(memory: &Memory, numbers: &mut HashMap<u64, u32>, a: u64) -> u32 {
     match numbers.get(&a).copied() {
         Some(number) => number,
         None => {

@@ -23,7 +23,7 @@ pub(crate) struct Swaps {
 
 impl Swaps {
     /// Those among the nodes.
-    pub(crate) fn new(memory: &mut Memory, nodes: &[Node]) -> Swaps {
+    pub(crate) fn new(memory: &Memory, nodes: &[Node]) -> Swaps {
         let mut swaps = Swaps {
             groups: Vec::new(memory.alloc()),
             places: Vec::new(memory.alloc()),
@@ -36,7 +36,7 @@ impl Swaps {
         swaps
     }
 
-    fn push(&mut self, memory: &mut Memory, load: &Node) {
+    fn push(&mut self, memory: &Memory, load: &Node) {
         let start = narrow(self.places.len());
         let end = start.saturating_add(1);
         memory.push(&mut self.places, load.place);

@@ -1,5 +1,5 @@
 //! The decision on a trace.
-ghost use Rattle.std.specs.Prelude.{◌≡◌, ◌⊎◌, ◌≤◌, IfOk, IfErr};
+ghost use Rattle.std.specs.Prelude.{◌≡◌, ◌⊎◌, ◌≤◌, IfOk, IfErr, IfSome};
 ghost use Rattle.round_pool.specs.Workers.{worker_limit};
 ghost use Rattle.tso_ops.specs.Limits.{IsTrace};
 ghost use Rattle.tso_model.specs.Certs.{Holds};
@@ -8,7 +8,7 @@ ghost use Rattle.refutation_check.specs.Refutations.{RefutationHolds};
 ghost use Rattle.trace_judging.specs.declared.faults.Fault.{Fault};
 ghost use Rattle.trace_decisions.specs.Decisions.{HoldsFor, IsDecision, Tells};
 
-use crate::search::{Next, Search};
+use crate::search::{Memory, Next, Search};
 use order_check::check_order;
 use refutation_check::check_refutation;
 use round_pool::{OpenPoolGate, Ranked, rounds};
@@ -157,17 +157,34 @@ fn by_search(
 ) -> Result<Decision, OutOfMemory>
     ensures { IfOk result (IsDecision trace.now effort) }
 {
-    let mut search = Search::new(alloc, trace, ranked)?;
-    let mut next = search.begin()?;
+    let memory = Memory::new(alloc);
+    let mut search = Search::new(&memory, trace, ranked);
+    search.begin();
+    match evidence_of(alloc, trace, &mut search, effort) {
+        Ok(Some(evidence)) => Ok(Decision::Decided(evidence)),
+        Ok(None) => Ok(Decision::Undecided(effort)),
+        Err(refused) => Err(refused),
+    }
+}
+
+/// What a search finds in so many steps, if its checker has accepted it. OutOfMemory where an allocation was refused.
+fn evidence_of(
+    alloc: Global,
+    trace: &Trace,
+    search: &mut Search<'_>,
+    effort: u64,
+) -> Result<Option<Evidence>, OutOfMemory>
+    ensures { IfOk result (λ found. IfSome found (HoldsFor trace.now)) }
+{
     for _ in 0..effort {
-        match checked(alloc, trace, next)? {
-            Ok(evidence) => return Ok(Decision::Decided(evidence)),
-            Err(open) => next = search.step(open)?,
+        match checked(alloc, trace, search.take()?)? {
+            Ok(evidence) => return Ok(Some(evidence)),
+            Err(open) => search.step(open),
         }
     }
-    match checked(alloc, trace, next)? {
-        Ok(evidence) => Ok(Decision::Decided(evidence)),
-        Err(_) => Ok(Decision::Undecided(effort)),
+    match checked(alloc, trace, search.take()?)? {
+        Ok(evidence) => Ok(Some(evidence)),
+        Err(_) => Ok(None),
     }
 }
 

@@ -1,13 +1,13 @@
 //! A search for an order of a trace, or for a refutation, by cases.
 
 use crate::search::chains::Chains;
-use crate::search::closing::{add_link, close, graph_with};
+use crate::search::closing::{add_closed, graph_with};
 use crate::search::links::{Link, Links};
 use crate::search::refuting::{Part, Refuting};
 use crate::search::simulation::{Outcome, Pair, simulate};
 use order_graph::Graph;
 use round_pool::Ranked;
-use std::alloc::Global;
+use std::mem;
 use tso_evidence::RefutationLine;
 use tso_ops::{OutOfMemory, Trace};
 
@@ -16,9 +16,12 @@ mod chains;
 mod closing;
 mod explaining;
 mod links;
+mod memory;
 mod paths;
 mod refuting;
 mod simulation;
+
+pub(crate) use crate::search::memory::Memory;
 
 /// What a search does next, or what it found.
 #[derive(Drop)]
@@ -53,71 +56,91 @@ pub(crate) struct Search<'a> {
     graph: Option<Graph>,
     refuting: Refuting<'a>,
     open: Vec<OpenCase>,
+    next: Next,
 }
 
 impl<'a> Search<'a> {
-    /// The search in a trace without cycle after its rounds. OutOfMemory where an allocation was refused.
-    pub(crate) fn new(
-        alloc: Global,
-        trace: &'a Trace,
-        ranked: &'a Ranked,
-    ) -> Result<Search<'a>, OutOfMemory> {
-        let nodes = trace.node_count();
-        let links = Links::of_rounds(alloc, nodes, ranked)?;
-        Ok(Search {
+    /// The search in a trace without cycle after its rounds, which isn't begun.
+    pub(crate) fn new(memory: &'a Memory, trace: &'a Trace, ranked: &'a Ranked) -> Search<'a> {
+        Search {
             closed: ranked.last(),
-            chains: Chains::new(alloc, trace)?,
+            chains: Chains::new(memory, trace),
             graph: None,
             refuting: Refuting {
-                alloc,
+                memory,
                 trace,
-                links,
+                links: Links::of_rounds(memory, trace.node_count(), ranked),
             },
-            open: Vec::new(alloc),
-        })
-    }
-
-    /// What a simulation of the trace says before anything is supposed. OutOfMemory where an allocation was refused.
-    pub(crate) fn begin(&self) -> Result<Next, OutOfMemory> {
-        self.simulated(self.closed)
-    }
-
-    /// Takes a step: begins a case, or goes back to one and turns it round. OutOfMemory where an allocation was refused.
-    pub(crate) fn step(&mut self, next: Next) -> Result<Next, OutOfMemory> {
-        match next {
-            Next::Case(pair) => self.begin_case(pair),
-            Next::Clash(part) => self.go_back(part),
-            other => Ok(other),
+            open: Vec::new(memory.alloc()),
+            next: Next::Lost,
         }
     }
 
+    /// Looks at what a simulation of the trace says before anything is supposed.
+    pub(crate) fn begin(&mut self) {
+        self.next = self.simulated(self.closed);
+    }
+
+    /// Takes what the search does next, or what it found, out of it. OutOfMemory where an allocation was refused so far.
+    pub(crate) fn take(&mut self) -> Result<Next, OutOfMemory> {
+        let next = mem::replace(&mut self.next, Next::Lost);
+        self.refuting.memory.whole(next)
+    }
+
+    /// Takes a step, the one that was taken out: begins a case, or goes back to one and turns it round.
+    pub(crate) fn step(&mut self, next: Next) {
+        self.next = match next {
+            Next::Case(pair) => self.begin_case(pair),
+            Next::Clash(part) => self.go_back(part),
+            other => other,
+        };
+    }
+
     /// Supposes that the second store of the pair comes before the first.
-    fn begin_case(&mut self, pair: Pair) -> Result<Next, OutOfMemory> {
+    fn begin_case(&mut self, pair: Pair) -> Next {
         let place = self.refuting.links.count();
-        self.open.push(OpenCase { place, then: None })?;
+        self.open_case(place, None);
         self.suppose(pair.second, pair.first)
     }
 
+    fn open_case(&mut self, place: usize, then: Option<Part>) {
+        let memory = self.refuting.memory;
+        memory.push(&mut self.open, OpenCase { place, then });
+    }
+
     /// Supposes that an event comes before another, and goes on from there.
-    fn suppose(&mut self, from: usize, to: usize) -> Result<Next, OutOfMemory> {
-        let alloc = self.refuting.alloc;
-        let trace = self.refuting.trace;
-        let mut graph = match self.graph.take() {
-            Some(graph) => graph,
-            None => graph_with(alloc, self.closed, &self.refuting.links)?,
-        };
-        graph.settle();
+    fn suppose(&mut self, from: usize, to: usize) -> Next {
         let link = Link {
             from,
             to,
             is_case: true,
         };
-        let links = &mut self.refuting.links;
-        let mut clash = add_link(&mut graph, links, link)?;
-        if clash.is_none() {
-            clash = close(alloc, trace, &mut graph, links)?;
+        match self.take_graph() {
+            Some(graph) => self.suppose_in(graph, link),
+            None => Next::Lost,
         }
-        match clash {
+    }
+
+    /// The graph of what is supposed now; None where memory for it was refused.
+    fn take_graph(&mut self) -> Option<Graph> {
+        if let Some(graph) = self.graph.take() {
+            return Some(graph);
+        }
+        let memory = self.refuting.memory;
+        match graph_with(memory.alloc(), self.closed, &self.refuting.links) {
+            Ok(graph) => Some(graph),
+            Err(_) => {
+                memory.refuse();
+                None
+            }
+        }
+    }
+
+    /// Supposes a link in a graph, and goes on from there.
+    fn suppose_in(&mut self, closed: Graph, link: Link) -> Next {
+        let mut graph = closed;
+        let trace = self.refuting.trace;
+        match add_closed(trace, &mut graph, &mut self.refuting.links, link) {
             Some(place) => self.clash(place),
             None => {
                 let next = self.simulated(&graph);
@@ -128,37 +151,36 @@ impl<'a> Search<'a> {
     }
 
     /// What a simulation over a closed graph says.
-    fn simulated(&self, graph: &Graph) -> Result<Next, OutOfMemory> {
-        let alloc = self.refuting.alloc;
-        match simulate(alloc, self.refuting.trace, graph, &self.chains)? {
-            Outcome::Ordered(order) => Ok(Next::Order(order)),
-            Outcome::Stuck(pair) => Ok(Next::Case(pair)),
-            Outcome::Lost => Ok(Next::Lost),
+    fn simulated(&self, graph: &Graph) -> Next {
+        let memory = self.refuting.memory;
+        match simulate(memory, self.refuting.trace, graph, &self.chains) {
+            Outcome::Ordered(order) => Next::Order(order),
+            Outcome::Stuck(pair) => Next::Case(pair),
+            Outcome::Lost => Next::Lost,
         }
     }
 
     /// The part of the cycle that a link closes, with the steps that come after the last case.
-    fn clash(&mut self, place: usize) -> Result<Next, OutOfMemory> {
-        self.refuting.links.list_all()?;
-        let Some(part) = self.refuting.cycle_part(place)? else {
-            return Ok(Next::Lost);
-        };
-        let first = self.first_of_part();
-        let part = self.refuting.with_steps(part, first)?;
-        Ok(Next::Clash(part))
+    fn clash(&mut self, place: usize) -> Next {
+        self.refuting.links.list_all();
+        match self.refuting.cycle_part(place) {
+            Some(part) => Next::Clash(self.with_steps(part)),
+            None => Next::Lost,
+        }
     }
 
-    /// The place of the first link after the last open case.
-    fn first_of_part(&self) -> usize {
-        match self.open.last() {
+    /// A part with the steps that come after the last case.
+    fn with_steps(&self, part: Part) -> Part {
+        let first = match self.open.last() {
             Some(case) => case.place.saturating_add(1),
             None => 0,
-        }
+        };
+        self.refuting.with_steps(part, first)
     }
 
     /// Goes back over the cases that the part doesn't rest on, or that it refutes in their second half: to one whose second half
     /// is left, or to the end.
-    fn go_back(&mut self, part: Part) -> Result<Next, OutOfMemory> {
+    fn go_back(&mut self, part: Part) -> Next {
         let mut part = part;
         for _ in 0..self.open.len() {
             let Some(case) = self.open.pop() else {
@@ -166,46 +188,42 @@ impl<'a> Search<'a> {
             };
             let OpenCase { place, then } = case;
             if !part.needs(place) {
-                part = self.up_to(part, place)?;
+                part = self.up_to(part, place);
                 continue;
             }
             match then {
                 None => return self.turn_round(place, part),
-                Some(then) => part = self.both(place, then, part)?,
+                Some(then) => part = self.both(place, then, part),
             }
         }
-        let lines = self.refuting.whole(part)?;
-        Ok(Next::Refuted(lines))
+        Next::Refuted(self.refuting.whole(part))
     }
 
     /// The part, of what comes after the case before, up to the link at this place; the links from there on are taken back.
-    fn up_to(&mut self, part: Part, place: usize) -> Result<Part, OutOfMemory> {
+    fn up_to(&mut self, part: Part, place: usize) -> Part {
         self.refuting.links.cut(place);
         self.graph = None;
-        let first = self.first_of_part();
-        self.refuting.with_steps(part, first)
+        self.with_steps(part)
     }
 
     /// The part of a case whose halves are refuted, of what comes after the case before.
-    fn both(&mut self, place: usize, then: Part, other: Part) -> Result<Part, OutOfMemory> {
+    fn both(&mut self, place: usize, then: Part, other: Part) -> Part {
         let Some(link) = self.refuting.links.at(place) else {
-            return Ok(other);
+            return other;
         };
-        let part = then.with_second_half(link.to as u64, link.from as u64, other)?;
+        let memory = self.refuting.memory;
+        let part = then.with_second_half(memory, link.to as u64, link.from as u64, other);
         self.up_to(part, place)
     }
 
     /// Goes on with the second half of a case, of which the part refutes the first.
-    fn turn_round(&mut self, place: usize, part: Part) -> Result<Next, OutOfMemory> {
+    fn turn_round(&mut self, place: usize, part: Part) -> Next {
         let Some(link) = self.refuting.links.at(place) else {
-            return Ok(Next::Lost);
+            return Next::Lost;
         };
         self.refuting.links.cut(place);
         self.graph = None;
-        self.open.push(OpenCase {
-            place,
-            then: Some(part),
-        })?;
+        self.open_case(place, Some(part));
         self.suppose(link.to, link.from)
     }
 }

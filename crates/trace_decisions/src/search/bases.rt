@@ -1,29 +1,43 @@
 //! The base edges that the lines of a refutation use.
 
+use crate::search::memory::Memory;
 use order_graph::EdgeRows;
-use std::alloc::Global;
 use tso_cert::{CertStep, Reason};
 use tso_evidence::RefutationLine;
-use tso_ops::{OutOfMemory, Trace};
+use tso_ops::Trace;
 use tso_rules::base_edge;
 
-/// The steps of the base edges that these lines use, in the order of their numbers. OutOfMemory where an allocation was refused.
+/// The steps of the base edges that these lines use, in the order of their numbers.
 pub(crate) fn base_lines(
-    alloc: Global,
+    memory: &Memory,
     trace: &Trace,
     lines: &[RefutationLine],
-) -> Result<Vec<RefutationLine>, OutOfMemory> {
-    let mut used = EdgeRows::new(alloc, trace.node_count())?;
+) -> Vec<RefutationLine> {
+    let mut steps = Vec::new(memory.alloc());
+    match EdgeRows::new(memory.alloc(), trace.node_count()) {
+        Ok(used) => push_used(memory, trace, lines, used, &mut steps),
+        Err(_) => memory.refuse(),
+    }
+    steps
+}
+
+/// Adds the steps of the base edges that these lines use, for which the rows have room.
+fn push_used(
+    memory: &Memory,
+    trace: &Trace,
+    lines: &[RefutationLine],
+    rows: EdgeRows,
+    steps: &mut Vec<RefutationLine>,
+) {
+    let mut used = rows;
     for line in lines {
         mark_line(&mut used, line);
     }
-    let mut steps = Vec::new(alloc);
     for from in 0..used.nodes() {
         if used.has_from(from) {
-            push_bases(trace, &used, &mut steps, from)?;
+            push_bases(memory, trace, &used, steps, from);
         }
     }
-    Ok(steps)
 }
 
 /// Marks the edges that a line uses: the neighbours in its path or cycle.
@@ -67,22 +81,23 @@ fn mark(used: &mut EdgeRows, from: u64, to: u64) {
 
 /// Adds the steps of the used edges from a number that are base edges.
 fn push_bases(
+    memory: &Memory,
     trace: &Trace,
     used: &EdgeRows,
     steps: &mut Vec<RefutationLine>,
     from: usize,
-) -> Result<(), OutOfMemory> {
+) {
     for to in 0..used.nodes() {
         if from < used.nodes()
             && used.has(from, to)
             && let Some(rule) = base_edge(trace, from, to)
         {
-            steps.push(RefutationLine::Step(CertStep {
+            let step = CertStep {
                 from: from as u64,
                 to: to as u64,
                 reason: Reason::Base(rule),
-            }))?;
+            };
+            memory.push(steps, RefutationLine::Step(step));
         }
     }
-    Ok(())
 }

@@ -1,13 +1,16 @@
 //! The events of a trace in chains, each of which every order keeps.
 
-use std::alloc::Global;
-use tso_ops::{Event, Order, OutOfMemory, Trace};
+use crate::search::memory::Memory;
+use tso_ops::{Event, Order, Trace};
 
 /// The number of processors that a trace has at most.
 const PROCESSORS: usize = 16;
 
 /// The number of addresses.
 const ADDRESSES: usize = 256;
+
+/// In place of the chain of a kind of events that has none yet.
+const NO_CHAIN: usize = usize::MAX;
 
 /// Each processor's loads in a chain, and its stores in another, under PSO in one for each address. A chain is in program
 /// order, which the axioms LoadOp and StoreStore keep.
@@ -18,51 +21,46 @@ pub(crate) struct Chains {
 }
 
 impl Chains {
-    /// The chains of a trace. OutOfMemory where an allocation was refused.
-    pub(crate) fn new(alloc: Global, trace: &Trace) -> Result<Chains, OutOfMemory> {
-        let kinds = PROCESSORS + PROCESSORS * ADDRESSES;
-        let mut known: Vec<Option<usize>> = Vec::with_capacity(alloc, kinds)?;
-        for _ in 0..kinds {
-            known.push(None)?;
-        }
+    /// The chains of a trace.
+    pub(crate) fn new(memory: &Memory, trace: &Trace) -> Chains {
+        let nodes = trace.node_count();
+        let mut known = memory.numbers(NO_CHAIN, PROCESSORS + PROCESSORS * ADDRESSES);
         let mut chains = Chains {
-            lists: Vec::new(alloc),
-            chain_of: vec![in alloc; 0; trace.node_count()]?,
+            lists: Vec::new(memory.alloc()),
+            chain_of: memory.numbers(0, nodes),
         };
-        for n in 0..trace.node_count() {
+        for n in 0..nodes {
             if let Some(event) = trace.event(n) {
-                chains.add(&mut known, kind_of(trace.order(), event), n)?;
+                let kind = kind_of(trace.order(), event);
+                let chain = chains.chain_for(memory, &mut known, kind);
+                chains.add(memory, chain, n);
             }
         }
-        Ok(chains)
+        chains
     }
 
-    /// Adds an event to the chain of its kind.
-    fn add(
-        &mut self,
-        known: &mut [Option<usize>],
-        kind: usize,
-        n: usize,
-    ) -> Result<(), OutOfMemory> {
-        let Some(place) = known.get_mut(kind) else {
-            return Ok(());
-        };
-        let chain = match *place {
-            Some(chain) => chain,
-            None => {
-                let alloc = *self.lists.allocator();
-                self.lists.push(Vec::new(alloc))?;
-                self.lists.len().saturating_sub(1)
+    /// The chain of a kind of events, a new one where it has none yet.
+    fn chain_for(&mut self, memory: &Memory, known: &mut [usize], kind: usize) -> usize {
+        let new = self.lists.len();
+        match known.get_mut(kind) {
+            Some(chain) if *chain == NO_CHAIN => {
+                *chain = new;
+                memory.push(&mut self.lists, Vec::new(memory.alloc()));
+                new
             }
-        };
-        *place = Some(chain);
+            Some(chain) => *chain,
+            None => NO_CHAIN,
+        }
+    }
+
+    /// Adds an event to a chain.
+    fn add(&mut self, memory: &Memory, chain: usize, n: usize) {
         if let Some(entry) = self.chain_of.get_mut(n) {
             *entry = chain;
         }
         if let Some(list) = self.lists.get_mut(chain) {
-            list.push(n)?;
+            memory.push(list, n);
         }
-        Ok(())
     }
 
     /// The number of chains.

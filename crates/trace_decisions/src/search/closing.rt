@@ -39,18 +39,29 @@ fn add_edge(graph: &mut Graph, u: usize, v: usize) {
     }
 }
 
-/// Adds a link to the graph and to the links. Its place, where it closes a cycle.
-pub(crate) fn add_link(
+/// Adds a link to a closed graph and to the links, and what the inferred rules give then: the place of the link that closes a
+/// cycle, if one does.
+pub(crate) fn add_closed(
+    trace: &Trace,
     graph: &mut Graph,
     links: &mut Links<'_>,
     link: Link,
-) -> Result<Option<usize>, OutOfMemory> {
-    let place = links.add(link)?;
+) -> Option<usize> {
+    graph.settle();
+    match add_link(graph, links, link) {
+        Some(place) => Some(place),
+        None => close(trace, graph, links),
+    }
+}
+
+/// Adds a link to the graph and to the links. Its place, where it closes a cycle.
+fn add_link(graph: &mut Graph, links: &mut Links<'_>, link: Link) -> Option<usize> {
+    let place = links.add(link);
     if leads(graph, link.to, link.from) {
-        return Ok(Some(place));
+        return Some(place);
     }
     add_edge(graph, link.from, link.to);
-    Ok(None)
+    None
 }
 
 /// Whether a path leads from one number of the graph to the other.
@@ -60,64 +71,62 @@ pub(crate) fn leads(graph: &Graph, u: usize, v: usize) -> bool {
 
 /// Adds what the inferred rules give by the paths of the graph, until they give nothing more: the place of the link that closes a
 /// cycle, if one does. The graph is closed but for what has grown in it.
-pub(crate) fn close(
-    alloc: Global,
-    trace: &Trace,
-    graph: &mut Graph,
-    links: &mut Links<'_>,
-) -> Result<Option<usize>, OutOfMemory> {
+fn close(trace: &Trace, graph: &mut Graph, links: &mut Links<'_>) -> Option<usize> {
     // Each turn but the last adds a path between two numbers.
     let nodes = trace.node_count();
     for _ in 0..nodes.saturating_mul(nodes) {
-        let grown = graph.grown()?;
+        let grown = links.memory.list(graph.grown());
         if grown.is_empty() {
-            return Ok(None);
+            return None;
         }
         graph.settle();
-        let rows = affected_rows(alloc, trace, &grown)?;
-        if let Some(place) = add_rows(alloc, trace, graph, links, &rows)? {
-            return Ok(Some(place));
+        let place = add_affected(trace, graph, links, &grown);
+        if place.is_some() {
+            return place;
         }
     }
-    Ok(None)
+    None
 }
 
-/// Adds what the rules give from these numbers.
-fn add_rows(
-    alloc: Global,
+/// Adds what the rules give from the numbers that what has grown affects.
+fn add_affected(
     trace: &Trace,
     graph: &mut Graph,
     links: &mut Links<'_>,
-    rows: &[usize],
-) -> Result<Option<usize>, OutOfMemory> {
-    for u in rows {
-        let ends = row_edges(alloc, trace, graph, *u)?;
-        if let Some(place) = add_ends(graph, links, *u, &ends)? {
-            return Ok(Some(place));
+    grown: &[usize],
+) -> Option<usize> {
+    let memory = links.memory;
+    let rows = memory.list(affected_rows(memory.alloc(), trace, grown));
+    for u in &rows {
+        let ends = memory.list(row_edges(memory.alloc(), trace, graph, *u));
+        let place = add_ends(graph, links, *u, &ends);
+        if place.is_some() {
+            return place;
         }
     }
-    Ok(None)
+    None
 }
 
 /// Adds the edges from a number to these, but for those that a path has come to lead to meanwhile.
-fn add_ends(
-    graph: &mut Graph,
-    links: &mut Links<'_>,
-    u: usize,
-    ends: &[usize],
-) -> Result<Option<usize>, OutOfMemory> {
+fn add_ends(graph: &mut Graph, links: &mut Links<'_>, u: usize, ends: &[usize]) -> Option<usize> {
     for v in ends {
-        if leads(graph, u, *v) {
-            continue;
-        }
-        let link = Link {
-            from: u,
-            to: *v,
-            is_case: false,
-        };
-        if let Some(place) = add_link(graph, links, link)? {
-            return Ok(Some(place));
+        let place = add_end(graph, links, u, *v);
+        if place.is_some() {
+            return place;
         }
     }
-    Ok(None)
+    None
+}
+
+/// Adds an edge, unless a path leads there: the place of its link, where that closes a cycle.
+fn add_end(graph: &mut Graph, links: &mut Links<'_>, u: usize, v: usize) -> Option<usize> {
+    if leads(graph, u, v) {
+        return None;
+    }
+    let link = Link {
+        from: u,
+        to: v,
+        is_case: false,
+    };
+    add_link(graph, links, link)
 }

@@ -1,10 +1,8 @@
 //! Why a link holds: the rule, the load, and a path over the edges before it.
 
 use crate::search::paths::{EdgesBefore, Path, reached_from, shortest_path};
-use std::alloc::Global;
 use tso_cert::InferredRule;
 use tso_model::conditions::inferred_ends;
-use tso_ops::OutOfMemory;
 
 /// The rule that gives a link, for which load, and by which path.
 #[derive(Drop)]
@@ -15,28 +13,14 @@ pub(crate) struct Explanation {
 }
 
 /// Why an inferred rule gives the edge from `u` to `v` by a path over these edges; None where none does. Of two explanations that
-/// with the shorter path. OutOfMemory where an allocation was refused.
-pub(crate) fn explain(
-    alloc: Global,
-    edges: EdgesBefore<'_>,
-    u: usize,
-    v: usize,
-) -> Result<Option<Explanation>, OutOfMemory> {
-    let mut best = load_past(alloc, edges, u, v)?;
-    best = shorter(
-        best,
-        by_rule(alloc, edges, InferredRule::StorePast, u, (u, v))?,
-    );
-    best = shorter(
-        best,
-        by_rule(alloc, edges, InferredRule::SwapBefore, v, (u, v))?,
-    );
-    let swap = u.saturating_sub(1);
-    best = shorter(
-        best,
-        by_rule(alloc, edges, InferredRule::SwapAfter, swap, (u, v))?,
-    );
-    Ok(best)
+/// with the shorter path.
+pub(crate) fn explain(edges: EdgesBefore<'_>, u: usize, v: usize) -> Option<Explanation> {
+    let past = load_past(edges, u, v);
+    let past = shorter(past, by_rule(edges, InferredRule::StorePast, u, (u, v)));
+    let swap = by_rule(edges, InferredRule::SwapBefore, v, (u, v));
+    let best = shorter(past, swap);
+    let load = u.saturating_sub(1);
+    shorter(best, by_rule(edges, InferredRule::SwapAfter, load, (u, v)))
 }
 
 /// The one of two explanations that has the shorter path.
@@ -56,41 +40,36 @@ fn shorter(first: Option<Explanation>, second: Option<Explanation>) -> Option<Ex
 
 /// Why this rule gives the edge for this load.
 fn by_rule(
-    alloc: Global,
     edges: EdgesBefore<'_>,
     rule: InferredRule,
     load: usize,
     edge: (usize, usize),
-) -> Result<Option<Explanation>, OutOfMemory> {
+) -> Option<Explanation> {
     let Some(ends) = inferred_ends(edges.trace, rule, load, edge.0, edge.1) else {
-        return Ok(None);
+        return None;
     };
-    match shortest_path(alloc, edges, ends.from, ends.to)? {
-        Some(path) => Ok(Some(Explanation { rule, load, path })),
-        None => Ok(None),
+    explained(shortest_path(edges, ends.from, ends.to), rule, load)
+}
+
+/// The explanation with a path, if there is one.
+fn explained(path: Option<Path>, rule: InferredRule, load: usize) -> Option<Explanation> {
+    match path {
+        Some(path) => Some(Explanation { rule, load, path }),
+        None => None,
     }
 }
 
 /// Why LoadPast gives the edge: for the nearest load of what `v` wrote.
-fn load_past(
-    alloc: Global,
-    edges: EdgesBefore<'_>,
-    u: usize,
-    v: usize,
-) -> Result<Option<Explanation>, OutOfMemory> {
+fn load_past(edges: EdgesBefore<'_>, u: usize, v: usize) -> Option<Explanation> {
     if !edges.trace.is_store(u) {
-        return Ok(None);
+        return None;
     }
-    let reached = reached_from(alloc, edges, u, None)?;
+    let reached = reached_from(edges, u, None);
     let rule = InferredRule::LoadPast;
     for load in reached.numbers() {
         if inferred_ends(edges.trace, rule, *load, u, v).is_some() {
-            let load = *load;
-            return match reached.path_to(load)? {
-                Some(path) => Ok(Some(Explanation { rule, load, path })),
-                None => Ok(None),
-            };
+            return explained(reached.path_to(*load), rule, *load);
         }
     }
-    Ok(None)
+    None
 }

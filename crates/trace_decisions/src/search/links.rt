@@ -1,8 +1,7 @@
 //! Edges beyond the base edges, in the order in which they were found.
 
+use crate::search::memory::Memory;
 use round_pool::{Edge, Ranked};
-use std::alloc::Global;
-use tso_ops::OutOfMemory;
 
 /// An edge that an inferred rule gave by edges before it, or that a case supposes.
 #[derive(Clone, Copy)]
@@ -15,6 +14,7 @@ pub(crate) struct Link {
 /// Links in the order in which they came: the edges that the rounds over a trace added, round by round, and then others.
 #[derive(Drop)]
 pub(crate) struct Links<'a> {
+    pub(crate) memory: &'a Memory,
     ranked: &'a Ranked,
     nodes: usize,
     /// How many links there are up to each round.
@@ -26,25 +26,22 @@ pub(crate) struct Links<'a> {
 }
 
 impl<'a> Links<'a> {
-    /// The edges that the rounds over a trace added. OutOfMemory where an allocation was refused.
-    pub(crate) fn of_rounds(
-        alloc: Global,
-        nodes: usize,
-        ranked: &'a Ranked,
-    ) -> Result<Links<'a>, OutOfMemory> {
-        let mut ends = Vec::new(alloc);
+    /// The edges that the rounds over a trace added.
+    pub(crate) fn of_rounds(memory: &'a Memory, nodes: usize, ranked: &'a Ranked) -> Links<'a> {
+        let mut links = Links {
+            memory,
+            ranked,
+            nodes,
+            ends: Vec::new(memory.alloc()),
+            later: Vec::new(memory.alloc()),
+            from: Vec::new(memory.alloc()),
+        };
         let mut count: usize = 0;
         for k in 0..ranked.rounds() as usize {
             count = count.saturating_add(round(ranked, k).len());
-            ends.push(count)?;
+            memory.push(&mut links.ends, count);
         }
-        Ok(Links {
-            ranked,
-            nodes,
-            ends,
-            later: Vec::new(alloc),
-            from: Vec::new(alloc),
-        })
+        links
     }
 
     /// How many links the rounds gave.
@@ -58,22 +55,26 @@ impl<'a> Links<'a> {
     }
 
     /// Adds a link, and answers its place, from 0.
-    pub(crate) fn add(&mut self, link: Link) -> Result<usize, OutOfMemory> {
+    pub(crate) fn add(&mut self, link: Link) -> usize {
         let place = self.count();
-        self.later.push(link)?;
-        self.list(link.from, place)?;
-        Ok(place)
+        self.memory.push(&mut self.later, link);
+        self.list(link.from, place);
+        place
     }
 
     /// Takes back the links from this place on, which is none of the rounds.
     pub(crate) fn cut(&mut self, place: usize) {
         for _ in place..self.count() {
-            let Some(link) = self.later.pop() else {
-                return;
-            };
-            if let Some(list) = self.from.get_mut(link.from) {
-                list.pop();
-            }
+            self.take_last();
+        }
+    }
+
+    /// Takes back the last link.
+    fn take_last(&mut self) {
+        if let Some(link) = self.later.pop()
+            && let Some(list) = self.from.get_mut(link.from)
+        {
+            list.pop();
         }
     }
 
@@ -90,53 +91,61 @@ impl<'a> Links<'a> {
         let mut begin = 0;
         for (k, end) in self.ends.iter().enumerate() {
             if place < *end {
-                let edge = round(self.ranked, k).get(place.saturating_sub(begin))?;
-                return Some(link_of(*edge));
+                return match round(self.ranked, k).get(place.saturating_sub(begin)) {
+                    Some(edge) => Some(link_of(*edge)),
+                    None => None,
+                };
             }
             begin = *end;
         }
         None
     }
 
-    /// Makes lists of the links from each number, if that wasn't done. OutOfMemory where an allocation was refused.
-    pub(crate) fn list_all(&mut self) -> Result<(), OutOfMemory> {
+    /// Makes lists of the links from each number, if that wasn't done.
+    pub(crate) fn list_all(&mut self) {
         if !self.from.is_empty() {
-            return Ok(());
+            return;
         }
-        let alloc = *self.from.allocator();
         for _ in 0..self.nodes {
-            self.from.push(Vec::new(alloc))?;
+            let none = Vec::new(self.memory.alloc());
+            self.memory.push(&mut self.from, none);
         }
         for k in 0..self.ends.len() {
-            self.list_round(k)?;
+            self.list_round(k);
         }
+        self.list_later();
+    }
+
+    /// Lists the links after those of the rounds.
+    fn list_later(&mut self) {
         for place in self.of_all_rounds()..self.count() {
             if let Some(link) = self.at(place) {
-                self.list(link.from, place)?;
+                self.list(link.from, place);
             }
         }
-        Ok(())
     }
 
     /// Lists the links of a round, from 0.
-    fn list_round(&mut self, k: usize) -> Result<(), OutOfMemory> {
-        let ranked = self.ranked;
-        let begin = match k.checked_sub(1) {
+    fn list_round(&mut self, k: usize) {
+        let begin = self.begin_of(k);
+        for (index, edge) in round(self.ranked, k).iter().enumerate() {
+            self.list(edge.from as usize, begin.saturating_add(index));
+        }
+    }
+
+    /// The place of the first link of a round, from 0.
+    fn begin_of(&self, k: usize) -> usize {
+        match k.checked_sub(1) {
             Some(before) => self.ends.get(before).copied().unwrap_or(0),
             None => 0,
-        };
-        for (index, edge) in round(ranked, k).iter().enumerate() {
-            self.list(edge.from as usize, begin.saturating_add(index))?;
         }
-        Ok(())
     }
 
     /// Lists the place of a link from a number, if there are lists.
-    fn list(&mut self, from: usize, place: usize) -> Result<(), OutOfMemory> {
+    fn list(&mut self, from: usize, place: usize) {
         if let Some(list) = self.from.get_mut(from) {
-            list.push(place)?;
+            self.memory.push(list, place);
         }
-        Ok(())
     }
 
     /// The places of the links from a number, as listed.

@@ -3,11 +3,11 @@
 use crate::search::bases::base_lines;
 use crate::search::explaining::explain;
 use crate::search::links::Links;
+use crate::search::memory::Memory;
 use crate::search::paths::{EdgesBefore, Hop, shortest_path};
-use std::alloc::Global;
-use tso_cert::{CertStep, NumList, Reason};
+use tso_cert::{CertStep, Reason};
 use tso_evidence::RefutationLine;
-use tso_ops::{OutOfMemory, Trace};
+use tso_ops::Trace;
 
 /// Lines that end a part of a refutation, and which links they rest on that stand before them.
 #[derive(Drop)]
@@ -19,22 +19,19 @@ pub(crate) struct Part {
 /// What parts of refutations are made of: the trace, and its links.
 #[derive(Drop)]
 pub(crate) struct Refuting<'a> {
-    pub(crate) alloc: Global,
+    pub(crate) memory: &'a Memory,
     pub(crate) trace: &'a Trace,
     pub(crate) links: Links<'a>,
 }
 
 impl Part {
     /// A part without lines, which needs none of so many links.
-    fn new(alloc: Global, links: usize) -> Result<Part, OutOfMemory> {
-        let mut needs = Vec::with_capacity(alloc, links)?;
-        for _ in 0..links {
-            needs.push(false)?;
-        }
-        Ok(Part {
+    fn new(memory: &Memory, links: usize) -> Part {
+        let alloc = memory.alloc();
+        Part {
             lines: Vec::new(alloc),
-            needs,
-        })
+            needs: memory.list(vec![in alloc; false; links]),
+        }
     }
 
     /// Whether the part rests on the link at this place.
@@ -68,119 +65,128 @@ impl Part {
     }
 
     /// The part of a case: this part refutes that `first` comes before `second`, the other that `second` comes before `first`.
-    /// OutOfMemory where an allocation was refused.
     pub(crate) fn with_second_half(
         self,
+        memory: &Memory,
         first: u64,
         second: u64,
         other: Part,
-    ) -> Result<Part, OutOfMemory> {
-        let mut part = self;
+    ) -> Part {
+        let Part { lines, needs } = self;
+        let mut part = Part {
+            lines: Vec::new(memory.alloc()),
+            needs,
+        };
         part.need_all(&other);
-        let Part { lines, needs } = part;
-        let mut all = Vec::new(*lines.allocator());
-        all.push(RefutationLine::Case { first, second })?;
-        for line in lines {
-            all.push(line)?;
-        }
-        all.push(RefutationLine::Else {
-            first: second,
-            second: first,
-        })?;
-        for line in other.lines {
-            all.push(line)?;
-        }
-        Ok(Part { lines: all, needs })
+        memory.push(&mut part.lines, RefutationLine::Case { first, second });
+        part.append(memory, lines);
+        let (first, second) = (second, first);
+        memory.push(&mut part.lines, RefutationLine::Else { first, second });
+        part.append(memory, other.lines);
+        part
     }
 
-    /// Puts steps, from the last to the first, before the lines of the part. OutOfMemory where an allocation was refused.
-    fn put_before(self, steps: Vec<CertStep>) -> Result<Part, OutOfMemory> {
-        let Part { lines, needs } = self;
-        let mut all = Vec::with_capacity(*lines.allocator(), steps.len())?;
-        let mut reversed = steps;
-        reversed.reverse();
-        for step in reversed {
-            all.push(RefutationLine::Step(step))?;
-        }
+    /// Appends lines.
+    fn append(&mut self, memory: &Memory, lines: Vec<RefutationLine>) {
         for line in lines {
-            all.push(line)?;
+            memory.push(&mut self.lines, line);
         }
-        Ok(Part { lines: all, needs })
+    }
+
+    /// Puts steps, from the last to the first, before the lines of the part.
+    fn put_before(self, memory: &Memory, steps: Vec<CertStep>) -> Part {
+        let Part { lines, needs } = self;
+        let mut part = Part {
+            lines: steps_in_order(memory, steps),
+            needs,
+        };
+        part.append(memory, lines);
+        part
     }
 }
 
+/// Lines of steps, which are given from the last to the first.
+fn steps_in_order(memory: &Memory, steps: Vec<CertStep>) -> Vec<RefutationLine> {
+    let mut reversed = steps;
+    reversed.reverse();
+    let mut lines = memory.list(Vec::with_capacity(memory.alloc(), reversed.len()));
+    for step in reversed {
+        memory.push(&mut lines, RefutationLine::Step(step));
+    }
+    lines
+}
+
 impl Refuting<'_> {
-    /// The part that ends with the cycle that the link at this place closes, without steps. None where no path leads back, which
-    /// doesn't happen. OutOfMemory where an allocation was refused.
-    pub(crate) fn cycle_part(&self, place: usize) -> Result<Option<Part>, OutOfMemory> {
-        let Some(link) = self.links.at(place) else {
-            return Ok(None);
-        };
-        let edges = EdgesBefore {
+    /// The edges before the link at a place.
+    fn edges_before(&self, place: usize) -> EdgesBefore<'_> {
+        EdgesBefore {
             trace: self.trace,
             links: &self.links,
             limit: place,
+        }
+    }
+
+    /// The part that ends with the cycle that the link at this place closes, without steps. None where no path leads back, which
+    /// doesn't happen.
+    pub(crate) fn cycle_part(&self, place: usize) -> Option<Part> {
+        let Some(link) = self.links.at(place) else {
+            return None;
         };
-        let Some(path) = shortest_path(self.alloc, edges, link.to, link.from)? else {
-            return Ok(None);
+        let Some(path) = shortest_path(self.edges_before(place), link.to, link.from) else {
+            return None;
         };
-        let mut part = Part::new(self.alloc, self.links.count())?;
+        let mut part = Part::new(self.memory, self.links.count());
         part.need(place);
-        let cycle = NumList::from_numbers(self.alloc, &path.numbers)?;
-        part.lines.push(RefutationLine::Cycle(cycle))?;
         part.need_links(&path.hops);
-        Ok(Some(part))
+        let cycle = self.memory.path_of(&path.numbers);
+        self.memory
+            .push(&mut part.lines, RefutationLine::Cycle(cycle));
+        Some(part)
     }
 
     /// Puts the steps of the needed links from this place on before the lines of a part, but for those of cases.
-    pub(crate) fn with_steps(&self, part: Part, first: usize) -> Result<Part, OutOfMemory> {
+    pub(crate) fn with_steps(&self, part: Part, first: usize) -> Part {
         let mut part = part;
-        let mut steps = Vec::new(self.alloc);
+        let mut steps = Vec::new(self.memory.alloc());
         for place in (first..self.links.count()).rev() {
             if part.needs(place)
-                && let Some(step) = self.step_of(&mut part, place)?
+                && let Some(step) = self.step_of(&mut part, place)
             {
-                steps.push(step)?;
+                self.memory.push(&mut steps, step);
             }
         }
-        part.put_before(steps)
+        part.put_before(self.memory, steps)
     }
 
     /// The step of a link, if it is none of a case; what its path uses is needed then.
-    fn step_of(&self, part: &mut Part, place: usize) -> Result<Option<CertStep>, OutOfMemory> {
+    fn step_of(&self, part: &mut Part, place: usize) -> Option<CertStep> {
         let Some(link) = self.links.at(place) else {
-            return Ok(None);
+            return None;
         };
         if link.is_case {
-            return Ok(None);
+            return None;
         }
-        let edges = EdgesBefore {
-            trace: self.trace,
-            links: &self.links,
-            limit: place,
-        };
-        let Some(found) = explain(self.alloc, edges, link.from, link.to)? else {
-            return Ok(None);
+        let Some(found) = explain(self.edges_before(place), link.from, link.to) else {
+            return None;
         };
         part.need_links(&found.path.hops);
-        Ok(Some(CertStep {
+        Some(CertStep {
             from: link.from as u64,
             to: link.to as u64,
             reason: Reason::Inferred {
                 rule: found.rule,
                 load: found.load as u64,
-                path: NumList::from_numbers(self.alloc, &found.path.numbers)?,
+                path: self.memory.path_of(&found.path.numbers),
             },
-        }))
+        })
     }
 
-    /// The lines of a whole refutation: the base edges that the lines of the part use, and then these lines. OutOfMemory where an
-    /// allocation was refused.
-    pub(crate) fn whole(&self, part: Part) -> Result<Vec<RefutationLine>, OutOfMemory> {
-        let mut lines = base_lines(self.alloc, self.trace, &part.lines)?;
+    /// The lines of a whole refutation: the base edges that the lines of the part use, and then these lines.
+    pub(crate) fn whole(&self, part: Part) -> Vec<RefutationLine> {
+        let mut lines = base_lines(self.memory, self.trace, &part.lines);
         for line in part.lines {
-            lines.push(line)?;
+            self.memory.push(&mut lines, line);
         }
-        Ok(lines)
+        lines
     }
 }

@@ -2,9 +2,9 @@
 
 use crate::search::chains::Chains;
 use crate::search::closing::leads;
+use crate::search::memory::Memory;
 use order_graph::Graph;
-use std::alloc::Global;
-use tso_ops::{OutOfMemory, Trace};
+use tso_ops::Trace;
 
 mod choices;
 mod readers;
@@ -30,6 +30,7 @@ pub(crate) enum Outcome {
 /// The events that have come, in their order, and what may come next.
 #[derive(Drop)]
 pub(crate) struct Simulation<'a> {
+    memory: &'a Memory,
     trace: &'a Trace,
     graph: &'a Graph,
     chains: &'a Chains,
@@ -45,64 +46,70 @@ pub(crate) struct Simulation<'a> {
 }
 
 /// Goes through the events of a trace in an order that respects the graph, which is closed and has no cycle: loads as soon as
-/// they can come, stores once no load of the store before is left. OutOfMemory where an allocation was refused.
-pub(crate) fn simulate(
-    alloc: Global,
-    trace: &Trace,
-    graph: &Graph,
-    chains: &Chains,
-) -> Result<Outcome, OutOfMemory> {
+/// they can come, stores once no load of the store before is left.
+pub(crate) fn simulate(memory: &Memory, trace: &Trace, graph: &Graph, chains: &Chains) -> Outcome {
     let mut simulation = Simulation {
+        memory,
         trace,
         graph,
         chains,
-        come: vec![in alloc; 0; chains.count()]?,
-        blockers: vec![in alloc; 0; chains.count()]?,
-        readers: Readers::new(alloc, trace)?,
-        latest: vec![in alloc; 0; ADDRESSES]?,
-        order: Vec::with_capacity(alloc, trace.events())?,
+        come: memory.numbers(0, chains.count()),
+        blockers: memory.numbers(0, chains.count()),
+        readers: Readers::new(memory, trace),
+        latest: memory.numbers(0, ADDRESSES),
+        order: memory.list(Vec::with_capacity(memory.alloc(), trace.events())),
     };
-    for _ in 0..trace.events() {
-        if simulation.order.len() >= trace.events() {
-            break;
-        }
-        if simulation.sweep()? {
-            continue;
-        }
-        match simulation.best_choice() {
-            Some(chain) => simulation.take(chain)?,
-            None => return Ok(simulation.stuck()),
-        }
+    if simulation.run() {
+        Outcome::Ordered(simulation.order)
+    } else {
+        simulation.stuck()
     }
-    Ok(Outcome::Ordered(simulation.order))
 }
 
 impl Simulation<'_> {
+    /// Lets events come: whether all came.
+    fn run(&mut self) -> bool {
+        let events = self.trace.events();
+        for _ in 0..events {
+            if self.order.len() >= events {
+                break;
+            }
+            if !self.sweep() {
+                match self.best_choice() {
+                    Some(chain) => self.take(chain),
+                    None => return false,
+                }
+            }
+        }
+        true
+    }
+
     /// Lets each chain's next events come as far as nothing is lost by it, and says whether one came.
-    fn sweep(&mut self) -> Result<bool, OutOfMemory> {
+    fn sweep(&mut self) -> bool {
         let before = self.order.len();
         for chain in 0..self.chains.count() {
-            self.advance(chain)?;
+            self.advance(chain);
         }
-        Ok(self.order.len() > before)
+        self.order.len() > before
     }
 
     /// Lets the next events of a chain come as long as nothing is lost by it.
-    fn advance(&mut self, chain: usize) -> Result<(), OutOfMemory> {
+    fn advance(&mut self, chain: usize) {
         for _ in 0..self.trace.events() {
             match self.next_of(chain) {
-                Some(n) if self.is_ready(chain, n) && self.is_safe(n) => self.take(chain)?,
-                _ => return Ok(()),
+                Some(n) if self.is_ready(chain, n) && self.is_safe(n) => self.take(chain),
+                _ => return,
             }
         }
-        Ok(())
     }
 
     /// The next event of a chain.
     #[inline]
     fn next_of(&self, chain: usize) -> Option<usize> {
-        let place = self.come.get(chain).copied()?;
-        self.chains.at(chain, place)
+        match self.come.get(chain) {
+            Some(place) => self.chains.at(chain, *place),
+            None => None,
+        }
     }
 
     /// Whether an event is the next of its chain.
@@ -135,10 +142,7 @@ impl Simulation<'_> {
 
     /// Whether no event has to come before the next of a chain.
     fn is_free(&mut self, chain: usize, n: usize) -> bool {
-        if let Some(blocker) = self.blockers.get(chain).copied()
-            && blocker != 0
-            && self.is_next(blocker)
-        {
+        if self.is_still_blocked(chain) {
             return false;
         }
         let found = self.blocker_of(n, 0);
@@ -146,6 +150,14 @@ impl Simulation<'_> {
             *entry = found.unwrap_or(0);
         }
         found.is_none()
+    }
+
+    /// Whether the event that is known to have to come before the next of a chain hasn't come.
+    fn is_still_blocked(&self, chain: usize) -> bool {
+        match self.blockers.get(chain) {
+            Some(blocker) => *blocker != 0 && self.is_next(*blocker),
+            None => false,
+        }
     }
 
     /// Whether an event other than these has to come before the first.
@@ -190,33 +202,37 @@ impl Simulation<'_> {
     }
 
     /// Lets the next event of a chain come, and the store of a swap with its load.
-    fn take(&mut self, chain: usize) -> Result<(), OutOfMemory> {
+    fn take(&mut self, chain: usize) {
         let Some(n) = self.next_of(chain) else {
-            return Ok(());
+            return;
         };
-        self.come_next(chain, n)?;
+        self.come_next(chain, n);
         if let Some(store) = self.trace.swap_store(n)
             && let Some(other) = self.chains.of(store)
         {
-            self.come_next(other, store)?;
+            self.come_next(other, store);
         }
-        Ok(())
     }
 
     /// Notes that the next event of a chain has come.
-    fn come_next(&mut self, chain: usize, n: usize) -> Result<(), OutOfMemory> {
+    fn come_next(&mut self, chain: usize, n: usize) {
         if let Some(count) = self.come.get_mut(chain) {
             *count = count.saturating_add(1);
         }
-        self.order.push(n as u64)?;
-        let Some(event) = self.trace.event(n) else {
-            return Ok(());
-        };
-        if event.load {
+        self.memory.push(&mut self.order, n as u64);
+        if self.trace.is_load(n) {
             self.readers.count(self.trace, n);
-        } else if let Some(entry) = self.latest.get_mut(event.a as usize) {
+        } else {
+            self.note_store(n);
+        }
+    }
+
+    /// Notes a store as the last one of its address.
+    fn note_store(&mut self, n: usize) {
+        if let Some(event) = self.trace.event(n)
+            && let Some(entry) = self.latest.get_mut(event.a as usize)
+        {
             *entry = n;
         }
-        Ok(())
     }
 }

@@ -85,7 +85,9 @@ impl Simulation<'_> {
 
     /// The pair of the next store of a chain, if it is free.
     fn pair_of(&mut self, chain: usize) -> Option<Pair> {
-        let n = self.next_of(chain)?;
+        let Some(n) = self.next_of(chain) else {
+            return None;
+        };
         if !self.is_free(chain, n) {
             return None;
         }

@@ -1,8 +1,8 @@
 //! How many loads of each store are left.
 
+use crate::search::memory::Memory;
 use bitsets::has_number;
-use std::alloc::Global;
-use tso_ops::{OutOfMemory, Trace};
+use tso_ops::Trace;
 
 /// For each store how many loads of what it wrote haven't come.
 #[derive(Drop)]
@@ -11,19 +11,25 @@ pub(crate) struct Readers {
 }
 
 impl Readers {
-    /// Of all stores of a trace, with all loads left. OutOfMemory where an allocation was refused.
-    pub(crate) fn new(alloc: Global, trace: &Trace) -> Result<Readers, OutOfMemory> {
+    /// Of all stores of a trace, with all loads left.
+    pub(crate) fn new(memory: &Memory, trace: &Trace) -> Readers {
+        let nodes = trace.node_count();
         let mut readers = Readers {
-            left: vec![in alloc; 0; trace.node_count()]?,
+            left: memory.numbers(0, nodes),
         };
-        for n in 0..trace.node_count() {
-            if let Some(source) = trace.source_number(n)
-                && let Some(entry) = readers.left.get_mut(source)
-            {
-                *entry = entry.saturating_add(1);
-            }
+        for n in 0..nodes {
+            readers.add(trace, n);
         }
-        Ok(readers)
+        readers
+    }
+
+    /// Adds a load, if the event is one, to those of its source.
+    fn add(&mut self, trace: &Trace, n: usize) {
+        if let Some(source) = trace.source_number(n)
+            && let Some(entry) = self.left.get_mut(source)
+        {
+            *entry = entry.saturating_add(1);
+        }
     }
 
     /// Counts that a load has come.
