@@ -36,7 +36,21 @@ pub(crate) struct Scope<'a> {
 pub(crate) fn build(memory: &Memory, scope: Scope<'_>) -> Graph {
     let listing = list_nodes(memory, scope);
     let membars = listing.membars;
-    let mut graph = Graph::of_nodes(memory, scope, listing.nodes, listing.firsts);
+    let mut nodes = listing.nodes;
+    let log = scope.known.log();
+    let addresses = scope.addresses.len();
+    let chains = make_chains(memory, log.order, addresses, log.lists.len(), &mut nodes);
+    let groups = make_groups(memory, addresses, &mut nodes);
+    find_own_stores(memory, addresses, &mut nodes);
+    let mut graph = Graph {
+        order: log.order,
+        chains,
+        groups,
+        edges: Edges::new(memory, nodes.len()),
+        ranks: memory.numbers(0, nodes.len()),
+        nodes,
+        firsts: listing.firsts,
+    };
     graph.add_membars(memory, &membars);
     graph.add_own(memory);
     graph.add_stbars(memory);
@@ -44,7 +58,12 @@ pub(crate) fn build(memory: &Memory, scope: Scope<'_>) -> Graph {
 }
 
 fn list_nodes(memory: &Memory, scope: Scope<'_>) -> Listing {
-    let mut listing = Listing::new(memory, scope.known.sources().len());
+    let mut listing = Listing {
+        nodes: Vec::new(memory.alloc()),
+        firsts: Vec::new(memory.alloc()),
+        by_number: memory.numbers(NONE, scope.known.sources().len()),
+        membars: Vec::new(memory.alloc()),
+    };
     for (processor, list) in scope.known.log().lists.iter().enumerate() {
         listing.begin_list(memory);
         listing.push_list(memory, scope, processor, list);
@@ -56,17 +75,6 @@ fn list_nodes(memory: &Memory, scope: Scope<'_>) -> Listing {
 }
 
 impl Listing {
-    /// No nodes yet, of a log with so many events.
-    fn new(memory: &Memory, events: usize) -> Listing {
-        let alloc = memory.alloc();
-        Listing {
-            nodes: Vec::new(alloc),
-            firsts: Vec::new(alloc),
-            by_number: memory.numbers(NONE, events),
-            membars: Vec::new(alloc),
-        }
-    }
-
     /// Notes that the nodes of the next processor begin here.
     fn begin_list(&mut self, memory: &Memory) {
         memory.push(&mut self.firsts, narrow(self.nodes.len()));
@@ -166,20 +174,15 @@ impl Listing {
             if let Some(node) = node_at(&self.nodes, load)
                 && node.is_load()
             {
-                let source = self.source_of(known, node);
+                let source = match source_of(known, node.source as usize) {
+                    None => NONE,
+                    Some(0) => FIRST,
+                    Some(source) => item(&self.by_number, narrow(source)),
+                };
                 self.link(load, source);
             }
         }
         self.end_readers();
-    }
-
-    /// The node of the source of a load, whose number stands in the place of its source.
-    fn source_of(&self, known: &KnownLog, load: Node) -> u32 {
-        match source_of(known, load.source as usize) {
-            None => NONE,
-            Some(0) => FIRST,
-            Some(source) => item(&self.by_number, narrow(source)),
-        }
     }
 
     fn link(&mut self, load: u32, source: u32) {
@@ -206,53 +209,17 @@ impl Listing {
     }
 }
 
-/// For each address the last store so far, and its processor.
-#[derive(Drop)]
-struct LastStores {
-    processors: Vec<u32>,
-    stores: Vec<u32>,
-}
-
-impl LastStores {
-    /// Looks at the next node: notes a store, and writes for a load its processor's last store to its address before it.
-    fn look_at(&mut self, number: u32, node: &mut Node) {
-        if node.is_store() {
-            put(&mut self.processors, node.address, node.processor);
-            put(&mut self.stores, node.address, number);
-        } else if node.is_load() && item(&self.processors, node.address) == node.processor {
-            node.own = item(&self.stores, node.address);
-        }
-    }
-}
-
 /// Writes for each load its processor's last store to its address before it.
 fn find_own_stores(memory: &Memory, addresses: usize, nodes: &mut [Node]) {
-    let mut last = LastStores {
-        processors: memory.numbers(NONE, addresses),
-        stores: memory.numbers(NONE, addresses),
-    };
+    // For each address the last store, and its processor.
+    let mut stores = memory.numbers(NONE, addresses);
+    let mut processors = memory.numbers(NONE, addresses);
     for (number, node) in nodes.iter_mut().enumerate() {
-        last.look_at(narrow(number), node);
-    }
-}
-
-impl Graph {
-    /// The graph of these nodes, with no edges that are kept in lists.
-    fn of_nodes(memory: &Memory, scope: Scope<'_>, listed: Vec<Node>, firsts: Vec<u32>) -> Graph {
-        let mut nodes = listed;
-        let log = scope.known.log();
-        let addresses = scope.addresses.len();
-        let chains = make_chains(memory, log.order, addresses, log.lists.len(), &mut nodes);
-        let groups = make_groups(memory, addresses, &mut nodes);
-        find_own_stores(memory, addresses, &mut nodes);
-        Graph {
-            order: log.order,
-            chains,
-            groups,
-            edges: Edges::new(memory, nodes.len()),
-            ranks: memory.numbers(0, nodes.len()),
-            nodes,
-            firsts,
+        if node.is_store() {
+            put(&mut stores, node.address, narrow(number));
+            put(&mut processors, node.address, node.processor);
+        } else if node.is_load() && item(&processors, node.address) == node.processor {
+            node.own = item(&stores, node.address);
         }
     }
 }

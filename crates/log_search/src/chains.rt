@@ -71,24 +71,13 @@ struct Lanes {
 }
 
 impl Lanes {
-    /// No chains yet, among so many addresses.
-    fn new(memory: &Memory, order: Order, addresses: usize) -> Lanes {
-        Lanes {
-            order,
-            processor: NONE,
-            loads: NONE,
-            stores: NONE,
-            stbars: NONE,
-            by_address: memory.numbers(NONE, addresses),
-            lengths: Vec::new(memory.alloc()),
-            owners: Vec::new(memory.alloc()),
-        }
-    }
-
     /// Gives the next node its chain and its place there.
     fn place(&mut self, memory: &Memory, node: &mut Node) {
         if node.processor != self.processor {
-            self.begin_processor(node.processor);
+            self.processor = node.processor;
+            self.loads = NONE;
+            self.stores = NONE;
+            self.stbars = NONE;
         }
         let chain = self.chain_of(memory, node);
         if node.is_store() && self.order == Order::Pso {
@@ -97,13 +86,6 @@ impl Lanes {
         }
         node.chain = chain;
         node.place = count(&mut self.lengths, chain).saturating_add(1);
-    }
-
-    fn begin_processor(&mut self, processor: u32) {
-        self.processor = processor;
-        self.loads = NONE;
-        self.stores = NONE;
-        self.stbars = NONE;
     }
 
     fn length(&self, chain: u32) -> u32 {
@@ -121,15 +103,9 @@ impl Lanes {
             Kind::Stbar => self.stbars,
             Kind::Store | Kind::SwapStore | Kind::LoneSwapStore => self.stores_to(node.address),
         };
-        if found == NONE {
-            self.begin_chain(memory, node)
-        } else {
-            found
+        if found != NONE {
+            return found;
         }
-    }
-
-    /// A new chain, which begins with this node.
-    fn begin_chain(&mut self, memory: &Memory, node: &Node) -> u32 {
         let new = narrow(self.lengths.len());
         memory.push(&mut self.lengths, 0);
         memory.push(&mut self.owners, self.processor);
@@ -165,7 +141,16 @@ pub(crate) fn make_chains(
     processors: usize,
     nodes: &mut [Node],
 ) -> Chains {
-    let mut lanes = Lanes::new(memory, order, addresses);
+    let mut lanes = Lanes {
+        order,
+        processor: NONE,
+        loads: NONE,
+        stores: NONE,
+        stbars: NONE,
+        by_address: memory.numbers(NONE, addresses),
+        lengths: Vec::new(memory.alloc()),
+        owners: Vec::new(memory.alloc()),
+    };
     let mut chains = Chains {
         members: memory.numbers(NONE, nodes.len()),
         starts: Vec::new(memory.alloc()),
@@ -174,7 +159,11 @@ pub(crate) fn make_chains(
     };
     for node in nodes.iter_mut() {
         lanes.place(memory, node);
-        chains.note(node);
+        match node.kind {
+            Kind::Load | Kind::SwapLoad => put(&mut chains.loads, node.processor, node.chain),
+            Kind::Stbar => put(&mut chains.stbars, node.processor, node.chain),
+            Kind::Store | Kind::SwapStore | Kind::LoneSwapStore => {}
+        }
     }
     chains.starts = lanes.lengths;
     chains.list_members(memory, nodes);
@@ -182,15 +171,6 @@ pub(crate) fn make_chains(
 }
 
 impl Chains {
-    /// Notes the chain of a load or an STBAR as that of its processor's.
-    fn note(&mut self, node: &Node) {
-        match node.kind {
-            Kind::Load | Kind::SwapLoad => put(&mut self.loads, node.processor, node.chain),
-            Kind::Stbar => put(&mut self.stbars, node.processor, node.chain),
-            Kind::Store | Kind::SwapStore | Kind::LoneSwapStore => {}
-        }
-    }
-
     /// Lists the members, now that `starts` has the length of each chain.
     fn list_members(&mut self, memory: &Memory, nodes: &[Node]) {
         memory.push(&mut self.starts, 0);

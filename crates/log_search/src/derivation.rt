@@ -147,18 +147,6 @@ impl Derivation {
 
     /// The node is done: all that follows is looked for, up to a cycle.
     pub(crate) fn finish(&mut self, memory: &Memory, number: u32) {
-        self.note_done(memory, number);
-        self.take_all(memory, number);
-        self.look_for_cycle(number);
-        self.queue(memory, number);
-        self.queue_readers(memory, number);
-        self.waiting = self.waiting.saturating_add(1);
-        if self.waiting >= BATCH {
-            self.apply(memory);
-        }
-    }
-
-    fn note_done(&mut self, memory: &Memory, number: u32) {
         self.clock = self.clock.saturating_add(1);
         put(&mut self.graph.ranks, number, self.clock);
         put(&mut self.changed, number, self.clock);
@@ -166,10 +154,6 @@ impl Derivation {
         if item(&self.since, number) == 0 {
             put(&mut self.since, number, self.clock);
         }
-    }
-
-    /// Notes what reaches a node by its links.
-    fn take_all(&mut self, memory: &Memory, number: u32) {
         self.graph.links_to(memory, number, &mut self.links);
         for k in 0..self.links.len() {
             let Some(link) = self.links.get(k) else {
@@ -178,6 +162,13 @@ impl Derivation {
             if self.graph.allows(link) {
                 self.take(link.node, number);
             }
+        }
+        self.look_for_cycle(number);
+        self.queue(memory, number);
+        self.queue_readers(memory, number);
+        self.waiting = self.waiting.saturating_add(1);
+        if self.waiting >= BATCH {
+            self.apply(memory);
         }
     }
 

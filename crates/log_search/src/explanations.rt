@@ -25,8 +25,19 @@ pub(crate) fn explain(
     derivation: &Derivation,
     closing: Closing,
 ) -> Option<Explanation> {
-    let mut explanation = Explanation::new(memory);
-    explanation.begin(memory, closing);
+    let alloc = memory.alloc();
+    let mut explanation = Explanation {
+        nodes: Vec::new(alloc),
+        barriers: Vec::new(alloc),
+        visited: 0,
+        tasks: Vec::new(alloc),
+        seen: Vec::new(alloc),
+    };
+    match closing {
+        Closing::Node(node) => explanation.ask(memory, node, node, u32::MAX),
+        Closing::First { store, load } => explanation.ask(memory, store, load, u32::MAX),
+        Closing::OwnFirst { store, load } => explanation.add_nodes(memory, store, load),
+    }
     for _ in 0..usize::MAX {
         let Some(task) = explanation.tasks.pop() else {
             break;
@@ -40,26 +51,6 @@ pub(crate) fn explain(
 }
 
 impl Explanation {
-    fn new(memory: &Memory) -> Explanation {
-        let alloc = memory.alloc();
-        Explanation {
-            nodes: Vec::new(alloc),
-            barriers: Vec::new(alloc),
-            visited: 0,
-            tasks: Vec::new(alloc),
-            seen: Vec::new(alloc),
-        }
-    }
-
-    /// Asks for what shows the violation.
-    fn begin(&mut self, memory: &Memory, closing: Closing) {
-        match closing {
-            Closing::Node(node) => self.ask(memory, node, node, u32::MAX),
-            Closing::First { store, load } => self.ask(memory, store, load, u32::MAX),
-            Closing::OwnFirst { store, load } => self.add_nodes(memory, store, load),
-        }
-    }
-
     fn add_node(&mut self, memory: &Memory, node: u32) {
         memory.push(&mut self.nodes, node);
     }
@@ -74,49 +65,39 @@ impl Explanation {
         memory.push(&mut self.tasks, Task { from, to, limit });
     }
 
+    /// Adds what a path needs: if there is none over nodes that are done now, one that was there when the edge was found.
     fn add_path(&mut self, memory: &Memory, derivation: &Derivation, task: Task) {
-        if let Some(path) = self.find(memory, derivation, task) {
+        let path = match find_path(memory, derivation, task, true, &mut self.visited) {
+            Some(path) => Some(path),
+            None => find_path(memory, derivation, task, false, &mut self.visited),
+        };
+        if let Some(path) = path {
             for step in &path {
                 self.add_step(memory, derivation, *step);
             }
         }
     }
 
-    /// A path: if there is none over nodes that are done now, one that was there when the edge was found.
-    fn find(
-        &mut self,
-        memory: &Memory,
-        derivation: &Derivation,
-        task: Task,
-    ) -> Option<Vec<PathStep>> {
-        match find_path(memory, derivation, task, true, &mut self.visited) {
-            Some(path) => Some(path),
-            None => find_path(memory, derivation, task, false, &mut self.visited),
-        }
-    }
-
     /// Adds what a step needs. Steps in program order need the ends of the whole way alone, which the steps beside them add.
     fn add_step(&mut self, memory: &Memory, derivation: &Derivation, step: PathStep) {
         match step.why {
-            Why::Chain | Why::LoadOp => {}
+            Why::Chain | Why::LoadOp => return,
             Why::Stbar => {
                 self.add_stbar(memory, derivation, step.from);
-                self.add_stbar(memory, derivation, step.to);
+                return self.add_stbar(memory, derivation, step.to);
             }
-            _ => {
-                self.add_premises(memory, derivation, step);
-                self.add_nodes(memory, step.from, step.to);
-            }
-        }
-    }
-
-    /// Adds what a step that isn't in program order follows from.
-    fn add_premises(&mut self, memory: &Memory, derivation: &Derivation, step: PathStep) {
-        match step.why {
             Why::Membar(barrier) => memory.push(&mut self.barriers, (step.to, barrier)),
+            Why::Read => {}
             Why::Own(load) => self.add_node(memory, load),
             Why::LoadPast(load) => self.add_premise(memory, load, step.from, load, step.number),
-            Why::StorePast(load) => self.add_source(memory, derivation, load, step),
+            Why::StorePast(load) => {
+                self.add_node(memory, load);
+                if let Some(node) = derivation.graph.node(load)
+                    && node.source != FIRST
+                {
+                    self.add_premise(memory, load, node.source, step.to, step.number);
+                }
+            }
             Why::SwapBefore(load) => {
                 let store = load.saturating_add(1);
                 self.add_premise(memory, load, step.from, store, step.number);
@@ -125,18 +106,8 @@ impl Explanation {
                 self.add_node(memory, load.saturating_add(1));
                 self.add_premise(memory, load, load, step.to, step.number);
             }
-            Why::Chain | Why::LoadOp | Why::Stbar | Why::Read => {}
         }
-    }
-
-    /// Adds what a step of StorePast follows from: that the load's source, if it isn't the first value, comes before the store.
-    fn add_source(&mut self, memory: &Memory, derivation: &Derivation, load: u32, step: PathStep) {
-        self.add_node(memory, load);
-        if let Some(node) = derivation.graph.node(load)
-            && node.source != FIRST
-        {
-            self.add_premise(memory, load, node.source, step.to, step.number);
-        }
+        self.add_nodes(memory, step.from, step.to);
     }
 
     /// Adds the end of a step if it is an STBAR.

@@ -4,7 +4,7 @@ use crate::chains::Chains;
 use crate::edges::{Edges, Why};
 use crate::groups::Groups;
 use crate::memory::Memory;
-use crate::nodes::{Kind, Node, node_at};
+use crate::nodes::{FIRST, Kind, Node, node_at};
 use crate::numbers::{NONE, item, narrow};
 use tso_ops::Order;
 
@@ -44,26 +44,10 @@ impl Graph {
         }
     }
 
-    /// Whether a node is a store.
-    pub(crate) fn is_store(&self, node: u32) -> bool {
-        match self.node(node) {
-            Some(node) => node.is_store(),
-            None => false,
-        }
-    }
-
     /// Whether a node is the load of a swap, which isn't left out.
     pub(crate) fn is_swap_load(&self, node: u32) -> bool {
         match self.node(node) {
             Some(node) => node.kind == Kind::SwapLoad,
-            None => false,
-        }
-    }
-
-    /// Whether a node is a load that isn't done.
-    pub(crate) fn is_load_to_do(&self, node: u32) -> bool {
-        match self.node(node) {
-            Some(load) => load.is_load() && !self.is_done(node),
             None => false,
         }
     }
@@ -94,8 +78,12 @@ impl Graph {
     pub(crate) fn add_membars(&mut self, memory: &Memory, membars: &[(u32, u32)]) {
         let mut covered = 0;
         for (k, (end, operation)) in membars.iter().enumerate() {
+            let after = match membars.get(k.saturating_add(1)) {
+                Some(next) => next.0,
+                None => NONE,
+            };
             // Of several barriers before one node the last one stands for all.
-            if place_of(membars, k.saturating_add(1)) != *end {
+            if after != *end {
                 covered = self.add_membar(memory, covered, *end, *operation);
             }
         }
@@ -158,7 +146,10 @@ impl Graph {
         for number in 0..self.nodes.len() {
             let load = narrow(number);
             if let Some(node) = self.node(load)
-                && node.reads_another_than_its_own()
+                && node.is_live_load()
+                && node.own != NONE
+                && node.own != node.source
+                && node.source != FIRST
             {
                 let why = Why::Own(load);
                 self.edges.add(memory, node.own, node.source, why, 0);
@@ -179,13 +170,5 @@ impl Graph {
                 first = stbar;
             }
         }
-    }
-}
-
-/// The place of a barrier; `NONE` where there is none at this index.
-fn place_of(membars: &[(u32, u32)], index: usize) -> u32 {
-    match membars.get(index) {
-        Some(barrier) => barrier.0,
-        None => NONE,
     }
 }

@@ -100,22 +100,17 @@ pub(crate) fn make_groups(memory: &Memory, addresses: usize, nodes: &mut [Node])
         places: memory.room(sorted.len()),
         first_readers: memory.numbers(NONE, addresses),
     };
-    groups.push_all(memory, nodes, &sorted);
+    let mut last = NONE;
+    for number in &sorted {
+        groups.push(memory, nodes, last, *number);
+        last = *number;
+    }
     begin(&mut groups.starts);
     groups.link_first_readers(nodes);
     groups
 }
 
 impl Groups {
-    /// Puts stores into groups, each after those before it.
-    fn push_all(&mut self, memory: &Memory, nodes: &mut [Node], stores: &[u32]) {
-        let mut last = NONE;
-        for number in stores {
-            self.push(memory, nodes, last, *number);
-            last = *number;
-        }
-    }
-
     /// Puts the next store into the group of the last one, or into a new one.
     fn push(&mut self, memory: &Memory, nodes: &mut [Node], last: u32, number: u32) {
         let Some(store) = node_at(nodes, number) else {
@@ -123,23 +118,25 @@ impl Groups {
         };
         let start = narrow(self.places.len());
         memory.push(&mut self.places, store.place);
-        if follows(nodes, last, store) {
-            link(nodes, last, number);
-            if let Some(group) = self.groups.last_mut() {
-                group.end = start.saturating_add(1);
+        let end = start.saturating_add(1);
+        if let Some(before) = nodes.get_mut(last as usize)
+            && before.address == store.address
+            && before.chain == store.chain
+        {
+            before.own = number;
+            if let Some(store) = nodes.get_mut(number as usize) {
+                store.before = last;
             }
-        } else {
-            self.begin_group(memory, store, start);
+            if let Some(group) = self.groups.last_mut() {
+                group.end = end;
+            }
+            return;
         }
-    }
-
-    /// Begins a group with a store, at this index among the places.
-    fn begin_group(&mut self, memory: &Memory, store: Node, start: u32) {
         count(&mut self.starts, store.address);
         let group = StoreGroup {
             chain: store.chain,
             start,
-            end: start.saturating_add(1),
+            end,
             near: start,
         };
         memory.push(&mut self.groups, group);
@@ -153,23 +150,5 @@ impl Groups {
                 put(&mut self.first_readers, node.address, narrow(number));
             }
         }
-    }
-}
-
-/// Whether a store stands in the group of the store before it.
-fn follows(nodes: &[Node], before: u32, store: Node) -> bool {
-    match node_at(nodes, before) {
-        Some(before) => before.address == store.address && before.chain == store.chain,
-        None => false,
-    }
-}
-
-/// Has two stores know that the first is the one before the second.
-fn link(nodes: &mut [Node], first: u32, second: u32) {
-    if let Some(before) = nodes.get_mut(first as usize) {
-        before.own = second;
-    }
-    if let Some(store) = nodes.get_mut(second as usize) {
-        store.before = first;
     }
 }

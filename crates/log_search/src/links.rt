@@ -83,34 +83,24 @@ impl Graph {
         links.links.clear();
         if let Some(node) = self.node(number) {
             links.add_some(self.chains.before(node), Why::Chain);
-            self.add_links_to(number, node, links);
+            if node.is_live_load() {
+                self.add_links_to_load(number, node, links);
+            } else if node.is_store() {
+                self.add_links_to_store(number, node, links);
+            }
             self.add_kept_to(number, links);
         }
         memory.note(links.is_refused);
-    }
-
-    fn add_links_to(&self, number: u32, node: Node, links: &mut Links) {
-        if node.is_live_load() {
-            self.add_links_to_load(number, node, links);
-        } else if node.is_store() {
-            self.add_links_to_store(number, node, links);
-        }
     }
 
     fn add_links_to_load(&self, number: u32, load: Node, links: &mut Links) {
         if self.is_seen_by_order(load.source, number, load) {
             links.add(load.source, Why::Read);
         }
-        if load.kind == Kind::SwapLoad {
-            links.add_some(self.before_store_of(number), Why::SwapBefore(number));
-        }
-    }
-
-    /// What comes before the store of a swap's load in the store's chain.
-    fn before_store_of(&self, load: u32) -> Option<u32> {
-        match self.node(load.saturating_add(1)) {
-            Some(store) => self.chains.before(store),
-            None => None,
+        if load.kind == Kind::SwapLoad
+            && let Some(store) = self.node(number.saturating_add(1))
+        {
+            links.add_some(self.chains.before(store), Why::SwapBefore(number));
         }
     }
 
@@ -130,7 +120,10 @@ impl Graph {
                 links.add_some(self.chains.stbar_before(store), Why::Stbar);
             }
         }
-        let mut reader = self.reader_before(store);
+        let mut reader = match self.node(store.before) {
+            Some(before) => before.source,
+            None => self.groups.first_reader(store.address),
+        };
         for _ in 0..self.nodes.len() {
             let Some(load) = self.node(reader) else {
                 break;
@@ -139,14 +132,6 @@ impl Graph {
                 links.add(reader, Why::StorePast(reader));
             }
             reader = load.before;
-        }
-    }
-
-    /// The first reader of the processor's store to its address before a store, or of the first value.
-    fn reader_before(&self, store: Node) -> u32 {
-        match self.node(store.before) {
-            Some(before) => before.source,
-            None => self.groups.first_reader(store.address),
         }
     }
 
@@ -178,20 +163,16 @@ impl Graph {
     /// Whether the load that an edge needs isn't left out. Under PSO a barrier's edge needs the load that it leads to, since
     /// by it the store comes before later stores.
     fn holds(&self, edge: KeptEdge) -> bool {
-        match edge.why {
-            Why::Membar(_) if self.order == Order::Pso => self.is_live(edge.v),
-            why => match why.load() {
-                Some(load) => self.is_live(load),
-                None => true,
+        let load = match edge.why {
+            Why::Membar(_) if self.order == Order::Pso => Some(edge.v),
+            why => why.load(),
+        };
+        match load {
+            Some(load) => match self.node(load) {
+                Some(node) => node.is_live_load(),
+                None => false,
             },
-        }
-    }
-
-    /// Whether a node is a load that isn't left out.
-    fn is_live(&self, load: u32) -> bool {
-        match self.node(load) {
-            Some(node) => node.is_live_load(),
-            None => false,
+            None => true,
         }
     }
 
@@ -213,20 +194,16 @@ impl Graph {
                 links.add(after, Why::Chain);
                 self.add_swap_after(after, links);
             }
-            self.add_links_from(number, node, links);
+            match node.kind {
+                Kind::Load | Kind::SwapLoad => self.add_links_from_load(number, node, links),
+                Kind::Store | Kind::SwapStore | Kind::LoneSwapStore => {
+                    self.add_readers(number, node, links);
+                }
+                Kind::Stbar => self.add_stores_from(number, node, links),
+            }
             self.add_kept_from(number, links);
         }
         memory.note(links.is_refused);
-    }
-
-    fn add_links_from(&self, number: u32, node: Node, links: &mut Links) {
-        match node.kind {
-            Kind::Load | Kind::SwapLoad => self.add_links_from_load(number, node, links),
-            Kind::Store | Kind::SwapStore | Kind::LoneSwapStore => {
-                self.add_readers(number, node, links);
-            }
-            Kind::Stbar => self.add_stores_from(number, node, links),
-        }
     }
 
     /// The load of a swap whose store comes next in the chain of a store.
@@ -242,24 +219,19 @@ impl Graph {
     fn add_links_from_load(&self, number: u32, load: Node, links: &mut Links) {
         self.add_stores_from(number, load, links);
         if load.source == FIRST {
-            self.add_first_stores(number, load, links);
+            let (start, end) = self.groups.range(load.address);
+            for index in start..end {
+                let Some(group) = self.groups.get(index) else {
+                    break;
+                };
+                let place = self.groups.first_place(group);
+                let store = self.chains.member(group.chain, place);
+                links.add_some(store, Why::StorePast(number));
+            }
         } else if let Some(source) = self.node(load.source)
             && source.own != NONE
         {
             links.add(source.own, Why::StorePast(number));
-        }
-    }
-
-    /// The first store of each chain to the address of a load of the first value.
-    fn add_first_stores(&self, number: u32, load: Node, links: &mut Links) {
-        let (start, end) = self.groups.range(load.address);
-        for index in start..end {
-            let Some(group) = self.groups.get(index) else {
-                break;
-            };
-            let place = self.groups.first_place(group);
-            let store = self.chains.member(group.chain, place);
-            links.add_some(store, Why::StorePast(number));
         }
     }
 
@@ -278,15 +250,11 @@ impl Graph {
             if node.is_store() {
                 links.add(after, why);
             }
-            if self.ends_stores(from, node) {
+            let is_next = !node.is_store() && from.is_load() == node.is_load();
+            if is_next || self.order == Order::Tso {
                 break;
             }
         }
-    }
-
-    /// Whether no store after this node is looked at among those after a load or an STBAR.
-    fn ends_stores(&self, from: Node, node: Node) -> bool {
-        self.order == Order::Tso || (!node.is_store() && from.is_load() == node.is_load())
     }
 
     /// How many nodes are looked at to find the stores after a load or an STBAR under PSO.

@@ -84,11 +84,6 @@ impl Node {
     pub(crate) fn is_live_load(&self) -> bool {
         self.is_load() && self.source != NONE
     }
-
-    /// Whether it is a load that read a store other than its processor's last one to the address before it, which there is.
-    pub(crate) fn reads_another_than_its_own(&self) -> bool {
-        self.is_live_load() && self.own != NONE && self.own != self.source && self.source != FIRST
-    }
 }
 
 /// The node of this number.

@@ -145,18 +145,19 @@ impl Ways {
         self.visited = self.visited.saturating_add(self.links.len());
         for k in 0..self.links.len() {
             if let Some(link) = self.links.get(k)
-                && self.wants(derivation, link)
+                && link.number < self.task.limit
+                && (!self.is_narrow || leads_back(derivation, from, link))
             {
+                let step = PathStep {
+                    from: link.node,
+                    to: node,
+                    why: link.why,
+                    number: link.number,
+                };
                 let cost = cost.saturating_add(cost_of(link.why));
-                self.add(memory, step_by(link, node), cost);
+                self.add(memory, step, cost);
             }
         }
-    }
-
-    /// Whether going back by an edge may be part of the path.
-    fn wants(&self, derivation: &Derivation, link: Link) -> bool {
-        link.number < self.task.limit
-            && (!self.is_narrow || leads_back(derivation, self.task.from, link))
     }
 
     /// Adds a way, if it is the cheapest so far.
@@ -191,16 +192,6 @@ impl Ways {
             }
         }
         None
-    }
-}
-
-/// The step by an edge to a node.
-fn step_by(link: Link, node: u32) -> PathStep {
-    PathStep {
-        from: link.node,
-        to: node,
-        why: link.why,
-        number: link.number,
     }
 }
 

@@ -109,20 +109,18 @@ impl Roots {
                 self.processor = self.processor.saturating_add(1);
                 continue;
             }
-            self.pass(position);
-            if graph.is_load_to_do(position) {
+            self.has_moved = true;
+            self.forced = self.forced.saturating_sub(1);
+            let next = position.saturating_add(1);
+            put(&mut self.positions, narrow(self.processor), next);
+            if let Some(node) = graph.node(position)
+                && node.is_load()
+                && !graph.is_done(position)
+            {
                 return Some(position);
             }
         }
         None
-    }
-
-    /// Passes the processor's next node, this one.
-    fn pass(&mut self, position: u32) {
-        self.has_moved = true;
-        self.forced = self.forced.saturating_sub(1);
-        let next = position.saturating_add(1);
-        put(&mut self.positions, narrow(self.processor), next);
     }
 
     /// Whether the processor's next node, this one, is to be passed now.
@@ -212,21 +210,27 @@ struct Clock {
 
 impl Clock {
     fn new(known: &KnownLog) -> Clock {
-        let mut sums = Sums {
+        let mut clock = Clock {
             operations: 0,
             lines: 0,
-            spans: 0,
-            processors: 0,
+            rounds: 0,
+            has_lines: false,
         };
+        let mut spans: usize = 0;
+        let mut processors: usize = 0;
         for (processor, list) in known.log().lists.iter().enumerate() {
-            sums.add(known, processor, list.len());
+            if let Some(last) = list.len().checked_sub(1) {
+                let end = line_of(known, processor, last);
+                let start = line_of(known, processor, 0);
+                clock.operations = clock.operations.saturating_add(list.len());
+                clock.lines = clock.lines.max(end);
+                spans = spans.saturating_add(end.saturating_sub(start));
+                processors = processors.saturating_add(1);
+            }
         }
-        Clock {
-            operations: sums.operations,
-            lines: sums.lines,
-            rounds: quotient(sums.operations, sums.processors).saturating_add(1),
-            has_lines: sums.spans > sums.lines.saturating_mul(sums.processors) / 2,
-        }
+        clock.has_lines = spans > clock.lines.saturating_mul(processors) / 2;
+        clock.rounds = quotient(clock.operations, processors).saturating_add(1);
+        clock
     }
 
     fn time_of(self, known: &KnownLog, processor: usize, operation: usize) -> usize {
@@ -250,32 +254,6 @@ impl Clock {
             self.operations
         };
         quotient(all.saturating_mul(round), self.rounds)
-    }
-}
-
-/// Sums over the processors that have operations.
-#[derive(Clone, Copy)]
-struct Sums {
-    operations: usize,
-    /// The last line of all.
-    lines: usize,
-    /// Over how many lines each processor's operations go, together.
-    spans: usize,
-    processors: usize,
-}
-
-impl Sums {
-    /// Adds a processor with so many operations.
-    fn add(&mut self, known: &KnownLog, processor: usize, operations: usize) {
-        if operations == 0 {
-            return;
-        }
-        let end = line_of(known, processor, operations.saturating_sub(1));
-        let start = line_of(known, processor, 0);
-        self.operations = self.operations.saturating_add(operations);
-        self.lines = self.lines.max(end);
-        self.spans = self.spans.saturating_add(end.saturating_sub(start));
-        self.processors = self.processors.saturating_add(1);
     }
 }
 

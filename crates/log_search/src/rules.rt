@@ -16,28 +16,22 @@ impl Derivation {
             return;
         };
         match node.kind {
-            Kind::Load | Kind::SwapLoad => self.apply_to_load(memory, number, node),
+            Kind::Load | Kind::SwapLoad => {
+                if node.source == FIRST {
+                    self.look_before_first(number, node);
+                } else if self.graph.is_done(node.source) {
+                    self.join_own(memory, node);
+                    self.find_load_past(memory, number, node);
+                }
+            }
             Kind::Store | Kind::SwapStore | Kind::LoneSwapStore => {
-                self.apply_to_store(memory, number, node);
+                self.find_store_past(memory, number, node);
+                self.find_swap_after(memory, number, node);
+                if node.kind == Kind::SwapStore {
+                    self.find_swap_before(memory, number);
+                }
             }
             Kind::Stbar => {}
-        }
-    }
-
-    fn apply_to_load(&mut self, memory: &Memory, number: u32, load: Node) {
-        if load.source == FIRST {
-            self.look_before_first(number, load);
-        } else if self.graph.is_done(load.source) {
-            self.join_own(memory, load);
-            self.find_load_past(memory, number, load);
-        }
-    }
-
-    fn apply_to_store(&mut self, memory: &Memory, number: u32, store: Node) {
-        self.find_store_past(memory, number, store);
-        self.find_swap_after(memory, number, store);
-        if store.kind == Kind::SwapStore {
-            self.find_swap_before(memory, number);
         }
     }
 
@@ -52,11 +46,18 @@ impl Derivation {
         }
         let (start, end) = self.begin_groups(load);
         for index in start..end {
-            if let Some(store) = self.store_before(number, index) {
-                self.close(Closing::First {
-                    store,
-                    load: number,
-                });
+            let Some(group) = self.graph.groups.get(index) else {
+                break;
+            };
+            let place = self.rows.place(number, group.chain);
+            if place >= self.graph.groups.first_place(group) {
+                let last = self.graph.groups.last_place(index, place);
+                if let Some(store) = self.graph.chains.member(group.chain, last) {
+                    self.close(Closing::First {
+                        store,
+                        load: number,
+                    });
+                }
             }
         }
     }
@@ -73,19 +74,6 @@ impl Derivation {
         let (start, end) = self.graph.groups.range(node.address);
         self.work.spend(end.saturating_sub(start) as usize);
         (start, end)
-    }
-
-    /// The last store of the group at an index that reaches a node.
-    fn store_before(&mut self, number: u32, index: u32) -> Option<u32> {
-        let Some(group) = self.graph.groups.get(index) else {
-            return None;
-        };
-        let place = self.rows.place(number, group.chain);
-        if place < self.graph.groups.first_place(group) {
-            return None;
-        }
-        let last = self.graph.groups.last_place(index, place);
-        self.graph.chains.member(group.chain, last)
     }
 
     /// The rule Own, now that the load is done.
@@ -206,21 +194,15 @@ impl Derivation {
         let width = self.rows.width();
         self.work.spend(width);
         for chain in 0..width {
-            if let Some(store) = self.store_past(number, load, narrow(chain)) {
+            let chain = narrow(chain);
+            let place = self.rows.place(number, chain);
+            if place > self.rows.place(load, chain)
+                && let Some(store) = self.graph.chains.member(chain, place)
+                && let Some(node) = self.graph.node(store)
+                && node.is_store()
+            {
                 self.infer(memory, store, load, Why::SwapBefore(load));
             }
-        }
-    }
-
-    /// The last node of a chain that reaches a swap's store, if it is a store and doesn't reach the swap's load.
-    fn store_past(&self, number: u32, load: u32, chain: u32) -> Option<u32> {
-        let place = self.rows.place(number, chain);
-        if place <= self.rows.place(load, chain) {
-            return None;
-        }
-        match self.graph.chains.member(chain, place) {
-            Some(store) if self.graph.is_store(store) => Some(store),
-            _ => None,
         }
     }
 }

@@ -112,8 +112,16 @@ impl<'a> Search<'a> {
 
     /// What the violation needs that was found.
     fn propose(&mut self, memory: &Memory) -> Found {
+        let Some(closing) = self.derivation.closing else {
+            return Found::End;
+        };
+        let Some(explanation) = explain(memory, &self.derivation, closing) else {
+            return Found::BudgetEnd;
+        };
+        let words = self.derivation.work.of_visits(explanation.visited);
+        self.derivation.work.spend(words);
         let mut loads = Vec::new(memory.alloc());
-        let selection = self.select(memory, &mut loads);
+        let selection = select(memory, &self.derivation, &explanation, &mut loads);
         if loads.is_empty() {
             // Without a load to leave out the search would find the same again.
             return Found::BudgetEnd;
@@ -121,18 +129,6 @@ impl<'a> Search<'a> {
         self.derivation.leave_out(memory, &loads);
         self.roots.go_on();
         Found::Proposal(selection)
-    }
-
-    /// The operations that the violation needs that was found, and its loads; none where the work for them is more than is left.
-    fn select(&mut self, memory: &Memory, loads: &mut Vec<u32>) -> Vec<Vec<Kept>> {
-        if let Some(closing) = self.derivation.closing
-            && let Some(explanation) = explain(memory, &self.derivation, closing)
-        {
-            let words = self.derivation.work.of_visits(explanation.visited);
-            self.derivation.work.spend(words);
-            return select(memory, &self.derivation, &explanation, loads);
-        }
-        Vec::new(memory.alloc())
     }
 }
 

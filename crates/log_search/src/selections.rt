@@ -26,23 +26,18 @@ pub(crate) fn push_kept(memory: &Memory, lists: &mut [Vec<Kept>], processor: usi
 
 /// Keeps an operation after those of its processor, or another part of the last one.
 fn keep(memory: &Memory, lists: &mut [Vec<Kept>], processor: usize, kept: Kept) {
-    if !joins_last(lists, processor, kept) {
-        push_kept(memory, lists, processor, kept);
-    }
-}
-
-/// Whether an operation is the last one of its processor, of which this part is then kept too.
-fn joins_last(lists: &mut [Vec<Kept>], processor: usize, kept: Kept) -> bool {
-    if let Some(list) = lists.get_mut(processor)
-        && let Some(last) = list.last_mut()
+    let Some(list) = lists.get_mut(processor) else {
+        return;
+    };
+    if let Some(last) = list.last_mut()
         && last.index == kept.index
     {
         if last.part != kept.part {
             last.part = Part::Whole;
         }
-        return true;
+        return;
     }
-    false
+    memory.push(list, kept);
 }
 
 /// What is selected: a processor, an index among its operations, and which part of a swap it is.

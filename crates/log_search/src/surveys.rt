@@ -102,19 +102,18 @@ impl Survey {
         last: &mut [u32],
     ) {
         for (operation, logged) in list.iter().enumerate() {
-            if stores(logged.operation) {
-                let number = number_of(known, processor, operation).unwrap_or(0);
-                let address = self.address(number);
-                self.count_store(narrow(processor), address, last);
+            if !matches!(
+                logged.operation,
+                LogOperation::St { .. } | LogOperation::Sw { .. }
+            ) {
+                continue;
             }
-        }
-    }
-
-    /// Counts a processor that stores to an address, if it isn't the last that did.
-    fn count_store(&mut self, processor: u32, address: u32, last: &mut [u32]) {
-        if item(last, address) != processor {
-            put(last, address, processor);
-            count(&mut self.writers, address);
+            let number = number_of(known, processor, operation).unwrap_or(0);
+            let address = self.address(number);
+            if item(last, address) != narrow(processor) {
+                put(last, address, narrow(processor));
+                count(&mut self.writers, address);
+            }
         }
     }
 
@@ -174,7 +173,14 @@ impl Survey {
             if let Some(a) = address_of(logged.operation)
                 && let Some(number) = number_of(known, processor, operation)
             {
-                let address = number_in(memory, numbers, a);
+                let address = match numbers.get(&a).copied() {
+                    Some(address) => address,
+                    None => {
+                        let address = narrow(numbers.len());
+                        memory.note(numbers.insert(a, address).is_err());
+                        address
+                    }
+                };
                 put(&mut self.addresses, narrow(number), address);
             }
         }
@@ -205,17 +211,12 @@ impl Survey {
         operation: usize,
         logged: &LoggedOperation,
     ) -> Option<(usize, u32)> {
-        match logged.operation {
-            LogOperation::Ld { .. } => match number_of(known, processor, operation) {
-                Some(number) => self.with_index(known, number),
-                None => None,
-            },
-            _ => None,
+        if !matches!(logged.operation, LogOperation::Ld { .. }) {
+            return None;
         }
-    }
-
-    /// The number of a load, with the index of its source among `Readers`.
-    fn with_index(&self, known: &KnownLog, number: usize) -> Option<(usize, u32)> {
+        let Some(number) = number_of(known, processor, operation) else {
+            return None;
+        };
         match source_of(known, number) {
             Some(0) => {
                 let events = known.sources().len();
@@ -255,33 +256,12 @@ impl Survey {
                 follows = self.order == Order::Pso;
             }
             if let Some((number, index)) = self.load_of(known, processor, operation, logged) {
-                self.keep(number, follows || readers.needs(known, number, index));
+                let is_kept = follows || readers.needs(known, number, index);
+                if let Some(slot) = self.kept.get_mut(number) {
+                    *slot = is_kept;
+                }
                 follows = false;
             }
-        }
-    }
-
-    /// Notes whether a load is kept.
-    fn keep(&mut self, number: usize, is_kept: bool) {
-        if let Some(slot) = self.kept.get_mut(number) {
-            *slot = is_kept;
-        }
-    }
-}
-
-/// Whether an operation stores.
-fn stores(operation: LogOperation) -> bool {
-    matches!(operation, LogOperation::St { .. } | LogOperation::Sw { .. })
-}
-
-/// The number of an address, a new one where it has none yet.
-fn number_in(memory: &Memory, numbers: &mut HashMap<u64, u32>, a: u64) -> u32 {
-    match numbers.get(&a).copied() {
-        Some(number) => number,
-        None => {
-            let number = narrow(numbers.len());
-            memory.note(numbers.insert(a, number).is_err());
-            number
         }
     }
 }
