@@ -20,7 +20,7 @@ fn ranked_by<H: Threads + Wait + AllocGlobal>(
     Ok(made(rt, rt.alloc(), trace, workers, &OpenPoolGate)?)
 }
 
-/// Compares the rounds number of a trace on several numbers of workers.
+/// Compares the rounds number of a trace on several numbers of workers; it names the trace where it is another.
 fn expect_rounds<H: Threads + Wait + AllocGlobal + Abort>(
     rt: &H,
     trace: &Trace,
@@ -28,7 +28,7 @@ fn expect_rounds<H: Threads + Wait + AllocGlobal + Abort>(
 ) -> Result<(), Fail> {
     for workers in [1, 2, 3, 7, 64] {
         let ranked = ranked_by(rt, trace, workers)?;
-        expect(rt, workers, rounds_of(&ranked), rounds);
+        expect(rt, (rounds, workers), rounds_of(&ranked), rounds);
     }
     Ok(())
 }
