@@ -1,44 +1,60 @@
 //! Reasons of edges, over graphs and over sets of edges.
 
-use super::{base_graph, expect_inferred, expect_no_reason, join_first_round, reason_of, set_of};
-use order_graph::EdgeSet;
+use super::{base_graph, join_first_round, reason_of, set_of};
+use order_graph::{EdgeSet, PathSearch};
 use std::alloc::{AllocError, Global};
-use std::process::Abort;
+use std::fmt::Write;
 use std::test::Fail;
-use traces_for_tests::two_swaps_both_first;
-use tso_cert::{BaseRule, InferredRule, Reason};
+use traces_for_tests::{expect_equal, two_swaps_both_first};
+use tso_cert::Reason;
 use tso_ops::Trace;
 
-fn is_base(found: &Option<Reason>, expected: BaseRule) -> bool {
-    match found {
-        Some(Reason::Base(rule)) => *rule == expected,
-        _ => false,
+/// A reason as a certificate writes it: its rule, and of an inferred one its load and its path.
+fn text_of(alloc: Global, reason: &Option<Reason>) -> Result<String, AllocError> {
+    let mut text = String::new(alloc);
+    match reason {
+        None => {},
+        Some(Reason::Base(rule)) => text.push_str(rule.name())?,
+        Some(Reason::Inferred { rule, load, path }) => {
+            write!(text, "{} {load}", rule.name())?;
+            for number in path.items() {
+                write!(text, " {number}")?;
+            }
+        }
     }
+    Ok(text)
 }
 
-fn expect_base(rt: &impl Abort, found: &Option<Reason>, rule: BaseRule) {
-    assert!(rt; is_base(found, rule), "{found:?}");
+/// An edge, and its reason.
+type Case = ((usize, usize), &'static str);
+
+fn expect_reasons<G: PathSearch>(
+    alloc: Global,
+    trace: &Trace,
+    graph: &G,
+    cases: &[Case],
+) -> Result<(), Fail> {
+    for ((u, v), expected) in cases {
+        let found = reason_of(alloc, trace, graph, *u, *v)?;
+        let text = text_of(alloc, &found)?;
+        expect_equal((*u, *v), text.as_str(), *expected)?;
+    }
+    Ok(())
 }
+
+/// Over the base edges of two_swaps_both_first.
+const OVER_BASE: [Case; 4] = [
+    ((0, 4), "Init"),
+    ((1, 2), "LoadOp"),
+    ((1, 4), "StorePast 1 0 4"),
+    ((4, 1), ""),
+];
 
 #[test]
 fn reasons_by_hand(rt: HostRuntime) -> Result<(), Fail> {
-    let alloc = rt.alloc();
-    let trace = two_swaps_both_first(alloc)?;
-    let graph = base_graph(alloc, &trace)?;
-    expect_base(
-        &rt,
-        &reason_of(alloc, &trace, &graph, 0, 4)?,
-        BaseRule::Init,
-    );
-    expect_base(
-        &rt,
-        &reason_of(alloc, &trace, &graph, 1, 2)?,
-        BaseRule::LoadOp,
-    );
-    let found = reason_of(alloc, &trace, &graph, 1, 4)?;
-    expect_inferred(&rt, &found, InferredRule::StorePast, 1, &[0, 4]);
-    expect_no_reason(&rt, &reason_of(alloc, &trace, &graph, 4, 1)?);
-    Ok(())
+    let trace = two_swaps_both_first(rt.alloc())?;
+    let graph = base_graph(rt.alloc(), &trace)?;
+    expect_reasons(rt.alloc(), &trace, &graph, &OVER_BASE)
 }
 
 fn remove(set: &mut EdgeSet, u: usize, v: usize) {
@@ -54,17 +70,16 @@ fn first_round(alloc: Global, trace: &Trace) -> Result<EdgeSet, AllocError> {
     set_of(&graph)
 }
 
+/// Over these edges, and once the edge from 1 to 4 is removed.
+const OVER_FIRST_ROUND: [Case; 1] = [((2, 4), "SwapAfter 1 1 4")];
+
+const OVER_OTHERS: [Case; 3] = [((2, 4), ""), ((1, 4), "StorePast 1 0 4"), ((0, 4), "Init")];
+
 #[test]
 fn reasons_over_removed_edges(rt: HostRuntime) -> Result<(), Fail> {
-    let alloc = rt.alloc();
-    let trace = two_swaps_both_first(alloc)?;
-    let mut set = first_round(alloc, &trace)?;
-    let found = reason_of(alloc, &trace, &set, 2, 4)?;
-    expect_inferred(&rt, &found, InferredRule::SwapAfter, 1, &[1, 4]);
+    let trace = two_swaps_both_first(rt.alloc())?;
+    let mut set = first_round(rt.alloc(), &trace)?;
+    expect_reasons(rt.alloc(), &trace, &set, &OVER_FIRST_ROUND)?;
     remove(&mut set, 1, 4);
-    expect_no_reason(&rt, &reason_of(alloc, &trace, &set, 2, 4)?);
-    let found = reason_of(alloc, &trace, &set, 1, 4)?;
-    expect_inferred(&rt, &found, InferredRule::StorePast, 1, &[0, 4]);
-    expect_base(&rt, &reason_of(alloc, &trace, &set, 0, 4)?, BaseRule::Init);
-    Ok(())
+    expect_reasons(rt.alloc(), &trace, &set, &OVER_OTHERS)
 }
