@@ -3,9 +3,9 @@
 mod desk_runs;
 mod desks;
 mod driven;
-mod final_states;
 mod gates;
 mod logged_runs;
 mod refused;
 mod runs;
+mod states_of_programs;
 mod units;
