@@ -122,28 +122,25 @@ fn rank_sets_of_two_swaps(rt: HostRuntime) -> Result<(), Fail> {
     Ok(())
 }
 
-/// Whether these edges of store_buffering have a cycle and paths from 0 to 4 and from 1 to 2, and give the pairs of 2 and 3, and
-/// of 1 and 3.
-fn facts_of(
-    alloc: Global,
-    trace: &Trace,
-    edges: &[(usize, usize)],
-) -> Result<[bool; 5], OutOfMemory> {
+/// Whether the base edges of store_buffering have a cycle and paths from 0 to 4 and from 1 to 2, and give the pairs of 2 and 3,
+/// and of 1 and 3.
+fn facts_of(alloc: Global, trace: &Trace) -> Result<[bool; 5], OutOfMemory> {
     let n = trace.node_count();
+    let edges = base_edges(alloc, trace)?;
     Ok([
-        has_cycle(alloc, edges, n)?,
-        n > 4 && has_path(alloc, edges, n, 0, 4)?,
-        n > 4 && has_path(alloc, edges, n, 1, 2)?,
-        is_inferred_pair(alloc, trace, edges, 2, 3)?,
-        is_inferred_pair(alloc, trace, edges, 1, 3)?,
+        has_cycle(alloc, &edges, n)?,
+        n > 4 && has_path(alloc, &edges, n, 0, 4)?,
+        n > 4 && has_path(alloc, &edges, n, 1, 2)?,
+        is_inferred_pair(alloc, trace, &edges, 2, 3)?,
+        is_inferred_pair(alloc, trace, &edges, 1, 3)?,
     ])
 }
 
 #[test]
 fn first_round_of_store_buffering(rt: HostRuntime) -> Result<(), Fail> {
     let trace = store_buffering(rt.alloc())?;
-    let edges = base_edges(rt.alloc(), &trace)?;
-    let facts = facts_of(rt.alloc(), &trace, &edges)?;
+    let facts = facts_of(rt.alloc(), &trace)?;
     expect_equal("facts", facts, [false, true, false, true, false])?;
+    let edges = base_edges(rt.alloc(), &trace)?;
     expect_edges(&new_edges(rt.alloc(), &trace, &edges)?, &[(2, 3), (4, 1)])
 }
