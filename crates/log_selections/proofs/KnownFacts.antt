@@ -1,20 +1,22 @@
 -- The accesses of a log are its events, and the only writer of a value is the only source of it.
-use Rattle.std.proofs.Common.{◌≡◌, ◌≢◌, ◌∙◌, refl, sym, ap, subst, ℕ, zero, suc, true, false, List, [], ◌∷◌, ◌++◌, map, Option, None, Some, slice_get}
+use Rattle.std.proofs.Common.{◌≡◌, ◌≢◌, ◌∙◌, refl, sym, ap, subst, ℕ, zero, suc, true, false, List, [], ◌∷◌, ◌++◌, map, Option, None, Some, slice_get, arith}
 use Rattle.std.specs.Option.{option_map}
 use Rattle.std.proofs.lemmas.List.{map-append}
 use Rattle.std.proofs.lemmas.Option.{none-some, slice_get-map}
 use Rattle.tso_ops.specs.declared.events.Event.{Event}
 use Rattle.tso_ops.specs.Settings.{first_value}
 use Rattle.tso_ops.specs.Events.{event_at, events_from, events_of, events_of_lists, IsLoad, HasSource}
-use Rattle.log_selections.specs.Sources.{IsOnlySource}
+use Rattle.tso_ops.proofs.NumberFacts.{event_at-within}
+use Rattle.log_selections.specs.Sources.{HasTwoSources, IsAmbiguousCount, IsCountOf, IsOnlySource}
 use Rattle.log_text.specs.declared.logs.LogOperation.{LogOperation}
 use Rattle.log_text.specs.declared.logs.LoggedOperation.{LoggedOperation}
 use Rattle.log_text.specs.declared.logs.LogOperation.TheVariants.{Ld, St, Sw, Mb, Sb}
 use Rattle.log_text.specs.LogValues.{NumberedLog, log_operations, outcome_of, outcomes_of}
 use Rattle.log_selections.specs.declared.accesses.Access.{Access}
 use Rattle.log_selections.specs.Internal.Accesses.{accesses_of, accesses_of_list, accesses_of_lists}
-use Rattle.log_selections.specs.Internal.Known.{AreSources, IsOnlyWriter, source_in}
+use Rattle.log_selections.specs.Internal.Known.{AreSources, IsAmbiguousLoad, IsOnlyWriter, IsWriter, source_in}
 use Rattle.log_selections.specs.Internal.Writers.{IsStoreOf}
+use Rattle.log_selections.proofs.CountFacts.{count-same}
 
 injective : {X : Type 0} (x y : X) → Some x ≡ Some y → x ≡ y
 injective x y same = cc
@@ -131,3 +133,42 @@ module _ (log : NumberedLog) where
       sourced (suc j) e at address value source =
           let (x, at_j, is_store, same_a, same_v) = store_access j (suc k) e at source in
           none j (x, at_j, is_store, same_a ∙ address, same_v ∙ value)
+
+  -- ---- loads of what two can have written
+
+  -- a number that can have written what a load read is a source of it
+  writer_source : (n r : ℕ) (e : Event) → event_at (log_operations log) n ≡ Some e → IsLoad (log_operations log) n → IsWriter log.first accesses (e.a, e.value) r → HasSource (log_operations log) n r
+  writer_source n zero e at load first = (load, (e, at, sym first))
+  writer_source n (suc j) e at load store = access_store j n e at load store
+
+  -- the other way round
+  source_writer : (n r : ℕ) (e : Event) → event_at (log_operations log) n ≡ Some e → HasSource (log_operations log) n r → IsWriter log.first accesses (e.a, e.value) r
+  source_writer n zero e at (load, (d, at_d, first)) =
+      let same = same_event n e d at at_d in
+      sym (ap (λ (x : Event). x.value) same ∙ first ∙ ap (λ (x : Event). first_value log.first x.a) (sym same))
+  source_writer n (suc j) e at source = store_access j n e at source
+
+  sourced_load : (n r : ℕ) → HasSource (log_operations log) n r → IsLoad (log_operations log) n
+  sourced_load n zero source = source.0
+  sourced_load n (suc j) source = source.0
+
+  ambiguous_sources : (n : ℕ) → IsAmbiguousLoad log.first accesses n → HasTwoSources (log_operations log) n
+  unfolding access_of
+  ambiguous_sources n (k, number, x, at_x, is_load, (r, s, differ, writes, writes_too)) =
+      let (e, at_e, same) = access_event k x at_x in
+      let at : event_at (log_operations log) n ≡ Some e = ap (event_at (log_operations log)) number ∙ at_e in
+      let load : IsLoad (log_operations log) n = (e, at, ap (λ (y : Access). y.load) same ∙ is_load) in
+      let source : (q : ℕ) → IsWriter log.first accesses (x.a, x.value) q → HasSource (log_operations log) n q =
+      λ q written. writer_source n q e at load (subst (λ (y : Access). IsWriter log.first accesses (y.a, y.value) q) (sym same) written) in
+      (r, s, differ, source r writes, source s writes_too)
+
+  sources_ambiguous : (n : ℕ) → HasTwoSources (log_operations log) n → IsAmbiguousLoad log.first accesses n
+  unfolding access_of
+  sources_ambiguous zero (r, s, differ, source, other) = let (e, at, is_load) = sourced_load 0 r source in absurd (omega (arith, (event_at-within (log_operations log) 0 e at).0))
+  sources_ambiguous (suc k) (r, s, differ, source, other) =
+      let (e, at, is_load) = sourced_load (suc k) r source in
+      (k, refl, access_of e, event_access k e at, is_load, (r, s, differ, source_writer (suc k) r e at source, source_writer (suc k) s e at other))
+
+  -- so many loads have two sources as are ambiguous
+  pub ambiguous_count : (count : ℕ) → IsCountOf (IsAmbiguousLoad log.first (accesses_of_lists log.lists)) count → IsAmbiguousCount log count
+  ambiguous_count count = count-same (IsAmbiguousLoad log.first accesses) (HasTwoSources (log_operations log)) count (λ n. (ambiguous_sources n, sources_ambiguous n))

@@ -1,4 +1,5 @@
 pub mod AccessFacts
+pub mod CountFacts
 pub mod CutEvents
 pub mod CutGrowth
 pub mod CutLists

@@ -1,5 +1,5 @@
 -- Lemmas on the stores of a value to an address, and on the only one.
-use Rattle.std.proofs.Common.{◌≡◌, ◌≢◌, ◌∙◌, ⊎_elim, sym, ap, subst, refl, ℕ, ◌+◌, ◌<◌, true, false, cond, List, length, Option, Some, None, slice_get, arith, add-one}
+use Rattle.std.proofs.Common.{◌≡◌, ◌≢◌, ◌∙◌, ⊎_elim, sym, ap, subst, refl, ℕ, suc, ◌+◌, ◌<◌, true, false, cond, List, length, Option, Some, None, slice_get, arith, add-one}
 use Rattle.std.specs.HashMap.{HashMap, get, Updates, IsEmpty}
 use Rattle.std.proofs.lemmas.Bool.{false≢true, cases_eq, cases_lt}
 use Rattle.std.proofs.lemmas.Bool.Decides.{nat_tests}
@@ -9,7 +9,7 @@ use Rattle.log_selections.specs.declared.accesses.Access.{Access}
 use Rattle.log_selections.specs.declared.writers.Writers.{Writers}
 use Rattle.log_selections.specs.declared.writers.Writers.TheVariants.{One, Several}
 use Rattle.log_selections.specs.Internal.Writers.{IsStoreOf, FindsWriter, FindsWriters, same_written, with_store}
-use Rattle.log_selections.specs.Internal.Known.{IsOnlyWriter}
+use Rattle.log_selections.specs.Internal.Known.{HasTwoWriters, IsOnlyWriter}
 
 module _ (accesses : List Access) where
   -- the access at a place of the list
@@ -27,7 +27,7 @@ module _ (accesses : List Access) where
     store,
     λ j below st. ⊎_elim (λ before. only j before st) (λ not_before. let same : j ≡ i = omega arith in absurd (other (subst (IsStoreOf accesses written) same st))) (cases_lt j i),
   )
-  kept i written (Some Several) other (k, within, store) = (k, omega (arith, within), store)
+  kept i written (Some Several) other (j, k, less, within, first, second) = (j, k, less, omega (arith, within), first, second)
 
   found_here : (i : ℕ) (x : Access) (old : Option Writers) → slice_get accesses i ≡ Some x → x.load ≡ false →
       FindsWriter accesses i (x.a, x.value) old → FindsWriter accesses (i + 1) (x.a, x.value) (Some (with_store old (i + 1)))
@@ -38,7 +38,8 @@ module _ (accesses : List Access) where
     (x, at, store, refl, refl),
     λ j below st. ⊎_elim (λ before. absurd (finds j before st)) (λ not_before. omega arith) (cases_lt j i),
   )
-  found_here i x (Some found) at store finds = (i, omega arith, (x, at, store, refl, refl))
+  found_here i x (Some (One n)) at store (k, within, is, stored, only) = (k, i, within, omega arith, stored, (x, at, store, refl, refl))
+  found_here i x (Some Several) at store (j, k, less, within, first, second) = (j, k, less, omega (arith, within), first, second)
 
   module _ {S : Type 0} where
     pub writers-none : (writers : HashMap (ℕ × ℕ) Writers S) → IsEmpty writers → FindsWriters accesses 0 writers
@@ -92,10 +93,13 @@ module _ (accesses : List Access) where
   pub no_store : (written : ℕ × ℕ) → FindsWriter accesses (length accesses) written None → (k : ℕ) → IsStoreOf accesses written k → ⊥
   no_store written finds k store = finds k (within written k store) store
 
-  -- a look-up that finds something
-  pub some_store : (written : ℕ × ℕ) (found : Writers) → FindsWriter accesses (length accesses) written (Some found) → (k : ℕ) × IsStoreOf accesses written k
-  some_store written (One n) (k, below, is, store, only) = (k, store)
-  some_store written Several (k, below, store) = (k, store)
+  -- a store of the first value, which then two can have written
+  pub first_and_store : (first : List (ℕ × ℕ)) (written : ℕ × ℕ) (n : ℕ) → FindsWriter accesses (length accesses) written (Some (One n)) → first_value first written.0 ≡ written.1 → HasTwoWriters first accesses written
+  first_and_store first written n (k, below, is, store, only) same = (0, suc k, λ equal. omega (arith, equal), same, store)
+
+  -- a look-up that finds several
+  pub two_stores : (first : List (ℕ × ℕ)) (written : ℕ × ℕ) → FindsWriter accesses (length accesses) written (Some Several) → HasTwoWriters first accesses written
+  two_stores first written (j, k, less, below, one, other) = (suc j, suc k, λ equal. omega (arith, equal, less), one, other)
 
   pub only_store : (first : List (ℕ × ℕ)) (written : ℕ × ℕ) (n : ℕ) → FindsWriter accesses (length accesses) written (Some (One n)) → first_value first written.0 ≢ written.1 → IsOnlyWriter first accesses written n
   only_store first written n (k, below, is, store, only) other =

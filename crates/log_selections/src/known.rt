@@ -2,6 +2,7 @@ ghost use Rattle.std.specs.Prelude.{◌≡◌, IfOk, IfSome, true, nat_eq};
 ghost use Rattle.std.specs.List.{IsDistinct};
 ghost use Rattle.log_text.specs.LogValues.{log_operations, log_value};
 ghost use Rattle.log_selections.specs.Cuts.{IsCut};
+ghost use Rattle.log_selections.specs.Sources.{IsAmbiguousCount};
 
 use crate::accesses::number_accesses;
 use crate::keeping::keep_lists;
@@ -31,7 +32,7 @@ impl Model for KnownLog {
 
     ghost view = { λ k. log_value k.log };
 
-    ghost invariant = { λ k. IsKnownLog k.log (rows k.numbers.items) k.sources.numbers.items };
+    ghost invariant = { λ k. IsKnownLog k.log (rows k.numbers.items) k.sources.numbers.items k.sources.ambiguous };
 }
 
 impl KnownLog {
@@ -66,8 +67,11 @@ impl KnownLog {
         &self.sources.numbers
     }
 
-    /// How many loads have a value that several operations may have written, those of swaps counted.
-    pub fn ambiguous_loads(&self) -> usize {
+    /// How many loads have a value that several may have written, those of swaps counted: two stores or more, or one and whoever
+    /// wrote the first value.
+    pub fn ambiguous_loads(&self) -> usize
+        ensures { IsAmbiguousCount self.now result }
+    {
         self.sources.ambiguous
     }
 

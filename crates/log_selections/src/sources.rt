@@ -1,8 +1,9 @@
 //! The sources of the loads of a log that its values tell.
-ghost use Rattle.std.specs.Prelude.{◌≡◌, ◌≢◌, ℕ, List, length, IfOk, unwrap_or, nat_eq};
+ghost use Rattle.std.specs.Prelude.{◌≡◌, ◌≢◌, ◌+◌, ◌<◌, ◌^◌, ℕ, List, length, IfOk, OnOk, unwrap_or, nat_eq};
 ghost use Rattle.std.specs.HashMap.{get};
 ghost use Rattle.tso_ops.specs.Settings.{first_value};
-ghost use Rattle.log_selections.specs.Internal.Known.{AreSources, IsFound, known_number};
+ghost use Rattle.log_selections.specs.Sources.{IsCountOf};
+ghost use Rattle.log_selections.specs.Internal.Known.{AreSources, IsAmbiguousLoad, IsFound, known_number, with_found};
 ghost use Rattle.log_selections.specs.Internal.Writers.{FindsWriters};
 
 use crate::accesses::Access;
@@ -38,7 +39,8 @@ pub(crate) fn find_sources(
     first: &[(u64, u64)],
     accesses: &[Access],
 ) -> Result<Sources, OutOfMemory>
-    ensures { IfOk result (λ sources. AreSources first.now accesses.now sources.numbers.items) }
+    ensures numbers { IfOk result (λ sources. AreSources first.now accesses.now sources.numbers.items) }
+    ensures ambiguous { IfOk result (λ sources. IsCountOf (IsAmbiguousLoad first.now accesses.now) sources.ambiguous) }
 {
     let writers = find_writers(alloc, accesses)?;
     let values = find_first_values(alloc, first)?;
@@ -66,6 +68,7 @@ impl Sources {
     fn note(&mut self, load: usize, found: LoadSource) -> Result<Option<usize>, OutOfMemory>
         ensures number { IfOk result (λ number. number ≡ known_number found) }
         ensures kept { self.new.numbers ≡ self.old.numbers }
+        ensures ambiguous { OnOk result (self.old.ambiguous + 1 < 2 ^ 64 → self.new.ambiguous ≡ with_found self.old.ambiguous found) }
     {
         match found {
             LoadSource::Known(number) => return Ok(Some(number)),

@@ -1,9 +1,9 @@
 -- The sources of loads that the values of a log tell.
-use Rattle.std.specs.Prelude.{◌≡◌, ◌≢◌, ℕ, zero, suc, IsTrue, List, Option, None, Some, slice_get, get_or}
+use Rattle.std.specs.Prelude.{◌≡◌, ◌≢◌, ◌+◌, ℕ, zero, suc, IsTrue, List, Option, None, Some, slice_get, get_or}
 use Rattle.tso_ops.specs.declared.events.Source.{Source}
 use Rattle.tso_ops.specs.declared.events.Source.TheVariants.{Init, Store}
 use Rattle.tso_ops.specs.Settings.{first_value}
-use Rattle.log_selections.specs.Sources.{IsOnlySource}
+use Rattle.log_selections.specs.Sources.{IsAmbiguousCount, IsOnlySource}
 use Rattle.log_text.specs.declared.logs.Log.{Log}
 use Rattle.log_text.specs.LogValues.{log_operations, log_value}
 use Rattle.tso_ops.specs.Values.{rows}
@@ -19,10 +19,19 @@ IsOnlyWriter first accesses written zero = (first_value first written.0 ≡ writ
 IsOnlyWriter first accesses written (suc k) =
     (first_value first written.0 ≢ written.1) × IsStoreOf accesses written k × ((j : ℕ) → IsStoreOf accesses written j → j ≡ k)
 
+-- number s can have written it
+abbrev pub IsWriter : List (ℕ × ℕ) → List Access → ℕ × ℕ → ℕ → Type 0
+IsWriter first accesses written zero = first_value first written.0 ≡ written.1
+IsWriter first accesses written (suc k) = IsStoreOf accesses written k
+
+-- two numbers can
+abbrev pub HasTwoWriters : List (ℕ × ℕ) → List Access → ℕ × ℕ → Type 0
+HasTwoWriters first accesses written = (r : ℕ) × (s : ℕ) × (r ≢ s) × IsWriter first accesses written r × IsWriter first accesses written s
+
 -- what is found of a load's value
 abbrev pub IsFound : List (ℕ × ℕ) → List Access → ℕ × ℕ → LoadSource → Type 0
 IsFound first accesses written (Known s) = IsOnlyWriter first accesses written s
-IsFound first accesses written Ambiguous = (k : ℕ) × IsStoreOf accesses written k
+IsFound first accesses written Ambiguous = HasTwoWriters first accesses written
 IsFound first accesses written Unwritten = (first_value first written.0 ≢ written.1) × ((k : ℕ) → IsStoreOf accesses written k → ⊥)
 
 -- the number of the source, where it is known
@@ -36,6 +45,17 @@ abbrev pub IsKnownSource : List (ℕ × ℕ) → List Access → ℕ → ℕ →
 IsKnownSource first accesses n s =
     (k : ℕ) × (n ≡ suc k) × (x : Access) × (slice_get accesses k ≡ Some x) × IsTrue x.load × IsOnlyWriter first accesses (x.a, x.value) s
 
+-- Number n is a load, the value of which two numbers can have written.
+abbrev pub IsAmbiguousLoad : List (ℕ × ℕ) → List Access → ℕ → Type 0
+IsAmbiguousLoad first accesses n =
+    (k : ℕ) × (n ≡ suc k) × (x : Access) × (slice_get accesses k ≡ Some x) × IsTrue x.load × HasTwoWriters first accesses (x.a, x.value)
+
+-- how many loads are ambiguous after one more of which this was found
+abbrev pub with_found : ℕ → LoadSource → ℕ
+with_found count (Known s) = count
+with_found count Ambiguous = count + 1
+with_found count Unwritten = count
+
 -- the source that the table has for number n
 abbrev pub source_in : List (Option ℕ) → ℕ → Option ℕ
 source_in numbers n = get_or numbers n None
@@ -44,10 +64,11 @@ source_in numbers n = get_or numbers n None
 abbrev pub AreSources : List (ℕ × ℕ) → List Access → List (Option ℕ) → Type 0
 AreSources first accesses numbers = (n s : ℕ) → source_in numbers n ≡ Some s → IsKnownSource first accesses n s
 
--- What `KnownLog` keeps: the numbers of the operations, and only sources.
-pub record IsKnownLog (log : Log) (numbers : List (List ℕ)) (sources : List (Option ℕ)) : Type 0 where
+-- What `KnownLog` keeps: the numbers of the operations, only sources, and how many loads are ambiguous.
+pub record IsKnownLog (log : Log) (numbers : List (List ℕ)) (sources : List (Option ℕ)) (ambiguous : ℕ) : Type 0 where
   pub numbered : numbers ≡ numbers_of_lists 1 (rows log.lists.items)
   pub known : (l s : ℕ) → source_in sources l ≡ Some s → IsOnlySource (log_operations (log_value log)) l s
+  pub ambiguous_are : IsAmbiguousCount (log_value log) ambiguous
 
 -- the source of number s
 abbrev pub source_at : ℕ → Source

@@ -14,7 +14,7 @@ abbrev pub FindsWriter : List Access → ℕ → ℕ × ℕ → Option Writers �
 FindsWriter accesses count written None = (k : ℕ) → k < count → IsStoreOf accesses written k → ⊥
 FindsWriter accesses count written (Some (One n)) =
     (k : ℕ) × (k < count) × (n ≡ suc k) × IsStoreOf accesses written k × ((j : ℕ) → j < count → IsStoreOf accesses written j → j ≡ k)
-FindsWriter accesses count written (Some Several) = (k : ℕ) × (k < count) × IsStoreOf accesses written k
+FindsWriter accesses count written (Some Several) = (j : ℕ) × (k : ℕ) × (j < k) × (k < count) × IsStoreOf accesses written j × IsStoreOf accesses written k
 
 -- what a look-up gives after one more store of the value, of this number
 abbrev pub with_store : Option Writers → ℕ → Writers
