@@ -30,6 +30,7 @@ _tsobench() {
         batch/--workers) ;;
         batch/--format) words='words json junit' ;;
         batch/--effort) ;;
+        batch/--require) ;;
         log/--most) ;;
         log/--effort) ;;
         check/--nth) ;;
@@ -69,7 +70,7 @@ _tsobench() {
         explain/*) words='--decide --effort --workers --nth --verbose -h --help' files=yes ;;
         draw/*) words='--decide --effort --workers --nth --verbose -h --help' files=yes ;;
         reduce/*) words='--nth --verbose -h --help' files=yes ;;
-        batch/*) words='--workers --format --quiet --violations --decide --effort --progress --verbose -h --help' files=yes ;;
+        batch/*) words='--workers --format --quiet --violations --decide --effort --require --progress --verbose -h --help' files=yes ;;
         log/*) words='--most --effort --trace --explain --progress --verbose -h --help' files=yes ;;
         check/*) words='--nth --verbose -h --help' files=yes ;;
         verify/*) words='--nth --verbose -h --help' files=yes ;;

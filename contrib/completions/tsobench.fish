@@ -48,6 +48,7 @@ complete -c tsobench -n '__fish_seen_subcommand_from batch' -l quiet -d 'Leave o
 complete -c tsobench -n '__fish_seen_subcommand_from batch' -l violations -d 'Print the texts of the violations in place of lines'
 complete -c tsobench -n '__fish_seen_subcommand_from batch' -l decide -d 'Decides, as tsobench decide does, in place of judging'
 complete -c tsobench -n '__fish_seen_subcommand_from batch' -l effort -x -d 'How many cases a decision looks at, at most'
+complete -c tsobench -n '__fish_seen_subcommand_from batch' -l require -x -d 'How many traces have to be judged, at least'
 complete -c tsobench -n '__fish_seen_subcommand_from batch' -l progress -d 'Tells on standard error, at most once a second, how much is done'
 complete -c tsobench -n '__fish_seen_subcommand_from batch' -l verbose -d 'Names the file and the reason after FAULT Read'
 complete -c tsobench -n '__fish_seen_subcommand_from batch' -s h -l help -d 'Print help'

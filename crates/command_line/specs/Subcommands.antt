@@ -193,6 +193,7 @@ batch_printing_of given = record {
   quiet = is_true (given (codes "quiet"));
   violations = is_true (given (codes "violations"));
   effort = if is_true (given (codes "decide")) then Some (effort_of given) else None;
+  required = number_of (given (codes "require"));
 }
 
 -- the form in which violations are shown, by whether the flags of traces and of explanations are used, of which one may be
@@ -270,12 +271,14 @@ reduce = record {
   ask = λ given. reducing (file_of (given (codes "file"))) (number_of (given (codes "nth")));
 }
 
--- `batch [--workers N] [--format FORMAT] [--quiet] [--violations] [--decide] [--effort N] [--progress] [--verbose] [FILE]...`: judges the traces that stand one
--- after the other in files, or on standard input, or decides on them
+-- `batch [--workers N] [--format FORMAT] [--quiet] [--violations] [--decide] [--effort N] [--require N] [--progress] [--verbose] [FILE]...`: judges the traces that
+-- stand one after the other in files, or on standard input, or decides on them
 abbrev pub batch : Subcommand
 batch = record {
   name = codes "batch";
-  parameters = workers ∷ format ∷ flag (codes "quiet") ∷ flag (codes "violations") ∷ flag (codes "decide") ∷ effort ∷ progress ∷ verbose ∷ several (codes "file") ∷ [];
+  parameters =
+      workers ∷ format ∷ flag (codes "quiet") ∷ flag (codes "violations") ∷ flag (codes "decide") ∷ effort
+      ∷ optional (codes "require") (range 1 number_limit) ∷ progress ∷ verbose ∷ several (codes "file") ∷ [];
   ask = λ given. batching [] (workers_of given) (batch_printing_of given);
 }
 

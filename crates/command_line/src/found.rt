@@ -23,7 +23,7 @@ use crate::requests::{
 };
 use crate::values::{
     decision_effort, drain_turns, effort, file, format, is_used, named_file, nth, number,
-    number_within, order, workers,
+    number_within, order, required, workers,
 };
 use clap::ArgMatches;
 use std::alloc::{AllocError, Global};
@@ -306,6 +306,7 @@ fn batch_printing(matches: &ArgMatches<'_>) -> BatchPrinting
         quiet: is_used(matches, "quiet"),
         violations: is_used(matches, "violations"),
         effort: decision_effort(matches),
+        required: required(matches),
     }
 }
 

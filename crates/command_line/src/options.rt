@@ -202,6 +202,8 @@ pub struct BatchPrinting {
     pub violations: bool,
     /// With how many cases at most it is decided whether each trace has an order; none where the traces are judged.
     pub effort: Option<u64>,
+    /// How many traces have to be judged, at least, and neither refused nor undecided; none where any number will do.
+    pub required: Option<u64>,
 }
 
 /// In which form the violations of a log are shown.

@@ -54,6 +54,13 @@ pub(crate) fn nth(matches: &ArgMatches<'_>) -> Option<u64>
     matches.get_one("nth")
 }
 
+/// How many traces of a batch have to be judged, at least; none where it is left out.
+pub(crate) fn required(matches: &ArgMatches<'_>) -> Option<u64>
+    ensures { result ≡ number_of (one_of (codes "require") (rows_of (found_of matches.now))) }
+{
+    matches.get_one("require")
+}
+
 /// The number of workers, 1 where none is named.
 pub(crate) fn workers(matches: &ArgMatches<'_>) -> usize
     ensures { result ≡ within 1 worker_limit (number_or 1 (one_of (codes "workers") (rows_of (found_of matches.now)))) }

@@ -24,7 +24,7 @@ asked_method None = Judge
 asked_method (Some effort) = Decide effort
 
 abbrev pub asked_printing : AskedPrinting → BatchPrinting
-asked_printing printing = record { method = asked_method printing.effort; format = asked_format printing.format; quiet = printing.quiet; violations = printing.violations }
+asked_printing printing = record { method = asked_method printing.effort; format = asked_format printing.format; quiet = printing.quiet; violations = printing.violations; required = printing.required }
 
 -- the name of a text in its lines, `-` for standard input, where there are several texts
 abbrev pub told_name : Bool → Option (List ℕ) → Option (List ℕ)

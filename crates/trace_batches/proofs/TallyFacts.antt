@@ -1,17 +1,20 @@
 -- Lemmas on the numbers of judgments, and on the last line.
-use Rattle.std.proofs.Common.{◌≡◌, ℕ, ◌+◌, ◌<◌, ◌≤◌, Bool, true, false, ◌||◌, cond, List, [], ◌∷◌, ◌++◌, refl, ap, ap₂, sym, ◌∙◌, arith, ltb}
+use Rattle.std.proofs.Common.{◌≡◌, ℕ, ◌+◌, ◌-◌, ◌<◌, ◌≤◌, Bool, true, false, ◌||◌, cond, length, List, [], ◌∷◌, ◌++◌, refl, ap, ap₂, sym, ◌∙◌, arith, ltb}
+use Rattle.std.specs.Prelude.{Option}
 use Rattle.std.specs.List.{count_by, list_any}
 use Rattle.std.proofs.lemmas.Bool.{cond-false, cond-true, le-ltb, lt-ltb}
 use Rattle.std.proofs.lemmas.List.{length-append}
 use Rattle.std.proofs.lemmas.List.Sums.{sum_by-append, sum_by-cons}
+use Rattle.trace_batches.specs.declared.tallies.BatchVerdict.{BatchVerdict}
 use Rattle.trace_batches.specs.declared.tallies.BatchVerdict.TheVariants.{NoViolation, Violation, Undecided, Refused}
 use Rattle.trace_batches.specs.declared.tallies.Tally.{Tally}
-use Rattle.trace_batches.specs.Batches.{Counts, batch_verdict}
-use Rattle.trace_batches.specs.BatchLines.{tally_of, total_line, total_text}
+use Rattle.trace_batches.specs.Batches.{Counts, batch_verdict, count_judged}
+use Rattle.trace_batches.specs.BatchLines.{are_too_few, tally_of, total_line, total_text}
 use Rattle.trace_batches.specs.declared.batches.BatchFormat.{BatchFormat}
 use Rattle.trace_batches.specs.declared.batches.BatchMethod.{BatchMethod}
 use Rattle.trace_batches.specs.declared.judgments.Judgment.{Judgment}
-use Rattle.trace_batches.specs.Judgments.{says_consistent, says_refused, says_undecided, says_violation}
+use Rattle.trace_batches.specs.declared.judgments.Judgment.TheVariants as said
+use Rattle.trace_batches.specs.Judgments.{is_judged, says_consistent, says_refused, says_undecided, says_violation}
 
 -- an element passes where some are counted
 any_counted : {X : Type 0} (p : X → Bool) (xs : List X) → list_any p xs ≡ ltb 0 (count_by p xs)
@@ -22,33 +25,76 @@ any_counted p (x ∷ xs) = one (p x) (count_by p xs) (list_any p xs) (any_counte
     one true n any is = sym (lt-ltb 0 (1 + n) (omega arith))
     one false n any is = is ∙ ap (ltb 0) (omega arith)
 
--- the verdict, by the numbers
-pub verdict_by_counts : (tally : Tally) (judgments : List Judgment) → Counts tally judgments →
-    batch_verdict judgments ≡ cond (ltb 0 tally.violations) Violation (cond (ltb 0 tally.refused) Refused (cond (ltb 0 tally.undecided) Undecided NoViolation))
-verdict_by_counts tally judgments counts =
-    let violations : list_any says_violation judgments ≡ ltb 0 tally.violations = any_counted says_violation judgments ∙ ap (ltb 0) (sym counts.violations) in
-    let refused : list_any says_refused judgments ≡ ltb 0 tally.refused = any_counted says_refused judgments ∙ ap (ltb 0) (sym counts.refused) in
-    let undecided : list_any says_undecided judgments ≡ ltb 0 tally.undecided = any_counted says_undecided judgments ∙ ap (ltb 0) (sym counts.undecided) in
-    rw (violations, refused, undecided) refl
+-- each is judged, undecided or refused
+all_counted : (judgments : List Judgment) → count_by is_judged judgments + (count_by says_undecided judgments + count_by says_refused judgments) ≡ length judgments
+all_counted [] = refl
+all_counted (j ∷ judgments) =
+    let more = all_counted judgments in
+    let judged : count_by is_judged (j ∷ judgments) ≡ cond (is_judged j) 1 0 + count_by is_judged judgments = sum_by-cons (λ k. cond (is_judged k) 1 0) j judgments in
+    let undecided : count_by says_undecided (j ∷ judgments) ≡ cond (says_undecided j) 1 0 + count_by says_undecided judgments = sum_by-cons (λ k. cond (says_undecided k) 1 0) j judgments in
+    let refused : count_by says_refused (j ∷ judgments) ≡ cond (says_refused j) 1 0 + count_by says_refused judgments = sum_by-cons (λ k. cond (says_refused k) 1 0) j judgments in
+    let this = one j in
+    omega (arith, more, judged, undecided, refused, this)
+  where
+    one : (k : Judgment) → ◌≡◌ {A = ℕ} (cond (is_judged k) 1 0 + (cond (says_undecided k) 1 0 + cond (says_refused k) 1 0)) 1
+    one said.NoViolation = refl
+    one said.Violation = refl
+    one said.Consistent = refl
+    one (said.Undecided cases) = refl
+    one (said.Refused fault) = refl
 
-pub verdict_violation : (tally : Tally) → 0 < tally.violations → (judgments : List Judgment) → Counts tally judgments → Violation ≡ batch_verdict judgments
-verdict_violation tally some judgments counts = sym (verdict_by_counts tally judgments counts ∙ cond-true (ltb 0 tally.violations) Violation _ (lt-ltb 0 tally.violations some))
+-- how many were judged, by the numbers
+pub judged_by_counts : (tally : Tally) (judgments : List Judgment) → Counts tally judgments → (tally.traces - tally.undecided) - tally.refused ≡ count_judged judgments
+judged_by_counts tally judgments counts =
+    let all = all_counted judgments in
+    let traces = counts.traces in
+    let undecided = counts.undecided in
+    let refused = counts.refused in
+    omega (arith, all, traces, undecided, refused)
 
-module _ (tally : Tally) (none : tally.violations ≤ 0) (judgments : List Judgment) (counts : Counts tally judgments) where
-  no_violation : batch_verdict judgments ≡ cond (ltb 0 tally.refused) Refused (cond (ltb 0 tally.undecided) Undecided NoViolation)
-  no_violation = verdict_by_counts tally judgments counts ∙ cond-false (ltb 0 tally.violations) Violation _ (le-ltb 0 tally.violations none)
+module _ (required : Option ℕ) where
+  -- the verdict where nothing worse is said
+  abbrev by_number : List Judgment → BatchVerdict
+  by_number judgments = cond (are_too_few required (count_judged judgments)) Undecided NoViolation
 
-  pub verdict_refused : 0 < tally.refused → Refused ≡ batch_verdict judgments
-  verdict_refused some = sym (no_violation ∙ cond-true (ltb 0 tally.refused) Refused _ (lt-ltb 0 tally.refused some))
+  -- the verdict, by the numbers
+  verdict_by_counts : (tally : Tally) (judgments : List Judgment) → Counts tally judgments →
+      batch_verdict required judgments ≡ cond (ltb 0 tally.violations) Violation (cond (ltb 0 tally.refused) Refused (cond (ltb 0 tally.undecided) Undecided (by_number judgments)))
+  verdict_by_counts tally judgments counts =
+      let violations : list_any says_violation judgments ≡ ltb 0 tally.violations = any_counted says_violation judgments ∙ ap (ltb 0) (sym counts.violations) in
+      let refused : list_any says_refused judgments ≡ ltb 0 tally.refused = any_counted says_refused judgments ∙ ap (ltb 0) (sym counts.refused) in
+      let undecided : list_any says_undecided judgments ≡ ltb 0 tally.undecided = any_counted says_undecided judgments ∙ ap (ltb 0) (sym counts.undecided) in
+      rw (violations, refused, undecided) refl
 
-  not_refused : tally.refused ≤ 0 → batch_verdict judgments ≡ cond (ltb 0 tally.undecided) Undecided NoViolation
-  not_refused clean = no_violation ∙ cond-false (ltb 0 tally.refused) Refused _ (le-ltb 0 tally.refused clean)
+  pub verdict_violation : (tally : Tally) → 0 < tally.violations → (judgments : List Judgment) → Counts tally judgments → Violation ≡ batch_verdict required judgments
+  verdict_violation tally some judgments counts = sym (verdict_by_counts tally judgments counts ∙ cond-true (ltb 0 tally.violations) Violation _ (lt-ltb 0 tally.violations some))
 
-  pub verdict_undecided : tally.refused ≤ 0 → 0 < tally.undecided → Undecided ≡ batch_verdict judgments
-  verdict_undecided clean some = sym (not_refused clean ∙ cond-true (ltb 0 tally.undecided) Undecided _ (lt-ltb 0 tally.undecided some))
+  module _ (tally : Tally) (none : tally.violations ≤ 0) (judgments : List Judgment) (counts : Counts tally judgments) where
+    no_violation : batch_verdict required judgments ≡ cond (ltb 0 tally.refused) Refused (cond (ltb 0 tally.undecided) Undecided (by_number judgments))
+    no_violation = verdict_by_counts tally judgments counts ∙ cond-false (ltb 0 tally.violations) Violation _ (le-ltb 0 tally.violations none)
 
-  pub verdict_neither : tally.refused ≤ 0 → tally.undecided ≤ 0 → NoViolation ≡ batch_verdict judgments
-  verdict_neither clean decided = sym (not_refused clean ∙ cond-false (ltb 0 tally.undecided) Undecided _ (le-ltb 0 tally.undecided decided))
+    pub verdict_refused : 0 < tally.refused → Refused ≡ batch_verdict required judgments
+    verdict_refused some = sym (no_violation ∙ cond-true (ltb 0 tally.refused) Refused _ (lt-ltb 0 tally.refused some))
+
+    not_refused : tally.refused ≤ 0 → batch_verdict required judgments ≡ cond (ltb 0 tally.undecided) Undecided (by_number judgments)
+    not_refused clean = no_violation ∙ cond-false (ltb 0 tally.refused) Refused _ (le-ltb 0 tally.refused clean)
+
+    pub verdict_undecided : tally.refused ≤ 0 → 0 < tally.undecided → Undecided ≡ batch_verdict required judgments
+    verdict_undecided clean some = sym (not_refused clean ∙ cond-true (ltb 0 tally.undecided) Undecided _ (lt-ltb 0 tally.undecided some))
+
+    all_decided : tally.refused ≤ 0 → tally.undecided ≤ 0 → batch_verdict required judgments ≡ by_number judgments
+    all_decided clean decided = not_refused clean ∙ cond-false (ltb 0 tally.undecided) Undecided _ (le-ltb 0 tally.undecided decided)
+
+    -- whether this number is too small says the rest
+    module _ (clean : tally.refused ≤ 0) (decided : tally.undecided ≤ 0) (count : ℕ) (judged : count ≡ count_judged judgments) (few : Bool) (is : few ≡ are_too_few required count) where
+      few_is : are_too_few required (count_judged judgments) ≡ few
+      few_is = ap (are_too_few required) (sym judged) ∙ sym is
+
+      pub verdict_few : few ≡ true → Undecided ≡ batch_verdict required judgments
+      verdict_few so = sym (all_decided clean decided ∙ cond-true (are_too_few required (count_judged judgments)) Undecided NoViolation (few_is ∙ so))
+
+      pub verdict_enough : few ≡ false → NoViolation ≡ batch_verdict required judgments
+      verdict_enough so = sym (all_decided clean decided ∙ cond-false (are_too_few required (count_judged judgments)) Undecided NoViolation (few_is ∙ so))
 
 -- ---- the last line, by the numbers
 

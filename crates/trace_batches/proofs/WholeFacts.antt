@@ -16,9 +16,9 @@ use Rattle.trace_batches.specs.declared.begun.Batch.{Batch}
 use Rattle.trace_batches.specs.declared.judgments.Judgment.{Judgment}
 use Rattle.trace_batches.specs.declared.tallies.BatchVerdict.{BatchVerdict}
 use Rattle.trace_batches.specs.declared.tallies.Tally.{Tally}
-use Rattle.trace_batches.specs.BatchLines.{total_text}
+use Rattle.trace_batches.specs.BatchLines.{few_text, total_text}
 use Rattle.trace_batches.specs.BatchNames.{text_label}
-use Rattle.trace_batches.specs.Batches.{AreResults, AreResultsOf, AreResultsOfAll, BatchText, Counts, EndsBatch, HasJudged, HasWritten, IsBatch, Judges, LeavesBatch, LeavesEnd, LeavesText, TextPrinting, TextResults, WritesBatch, all_judgments, batch_verdict, head_text, known_texts, last_format, last_line, last_text, note_text, pieces_text, results_text, results_texts, under_name}
+use Rattle.trace_batches.specs.Batches.{AreResults, AreResultsOf, AreResultsOfAll, BatchText, Counts, EndsBatch, HasJudged, HasWritten, IsBatch, Judges, LeavesBatch, LeavesEnd, LeavesText, TextPrinting, TextResults, WritesBatch, all_judgments, batch_verdict, count_judged, head_text, known_texts, last_format, last_line, last_text, note_text, notes_text, pieces_text, results_text, results_texts, under_name}
 use Rattle.trace_batches.specs.Judgments.{AreJudgments}
 use Rattle.trace_batches.specs.Internal.Progress.{LeavesPieces, Told, printing_by}
 use Rattle.trace_batches.proofs.BatchFacts.{told_results}
@@ -105,16 +105,19 @@ abbrev text_of : BatchPrinting → List TextResults → List ℕ
 text_of printing all = head_text printing ++ (results_texts printing all ++ last_of printing all)
 
 abbrev notes_of : BatchPrinting → List TextResults → List ℕ
-notes_of printing all = note_text printing (last_line printing (all_judgments all))
+notes_of printing all = notes_text printing (all_judgments all)
+
+abbrev verdict_of : BatchPrinting → List TextResults → BatchVerdict
+verdict_of printing all = batch_verdict printing.required (all_judgments all)
 
 batch_of : (printing : BatchPrinting) (texts : List BatchText) (all : List TextResults) → AreResultsOfAll printing.method texts all →
-    IsBatch printing texts (text_of printing all) (notes_of printing all) (batch_verdict (all_judgments all))
+    IsBatch printing texts (text_of printing all) (notes_of printing all) (verdict_of printing all)
 batch_of printing texts all are = record { all = all; are_results = are; whole = refl; noted = refl; says = refl }
 
 pub some_batch : (printing : BatchPrinting) (texts : List BatchText) → (text : List ℕ) × (notes : List ℕ) × (verdict : BatchVerdict) × IsBatch printing texts text notes verdict
 some_batch printing texts =
     let some = some_results_of_all printing.method texts in
-    (text_of printing some.0, notes_of printing some.0, batch_verdict (all_judgments some.0), batch_of printing texts some.0 some.1)
+    (text_of printing some.0, notes_of printing some.0, verdict_of printing some.0, batch_of printing texts some.0 some.1)
 
 pub one_batch : (printing : BatchPrinting) (streams : List (Option (List ℕ) × List ℕ)) (text other notes others : List ℕ) (v w : BatchVerdict) → printing.method ≡ Judge →
     IsBatch printing (known_texts streams) text notes v → IsBatch printing (known_texts streams) other others w → (text ≡ other) × (notes ≡ others) × (v ≡ w)
@@ -124,7 +127,7 @@ one_batch printing streams text other notes others v w rules p q =
     let same = one_results_of_all streams p.all q.all (by_rules p.all p.are_results) (by_rules q.all q.are_results) in (
       p.whole ∙ ap (text_of printing) same ∙ sym q.whole,
       p.noted ∙ ap (notes_of printing) same ∙ sym q.noted,
-      p.says ∙ ap (λ all. batch_verdict (all_judgments all)) same ∙ sym q.says,
+      p.says ∙ ap (verdict_of printing) same ∙ sym q.says,
     )
 
 -- ---- a batch that has begun
@@ -133,7 +136,7 @@ one_batch printing streams text other notes others v w rules p q =
 left_of : (printing : BatchPrinting) (texts : List BatchText) (all : List TextResults) (old new before : Option (List ℕ)) (first more : List ℕ) → AreResultsOfAll printing.method texts all →
     first ++ more ≡ text_of printing all → AppendsPrefix old new first → LeavesBatch printing texts old new before before
 left_of printing texts all old new before first more are same written = (
-  batch_verdict (all_judgments all),
+  verdict_of printing all,
   text_of printing all,
   notes_of printing all,
   batch_of printing texts all are,
@@ -213,7 +216,7 @@ module _ (batch : Batch) (printing : BatchPrinting) (texts : List BatchText) (ol
 
   pub end_left : (new before after : Option (List ℕ)) → LeavesEnd batch mid new before after → LeavesBatch printing texts old new before after
   end_left new before after left = (
-    batch_verdict (all_judgments w.all),
+    verdict_of printing w.all,
     text_of printing w.all,
     notes_of printing w.all,
     batch_of printing texts w.all w.are_results,
@@ -270,31 +273,50 @@ none_of_text text batch old printing all has =
     let one = some_results printing.method text in
     (one.0, one.1, none_written old (results_text printing one.0))
 
--- ---- the last line
+-- ---- the last line, and the notes
 
-module _ (batch : Batch) (line : List ℕ) (old new before after : Option (List ℕ)) (format : BatchFormat) (formats : format ≡ last_format batch.options.printing)
-    (lines : line ≡ total_text format batch.options.printing.method batch.tally) where
+module _ (batch : Batch) (line : List ℕ) (count : ℕ) (old new before mid after : Option (List ℕ)) (format : BatchFormat) (formats : format ≡ last_format batch.options.printing)
+    (lines : line ≡ total_text format batch.options.printing.method batch.tally) (judged : (judgments : List Judgment) → Counts batch.tally judgments → count ≡ count_judged judgments) where
   line_is : (printing : BatchPrinting) (all : List TextResults) → HasJudged batch printing all → line ≡ last_line printing (all_judgments all)
   line_is printing all has =
       lines ∙ ap (λ f. total_text f batch.options.printing.method batch.tally) (formats ∙ ap last_format has.prints)
       ∙ ap (λ (p : BatchPrinting). total_text (last_format printing) p.method batch.tally) has.prints ∙ total_by_counts (last_format printing) printing.method batch.tally (all_judgments all) has.counts
 
-  pub end_whole : (verdict : BatchVerdict) → Appends old new (last_text batch.options.printing line) → Appends before after (note_text batch.options.printing line) →
-      ((judgments : List Judgment) → Counts batch.tally judgments → verdict ≡ batch_verdict judgments) → EndsBatch batch old new before after verdict
-  end_whole verdict written noted says = record {
+  -- the notes, the last line among them or not, and that too few were judged
+  abbrev note : List ℕ
+  note = note_text batch.options.printing line
+
+  abbrev few : List ℕ
+  few = few_text batch.options.printing.required count
+
+  notes_are : (printing : BatchPrinting) (all : List TextResults) → HasJudged batch printing all → note ++ few ≡ notes_text printing (all_judgments all)
+  notes_are printing all has =
+      ap₂ (λ (a b : List ℕ). a ++ b) (ap₂ note_text has.prints (line_is printing all has))
+      (ap (λ (p : BatchPrinting). few_text p.required count) has.prints ∙ ap (few_text printing.required) (judged (all_judgments all) has.counts))
+
+  pub end_whole : (verdict : BatchVerdict) → Appends old new (last_text batch.options.printing line) → Appends before mid note → Appends mid after few →
+      ((judgments : List Judgment) → Counts batch.tally judgments → verdict ≡ batch_verdict batch.options.printing.required judgments) → EndsBatch batch old new before after verdict
+  end_whole verdict written noted told says = record {
     written = λ printing all has. subst (Appends old new) (ap₂ last_text has.prints (line_is printing all has)) written;
-    noted = λ printing all has. subst (Appends before after) (ap₂ note_text has.prints (line_is printing all has)) noted;
-    says = λ printing all has. says (all_judgments all) has.counts;
+    noted = λ printing all has. subst (Appends before after) (notes_are printing all has) (Appends-trans before mid after note few noted told);
+    says = λ printing all has. says (all_judgments all) has.counts ∙ ap (λ (p : BatchPrinting). batch_verdict p.required (all_judgments all)) has.prints;
   }
 
-  pub end_some : AppendsPrefix old new (last_text batch.options.printing line) → AppendsPrefix before after (note_text batch.options.printing line) → LeavesEnd batch old new before after
-  end_some written noted = record {
+  end_so_far : AppendsPrefix old new (last_text batch.options.printing line) → AppendsPrefix before after (note ++ few) → LeavesEnd batch old new before after
+  end_so_far written noted = record {
     written = λ printing all has. subst (AppendsPrefix old new) (ap₂ last_text has.prints (line_is printing all has)) written;
-    noted = λ printing all has. subst (AppendsPrefix before after) (ap₂ note_text has.prints (line_is printing all has)) noted;
+    noted = λ printing all has. subst (AppendsPrefix before after) (notes_are printing all has) noted;
   }
+
+  -- a fault came while the last line was written, or after it
+  pub end_some : AppendsPrefix old new (last_text batch.options.printing line) → AppendsPrefix before after note → LeavesEnd batch old new before after
+  end_some written noted = end_so_far written (prefix_of_more before after note few noted)
+
+  pub end_noted : Appends old new (last_text batch.options.printing line) → Appends before mid note → AppendsPrefix mid after few → LeavesEnd batch old new before after
+  end_noted written noted told = end_so_far (whole_written old new (last_text batch.options.printing line) written) (prefix_after before mid after note few noted told)
 
 pub end_none : (batch : Batch) (old before : Option (List ℕ)) → LeavesEnd batch old old before before
 end_none batch old before = record {
   written = λ printing all has. none_written old (last_text printing (last_line printing (all_judgments all)));
-  noted = λ printing all has. none_written before (note_text printing (last_line printing (all_judgments all)));
+  noted = λ printing all has. none_written before (notes_of printing all);
 }

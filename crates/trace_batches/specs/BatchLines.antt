@@ -1,5 +1,5 @@
 -- The lines of a batch, in words, in JSON and in JUnit's XML. The lines of a text have its label.
-use Rattle.std.specs.Prelude.{ℕ, true, false, List, [], ◌∷◌, ◌++◌, codes, length}
+use Rattle.std.specs.Prelude.{ℕ, Bool, true, false, List, [], ◌∷◌, ◌++◌, Option, codes, length, nat_lt, unwrap_or, if◌then◌else◌}
 use Rattle.std.specs.Fmt.{decimal}
 use Rattle.std.specs.List.{count_by}
 use Rattle.tso_text.specs.declared.faults.TextFault.{TextFault}
@@ -139,3 +139,17 @@ tally_of judgments = record {
 -- the last line after these judgments
 abbrev pub total_line : BatchFormat → BatchMethod → List Judgment → List ℕ
 total_line format method judgments = total_text format method (tally_of judgments)
+
+-- ---- whether as many were judged as have to be
+
+-- so many are fewer than have to be
+abbrev pub are_too_few : Option ℕ → ℕ → Bool
+are_too_few required count = nat_lt count (unwrap_or required 0)
+
+-- the line that says how many were judged, and how many have to be
+unfoldable pub few_line : ℕ → ℕ → List ℕ
+few_line count required = codes "TOO FEW JUDGED " ++ (decimal count ++ (codes " required " ++ (decimal required ++ codes "\n")))
+
+-- that line where too few were judged, and else nothing
+abbrev pub few_text : Option ℕ → ℕ → List ℕ
+few_text required count = if are_too_few required count then few_line count (unwrap_or required 0) else []

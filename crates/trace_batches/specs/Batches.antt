@@ -12,9 +12,9 @@ use Rattle.trace_batches.specs.declared.judgments.Judgment.TheVariants as judged
 use Rattle.trace_batches.specs.declared.tallies.BatchVerdict.{BatchVerdict}
 use Rattle.trace_batches.specs.declared.tallies.BatchVerdict.TheVariants.{NoViolation, Violation, Undecided, Refused}
 use Rattle.trace_batches.specs.declared.tallies.Tally.{Tally}
-use Rattle.trace_batches.specs.BatchLines.{head_of, total_line, trace_line}
+use Rattle.trace_batches.specs.BatchLines.{are_too_few, few_text, head_of, total_line, trace_line}
 use Rattle.trace_batches.specs.BatchNames.{text_label}
-use Rattle.trace_batches.specs.Judgments.{AreJudgments, says_consistent, says_refused, says_undecided, says_violation}
+use Rattle.trace_batches.specs.Judgments.{AreJudgments, is_judged, says_consistent, says_refused, says_undecided, says_violation}
 use Rattle.trace_batches.specs.Pieces.{ArePieces}
 use Rattle.trace_judging.specs.declared.faults.Fault.{Fault}
 use Rattle.trace_judging.specs.declared.faults.Fault.TheVariants.{Missing}
@@ -55,12 +55,17 @@ abbrev pub all_judgments : List TextResults → List Judgment
 all_judgments [] = []
 all_judgments (results ∷ all) = results.judgments ++ all_judgments all
 
--- Violation where a judgment says so, else Refused or Undecided where one says that
-abbrev pub batch_verdict : List Judgment → BatchVerdict
-batch_verdict judgments =
+-- how many were judged
+abbrev pub count_judged : List Judgment → ℕ
+count_judged judgments = count_by is_judged judgments
+
+-- Violation where a judgment says so, else Refused or Undecided where one says that, else Undecided where fewer were judged than have to be
+abbrev pub batch_verdict : Option ℕ → List Judgment → BatchVerdict
+batch_verdict required judgments =
     if list_any says_violation judgments then Violation
     else if list_any says_refused judgments then Refused
     else if list_any says_undecided judgments then Undecided
+    else if are_too_few required (count_judged judgments) then Undecided
     else NoViolation
 
 -- ---- what is printed of a text
@@ -131,13 +136,17 @@ last_text printing line = if printing.violations then [] else line
 abbrev pub note_text : BatchPrinting → List ℕ → List ℕ
 note_text printing line = if printing.violations then line else []
 
+-- the notes after these judgments: the last line where it is one, and that too few were judged where it is so
+abbrev pub notes_text : BatchPrinting → List Judgment → List ℕ
+notes_text printing judgments = note_text printing (last_line printing judgments) ++ few_text printing.required (count_judged judgments)
+
 -- The text and the notes are those of the batch of these texts, by their results.
 pub record IsBatch (printing : BatchPrinting) (texts : List BatchText) (text notes : List ℕ) (verdict : BatchVerdict) : Type 0 where
   pub all : List TextResults
   pub are_results : AreResultsOfAll printing.method texts all
   pub whole : text ≡ head_text printing ++ (results_texts printing all ++ last_text printing (last_line printing (all_judgments all)))
-  pub noted : notes ≡ note_text printing (last_line printing (all_judgments all))
-  pub says : verdict ≡ batch_verdict (all_judgments all)
+  pub noted : notes ≡ notes_text printing (all_judgments all)
+  pub says : verdict ≡ batch_verdict printing.required (all_judgments all)
 
 -- ---- what is written
 
@@ -192,12 +201,12 @@ LeavesText text before old new = (printing : BatchPrinting) (all : List TextResu
 -- The last line was written, and the notes; or a prefix of each.
 pub record EndsBatch (batch : Batch) (old new before after : Option (List ℕ)) (verdict : BatchVerdict) : Type 0 where
   pub written : (printing : BatchPrinting) (all : List TextResults) → HasJudged batch printing all → Appends old new (last_text printing (last_line printing (all_judgments all)))
-  pub noted : (printing : BatchPrinting) (all : List TextResults) → HasJudged batch printing all → Appends before after (note_text printing (last_line printing (all_judgments all)))
-  pub says : (printing : BatchPrinting) (all : List TextResults) → HasJudged batch printing all → verdict ≡ batch_verdict (all_judgments all)
+  pub noted : (printing : BatchPrinting) (all : List TextResults) → HasJudged batch printing all → Appends before after (notes_text printing (all_judgments all))
+  pub says : (printing : BatchPrinting) (all : List TextResults) → HasJudged batch printing all → verdict ≡ batch_verdict printing.required (all_judgments all)
 
 pub record LeavesEnd (batch : Batch) (old new before after : Option (List ℕ)) : Type 0 where
   pub written : (printing : BatchPrinting) (all : List TextResults) → HasJudged batch printing all → AppendsPrefix old new (last_text printing (last_line printing (all_judgments all)))
-  pub noted : (printing : BatchPrinting) (all : List TextResults) → HasJudged batch printing all → AppendsPrefix before after (note_text printing (last_line printing (all_judgments all)))
+  pub noted : (printing : BatchPrinting) (all : List TextResults) → HasJudged batch printing all → AppendsPrefix before after (notes_text printing (all_judgments all))
 
 -- A batch that has judged just these texts, and has written what is printed of them, after the head.
 pub record HasWritten (batch : Batch) (printing : BatchPrinting) (texts : List BatchText) (old new : Option (List ℕ)) : Type 0 where

@@ -68,3 +68,9 @@ says_undecided _ = false
 abbrev pub says_refused : Judgment → Bool
 says_refused (Refused fault) = true
 says_refused _ = false
+
+-- the piece was judged: it is neither refused nor undecided
+abbrev pub is_judged : Judgment → Bool
+is_judged (Undecided cases) = false
+is_judged (Refused fault) = false
+is_judged _ = true

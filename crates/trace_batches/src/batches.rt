@@ -64,6 +64,8 @@ pub struct BatchPrinting {
     pub quiet: bool,
     /// Whether the texts of violations are printed in place of all lines.
     pub violations: bool,
+    /// How many traces have to be judged, at least, and neither refused nor undecided; none where any number will do.
+    pub required: Option<u64>,
 }
 
 /// How a batch is judged and printed.

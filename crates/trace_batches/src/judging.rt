@@ -2,6 +2,7 @@
 ghost use Rattle.std.specs.Prelude.{◌≡◌, ◌≤◌, ◌∷◌, [], List, IfSome, IfOk, IfErr, OnOk, OnErr, option_map};
 ghost use Rattle.std.specs.Io.KnownBytes.{Appends, Consumes};
 ghost use Rattle.trace_judging.specs.Streams.{AppendsPrefix};
+ghost use Rattle.trace_batches.specs.BatchLines.{few_text};
 ghost use Rattle.trace_batches.specs.Batches.{EndsBatch, HasJudged, IsBatchFault, Judges, LeavesBatch, LeavesEnd, LeavesText, WritesBatch, head_text, last_text, note_text, one_text};
 
 use crate::batches::{BatchOptions, BatchPrinting, TextJudging, judge_pieces};
@@ -9,8 +10,8 @@ use crate::begun::Batch;
 use crate::lines::{head, last_format};
 use crate::names::text_label;
 use crate::streams::write_flushed;
-use crate::tallies::{BatchVerdict, Tally};
-use crate::totals::total_line;
+use crate::tallies::{BatchVerdict, Tally, are_too_few};
+use crate::totals::{few_line, total_line};
 use progress_meters::{Meter, NoMeter};
 use std::alloc::Global;
 use std::io::{Read, Write};
@@ -75,8 +76,9 @@ impl Batch {
     }
 
     /// Ends a batch: writes the last line, with the numbers of all texts, to the writer or, where the texts of violations
-    /// are printed, to `errors`. The verdict is Violation where a trace is one, else Refused where one is refused, else
-    /// Undecided where one is that, else NoViolation.
+    /// are printed, to `errors`; and to `errors` a line as `TOO FEW JUDGED 3 required 10` where fewer traces were judged than
+    /// have to be. The verdict is Violation where a trace is one, else Refused where one is refused, else Undecided where one
+    /// is that or too few were judged, else NoViolation.
     ///
     /// Faults: OutOfMemory where an allocation was refused; Write where a writer failed, took no byte or was interrupted
     /// more than 1,048,576 times.
@@ -96,8 +98,10 @@ impl Batch {
             printing.method,
             &self.tally,
         )?;
+        let count = self.tally.judged();
         write_total(printing, line.as_bytes(), writer, errors)?;
-        Ok(self.tally.verdict())
+        write_few(self.alloc, printing.required, count, errors)?;
+        Ok(self.tally.verdict(printing.required))
     }
 }
 
@@ -149,4 +153,22 @@ fn write_total<W: Write, E: Write>(
     } else {
         write_flushed(writer, line)
     }
+}
+
+/// Writes that so many judged traces are fewer than have to be, where they are.
+fn write_few<E: Write>(
+    alloc: Global,
+    required: Option<u64>,
+    count: u64,
+    errors: &mut E,
+) -> Result<(), Fault>
+    ensures whole { OnOk result (Appends (E.contents errors.old) (E.contents errors.new) (few_text required count)) }
+    ensures prefix { AppendsPrefix (E.contents errors.old) (E.contents errors.new) (few_text required count) }
+    ensures fault { IfErr result IsBatchFault }
+{
+    if !are_too_few(required, count) {
+        return Ok(());
+    }
+    let line = few_line(alloc, count, required.unwrap_or(0))?;
+    write_flushed(errors, line.as_bytes())
 }

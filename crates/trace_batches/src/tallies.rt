@@ -1,6 +1,7 @@
 //! How many pieces were judged, and what is said of them.
 ghost use Rattle.std.specs.Prelude.{◌≡◌, ◌+◌, ◌∷◌, ◌++◌, [], List, IfOk, IfErr, OnOk};
-ghost use Rattle.trace_batches.specs.Batches.{Counts, batch_verdict};
+ghost use Rattle.trace_batches.specs.BatchLines.{are_too_few};
+ghost use Rattle.trace_batches.specs.Batches.{Counts, batch_verdict, count_judged};
 ghost use Rattle.trace_batches.specs.declared.judgments.Judgment.{Judgment};
 ghost use Rattle.trace_judging.specs.declared.faults.Fault.{Fault};
 
@@ -12,7 +13,7 @@ use trace_judging::Fault;
 pub enum BatchVerdict {
     /// None of them is one of these: no violation was found, or all are consistent.
     NoViolation,
-    /// One of them is undecided, and none is refused or a violation.
+    /// One of them is undecided, or fewer were judged than have to be, and none is refused or a violation.
     Undecided,
     /// One of them is refused, and none is a violation.
     Refused,
@@ -74,9 +75,19 @@ impl Tally {
         Ok(())
     }
 
-    /// Violation where a judgment says so, else Refused or Undecided where one says that.
-    pub(crate) fn verdict(&self) -> BatchVerdict
-        ensures { (judgments : List Judgment) → Counts self.now judgments → result ≡ batch_verdict judgments }
+    /// How many were judged: those that are neither refused nor undecided.
+    pub(crate) fn judged(&self) -> u64
+        ensures { (judgments : List Judgment) → Counts self.now judgments → result ≡ count_judged judgments }
+    {
+        self.traces
+            .saturating_sub(self.undecided)
+            .saturating_sub(self.refused)
+    }
+
+    /// Violation where a judgment says so, else Refused or Undecided where one says that, else Undecided where fewer were
+    /// judged than have to be.
+    pub(crate) fn verdict(&self, required: Option<u64>) -> BatchVerdict
+        ensures { (judgments : List Judgment) → Counts self.now judgments → result ≡ batch_verdict required judgments }
     {
         if self.violations > 0 {
             BatchVerdict::Violation
@@ -84,10 +95,19 @@ impl Tally {
             BatchVerdict::Refused
         } else if self.undecided > 0 {
             BatchVerdict::Undecided
+        } else if are_too_few(required, self.judged()) {
+            BatchVerdict::Undecided
         } else {
             BatchVerdict::NoViolation
         }
     }
+}
+
+/// Whether so many judged traces are fewer than have to be.
+pub(crate) fn are_too_few(required: Option<u64>, count: u64) -> bool
+    ensures { result ≡ are_too_few required count }
+{
+    count < required.unwrap_or(0)
 }
 
 /// The sum of numbers, or Read where 64 bits don't hold it.

@@ -1,6 +1,6 @@
-//! The last line of a batch, in words, in JSON and in JUnit's XML.
+//! The last line of a batch, in words, in JSON and in JUnit's XML, and the line that says that too few traces were judged.
 ghost use Rattle.std.specs.Prelude.{◌≡◌, ◌++◌, IfOk, codes, string_bytes};
-ghost use Rattle.trace_batches.specs.BatchLines.{decided_json, decided_words, judged_json, judged_words, total_json, total_text, total_words};
+ghost use Rattle.trace_batches.specs.BatchLines.{decided_json, decided_words, few_line, judged_json, judged_words, total_json, total_text, total_words};
 
 use crate::batches::{BatchFormat, BatchMethod};
 use crate::tallies::Tally;
@@ -99,4 +99,12 @@ fn decided_json(alloc: Global, tally: &Tally) -> Result<String, OutOfMemory>
     format!(in alloc;
         "{{\"traces\":{traces},\"consistent\":{consistent},\"violations\":{violations},\"undecided\":{undecided},\"refused\":{refused}}}\n"
     )
+}
+
+/// The line that says how many traces were judged, where more have to be.
+#[tactic(auto, unfolding(crate::specs::BatchLines::few_line))]
+pub(crate) fn few_line(alloc: Global, count: u64, required: u64) -> Result<String, OutOfMemory>
+    ensures { IfOk result (λ line. string_bytes line ≡ few_line count required) }
+{
+    format!(in alloc; "TOO FEW JUDGED {count} required {required}\n")
 }

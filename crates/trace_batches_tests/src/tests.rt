@@ -5,6 +5,7 @@ mod decided;
 mod faults;
 mod names;
 mod numbers;
+mod required;
 mod several;
 mod streams;
 
@@ -37,6 +38,7 @@ const WORDS: BatchPrinting = BatchPrinting {
     format: BatchFormat::Words,
     quiet: false,
     violations: false,
+    required: None,
 };
 
 const QUIET: BatchPrinting = BatchPrinting {
@@ -44,6 +46,7 @@ const QUIET: BatchPrinting = BatchPrinting {
     format: BatchFormat::Words,
     quiet: true,
     violations: false,
+    required: None,
 };
 
 const VIOLATIONS: BatchPrinting = BatchPrinting {
@@ -51,6 +54,7 @@ const VIOLATIONS: BatchPrinting = BatchPrinting {
     format: BatchFormat::Words,
     quiet: false,
     violations: true,
+    required: None,
 };
 
 const JSON: BatchPrinting = BatchPrinting {
@@ -58,6 +62,7 @@ const JSON: BatchPrinting = BatchPrinting {
     format: BatchFormat::Json,
     quiet: false,
     violations: false,
+    required: None,
 };
 
 const JUNIT: BatchPrinting = BatchPrinting {
@@ -65,6 +70,7 @@ const JUNIT: BatchPrinting = BatchPrinting {
     format: BatchFormat::Junit,
     quiet: false,
     violations: false,
+    required: None,
 };
 
 /// A trace without a violation, a violation and a refused text.
@@ -184,4 +190,15 @@ fn batches(rt: HostRuntime) {
     expect_cases(&rt, rt.alloc(), &several::CASES);
     expect_cases(&rt, rt.alloc(), &decided::CASES);
     expect_cases(&rt, rt.alloc(), &names::CASES);
+}
+
+/// Batches of which so many traces have to be judged.
+#[test]
+fn required_batches(rt: HostRuntime) {
+    for case in required::CASES {
+        expect_cases(&rt, rt.alloc(), &[required::required(case)]);
+    }
+    for case in required::FEW {
+        expect_cases(&rt, rt.alloc(), &[required::required(case)]);
+    }
 }

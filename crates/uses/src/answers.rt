@@ -53,6 +53,7 @@ pub fn judge_many<H: Threads + Wait + Sync, R: Read, W: Write, E: Write>(
         format: BatchFormat::Words,
         quiet: false,
         violations: false,
+        required: None,
     };
     let options = BatchOptions {
         workers: 4,

@@ -1,5 +1,5 @@
-//! `batch [--workers N] [--format FORMAT] [--quiet] [--violations] [--decide] [--effort N] [--progress] [--verbose] [FILE]...`: judges
-//! traces that stand one after the other, or decides on them.
+//! `batch [--workers N] [--format FORMAT] [--quiet] [--violations] [--decide] [--effort N] [--require N] [--progress] [--verbose] [FILE]...`:
+//! judges traces that stand one after the other, or decides on them.
 
 use crate::options::MAX_WORKERS;
 use crate::parameters::{Accepted, Description, NameList, Parameter};
@@ -39,9 +39,14 @@ traces 4 consistent 1 violations 1 undecided 1 refused 1. An undecided trace is
 {\"trace\":4,\"verdict\":\"undecided\",\"cases\":100000} in JSON, and a test case
 that was skipped in JUnit's XML.
 
+With --require N the status isn't 0 if fewer than N traces of all files were
+judged: a text that is REFUSED or UNDECIDED wasn't. Then standard error gets a
+line, as TOO FEW JUDGED 0 required 100.
+
 Exit status:
   0  no violation was found, which proves nothing; or all traces are CONSISTENT
-  1  a trace is UNDECIDED, and no text is refused or a violation
+  1  a trace is UNDECIDED, or fewer were judged than --require says, and no text
+     is refused or a violation
   2  a text is no trace, and none is a violation, or the command line was refused
   3  a trace violates its memory model
   4  a fault, which one line on standard error names, as FAULT Read
@@ -82,6 +87,12 @@ pub(crate) static BATCH: Description = Description {
         },
         shared::DECIDE,
         shared::EFFORT,
+        Parameter::Optional {
+            name: "require",
+            value_name: "N",
+            accepted: Accepted::Number(1, u64::MAX),
+            help: "How many traces have to be judged, at least",
+        },
         shared::PROGRESS,
         shared::VERBOSE,
         Parameter::Several {

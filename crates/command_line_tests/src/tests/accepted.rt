@@ -7,7 +7,7 @@ use super::expect_each;
 use std::test::Fail;
 
 /// Arguments about traces and logs.
-static TRACES: [(&[&str], &str); 36] = [
+static TRACES: [(&[&str], &str); 37] = [
     (
         &[],
         "Judge(JudgeRequest { file: None, workers: 1, nth: None, presentation: Report })",
@@ -78,15 +78,15 @@ static TRACES: [(&[&str], &str); 36] = [
     ),
     (
         &["batch"],
-        "Batch(BatchRequest { texts: [None], workers: 1, printing: BatchPrinting { format: Words, quiet: false, violations: false, effort: None } })",
+        "Batch(BatchRequest { texts: [None], workers: 1, printing: BatchPrinting { format: Words, quiet: false, violations: false, effort: None, required: None } })",
     ),
     (
         &["batch", "a", "--quiet", "-", "--workers=2", "a", "c d"],
-        "Batch(BatchRequest { texts: [Some(\"a\"), None, Some(\"a\"), Some(\"c d\")], workers: 2, printing: BatchPrinting { format: Words, quiet: true, violations: false, effort: None } })",
+        "Batch(BatchRequest { texts: [Some(\"a\"), None, Some(\"a\"), Some(\"c d\")], workers: 2, printing: BatchPrinting { format: Words, quiet: true, violations: false, effort: None, required: None } })",
     ),
     (
         &["batch", "--", "--quiet", "-", "batch"],
-        "Batch(BatchRequest { texts: [Some(\"--quiet\"), None, Some(\"batch\")], workers: 1, printing: BatchPrinting { format: Words, quiet: false, violations: false, effort: None } })",
+        "Batch(BatchRequest { texts: [Some(\"--quiet\"), None, Some(\"batch\")], workers: 1, printing: BatchPrinting { format: Words, quiet: false, violations: false, effort: None, required: None } })",
     ),
     (
         &["log"],
@@ -142,11 +142,15 @@ static TRACES: [(&[&str], &str); 36] = [
     ),
     (
         &["batch", "--decide", "--effort", "3", "--quiet", "a", "b"],
-        "Batch(BatchRequest { texts: [Some(\"a\"), Some(\"b\")], workers: 1, printing: BatchPrinting { format: Words, quiet: true, violations: false, effort: Some(3) } })",
+        "Batch(BatchRequest { texts: [Some(\"a\"), Some(\"b\")], workers: 1, printing: BatchPrinting { format: Words, quiet: true, violations: false, effort: Some(3), required: None } })",
     ),
     (
         &["batch", "--violations", "--decide", "--format=json", "s"],
-        "Batch(BatchRequest { texts: [Some(\"s\")], workers: 1, printing: BatchPrinting { format: Json, quiet: false, violations: true, effort: Some(100000) } })",
+        "Batch(BatchRequest { texts: [Some(\"s\")], workers: 1, printing: BatchPrinting { format: Json, quiet: false, violations: true, effort: Some(100000), required: None } })",
+    ),
+    (
+        &["batch", "--require=18446744073709551615", "s", "--quiet"],
+        "Batch(BatchRequest { texts: [Some(\"s\")], workers: 1, printing: BatchPrinting { format: Words, quiet: true, violations: false, effort: None, required: Some(18446744073709551615) } })",
     ),
     (
         &["verify", "--nth", "2", "-", "e"],

@@ -24,7 +24,7 @@ pub(super) const UNKNOWN: &str =
     "error: unrecognized subcommand 'seek'\n\nUsage: tsobench [COMMAND]\n\nFor more information, try '--help'.\n";
 
 /// Arguments about traces and logs, and the text of their refusal.
-static TRACES: [(&[&str], &str); 36] = [
+static TRACES: [(&[&str], &str); 38] = [
     (&["batch", "-", "-"], SEVERAL_INPUTS),
     (&["batch", "-", "a", "--quiet", "b", "-"], SEVERAL_INPUTS),
     (
@@ -119,6 +119,14 @@ static TRACES: [(&[&str], &str); 36] = [
     (
         &["batch", "--effort", "-1"],
         "error: unexpected argument '-1' found\n\n  tip: to pass '-1' as a value, use '-- -1'\n\nUsage: tsobench batch [OPTIONS] [FILE]...\n\nFor more information, try '--help'.\n",
+    ),
+    (
+        &["batch", "--require", "0", "s"],
+        "error: invalid value '0' for '--require <N>': 0 is not in 1..18446744073709551615\n\nFor more information, try '--help'.\n",
+    ),
+    (
+        &["batch", "--require"],
+        "error: a value is required for '--require <N>' but none was supplied\n\nFor more information, try '--help'.\n",
     ),
     (&["verify", "-", "-"], TWO_INPUTS),
     (&["verify", "--", "-", "-"], TWO_INPUTS),

@@ -155,6 +155,7 @@ fn asked_printing(printing: AskedPrinting) -> BatchPrinting
         format: asked_format(printing.format),
         quiet: printing.quiet,
         violations: printing.violations,
+        required: printing.required,
     }
 }
 

@@ -26,7 +26,7 @@ const BATCHED_FIRST: &str = "trace: trace 1 VIOLATION\n";
 const SECOND_FILE: &str =
     "error: unexpected argument 'b' found\n\nUsage: tsobench judge [OPTIONS] [FILE]\n\nFor more information, try '--help'.\n";
 
-pub(super) static CASES: [Case; 27] = [
+pub(super) static CASES: [Case; 31] = [
     // store_forwarded, missing_end and unwritten_load on standard input
     (
         "",
@@ -121,6 +121,39 @@ pub(super) static CASES: [Case; 27] = [
         READ,
     ),
     ("batch trace - log", None, "trace;", 4, BATCHED_FIRST, READ),
+    // so many traces have to be judged; a violation is worse
+    (
+        "batch --require 1 trace",
+        None,
+        "trace;",
+        3,
+        BATCHED_ALONE,
+        "",
+    ),
+    (
+        "batch --require 2 trace",
+        None,
+        "trace;",
+        3,
+        BATCHED_ALONE,
+        "TOO FEW JUDGED 1 required 2\n",
+    ),
+    (
+        "batch --require 1",
+        Some("tso trace 1\nend\n"),
+        "",
+        0,
+        "trace 1 NO VIOLATION FOUND\ntraces 1 violations 0 refused 0\n",
+        "",
+    ),
+    (
+        "batch --require 1",
+        Some(""),
+        "",
+        1,
+        "traces 0 violations 0 refused 0\n",
+        "TOO FEW JUDGED 0 required 1\n",
+    ),
     // the text of a refusal; texts of help and the version are in program-cases/
     ("judge a b", None, "", 2, "", SECOND_FILE),
 ];

@@ -4,7 +4,7 @@ use super::Case;
 use trace_batches::{BatchFormat, BatchMethod, BatchPrinting, BatchVerdict};
 
 /// A consistent trace, one with an unwritten load, one without an order or a derived cycle, and a refused text.
-const STREAM: &str =
+pub(super) const STREAM: &str =
     "tso trace 1\nproc\nst 1 1\nld 1 1\nend\ntso trace 1\nproc\nld 1 9\nend\ntso trace 1\nproc\nst 1 1\nmb\nld 2 3\nld 1 1\nproc\nst 1 2\nmb\nld 2 4\nld 1 2\nproc\nst 2 3\nmb\nld 1 2\nld 2 3\nproc\nst 2 4\nmb\nld 1 1\nld 2 4\nend\ntso trace 1\nproc\nld 01 0\nend\n";
 
 const UNDECIDED_WORDS: BatchPrinting = BatchPrinting {
@@ -12,6 +12,7 @@ const UNDECIDED_WORDS: BatchPrinting = BatchPrinting {
     format: BatchFormat::Words,
     quiet: false,
     violations: false,
+    required: None,
 };
 
 const DECIDED_WORDS: BatchPrinting = BatchPrinting {
@@ -19,13 +20,15 @@ const DECIDED_WORDS: BatchPrinting = BatchPrinting {
     format: BatchFormat::Words,
     quiet: false,
     violations: false,
+    required: None,
 };
 
-const UNDECIDED_QUIET: BatchPrinting = BatchPrinting {
+pub(super) const UNDECIDED_QUIET: BatchPrinting = BatchPrinting {
     method: BatchMethod::Decide { effort: 0 },
     format: BatchFormat::Words,
     quiet: true,
     violations: false,
+    required: None,
 };
 
 const UNDECIDED_JSON: BatchPrinting = BatchPrinting {
@@ -33,6 +36,7 @@ const UNDECIDED_JSON: BatchPrinting = BatchPrinting {
     format: BatchFormat::Json,
     quiet: false,
     violations: false,
+    required: None,
 };
 
 const UNDECIDED_JUNIT: BatchPrinting = BatchPrinting {
@@ -40,6 +44,7 @@ const UNDECIDED_JUNIT: BatchPrinting = BatchPrinting {
     format: BatchFormat::Junit,
     quiet: false,
     violations: false,
+    required: None,
 };
 
 /// Streams of which it is decided what they are.

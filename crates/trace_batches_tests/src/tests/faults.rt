@@ -2,7 +2,7 @@
 
 use super::{
     Case, DOCUMENT, JUNIT, LINES, OTHER, QUIET, SIX, STREAM, TEXT, THREE, TWO_VIOLATIONS,
-    VIOLATIONS, WORDS, expect, expect_batch,
+    VIOLATIONS, WORDS, expect, expect_batch, required,
 };
 use progress_meters::{Meter, NoMeter};
 use std::alloc::Global;
@@ -51,13 +51,24 @@ fn writer_stops_at_each_byte(rt: HostRuntime) {
     for case in STOPPED {
         expect_stopped(&rt, rt.alloc(), case);
     }
+    for case in required::FEW {
+        expect_stopped(&rt, rt.alloc(), required::required(case));
+    }
 }
 
-/// Errors that stop at each byte have the first bytes of the numbers, after all violations were written.
+/// Compares what a batch of a case leads to whose errors stop at each byte.
+fn expect_stopped_notes<H: Threads + Wait + Sync + Abort>(rt: &H, alloc: Global, case: Case) {
+    for room in 0..case.4.len() {
+        expect_batch(rt, alloc, case, 1, usize::MAX, room);
+    }
+}
+
+/// Errors that stop at each byte have the first bytes of the notes, after all violations or lines were written.
 #[test]
-fn numbers_to_errors_that_stop(rt: HostRuntime) {
-    for room in 0..NUMBERS.len() {
-        expect_batch(&rt, rt.alloc(), VIOLATIONS_OF_SIX, 1, usize::MAX, room);
+fn notes_to_errors_that_stop(rt: HostRuntime) {
+    expect_stopped_notes(&rt, rt.alloc(), VIOLATIONS_OF_SIX);
+    for case in required::FEW {
+        expect_stopped_notes(&rt, rt.alloc(), required::required(case));
     }
 }
 

@@ -10,13 +10,15 @@ const QUIET_VIOLATIONS: BatchPrinting = BatchPrinting {
     format: BatchFormat::Words,
     quiet: true,
     violations: true,
+    required: None,
 };
 
-const VIOLATIONS_JSON: BatchPrinting = BatchPrinting {
+pub(super) const VIOLATIONS_JSON: BatchPrinting = BatchPrinting {
     method: BatchMethod::Judge,
     format: BatchFormat::Json,
     quiet: false,
     violations: true,
+    required: None,
 };
 
 /// Texts with names, and of violations.

@@ -8,6 +8,7 @@ const QUIET_JSON: BatchPrinting = BatchPrinting {
     format: BatchFormat::Json,
     quiet: true,
     violations: false,
+    required: None,
 };
 
 const VIOLATIONS_JSON: BatchPrinting = BatchPrinting {
@@ -15,6 +16,7 @@ const VIOLATIONS_JSON: BatchPrinting = BatchPrinting {
     format: BatchFormat::Json,
     quiet: false,
     violations: true,
+    required: None,
 };
 
 const QUIET_JUNIT: BatchPrinting = BatchPrinting {
@@ -22,6 +24,7 @@ const QUIET_JUNIT: BatchPrinting = BatchPrinting {
     format: BatchFormat::Junit,
     quiet: true,
     violations: false,
+    required: None,
 };
 
 const VIOLATIONS_JUNIT: BatchPrinting = BatchPrinting {
@@ -29,6 +32,7 @@ const VIOLATIONS_JUNIT: BatchPrinting = BatchPrinting {
     format: BatchFormat::Junit,
     quiet: false,
     violations: true,
+    required: None,
 };
 
 /// Streams without a name.
