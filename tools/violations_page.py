@@ -55,7 +55,7 @@ def folded(summary, content):
 
 def further_traces(group):
     """The reduced traces of a group but the first, folded."""
-    parts = [f"<p>{len(numbers)}, the first is trace {numbers[0]}:</p>\n<pre>{html.escape(trace)}</pre>"
+    parts = [f"<p>{len(numbers)}, the first is trace {group.place(numbers[0])}:</p>\n<pre>{html.escape(trace)}</pre>"
              for trace, numbers in group.traces[1:]]
     return folded(f"{len(parts)} more reduced traces of this shape", "\n".join(parts)) if parts else ""
 
@@ -68,19 +68,19 @@ def section_of(program, numbered):
     return f"""\
 <section id="group-{number}">
 <h2>Group {number}: {html.escape(group.name or "no known test")}</h2>
-<p>Shape <code>{html.escape(group.shape)}</code>. {len(positions)} violations, the first is trace {positions[0]} of the stream. \
+<p>Shape <code>{html.escape(group.shape)}</code>. {len(positions)} violations, the first is trace {group.place(positions[0])} of the stream. \
 <a href="#groups">All groups</a></p>
 <div class="sides">
 <figure>{picture_of(program, trace, f"picture-{number}-")}</figure>
 <div>
 <h3>Reduced trace</h3>
-<p>{len(numbers)} of the group's violations are reduced to it, the first is trace {numbers[0]}.</p>
+<p>{len(numbers)} of the group's violations are reduced to it, the first is trace {group.place(numbers[0])}.</p>
 <pre>{html.escape(trace)}</pre>
 </div>
 </div>
 <h3>Why it can't be</h3>
 <pre>{html.escape(explanation_of(program, trace))}</pre>
-{folded(f"{len(positions)} positions in the stream", f"<p>{', '.join(map(str, positions))}</p>")}{further_traces(group)}</section>
+{folded(f"{len(positions)} positions in the stream", f"<p>{', '.join(map(group.place, positions))}</p>")}{further_traces(group)}</section>
 """
 
 

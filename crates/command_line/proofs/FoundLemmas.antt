@@ -21,7 +21,7 @@ use Rattle.command_line.specs.declared.options.LogForm.{LogForm}
 use Rattle.command_line.specs.declared.options.LogOptions.{LogOptions}
 use Rattle.command_line.specs.declared.options.RunOptions.{RunOptions}
 use Rattle.command_line.specs.declared.options.UnitOptions.{UnitOptions}
-use Rattle.command_line.specs.Requests.{Asked, Text, asked_of, batching, capacity_limit, checking, drain_turns_limit, log_effort_limit, log_violation_limit, logging, number_limit, prints_trace, refusing, repeating, replaying, run_times_limit, running, verifying, worker_limit}
+use Rattle.command_line.specs.Requests.{Asked, Text, asked_of, batching, capacity_limit, checking, drain_turns_limit, log_effort_limit, log_violation_limit, logging, number_limit, percent_limit, prints_trace, refusing, repeating, replaying, run_times_limit, running, verifying, worker_limit}
 use Rattle.command_line.specs.declared.options.Printing.{Printing}
 use Rattle.command_line.specs.declared.requests.Request.{Request}
 use Rattle.command_line.specs.Subcommands.{batch, batch_printing_of, batch_texts, check, file_of, is_true, log, log_form_of, log_options_in, log_options_of, log_parameters, number_of, number_or, outcomes, outcomes_asked, pair_of, printing_of, replay, run, run_asked, run_of, run_parameters, unit_of, verify, within, workers_of}
@@ -96,11 +96,12 @@ pub run_options_found : (given : Text → Option Text) (unit : UnitOptions) (wor
 run_options_found given unit workers printing with_trace unit_is workers_are printing_is with_trace_is = rw (unit_is, workers_are, printing_is, with_trace_is) refl
 
 -- what is shown of a log, by its form
-pub log_options_found : (given : Text → Option Text) (most effort : ℕ) (form : Option LogForm) → most ≡ within 1 log_violation_limit (number_or 10 (given (codes "most")))
+pub log_options_found : (given : Text → Option Text) (most effort max_unknown : ℕ) (form : Option LogForm) → most ≡ within 1 log_violation_limit (number_or 10 (given (codes "most")))
     → effort ≡ within 0 log_effort_limit (number_or 100 (given (codes "effort")))
+    → max_unknown ≡ within 0 percent_limit (number_or 100 (given (codes "max-unknown")))
     → form ≡ log_form_of (is_true (given (codes "trace"))) (is_true (given (codes "explain")))
-    → option_map (λ (f : LogForm). record { most = most; effort = effort; form = f }) form ≡ log_options_of given
-log_options_found given most effort form most_is effort_is form_is = rw (most_is, effort_is, form_is) refl
+    → option_map (λ (f : LogForm). record { most = most; effort = effort; max_unknown = max_unknown; form = f }) form ≡ log_options_of given
+log_options_found given most effort max_unknown form most_is effort_is max_unknown_is form_is = rw (most_is, effort_is, max_unknown_is, form_is) refl
 
 -- what `check` asks for with these texts, where there are any, and this number
 pub check_asked : (rows : List Row) (texts : Option (Option Text × Option Text)) → texts ≡ pair_of (file_of (first_of (codes "trace") rows)) (file_of (first_of (codes "cert") rows)) → (nth : Option ℕ)
@@ -220,7 +221,7 @@ module _ (P : Asked → Type 0) (refused : P refusing) where
       by_times options seed turns times program first second few =
           by_one (times == 1) _ _ (first few) (by_trace (prints_trace options.printing) _ (second few))
 
-  pub of_log : ((file : Option Text) (options : LogOptions) → 1 ≤ options.most → options.most ≤ log_violation_limit → options.effort ≤ log_effort_limit → P (logging file options)) → (rows : List Row) → P (asked_in log rows)
+  pub of_log : ((file : Option Text) (options : LogOptions) → 1 ≤ options.most → options.most ≤ log_violation_limit → options.effort ≤ log_effort_limit → options.max_unknown ≤ percent_limit → P (logging file options)) → (rows : List Row) → P (asked_in log rows)
   of_log asked rows = go (log_form_of (is_true (given_in log.parameters rows (codes "trace"))) (is_true (given_in log.parameters rows (codes "explain"))))
     where
       file : Option Text
@@ -231,7 +232,7 @@ module _ (P : Asked → Type 0) (refused : P refusing) where
 
       go : (form : Option LogForm) → P (option_map_or (logging file) (option_map options form) refusing)
       go None = refused
-      go (Some form) = asked file (options form) (omega arith) (omega arith) (omega arith)
+      go (Some form) = asked file (options form) (omega arith) (omega arith) (omega arith) (omega arith)
 
   pub of_batch : ((texts : List (Option Text)) (workers : ℕ) (printing : BatchPrinting) → 1 ≤ workers → workers ≤ worker_limit → count_by is_none texts ≤ 1 → P (batching texts workers printing)) → (rows : List Row) → P (asked_in batch rows)
   of_batch asked rows = of_texts (several_in rows batch.parameters)

@@ -117,6 +117,10 @@ log_violation_limit = 1000000
 abbrev pub log_effort_limit : ℕ
 log_effort_limit = 1000000
 
+-- all of a hundred
+abbrev pub percent_limit : ℕ
+percent_limit = 100
+
 -- the greatest number of 64 bits
 abbrev pub number_limit : ℕ
 number_limit = 2 ^ 64 - 1
@@ -173,7 +177,7 @@ HasDrainTurns asked = Unit {0}
 
 -- the options of a log are within their ranges
 abbrev pub HasLogRanges : Asked → Type 0
-HasLogRanges (logging file options) = (1 ≤ options.most) × (options.most ≤ log_violation_limit) × (options.effort ≤ log_effort_limit)
+HasLogRanges (logging file options) = (1 ≤ options.most) × (options.most ≤ log_violation_limit) × (options.effort ≤ log_effort_limit) × (options.max_unknown ≤ percent_limit)
 HasLogRanges asked = Unit {0}
 
 -- standard input is at most one of the texts of a batch, since it can be read once

@@ -27,7 +27,7 @@ use Rattle.command_line.specs.declared.requests.Notes.{Notes}
 use Rattle.command_line.specs.declared.parameters.NameList.{NameList}
 use Rattle.command_line.specs.declared.parameters.NameList.TheVariants.{Units, Models, Formats}
 use Rattle.command_line.specs.Names.{formats, models, units}
-use Rattle.command_line.specs.Requests.{Text, Asked, batching, campaigning, capacity_limit, checking, counting, deciding, drain_turns_limit, judging, listing, log_effort_limit, log_violation_limit, logging, making, number_limit, prints_trace, reducing, refusing, repeating, replaying, run_times_limit, running, verifying, worker_limit}
+use Rattle.command_line.specs.Requests.{Text, Asked, batching, campaigning, capacity_limit, checking, counting, deciding, drain_turns_limit, judging, listing, log_effort_limit, log_violation_limit, logging, making, number_limit, percent_limit, prints_trace, reducing, refusing, repeating, replaying, run_times_limit, running, verifying, worker_limit}
 
 pub record Subcommand : Type 0 where
   pub name : Text
@@ -107,11 +107,13 @@ drain_turns = option (codes "drain-turns") (range 0 drain_turns_limit) (Some (co
 abbrev pub times : Parameter NameList
 times = option (codes "times") (range 1 run_times_limit) (Some (codes "1"))
 
--- `[--most K] [--effort N] [--trace|--explain] [--progress] [--verbose]`: 10 violations and an effort of 100 where they are left out
+-- `[--most K] [--effort N] [--max-unknown PERCENT] [--trace|--explain] [--progress] [--verbose]`: 10 violations, an effort of 100 and 100 of a hundred where
+-- they are left out
 abbrev pub log_parameters : List (Parameter NameList)
 log_parameters =
     option (codes "most") (range 1 log_violation_limit) (Some (codes "10"))
     ∷ option (codes "effort") (range 0 log_effort_limit) (Some (codes "100"))
+    ∷ option (codes "max-unknown") (range 0 percent_limit) (Some (codes "100"))
     ∷ flag (codes "trace") ∷ flag (codes "explain") ∷ progress ∷ verbose ∷ []
 
 -- `--name N`, which may not be left out
@@ -204,6 +206,7 @@ abbrev pub log_options_in : (Text → Option Text) → LogForm → LogOptions
 log_options_in given form = record {
   most = within 1 log_violation_limit (number_or 10 (given (codes "most")));
   effort = within 0 log_effort_limit (number_or 100 (given (codes "effort")));
+  max_unknown = within 0 percent_limit (number_or 100 (given (codes "max-unknown")));
   form = form;
 }
 
@@ -282,7 +285,7 @@ batch = record {
   ask = λ given. batching [] (workers_of given) (batch_printing_of given);
 }
 
--- `log [--most K] [--effort N] [--trace|--explain] [--progress] [--verbose] [FILE]`: finds violations of the log in a file, or on standard input
+-- `log [--most K] [--effort N] [--max-unknown PERCENT] [--trace|--explain] [--progress] [--verbose] [FILE]`: finds violations of the log in a file, or on standard input
 abbrev pub log : Subcommand
 log = record {
   name = codes "log";

@@ -14,8 +14,8 @@ mod runs;
 use crate::help;
 use crate::options::{
     BatchPrinting, CampaignOptions, LogForm, LogOptions, MAX_CAPACITY, MAX_LOG_EFFORT,
-    MAX_LOG_VIOLATIONS, MakeOptions, Presentation, Printing, RunOptions, ShapeNumbers, UnitKind,
-    UnitOptions, kind_named,
+    MAX_LOG_VIOLATIONS, MAX_PERCENT, MakeOptions, Presentation, Printing, RunOptions, ShapeNumbers,
+    UnitKind, UnitOptions, kind_named,
 };
 use crate::requests::{
     BatchRequest, CheckRequest, DecideRequest, JudgeRequest, LogRequest, Notes, ReduceRequest,
@@ -318,6 +318,7 @@ fn log_options(matches: &ArgMatches<'_>) -> Option<LogOptions>
     Some(LogOptions {
         most: number_within(matches, "most", 10, 1, MAX_LOG_VIOLATIONS as u64) as usize,
         effort: number_within(matches, "effort", 100, 0, MAX_LOG_EFFORT as u64) as usize,
+        max_unknown: number_within(matches, "max-unknown", 100, 0, MAX_PERCENT as u64) as usize,
         form,
     })
 }

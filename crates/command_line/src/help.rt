@@ -30,8 +30,9 @@ what all runs of a program leave.
 
 Exit status:
   0  no violation was found, which proves nothing, or the trace is consistent
-  1  no violation was found, and the search in a log or by cases ended early, or
-     a trace under PSO is of no run, or batch judged fewer than --require says
+  1  no violation was found, and not all of a log was judged, or a search by
+     cases ended early, or a trace under PSO is of no run, or batch judged fewer
+     traces than --require says
   2  a text or the command line was refused
   3  the trace violates its memory model, or the certificate or refutation holds
   4  a fault, which one line on standard error names

@@ -26,6 +26,9 @@ pub const MAX_LOG_VIOLATIONS: usize = 1_000_000;
 /// The greatest effort of the search in a log.
 pub const MAX_LOG_EFFORT: usize = 1_000_000;
 
+/// All of a hundred.
+pub const MAX_PERCENT: usize = 100;
+
 /// A kind of memory unit.
 #[derive(Clone, Copy, Debug, PartialEq, Eq)]
 pub enum UnitKind {
@@ -224,6 +227,8 @@ pub struct LogOptions {
     pub most: usize,
     /// How many steps the search may do for each load and store of the log, 0 to 1,000,000.
     pub effort: usize,
+    /// How many of a hundred loads may have a source that the values don't tell, 0 to 100, so that the log counts as judged.
+    pub max_unknown: usize,
     /// In which form.
     pub form: LogForm,
 }

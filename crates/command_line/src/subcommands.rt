@@ -33,7 +33,7 @@ mod shared;
 mod verify;
 
 /// The version of the program.
-const VERSION: &str = "0.9.0";
+const VERSION: &str = "0.10.0-dev";
 
 /// A subcommand.
 #[derive(Clone, Copy)]

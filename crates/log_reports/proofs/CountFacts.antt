@@ -9,7 +9,7 @@ use Rattle.tso_ops.specs.Values.{rows}
 use Rattle.log_text.specs.declared.logs.LogOperation.{LogOperation}
 use Rattle.log_text.specs.declared.logs.LoggedOperation.{LoggedOperation}
 use Rattle.log_selections.specs.Unwritten.{read_by}
-use Rattle.log_reports.specs.LogTexts.{loads_of}
+use Rattle.log_reports.specs.LogCounts.{loads_of}
 
 operations_by : List LoggedOperation → List LogOperation
 operations_by list = map (λ x. x.operation) list

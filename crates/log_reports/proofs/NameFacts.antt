@@ -1,12 +1,10 @@
 -- Lemmas on the names of the events of lines.
-use Rattle.std.proofs.Common.{◌≡◌, ◌∙◌, ℕ, zero, suc, ◌+◌, List, [], ◌∷◌, ◌++◌, ap, arith, sym, subst}
+use Rattle.std.proofs.Common.{◌≡◌, ◌∙◌, ℕ, zero, suc, ◌+◌, List, [], ◌∷◌, ◌++◌, ap, arith}
 use Rattle.std.specs.List.{flat_map, range_with_len}
 use Rattle.std.proofs.lemmas.List.{append-nil}
 use Rattle.std.proofs.lemmas.Grind.{flat_map-append}
 use Rattle.log_selections.specs.declared.shown.Shown.{Shown}
-use Rattle.log_reports.specs.declared.naming.NamedEvents.{NamedEvents}
-use Rattle.log_reports.specs.Internal.NamedEvents.{AreNames}
-use Rattle.log_reports.specs.Namings.{EventName, events_of, named_events}
+use Rattle.log_reports.specs.Namings.{events_of, named_events}
 
 range_next : (a n : ℕ) → range_with_len a (n + 1) ≡ range_with_len a n ++ (a + n) ∷ []
 range_next a zero =

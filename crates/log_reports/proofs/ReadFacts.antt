@@ -1,5 +1,5 @@
 -- Lemmas on what is read of a log, and what is said of it.
-use Rattle.std.proofs.Common.{◌≡◌, ◌<◌, ◌≤◌, ◌∙◌, ℕ, ◌^◌, List, ◌++◌, Err, None, Ok, Some, IfSome, arith, inl, inr, length, subst, take, string_bytes, ⊎_elim}
+use Rattle.std.proofs.Common.{◌≡◌, ◌<◌, ◌≤◌, ◌∙◌, ℕ, ◌^◌, List, Err, None, Ok, Some, IfSome, arith, inl, inr, length, subst, take, string_bytes, ⊎_elim}
 use Rattle.std.specs.Prelude.{IfOk, Option, Result}
 use Rattle.std.specs.Io.KnownBytes.{Consumes}
 use Rattle.std.proofs.lemmas.Bool.{cases_lt}
@@ -11,7 +11,7 @@ use Rattle.trace_reports.specs.Readings.{ReadsAs}
 use Rattle.trace_reports.specs.RefusalLines.{refusal_text}
 use Rattle.log_text.specs.LogTexts.{IsLogRefusal, SpellsLog}
 use Rattle.log_text.specs.LogValues.{NumberedLog, log_operations}
-use Rattle.log_reports.specs.declared.rendering.LogForm.{LogForm}
+use Rattle.log_reports.specs.declared.reports.LogOptions.{LogOptions}
 use Rattle.log_reports.specs.declared.reports.LogReport.{LogReport}
 use Rattle.log_reports.specs.declared.reports.LogVerdict.{LogVerdict}
 use Rattle.log_reports.specs.declared.reports.LogVerdict.TheVariants.{Refused, Violation}
@@ -49,20 +49,20 @@ of_reader : (Is : List ℕ → Type 0) (remaining : Option (List ℕ)) (bytes : 
 of_reader Is None bytes all holds = record { bytes = bytes; of_read = holds; of_all = tt }
 of_reader Is (Some whole) bytes all holds = record { bytes = bytes; of_read = holds; of_all = subst Is all holds }
 
-module _ (form : LogForm) (remaining : Option (List ℕ)) (text bytes : List ℕ) (all : IfSome remaining (λ l. bytes ≡ l)) (same : text ≡ bytes) where
+module _ (options : LogOptions) (remaining : Option (List ℕ)) (text bytes : List ℕ) (all : IfSome remaining (λ l. bytes ≡ l)) (same : text ≡ bytes) where
   -- the report on a log that was read
-  pub log_said : (log : NumberedLog) (outcome : Result LogReport Fault) → SpellsLog text log → IfOk outcome (λ r. IsReportOf log form (string_bytes r.text) r.verdict) →
-      IfOk outcome (λ r. IsLogReportOfReader form remaining (string_bytes r.text) r.verdict)
-  log_said log (Ok r) spelled is = of_reader (λ bytes. IsLogReport form bytes (string_bytes r.text) r.verdict) remaining bytes all (inl (log, subst (λ (l : List ℕ). SpellsLog l log) same spelled, is))
+  pub log_said : (log : NumberedLog) (outcome : Result LogReport Fault) → SpellsLog text log → IfOk outcome (λ r. IsReportOf log options (string_bytes r.text) r.verdict) →
+      IfOk outcome (λ r. IsLogReportOfReader options remaining (string_bytes r.text) r.verdict)
+  log_said log (Ok r) spelled is = of_reader (λ bytes. IsLogReport options bytes (string_bytes r.text) r.verdict) remaining bytes all (inl (log, subst (λ (l : List ℕ). SpellsLog l log) same spelled, is))
   log_said log (Err fault) spelled is = tt
 
   -- the refusal of a text
-  pub refusal_said : (line : ℕ) (why : Why) (said : List ℕ) (verdict : LogVerdict) → IsLogRefusal text line why → said ≡ refusal_text line why → verdict ≡ Refused → IsLogReportOfReader form remaining said verdict
+  pub refusal_said : (line : ℕ) (why : Why) (said : List ℕ) (verdict : LogVerdict) → IsLogRefusal text line why → said ≡ refusal_text line why → verdict ≡ Refused → IsLogReportOfReader options remaining said verdict
   refusal_said line why said verdict refused says gives =
-      of_reader (λ bytes. IsLogReport form bytes said verdict) remaining bytes all (inr (record { line = line; why = why; refused = subst (λ (l : List ℕ). IsLogRefusal l line why) same refused; says = says; gives = gives }))
+      of_reader (λ bytes. IsLogReport options bytes said verdict) remaining bytes all (inr (record { line = line; why = why; refused = subst (λ (l : List ℕ). IsLogRefusal l line why) same refused; says = says; gives = gives }))
 
 -- a log on which the report is a violation has no order
-pub reader_violation : (form : LogForm) (remaining : Option (List ℕ)) (text : List ℕ) (verdict : LogVerdict) → IsLogReportOfReader form remaining text verdict → verdict ≡ Violation →
+pub reader_violation : (options : LogOptions) (remaining : Option (List ℕ)) (text : List ℕ) (verdict : LogVerdict) → IsLogReportOfReader options remaining text verdict → verdict ≡ Violation →
     IfSome remaining (λ all. (log : NumberedLog) → SpellsLog all log → IsConsistent (log_operations log) → ⊥)
-reader_violation form None text verdict is gives = tt
-reader_violation form (Some all) text verdict is gives = λ log spelled. report_violation form all text (subst (IsLogReport form all text) gives is.of_all) log spelled
+reader_violation options None text verdict is gives = tt
+reader_violation options (Some all) text verdict is gives = λ log spelled. report_violation options all text (subst (IsLogReport options all text) gives is.of_all) log spelled

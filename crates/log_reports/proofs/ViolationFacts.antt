@@ -1,5 +1,5 @@
 -- A log of which a violation is listed has no order of its model.
-use Rattle.std.proofs.Common.{◌≡◌, ⊎_elim, ℕ, List, true, false, zero, suc, [], ◌∷◌, arith, cond, sym, subst}
+use Rattle.std.proofs.Common.{◌≡◌, ⊎_elim, ℕ, List, true, false, [], ◌∷◌, arith, cond, sym, subst}
 use Rattle.std.specs.Prelude.{MatchOption, Option, None, Some, is_some}
 use Rattle.std.specs.List.{All}
 use Rattle.tso_cert.specs.declared.steps.Certificate.{Certificate}
@@ -13,7 +13,7 @@ use Rattle.trace_reports.specs.Violations.{IsViolation}
 use Rattle.tso_model.proofs.CertificateCause.{certificate_cause}
 use Rattle.tso_model.proofs.EdgesForward.{all_written, no_derived_cycle}
 use Rattle.tso_ops.proofs.NumberFacts.{own_values}
-use Rattle.log_text.specs.LogTexts.{IsLogRefusal, SpellsLog}
+use Rattle.log_text.specs.LogTexts.{SpellsLog}
 use Rattle.log_text.specs.LogValues.{NumberedLog, log_operations}
 use Rattle.log_text.proofs.TextFacts.{one_log}
 use Rattle.log_selections.specs.declared.shown.Shown.{Shown}
@@ -23,11 +23,12 @@ use Rattle.log_selections.proofs.UnwrittenFacts.{unwritten_no_order}
 use Rattle.log_reports.specs.declared.findings.LogFindings.{LogFindings}
 use Rattle.log_reports.specs.declared.findings.LogViolation.{LogViolation}
 use Rattle.log_reports.specs.declared.findings.LogViolation.TheVariants.{Selection, Unwritten}
-use Rattle.log_reports.specs.declared.rendering.LogForm.{LogForm}
-use Rattle.log_reports.specs.declared.reports.LogVerdict.{LogVerdict}
-use Rattle.log_reports.specs.declared.reports.LogVerdict.TheVariants.{NoViolation, EndedEarly, Violation, Refused}
+use Rattle.log_reports.specs.declared.counts.LogCounts.{LogCounts}
+use Rattle.log_reports.specs.declared.reports.LogOptions.{LogOptions}
+use Rattle.log_reports.specs.declared.reports.LogVerdict.TheVariants.{NoViolation, NotAllJudged, Violation, Refused}
 use Rattle.log_reports.specs.Findings.{AreFindings, IsListed}
-use Rattle.log_reports.specs.LogReports.{IsLogReport, IsReportOf, verdict_of}
+use Rattle.log_reports.specs.LogCounts.{counts_of}
+use Rattle.log_reports.specs.LogReports.{IsLogReport, is_all_judged, verdict_of}
 
 module _ (log : NumberedLog) (shown : List Shown) (t : TraceValue) (selected : IsSelected log shown t) (violation : IsViolation t) where
   no_order : IsConsistent t → ⊥
@@ -53,18 +54,18 @@ log_violation log (Selection selected finding) (is, violation, found) = selected
 log_violation log (Unwritten load) is = unwritten_no_order log load.shown.logged is.unwritten
 
 -- where the verdict is Violation, one is listed
-listed : (log : NumberedLog) (violations : List LogViolation) (early : _) → cond (is_empty violations) (cond early EndedEarly NoViolation) Violation ≡ Violation → All (IsListed log) violations → IsConsistent (log_operations log) → ⊥
+listed : (log : NumberedLog) (violations : List LogViolation) (all_judged : _) → cond (is_empty violations) (cond all_judged NoViolation NotAllJudged) Violation ≡ Violation → All (IsListed log) violations → IsConsistent (log_operations log) → ⊥
 listed log [] true is all = absurd cc
 listed log [] false is all = absurd cc
-listed log (violation ∷ violations) early is all = log_violation log violation (all 0 violation (omega arith))
+listed log (violation ∷ violations) all_judged is all = log_violation log violation (all 0 violation (omega arith))
 
-pub found_violation : (log : NumberedLog) (findings : LogFindings) → AreFindings log findings → verdict_of findings ≡ Violation → IsConsistent (log_operations log) → ⊥
-found_violation log findings found is = listed log findings.violations.items findings.is_early is found.listed
+pub found_violation : (log : NumberedLog) (options : LogOptions) (counts : LogCounts) (findings : LogFindings) → AreFindings log findings → verdict_of options counts findings ≡ Violation → IsConsistent (log_operations log) → ⊥
+found_violation log options counts findings found is = listed log findings.violations.items (is_all_judged options counts findings) is found.listed
 
-pub report_violation : (form : LogForm) (bytes text : List ℕ) → IsLogReport form bytes text Violation → (log : NumberedLog) → SpellsLog bytes log → IsConsistent (log_operations log) → ⊥
-report_violation form bytes text is log spelled =
+pub report_violation : (options : LogOptions) (bytes text : List ℕ) → IsLogReport options bytes text Violation → (log : NumberedLog) → SpellsLog bytes log → IsConsistent (log_operations log) → ⊥
+report_violation options bytes text is log spelled =
     ⊎_elim
-    (λ of_log. subst (λ (other : NumberedLog). IsConsistent (log_operations other) → ⊥) (one_log bytes of_log.0 log of_log.1 spelled) (found_violation of_log.0 of_log.2.findings of_log.2.found (sym of_log.2.gives)))
+    (λ of_log. subst (λ (other : NumberedLog). IsConsistent (log_operations other) → ⊥) (one_log bytes of_log.0 log of_log.1 spelled) (found_violation of_log.0 options (counts_of of_log.0 of_log.2.unknown) of_log.2.findings of_log.2.found (sym of_log.2.gives)))
     (λ refusal. absurd (differ refusal.gives))
     is
   where

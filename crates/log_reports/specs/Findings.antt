@@ -1,6 +1,6 @@
 -- What is found in a log.
-use Rattle.std.specs.Prelude.{ℕ, List}
-use Rattle.std.specs.List.{All}
+use Rattle.std.specs.Prelude.{◌≤◌, ℕ, Bool, true, false}
+use Rattle.std.specs.List.{All, count_by}
 use Rattle.trace_reports.specs.Findings.{IsFinding}
 use Rattle.trace_reports.specs.Violations.{IsViolation}
 use Rattle.log_text.specs.LogValues.{NumberedLog}
@@ -16,7 +16,22 @@ abbrev pub IsListed : NumberedLog → LogViolation → Type 0
 IsListed log (Selection selected finding) = IsSelected log selected.shown.items selected.trace × IsViolation selected.trace × IsFinding selected.trace finding
 IsListed log (Unwritten load) = IsUnwrittenLoad log load
 
+-- of the two kinds, the second
+abbrev pub is_unwritten : LogViolation → Bool
+is_unwritten (Selection selected finding) = false
+is_unwritten (Unwritten load) = true
+
+-- the first
+abbrev pub is_selection : LogViolation → Bool
+is_selection (Selection selected finding) = true
+is_selection (Unwritten load) = false
+
 -- What is listed are violations of the log, and what couldn't be judged are lines of it.
 pub record AreFindings (log : NumberedLog) (findings : LogFindings) : Type 0 where
   pub listed : All (IsListed log) findings.violations.items
   pub unjudged : All (λ shown. AreLinesOf log.lists shown.items) findings.unjudged.items
+
+-- No more of either kind are listed than this many.
+pub record AreWithin (most : ℕ) (findings : LogFindings) : Type 0 where
+  pub unwritten : count_by is_unwritten findings.violations.items ≤ most
+  pub selections : count_by is_selection findings.violations.items ≤ most

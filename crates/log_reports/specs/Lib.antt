@@ -1,6 +1,7 @@
 pub mod Findings
 pub mod Internal
 pub mod Lines
+pub mod LogCounts
 pub mod LogReports
 pub mod LogTexts
 pub mod Namings

@@ -1,30 +1,40 @@
 -- The report on a log: what is printed for its text, and the verdict that it gives.
-use Rattle.std.specs.Prelude.{◌≡◌, ◌⊎◌, ℕ, List, Option, cond}
+use Rattle.std.specs.Prelude.{◌≡◌, ◌⊎◌, ℕ, Bool, ◌&&◌, not, List, Option, cond}
 use Rattle.line_text.specs.Lines.{is_empty}
 use Rattle.tso_text.specs.declared.faults.Why.{Why}
 use Rattle.trace_reports.specs.Readings.{ReadsAs}
 use Rattle.trace_reports.specs.RefusalLines.{refusal_text}
 use Rattle.log_text.specs.LogTexts.{IsLogRefusal, SpellsLog}
 use Rattle.log_text.specs.LogValues.{NumberedLog}
+use Rattle.log_selections.specs.Sources.{IsAmbiguousCount}
 use Rattle.log_reports.specs.declared.findings.LogFindings.{LogFindings}
-use Rattle.log_reports.specs.declared.rendering.LogForm.{LogForm}
+use Rattle.log_reports.specs.declared.counts.LogCounts.{LogCounts}
+use Rattle.log_reports.specs.declared.reports.LogOptions.{LogOptions}
 use Rattle.log_reports.specs.declared.reports.LogVerdict.{LogVerdict}
-use Rattle.log_reports.specs.declared.reports.LogVerdict.TheVariants.{NoViolation, EndedEarly, Violation, Refused}
-use Rattle.log_reports.specs.Findings.{AreFindings}
+use Rattle.log_reports.specs.declared.reports.LogVerdict.TheVariants.{NoViolation, NotAllJudged, Violation, Refused}
+use Rattle.log_reports.specs.Findings.{AreFindings, AreWithin}
+use Rattle.log_reports.specs.LogCounts.{counts_of, is_nothing_judged, is_too_unknown}
 use Rattle.log_reports.specs.LogTexts.{text_in}
 
+-- The whole log was searched, what was found could be judged, some load was, and no larger share of the loads is unknown than allowed.
+abbrev pub is_all_judged : LogOptions → LogCounts → LogFindings → Bool
+is_all_judged options counts findings =
+    not findings.is_early && is_empty findings.unjudged.items && not (is_nothing_judged counts) && not (is_too_unknown options.max_unknown counts)
+
 -- a violation where one is listed
-abbrev pub verdict_of : LogFindings → LogVerdict
-verdict_of findings = cond (is_empty findings.violations.items) (cond findings.is_early EndedEarly NoViolation) Violation
+abbrev pub verdict_of : LogOptions → LogCounts → LogFindings → LogVerdict
+verdict_of options counts findings = cond (is_empty findings.violations.items) (cond (is_all_judged options counts findings) NoViolation NotAllJudged) Violation
 
 -- The text says what was found in the log.
-pub record IsReportOf (log : NumberedLog) (form : LogForm) (text : List ℕ) (verdict : LogVerdict) : Type 0 where
+pub record IsReportOf (log : NumberedLog) (options : LogOptions) (text : List ℕ) (verdict : LogVerdict) : Type 0 where
   pub findings : LogFindings
   pub found : AreFindings log findings
+  pub few : AreWithin options.most findings
   -- how many loads have a source that the values don't tell
   pub unknown : ℕ
-  pub says : text ≡ text_in form log unknown findings
-  pub gives : verdict ≡ verdict_of findings
+  pub counted : IsAmbiguousCount log unknown
+  pub says : text ≡ text_in options (counts_of log unknown) log findings
+  pub gives : verdict ≡ verdict_of options (counts_of log unknown) findings
 
 -- The text is the line of the refusal of these bytes, which are no log.
 pub record IsRefusalOf (bytes text : List ℕ) (verdict : LogVerdict) : Type 0 where
@@ -35,9 +45,9 @@ pub record IsRefusalOf (bytes text : List ℕ) (verdict : LogVerdict) : Type 0 w
   pub gives : verdict ≡ Refused
 
 -- The text is a report on the log that these bytes spell, or refuses them.
-abbrev pub IsLogReport : LogForm → List ℕ → List ℕ → LogVerdict → Type 0
-IsLogReport form bytes text verdict = ((log : NumberedLog) × SpellsLog bytes log × IsReportOf log form text verdict) ⊎ IsRefusalOf bytes text verdict
+abbrev pub IsLogReport : LogOptions → List ℕ → List ℕ → LogVerdict → Type 0
+IsLogReport options bytes text verdict = ((log : NumberedLog) × SpellsLog bytes log × IsReportOf log options text verdict) ⊎ IsRefusalOf bytes text verdict
 
 -- the same of the bytes of a reader
-abbrev pub IsLogReportOfReader : LogForm → Option (List ℕ) → List ℕ → LogVerdict → Type 0
-IsLogReportOfReader form remaining text verdict = ReadsAs remaining (λ bytes. IsLogReport form bytes text verdict)
+abbrev pub IsLogReportOfReader : LogOptions → Option (List ℕ) → List ℕ → LogVerdict → Type 0
+IsLogReportOfReader options remaining text verdict = ReadsAs remaining (λ bytes. IsLogReport options bytes text verdict)

@@ -1,22 +1,64 @@
 //! How many operations and loads a log has.
 ghost use Rattle.std.specs.Prelude.{◌≡◌, ◌≤◌, ◌+◌, IfOk, length, map};
-ghost use Rattle.log_reports.specs.LogTexts.{loads_of, operations_in};
+ghost use Rattle.log_reports.specs.LogCounts.{counts_of, is_nothing_judged, is_too_unknown, loads_of, operations_in};
 ghost use Rattle.log_text.specs.LogValues.{log_value};
 ghost use Rattle.log_selections.specs.Unwritten.{read_by};
 
 use log_text::{Log, LogOperation, LoggedOperation};
 use tso_ops::OutOfMemory;
 
-/// How many processors a log has.
-pub(crate) fn count_processors(log: &Log) -> usize
-    ensures { result ≡ length (log_value log.now).lists }
-{
-    log.lists.len()
+/// What a log has, and of how much nothing is known.
+#[derive(Clone, Copy, Debug, PartialEq, Eq)]
+pub struct LogCounts {
+    /// The number of its processors.
+    pub processors: usize,
+    /// The number of its operations.
+    pub operations: usize,
+    /// The number of its loads, swaps among them.
+    pub loads: usize,
+    /// The number of loads with a source that the values don't tell.
+    pub unknown: usize,
+    /// The number of operations of its text that lines `un` leave out.
+    pub left_out: usize,
+}
+
+impl LogCounts {
+    /// Counts what a log has, of the loads of which so many are unknown. OutOfMemory above 64 bits: no memory holds so many.
+    pub(crate) fn new(log: &Log, unknown: usize) -> Result<LogCounts, OutOfMemory>
+        ensures { IfOk result (λ counts. counts ≡ counts_of (log_value log.now) unknown) }
+    {
+        let (operations, loads) = count_operations(log)?;
+        Ok(LogCounts {
+            processors: log.lists.len(),
+            operations,
+            loads,
+            unknown,
+            left_out: log.left_out,
+        })
+    }
+
+    /// Whether there is no load that can be judged.
+    #[tactic(auto, unfolding(crate::specs::LogCounts::is_nothing_judged))]
+    pub(crate) fn is_nothing_judged(self) -> bool
+        ensures { result ≡ is_nothing_judged self }
+    {
+        self.loads <= self.unknown
+    }
+
+    /// Whether of a hundred loads more are unknown than so many. OutOfMemory above 64 bits: no memory holds so many.
+    #[tactic(auto, unfolding(crate::specs::LogCounts::is_too_unknown))]
+    pub(crate) fn is_too_unknown(self, percent: usize) -> Result<bool, OutOfMemory>
+        ensures { IfOk result (λ is. is ≡ is_too_unknown percent self) }
+    {
+        let allowed = percent.checked_mul(self.loads).ok_or(OutOfMemory)?;
+        let found = self.unknown.checked_mul(100).ok_or(OutOfMemory)?;
+        Ok(found > allowed)
+    }
 }
 
 /// How many operations a log has, and how many of them load, swaps among them. OutOfMemory above 64 bits: no memory holds so
 /// many.
-pub(crate) fn count_operations(log: &Log) -> Result<(usize, usize), OutOfMemory>
+fn count_operations(log: &Log) -> Result<(usize, usize), OutOfMemory>
     ensures operations { IfOk result (λ counts. counts.0 ≡ length (operations_in (log_value log.now))) }
     ensures loads { IfOk result (λ counts. counts.1 ≡ loads_of (operations_in (log_value log.now))) }
 {

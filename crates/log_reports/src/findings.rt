@@ -1,12 +1,14 @@
 //! The violations of a log.
-ghost use Rattle.std.specs.Prelude.{◌≡◌, ◌⊎◌, IfErr, IfOk, IfSome, OnOk};
+ghost use Rattle.std.specs.Prelude.{◌≡◌, ◌≤◌, ◌⊎◌, ◌+◌, Bool, IfErr, IfOk, IfSome, OnOk, cond, false, true};
+ghost use Rattle.std.specs.List.{count_by};
 ghost use Rattle.trace_judging.specs.declared.faults.Fault.{Fault};
 ghost use Rattle.log_text.specs.LogValues.{NumberedLog};
-ghost use Rattle.log_reports.specs.Findings.{AreFindings, IsListed};
+ghost use Rattle.log_reports.specs.Findings.{AreFindings, AreWithin, IsListed, is_selection, is_unwritten};
+ghost use Rattle.log_reports.specs.declared.findings.LogViolation.{LogViolation};
 
 use crate::judging::TraceJudge;
 use crate::reports::LogOptions;
-use log_search::{Found, Search, reduce};
+use log_search::{Found, Judge, Search, fit_trace, is_within_limits, reduce};
 use log_selections::{Kept, KnownLog, Selected, Shown, UnwrittenLoad};
 use progress_meters::Meter;
 use std::alloc::{AllocFailed, Global};
@@ -14,9 +16,6 @@ use std::sync::Wait;
 use std::thread::Threads;
 use trace_judging::{Fault, Finding, find_violation};
 use tso_ops::OutOfMemory;
-
-/// How many processors a trace has at most.
-const MAX_PROCESSORS: usize = 16;
 
 /// A violation of a log.
 #[derive(Drop)]
@@ -37,20 +36,24 @@ pub enum LogViolation {
 pub struct LogFindings {
     /// The violations. No two of them have a load in common.
     pub violations: Vec<LogViolation>,
-    /// Operations of more than 16 processors that should have no memory order. They can't be judged as a trace.
+    /// Whether there are more violations than are listed.
+    pub has_more: bool,
+    /// Operations that should have no memory order, but are past the limits of traces, so that they can't be judged.
     pub unjudged: Vec<Vec<Shown>>,
     /// How many were left out: proposals of the search that were no violations when they were judged, and loads whose value had
-    /// been written after all.
-    pub not_shown: usize,
+    /// been written after all. Anything but 0 is a fault of the search.
+    pub mistaken: usize,
+    /// Of how many violations lines might be left out, since enough work was done.
+    pub unreduced: usize,
     /// In how many parts the addresses of the log were searched: what needs addresses of two parts isn't found.
     pub parts: usize,
     /// Whether the search ended before the log did, since it had done as much work as it is allowed.
     pub is_early: bool,
 }
 
-/// Finds violations of a log, as many at most as the options say: first loads of what nothing wrote, in the order of their
-/// processors, and then what the search finds, with the effort that they allow it. The meter hears of each operation that the
-/// search looks at.
+/// Finds violations of a log: first loads of what nothing wrote, in the order of their processors, and then what the search
+/// finds, with the effort that the options allow it; of each kind as many at most as they say. The meter hears of each operation
+/// that the search looks at.
 ///
 /// Faults: OutOfMemory where an allocation was refused, and NoThread where the system refused a thread.
 pub fn find_violations<H: Threads + Wait, M: Meter>(
@@ -61,12 +64,15 @@ pub fn find_violations<H: Threads + Wait, M: Meter>(
     meter: &M,
 ) -> Result<LogFindings, Fault>
     ensures found { IfOk result (AreFindings known.now) }
+    ensures few { IfOk result (AreWithin options.most) }
     ensures fault { IfErr result (λ fault. (fault ≡ Fault.OutOfMemory) ⊎ (fault ≡ Fault.NoThread)) }
 {
     let mut findings = LogFindings {
         violations: Vec::new(alloc),
+        has_more: false,
         unjudged: Vec::new(alloc),
-        not_shown: 0,
+        mistaken: 0,
+        unreduced: 0,
         parts: 1,
         is_early: false,
     };
@@ -76,25 +82,28 @@ pub fn find_violations<H: Threads + Wait, M: Meter>(
 }
 
 impl LogFindings {
-    /// Notes loads of what nothing wrote, so many at most.
+    /// Lists loads of what nothing wrote, so many at most.
     fn list_unwritten(
         &mut self,
         alloc: Global,
         known: &KnownLog,
         most: usize,
     ) -> Result<(), OutOfMemory>
-        ensures { OnOk result (AreFindings known.now self.old → AreFindings known.now self.new) }
+        ensures found { OnOk result (AreFindings known.now self.old → AreFindings known.now self.new) }
+        ensures unwritten { OnOk result (count_by is_unwritten self.new.violations.items ≤ count_by is_unwritten self.old.violations.items + most) }
+        ensures selections { OnOk result (count_by is_selection self.new.violations.items ≡ count_by is_selection self.old.violations.items) }
     {
+        let mut places = most;
         for number in known.unwritten_loads() {
-            if self.violations.len() >= most {
+            let found = unwritten_load(alloc, known, *number)?;
+            if !self.list(found, &mut places)? {
                 break;
             }
-            self.note(unwritten_load(alloc, known, *number)?)?;
         }
         Ok(())
     }
 
-    /// Searches the log, with the effort of the options, until there are as many violations as they say.
+    /// Searches the log, with the effort of the options, until there are more violations than they say.
     fn search<H: Threads + Wait, M: Meter>(
         &mut self,
         rt: &H,
@@ -104,17 +113,21 @@ impl LogFindings {
         meter: &M,
     ) -> Result<(), Fault>
         ensures found { OnOk result (AreFindings known.now self.old → AreFindings known.now self.new) }
+        ensures unwritten { OnOk result (count_by is_unwritten self.new.violations.items ≡ count_by is_unwritten self.old.violations.items) }
+        ensures selections { OnOk result (count_by is_selection self.new.violations.items ≤ count_by is_selection self.old.violations.items + options.most) }
         ensures fault { IfErr result (λ fault. (fault ≡ Fault.OutOfMemory) ⊎ (fault ≡ Fault.NoThread)) }
     {
         let mut search = Search::new(alloc, known, options.effort)?;
+        let mut places = options.most;
         for _ in 0..usize::MAX {
-            if self.violations.len() >= options.most {
-                break;
-            }
             let found = search.next(alloc, meter)?;
             self.parts = search.parts();
             match found {
-                Found::Proposal(kept) => self.consider(rt, alloc, known, kept)?,
+                Found::Proposal(kept) => {
+                    if !self.consider(rt, alloc, known, kept, &mut places)? {
+                        return Ok(());
+                    }
+                }
                 Found::End => return Ok(()),
                 Found::BudgetEnd => {
                     self.is_early = true;
@@ -125,35 +138,56 @@ impl LogFindings {
         Ok(())
     }
 
-    /// Judges what the search proposes, after it left out what it can.
+    /// Judges what the search proposes, after it left out what it can, and lists it in one of the places that are left where it is
+    /// a violation. Whether there was a place, or none was needed.
     fn consider<H: Threads + Wait>(
         &mut self,
         rt: &H,
         alloc: Global,
         known: &KnownLog,
-        kept: Vec<Vec<Kept>>,
-    ) -> Result<(), Fault>
+        mut kept: Vec<Vec<Kept>>,
+        places: &mut usize,
+    ) -> Result<bool, Fault>
         ensures found { OnOk result (AreFindings known.now self.old → AreFindings known.now self.new) }
+        ensures unwritten { OnOk result (count_by is_unwritten self.new.violations.items ≡ count_by is_unwritten self.old.violations.items) }
+        ensures selections { OnOk result (count_by is_selection self.new.violations.items + places.new ≡ count_by is_selection self.old.violations.items + places.old) }
         ensures fault { IfErr result (λ fault. (fault ≡ Fault.OutOfMemory) ⊎ (fault ≡ Fault.NoThread)) }
     {
-        if processors_of(&kept) > MAX_PROCESSORS {
-            return self.note_unjudged(alloc, known, &kept);
+        let mut judge = TraceJudge::new(rt, alloc, known, &kept);
+        if !is_within_limits(alloc, known, &kept)? {
+            let Some(fewer) = fit_trace(alloc, known, &kept, &mut judge)? else {
+                self.note_unjudged(alloc, known, &kept)?;
+                return Ok(true);
+            };
+            kept = fewer;
         }
-        let mut judge = TraceJudge { rt, alloc, known };
         let kept = reduce(alloc, known, kept, &mut judge)?;
-        self.note(judge_kept(rt, alloc, known, &kept)?)?;
-        Ok(())
+        self.unreduced = self.unreduced.saturating_add(judge.is_done() as usize);
+        let found = judge_kept(rt, alloc, known, &kept)?;
+        Ok(self.list(found, places)?)
     }
 
-    /// Notes the violation that a proposal is, or that it is none.
-    fn note(&mut self, found: Option<LogViolation>) -> Result<(), AllocFailed<LogViolation>>
-        ensures { OnOk result ((log : NumberedLog) → IfSome found (IsListed log) → AreFindings log self.old → AreFindings log self.new) }
+    /// Lists a violation in one of the places that are left, or notes that there are more; or notes that what should have been one is
+    /// none. Whether there was a place, or none was needed.
+    fn list(
+        &mut self,
+        found: Option<LogViolation>,
+        places: &mut usize,
+    ) -> Result<bool, AllocFailed<LogViolation>>
+        ensures found { OnOk result ((log : NumberedLog) → IfSome found (IsListed log) → AreFindings log self.old → AreFindings log self.new) }
+        ensures placed { OnOk result ((is : LogViolation → Bool) (counts : Bool) → IfSome found (λ violation. is violation ≡ counts) → count_by is self.new.violations.items + cond counts places.new 0 ≡ count_by is self.old.violations.items + cond counts places.old 0) }
     {
-        match found {
-            Some(violation) => self.violations.push(violation)?,
-            None => self.not_shown = self.not_shown.saturating_add(1),
+        let Some(violation) = found else {
+            self.mistaken = self.mistaken.saturating_add(1);
+            return Ok(true);
+        };
+        if *places == 0 {
+            self.has_more = true;
+            return Ok(false);
         }
-        Ok(())
+        self.violations.push(violation)?;
+        *places -= 1;
+        Ok(true)
     }
 
     /// Notes a proposal that can't be judged as a trace.
@@ -164,11 +198,12 @@ impl LogFindings {
         kept: &[Vec<Kept>],
     ) -> Result<(), Fault>
         ensures found { OnOk result (AreFindings known.now self.old → AreFindings known.now self.new) }
+        ensures same { OnOk result (self.new.violations ≡ self.old.violations) }
         ensures fault { IfErr result (λ fault. fault ≡ Fault.OutOfMemory) }
     {
         match known.show(alloc, kept)? {
             Some(shown) => self.unjudged.push(shown)?,
-            None => self.not_shown = self.not_shown.saturating_add(1),
+            None => self.mistaken = self.mistaken.saturating_add(1),
         }
         Ok(())
     }
@@ -180,17 +215,14 @@ fn unwritten_load(
     known: &KnownLog,
     number: usize,
 ) -> Result<Option<LogViolation>, OutOfMemory>
-    ensures { IfOk result (λ found. IfSome found (IsListed known.now)) }
+    ensures found { IfOk result (λ found. IfSome found (IsListed known.now)) }
+    ensures selection { IfOk result (λ found. IfSome found (λ violation. is_selection violation ≡ false)) }
+    ensures unwritten { IfOk result (λ found. IfSome found (λ violation. is_unwritten violation ≡ true)) }
 {
     match known.unwritten(alloc, number)? {
         Some(load) => Ok(Some(LogViolation::Unwritten(load))),
         None => Ok(None),
     }
-}
-
-/// How many processors have an operation here.
-fn processors_of(kept: &[Vec<Kept>]) -> usize {
-    kept.iter().filter(|row| !row.is_empty()).count()
 }
 
 /// The violation that these operations are: None where they are no selection of the log, or no violation.
@@ -201,6 +233,8 @@ fn judge_kept<H: Threads + Wait>(
     kept: &[Vec<Kept>],
 ) -> Result<Option<LogViolation>, Fault>
     ensures found { IfOk result (λ found. IfSome found (IsListed known.now)) }
+    ensures selection { IfOk result (λ found. IfSome found (λ violation. is_selection violation ≡ true)) }
+    ensures written { IfOk result (λ found. IfSome found (λ violation. is_unwritten violation ≡ false)) }
     ensures fault { IfErr result (λ fault. (fault ≡ Fault.OutOfMemory) ⊎ (fault ≡ Fault.NoThread)) }
 {
     let Some(selected) = known.select(alloc, kept)? else {

@@ -10,12 +10,12 @@ ghost use Rattle.log_selections.specs.declared.selecting.Selected.{Selected};
 ghost use Rattle.trace_reports.specs.declared.findings.Finding.{Finding};
 ghost use Rattle.log_reports.specs.declared.findings.LogViolation.{LogViolation};
 ghost use Rattle.log_reports.specs.declared.findings.LogViolation.TheVariants.{Selection};
-ghost use Rattle.log_reports.specs.declared.rendering.LogForm.{LogForm};
+ghost use Rattle.log_reports.specs.declared.reports.LogOptions.{LogOptions};
 ghost use Rattle.log_reports.specs.declared.reports.LogVerdict.TheVariants.{Violation};
 
 /// A log of which a violation is listed has no order of its memory model, nor have a violation's lines alone.
 pub fn violations()
     ensures log { (log : NumberedLog) (violation : LogViolation) → IsListed log violation → IsConsistent (log_operations log) → ⊥ }
-    ensures report { (form : LogForm) (bytes text : List ℕ) → IsLogReport form bytes text Violation → (log : NumberedLog) → SpellsLog bytes log → IsConsistent (log_operations log) → ⊥ }
+    ensures report { (options : LogOptions) (bytes text : List ℕ) → IsLogReport options bytes text Violation → (log : NumberedLog) → SpellsLog bytes log → IsConsistent (log_operations log) → ⊥ }
     ensures lines { (log : NumberedLog) (selected : Selected) (finding : Finding) → IsListed log (Selection selected finding) → IsConsistent (log_operations (log_of_shown log selected.shown.items)) → ⊥ }
 {}

@@ -4,7 +4,6 @@
 #![tactic(auto)]
 
 pub use findings::{LogFindings, LogViolation, find_violations};
-pub use judging::TraceJudge;
 pub use rendering::LogForm;
 pub use reports::{LogOptions, LogVerdict, report_log};
 

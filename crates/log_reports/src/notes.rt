@@ -1,19 +1,36 @@
 //! Notes on a search: what its report doesn't say.
 
+use crate::counts::LogCounts;
 use crate::findings::{LogFindings, LogViolation};
-use crate::rendering::LogForm;
+use crate::rendering::{LogForm, push_gaps};
+use crate::reports::LogOptions;
+use log_selections::Shown;
 use std::alloc::{AllocError, Global};
 use std::fmt::Write;
+use tso_ops::OutOfMemory;
 
-/// Lines on what was left out of what is printed, and why; nothing where all is there. OutOfMemory where an allocation was
-/// refused.
+/// Lines on what was left out of what is printed, and why; nothing where all is there. Where traces are printed, first a line for
+/// each of them with the lines of the log that it has. OutOfMemory where an allocation was refused.
 pub(crate) fn render_notes(
     alloc: Global,
-    form: LogForm,
+    options: LogOptions,
+    counts: LogCounts,
     findings: &LogFindings,
-) -> Result<String, AllocError> {
+) -> Result<String, OutOfMemory> {
     let mut text = String::new(alloc);
-    push_note(&mut text, "not shown", findings.not_shown)?;
+    if options.form == LogForm::Traces {
+        push_origins(&mut text, &findings.violations)?;
+    }
+    push_note(
+        &mut text,
+        "proposals that were no violations",
+        findings.mistaken,
+    )?;
+    push_note(
+        &mut text,
+        "violations of which lines might be left out",
+        findings.unreduced,
+    )?;
     if findings.parts > 1 {
         push_note(
             &mut text,
@@ -21,17 +38,40 @@ pub(crate) fn render_notes(
             findings.parts,
         )?;
     }
-    if form == LogForm::Traces {
-        let unwritten = count_unwritten(&findings.violations);
-        push_note(
-            &mut text,
-            "loads of what nothing wrote, without a trace",
-            unwritten,
-        )?;
+    if options.form == LogForm::Traces {
         let unjudged = findings.unjudged.len();
-        push_note(&mut text, "unjudged, on more than 16 processors", unjudged)?;
+        push_note(&mut text, "unjudged, past the limits of a trace", unjudged)?;
+        push_gaps(&mut text, options, counts, findings)?;
     }
     Ok(text)
+}
+
+/// Appends a line for each trace, with the numbers of its lines in the log: `trace 1 line 12 40`.
+fn push_origins(text: &mut String, violations: &[LogViolation]) -> Result<(), AllocError> {
+    for (k, violation) in violations.iter().enumerate() {
+        let number = k + 1;
+        write!(text, "trace {number} line")?;
+        match violation {
+            LogViolation::Selection { selected, .. } => push_numbers(text, &selected.shown)?,
+            LogViolation::Unwritten(load) => push_number(text, &load.shown)?,
+        }
+        text.push_str("\n")?;
+    }
+    Ok(())
+}
+
+/// Appends the numbers of these lines, each after a space.
+fn push_numbers(text: &mut String, shown: &[Shown]) -> Result<(), AllocError> {
+    for one in shown {
+        push_number(text, one)?;
+    }
+    Ok(())
+}
+
+/// Appends the number of a line, after a space.
+fn push_number(text: &mut String, shown: &Shown) -> Result<(), AllocError> {
+    let line = shown.logged.line;
+    write!(text, " {line}")
 }
 
 /// Appends a line with a number that isn't 0.
@@ -40,12 +80,4 @@ fn push_note(text: &mut String, words: &str, number: usize) -> Result<(), AllocE
         write!(text, "{words} {number}\n")?;
     }
     Ok(())
-}
-
-/// How many violations are loads of what nothing wrote.
-fn count_unwritten(violations: &[LogViolation]) -> usize {
-    violations
-        .iter()
-        .filter(|violation| matches!(violation, LogViolation::Unwritten(_)))
-        .count()
 }

@@ -1,21 +1,21 @@
 //! The text of what is found in a log.
-ghost use Rattle.std.specs.Prelude.{◌≡◌, ◌++◌, [], ℕ, IfOk, OnOk, codes, cond, length, string_bytes};
-ghost use Rattle.std.specs.List.{flat_map};
+ghost use Rattle.std.specs.Prelude.{◌≡◌, ◌++◌, [], ℕ, IfOk, OnOk, codes, string_bytes};
 ghost use Rattle.std.specs.Option.{option_map_or};
-ghost use Rattle.line_text.specs.Lines.{is_empty};
 ghost use Rattle.log_reports.specs.Lines.{lines_text};
 ghost use Rattle.log_reports.specs.declared.rendering.LogForm.{LogForm};
-ghost use Rattle.log_reports.specs.LogTexts.{counts_text, explained_text, log_head_text, numbered_from, store_text, stored_text, text_in, report_text, trace_of, verdict_text, violation_text, violations_text};
+ghost use Rattle.log_reports.specs.LogTexts.{count_text, counts_text, explained_text, found_text, gaps_text, numbered_from, report_text, store_text, stored_text, text_in, total_text, trace_of, traces_text, unknown_text, unsearched_text, verdict_text, violation_text, words_if};
 
-use crate::counts::{count_operations, count_processors};
+use crate::counts::LogCounts;
 use crate::findings::{LogFindings, LogViolation};
 use crate::lines::{push_line, push_lines};
 use crate::naming::name_events;
-use log_selections::{KnownLog, LoggedStore, Selected, Shown, UnwrittenLoad};
+use crate::reports::LogOptions;
+use log_selections::{KnownLog, LoggedStore, Selected, Shown, UnwrittenLoad, lone_load};
 use std::alloc::{AllocError, Global};
 use std::fmt::Write;
 use trace_explanation::explain_named;
 use trace_judging::Finding;
+use tso_ops::{Order, OutOfMemory};
 use tso_text::print_trace;
 
 /// What is printed of a log.
@@ -25,105 +25,162 @@ pub enum LogForm {
     Lines,
     /// The report, and after each violation's lines its explanation.
     Explained,
-    /// The texts of the violations' traces, one after another, and no report. A load of what nothing wrote has none.
+    /// The texts of the violations' traces, one after another, and no report. That of a load of what nothing wrote has such a load
+    /// alone.
     Traces,
 }
 
-/// What is printed of what was found in a log, of which the values don't tell the sources of so many loads. OutOfMemory where
-/// an allocation was refused.
+/// What is printed of what was found in a log that has so much. OutOfMemory where an allocation was refused.
 pub(crate) fn render(
     alloc: Global,
-    form: LogForm,
+    options: LogOptions,
+    counts: LogCounts,
     known: &KnownLog,
-    unknown: usize,
     findings: &LogFindings,
-) -> Result<String, AllocError>
-    ensures { IfOk result (λ text. string_bytes text ≡ text_in form known.now unknown findings.now) }
+) -> Result<String, OutOfMemory>
+    ensures { IfOk result (λ text. string_bytes text ≡ text_in options counts known.now findings.now) }
 {
-    match form {
-        LogForm::Lines => render_report(alloc, form, known, unknown, findings),
-        LogForm::Explained => render_report(alloc, form, known, unknown, findings),
-        LogForm::Traces => render_traces(alloc, &findings.violations),
+    match options.form {
+        LogForm::Lines => render_report(alloc, options, counts, findings),
+        LogForm::Explained => render_report(alloc, options, counts, findings),
+        LogForm::Traces => render_traces(alloc, known.log().order, findings),
     }
 }
 
 /// The report.
 fn render_report(
     alloc: Global,
-    form: LogForm,
-    known: &KnownLog,
-    unknown: usize,
+    options: LogOptions,
+    counts: LogCounts,
     findings: &LogFindings,
-) -> Result<String, AllocError>
-    ensures { IfOk result (λ text. string_bytes text ≡ report_text form known.now unknown findings.now) }
+) -> Result<String, OutOfMemory>
+    ensures { IfOk result (λ text. string_bytes text ≡ report_text options counts findings.now) }
 {
-    let mut text = render_head(alloc, known, unknown)?;
-    push_verdict(&mut text, findings)?;
-    let processors = count_processors(known.log());
-    push_violations(alloc, &mut text, form, processors, &findings.violations)?;
+    let mut text = render_counts(alloc, counts)?;
+    push_verdict(&mut text, options, counts, findings)?;
+    push_numbered(
+        alloc,
+        &mut text,
+        options.form,
+        counts.processors,
+        &findings.violations,
+    )?;
+    push_total(&mut text, findings)?;
     push_unjudged(&mut text, &findings.unjudged)?;
     Ok(text)
 }
 
 /// The first lines.
-fn render_head(alloc: Global, known: &KnownLog, unknown: usize) -> Result<String, AllocError>
-    ensures { IfOk result (λ text. string_bytes text ≡ log_head_text known.now unknown) }
-{
-    let log = known.log();
-    let (operations, loads) = count_operations(log)?;
-    render_counts(alloc, count_processors(log), operations, loads, unknown)
-}
-
-/// The first lines, with these numbers.
 #[tactic(auto, unfolding(crate::specs::LogTexts::counts_text))]
-fn render_counts(
-    alloc: Global,
-    processors: usize,
-    operations: usize,
-    loads: usize,
-    unknown: usize,
-) -> Result<String, AllocError>
-    ensures { IfOk result (λ text. string_bytes text ≡ counts_text processors operations loads unknown) }
+fn render_counts(alloc: Global, counts: LogCounts) -> Result<String, AllocError>
+    ensures { IfOk result (λ text. string_bytes text ≡ counts_text counts) }
 {
+    let LogCounts {
+        processors,
+        operations,
+        loads,
+        unknown,
+        left_out,
+    } = counts;
     let mut text = String::new(alloc);
     write!(
         text,
-        "TSO LOG 1\nprocessors {processors} operations {operations} loads {loads} unknown {unknown}\n"
+        "TSO LOG 1\nprocessors {processors} operations {operations} loads {loads} unknown {unknown} left {left_out}\n"
     )?;
     Ok(text)
 }
 
-/// Appends the verdict.
-fn push_verdict(text: &mut String, findings: &LogFindings) -> Result<(), AllocError>
-    ensures { OnOk result (string_bytes text.new ≡ string_bytes text.old ++ verdict_text findings.now) }
+/// Appends the verdict, and what wasn't judged.
+fn push_verdict(
+    text: &mut String,
+    options: LogOptions,
+    counts: LogCounts,
+    findings: &LogFindings,
+) -> Result<(), OutOfMemory>
+    ensures { OnOk result (string_bytes text.new ≡ string_bytes text.old ++ verdict_text options counts findings.now) }
+{
+    push_found(text, findings)?;
+    push_gaps(text, options, counts, findings)?;
+    Ok(())
+}
+
+/// Appends whether a violation is listed.
+fn push_found(text: &mut String, findings: &LogFindings) -> Result<(), AllocError>
+    ensures { OnOk result (string_bytes text.new ≡ string_bytes text.old ++ found_text findings.now) }
 {
     if findings.violations.is_empty() {
-        text.push_str("NO VIOLATION FOUND\n")?;
+        text.push_str("NO VIOLATION FOUND\n")
     } else {
-        text.push_str("VIOLATION\n")?;
+        text.push_str("VIOLATION\n")
     }
-    if findings.is_early {
-        text.push_str("SEARCH ENDED EARLY\n")?;
+}
+
+/// Appends what wasn't judged: the rest of the log, what is no trace, all loads, or too many of them.
+pub(crate) fn push_gaps(
+    text: &mut String,
+    options: LogOptions,
+    counts: LogCounts,
+    findings: &LogFindings,
+) -> Result<(), OutOfMemory>
+    ensures { OnOk result (string_bytes text.new ≡ string_bytes text.old ++ gaps_text options counts findings.now) }
+{
+    push_unsearched(text, findings)?;
+    push_unknown(text, options.max_unknown, counts)?;
+    Ok(())
+}
+
+/// Appends that the rest of the log wasn't judged, or what is no trace.
+fn push_unsearched(text: &mut String, findings: &LogFindings) -> Result<(), AllocError>
+    ensures { OnOk result (string_bytes text.new ≡ string_bytes text.old ++ unsearched_text findings.now) }
+{
+    push_if(text, findings.is_early, "SEARCH ENDED EARLY\n")?;
+    push_if(text, !findings.unjudged.is_empty(), "NOT ALL JUDGED\n")
+}
+
+/// Appends that no load was judged, or that of a hundred more are unknown than so many.
+fn push_unknown(text: &mut String, percent: usize, counts: LogCounts) -> Result<(), OutOfMemory>
+    ensures { OnOk result (string_bytes text.new ≡ string_bytes text.old ++ unknown_text percent counts) }
+{
+    let is_too_unknown = counts.is_too_unknown(percent)?;
+    push_if(text, counts.is_nothing_judged(), "NOTHING JUDGED\n")?;
+    push_if(text, is_too_unknown, "TOO MANY UNKNOWN\n")?;
+    Ok(())
+}
+
+/// Appends these words where something is so.
+fn push_if(text: &mut String, is: bool, words: &str) -> Result<(), AllocError>
+    ensures { OnOk result (string_bytes text.new ≡ string_bytes text.old ++ words_if is words.now) }
+{
+    if is {
+        text.push_str(words)?;
     }
     Ok(())
 }
 
-/// Appends the violations of a log with so many processors, and how many there are.
-fn push_violations(
-    alloc: Global,
-    text: &mut String,
-    form: LogForm,
-    processors: usize,
-    violations: &[LogViolation],
-) -> Result<(), AllocError>
-    ensures { OnOk result (string_bytes text.new ≡ string_bytes text.old ++ violations_text form processors violations.now) }
+/// Appends how many violations are listed, where some are, and whether there are more.
+fn push_total(text: &mut String, findings: &LogFindings) -> Result<(), AllocError>
+    ensures { OnOk result (string_bytes text.new ≡ string_bytes text.old ++ total_text findings.now) }
 {
-    push_numbered(alloc, text, form, processors, violations)?;
-    if !violations.is_empty() {
-        let count = violations.len();
-        write!(text, "violations {count}\n")?;
+    if findings.violations.is_empty() {
+        return Ok(());
     }
+    push_count(text, findings.violations.len(), findings.has_more)
+}
+
+/// Appends a number of violations, and whether there are more.
+fn push_count(text: &mut String, count: usize, has_more: bool) -> Result<(), AllocError>
+    ensures { OnOk result (string_bytes text.new ≡ string_bytes text.old ++ count_text count has_more) }
+{
+    let more = more_words(has_more);
+    write!(text, "violations {count}{more}\n")?;
     Ok(())
+}
+
+/// What follows a number that isn't that of all.
+fn more_words(has_more: bool) -> &'static str
+    ensures { result.now ≡ words_if has_more (codes " of more") }
+{
+    if has_more { " of more" } else { "" }
 }
 
 /// Appends the violations, each after a line with its number.
@@ -219,15 +276,34 @@ fn push_unjudged(text: &mut String, unjudged: &[Vec<Shown>]) -> Result<(), Alloc
     Ok(())
 }
 
-/// The texts of the violations' traces.
-fn render_traces(alloc: Global, violations: &[LogViolation]) -> Result<String, AllocError>
-    ensures { IfOk result (λ text. string_bytes text ≡ flat_map trace_of violations.now) }
+/// The texts of the violations' traces, under this memory model.
+fn render_traces(alloc: Global, order: Order, findings: &LogFindings) -> Result<String, OutOfMemory>
+    ensures { IfOk result (λ text. string_bytes text ≡ traces_text order findings.now) }
 {
     let mut text = String::new(alloc);
-    for violation in violations {
-        if let LogViolation::Selection { selected, .. } = violation {
-            text.push_str(&print_trace(alloc, &selected.trace)?)?;
-        }
+    for violation in &findings.violations {
+        push_trace(alloc, &mut text, order, violation)?;
     }
     Ok(text)
+}
+
+/// Appends the text of a violation's trace: of a load of what nothing wrote it is such a load alone.
+fn push_trace(
+    alloc: Global,
+    text: &mut String,
+    order: Order,
+    violation: &LogViolation,
+) -> Result<(), OutOfMemory>
+    ensures { OnOk result (string_bytes text.new ≡ string_bytes text.old ++ trace_of order violation.now) }
+{
+    match violation {
+        LogViolation::Selection { selected, .. } => {
+            text.push_str(&print_trace(alloc, &selected.trace)?)?;
+        }
+        LogViolation::Unwritten(_) => {
+            let trace = lone_load(alloc, order)?;
+            text.push_str(&print_trace(alloc, &trace)?)?;
+        }
+    }
+    Ok(())
 }

@@ -11,6 +11,7 @@ ghost use Rattle.trace_reports.specs.RefusalLines.{refusal_text};
 ghost use Rattle.tso_text.specs.declared.faults.Why.{Why};
 ghost use Rattle.log_reports.specs.LogReports.{IsLogReportOfReader, IsReportOf, verdict_of};
 
+use crate::counts::LogCounts;
 use crate::findings::{LogFindings, find_violations};
 use crate::notes::render_notes;
 use crate::rendering::{LogForm, render};
@@ -28,10 +29,12 @@ use tso_text::TextFault;
 /// How a log is reported on.
 #[derive(Clone, Copy, Debug, PartialEq, Eq)]
 pub struct LogOptions {
-    /// How many violations are listed at most.
+    /// How many violations are listed at most, and beside them how many loads of what nothing wrote.
     pub most: usize,
     /// How many steps the search may do for each load and store of the log, and for 50,000 more.
     pub effort: usize,
+    /// How many of a hundred loads may have a source that the values don't tell, where all is said to be judged.
+    pub max_unknown: usize,
     /// What is printed.
     pub form: LogForm,
 }
@@ -41,8 +44,9 @@ pub struct LogOptions {
 pub enum LogVerdict {
     /// No violation was found, which proves nothing.
     NoViolation,
-    /// No violation was found, and the search ended before the log did.
-    EndedEarly,
+    /// No violation was found, and not all was judged: the search ended before the log did, something that was found is no trace,
+    /// no load could be judged, or more loads are unknown than allowed.
+    NotAllJudged,
     /// A violation is listed: the log has no memory order.
     Violation,
     /// The text is no log's.
@@ -71,10 +75,10 @@ pub fn report_log<H: Threads + Wait + AllocGlobal, M: Meter, R: Read, W: Write, 
     writer: &mut W,
     errors: &mut E,
 ) -> Result<LogVerdict, Fault>
-    ensures report { IfOk result (WritesWhole (IsLogReportOfReader options.form (R.remaining reader.old)) (W.contents writer.old) (W.contents writer.new)) }
+    ensures report { IfOk result (WritesWhole (IsLogReportOfReader options (R.remaining reader.old)) (W.contents writer.old) (W.contents writer.new)) }
     ensures no_order { IfOk result (λ verdict. verdict ≡ LogVerdict.Violation → IfSome (R.remaining reader.old) (λ all. (log : NumberedLog) → SpellsLog all log → IsConsistent (log_operations log) → ⊥)) }
     ensures taken { IfOk result (λ _. IfSome (R.remaining reader.old) (λ all. Consumes (R.remaining reader.old) (R.remaining reader.new) all)) }
-    ensures left { IfErr result (LeavesAtFault (IsLogReportOfReader options.form (R.remaining reader.old)) (W.contents writer.old) (W.contents writer.new)) }
+    ensures left { IfErr result (LeavesAtFault (IsLogReportOfReader options (R.remaining reader.old)) (W.contents writer.old) (W.contents writer.new)) }
     ensures told { (text : List ℕ) × AppendsPrefix (E.contents errors.old) (E.contents errors.new) text }
     ensures untold { OnErr result (Keeps (E.contents errors.old) (E.contents errors.new)) }
 {
@@ -92,7 +96,7 @@ fn read_report<H: Threads + Wait + AllocGlobal, M: Meter, R: Read>(
     meter: &M,
     reader: &mut R,
 ) -> Result<LogReport, Fault>
-    ensures report { IfOk result (λ report. IsLogReportOfReader options.form (R.remaining reader.old) (string_bytes report.text) report.verdict) }
+    ensures report { IfOk result (λ report. IsLogReportOfReader options (R.remaining reader.old) (string_bytes report.text) report.verdict) }
     ensures taken { IfOk result (λ _. IfSome (R.remaining reader.old) (λ all. Consumes (R.remaining reader.old) (R.remaining reader.new) all)) }
     ensures fault { IfErr result (λ fault. (fault ≡ Fault.OutOfMemory) ⊎ (fault ≡ Fault.NoThread) ⊎ (fault ≡ Fault.Read)) }
 {
@@ -115,30 +119,40 @@ fn report_on<H: Threads + Wait + AllocGlobal, M: Meter>(
     meter: &M,
     log: Log,
 ) -> Result<LogReport, Fault>
-    ensures report { IfOk result (λ report. IsReportOf (log_value log) options.form (string_bytes report.text) report.verdict) }
+    ensures report { IfOk result (λ report. IsReportOf (log_value log) options (string_bytes report.text) report.verdict) }
     ensures fault { IfErr result (λ fault. (fault ≡ Fault.OutOfMemory) ⊎ (fault ≡ Fault.NoThread)) }
 {
     let alloc = rt.alloc();
     let known = KnownLog::new(alloc, log)?;
     let findings = find_violations(rt, alloc, &known, options, meter)?;
-    let unknown = known.ambiguous_loads();
+    let counts = LogCounts::new(known.log(), known.ambiguous_loads())?;
     Ok(LogReport {
-        text: render(alloc, options.form, &known, unknown, &findings)?,
-        notes: render_notes(alloc, options.form, &findings)?,
-        verdict: verdict_of(&findings),
+        text: render(alloc, options, counts, &known, &findings)?,
+        notes: render_notes(alloc, options, counts, &findings)?,
+        verdict: verdict_of(options, counts, &findings)?,
     })
 }
 
-/// What is said of a log by what was found in it.
-fn verdict_of(findings: &LogFindings) -> LogVerdict
-    ensures { result ≡ verdict_of findings.now }
+/// What is said of a log by what was found in it. OutOfMemory where it has more loads than memory holds.
+fn verdict_of(
+    options: LogOptions,
+    counts: LogCounts,
+    findings: &LogFindings,
+) -> Result<LogVerdict, OutOfMemory>
+    ensures { IfOk result (λ verdict. verdict ≡ verdict_of options counts findings.now) }
 {
+    let is_too_unknown = counts.is_too_unknown(options.max_unknown)?;
     if !findings.violations.is_empty() {
-        LogVerdict::Violation
-    } else if findings.is_early {
-        LogVerdict::EndedEarly
+        return Ok(LogVerdict::Violation);
+    }
+    if findings.is_early
+        || !findings.unjudged.is_empty()
+        || counts.is_nothing_judged()
+        || is_too_unknown
+    {
+        Ok(LogVerdict::NotAllJudged)
     } else {
-        LogVerdict::NoViolation
+        Ok(LogVerdict::NoViolation)
     }
 }
 

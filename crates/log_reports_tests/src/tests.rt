@@ -25,12 +25,14 @@ type Case = (
 const LINES: LogOptions = LogOptions {
     most: 10,
     effort: 100,
+    max_unknown: 100,
     form: LogForm::Lines,
 };
 
 const TRACES: LogOptions = LogOptions {
     most: 10,
     effort: 100,
+    max_unknown: 100,
     form: LogForm::Traces,
 };
 
@@ -75,7 +77,7 @@ const LOG: &[u8] = b"0 ld 1 1\n";
 
 /// Its report.
 const REPORT: &str =
-    "TSO LOG 1\nprocessors 1 operations 1 loads 1 unknown 0\nVIOLATION\nviolation 1\nline 1 0 ld 1 1\nstored 0\nviolations 1\n";
+    "TSO LOG 1\nprocessors 1 operations 1 loads 1 unknown 0 left 0\nVIOLATION\nviolation 1\nline 1 0 ld 1 1\nstored 0\nviolations 1\n";
 
 #[test]
 fn streams_that_fail_or_are_slow(rt: HostRuntime) {
@@ -89,10 +91,11 @@ fn streams_that_fail_or_are_slow(rt: HostRuntime) {
     let mut reader = LOG;
     expect(&rt, &mut reader, LINES, room, Err(Fault::Write), first);
     // what the errors don't take of the notes is lost, and that is no fault
-    let room = (usize::MAX, 20);
-    let first = ("", "loads of what nothin");
-    let mut reader = LOG;
-    expect(&rt, &mut reader, TRACES, room, violation, first);
+    let unjudged = Ok(LogVerdict::NotAllJudged);
+    let room = (usize::MAX, 10);
+    let first = ("", "NOTHING JU");
+    let mut reader = b"0 mb\n".as_slice();
+    expect(&rt, &mut reader, TRACES, room, unjudged, first);
 }
 
 /// Message passing, and a load that no violation needs.
@@ -100,7 +103,7 @@ const MESSAGE_PASSING: &[u8] = b"0 st 1 1\n0 st 2 2\n1 ld 3 0\n1 ld 2 2\n1 ld 1 
 
 /// Its report.
 const MESSAGE_REPORT: &[u8] =
-    b"TSO LOG 1\nprocessors 2 operations 5 loads 3 unknown 0\nVIOLATION\nviolation 1\nline 1 0 st 1 1\nline 2 0 st 2 2\nline 4 1 ld 2 2\nline 5 1 ld 1 0\nviolations 1\n";
+    b"TSO LOG 1\nprocessors 2 operations 5 loads 3 unknown 0 left 0\nVIOLATION\nviolation 1\nline 1 0 st 1 1\nline 2 0 st 2 2\nline 4 1 ld 2 2\nline 5 1 ld 1 0\nviolations 1\n";
 
 /// The room that a report gets.
 const ROOM: usize = 256;

@@ -5,12 +5,12 @@ use crate::edges::Edges;
 use crate::graphs::Graph;
 use crate::groups::make_groups;
 use crate::lookups::{number_of, source_of};
-use crate::memory::Memory;
 use crate::nodes::{FIRST, Kind, Node, node_at};
 use crate::numbers::{NONE, item, narrow, put};
 use crate::surveys::{Addresses, Survey};
 use log_selections::KnownLog;
 use log_text::{LogOperation, LoggedOperation};
+use search_memory::Memory;
 use tso_ops::Order;
 
 /// The nodes while they are listed.
@@ -47,7 +47,7 @@ pub(crate) fn build(memory: &Memory, scope: Scope<'_>) -> Graph {
         chains,
         groups,
         edges: Edges::new(memory, nodes.len()),
-        ranks: memory.numbers(0, nodes.len()),
+        ranks: memory.filled(0, nodes.len()),
         nodes,
         firsts: listing.firsts,
     };
@@ -61,7 +61,7 @@ fn list_nodes(memory: &Memory, scope: Scope<'_>) -> Listing {
     let mut listing = Listing {
         nodes: Vec::new(memory.alloc()),
         firsts: Vec::new(memory.alloc()),
-        by_number: memory.numbers(NONE, scope.known.sources().len()),
+        by_number: memory.filled(NONE, scope.known.sources().len()),
         membars: Vec::new(memory.alloc()),
     };
     for (processor, list) in scope.known.log().lists.iter().enumerate() {
@@ -212,8 +212,8 @@ impl Listing {
 /// Writes for each load its processor's last store to its address before it.
 fn find_own_stores(memory: &Memory, addresses: usize, nodes: &mut [Node]) {
     // For each address the last store, and its processor.
-    let mut stores = memory.numbers(NONE, addresses);
-    let mut processors = memory.numbers(NONE, addresses);
+    let mut stores = memory.filled(NONE, addresses);
+    let mut processors = memory.filled(NONE, addresses);
     for (number, node) in nodes.iter_mut().enumerate() {
         if node.is_store() {
             put(&mut stores, node.address, narrow(number));

@@ -1,9 +1,9 @@
 //! Chains: nodes of a processor of which each comes before the next in every order. Under TSO these are its loads, and its
 //! stores; under PSO its loads, its stores to each address, and its STBARs.
 
-use crate::memory::Memory;
 use crate::nodes::{Kind, Node};
 use crate::numbers::{NONE, begin, count, item, narrow, put};
+use search_memory::Memory;
 use tso_ops::Order;
 
 /// The members of each chain, one chain after the other.
@@ -147,15 +147,15 @@ pub(crate) fn make_chains(
         loads: NONE,
         stores: NONE,
         stbars: NONE,
-        by_address: memory.numbers(NONE, addresses),
+        by_address: memory.filled(NONE, addresses),
         lengths: Vec::new(memory.alloc()),
         owners: Vec::new(memory.alloc()),
     };
     let mut chains = Chains {
-        members: memory.numbers(NONE, nodes.len()),
+        members: memory.filled(NONE, nodes.len()),
         starts: Vec::new(memory.alloc()),
-        loads: memory.numbers(NONE, processors),
-        stbars: memory.numbers(NONE, processors),
+        loads: memory.filled(NONE, processors),
+        stbars: memory.filled(NONE, processors),
     };
     for node in nodes.iter_mut() {
         lanes.place(memory, node);

@@ -3,11 +3,11 @@
 use crate::edges::Why;
 use crate::graphs::Graph;
 use crate::links::Links;
-use crate::memory::Memory;
 use crate::numbers::{NONE, item, narrow, put};
 use crate::queues::Queue;
 use crate::rows::Rows;
 use crate::swaps::Swaps;
+use search_memory::Memory;
 
 /// A search may do as much as in a log with so many events more.
 const EVENTS_MORE: usize = 50_000;
@@ -118,8 +118,8 @@ impl Derivation {
             rows: Rows::new(memory, nodes, graph.chains.len()),
             swaps: Swaps::new(memory, &graph.nodes),
             closing: None,
-            since: memory.numbers(0, nodes),
-            changed: memory.numbers(0, nodes),
+            since: memory.filled(0, nodes),
+            changed: memory.filled(0, nodes),
             clock: 0,
             queue: Queue::new(memory, nodes),
             links: Links::new(memory.alloc()),

@@ -1,7 +1,7 @@
 //! Edges that are kept in lists: those of barriers, Own edges, and the inferred ones as they are found.
 
-use crate::memory::Memory;
 use crate::numbers::{NONE, item, narrow, put};
+use search_memory::Memory;
 
 /// Why a node comes before another.
 #[derive(Clone, Copy)]
@@ -66,8 +66,8 @@ impl Edges {
     pub(crate) fn new(memory: &Memory, nodes: usize) -> Edges {
         Edges {
             edges: Vec::new(memory.alloc()),
-            from: memory.numbers(NONE, nodes),
-            to: memory.numbers(NONE, nodes),
+            from: memory.filled(NONE, nodes),
+            to: memory.filled(NONE, nodes),
         }
     }
 

@@ -2,9 +2,9 @@
 
 use crate::derivation::{Closing, Derivation};
 use crate::edges::Why;
-use crate::memory::Memory;
 use crate::nodes::FIRST;
 use crate::paths::{PathStep, Task, find_path};
+use search_memory::Memory;
 
 /// What a violation needs.
 #[derive(Drop)]

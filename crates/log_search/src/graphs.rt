@@ -3,9 +3,9 @@
 use crate::chains::Chains;
 use crate::edges::{Edges, Why};
 use crate::groups::Groups;
-use crate::memory::Memory;
 use crate::nodes::{FIRST, Kind, Node, node_at};
 use crate::numbers::{NONE, item, narrow};
+use search_memory::Memory;
 use tso_ops::Order;
 
 /// The nodes, their chains and groups, and the edges that are kept in lists.

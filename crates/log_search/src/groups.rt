@@ -1,8 +1,8 @@
 //! Groups: the stores of a chain to one address.
 
-use crate::memory::Memory;
 use crate::nodes::{FIRST, Node, node_at};
 use crate::numbers::{NONE, begin, count, item, last_up_to, narrow, put};
+use search_memory::Memory;
 
 /// The stores of a chain to one address: their places in the chain stand one after the other among the groups' places.
 #[derive(Clone, Copy)]
@@ -66,10 +66,10 @@ impl Groups {
 
 /// The stores, those to one address one after the other, each address' in the order of the nodes.
 fn sort_stores(memory: &Memory, addresses: usize, nodes: &[Node]) -> Vec<u32> {
-    let mut starts = memory.numbers(0, addresses);
+    let mut starts = memory.filled(0, addresses);
     let stores = count_stores(nodes, &mut starts);
     begin(&mut starts);
-    let mut sorted = memory.numbers(NONE, stores);
+    let mut sorted = memory.filled(NONE, stores);
     for (number, node) in nodes.iter().enumerate() {
         if node.is_store() {
             let index = count(&mut starts, node.address);
@@ -96,9 +96,9 @@ pub(crate) fn make_groups(memory: &Memory, addresses: usize, nodes: &mut [Node])
     let sorted = sort_stores(memory, addresses, nodes);
     let mut groups = Groups {
         groups: Vec::new(memory.alloc()),
-        starts: memory.numbers(0, addresses.saturating_add(1)),
+        starts: memory.filled(0, addresses.saturating_add(1)),
         places: memory.room(sorted.len()),
-        first_readers: memory.numbers(NONE, addresses),
+        first_readers: memory.filled(NONE, addresses),
     };
     let mut last = NONE;
     for number in &sorted {

@@ -4,6 +4,8 @@
 //! What it proposes is checked and judged elsewhere: nothing rests on it. `README.md` says how it goes, and what it misses.
 #![tactic(auto)]
 
+pub use efforts::Effort;
+pub use fitting::{fit_trace, is_within_limits};
 pub use reduction::{Judge, reduce};
 pub use search::{Found, Search};
 
@@ -11,12 +13,13 @@ mod building;
 mod chains;
 mod derivation;
 mod edges;
+mod efforts;
 mod explanations;
+mod fitting;
 mod graphs;
 mod groups;
 mod links;
 mod lookups;
-mod memory;
 mod nodes;
 mod numbers;
 mod paths;

@@ -2,9 +2,9 @@
 
 use crate::edges::{KeptEdge, Why};
 use crate::graphs::Graph;
-use crate::memory::Memory;
 use crate::nodes::{FIRST, Kind, Node};
 use crate::numbers::NONE;
+use search_memory::Memory;
 use std::alloc::Global;
 use tso_ops::Order;
 

@@ -3,8 +3,8 @@
 use crate::derivation::Derivation;
 use crate::edges::Why;
 use crate::links::{Link, Links};
-use crate::memory::Memory;
 use crate::numbers::NONE;
+use search_memory::Memory;
 use std::collections::{BinaryHeap, HashMap};
 
 /// What a step costs that a base rule gives.

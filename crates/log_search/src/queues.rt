@@ -1,6 +1,6 @@
 //! The nodes whose rules are to be looked at.
 
-use crate::memory::Memory;
+use search_memory::Memory;
 use std::collections::BinaryHeap;
 
 /// Nodes that are to be looked at, each once, those done first on top.
@@ -15,7 +15,7 @@ impl Queue {
     pub(crate) fn new(memory: &Memory, nodes: usize) -> Queue {
         Queue {
             heap: BinaryHeap::new(memory.alloc()),
-            is_queued: memory.flags(nodes),
+            is_queued: memory.filled(false, nodes),
         }
     }
 

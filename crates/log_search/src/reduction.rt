@@ -1,10 +1,10 @@
 //! Fewer operations that are still accused.
 
 use crate::lookups::{logged_at, number_of, source_of};
-use crate::memory::Memory;
 use crate::selections::{empty_lists, push_kept};
 use log_selections::{Kept, KnownLog};
 use log_text::LogOperation;
+use search_memory::Memory;
 use std::alloc::Global;
 use std::collections::HashSet;
 use tso_ops::{OutOfMemory, Part};
@@ -21,7 +21,7 @@ pub trait Judge {
 }
 
 /// An operation of a processor.
-type Entry = (usize, Kept);
+pub(crate) type Entry = (usize, Kept);
 
 /// Leaves out operations of a log that a judge accuses, as long as it accuses what is left: half of them, a quarter, .., and
 /// then single ones, until there is none without which the others are accused, or the judge is done.
@@ -33,13 +33,14 @@ pub fn reduce<J: Judge>(
     kept: Vec<Vec<Kept>>,
     judge: &mut J,
 ) -> Result<Vec<Vec<Kept>>, OutOfMemory> {
+    let memory = Memory::new(alloc);
+    let entries = list(&memory, &kept);
     let mut reduction = Reduction {
-        memory: Memory::new(alloc),
+        memory,
         known,
         judge,
-        entries: Vec::new(alloc),
+        entries,
     };
-    reduction.list(&kept);
     reduction.leave_out_halves()?;
     reduction.leave_out_singles()?;
     let lists = gather(&reduction.memory, known, &reduction.entries);
@@ -56,15 +57,6 @@ struct Reduction<'a, J> {
 }
 
 impl<J: Judge> Reduction<'_, J> {
-    /// Lists the operations, one processor's after the other's.
-    fn list(&mut self, kept: &[Vec<Kept>]) {
-        for (processor, list) in kept.iter().enumerate() {
-            for kept in list {
-                self.memory.push(&mut self.entries, (processor, *kept));
-            }
-        }
-    }
-
     /// Leaves out half of the operations at a time, a quarter, .., two.
     fn leave_out_halves(&mut self) -> Result<(), OutOfMemory> {
         let mut size = self.entries.len();
@@ -122,8 +114,19 @@ impl<J: Judge> Reduction<'_, J> {
     }
 }
 
+/// The operations, one processor's after the other's.
+pub(crate) fn list(memory: &Memory, kept: &[Vec<Kept>]) -> Vec<Entry> {
+    let mut entries = Vec::new(memory.alloc());
+    for (processor, list) in kept.iter().enumerate() {
+        for kept in list {
+            memory.push(&mut entries, (processor, *kept));
+        }
+    }
+    entries
+}
+
 /// These operations by their processors.
-fn gather(memory: &Memory, known: &KnownLog, entries: &[Entry]) -> Vec<Vec<Kept>> {
+pub(crate) fn gather(memory: &Memory, known: &KnownLog, entries: &[Entry]) -> Vec<Vec<Kept>> {
     let mut lists = empty_lists(memory, known.log().lists.len());
     for (processor, kept) in entries {
         push_kept(memory, &mut lists, *processor, *kept);
@@ -158,7 +161,7 @@ fn without(
 }
 
 /// The operations without loads whose sources aren't among them.
-fn with_sources(memory: &Memory, known: &KnownLog, entries: &[Entry]) -> Vec<Entry> {
+pub(crate) fn with_sources(memory: &Memory, known: &KnownLog, entries: &[Entry]) -> Vec<Entry> {
     let stores = stores_of(memory, known, entries);
     let mut fewer = Vec::new(memory.alloc());
     for (processor, kept) in entries {

@@ -5,10 +5,10 @@ use crate::derivation::Derivation;
 use crate::graphs::Graph;
 use crate::links::Links;
 use crate::lookups::line_of;
-use crate::memory::Memory;
 use crate::numbers::{NONE, item, narrow, put};
 use log_selections::KnownLog;
 use progress_meters::Meter;
+use search_memory::Memory;
 
 /// After all processors wait for another, so many nodes of one are passed.
 const FORCED: u32 = 64;

@@ -1,6 +1,6 @@
 //! What reaches each node: for each chain the greatest place of it that does, 0 where none does.
 
-use crate::memory::Memory;
+use search_memory::Memory;
 
 /// A row for each node.
 #[derive(Drop)]
@@ -20,7 +20,7 @@ impl Rows {
             }
         };
         Rows {
-            places: memory.numbers(0, size),
+            places: memory.filled(0, size),
             width,
         }
     }

@@ -2,9 +2,9 @@
 
 use crate::derivation::{Closing, Derivation};
 use crate::edges::Why;
-use crate::memory::Memory;
 use crate::nodes::{FIRST, Kind, Node};
 use crate::numbers::{NONE, narrow};
+use search_memory::Memory;
 
 /// What a search in a group counts for, in words of rows.
 const SEARCH: usize = 8;

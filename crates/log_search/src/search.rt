@@ -4,12 +4,12 @@ use crate::building::{Scope, build};
 use crate::derivation::{Derivation, Work};
 use crate::explanations::explain;
 use crate::graphs::Graph;
-use crate::memory::Memory;
 use crate::roots::Roots;
 use crate::selections::select;
 use crate::surveys::{Addresses, Survey};
 use log_selections::{Kept, KnownLog};
 use progress_meters::Meter;
+use search_memory::Memory;
 use std::alloc::Global;
 use tso_ops::OutOfMemory;
 

@@ -2,9 +2,9 @@
 
 use crate::derivation::Derivation;
 use crate::explanations::Explanation;
-use crate::memory::Memory;
 use crate::nodes::{Kind, Node};
 use log_selections::Kept;
+use search_memory::Memory;
 use tso_ops::Part;
 
 /// No operations of so many processors.

@@ -1,10 +1,10 @@
 //! What of a log matters to the search: the numbers of addresses, and the loads that say something.
 
 use crate::lookups::{number_of, source_of};
-use crate::memory::Memory;
 use crate::numbers::{NONE, count, item, narrow, put};
 use log_selections::KnownLog;
 use log_text::{LogOperation, LoggedOperation};
+use search_memory::Memory;
 use std::collections::HashMap;
 use tso_ops::Order;
 
@@ -71,8 +71,8 @@ impl Survey {
         let events = known.sources().len();
         let mut survey = Survey {
             order: known.log().order,
-            addresses: memory.numbers(NONE, events),
-            kept: memory.flags(events),
+            addresses: memory.filled(NONE, events),
+            kept: memory.filled(false, events),
             count: 0,
             processors: known.log().lists.len(),
             writers: Vec::new(memory.alloc()),
@@ -87,8 +87,8 @@ impl Survey {
 
     /// Counts for each address the processors that store there.
     fn count_writers(&mut self, memory: &Memory, known: &KnownLog) {
-        self.writers = memory.numbers(0, self.count);
-        let mut last = memory.numbers(NONE, self.count);
+        self.writers = memory.filled(0, self.count);
+        let mut last = memory.filled(NONE, self.count);
         for (processor, list) in known.log().lists.iter().enumerate() {
             self.count_stores(known, processor, list, &mut last);
         }
@@ -191,8 +191,8 @@ impl Survey {
     fn thin(&mut self, memory: &Memory, known: &KnownLog) {
         let size = known.sources().len().saturating_add(self.count);
         let mut readers = Readers {
-            first: memory.numbers(0, size),
-            last: memory.numbers(0, size),
+            first: memory.filled(0, size),
+            last: memory.filled(0, size),
             low: 0,
         };
         for (processor, list) in known.log().lists.iter().enumerate() {

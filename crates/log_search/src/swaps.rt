@@ -1,8 +1,8 @@
 //! The swaps of each processor.
 
-use crate::memory::Memory;
 use crate::nodes::{Kind, Node};
 use crate::numbers::{item, last_up_to, narrow};
+use search_memory::Memory;
 
 /// The swaps of a processor: the chain of its loads, and where the places of the swaps' loads there stand among those of all.
 #[derive(Clone, Copy)]

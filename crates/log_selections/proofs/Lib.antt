@@ -7,6 +7,7 @@ pub mod CutSelections
 pub mod KeepingFacts
 pub mod KnownFacts
 pub mod KnownSources
+pub mod LoneLoads
 pub mod OwnCuts
 pub mod Restriction
 pub mod SelectionOrders

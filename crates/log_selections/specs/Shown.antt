@@ -58,7 +58,7 @@ counted_of shown p = map counted (filter (λ s. s.processor == p) shown)
 
 -- the log that has nothing else: its memory model, first values and processors are those of the log
 abbrev pub log_of_shown : NumberedLog → List Shown → NumberedLog
-log_of_shown log shown = record { order = log.order; first = log.first; lists = map (counted_of shown) (range_with_len 0 (length log.lists)) }
+log_of_shown log shown = record { order = log.order; first = log.first; lists = map (counted_of shown) (range_with_len 0 (length log.lists)); left_out = 0 }
 
 -- Lines of a log, and a trace that is a selection of the log and of these lines alone, by the sources that their values tell.
 pub record IsSelected (log : NumberedLog) (shown : List Shown) (t : TraceValue) : Type 0 where

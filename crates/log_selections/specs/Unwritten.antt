@@ -1,7 +1,10 @@
 -- Loads of values that nothing wrote.
 use Rattle.std.specs.Prelude.{◌≡◌, ◌≢◌, ◌≤◌, ℕ, ◌==◌, List, [], ◌∷◌, length, map, filter, Option, None, Some}
 use Rattle.std.specs.List.{All, Contains, flat_map}
-use Rattle.tso_ops.specs.Settings.{first_value}
+use Rattle.tso_ops.specs.declared.ops.Outcome.TheVariants as outcomes
+use Rattle.tso_ops.specs.declared.settings.Order.{Order}
+use Rattle.tso_ops.specs.Settings.{first_value, setting_of_first}
+use Rattle.tso_ops.specs.Values.{TraceValue, trace_of_lists}
 use Rattle.log_text.specs.declared.logs.LogOperation.{LogOperation}
 use Rattle.log_text.specs.declared.logs.LogOperation.TheVariants.{Ld, St, Sw, Mb, Sb}
 use Rattle.log_text.specs.declared.logs.LoggedOperation.{LoggedOperation}
@@ -65,3 +68,9 @@ pub record IsUnwrittenLoad (log : NumberedLog) (load : UnwrittenLoad) : Type 0 w
   pub count : load.stores ≡ length (stores_to log.lists unwritten.written.0)
   pub first : IsFirst (stores_to log.lists unwritten.written.0) load.first
   pub last : IsLast (stores_to log.lists unwritten.written.0) load.last
+
+-- ---- such a load alone
+
+-- a trace that has nothing else: it reads 1 at address 0, where memory is 0
+abbrev pub lone_load : Order → TraceValue
+lone_load order = trace_of_lists (setting_of_first order []) ((outcomes.Ld 0 1 ∷ []) ∷ [])

@@ -4,6 +4,7 @@
 #![tactic(auto)]
 
 pub use known::KnownLog;
+pub use lone_loads::lone_load;
 pub use selecting::Selected;
 pub use shown::{Kept, Shown};
 pub use unwritten::{LoggedStore, UnwrittenLoad};
@@ -12,6 +13,7 @@ mod accesses;
 mod keeping;
 mod known;
 pub mod laws;
+mod lone_loads;
 mod naming;
 mod selecting;
 mod shown;

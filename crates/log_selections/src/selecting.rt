@@ -57,6 +57,7 @@ impl KnownLog {
             order: log.order,
             first: Vec::from_slice(alloc, &log.first)?,
             lists: count_lists(alloc, shown, log.lists.len())?,
+            left_out: 0,
         })
     }
 }

@@ -1,9 +1,11 @@
 -- Lemmas on the operations that are left of a log without those at some addresses.
 use Rattle.std.proofs.Common.{◌≡◌, ◌∙◌, ℕ, suc, ◌+◌, ◌<◌, List, [], ◌∷◌, ◌++◌, length, get_or, map, take, true, false, not, refl, sym, ap, arith}
 use Rattle.std.specs.Global.{Vec}
+use Rattle.std.specs.List.{sum_by}
 use Rattle.std.proofs.Math.Seq.{take-suc}
 use Rattle.std.proofs.lemmas.List.{append-nil, get_or-map, length-map, map-append}
 use Rattle.std.proofs.lemmas.List.Elements.{filter-append}
+use Rattle.std.proofs.lemmas.List.Sums.{sum_by_more}
 use Rattle.tso_ops.specs.Values.{rows}
 use Rattle.log_text.specs.declared.logs.LoggedOperation.{LoggedOperation}
 use Rattle.log_text.specs.LogTexts.{is_at_one_of, without_addresses}
@@ -27,6 +29,14 @@ module _ (all : List ℕ) (list : List LoggedOperation) (i : ℕ) (d : LoggedOpe
     left_out there =
         let here : without_addresses all (get_or list i d ∷ []) ≡ [] = rw there refl in
         was ∙ sym (append-nil (without_addresses all (take i list))) ∙ ap (λ xs. without_addresses all (take i list) ++ xs) (sym here) ∙ sym next_left
+
+-- one more list in a sum
+pub sum_next : {X : Type 0} (f : List X → ℕ) (lists : List (Vec X)) (i : ℕ) (d : Vec X) (before : ℕ) → i < length lists → before ≡ sum_by f (take i (rows lists)) →
+    before + f (get_or lists i d).items ≡ sum_by f (take (i + 1) (rows lists))
+sum_next {X} f lists i d before inside was =
+    let long : i < length (rows lists) = omega (arith, length-map lists (λ (row : Vec X). row.items)) in
+    let here : get_or (rows lists) i [] ≡ (get_or lists i d).items = get_or-map (λ (row : Vec X). row.items) lists i d [] inside in
+    ap (λ n. n + f (get_or lists i d).items) was ∙ ap (λ xs. sum_by f (take i (rows lists)) + f xs) (sym here) ∙ sym (sum_by_more f (rows lists) i [] long)
 
 -- one more list, made of the next of others
 pub rows_next : {X Y : Type 0} (f : List X → List Y) (lists : List (Vec X)) (made : List (Vec Y)) (new : Vec Y) (i : ℕ) (d : Vec X) → i < length lists → rows made ≡ map f (take i (rows lists)) →

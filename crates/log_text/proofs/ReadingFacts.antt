@@ -1,13 +1,14 @@
 -- Lemmas on the log that lines make, one line after another.
 use Rattle.std.proofs.Common.{◌≡◌, ℕ, suc, ◌+◌, ◌-◌, ◌<◌, ◌≤◌, ◌||◌, Bool, true, false, not, eqb, leb, ltb, cond, max, List, [], ◌∷◌, ◌++◌, length, get_or, set, map, Some, Result, Ok, Err, IfOk, slice_get, refl, ap, sym, ◌∙◌, arith, append_assoc, ⊎_elim}
 use Rattle.std.specs.Global.{Vec}
-use Rattle.std.specs.List.{flat_map, list_any, range_with_len}
+use Rattle.std.specs.List.{count_by, flat_map, list_any, range_with_len, sum_by}
 use Rattle.std.specs.Result.{is_ok, OnOk}
 use Rattle.std.proofs.lemmas.Bool.{cases_eq, cases_lt, or_parts}
 use Rattle.std.proofs.lemmas.Bool.Decides.{nat_tests}
-use Rattle.std.proofs.lemmas.List.{append-nil, map-set, get_or-map, get_or-set_same, get_or-set_other, get_or_push, length-map, length-set, length_push, same_lists}
+use Rattle.std.proofs.lemmas.List.{append-nil, map-set, get_or_default, get_or-map, get_or-set_same, get_or-set_other, get_or_push, length-set, length_push, same_lists}
 use Rattle.std.proofs.lemmas.List.Concat.{flat_map-append}
 use Rattle.std.proofs.lemmas.List.Folds.{list_any-append}
+use Rattle.std.proofs.lemmas.List.Sums.{sum_by-cons}
 use Rattle.std.proofs.lemmas.List.FromFn.{get_or-map-range_with_len, length-map-range_with_len}
 use Rattle.std.proofs.lemmas.Option.{slice_get-get_or}
 use Rattle.line_text.specs.Lines.{is_empty}
@@ -20,7 +21,7 @@ use Rattle.log_text.specs.declared.logs.Log.{Log}
 use Rattle.log_text.specs.declared.logs.LogOperation.{LogOperation}
 use Rattle.log_text.specs.declared.logs.LoggedOperation.{LoggedOperation}
 use Rattle.log_text.specs.declared.readings.Reading.{Reading}
-use Rattle.log_text.specs.LogTexts.{order_of, entries_in, unknown_in, issued_in, issued_from, issued_by, is_issued, is_not_below, processors_to, processors_in, fault_after, without_addresses, log_of_lines}
+use Rattle.log_text.specs.LogTexts.{order_of, entries_in, unknown_in, issued_in, issued_from, is_issued, is_not_below, processors_to, processors_in, fault_after, is_operation_at, without_addresses, log_of_lines}
 use Rattle.log_text.specs.LogValues.{NumberedLog, log_value}
 use Rattle.log_text.specs.Internal.Readings.{has_not_below, IsLastGreatest, HoldsLines, IsNext}
 
@@ -221,26 +222,46 @@ pub rows-push_at : {X E : Type 0} (lists : List (Vec X)) (k : ℕ) (old new : Ve
 rows-push_at lists k old new x (Ok u) inside is pushed = rows-set lists k old new x inside is pushed
 rows-push_at lists k old new x (Err e) inside is pushed = tt
 
-abbrev log_with : Order → List (ℕ × ℕ) → List (List LoggedOperation) → NumberedLog
-log_with order first lists = record { order = order; first = first; lists = lists }
+map-map : {X Y Z : Type 0} (g : Y → Z) (f : X → Y) (xs : List X) → map g (map f xs) ≡ map (λ x. g (f x)) xs
+map-map g f [] = refl
+map-map g f (x ∷ xs) = ap (λ ys. g (f x) ∷ ys) (map-map g f xs)
+
+-- a sum over what lists are made from
+sum_by-map : {X Y : Type 0} (f : Y → ℕ) (g : X → Y) (xs : List X) → sum_by f (map g xs) ≡ sum_by (λ x. f (g x)) xs
+sum_by-map f g [] = refl
+sum_by-map f g (x ∷ xs) = sum_by-cons f (g x) (map g xs) ∙ ap (λ n. f (g x) + n) (sum_by-map f g xs) ∙ sym (sum_by-cons (λ y. f (g y)) x xs)
+
+-- the lists that are held are those of the lines
+lists_held : (reading : Reading) (lines : List LogLine) → HoldsLines reading lines → rows reading.log.lists.items ≡ map (issued_from 1 lines) (range_with_len 0 (processors_in lines))
+lists_held reading lines holds =
+    same_lists (rows reading.log.lists.items) (map (issued_from 1 lines) (range_with_len 0 (processors_in lines))) (holds.count ∙ sym (length-map-range_with_len (issued_from 1 lines) 0 (processors_in lines)))
+    (λ k d inside.
+    let low : k < processors_in lines = omega (arith, holds.count) in
+    get_or_default (rows reading.log.lists.items) k d [] inside ∙ holds.lists k ∙ sym (get_or-map-range_with_len (issued_from 1 lines) 0 (processors_in lines) k k d low (omega arith)))
+
+abbrev log_with : Order → List (ℕ × ℕ) → List (List LoggedOperation) → ℕ → NumberedLog
+log_with order first lists left_out = record { order = order; first = first; lists = lists; left_out = left_out }
 
 -- the log without what is at addresses of lines `un` is that of the lines
-pub log_held : (reading : Reading) (lines : List LogLine) (log : NumberedLog) → HoldsLines reading lines → log.order ≡ reading.log.order → log.first ≡ reading.log.first.items →
-    log.lists ≡ map (without_addresses reading.unknown.items) (rows reading.log.lists.items) → log ≡ log_of_lines lines
-log_held reading lines log holds order first lists =
-    let old = rows reading.log.lists.items in
-    let same : map (without_addresses reading.unknown.items) old ≡ map (issued_by lines) (range_with_len 0 (processors_in lines)) =
-    same_lists (map (without_addresses reading.unknown.items) old) (map (issued_by lines) (range_with_len 0 (processors_in lines)))
-    (length-map old (without_addresses reading.unknown.items) ∙ holds.count ∙ sym (length-map-range_with_len (issued_by lines) 0 (processors_in lines)))
-    (λ k d inside.
-    let low : k < processors_in lines = omega (arith, length-map old (without_addresses reading.unknown.items), holds.count) in
-    get_or-map (without_addresses reading.unknown.items) old k [] d (omega (arith, holds.count)) ∙ ap (without_addresses reading.unknown.items) (holds.lists k) ∙ ap (λ unknown. without_addresses unknown (issued_from 1 lines k)) holds.unknown
-    ∙ sym (get_or-map-range_with_len (issued_by lines) 0 (processors_in lines) k k d low (omega arith))) in
-    ap (λ o. log_with o log.first log.lists) (order ∙ holds.order) ∙ ap (λ entries. log_with (order_of lines) entries log.lists) (first ∙ holds.first)
-    ∙ ap (log_with (order_of lines) (flat_map entries_in lines)) (lists ∙ same)
+pub log_held : (reading : Reading) (lines : List LogLine) (log : NumberedLog) → HoldsLines reading lines →
+    log ≡ log_with reading.log.order reading.log.first.items (map (without_addresses reading.unknown.items) (rows reading.log.lists.items)) (sum_by (count_by (is_operation_at reading.unknown.items)) (rows reading.log.lists.items)) →
+    log ≡ log_of_lines lines
+log_held reading lines log holds is =
+    let unknown = reading.unknown.items in
+    let range = range_with_len 0 (processors_in lines) in
+    let issued = issued_from 1 lines in
+    let lists : map (without_addresses unknown) (rows reading.log.lists.items) ≡ map (λ p. without_addresses unknown (issued p)) range =
+    ap (map (without_addresses unknown)) (lists_held reading lines holds) ∙ map-map (without_addresses unknown) issued range in
+    let count : sum_by (count_by (is_operation_at unknown)) (rows reading.log.lists.items) ≡ sum_by (λ p. count_by (is_operation_at unknown) (issued p)) range =
+    ap (sum_by (count_by (is_operation_at unknown))) (lists_held reading lines holds) ∙ sum_by-map (count_by (is_operation_at unknown)) issued range in
+    is ∙ ap (λ o. log_with o reading.log.first.items (map (without_addresses unknown) (rows reading.log.lists.items)) (sum_by (count_by (is_operation_at unknown)) (rows reading.log.lists.items))) holds.order
+    ∙ ap (λ entries. log_with (order_of lines) entries (map (without_addresses unknown) (rows reading.log.lists.items)) (sum_by (count_by (is_operation_at unknown)) (rows reading.log.lists.items))) holds.first
+    ∙ ap (λ xs. log_with (order_of lines) (flat_map entries_in lines) xs (sum_by (count_by (is_operation_at unknown)) (rows reading.log.lists.items))) lists
+    ∙ ap (log_with (order_of lines) (flat_map entries_in lines) (map (λ p. without_addresses unknown (issued p)) range)) count
+    ∙ ap (λ addresses. log_with (order_of lines) (flat_map entries_in lines) (map (λ p. without_addresses addresses (issued p)) range) (sum_by (λ p. count_by (is_operation_at addresses) (issued p)) range)) holds.unknown
 
 pub held_after : {E : Type 0} (reading : Reading) (left : Result Log E) →
-    IfOk left (λ log. log_value log ≡ log_with reading.log.order reading.log.first.items (map (without_addresses reading.unknown.items) (rows reading.log.lists.items))) →
+    IfOk left (λ log. log_value log ≡ log_with reading.log.order reading.log.first.items (map (without_addresses reading.unknown.items) (rows reading.log.lists.items)) (sum_by (count_by (is_operation_at reading.unknown.items)) (rows reading.log.lists.items))) →
     IfOk left (λ log. (lines : List LogLine) → HoldsLines reading lines → log_value log ≡ log_of_lines lines)
-held_after reading (Ok log) is = λ lines holds. log_held reading lines (log_value log) holds (ap (λ v. v.order) is) (ap (λ v. v.first) is) (ap (λ v. v.lists) is)
+held_after reading (Ok log) is = λ lines holds. log_held reading lines (log_value log) holds is
 held_after reading (Err fault) is = tt

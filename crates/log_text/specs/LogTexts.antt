@@ -1,6 +1,6 @@
 -- What the text of a log spells, and how it is refused.
 use Rattle.std.specs.Prelude.{◌≡◌, ◌⊎◌, ◌≢◌, ℕ, suc, ◌==◌, Bool, true, false, not, nat_eq, nat_lt, nat_le, max, List, [], ◌∷◌, ◌++◌, length, map, filter, Option, None, Some, Ok, Err, if◌then◌else◌}
-use Rattle.std.specs.List.{flat_map, list_any, range_with_len}
+use Rattle.std.specs.List.{count_by, flat_map, list_any, range_with_len, sum_by}
 use Rattle.line_text.specs.Lines.{parts_of, is_empty}
 use Rattle.tso_ops.specs.declared.settings.Order.{Order}
 use Rattle.tso_ops.specs.declared.settings.Order.TheVariants.{Tso as OrderTso, Pso as OrderPso}
@@ -70,17 +70,30 @@ is_at_one_of addresses (Sw a r v) = list_any (nat_eq a) addresses
 is_at_one_of addresses Mb = false
 is_at_one_of addresses Sb = false
 
+-- the same of one with its line
+abbrev pub is_operation_at : List ℕ → LoggedOperation → Bool
+is_operation_at addresses x = is_at_one_of addresses x.operation
+
 -- the operations at other addresses
 abbrev pub without_addresses : List ℕ → List LoggedOperation → List LoggedOperation
-without_addresses addresses operations = filter (λ x. not (is_at_one_of addresses x.operation)) operations
+without_addresses addresses operations = filter (λ x. not (is_operation_at addresses x)) operations
 
 -- What processor p did, by these lines. Where something unknown was done to a location, nothing is known of the operations there.
 abbrev pub issued_by : List LogLine → ℕ → List LoggedOperation
 issued_by lines p = without_addresses (flat_map unknown_in lines) (issued_from 1 lines p)
 
+-- how many operations of all processors are so left out
+abbrev pub left_out_by : List LogLine → ℕ
+left_out_by lines = sum_by (λ p. count_by (is_operation_at (flat_map unknown_in lines)) (issued_from 1 lines p)) (range_with_len 0 (processors_in lines))
+
 -- the log of these lines
 abbrev pub log_of_lines : List LogLine → NumberedLog
-log_of_lines lines = record { order = order_of lines; first = flat_map entries_in lines; lists = map (issued_by lines) (range_with_len 0 (processors_in lines)) }
+log_of_lines lines = record {
+  order = order_of lines;
+  first = flat_map entries_in lines;
+  lists = map (issued_by lines) (range_with_len 0 (processors_in lines));
+  left_out = left_out_by lines;
+}
 
 -- ---- the faults of lines
 

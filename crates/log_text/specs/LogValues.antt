@@ -10,14 +10,15 @@ use Rattle.log_text.specs.declared.logs.LogOperation.{LogOperation}
 use Rattle.log_text.specs.declared.logs.LogOperation.TheVariants.{Ld, St, Sw, Mb, Sb}
 use Rattle.log_text.specs.declared.logs.LoggedOperation.{LoggedOperation}
 
--- a log: its memory model, first values, and the operations of processors 0, 1, .., each with its line
+-- a log: its memory model, first values, the operations of processors 0, 1, .., each with its line, and how many more its text has
 pub record NumberedLog : Type 0 where
   pub order : Order
   pub first : List (ℕ × ℕ)
   pub lists : List (List LoggedOperation)
+  pub left_out : ℕ
 
 abbrev pub log_value : Log → NumberedLog
-log_value log = record { order = log.order; first = log.first.items; lists = rows log.lists.items }
+log_value log = record { order = log.order; first = log.first.items; lists = rows log.lists.items; left_out = log.left_out }
 
 -- The operation as one of a trace: a log's has any address of 64 bits.
 abbrev pub outcome_of : LogOperation → Outcome

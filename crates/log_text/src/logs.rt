@@ -35,4 +35,6 @@ pub struct Log {
     pub first: Vec<(u64, u64)>,
     /// The operations of processors 0, 1, .. up to the last that has a line, each in program order.
     pub lists: Vec<Vec<LoggedOperation>>,
+    /// How many operations of the text aren't there, since a line `un` names their address.
+    pub left_out: usize,
 }

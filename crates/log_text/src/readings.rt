@@ -37,6 +37,7 @@ impl Reading {
                 order: Order::Tso,
                 first: Vec::new(alloc),
                 lists: Vec::new(alloc),
+                left_out: 0,
             },
             unknown: Vec::new(alloc),
         }

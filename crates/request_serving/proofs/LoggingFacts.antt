@@ -4,7 +4,7 @@ use Rattle.std.specs.Prelude.{OnErr, Option, codes}
 use Rattle.std.specs.Fmt.{decimal}
 use Rattle.std.specs.Io.KnownBytes.{Appends, Keeps}
 use Rattle.std.proofs.KnownBytes.{Appends-kept}
-use Rattle.log_reports.specs.declared.rendering.LogForm.{LogForm}
+use Rattle.log_reports.specs.declared.reports.LogOptions.{LogOptions}
 use Rattle.log_reports.specs.declared.reports.LogVerdict.{LogVerdict}
 use Rattle.log_reports.specs.LogReports.{IsLogReport, IsLogReportOfReader}
 use Rattle.trace_judging.specs.Streams.{AppendsPrefix}
@@ -15,11 +15,11 @@ use Rattle.request_serving.specs.Endings.{EndsWithNotes, Outputs, WritesFaultLin
 use Rattle.request_serving.specs.OpenedFiles.{HasKnown}
 use Rattle.request_serving.proofs.EndFacts.{known_reads}
 
--- the report of a file of which less may be known, in the form that was asked for
-pub logged_of_known : (asked form : LogForm) (known remaining : Option (List ℕ)) → form ≡ asked → HasKnown known remaining → (text : List ℕ) (verdict : LogVerdict) → IsLogReportOfReader form remaining text verdict →
+-- the report of a file of which less may be known, as it was asked for
+pub logged_of_known : (asked options : LogOptions) (known remaining : Option (List ℕ)) → options ≡ asked → HasKnown known remaining → (text : List ℕ) (verdict : LogVerdict) → IsLogReportOfReader options remaining text verdict →
     IsLogReportOfReader asked known text verdict
-logged_of_known asked form known remaining is has text verdict report =
-    subst (λ f. IsLogReportOfReader f known text verdict) is (known_reads known remaining has (λ bytes. IsLogReport form bytes text verdict) report)
+logged_of_known asked options known remaining is has text verdict report =
+    subst (λ f. IsLogReportOfReader f known text verdict) is (known_reads known remaining has (λ bytes. IsLogReport options bytes text verdict) report)
 
 -- ---- what is written to the errors before and after
 

@@ -14,14 +14,14 @@ use Rattle.trace_reports.specs.Renderings.{IsTextOfInput}
 use Rattle.trace_batches.specs.Batches.{BatchText, IsBatchFault, LeavesBatch, WritesBatch}
 use Rattle.trace_batches.specs.declared.batches.BatchPrinting.{BatchPrinting}
 use Rattle.trace_batches.specs.declared.tallies.BatchVerdict.{BatchVerdict}
-use Rattle.log_reports.specs.declared.rendering.LogForm.{LogForm}
+use Rattle.log_reports.specs.declared.reports.LogOptions.{LogOptions}
 use Rattle.log_reports.specs.LogReports.{IsLogReportOfReader}
 use Rattle.outcome_reports.specs.Outcomes.{IsOutcomesOfReader}
 use Rattle.outcome_reports.specs.SeenTraces.{IsSeenOfReaders}
 use Rattle.request_serving.specs.Batches.{asked_printing, status_of_batch, texts_of_batch}
 use Rattle.request_serving.specs.Campaigning.{IsCampaignText, LeavesCampaignText}
 use Rattle.request_serving.specs.Deciding.{IsDecided, IsVerificationOfNth, status_of_answer}
-use Rattle.request_serving.specs.Logs.{form_of, status_of_log}
+use Rattle.request_serving.specs.Logs.{options_of, status_of_log}
 use Rattle.request_serving.specs.MadePrograms.{IsMadeText, LeavesMadeText}
 use Rattle.request_serving.specs.NthTraces.{IsSaidOfNth}
 use Rattle.request_serving.specs.OpenedFiles.{text_bytes}
@@ -120,8 +120,8 @@ EndsWithNotes {X} is_text status_by o status =
     ⊎ ((fault : Fault) × LeavesAtFault is_text o.written_before o.written fault × EndsByFault fault o status)
 
 -- the report on the log that a reader's bytes spell, or its refusal
-abbrev pub EndsLogged : LogForm → Option (List ℕ) → Outputs → ℕ → Type 0
-EndsLogged form remaining o status = EndsWithNotes (IsLogReportOfReader form remaining) status_of_log o status
+abbrev pub EndsLogged : LogOptions → Option (List ℕ) → Outputs → ℕ → Type 0
+EndsLogged options remaining o status = EndsWithNotes (IsLogReportOfReader options remaining) status_of_log o status
 
 -- The line that a run gave no record was written to the errors.
 abbrev pub TellsUnrecorded : Outputs → Type 0
@@ -166,7 +166,7 @@ EndsAsAsked (deciding presentation file workers nth effort) input files o status
     let is_text = IsDecided presentation effort nth (text_bytes file input files) in Ends is_text status_of_answer (LeavesAtFault is_text) o status
 EndsAsAsked (reducing file nth) input files o status = EndsWithNotes (IsReduced nth (text_bytes file input files)) status_of o status
 EndsAsAsked (batching texts workers printing) input files o status = EndsBatched (asked_printing printing) (texts_of_batch texts input files) o status
-EndsAsAsked (logging file options) input files o status = EndsLogged (form_of options.form) (text_bytes file input files) o status
+EndsAsAsked (logging file options) input files o status = EndsLogged (options_of options) (text_bytes file input files) o status
 EndsAsAsked (checking trace certificate nth) input files o status = EndsWithoutThread (IsCheckOfNth nth (text_bytes trace input files) (text_bytes certificate input files)) status_of o status
 EndsAsAsked (verifying trace evidence nth) input files o status =
     EndsWithoutThread (IsVerificationOfNth nth (text_bytes trace input files) (text_bytes evidence input files)) status_of_answer o status

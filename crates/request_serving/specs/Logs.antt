@@ -1,19 +1,24 @@
--- How what is asked of a log is printed, and the statuses of what is said of it.
+-- How it is reported on a log, as it is asked for, and the statuses of what is said of it.
 use Rattle.std.specs.Prelude.{ℕ}
 use Rattle.command_line.specs.declared.options.LogForm.{LogForm as AskedForm}
 use Rattle.command_line.specs.declared.options.LogForm.TheVariants as asked
+use Rattle.command_line.specs.declared.options.LogOptions.{LogOptions as AskedOptions}
 use Rattle.log_reports.specs.declared.rendering.LogForm.{LogForm}
 use Rattle.log_reports.specs.declared.rendering.LogForm.TheVariants.{Lines, Explained, Traces}
+use Rattle.log_reports.specs.declared.reports.LogOptions.{LogOptions}
 use Rattle.log_reports.specs.declared.reports.LogVerdict.{LogVerdict}
-use Rattle.log_reports.specs.declared.reports.LogVerdict.TheVariants.{NoViolation, EndedEarly, Violation, Refused}
+use Rattle.log_reports.specs.declared.reports.LogVerdict.TheVariants.{NoViolation, NotAllJudged, Violation, Refused}
 
 abbrev pub form_of : AskedForm → LogForm
 form_of asked.Lines = Lines
 form_of asked.Explained = Explained
 form_of asked.Traces = Traces
 
+abbrev pub options_of : AskedOptions → LogOptions
+options_of options = record { most = options.most; effort = options.effort; max_unknown = options.max_unknown; form = form_of options.form }
+
 abbrev pub status_of_log : LogVerdict → ℕ
 status_of_log NoViolation = 0
-status_of_log EndedEarly = 1
+status_of_log NotAllJudged = 1
 status_of_log Refused = 2
 status_of_log Violation = 3

@@ -31,8 +31,8 @@ use trace_judging::Fault;
 /// `verify TRACE EVIDENCE` an order or a refutation. `replay` and `run` execute a program on a memory unit and judge the record,
 /// `make` draws a program from a seed, and `campaign` runs those of many seeds. A file `-` is what the reader has.
 ///
-/// Status 0: no violation was found, a trace has an order or the order holds, or a text was asked for and written. 1: the search
-/// in a log ended early, or nothing was decided. 2: a text, a certificate, evidence, a shape or seeds were refused; or a log or
+/// Status 0: no violation was found, a trace has an order or the order holds, or a text was asked for and written. 1: not all
+/// of a log was judged, fewer traces of a batch than asked for, or nothing was decided. 2: a text, a certificate, evidence, a shape or seeds were refused; or a log or
 /// the arguments were, whose refusal is written to `errors`. 3: a violation, or a certificate or a refutation that holds. 4: a
 /// fault; one line, as `FAULT Read`, is written to `errors`. All files that the arguments name are opened, in their order,
 /// before one is read; but those of `batch` each when its turn comes. At most 1,048,577 bytes of a trace, of a program and of a

@@ -22,8 +22,9 @@ use trace_judging::{Fault, Verdict, write_text};
 /// asked for.
 pub(crate) const DONE: u8 = 0;
 
-/// The status of a log in which no violation was found before the search ended early, and of a trace on which nothing was decided.
-const ENDED_EARLY: u8 = 1;
+/// The status of a log in which no violation was found and not all was judged, of a batch of which too few traces were, and of a
+/// trace on which nothing was decided.
+const NOT_ALL_JUDGED: u8 = 1;
 
 /// The status of what was refused: a text, a certificate, evidence, or the arguments.
 pub(crate) const REFUSED: u8 = 2;
@@ -138,7 +139,7 @@ fn status_of_log(verdict: LogVerdict) -> u8
 {
     match verdict {
         LogVerdict::NoViolation => DONE,
-        LogVerdict::EndedEarly => ENDED_EARLY,
+        LogVerdict::NotAllJudged => NOT_ALL_JUDGED,
         LogVerdict::Refused => REFUSED,
         LogVerdict::Violation => VIOLATION,
     }
@@ -150,7 +151,7 @@ fn status_of_answer(answer: Answer) -> u8
 {
     match answer {
         Answer::Consistent => DONE,
-        Answer::Undecided => ENDED_EARLY,
+        Answer::Undecided => NOT_ALL_JUDGED,
         Answer::Refused => REFUSED,
         Answer::Violation => VIOLATION,
     }
@@ -162,7 +163,7 @@ fn status_of_batch(verdict: BatchVerdict) -> u8
 {
     match verdict {
         BatchVerdict::NoViolation => DONE,
-        BatchVerdict::Undecided => ENDED_EARLY,
+        BatchVerdict::Undecided => NOT_ALL_JUDGED,
         BatchVerdict::Refused => REFUSED,
         BatchVerdict::Violation => VIOLATION,
     }

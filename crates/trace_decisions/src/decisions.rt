@@ -8,10 +8,11 @@ ghost use Rattle.refutation_check.specs.Refutations.{RefutationHolds};
 ghost use Rattle.trace_judging.specs.declared.faults.Fault.{Fault};
 ghost use Rattle.trace_decisions.specs.Decisions.{HoldsFor, IsDecision, Tells};
 
-use crate::search::{Memory, Next, Search};
+use crate::search::{Next, Search};
 use order_check::check_order;
 use refutation_check::check_refutation;
 use round_pool::{OpenPoolGate, Ranked, rounds};
+use search_memory::Memory;
 use std::alloc::Global;
 use std::sync::Wait;
 use std::thread::Threads;

@@ -7,6 +7,7 @@ use crate::search::refuting::{Part, Refuting};
 use crate::search::simulation::{Outcome, Pair, simulate};
 use order_graph::Graph;
 use round_pool::Ranked;
+use search_memory::Memory;
 use std::mem;
 use tso_evidence::RefutationLine;
 use tso_ops::{OutOfMemory, Trace};
@@ -16,12 +17,9 @@ mod chains;
 mod closing;
 mod explaining;
 mod links;
-mod memory;
 mod paths;
 mod refuting;
 mod simulation;
-
-pub(crate) use crate::search::memory::Memory;
 
 /// What a search does next, or what it found.
 #[derive(Drop)]
@@ -130,7 +128,7 @@ impl<'a> Search<'a> {
         match graph_with(memory.alloc(), self.closed, &self.refuting.links) {
             Ok(graph) => Some(graph),
             Err(_) => {
-                memory.refuse();
+                memory.note(true);
                 None
             }
         }

@@ -1,3 +1,2 @@
-pub mod LoneLoads
 pub mod ReductionFacts
 pub mod SelectionFacts

@@ -27,8 +27,9 @@ use Rattle.trace_judging.proofs.InputFacts.{refusal_of_prefix, spells_of_prefix}
 use Rattle.log_selections.specs.Selections.{IsSelectionBy}
 use Rattle.log_selections.proofs.SelectionOrders.{selection_violation}
 use Rattle.trace_reduction.specs.declared.reductions.Reduction.{Reduction}
-use Rattle.trace_reduction.specs.Reductions.{IsReducedText, IsReduction, IsReductionOf, IsReductionOfReader, lone_load}
-use Rattle.trace_reduction.proofs.LoneLoads.{lone_is_trace, lone_violation}
+use Rattle.trace_reduction.specs.Reductions.{IsReducedText, IsReduction, IsReductionOf, IsReductionOfReader}
+use Rattle.log_selections.specs.Unwritten.{lone_load}
+use Rattle.log_selections.proofs.LoneLoads.{lone_is_trace, lone_unwritten}
 use Rattle.trace_reduction.proofs.SelectionFacts.{whole_selection}
 
 -- ---- no orders
@@ -51,7 +52,7 @@ reduced_no_order t small is =
 pub lone_reduction : (t small : TraceValue) (l : ℕ) → IsUnwritten t l → small ≡ lone_load t.setting.order → IsReduction t small
 lone_reduction t small l unwritten is =
     subst (IsReduction t) (sym is)
-    (record { kept = lone_is_trace t.setting.order; violation = lone_violation t.setting.order; from = inr (record { load = l; unwritten = unwritten; alone = refl }) })
+    (record { kept = lone_is_trace t.setting.order; violation = inl (1, lone_unwritten t.setting.order); from = inr (record { load = l; unwritten = unwritten; alone = refl }) })
 
 -- the trace itself
 pub whole_reduction : (t : TraceValue) (c : Certificate) (steps : List CertStep) (cycle : List ℕ) → IsTrace t → c ≡ Cycle steps cycle → IsCertificateOf t c → IsReduction t t

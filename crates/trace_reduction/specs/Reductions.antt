@@ -1,14 +1,12 @@
 -- Small traces that show the violation of a trace, and what is printed of a trace by one.
-use Rattle.std.specs.Prelude.{◌≡◌, ◌⊎◌, ℕ, List, [], ◌∷◌, false, Option}
-use Rattle.tso_ops.specs.declared.ops.Outcome.TheVariants.{Ld}
-use Rattle.tso_ops.specs.declared.settings.Order.{Order}
-use Rattle.tso_ops.specs.Settings.{setting_of_first}
-use Rattle.tso_ops.specs.Values.{TraceValue, trace_of_lists}
+use Rattle.std.specs.Prelude.{◌≡◌, ◌⊎◌, ℕ, List, false, Option}
+use Rattle.tso_ops.specs.Values.{TraceValue}
 use Rattle.tso_ops.specs.Limits.{IsTrace}
 use Rattle.tso_ops.specs.Events.{IsUnwritten}
 use Rattle.tso_text.specs.Printed.{trace_text}
 use Rattle.tso_text.specs.Texts.{SpellsTrace}
 use Rattle.log_selections.specs.Selections.{IsSelection}
+use Rattle.log_selections.specs.Unwritten.{lone_load}
 use Rattle.trace_reports.specs.declared.verdicts.Verdict.{Verdict}
 use Rattle.trace_reports.specs.declared.verdicts.Verdict.TheVariants.{NoViolation, Violation, Refused}
 use Rattle.trace_reports.specs.Readings.{ReadsAs}
@@ -18,10 +16,6 @@ use Rattle.trace_reports.specs.Verdicts.{verdict_line}
 use Rattle.trace_reports.specs.Violations.{IsViolation}
 
 -- ---- small traces
-
--- a load of what nothing wrote, by itself: it reads 1 at address 0, where memory is 0
-abbrev pub lone_load : Order → TraceValue
-lone_load order = trace_of_lists (setting_of_first order []) ((Ld 0 1 ∷ []) ∷ [])
 
 -- A load of the trace read what nothing wrote, and the small trace is such a load by itself.
 pub record IsLoneLoad (t small : TraceValue) : Type 0 where

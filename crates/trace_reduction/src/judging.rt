@@ -1,11 +1,10 @@
 //! The judge of a search for a small trace, which judges as little as it can.
 
-use crate::efforts::Effort;
 use crate::logs::keep_all;
 use crate::losses::{Loss, Losses, without};
 use crate::parts::Parts;
 use crate::trials::is_violation;
-use log_search::Judge;
+use log_search::{Effort, Judge};
 use log_selections::{Kept, KnownLog};
 use std::alloc::Global;
 use std::sync::Wait;

@@ -6,7 +6,6 @@
 pub use reports::reduce_trace;
 
 mod candidates;
-mod efforts;
 mod judging;
 mod kept_events;
 mod kept_pairs;
@@ -23,4 +22,3 @@ mod reports;
 mod searching;
 mod selections;
 mod trials;
-mod unwritten;

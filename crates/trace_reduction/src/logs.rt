@@ -18,6 +18,7 @@ pub(crate) fn log_of(alloc: Global, trace: &Trace) -> Result<Log, OutOfMemory> {
         order: trace.order(),
         first: first_values(alloc, trace)?,
         lists,
+        left_out: 0,
     })
 }
 

@@ -2,6 +2,7 @@
 ghost use Rattle.std.specs.Prelude.{◌≡◌, ◌++◌, ℕ, List, IfOk, OnOk, string_bytes};
 ghost use Rattle.trace_reduction.specs.Remarks.{remark_text};
 
+use log_search::Effort;
 use std::alloc::{AllocError, Global};
 use std::fmt::Write;
 use tso_ops::{Outcome, Trace};
@@ -19,6 +20,28 @@ pub(crate) enum Remark {
     },
     /// What it found failed the check, so that the whole trace is printed.
     FailedCheck,
+}
+
+impl Remark {
+    /// On a small trace that the search found with this effort.
+    pub(crate) fn on_small(effort: Effort) -> Remark {
+        if effort.is_spent() {
+            Remark::EndedEarly {
+                trials: effort.trials(),
+            }
+        } else {
+            Remark::Nothing
+        }
+    }
+
+    /// On the whole trace that stands for a small one: nothing was searched, or what was found failed the check.
+    pub(crate) fn on_whole(effort: Effort) -> Remark {
+        if effort.trials() == 0 {
+            Remark::on_small(effort)
+        } else {
+            Remark::FailedCheck
+        }
+    }
 }
 
 /// A line for each operation of a small trace, by the lines of the whole trace's text where they stand: `line 12 P0 'st 0 1'`.

@@ -87,5 +87,6 @@ fn in_order(alloc: Global, log: &Log, order: &[usize]) -> Result<Log, OutOfMemor
         order: log.order,
         first: Vec::from_slice(alloc, &log.first)?,
         lists,
+        left_out: 0,
     })
 }

@@ -9,12 +9,12 @@ ghost use Rattle.trace_reduction.specs.Reductions.{IsReducedText, IsReduction};
 ghost use Rattle.trace_reduction.specs.Remarks.{remark_text};
 
 use crate::candidates::Candidate;
-use crate::efforts::Effort;
 use crate::logs::log_of;
 use crate::notes::{Remark, render_notes};
 use crate::searching::search;
 use crate::selections::is_selection;
-use crate::unwritten::lone_load;
+use log_search::Effort;
+use log_selections::lone_load;
 use log_text::LoggedOperation;
 use std::alloc::Global;
 use std::sync::Wait;
@@ -74,10 +74,15 @@ fn reduce_violation<H: Threads + Wait>(
         Certificate::Unwritten(load) => Ok(reduce_unwritten(alloc, trace, *load as usize)?),
         Certificate::Cycle { steps, .. } => {
             match find_small(rt, alloc, trace, steps, &mut effort)? {
-                Some(small) => Ok(tell(alloc, &small.trace, &small.lines, effort.remark())?),
+                Some(small) => Ok(tell(
+                    alloc,
+                    &small.trace,
+                    &small.lines,
+                    Remark::on_small(effort),
+                )?),
                 None => {
                     let lines = lines_of(alloc, trace)?;
-                    Ok(tell(alloc, trace, &lines, effort.remark_on_whole())?)
+                    Ok(tell(alloc, trace, &lines, Remark::on_whole(effort))?)
                 }
             }
         }

@@ -1,11 +1,10 @@
 //! Fewer operations of a trace that are still a violation.
 
 use crate::candidates::{Candidate, candidate_as_it_is, candidate_of};
-use crate::efforts::Effort;
 use crate::judging::SparingJudge;
 use crate::logs::{keep_all, log_of};
 use crate::named::named_operations;
-use log_search::{Judge, reduce};
+use log_search::{Effort, Judge, reduce};
 use log_selections::{Kept, KnownLog};
 use log_text::LogOperation;
 use std::alloc::Global;

@@ -2,8 +2,8 @@
 ghost use Rattle.std.specs.Prelude.{◌≡◌, ℕ, false};
 ghost use Rattle.tso_ops.specs.Events.{IsUnwritten};
 
-use crate::efforts::Effort;
 use chain_rules::{RoundForm, count_rounds};
+use log_search::Effort;
 use order_graph::Graph;
 use round_pool::{PoolFault, PoolGate, rounds};
 use std::alloc::Global;

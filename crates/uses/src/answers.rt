@@ -75,6 +75,7 @@ pub fn report_a_log<H: Threads + Wait + AllocGlobal, R: Read, W: Write, E: Write
     let options = LogOptions {
         most: 10,
         effort: 100,
+        max_unknown: 100,
         form: LogForm::Explained,
     };
     let verdict = report_log(rt, options, &NoMeter, reader, writer, errors)?;

@@ -13,11 +13,12 @@ use order_graph::Graph;
 use progress_meters::NoMeter;
 use reference_rounds::rounds_number;
 use round_pool::{OpenPoolGate, PoolFault, Ranked, rounds};
+use search_memory::Memory;
 use std::alloc::{AllocError, Global};
 use std::sync::Wait;
 use std::thread::Threads;
 use tso_cert::Reason;
-use tso_ops::{Program, Trace};
+use tso_ops::{OutOfMemory, Program, Trace};
 use tso_rules::justify;
 
 /// `acyclic_traces`: whether a short trace is shown to have no cycle.
@@ -31,6 +32,15 @@ pub fn count_the_rounds(alloc: Global, trace: &Trace) -> Result<RoundCount, Allo
 {
     let count = count_rounds(alloc, trace)?;
     Ok(count)
+}
+
+/// `search_memory`: a list, unless its memory is refused.
+pub fn list_squares(alloc: Global) -> Result<Vec<u32>, OutOfMemory> {
+    let memory = Memory::new(alloc);
+    let mut squares = Vec::new(memory.alloc());
+    memory.push(&mut squares, 4);
+    let squares = memory.whole(squares)?;
+    Ok(squares)
 }
 
 /// `round_pool`: the rounds of a trace, by four workers.

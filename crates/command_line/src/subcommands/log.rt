@@ -1,6 +1,7 @@
-//! `log [--most K] [--effort N] [--trace|--explain] [--progress] [--verbose] [FILE]`: finds violations of a log.
+//! `log [--most K] [--effort N] [--max-unknown PERCENT] [--trace|--explain] [--progress] [--verbose] [FILE]`: finds violations of a
+//! log.
 
-use crate::options::{MAX_LOG_EFFORT, MAX_LOG_VIOLATIONS};
+use crate::options::{MAX_LOG_EFFORT, MAX_LOG_VIOLATIONS, MAX_PERCENT};
 use crate::parameters::{Accepted, Description, Parameter};
 use crate::subcommands::shared;
 
@@ -27,16 +28,24 @@ all other addresses.
 The log must have every store and swap of the run: what it leaves out may be
 what a load read. Then a violation that is shown is one of the run; that none
 was found proves nothing. The report says VIOLATION or NO VIOLATION FOUND, and
-SEARCH ENDED EARLY if the log asks for more than --effort allows. For each
-violation it has a line as violation 1, and lines of the log as
-line 12 0 ld 8192 0. No two violations have a load in common. With --trace it
-prints in place of the report the traces of these lines, which `tsobench batch`
-reads; a load of a value that nothing wrote has none. If the text is no log, a
-line says so, as REFUSED BadLine line 3.
+then what was not judged:
+
+  SEARCH ENDED EARLY  the log asks for more than --effort allows
+  NOT ALL JUDGED      what was found is past the limits of a trace; its lines
+                      stand at the end, after a line as unjudged 1
+  NOTHING JUDGED      the values tell the source of no load
+  TOO MANY UNKNOWN    they tell that of fewer loads than --max-unknown asks for
+
+For each violation it has a line as violation 1, and lines of the log as
+line 12 0 ld 8192 0. No two violations have a load in common. Loads of values
+that nothing wrote come first. With --trace it prints in place of the report the
+traces of these lines, which `tsobench batch` reads; that of a load of a value
+that nothing wrote has such a load alone. If the text is no log, a line says so,
+as REFUSED BadLine line 3.
 
 Exit status:
   0  no violation was found, which proves nothing about the log
-  1  no violation was found, and the search ended early
+  1  no violation was found, and not all was judged
   2  the text is no log, or the command line was refused
   3  a violation of the log's memory model was found
   4  a fault, which one line on standard error names, as FAULT Read
@@ -55,7 +64,7 @@ pub(crate) static LOG: Description = Description {
             value_name: "K",
             accepted: Accepted::Number(1, MAX_LOG_VIOLATIONS as u64),
             default: Some("10"),
-            help: "How many violations are shown at most, 1 to 1000000",
+            help: "How many violations of each kind are shown at most, 1 to 1000000",
         },
         Parameter::Option {
             name: "effort",
@@ -63,6 +72,13 @@ pub(crate) static LOG: Description = Description {
             accepted: Accepted::Number(0, MAX_LOG_EFFORT as u64),
             default: Some("100"),
             help: "How many steps the search may do for each load and store, 0 to 1000000",
+        },
+        Parameter::Option {
+            name: "max-unknown",
+            value_name: "PERCENT",
+            accepted: Accepted::Number(0, MAX_PERCENT as u64),
+            default: Some("100"),
+            help: "How many of a hundred loads may have an unknown source, 0 to 100",
         },
         Parameter::Flag {
             name: "trace",
@@ -86,3 +102,5 @@ pub(crate) static LOG: Description = Description {
 const _: () = prove!(MAX_LOG_VIOLATIONS == 1_000_000);
 
 const _: () = prove!(MAX_LOG_EFFORT == 1_000_000);
+
+const _: () = prove!(MAX_PERCENT == 100);

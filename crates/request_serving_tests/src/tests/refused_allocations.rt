@@ -85,6 +85,7 @@ fn logged_into<H: Threads + Wait + Sync + AllocGlobal>(
         options: LogOptions {
             most: 1,
             effort: 100,
+            max_unknown: 100,
             form: LogForm::Lines,
         },
     });

@@ -1,7 +1,7 @@
 //! The base edges that the lines of a refutation use.
 
-use crate::search::memory::Memory;
 use order_graph::EdgeRows;
+use search_memory::Memory;
 use tso_cert::{CertStep, Reason};
 use tso_evidence::RefutationLine;
 use tso_ops::Trace;
@@ -16,7 +16,7 @@ pub(crate) fn base_lines(
     let mut steps = Vec::new(memory.alloc());
     match EdgeRows::new(memory.alloc(), trace.node_count()) {
         Ok(used) => push_used(memory, trace, lines, used, &mut steps),
-        Err(_) => memory.refuse(),
+        Err(_) => memory.note(true),
     }
     steps
 }

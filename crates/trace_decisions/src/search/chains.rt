@@ -1,6 +1,6 @@
 //! The events of a trace in chains, each of which every order keeps.
 
-use crate::search::memory::Memory;
+use search_memory::Memory;
 use tso_ops::{Event, Order, Trace};
 
 /// The number of processors that a trace has at most.
@@ -24,10 +24,10 @@ impl Chains {
     /// The chains of a trace.
     pub(crate) fn new(memory: &Memory, trace: &Trace) -> Chains {
         let nodes = trace.node_count();
-        let mut known = memory.numbers(NO_CHAIN, PROCESSORS + PROCESSORS * ADDRESSES);
+        let mut known = memory.filled(NO_CHAIN, PROCESSORS + PROCESSORS * ADDRESSES);
         let mut chains = Chains {
             lists: Vec::new(memory.alloc()),
-            chain_of: memory.numbers(0, nodes),
+            chain_of: memory.filled(0, nodes),
         };
         for n in 0..nodes {
             if let Some(event) = trace.event(n) {

@@ -1,7 +1,7 @@
 //! Edges beyond the base edges, in the order in which they were found.
 
-use crate::search::memory::Memory;
 use round_pool::{Edge, Ranked};
+use search_memory::Memory;
 
 /// An edge that an inferred rule gave by edges before it, or that a case supposes.
 #[derive(Clone, Copy)]

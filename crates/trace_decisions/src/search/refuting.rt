@@ -3,9 +3,9 @@
 use crate::search::bases::base_lines;
 use crate::search::explaining::explain;
 use crate::search::links::Links;
-use crate::search::memory::Memory;
 use crate::search::paths::{EdgesBefore, Hop, shortest_path};
-use tso_cert::{CertStep, Reason};
+use search_memory::Memory;
+use tso_cert::{CertStep, NumList, Reason};
 use tso_evidence::RefutationLine;
 use tso_ops::Trace;
 
@@ -116,6 +116,17 @@ fn steps_in_order(memory: &Memory, steps: Vec<CertStep>) -> Vec<RefutationLine> 
     lines
 }
 
+/// Numbers as a path or a cycle.
+fn path_of(memory: &Memory, numbers: &[usize]) -> NumList {
+    match NumList::from_numbers(memory.alloc(), numbers) {
+        Ok(list) => list,
+        Err(_) => {
+            memory.note(true);
+            NumList::new(Vec::new(memory.alloc()))
+        }
+    }
+}
+
 impl Refuting<'_> {
     /// The edges before the link at a place.
     fn edges_before(&self, place: usize) -> EdgesBefore<'_> {
@@ -138,7 +149,7 @@ impl Refuting<'_> {
         let mut part = Part::new(self.memory, self.links.count());
         part.need(place);
         part.need_links(&path.hops);
-        let cycle = self.memory.path_of(&path.numbers);
+        let cycle = path_of(self.memory, &path.numbers);
         self.memory
             .push(&mut part.lines, RefutationLine::Cycle(cycle));
         Some(part)
@@ -176,7 +187,7 @@ impl Refuting<'_> {
             reason: Reason::Inferred {
                 rule: found.rule,
                 load: found.load as u64,
-                path: self.memory.path_of(&found.path.numbers),
+                path: path_of(self.memory, &found.path.numbers),
             },
         })
     }

@@ -2,8 +2,8 @@
 
 use crate::search::chains::Chains;
 use crate::search::closing::leads;
-use crate::search::memory::Memory;
 use order_graph::Graph;
+use search_memory::Memory;
 use tso_ops::Trace;
 
 mod choices;
@@ -53,10 +53,10 @@ pub(crate) fn simulate(memory: &Memory, trace: &Trace, graph: &Graph, chains: &C
         trace,
         graph,
         chains,
-        come: memory.numbers(0, chains.count()),
-        blockers: memory.numbers(0, chains.count()),
+        come: memory.filled(0, chains.count()),
+        blockers: memory.filled(0, chains.count()),
         readers: Readers::new(memory, trace),
-        latest: memory.numbers(0, ADDRESSES),
+        latest: memory.filled(0, ADDRESSES),
         order: memory.list(Vec::with_capacity(memory.alloc(), trace.events())),
     };
     if simulation.run() {

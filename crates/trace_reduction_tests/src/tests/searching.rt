@@ -2,6 +2,7 @@
 
 mod drawn;
 mod entries;
+mod fitting;
 mod found;
 mod hostile;
 mod judges;

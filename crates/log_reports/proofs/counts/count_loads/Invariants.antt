@@ -1,5 +1,5 @@
 use Rattle.std.proofs.Common.{◌≡◌, ◌≤◌, map, take}
-use Rattle.log_reports.specs.LogTexts.{loads_of}
+use Rattle.log_reports.specs.LogCounts.{loads_of}
 use Rattle.log_reports.proofs.counts.count_loads.Given as goal
 
 abbrev pub invariant-loop-logged : goal.invariant-loop-logged

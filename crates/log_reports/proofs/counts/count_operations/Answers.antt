@@ -1,6 +1,6 @@
-use Rattle.std.proofs.Common.{◌≡◌, ◌∙◌, ◌+◌, ap, get_or, length, map, refl, sym}
+use Rattle.std.proofs.Common.{◌∙◌, ◌+◌, ap, length, map, refl, sym}
 use Rattle.log_reports.proofs.CountFacts.{length_more, loads_more_of_list}
-use Rattle.log_reports.specs.LogTexts.{loads_of}
+use Rattle.log_reports.specs.LogCounts.{loads_of}
 use Rattle.log_reports.proofs.counts.count_operations.Goals as goal
 
 pub loop-list-preserved : goal.loop-list-preserved

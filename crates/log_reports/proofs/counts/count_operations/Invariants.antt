@@ -1,7 +1,7 @@
 use Rattle.std.proofs.Common.{◌≡◌, length, map, take}
 use Rattle.std.specs.List.{flat_map}
 use Rattle.tso_ops.specs.Values.{rows}
-use Rattle.log_reports.specs.LogTexts.{loads_of}
+use Rattle.log_reports.specs.LogCounts.{loads_of}
 use Rattle.log_reports.proofs.counts.count_operations.Given as goal
 
 abbrev pub invariant-loop-list : goal.invariant-loop-list

@@ -1,4 +1,3 @@
-use Rattle.std.specs.List.{flat_map, range_with_len}
 use Rattle.log_reports.specs.Internal.NamedEvents.{AreNames}
 use Rattle.log_reports.specs.Namings.{named_events}
 use Rattle.log_reports.proofs.naming.name_events.Given as goal

@@ -1,4 +1,4 @@
-use Rattle.std.proofs.Common.{◌≡◌, ◌∙◌, ◌++◌, ap, codes, string_bytes}
+use Rattle.std.proofs.Common.{◌∙◌, ◌++◌, ap, codes, string_bytes}
 use Rattle.log_reports.proofs.TextFacts.{numbered_more}
 use Rattle.log_reports.specs.Lines.{lines_text}
 use Rattle.log_reports.proofs.rendering.push_unjudged.Goals as goal

@@ -4,4 +4,4 @@ use Rattle.log_reports.specs.LogTexts.{trace_of}
 use Rattle.log_reports.proofs.rendering.render_traces.Given as goal
 
 abbrev pub invariant-loop-violation : goal.invariant-loop-violation
-invariant-loop-violation l = string_bytes l.text ≡ flat_map trace_of (take l.violation-index l.fn.violations)
+invariant-loop-violation l = string_bytes l.text ≡ flat_map (trace_of l.fn.order) (take l.violation-index l.fn.findings.violations.items)

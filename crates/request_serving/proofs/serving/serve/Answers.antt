@@ -7,7 +7,7 @@ use Rattle.request_serving.specs.Replaying.{IsReplayText}
 use Rattle.request_serving.specs.Statuses.{status_of}
 use Rattle.request_serving.specs.Batches.{asked_printing, status_of_batch, texts_of_batch}
 use Rattle.request_serving.specs.Internal.Batching.{files_in}
-use Rattle.request_serving.specs.Logs.{form_of}
+use Rattle.request_serving.specs.Logs.{options_of}
 use Rattle.request_serving.proofs.BatchingFacts.{ends_batched, read_files, unread_files}
 use Rattle.log_reports.specs.LogReports.{IsLogReportOfReader}
 use Rattle.request_serving.proofs.LoggingFacts.{ends_noted}
@@ -102,7 +102,7 @@ returns-in-Log-clause-ends g c =
     let request = c.in-Log.request in
     let remaining = text_bytes (name_in request.file) (g.R.Read.remaining c.args.reader.now) (g.O.Surroundings.bytes c.args.files.now) in
     let logged = c.log_named-reported.ensures in
-    rw c.in-Log.is (ends_noted (IsLogReportOfReader (form_of request.options.form) remaining) status_of_log (g.E.Write.contents c.log_named-reported.new.errors) o c.log_named-reported.result c.end_log.result logged.whole logged.left logged.told logged.untold c.end_log.ensures.verdict c.end_log.ensures.fault)
+    rw c.in-Log.is (ends_noted (IsLogReportOfReader (options_of request.options) remaining) status_of_log (g.E.Write.contents c.log_named-reported.new.errors) o c.log_named-reported.result c.end_log.result logged.whole logged.left logged.told logged.untold c.end_log.ensures.verdict c.end_log.ensures.fault)
 
 pub returns-in-Log-clause-first : goal.returns-in-Log-clause-first
 returns-in-Log-clause-first g c = rw c.in-Log.is (opens_all _ _ _ c.log_named-reported.ensures.opened)

@@ -1,7 +1,7 @@
 //! How many loads of each store are left.
 
-use crate::search::memory::Memory;
 use bitsets::has_number;
+use search_memory::Memory;
 use tso_ops::Trace;
 
 /// For each store how many loads of what it wrote haven't come.
@@ -15,7 +15,7 @@ impl Readers {
     pub(crate) fn new(memory: &Memory, trace: &Trace) -> Readers {
         let nodes = trace.node_count();
         let mut readers = Readers {
-            left: memory.numbers(0, nodes),
+            left: memory.filled(0, nodes),
         };
         for n in 0..nodes {
             readers.add(trace, n);

@@ -1,5 +1,5 @@
 use Rattle.std.proofs.Common.{◌∙◌, ap}
-use Rattle.trace_reduction.specs.Reductions.{lone_load}
+use Rattle.log_selections.specs.Unwritten.{lone_load}
 use Rattle.trace_reduction.proofs.ReductionFacts.{lone_text}
 use Rattle.trace_reduction.proofs.reductions.reduce_unwritten.Goals as goal
 

@@ -35,6 +35,7 @@ pub(super) fn log_of(
         order,
         first: Vec::new(alloc),
         lists,
+        left_out: 0,
     })
 }
 

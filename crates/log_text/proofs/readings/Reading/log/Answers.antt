@@ -1,4 +1,3 @@
-use Rattle.std.proofs.Common.{ap}
 use Rattle.log_text.proofs.ReadingFacts.{held_after}
 use Rattle.log_text.proofs.readings.Reading.log.Goals as goal
 

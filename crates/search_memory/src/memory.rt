@@ -1,5 +1,3 @@
-//! Memory for lists, which notes that some was refused.
-
 use std::alloc::Global;
 use std::cell::Cell;
 use tso_ops::OutOfMemory;
@@ -7,14 +5,14 @@ use tso_ops::OutOfMemory;
 /// Where lists get their memory. Where some is refused, the list goes without, and that is noted here: whoever makes lists looks
 /// once, when they are made, and then nothing that was found counts.
 #[derive(Drop)]
-pub(crate) struct Memory {
+pub struct Memory {
     alloc: Global,
     is_refused: Cell<bool>,
 }
 
 impl Memory {
     /// Memory of which nothing was refused.
-    pub(crate) fn new(alloc: Global) -> Memory {
+    pub fn new(alloc: Global) -> Memory {
         Memory {
             alloc,
             is_refused: Cell::new(false),
@@ -22,18 +20,18 @@ impl Memory {
     }
 
     /// Where it comes from.
-    pub(crate) fn alloc(&self) -> Global {
+    pub fn alloc(&self) -> Global {
         self.alloc
     }
 
     /// Whether some was refused.
-    pub(crate) fn is_refused(&self) -> bool {
+    pub fn is_refused(&self) -> bool {
         self.is_refused.get()
     }
 
     /// Notes whether some was refused.
     #[inline]
-    pub(crate) fn note(&self, is_refused: bool) {
+    pub fn note(&self, is_refused: bool) {
         if is_refused {
             self.is_refused.set(true);
         }
@@ -41,32 +39,12 @@ impl Memory {
 
     /// Pushes an item to a list.
     #[inline]
-    pub(crate) fn push<T: Copy>(&self, items: &mut Vec<T>, item: T) {
+    pub fn push<T: Drop>(&self, items: &mut Vec<T>, item: T) {
         self.note(items.push(item).is_err());
     }
 
-    /// A list with this number, so many times.
-    pub(crate) fn numbers(&self, number: u32, count: usize) -> Vec<u32> {
-        self.made(vec![in self.alloc; number; count])
-    }
-
-    /// A list of these numbers.
-    pub(crate) fn copied(&self, numbers: &[u32]) -> Vec<u32> {
-        self.made(Vec::from_slice(self.alloc, numbers))
-    }
-
-    /// A list of so many flags, none of which is set.
-    pub(crate) fn flags(&self, count: usize) -> Vec<bool> {
-        self.made(vec![in self.alloc; false; count])
-    }
-
-    /// An empty list with room for so many numbers.
-    pub(crate) fn room(&self, count: usize) -> Vec<u32> {
-        self.made(Vec::with_capacity(self.alloc, count))
-    }
-
     /// The list that was made, or an empty one where its memory was refused.
-    fn made<T: Copy, E: Drop>(&self, made: Result<Vec<T>, E>) -> Vec<T> {
+    pub fn list<T: Drop, E: Drop>(&self, made: Result<Vec<T>, E>) -> Vec<T> {
         match made {
             Ok(items) => items,
             Err(_) => {
@@ -76,8 +54,23 @@ impl Memory {
         }
     }
 
+    /// A list with this item, so many times.
+    pub fn filled<T: Copy>(&self, item: T, count: usize) -> Vec<T> {
+        self.list(vec![in self.alloc; item; count])
+    }
+
+    /// A list of these items.
+    pub fn copied<T: Copy>(&self, items: &[T]) -> Vec<T> {
+        self.list(Vec::from_slice(self.alloc, items))
+    }
+
+    /// An empty list with room for so many items.
+    pub fn room<T: Drop>(&self, count: usize) -> Vec<T> {
+        self.list(Vec::with_capacity(self.alloc, count))
+    }
+
     /// What was made, unless some memory was refused.
-    pub(crate) fn whole<T: Drop>(&self, made: T) -> Result<T, OutOfMemory> {
+    pub fn whole<T: Drop>(&self, made: T) -> Result<T, OutOfMemory> {
         if self.is_refused() {
             Err(OutOfMemory)
         } else {

@@ -2,8 +2,8 @@ use Rattle.std.proofs.Common.{◌≡◌, ◌∙◌, List, [], ◌∷◌, ◌++�
 use Rattle.tso_ops.specs.declared.ops.Outcome.{Outcome}
 use Rattle.tso_ops.specs.declared.ops.Outcome.TheVariants.{Ld}
 use Rattle.tso_ops.specs.Values.{rows}
-use Rattle.trace_reduction.proofs.LoneLoads.{lone_is_trace}
-use Rattle.trace_reduction.proofs.unwritten.lone_load.Goals as goal
+use Rattle.log_selections.proofs.LoneLoads.{lone_is_trace}
+use Rattle.log_selections.proofs.lone_loads.lone_load.Goals as goal
 
 pub of_lists-requires : goal.of_lists-requires
 of_lists-requires c =

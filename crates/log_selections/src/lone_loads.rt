@@ -1,14 +1,12 @@
 //! A load of what nothing wrote, by itself.
 ghost use Rattle.std.specs.Prelude.{◌≡◌, IfOk};
-ghost use Rattle.tso_ops.specs.Limits.{IsTrace};
-ghost use Rattle.trace_reports.specs.Violations.{IsViolation};
-ghost use Rattle.trace_reduction.specs.Reductions.{lone_load};
+ghost use Rattle.log_selections.specs.Unwritten.{lone_load};
 
 use std::alloc::Global;
 use tso_ops::{Order, OutOfMemory, Outcome, Setting, Trace, Version};
 
 /// The trace that has nothing but such a load, under this memory model. OutOfMemory where an allocation was refused.
-pub(crate) fn lone_load(alloc: Global, order: Order) -> Result<Trace, OutOfMemory>
+pub fn lone_load(alloc: Global, order: Order) -> Result<Trace, OutOfMemory>
     ensures { IfOk result (λ trace. trace ≡ lone_load order) }
 {
     let mut list = Vec::new(alloc);

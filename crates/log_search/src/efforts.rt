@@ -1,15 +1,13 @@
-//! How much work the search for a small trace may be.
+//! How much work it may be to leave operations out.
 
-use crate::notes::Remark;
-
-/// How much work a search may be for each event of the trace, and for this many events in any trace.
+/// How much work it may be for each event of a trace, and for this many events in any trace.
 const WORK_FOR_AN_EVENT: usize = 75_000;
 
 const LEAST_EVENTS: usize = 2_000;
 
-/// How much work may still be done, and how many trials there were.
+/// How much work the judging of what is left of a trace may still be, and how many trials there were.
 #[derive(Clone, Copy)]
-pub(crate) struct Effort {
+pub struct Effort {
     whole: usize,
     left: usize,
     trials: usize,
@@ -17,7 +15,7 @@ pub(crate) struct Effort {
 
 impl Effort {
     /// The effort for a trace of so many events, whose judging took so many rounds.
-    pub(crate) fn new(events: usize, rounds: usize) -> Effort {
+    pub fn new(events: usize, rounds: usize) -> Effort {
         // How many rows the rounds had isn't known.
         let rows = rounds.saturating_mul(events / 2);
         Effort {
@@ -28,45 +26,29 @@ impl Effort {
     }
 
     /// Whether it is too much to judge so many operations of the trace, which has so many in all.
-    pub(crate) fn is_too_much(&self, named: usize, all: usize) -> bool {
+    pub fn is_too_much(&self, named: usize, all: usize) -> bool {
         self.whole > self.left && named > all / 2
     }
 
     /// Counts a trial: so many rounds over a trace of so many events, which computed so many rows.
-    pub(crate) fn count(&mut self, events: usize, rounds: usize, rows: usize) {
+    pub fn count(&mut self, events: usize, rounds: usize, rows: usize) {
         self.left = self.left.saturating_sub(work_of(events, rounds, rows));
         self.trials = self.trials.saturating_add(1);
     }
 
     /// Gives up what is left.
-    pub(crate) fn give_up(&mut self) {
+    pub fn give_up(&mut self) {
         self.left = 0;
     }
 
     /// Whether no more work may be done.
-    pub(crate) fn is_spent(&self) -> bool {
+    pub fn is_spent(&self) -> bool {
         self.left == 0
     }
 
-    /// What is to be said of a small trace that the search found.
-    pub(crate) fn remark(&self) -> Remark {
-        if self.is_spent() {
-            Remark::EndedEarly {
-                trials: self.trials,
-            }
-        } else {
-            Remark::Nothing
-        }
-    }
-
-    /// What is to be said where the whole trace stands for a small one: that nothing was searched, or that what was found failed
-    /// the check.
-    pub(crate) fn remark_on_whole(&self) -> Remark {
-        if self.trials == 0 {
-            self.remark()
-        } else {
-            Remark::FailedCheck
-        }
+    /// How many trials were counted.
+    pub fn trials(&self) -> usize {
+        self.trials
     }
 }
 

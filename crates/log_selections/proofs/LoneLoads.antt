@@ -1,5 +1,5 @@
--- A load of what nothing wrote, by itself, is a trace and a violation.
-use Rattle.std.proofs.Common.{◌≡◌, ◌∙◌, ℕ, zero, suc, ◌<◌, ◌^◌, true, false, List, [], ◌∷◌, ◌++◌, Some, refl, sym, nat_eq, arith, inl}
+-- A load of what nothing wrote, by itself, is a trace, and nothing wrote what it read.
+use Rattle.std.proofs.Common.{◌≡◌, ◌∙◌, ℕ, zero, suc, ◌<◌, ◌^◌, true, false, List, [], ◌∷◌, ◌++◌, Some, refl, sym, nat_eq, arith}
 use Rattle.std.specs.List.{All, list_any}
 use Rattle.std.proofs.lemmas.List.Elements.{All-cons, All-nil}
 use Rattle.std.proofs.lemmas.Option.{none-some, same_Some}
@@ -12,9 +12,8 @@ use Rattle.tso_ops.specs.Limits.{IsTrace, KeepsEntries, KeepsLimits, is_stbar_in
 use Rattle.tso_ops.specs.Settings.{setting_of_first}
 use Rattle.tso_ops.specs.Values.{ReadFits}
 use Rattle.tso_ops.specs.Events.{HasSource, IsUnwritten, event_at, events_of}
-use Rattle.trace_reports.specs.Violations.{IsViolation}
 use Rattle.log_selections.proofs.SourceFacts.{distinct-none}
-use Rattle.trace_reduction.specs.Reductions.{lone_load}
+use Rattle.log_selections.specs.Unwritten.{lone_load}
 
 -- ---- its limits
 
@@ -72,6 +71,3 @@ no_source order (suc (suc k)) (load, (e, at, store), address, value) = none_late
 
 pub lone_unwritten : (order : Order) → IsUnwritten (lone_load order) 1
 lone_unwritten order = ((load_event, is_first order, refl), no_source order)
-
-pub lone_violation : (order : Order) → IsViolation (lone_load order)
-lone_violation order = inl (1, lone_unwritten order)
